@@ -1,0 +1,5 @@
+use Rattle.jl_classfile.proofs.FaultLaws.{no_fault}
+use Rattle.jl_classfile.proofs.read.no_fault_in_a_class.Goals as goal
+
+pub returns : goal.returns
+returns c = no_fault

@@ -1,0 +1,14 @@
+pub mod Numbers
+pub mod Constants
+pub mod Known
+pub mod Pools
+pub mod Instructions
+pub mod Codes
+pub mod Layouts
+pub mod CodeAttributes
+pub mod Parts
+pub mod Conditions
+pub mod ClassFiles
+pub mod Shown
+pub mod Faults
+pub mod Reading

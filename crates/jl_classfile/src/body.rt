@@ -1,0 +1,272 @@
+//! What stands behind the constant pool of a class file, as it lies there.
+
+ghost use Rattle.std.specs.Prelude.{◌≡◌, ◌++◌, List, ℕ, IfOk, MatchOption, option_map};
+ghost use Rattle.jl_classfile.specs.Layouts.{body_text, BodySized};
+ghost use Rattle.jl_classfile.specs.CodeAttributes.{HoldsCode};
+ghost use Rattle.jl_classfile.specs.Reading.Fields.{Finds, number_at};
+ghost use Rattle.jl_classfile.specs.Reading.Bodies.{Reads, items_at, counted_at, attribute_at, member_at, body_at, code_in};
+
+use crate::bytes::{bytes_at, u2_at, u4_at};
+use crate::fault::ClassFault;
+use jl_names::{Seq, Text};
+use std::alloc::{AllocFailed, Global};
+
+/// An attribute (JVMS SE 17 §4.7): the number of its name, and its bytes.
+#[derive(Debug, Drop)]
+pub struct Attribute<'a> {
+    pub name: u16,
+    pub info: Text<'a>,
+}
+
+/// A field or a method (§4.5, §4.6): its access flags, the numbers of its name and descriptor, and its attributes.
+#[derive(Debug, Drop)]
+pub struct Member<'a> {
+    pub flags: u16,
+    pub name: u16,
+    pub descriptor: u16,
+    pub attributes: Seq<Attribute<'a>>,
+}
+
+/// What stands behind the pool (§4.1).
+#[derive(Debug, Drop)]
+pub struct Body<'a> {
+    pub flags: u16,
+    pub this_class: u16,
+    pub super_class: u16,
+    pub interfaces: Seq<u16>,
+    pub fields: Seq<Member<'a>>,
+    pub methods: Seq<Member<'a>>,
+    pub attributes: Seq<Attribute<'a>>,
+}
+
+/// Why no whole part stands at the front.
+#[derive(Clone, Copy, Debug, PartialEq, Eq)]
+pub enum Broken {
+    /// The bytes end before.
+    Cut,
+    /// Want of memory.
+    Memory,
+}
+
+impl<T: Drop> From<AllocFailed<T>> for Broken {
+    ghost use Rattle.jl_classfile.specs.declared.body.Broken.TheVariants.{Memory};
+
+    ghost from_gives = { λ _ f. f ≡ Memory };
+
+    fn from(_e: AllocFailed<T>) -> Broken {
+        Broken::Memory
+    }
+}
+
+impl From<Broken> for ClassFault {
+    ghost use Rattle.jl_classfile.specs.Reading.Passes.{fault_of_broken};
+
+    ghost from_gives = { λ broken f. f ≡ fault_of_broken broken };
+
+    fn from(broken: Broken) -> ClassFault {
+        match broken {
+            Broken::Cut => ClassFault::Truncated,
+            Broken::Memory => ClassFault::Memory,
+        }
+    }
+}
+
+/// What was found, or that the bytes end before.
+fn whole<T>(found: Option<T>) -> Result<T, Broken>
+    ensures { Reads (λ x. x) result found }
+{
+    match found {
+        Some(found) => Ok(found),
+        None => Err(Broken::Cut),
+    }
+}
+
+/// An attribute, and what comes after it.
+#[tactic(auto, unfolding(crate::specs::Reading::Bodies::attribute_at))]
+pub fn attribute_at(bytes: &[u8]) -> Option<(Attribute<'_>, &[u8])>
+    ensures { Finds (λ x. (x.0, x.1.now)) result (attribute_at bytes.now) }
+{
+    let (name, rest) = u2_at(bytes)?;
+    let (len, rest) = u4_at(rest)?;
+    let (info, rest) = bytes_at(len as usize, rest)?;
+    let info = Text::of(info);
+    Some((Attribute { name, info }, rest))
+}
+
+/// So many numbers, and what comes after them.
+fn numbers_of(alloc: Global, count: u16, bytes: &[u8]) -> Result<(Seq<u16>, &[u8]), Broken>
+    ensures { Reads (λ x. (x.0, x.1.now)) result (items_at (number_at 2) count bytes.now) }
+{
+    let mut numbers = Vec::new(alloc);
+    let mut rest = bytes;
+    'numbers: for _ in 0..count {
+        let Some((number, after)) = u2_at(rest) else {
+            return Err(Broken::Cut);
+        };
+        numbers.push(number)?;
+        rest = after;
+    }
+    Ok((Seq::of(numbers), rest))
+}
+
+/// Numbers behind their count, and what comes after them.
+fn numbers_at(alloc: Global, bytes: &[u8]) -> Result<(Seq<u16>, &[u8]), Broken>
+    ensures { Reads (λ x. (x.0, x.1.now)) result (counted_at (number_at 2) bytes.now) }
+{
+    let (count, rest) = whole(u2_at(bytes))?;
+    numbers_of(alloc, count, rest)
+}
+
+/// So many attributes, and what comes after them.
+fn attributes_of<'a>(
+    alloc: Global,
+    count: u16,
+    bytes: &'a [u8],
+) -> Result<(Seq<Attribute<'a>>, &'a [u8]), Broken>
+    ensures { Reads (λ x. (x.0, x.1.now)) result (items_at attribute_at count bytes.now) }
+{
+    let mut attributes = Vec::new(alloc);
+    let mut rest = bytes;
+    'attributes: for _ in 0..count {
+        let Some((attribute, after)) = attribute_at(rest) else {
+            return Err(Broken::Cut);
+        };
+        attributes.push(attribute)?;
+        rest = after;
+    }
+    Ok((Seq::of(attributes), rest))
+}
+
+/// Attributes behind their count, and what comes after them.
+fn attributes_at<'a>(
+    alloc: Global,
+    bytes: &'a [u8],
+) -> Result<(Seq<Attribute<'a>>, &'a [u8]), Broken>
+    ensures { Reads (λ x. (x.0, x.1.now)) result (counted_at attribute_at bytes.now) }
+{
+    let (count, rest) = whole(u2_at(bytes))?;
+    attributes_of(alloc, count, rest)
+}
+
+/// A member, and what comes after it.
+#[tactic(auto, unfolding(crate::specs::Reading::Bodies::member_at))]
+fn member_at<'a>(alloc: Global, bytes: &'a [u8]) -> Result<(Member<'a>, &'a [u8]), Broken>
+    ensures { Reads (λ x. (x.0, x.1.now)) result (member_at bytes.now) }
+{
+    let (flags, rest) = whole(u2_at(bytes))?;
+    let (name, rest) = whole(u2_at(rest))?;
+    let (descriptor, rest) = whole(u2_at(rest))?;
+    let (attributes, rest) = attributes_at(alloc, rest)?;
+    let member = Member {
+        flags,
+        name,
+        descriptor,
+        attributes,
+    };
+    Ok((member, rest))
+}
+
+/// So many members, and what comes after them.
+fn members_of<'a>(
+    alloc: Global,
+    count: u16,
+    bytes: &'a [u8],
+) -> Result<(Seq<Member<'a>>, &'a [u8]), Broken>
+    ensures { Reads (λ x. (x.0, x.1.now)) result (items_at member_at count bytes.now) }
+{
+    let mut members = Vec::new(alloc);
+    let mut rest = bytes;
+    'members: for _ in 0..count {
+        let (member, after) = member_at(alloc, rest)?;
+        members.push(member)?;
+        rest = after;
+    }
+    Ok((Seq::of(members), rest))
+}
+
+/// Members behind their count, and what comes after them.
+fn members_at<'a>(alloc: Global, bytes: &'a [u8]) -> Result<(Seq<Member<'a>>, &'a [u8]), Broken>
+    ensures { Reads (λ x. (x.0, x.1.now)) result (counted_at member_at bytes.now) }
+{
+    let (count, rest) = whole(u2_at(bytes))?;
+    members_of(alloc, count, rest)
+}
+
+/// What stands behind the pool, and what comes after it.
+pub fn body_at<'a>(alloc: Global, bytes: &'a [u8]) -> Result<(Body<'a>, &'a [u8]), Broken>
+    ensures read { Reads (λ x. (x.0, x.1.now)) result (body_at bytes.now) }
+    ensures spelled { IfOk result (λ x. BodySized x.0 × (bytes.now ≡ body_text x.0 ++ x.1.now)) }
+{
+    read_body(alloc, bytes)
+}
+
+/// Reads what stands behind the pool, part after part.
+#[tactic(auto, unfolding(crate::specs::Reading::Bodies::body_at))]
+fn read_body<'a>(alloc: Global, bytes: &'a [u8]) -> Result<(Body<'a>, &'a [u8]), Broken>
+    ensures { Reads (λ x. (x.0, x.1.now)) result (body_at bytes.now) }
+{
+    let (flags, rest) = whole(u2_at(bytes))?;
+    let (this_class, rest) = whole(u2_at(rest))?;
+    let (super_class, rest) = whole(u2_at(rest))?;
+    let (interfaces, rest) = numbers_at(alloc, rest)?;
+    let (fields, rest) = members_at(alloc, rest)?;
+    let (methods, rest) = members_at(alloc, rest)?;
+    let (attributes, rest) = attributes_at(alloc, rest)?;
+    let body = Body {
+        flags,
+        this_class,
+        super_class,
+        interfaces,
+        fields,
+        methods,
+        attributes,
+    };
+    Ok((body, rest))
+}
+
+/// The code that a Code attribute holds (§4.7.3): the parts fill the attribute, and the code has 1 to 65,535 bytes.
+pub fn code_in(info: &[u8]) -> Option<&[u8]>
+    ensures { MatchOption result ((code : List ℕ) → ¬ HoldsCode info.now code) (λ code. HoldsCode info.now code.now) }
+{
+    read_code(info)
+}
+
+/// Reads the code of a Code attribute, and all that stands behind it.
+#[tactic(auto, unfolding(crate::specs::Reading::Bodies::code_in))]
+fn read_code(info: &[u8]) -> Option<&[u8]>
+    ensures { option_map (λ code. code.now) result ≡ code_in info.now }
+{
+    let (_max_stack, rest) = u2_at(info)?;
+    let (_max_locals, rest) = u2_at(rest)?;
+    let (len, rest) = u4_at(rest)?;
+    if len == 0 || len > 65_535 {
+        return None;
+    }
+    let (code, rest) = bytes_at(len as usize, rest)?;
+    let (exceptions, rest) = u2_at(rest)?;
+    let (_table, rest) = bytes_at(8 * usize::from(exceptions), rest)?;
+    let rest = behind_attributes(rest)?;
+    if rest.is_empty() { Some(code) } else { None }
+}
+
+/// What comes after attributes and their count.
+fn behind_attributes(bytes: &[u8]) -> Option<&[u8]>
+    ensures { option_map (λ rest. rest.now) result ≡ option_map (λ x. x.1) (counted_at attribute_at bytes.now) }
+{
+    let (count, rest) = u2_at(bytes)?;
+    behind_so_many(count, rest)
+}
+
+/// What comes after so many attributes.
+fn behind_so_many(count: u16, bytes: &[u8]) -> Option<&[u8]>
+    ensures { option_map (λ rest. rest.now) result ≡ option_map (λ x. x.1) (items_at attribute_at count bytes.now) }
+{
+    let mut rest = bytes;
+    'attributes: for _ in 0..count {
+        let Some((_attribute, after)) = attribute_at(rest) else {
+            return None;
+        };
+        rest = after;
+    }
+    Some(rest)
+}

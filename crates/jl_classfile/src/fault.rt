@@ -1,0 +1,61 @@
+//! Why bytes are no class file.
+
+ghost use Rattle.std.specs.Prelude.{◌≡◌};
+ghost use Rattle.jl_classfile.specs.declared.fault.ClassFault.TheVariants.{Memory};
+
+use crate::code_fault::CodeFault;
+use crate::pool_fault::PoolFault;
+use std::alloc::{AllocError, AllocFailed};
+
+/// Why bytes are no class file (JVMS SE 17 §4.1, §4.8). Where several hold, the first pass that fails tells:
+/// the size, the first eight bytes, the constant pool, the layout of the rest, the class and its superclasses, the
+/// members, the class's attributes, the codes.
+#[derive(Clone, Copy, Debug, PartialEq, Eq)]
+pub enum ClassFault {
+    /// Over 1,000,000 bytes.
+    TooLarge,
+    /// The first four bytes aren't cafebabe.
+    BadMagic,
+    /// The major version isn't 45 to 61, or from 56 on the minor version isn't 0.
+    BadVersion,
+    /// The bytes end before the file does, outside its constant pool.
+    Truncated,
+    /// A fault of the constant pool (§4.4).
+    Pool(PoolFault),
+    /// The file of a module: MODULE set, from version 53 on.
+    ModuleFile,
+    /// No superclass but for java/lang/Object, or one for it, or an interface's isn't java/lang/Object.
+    BadSuper,
+    /// This method, by its index, has the name and the descriptor of an earlier one.
+    DuplicateMethod(u16),
+    /// This method, by its index, has two Code attributes.
+    TwoCodes(u16),
+    /// A fault in the code of this method, by its index (§4.7.3).
+    Code(u16, CodeFault),
+    /// Bytes stand behind the whole file.
+    TrailingBytes,
+    /// The name, descriptor or flags of this member may not be (§4.5, §4.6); fields count first, then methods.
+    BadMember(u32),
+    /// This number is none of an entry of the kind that is asked for there.
+    BadLink(u16),
+    /// The nest attributes may not be so (§4.7.28, §4.7.29).
+    BadNest,
+    /// Want of memory.
+    Memory,
+}
+
+impl From<AllocError> for ClassFault {
+    ghost from_gives = { λ _ f. f ≡ Memory };
+
+    fn from(_e: AllocError) -> ClassFault {
+        ClassFault::Memory
+    }
+}
+
+impl<T: Drop> From<AllocFailed<T>> for ClassFault {
+    ghost from_gives = { λ _ f. f ≡ Memory };
+
+    fn from(_e: AllocFailed<T>) -> ClassFault {
+        ClassFault::Memory
+    }
+}

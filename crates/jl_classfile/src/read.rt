@@ -1,0 +1,187 @@
+//! Reads a class file, pass after pass.
+
+ghost use Rattle.std.specs.Prelude.{◌<◌, ◌^◌, ◌≡◌, length, List, ℕ, IfOk, IfErr, MatchBool};
+ghost use Rattle.jl_classfile.specs.declared.fault.ClassFault.{ClassFault};
+ghost use Rattle.jl_classfile.specs.Parts.{Parts};
+ghost use Rattle.jl_classfile.specs.ClassFiles.{IsClass};
+ghost use Rattle.jl_classfile.specs.Faults.{HeadFault, IsFault};
+ghost use Rattle.jl_classfile.specs.Conditions.{IsVersion};
+ghost use Rattle.jl_classfile.specs.Reading.Passes.{HasHead};
+
+use crate::body::{Body, Member, body_at, code_in};
+use crate::bytes::{u2_at, u4_at};
+use crate::class::{ClassFile, Method};
+use crate::code::scan;
+use crate::code_fault::CodeFault;
+use crate::fault::ClassFault;
+use crate::links::check_links;
+use crate::member::{attribute_called, check_attribute_names, check_members};
+use crate::pool::Pool;
+use crate::pool_fault::PoolFault;
+use crate::site::Site;
+use jl_names::{Name, Seq};
+use std::alloc::{AllocError, Global};
+
+/// The most bytes of a class file.
+const MOST_BYTES: usize = 1_000_000;
+
+const MAGIC: u32 = 0xcafe_babe;
+
+impl From<PoolFault> for ClassFault {
+    ghost use Rattle.std.specs.Prelude.{◌≡◌};
+    ghost use Rattle.jl_classfile.specs.Reading.Passes.{fault_of_pool};
+
+    ghost from_gives = { λ fault f. f ≡ fault_of_pool fault };
+
+    fn from(fault: PoolFault) -> ClassFault {
+        match fault {
+            PoolFault::Memory => ClassFault::Memory,
+            fault => ClassFault::Pool(fault),
+        }
+    }
+}
+
+/// Whether a version is read (JVMS SE 17 §4.1): from 56 on without a minor.
+fn is_version(minor: u16, major: u16) -> bool
+    ensures { MatchBool result (IsVersion minor major) (¬ IsVersion minor major) }
+{
+    major >= 45 && major <= 61 && (major < 56 || minor == 0)
+}
+
+/// The major version, and what comes after the first eight bytes (JVMS SE 17 §4.1).
+fn head_at(bytes: &[u8]) -> Result<(u16, &[u8]), ClassFault>
+    ensures ok { IfOk result (λ x. HasHead bytes.now x.1.now x.0) }
+    ensures fault { IfErr result (HeadFault bytes.now) }
+{
+    let Some((magic, after)) = u4_at(bytes) else {
+        return Err(ClassFault::Truncated);
+    };
+    if magic != MAGIC {
+        return Err(ClassFault::BadMagic);
+    }
+    let Some((minor, after)) = u2_at(after) else {
+        return Err(ClassFault::Truncated);
+    };
+    let Some((major, rest)) = u2_at(after) else {
+        return Err(ClassFault::Truncated);
+    };
+    if !is_version(minor, major) {
+        return Err(ClassFault::BadVersion);
+    }
+    Ok((major, rest))
+}
+
+/// The fault of a method's code.
+fn code_fault(method: u16, fault: CodeFault) -> ClassFault {
+    match fault {
+        CodeFault::Memory => ClassFault::Memory,
+        fault => ClassFault::Code(method, fault),
+    }
+}
+
+/// The invocations of a method, none where it has no code.
+fn sites_of(
+    alloc: Global,
+    pool: &Pool<'_>,
+    index: u16,
+    method: &Member<'_>,
+) -> Result<Seq<Site>, ClassFault> {
+    let Some(info) = attribute_called(pool, method.attributes.as_slice(), b"Code") else {
+        return Ok(Seq::of(Vec::new(alloc)));
+    };
+    let Some(code) = code_in(info) else {
+        return Err(ClassFault::Code(index, CodeFault::BadLayout));
+    };
+    match scan(alloc, code, pool) {
+        Ok(sites) => Ok(Seq::of(sites)),
+        Err(fault) => Err(code_fault(index, fault)),
+    }
+}
+
+/// The text at a number, kept.
+fn kept_text(alloc: Global, pool: &Pool<'_>, number: u16) -> Result<Name, ClassFault> {
+    let text = pool.utf8(number).ok_or(ClassFault::BadLink(number))?;
+    Ok(Name::copied(alloc, text)?)
+}
+
+/// The class name at a number, kept.
+fn kept_class(alloc: Global, pool: &Pool<'_>, number: u16) -> Result<Name, ClassFault> {
+    let name = pool.class_name(number).ok_or(ClassFault::BadLink(number))?;
+    Ok(Name::copied(alloc, name)?)
+}
+
+/// The class names at the numbers, kept.
+fn kept_classes(alloc: Global, pool: &Pool<'_>, numbers: &[u16]) -> Result<Seq<Name>, ClassFault> {
+    let mut names = Vec::new(alloc);
+    for number in numbers {
+        names.push(kept_class(alloc, pool, *number)?)?;
+    }
+    Ok(Seq::of(names))
+}
+
+/// The methods with their invocations.
+fn methods_of(
+    alloc: Global,
+    pool: &Pool<'_>,
+    members: &[Member<'_>],
+) -> Result<Seq<Method>, ClassFault>
+    requires { length members.now < 2 ^ 16 }
+{
+    let mut methods = Vec::new(alloc);
+    for (i, member) in members.iter().enumerate() {
+        let method = Method {
+            flags: member.flags,
+            name: kept_text(alloc, pool, member.name)?,
+            ty: kept_text(alloc, pool, member.descriptor)?,
+            sites: sites_of(alloc, pool, i as u16, member)?,
+        };
+        methods.push(method)?;
+    }
+    Ok(Seq::of(methods))
+}
+
+/// What a class file shows whose parts have no fault outside its codes.
+fn shown(alloc: Global, pool: &Pool<'_>, body: &Body<'_>) -> Result<ClassFile, ClassFault>
+    requires { length body.now.methods < 2 ^ 16 }
+{
+    let superclass = match body.super_class {
+        0 => None,
+        number => Some(kept_class(alloc, pool, number)?),
+    };
+    Ok(ClassFile {
+        name: kept_class(alloc, pool, body.this_class)?,
+        flags: body.flags,
+        superclass,
+        interfaces: kept_classes(alloc, pool, body.interfaces.as_slice())?,
+        nest_host: None,
+        nest_members: Seq::of(Vec::new(alloc)),
+        methods: methods_of(alloc, pool, body.methods.as_slice())?,
+    })
+}
+
+/// The class file that the bytes are (JVMS SE 17 §4), all of them.
+pub fn read_class(alloc: Global, bytes: &[u8]) -> Result<ClassFile, ClassFault> {
+    if bytes.len() > MOST_BYTES {
+        return Err(ClassFault::TooLarge);
+    }
+    let (major, rest) = head_at(bytes)?;
+    let (pool, used) = Pool::read(alloc, rest)?;
+    let (body, rest) = body_at(alloc, &rest[used..])?;
+    if !rest.is_empty() {
+        return Err(ClassFault::TrailingBytes);
+    }
+    check_links(major, &pool, &body)?;
+    check_members(alloc, &pool, &body)?;
+    check_attribute_names(&pool, body.attributes.as_slice())?;
+    shown(alloc, &pool, &body)
+}
+
+/// Bytes are one class file at most.
+pub fn one_class()
+    ensures { (bytes : List ℕ) (p q : Parts) → IsClass bytes p → IsClass bytes q → p ≡ q }
+{}
+
+/// No class file has a fault.
+pub fn no_fault_in_a_class()
+    ensures { (bytes : List ℕ) (parts : Parts) (fault : ClassFault) → IsClass bytes parts → ¬ IsFault bytes fault }
+{}

@@ -1,0 +1,10 @@
+use Rattle.std.proofs.Common.{◌≡◌, ◌<◌, ◌≤◌, length}
+use Rattle.jl_cli.proofs.lines.run_lines.Given as goal
+
+abbrev pub invariant-loop : goal.invariant-loop
+invariant-loop g l = record {
+  room : length l.input < 2100001;
+  reads : l.counter ≤ g.R.Source.reads l.reader;
+  no_read_failed : g.R.Source.failures l.reader ≡ g.R.Source.failures l.fn.reader;
+  no_write_failed : g.W.Sink.failures l.writer ≡ g.W.Sink.failures l.fn.writer;
+}

@@ -1,0 +1,4 @@
+pub mod Devices
+pub mod Counted
+pub mod FailAt
+pub mod Statuses

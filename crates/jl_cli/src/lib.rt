@@ -1,0 +1,36 @@
+//! The program `linkd`, as a library: its words, and its answers to the lines of an input.
+//!
+//! Input and output are a [`Source`] and a [`Sink`], which count what failed. What is said of their bytes and counts
+//! stands in `specs/Devices`.
+#![tactic(auto)]
+
+// Words.
+mod words;
+
+// Input and output.
+mod counted;
+mod fail_at;
+mod failed;
+mod sink;
+mod source;
+
+// The answer to a line.
+mod class_answer;
+mod refusal;
+mod scan;
+mod text;
+
+// Lines.
+mod answers;
+mod line_buffer;
+mod line_fault;
+mod lines;
+
+pub use counted::Counted;
+pub use fail_at::FailAt;
+pub use failed::Failed;
+pub use line_fault::LineFault;
+pub use lines::run_lines;
+pub use sink::Sink;
+pub use source::Source;
+pub use words::{Mode, Words, WordsFault, read_words};

@@ -1,0 +1,14 @@
+//! Names as text.
+
+use jl_names::{NameFault, decode_mutf8};
+use std::alloc::{AllocError, Global};
+
+/// The text of a name in modified UTF-8 (JVMS SE 17 §4.4.7): two surrogates are their character, a lone one is U+FFFD.
+pub fn text_of(alloc: Global, name: &[u8]) -> Result<String, AllocError> {
+    match decode_mutf8(alloc, name) {
+        Ok(units) => String::from_utf16_lossy(alloc, &units),
+        Err(NameFault::Memory) => Err(AllocError),
+        // No name in a class file is so.
+        Err(_) => Ok(String::new(alloc)),
+    }
+}

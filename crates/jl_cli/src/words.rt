@@ -1,0 +1,86 @@
+//! The words that the program was called with.
+
+ghost use Rattle.std.specs.Prelude.{◌≡◌};
+ghost use Rattle.jl_cli.specs.declared.words.WordsFault.TheVariants.{Memory};
+
+use clap::error::ErrorKind;
+use clap::{Command, Error as ClapError};
+use std::alloc::{AllocError, Global};
+use thiserror::Error;
+
+/// How lines are answered.
+#[derive(Clone, Copy, Debug, PartialEq, Eq)]
+pub enum Mode {
+    /// A line is a class file in hexadecimal, and its answer what the file shows.
+    Scan,
+}
+
+/// What the words ask for.
+#[derive(Clone, Copy, Debug, PartialEq, Eq)]
+pub enum Words {
+    /// Answers to lines.
+    Lines(Mode),
+}
+
+/// Why words ask for nothing.
+#[derive(Clone, Copy, Debug, PartialEq, Eq, Error)]
+pub enum WordsFault {
+    /// No subcommand, an unknown one, or more words than it takes; a call for help is so too.
+    #[error("bad words")]
+    BadWords,
+    /// Want of memory.
+    #[error("out of memory")]
+    Memory,
+}
+
+impl WordsFault {
+    ghost use Rattle.jl_cli.specs.Statuses.{words_status};
+
+    /// The exit status of the program.
+    pub fn status(self) -> u8
+        ensures { result ≡ words_status self }
+    {
+        match self {
+            WordsFault::BadWords => 1,
+            WordsFault::Memory => 4,
+        }
+    }
+}
+
+impl From<AllocError> for WordsFault {
+    ghost from_gives = { λ _ f. f ≡ Memory };
+
+    fn from(_e: AllocError) -> WordsFault {
+        WordsFault::Memory
+    }
+}
+
+/// The fault of words that clap refuses.
+fn fault_of(error: &ClapError) -> WordsFault {
+    match error.kind() {
+        ErrorKind::OutOfMemory => WordsFault::Memory,
+        _ => WordsFault::BadWords,
+    }
+}
+
+/// The words of the program, as clap takes them.
+fn command<'a>(alloc: Global) -> Result<Command<'a>, AllocError> {
+    Command::new(alloc, "linkd")
+        .disable_help_flag(true)
+        .disable_help_subcommand(true)
+        .subcommand_required(true)
+        .subcommand(Command::new(alloc, "scan").disable_help_flag(true))
+}
+
+/// What the words ask for, the program's name first.
+///
+/// # Errors
+///
+/// [`WordsFault::BadWords`] where they ask for nothing, and [`WordsFault::Memory`].
+pub fn read_words(alloc: Global, words: &[String]) -> Result<Words, WordsFault> {
+    match command(alloc)?.try_get_matches_from(words) {
+        Ok(matches) if matches.subcommand_name() == Some("scan") => Ok(Words::Lines(Mode::Scan)),
+        Ok(_) => Err(WordsFault::BadWords),
+        Err(error) => Err(fault_of(&error)),
+    }
+}

@@ -1,0 +1,7 @@
+-- What the contracts cite, in reading order. `Reading` is for the private clauses alone.
+pub mod Mutf8
+pub mod ClassNames
+pub mod Descriptors
+pub mod MethodTypes
+pub mod Repeats
+pub mod Reading

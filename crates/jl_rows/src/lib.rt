@@ -1,0 +1,15 @@
+//! Tests that cross crates: worked rows and whole runs of lines. Nothing here is called by other crates.
+#![tactic(auto)]
+
+#[cfg(test)]
+mod devices;
+#[cfg(test)]
+mod faults;
+#[cfg(test)]
+mod input;
+#[cfg(test)]
+mod scan;
+#[cfg(test)]
+mod scans;
+#[cfg(test)]
+mod words;

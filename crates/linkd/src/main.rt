@@ -1,0 +1,42 @@
+//! Reads class files, a line each, and answers what they show.
+//!
+//! `linkd scan` answers each line of the standard input. The exit status is 0 where the input ended, and otherwise 1 for
+//! bad words, 2 for a line that is too long, 3 for a failed read or write and 4 for want of memory; a line on the
+//! standard error then says so.
+#![tactic(auto)]
+
+use jl_cli::{Counted, Words, WordsFault, read_words, run_lines};
+use std::io::ErrorKind;
+use std::process::ExitCode;
+use std::{env, fmt};
+
+/// What the words of this process ask for.
+fn own_words(rt: &HostRuntime) -> Result<Words, WordsFault> {
+    match env::args(rt) {
+        Ok(args) => {
+            let words: Vec<String> = args.collect(rt.alloc())?;
+            read_words(rt.alloc(), &words)
+        }
+        Err(error) if error.kind() == ErrorKind::OutOfMemory => Err(WordsFault::Memory),
+        Err(_) => Err(WordsFault::BadWords),
+    }
+}
+
+/// Tells the fault on the standard error, where that can be done.
+fn stopped(rt: &HostRuntime, fault: impl fmt::Display + Drop, status: u8) -> ExitCode {
+    let _ = eprintln!(rt; "linkd: {fault}");
+    ExitCode::from(status)
+}
+
+fn main(rt: HostRuntime) -> ExitCode {
+    let mode = match own_words(&rt) {
+        Ok(Words::Lines(mode)) => mode,
+        Err(fault) => return stopped(&rt, fault, fault.status()),
+    };
+    let mut input = Counted::new(rt.stdin());
+    let mut output = Counted::new(rt.stdout());
+    match run_lines(rt.alloc(), mode, &mut input, &mut output) {
+        Ok(()) => ExitCode::SUCCESS,
+        Err(fault) => stopped(&rt, fault, fault.status()),
+    }
+}
