@@ -1,16 +1,15 @@
 -- Bytes are one class file at most.
-use Rattle.std.proofs.Common.{◌≡◌, ℕ, ◌<◌, ◌^◌, Bool, true, false, List, [], ◌∷◌, ◌++◌, length, Option, Some, None, refl, sym, ap, subst, ◌∙◌, arith}
+use Rattle.std.proofs.Common.{◌≡◌, ℕ, ◌<◌, ◌^◌, List, [], ◌∷◌, ◌++◌, Option, Some, None, refl, sym, ap, subst, ◌∙◌}
 use Rattle.std.specs.List.{AllByRecursion}
-use Rattle.std.proofs.lemmas.List.{append-nil}
 use Rattle.jl_classfile.specs.declared.body.Attribute.{Attribute}
 use Rattle.jl_classfile.specs.declared.body.Member.{Member}
 use Rattle.jl_classfile.specs.declared.instruction.Instruction.{Instruction}
 use Rattle.jl_classfile.specs.Numbers.{u2, counted}
 use Rattle.jl_classfile.specs.Pools.{Pool}
 use Rattle.jl_classfile.specs.Codes.{code_bytes}
-use Rattle.jl_classfile.specs.Layouts.{Layout, Countable}
+use Rattle.jl_classfile.specs.Layouts.{Layout}
 use Rattle.jl_classfile.specs.Parts.{Parts}
-use Rattle.jl_classfile.specs.Conditions.{codes_of, attributes_called, IsClassNumber, HoldsHost, HoldsMembers, Nest, HasCode, HaveCodes}
+use Rattle.jl_classfile.specs.Conditions.{codes_of, IsClassNumber, HoldsHost, HoldsMembers, Nest, HasCode, HaveCodes}
 use Rattle.jl_classfile.specs.ClassFiles.{IsClass, pool_of}
 use Rattle.jl_classfile.specs.Reading.Fields.{number_at}
 use Rattle.jl_classfile.specs.Reading.Bodies.{counted_at}

@@ -1,5 +1,5 @@
 -- A Code attribute holds one code at most, of one list of instructions.
-use Rattle.std.proofs.Common.{◌≡◌, ◌≢◌, ℕ, ◌+◌, ◌*◌, ◌<◌, ◌≤◌, ◌^◌, Bool, true, false, eqb, ◌||◌, List, [], ◌∷◌, ◌++◌, length, Option, Some, None, Result, Ok, refl, sym, ap, subst, ◌∙◌, append_assoc, length-append, arith}
+use Rattle.std.proofs.Common.{◌≡◌, ℕ, ◌+◌, ◌*◌, ◌<◌, ◌≤◌, ◌^◌, Bool, true, false, eqb, ◌||◌, List, [], ◌∷◌, ◌++◌, length, Option, Some, None, Result, Ok, refl, sym, ap, subst, ◌∙◌, length-append, arith}
 use Rattle.std.specs.Prelude.{MatchOption, nat_lt, if◌then◌else◌}
 use Rattle.std.proofs.lemmas.Bool.{eqb-true}
 use Rattle.std.proofs.lemmas.Bool.Decides.{nat_tests}
@@ -9,13 +9,13 @@ use Rattle.jl_classfile.specs.declared.instruction.Instruction.{Instruction}
 use Rattle.jl_classfile.specs.declared.instruction.Stop.{Stop}
 use Rattle.jl_classfile.specs.Numbers.{u2, u4, counted}
 use Rattle.jl_classfile.specs.Instructions.{instruction_text}
-use Rattle.jl_classfile.specs.Codes.{code_bytes, MayStandFrom, IsCode}
+use Rattle.jl_classfile.specs.Codes.{code_bytes, MayStandFrom}
 use Rattle.jl_classfile.specs.Layouts.{attribute_text, AttributeSized, Countable}
 use Rattle.jl_classfile.specs.CodeAttributes.{HoldsCode}
 use Rattle.jl_classfile.specs.Reading.Fields.{◌>>=◌, number_at, bytes_at}
 use Rattle.jl_classfile.specs.Reading.Instructions.{instruction_at}
 use Rattle.jl_classfile.specs.Reading.Bodies.{counted_at, attribute_at, if_filled, behind_code, code_in}
-use Rattle.jl_classfile.proofs.Fields.{IsBytes, Takes, bind_some, some_is, u2_takes, u2_again, u4_takes, u4_again, bytes_takes, bytes_again}
+use Rattle.jl_classfile.proofs.Fields.{IsBytes, bind_some, some_is, u2_takes, u2_again, u4_takes, u4_again, bytes_takes, bytes_again}
 use Rattle.jl_classfile.proofs.BodyLaws.{attribute-takes, attribute-again, counted-takes, counted-again}
 use Rattle.jl_names.proofs.Bytes.{ok_is}
 use Rattle.jl_classfile.proofs.InstructionLaws.{instruction_again}

@@ -1,8 +1,7 @@
 -- No class file has a fault: what each pass finds out is that none of its faults holds.
-use Rattle.std.proofs.Common.{◌≡◌, ◌≢◌, ℕ, zero, suc, ◌+◌, ◌-◌, ◌<◌, ◌≤◌, ◌^◌, Bool, true, false, eqb, not, ◌&&◌, ◌||◌, List, [], ◌∷◌, ◌++◌, length, take, drop, Option, Some, None, Result, Ok, Err, refl, sym, ap, subst, ◌∙◌, append_assoc, length-append, arith, inl, inr}
-use Rattle.std.specs.Prelude.{slice_get, is_some, ◌⊎◌, IsTrue, IsFalse, if◌then◌else◌, map, filter}
-use Rattle.std.specs.Option.{option_and_then}
-use Rattle.std.specs.List.{AllByRecursion, Contains, flat_map, list_any}
+use Rattle.std.proofs.Common.{◌≡◌, ◌≢◌, ℕ, zero, suc, ◌+◌, ◌-◌, ◌<◌, ◌≤◌, ◌^◌, Bool, true, false, not, ◌&&◌, ◌||◌, List, [], ◌∷◌, ◌++◌, length, take, drop, Option, Some, None, Result, Ok, refl, sym, ap, subst, ◌∙◌, append_assoc, length-append, arith, inl, inr}
+use Rattle.std.specs.Prelude.{slice_get, is_some, ◌⊎◌, IsTrue, IsFalse, if◌then◌else◌, map}
+use Rattle.std.specs.List.{AllByRecursion, flat_map, list_any}
 use Rattle.std.proofs.lemmas.List.{append-nil}
 use Rattle.jl_names.proofs.Bytes.{ok_is}
 use Rattle.jl_classfile.specs.declared.constant.Constant.{Constant}
@@ -12,14 +11,12 @@ use Rattle.jl_classfile.specs.declared.body.Body.{Body}
 use Rattle.jl_classfile.specs.declared.instruction.Instruction.{Instruction}
 use Rattle.jl_classfile.specs.declared.instruction.Instruction.TheVariants.{Plain, Wide, Invoke, TableSwitch, LookupSwitch}
 use Rattle.jl_classfile.specs.declared.instruction.Stop.{Stop}
-use Rattle.jl_classfile.specs.declared.instruction.Stop.TheVariants.{Cut, Opcode}
-use Rattle.jl_classfile.specs.declared.pool.Stop.TheVariants.{Cut as PoolCut, Tag}
 use Rattle.jl_classfile.specs.declared.pool_fault.PoolFault.{PoolFault}
 use Rattle.jl_classfile.specs.declared.pool_fault.PoolFault.TheVariants as pool
 use Rattle.jl_classfile.specs.declared.code_fault.CodeFault.{CodeFault}
 use Rattle.jl_classfile.specs.declared.code_fault.CodeFault.TheVariants as code
 use Rattle.jl_classfile.specs.declared.fault.ClassFault.{ClassFault}
-use Rattle.jl_classfile.specs.declared.fault.ClassFault.TheVariants.{TooLarge, BadMagic, BadVersion, Truncated, Pool as InPool, ModuleFile, BadSuper, DuplicateMethod, TwoCodes, Code, TrailingBytes, BadMember, BadLink, BadNest, Memory}
+use Rattle.jl_classfile.specs.declared.fault.ClassFault.TheVariants.{TooLarge, BadMagic, BadVersion, Truncated, Pool as InPool, ModuleFile, BadSuper, DuplicateMethod, TwoCodes, Code, TrailingBytes, BadMember, BadLink, BadNest}
 use Rattle.jl_classfile.specs.Numbers.{u2}
 use Rattle.jl_classfile.specs.Constants.{constant_text, is_double}
 use Rattle.jl_classfile.specs.Pools.{Pool, places, places_of, pool_text, constant_at, IsWritten, IsSoundPool}
@@ -27,20 +24,20 @@ use Rattle.jl_classfile.specs.Known.{plain_opcodes}
 use Rattle.jl_classfile.specs.Instructions.{instruction_text, MayStand, operands_in}
 use Rattle.jl_classfile.specs.Codes.{code_bytes, MayStandFrom, OperandFits, IsCode}
 use Rattle.jl_classfile.specs.Layouts.{Layout, body_text, head_text, file_text, IsLayout}
-use Rattle.jl_classfile.specs.CodeAttributes.{HoldsCode, IsCodeOf}
+use Rattle.jl_classfile.specs.CodeAttributes.{IsCodeOf}
 use Rattle.jl_classfile.specs.Parts.{Parts}
 use Rattle.jl_classfile.specs.Conditions.{IsVersion, Links, Members, ClassAttributeLinks, Nest, HasCode, HaveCodes, class_numbers, IsClassNumber, super_fits, is_module, IsTextNumber, member_numbers, MemberLinks, FieldFits, MethodFits, is_interface, same_method, no_twins, codes_of}
 use Rattle.jl_classfile.specs.ClassFiles.{most_bytes, pool_of, IsClass}
-use Rattle.jl_classfile.specs.Faults.{SizeFault, HeadFault, Opens, TagFault, PoolStands, AllAt, IsFirstNot, IsPoolFault, PoolPass, LayoutFault, LinksFault, MembersFault, AttributesFault, Runs, IsBadTag, is_opcode, begins_opcode, IsBadSwitch, IsScanFault, IsCodeFault, CodesFault, Pass, LaidFault, FailsWith, IsFault}
+use Rattle.jl_classfile.specs.Faults.{SizeFault, HeadFault, TagFault, PoolStands, IsFirstNot, IsPoolFault, PoolPass, LayoutFault, LinksFault, MembersFault, AttributesFault, Runs, IsBadTag, is_opcode, begins_opcode, IsBadSwitch, IsScanFault, IsCodeFault, CodesFault, Pass, LaidFault, FailsWith, IsFault}
 use Rattle.jl_classfile.specs.Faults.{Sizing, Heading, Pooling, Laying, Linking, Membership, Attribution, Coding}
 use Rattle.jl_classfile.specs.Reading.Constants.{constant_at as read_constant}
 use Rattle.jl_classfile.specs.Reading.Instructions.{instruction_at}
 use Rattle.jl_classfile.proofs.AllLaws.{All-place, All-among}
 use Rattle.jl_classfile.proofs.ConstantLaws.{constant_again}
-use Rattle.jl_classfile.proofs.PoolLaws.{u2_one, either, GoesOn, places-append, bad_tag, one_pool}
+use Rattle.jl_classfile.proofs.PoolLaws.{u2_one, either, places-append, bad_tag, one_pool}
 use Rattle.jl_classfile.proofs.InstructionLaws.{instruction_again, known_row}
 use Rattle.jl_classfile.proofs.CodeLaws.{text-some}
-use Rattle.jl_classfile.proofs.LayoutLaws.{head_one, layout_one, SameHead}
+use Rattle.jl_classfile.proofs.LayoutLaws.{head_one, layout_one}
 use Rattle.jl_classfile.proofs.CodeAttributeLaws.{one_held}
 
 -- ---- the size and the head

@@ -1,15 +1,15 @@
 -- What a text may stand for, found by reading it, is what the definitions say.
-use Rattle.std.proofs.Common.{◌≡◌, ◌≢◌, ℕ, ◌+◌, ◌<◌, ◌≤◌, Bool, true, false, eqb, List, [], ◌∷◌, ◌++◌, length, Option, Some, None, Result, Ok, Err, refl, sym, ap, ◌∙◌, arith}
+use Rattle.std.proofs.Common.{◌≡◌, ℕ, ◌+◌, ◌<◌, ◌≤◌, Bool, true, false, eqb, List, [], ◌∷◌, length, Option, Some, None, Result, Ok, Err, refl, sym, ap, ◌∙◌, arith}
 use Rattle.jl_names.specs.declared.fault.NameFault.{NameFault}
 use Rattle.jl_names.specs.declared.fault.NameFault.TheVariants.{BadByte, Truncated, BadDescriptor, TooManySlots, Memory}
-use Rattle.std.specs.Prelude.{IfOk, IfErr, IfSome, is_ok, MatchBool, MatchOption, nat_le, if◌then◌else◌}
+use Rattle.std.specs.Prelude.{IfOk, IfErr, is_ok, MatchBool, MatchOption, nat_le, if◌then◌else◌}
 use Rattle.std.specs.Option.{option_and_then}
 use Rattle.std.proofs.lemmas.Bool.Decides.{nat_tests}
 use Rattle.jl_names.specs.declared.descriptor.FieldType.{FieldType}
 use Rattle.jl_names.specs.Descriptors.{field_text, IsFieldType, IsFieldDescriptor, IsFieldFault}
 use Rattle.jl_names.specs.MethodTypes.{IsMethodDescriptor, TakesSlots, slots_of}
 use Rattle.jl_names.specs.Reading.Descriptors.{field_at}
-use Rattle.jl_names.specs.Reading.MethodTypes.{behind, return_at, SlotsStand, FewSlots, Stand}
+use Rattle.jl_names.specs.Reading.MethodTypes.{behind, return_at, SlotsStand, FewSlots}
 use Rattle.jl_names.proofs.DescriptorLaws.{field_whole, field_fault, field_trailing, field_less}
 use Rattle.jl_names.proofs.MethodLaws.{method_one}
 use Rattle.jl_names.proofs.SlotLaws.{SlotsStand-more, SlotsStand-closed, stopped_none, over_none, unopened_none, many_none, result_none, trailing_none, whole_slots}

@@ -1,5 +1,5 @@
 -- The first eight bytes.
-use Rattle.std.proofs.Common.{◌≡◌, ℕ, ◌<◌, ◌^◌, List, ◌++◌, Some, sym, ap, subst, ◌∙◌}
+use Rattle.std.proofs.Common.{◌≡◌, ℕ, ◌<◌, ◌^◌, List, ◌++◌, Some, ap, ◌∙◌}
 use Rattle.jl_classfile.specs.Numbers.{u2, u4}
 use Rattle.jl_classfile.specs.Layouts.{head_text}
 use Rattle.jl_classfile.specs.Reading.Fields.{number_at}

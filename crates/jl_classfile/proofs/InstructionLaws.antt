@@ -1,6 +1,5 @@
 -- An instruction is read where its text stands, and only there.
-use Rattle.std.proofs.Common.{◌≡◌, ◌≢◌, ℕ, ◌<◌, ◌^◌, Bool, true, false, eqb, not, ◌&&◌, ◌||◌, List, [], ◌∷◌, ◌++◌, length, Option, Some, None, Result, Ok, Err, refl, sym, ap, subst, ◌∙◌, append_assoc, arith, inl, inr}
-use Rattle.std.specs.Prelude.{IsTrue, IsFalse, is_some}
+use Rattle.std.proofs.Common.{◌≡◌, ℕ, ◌<◌, ◌^◌, Bool, true, false, eqb, ◌&&◌, List, [], ◌∷◌, ◌++◌, length, Option, Some, None, Result, Ok, Err, refl, sym, ap, subst, ◌∙◌, append_assoc, arith, inl, inr}
 use Rattle.std.proofs.lemmas.Bool.{eqb-true}
 use Rattle.std.proofs.lemmas.Bool.Decides.{nat_tests}
 use Rattle.jl_classfile.specs.declared.instruction.Instruction.{Instruction}
@@ -13,7 +12,7 @@ use Rattle.jl_classfile.specs.Instructions.{instruction_text, operands_in, tail_
 use Rattle.jl_classfile.specs.Faults.{is_opcode, begins_opcode, IsBadSwitch}
 use Rattle.jl_classfile.specs.Reading.Fields.{◌>>=◌, number_at, bytes_at}
 use Rattle.jl_classfile.specs.Reading.Instructions.{invocation_at, plain_at, or_cut, by_row, instruction_at}
-use Rattle.jl_classfile.proofs.Fields.{IsBytes, IsBytes-rest, Takes, takes, bind_some, some_is, u2_takes, u2_again, bytes_takes, bytes_again}
+use Rattle.jl_classfile.proofs.Fields.{IsBytes, IsBytes-rest, Takes, bind_some, some_is, u2_takes, u2_again, bytes_takes, bytes_again}
 
 -- ---- what is spelled is read
 

@@ -1,13 +1,11 @@
 -- Bytes lie in one way at most.
-use Rattle.std.proofs.Common.{◌≡◌, ◌≢◌, ℕ, ◌+◌, ◌<◌, ◌^◌, List, [], ◌∷◌, ◌++◌, length, Option, Some, refl, sym, ap, ◌∙◌, append_assoc, arith}
-use Rattle.std.specs.List.{flat_map}
+use Rattle.std.proofs.Common.{◌≡◌, ℕ, ◌<◌, ◌^◌, List, [], ◌++◌, refl, sym, ap, ◌∙◌, append_assoc, arith}
 use Rattle.std.proofs.lemmas.List.{append-nil}
 use Rattle.jl_classfile.specs.declared.constant.Constant.{Constant}
 use Rattle.jl_classfile.specs.declared.body.Body.{Body}
 use Rattle.jl_classfile.specs.Numbers.{u2, u4}
 use Rattle.jl_classfile.specs.Pools.{pool_text}
 use Rattle.jl_classfile.specs.Layouts.{Layout, body_text, head_text, file_text, IsLayout, BodySized}
-use Rattle.jl_classfile.specs.Faults.{PoolStands}
 use Rattle.jl_classfile.specs.Reading.Fields.{number_at}
 use Rattle.jl_classfile.specs.Reading.Bodies.{body_at}
 use Rattle.jl_classfile.proofs.Fields.{some_is, u4_again}

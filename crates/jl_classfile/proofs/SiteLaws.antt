@@ -1,10 +1,10 @@
 -- The tests of an invocation say what the definition says.
 use Rattle.std.proofs.Common.{◌≡◌, ℕ, ◌≤◌, Bool, true, false, ◌&&◌, eqb, List, [], ◌∷◌, Option, Some, None, refl, sym, ap, subst, ◌∙◌, arith}
-use Rattle.std.specs.Prelude.{IsTrue, MatchOption, nat_le, if◌then◌else◌, option_map}
+use Rattle.std.specs.Prelude.{IsTrue, nat_le, if◌then◌else◌, option_map}
 use Rattle.std.specs.Option.{option_and_then, option_map_or}
 use Rattle.std.proofs.lemmas.Bool.Decides.{nat_tests}
 use Rattle.std.proofs.lemmas.Bool.{eqb-true, eq-eqb}
-use Rattle.jl_names.specs.MethodTypes.{TakesSlots, IsMethodDescriptor}
+use Rattle.jl_names.specs.MethodTypes.{TakesSlots}
 use Rattle.jl_classfile.specs.declared.constant.Constant.{Constant}
 use Rattle.jl_classfile.specs.declared.constant.Constant.TheVariants.{Methodref, InterfaceMethodref, NameAndType, InvokeDynamic}
 use Rattle.jl_classfile.specs.declared.reference.Reference.{Reference}
@@ -17,7 +17,7 @@ use Rattle.jl_classfile.specs.Instructions.{invocation_in}
 use Rattle.jl_classfile.specs.Codes.{either_operand, operand_at, operand_name, operand_type, may_name, most_slots, tail_of, Invokes}
 use Rattle.jl_classfile.specs.Reading.Forms.{method_slots, slots_of_constant, slots_at}
 use Rattle.jl_classfile.specs.Reading.Sites.{is_tagged, if_fits, invoked}
-use Rattle.jl_classfile.proofs.FormLaws.{IsSlots, SlotsAre, method_slots-is, one_slots}
+use Rattle.jl_classfile.proofs.FormLaws.{SlotsAre, method_slots-is, one_slots}
 
 -- ---- the slots are those of the descriptor that is named
 

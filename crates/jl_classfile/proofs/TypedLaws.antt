@@ -1,5 +1,5 @@
 -- The test of the descriptors that a constant names says what the definition says.
-use Rattle.std.proofs.Common.{◌≡◌, ℕ, Bool, true, false, ◌||◌, ◌&&◌, List, Option, Some, None, refl, sym, ap, ◌∙◌, subst, inl, inr}
+use Rattle.std.proofs.Common.{ℕ, Bool, true, false, ◌||◌, ◌&&◌, List, Option, Some, None, refl, inl, inr}
 use Rattle.std.specs.Prelude.{MatchBool, MatchOption, ◌⊎◌, IsTrue, is_some}
 use Rattle.jl_names.specs.ClassNames.{is_class_name}
 use Rattle.jl_names.specs.Descriptors.{IsFieldDescriptor}
@@ -7,7 +7,7 @@ use Rattle.jl_names.specs.MethodTypes.{IsMethodDescriptor}
 use Rattle.jl_classfile.specs.declared.constant.Constant.{Constant}
 use Rattle.jl_classfile.specs.declared.constant.Constant.TheVariants.{Utf8, Integer, Float, Long, Double, Class, String, Fieldref, Methodref, InterfaceMethodref, NameAndType, MethodHandle, MethodType, Dynamic, InvokeDynamic, Module, Package}
 use Rattle.jl_classfile.specs.Pools.{Pool, text_at, descriptor_at, begins_array, IfText, IsClassText, IsTyped}
-use Rattle.jl_classfile.specs.Reading.Forms.{is_field, method_slots, form_of, is_class_text, is_descriptor, takes_slots, is_typed}
+use Rattle.jl_classfile.specs.Reading.Forms.{is_field, method_slots, form_of, is_class_text, takes_slots, is_typed}
 use Rattle.jl_classfile.proofs.FormLaws.{is_field-is, IsSlots, method_slots-is}
 
 -- a test that decides a fact

@@ -1,6 +1,5 @@
 -- An instruction at the front of bytes, and what is left. No public clause cites this.
-use Rattle.std.specs.Prelude.{◌≡◌, ℕ, Bool, ◌==◌, ◌&&◌, nat_le, if◌then◌else◌, List, [], ◌∷◌, Option, Some, None, Result, Ok, Err}
-use Rattle.std.specs.Option.{option_map_or}
+use Rattle.std.specs.Prelude.{◌≡◌, ℕ, List, [], ◌∷◌, Option, Some, None, Result, Ok, Err}
 use Rattle.jl_classfile.specs.declared.instruction.Instruction.{Instruction}
 use Rattle.jl_classfile.specs.declared.instruction.Instruction.TheVariants.{Plain, Invoke}
 use Rattle.jl_classfile.specs.declared.instruction.Stop.{Stop}

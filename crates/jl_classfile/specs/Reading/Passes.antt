@@ -1,5 +1,5 @@
 -- What the readers of the passes find out. No public clause cites this.
-use Rattle.std.specs.Prelude.{◌≡◌, ◌≢◌, ℕ, ◌≤◌, ◌<◌, ◌^◌, List, [], ◌∷◌, ◌++◌, length, Option, Some, None, ⊤, map}
+use Rattle.std.specs.Prelude.{◌≡◌, ◌≢◌, ℕ, ◌≤◌, ◌<◌, ◌^◌, List, [], ◌∷◌, ◌++◌, length, ⊤}
 use Rattle.std.specs.List.{Contains}
 use Rattle.jl_classfile.specs.declared.body.Attribute.{Attribute}
 use Rattle.jl_classfile.specs.declared.body.Member.{Member}
@@ -8,7 +8,6 @@ use Rattle.jl_classfile.specs.declared.body.Broken.{Broken}
 use Rattle.jl_classfile.specs.declared.body.Broken.TheVariants as broken
 use Rattle.jl_classfile.specs.declared.pool_fault.PoolFault.{PoolFault}
 use Rattle.jl_classfile.specs.declared.pool_fault.PoolFault.TheVariants as pool
-use Rattle.jl_classfile.specs.declared.code_fault.CodeFault.{CodeFault}
 use Rattle.jl_classfile.specs.declared.code_fault.CodeFault.TheVariants as code
 use Rattle.jl_classfile.specs.declared.fault.ClassFault.{ClassFault}
 use Rattle.jl_classfile.specs.declared.fault.ClassFault.TheVariants.{Truncated, Pool as InPool, Code, BadLink, Memory}

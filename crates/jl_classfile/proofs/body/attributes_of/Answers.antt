@@ -1,6 +1,4 @@
-use Rattle.std.proofs.Common.{arith, ap, ◌∙◌, sym, List, ℕ, Some}
-use Rattle.jl_classfile.specs.Reading.Fields.{number_at}
-use Rattle.jl_classfile.specs.Reading.Bodies.{attribute_at, member_at, items_at}
+use Rattle.jl_classfile.specs.Reading.Bodies.{attribute_at, items_at}
 use Rattle.jl_classfile.proofs.ItemLaws.{items-more, items-stop, items-end}
 use Rattle.jl_classfile.proofs.body.attributes_of.Goals as goal
 

@@ -1,6 +1,5 @@
 use Rattle.std.proofs.Common.{◌≡◌, ◌-◌}
-use Rattle.jl_classfile.specs.Reading.Fields.{number_at}
-use Rattle.jl_classfile.specs.Reading.Bodies.{with_front, items_at, attribute_at, member_at}
+use Rattle.jl_classfile.specs.Reading.Bodies.{with_front, items_at, member_at}
 use Rattle.jl_classfile.proofs.body.members_of.Given as goal
 
 abbrev pub invariant-members : goal.invariant-members

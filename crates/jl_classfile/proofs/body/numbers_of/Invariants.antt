@@ -1,6 +1,6 @@
 use Rattle.std.proofs.Common.{◌≡◌, ◌-◌}
 use Rattle.jl_classfile.specs.Reading.Fields.{number_at}
-use Rattle.jl_classfile.specs.Reading.Bodies.{with_front, items_at, attribute_at, member_at}
+use Rattle.jl_classfile.specs.Reading.Bodies.{with_front, items_at}
 use Rattle.jl_classfile.proofs.body.numbers_of.Given as goal
 
 abbrev pub invariant-numbers : goal.invariant-numbers

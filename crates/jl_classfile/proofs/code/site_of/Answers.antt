@@ -1,5 +1,4 @@
-use Rattle.std.proofs.Common.{◌≡◌, sym, ◌∙◌, ap, refl, Some, List, ℕ, [], ◌∷◌}
-use Rattle.jl_classfile.specs.Codes.{OperandFits, site_at}
+use Rattle.std.proofs.Common.{sym, ◌∙◌, ap, refl, List, ℕ}
 use Rattle.jl_classfile.specs.Reading.Sites.{invoked}
 use Rattle.jl_classfile.proofs.SiteLaws.{invoked-some, invoked-none}
 use Rattle.jl_classfile.proofs.code.site_of.Goals as goal

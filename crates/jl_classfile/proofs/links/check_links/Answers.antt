@@ -1,7 +1,5 @@
-use Rattle.std.proofs.Common.{◌≡◌, ◌∙◌, sym, subst, List, ℕ, true, false}
-use Rattle.std.specs.Prelude.{All}
+use Rattle.std.proofs.Common.{◌∙◌, sym, subst}
 use Rattle.std.proofs.lemmas.Result.{err_from_is_err_and}
-use Rattle.jl_classfile.specs.Conditions.{IsClassNumber, is_module, super_fits}
 use Rattle.jl_classfile.specs.Faults.{LinksFault}
 use Rattle.jl_classfile.specs.declared.fault.ClassFault.{ClassFault}
 use Rattle.jl_classfile.proofs.LinkLaws.{at_superclass, at_interface, tested}

@@ -1,4 +1,4 @@
-use Rattle.jl_classfile.proofs.HeadLaws.{head_takes, IsHead}
+use Rattle.jl_classfile.proofs.HeadLaws.{head_takes}
 use Rattle.std.proofs.Common.{arith}
 use Rattle.jl_classfile.proofs.read.head_at.Goals as goal
 

@@ -1,5 +1,4 @@
-use Rattle.std.proofs.Common.{rules, ◌≡◌, ◌∙◌, ◌<◌}
-use Rattle.std.specs.Prelude.{IfSome}
+use Rattle.std.proofs.Common.{◌≡◌, ◌∙◌}
 use Rattle.jl_classfile.specs.Reading.Forms.{form_of, is_field, method_slots}
 use Rattle.jl_classfile.proofs.FormLaws.{parsed, counted}
 use Rattle.jl_classfile.proofs.form.Form.of.Goals as goal

@@ -1,4 +1,4 @@
-use Rattle.std.proofs.Common.{rules, ◌∙◌, ap, subst, sym, arith, List, ℕ, length, length-append, ◌++◌, ◌≡◌, ◌-◌}
+use Rattle.std.proofs.Common.{◌∙◌, ap, subst, arith, List, length, length-append}
 use Rattle.std.specs.Prelude.{Option}
 use Rattle.std.proofs.lemmas.Result.{err_from_is_err_and}
 use Rattle.jl_classfile.specs.declared.constant.Constant.{Constant}
