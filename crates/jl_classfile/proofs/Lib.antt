@@ -9,6 +9,7 @@ pub mod InstructionLaws
 pub mod CodeLaws
 pub mod LayoutLaws
 pub mod LinkLaws
+pub mod MemberLaws
 pub mod HeadLaws
 pub mod CodeAttributeLaws
 pub mod ClassLaws
@@ -18,3 +19,5 @@ pub mod TypedLaws
 pub mod PlaceLaws
 pub mod PoolLaws
 pub mod Rows
+pub mod ShownLaws
+pub mod ReadLaws

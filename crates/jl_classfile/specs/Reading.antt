@@ -5,4 +5,5 @@ pub mod Forms
 pub mod Bodies
 pub mod Instructions
 pub mod Sites
+pub mod Members
 pub mod Passes

@@ -1,6 +1,19 @@
 //! Fields and methods: their names, descriptors, flags and attributes.
 
-ghost use Rattle.std.specs.Prelude.{◌<◌, ◌^◌, length};
+ghost use Rattle.std.specs.Prelude.{◌≡◌, ◌<◌, ◌+◌, ◌^◌, ◌≤◌, ◌≢◌, ◌∷◌, [], ◌&&◌, ℕ, List, Some, not, map, length, codes, slice_get, true, false, option_map, IfSome, All, OnOk, IfOk, IfErr, MatchBool, MatchOption};
+ghost use Rattle.std.specs.Option.{option_map_or, option_and_then};
+ghost use Rattle.std.specs.List.{Contains, list_any};
+ghost use Rattle.std.specs.Str.{byte};
+ghost use Rattle.std.specs.Prelude.{◌==◌, ◌||◌, nat_le};
+ghost use Rattle.jl_names.specs.ClassNames.{is_unqualified};
+ghost use Rattle.jl_classfile.specs.declared.body.Attribute.{Attribute};
+ghost use Rattle.jl_classfile.specs.declared.fault.ClassFault.TheVariants.{BadLink, Memory};
+ghost use Rattle.jl_classfile.specs.Pools.{text_of, text_at};
+ghost use Rattle.jl_classfile.specs.Conditions.{has_flag, PUBLIC, PRIVATE, PROTECTED, STATIC, one_if, IsTextNumber, is_method_name, are_method_flags, flags_fit, attributes_of, is_text, Members};
+ghost use Rattle.jl_classfile.specs.declared.body.Member.{Member};
+ghost use Rattle.jl_classfile.specs.Faults.{MembersFault};
+ghost use Rattle.jl_classfile.specs.Reading.Forms.{form_of, is_field};
+ghost use Rattle.jl_classfile.specs.Reading.Members.{on_text, field_fits, takes_few, method_fits, is_at, FieldTested, MethodTested, IsFieldFault, IsMethodFault, IsTwin, IsFirstTwin};
 
 use crate::body::{Attribute, Body, Member};
 use crate::constant::Constant;
@@ -12,18 +25,14 @@ use crate::pool::Pool;
 use jl_names::first_repeat;
 use std::alloc::Global;
 
-/// A text of the pool, and what it may stand for.
-#[derive(Debug, Drop)]
-struct Formed<'a> {
-    text: &'a [u8],
-    form: Form,
-}
-
-/// The text at a number.
-fn text_at<'a>(pool: &Pool<'a>, number: u16) -> Result<Formed<'a>, ClassFault> {
-    match (pool.utf8(number), pool.form(number)) {
-        (Some(text), Some(form)) => Ok(Formed { text, form }),
-        _ => Err(ClassFault::BadLink(number)),
+/// Tests that a text stands at a number.
+fn check_text(pool: &Pool<'_>, number: u16) -> Result<(), ClassFault>
+    ensures ok { OnOk result (IsTextNumber pool.now number) }
+    ensures fault { IfErr result (λ f. (f ≡ BadLink number) × ¬ IsTextNumber pool.now number) }
+{
+    match pool.utf8(number) {
+        Some(_) => Ok(()),
+        None => Err(ClassFault::BadLink(number)),
     }
 }
 
@@ -31,103 +40,228 @@ fn text_at<'a>(pool: &Pool<'a>, number: u16) -> Result<Formed<'a>, ClassFault> {
 pub fn check_attribute_names(
     pool: &Pool<'_>,
     attributes: &[Attribute<'_>],
-) -> Result<(), ClassFault> {
+) -> Result<(), ClassFault>
+    ensures ok { OnOk result (All (λ a. IsTextNumber pool.now a.name) attributes.now) }
+    ensures fault { IfErr result (λ f. (a : Attribute) × (f ≡ BadLink a.name) × Contains attributes.now a × ¬ IsTextNumber pool.now a.name) }
+{
     for attribute in attributes {
-        if pool.utf8(attribute.name).is_none() {
-            return Err(ClassFault::BadLink(attribute.name));
-        }
+        check_text(pool, attribute.name)?;
     }
     Ok(())
 }
 
-/// Tests a field; `place` counts the fields before it (JVMS SE 17 §4.5).
-fn check_field(pool: &Pool<'_>, place: usize, field: &Member<'_>) -> Result<(), ClassFault> {
-    let name = text_at(pool, field.name)?;
-    let descriptor = text_at(pool, field.descriptor)?;
-    if !(name.form.unqualified && descriptor.form.field) {
-        return Err(bad_member(place));
+/// Whether a name without a reserved byte stands at a number, or no text.
+#[tactic(auto, unfolding(crate::specs::Reading::Forms::form_of))]
+fn is_unqualified_at(pool: &Pool<'_>, number: u16) -> bool
+    ensures { result ≡ on_text is_unqualified (text_at pool.now number) }
+{
+    match pool.form(number) {
+        Some(form) => form.unqualified,
+        None => true,
     }
-    check_attribute_names(pool, field.attributes.as_slice())
 }
 
-/// The fault of the member behind so many others. There are fewer than 2 · 65,536.
-fn bad_member(place: usize) -> ClassFault {
-    ClassFault::BadMember(u32::try_from(place).unwrap_or(u32::MAX))
+/// Whether a field's descriptor stands at a number, or no text.
+#[tactic(auto, unfolding(crate::specs::Reading::Forms::form_of))]
+fn is_field_at(pool: &Pool<'_>, number: u16) -> bool
+    ensures { result ≡ on_text is_field (text_at pool.now number) }
+{
+    match pool.form(number) {
+        Some(form) => form.field,
+        None => true,
+    }
+}
+
+/// Whether the name and descriptor of a field may be so (JVMS SE 17 §4.5).
+fn field_fits(pool: &Pool<'_>, field: &Member<'_>) -> bool
+    ensures { result ≡ field_fits pool.now field.now }
+{
+    is_unqualified_at(pool, field.name) && is_field_at(pool, field.descriptor)
+}
+
+/// Whether an angle bracket stands in a name.
+fn has_angle(name: &[u8]) -> bool
+    ensures { result ≡ list_any (λ b. (b == byte "<") || (b == byte ">")) name.now }
+{
+    name.iter().any(|byte| *byte == b'<' || *byte == b'>')
 }
 
 /// Whether a method may be called so: `<` and `>` stand in `<init>` and `<clinit>` alone (§4.2.2).
-fn is_method_name(name: &Formed<'_>) -> bool {
-    name.form.unqualified
-        && (name.text == b"<init>".as_slice()
-            || name.text == b"<clinit>".as_slice()
-            || !name.text.iter().any(|byte| *byte == b'<' || *byte == b'>'))
+#[tactic(auto, unfolding(crate::specs::Reading::Forms::form_of))]
+fn is_method_name(name: &[u8], form: Form) -> bool
+    requires { form ≡ form_of name.now }
+    ensures { result ≡ is_method_name name.now }
+{
+    form.unqualified
+        && (name == b"<init>".as_slice() || name == b"<clinit>".as_slice() || !has_angle(name))
+}
+
+/// How many of PUBLIC, PRIVATE and PROTECTED are set.
+fn access_count(flags: u16) -> u8
+    ensures { result ≡ one_if (has_flag flags PUBLIC) + (one_if (has_flag flags PRIVATE) + one_if (has_flag flags PROTECTED)) }
+{
+    u8::from(has_flag(flags, PUBLIC))
+        + (u8::from(has_flag(flags, PRIVATE)) + u8::from(has_flag(flags, PROTECTED)))
 }
 
 /// Whether a method may have these flags: at most one of PUBLIC, PRIVATE and PROTECTED, ABSTRACT without PRIVATE and
 /// STATIC, and in an interface PUBLIC or PRIVATE (§4.6).
-fn are_method_flags(interface: bool, flags: u16) -> bool {
-    let public = has_flag(flags, PUBLIC);
+fn are_method_flags(interface: bool, flags: u16) -> bool
+    ensures { result ≡ are_method_flags interface flags }
+{
     let private = has_flag(flags, PRIVATE);
-    let protected = has_flag(flags, PROTECTED);
-    let one_access = !(public && private) && !(public && protected) && !(private && protected);
-    let overridable = !has_flag(flags, ABSTRACT) || (!private && !has_flag(flags, STATIC));
-    one_access && overridable && (!interface || public || private)
+    access_count(flags) <= 1
+        && (!has_flag(flags, ABSTRACT) || (!private && !has_flag(flags, STATIC)))
+        && (!interface || has_flag(flags, PUBLIC) || private)
 }
 
-/// Whether a method may be so. The receiver takes a slot, and `<clinit>` may have any flags.
-fn is_method(interface: bool, flags: u16, name: &Formed<'_>, descriptor: Form) -> bool {
-    let slots_fit = match descriptor.slots {
+/// Whether the slots of a method's parameters fit, with the receiver's unless it is static.
+fn slots_fit(flags: u16, form: Form) -> bool
+    ensures { result ≡ option_map_or (λ n. nat_le (n + one_if (not (has_flag flags STATIC))) 255) form.slots false }
+{
+    match form.slots {
         Some(slots) => slots < 255 || has_flag(flags, STATIC),
         None => false,
-    };
-    let flags_fit = name.text == b"<clinit>".as_slice() || are_method_flags(interface, flags);
-    is_method_name(name) && slots_fit && flags_fit
+    }
 }
 
-/// Whether the attribute has this name.
-pub fn is_called(pool: &Pool<'_>, attribute: &Attribute<'_>, name: &[u8]) -> bool {
-    pool.utf8(attribute.name) == Some(name)
+/// Whether the name and flags of a method may be so. `<clinit>` may have any flags.
+#[tactic(auto, unfolding(crate::specs::Reading::Forms::form_of))]
+fn name_fits(pool: &Pool<'_>, interface: bool, method: &Member<'_>) -> bool
+    ensures { result ≡ (on_text is_method_name (text_at pool.now method.now.name) && on_text (flags_fit interface method.now.flags) (text_at pool.now method.now.name)) }
+{
+    match (pool.utf8(method.name), pool.form(method.name)) {
+        (Some(name), Some(form)) => {
+            is_method_name(name, form)
+                && (name == b"<clinit>".as_slice() || are_method_flags(interface, method.flags))
+        }
+        _ => true,
+    }
 }
 
-/// The bytes of the first attribute of this name.
-pub fn attribute_called<'a>(
-    pool: &Pool<'_>,
-    attributes: &[Attribute<'a>],
-    name: &[u8],
-) -> Option<&'a [u8]> {
+/// Whether the descriptor of a method may be so.
+#[tactic(auto, unfolding(crate::specs::Reading::Forms::form_of))]
+fn descriptor_fits(pool: &Pool<'_>, method: &Member<'_>) -> bool
+    ensures { result ≡ on_text (takes_few method.now.flags) (text_at pool.now method.now.descriptor) }
+{
+    match pool.form(method.descriptor) {
+        Some(form) => slots_fit(method.flags, form),
+        None => true,
+    }
+}
+
+/// Whether a method may be so (JVMS SE 17 §4.6).
+fn method_fits(pool: &Pool<'_>, interface: bool, method: &Member<'_>) -> bool
+    ensures { result ≡ method_fits pool.now interface method.now }
+{
+    name_fits(pool, interface, method) && descriptor_fits(pool, method)
+}
+
+/// Whether the attribute is called `Code`.
+fn is_code(pool: &Pool<'_>, attribute: &Attribute<'_>) -> bool
+    ensures { result ≡ is_text pool.now attribute.now.name (codes "Code") }
+{
+    match pool.utf8(attribute.name) {
+        Some(name) => name == b"Code".as_slice(),
+        None => false,
+    }
+}
+
+/// How many attributes are called `Code`.
+fn code_count(pool: &Pool<'_>, attributes: &[Attribute<'_>]) -> usize
+    ensures { result ≡ length (attributes_of pool.now (codes "Code") attributes.now) }
+{
+    attributes.iter().filter(|a| is_code(pool, a)).count()
+}
+
+/// The bytes of the first attribute that is called `Code`.
+pub fn first_code<'a>(pool: &Pool<'_>, attributes: &[Attribute<'a>]) -> Option<&'a [u8]>
+    ensures { MatchOption result (attributes_of pool.now (codes "Code") attributes.now ≡ [])
+        (λ info. (a : Attribute) × (more : List Attribute) × (attributes_of pool.now (codes "Code") attributes.now ≡ a ∷ more) × (a.info ≡ info.now)) }
+{
     for attribute in attributes {
-        if is_called(pool, attribute, name) {
+        if is_code(pool, attribute) {
             return Some(attribute.info.as_bytes());
         }
     }
     None
 }
 
-/// Whether more than one attribute is called `Code`.
-fn has_two_codes(pool: &Pool<'_>, attributes: &[Attribute<'_>]) -> bool {
-    let mut met = false;
-    for attribute in attributes {
-        if is_called(pool, attribute, b"Code") {
-            if met {
-                return true;
-            }
-            met = true;
-        }
+/// Tests a field, behind so many others.
+fn check_field(pool: &Pool<'_>, place: u32, field: &Member<'_>) -> Result<(), ClassFault>
+    ensures ok { OnOk result (FieldTested pool.now field.now) }
+    ensures fault { IfErr result (IsFieldFault pool.now place field.now) }
+{
+    check_text(pool, field.name)?;
+    check_text(pool, field.descriptor)?;
+    if !field_fits(pool, field) {
+        return Err(ClassFault::BadMember(place));
     }
-    false
+    check_attribute_names(pool, field.attributes.as_slice())?;
+    Ok(())
+}
+
+/// Tests a method, behind so many members and methods; `twin` tells whether it is an earlier one again.
+fn check_method(
+    pool: &Pool<'_>,
+    interface: bool,
+    place: u32,
+    index: u16,
+    twin: bool,
+    method: &Member<'_>,
+) -> Result<(), ClassFault>
+    ensures ok { OnOk result (MethodTested pool.now interface method.now × (twin ≡ false)) }
+    ensures fault { IfErr result (IsMethodFault pool.now interface place index twin method.now) }
+{
+    check_text(pool, method.name)?;
+    check_text(pool, method.descriptor)?;
+    if !method_fits(pool, interface, method) {
+        return Err(ClassFault::BadMember(place));
+    }
+    if twin {
+        return Err(ClassFault::DuplicateMethod(index));
+    }
+    check_attribute_names(pool, method.attributes.as_slice())?;
+    if code_count(pool, method.attributes.as_slice()) > 1 {
+        return Err(ClassFault::TwoCodes(index));
+    }
+    Ok(())
 }
 
 /// By number, the texts of a pool.
-fn texts_of<'a>(alloc: Global, pool: &Pool<'a>) -> Result<Vec<Option<&'a [u8]>>, ClassFault> {
+fn texts_of<'a>(alloc: Global, pool: &Pool<'a>) -> Result<Vec<Option<&'a [u8]>>, ClassFault>
+    ensures ok { IfOk result (λ texts. map (option_map (λ t. t.now)) texts.items ≡ map (option_and_then text_of) pool.now) }
+    ensures fault { IfErr result (λ f. f ≡ Memory) }
+{
+    let entries = pool.entries();
     let mut texts = Vec::new(alloc);
-    for entry in pool.entries() {
-        let text = match entry {
-            Some(Constant::Utf8(text)) => Some(text.as_bytes()),
-            _ => None,
-        };
-        texts.push(text)?;
+    for entry in entries {
+        texts.push(text_of(entry))?;
     }
     Ok(texts)
+}
+
+/// The text of an entry, where it is a Utf8.
+fn text_of<'a>(entry: &Option<Constant<'a>>) -> Option<&'a [u8]>
+    ensures { option_map (λ t. t.now) result ≡ option_and_then text_of entry.now }
+{
+    match entry {
+        Some(Constant::Utf8(text)) => Some(text.as_bytes()),
+        _ => None,
+    }
+}
+
+/// The numbers of the names and the descriptors of methods.
+fn signatures_of(alloc: Global, methods: &[Member<'_>]) -> Result<Vec<(u16, u16)>, ClassFault>
+    ensures ok { IfOk result (λ pairs. pairs.items ≡ map (λ m. (m.name, m.descriptor)) methods.now) }
+    ensures fault { IfErr result (λ f. f ≡ Memory) }
+{
+    Ok(
+        methods
+            .iter()
+            .map(|m| (m.name, m.descriptor))
+            .collect(alloc)?,
+    )
 }
 
 /// The first method, by its index, that has the name and the descriptor of an earlier one.
@@ -135,53 +269,47 @@ fn first_twin(
     alloc: Global,
     pool: &Pool<'_>,
     methods: &[Member<'_>],
-) -> Result<Option<usize>, ClassFault> {
+) -> Result<Option<usize>, ClassFault>
+    ensures ok { IfOk result (λ twin. MatchOption twin ((i : ℕ) → ¬ IsTwin pool.now methods.now i) (IsFirstTwin pool.now methods.now)) }
+    ensures fault { IfErr result (λ f. f ≡ Memory) }
+{
     let texts = texts_of(alloc, pool)?;
-    let mut signatures = Vec::new(alloc);
-    for method in methods {
-        signatures.push((method.name, method.descriptor))?;
-    }
+    let signatures = signatures_of(alloc, methods)?;
     Ok(first_repeat(alloc, &texts, &signatures)?)
 }
 
-/// Tests a method (JVMS SE 17 §4.6); `place` counts the members before it, and `twin` tells whether it is an earlier
-/// one again.
-fn check_method(
-    pool: &Pool<'_>,
-    interface: bool,
-    place: usize,
-    index: u16,
-    twin: bool,
-    method: &Member<'_>,
-) -> Result<(), ClassFault> {
-    let name = text_at(pool, method.name)?;
-    let descriptor = text_at(pool, method.descriptor)?;
-    if !is_method(interface, method.flags, &name, descriptor.form) {
-        return Err(bad_member(place));
-    }
-    if twin {
-        return Err(ClassFault::DuplicateMethod(index));
-    }
-    check_attribute_names(pool, method.attributes.as_slice())?;
-    if has_two_codes(pool, method.attributes.as_slice()) {
-        return Err(ClassFault::TwoCodes(index));
+/// Tests the fields, one after another.
+fn check_fields(pool: &Pool<'_>, fields: &[Member<'_>]) -> Result<(), ClassFault>
+    requires { length fields.now < 2 ^ 16 }
+    ensures ok { OnOk result (All (FieldTested pool.now) fields.now) }
+    ensures fault { IfErr result (λ f. (i : ℕ) × (m : Member) × (slice_get fields.now i ≡ Some m) × IsFieldFault pool.now i m f) }
+{
+    for (i, field) in fields.iter().enumerate() {
+        check_field(pool, i as u32, field)?;
     }
     Ok(())
 }
 
-/// Tests the methods, one after another.
-fn check_methods(alloc: Global, pool: &Pool<'_>, body: &Body<'_>) -> Result<(), ClassFault>
-    requires { length body.now.methods < 2 ^ 16 }
+/// Tests the methods behind so many fields, one after another; the first that is an earlier one again is known.
+fn check_methods(
+    pool: &Pool<'_>,
+    interface: bool,
+    fields: usize,
+    twin: Option<usize>,
+    methods: &[Member<'_>],
+) -> Result<(), ClassFault>
+    requires few_fields { fields < 2 ^ 16 }
+    requires few_methods { length methods.now < 2 ^ 16 }
+    ensures ok { OnOk result (All (MethodTested pool.now interface) methods.now) }
+    ensures no_twin { OnOk result (IfSome twin (λ t. length methods.now ≤ t)) }
+    ensures fault { IfErr result (λ f. (i : ℕ) × (m : Member) × (slice_get methods.now i ≡ Some m) × IsMethodFault pool.now interface (fields + i) i (is_at twin i) m f) }
 {
-    let methods = body.methods.as_slice();
-    let fields = body.fields.as_slice().len();
-    let twin = first_twin(alloc, pool, methods)?;
     for (i, method) in methods.iter().enumerate() {
-        let is_twin = twin == Some(i);
+        let is_twin = is_at(twin, i);
         check_method(
             pool,
-            is_interface(body),
-            fields + i,
+            interface,
+            (fields + i) as u32,
             i as u16,
             is_twin,
             method,
@@ -190,12 +318,27 @@ fn check_methods(alloc: Global, pool: &Pool<'_>, body: &Body<'_>) -> Result<(), 
     Ok(())
 }
 
-/// Tests the fields, and then the methods.
-pub fn check_members(alloc: Global, pool: &Pool<'_>, body: &Body<'_>) -> Result<(), ClassFault>
-    requires { length body.now.methods < 2 ^ 16 }
+/// Whether this place was found.
+fn is_at(found: Option<usize>, place: usize) -> bool
+    ensures { result ≡ is_at found place }
 {
-    for (place, field) in body.fields.as_slice().iter().enumerate() {
-        check_field(pool, place, field)?;
+    match found {
+        Some(found) => found == place,
+        None => false,
     }
-    check_methods(alloc, pool, body)
+}
+
+/// Tests the fields, and then the methods (JVMS SE 17 §4.5, §4.6).
+pub fn check_members(alloc: Global, pool: &Pool<'_>, body: &Body<'_>) -> Result<(), ClassFault>
+    requires few_fields { length body.now.fields < 2 ^ 16 }
+    requires few_methods { length body.now.methods < 2 ^ 16 }
+    ensures ok { OnOk result (Members pool.now body.now) }
+    ensures fault { IfErr result (λ f. f ≢ Memory → MembersFault pool.now body.now f) }
+{
+    let fields = body.fields.as_slice();
+    let methods = body.methods.as_slice();
+    check_fields(pool, fields)?;
+    let twin = first_twin(alloc, pool, methods)?;
+    check_methods(pool, is_interface(body), fields.len(), twin, methods)?;
+    Ok(())
 }

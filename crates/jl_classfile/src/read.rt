@@ -1,12 +1,16 @@
 //! Reads a class file, pass after pass.
 
-ghost use Rattle.std.specs.Prelude.{◌<◌, ◌^◌, ◌≡◌, length, List, ℕ, IfOk, IfErr, MatchBool};
+ghost use Rattle.std.specs.Prelude.{◌<◌, ◌≤◌, ◌^◌, ◌≡◌, ◌≢◌, length, map, slice_get, All, List, ℕ, Some, IfOk, IfErr, MatchBool};
 ghost use Rattle.jl_classfile.specs.declared.fault.ClassFault.{ClassFault};
 ghost use Rattle.jl_classfile.specs.Parts.{Parts};
 ghost use Rattle.jl_classfile.specs.ClassFiles.{IsClass};
-ghost use Rattle.jl_classfile.specs.Faults.{HeadFault, IsFault};
-ghost use Rattle.jl_classfile.specs.Conditions.{IsVersion};
-ghost use Rattle.jl_classfile.specs.Reading.Passes.{HasHead};
+ghost use Rattle.jl_classfile.specs.declared.fault.ClassFault.TheVariants.{Memory};
+ghost use Rattle.jl_classfile.specs.declared.body.Member.{Member};
+ghost use Rattle.jl_classfile.specs.Faults.{HeadFault, CodesFault, IsFault};
+ghost use Rattle.jl_classfile.specs.Pools.{class_at};
+ghost use Rattle.jl_classfile.specs.Shown.{shown, text_or_nothing, name_or_nothing};
+ghost use Rattle.jl_classfile.specs.Conditions.{IsVersion, codes_of};
+ghost use Rattle.jl_classfile.specs.Reading.Passes.{HasHead, fault_of_code, IsMethodFault, SitesShown, MethodShown, MethodsShown, BodyShown, HasPool, Lies};
 
 use crate::body::{Body, Member, body_at, code_in};
 use crate::bytes::{u2_at, u4_at};
@@ -15,7 +19,7 @@ use crate::code::scan;
 use crate::code_fault::CodeFault;
 use crate::fault::ClassFault;
 use crate::links::check_links;
-use crate::member::{attribute_called, check_attribute_names, check_members};
+use crate::member::{check_attribute_names, check_members, first_code};
 use crate::pool::Pool;
 use crate::pool_fault::PoolFault;
 use crate::site::Site;
@@ -72,7 +76,9 @@ fn head_at(bytes: &[u8]) -> Result<(u16, &[u8]), ClassFault>
 }
 
 /// The fault of a method's code.
-fn code_fault(method: u16, fault: CodeFault) -> ClassFault {
+fn code_fault(method: u16, fault: CodeFault) -> ClassFault
+    ensures { result ≡ fault_of_code method fault }
+{
     match fault {
         CodeFault::Memory => ClassFault::Memory,
         fault => ClassFault::Code(method, fault),
@@ -85,8 +91,12 @@ fn sites_of(
     pool: &Pool<'_>,
     index: u16,
     method: &Member<'_>,
-) -> Result<Seq<Site>, ClassFault> {
-    let Some(info) = attribute_called(pool, method.attributes.as_slice(), b"Code") else {
+) -> Result<Seq<Site>, ClassFault>
+    requires { length (codes_of pool.now method.now) ≤ 1 }
+    ensures ok { IfOk result (SitesShown pool.now method.now) }
+    ensures fault { IfErr result (IsMethodFault pool.now index method.now) }
+{
+    let Some(info) = first_code(pool, method.attributes.as_slice()) else {
         return Ok(Seq::of(Vec::new(alloc)));
     };
     let Some(code) = code_in(info) else {
@@ -98,25 +108,58 @@ fn sites_of(
     }
 }
 
-/// The text at a number, kept.
-fn kept_text(alloc: Global, pool: &Pool<'_>, number: u16) -> Result<Name, ClassFault> {
-    let text = pool.utf8(number).ok_or(ClassFault::BadLink(number))?;
-    Ok(Name::copied(alloc, text)?)
+/// The text at a number, kept, and nothing where there is none.
+fn kept_text(alloc: Global, pool: &Pool<'_>, number: u16) -> Result<Name, AllocError>
+    ensures { IfOk result (λ name. name ≡ text_or_nothing pool.now number) }
+{
+    Name::copied(alloc, pool.utf8(number).unwrap_or(b"".as_slice()))
 }
 
-/// The class name at a number, kept.
-fn kept_class(alloc: Global, pool: &Pool<'_>, number: u16) -> Result<Name, ClassFault> {
-    let name = pool.class_name(number).ok_or(ClassFault::BadLink(number))?;
-    Ok(Name::copied(alloc, name)?)
+/// The class name at a number, kept, and nothing where there is none.
+fn kept_class(alloc: Global, pool: &Pool<'_>, number: u16) -> Result<Name, AllocError>
+    ensures { IfOk result (λ name. name ≡ name_or_nothing pool.now number) }
+{
+    Name::copied(alloc, pool.class_name(number).unwrap_or(b"".as_slice()))
 }
 
 /// The class names at the numbers, kept.
-fn kept_classes(alloc: Global, pool: &Pool<'_>, numbers: &[u16]) -> Result<Seq<Name>, ClassFault> {
+fn kept_classes(alloc: Global, pool: &Pool<'_>, numbers: &[u16]) -> Result<Seq<Name>, AllocError>
+    ensures { IfOk result (λ names. names ≡ map (name_or_nothing pool.now) numbers.now) }
+{
     let mut names = Vec::new(alloc);
     for number in numbers {
         names.push(kept_class(alloc, pool, *number)?)?;
     }
     Ok(Seq::of(names))
+}
+
+/// The class name at a number, kept, if there is one.
+fn kept_superclass(alloc: Global, pool: &Pool<'_>, number: u16) -> Result<Option<Name>, AllocError>
+    ensures { IfOk result (λ name. name ≡ class_at pool.now number) }
+{
+    match pool.class_name(number) {
+        Some(name) => Ok(Some(Name::copied(alloc, name)?)),
+        None => Ok(None),
+    }
+}
+
+/// A method with its invocations.
+fn method_of(
+    alloc: Global,
+    pool: &Pool<'_>,
+    index: u16,
+    member: &Member<'_>,
+) -> Result<Method, ClassFault>
+    requires { length (codes_of pool.now member.now) ≤ 1 }
+    ensures ok { IfOk result (MethodShown pool.now member.now) }
+    ensures fault { IfErr result (IsMethodFault pool.now index member.now) }
+{
+    Ok(Method {
+        flags: member.flags,
+        name: kept_text(alloc, pool, member.name)?,
+        ty: kept_text(alloc, pool, member.descriptor)?,
+        sites: sites_of(alloc, pool, index, member)?,
+    })
 }
 
 /// The methods with their invocations.
@@ -125,33 +168,29 @@ fn methods_of(
     pool: &Pool<'_>,
     members: &[Member<'_>],
 ) -> Result<Seq<Method>, ClassFault>
-    requires { length members.now < 2 ^ 16 }
+    requires few { length members.now < 2 ^ 16 }
+    requires one_code { All (λ m. length (codes_of pool.now m) ≤ 1) members.now }
+    ensures ok { IfOk result (MethodsShown pool.now members.now) }
+    ensures fault { IfErr result (λ f. f ≢ Memory → (i : ℕ) × (m : Member) × (slice_get members.now i ≡ Some m) × IsMethodFault pool.now i m f) }
 {
     let mut methods = Vec::new(alloc);
     for (i, member) in members.iter().enumerate() {
-        let method = Method {
-            flags: member.flags,
-            name: kept_text(alloc, pool, member.name)?,
-            ty: kept_text(alloc, pool, member.descriptor)?,
-            sites: sites_of(alloc, pool, i as u16, member)?,
-        };
-        methods.push(method)?;
+        methods.push(method_of(alloc, pool, i as u16, member)?)?;
     }
     Ok(Seq::of(methods))
 }
 
 /// What a class file shows whose parts have no fault outside its codes.
 fn shown(alloc: Global, pool: &Pool<'_>, body: &Body<'_>) -> Result<ClassFile, ClassFault>
-    requires { length body.now.methods < 2 ^ 16 }
+    requires few { length body.now.methods < 2 ^ 16 }
+    requires one_code { All (λ m. length (codes_of pool.now m) ≤ 1) body.now.methods }
+    ensures ok { IfOk result (BodyShown pool.now body.now) }
+    ensures fault { IfErr result (λ f. f ≢ Memory → CodesFault pool.now body.now f) }
 {
-    let superclass = match body.super_class {
-        0 => None,
-        number => Some(kept_class(alloc, pool, number)?),
-    };
     Ok(ClassFile {
         name: kept_class(alloc, pool, body.this_class)?,
         flags: body.flags,
-        superclass,
+        superclass: kept_superclass(alloc, pool, body.super_class)?,
         interfaces: kept_classes(alloc, pool, body.interfaces.as_slice())?,
         nest_host: None,
         nest_members: Seq::of(Vec::new(alloc)),
@@ -159,17 +198,38 @@ fn shown(alloc: Global, pool: &Pool<'_>, body: &Body<'_>) -> Result<ClassFile, C
     })
 }
 
-/// The class file that the bytes are (JVMS SE 17 §4), all of them.
-pub fn read_class(alloc: Global, bytes: &[u8]) -> Result<ClassFile, ClassFault> {
+/// The pool, and what comes after it (JVMS SE 17 §4.4).
+fn pool_at<'a>(alloc: Global, bytes: &'a [u8]) -> Result<(u16, Pool<'a>, &'a [u8]), ClassFault>
+    ensures ok { IfOk result (λ x. HasPool bytes.now x.0 x.1 x.2.now) }
+    ensures fault { IfErr result (λ f. f ≢ Memory → IsFault bytes.now f) }
+{
     if bytes.len() > MOST_BYTES {
         return Err(ClassFault::TooLarge);
     }
     let (major, rest) = head_at(bytes)?;
     let (pool, used) = Pool::read(alloc, rest)?;
-    let (body, rest) = body_at(alloc, &rest[used..])?;
+    Ok((major, pool, &rest[used..]))
+}
+
+/// The major version, the pool and what stands behind it, where nothing comes after.
+fn laid_at<'a>(alloc: Global, bytes: &'a [u8]) -> Result<(u16, Pool<'a>, Body<'a>), ClassFault>
+    ensures ok { IfOk result (λ x. Lies bytes.now x.0 x.1 x.2) }
+    ensures fault { IfErr result (λ f. f ≢ Memory → IsFault bytes.now f) }
+{
+    let (major, pool, behind) = pool_at(alloc, bytes)?;
+    let (body, rest) = body_at(alloc, behind)?;
     if !rest.is_empty() {
         return Err(ClassFault::TrailingBytes);
     }
+    Ok((major, pool, body))
+}
+
+/// The class file that the bytes are (JVMS SE 17 §4), all of them.
+pub fn read_class(alloc: Global, bytes: &[u8]) -> Result<ClassFile, ClassFault>
+    ensures ok { IfOk result (λ file. (p : Parts) × IsClass bytes.now p × (file ≡ shown p)) }
+    ensures fault { IfErr result (λ f. f ≢ Memory → IsFault bytes.now f) }
+{
+    let (major, pool, body) = laid_at(alloc, bytes)?;
     check_links(major, &pool, &body)?;
     check_members(alloc, &pool, &body)?;
     check_attribute_names(&pool, body.attributes.as_slice())?;

@@ -1,5 +1,5 @@
 -- What the readers of the passes find out. No public clause cites this.
-use Rattle.std.specs.Prelude.{◌≡◌, ◌≢◌, ℕ, ◌≤◌, ◌<◌, ◌^◌, List, [], ◌∷◌, ◌++◌, length, ⊤}
+use Rattle.std.specs.Prelude.{◌≡◌, ◌≢◌, ℕ, ◌≤◌, ◌<◌, ◌^◌, List, [], ◌∷◌, ◌++◌, length, map, Option, None, ⊤}
 use Rattle.std.specs.List.{Contains}
 use Rattle.jl_classfile.specs.declared.body.Attribute.{Attribute}
 use Rattle.jl_classfile.specs.declared.body.Member.{Member}
@@ -8,14 +8,21 @@ use Rattle.jl_classfile.specs.declared.body.Broken.{Broken}
 use Rattle.jl_classfile.specs.declared.body.Broken.TheVariants as broken
 use Rattle.jl_classfile.specs.declared.pool_fault.PoolFault.{PoolFault}
 use Rattle.jl_classfile.specs.declared.pool_fault.PoolFault.TheVariants as pool
+use Rattle.jl_classfile.specs.declared.class.ClassFile.{ClassFile}
+use Rattle.jl_classfile.specs.declared.constant.Constant.{Constant}
+use Rattle.jl_classfile.specs.declared.class.Method.{Method}
+use Rattle.jl_classfile.specs.declared.instruction.Instruction.{Instruction}
+use Rattle.jl_classfile.specs.declared.site.Site.{Site}
+use Rattle.jl_classfile.specs.declared.code_fault.CodeFault.{CodeFault}
 use Rattle.jl_classfile.specs.declared.code_fault.CodeFault.TheVariants as code
 use Rattle.jl_classfile.specs.declared.fault.ClassFault.{ClassFault}
 use Rattle.jl_classfile.specs.declared.fault.ClassFault.TheVariants.{Truncated, Pool as InPool, Code, BadLink, Memory}
-use Rattle.jl_classfile.specs.Pools.{Pool, IsSoundPool}
+use Rattle.jl_classfile.specs.Pools.{Pool, class_at, places, IsSoundPool}
 use Rattle.jl_classfile.specs.Layouts.{Layout, head_text, file_text, IsLayout}
-use Rattle.jl_classfile.specs.Conditions.{IsVersion, codes_of}
+use Rattle.jl_classfile.specs.Conditions.{IsVersion, codes_of, HasCode, HaveCodes}
 use Rattle.jl_classfile.specs.ClassFiles.{most_bytes, pool_of}
-use Rattle.jl_classfile.specs.Faults.{IsCodeFault}
+use Rattle.jl_classfile.specs.Faults.{PoolStands, IsCodeFault}
+use Rattle.jl_classfile.specs.Shown.{name_or_nothing, sites_of, shown_method, shown_methods}
 
 abbrev pub fault_of_broken : Broken → ClassFault
 fault_of_broken broken.Cut = Truncated
@@ -37,6 +44,16 @@ pub record HasHead (bytes rest : List ℕ) (major : ℕ) : Type 0 where
 abbrev pub IsBadLink : (ℕ → Type 0) → List ℕ → ClassFault → Type 0
 IsBadLink IsSo numbers f = (n : ℕ) × (f ≡ BadLink n) × Contains numbers n × ¬ IsSo n
 
+-- the bytes up to the end of a sound pool, and what comes after it
+pub record HasPool (bytes : List ℕ) (major : ℕ) (p : Pool) (left : List ℕ) : Type 0 where
+  pub few : length bytes ≤ most_bytes
+  pub text : List ℕ
+  pub head : HasHead bytes text major
+  pub constants : List Constant
+  pub stands : PoolStands text constants left
+  pub sound : IsSoundPool constants
+  pub pool_is : p ≡ places constants
+
 -- the bytes lie so, and their pool is sound
 pub record Lies (bytes : List ℕ) (major : ℕ) (p : Pool) (body : Body) : Type 0 where
   pub layout : Layout
@@ -54,3 +71,36 @@ abbrev pub IsMethodFault : Pool → ℕ → Member → ClassFault → Type 0
 IsMethodFault p index m (Code i f) = (a : Attribute) × (i ≡ index) × (codes_of p m ≡ a ∷ []) × (f ≢ code.Memory) × IsCodeFault p a.info f
 IsMethodFault p index m Memory = ⊤
 IsMethodFault p index m _ = ⊥
+
+abbrev pub fault_of_code : ℕ → CodeFault → ClassFault
+fault_of_code index code.Memory = Memory
+fault_of_code index f = Code index f
+
+-- these are the sites of the method's code
+pub record SitesShown (p : Pool) (m : Member) (sites : List Site) : Type 0 where
+  pub code : Option (List Instruction)
+  pub has : HasCode p (codes_of p m) code
+  pub shown : sites ≡ sites_of p code
+
+pub record MethodShown (p : Pool) (m : Member) (method : Method) : Type 0 where
+  pub code : Option (List Instruction)
+  pub has : HasCode p (codes_of p m) code
+  pub shown : method ≡ shown_method p m code
+
+pub record MethodsShown (p : Pool) (ms : List Member) (methods : List Method) : Type 0 where
+  pub codes : List (Option (List Instruction))
+  pub have : HaveCodes p ms codes
+  pub shown : methods ≡ shown_methods p ms codes
+
+pub record BodyShown (p : Pool) (b : Body) (file : ClassFile) : Type 0 where
+  pub codes : List (Option (List Instruction))
+  pub have : HaveCodes p b.methods codes
+  pub shown : file ≡ record {
+    name = name_or_nothing p b.this_class;
+    flags = b.flags;
+    superclass = class_at p b.super_class;
+    interfaces = map (name_or_nothing p) b.interfaces;
+    nest_host = None;
+    nest_members = [];
+    methods = shown_methods p b.methods codes;
+  }

@@ -1,5 +1,19 @@
-use Rattle.std.proofs.Common.{arith}
+use Rattle.std.proofs.Common.{◌∙◌}
+use Rattle.jl_classfile.proofs.ShownLaws.{has_info, sites_some, bad_layout, bad_code}
 use Rattle.jl_classfile.proofs.read.sites_of.Goals as goal
 
-pub scan-requires : goal.scan-requires
-scan-requires c = let few = c.in-Some-code_in.ensures.few in omega (arith, few)
+pub returns-in_default-code_in-clause-fault : goal.returns-in_default-code_in-clause-fault
+returns-in_default-code_in-clause-fault c =
+    let h = has_info c.args.pool.now c.args.method.now c.as_slice.result.now c.in-Some.info.now c.as_slice.ensures c.requires c.in-Some.ensures in
+    bad_layout c.args.pool.now c.args.method.now c.args.index c.in-Some.info.now h c.in_default-code_in.ensures
+
+pub returns-in-Ok-clause-ok : goal.returns-in-Ok-clause-ok
+returns-in-Ok-clause-ok c =
+    let h = has_info c.args.pool.now c.args.method.now c.as_slice.result.now c.in-Some.info.now c.as_slice.ensures c.requires c.in-Some.ensures in
+    let scanned = c.in-Ok.ensures.ok in
+    rw (c.of-in-Ok.ensures ∙ scanned.2) (sites_some c.args.pool.now c.args.method.now c.in-Some.info.now c.in-Some-code_in.code.now scanned.0 h c.in-Some-code_in.ensures scanned.1)
+
+pub returns-in-Err-clause-fault : goal.returns-in-Err-clause-fault
+returns-in-Err-clause-fault c =
+    let h = has_info c.args.pool.now c.args.method.now c.as_slice.result.now c.in-Some.info.now c.as_slice.ensures c.requires c.in-Some.ensures in
+    rw c.code_fault.ensures (bad_code c.args.pool.now c.args.method.now c.args.index c.in-Some.info.now c.in-Some-code_in.code.now c.in-Err.fault h c.in-Some-code_in.ensures c.in-Err.ensures.fault)
