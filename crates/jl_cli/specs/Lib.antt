@@ -2,3 +2,9 @@ pub mod Devices
 pub mod Counted
 pub mod FailAt
 pub mod Statuses
+pub mod Names
+pub mod ClassAnswers
+pub mod Refusals
+pub mod Lines
+pub mod Answers
+pub mod Progress

@@ -1,8 +1,13 @@
 //! The answers to lines, gathered until they are written.
 
-ghost use Rattle.std.specs.Prelude.{◌≡◌, ◌<◌, ◌≤◌, [], length, vec_len, IfOk, IfSome, OnOk};
+ghost use Rattle.std.specs.Prelude.{◌≡◌, ◌<◌, ◌≤◌, ◌*◌, ◌++◌, [], ◌∷◌, length, take, vec_len, string_bytes};
+ghost use Rattle.std.specs.Prelude.{IfOk, OnOk, OnErr, MatchOption};
 ghost use Rattle.std.specs.Io.KnownBytes.{Appends};
+ghost use Rattle.serde_json.specs.Data.{Data};
 ghost use Rattle.jl_cli.specs.Devices.{CountsFailure};
+ghost use Rattle.jl_cli.specs.Answers.{IsAnswer, answer_line};
+ghost use Rattle.jl_cli.specs.Lines.{newline, NoNewline};
+ghost use Rattle.jl_cli.specs.Progress.{IsFirstNewline, Gathers};
 
 use crate::failed::Failed;
 use crate::line_buffer::MOST_IN_LINE;
@@ -25,7 +30,9 @@ pub struct Answers {
 
 impl Answers {
     /// No answers yet.
-    pub fn new(alloc: Global, mode: Mode) -> Result<Self, AllocError> {
+    pub fn new(alloc: Global, mode: Mode) -> Result<Self, AllocError>
+        ensures { IfOk result (λ answers. (answers.text.items ≡ []) × (answers.mode ≡ mode)) }
+    {
         let room = vec![in alloc; 0u8; MOST_IN_LINE / 2]?;
         let text = Vec::new(alloc);
         Ok(Answers {
@@ -43,12 +50,12 @@ impl Answers {
     /// [`AllocError`]. The answers stay.
     pub fn answer(&mut self, line: &[u8]) -> Result<(), AllocError>
         requires { length line.now ≤ 2100000 }
+        ensures ok { OnOk result ((answer : Data) × IsAnswer self.old.mode line.now answer
+            × (self.new.text.items ≡ self.old.text.items ++ answer_line answer)) }
+        ensures err { OnErr result (self.new.text.items ≡ self.old.text.items) }
+        ensures mode { self.new.mode ≡ self.old.mode }
     {
-        let answer = match self.mode {
-            Mode::Scan => scan_answer(self.alloc, line, &mut self.room)?,
-        };
-        let mut text = answer.to_string(self.alloc)?;
-        text.push('\n')?;
+        let text = answer_text(self.alloc, self.mode, line, &mut self.room)?;
         self.text.extend_from_slice(text.as_bytes())
     }
 
@@ -61,13 +68,17 @@ impl Answers {
     pub fn answer_lines(&mut self, text: &[u8], searched: usize) -> Result<usize, AllocError>
         requires short { length text.now ≤ 2100001 }
         requires within { searched ≤ length text.now }
-        ensures { IfOk result (λ used. used ≤ length text.now) }
+        requires none { NoNewline (take searched text.now) }
+        ensures gathered { (g : Gathers self.old.mode text.now self.old.text.items self.new.text.items)
+            × IfOk result (λ used. (used ≡ length g.done) × NoNewline g.left) }
+        ensures bound { IfOk result (λ used. used ≤ length text.now) }
+        ensures mode { self.new.mode ≡ self.old.mode }
     {
         let mut rest = text;
         let mut searched = searched;
-        while let Some(end) = newline_from(rest, searched) {
-            self.answer(&rest[..end])?;
-            rest = &rest[end + 1..];
+        while let Some((line, behind)) = first_line(rest, searched) {
+            self.answer(line)?;
+            rest = behind;
             searched = 0;
         }
         Ok(text.len() - rest.len())
@@ -81,6 +92,7 @@ impl Answers {
     pub fn write_to<W: Sink>(&mut self, writer: &mut W) -> Result<(), Failed>
         ensures written { OnOk result (Appends (W.contents writer.old) (W.contents writer.new) self.old.text.items) }
         ensures none { OnOk result (self.new.text.items ≡ []) }
+        ensures mode { self.new.mode ≡ self.old.mode }
         ensures failures { CountsFailure (W.failures writer.old) (W.failures writer.new) result }
     {
         write_all(writer, &self.text)?;
@@ -89,10 +101,41 @@ impl Answers {
     }
 }
 
+/// The answer to a line, with a newline.
+fn answer_text(
+    alloc: Global,
+    mode: Mode,
+    line: &[u8],
+    room: &mut [u8],
+) -> Result<String, AllocError>
+    requires { length line.now ≤ 2 * length room.old }
+    ensures { IfOk result (λ text. (answer : Data) × IsAnswer mode line.now answer
+        × (string_bytes text ≡ answer_line answer)) }
+{
+    let answer = match mode {
+        Mode::Scan => scan_answer(alloc, line, room)?,
+    };
+    let mut text = answer.to_string(alloc)?;
+    text.push('\n')?;
+    Ok(text)
+}
+
+/// The first whole line, and what stands behind its newline. No newline stands before `searched`.
+fn first_line(text: &[u8], searched: usize) -> Option<(&[u8], &[u8])>
+    requires within { searched ≤ length text.now }
+    requires none { NoNewline (take searched text.now) }
+    ensures { MatchOption result (NoNewline text.now)
+        (λ parts. NoNewline parts.0.now × (text.now ≡ parts.0.now ++ newline ∷ parts.1.now)) }
+{
+    let end = newline_from(text, searched)?;
+    Some((&text[..end], &text[end + 1..]))
+}
+
 /// Where the first newline stands. None stands before `searched`.
 fn newline_from(text: &[u8], searched: usize) -> Option<usize>
-    requires { searched ≤ length text.now }
-    ensures { IfSome result (λ at. at < length text.now) }
+    requires within { searched ≤ length text.now }
+    requires none { NoNewline (take searched text.now) }
+    ensures { MatchOption result (NoNewline text.now) (IsFirstNewline text.now) }
 {
     let at = memchr(b'\n', &text[searched..])?;
     Some(searched + at)

@@ -1,5 +1,10 @@
 //! The answer to a class file: its name, and its methods with their invocations.
 
+ghost use Rattle.std.specs.Prelude.{◌≡◌, map, IfOk};
+ghost use Rattle.serde_json.specs.Data.{array};
+ghost use Rattle.serde_json.specs.View.{view, items_of};
+ghost use Rattle.jl_cli.specs.ClassAnswers.{instruction_name, call_data, call_site_data, site_data, method_data, class_data};
+
 use crate::text::text_of;
 use jl_classfile::{CallSiteSpecifier, ClassFile, Kind, Method, Operand, Reference, Site};
 use jl_names::Name;
@@ -7,7 +12,9 @@ use serde_json::{Value, json};
 use std::alloc::{AllocError, Global};
 
 /// The name of the instruction (JVMS SE 17 §6.5).
-fn instruction(kind: Kind) -> &'static str {
+fn instruction(kind: Kind) -> &'static str
+    ensures { result.now ≡ instruction_name kind }
+{
     match kind {
         Kind::Virtual => "invokevirtual",
         Kind::Special => "invokespecial",
@@ -23,7 +30,9 @@ fn call_value(
     pc: u16,
     kind: Kind,
     reference: &Reference<Name>,
-) -> Result<Value, AllocError> {
+) -> Result<Value, AllocError>
+    ensures { IfOk result (λ v. view v ≡ call_data pc kind reference.now) }
+{
     let kind = instruction(kind);
     let name = text_of(alloc, reference.name.as_slice())?;
     let owner = text_of(alloc, reference.owner.as_slice())?;
@@ -37,7 +46,9 @@ fn call_site_value(
     pc: u16,
     kind: Kind,
     specifier: &CallSiteSpecifier<Name>,
-) -> Result<Value, AllocError> {
+) -> Result<Value, AllocError>
+    ensures { IfOk result (λ v. view v ≡ call_site_data pc kind specifier.now) }
+{
     let bootstrap = specifier.bootstrap;
     let kind = instruction(kind);
     let name = text_of(alloc, specifier.name.as_slice())?;
@@ -46,7 +57,10 @@ fn call_site_value(
 }
 
 /// An invocation.
-fn site_value(alloc: Global, site: &Site) -> Result<Value, AllocError> {
+#[tactic(auto, unfolding(crate::specs::ClassAnswers::site_data))]
+fn site_value(alloc: Global, site: &Site) -> Result<Value, AllocError>
+    ensures { IfOk result (λ v. view v ≡ site_data site.now) }
+{
     match &site.operand {
         Operand::Method(reference) => call_value(alloc, site.pc, site.kind, reference),
         Operand::CallSite(specifier) => call_site_value(alloc, site.pc, site.kind, specifier),
@@ -54,16 +68,21 @@ fn site_value(alloc: Global, site: &Site) -> Result<Value, AllocError> {
 }
 
 /// Invocations, in order.
-fn sites_value(alloc: Global, sites: &[Site]) -> Result<Vec<Value>, AllocError> {
+fn sites_value(alloc: Global, sites: &[Site]) -> Result<Value, AllocError>
+    ensures { IfOk result (λ v. view v ≡ array (items_of (map site_data sites.now))) }
+{
     let mut values = Vec::new(alloc);
     for site in sites {
         values.push(site_value(alloc, site)?)?;
     }
-    Ok(values)
+    Ok(Value::Array(values))
 }
 
 /// A method.
-fn method_value(alloc: Global, method: &Method) -> Result<Value, AllocError> {
+#[tactic(auto, unfolding(crate::specs::ClassAnswers::method_data))]
+fn method_value(alloc: Global, method: &Method) -> Result<Value, AllocError>
+    ensures { IfOk result (λ v. view v ≡ method_data method.now) }
+{
     let flags = method.flags;
     let name = text_of(alloc, method.name.as_slice())?;
     let sites = sites_value(alloc, method.sites.as_slice())?;
@@ -72,16 +91,21 @@ fn method_value(alloc: Global, method: &Method) -> Result<Value, AllocError> {
 }
 
 /// Methods, in order.
-fn methods_value(alloc: Global, methods: &[Method]) -> Result<Vec<Value>, AllocError> {
+fn methods_value(alloc: Global, methods: &[Method]) -> Result<Value, AllocError>
+    ensures { IfOk result (λ v. view v ≡ array (items_of (map method_data methods.now))) }
+{
     let mut values = Vec::new(alloc);
     for method in methods {
         values.push(method_value(alloc, method)?)?;
     }
-    Ok(values)
+    Ok(Value::Array(values))
 }
 
 /// The answer to a class file.
-pub fn class_value(alloc: Global, file: &ClassFile) -> Result<Value, AllocError> {
+#[tactic(auto, unfolding(crate::specs::ClassAnswers::class_data))]
+pub fn class_value(alloc: Global, file: &ClassFile) -> Result<Value, AllocError>
+    ensures { IfOk result (λ v. view v ≡ class_data file.now) }
+{
     let name = text_of(alloc, file.name.as_slice())?;
     let methods = methods_value(alloc, file.methods.as_slice())?;
     json!(in alloc; {"class": name, "methods": methods})

@@ -1,7 +1,13 @@
 //! Answers to the lines of an input.
 
-ghost use Rattle.std.specs.Prelude.{◌≡◌, ◌<◌, ◌≤◌, ◌-◌, ◌^◌, ◌⊎◌, length, OnOk, IsErrOf};
+ghost use Rattle.std.specs.Prelude.{◌≡◌, ◌≢◌, ◌<◌, ◌≤◌, ◌-◌, ◌^◌, ◌⊎◌, List, ℕ, [], length, take};
+ghost use Rattle.std.specs.Prelude.{IfOk, IfErr, IfSome, OnOk, IsErrOf};
+ghost use Rattle.std.specs.Io.KnownBytes.{Appends, Keeps, IsAtEnd};
+ghost use Rattle.jl_cli.specs.declared.line_fault.LineFault.TheVariants.{TooLong, Device};
 ghost use Rattle.jl_cli.specs.Devices.{one_more, HasRisen};
+ghost use Rattle.jl_cli.specs.Lines.{lines_of, NoNewline};
+ghost use Rattle.jl_cli.specs.Answers.{AreAnswers, AnswersAll, AnswersFirst, AnswersRead, LongIf};
+ghost use Rattle.jl_cli.specs.Progress.{Writes, OverIf};
 
 use crate::answers::Answers;
 use crate::line_buffer::LineBuffer;
@@ -19,7 +25,17 @@ fn answer_piece<W: Sink>(
     answers: &mut Answers,
     writer: &mut W,
 ) -> Result<(), LineFault>
-    requires { searched ≤ length input.old }
+    requires within { searched ≤ length input.old }
+    requires none { NoNewline (take searched input.old) }
+    requires empty { answers.old.text.items ≡ [] }
+    ensures answered { OnOk result (
+        (w : Writes answers.old.mode input.old (W.contents writer.old) (W.contents writer.new))
+        × (input.new ≡ w.left) × NoNewline w.left) }
+    ensures whole { IfErr result (λ f. f ≢ Device
+        → (w : Writes answers.old.mode input.old (W.contents writer.old) (W.contents writer.new))
+        × OverIf f w.left) }
+    ensures none { OnOk result ((answers.new.text.items ≡ [])
+        × (answers.new.mode ≡ answers.old.mode)) }
     ensures room { OnOk result (length input.new < 2100001) }
     ensures ok { OnOk result (W.failures writer.new ≡ W.failures writer.old) }
     ensures device { IsErrOf result LineFault.Device → W.failures writer.new ≡ one_more (W.failures writer.old) }
@@ -36,7 +52,14 @@ fn answer_piece<W: Sink>(
 
 /// Answers what stands behind the last newline, if anything does.
 fn answer_rest<W: Sink>(rest: &[u8], answers: &mut Answers, writer: &mut W) -> Result<(), LineFault>
-    requires { length rest.now ≤ 2100000 }
+    requires short { length rest.now ≤ 2100000 }
+    requires one { NoNewline rest.now }
+    requires empty { answers.old.text.items ≡ [] }
+    ensures answered { OnOk result ((output : List ℕ)
+        × AreAnswers answers.old.mode (lines_of rest.now) output
+        × Appends (W.contents writer.old) (W.contents writer.new) output) }
+    ensures whole { IfErr result (λ f. f ≢ Device
+        → Keeps (W.contents writer.old) (W.contents writer.new) × (f ≢ TooLong)) }
     ensures device { IsErrOf result LineFault.Device → W.failures writer.new ≡ one_more (W.failures writer.old) }
 {
     if !rest.is_empty() {
@@ -62,6 +85,22 @@ pub fn run_lines<R: Source, W: Sink>(
     reader: &mut R,
     writer: &mut W,
 ) -> Result<(), LineFault>
+    // The input was read to its end, and the answers to its lines were written.
+    ensures answered { OnOk result (IsAtEnd (R.remaining reader.new)
+        × IfSome (R.remaining reader.old)
+        (λ input. AnswersAll mode input (W.contents writer.old) (W.contents writer.new))) }
+    // But for a failed write the answers to some first lines were written whole, and the next line is over the
+    // limit where one is said to be too long.
+    ensures whole { IfErr result
+        (λ f. (f ≡ Device → ¬ HasRisen (W.failures writer.old) (W.failures writer.new))
+        → IfSome (R.remaining reader.old) (λ input.
+        (first : AnswersFirst mode input (W.contents writer.old) (W.contents writer.new))
+        × LongIf f first.after)) }
+    // After a failed read these are all lines of which the newline was read.
+    ensures read { IsErrOf result LineFault.Device
+        → ¬ HasRisen (W.failures writer.old) (W.failures writer.new)
+        → IfSome (R.remaining reader.old) (λ input. AnswersRead mode input
+        (R.remaining reader.new) (W.contents writer.old) (W.contents writer.new)) }
     ensures device { IsErrOf result LineFault.Device → HasRisen (R.failures reader.old) (R.failures reader.new)
         ⊎ (HasRisen (W.failures writer.old) (W.failures writer.new) ⊎ (2 ^ 64 - 1 ≤ R.reads reader.new)) }
 {

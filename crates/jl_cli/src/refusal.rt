@@ -1,5 +1,10 @@
 //! Answers that refuse.
 
+ghost use Rattle.std.specs.Prelude.{◌≡◌, None, Some, IfOk, OnOk};
+ghost use Rattle.serde_json.specs.View.{view, members_view};
+ghost use Rattle.jl_cli.specs.Refusals.{refusal_of, with_number, reason, place, method};
+ghost use Rattle.jl_cli.specs.Refusals.{pool_reason, pool_place, code_reason, code_place};
+
 use jl_classfile::{ClassFault, CodeFault, PoolFault};
 use serde_json::{Map, Value, put};
 use std::alloc::{AllocError, Global};
@@ -9,12 +14,14 @@ use std::alloc::{AllocError, Global};
 pub struct Refusal {
     reason: &'static str,
     at: Option<u32>,
-    method: Option<u16>,
+    method: Option<u32>,
 }
 
 impl Refusal {
     /// A reason alone.
-    fn of(reason: &'static str) -> Self {
+    fn of(reason: &'static str) -> Self
+        ensures { (result.reason.now ≡ reason.now) × (result.at ≡ None) × (result.method ≡ None) }
+    {
         Refusal {
             reason,
             at: None,
@@ -23,7 +30,10 @@ impl Refusal {
     }
 
     /// A reason at a place.
-    fn at(reason: &'static str, at: u32) -> Self {
+    fn at(reason: &'static str, at: u32) -> Self
+        ensures { (result.reason.now ≡ reason.now) × (result.at ≡ Some at)
+            × (result.method ≡ None) }
+    {
         Refusal {
             at: Some(at),
             ..Refusal::of(reason)
@@ -31,29 +41,50 @@ impl Refusal {
     }
 
     /// A reason in a method.
-    fn in_method(reason: &'static str, method: u16) -> Self {
+    fn in_method(reason: &'static str, method: u16) -> Self
+        ensures { (result.reason.now ≡ reason.now) × (result.at ≡ None)
+            × (result.method ≡ Some method) }
+    {
         Refusal {
-            method: Some(method),
+            method: Some(u32::from(method)),
             ..Refusal::of(reason)
         }
     }
 
     /// The answer.
-    pub fn to_value(self, alloc: Global) -> Result<Value, AllocError> {
+    #[tactic(auto, unfolding(crate::specs::Refusals::refusal_of))]
+    pub fn to_value(self, alloc: Global) -> Result<Value, AllocError>
+        ensures { IfOk result (λ v. view v ≡ refusal_of self.reason.now self.at self.method) }
+    {
         let mut members = Map::new(alloc);
-        if let Some(at) = self.at {
-            put(&mut members, alloc, "at", Value::from(at))?;
-        }
-        if let Some(method) = self.method {
-            put(&mut members, alloc, "method", Value::from(method))?;
-        }
         let reason = Value::try_from_str(alloc, self.reason)?;
         put(&mut members, alloc, "refused", reason)?;
+        put_number(&mut members, alloc, "method", self.method)?;
+        put_number(&mut members, alloc, "at", self.at)?;
         Ok(Value::Object(members))
     }
 }
 
+/// Puts a number under a key, if there is one.
+fn put_number(
+    members: &mut Map<String, Value>,
+    alloc: Global,
+    key: &str,
+    number: Option<u32>,
+) -> Result<(), AllocError>
+    ensures { OnOk result (members_view members.new.entries
+        ≡ with_number key.now number (members_view members.old.entries)) }
+{
+    match number {
+        Some(number) => put(members, alloc, key, Value::from(number)),
+        None => Ok(()),
+    }
+}
+
 impl From<PoolFault> for Refusal {
+    ghost from_gives = { λ f r. (r.reason.now ≡ pool_reason f) × (r.at ≡ pool_place f)
+        × (r.method ≡ None) };
+
     fn from(fault: PoolFault) -> Refusal {
         match fault {
             PoolFault::Truncated => Refusal::of("Pool.Truncated"),
@@ -67,6 +98,9 @@ impl From<PoolFault> for Refusal {
 }
 
 impl From<CodeFault> for Refusal {
+    ghost from_gives = { λ f r. (r.reason.now ≡ code_reason f) × (r.at ≡ code_place f)
+        × (r.method ≡ None) };
+
     fn from(fault: CodeFault) -> Refusal {
         match fault {
             CodeFault::BadOpcode(pc) => Refusal::at("Code.BadOpcode", u32::from(pc)),
@@ -80,6 +114,9 @@ impl From<CodeFault> for Refusal {
 }
 
 impl From<ClassFault> for Refusal {
+    ghost from_gives = { λ f r. (r.reason.now ≡ reason f) × (r.at ≡ place f)
+        × (r.method ≡ method f) };
+
     fn from(fault: ClassFault) -> Refusal {
         match fault {
             ClassFault::TooLarge => Refusal::of("TooLarge"),
@@ -93,7 +130,7 @@ impl From<ClassFault> for Refusal {
             ClassFault::TwoCodes(i) => Refusal::in_method("TwoCodes", i),
             ClassFault::Code(_, CodeFault::Memory) => Refusal::of("Memory"),
             ClassFault::Code(i, fault) => Refusal {
-                method: Some(i),
+                method: Some(u32::from(i)),
                 ..Refusal::from(fault)
             },
             ClassFault::TrailingBytes => Refusal::of("TrailingBytes"),

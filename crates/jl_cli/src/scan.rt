@@ -1,6 +1,8 @@
 //! The mode scan: a class file in hexadecimal a line.
 
-ghost use Rattle.std.specs.Prelude.{◌≤◌, ◌*◌, length};
+ghost use Rattle.std.specs.Prelude.{◌≡◌, ◌≤◌, ◌*◌, ◌/◌, length, true, false, IfOk, MatchOption};
+ghost use Rattle.serde_json.specs.View.{view};
+ghost use Rattle.jl_cli.specs.Answers.{file_of, bad_command, IsFileAnswer, IsScanAnswer};
 
 use crate::class_answer::class_value;
 use crate::refusal::Refusal;
@@ -9,25 +11,40 @@ use serde_json::{Value, json};
 use std::alloc::{AllocError, Global};
 
 /// The answer to a line that is none of the stated forms.
-fn bad_command(alloc: Global) -> Result<Value, AllocError> {
+fn bad_command(alloc: Global) -> Result<Value, AllocError>
+    ensures { IfOk result (λ v. view v ≡ bad_command) }
+{
     json!(in alloc; {"error": "BadCommand"})
 }
 
 /// The answer to the bytes of a file.
-fn file_answer(alloc: Global, bytes: &[u8]) -> Result<Value, AllocError> {
+fn file_answer(alloc: Global, bytes: &[u8]) -> Result<Value, AllocError>
+    ensures { IfOk result (λ v. IsFileAnswer bytes.now (view v)) }
+{
     match read_class(alloc, bytes) {
         Ok(file) => class_value(alloc, &file),
         Err(fault) => Refusal::from(fault).to_value(alloc),
     }
 }
 
+/// Whether the line is the hexadecimal of some bytes, which are written then.
+fn decode(line: &[u8], bytes: &mut [u8]) -> bool
+    requires { length bytes.old ≡ length line.now / 2 }
+    ensures { MatchOption (file_of line.now) (result ≡ false)
+        (λ file. (result ≡ true) × (bytes.new ≡ file)) }
+{
+    !line.is_empty() && hex::decode_to_slice(line, bytes).is_ok()
+}
+
 /// The answer to a line, which is decoded into the room: a class file in hexadecimal of either case.
 pub fn scan_answer(alloc: Global, line: &[u8], room: &mut [u8]) -> Result<Value, AllocError>
     requires { length line.now ≤ 2 * length room.old }
+    ensures { IfOk result (λ v. IsScanAnswer line.now (view v)) }
 {
     let bytes = &mut room[..line.len() / 2];
-    if line.is_empty() || hex::decode_to_slice(line, bytes).is_err() {
-        return bad_command(alloc);
+    if decode(line, bytes) {
+        file_answer(alloc, bytes)
+    } else {
+        bad_command(alloc)
     }
-    file_answer(alloc, bytes)
 }

@@ -1,8 +1,16 @@
-use Rattle.std.proofs.Common.{◌≤◌, length}
+use Rattle.std.proofs.Common.{◌≡◌, ◌≤◌, length, take}
+use Rattle.jl_cli.specs.Lines.{NoNewline}
+use Rattle.jl_cli.specs.Progress.{Gathers}
 use Rattle.jl_cli.proofs.answers.Answers.answer_lines.Given as goal
 
-abbrev pub invariant-loop-end : goal.invariant-loop-end
-invariant-loop-end l = (l.searched ≤ length l.rest) × (length l.rest ≤ length l.text)
+abbrev pub invariant-loop-line : goal.invariant-loop-line
+invariant-loop-line l = record {
+  within : l.searched ≤ length l.rest;
+  short : length l.rest ≤ length l.text;
+  none : NoNewline (take l.searched l.rest);
+  gathered : (g : Gathers l.fn.self.mode l.text l.fn.self.text.items l.self.text.items) × (g.left ≡ l.rest);
+  mode : l.self.mode ≡ l.fn.self.mode;
+}
 
-abbrev pub decreases-loop-end : goal.decreases-loop-end
-decreases-loop-end l = length l.rest
+abbrev pub decreases-loop-line : goal.decreases-loop-line
+decreases-loop-line l = length l.rest

@@ -1,0 +1,54 @@
+-- What a line of the mode scan is answered.
+use Rattle.std.proofs.Common.{◌≡◌, ◌≢◌, ◌∙◌, ap, refl, subst, inl, inr, ◌⊎◌, ℕ, List, Option, Some, None, MatchOption, Bool, true, false, Result, Ok, Err, IfOk}
+use Rattle.serde_json.specs.Data.{Data}
+use Rattle.serde_json.specs.View.{view}
+use Rattle.serde_json.specs.declared.value.Value.{Value}
+use Rattle.jl_classfile.specs.declared.fault.ClassFault.{ClassFault}
+use Rattle.jl_classfile.specs.declared.fault.ClassFault.TheVariants.{TooLarge, BadMagic, BadVersion, Truncated, Pool, ModuleFile, BadSuper, DuplicateMethod, TwoCodes, Code, TrailingBytes, BadMember, BadLink, BadNest, Memory}
+use Rattle.jl_classfile.specs.Faults.{IsFault}
+use Rattle.jl_cli.specs.Refusals.{refusal_of, refusal_data, reason, place, method}
+use Rattle.jl_cli.specs.Answers.{bad_command, file_of, IsFileAnswer, IsScanAnswer}
+
+pub memory_or_not : (f : ClassFault) → (f ≡ Memory) ⊎ (f ≢ Memory)
+memory_or_not TooLarge = inr (λ e. absurd cc)
+memory_or_not BadMagic = inr (λ e. absurd cc)
+memory_or_not BadVersion = inr (λ e. absurd cc)
+memory_or_not Truncated = inr (λ e. absurd cc)
+memory_or_not (Pool f) = inr (λ e. absurd cc)
+memory_or_not ModuleFile = inr (λ e. absurd cc)
+memory_or_not BadSuper = inr (λ e. absurd cc)
+memory_or_not (DuplicateMethod i) = inr (λ e. absurd cc)
+memory_or_not (TwoCodes i) = inr (λ e. absurd cc)
+memory_or_not (Code i f) = inr (λ e. absurd cc)
+memory_or_not TrailingBytes = inr (λ e. absurd cc)
+memory_or_not (BadMember k) = inr (λ e. absurd cc)
+memory_or_not (BadLink n) = inr (λ e. absurd cc)
+memory_or_not BadNest = inr (λ e. absurd cc)
+memory_or_not Memory = inl refl
+
+-- a fault's refusal is an answer
+pub refused : (bytes : List ℕ) (f : ClassFault) (answer : Data) → (f ≢ Memory → IsFault bytes f) → answer ≡ refusal_data f → IsFileAnswer bytes answer
+refused bytes f answer fault is = elim (memory_or_not f) [
+  | inl e ↦ inr (inr (is ∙ ap refusal_data e))
+  | inr some ↦ inr (inl (f, fault some, is))
+]
+
+pub refusal_answers : {E : Type 0} (r : Result Value E) (bytes : List ℕ) (f : ClassFault) (name : List ℕ) (at method_at : Option ℕ)
+    → (f ≢ Memory → IsFault bytes f) → name ≡ reason f → at ≡ place f → method_at ≡ method f
+    → IfOk r (λ v. view v ≡ refusal_of name at method_at) → IfOk r (λ v. IsFileAnswer bytes (view v))
+refusal_answers (Ok v) bytes f name at method_at fault names places methods is =
+    let same : refusal_of name at method_at ≡ refusal_of (reason f) (place f) (method f) = cc in
+    refused bytes f (view v) fault (is ∙ same)
+refusal_answers (Err e) bytes f name at method_at fault names places methods is = tt
+
+-- an answer to the bytes of a line is one to the line
+of_file : (o : Option (List ℕ)) (hit : Bool) (bytes : List ℕ) (answer : Data) → MatchOption o (hit ≡ false) (λ file. (hit ≡ true) × (bytes ≡ file))
+    → hit ≡ true → IsFileAnswer bytes answer → MatchOption o (answer ≡ bad_command) (λ file. IsFileAnswer file answer)
+of_file None hit bytes answer told is a = absurd cc
+of_file (Some file) hit bytes answer told is a = subst (λ (b : List ℕ). IsFileAnswer b answer) told.1 a
+
+pub file_answers : {E : Type 0} (r : Result Value E) (line : List ℕ) (hit : Bool) (bytes : List ℕ)
+    → MatchOption (file_of line) (hit ≡ false) (λ file. (hit ≡ true) × (bytes ≡ file)) → hit ≡ true
+    → IfOk r (λ v. IsFileAnswer bytes (view v)) → IfOk r (λ v. IsScanAnswer line (view v))
+file_answers (Ok v) line hit bytes told is a = of_file (file_of line) hit bytes (view v) told is a
+file_answers (Err e) line hit bytes told is a = tt

@@ -1,0 +1,40 @@
+use Rattle.std.proofs.Common.{◌≡◌, ◌∙◌, sym, ap, subst, refl, ◌+◌, [], ◌∷◌, ◌++◌, length, length-append, append-nil, arith}
+use Rattle.jl_cli.specs.declared.words.Mode.{Mode}
+use Rattle.jl_cli.specs.Answers.{IsAnswer}
+use Rattle.jl_cli.specs.Lines.{NoNewline}
+use Rattle.jl_cli.specs.Progress.{IsLine}
+use Rattle.jl_cli.proofs.LineLaws.{answered_none, gathers_more}
+use Rattle.jl_cli.proofs.answers.Answers.answer_lines.Goals as goal
+
+pub loop-line-init : goal.loop-line-init
+loop-line-init c = record {
+  within = c.requires.within;
+  short = omega arith;
+  none = c.requires.none;
+  gathered = (record { done = []; left = c.args.text.now; output = []; split = refl; answered = answered_none c.args.self.now.mode; added = sym (append-nil c.args.self.now.text.items) }, refl);
+  mode = refl;
+}
+
+pub loop-line-preserved : goal.loop-line-preserved
+loop-line-preserved c =
+    let line = c.in-Some.line.now in
+    let behind = c.in-Some.behind.now in
+    let g = c.loop-line.invariant.gathered.0 in
+    let split : c.loop-line.rest.now ≡ line ++ 10 ∷ behind = c.in-Some.ensures.1 in
+    let size : length c.loop-line.rest.now ≡ length line + length (10 ∷ behind) = ap length split ∙ length-append line (10 ∷ behind) in
+    let fits : IsLine line = record { one = c.in-Some.ensures.0; short = omega (arith, size, c.loop-line.invariant.short, c.requires.short) } in
+    let answer = c.in_ok-answer.ensures.ok in
+    record {
+      within = omega arith;
+      short = omega (arith, size, c.loop-line.invariant.short);
+      none = tt;
+      gathered = gathers_more _ _ _ _ _ line behind answer.0 g (c.loop-line.invariant.gathered.1 ∙ split) fits
+          (subst (λ (m : Mode). IsAnswer m line answer.0) c.loop-line.invariant.mode answer.1) answer.2;
+      mode = c.in_ok-answer.ensures.mode ∙ c.loop-line.invariant.mode;
+    }
+
+pub returns-clause-gathered : goal.returns-clause-gathered
+returns-clause-gathered c =
+    let g = c.loop-line.invariant.gathered.0 in
+    let left = c.loop-line.invariant.gathered.1 in
+    (g, (omega (arith, ap length g.split, length-append g.done g.left, ap length left), subst NoNewline (sym left) c.in_default.ensures))

@@ -1,0 +1,101 @@
+-- What is answered to the lines of an input.
+use Rattle.std.specs.Prelude.{◌≡◌, ◌<◌, ◌≤◌, ℕ, List, [], ◌∷◌, ◌++◌, length, codes, Option, Some, None, MatchOption, ◌⊎◌, ⊤}
+use Rattle.std.specs.Result.{result_ok}
+use Rattle.std.specs.List.{AllByRecursion, flat_map}
+use Rattle.std.specs.Io.KnownBytes.{Appends, Consumes}
+use Rattle.hex.specs.Hex.{decode_of}
+use Rattle.serde_json.specs.Data.{Data, string, object, no_members, member}
+use Rattle.serde_json.specs.Written.{compact_text}
+use Rattle.jl_classfile.specs.declared.fault.ClassFault.{ClassFault}
+use Rattle.jl_classfile.specs.declared.fault.ClassFault.TheVariants.{Memory}
+use Rattle.jl_classfile.specs.Parts.{Parts}
+use Rattle.jl_classfile.specs.ClassFiles.{IsClass}
+use Rattle.jl_classfile.specs.Shown.{shown}
+use Rattle.jl_classfile.specs.Faults.{IsFault}
+use Rattle.jl_cli.specs.declared.line_fault.LineFault.{LineFault}
+use Rattle.jl_cli.specs.declared.line_fault.LineFault.TheVariants.{TooLong}
+use Rattle.jl_cli.specs.declared.words.Mode.{Mode}
+use Rattle.jl_cli.specs.declared.words.Mode.TheVariants.{Scan}
+use Rattle.jl_cli.specs.ClassAnswers.{class_data}
+use Rattle.jl_cli.specs.Refusals.{refusal_data}
+use Rattle.jl_cli.specs.Lines.{newline, most_in_line, lines_of, NoNewline, ended}
+
+-- the answer to a line that is none of the stated forms
+abbrev pub bad_command : Data
+bad_command = object (member (codes "error") (string (codes "BadCommand")) no_members)
+
+-- ---- the mode scan
+
+-- the bytes that a line is the hexadecimal of, in either case; an empty line is that of none
+abbrev pub file_of : List ℕ → Option (List ℕ)
+file_of [] = None
+file_of (digit ∷ rest) = result_ok (decode_of (digit ∷ rest))
+
+-- the answer to a file: what the class file shows, or a fault of the bytes, or want of memory
+abbrev pub IsFileAnswer : List ℕ → Data → Type 0
+IsFileAnswer bytes answer =
+    ((p : Parts) × IsClass bytes p × (answer ≡ class_data (shown p)))
+    ⊎ (((f : ClassFault) × IsFault bytes f × (answer ≡ refusal_data f))
+    ⊎ (answer ≡ refusal_data Memory))
+
+abbrev pub IsScanAnswer : List ℕ → Data → Type 0
+IsScanAnswer line answer = MatchOption (file_of line) (answer ≡ bad_command) (λ bytes. IsFileAnswer bytes answer)
+
+-- ---- all lines
+
+abbrev pub IsAnswer : Mode → List ℕ → Data → Type 0
+IsAnswer Scan line answer = IsScanAnswer line answer
+
+-- an answer as it is written: its text, and a newline
+unfoldable pub answer_line : Data → List ℕ
+answer_line answer = compact_text answer ++ newline ∷ []
+
+-- The output has an answer to each line, in order, and nothing else. Where a line may have several answers, as
+-- want of memory, one of them is there.
+abbrev pub AreAnswers : Mode → List (List ℕ) → List ℕ → Type 0
+AreAnswers mode [] output = output ≡ []
+AreAnswers mode (line ∷ lines) output =
+    (answer : Data) × (rest : List ℕ) × IsAnswer mode line answer × (output ≡ answer_line answer ++ rest) × AreAnswers mode lines rest
+
+-- no line is over the limit
+abbrev pub AreShort : List (List ℕ) → Type 0
+AreShort lines = AllByRecursion (λ line. length line ≤ most_in_line) lines
+
+-- ---- what a run leaves
+
+-- each line is answered, and no line is over the limit
+pub record AnswersAll (mode : Mode) (input : List ℕ) (old new : Option (List ℕ)) : Type 0 where
+  pub short : AreShort (lines_of input)
+  pub output : List ℕ
+  pub answers : AreAnswers mode (lines_of input) output
+  pub written : Appends old new output
+
+-- the first lines are answered, each of them whole
+pub record AnswersFirst (mode : Mode) (input : List ℕ) (old new : Option (List ℕ)) : Type 0 where
+  pub before : List (List ℕ)
+  pub after : List (List ℕ)
+  pub split : lines_of input ≡ before ++ after
+  pub short : AreShort before
+  pub output : List ℕ
+  pub answers : AreAnswers mode before output
+  pub written : Appends old new output
+
+-- the lines are answered of which the newline was read, and now this is left to read
+pub record AnswersRead (mode : Mode) (input : List ℕ) (now old new : Option (List ℕ)) : Type 0 where
+  pub before : List (List ℕ)
+  pub tail : List ℕ
+  pub read : Consumes (Some input) now (flat_map ended before ++ tail)
+  pub one : NoNewline tail
+  pub output : List ℕ
+  pub answers : AreAnswers mode before output
+  pub written : Appends old new output
+
+-- the first line is over the limit
+abbrev pub FirstIsLong : List (List ℕ) → Type 0
+FirstIsLong [] = ⊥
+FirstIsLong (line ∷ lines) = most_in_line < length line
+
+-- a line is too long where the next one is over the limit
+abbrev pub LongIf : LineFault → List (List ℕ) → Type 0
+LongIf TooLong after = FirstIsLong after
+LongIf _ after = ⊤
