@@ -12,4 +12,6 @@ mod scan;
 #[cfg(test)]
 mod scans;
 #[cfg(test)]
+mod two_faults;
+#[cfg(test)]
 mod words;

@@ -6,7 +6,7 @@ use std::process::Abort;
 use std::test::Fail;
 
 /// What a scan of the input writes, and how it ends.
-pub fn scanned(alloc: Global, input: &[u8]) -> (Vec<u8>, Result<(), LineFault>) {
+pub(crate) fn scanned(alloc: Global, input: &[u8]) -> (Vec<u8>, Result<(), LineFault>) {
     let mut reader = Counted::new(input);
     let mut writer = Counted::new(Vec::new(alloc));
     let outcome = run_lines(alloc, Mode::Scan, &mut reader, &mut writer);
@@ -14,7 +14,10 @@ pub fn scanned(alloc: Global, input: &[u8]) -> (Vec<u8>, Result<(), LineFault>) 
 }
 
 /// Asserts that each line, alone, has this answer.
-pub fn assert_answers(rt: &(impl Abort + AllocGlobal), rows: &[(&str, &str)]) -> Result<(), Fail> {
+pub(crate) fn assert_answers(
+    rt: &(impl Abort + AllocGlobal),
+    rows: &[(&str, &str)],
+) -> Result<(), Fail> {
     for (line, answer) in rows {
         let (written, outcome) = scanned(rt.alloc(), line.as_bytes());
         let text = String::from_utf8_lossy(rt.alloc(), &written)?;
