@@ -1,11 +1,13 @@
 -- Bytes in a buffer, of which the first are filled.
-use Rattle.std.proofs.Common.{◌≡◌, ℕ, ◌+◌, ◌-◌, ◌≤◌, List, ◌++◌, length, take, drop, sym, ◌∙◌, ap, zero-add, arith, length-drop, append_assoc, take-take}
+use Rattle.std.proofs.Common.{◌≡◌, ℕ, ◌+◌, ◌-◌, ◌≤◌, List, ◌++◌, length, take, drop, sym, ◌∙◌, ap}
+use Rattle.std.proofs.Common.{zero-add, arith, length-drop, append_assoc, take-take}
 use Rattle.std.proofs.Math.Seq.{paste, take-append-add}
 use Rattle.std.proofs.lemmas.List.{drop-take, take-append-le}
 use Rattle.std.proofs.lemmas.List.Edits.{take-paste}
 
 -- what is left behind count bytes, moved to the front
-pub moved : (xs : List ℕ) (count n : ℕ) → count + n ≤ length xs → take n (paste xs 0 (drop count xs) n) ≡ drop count (take (count + n) xs)
+moved : (xs : List ℕ) (count n : ℕ) → count + n ≤ length xs
+    → take n (paste xs 0 (drop count xs) n) ≡ drop count (take (count + n) xs)
 moved xs count n held =
     let room : n ≤ length (drop count xs) = grind (arith, length-drop) in
     ap (λ k. take k (paste xs 0 (drop count xs) n)) (sym (zero-add n))
@@ -20,7 +22,7 @@ kept xs filled count within held =
     moved xs count n (omega arith) ∙ ap (λ k. drop count (take k xs)) whole
 
 -- what stands at the front of a buffer after a piece was read behind what was filled
-pub filled_more : (front buffer behind : List ℕ) (filled count : ℕ) → length front ≡ filled → count ≤ length buffer
+filled_more : (front buffer behind : List ℕ) (filled count : ℕ) → length front ≡ filled → count ≤ length buffer
     → take (filled + count) (front ++ (buffer ++ behind)) ≡ front ++ take count buffer
 filled_more front buffer behind filled count is held =
     ap (λ k. take (k + count) (front ++ (buffer ++ behind))) (sym is)
@@ -28,9 +30,11 @@ filled_more front buffer behind filled count is held =
     ∙ ap (λ l. front ++ l) (take-append-le count buffer behind held))
 
 -- the same, where the whole is cut to a length that holds it
-pub filled_within : (front buffer behind more : List ℕ) (filled count len : ℕ) → length front ≡ filled → count ≤ length buffer → filled + count ≤ len
+pub filled_within : (front buffer behind more : List ℕ) (filled count len : ℕ) → length front ≡ filled
+    → count ≤ length buffer → filled + count ≤ len
     → take (filled + count) (take len ((front ++ (buffer ++ behind)) ++ more)) ≡ front ++ take count buffer
 filled_within front buffer behind more filled count len is held room =
     take-take (filled + count) len _ room
-    ∙ (ap (take (filled + count)) (append_assoc front (buffer ++ behind) more ∙ ap (λ l. front ++ l) (append_assoc buffer behind more))
+    ∙ (ap (take (filled + count)) (append_assoc front (buffer ++ behind) more ∙ ap (λ l. front ++ l)
+    (append_assoc buffer behind more))
     ∙ filled_more front buffer (behind ++ more) filled count is held)

@@ -1,5 +1,6 @@
 -- No answer has a float, so its text is stated.
-use Rattle.std.proofs.Common.{◌≡◌, ◌∙◌, ap, refl, ℕ, List, [], ◌∷◌, map, false, Option, Some, None, MatchOption, inl, inr}
+use Rattle.std.proofs.Common.{◌≡◌, ◌∙◌, ap, refl, ℕ, List, [], ◌∷◌, map, false, Option, Some, None}
+use Rattle.std.proofs.Common.{MatchOption, inl, inr}
 use Rattle.serde_json.specs.Data.{Data}
 use Rattle.serde_json.specs.View.{items_of}
 use Rattle.serde_json.specs.Written.{has_float, items_have_float}
@@ -15,29 +16,30 @@ use Rattle.jl_cli.specs.ClassAnswers.{operand_data, site_data, method_data, clas
 use Rattle.jl_cli.specs.Refusals.{refusal_of}
 use Rattle.jl_cli.specs.Answers.{bad_command, file_of, IsFileAnswer, IsAnswer}
 
-operand_floats : (pc : ℕ) (kind : Kind) (o : Operand (List ℕ)) → has_float (operand_data pc kind o) ≡ false
-operand_floats pc kind (operand.Method r) = refl
-operand_floats pc kind (operand.CallSite s) = refl
+module _ (text_of : List ℕ → List ℕ) where
+  operand_floats : (pc : ℕ) (kind : Kind) (o : Operand (List ℕ)) → has_float (operand_data text_of pc kind o) ≡ false
+  operand_floats pc kind (operand.Method r) = refl
+  operand_floats pc kind (operand.CallSite s) = refl
 
-site_floats : (s : Site) → has_float (site_data s) ≡ false
-unfolding site_data
-site_floats s = operand_floats s.pc s.kind s.operand
+  site_floats : (s : Site) → has_float (site_data text_of s) ≡ false
+  unfolding site_data
+  site_floats s = operand_floats s.pc s.kind s.operand
 
-sites_floats : (sites : List Site) → items_have_float (items_of (map site_data sites)) ≡ false
-sites_floats [] = refl
-sites_floats (s ∷ sites) = rw (site_floats s) (sites_floats sites)
+  sites_floats : (sites : List Site) → items_have_float (items_of (map (site_data text_of) sites)) ≡ false
+  sites_floats [] = refl
+  sites_floats (s ∷ sites) = rw (site_floats s) (sites_floats sites)
 
-method_floats : (m : Method) → has_float (method_data m) ≡ false
-unfolding method_data
-method_floats m = rw (sites_floats m.sites) refl
+  method_floats : (m : Method) → has_float (method_data text_of m) ≡ false
+  unfolding method_data
+  method_floats m = rw (sites_floats m.sites) refl
 
-methods_floats : (methods : List Method) → items_have_float (items_of (map method_data methods)) ≡ false
-methods_floats [] = refl
-methods_floats (m ∷ methods) = rw (method_floats m) (methods_floats methods)
+  methods_floats : (methods : List Method) → items_have_float (items_of (map (method_data text_of) methods)) ≡ false
+  methods_floats [] = refl
+  methods_floats (m ∷ methods) = rw (method_floats m) (methods_floats methods)
 
-class_floats : (file : ClassFile) → has_float (class_data file) ≡ false
-unfolding class_data
-class_floats file = rw (methods_floats file.methods) refl
+  class_floats : (file : ClassFile) → has_float (class_data text_of file) ≡ false
+  unfolding class_data
+  class_floats file = rw (methods_floats file.methods) refl
 
 refusal_floats : (name : List ℕ) (at method : Option ℕ) → has_float (refusal_of name at method) ≡ false
 unfolding refusal_of
@@ -47,11 +49,12 @@ refusal_floats name (Some n) None = refl
 refusal_floats name (Some n) (Some i) = refl
 
 file_floats : (bytes : List ℕ) (answer : Data) → IsFileAnswer bytes answer → has_float answer ≡ false
-file_floats bytes answer (inl p) = ap has_float p.2 ∙ class_floats _
+file_floats bytes answer (inl p) = ap has_float p.4 ∙ class_floats _ _
 file_floats bytes answer (inr (inl p)) = ap has_float p.2 ∙ refusal_floats _ _ _
 file_floats bytes answer (inr (inr p)) = ap has_float p ∙ refusal_floats _ _ _
 
-line_floats : (o : Option (List ℕ)) (answer : Data) → MatchOption o (answer ≡ bad_command) (λ bytes. IsFileAnswer bytes answer) → has_float answer ≡ false
+line_floats : (o : Option (List ℕ)) (answer : Data)
+    → MatchOption o (answer ≡ bad_command) (λ bytes. IsFileAnswer bytes answer) → has_float answer ≡ false
 line_floats None answer is = ap has_float is
 line_floats (Some bytes) answer is = file_floats bytes answer is
 

@@ -5,4 +5,5 @@ pub mod FloatLaws
 pub mod LineLaws
 pub mod FaultLaws
 pub mod NewlineLaws
+pub mod WordsLaws
 pub mod Rows

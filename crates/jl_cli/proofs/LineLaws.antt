@@ -1,8 +1,10 @@
 -- Lines, and what stands of an input when some of them are answered.
-use Rattle.std.proofs.Common.{◌≡◌, ◌∙◌, sym, ap, subst, refl, ℕ, ◌<◌, ◌≤◌, List, [], ◌∷◌, ◌++◌, length, drop, Option, Some, None, IfSome, append_assoc, append-nil, arith}
+use Rattle.std.proofs.Common.{◌≡◌, ◌∙◌, sym, ap, subst, refl, ℕ, ◌<◌, ◌≤◌, List, [], ◌∷◌, ◌++◌}
+use Rattle.std.proofs.Common.{length, drop, Option, Some, None, IfSome, append_assoc, append-nil}
+use Rattle.std.proofs.Common.{arith}
 use Rattle.std.proofs.lemmas.Grind.{flat_map-append}
 use Rattle.std.proofs.Math.Seq.{drop-append_seam}
-use Rattle.std.proofs.KnownBytes.{Appends-nil, Appends-trans, Consumes-nil, Consumes-trans}
+use Rattle.std.proofs.KnownBytes.{Appends-trans, Consumes-trans}
 use Rattle.std.specs.Io.KnownBytes.{Appends, Consumes, IsAtEnd}
 use Rattle.std.specs.List.{flat_map, AllByRecursion}
 use Rattle.serde_json.specs.Data.{Data}
@@ -11,7 +13,8 @@ use Rattle.jl_cli.specs.Lines.{newline, most_in_line, onto_first, lines_of, NoNe
 use Rattle.jl_cli.specs.Answers.{IsAnswer, answer_line, AreAnswers, AreShort, AnswersAll, AnswersFirst, FirstIsLong}
 use Rattle.jl_cli.specs.Progress.{IsLine, Answered, Gathers, Writes, Runs, IsOver}
 
-pub all_append : {A : Type 0} (P : A → Type 0) (xs ys : List A) → AllByRecursion P xs → AllByRecursion P ys → AllByRecursion P (xs ++ ys)
+pub all_append : {A : Type 0} (P : A → Type 0) (xs ys : List A) → AllByRecursion P xs → AllByRecursion P ys
+    → AllByRecursion P (xs ++ ys)
 all_append P [] ys h k = k
 all_append P (x ∷ xs) ys h k = (h.0, all_append P xs ys h.1 k)
 
@@ -27,22 +30,26 @@ unfolding lines_of
 line_last b [] h = rw (h.0) refl
 line_last b (c ∷ line) h = rw (h.0) (ap (onto_first b) (line_last c line h.1))
 
-pub lines_whole : (lines : List (List ℕ)) (rest : List ℕ) → AllByRecursion IsLine lines → lines_of (flat_map ended lines ++ rest) ≡ lines ++ lines_of rest
+lines_whole : (lines : List (List ℕ)) (rest : List ℕ) → AllByRecursion IsLine lines
+    → lines_of (flat_map ended lines ++ rest) ≡ lines ++ lines_of rest
 lines_whole [] rest h = refl
 lines_whole (line ∷ lines) rest h =
-    ap lines_of (append_assoc (ended line) (flat_map ended lines) rest ∙ append_assoc line (newline ∷ []) (flat_map ended lines ++ rest))
+    ap lines_of (append_assoc (ended line) (flat_map ended lines) rest
+    ∙ append_assoc line (newline ∷ []) (flat_map ended lines ++ rest))
     ∙ (line_first line (flat_map ended lines ++ rest) h.0.one
     ∙ ap (λ (ls : List (List ℕ)). line ∷ ls) (lines_whole lines rest h.1))
 
 lt_le : (a b c : ℕ) → a < b → b ≤ c → a < c
 lt_le a b c h k = omega arith
 
-onto : (b : ℕ) (lines : List (List ℕ)) → (first : List ℕ) × (after : List (List ℕ)) × (onto_first b lines ≡ first ∷ after) × (1 ≤ length first)
+onto : (b : ℕ) (lines : List (List ℕ)) → (first : List ℕ) × (after : List (List ℕ))
+    × (onto_first b lines ≡ first ∷ after) × (1 ≤ length first)
 onto b [] = (b ∷ [], [], refl, omega arith)
 onto b (line ∷ lines) = (b ∷ line, lines, refl, omega arith)
 
 first_long : (b : ℕ) (left more : List ℕ) → NoNewline (b ∷ left)
-    → (first : List ℕ) × (after : List (List ℕ)) × (lines_of ((b ∷ left) ++ more) ≡ first ∷ after) × (length (b ∷ left) ≤ length first)
+    → (first : List ℕ) × (after : List (List ℕ)) × (lines_of ((b ∷ left) ++ more) ≡ first ∷ after)
+    × (length (b ∷ left) ≤ length first)
 unfolding lines_of
 first_long b [] more h = let p = onto b (lines_of more) in (p.0, p.1, rw (h.0) p.2, p.3)
 first_long b (c ∷ left) more h =
@@ -51,15 +58,23 @@ first_long b (c ∷ left) more h =
 
 -- ---- answers
 
-pub answers_append : (mode : Mode) (ls ms : List (List ℕ)) (o p : List ℕ) → AreAnswers mode ls o → AreAnswers mode ms p → AreAnswers mode (ls ++ ms) (o ++ p)
+answers_append : (mode : Mode) (ls ms : List (List ℕ)) (o p : List ℕ) → AreAnswers mode ls o
+    → AreAnswers mode ms p → AreAnswers mode (ls ++ ms) (o ++ p)
 answers_append mode [] ms o p h k = subst (AreAnswers mode ms) (ap (λ (l : List ℕ). l ++ p) (sym h)) k
-answers_append mode (l ∷ ls) ms o p h k =
-    (h.0, h.1 ++ p, h.2, ap (λ (l : List ℕ). l ++ p) h.3 ∙ append_assoc (answer_line h.0) h.1 p, answers_append mode ls ms h.1 p h.4 k)
+answers_append mode (l ∷ ls) ms o p h k = (
+  h.0,
+  h.1 ++ p,
+  h.2,
+  ap (λ (l : List ℕ). l ++ p) h.3
+      ∙ append_assoc (answer_line h.0) h.1 p,
+  answers_append mode ls ms h.1 p h.4 k,
+)
 
 pub answered_none : (mode : Mode) → Answered mode [] []
 answered_none mode = record { lines = []; whole = refl; each = tt; answers = refl }
 
-answered_one : (mode : Mode) (line : List ℕ) (answer : Data) → IsLine line → IsAnswer mode line answer → Answered mode (ended line) (answer_line answer)
+answered_one : (mode : Mode) (line : List ℕ) (answer : Data) → IsLine line → IsAnswer mode line answer
+    → Answered mode (ended line) (answer_line answer)
 answered_one mode line answer h is = record {
   lines = line ∷ [];
   whole = sym (append-nil (ended line));
@@ -67,10 +82,13 @@ answered_one mode line answer h is = record {
   answers = (answer, [], is, sym (append-nil (answer_line answer)), refl);
 }
 
-pub answered_append : (mode : Mode) (a b x y : List ℕ) → Answered mode a x → Answered mode b y → Answered mode (a ++ b) (x ++ y)
+answered_append : (mode : Mode) (a b x y : List ℕ) → Answered mode a x → Answered mode b y
+    → Answered mode (a ++ b) (x ++ y)
 answered_append mode a b x y h k = record {
   lines = h.lines ++ k.lines;
-  whole = ap (λ (l : List ℕ). l ++ b) h.whole ∙ ap (λ (l : List ℕ). flat_map ended h.lines ++ l) k.whole ∙ sym (flat_map-append ended h.lines k.lines);
+  whole =
+      ap (λ (l : List ℕ). l ++ b) h.whole ∙ ap (λ (l : List ℕ). flat_map ended h.lines ++ l) k.whole
+      ∙ sym (flat_map-append ended h.lines k.lines);
   each = all_append IsLine h.lines k.lines h.each k.each;
   answers = answers_append mode h.lines k.lines x y h.answers k.answers;
 }
@@ -78,7 +96,8 @@ answered_append mode a b x y h k = record {
 -- ---- steps
 
 -- one more line is answered
-pub gathers_more : (mode : Mode) (bytes old mid new line after : List ℕ) (answer : Data) (g : Gathers mode bytes old mid)
+pub gathers_more : (mode : Mode) (bytes old mid new line after : List ℕ) (answer : Data)
+    (g : Gathers mode bytes old mid)
     → g.left ≡ line ++ newline ∷ after → IsLine line → IsAnswer mode line answer → new ≡ mid ++ answer_line answer
     → (k : Gathers mode bytes old new) × (k.left ≡ after)
 gathers_more mode bytes old mid new line after answer g is short answers grown = (
@@ -86,17 +105,22 @@ gathers_more mode bytes old mid new line after answer g is short answers grown =
     done = g.done ++ ended line;
     left = after;
     output = g.output ++ answer_line answer;
-    split = g.split ∙ (ap (λ (l : List ℕ). g.done ++ l) (is ∙ sym (append_assoc line (newline ∷ []) after)) ∙ sym (append_assoc g.done (ended line) after));
-    answered = answered_append mode g.done (ended line) g.output (answer_line answer) g.answered (answered_one mode line answer short answers);
-    added = grown ∙ (ap (λ (l : List ℕ). l ++ answer_line answer) g.added ∙ append_assoc old g.output (answer_line answer));
+    split = g.split ∙ (ap (λ (l : List ℕ). g.done ++ l) (is ∙ sym (append_assoc line (newline ∷ []) after))
+        ∙ sym (append_assoc g.done (ended line) after));
+    answered = answered_append mode g.done (ended line) g.output (answer_line answer) g.answered
+        (answered_one mode line answer short answers);
+    added = grown ∙ (ap (λ (l : List ℕ). l ++ answer_line answer) g.added
+        ∙ append_assoc old g.output (answer_line answer));
   },
   refl,
 )
 
 -- ---- what is written
 
-pub writes : (mode : Mode) (bytes seen old_text text : List ℕ) (old new : Option (List ℕ)) (g : Gathers mode seen old_text text)
-    → seen ≡ bytes → old_text ≡ [] → Appends old new text → (w : Writes mode bytes old new) × (w.left ≡ g.left) × (w.done ≡ g.done)
+pub writes : (mode : Mode) (bytes seen old_text text : List ℕ) (old new : Option (List ℕ))
+    (g : Gathers mode seen old_text text)
+    → seen ≡ bytes → old_text ≡ [] → Appends old new text
+    → (w : Writes mode bytes old new) × (w.left ≡ g.left) × (w.done ≡ g.done)
 writes mode bytes seen old_text text old new g is none appended = (
   record {
     done = g.done;
@@ -111,14 +135,17 @@ writes mode bytes seen old_text text old new g is none appended = (
 )
 
 -- what is left when the answered lines are dropped
-pub left_behind : (bytes done left : List ℕ) (used : ℕ) → bytes ≡ done ++ left → used ≡ length done → drop used bytes ≡ left
+pub left_behind : (bytes done left : List ℕ) (used : ℕ) → bytes ≡ done ++ left → used ≡ length done
+    → drop used bytes ≡ left
 left_behind bytes done left used split is =
     ap (λ k. drop k bytes) is ∙ (ap (drop (length done)) split ∙ drop-append_seam done left)
 
-pub answers_last : (mode : Mode) (rest : List ℕ) (answer : Data) → ¬ (rest ≡ []) → NoNewline rest → IsAnswer mode rest answer → AreAnswers mode (lines_of rest) (answer_line answer)
+pub answers_last : (mode : Mode) (rest : List ℕ) (answer : Data) → ¬ (rest ≡ []) → NoNewline rest
+    → IsAnswer mode rest answer → AreAnswers mode (lines_of rest) (answer_line answer)
 answers_last mode [] answer some one is = absurd (some refl)
 answers_last mode (b ∷ rest) answer some one is =
-    subst (λ (ls : List (List ℕ)). AreAnswers mode ls (answer_line answer)) (sym (line_last b rest one)) (answer, [], is, sym (append-nil (answer_line answer)), refl)
+    subst (λ (ls : List (List ℕ)). AreAnswers mode ls (answer_line answer)) (sym (line_last b rest one))
+    (answer, [], is, sym (append-nil (answer_line answer)), refl)
 
 pub answers_empty : (mode : Mode) (rest : List ℕ) → rest ≡ [] → AreAnswers mode (lines_of rest) []
 unfolding lines_of
@@ -127,34 +154,38 @@ answers_empty mode (b ∷ rest) is = absurd cc
 
 -- ---- a run
 
-pub runs_start : (mode : Mode) (start old : Option (List ℕ)) → Runs mode start start [] old old
-runs_start mode start old = record { done = []; output = []; answered = answered_none mode; read = Consumes-nil start; written = Appends-nil old }
-
-pub runs_read : (mode : Mode) (start now then' : Option (List ℕ)) (held piece : List ℕ) (old new : Option (List ℕ)) → Runs mode start now held old new
+pub runs_read : (mode : Mode) (start now then' : Option (List ℕ)) (held piece : List ℕ)
+    (old new : Option (List ℕ)) → Runs mode start now held old new
     → Consumes now then' piece → Runs mode start then' (held ++ piece) old new
 runs_read mode start now then' held piece old new r consumed = record {
   done = r.done;
   output = r.output;
   answered = r.answered;
-  read = subst (Consumes start then') (append_assoc r.done held piece) (Consumes-trans start now then' (r.done ++ held) piece r.read consumed);
+  read = subst (Consumes start then') (append_assoc r.done held piece)
+      (Consumes-trans start now then' (r.done ++ held) piece r.read consumed);
   written = r.written;
 }
 
-pub runs_write : (mode : Mode) (start now : Option (List ℕ)) (held : List ℕ) (old mid new : Option (List ℕ)) → Runs mode start now held old mid
+pub runs_write : (mode : Mode) (start now : Option (List ℕ)) (held : List ℕ) (old mid new : Option (List ℕ))
+    → Runs mode start now held old mid
     → (w : Writes mode held mid new) → Runs mode start now w.left old new
 runs_write mode start now held old mid new r w = record {
   done = r.done ++ w.done;
   output = r.output ++ w.output;
   answered = answered_append mode r.done w.done r.output w.output r.answered w.answered;
-  read = subst (Consumes start now) (ap (λ (l : List ℕ). r.done ++ l) w.split ∙ sym (append_assoc r.done w.done w.left)) r.read;
+  read =
+      subst (Consumes start now) (ap (λ (l : List ℕ). r.done ++ l) w.split
+      ∙ sym (append_assoc r.done w.done w.left)) r.read;
   written = Appends-trans old mid new r.output w.output r.written w.written;
 }
 
 -- what the run has read, and what it hasn't
-read_lines : (done held rest xs : List ℕ) (lines : List (List ℕ)) → xs ≡ (done ++ held) ++ rest → done ≡ flat_map ended lines → AllByRecursion IsLine lines
+read_lines : (done held rest xs : List ℕ) (lines : List (List ℕ)) → xs ≡ (done ++ held) ++ rest
+    → done ≡ flat_map ended lines → AllByRecursion IsLine lines
     → lines_of xs ≡ lines ++ lines_of (held ++ rest)
 read_lines done held rest xs lines is whole each =
-    ap lines_of (is ∙ (append_assoc done held rest ∙ ap (λ (l : List ℕ). l ++ (held ++ rest)) whole)) ∙ lines_whole lines (held ++ rest) each
+    ap lines_of (is ∙ (append_assoc done held rest ∙ ap (λ (l : List ℕ). l ++ (held ++ rest)) whole))
+    ∙ lines_whole lines (held ++ rest) each
 
 short_each : (lines : List (List ℕ)) → AllByRecursion IsLine lines → AreShort lines
 short_each [] h = tt
@@ -166,7 +197,8 @@ over_first (b ∷ left) rest h =
     let p = first_long b left rest h.one in
     subst FirstIsLong (sym p.2) (lt_le _ _ _ h.long p.3)
 
-pub runs_first : (mode : Mode) (start now : Option (List ℕ)) (held : List ℕ) (old new : Option (List ℕ)) → Runs mode start now held old new
+pub runs_first : (mode : Mode) (start now : Option (List ℕ)) (held : List ℕ) (old new : Option (List ℕ))
+    → Runs mode start now held old new
     → IfSome start (λ input. (first : AnswersFirst mode input old new) × (IsOver held → FirstIsLong first.after))
 runs_first mode None now held old new r = tt
 runs_first mode (Some xs) None held old new r = absurd r.read
@@ -188,8 +220,10 @@ unfolding lines_of
 short_last [] one short = tt
 short_last (b ∷ held) one short = subst AreShort (sym (line_last b held one)) (short, tt)
 
-pub runs_all : (mode : Mode) (start now : Option (List ℕ)) (held output : List ℕ) (old mid new : Option (List ℕ)) → Runs mode start now held old mid
-    → IsAtEnd now → NoNewline held → length held ≤ most_in_line → AreAnswers mode (lines_of held) output → Appends mid new output
+pub runs_all : (mode : Mode) (start now : Option (List ℕ)) (held output : List ℕ) (old mid new : Option (List ℕ))
+    → Runs mode start now held old mid
+    → IsAtEnd now → NoNewline held → length held ≤ most_in_line → AreAnswers mode (lines_of held) output
+    → Appends mid new output
     → IfSome start (λ input. AnswersAll mode input old new)
 runs_all mode None now held output old mid new r end one short answers appended = tt
 runs_all mode (Some xs) None held output old mid new r end one short answers appended = absurd r.read
@@ -198,7 +232,8 @@ runs_all mode (Some xs) (Some ys) held output old mid new r end one short answer
     read_lines r.done held ys xs r.answered.lines r.read r.answered.whole r.answered.each
     ∙ ap (λ (l : List ℕ). r.answered.lines ++ lines_of l) (ap (λ (l : List ℕ). held ++ l) end ∙ append-nil held) in
     record {
-      short = subst AreShort (sym all) (all_append (λ (line : List ℕ). length line ≤ most_in_line) r.answered.lines (lines_of held) (short_each r.answered.lines r.answered.each) (short_last held one short));
+      short = subst AreShort (sym all) (all_append (λ (line : List ℕ). length line ≤ most_in_line)
+          r.answered.lines (lines_of held) (short_each r.answered.lines r.answered.each) (short_last held one short));
       output = r.output ++ output;
       answers = subst (λ (ls : List (List ℕ)). AreAnswers mode ls (r.output ++ output)) (sym all)
           (answers_append mode r.answered.lines (lines_of held) r.output output r.answered.answers answers);

@@ -12,7 +12,7 @@ use Rattle.jl_classfile.specs.declared.fault.ClassFault.TheVariants.{Code}
 use Rattle.jl_classfile.specs.Shown.{shown}
 use Rattle.jl_classfile.proofs.Rows.Object as object
 use Rattle.jl_cli.specs.declared.words.Mode.TheVariants.{Scan}
-use Rattle.jl_cli.specs.Names.{name_text}
+use Rattle.jl_cli.specs.NameReading.{name_text}
 use Rattle.jl_cli.specs.ClassAnswers.{class_data}
 use Rattle.jl_cli.specs.Refusals.{refusal_of, refusal_data}
 use Rattle.jl_cli.specs.Lines.{lines_of}
@@ -44,7 +44,8 @@ hex_other : file_of (codes "cg") ≡ None
 unfolding hex_on_literals
 hex_other = refl
 
-refused_code : compact_text (refusal_data (Code 0 (code.CutShort 1))) ≡ codes "{\"at\":1,\"method\":0,\"refused\":\"Code.CutShort\"}"
+refused_code : compact_text (refusal_data (Code 0 (code.CutShort 1)))
+    ≡ codes "{\"at\":1,\"method\":0,\"refused\":\"Code.CutShort\"}"
 unfolding refusal_of digits serde_json_on_literals
 refused_code = refl
 
@@ -61,7 +62,8 @@ name_lone : name_text (0x61 ∷ 0xed ∷ 0xa0 ∷ 0x80 ∷ []) ≡ 0x61 ∷ 0xef
 unfolding name_text utf16_chars encode
 name_lone = refl
 
-class_text : compact_text (class_data (shown object.parts)) ≡ codes "{\"class\":\"java/lang/Object\",\"methods\":[]}"
+class_text : compact_text (class_data name_text (shown object.parts))
+    ≡ codes "{\"class\":\"java/lang/Object\",\"methods\":[]}"
 unfolding class_data name_text utf16_chars encode serde_json_on_literals
 class_text = refl
 

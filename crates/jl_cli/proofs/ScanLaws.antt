@@ -1,15 +1,28 @@
 -- What a line of the mode scan is answered.
-use Rattle.std.proofs.Common.{◌≡◌, ◌≢◌, ◌∙◌, ap, refl, subst, inl, inr, ◌⊎◌, ℕ, List, Option, Some, None, MatchOption, Bool, true, false, Result, Ok, Err, IfOk}
+use Rattle.std.proofs.Common.{◌≡◌, ◌≢◌, ◌∙◌, ap, refl, subst, inl, inr, ◌⊎◌, ℕ, List, Option, Some}
+use Rattle.std.proofs.Common.{None, MatchOption, Bool, true, false, Result, Ok, Err, IfOk}
 use Rattle.serde_json.specs.Data.{Data}
 use Rattle.serde_json.specs.View.{view}
 use Rattle.serde_json.specs.declared.value.Value.{Value}
 use Rattle.jl_classfile.specs.declared.fault.ClassFault.{ClassFault}
-use Rattle.jl_classfile.specs.declared.fault.ClassFault.TheVariants.{TooLarge, BadMagic, BadVersion, Truncated, Pool, ModuleFile, BadSuper, DuplicateMethod, TwoCodes, Code, TrailingBytes, BadMember, BadLink, BadNest, Memory}
+use Rattle.jl_classfile.specs.declared.fault.ClassFault.TheVariants.{TooLarge, BadMagic, BadVersion}
+use Rattle.jl_classfile.specs.declared.fault.ClassFault.TheVariants.{Truncated, Pool, ModuleFile}
+use Rattle.jl_classfile.specs.declared.fault.ClassFault.TheVariants.{BadSuper, DuplicateMethod}
+use Rattle.jl_classfile.specs.declared.fault.ClassFault.TheVariants.{TwoCodes, Code, TrailingBytes}
+use Rattle.jl_classfile.specs.declared.fault.ClassFault.TheVariants.{BadMember, BadLink, BadNest}
+use Rattle.jl_classfile.specs.declared.fault.ClassFault.TheVariants.{Memory}
+use Rattle.jl_classfile.specs.declared.class.ClassFile.{ClassFile}
+use Rattle.jl_classfile.specs.Parts.{Parts}
+use Rattle.jl_classfile.specs.ClassFiles.{IsClass}
+use Rattle.jl_classfile.specs.Shown.{shown}
 use Rattle.jl_classfile.specs.Faults.{IsFault}
+use Rattle.jl_cli.specs.NameReading.{name_text}
+use Rattle.jl_cli.specs.ClassAnswers.{class_data}
+use Rattle.jl_cli.proofs.NameLaws.{spells}
 use Rattle.jl_cli.specs.Refusals.{refusal_of, refusal_data, reason, place, method}
 use Rattle.jl_cli.specs.Answers.{bad_command, file_of, IsFileAnswer, IsScanAnswer}
 
-pub memory_or_not : (f : ClassFault) → (f ≡ Memory) ⊎ (f ≢ Memory)
+memory_or_not : (f : ClassFault) → (f ≡ Memory) ⊎ (f ≢ Memory)
 memory_or_not TooLarge = inr (λ e. absurd cc)
 memory_or_not BadMagic = inr (λ e. absurd cc)
 memory_or_not BadVersion = inr (λ e. absurd cc)
@@ -27,13 +40,15 @@ memory_or_not BadNest = inr (λ e. absurd cc)
 memory_or_not Memory = inl refl
 
 -- a fault's refusal is an answer
-pub refused : (bytes : List ℕ) (f : ClassFault) (answer : Data) → (f ≢ Memory → IsFault bytes f) → answer ≡ refusal_data f → IsFileAnswer bytes answer
+refused : (bytes : List ℕ) (f : ClassFault) (answer : Data) → (f ≢ Memory → IsFault bytes f)
+    → answer ≡ refusal_data f → IsFileAnswer bytes answer
 refused bytes f answer fault is = elim (memory_or_not f) [
   | inl e ↦ inr (inr (is ∙ ap refusal_data e))
   | inr some ↦ inr (inl (f, fault some, is))
 ]
 
-pub refusal_answers : {E : Type 0} (r : Result Value E) (bytes : List ℕ) (f : ClassFault) (name : List ℕ) (at method_at : Option ℕ)
+pub refusal_answers : {E : Type 0} (r : Result Value E) (bytes : List ℕ) (f : ClassFault) (name : List ℕ)
+    (at method_at : Option ℕ)
     → (f ≢ Memory → IsFault bytes f) → name ≡ reason f → at ≡ place f → method_at ≡ method f
     → IfOk r (λ v. view v ≡ refusal_of name at method_at) → IfOk r (λ v. IsFileAnswer bytes (view v))
 refusal_answers (Ok v) bytes f name at method_at fault names places methods is =
@@ -42,7 +57,8 @@ refusal_answers (Ok v) bytes f name at method_at fault names places methods is =
 refusal_answers (Err e) bytes f name at method_at fault names places methods is = tt
 
 -- an answer to the bytes of a line is one to the line
-of_file : (o : Option (List ℕ)) (hit : Bool) (bytes : List ℕ) (answer : Data) → MatchOption o (hit ≡ false) (λ file. (hit ≡ true) × (bytes ≡ file))
+of_file : (o : Option (List ℕ)) (hit : Bool) (bytes : List ℕ) (answer : Data)
+    → MatchOption o (hit ≡ false) (λ file. (hit ≡ true) × (bytes ≡ file))
     → hit ≡ true → IsFileAnswer bytes answer → MatchOption o (answer ≡ bad_command) (λ file. IsFileAnswer file answer)
 of_file None hit bytes answer told is a = absurd cc
 of_file (Some file) hit bytes answer told is a = subst (λ (b : List ℕ). IsFileAnswer b answer) told.1 a
@@ -52,3 +68,8 @@ pub file_answers : {E : Type 0} (r : Result Value E) (line : List ℕ) (hit : Bo
     → IfOk r (λ v. IsFileAnswer bytes (view v)) → IfOk r (λ v. IsScanAnswer line (view v))
 file_answers (Ok v) line hit bytes told is a = of_file (file_of line) hit bytes (view v) told is a
 file_answers (Err e) line hit bytes told is a = tt
+
+pub shown_answers : {E : Type 0} (r : Result Value E) (bytes : List ℕ) (p : Parts) (file : ClassFile) → IsClass bytes p
+    → file ≡ shown p → IfOk r (λ v. view v ≡ class_data name_text file) → IfOk r (λ v. IsFileAnswer bytes (view v))
+shown_answers (Ok v) bytes p file class is e = inl (p, name_text, class, spells, e ∙ ap (class_data name_text) is)
+shown_answers (Err e) bytes p file class is h = tt

@@ -1,5 +1,6 @@
 -- What is answered to the lines of an input.
-use Rattle.std.specs.Prelude.{◌≡◌, ◌<◌, ◌≤◌, ℕ, List, [], ◌∷◌, ◌++◌, length, codes, Option, Some, None, MatchOption, ◌⊎◌, ⊤}
+use Rattle.std.specs.Prelude.{◌≡◌, ◌<◌, ◌≤◌, ℕ, List, [], ◌∷◌, ◌++◌, length, codes, Option, Some}
+use Rattle.std.specs.Prelude.{None, MatchOption, ◌⊎◌, ⊤}
 use Rattle.std.specs.Result.{result_ok}
 use Rattle.std.specs.List.{AllByRecursion, flat_map}
 use Rattle.std.specs.Io.KnownBytes.{Appends, Consumes}
@@ -16,6 +17,7 @@ use Rattle.jl_cli.specs.declared.line_fault.LineFault.{LineFault}
 use Rattle.jl_cli.specs.declared.line_fault.LineFault.TheVariants.{TooLong}
 use Rattle.jl_cli.specs.declared.words.Mode.{Mode}
 use Rattle.jl_cli.specs.declared.words.Mode.TheVariants.{Scan}
+use Rattle.jl_cli.specs.Names.{SpellsNames}
 use Rattle.jl_cli.specs.ClassAnswers.{class_data}
 use Rattle.jl_cli.specs.Refusals.{refusal_data}
 use Rattle.jl_cli.specs.Lines.{newline, most_in_line, lines_of, NoNewline, ended}
@@ -34,12 +36,14 @@ file_of (digit ∷ rest) = result_ok (decode_of (digit ∷ rest))
 -- the answer to a file: what the class file shows, or a fault of the bytes, or want of memory
 abbrev pub IsFileAnswer : List ℕ → Data → Type 0
 IsFileAnswer bytes answer =
-    ((p : Parts) × IsClass bytes p × (answer ≡ class_data (shown p)))
+    ((p : Parts) × (text_of : List ℕ → List ℕ) × IsClass bytes p × SpellsNames text_of
+    × (answer ≡ class_data text_of (shown p)))
     ⊎ (((f : ClassFault) × IsFault bytes f × (answer ≡ refusal_data f))
     ⊎ (answer ≡ refusal_data Memory))
 
 abbrev pub IsScanAnswer : List ℕ → Data → Type 0
-IsScanAnswer line answer = MatchOption (file_of line) (answer ≡ bad_command) (λ bytes. IsFileAnswer bytes answer)
+IsScanAnswer line answer =
+    MatchOption (file_of line) (answer ≡ bad_command) (λ bytes. IsFileAnswer bytes answer)
 
 -- ---- all lines
 
@@ -50,12 +54,14 @@ IsAnswer Scan line answer = IsScanAnswer line answer
 unfoldable pub answer_line : Data → List ℕ
 answer_line answer = compact_text answer ++ newline ∷ []
 
--- The output has an answer to each line, in order, and nothing else. Where a line may have several answers, as
--- want of memory, one of them is there.
+-- The output has an answer to each line, in order, and nothing else. Where a line may have several
+-- answers, as want of memory, one of them is there.
 abbrev pub AreAnswers : Mode → List (List ℕ) → List ℕ → Type 0
 AreAnswers mode [] output = output ≡ []
 AreAnswers mode (line ∷ lines) output =
-    (answer : Data) × (rest : List ℕ) × IsAnswer mode line answer × (output ≡ answer_line answer ++ rest) × AreAnswers mode lines rest
+    (answer : Data) × (rest : List ℕ) × IsAnswer mode line answer
+    × (output ≡ answer_line answer ++ rest)
+    × AreAnswers mode lines rest
 
 -- no line is over the limit
 abbrev pub AreShort : List (List ℕ) → Type 0

@@ -7,15 +7,11 @@ use Rattle.jl_classfile.specs.declared.class.Method.{Method}
 use Rattle.jl_classfile.specs.declared.reference.Reference.{Reference}
 use Rattle.jl_classfile.specs.declared.reference.CallSiteSpecifier.{CallSiteSpecifier}
 use Rattle.jl_classfile.specs.declared.site.Kind.{Kind}
-use Rattle.jl_classfile.specs.declared.site.Kind.TheVariants.{Virtual, Special, Static, Interface, Dynamic}
+use Rattle.jl_classfile.specs.declared.site.Kind.TheVariants.{Virtual, Special, Static}
+use Rattle.jl_classfile.specs.declared.site.Kind.TheVariants.{Interface, Dynamic}
 use Rattle.jl_classfile.specs.declared.site.Operand.{Operand}
 use Rattle.jl_classfile.specs.declared.site.Operand.TheVariants as operand
 use Rattle.jl_classfile.specs.declared.site.Site.{Site}
-use Rattle.jl_cli.specs.Names.{name_text}
-
--- a name, as text
-abbrev pub name_data : List ℕ → Data
-name_data name = string (name_text name)
 
 abbrev pub number_data : ℕ → Data
 number_data n = number (unsigned n)
@@ -28,38 +24,45 @@ instruction_name Static = codes "invokestatic"
 instruction_name Interface = codes "invokeinterface"
 instruction_name Dynamic = codes "invokedynamic"
 
-abbrev pub call_data : ℕ → Kind → Reference (List ℕ) → Data
-call_data pc kind r =
-    object (member (codes "kind") (string (instruction_name kind))
-    (member (codes "name") (name_data r.name)
-    (member (codes "of") (name_data r.owner)
-    (member (codes "pc") (number_data pc)
-    (member (codes "type") (name_data r.ty) no_members)))))
+-- ---- by the text of each name
 
-abbrev pub call_site_data : ℕ → Kind → CallSiteSpecifier (List ℕ) → Data
-call_site_data pc kind s =
-    object (member (codes "bootstrap") (number_data s.bootstrap)
-    (member (codes "kind") (string (instruction_name kind))
-    (member (codes "name") (name_data s.name)
-    (member (codes "pc") (number_data pc)
-    (member (codes "type") (name_data s.ty) no_members)))))
+module _ (text_of : List ℕ → List ℕ) where
+  -- a name, as text
+  abbrev pub name_data : List ℕ → Data
+  name_data name = string (text_of name)
 
-abbrev pub operand_data : ℕ → Kind → Operand (List ℕ) → Data
-operand_data pc kind (operand.Method r) = call_data pc kind r
-operand_data pc kind (operand.CallSite s) = call_site_data pc kind s
+  abbrev pub call_data : ℕ → Kind → Reference (List ℕ) → Data
+  call_data pc kind r =
+      object (member (codes "kind") (string (instruction_name kind))
+      (member (codes "name") (name_data r.name)
+      (member (codes "of") (name_data r.owner)
+      (member (codes "pc") (number_data pc)
+      (member (codes "type") (name_data r.ty) no_members)))))
 
-unfoldable pub site_data : Site → Data
-site_data s = operand_data s.pc s.kind s.operand
+  abbrev pub call_site_data : ℕ → Kind → CallSiteSpecifier (List ℕ) → Data
+  call_site_data pc kind s =
+      object (member (codes "bootstrap") (number_data s.bootstrap)
+      (member (codes "kind") (string (instruction_name kind))
+      (member (codes "name") (name_data s.name)
+      (member (codes "pc") (number_data pc)
+      (member (codes "type") (name_data s.ty) no_members)))))
 
-unfoldable pub method_data : Method → Data
-method_data m =
-    object (member (codes "flags") (number_data m.flags)
-    (member (codes "name") (name_data m.name)
-    (member (codes "sites") (array (items_of (map site_data m.sites)))
-    (member (codes "type") (name_data m.ty) no_members))))
+  abbrev pub operand_data : ℕ → Kind → Operand (List ℕ) → Data
+  operand_data pc kind (operand.Method r) = call_data pc kind r
+  operand_data pc kind (operand.CallSite s) = call_site_data pc kind s
 
--- the name of the class, and its methods with their invocations
-unfoldable pub class_data : ClassFile → Data
-class_data file =
-    object (member (codes "class") (name_data file.name)
-    (member (codes "methods") (array (items_of (map method_data file.methods))) no_members))
+  unfoldable pub site_data : Site → Data
+  site_data s = operand_data s.pc s.kind s.operand
+
+  unfoldable pub method_data : Method → Data
+  method_data m =
+      object (member (codes "flags") (number_data m.flags)
+      (member (codes "name") (name_data m.name)
+      (member (codes "sites") (array (items_of (map site_data m.sites)))
+      (member (codes "type") (name_data m.ty) no_members))))
+
+  -- the name of the class, and its methods with their invocations
+  unfoldable pub class_data : ClassFile → Data
+  class_data file =
+      object (member (codes "class") (name_data file.name)
+      (member (codes "methods") (array (items_of (map method_data file.methods))) no_members))

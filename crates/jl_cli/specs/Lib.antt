@@ -2,9 +2,12 @@ pub mod Devices
 pub mod Counted
 pub mod FailAt
 pub mod Statuses
+pub mod Words
+pub mod CommandLine
 pub mod Names
 pub mod ClassAnswers
 pub mod Refusals
 pub mod Lines
 pub mod Answers
 pub mod Progress
+pub mod NameReading

@@ -45,7 +45,8 @@ pub record Writes (mode : Mode) (bytes : List ℕ) (old new : Option (List ℕ))
   pub written : Appends old new output
 
 -- of what was read some lines are answered, the answers are written, and this is held
-pub record Runs (mode : Mode) (start now : Option (List ℕ)) (held : List ℕ) (old new : Option (List ℕ)) : Type 0 where
+pub record Runs (mode : Mode) (start now : Option (List ℕ)) (held : List ℕ)
+    (old new : Option (List ℕ)) : Type 0 where
   pub done : List ℕ
   pub output : List ℕ
   pub answered : Answered mode done output

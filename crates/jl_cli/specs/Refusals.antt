@@ -1,12 +1,19 @@
--- What is answered to a file that is refused, as JSON: the name of the fault, the place that it is about, the method.
+-- What is answered to a file that is refused, as JSON: the name of the fault, the place that it is
+-- about, the method.
 use Rattle.std.specs.Prelude.{ℕ, List, codes, Option, Some, None}
-use Rattle.serde_json.specs.Data.{Data, number, unsigned, string, object, Members, no_members, member, put}
+use Rattle.serde_json.specs.Data.{Data, number, unsigned, string, object}
+use Rattle.serde_json.specs.Data.{Members, no_members, member, put}
 use Rattle.jl_classfile.specs.declared.pool_fault.PoolFault.{PoolFault}
 use Rattle.jl_classfile.specs.declared.pool_fault.PoolFault.TheVariants as pool
 use Rattle.jl_classfile.specs.declared.code_fault.CodeFault.{CodeFault}
 use Rattle.jl_classfile.specs.declared.code_fault.CodeFault.TheVariants as code
 use Rattle.jl_classfile.specs.declared.fault.ClassFault.{ClassFault}
-use Rattle.jl_classfile.specs.declared.fault.ClassFault.TheVariants.{TooLarge, BadMagic, BadVersion, Truncated, Pool, ModuleFile, BadSuper, DuplicateMethod, TwoCodes, Code, TrailingBytes, BadMember, BadLink, BadNest, Memory}
+use Rattle.jl_classfile.specs.declared.fault.ClassFault.TheVariants.{TooLarge, BadMagic, BadVersion}
+use Rattle.jl_classfile.specs.declared.fault.ClassFault.TheVariants.{Truncated, Pool, ModuleFile}
+use Rattle.jl_classfile.specs.declared.fault.ClassFault.TheVariants.{BadSuper, DuplicateMethod}
+use Rattle.jl_classfile.specs.declared.fault.ClassFault.TheVariants.{TwoCodes, Code, TrailingBytes}
+use Rattle.jl_classfile.specs.declared.fault.ClassFault.TheVariants.{BadMember, BadLink, BadNest}
+use Rattle.jl_classfile.specs.declared.fault.ClassFault.TheVariants.{Memory}
 
 -- ---- the name of the fault
 
@@ -84,7 +91,8 @@ with_number key (Some n) members = put key (number (unsigned n)) members
 
 unfoldable pub refusal_of : List ℕ → Option ℕ → Option ℕ → Data
 refusal_of name at method =
-    object (with_number (codes "at") at (with_number (codes "method") method (member (codes "refused") (string name) no_members)))
+    object (with_number (codes "at") at (with_number (codes "method") method
+    (member (codes "refused") (string name) no_members)))
 
 abbrev pub refusal_data : ClassFault → Data
 refusal_data f = refusal_of (reason f) (place f) (method f)

@@ -1,6 +1,7 @@
 //! The answers to lines, gathered until they are written.
 
-ghost use Rattle.std.specs.Prelude.{◌≡◌, ◌<◌, ◌≤◌, ◌*◌, ◌++◌, [], ◌∷◌, length, take, vec_len, string_bytes};
+ghost use Rattle.std.specs.Prelude.{◌≡◌, ◌<◌, ◌≤◌, ◌*◌, ◌++◌, [], ◌∷◌, length, take};
+ghost use Rattle.std.specs.Prelude.{vec_len, string_bytes};
 ghost use Rattle.std.specs.Prelude.{IfOk, OnOk, OnErr, MatchOption};
 ghost use Rattle.std.specs.Io.KnownBytes.{Appends};
 ghost use Rattle.serde_json.specs.Data.{Data};
@@ -59,8 +60,8 @@ impl Answers {
         self.text.extend_from_slice(text.as_bytes())
     }
 
-    /// Adds the answer to each whole line of the text, in which no newline stands before `searched`. Tells how many
-    /// bytes these lines have.
+    /// Adds the answer to each whole line of the text, in which no newline stands before
+    /// `searched`. Tells how many bytes these lines have.
     ///
     /// # Errors
     ///
@@ -69,7 +70,8 @@ impl Answers {
         requires short { length text.now ≤ 2100001 }
         requires within { searched ≤ length text.now }
         requires none { NoNewline (take searched text.now) }
-        ensures gathered { (g : Gathers self.old.mode text.now self.old.text.items self.new.text.items)
+        ensures gathered { (g : Gathers self.old.mode text.now self.old.text.items
+            self.new.text.items)
             × IfOk result (λ used. (used ≡ length g.done) × NoNewline g.left) }
         ensures bound { IfOk result (λ used. used ≤ length text.now) }
         ensures mode { self.new.mode ≡ self.old.mode }
@@ -90,7 +92,8 @@ impl Answers {
     ///
     /// [`Failed`] where a write failed.
     pub fn write_to<W: Sink>(&mut self, writer: &mut W) -> Result<(), Failed>
-        ensures written { OnOk result (Appends (W.contents writer.old) (W.contents writer.new) self.old.text.items) }
+        ensures written { OnOk result (Appends (W.contents writer.old) (W.contents writer.new)
+            self.old.text.items) }
         ensures none { OnOk result (self.new.text.items ≡ []) }
         ensures mode { self.new.mode ≡ self.old.mode }
         ensures failures { CountsFailure (W.failures writer.old) (W.failures writer.new) result }
@@ -143,7 +146,8 @@ fn newline_from(text: &[u8], searched: usize) -> Option<usize>
 
 /// Writes all of the bytes.
 fn write_all<W: Sink>(writer: &mut W, bytes: &[u8]) -> Result<(), Failed>
-    ensures written { OnOk result (Appends (W.contents writer.old) (W.contents writer.new) bytes.now) }
+    ensures written { OnOk result
+        (Appends (W.contents writer.old) (W.contents writer.new) bytes.now) }
     ensures failures { CountsFailure (W.failures writer.old) (W.failures writer.new) result }
 {
     let mut rest = bytes;

@@ -3,7 +3,9 @@
 ghost use Rattle.std.specs.Prelude.{◌≡◌, map, IfOk};
 ghost use Rattle.serde_json.specs.Data.{array};
 ghost use Rattle.serde_json.specs.View.{view, items_of};
-ghost use Rattle.jl_cli.specs.ClassAnswers.{instruction_name, call_data, call_site_data, site_data, method_data, class_data};
+ghost use Rattle.jl_cli.specs.NameReading.{name_text};
+ghost use Rattle.jl_cli.specs.ClassAnswers.{instruction_name, call_data, call_site_data};
+ghost use Rattle.jl_cli.specs.ClassAnswers.{site_data, method_data, class_data};
 
 use crate::text::text_of;
 use jl_classfile::{CallSiteSpecifier, ClassFile, Kind, Method, Operand, Reference, Site};
@@ -31,7 +33,7 @@ fn call_value(
     kind: Kind,
     reference: &Reference<Name>,
 ) -> Result<Value, AllocError>
-    ensures { IfOk result (λ v. view v ≡ call_data pc kind reference.now) }
+    ensures { IfOk result (λ v. view v ≡ call_data name_text pc kind reference.now) }
 {
     let kind = instruction(kind);
     let name = text_of(alloc, reference.name.as_slice())?;
@@ -47,7 +49,7 @@ fn call_site_value(
     kind: Kind,
     specifier: &CallSiteSpecifier<Name>,
 ) -> Result<Value, AllocError>
-    ensures { IfOk result (λ v. view v ≡ call_site_data pc kind specifier.now) }
+    ensures { IfOk result (λ v. view v ≡ call_site_data name_text pc kind specifier.now) }
 {
     let bootstrap = specifier.bootstrap;
     let kind = instruction(kind);
@@ -59,7 +61,7 @@ fn call_site_value(
 /// An invocation.
 #[tactic(auto, unfolding(crate::specs::ClassAnswers::site_data))]
 fn site_value(alloc: Global, site: &Site) -> Result<Value, AllocError>
-    ensures { IfOk result (λ v. view v ≡ site_data site.now) }
+    ensures { IfOk result (λ v. view v ≡ site_data name_text site.now) }
 {
     match &site.operand {
         Operand::Method(reference) => call_value(alloc, site.pc, site.kind, reference),
@@ -69,7 +71,8 @@ fn site_value(alloc: Global, site: &Site) -> Result<Value, AllocError>
 
 /// Invocations, in order.
 fn sites_value(alloc: Global, sites: &[Site]) -> Result<Value, AllocError>
-    ensures { IfOk result (λ v. view v ≡ array (items_of (map site_data sites.now))) }
+    ensures { IfOk result (λ v. view v
+        ≡ array (items_of (map (site_data name_text) sites.now))) }
 {
     let mut values = Vec::new(alloc);
     for site in sites {
@@ -81,7 +84,7 @@ fn sites_value(alloc: Global, sites: &[Site]) -> Result<Value, AllocError>
 /// A method.
 #[tactic(auto, unfolding(crate::specs::ClassAnswers::method_data))]
 fn method_value(alloc: Global, method: &Method) -> Result<Value, AllocError>
-    ensures { IfOk result (λ v. view v ≡ method_data method.now) }
+    ensures { IfOk result (λ v. view v ≡ method_data name_text method.now) }
 {
     let flags = method.flags;
     let name = text_of(alloc, method.name.as_slice())?;
@@ -92,7 +95,8 @@ fn method_value(alloc: Global, method: &Method) -> Result<Value, AllocError>
 
 /// Methods, in order.
 fn methods_value(alloc: Global, methods: &[Method]) -> Result<Value, AllocError>
-    ensures { IfOk result (λ v. view v ≡ array (items_of (map method_data methods.now))) }
+    ensures { IfOk result (λ v. view v
+        ≡ array (items_of (map (method_data name_text) methods.now))) }
 {
     let mut values = Vec::new(alloc);
     for method in methods {
@@ -104,7 +108,7 @@ fn methods_value(alloc: Global, methods: &[Method]) -> Result<Value, AllocError>
 /// The answer to a class file.
 #[tactic(auto, unfolding(crate::specs::ClassAnswers::class_data))]
 pub fn class_value(alloc: Global, file: &ClassFile) -> Result<Value, AllocError>
-    ensures { IfOk result (λ v. view v ≡ class_data file.now) }
+    ensures { IfOk result (λ v. view v ≡ class_data name_text file.now) }
 {
     let name = text_of(alloc, file.name.as_slice())?;
     let methods = methods_value(alloc, file.methods.as_slice())?;

@@ -7,8 +7,8 @@ use crate::sink::Sink;
 use crate::source::Source;
 use std::io::{Read, Write};
 
-/// A reader or writer of std that counts its calls, and those that failed, up to 2^64 - 1, where a count stays. A
-/// writer is not flushed, so it should hold no bytes back.
+/// A reader or writer of std that counts its calls, and those that failed, up to 2^64 - 1, where a
+/// count stays. A writer is not flushed, so it should hold no bytes back.
 #[derive(Debug, Drop)]
 pub struct Counted<T> {
     inner: T,
@@ -17,11 +17,12 @@ pub struct Counted<T> {
 }
 
 impl<T> Counted<T> {
-    ghost use Rattle.jl_cli.specs.Counted.{inner_of};
+    ghost use Rattle.jl_cli.specs.Counted.{inner_of, calls_of, failures_of};
 
     /// Nothing counted yet.
     pub fn new(inner: T) -> Self
-        ensures { inner_of result ≡ inner }
+        ensures inner { inner_of result ≡ inner }
+        ensures none { (calls_of result ≡ 0) × (failures_of result ≡ 0) }
     {
         Counted {
             inner,

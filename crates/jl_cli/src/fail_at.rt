@@ -6,7 +6,8 @@ use crate::failed::Failed;
 use crate::sink::Sink;
 use crate::source::Source;
 
-/// For tests: a source or sink that fails at one call, and is otherwise the one within. It counts by itself.
+/// For tests: a source or sink that fails at one call, and is otherwise the one within. It counts
+/// by itself.
 #[derive(Debug, Drop)]
 pub struct FailAt<T> {
     inner: T,
@@ -16,11 +17,13 @@ pub struct FailAt<T> {
 }
 
 impl<T> FailAt<T> {
-    ghost use Rattle.jl_cli.specs.FailAt.{inner_of};
+    ghost use Rattle.jl_cli.specs.FailAt.{inner_of, failing_of, calls_of, failures_of};
 
     /// Fails at this call, counted from 1; with 0 at none.
     pub fn new(inner: T, failing: u64) -> Self
-        ensures { inner_of result ≡ inner }
+        ensures inner { inner_of result ≡ inner }
+        ensures failing { failing_of result ≡ failing }
+        ensures none { (calls_of result ≡ 0) × (failures_of result ≡ 0) }
     {
         FailAt {
             inner,

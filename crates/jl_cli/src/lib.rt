@@ -1,8 +1,8 @@
 //! The program `linkd`, as a library: its words, and its answers to the lines of an input.
 //!
-//! Input and output are a [`Source`] and a [`Sink`], which count what failed. What is said of their bytes and counts
-//! stands in `specs/Devices`. What is answered stands in `specs/`, in reading order: `Lines`, `Names`, `ClassAnswers`,
-//! `Refusals`, `Answers`.
+//! Input and output are a [`Source`] and a [`Sink`], which count what failed. What is said of their
+//! bytes and counts stands in `specs/Devices`. What is answered stands in `specs/`, in reading
+//! order: `Lines`, `Names`, `ClassAnswers`, `Refusals`, `Answers`; what words ask for, in `Words`.
 #![tactic(auto)]
 
 // Words.

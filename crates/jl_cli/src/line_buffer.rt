@@ -1,6 +1,7 @@
 //! The part of the input that was read and not yet answered.
 
-ghost use Rattle.std.specs.Prelude.{◌≡◌, ◌<◌, ◌≤◌, ◌++◌, length, IfOk, OnErr, IsTrue, ◌↔◌, drop, List, [], ℕ};
+ghost use Rattle.std.specs.Prelude.{◌≡◌, ◌<◌, ◌≤◌, ◌++◌, length, IfOk, OnErr, IsTrue};
+ghost use Rattle.std.specs.Prelude.{◌↔◌, drop, List, [], ℕ};
 ghost use Rattle.std.specs.Io.KnownBytes.{Consumes, IsAtEnd, Keeps};
 ghost use Rattle.jl_cli.specs.Devices.{one_more, CountsFailure};
 
@@ -15,7 +16,8 @@ pub const MOST_IN_LINE: usize = 2_100_000;
 /// The most bytes of one read, which bounds what its lines' answers take.
 const MOST_IN_READ: usize = 65_536;
 
-/// The bytes that were read and not yet answered, up to a longest line and its newline. A clause sees these bytes.
+/// The bytes that were read and not yet answered, up to a longest line and its newline. A clause
+/// sees these bytes.
 #[derive(Debug, Drop)]
 pub struct LineBuffer {
     bytes: Vec<u8>,
@@ -63,10 +65,12 @@ impl LineBuffer {
     /// [`Failed`] where the read failed. The bytes stay.
     pub fn read_from<R: Source>(&mut self, reader: &mut R) -> Result<usize, Failed>
         requires { length self.old < 2100001 }
-        ensures more { IfOk result (λ n. (piece : List ℕ) × (length piece ≡ n) × (self.new ≡ self.old ++ piece)
+        ensures more { IfOk result (λ n. (piece : List ℕ) × (length piece ≡ n)
+            × (self.new ≡ self.old ++ piece)
             × Consumes (R.remaining reader.old) (R.remaining reader.new) piece) }
         ensures end { IfOk result (λ n. n ≡ 0 → IsAtEnd (R.remaining reader.new)) }
-        ensures err { OnErr result ((self.new ≡ self.old) × Keeps (R.remaining reader.old) (R.remaining reader.new)) }
+        ensures err { OnErr result ((self.new ≡ self.old)
+            × Keeps (R.remaining reader.old) (R.remaining reader.new)) }
         ensures reads { R.reads reader.new ≡ one_more (R.reads reader.old) }
         ensures failures { CountsFailure (R.failures reader.old) (R.failures reader.new) result }
     {

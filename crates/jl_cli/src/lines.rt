@@ -17,8 +17,8 @@ use crate::source::Source;
 use crate::words::Mode;
 use std::alloc::Global;
 
-/// Answers what was read since a newline was last looked for, and drops the lines that were answered. The answers are
-/// written, also those before a fault.
+/// Answers what was read since a newline was last looked for, and drops the lines that were
+/// answered. The answers are written, also those before a fault.
 fn answer_piece<W: Sink>(
     input: &mut LineBuffer,
     searched: usize,
@@ -38,7 +38,8 @@ fn answer_piece<W: Sink>(
         × (answers.new.mode ≡ answers.old.mode)) }
     ensures room { OnOk result (length input.new < 2100001) }
     ensures ok { OnOk result (W.failures writer.new ≡ W.failures writer.old) }
-    ensures device { IsErrOf result LineFault.Device → W.failures writer.new ≡ one_more (W.failures writer.old) }
+    ensures device { IsErrOf result LineFault.Device
+        → W.failures writer.new ≡ one_more (W.failures writer.old) }
 {
     let answered = answers.answer_lines(input.as_slice(), searched);
     answers.write_to(writer)?;
@@ -60,7 +61,8 @@ fn answer_rest<W: Sink>(rest: &[u8], answers: &mut Answers, writer: &mut W) -> R
         × Appends (W.contents writer.old) (W.contents writer.new) output) }
     ensures whole { IfErr result (λ f. f ≢ Device
         → Keeps (W.contents writer.old) (W.contents writer.new) × (f ≢ TooLong)) }
-    ensures device { IsErrOf result LineFault.Device → W.failures writer.new ≡ one_more (W.failures writer.old) }
+    ensures device { IsErrOf result LineFault.Device
+        → W.failures writer.new ≡ one_more (W.failures writer.old) }
 {
     if !rest.is_empty() {
         answers.answer(rest)?;
@@ -69,8 +71,9 @@ fn answer_rest<W: Sink>(rest: &[u8], answers: &mut Answers, writer: &mut W) -> R
     Ok(())
 }
 
-/// Answers each line of the input, in order, to its end: one line of output for each. What stands behind the last
-/// newline is a line, too, unless it is empty. The answers to what was read are written before more is read.
+/// Answers each line of the input, in order, to its end: one line of output for each. What stands
+/// behind the last newline is a line, too, unless it is empty. The answers to what was read are
+/// written before more is read.
 ///
 /// # Errors
 ///
@@ -89,8 +92,8 @@ pub fn run_lines<R: Source, W: Sink>(
     ensures answered { OnOk result (IsAtEnd (R.remaining reader.new)
         × IfSome (R.remaining reader.old)
         (λ input. AnswersAll mode input (W.contents writer.old) (W.contents writer.new))) }
-    // But for a failed write the answers to some first lines were written whole, and the next line is over the
-    // limit where one is said to be too long.
+    // But for a failed write the answers to some first lines were written whole, and the next line
+    // is over the limit where one is said to be too long.
     ensures whole { IfErr result
         (λ f. (f ≡ Device → ¬ HasRisen (W.failures writer.old) (W.failures writer.new))
         → IfSome (R.remaining reader.old) (λ input.
@@ -101,8 +104,10 @@ pub fn run_lines<R: Source, W: Sink>(
         → ¬ HasRisen (W.failures writer.old) (W.failures writer.new)
         → IfSome (R.remaining reader.old) (λ input. AnswersRead mode input
         (R.remaining reader.new) (W.contents writer.old) (W.contents writer.new)) }
-    ensures device { IsErrOf result LineFault.Device → HasRisen (R.failures reader.old) (R.failures reader.new)
-        ⊎ (HasRisen (W.failures writer.old) (W.failures writer.new) ⊎ (2 ^ 64 - 1 ≤ R.reads reader.new)) }
+    ensures device { IsErrOf result LineFault.Device
+        → HasRisen (R.failures reader.old) (R.failures reader.new)
+        ⊎ (HasRisen (W.failures writer.old) (W.failures writer.new)
+        ⊎ (2 ^ 64 - 1 ≤ R.reads reader.new)) }
 {
     let mut input = LineBuffer::new(alloc)?;
     let mut answers = Answers::new(alloc, mode)?;

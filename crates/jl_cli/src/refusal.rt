@@ -9,7 +9,8 @@ use jl_classfile::{ClassFault, CodeFault, PoolFault};
 use serde_json::{Map, Value, put};
 use std::alloc::{AllocError, Global};
 
-/// An answer that refuses: the name of the reason, the place that it is about, and the method, by its index.
+/// An answer that refuses: the name of the reason, the place that it is about, and the method, by
+/// its index.
 #[derive(Clone, Copy, Debug, PartialEq, Eq)]
 pub struct Refusal {
     reason: &'static str,

@@ -36,7 +36,8 @@ fn decode(line: &[u8], bytes: &mut [u8]) -> bool
     !line.is_empty() && hex::decode_to_slice(line, bytes).is_ok()
 }
 
-/// The answer to a line, which is decoded into the room: a class file in hexadecimal of either case.
+/// The answer to a line, which is decoded into the room: a class file in hexadecimal of either
+/// case.
 pub fn scan_answer(alloc: Global, line: &[u8], room: &mut [u8]) -> Result<Value, AllocError>
     requires { length line.now ≤ 2 * length room.old }
     ensures { IfOk result (λ v. IsScanAnswer line.now (view v)) }

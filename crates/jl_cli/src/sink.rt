@@ -7,7 +7,8 @@ ghost use Rattle.jl_cli.specs.Devices.{CountsFailure};
 
 use crate::failed::Failed;
 
-/// What bytes are written to. It counts the writes that failed, up to 2^64 - 1, where the count stays.
+/// What bytes are written to. It counts the writes that failed, up to 2^64 - 1, where the count
+/// stays.
 pub trait Sink {
     // The bytes that the writer holds, where they are known.
     ghost contents: { Self → Option (List ℕ) } = { λ _. None };

@@ -7,7 +7,8 @@ ghost use Rattle.jl_cli.specs.Devices.{one_more, CountsFailure};
 
 use crate::failed::Failed;
 
-/// What bytes are read from. It counts its reads, and those that failed, up to 2^64 - 1, where a count stays.
+/// What bytes are read from. It counts its reads, and those that failed, up to 2^64 - 1, where a
+/// count stays.
 pub trait Source {
     // The bytes that reads give from here on, where they are known.
     ghost remaining: { Self → Option (List ℕ) } = { λ _. None };
@@ -18,7 +19,8 @@ pub trait Source {
     // How many of them failed.
     ghost failures: { Self → ℕ };
 
-    /// Reads bytes into the front of the buffer, and tells how many: none at the end of the input, or with no room.
+    /// Reads bytes into the front of the buffer, and tells how many: none at the end of the input,
+    /// or with no room.
     ///
     /// # Errors
     ///

@@ -1,12 +1,13 @@
 //! Names as text.
 
 ghost use Rattle.std.specs.Prelude.{◌≡◌, string_bytes, IfOk};
-ghost use Rattle.jl_cli.specs.Names.{name_text};
+ghost use Rattle.jl_cli.specs.NameReading.{name_text};
 
 use jl_names::{NameFault, decode_mutf8};
 use std::alloc::{AllocError, Global};
 
-/// The text of a name in modified UTF-8 (JVMS SE 17 §4.4.7): two surrogates are their character, a lone one is U+FFFD.
+/// The text of a name in modified UTF-8 (JVMS SE 17 §4.4.7): two surrogates are their character, a
+/// lone one is U+FFFD.
 pub fn text_of(alloc: Global, name: &[u8]) -> Result<String, AllocError>
     ensures { IfOk result (λ text. string_bytes text ≡ name_text name.now) }
 {

@@ -1,7 +1,11 @@
 //! The words that the program was called with.
 
-ghost use Rattle.std.specs.Prelude.{◌≡◌};
-ghost use Rattle.jl_cli.specs.declared.words.WordsFault.TheVariants.{Memory};
+ghost use Rattle.std.specs.Prelude.{◌≡◌, ◌≢◌, IfOk, IfErr, map, string_bytes};
+ghost use Rattle.clap.specs.Words.{app_of, kind_of};
+ghost use Rattle.clap.specs.declared.error.kind.ErrorKind.TheVariants.{OutOfMemory};
+ghost use Rattle.jl_cli.specs.declared.words.WordsFault.TheVariants.{BadWords, Memory};
+ghost use Rattle.jl_cli.specs.Words.{AskFor, AskForNothing};
+ghost use Rattle.jl_cli.specs.CommandLine.{linkd};
 
 use clap::error::ErrorKind;
 use clap::{Command, Error as ClapError};
@@ -56,7 +60,10 @@ impl From<AllocError> for WordsFault {
 }
 
 /// The fault of words that clap refuses.
-fn fault_of(error: &ClapError) -> WordsFault {
+fn fault_of(error: &ClapError) -> WordsFault
+    ensures memory { kind_of error.now ≡ OutOfMemory → result ≡ Memory }
+    ensures bad_words { kind_of error.now ≢ OutOfMemory → result ≡ BadWords }
+{
     match error.kind() {
         ErrorKind::OutOfMemory => WordsFault::Memory,
         _ => WordsFault::BadWords,
@@ -64,7 +71,9 @@ fn fault_of(error: &ClapError) -> WordsFault {
 }
 
 /// The words of the program, as clap takes them.
-fn command<'a>(alloc: Global) -> Result<Command<'a>, AllocError> {
+fn command<'a>(alloc: Global) -> Result<Command<'a>, AllocError>
+    ensures { IfOk result (λ command. app_of command ≡ linkd) }
+{
     Command::new(alloc, "linkd")
         .disable_help_flag(true)
         .disable_help_subcommand(true)
@@ -77,9 +86,13 @@ fn command<'a>(alloc: Global) -> Result<Command<'a>, AllocError> {
 /// # Errors
 ///
 /// [`WordsFault::BadWords`] where they ask for nothing, and [`WordsFault::Memory`].
-pub fn read_words(alloc: Global, words: &[String]) -> Result<Words, WordsFault> {
+pub fn read_words(alloc: Global, words: &[String]) -> Result<Words, WordsFault>
+    ensures asked { IfOk result (λ asked. AskFor asked (map string_bytes words.now)) }
+    ensures refused { IfErr result (λ fault. fault ≡ BadWords
+        → AskForNothing (map string_bytes words.now)) }
+{
     match command(alloc)?.try_get_matches_from(words) {
-        Ok(matches) if matches.subcommand_name() == Some("scan") => Ok(Words::Lines(Mode::Scan)),
+        Ok(matches) if matches.subcommand_matches("scan").is_some() => Ok(Words::Lines(Mode::Scan)),
         Ok(_) => Err(WordsFault::BadWords),
         Err(error) => Err(fault_of(&error)),
     }

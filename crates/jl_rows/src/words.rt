@@ -7,6 +7,10 @@ use std::test::Fail;
 fn takes_scan_alone(rt: HostRuntime) -> Result<(), Fail> {
     let rows = [
         ("linkd scan", Ok(Words::Lines(Mode::Scan))),
+        ("linkd scan --", Ok(Words::Lines(Mode::Scan))),
+        ("linkd --", Err(WordsFault::BadWords)),
+        ("linkd -- scan", Err(WordsFault::BadWords)),
+        ("linkd scan -- scan", Err(WordsFault::BadWords)),
         ("", Err(WordsFault::BadWords)),
         ("linkd", Err(WordsFault::BadWords)),
         ("linkd run", Err(WordsFault::BadWords)),

@@ -14,5 +14,11 @@ pub returns : goal.returns
 unfolding answer_line lib.Utf8.encode
 returns c =
     let answer : Data = view c.in_ok-answer.answer in
-    let is : IsAnswer c.args.mode c.args.line.now answer = in_mode c.args.mode c.args.line.now answer c.in_ok-answer.ensures in
-    (answer, is, c.in_ok-push.ensures.bytes ∙ ap (λ (l : List ℕ). l ++ 10 ∷ []) (c.in_ok-text.ensures.text (no_float c.args.mode c.args.line.now answer is)))
+    let is : IsAnswer c.args.mode c.args.line.now answer = in_mode c.args.mode c.args.line.now answer
+    c.in_ok-answer.ensures in (
+      answer,
+      is,
+      c.in_ok-push.ensures.bytes
+          ∙ ap (λ (l : List ℕ). l ++ 10 ∷ [])
+          (c.in_ok-text.ensures.text (no_float c.args.mode c.args.line.now answer is)),
+    )

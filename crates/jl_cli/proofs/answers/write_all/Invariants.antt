@@ -4,7 +4,8 @@ use Rattle.jl_cli.proofs.answers.write_all.Given as goal
 
 abbrev pub invariant-loop-rest : goal.invariant-loop-rest
 invariant-loop-rest g l = record {
-  written : (done : List ℕ) × (l.bytes ≡ done ++ l.rest) × Appends (g.W.Sink.contents l.fn.writer) (g.W.Sink.contents l.writer) done;
+  written : (done : List ℕ) × (l.bytes ≡ done ++ l.rest)
+      × Appends (g.W.Sink.contents l.fn.writer) (g.W.Sink.contents l.writer) done;
   none_failed : g.W.Sink.failures l.writer ≡ g.W.Sink.failures l.fn.writer;
 }
 

@@ -6,20 +6,31 @@ use Rattle.jl_cli.proofs.lines.answer_piece.Goals as goal
 pub returns-then-is_full-clause-whole : goal.returns-then-is_full-clause-whole
 returns-then-is_full-clause-whole g c = λ other.
     let gathered = c.in_ok-used.ensures.gathered in
-    let w = writes _ c.args.input.now _ _ _ _ _ gathered.0 c.as_slice.ensures.value c.requires.empty c.in_ok-write_to.ensures.written in
+    let w = writes _ c.args.input.now _ _ _ _ _ gathered.0 c.as_slice.ensures.value c.requires.empty
+    c.in_ok-write_to.ensures.written in
     let full : length c.args.input.now ≡ 2100001 = c.is_full.ensures.0 c.if-is_full.true in (
       w.0,
       record {
         one = subst NoNewline (sym w.1) gathered.1.1;
-        long = omega (arith, full, ap length w.0.split, length-append w.0.done w.0.left, ap length w.2, gathered.1.0, c.if-used-eq0.true);
+        long = omega (
+          arith,
+          full,
+          ap length w.0.split,
+          length-append w.0.done w.0.left,
+          ap length w.2,
+          gathered.1.0,
+          c.if-used-eq0.true,
+        );
       },
     )
 
 pub returns-clause-answered : goal.returns-clause-answered
 returns-clause-answered g c =
     let gathered = c.in_ok-used.ensures.gathered in
-    let w = writes _ c.args.input.now _ _ _ _ _ gathered.0 c.as_slice.ensures.value c.requires.empty c.in_ok-write_to.ensures.written in (
+    let w = writes _ c.args.input.now _ _ _ _ _ gathered.0 c.as_slice.ensures.value c.requires.empty
+    c.in_ok-write_to.ensures.written in (
       w.0,
-      c.discard.ensures ∙ left_behind c.args.input.now w.0.done w.0.left c.in_ok-used.used w.0.split (gathered.1.0 ∙ ap length (sym w.2)),
+      c.discard.ensures ∙ left_behind c.args.input.now w.0.done w.0.left c.in_ok-used.used w.0.split
+          (gathered.1.0 ∙ ap length (sym w.2)),
       subst NoNewline (sym w.1) gathered.1.1,
     )

@@ -7,7 +7,8 @@ abbrev pub invariant-loop : goal.invariant-loop
 invariant-loop g l = record {
   room : length l.input < 2100001;
   one : NoNewline l.input;
-  ran : Runs l.answers.mode (g.R.Source.remaining l.fn.reader) (g.R.Source.remaining l.reader) l.input (g.W.Sink.contents l.fn.writer) (g.W.Sink.contents l.writer);
+  ran : Runs l.answers.mode (g.R.Source.remaining l.fn.reader) (g.R.Source.remaining l.reader) l.input
+      (g.W.Sink.contents l.fn.writer) (g.W.Sink.contents l.writer);
   none : l.answers.text.items ≡ [];
   mode : l.answers.mode ≡ l.fn.mode;
   reads : l.counter ≤ g.R.Source.reads l.reader;

@@ -1,4 +1,5 @@
-use Rattle.std.proofs.Common.{◌≡◌, ◌∙◌, sym, ap, subst, refl, ◌+◌, [], ◌∷◌, ◌++◌, length, length-append, append-nil, arith}
+use Rattle.std.proofs.Common.{◌≡◌, ◌∙◌, sym, ap, subst, refl, ◌+◌, [], ◌∷◌, ◌++◌, length}
+use Rattle.std.proofs.Common.{length-append, append-nil, arith}
 use Rattle.jl_cli.specs.declared.words.Mode.{Mode}
 use Rattle.jl_cli.specs.Answers.{IsAnswer}
 use Rattle.jl_cli.specs.Lines.{NoNewline}
@@ -11,7 +12,18 @@ loop-line-init c = record {
   within = c.requires.within;
   short = omega arith;
   none = c.requires.none;
-  gathered = (record { done = []; left = c.args.text.now; output = []; split = refl; answered = answered_none c.args.self.now.mode; added = sym (append-nil c.args.self.now.text.items) }, refl);
+  gathered = (
+    record {
+      done = [];
+      left = c.args.text.now;
+      output = [];
+      split = refl;
+      answered = answered_none
+          c.args.self.now.mode;
+      added = sym (append-nil c.args.self.now.text.items);
+    },
+    refl,
+  );
   mode = refl;
 }
 
@@ -21,8 +33,13 @@ loop-line-preserved c =
     let behind = c.in-Some.behind.now in
     let g = c.loop-line.invariant.gathered.0 in
     let split : c.loop-line.rest.now ≡ line ++ 10 ∷ behind = c.in-Some.ensures.1 in
-    let size : length c.loop-line.rest.now ≡ length line + length (10 ∷ behind) = ap length split ∙ length-append line (10 ∷ behind) in
-    let fits : IsLine line = record { one = c.in-Some.ensures.0; short = omega (arith, size, c.loop-line.invariant.short, c.requires.short) } in
+    let size : length c.loop-line.rest.now ≡ length line + length (10 ∷ behind) =
+    ap length split ∙ length-append line (10 ∷ behind) in
+    let fits : IsLine line = record {
+      one = c.in-Some.ensures.0;
+      short = omega
+          (arith, size, c.loop-line.invariant.short, c.requires.short);
+    } in
     let answer = c.in_ok-answer.ensures.ok in
     record {
       within = omega arith;
@@ -36,5 +53,11 @@ loop-line-preserved c =
 pub returns-clause-gathered : goal.returns-clause-gathered
 returns-clause-gathered c =
     let g = c.loop-line.invariant.gathered.0 in
-    let left = c.loop-line.invariant.gathered.1 in
-    (g, (omega (arith, ap length g.split, length-append g.done g.left, ap length left), subst NoNewline (sym left) c.in_default.ensures))
+    let left = c.loop-line.invariant.gathered.1 in (
+      g,
+      (
+        omega (arith, ap length g.split, length-append g.done g.left, ap length left),
+        subst NoNewline
+            (sym left) c.in_default.ensures,
+      ),
+    )
