@@ -1,0 +1,11 @@
+pub mod Rows
+pub mod Bools
+pub mod Ancestors
+pub mod Overrides
+pub mod Orders
+pub mod Settling
+pub mod Installed
+pub mod OneMore
+pub mod InstalledLinks
+pub mod Agreement
+pub mod SameAnswer

@@ -1,0 +1,12 @@
+pub mod Sketch
+pub mod Histories
+pub mod Overriding
+pub mod Defaults
+pub mod Tables
+pub mod Protected
+pub mod Nests
+pub mod Special
+pub mod Resolution
+pub mod Interfaces
+pub mod Loaders
+pub mod CallSites

@@ -1,0 +1,125 @@
+-- Call sites and switch points, over the whole history.
+use Rattle.std.specs.Prelude.{◌≡◌, ℕ, zero, suc, List, [], ◌∷◌, ◌++◌, Some, None, Ok, Err, codes, refl, Box}
+use Rattle.std.proofs.Common.{Global}
+use Rattle.jl_classfile.specs.declared.class.Method.{Method}
+use Rattle.jl_classfile.specs.declared.site.Kind.TheVariants.{Dynamic}
+use Rattle.jl_classfile.specs.declared.site.Operand.TheVariants as operand
+use Rattle.jl_types.specs.declared.ids.MethodId.{MethodId}
+use Rattle.jl_types.specs.declared.answer.Recv.TheVariants.{Null}
+use Rattle.jl_types.specs.declared.answer.Answer.TheVariants as answer
+use Rattle.jl_types.specs.declared.answer.Unlinked.TheVariants.{Unbound}
+use Rattle.jl_types.specs.declared.link.Link.TheVariants.{Plain}
+use Rattle.jl_types.specs.declared.target.CallSiteKind.TheVariants.{Constant, Mutable}
+use Rattle.jl_types.specs.declared.target.Target.{Target}
+use Rattle.jl_types.specs.declared.target.Target.TheVariants as target
+use Rattle.jl_types.specs.declared.event.Event.{Event}
+use Rattle.jl_types.specs.declared.event.Event.TheVariants.{Define, Request, NewCallSite, SetTarget, NewSwitch, Invalidate, Bind, Install}
+use Rattle.jl_types.specs.declared.event.Made.TheVariants as made
+use Rattle.jl_types.specs.declared.refusal.Refusal.TheVariants as refusal
+use Rattle.jl_types.specs.declared.refusal.CallSiteFault.TheVariants as fault
+use Rattle.jl_types.specs.Links.{scratch}
+use Rattle.jl_types.specs.Calls.{dispatch}
+use Rattle.jl_types.specs.Events.{verdict}
+use Rattle.jl_types.specs.History.{world_after, installed_links, dropped}
+use Rattle.jl_types.proofs.Rows.Sketch.{method, file}
+
+-- with an invokedynamic of ()V at pc 0
+abbrev bootstrapping : Method
+bootstrapping = record {
+  name = codes "r";
+  ty = codes "()V";
+  flags = 9;
+  sites = record { pc = 0; kind = Dynamic; operand = operand.CallSite (record { bootstrap = 0; name = codes "r"; ty = codes "()V" }) } ∷ [];
+}
+
+-- T 1 has static methods m, n and r; its invokedynamic is site 0
+abbrev begun : List Event
+begun = Define 0 (file (codes "java/lang/Object") 33 [])
+    ∷ Define 0 (record { name = codes "T"; flags = 33; superclass = Some (codes "java/lang/Object"); interfaces = []; nest_host = None; nest_members = []; methods = method 9 (codes "m") ∷ method 9 (codes "n") ∷ bootstrapping ∷ [] })
+    ∷ Request (record { class = 1; method = 2; pc = 0 })
+    ∷ NewSwitch
+    ∷ []
+
+abbrev m : MethodId
+m = record { class = 1; index = 0 }
+
+abbrev n : MethodId
+n = record { class = 1; index = 1 }
+
+unbound : dispatch (world_after begun) 0 Null ≡ answer.Unlinked Unbound
+unbound = refl
+
+-- a mutable call site with this target, bound
+abbrev bound : Target → List Event
+bound t = begun ++ NewCallSite Mutable (codes "()V") t ∷ Bind 0 0 ∷ []
+
+prepared : scratch (world_after (bound (target.Method m))) 0 ≡ Ok (Plain m)
+prepared = refl
+
+bound_for_good : verdict 65536 (world_after (bound (target.Method m))) (Bind 0 0) ≡ Err (refusal.AlreadyBound 0)
+bound_for_good = refl
+
+-- a new target drops the link, and the old target doesn't bring it back
+abbrev linked : List Event
+linked = bound (target.Method m) ++ SetTarget 0 (target.Method n) ∷ SetTarget 0 (target.Method m) ∷ Install ((0, Plain m) ∷ []) ∷ []
+
+retargeted : dropped linked (SetTarget 0 (target.Method n)) ≡ 0 ∷ []
+retargeted = refl
+
+old_target : dropped (linked ++ SetTarget 0 (target.Method n) ∷ []) (SetTarget 0 (target.Method m)) ≡ []
+old_target = refl
+
+stays_pending : installed_links (linked ++ SetTarget 0 (target.Method n) ∷ SetTarget 0 (target.Method m) ∷ []) ≡ []
+stays_pending = refl
+
+-- wherever its parts lie in memory
+module _ (address : Box (Unit {0}) Global) where
+  -- a guard on point 0 with m first
+  abbrev guard : MethodId → Target
+  guard fallback = target.Guard' 0 address (target.Method m) address (target.Method fallback)
+
+  abbrev guarded : MethodId → List Event
+  guarded fallback = bound (guard fallback) ++ Install ((0, Plain m) ∷ []) ∷ []
+
+  same_fallback : dropped (guarded m) (Invalidate (0 ∷ [])) ≡ []
+  same_fallback = refl
+
+  still_linked : installed_links (guarded m ++ Invalidate (0 ∷ []) ∷ []) ≡ (0, Plain m) ∷ []
+  still_linked = refl
+
+  other_fallback : dropped (guarded n) (Invalidate (0 ∷ [])) ≡ 0 ∷ []
+  other_fallback = refl
+
+  runs_fallback : dispatch (world_after (guarded n ++ Invalidate (0 ∷ []) ∷ [])) 0 Null ≡ answer.Run n
+  runs_fallback = refl
+
+  invalid_for_good : dropped (guarded n ++ Invalidate (0 ∷ []) ∷ []) (Invalidate (0 ∷ [])) ≡ []
+  invalid_for_good = refl
+
+  no_point : verdict 65536 (world_after begun) (Invalidate (0 ∷ 1 ∷ [])) ≡ Err (refusal.CallSite fault.UnknownSwitch)
+  no_point = refl
+
+  -- ---- targets that aren't taken
+
+  abbrev constant : List Event
+  constant = begun ++ NewCallSite Constant (codes "()V") (target.Method m) ∷ []
+
+  kept_constant : verdict 65536 (world_after constant) (SetTarget 0 (target.Method n)) ≡ Err (refusal.CallSite fault.Constant)
+  kept_constant = refl
+
+  wrong_type : verdict 65536 (world_after begun) (NewCallSite Mutable (codes "()I") (target.Method m)) ≡ Err (refusal.CallSite fault.WrongType)
+  wrong_type = refl
+
+  no_method : verdict 65536 (world_after begun) (NewCallSite Mutable (codes "()V") (target.Method (record { class = 1; index = 3 }))) ≡ Err (refusal.CallSite fault.UnknownMethod)
+  no_method = refl
+
+  -- so many guards, one in the other
+  abbrev deep : ℕ → Target
+  deep zero = target.Method m
+  deep (suc k) = target.Guard' 0 address (deep k) address (target.Method n)
+
+  deepest : verdict 65536 (world_after begun) (NewCallSite Mutable (codes "()V") (deep 63)) ≡ Ok (made.CallSite 0)
+  deepest = refl
+
+  too_deep : verdict 65536 (world_after begun) (NewCallSite Mutable (codes "()V") (deep 64)) ≡ Err (refusal.CallSite fault.TooDeep)
+  too_deep = refl

@@ -1,0 +1,63 @@
+-- Loaders: what they refuse to define and to delegate.
+use Rattle.std.specs.Prelude.{◌≡◌, ℕ, List, [], ◌∷◌, ◌++◌, Option, Some, None, Ok, Err, codes, refl}
+use Rattle.jl_types.specs.declared.event.Event.{Event}
+use Rattle.jl_types.specs.declared.event.Event.TheVariants.{NewLoader, Define, Delegate}
+use Rattle.jl_types.specs.declared.event.Made.TheVariants as made
+use Rattle.jl_types.specs.declared.refusal.Refusal.TheVariants as refusal
+use Rattle.jl_types.specs.declared.refusal.DefineFault.TheVariants.{MissingParent, SecondObject, InaccessibleParent, NamesItself}
+use Rattle.jl_types.specs.declared.refusal.DelegateFault.TheVariants as delegate
+use Rattle.jl_types.specs.Events.{verdict}
+use Rattle.jl_types.specs.Members.{lookup}
+use Rattle.jl_types.specs.History.{world_after}
+
+abbrev defines : ℕ → List ℕ → ℕ → Option (List ℕ) → Event
+defines loader name flags parent =
+    Define loader (record { name = name; flags = flags; superclass = parent; interfaces = []; nest_host = None; nest_members = []; methods = [] })
+
+abbrev object : List ℕ
+object = codes "java/lang/Object"
+
+-- java/lang/Object in loader 0, and loader 1
+abbrev two : List Event
+two = defines 0 object 33 None ∷ NewLoader ∷ []
+
+no_parent : verdict 65536 (world_after two) (defines 1 (codes "A") 33 (Some object)) ≡ Err (refusal.Define (MissingParent object))
+no_parent = refl
+
+second_object : verdict 65536 (world_after two) (defines 1 object 33 None) ≡ Err (refusal.Define SecondObject)
+second_object = refl
+
+its_own_parent : verdict 65536 (world_after two) (defines 0 (codes "A") 33 (Some (codes "A"))) ≡ Err (refusal.Define NamesItself)
+its_own_parent = refl
+
+-- loader 1 finds java/lang/Object in loader 0
+abbrev shared : List Event
+shared = two ++ Delegate 1 object 0 ∷ []
+
+may_delegate : verdict 65536 (world_after two) (Delegate 1 object 0) ≡ Ok made.Nothing
+may_delegate = refl
+
+is_found : lookup ((world_after shared).classes) 1 object ≡ Some 0
+is_found = refl
+
+delegated_twice : verdict 65536 (world_after shared) (Delegate 1 object 0) ≡ Err (refusal.Delegate delegate.AlreadyRecorded)
+delegated_twice = refl
+
+not_recorded : verdict 65536 (world_after shared) (Delegate 1 (codes "X") 0) ≡ Err (refusal.Delegate delegate.NotRecorded)
+not_recorded = refl
+
+no_loader : verdict 65536 (world_after shared) (Delegate 2 object 0) ≡ Err (refusal.Delegate delegate.UnknownLoader)
+no_loader = refl
+
+-- p/A, which isn't public, is for its run-time package alone
+abbrev closed : List Event
+closed = shared ++ defines 0 (codes "p/A") 32 (Some object) ∷ Delegate 1 (codes "p/A") 0 ∷ []
+
+other_package : verdict 65536 (world_after closed) (defines 0 (codes "q/B") 33 (Some (codes "p/A"))) ≡ Err (refusal.Define (InaccessibleParent (codes "p/A")))
+other_package = refl
+
+same_package : verdict 65536 (world_after closed) (defines 0 (codes "p/B") 33 (Some (codes "p/A"))) ≡ Ok (made.Class 2)
+same_package = refl
+
+other_loader : verdict 65536 (world_after closed) (defines 1 (codes "p/B") 33 (Some (codes "p/A"))) ≡ Err (refusal.Define (InaccessibleParent (codes "p/A")))
+other_loader = refl

@@ -1,0 +1,41 @@
+-- Overriding across packages.
+use Rattle.std.specs.Prelude.{◌≡◌, [], ◌∷◌, Some, codes, refl, true}
+use Rattle.jl_types.specs.declared.answer.Chosen.TheVariants.{Method as Picked}
+use Rattle.jl_types.specs.World.{Classes}
+use Rattle.jl_types.specs.Overriding.{can_override}
+use Rattle.jl_types.specs.Selection.{chosen}
+use Rattle.jl_types.proofs.Rows.Sketch.{object, class, classes, method, first}
+
+-- p/A f without flag, q/B below it with public f, p/C below that with public f
+abbrev mixed : Classes
+mixed = classes (object
+    ∷ class (codes "p/A") 33 (Some 0) [] (method 0 (codes "f") ∷ [])
+    ∷ class (codes "q/B") 33 (Some 1) [] (method 1 (codes "f") ∷ [])
+    ∷ class (codes "p/C") 33 (Some 2) [] (method 1 (codes "f") ∷ [])
+    ∷ [])
+
+b_keeps_a : chosen mixed 2 (first 1) ≡ Picked (first 1)
+b_keeps_a = refl
+
+c_overrides_a : can_override mixed (first 3) (first 1) ≡ true
+c_overrides_a = refl
+
+c_overrides_b : can_override mixed (first 3) (first 2) ≡ true
+c_overrides_b = refl
+
+c_is_chosen : chosen mixed 3 (first 1) ≡ Picked (first 3)
+c_is_chosen = refl
+
+-- p/A f without flag, p/B public f, q/C public f
+abbrev chained : Classes
+chained = classes (object
+    ∷ class (codes "p/A") 33 (Some 0) [] (method 0 (codes "f") ∷ [])
+    ∷ class (codes "p/B") 33 (Some 1) [] (method 1 (codes "f") ∷ [])
+    ∷ class (codes "q/C") 33 (Some 2) [] (method 1 (codes "f") ∷ [])
+    ∷ [])
+
+c_overrides_by_b : can_override chained (first 3) (first 1) ≡ true
+c_overrides_by_b = refl
+
+c_is_chosen_by_b : chosen chained 3 (first 1) ≡ Picked (first 3)
+c_is_chosen_by_b = refl

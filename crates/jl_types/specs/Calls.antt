@@ -1,0 +1,46 @@
+-- The answer to a call (JVMS 6.5). It knows of no links, tables or lists of receivers.
+use Rattle.std.specs.Prelude.{ℕ, Bool, true, ◌&&◌, if◌then◌else◌}
+use Rattle.jl_classfile.specs.declared.site.Kind.{Kind}
+use Rattle.jl_classfile.specs.declared.site.Kind.TheVariants.{Virtual, Special, Static, Interface, Dynamic}
+use Rattle.jl_types.specs.declared.answer.Outcome.{Outcome}
+use Rattle.jl_types.specs.declared.answer.Outcome.TheVariants.{Run, Throws}
+use Rattle.jl_types.specs.declared.answer.Throwable.TheVariants.{NullPointerException}
+use Rattle.jl_types.specs.declared.answer.Recv.{Recv}
+use Rattle.jl_types.specs.declared.answer.Recv.TheVariants.{Null, Of}
+use Rattle.jl_types.specs.declared.answer.Answer.{Answer}
+use Rattle.jl_types.specs.declared.answer.Answer.TheVariants as answer
+use Rattle.jl_types.specs.World.{World, Classes}
+use Rattle.jl_types.specs.Members.{is_concrete}
+use Rattle.jl_types.specs.Ancestry.{is_ancestor}
+use Rattle.jl_types.specs.Sites.{Invocation, Stage, Waits, Fails, Calls, Selects, stage}
+use Rattle.jl_types.specs.Links.{outcome}
+
+abbrev pub answered : Outcome → Answer
+answered (Run m) = answer.Run m
+answered (Throws throwable) = answer.Throws throwable
+
+-- at invokevirtual an object is a receiver only if its class has the named class among its ancestors
+abbrev pub fits_named : Classes → Invocation → Kind → ℕ → Bool
+fits_named cs i Virtual x = is_ancestor cs i.named x
+fits_named cs i Interface x = true
+fits_named cs i Special x = true
+fits_named cs i Static x = true
+fits_named cs i Dynamic x = true
+
+-- an object may be of class x, and be a receiver here
+abbrev pub is_receiver : Classes → Invocation → ℕ → Bool
+is_receiver cs i x = is_concrete cs x && fits_named cs i i.kind x
+
+abbrev pub selected : Classes → Invocation → Recv → Answer
+selected cs i Null = answer.Throws NullPointerException
+selected cs i (Of x) = if is_receiver cs i x then answered (outcome cs i x) else answer.BadReceiver
+
+abbrev pub answer_of : Classes → Stage → Recv → Answer
+answer_of cs (Waits reason) recv = answer.Unlinked reason
+answer_of cs (Fails throwable) recv = answer.Throws throwable
+answer_of cs (Calls m) recv = answer.Run m
+answer_of cs (Selects i) recv = selected cs i recv
+
+-- what a call of site s on the receiver comes to
+abbrev pub dispatch : World → ℕ → Recv → Answer
+dispatch w s recv = answer_of w.classes (stage w s) recv

@@ -1,0 +1,19 @@
+-- What a link is and what a call comes to, in reading order. `Padded`, `Same` and `SameLink` are means of proof.
+pub mod Padded
+pub mod Same
+pub mod SameLink
+pub mod World
+pub mod Members
+pub mod Ancestry
+pub mod Access
+pub mod Resolution
+pub mod Overriding
+pub mod Selection
+pub mod Targets
+pub mod Sites
+pub mod Links
+pub mod Calls
+pub mod Definitions
+pub mod Events
+pub mod History
+pub mod Fast

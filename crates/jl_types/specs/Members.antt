@@ -1,0 +1,83 @@
+-- What a class and its methods show: flags (JVMS 4.1, 4.6), names, and where the loader finds a class by name (5.3).
+use Rattle.std.specs.Prelude.{ℕ, Bool, false, not, ◌&&◌, ◌==◌, List, [], Option, find, position, slice_get, option_map, length}
+use Rattle.std.specs.Option.{option_map_or}
+use Rattle.std.specs.List.{range_with_len}
+use Rattle.jl_names.specs.ClassNames.{package_of}
+use Rattle.jl_classfile.specs.declared.class.Method.{Method}
+use Rattle.jl_classfile.specs.Pools.{same_text}
+use Rattle.jl_classfile.specs.Conditions.{has_flag, PUBLIC, PRIVATE, PROTECTED, STATIC, INTERFACE, ABSTRACT}
+use Rattle.jl_types.specs.declared.class.Class.{Class}
+use Rattle.jl_types.specs.declared.ids.MethodId.{MethodId}
+use Rattle.jl_types.specs.World.{Classes}
+
+-- ---- a class
+
+-- the test of the class of this number, and no where there is none
+abbrev pub class_test : (Class → Bool) → Classes → ℕ → Bool
+class_test test cs c = option_map_or test (slice_get cs.rows c) false
+
+abbrev pub is_interface : Classes → ℕ → Bool
+is_interface cs c = class_test (λ row. has_flag row.file.flags INTERFACE) cs c
+
+abbrev pub is_public_class : Classes → ℕ → Bool
+is_public_class cs c = class_test (λ row. has_flag row.file.flags PUBLIC) cs c
+
+-- neither an interface nor abstract: objects may be of this class
+abbrev pub is_concrete_row : Class → Bool
+is_concrete_row row = not (has_flag row.file.flags INTERFACE) && not (has_flag row.file.flags ABSTRACT)
+
+abbrev pub is_concrete : Classes → ℕ → Bool
+is_concrete cs c = class_test is_concrete_row cs c
+
+-- classes of one run-time package: one defining loader, one package name (5.3)
+abbrev pub share_package : Class → Class → Bool
+share_package a b = (a.loader == b.loader) && same_text (package_of a.file.name) (package_of b.file.name)
+
+abbrev pub same_package : Classes → ℕ → ℕ → Bool
+same_package cs c d = class_test (λ a. class_test (share_package a) cs d) cs c
+
+-- the class that the loader has recorded under the name
+abbrev pub lookup : Classes → ℕ → List ℕ → Option ℕ
+lookup cs loader name = option_map (λ r. r.1) (find (λ r. (r.0.0 == loader) && same_text r.0.1 name) cs.records)
+
+-- the numbers of all classes, rising
+abbrev pub numbers : Classes → List ℕ
+numbers cs = range_with_len 0 (length cs.rows)
+
+-- ---- a method
+
+abbrev pub methods_of : Classes → ℕ → List Method
+methods_of cs c = option_map_or (λ row. row.file.methods) (slice_get cs.rows c) []
+
+abbrev pub method_at : Classes → MethodId → Option Method
+method_at cs m = slice_get (methods_of cs m.class) m.index
+
+abbrev pub method_test : (Method → Bool) → Classes → MethodId → Bool
+method_test test cs m = option_map_or test (method_at cs m) false
+
+abbrev pub is_public : Classes → MethodId → Bool
+is_public cs m = method_test (λ method. has_flag method.flags PUBLIC) cs m
+
+abbrev pub is_private : Classes → MethodId → Bool
+is_private cs m = method_test (λ method. has_flag method.flags PRIVATE) cs m
+
+abbrev pub is_protected : Classes → MethodId → Bool
+is_protected cs m = method_test (λ method. has_flag method.flags PROTECTED) cs m
+
+abbrev pub is_static : Classes → MethodId → Bool
+is_static cs m = method_test (λ method. has_flag method.flags STATIC) cs m
+
+abbrev pub is_abstract : Classes → MethodId → Bool
+is_abstract cs m = method_test (λ method. has_flag method.flags ABSTRACT) cs m
+
+-- with no access flag
+abbrev pub is_package_private : Classes → MethodId → Bool
+is_package_private cs m = not (is_public cs m) && (not (is_protected cs m) && not (is_private cs m))
+
+-- of this name and descriptor
+abbrev pub is_called : List ℕ → List ℕ → Method → Bool
+is_called name ty method = same_text method.name name && same_text method.ty ty
+
+-- the method of this name and descriptor that the class itself declares
+abbrev pub declared : Classes → List ℕ → List ℕ → ℕ → Option MethodId
+declared cs name ty c = option_map (λ i. record { class = c; index = i }) (position (is_called name ty) (methods_of cs c))

@@ -1,0 +1,99 @@
+//! What resolution, selection and a call come to.
+
+ghost use Rattle.std.specs.Prelude.{◌≡◌, ◌≢◌, MatchBool};
+
+use crate::class_id::ClassId;
+use crate::ids::MethodId;
+
+/// What an invocation throws (JVMS SE 17 §5.4.3.3, §5.4.3.4, §6.5), by the names of java.lang.
+#[derive(Clone, Copy, Debug, PartialEq, Eq)]
+pub enum Throwable {
+    NoSuchMethodError,
+    IllegalAccessError,
+    IncompatibleClassChangeError,
+    AbstractMethodError,
+    NullPointerException,
+}
+
+/// What an invocation does once its receiver is known.
+#[derive(Clone, Copy, Debug, PartialEq, Eq)]
+pub enum Outcome {
+    /// This method runs.
+    Run(MethodId),
+    /// This is thrown.
+    Throws(Throwable),
+}
+
+/// What an invocation is made on.
+#[derive(Clone, Copy, Debug, PartialEq, Eq)]
+pub enum Recv {
+    /// The null reference.
+    Null,
+    /// An object of this class.
+    Of(ClassId),
+}
+
+/// Whose class isn't there yet.
+#[derive(Clone, Copy, Debug, PartialEq, Eq)]
+pub enum Missing {
+    /// The class that the instruction names.
+    Named,
+    /// The nest host of the caller's class.
+    CallerHost,
+    /// The nest host of the class that declares the method.
+    MethodHost,
+}
+
+/// Why a site has no link.
+#[derive(Clone, Copy, Debug, PartialEq, Eq)]
+pub enum Unlinked {
+    /// A class that linking needs isn't there yet.
+    NotReady(Missing),
+    /// An invokedynamic to which no call site is bound.
+    Unbound,
+    /// The site's class is no more.
+    Gone,
+    /// No place was requested under this number.
+    NoSite,
+}
+
+/// What a call comes to.
+#[derive(Clone, Copy, Debug, PartialEq, Eq)]
+pub enum Answer {
+    /// This method runs.
+    Run(MethodId),
+    /// This is thrown.
+    Throws(Throwable),
+    /// No object can be such a receiver here: its class is absent, an interface or abstract, or at invokevirtual no
+    /// subclass of the class that the instruction names.
+    BadReceiver,
+    /// The site can't be linked now.
+    Unlinked(Unlinked),
+}
+
+/// Whether two answers are equal, which they are by value.
+pub fn same_answer(a: Answer, b: Answer) -> bool
+    ensures { MatchBool result (a ≡ b) (a ≢ b) }
+{
+    a == b
+}
+
+/// Why a method isn't resolved (JVMS SE 17 §5.4.3.3, §5.4.3.4).
+#[derive(Clone, Copy, Debug, PartialEq, Eq)]
+pub enum ResolveAnswer {
+    /// A class that resolution needs isn't there yet.
+    NotReady(Missing),
+    /// Resolution fails with this.
+    Fault(Throwable),
+}
+
+/// What selection picks (JVMS SE 17 §5.4.6).
+#[derive(Clone, Copy, Debug, PartialEq, Eq)]
+pub enum Chosen {
+    /// This method, which may be abstract.
+    Method(MethodId),
+    /// None, since two or more maximally-specific superinterface methods aren't abstract.
+    Several,
+    /// None, since there is none.
+    Nothing,
+}

@@ -1,0 +1,35 @@
+//! Call sites by number.
+
+ghost use Rattle.std.specs.Prelude.{◌≡◌};
+
+use std::marker::Model;
+
+/// A call site (java.lang.invoke.CallSite), in the order in which they were made. A clause sees the number.
+#[derive(Clone, Copy, Debug, PartialEq, Eq, PartialOrd, Ord, Hash)]
+pub struct CallSiteId(u32);
+
+impl Model for CallSiteId {
+    ghost use Rattle.std.specs.Prelude.{ℕ};
+
+    ghost Value = { ℕ };
+
+    ghost view = { λ id. id.0 };
+
+    ghost inverse = { λ n. record { 0 = n } };
+}
+
+impl CallSiteId {
+    /// The call site of this number.
+    pub const fn new(number: u32) -> Self
+        ensures { result ≡ number }
+    {
+        CallSiteId(number)
+    }
+
+    /// Its number, from 0 upward.
+    pub const fn number(self) -> u32
+        ensures { result ≡ self }
+    {
+        self.0
+    }
+}

@@ -1,0 +1,56 @@
+//! Events, and what they are answered.
+
+use crate::call_site_id::CallSiteId;
+use crate::class_id::ClassId;
+use crate::ids::Place;
+use crate::link::Link;
+use crate::loader_id::LoaderId;
+use crate::site_no::SiteNo;
+use crate::switch_id::SwitchId;
+use crate::target::{CallSiteKind, Target};
+use jl_classfile::ClassFile;
+use jl_names::{Name, Seq};
+
+/// What changes the classes, sites and links.
+#[derive(Debug, Drop)]
+pub enum Event {
+    /// One loader more.
+    NewLoader,
+    /// The loader defines a class of this file (JVMS SE 17 §5.3.5).
+    Define(LoaderId, ClassFile),
+    /// The first loader finds under the name the class that the second one finds (§5.3).
+    Delegate(LoaderId, Name, LoaderId),
+    /// The invocation at the place is to be linked.
+    Request(Place),
+    /// One call site more, of this type and with its first target.
+    NewCallSite(CallSiteKind, Name, Target),
+    /// The call site gets another target.
+    SetTarget(CallSiteId, Target),
+    /// One switch point more, valid.
+    NewSwitch,
+    /// The switch points become invalid for good.
+    Invalidate(Seq<SwitchId>),
+    /// The call site that the invokedynamic's bootstrap method gave (JVMS SE 17 §6.5).
+    Bind(SiteNo, CallSiteId),
+    /// Sites with the links that they are to have.
+    Install(Seq<(SiteNo, Link)>),
+}
+
+/// What an event gave a number to.
+#[derive(Clone, Copy, Debug, PartialEq, Eq)]
+pub enum Made {
+    Nothing,
+    Loader(LoaderId),
+    Class(ClassId),
+    Site(SiteNo),
+    CallSite(CallSiteId),
+    Switch(SwitchId),
+}
+
+/// What an accepted event is answered: what it gave a number to, and by rising number the sites that had a link before
+/// it and have none after it.
+#[derive(Debug, Drop)]
+pub struct Reply {
+    pub made: Made,
+    pub dropped: Seq<SiteNo>,
+}

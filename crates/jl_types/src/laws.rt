@@ -1,0 +1,87 @@
+//! The laws of the definitions: each is the contract of a function that does nothing.
+
+ghost use Rattle.std.specs.Prelude.{◌≡◌, ◌↔◌, ◌<◌, ◌≤◌, ◌++◌, ◌∷◌, [], ℕ, List, Some, Ok, Err, true, length, slice_get, find, ◌==◌, Decides, AllPairs, Contains};
+ghost use Rattle.std.specs.Option.{option_map_or};
+ghost use Rattle.jl_types.specs.declared.class.Class.{Class};
+ghost use Rattle.jl_types.specs.declared.ids.MethodId.{MethodId};
+ghost use Rattle.jl_types.specs.declared.answer.Throwable.{Throwable};
+ghost use Rattle.jl_types.specs.declared.answer.Throwable.TheVariants.{NullPointerException};
+ghost use Rattle.jl_types.specs.declared.answer.Unlinked.{Unlinked};
+ghost use Rattle.jl_types.specs.declared.answer.Outcome.{Outcome};
+ghost use Rattle.jl_types.specs.declared.answer.Recv.{Recv};
+ghost use Rattle.jl_types.specs.declared.answer.Recv.TheVariants.{Null, Of};
+ghost use Rattle.jl_types.specs.declared.answer.Answer.TheVariants as answer;
+ghost use Rattle.jl_types.specs.declared.link.Link.{Link};
+ghost use Rattle.jl_types.specs.declared.link.Link.TheVariants as link;
+ghost use Rattle.jl_types.specs.declared.link.TableKind.{TableKind};
+ghost use Rattle.jl_types.specs.declared.event.Event.{Event};
+ghost use Rattle.jl_types.specs.World.{Classes, World};
+ghost use Rattle.jl_types.specs.Members.{is_concrete};
+ghost use Rattle.jl_types.specs.Ancestry.{AreOrdered, IsAncestor, is_ancestor, superclasses};
+ghost use Rattle.jl_types.specs.Overriding.{CanOverride, can_override};
+ghost use Rattle.jl_types.specs.Sites.{Invocation, Selects, stage};
+ghost use Rattle.jl_types.specs.Links.{scratch};
+ghost use Rattle.jl_types.specs.Calls.{answered, is_receiver, dispatch};
+ghost use Rattle.jl_types.specs.Fast.{entry_answer};
+ghost use Rattle.jl_types.specs.History.{world_after, scratch_after, installs, installed_at, Settled, installed, installed_links, kept};
+
+/// After any events, the parents of a class were defined before it.
+pub fn parents_come_first()
+    ensures { (h : List Event) → AreOrdered (world_after h).classes.rows }
+{}
+
+/// A class is among its own ancestors, and ancestors of ancestors are ancestors. Where parents come first, the test of
+/// ancestors decides the relation.
+pub fn ancestors_of_ancestors()
+    ensures itself { (cs : Classes) (c : ℕ) (row : Class) → slice_get cs.rows c ≡ Some row → is_ancestor cs c c ≡ true }
+    ensures onward { (cs : Classes) → AreOrdered cs.rows → (a b c : ℕ) → is_ancestor cs a b ≡ true → is_ancestor cs b c ≡ true → is_ancestor cs a c ≡ true }
+    ensures decided { (cs : Classes) → AreOrdered cs.rows → (a x : ℕ) → Decides (is_ancestor cs a x) (IsAncestor cs.rows a x) }
+{}
+
+/// The superclasses of a class, itself the first, are it and those of its direct superclass.
+pub fn superclasses_upward()
+    ensures { (cs : Classes) → AreOrdered cs.rows → (c : ℕ) (row : Class) → slice_get cs.rows c ≡ Some row
+        → superclasses cs c ≡ c ∷ option_map_or (superclasses cs) row.superclass [] }
+{}
+
+/// Where parents come first, the test of overriding decides the relation (JVMS SE 17 §5.4.5).
+pub fn overriding_is_decided()
+    ensures { (cs : Classes) → AreOrdered cs.rows → (c a : MethodId) → Decides (can_override cs c a) (CanOverride cs c a) }
+{}
+
+/// A site has no link from scratch exactly where its calls are unlinked, for the same reason.
+pub fn unlinked_calls()
+    ensures { (w : World) (s : ℕ) (reason : Unlinked) (recv : Recv) → (scratch w s ≡ Err reason) ↔ (dispatch w s recv ≡ answer.Unlinked reason) }
+{}
+
+/// A link from scratch gives the answer of the call (Hölzle, Chambers and Ungar 1991).
+pub fn links_give_the_answers()
+    ensures fault { (w : World) (s : ℕ) (throwable : Throwable) (recv : Recv) → scratch w s ≡ Ok (link.Fault throwable) → dispatch w s recv ≡ answer.Throws throwable }
+    ensures plain { (w : World) (s : ℕ) (m : MethodId) (recv : Recv) → scratch w s ≡ Ok (link.Plain m) → dispatch w s recv ≡ answer.Run m }
+    ensures null { (w : World) (s : ℕ) (i : Invocation) → stage w s ≡ Selects i → dispatch w s Null ≡ answer.Throws NullPointerException }
+    ensures direct { (w : World) (s x : ℕ) (i : Invocation) (outcome : Outcome) → stage w s ≡ Selects i → scratch w s ≡ Ok (link.Direct outcome)
+        → is_receiver w.classes i x ≡ true → dispatch w s (Of x) ≡ answered outcome }
+    ensures table { (w : World) (s x : ℕ) (kind : TableKind) (rows : List (ℕ × Outcome)) → scratch w s ≡ Ok (link.Table kind rows)
+        → is_concrete w.classes x ≡ true → dispatch w s (Of x) ≡ entry_answer kind (find (λ row. row.0 == x) rows) }
+{}
+
+/// A site has an installed link exactly where it is settled with it; then the site is requested, and its link from scratch
+/// was that link in every world since an install of the site.
+pub fn settled_links()
+    ensures settled { (h : List Event) (s : ℕ) (l : Link) → (installed h s ≡ Some l) ↔ Settled h s l }
+    ensures stayed { (h : List Event) (s : ℕ) (l : Link) → installed h s ≡ Some l
+        → (since : ℕ) × (installed_at h since s ≡ true) × ((n : ℕ) → since < n → n ≤ length h → scratch_after h n s ≡ Ok l) }
+    ensures requested { (h : List Event) (s : ℕ) (l : Link) → installed h s ≡ Some l → s < length (world_after h).places }
+{}
+
+/// The list of installed links has each site once, by rising number, and none is left out.
+pub fn each_site_once()
+    ensures rising { (h : List Event) → AllPairs (λ a b. a.0 < b.0) (installed_links h) }
+    ensures each { (h : List Event) (s : ℕ) (l : Link) → (installed h s ≡ Some l) ↔ Contains (installed_links h) (s, l) }
+{}
+
+/// What one event more leaves installed at a site: its link from scratch afterwards, where the event installs the site or
+/// that link was installed before.
+pub fn one_event_more()
+    ensures { (h : List Event) (e : Event) (s : ℕ) → installed (h ++ e ∷ []) s ≡ kept (installs s e) (installed h s) (scratch (world_after (h ++ e ∷ [])) s) }
+{}

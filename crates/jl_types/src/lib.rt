@@ -1,0 +1,50 @@
+//! The plain values that every crate of the linker speaks of: numbers, answers, links, targets, events and refusals.
+//!
+//! What a link is, and what a call comes to, stands in `specs/`, in reading order: `World`, `Members`, `Ancestry`,
+//! `Access`, `Resolution`, `Overriding`, `Selection`, `Targets`, `Sites`, `Links`, `Calls`, `Definitions`, `Events`,
+//! `History`, `Fast`. The laws about them are the contracts of the functions of `laws`.
+#![tactic(auto)]
+
+// Numbers.
+mod call_site_id;
+mod class_id;
+mod ids;
+mod loader_id;
+mod site_no;
+mod switch_id;
+
+// What is kept, and what calls come to.
+mod answer;
+mod class;
+mod link;
+mod table;
+mod target;
+
+// What comes in, and what is answered.
+mod event;
+mod refusal;
+
+// The laws of the definitions.
+mod laws;
+#[cfg(test)]
+mod tests;
+
+pub use answer::{
+    Answer, Chosen, Missing, Outcome, Recv, ResolveAnswer, Throwable, Unlinked, same_answer,
+};
+pub use call_site_id::CallSiteId;
+pub use class::Class;
+pub use class_id::ClassId;
+pub use event::{Event, Made, Reply};
+pub use ids::{MethodId, Place};
+pub use laws::{
+    ancestors_of_ancestors, each_site_once, links_give_the_answers, one_event_more,
+    overriding_is_decided, parents_come_first, settled_links, superclasses_upward, unlinked_calls,
+};
+pub use link::{Link, TableKind, same_link};
+pub use loader_id::LoaderId;
+pub use refusal::{CallSiteFault, DefineFault, DelegateFault, NotLinkable, Refusal};
+pub use site_no::SiteNo;
+pub use switch_id::SwitchId;
+pub use table::Table;
+pub use target::{CallSiteKind, Target};

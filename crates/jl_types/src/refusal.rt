@@ -1,0 +1,117 @@
+//! Why an event is refused.
+
+use crate::call_site_id::CallSiteId;
+use crate::link::Link;
+use crate::site_no::SiteNo;
+use jl_names::Name;
+
+/// Why a class isn't defined (JVMS SE 17 §5.3.5).
+#[derive(Debug, Drop)]
+pub enum DefineFault {
+    /// There is no such loader.
+    UnknownLoader,
+    /// The loader has recorded a class under this name.
+    AlreadyRecorded,
+    /// The class is its own superclass or superinterface (ClassCircularityError).
+    NamesItself,
+    /// The loader has recorded no class under the name of the superclass or of this superinterface.
+    MissingParent(Name),
+    /// The superclass is an interface.
+    SuperIsInterface,
+    /// The superclass is final.
+    FinalSuper,
+    /// This superinterface is no interface.
+    NotAnInterface(Name),
+    /// The superclass or this superinterface isn't accessible to the class (§5.4.4).
+    InaccessibleParent(Name),
+    /// java/lang/Object, in a loader other than 0.
+    SecondObject,
+    /// There are 65,536 classes.
+    Full,
+    /// Want of memory.
+    Memory,
+}
+
+/// Why a loader doesn't record a class of another one.
+#[derive(Clone, Copy, Debug, PartialEq, Eq)]
+pub enum DelegateFault {
+    /// There is no such loader, one of the two.
+    UnknownLoader,
+    /// The other loader has recorded no class under the name.
+    NotRecorded,
+    /// The loader has recorded a class under the name, be it the same one.
+    AlreadyRecorded,
+    /// Want of memory.
+    Memory,
+}
+
+/// Why a call site or a switch point isn't made or changed (java.lang.invoke).
+#[derive(Clone, Copy, Debug, PartialEq, Eq)]
+pub enum CallSiteFault {
+    /// There is no such call site.
+    UnknownCallSite,
+    /// A constant call site keeps its target (UnsupportedOperationException).
+    Constant,
+    /// A method's type isn't the call site's (WrongMethodTypeException).
+    WrongType,
+    /// There is no such method, or its name begins with `<`.
+    UnknownMethod,
+    /// The method isn't static.
+    NotStatic,
+    /// There is no such switch point.
+    UnknownSwitch,
+    /// The target is deeper than 64, or has more than 255 parts.
+    TooDeep,
+    /// There are 65,536 of them.
+    Full,
+    /// Want of memory.
+    Memory,
+}
+
+/// Why an invocation is never linked here.
+#[derive(Clone, Copy, Debug, PartialEq, Eq)]
+pub enum NotLinkable {
+    /// It names a method of an array type.
+    ArrayReceiver,
+    /// It names a method of java/lang/invoke/MethodHandle or java/lang/invoke/VarHandle.
+    PolymorphicSignature,
+}
+
+/// Why an event is refused. Nothing changes then.
+#[derive(Debug, Drop)]
+pub enum Refusal {
+    /// A class isn't defined.
+    Define(DefineFault),
+    /// There is no such class.
+    UnknownClass,
+    /// The class has no invocation at the place.
+    NoSuchPlace,
+    /// The invocation is never linked here.
+    NotLinkable(NotLinkable),
+    /// As many places are requested as there may be.
+    SitesFull,
+    /// A call site or a switch point isn't made or changed.
+    CallSite(CallSiteFault),
+    /// The site is no invokedynamic.
+    NotDynamic,
+    /// The site is bound to this call site.
+    AlreadyBound(CallSiteId),
+    /// The call site's type isn't the invokedynamic's descriptor.
+    TypeMismatch,
+    /// The link isn't the one that the site has from scratch now, which is this.
+    Stale { site: SiteNo, present: Link },
+    /// The site has no link from scratch now.
+    NotReady { site: SiteNo },
+    /// No place was requested under this number.
+    UnknownSite { site: SiteNo },
+    /// The site comes twice.
+    Repeated { site: SiteNo },
+    /// No rows, or more than 256.
+    BatchSize,
+    /// Want of memory.
+    Memory,
+    /// A loader doesn't record a class of another one.
+    Delegate(DelegateFault),
+    /// There are 1,024 loaders.
+    LoadersFull,
+}

@@ -1,0 +1,35 @@
+//! Sites by number.
+
+ghost use Rattle.std.specs.Prelude.{◌≡◌};
+
+use std::marker::Model;
+
+/// A requested place, in order of request. A clause sees the number.
+#[derive(Clone, Copy, Debug, PartialEq, Eq, PartialOrd, Ord, Hash)]
+pub struct SiteNo(u32);
+
+impl Model for SiteNo {
+    ghost use Rattle.std.specs.Prelude.{ℕ};
+
+    ghost Value = { ℕ };
+
+    ghost view = { λ id. id.0 };
+
+    ghost inverse = { λ n. record { 0 = n } };
+}
+
+impl SiteNo {
+    /// The site of this number.
+    pub const fn new(number: u32) -> Self
+        ensures { result ≡ number }
+    {
+        SiteNo(number)
+    }
+
+    /// Its number, from 0 upward.
+    pub const fn number(self) -> u32
+        ensures { result ≡ self }
+    {
+        self.0
+    }
+}
