@@ -16,7 +16,8 @@ is_parent row p = list_any (λ q. p == q) (parents row)
 -- a is x itself, or an ancestor of a parent of x
 pub data IsAncestor (rows : List Class) (a : ℕ) : ℕ → Type 0 where
   itself : {row : Class} → slice_get rows a ≡ Some row → IsAncestor rows a a
-  over : {x p : ℕ} {row : Class} → slice_get rows x ≡ Some row → is_parent row p ≡ true → IsAncestor rows a p → IsAncestor rows a x
+  over : {x p : ℕ} {row : Class} → slice_get rows x ≡ Some row → is_parent row p ≡ true
+      → IsAncestor rows a p → IsAncestor rows a x
 
 -- the same as a test, over so many classes upward from x
 abbrev pub is_ancestor_within : ℕ → List Class → ℕ → ℕ → Bool

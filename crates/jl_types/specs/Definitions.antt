@@ -43,6 +43,10 @@ is_final cs c = class_test (λ row. has_flag row.file.flags FINAL) cs c
 abbrev pub is_open_to : Classes → Class → ℕ → Bool
 is_open_to cs made c = class_test (λ row. has_flag row.file.flags PUBLIC || share_package row made) cs c
 
+-- the parent of this name is open to the class that the loader makes of the file
+abbrev pub is_open_parent : Classes → ℕ → ClassFile → List ℕ → Bool
+is_open_parent cs loader file name = named_test (is_open_to cs (class_made cs loader file)) cs loader name
+
 -- the first fault; of one kind, the superclass's comes first, and then those of the superinterfaces in order
 abbrev pub define_fault : Classes → ℕ → ClassFile → Option DefineFault
 define_fault cs loader file = first_of (
@@ -54,7 +58,7 @@ define_fault cs loader file = first_of (
     ∷ then_some (list_any (named_test (is_interface cs) cs loader) (option_to_list file.superclass)) define.SuperIsInterface
     ∷ then_some (list_any (named_test (is_final cs) cs loader) (option_to_list file.superclass)) define.FinalSuper
     ∷ option_map define.NotAnInterface (find (λ name. not (named_test (is_interface cs) cs loader name)) file.interfaces)
-    ∷ option_map define.InaccessibleParent (find (λ name. not (named_test (is_open_to cs (class_made cs loader file)) cs loader name)) (parent_names file))
+    ∷ option_map define.InaccessibleParent (find (λ name. not (is_open_parent cs loader file name)) (parent_names file))
     ∷ then_some (nat_le 65536 (length cs.rows)) define.Full
     ∷ [])
 

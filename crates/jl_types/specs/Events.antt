@@ -46,7 +46,8 @@ names_array (operand.CallSite specifier) = false
 -- names a method of one of the classes whose methods any descriptor fits (JVMS 2.9.3)
 abbrev pub is_polymorphic : Operand (List ℕ) → Bool
 is_polymorphic (operand.Method ref) =
-    same_text ref.owner (codes "java/lang/invoke/MethodHandle") || same_text ref.owner (codes "java/lang/invoke/VarHandle")
+    same_text ref.owner (codes "java/lang/invoke/MethodHandle")
+    || same_text ref.owner (codes "java/lang/invoke/VarHandle")
 is_polymorphic (operand.CallSite specifier) = false
 
 abbrev pub new_place_fault : ℕ → World → Site → Option Refusal
@@ -62,7 +63,8 @@ request_place max_sites w (Some s) site = Ok (made.Site s)
 request_place max_sites w None site = unless (new_place_fault max_sites w site) (made.Site (length w.places))
 
 abbrev pub request_at : ℕ → World → Place → Option Site → Result Made Refusal
-request_at max_sites w place None = Err (if nat_le (length w.classes.rows) place.class then UnknownClass else NoSuchPlace)
+request_at max_sites w place None =
+    Err (if nat_le (length w.classes.rows) place.class then UnknownClass else NoSuchPlace)
 request_at max_sites w place (Some site) = request_place max_sites w (position (same_place place) w.places) site
 
 abbrev pub requested : List Place → Place → List Place
@@ -92,7 +94,9 @@ abbrev pub invalidate_fault : World → List ℕ → Option CallSiteFault
 invalidate_fault w points = then_some (list_any (nat_le (length w.sites.switches)) points) fault.UnknownSwitch
 
 abbrev pub retargeted : List CallSiteRow → ℕ → Target → List CallSiteRow
-retargeted sites c t = option_map_or (λ site. slice_set sites c (record { kind = site.kind; ty = site.ty; target = t })) (slice_get sites c) sites
+retargeted sites c t =
+    option_map_or (λ site. slice_set sites c (record { kind = site.kind; ty = site.ty; target = t }))
+    (slice_get sites c) sites
 
 abbrev pub invalidated : List Bool → List ℕ → List Bool
 invalidated switches points = fold (λ left p. slice_set left p false) switches points
@@ -144,16 +148,20 @@ install_fault w rows = first_of (
 -- ---- the verdict on an event, where at most so many sites may be requested: the first refusal, else what it makes
 
 abbrev pub verdict : ℕ → World → Event → Result Made Refusal
-verdict max_sites w event.NewLoader = unless (then_some (nat_le 1024 w.classes.loaders) LoadersFull) (made.Loader w.classes.loaders)
-verdict max_sites w (event.Define loader file) = unless (option_map Define (define_fault w.classes loader file)) (made.Class (length w.classes.rows))
-verdict max_sites w (event.Delegate loader name to) = unless (option_map Delegate (delegate_fault w.classes loader name to)) made.Nothing
+verdict max_sites w event.NewLoader =
+    unless (then_some (nat_le 1024 w.classes.loaders) LoadersFull) (made.Loader w.classes.loaders)
+verdict max_sites w (event.Define loader file) =
+    unless (option_map Define (define_fault w.classes loader file)) (made.Class (length w.classes.rows))
+verdict max_sites w (event.Delegate loader name to) =
+    unless (option_map Delegate (delegate_fault w.classes loader name to)) made.Nothing
 verdict max_sites w (event.Request place) = request_at max_sites w place (invocation_at w.classes place)
 verdict max_sites w (event.NewCallSite kind ty t) =
     unless (option_map CallSite (new_call_site_fault w ty (plain_target t))) (made.CallSite (length w.sites.call_sites))
 verdict max_sites w (event.SetTarget c t) =
     unless (option_map CallSite (set_target_fault w (slice_get w.sites.call_sites c) (plain_target t))) made.Nothing
 verdict max_sites w event.NewSwitch =
-    unless (then_some (nat_le most_of_a_kind (length w.sites.switches)) (CallSite fault.Full)) (made.Switch (length w.sites.switches))
+    unless (then_some (nat_le most_of_a_kind (length w.sites.switches)) (CallSite fault.Full))
+    (made.Switch (length w.sites.switches))
 verdict max_sites w (event.Invalidate points) = unless (option_map CallSite (invalidate_fault w points)) made.Nothing
 verdict max_sites w (event.Bind s c) = unless (bind_fault w s c (slice_get w.places s)) made.Nothing
 verdict max_sites w (event.Install rows) = unless (install_fault w rows) made.Nothing

@@ -1,4 +1,5 @@
--- The link of a site from scratch: what is installed is one of these (polymorphic inline caches: Hölzle, Chambers, Ungar 1991).
+-- The link of a site from scratch: what is installed is one of these (polymorphic inline caches: Hölzle, Chambers and
+-- Ungar 1991).
 use Rattle.std.specs.Prelude.{ℕ, Bool, false, ◌&&◌, ◌==◌, nat_le, List, [], ◌∷◌, map, length, Result, Ok, Err, if◌then◌else◌}
 use Rattle.std.specs.List.{list_all}
 use Rattle.jl_classfile.specs.declared.site.Kind.{Kind}
@@ -50,7 +51,8 @@ virtual_link ((x, Run m) ∷ rows) =
     if list_all (λ row. runs m row.1) rows then Direct (Run m) else table_or_mega table.Virtual ((x, Run m) ∷ rows)
 
 abbrev pub link_by : Classes → Invocation → Kind → Link
-link_by cs i Virtual = if is_private cs i.method then Direct (virtual_outcome cs i.named i.method) else virtual_link (table_rows cs i)
+link_by cs i Virtual =
+    if is_private cs i.method then Direct (virtual_outcome cs i.named i.method) else virtual_link (table_rows cs i)
 link_by cs i Interface = table_or_mega table.Interface (table_rows cs i)
 link_by cs i Special = Direct (special_outcome cs i.caller i.named i.ref)
 link_by cs i Static = Plain i.method

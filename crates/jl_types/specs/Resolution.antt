@@ -40,7 +40,8 @@ candidates cs name ty c =
 -- the maximally-specific ones: no other is declared in a subinterface
 abbrev pub max_specific : Classes → List ℕ → List ℕ → ℕ → List MethodId
 max_specific cs name ty c =
-    filter (λ m. not (list_any (λ other. is_proper_ancestor cs m.class other.class) (candidates cs name ty c))) (candidates cs name ty c)
+    filter (λ m. not (list_any (λ other. is_proper_ancestor cs m.class other.class) (candidates cs name ty c)))
+    (candidates cs name ty c)
 
 -- the maximally-specific ones that aren't abstract
 abbrev pub defaults : Classes → List ℕ → List ℕ → ℕ → List MethodId
@@ -55,7 +56,8 @@ declared_upward cs name ty c = first_element (filter_map (declared cs name ty) (
 -- java/lang/Object's own, where it is public and not static
 abbrev pub declared_in_object : Classes → List ℕ → List ℕ → Option MethodId
 declared_in_object cs name ty =
-    first_element (filter (λ m. is_public cs m && not (is_static cs m)) (option_to_list (option_and_then (declared cs name ty) (lookup cs 0 object))))
+    first_element (filter (λ m. is_public cs m && not (is_static cs m))
+    (option_to_list (option_and_then (declared cs name ty) (lookup cs 0 object))))
 
 -- in a class: declared there or upward; the only default; the superinterface method of least class number
 abbrev pub found_in_class : Classes → List ℕ → List ℕ → ℕ → Option MethodId

@@ -53,7 +53,8 @@ abbrev pub virtual_outcome : Classes → ℕ → MethodId → Outcome
 virtual_outcome cs x r = ending cs (chosen cs x r)
 
 abbrev pub interface_ending : Classes → Chosen → Outcome
-interface_ending cs (Picked m) = if is_public cs m || is_private cs m then ending cs (Picked m) else Throws IllegalAccessError
+interface_ending cs (Picked m) =
+    if is_public cs m || is_private cs m then ending cs (Picked m) else Throws IllegalAccessError
 interface_ending cs Several = ending cs Several
 interface_ending cs Nothing = ending cs Nothing
 
@@ -71,7 +72,8 @@ is_init name = same_text name (codes "<init>")
 -- is named, and else where the reference names
 abbrev pub special_start : Classes → ℕ → ℕ → Reference (List ℕ) → Option ℕ
 special_start cs d named ref =
-    if not (is_init ref.name) && (not (is_interface cs named) && is_proper_subclass cs d named) then superclass_of cs d else Some named
+    if not (is_init ref.name) && (not (is_interface cs named) && is_proper_subclass cs d named)
+    then superclass_of cs d else Some named
 
 abbrev pub instance_methods : Classes → List MethodId → List MethodId
 instance_methods cs ms = filter (λ m. not (is_static cs m)) ms

@@ -48,13 +48,15 @@ abbrev pub by_kind : Classes → Invocation → Kind → Stage
 by_kind cs i Static = if_static cs i
 by_kind cs i Virtual = unless_static cs i
 by_kind cs i Interface = unless_static cs i
-by_kind cs i Special = if is_init i.ref.name && not (i.method.class == i.named) then Fails NoSuchMethodError else unless_static cs i
+by_kind cs i Special =
+    if is_init i.ref.name && not (i.method.class == i.named) then Fails NoSuchMethodError else unless_static cs i
 by_kind cs i Dynamic = Waits Unbound
 
 abbrev pub by_resolution : Classes → Kind → ℕ → Reference (List ℕ) → ℕ → Result MethodId ResolveAnswer → Stage
 by_resolution cs kind d ref named (Err (resolve.NotReady missing)) = Waits (NotReady missing)
 by_resolution cs kind d ref named (Err (resolve.Fault throwable)) = Fails throwable
-by_resolution cs kind d ref named (Ok m) = by_kind cs (record { kind = kind; caller = d; named = named; ref = ref; method = m }) kind
+by_resolution cs kind d ref named (Ok m) =
+    by_kind cs (record { kind = kind; caller = d; named = named; ref = ref; method = m }) kind
 
 abbrev pub by_name : Classes → Kind → ℕ → Reference (List ℕ) → Option ℕ → Stage
 by_name cs kind d ref None = by_resolution cs kind d ref 0 (resolved_at cs d ref None)

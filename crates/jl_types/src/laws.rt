@@ -33,8 +33,10 @@ pub fn parents_come_first()
 /// A class is among its own ancestors, and ancestors of ancestors are ancestors. Where parents come first, the test of
 /// ancestors decides the relation.
 pub fn ancestors_of_ancestors()
-    ensures itself { (cs : Classes) (c : ℕ) (row : Class) → slice_get cs.rows c ≡ Some row → is_ancestor cs c c ≡ true }
-    ensures onward { (cs : Classes) → AreOrdered cs.rows → (a b c : ℕ) → is_ancestor cs a b ≡ true → is_ancestor cs b c ≡ true → is_ancestor cs a c ≡ true }
+    ensures itself { (cs : Classes) (c : ℕ) (row : Class)
+        → slice_get cs.rows c ≡ Some row → is_ancestor cs c c ≡ true }
+    ensures onward { (cs : Classes) → AreOrdered cs.rows → (a b c : ℕ)
+        → is_ancestor cs a b ≡ true → is_ancestor cs b c ≡ true → is_ancestor cs a c ≡ true }
     ensures decided { (cs : Classes) → AreOrdered cs.rows → (a x : ℕ) → Decides (is_ancestor cs a x) (IsAncestor cs.rows a x) }
 {}
 
@@ -51,17 +53,23 @@ pub fn overriding_is_decided()
 
 /// A site has no link from scratch exactly where its calls are unlinked, for the same reason.
 pub fn unlinked_calls()
-    ensures { (w : World) (s : ℕ) (reason : Unlinked) (recv : Recv) → (scratch w s ≡ Err reason) ↔ (dispatch w s recv ≡ answer.Unlinked reason) }
+    ensures { (w : World) (s : ℕ) (reason : Unlinked) (recv : Recv)
+        → (scratch w s ≡ Err reason) ↔ (dispatch w s recv ≡ answer.Unlinked reason) }
 {}
 
 /// A link from scratch gives the answer of the call (Hölzle, Chambers and Ungar 1991).
 pub fn links_give_the_answers()
-    ensures fault { (w : World) (s : ℕ) (throwable : Throwable) (recv : Recv) → scratch w s ≡ Ok (link.Fault throwable) → dispatch w s recv ≡ answer.Throws throwable }
-    ensures plain { (w : World) (s : ℕ) (m : MethodId) (recv : Recv) → scratch w s ≡ Ok (link.Plain m) → dispatch w s recv ≡ answer.Run m }
-    ensures null { (w : World) (s : ℕ) (i : Invocation) → stage w s ≡ Selects i → dispatch w s Null ≡ answer.Throws NullPointerException }
-    ensures direct { (w : World) (s x : ℕ) (i : Invocation) (outcome : Outcome) → stage w s ≡ Selects i → scratch w s ≡ Ok (link.Direct outcome)
+    ensures fault { (w : World) (s : ℕ) (throwable : Throwable) (recv : Recv)
+        → scratch w s ≡ Ok (link.Fault throwable) → dispatch w s recv ≡ answer.Throws throwable }
+    ensures plain { (w : World) (s : ℕ) (m : MethodId) (recv : Recv)
+        → scratch w s ≡ Ok (link.Plain m) → dispatch w s recv ≡ answer.Run m }
+    ensures null { (w : World) (s : ℕ) (i : Invocation)
+        → stage w s ≡ Selects i → dispatch w s Null ≡ answer.Throws NullPointerException }
+    ensures direct { (w : World) (s x : ℕ) (i : Invocation) (outcome : Outcome)
+        → stage w s ≡ Selects i → scratch w s ≡ Ok (link.Direct outcome)
         → is_receiver w.classes i x ≡ true → dispatch w s (Of x) ≡ answered outcome }
-    ensures table { (w : World) (s x : ℕ) (kind : TableKind) (rows : List (ℕ × Outcome)) → scratch w s ≡ Ok (link.Table kind rows)
+    ensures table { (w : World) (s x : ℕ) (kind : TableKind) (rows : List (ℕ × Outcome))
+        → scratch w s ≡ Ok (link.Table kind rows)
         → is_concrete w.classes x ≡ true → dispatch w s (Of x) ≡ entry_answer kind (find (λ row. row.0 == x) rows) }
 {}
 
@@ -83,5 +91,6 @@ pub fn each_site_once()
 /// What one event more leaves installed at a site: its link from scratch afterwards, where the event installs the site or
 /// that link was installed before.
 pub fn one_event_more()
-    ensures { (h : List Event) (e : Event) (s : ℕ) → installed (h ++ e ∷ []) s ≡ kept (installs s e) (installed h s) (scratch (world_after (h ++ e ∷ [])) s) }
+    ensures { (h : List Event) (e : Event) (s : ℕ)
+        → installed (h ++ e ∷ []) s ≡ kept (installs s e) (installed h s) (scratch (world_after (h ++ e ∷ [])) s) }
 {}
