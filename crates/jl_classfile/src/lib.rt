@@ -25,6 +25,7 @@ mod site;
 pub use class::{ClassFile, Method};
 pub use code_fault::CodeFault;
 pub use fault::ClassFault;
+pub use flags::{ABSTRACT, FINAL, INTERFACE, PRIVATE, PUBLIC, STATIC, has_flag};
 pub use pool::one_pool;
 pub use pool_fault::PoolFault;
 pub use read::read_class;

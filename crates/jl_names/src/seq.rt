@@ -1,8 +1,12 @@
 //! A list that is made once and then only read.
 
 ghost use Rattle.std.specs.Prelude.{◌≡◌};
+ghost use Rattle.std.specs.Cmp.Lexicographic.{pointwise, lists_equiv, lists_per};
+ghost use Rattle.std.specs.Hash as fed;
+ghost use Rattle.std.specs.Hash.{items_Alike};
 
 use std::alloc::{AllocError, Global};
+use std::hash::{Hash, Hasher};
 use std::marker::Model;
 
 /// A list that is made once and then only read. A clause sees the list itself.
@@ -20,6 +24,10 @@ impl<T> Model for Seq<T> {
 }
 
 impl<T> Seq<T> {
+    ghost use Rattle.std.specs.Prelude.{Ok, IfOk};
+    ghost use Rattle.std.specs.Fn.{FnReturnsAt};
+    ghost use Rattle.std.specs.List.{AllZip};
+
     /// The list of these items.
     pub fn of(items: Vec<T>) -> Self
         ensures { result ≡ items.items }
@@ -32,6 +40,48 @@ impl<T> Seq<T> {
         ensures { result.now ≡ self.now }
     {
         self.items.as_slice()
+    }
+
+    /// What `make` gives for each item, in order. Want of memory is an error, and the first error of `make` ends it.
+    pub fn try_map<U: Drop, F: Fn(&T) -> Result<U, AllocError>>(
+        &self,
+        alloc: Global,
+        make: F,
+    ) -> Result<Seq<U>, AllocError>
+        requires { F.IsAlwaysCallable make }
+        ensures { IfOk result (λ made. AllZip (λ item one. FnReturnsAt F.Fn make item (Ok one)) self.now made) }
+    {
+        let mut made = Vec::with_capacity(alloc, self.as_slice().len())?;
+        for item in self.as_slice() {
+            made.push(make(item)?)?;
+        }
+        Ok(Seq::of(made))
+    }
+}
+
+/// Lists are equal where their items are, one by one.
+impl<T: PartialEq> PartialEq for Seq<T> {
+    ghost eq = { pointwise T.eq };
+
+    ghost laws = { lists_per T.laws };
+
+    fn eq(&self, other: &Self) -> bool {
+        self.as_slice() == other.as_slice()
+    }
+}
+
+impl<T: Eq> Eq for Seq<T> {
+    ghost laws = { lists_equiv T.Eq.laws };
+}
+
+/// A list has the hash of its slice.
+impl<T: Hash> Hash for Seq<T> {
+    ghost hash_input = { fed.slice T.hash_input };
+
+    ghost respects_eq = { (items_Alike (record { fed = T.respects_eq })).fed };
+
+    fn hash<H: Hasher>(&self, state: &mut H) {
+        self.as_slice().hash(state);
     }
 }
 
@@ -46,5 +96,12 @@ impl Name {
         ensures { IfOk result (λ name. name ≡ bytes.now) }
     {
         Ok(Seq::of(bytes.to_vec(alloc)?))
+    }
+
+    /// The same name once more. Want of memory is an error.
+    pub fn copy(&self, alloc: Global) -> Result<Name, AllocError>
+        ensures { IfOk result (λ copy. copy ≡ self.now) }
+    {
+        Name::copied(alloc, self.as_slice())
     }
 }

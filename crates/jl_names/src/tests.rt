@@ -1,5 +1,6 @@
 use super::*;
 use std::alloc::{AllocError, Global};
+use std::hash::{DefaultHasher, Hash, Hasher};
 use std::test::Fail;
 
 #[test]
@@ -72,6 +73,35 @@ fn names(rt: HostRuntime) -> Result<(), Fail> {
     assert_eq!(rt; name.as_slice(), b"java/lang/Object".as_slice());
     let text = Text::of(b"A");
     assert_eq!(rt; text.as_bytes(), b"A".as_slice());
+    Ok(())
+}
+
+/// The hash of a value.
+fn hash_of<T: Hash>(value: &T) -> u64 {
+    let mut state = DefaultHasher::new();
+    value.hash(&mut state);
+    state.finish()
+}
+
+#[test]
+fn lists(rt: HostRuntime) -> Result<(), Fail> {
+    let run = Name::copied(rt.alloc(), b"run")?;
+    let again = run.try_map(rt.alloc(), |byte| Ok(*byte))?;
+    assert_eq!(rt; run, again);
+    assert_eq!(rt; run, run.copy(rt.alloc())?);
+    assert_eq!(rt; hash_of(&run), hash_of(&again));
+    assert_eq!(rt; hash_of(&run), hash_of(&b"run".as_slice()));
+    let others: [&[u8]; 4] = [b"", b"ru", b"rub", b"runs"];
+    for other in others {
+        assert_ne!(rt; run, Name::copied(rt.alloc(), other)?, "{other:?}");
+    }
+    let failed = run.try_map(rt.alloc(), |byte| {
+        if *byte == b'u' {
+            return Err(AllocError);
+        }
+        Ok(*byte)
+    });
+    assert!(rt; failed.is_err());
     Ok(())
 }
 

@@ -15,3 +15,5 @@ mod scans;
 mod two_faults;
 #[cfg(test)]
 mod words;
+#[cfg(test)]
+mod worlds;

@@ -192,12 +192,6 @@ plain_call cs (Fails throwable) m recv p e = cc
 plain_call cs (Calls n) m recv p e = cc
 plain_call cs (Selects i) m recv p e = absurd (clash (looks (link_by cs i i.kind)) (looks_by cs i i.kind p) (ap looks (ok_same (link_by cs i i.kind) (Plain m) e)))
 
-null_call : (cs : Classes) (stage : Stage) (l : Link) → link_of cs stage ≡ Ok l → looks l ≡ true → answer_of cs stage Null ≡ answer.Throws NullPointerException
-null_call cs (Waits reason) l e h = cc
-null_call cs (Fails throwable) l e h = absurd (clash (looks l) h (ap looks (sym (ok_same (Fault throwable) l e))))
-null_call cs (Calls m) l e h = absurd (clash (looks l) h (ap looks (sym (ok_same (Plain m) l e))))
-null_call cs (Selects i) l e h = refl
-
 pub fault_is_thrown : (w : World) (s : ℕ) (t : Throwable) (recv : Recv) → scratch w s ≡ Ok (Fault t) → dispatch w s recv ≡ answer.Throws t
 fault_is_thrown w s t recv e = fault_call w.classes (stage w s) t recv (proper w s) e
 

@@ -1,9 +1,14 @@
 //! Why an event is refused.
 
+ghost use Rattle.std.specs.Prelude.{◌≡◌};
+ghost use Rattle.jl_types.specs.declared.refusal.DefineFault.TheVariants as define;
+ghost use Rattle.jl_types.specs.declared.refusal.Refusal.TheVariants as refusal;
+
 use crate::call_site_id::CallSiteId;
 use crate::link::Link;
 use crate::site_no::SiteNo;
 use jl_names::Name;
+use std::alloc::{AllocError, AllocFailed};
 
 /// Why a class isn't defined (JVMS SE 17 §5.3.5).
 #[derive(Debug, Drop)]
@@ -114,4 +119,38 @@ pub enum Refusal {
     Delegate(DelegateFault),
     /// There are 1,024 loaders.
     LoadersFull,
+    /// The linker doesn't handle this yet.
+    NotYet,
+}
+
+impl From<AllocError> for DefineFault {
+    ghost from_gives = { λ _ f. f ≡ define.Memory };
+
+    fn from(_e: AllocError) -> DefineFault {
+        DefineFault::Memory
+    }
+}
+
+impl<T: Drop> From<AllocFailed<T>> for DefineFault {
+    ghost from_gives = { λ _ f. f ≡ define.Memory };
+
+    fn from(_e: AllocFailed<T>) -> DefineFault {
+        DefineFault::Memory
+    }
+}
+
+impl From<AllocError> for Refusal {
+    ghost from_gives = { λ _ f. f ≡ refusal.Memory };
+
+    fn from(_e: AllocError) -> Refusal {
+        Refusal::Memory
+    }
+}
+
+impl<T: Drop> From<AllocFailed<T>> for Refusal {
+    ghost from_gives = { λ _ f. f ≡ refusal.Memory };
+
+    fn from(_e: AllocFailed<T>) -> Refusal {
+        Refusal::Memory
+    }
 }

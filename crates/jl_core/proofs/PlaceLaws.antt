@@ -1,0 +1,73 @@
+-- A class more leaves the requested places as they are.
+use Rattle.std.specs.Prelude.{◌≡◌, ℕ, zero, suc, ◌<◌, ◌≤◌, ◌==◌, nat_le, Bool, true, false, if◌then◌else◌, position, List, [], ◌∷◌, ◌++◌, length, slice_get, find, Option, Some, None, option_and_then, Result, Ok, Err, OnOk, OnErr}
+use Rattle.std.specs.Option.{option_map_or}
+use Rattle.std.proofs.Common.{refl, ap, sym, subst, ◌∙◌, arith, inl, inr, length-append}
+use Rattle.jl_classfile.specs.declared.class.ClassFile.{ClassFile}
+use Rattle.jl_classfile.specs.declared.site.Site.{Site}
+use Rattle.jl_types.specs.declared.class.Class.{Class}
+use Rattle.jl_types.specs.declared.ids.Place.{Place}
+use Rattle.std.specs.Bool.{then_some}
+use Rattle.std.proofs.lemmas.Bool.Decides.{leb_tells}
+use Rattle.jl_types.specs.declared.event.Made.TheVariants as made
+use Rattle.jl_types.specs.declared.refusal.NotLinkable.TheVariants.{ArrayReceiver, PolymorphicSignature}
+use Rattle.jl_types.specs.declared.refusal.Refusal.{Refusal}
+use Rattle.jl_types.specs.declared.refusal.Refusal.TheVariants.{NotLinkable, SitesFull, NotYet}
+use Rattle.jl_types.specs.Events.{same_place, names_array, is_polymorphic, new_place_fault, request_place, request_at, unless}
+use Rattle.jl_types.specs.Resolution.{first_of}
+use Rattle.jl_types.proofs.Bools.{clash}
+use Rattle.jl_core.proofs.DefineLaws.{either}
+use Rattle.jl_core.specs.Admitted.{request_admitted}
+use Rattle.jl_types.specs.World.{Classes, World}
+use Rattle.jl_types.specs.Definitions.{class_made, defined}
+use Rattle.jl_types.specs.Sites.{invocation_at}
+use Rattle.jl_core.specs.Admitted.{is_supported}
+use Rattle.jl_core.specs.Plain.{AreSupported}
+
+older : {A : Type 0} (xs : List A) (x y : A) (n : ℕ) → slice_get xs n ≡ Some y → slice_get (xs ++ x ∷ []) n ≡ Some y
+older [] x y n e = cc
+older (z ∷ xs) x y zero e = e
+older (z ∷ xs) x y (suc n) e = older xs x y n e
+
+-- the invocation at a place of a class
+abbrev in_row : Option Class → Place → Option Site
+in_row row place =
+    option_and_then (λ method. find (λ site. site.pc == place.pc) method.sites) (slice_get (option_map_or (λ row. row.file.methods) row []) place.method)
+
+still_there : (cs : Classes) (loader : ℕ) (file : ClassFile) (place : Place) → option_map_or is_supported (invocation_at cs place) false ≡ true → option_map_or is_supported (invocation_at (defined cs loader file) place) false ≡ true
+still_there cs loader file place h = by_row (slice_get cs.rows place.class) refl h
+  where
+    by_row : (row : Option Class) → slice_get cs.rows place.class ≡ row → option_map_or is_supported (in_row row place) false ≡ true → option_map_or is_supported (invocation_at (defined cs loader file) place) false ≡ true
+    by_row None e k = cc
+    by_row (Some row) e k = ap (λ (o : Option Class). option_map_or is_supported (in_row o place) false) (older cs.rows (class_made cs loader file) row place.class e) ∙ k
+
+pub supported_after : {X E : Type 0} (r : Result X E) (cs new : Classes) (loader : ℕ) (file : ClassFile) (places : List Place) → OnOk r (new ≡ defined cs loader file) → OnErr r (new ≡ cs) → AreSupported cs places → AreSupported new places
+supported_after (Ok x) cs new loader file places e f h = subst (λ k. AreSupported k places) (sym e) (λ s place is. still_there cs loader file place (h s place is))
+supported_after (Err x) cs new loader file places e f h = subst (λ k. AreSupported k places) (sym f) h
+
+-- ---- one place more
+
+pub refused_new : (max_sites : ℕ) (w : World) (place : Place) (site : Site) (r : Refusal) → invocation_at w.classes place ≡ Some site → is_supported site ≡ true → position (same_place place) w.places ≡ None → new_place_fault max_sites w site ≡ Some r → request_admitted max_sites w place (invocation_at w.classes place) ≡ Err r
+refused_new max_sites w place site r e s p f =
+    ap (request_admitted max_sites w place) e
+    ∙ ap (λ (b : Bool). if b then request_at max_sites w place (Some site) else Err NotYet) s
+    ∙ ap (λ (o : Option ℕ). request_place max_sites w o site) p
+    ∙ ap (λ (o : Option Refusal). unless o (made.Site (length w.places))) f
+
+pub room_there : (max_sites : ℕ) (w : World) (site : Site) → new_place_fault max_sites w site ≡ None → length w.places < max_sites
+room_there max_sites w site e =
+    let a = none_there (names_array site.operand) (NotLinkable ArrayReceiver) _ e in
+    let b = none_there (is_polymorphic site.operand) (NotLinkable PolymorphicSignature) _ a.1 in
+    let d = none_there (nat_le max_sites (length w.places)) SitesFull _ b.1 in
+    elim (leb_tells max_sites (length w.places)) [ inl p ↦ absurd (clash (nat_le max_sites (length w.places)) p.0 d.0) | inr p ↦ p.1 ]
+  where
+    none_there : (b : Bool) (f : Refusal) (rest : List (Option Refusal)) → first_of (then_some b f ∷ rest) ≡ None → (b ≡ false) × (first_of rest ≡ None)
+    none_there true f rest e = cc
+    none_there false f rest e = (refl, e)
+
+pub place_supported : (cs : Classes) (keys : List Place) (place : Place) (site : Site) → invocation_at cs place ≡ Some site → is_supported site ≡ true → AreSupported cs keys → (b : Bool) → AreSupported cs (if b then keys else keys ++ place ∷ [])
+place_supported cs keys place site e s h true = h
+place_supported cs keys place site e s h false = λ n other is. either (λ p. option_map_or is_supported (invocation_at cs p) false ≡ true) keys place other n h (ap (λ (o : Option Site). option_map_or is_supported o false) e ∙ s) is
+
+pub place_few : (keys : List Place) (place : Place) (most : ℕ) → length keys < most → (b : Bool) → length (if b then keys else keys ++ place ∷ []) ≤ most
+place_few keys place most h true = omega arith
+place_few keys place most h false = subst (λ n. n ≤ most) (sym (length-append keys (place ∷ []))) (omega arith)

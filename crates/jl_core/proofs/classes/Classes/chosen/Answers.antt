@@ -1,0 +1,6 @@
+use Rattle.std.proofs.Common.{sym, ◌∙◌}
+use Rattle.jl_core.proofs.PlainLaws.{chosen_nothing}
+use Rattle.jl_core.proofs.classes.Classes.chosen.Goals as goal
+
+pub returns-in-None : goal.returns-in-None
+returns-in-None c = sym (chosen_nothing c.args.self.now c.method_at.ensures.plain c.args.receiver c.args.resolved.now c.in-Some.method.now c.in-Some.ensures.found (sym c.has_flag.ensures ∙ c.if-has_flag.false) (sym c.in-None.ensures))

@@ -1,0 +1,19 @@
+//! The classes of one loader, the sites that were requested, their links from scratch, and the answers to calls.
+//!
+//! This is a first, plain linker: it admits public classes that are no interface and list none, with public methods alone.
+//! What a link is and what a call comes to is defined in jl_types; `specs/Plain` says what is admitted, and
+//! `specs/Admitted` what an event is answered. The other definitions here are means of proof.
+#![tactic(auto)]
+
+mod classes;
+mod define;
+mod link;
+mod request;
+mod resolve;
+mod select;
+mod stage;
+mod upward;
+mod world;
+
+pub use define::is_plain_file;
+pub use world::World;
