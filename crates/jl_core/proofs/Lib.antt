@@ -5,3 +5,4 @@ pub mod StageLaws
 pub mod RecordLaws
 pub mod DefineLaws
 pub mod PlaceLaws
+pub mod BatchLaws

@@ -4,3 +4,4 @@ pub mod Plain
 pub mod TargetCode
 pub mod Rows
 pub mod Stages
+pub mod Batches

@@ -7,6 +7,7 @@
 
 mod classes;
 mod define;
+mod install;
 mod link;
 mod request;
 mod resolve;

@@ -116,6 +116,24 @@ fn names_object(outcome: &Option<Result<ClassId, DefineFault>>) -> bool {
     }
 }
 
+/// Whether the refusal is that site 0 has the table of these rows now.
+fn presents_table(refusal: &Option<Refusal>, rows: &[(u32, u32)]) -> bool {
+    match refusal {
+        Some(
+            Refusal::Stale {
+                site,
+                present: Link::Table(TableKind::Virtual, table),
+            },
+        ) => { site.number() == 0 && are_rows(table, rows) }
+        _ => false,
+    }
+}
+
+/// The refusal of an install of this link at site 0.
+fn one_row(world: &World, link: Link) -> Option<Refusal> {
+    world.install_refusal([(SiteNo::new(0), link)].as_slice())
+}
+
 #[test]
 fn links_by_the_receivers(rt: HostRuntime) -> Result<(), Fail> {
     let alloc = rt.alloc();
@@ -260,5 +278,26 @@ fn leaves_abstract_classes_out(rt: HostRuntime) -> Result<(), Fail> {
     let child = sketched(alloc, b"D".as_slice(), PUBLIC, b"C".as_slice(), None)?;
     assert!(rt; is_plain_file(&child) && world.define(alloc, zero, child).is_ok());
     assert!(rt; has_table(&world, 0, [(1, 1), (2, 1), (5, 4)].as_slice()));
+    Ok(())
+}
+
+#[test]
+fn refuses_stale_links(rt: HostRuntime) -> Result<(), Fail> {
+    let alloc = rt.alloc();
+    let mut world = World::new(alloc);
+    for text in [OBJECT, A, B, M] {
+        assert!(rt; matches!(define(alloc, &mut world, text), Some(Ok(_))));
+    }
+    assert!(rt; world.request(1, place(3, 0)).is_ok());
+    let direct = Link::Direct(Outcome::Run(first(1)));
+    assert!(rt; one_row(&world, direct).is_none());
+    // A class with a method of its own makes the link stale.
+    assert!(rt; matches!(define(alloc, &mut world, C), Some(Ok(_))));
+    assert!(rt;
+        presents_table(
+            &one_row(&world, direct),
+            [(1, 1), (2, 1), (4, 4)].as_slice()
+        )
+    );
     Ok(())
 }
