@@ -1,8 +1,8 @@
 -- The laws of a walk up the superclasses, step by step.
-use Rattle.std.specs.Prelude.{◌≡◌, ℕ, zero, suc, length, ◌<◌, ◌==◌, Bool, true, false, ◌||◌, List, [], ◌∷◌, slice_get, filter, filter_map, Option, Some, None, option_and_then, if◌then◌else◌}
+use Rattle.std.specs.Prelude.{◌≡◌, ℕ, length, ◌<◌, ◌==◌, Bool, true, false, ◌||◌, List, [], ◌∷◌, slice_get, filter, filter_map, Option, Some, None, option_and_then, if◌then◌else◌}
 use Rattle.std.specs.List.{list_any}
 use Rattle.std.specs.Option.{option_map_or}
-use Rattle.std.proofs.Common.{refl, ap, sym, ◌∙◌, add-one, arith}
+use Rattle.std.proofs.Common.{refl, ap, sym, ◌∙◌, add-one}
 use Rattle.jl_types.specs.World.{Classes}
 use Rattle.jl_types.specs.declared.class.Class.{Class}
 use Rattle.jl_types.specs.declared.ids.MethodId.{MethodId}
@@ -14,6 +14,7 @@ use Rattle.jl_types.specs.Ancestry.{superclasses, superclass_of, is_subclass, Ar
 use Rattle.jl_types.specs.Resolution.{first_element, declared_upward}
 use Rattle.jl_core.specs.Plain.{own_overriding}
 use Rattle.jl_types.proofs.Ancestors.{superclasses_is, superclass_below}
+use Rattle.jl_types.proofs.Lists.{element_at}
 
 module _ (cs : Classes) (o : AreOrdered cs.rows) (c : ℕ) where
   -- a class has its row, where it has a superclass
@@ -30,27 +31,17 @@ module _ (cs : Classes) (o : AreOrdered cs.rows) (c : ℕ) where
   pub chain_above : (s : ℕ) → superclass_of cs c ≡ Some s → superclasses cs c ≡ c ∷ superclasses cs s
   chain_above s e = let r = row_of s e in superclasses_is cs o c r.0 r.1 ∙ ap (λ (p : Option ℕ). c ∷ option_map_or (superclasses cs) p []) r.2
 
-  -- the chain of a class without a superclass: itself, if it is there
-  pub chain_ends : superclass_of cs c ≡ None → (row : Option Class) → slice_get cs.rows c ≡ row → superclasses cs c ≡ option_map_or (λ r. c ∷ []) row []
-  chain_ends e None is = rw (add-one c, is) refl
-  chain_ends e (Some row) is = superclasses_is cs o c row is ∙ ap (λ (p : Option ℕ). c ∷ option_map_or (superclasses cs) p []) (sym (ap (option_and_then (λ r. r.superclass)) is) ∙ e)
-
   pub found_above : (name ty : List ℕ) (s : ℕ) → declared cs name ty c ≡ None → superclass_of cs c ≡ Some s → declared_upward cs name ty c ≡ declared_upward cs name ty s
   found_above name ty s d e = rw (chain_above s e, d) refl
 
 -- of a class that is there
-pub row_there : (rows : List Class) (c : ℕ) → c < length rows → (row : Class) × (slice_get rows c ≡ Some row)
-row_there [] c h = absurd (omega arith)
-row_there (row ∷ rows) zero h = (row, refl)
-row_there (row ∷ rows) (suc c) h = row_there rows c (omega arith)
-
 pub chain_there : (cs : Classes) → AreOrdered cs.rows → (c : ℕ) → c < length cs.rows → superclasses cs c ≡ c ∷ option_map_or (superclasses cs) (superclass_of cs c) []
 chain_there cs o c h =
-    let r = row_there cs.rows c h in
+    let r = element_at cs.rows c h in
     superclasses_is cs o c r.0 r.1 ∙ sym (ap (λ (row : Option Class). c ∷ option_map_or (superclasses cs) (option_and_then (λ r. r.superclass) row) []) r.1)
 
 pub is_itself : (cs : Classes) (c : ℕ) → c < length cs.rows → (y : ℕ) → (c == y) ≡ true → is_subclass cs c y ≡ true
-is_itself cs c h y e = let r = row_there cs.rows c h in rw (add-one c, r.1, e) refl
+is_itself cs c h y e = let r = element_at cs.rows c h in rw (add-one c, r.1, e) refl
 
 module _ (cs : Classes) (o : AreOrdered cs.rows) (c : ℕ) (h : c < length cs.rows) (y : ℕ) where
   pub below_next : (s : ℕ) → (c == y) ≡ false → superclass_of cs c ≡ Some s → is_subclass cs c y ≡ is_subclass cs s y
@@ -58,12 +49,6 @@ module _ (cs : Classes) (o : AreOrdered cs.rows) (c : ℕ) (h : c < length cs.ro
       ap (list_any (λ k. k == y)) (chain_there cs o c h)
       ∙ ap (λ (p : Option ℕ). (c == y) || list_any (λ k. k == y) (option_map_or (superclasses cs) p [])) is
       ∙ ap (λ (b : Bool). b || is_subclass cs s y) e
-
-  pub not_below : (c == y) ≡ false → superclass_of cs c ≡ None → is_subclass cs c y ≡ false
-  not_below e is =
-      ap (list_any (λ k. k == y)) (chain_there cs o c h)
-      ∙ ap (λ (p : Option ℕ). (c == y) || list_any (λ k. k == y) (option_map_or (superclasses cs) p [])) is
-      ∙ ap (λ (b : Bool). b || false) e
 
 -- ---- the first method that can override
 

@@ -24,8 +24,8 @@ use Rattle.jl_types.specs.Members.{is_interface}
 use Rattle.jl_core.specs.Plain.{first_faults, last_faults}
 use Rattle.jl_classfile.specs.Conditions.{has_flag, PUBLIC}
 use Rattle.jl_types.specs.Members.{share_package}
-use Rattle.jl_types.proofs.Bools.{or_left}
-use Rattle.jl_core.proofs.Chains.{row_there}
+use Rattle.jl_types.proofs.Bools.{or_left, or_none}
+use Rattle.jl_types.proofs.Lists.{element_at, some_same}
 use Rattle.jl_core.proofs.PlainLaws.{plain_parts, no_interface}
 
 pub any_parent : {A : Type 0} (p : A → Bool) (o : Option A) (ps : List A) → list_any p (option_to_list o ++ ps) ≡ (option_map_or p o false || list_any p ps)
@@ -69,9 +69,6 @@ entries_wider n (x ∷ entries) e h k = (let lt = h.0 in omega arith, entries_wi
 
 pub either : {A : Type 0} (P : A → Type 0) (xs : List A) (x y : A) (n : ℕ) → ((n : ℕ) (y : A) → slice_get xs n ≡ Some y → P y) → P x → slice_get (xs ++ x ∷ []) n ≡ Some y → P y
 either P [] x y zero h k e = subst P (some_same x y e) k
-  where
-    some_same : {A : Type 0} (a b : A) → Some a ≡ Some b → a ≡ b
-    some_same a b e = cc
 either P [] x y (suc n) h k e = cc
 either P (z ∷ xs) x y zero h k e = h 0 y e
 either P (z ∷ xs) x y (suc n) h k e = either P xs x y n (λ n y e. h (suc n) y e) k e
@@ -135,10 +132,6 @@ module _ (cs : Classes) (loader : ℕ) (file : ClassFile) (p : is_plain_file fil
       no_missing : option_map define.MissingParent (find (λ name. is_none (lookup cs loader name)) (parent_names file)) ≡ None
       no_missing = ap (λ (ns : List (List ℕ)). option_map define.MissingParent (find (λ name. is_none (lookup cs loader name)) ns)) names ∙ ap (λ (o : Option ℕ). option_map define.MissingParent (cond (is_none o) (Some name) None)) l
 
-      or_none : (b : Bool) → (b || false) ≡ b
-      or_none true = refl
-      or_none false = refl
-
       tested : (test : ℕ → Bool) → list_any (named_test test cs loader) (option_to_list file.superclass) ≡ test c
       tested test = ap (λ (o : Option (List ℕ)). list_any (named_test test cs loader) (option_to_list o)) h ∙ ap (λ (o : Option ℕ). list_any test (option_to_list o) || false) l ∙ or_none (test c || false) ∙ or_none (test c)
 
@@ -147,7 +140,7 @@ module _ (cs : Classes) (loader : ℕ) (file : ClassFile) (p : is_plain_file fil
 
       is_open : is_open_to cs (class_made cs loader file) c ≡ true
       is_open =
-          let r = row_there cs.rows c lt in
+          let r = element_at cs.rows c lt in
           ap (λ (row : Option Class). option_map_or (λ row. has_flag row.file.flags PUBLIC || share_package row (class_made cs loader file)) row false) r.1
           ∙ or_left (has_flag r.0.file.flags PUBLIC) _ (plain_parts r.0.file (w.each c r.0 r.1).plain).0
 

@@ -1,5 +1,5 @@
 -- A class more leaves the requested places as they are.
-use Rattle.std.specs.Prelude.{◌≡◌, ℕ, zero, suc, ◌<◌, ◌≤◌, ◌==◌, nat_le, Bool, true, false, if◌then◌else◌, position, List, [], ◌∷◌, ◌++◌, length, slice_get, find, Option, Some, None, option_and_then, Result, Ok, Err, OnOk, OnErr}
+use Rattle.std.specs.Prelude.{◌≡◌, ℕ, ◌<◌, ◌≤◌, ◌==◌, nat_le, Bool, true, false, if◌then◌else◌, position, List, [], ◌∷◌, ◌++◌, length, slice_get, find, Option, Some, None, option_and_then, Result, Ok, Err, OnOk, OnErr}
 use Rattle.std.specs.Option.{option_map_or}
 use Rattle.std.proofs.Common.{refl, ap, sym, subst, ◌∙◌, arith, inl, inr, length-append}
 use Rattle.jl_classfile.specs.declared.class.ClassFile.{ClassFile}
@@ -15,6 +15,7 @@ use Rattle.jl_types.specs.declared.refusal.Refusal.TheVariants.{NotLinkable, Sit
 use Rattle.jl_types.specs.Events.{same_place, names_array, is_polymorphic, new_place_fault, request_place, request_at, unless}
 use Rattle.jl_types.specs.Resolution.{first_of}
 use Rattle.jl_types.proofs.Bools.{clash}
+use Rattle.jl_types.proofs.Lists.{before_end, is_within}
 use Rattle.jl_core.proofs.DefineLaws.{either}
 use Rattle.jl_core.specs.Admitted.{request_admitted}
 use Rattle.jl_types.specs.World.{Classes, World}
@@ -22,11 +23,6 @@ use Rattle.jl_types.specs.Definitions.{class_made, defined}
 use Rattle.jl_types.specs.Sites.{invocation_at}
 use Rattle.jl_core.specs.Admitted.{is_supported}
 use Rattle.jl_core.specs.Plain.{AreSupported}
-
-older : {A : Type 0} (xs : List A) (x y : A) (n : ℕ) → slice_get xs n ≡ Some y → slice_get (xs ++ x ∷ []) n ≡ Some y
-older [] x y n e = cc
-older (z ∷ xs) x y zero e = e
-older (z ∷ xs) x y (suc n) e = older xs x y n e
 
 -- the invocation at a place of a class
 abbrev in_row : Option Class → Place → Option Site
@@ -38,7 +34,7 @@ still_there cs loader file place h = by_row (slice_get cs.rows place.class) refl
   where
     by_row : (row : Option Class) → slice_get cs.rows place.class ≡ row → option_map_or is_supported (in_row row place) false ≡ true → option_map_or is_supported (invocation_at (defined cs loader file) place) false ≡ true
     by_row None e k = cc
-    by_row (Some row) e k = ap (λ (o : Option Class). option_map_or is_supported (in_row o place) false) (older cs.rows (class_made cs loader file) row place.class e) ∙ k
+    by_row (Some row) e k = ap (λ (o : Option Class). option_map_or is_supported (in_row o place) false) (before_end cs.rows (class_made cs loader file) place.class (is_within cs.rows place.class row e) ∙ e) ∙ k
 
 pub supported_after : {X E : Type 0} (r : Result X E) (cs new : Classes) (loader : ℕ) (file : ClassFile) (places : List Place) → OnOk r (new ≡ defined cs loader file) → OnErr r (new ≡ cs) → AreSupported cs places → AreSupported new places
 supported_after (Ok x) cs new loader file places e f h = subst (λ k. AreSupported k places) (sym e) (λ s place is. still_there cs loader file place (h s place is))

@@ -2,7 +2,7 @@
 use Rattle.std.specs.Prelude.{◌≡◌, ℕ, zero, suc, ◌+◌, ◌<◌, ◌==◌, Bool, true, false, not, cond, ◌&&◌, ◌||◌, nat_lt, List, [], ◌∷◌, length, filter, filter_map, slice_get, Option, Some, None, option_map, option_to_list, Ok, Err}
 use Rattle.std.specs.List.{list_any, list_all, cons_option, position_or_len}
 use Rattle.std.specs.Option.{option_map_or}
-use Rattle.std.proofs.Common.{refl, ap, sym, ◌∙◌, arith, add-one}
+use Rattle.std.proofs.Common.{refl, ap, sym, ◌∙◌, add-one}
 use Rattle.std.specs.Bool.{one_answer}
 use Rattle.std.proofs.Common.{append-nil}
 use Rattle.std.proofs.lemmas.Bool.Decides.{Decides-eqb, Decides-like}
@@ -24,7 +24,8 @@ use Rattle.jl_types.specs.Resolution.{first_of, first_element, only, candidates,
 use Rattle.jl_types.specs.Overriding.{are_alike, is_visible, can_override}
 use Rattle.jl_types.specs.Selection.{overriding, chosen}
 use Rattle.jl_types.specs.declared.answer.Chosen.TheVariants.{Nothing}
-use Rattle.jl_types.proofs.Bools.{and_both, or_left}
+use Rattle.jl_types.proofs.Bools.{and_both, not_true, or_left, or_none}
+use Rattle.jl_types.proofs.Lists.{some_same, element_at}
 use Rattle.jl_core.specs.Admitted.{is_plain_file, is_public_method}
 use Rattle.jl_core.specs.Plain.{alike, IsPlainWorld}
 
@@ -35,10 +36,6 @@ plain_parts file h =
     let d = and_both (length file.interfaces == 0) _ b.1 in
     let e = and_both (nat_lt (length file.methods) 65536) _ d.1 in
     (a.0, b.0, d.0, e.0, e.1)
-
-not_true : (b : Bool) → not b ≡ true → b ≡ false
-not_true true h = cc
-not_true false h = refl
 
 filter_none : {A : Type 0} (p : A → Bool) (xs : List A) → ((x : A) → p x ≡ false) → filter p xs ≡ []
 filter_none p [] h = refl
@@ -89,20 +86,12 @@ module _ (cs : Classes) (w : IsPlainWorld cs.rows) where
   declared_there : (name ty : List ℕ) (c : ℕ) (m : MethodId) → declared cs name ty c ≡ Some m → (method : Method) × (method_at cs m ≡ Some method)
   declared_there name ty c m e = by_place (nat_lt (position_or_len (is_called name ty) (methods_of cs c)) (length (methods_of cs c))) refl e
     where
-      there : (ms : List Method) (i : ℕ) → i < length ms → (method : Method) × (slice_get ms i ≡ Some method)
-      there [] i h = absurd (omega arith)
-      there (x ∷ ms) zero h = (x, refl)
-      there (x ∷ ms) (suc i) h = there ms i (omega arith)
-
-      same : (a b : MethodId) → Some a ≡ Some b → a ≡ b
-      same a b e = cc
-
       by_place : (b : Bool) → nat_lt (position_or_len (is_called name ty) (methods_of cs c)) (length (methods_of cs c)) ≡ b → option_map (λ i. record { class = c; index = i }) (cond b (Some (position_or_len (is_called name ty) (methods_of cs c))) None) ≡ Some m → (method : Method) × (method_at cs m ≡ Some method)
       by_place true is h =
           let k = position_or_len (is_called name ty) (methods_of cs c) in
           let lt : k < length (methods_of cs c) = lt_of is in
-          let r = there (methods_of cs c) k lt in
-          (r.0, sym (ap (method_at cs) (same (record { class = c; index = k }) m h)) ∙ r.1)
+          let r = element_at (methods_of cs c) k lt in
+          (r.0, sym (ap (method_at cs) (some_same (record { class = c; index = k }) m h)) ∙ r.1)
       by_place false is h = cc
 
   first_there : (name ty : List ℕ) (xs : List ℕ) (m : MethodId) → first_element (filter_map (declared cs name ty) xs) ≡ Some m → (method : Method) × (method_at cs m ≡ Some method)
@@ -178,10 +167,6 @@ module _ (cs : Classes) (w : IsPlainWorld cs.rows) where
       by_superclass : (o : Option ℕ) → ((p : ℕ) → is_ancestor_within n cs.rows a p ≡ list_any (λ c. c == a) (superclasses_within n cs.rows p)) → list_any (is_ancestor_within n cs.rows a) (option_to_list o) ≡ list_any (λ c. c == a) (option_map_or (superclasses_within n cs.rows) o [])
       by_superclass None ih = refl
       by_superclass (Some p) ih = rw (ih p) (or_none (list_any (λ c. c == a) (superclasses_within n cs.rows p)))
-        where
-          or_none : (b : Bool) → (b || false) ≡ b
-          or_none true = refl
-          or_none false = refl
 
       by_row : (row : Option Class) → slice_get cs.rows x ≡ row → ((p : ℕ) → is_ancestor_within n cs.rows a p ≡ list_any (λ c. c == a) (superclasses_within n cs.rows p)) → option_map_or (λ row. (a == x) || list_any (is_ancestor_within n cs.rows a) (parents row)) row false ≡ list_any (λ c. c == a) (option_map_or (λ row. x ∷ option_map_or (superclasses_within n cs.rows) row.superclass []) row [])
       by_row None e ih = refl

@@ -1,12 +1,10 @@
 -- A link from scratch gives the answer of the call.
-use Rattle.std.specs.Prelude.{◌≡◌, ℕ, zero, suc, ◌<◌, ◌==◌, ◌&&◌, ◌||◌, nat_le, Bool, true, false, not, cond, ⊤, List, [], ◌∷◌, length, map, filter, find, slice_get, Option, Some, None, Result, Ok, Err, if◌then◌else◌}
+use Rattle.std.specs.Prelude.{◌≡◌, ℕ, ◌==◌, ◌&&◌, ◌||◌, nat_le, Bool, true, false, not, cond, ⊤, List, [], ◌∷◌, length, map, filter, find, slice_get, Option, Some, None, Result, Ok, Err, if◌then◌else◌}
 use Rattle.std.specs.List.{list_any, list_all}
-use Rattle.std.specs.Option.{option_map_or}
 use Rattle.std.proofs.Common.{refl, ap, sym, ◌∙◌, arith, inl, inr}
 use Rattle.std.proofs.lemmas.Bool.Decides.{Decides-eqb}
 use Rattle.jl_classfile.specs.declared.site.Kind.{Kind}
 use Rattle.jl_classfile.specs.declared.site.Kind.TheVariants.{Virtual, Special, Static, Interface, Dynamic}
-use Rattle.jl_types.specs.declared.class.Class.{Class}
 use Rattle.jl_classfile.specs.declared.site.Operand.{Operand}
 use Rattle.jl_classfile.specs.declared.site.Operand.TheVariants as operand
 use Rattle.jl_classfile.specs.declared.site.Site.{Site}
@@ -39,6 +37,7 @@ use Rattle.jl_types.specs.Links.{outcome, table_rows, table_or_mega, virtual_lin
 use Rattle.jl_types.specs.Calls.{answered, is_receiver, selected, answer_of, dispatch}
 use Rattle.jl_types.specs.Fast.{no_entry, entry_answer}
 use Rattle.jl_types.proofs.Bools.{or_cases, and_both, both_and, same_number, clash, any-range-from, any-filter-at}
+use Rattle.jl_types.proofs.Lists.{passes_within}
 
 -- installed where the outcome hangs on the receiver
 abbrev pub looks : Link → Bool
@@ -237,15 +236,10 @@ none_left p x (y ∷ xs) h = by_test (p y) refl (none_left p x xs h)
     by_test false e rest = rest
 
 module _ (cs : Classes) (named x : ℕ) where
-  there : (rows : List Class) (i : ℕ) → option_map_or is_concrete_row (slice_get rows i) false ≡ true → i < length rows
-  there [] i h = cc
-  there (row ∷ rows) zero h = omega arith
-  there (row ∷ rows) (suc i) h = let lt = there rows i h in omega arith
-
   -- the objects that are a named class are of its receivers
   pub among_receivers : is_concrete cs x ≡ true → is_ancestor cs named x ≡ true → list_any (λ y. y == x) (receivers cs named) ≡ true
   among_receivers h k =
-      let lt = there cs.rows x h in
+      let lt = passes_within is_concrete_row cs.rows x h in
       let all : list_any (λ y. y == x) (numbers cs) ≡ true = any-range-from (λ y. y == x) 0 (length cs.rows) x (omega arith) (omega arith) (same_number x) in
       any-filter-at (λ y. is_concrete cs y && is_ancestor cs named y) (λ y. y == x) x (numbers cs) all (both_and (is_concrete cs x) (is_ancestor cs named x) h k) (same_number x)
 

@@ -1,5 +1,5 @@
 -- The list of installed links: its sites are requested, each stands once, and none is left out.
-use Rattle.std.specs.Prelude.{◌≡◌, ℕ, zero, suc, ◌+◌, ◌<◌, ◌≤◌, ◌⊎◌, ◌↔◌, List, [], ◌∷◌, length, slice_get, filter_map, Option, Some, None, option_map, Ok, AllPairs, Contains}
+use Rattle.std.specs.Prelude.{◌≡◌, ℕ, zero, suc, ◌+◌, ◌<◌, ◌≤◌, ◌⊎◌, ◌↔◌, List, length, slice_get, filter_map, Option, Some, None, option_map, Ok, AllPairs, Contains}
 use Rattle.std.specs.List.{range_with_len, AllByRecursion, cons_option}
 use Rattle.std.proofs.Common.{refl, ap, subst, ◌∙◌, arith, inl, inr}
 use Rattle.std.proofs.lemmas.List.Elements.{All-from_recursion}
@@ -11,19 +11,15 @@ use Rattle.jl_types.specs.World.{World}
 use Rattle.jl_types.specs.Sites.{stage_at}
 use Rattle.jl_types.specs.Links.{scratch, link_of}
 use Rattle.jl_types.specs.History.{world_after, installed, installed_links}
+use Rattle.jl_types.proofs.Lists.{some_same, is_within}
 use Rattle.jl_types.proofs.Installed.{installed_to, settled_now}
-
-there : {A : Type 0} (xs : List A) (n : ℕ) (x : A) → slice_get xs n ≡ Some x → n < length xs
-there [] n x e = cc
-there (y ∷ xs) zero x e = omega arith
-there (y ∷ xs) (suc n) x e = let lt = there xs n x e in omega arith
 
 pub requested : (w : World) (s : ℕ) (l : Link) → scratch w s ≡ Ok l → s < length w.places
 requested w s l e = by_place (slice_get w.places s) refl e
   where
     by_place : (place : Option Place) → slice_get w.places s ≡ place → link_of w.classes (stage_at w s place) ≡ Ok l → s < length w.places
     by_place None is e = cc
-    by_place (Some place) is e = there w.places s place is
+    by_place (Some place) is e = is_within w.places s place is
 
 pub installed_requested : (h : List Event) (s : ℕ) (l : Link) → installed h s ≡ Some l → s < length (world_after h).places
 installed_requested h s l e = requested (world_after h) s l (settled_now h s l (installed_to h s l e))
@@ -75,9 +71,6 @@ module _ (f : ℕ → Option Link) where
       first : (o : Option Link) → o ≡ Some l → a ≡ s → Contains (cons_option (option_map (λ l. (a, l)) o) (rows (a + 1) n)) (s, l)
       first None e same = cc
       first (Some m) e same = (0, omega arith, λ i. (same i, some_same m l e i))
-        where
-          some_same : (m l : Link) → Some m ≡ Some l → m ≡ l
-          some_same m l e = cc
 
       later : (o : Option Link) → Contains (rows (a + 1) n) (s, l) → Contains (cons_option (option_map (λ l. (a, l)) o) (rows (a + 1) n)) (s, l)
       later None c = c

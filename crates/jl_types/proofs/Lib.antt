@@ -1,4 +1,5 @@
 pub mod Rows
+pub mod Lists
 pub mod Bools
 pub mod Ancestors
 pub mod Overrides

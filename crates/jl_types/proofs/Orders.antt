@@ -14,6 +14,7 @@ use Rattle.jl_types.specs.Ancestry.{parents, AreOrdered}
 use Rattle.jl_types.specs.Definitions.{class_made, defined, delegated}
 use Rattle.jl_types.specs.Events.{step}
 use Rattle.jl_types.specs.History.{world_after}
+use Rattle.jl_types.proofs.Lists.{some_same, before_end, at_end}
 
 -- the records name classes that are there, and parents come first
 pub record IsGood (cs : Classes) : Type 0 where
@@ -58,15 +59,6 @@ module _ (cs : Classes) (good : IsGood cs) (loader : ℕ) where
 
 -- ---- one class more, one record more
 
-older : {A : Type 0} (xs : List A) (x : A) (n : ℕ) → n < length xs → slice_get (xs ++ x ∷ []) n ≡ slice_get xs n
-older [] x n h = absurd (omega arith)
-older (y ∷ xs) x zero h = refl
-older (y ∷ xs) x (suc n) h = older xs x n (omega arith)
-
-last : {A : Type 0} (xs : List A) (x : A) → slice_get (xs ++ x ∷ []) (length xs) ≡ Some x
-last [] x = refl
-last (y ∷ xs) x = last xs x
-
 none_behind : {A : Type 0} (xs : List A) (x y : A) (n : ℕ) → slice_get (xs ++ x ∷ []) n ≡ Some y → n ≤ length xs
 none_behind [] x y zero e = omega arith
 none_behind [] x y (suc n) e = cc
@@ -88,13 +80,10 @@ less_or_same (suc n) zero h = absurd (omega arith)
 less_or_same (suc n) (suc m) h = elim (less_or_same n m (omega arith)) [ inl lt ↦ inl (omega arith) | inr e ↦ inr (ap suc e) ]
 
 module _ (cs : Classes) (good : IsGood cs) (loader : ℕ) (file : ClassFile) where
-  some_same : (a b : Class) → Some a ≡ Some b → a ≡ b
-  some_same a b e = cc
-
   in_order : (c : ℕ) (row : Class) → slice_get (cs.rows ++ class_made cs loader file ∷ []) c ≡ Some row → (c < length cs.rows) ⊎ (c ≡ length cs.rows) → AllByRecursion (λ p. p < c) (parents row)
-  in_order c row e (inl lt) = recursion_from_All (λ p. p < c) (parents row) (good.ordered c row (sym (older cs.rows (class_made cs loader file) c lt) ∙ e))
+  in_order c row e (inl lt) = recursion_from_All (λ p. p < c) (parents row) (good.ordered c row (sym (before_end cs.rows (class_made cs loader file) c lt) ∙ e))
   in_order c row e (inr same) =
-      let made : class_made cs loader file ≡ row = some_same (class_made cs loader file) row (sym (last cs.rows (class_made cs loader file)) ∙ ap (slice_get (cs.rows ++ class_made cs loader file ∷ [])) (sym same) ∙ e) in
+      let made : class_made cs loader file ≡ row = some_same (class_made cs loader file) row (sym (at_end cs.rows (class_made cs loader file)) ∙ ap (slice_get (cs.rows ++ class_made cs loader file ∷ [])) (sym same) ∙ e) in
       subst (λ k. AllByRecursion (λ p. p < k) (parents row)) (sym same) (subst (λ r. AllByRecursion (λ p. p < length cs.rows) (parents r)) made (parents_below cs good loader file))
 
   pub defined_good : IsGood (defined cs loader file)

@@ -1,5 +1,5 @@
 -- The test of overriding says what the least relation says, where parents come first.
-use Rattle.std.specs.Prelude.{◌≡◌, ℕ, zero, suc, ◌+◌, ◌<◌, ◌≤◌, Bool, true, false, ◌||◌, ◌&&◌, List, [], ◌∷◌, length, slice_get, Option, Some, None, Decides}
+use Rattle.std.specs.Prelude.{◌≡◌, ℕ, zero, suc, ◌+◌, ◌<◌, ◌≤◌, Bool, true, false, ◌||◌, ◌&&◌, length, Option, Some, None, Decides}
 use Rattle.std.specs.List.{list_any, range_with_len}
 use Rattle.std.specs.Option.{option_map_or}
 use Rattle.std.proofs.Common.{refl, sym, ◌∙◌, arith, inl, inr}
@@ -11,6 +11,7 @@ use Rattle.jl_types.specs.Ancestry.{superclasses, is_subclass, is_proper_subclas
 use Rattle.jl_types.specs.Overriding.{are_alike, is_visible, CanOverride, directly, through, classes_between, methods_in, can_override_within, can_override}
 use Rattle.jl_types.proofs.Bools.{or_right, or_left, or_cases, and_both, both_and, Passing, any-filter, any-filter-at, any-map, any-range-to, any-range-from}
 use Rattle.jl_types.proofs.Ancestors.{subclass_above}
+use Rattle.jl_types.proofs.Lists.{passes_within}
 
 module _ (cs : Classes) where
   -- c can override a by a method of the class k, as the test has it
@@ -52,11 +53,6 @@ module _ (cs : Classes) where
   alike_of (directly alike visible) = alike
   alike_of (through alike flagless b below above r s) = alike
 
-  there : (rows : List Method) (i : ℕ) (test : Method → Bool) → option_map_or test (slice_get rows i) false ≡ true → i < length rows
-  there [] i test h = cc
-  there (m ∷ rows) zero test h = omega arith
-  there (m ∷ rows) (suc i) test h = let lt = there rows i test h in omega arith
-
   -- an outer test that passes has passed the inner one
   inner : (o : Option Method) (test : Method → Method → Bool) (p : Option Method) → option_map_or (λ m. option_map_or (test m) p false) o false ≡ true → option_map_or (λ m. true) p false ≡ true
   inner None test p h = cc
@@ -66,7 +62,7 @@ module _ (cs : Classes) where
   is_there : (c b : MethodId) → are_alike cs c b ≡ true → b.index < length (methods_of cs b.class)
   is_there c b h =
       let parts = and_both _ (method_test (λ m. method_test (is_called m.name m.ty) cs b) cs c) h in
-      there (methods_of cs b.class) b.index (λ m. true) (inner (method_at cs c) (λ m. is_called m.name m.ty) (method_at cs b) parts.1)
+      passes_within (λ m. true) (methods_of cs b.class) b.index (inner (method_at cs c) (λ m. is_called m.name m.ty) (method_at cs b) parts.1)
 
   module _ (o : AreOrdered cs.rows) where
     by_way : (n : ℕ) (c a b : MethodId) → are_alike cs c b ≡ true → is_proper_subclass cs c.class b.class ≡ true → is_proper_subclass cs b.class a.class ≡ true → can_override_within n cs c b ≡ true → can_override_within n cs b a ≡ true → list_any (by_class n c a) (classes_between cs c.class a.class) ≡ true

@@ -1,22 +1,14 @@
 -- One more event settles what it installs, and keeps what keeps its link.
 use Rattle.std.specs.Prelude.{◌≡◌, ℕ, zero, suc, ◌+◌, ◌<◌, ◌≤◌, ◌⊎◌, true, false, List, [], ◌∷◌, ◌++◌, take, length, slice_get, Option, Some, Ok}
 use Rattle.std.specs.Option.{option_map_or}
-use Rattle.std.proofs.Common.{refl, ap, sym, ◌∙◌, arith, inl, inr, length-append}
+use Rattle.std.proofs.Common.{ap, sym, ◌∙◌, arith, inl, inr, length-append}
 use Rattle.std.proofs.lemmas.List.{take-append-le}
 use Rattle.std.proofs.Math.Seq.{take-append-add}
 use Rattle.jl_types.specs.declared.link.Link.{Link}
 use Rattle.jl_types.specs.declared.event.Event.{Event}
 use Rattle.jl_types.specs.Links.{scratch}
+use Rattle.jl_types.proofs.Lists.{before_end, at_end}
 use Rattle.jl_types.specs.History.{Settled, installs, installed_at, scratch_after, world_after}
-
-get-older : {A : Type 0} (xs : List A) (x : A) (n : ℕ) → n < length xs → slice_get (xs ++ x ∷ []) n ≡ slice_get xs n
-get-older [] x n h = absurd (omega arith)
-get-older (y ∷ xs) x zero h = refl
-get-older (y ∷ xs) x (suc n) h = get-older xs x n (omega arith)
-
-get-last : {A : Type 0} (xs : List A) (x : A) → slice_get (xs ++ x ∷ []) (length xs) ≡ Some x
-get-last [] x = refl
-get-last (y ∷ xs) x = get-last xs x
 
 pub le_or_lt : (n m : ℕ) → (n ≤ m) ⊎ (m < n)
 le_or_lt zero m = inl (omega arith)
@@ -46,7 +38,7 @@ module _ (h : List Event) (e : Event) (s : ℕ) (l : Link) where
   pub settles : installs s e ≡ true → scratch (world_after (h ++ e ∷ [])) s ≡ Ok l → Settled (h ++ e ∷ []) s l
   settles i now = record {
     since = length h;
-    installed = ap (λ (o : Option Event). option_map_or (installs s) o false) (get-last h e) ∙ i;
+    installed = ap (λ (o : Option Event). option_map_or (installs s) o false) (at_end h e) ∙ i;
     stayed = λ n lt le. newest n lt le ∙ now;
   }
 
@@ -58,19 +50,19 @@ module _ (h : List Event) (e : Event) (s : ℕ) (l : Link) where
   pub stays : Settled h s l → scratch (world_after (h ++ e ∷ [])) s ≡ Ok l → Settled (h ++ e ∷ []) s l
   stays old now = record {
     since = old.since;
-    installed = ap (λ (o : Option Event). option_map_or (installs s) o false) (get-older h e old.since (within h s old.since old.installed)) ∙ old.installed;
+    installed = ap (λ (o : Option Event). option_map_or (installs s) o false) (before_end h e old.since (within h s old.since old.installed)) ∙ old.installed;
     stayed = λ n lt le. stayed_on old now n le (le_or_lt n (length h)) old.since old.stayed lt;
   }
 
   split : (new : Settled (h ++ e ∷ []) s l) → (new.since < length h) ⊎ (length h ≤ new.since) → (installs s e ≡ true) ⊎ Settled h s l
   split new (inl small) = inr (record {
     since = new.since;
-    installed = ap (λ (o : Option Event). option_map_or (installs s) o false) (sym (get-older h e new.since small)) ∙ new.installed;
+    installed = ap (λ (o : Option Event). option_map_or (installs s) o false) (sym (before_end h e new.since small)) ∙ new.installed;
     stayed = λ n lt le. sym (older n le) ∙ new.stayed n lt (omega (arith, length-append h (e ∷ [])));
   })
   split new (inr large) =
       let k : new.since ≡ length h = omega (arith, within (h ++ e ∷ []) s new.since new.installed, length-append h (e ∷ [])) in
-      let p : slice_get (h ++ e ∷ []) new.since ≡ Some e = rw k (get-last h e) in
+      let p : slice_get (h ++ e ∷ []) new.since ≡ Some e = rw k (at_end h e) in
       inl (ap (λ (o : Option Event). option_map_or (installs s) o false) (sym p) ∙ new.installed)
 
   -- there is no other way to be settled

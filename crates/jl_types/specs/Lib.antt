@@ -15,5 +15,6 @@ pub mod Links
 pub mod Calls
 pub mod Definitions
 pub mod Events
+pub mod Preparation
 pub mod History
 pub mod Fast

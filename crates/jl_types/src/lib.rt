@@ -2,7 +2,7 @@
 //!
 //! What a link is, and what a call comes to, stands in `specs/`, in reading order: `World`, `Members`, `Ancestry`,
 //! `Access`, `Resolution`, `Overriding`, `Selection`, `Targets`, `Sites`, `Links`, `Calls`, `Definitions`, `Events`,
-//! `History`, `Fast`. The laws about them are the contracts of the functions of `laws`.
+//! `Preparation`, `History`, `Fast`. The laws about them are the contracts of the functions of `laws`.
 #![tactic(auto)]
 
 // Numbers.
@@ -43,7 +43,7 @@ pub use laws::{
 };
 pub use link::{Link, TableKind, same_link};
 pub use loader_id::LoaderId;
-pub use refusal::{CallSiteFault, DefineFault, DelegateFault, NotLinkable, Refusal};
+pub use refusal::{CallSiteFault, DefineFault, DelegateFault, NotLinkable, PrepareFault, Refusal};
 pub use site_no::SiteNo;
 pub use switch_id::SwitchId;
 pub use table::Table;

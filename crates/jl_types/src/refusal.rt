@@ -123,6 +123,21 @@ pub enum Refusal {
     NotYet,
 }
 
+/// Why links aren't prepared.
+#[derive(Clone, Copy, Debug, PartialEq, Eq)]
+pub enum PrepareFault {
+    /// No place was requested under this number.
+    UnknownSite(SiteNo),
+    /// The site has no link from scratch.
+    NotReady(SiteNo),
+    /// The site comes twice.
+    Repeated(SiteNo),
+    /// No sites, or more than 256.
+    BatchSize,
+    /// Want of memory.
+    Memory,
+}
+
 impl From<AllocError> for DefineFault {
     ghost from_gives = { λ _ f. f ≡ define.Memory };
 

@@ -4,7 +4,8 @@ use Rattle.std.proofs.lemmas.List.{take_more}
 use Rattle.jl_types.specs.declared.link.Link.{Link}
 use Rattle.jl_types.specs.World.{World}
 use Rattle.jl_types.specs.Events.{batch_fault}
-use Rattle.jl_core.proofs.BatchLaws.{split_at, sites_of, any_site, is_known, repeated_row, new_row, sites_more}
+use Rattle.jl_types.proofs.Lists.{rest_at}
+use Rattle.jl_core.proofs.BatchLaws.{sites_of, any_site, is_known, repeated_row, new_row, sites_more}
 use Rattle.jl_core.proofs.world.World.batch_refusal.Goals.{After-comes}
 use Rattle.jl_core.proofs.world.World.batch_refusal.Goals as goal
 
@@ -14,7 +15,7 @@ known c =
     (subst (λ n. c.index-rows-number.result.0 < n) (c.len.ensures.len ∙ ap (λ (w : World). length w.places) c.self.view_is) (subst (λ n. n < c.len.result) c.number.ensures c.if-number-len.false))
 
 split : (c : After-comes) → drop c.loop-number.number c.args.rows.now ≡ c.index-rows-number.result ∷ drop (c.loop-number.number + 1) c.args.rows.now
-split c = split_at c.args.rows.now c.loop-number.number c.index-rows-number.result c.loop-number-test.true c.index-rows-number.is
+split c = rest_at c.args.rows.now c.loop-number.number c.index-rows-number.result c.loop-number-test.true c.index-rows-number.is
 
 pub returns-then-comes : goal.returns-then-comes
 returns-then-comes c =

@@ -1,0 +1,39 @@
+-- Elements of lists by their places.
+use Rattle.std.specs.Prelude.{◌≡◌, ℕ, zero, suc, ◌<◌, ◌+◌, Bool, true, false, List, [], ◌∷◌, ◌++◌, length, drop, get_or, slice_get, Some}
+use Rattle.std.specs.Option.{option_map_or}
+use Rattle.std.proofs.Common.{refl, ap, sym, ◌∙◌, arith, add-one}
+use Rattle.std.proofs.Math.Seq.{drop-cons}
+
+pub some_same : {A : Type 0} (a b : A) → Some a ≡ Some b → a ≡ b
+some_same a b e = cc
+
+-- the elements before the one that is added keep their places
+pub before_end : {A : Type 0} (xs : List A) (x : A) (n : ℕ) → n < length xs → slice_get (xs ++ x ∷ []) n ≡ slice_get xs n
+before_end [] x n h = absurd (omega arith)
+before_end (y ∷ xs) x zero h = refl
+before_end (y ∷ xs) x (suc n) h = before_end xs x n (omega arith)
+
+pub at_end : {A : Type 0} (xs : List A) (x : A) → slice_get (xs ++ x ∷ []) (length xs) ≡ Some x
+at_end [] x = refl
+at_end (y ∷ xs) x = at_end xs x
+
+-- a place with an element is one of the list
+pub is_within : {A : Type 0} (xs : List A) (n : ℕ) (x : A) → slice_get xs n ≡ Some x → n < length xs
+is_within [] n x e = cc
+is_within (y ∷ xs) zero x e = omega arith
+is_within (y ∷ xs) (suc n) x e = let lt = is_within xs n x e in omega arith
+
+pub passes_within : {A : Type 0} (test : A → Bool) (xs : List A) (n : ℕ) → option_map_or test (slice_get xs n) false ≡ true → n < length xs
+passes_within test [] n h = cc
+passes_within test (x ∷ xs) zero h = omega arith
+passes_within test (x ∷ xs) (suc n) h = let lt = passes_within test xs n h in omega arith
+
+-- each place of the list has an element
+pub element_at : {A : Type 0} (xs : List A) (n : ℕ) → n < length xs → (x : A) × (slice_get xs n ≡ Some x)
+element_at [] n h = absurd (omega arith)
+element_at (x ∷ xs) zero h = (x, refl)
+element_at (x ∷ xs) (suc n) h = element_at xs n (omega arith)
+
+-- what is left begins with the next element
+pub rest_at : {A : Type 0} (xs : List A) (i : ℕ) (x : A) → i < length xs → x ≡ get_or xs i x → drop i xs ≡ x ∷ drop (i + 1) xs
+rest_at {A = A} xs i x lt e = rw add-one (drop-cons xs i x lt ∙ ap (λ (y : A). y ∷ drop (suc i) xs) (sym e))
