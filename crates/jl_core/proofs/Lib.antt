@@ -6,3 +6,5 @@ pub mod RecordLaws
 pub mod DefineLaws
 pub mod PlaceLaws
 pub mod BatchLaws
+pub mod LinkLaws
+pub mod MachineLaws

@@ -37,7 +37,7 @@ plain_parts file h =
     let e = and_both (nat_lt (length file.methods) 65536) _ d.1 in
     (a.0, b.0, d.0, e.0, e.1)
 
-filter_none : {A : Type 0} (p : A → Bool) (xs : List A) → ((x : A) → p x ≡ false) → filter p xs ≡ []
+pub filter_none : {A : Type 0} (p : A → Bool) (xs : List A) → ((x : A) → p x ≡ false) → filter p xs ≡ []
 filter_none p [] h = refl
 filter_none p (x ∷ xs) h = rw (h x) (filter_none p xs h)
 

@@ -11,7 +11,7 @@ use Rattle.jl_types.specs.Selection.{virtual_outcome}
 use Rattle.jl_types.specs.Links.{runs}
 use Rattle.jl_core.specs.Rows.{is_virtual_receiver, rows_below, common_run, joined}
 
-range_end : (a n : ℕ) → range_with_len a (n + 1) ≡ range_with_len a n ++ (a + n) ∷ []
+pub range_end : (a n : ℕ) → range_with_len a (n + 1) ≡ range_with_len a n ++ (a + n) ∷ []
 range_end a zero = ap (λ (k : ℕ). k ∷ []) (omega arith)
 range_end a (suc n) =
     ap (range_with_len a) (add-one (suc n))
@@ -19,7 +19,7 @@ range_end a (suc n) =
     ∙ ap (λ (xs : List ℕ). a ∷ xs) (range_end (a + 1) n)
     ∙ ap (λ (k : ℕ). a ∷ (range_with_len (a + 1) n ++ k ∷ [])) (omega arith)
 
-filter_end : (p : ℕ → Bool) (xs : List ℕ) (x : ℕ) → filter p (xs ++ x ∷ []) ≡ filter p xs ++ cond (p x) (x ∷ []) []
+pub filter_end : (p : ℕ → Bool) (xs : List ℕ) (x : ℕ) → filter p (xs ++ x ∷ []) ≡ filter p xs ++ cond (p x) (x ∷ []) []
 filter_end p [] x = refl
 filter_end p (y ∷ xs) x = by_test (p y) (filter_end p xs x)
   where

@@ -1,5 +1,8 @@
--- `Admitted` is what contracts cite; the others are means of proof.
+-- `Admitted` and `State` are what contracts cite; the others are means of proof.
 pub mod Admitted
+pub mod State
+pub mod LinkMaps
+pub mod Steps
 pub mod Plain
 pub mod TargetCode
 pub mod Rows

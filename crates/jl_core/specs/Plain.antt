@@ -63,6 +63,13 @@ HasSuperclass cs loader file None = file.superclass ≡ None
 HasSuperclass cs loader file (Some c) =
     (name : List ℕ) × (file.superclass ≡ Some name) × (lookup cs loader name ≡ Some c) × (c < length cs.rows)
 
+-- a class of this file may be added: nothing speaks against its definition by loader 0
+pub record IsAddable (cs : Classes) (file : ClassFile) (superclass : Option ℕ) : Type 0 where
+  pub plain : is_plain_file file ≡ true
+  pub found : HasSuperclass cs 0 file superclass
+  pub fresh : lookup cs 0 file.name ≡ None
+  pub room : length cs.rows < 65536
+
 -- the faults that are tested before the parents are looked up
 abbrev pub first_faults : Classes → ℕ → ClassFile → List (Option DefineFault)
 first_faults cs loader file =

@@ -13,7 +13,7 @@ use std::marker::Model;
 /// The classes that are defined, and what the one loader, number 0, finds by name (JVMS SE 17 §5.3). Each is public, no
 /// interface and below none, with public methods alone.
 #[derive(Drop)]
-pub struct Classes {
+pub(crate) struct Classes {
     pub(crate) rows: Vec<Class>,
     pub(crate) records: IndexMap<Vec<u8>, ClassId>,
 }
@@ -32,7 +32,7 @@ impl Model for Classes {
 
 impl Classes {
     /// No classes.
-    pub fn new(alloc: Global) -> Self
+    pub(crate) fn new(alloc: Global) -> Self
         ensures { result ≡ nothing_yet.classes }
     {
         Classes {
@@ -42,7 +42,7 @@ impl Classes {
     }
 
     /// The classes, by number.
-    pub fn rows(&self) -> &[Class]
+    pub(crate) fn rows(&self) -> &[Class]
         ensures rows { result.now ≡ self.now.rows }
         ensures plain { IsPlainWorld self.now.rows }
         ensures loaders { self.now.loaders ≡ 1 }
@@ -51,7 +51,7 @@ impl Classes {
     }
 
     /// The class of this number.
-    pub fn class_at(&self, class: ClassId) -> Option<&Class>
+    pub(crate) fn class_at(&self, class: ClassId) -> Option<&Class>
         ensures found { MatchOption result (slice_get self.now.rows class ≡ None)
             (λ row. (slice_get self.now.rows class ≡ Some row.now) × IsPlain row.now) }
         ensures plain { IsPlainWorld self.now.rows }
@@ -60,7 +60,7 @@ impl Classes {
     }
 
     /// The class that the loader has recorded under the name.
-    pub fn lookup(&self, loader: LoaderId, name: &[u8]) -> Option<ClassId>
+    pub(crate) fn lookup(&self, loader: LoaderId, name: &[u8]) -> Option<ClassId>
         ensures found { result ≡ members.lookup self.now loader name.now }
         ensures there { IfSome result (λ class. class < length self.now.rows) }
     {
@@ -72,7 +72,7 @@ impl Classes {
     }
 
     /// Whether there is a class of this number.
-    pub fn has_class(&self, class: ClassId) -> bool
+    pub(crate) fn has_class(&self, class: ClassId) -> bool
         ensures { IsTrue result ↔ (class < length self.now.rows) }
     {
         (class.number() as usize) < self.rows.len()

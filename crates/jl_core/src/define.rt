@@ -10,7 +10,7 @@ ghost use Rattle.jl_types.specs.Members as members;
 ghost use Rattle.jl_types.specs.Definitions as definitions;
 ghost use Rattle.jl_types.specs.Resolution.{first_of};
 ghost use Rattle.jl_core.specs.Admitted.{is_plain_file, is_public_method};
-ghost use Rattle.jl_core.specs.Plain.{IsPlainWorld, HasSuperclass, first_faults, last_faults};
+ghost use Rattle.jl_core.specs.Plain.{IsPlainWorld, IsAddable, HasSuperclass, first_faults, last_faults};
 
 use crate::classes::Classes;
 use jl_classfile::{ClassFile, FINAL, INTERFACE, Method, PUBLIC, has_flag};
@@ -20,7 +20,7 @@ use std::alloc::{AllocError, Global};
 
 /// A class file, and the class that the loader has recorded under its superclass's name.
 #[derive(Debug, Drop)]
-struct Linked {
+pub(crate) struct Linked {
     file: ClassFile,
     superclass: Option<ClassId>,
 }
@@ -29,7 +29,7 @@ struct Linked {
 const MOST_CLASSES: usize = 65_536;
 
 /// Whether it is the file of a public class that is no interface and lists none, with public methods alone.
-pub fn is_plain_file(file: &ClassFile) -> bool
+pub(crate) fn is_plain_file(file: &ClassFile) -> bool
     ensures { result ≡ is_plain_file file.now }
 {
     let methods = file.methods.as_slice();
@@ -127,44 +127,41 @@ impl Classes {
         }
     }
 
-    /// The loader defines a class of the file.
+    /// The file of a class that the loader may define, with its superclass. Takes no memory.
     ///
     /// # Errors
     ///
-    /// The first fault of the definition, or want of memory. Nothing has changed then.
-    pub fn define(
-        &mut self,
-        alloc: Global,
+    /// The first fault of the definition.
+    pub(crate) fn definition(
+        &self,
         loader: LoaderId,
         file: ClassFile,
-    ) -> Result<ClassId, DefineFault>
+    ) -> Result<Linked, DefineFault>
         requires { is_plain_file file ≡ true }
-        ensures number { IfOk result (λ class. class ≡ length self.old.rows) }
-        ensures accepted { OnOk result (definitions.define_fault self.old loader file ≡ None) }
-        ensures ok { OnOk result (self.new ≡ definitions.defined self.old loader file) }
-        ensures fault { IfErr result (λ f. f ≢ fault.Memory
-            → definitions.define_fault self.old loader file ≡ Some f) }
-        ensures err { OnErr result (self.new ≡ self.old) }
+        ensures ok { IfOk result (λ linked. (linked.file ≡ file) × (loader ≡ 0)
+            × IsAddable self.now linked.file linked.superclass) }
+        ensures accepted { OnOk result (definitions.define_fault self.now loader file ≡ None) }
+        ensures fault { IfErr result (λ f. definitions.define_fault self.now loader file ≡ Some f) }
     {
         if let Some(fault) = self.first_fault(loader, &file) {
             return Err(fault);
         }
-        let made = self.with_superclass(loader, file)?;
-        if let Some(fault) = self.last_fault(made.superclass) {
+        let linked = self.with_superclass(loader, file)?;
+        if let Some(fault) = self.last_fault(linked.superclass) {
             return Err(fault);
         }
-        self.add(alloc, made)
+        Ok(linked)
     }
 
     /// Adds the class behind the others, and its record. Both growths come before the first change.
-    fn add(&mut self, alloc: Global, linked: Linked) -> Result<ClassId, DefineFault>
-        requires plain { is_plain_file linked.file ≡ true }
-        requires found { HasSuperclass self.old 0 linked.file linked.superclass }
-        requires fresh { members.lookup self.old 0 linked.file.name ≡ None }
-        requires room { length self.old.rows < 65536 }
+    ///
+    /// # Errors
+    ///
+    /// Want of memory. Nothing has changed then.
+    pub(crate) fn add(&mut self, alloc: Global, linked: Linked) -> Result<ClassId, AllocError>
+        requires { IsAddable self.old linked.file linked.superclass }
         ensures number { IfOk result (λ class. class ≡ length self.old.rows) }
         ensures ok { OnOk result (self.new ≡ definitions.defined self.old 0 linked.file) }
-        ensures fault { IfErr result (λ f. f ≡ fault.Memory) }
         ensures err { OnErr result (self.new ≡ self.old) }
     {
         let class = ClassId::new(self.rows().len() as u32);

@@ -14,7 +14,7 @@ const MOST_ROWS: usize = 256;
 
 impl World {
     /// The refusal of an install of these rows, if there is one. Takes no memory.
-    pub fn install_refusal(&self, rows: &[(SiteNo, Link)]) -> Option<Refusal>
+    pub(crate) fn install_refusal(&self, rows: &[(SiteNo, Link)]) -> Option<Refusal>
         ensures { result ≡ events.install_fault self.now rows.now }
     {
         if rows.is_empty() || rows.len() > MOST_ROWS {

@@ -5,10 +5,12 @@
 //! `specs/Admitted` what an event is answered. The other definitions here are means of proof.
 #![tactic(auto)]
 
+mod cache;
 mod classes;
 mod define;
 mod install;
 mod link;
+mod machine;
 mod request;
 mod resolve;
 mod select;
@@ -16,5 +18,6 @@ mod stage;
 mod upward;
 mod world;
 
-pub use define::is_plain_file;
+pub use cache::Cache;
+pub use machine::Core;
 pub use world::World;

@@ -10,7 +10,7 @@ use jl_types::{Answer, ClassId, Link, MethodId, Outcome, Recv, Table, TableKind,
 
 impl Classes {
     /// Whether objects may be of this class.
-    pub fn is_concrete(&self, class: ClassId) -> bool
+    pub(crate) fn is_concrete(&self, class: ClassId) -> bool
         ensures { result ≡ members.is_concrete self.now class }
     {
         match self.class_at(class) {
@@ -28,7 +28,7 @@ impl Classes {
     }
 
     /// The method that each receiver runs, where there is a receiver and they run one same method.
-    pub fn common_run(&self, named: ClassId, resolved: &MethodId) -> Option<MethodId>
+    pub(crate) fn common_run(&self, named: ClassId, resolved: &MethodId) -> Option<MethodId>
         ensures { result ≡ common_run (virtual_rows self.now named resolved.now) }
     {
         let mut common = None;
@@ -43,7 +43,7 @@ impl Classes {
     }
 
     /// The link of an invokevirtual that names a class and resolves to this method (Hölzle, Chambers and Ungar 1991).
-    pub fn virtual_link(&self, named: ClassId, resolved: &MethodId) -> Link
+    pub(crate) fn virtual_link(&self, named: ClassId, resolved: &MethodId) -> Link
         ensures { result ≡ virtual_link_of self.now named resolved.now }
     {
         if self.is_private(resolved) {
@@ -59,7 +59,7 @@ impl Classes {
     }
 
     /// The answer of an invokevirtual that names a class and resolves to this method.
-    pub fn virtual_answer(&self, named: ClassId, resolved: &MethodId, recv: Recv) -> Answer
+    pub(crate) fn virtual_answer(&self, named: ClassId, resolved: &MethodId, recv: Recv) -> Answer
         ensures { result ≡ virtual_answer self.now named resolved.now recv }
     {
         match recv {
@@ -77,7 +77,7 @@ impl Classes {
     }
 
     /// Every receiver with its outcome, where a table has room for them.
-    pub fn table_of(&self, named: ClassId, resolved: &MethodId) -> Option<Table>
+    pub(crate) fn table_of(&self, named: ClassId, resolved: &MethodId) -> Option<Table>
         ensures { result ≡ if nat_le (length (virtual_rows self.now named resolved.now)) 8
             then Some (virtual_rows self.now named resolved.now) else None }
     {

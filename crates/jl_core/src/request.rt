@@ -9,6 +9,7 @@ ghost use Rattle.jl_types.specs.declared.event.Made.TheVariants as made;
 ghost use Rattle.jl_types.specs.declared.refusal.Refusal.TheVariants as refusal;
 ghost use Rattle.jl_core.specs.Admitted.{is_supported, is_supported_kind, names_method};
 ghost use Rattle.jl_core.specs.Admitted.{admitted};
+ghost use Rattle.jl_core.specs.State.{IsRefused};
 
 use crate::world::World;
 use jl_classfile::{Kind, Operand, Site};
@@ -21,12 +22,11 @@ impl World {
     /// # Errors
     ///
     /// The first refusal, or want of memory. Nothing has changed then.
-    pub fn request(&mut self, max_sites: u32, place: Place) -> Result<SiteNo, Refusal>
+    pub(crate) fn request(&mut self, max_sites: u32, place: Place) -> Result<SiteNo, Refusal>
         requires { max_sites ≤ 65536 }
         ensures number { IfOk result (λ site. admitted max_sites self.old (event.Request place) ≡ Ok (made.Site site)) }
         ensures ok { OnOk result (self.new ≡ events.step self.old (event.Request place)) }
-        ensures fault { IfErr result (λ r. r ≢ refusal.Memory
-            → admitted max_sites self.old (event.Request place) ≡ Err r) }
+        ensures fault { IfErr result (IsRefused (admitted max_sites self.old (event.Request place))) }
         ensures err { OnErr result (self.new ≡ self.old) }
     {
         let refusal = self.refusal_if_new(max_sites, &place)?;

@@ -11,7 +11,11 @@ use jl_types::{ClassId, MethodId, Missing, ResolveAnswer, Throwable};
 
 impl Classes {
     /// The class that the reference names, found by the caller's loader.
-    pub fn named_class(&self, caller: ClassId, reference: &Reference<Name>) -> Option<ClassId>
+    pub(crate) fn named_class(
+        &self,
+        caller: ClassId,
+        reference: &Reference<Name>,
+    ) -> Option<ClassId>
         ensures found { result ≡ resolution.named_class self.now caller reference.now }
         ensures there { IfSome result (λ class. class < length self.now.rows) }
         ensures plain { IsPlainWorld self.now.rows }
@@ -21,7 +25,7 @@ impl Classes {
     }
 
     /// The method that the reference resolves to, for the caller's class, where it names this class.
-    pub fn resolve_in(
+    pub(crate) fn resolve_in(
         &self,
         caller: ClassId,
         reference: &Reference<Name>,
@@ -41,7 +45,7 @@ impl Classes {
     }
 
     /// The class that the reference names and the method that it resolves to, for the caller's class.
-    pub fn resolve(
+    pub(crate) fn resolve(
         &self,
         caller: ClassId,
         reference: &Reference<Name>,

@@ -12,7 +12,7 @@ use jl_types::{Chosen, ClassId, MethodId, Outcome, Throwable};
 
 impl Classes {
     /// The method of this number.
-    pub fn method_at(&self, method: &MethodId) -> Option<&Method>
+    pub(crate) fn method_at(&self, method: &MethodId) -> Option<&Method>
         ensures found { MatchOption result (members.method_at self.now method.now ≡ None)
             (λ m. members.method_at self.now method.now ≡ Some m.now) }
         ensures plain { IsPlainWorld self.now.rows }
@@ -22,7 +22,7 @@ impl Classes {
     }
 
     /// Whether the first method can override the second one.
-    pub fn can_override(&self, lower: &MethodId, upper: &MethodId) -> bool
+    pub(crate) fn can_override(&self, lower: &MethodId, upper: &MethodId) -> bool
         ensures { result ≡ overriding.can_override self.now lower.now upper.now }
     {
         match (self.method_at(lower), self.method_at(upper)) {
@@ -32,7 +32,7 @@ impl Classes {
     }
 
     /// The method that selection picks for a receiver's class and the resolved method.
-    pub fn chosen(&self, receiver: ClassId, resolved: &MethodId) -> Chosen
+    pub(crate) fn chosen(&self, receiver: ClassId, resolved: &MethodId) -> Chosen
         ensures { result ≡ selection.chosen self.now receiver resolved.now }
     {
         let Some(method) = self.method_at(resolved) else {
@@ -86,7 +86,7 @@ impl Classes {
     }
 
     /// What an invokevirtual of the resolved method comes to for a receiver's class.
-    pub fn virtual_outcome(&self, receiver: ClassId, resolved: &MethodId) -> Outcome
+    pub(crate) fn virtual_outcome(&self, receiver: ClassId, resolved: &MethodId) -> Outcome
         ensures { result ≡ selection.virtual_outcome self.now receiver resolved.now }
     {
         match self.chosen(receiver, resolved) {
@@ -113,7 +113,7 @@ impl Classes {
     }
 
     /// Whether the method is static.
-    pub fn is_static(&self, method: &MethodId) -> bool
+    pub(crate) fn is_static(&self, method: &MethodId) -> bool
         ensures { result ≡ members.is_static self.now method.now }
     {
         match self.method_at(method) {
@@ -123,7 +123,7 @@ impl Classes {
     }
 
     /// Whether the method is private.
-    pub fn is_private(&self, method: &MethodId) -> bool
+    pub(crate) fn is_private(&self, method: &MethodId) -> bool
         ensures { result ≡ members.is_private self.now method.now }
     {
         match self.method_at(method) {

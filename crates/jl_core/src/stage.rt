@@ -15,7 +15,7 @@ use jl_types::{ClassId, MethodId, Place, ResolveAnswer, Throwable, Unlinked};
 
 /// What a site comes to before its receiver is looked at (JVMS SE 17 §6.5).
 #[derive(Clone, Copy, Debug)]
-pub enum Stage {
+pub(crate) enum Stage {
     /// It has no link yet.
     Waits(Unlinked),
     /// Linking fails.
@@ -28,7 +28,7 @@ pub enum Stage {
 
 impl Classes {
     /// The invocation at a place.
-    pub fn invocation_at(&self, place: &Place) -> Option<&Site>
+    pub(crate) fn invocation_at(&self, place: &Place) -> Option<&Site>
         ensures { MatchOption result (sites.invocation_at self.now place.now ≡ None)
             (λ site. sites.invocation_at self.now place.now ≡ Some site.now) }
     {
@@ -40,7 +40,7 @@ impl Classes {
     }
 
     /// What an invokevirtual or an invokestatic comes to.
-    pub fn stage_of(&self, caller: ClassId, invocation: &Site) -> Stage
+    pub(crate) fn stage_of(&self, caller: ClassId, invocation: &Site) -> Stage
         requires { is_supported invocation.now ≡ true }
         ensures { (w : World) (s : ℕ) → w.classes ≡ self.now
             → IsStage result (sites.by_operand w s caller invocation.now.kind invocation.now.operand) }
@@ -55,7 +55,7 @@ impl Classes {
     }
 
     /// What an invokevirtual of the reference comes to.
-    pub fn virtual_stage(&self, caller: ClassId, reference: &Reference<Name>) -> Stage
+    pub(crate) fn virtual_stage(&self, caller: ClassId, reference: &Reference<Name>) -> Stage
         ensures { IsStage result (sites.by_name self.now Virtual caller reference.now
             (named_class self.now caller reference.now)) }
     {
@@ -73,7 +73,7 @@ impl Classes {
     }
 
     /// What an invokestatic of the reference comes to.
-    pub fn static_stage(&self, caller: ClassId, reference: &Reference<Name>) -> Stage
+    pub(crate) fn static_stage(&self, caller: ClassId, reference: &Reference<Name>) -> Stage
         ensures { IsStage result (sites.by_name self.now Static caller reference.now
             (named_class self.now caller reference.now)) }
     {

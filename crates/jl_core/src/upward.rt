@@ -19,7 +19,7 @@ fn place_of(methods: &[Method], name: &[u8], ty: &[u8]) -> Option<usize>
 
 impl Classes {
     /// The method of this name and descriptor that the class itself declares.
-    pub fn declared(&self, class: ClassId, name: &[u8], ty: &[u8]) -> Option<MethodId>
+    pub(crate) fn declared(&self, class: ClassId, name: &[u8], ty: &[u8]) -> Option<MethodId>
         ensures { result ≡ members.declared self.now name.now ty.now class }
     {
         let row = self.class_at(class)?;
@@ -31,7 +31,7 @@ impl Classes {
     }
 
     /// The direct superclass of a class.
-    pub fn superclass_of(&self, class: ClassId) -> Option<ClassId>
+    pub(crate) fn superclass_of(&self, class: ClassId) -> Option<ClassId>
         ensures same { result ≡ ancestry.superclass_of self.now class }
         ensures plain { IsPlainWorld self.now.rows }
     {
@@ -39,7 +39,7 @@ impl Classes {
     }
 
     /// Whether the class is the other one or one of its subclasses.
-    pub fn is_subclass(&self, class: ClassId, other: ClassId) -> bool
+    pub(crate) fn is_subclass(&self, class: ClassId, other: ClassId) -> bool
         requires { class < length self.now.rows }
         ensures { result ≡ ancestry.is_subclass self.now class other }
     {
@@ -57,7 +57,7 @@ impl Classes {
 
     /// Whether the first class is among the ancestors of the second one, as that itself is. No class here lists an
     /// interface, so a chain is all there is.
-    pub fn is_ancestor(&self, ancestor: ClassId, class: ClassId) -> bool
+    pub(crate) fn is_ancestor(&self, ancestor: ClassId, class: ClassId) -> bool
         requires { class < length self.now.rows }
         ensures { result ≡ ancestry.is_ancestor self.now ancestor class }
     {
@@ -66,7 +66,7 @@ impl Classes {
     }
 
     /// The first declaration in the class and its superclasses upward.
-    pub fn declared_upward(&self, class: ClassId, name: &[u8], ty: &[u8]) -> Option<MethodId>
+    pub(crate) fn declared_upward(&self, class: ClassId, name: &[u8], ty: &[u8]) -> Option<MethodId>
         ensures { result ≡ resolution.declared_upward self.now name.now ty.now class }
     {
         let mut at = class;

@@ -1,23 +1,24 @@
 //! What there is to link: classes and requested places.
 
-ghost use Rattle.std.specs.Prelude.{◌≡◌, ◌≢◌, true, Some, None, length, IfOk, IfErr, OnOk, OnErr};
+ghost use Rattle.std.specs.Prelude.{◌≡◌, ◌≢◌, ◌≤◌, true, Some, None, length, IfOk, IfErr, OnOk, OnErr};
 ghost use Rattle.jl_types.specs.World.{nothing_yet};
 ghost use Rattle.jl_types.specs.Definitions.{define_fault};
 ghost use Rattle.jl_types.specs.Events.{step};
 ghost use Rattle.jl_types.specs.declared.event.Event.TheVariants as event;
-ghost use Rattle.jl_types.specs.declared.refusal.DefineFault.TheVariants as fault;
 ghost use Rattle.jl_core.specs.Admitted.{is_plain_file};
 ghost use Rattle.jl_types.specs.Sites as sites;
 ghost use Rattle.jl_types.specs.Links as links;
 ghost use Rattle.jl_types.specs.Calls as calls;
 ghost use Rattle.jl_core.specs.Stages.{IsStage};
+ghost use Rattle.jl_core.specs.Plain.{IsAddable};
 
 use crate::classes::Classes;
+use crate::define::Linked;
 use crate::stage::Stage;
 use indexmap::IndexSet;
 use jl_classfile::ClassFile;
 use jl_types::{Answer, ClassId, DefineFault, Link, LoaderId, Place, Recv, SiteNo, Unlinked};
-use std::alloc::Global;
+use std::alloc::{AllocError, Global};
 use std::marker::Model;
 
 /// The classes, and the places that were requested, in order of request. Each is of an invokevirtual or an invokestatic.
@@ -59,26 +60,45 @@ impl World {
         }
     }
 
-    /// The loader defines a class of the file.
+    /// The file of a class that the loader may define, with its superclass. Takes no memory.
     ///
     /// # Errors
     ///
-    /// The first fault of the definition, or want of memory. Nothing has changed then.
-    pub fn define(
-        &mut self,
-        alloc: Global,
+    /// The first fault of the definition.
+    pub(crate) fn definition(
+        &self,
         loader: LoaderId,
         file: ClassFile,
-    ) -> Result<ClassId, DefineFault>
+    ) -> Result<Linked, DefineFault>
         requires { is_plain_file file ≡ true }
+        ensures ok { IfOk result (λ linked. (linked.file ≡ file) × (loader ≡ 0)
+            × IsAddable self.now.classes linked.file linked.superclass) }
+        ensures accepted { OnOk result (define_fault self.now.classes loader file ≡ None) }
+        ensures fault { IfErr result (λ f. define_fault self.now.classes loader file ≡ Some f) }
+    {
+        self.classes.definition(loader, file)
+    }
+
+    /// Adds the class behind the others.
+    ///
+    /// # Errors
+    ///
+    /// Want of memory. Nothing has changed then.
+    pub(crate) fn add(&mut self, alloc: Global, linked: Linked) -> Result<ClassId, AllocError>
+        requires { IsAddable self.old.classes linked.file linked.superclass }
         ensures number { IfOk result (λ class. class ≡ length self.old.classes.rows) }
-        ensures accepted { OnOk result (define_fault self.old.classes loader file ≡ None) }
-        ensures ok { OnOk result (self.new ≡ step self.old (event.Define loader file)) }
-        ensures fault { IfErr result (λ f. f ≢ fault.Memory
-            → define_fault self.old.classes loader file ≡ Some f) }
+        ensures ok { OnOk result (self.new ≡ step self.old (event.Define 0 linked.file)) }
         ensures err { OnErr result (self.new ≡ self.old) }
     {
-        self.classes.define(alloc, loader, file)
+        self.classes.add(alloc, linked)
+    }
+
+    /// How many places are requested.
+    pub(crate) fn site_count(&self) -> usize
+        ensures count { result ≡ length self.now.places }
+        ensures few { result ≤ 65536 }
+    {
+        self.places.len()
     }
 
     /// What a site comes to before its receiver is looked at.

@@ -1,5 +1,5 @@
 use Rattle.std.specs.Prelude.{◌<◌, ◌≤◌, List, length, position}
-use Rattle.std.proofs.Common.{sym, ap, subst, ◌∙◌, arith}
+use Rattle.std.proofs.Common.{sym, ap, subst, ◌∙◌, arith, inl}
 use Rattle.jl_types.specs.declared.ids.Place.{Place}
 use Rattle.jl_types.specs.World.{World}
 use Rattle.jl_types.specs.Events.{same_place}
@@ -9,11 +9,11 @@ use Rattle.jl_core.proofs.PlaceLaws.{refused_new, room_there, place_supported, p
 use Rattle.jl_core.proofs.world.World.request.Goals as goal
 
 pub returns-in-Some-refusal-clause-fault : goal.returns-in-Some-refusal-clause-fault
-returns-in-Some-refusal-clause-fault c = λ other.
+returns-in-Some-refusal-clause-fault c =
     let asked = c.in_ok-refusal.ensures.ok in
-    refused_new c.args.max_sites c.args.self.now c.args.place asked.0 c.in-Some-refusal.refusal asked.1 asked.2
+    inl (refused_new c.args.max_sites c.args.self.now c.args.place asked.0 c.in-Some-refusal.refusal asked.1 asked.2
     (sym (ap (λ (w : World). position (same_place c.args.place) w.places) c.self.view_is) ∙ sym c.in_default.ensures.index)
-    (sym asked.3 ∙ c.in-Some-refusal.is)
+    (sym asked.3 ∙ c.in-Some-refusal.is))
 
 pub invariant_of-self-2 : goal.invariant_of-self-2
 invariant_of-self-2 c =

@@ -1,0 +1,17 @@
+use Rattle.std.specs.Prelude.{◌<◌, length, false}
+use Rattle.std.proofs.Common.{sym, ap, subst}
+use Rattle.jl_types.specs.World.{World}
+use Rattle.jl_types.proofs.InstalledLinks.{requested}
+use Rattle.jl_core.specs.State.{AreScratch, link_at}
+use Rattle.jl_core.proofs.MachineLaws.{are_scratch}
+use Rattle.jl_core.proofs.machine.Core.define.Goals as goal
+
+pub invariant_of-self : goal.invariant_of-self
+invariant_of-self c = (subst (λ (w : World). AreScratch w c.self.inside.links) (sym c.in_err-class.ensures.err) c.self.invariant.0, c.self.invariant.1)
+
+pub drop_changed-requires-clause-requested : goal.drop_changed-requires-clause-requested
+drop_changed-requires-clause-requested c = λ s l e.
+    subst (λ n. s < n) (ap (λ (w : World). length w.places) (sym c.in_ok-class.ensures.ok)) (requested c.self.inside.world s l (c.self.invariant.0 s l e))
+
+pub invariant_of-self-2 : goal.invariant_of-self-2
+invariant_of-self-2 c = (are_scratch c.add.new.self c.drop_changed.new.links (λ s. false) (link_at c.self.inside.links) c.drop_changed.ensures.links, c.self.invariant.1)

@@ -1,0 +1,189 @@
+//! The event machine.
+
+ghost use Rattle.std.specs.Prelude.{◌≡◌, ◌≤◌, ◌<◌, ◌+◌, ℕ, [], Some, is_some, length, IfOk, IfErr, OnOk, OnErr, Ok, false, min, ◌^◌, ◌-◌};
+ghost use Rattle.std.specs.Vec.{vec_len, vec_capacity};
+ghost use Rattle.jl_types.specs.declared.link.Link.{Link};
+ghost use Rattle.jl_types.specs.declared.event.Event.TheVariants as event;
+ghost use Rattle.jl_types.specs.Links.{scratch};
+ghost use Rattle.jl_types.specs.Calls as calls;
+ghost use Rattle.jl_types.specs.Events.{step};
+ghost use Rattle.jl_types.specs.History.{installs, kept};
+ghost use Rattle.jl_core.specs.Admitted.{admitted};
+ghost use Rattle.jl_core.specs.State.{empty_core, link_at, lost, AreScratch, AreRising, IsRefused};
+ghost use Rattle.jl_core.specs.Steps.{IsAccepted};
+
+use crate::cache::Cache;
+use crate::define::is_plain_file;
+use crate::world::World;
+use jl_classfile::ClassFile;
+use jl_names::Seq;
+use jl_types::{
+    Answer, Event, Link, LoaderId, Made, Place, Recv, Refusal, Reply, SiteNo, Unlinked,
+};
+use std::alloc::Global;
+use std::marker::Model;
+
+/// Classes, requested places and the links that are installed. Each installed link is its site's link from scratch.
+#[derive(Drop)]
+pub struct Core {
+    max_sites: u32,
+    world: World,
+    links: Cache,
+    accepted: u64,
+}
+
+impl Model for Core {
+    ghost use Rattle.std.specs.Prelude.{◌≤◌};
+    ghost use Rattle.std.specs.Coded.{codes};
+    ghost use Rattle.jl_core.specs.TargetCode.{target_code};
+    ghost use Rattle.jl_core.specs.State.{State, AreScratch};
+
+    ghost Value = { State };
+
+    ghost coded = { Prim.hlevel (codes, target_code) };
+
+    ghost view = { λ c. record { max_sites = c.max_sites; world = c.world; links = c.links; accepted = c.accepted } };
+
+    ghost invariant = { λ c. AreScratch c.world c.links × (c.max_sites ≤ 65536) };
+}
+
+impl Core {
+    /// A core with no classes, no requested places and no links, where so many places may be requested.
+    pub fn new(alloc: Global, max_sites: u32) -> Self
+        requires some { 1 ≤ max_sites }
+        requires most { max_sites ≤ 65536 }
+        ensures { result ≡ empty_core max_sites }
+    {
+        Core {
+            max_sites,
+            world: World::new(alloc),
+            links: Cache::new(alloc),
+            accepted: 0,
+        }
+    }
+
+    /// Applies the event: defines a class, requests a place, or installs links. The reply tells what it gave a number to,
+    /// and by rising number the sites whose links went, since they aren't those from scratch any more.
+    ///
+    /// # Errors
+    ///
+    /// The first refusal; want of memory where there is none. Nothing has changed then.
+    pub fn apply(&mut self, alloc: Global, event: Event) -> Result<Reply, Refusal>
+        ensures made { IfOk result (λ reply. admitted self.old.max_sites self.old.world event ≡ Ok reply.made) }
+        ensures world { OnOk result (self.new.world ≡ step self.old.world event) }
+        ensures links { OnOk result ((s : ℕ) → link_at self.new.links s
+            ≡ kept (installs s event) (link_at self.old.links s) (scratch self.new.world s)) }
+        ensures dropped { IfOk result (λ reply. reply.dropped
+            ≡ lost (length self.old.world.places) self.old.links self.new.links) }
+        ensures limit { OnOk result (self.new.max_sites ≡ self.old.max_sites) }
+        ensures accepted { OnOk result (self.new.accepted ≡ min (self.old.accepted + 1) (2 ^ 64 - 1)) }
+        ensures refused { IfErr result (IsRefused (admitted self.old.max_sites self.old.world event)) }
+        ensures unchanged { OnErr result (self.new ≡ self.old) }
+    {
+        let reply = match event {
+            Event::Define(loader, file) => self.define(alloc, loader, file)?,
+            Event::Request(place) => self.request(alloc, place)?,
+            Event::Install(rows) => self.install(alloc, rows.as_slice())?,
+            _ => return Err(Refusal::NotYet),
+        };
+        self.accepted = self.accepted.saturating_add(1);
+        Ok(reply)
+    }
+
+    /// The answer to a call. Takes no memory.
+    pub fn call(&self, site: SiteNo, recv: Recv) -> Answer
+        ensures { result ≡ calls.dispatch self.now.world site recv }
+    {
+        self.world.dispatch(site, recv)
+    }
+
+    /// The installed links. Takes no memory.
+    pub fn links(&self) -> &Cache
+        ensures links { result.now ≡ self.now.links }
+        ensures scratch { AreScratch self.now.world self.now.links }
+    {
+        &self.links
+    }
+
+    /// The loader defines a class of the file, and the links that aren't those from scratch any more go.
+    fn define(&mut self, alloc: Global, loader: LoaderId, file: ClassFile) -> Result<Reply, Refusal>
+        ensures ok { IfOk result (IsAccepted self.old self.new (event.Define loader file)) }
+        ensures err { IfErr result (IsRefused (admitted self.old.max_sites self.old.world (event.Define loader file))) }
+        ensures unchanged { OnErr result (self.new ≡ self.old) }
+    {
+        if !is_plain_file(&file) {
+            return Err(Refusal::NotYet);
+        }
+        let linked = match self.world.definition(loader, file) {
+            Ok(linked) => linked,
+            Err(fault) => return Err(Refusal::Define(fault)),
+        };
+        let mut dropped = Vec::with_capacity(alloc, self.world.site_count())?;
+        let class = self.world.add(alloc, linked)?;
+        drop_changed(&self.world, &mut self.links, &mut dropped);
+        Ok(Reply {
+            made: Made::Class(class),
+            dropped: Seq::of(dropped),
+        })
+    }
+
+    /// Gives the place a number, where it has none.
+    fn request(&mut self, alloc: Global, place: Place) -> Result<Reply, Refusal>
+        ensures ok { IfOk result (IsAccepted self.old self.new (event.Request place)) }
+        ensures err { IfErr result (IsRefused (admitted self.old.max_sites self.old.world (event.Request place))) }
+        ensures unchanged { OnErr result (self.new ≡ self.old) }
+    {
+        let site = self.world.request(self.max_sites, place)?;
+        Ok(Reply {
+            made: Made::Site(site),
+            dropped: Seq::of(Vec::new(alloc)),
+        })
+    }
+
+    /// Installs all of the links, or none.
+    fn install(&mut self, alloc: Global, rows: &[(SiteNo, Link)]) -> Result<Reply, Refusal>
+        ensures ok { IfOk result (IsAccepted self.old self.new (event.Install rows.now)) }
+        ensures err { IfErr result (IsRefused (admitted self.old.max_sites self.old.world (event.Install rows.now))) }
+        ensures unchanged { OnErr result (self.new ≡ self.old) }
+    {
+        if let Some(refusal) = self.world.install_refusal(rows) {
+            return Err(refusal);
+        }
+        self.links.install(rows)?;
+        Ok(Reply {
+            made: Made::Nothing,
+            dropped: Seq::of(Vec::new(alloc)),
+        })
+    }
+}
+
+/// Removes the links that aren't those from scratch, and lists their sites by rising number.
+fn drop_changed(world: &World, links: &mut Cache, dropped: &mut Vec<SiteNo>)
+    requires requested { (s : ℕ) (l : Link) → link_at links.old s ≡ Some l → s < length world.now.places }
+    requires empty { dropped.old.items ≡ [] }
+    requires room { vec_len dropped.old + length world.now.places ≤ vec_capacity dropped.old }
+    ensures links { (s : ℕ) → link_at links.new s ≡ kept false (link_at links.old s) (scratch world.now s) }
+    ensures dropped { dropped.new.items ≡ lost (length world.now.places) links.old links.new }
+{
+    for number in 0..world.site_count() {
+        let site = SiteNo::new(number as u32);
+        let Some(link) = links.get(site) else {
+            continue;
+        };
+        if stays(link, world.link_of(site)) {
+            continue;
+        }
+        links.remove(site);
+        dropped.push_reserved(site);
+    }
+}
+
+/// Whether an installed link is the one from scratch.
+fn stays(link: Link, now: Result<Link, Unlinked>) -> bool
+    ensures { result ≡ is_some (kept false (Some link) now) }
+{
+    match now {
+        Ok(now) => link == now,
+        Err(_) => false,
+    }
+}
