@@ -1,19 +1,27 @@
 -- The rows of an install, one at a time.
-use Rattle.std.specs.Prelude.{◌≡◌, ℕ, ◌<◌, ◌==◌, nat_le, Bool, true, false, ◌||◌, List, [], ◌∷◌, ◌++◌, fold, length, Option, Some, None, Result, Ok}
-use Rattle.std.specs.List.{list_any}
-use Rattle.std.proofs.Common.{refl, ap, ◌∙◌, arith, inl, inr}
+use Rattle.std.specs.Prelude.{◌≡◌, ℕ, ◌<◌, ◌+◌, ◌==◌, nat_le, nat_lt, take, drop, Bool, true, false, ◌||◌, List, [], ◌∷◌, ◌++◌, fold, map, length, Option, Some, None, Result, Ok, Err}
+use Rattle.std.specs.Bool.{then_some}
+use Rattle.std.specs.List.{list_any, AllZip}
+use Rattle.std.proofs.Common.{refl, ap, sym, ◌∙◌, arith, inl, inr, append-nil}
 use Rattle.std.proofs.lemmas.Bool.Decides.{leb_tells}
+use Rattle.std.proofs.lemmas.List.{take-append-drop}
 use Rattle.jl_types.specs.declared.link.Link.{Link}
 use Rattle.jl_types.specs.declared.answer.Unlinked.{Unlinked}
-use Rattle.jl_types.specs.declared.refusal.Refusal.{Refusal}
 use Rattle.jl_types.specs.declared.refusal.Refusal.TheVariants.{Stale, Repeated}
 use Rattle.jl_types.specs.SameLink.{same_link}
+use Rattle.jl_types.specs.declared.refusal.PrepareFault.{PrepareFault}
+use Rattle.jl_types.specs.declared.refusal.PrepareFault.TheVariants as fault
+use Rattle.jl_types.specs.Preparation.{site_fault, link_fault, ready_fault, prepare_fault, ArePrepared}
 use Rattle.jl_types.specs.World.{World}
 use Rattle.jl_types.specs.Links.{scratch}
 use Rattle.jl_types.specs.Events.{batch_fault, row_fault}
 use Rattle.jl_types.specs.Resolution.{first_of}
 use Rattle.jl_types.proofs.Bools.{or_none}
 use Rattle.jl_core.specs.Batches.{row_faults}
+
+only_one : {A : Type 0} (o : Option A) → first_of (o ∷ []) ≡ o
+only_one None = refl
+only_one (Some r) = refl
 
 -- ---- links that aren't those from scratch
 
@@ -28,39 +36,82 @@ good_row w row rows now e d = first_row w row rows (Ok now) e ∙ rw d refl
 
 -- ---- unknown and repeated sites
 
--- the sites of these rows, the last one first
-abbrev pub sites_of : List (ℕ × Link) → List ℕ
-sites_of rows = fold (λ sites row. row.0 ∷ sites) [] rows
+module _ {A : Type 0} (site : A → ℕ) where
+  -- the sites of these rows, the last one first
+  abbrev pub sites_of : List A → List ℕ
+  sites_of rows = fold (λ sites row. site row ∷ sites) [] rows
 
-any_fold : (s : ℕ) (rows : List (ℕ × Link)) (sites : List ℕ) → list_any (λ t. t == s) (fold (λ sites row. row.0 ∷ sites) sites rows) ≡ (list_any (λ row. row.0 == s) rows || list_any (λ t. t == s) sites)
-any_fold s [] sites = refl
-any_fold s (row ∷ rows) sites = any_fold s rows (row.0 ∷ sites) ∙ turned (list_any (λ row. row.0 == s) rows) (row.0 == s) (list_any (λ t. t == s) sites)
-  where
-    turned : (a b c : Bool) → (a || (b || c)) ≡ ((b || a) || c)
-    turned true true c = refl
-    turned true false c = refl
-    turned false true c = refl
-    turned false false c = refl
+  any_fold : (s : ℕ) (rows : List A) (sites : List ℕ) → list_any (λ t. t == s) (fold (λ sites row. site row ∷ sites) sites rows) ≡ (list_any (λ row. site row == s) rows || list_any (λ t. t == s) sites)
+  any_fold s [] sites = refl
+  any_fold s (row ∷ rows) sites = any_fold s rows (site row ∷ sites) ∙ turned (list_any (λ row. site row == s) rows) (site row == s) (list_any (λ t. t == s) sites)
+    where
+      turned : (a b c : Bool) → (a || (b || c)) ≡ ((b || a) || c)
+      turned true true c = refl
+      turned true false c = refl
+      turned false true c = refl
+      turned false false c = refl
 
-pub any_site : (s : ℕ) (rows : List (ℕ × Link)) → list_any (λ t. t == s) (sites_of rows) ≡ list_any (λ row. row.0 == s) rows
-any_site s rows = any_fold s rows [] ∙ or_none (list_any (λ row. row.0 == s) rows)
+  pub any_site : (s : ℕ) (rows : List A) → list_any (λ t. t == s) (sites_of rows) ≡ list_any (λ row. site row == s) rows
+  any_site s rows = any_fold s rows [] ∙ or_none (list_any (λ row. site row == s) rows)
 
-fold_end : (sites : List ℕ) (rows : List (ℕ × Link)) (row : ℕ × Link) → fold (λ sites row. row.0 ∷ sites) sites (rows ++ row ∷ []) ≡ row.0 ∷ fold (λ sites row. row.0 ∷ sites) sites rows
-fold_end sites [] row = refl
-fold_end sites (x ∷ rows) row = fold_end (x.0 ∷ sites) rows row
+  fold_end : (sites : List ℕ) (rows : List A) (row : A) → fold (λ sites row. site row ∷ sites) sites (rows ++ row ∷ []) ≡ site row ∷ fold (λ sites row. site row ∷ sites) sites rows
+  fold_end sites [] row = refl
+  fold_end sites (x ∷ rows) row = fold_end (site x ∷ sites) rows row
 
-pub sites_more : (rows : List (ℕ × Link)) (row : ℕ × Link) → sites_of (rows ++ row ∷ []) ≡ row.0 ∷ sites_of rows
-sites_more rows row = fold_end [] rows row
+  pub sites_more : (rows : List A) (row : A) → sites_of (rows ++ row ∷ []) ≡ site row ∷ sites_of rows
+  sites_more rows row = fold_end [] rows row
 
 pub repeated_row : (w : World) (sites : List ℕ) (row : ℕ × Link) (rows : List (ℕ × Link)) → nat_le (length w.places) row.0 ≡ false → list_any (λ t. t == row.0) sites ≡ true → batch_fault w sites (row ∷ rows) ≡ Some (Repeated row.0)
 repeated_row w sites row rows e f = rw (e, f) refl
 
 pub new_row : (w : World) (sites : List ℕ) (row : ℕ × Link) (rows : List (ℕ × Link)) → nat_le (length w.places) row.0 ≡ false → list_any (λ t. t == row.0) sites ≡ false → batch_fault w sites (row ∷ rows) ≡ batch_fault w (row.0 ∷ sites) rows
 new_row w sites row rows e f = rw (e, f) (only_one (batch_fault w (row.0 ∷ sites) rows))
-  where
-    only_one : (o : Option Refusal) → first_of (o ∷ []) ≡ o
-    only_one None = refl
-    only_one (Some r) = refl
 
 pub is_known : (n s : ℕ) → s < n → nat_le n s ≡ false
 is_known n s h = elim (leb_tells n s) [ inl p ↦ absurd (let q = p.1 in omega arith) | inr p ↦ p.0 ]
+
+-- ---- the sites of a preparation
+
+pub repeated_site : (w : World) (earlier : List ℕ) (s : ℕ) (sites : List ℕ) → nat_le (length w.places) s ≡ false → list_any (λ t. t == s) earlier ≡ true → site_fault w earlier (s ∷ sites) ≡ Some (fault.Repeated s)
+repeated_site w earlier s sites e f = rw (e, f) refl
+
+pub new_site : (w : World) (earlier : List ℕ) (s : ℕ) (sites : List ℕ) → nat_le (length w.places) s ≡ false → list_any (λ t. t == s) earlier ≡ false → site_fault w earlier (s ∷ sites) ≡ site_fault w (s ∷ earlier) sites
+new_site w earlier s sites e f = rw (e, f) (only_one (site_fault w (s ∷ earlier) sites))
+
+first_site : (w : World) (s : ℕ) (sites : List ℕ) (r : Result Link Unlinked) → scratch w s ≡ r → ready_fault w (s ∷ sites) ≡ first_of (link_fault s r ∷ map (λ s. link_fault s (scratch w s)) sites)
+first_site w s sites r e = ap (λ (r : Result Link Unlinked). first_of (link_fault s r ∷ map (λ s. link_fault s (scratch w s)) sites)) e
+
+pub not_ready : (w : World) (s : ℕ) (sites : List ℕ) (reason : Unlinked) → scratch w s ≡ Err reason → ready_fault w (s ∷ sites) ≡ Some (fault.NotReady s)
+not_ready w s sites reason e = first_site w s sites (Err reason) e
+
+pub ready : (w : World) (s : ℕ) (sites : List ℕ) (link : Link) → scratch w s ≡ Ok link → ready_fault w (s ∷ sites) ≡ ready_fault w sites
+ready w s sites link e = first_site w s sites (Ok link) e
+
+-- sites that have links are passed over
+ready_past : (w : World) (sites rest : List ℕ) (rows : List (ℕ × Link)) → ArePrepared w sites rows → ready_fault w (sites ++ rest) ≡ ready_fault w rest
+ready_past w [] rest [] h = refl
+ready_past w [] rest (row ∷ rows) h = absurd h
+ready_past w (s ∷ sites) rest [] h = absurd h
+ready_past w (s ∷ sites) rest (row ∷ rows) h = ready w s (sites ++ rest) row.1 h.0.1 ∙ ready_past w sites rest rows h.1
+
+pub all_ready : (w : World) (sites : List ℕ) (rows : List (ℕ × Link)) → ArePrepared w sites rows → ready_fault w sites ≡ None
+all_ready w sites rows h = ap (ready_fault w) (sym (append-nil sites)) ∙ ready_past w sites [] rows h
+
+fails_first : (w : World) (s : ℕ) (sites : List ℕ) (f : PrepareFault) → link_fault s (scratch w s) ≡ Some f → ready_fault w (s ∷ sites) ≡ Some f
+fails_first w s sites f e = ap (λ (o : Option PrepareFault). first_of (o ∷ map (λ s. link_fault s (scratch w s)) sites)) e
+
+pub first_unready : (w : World) (sites : List ℕ) (n s : ℕ) (rows : List (ℕ × Link)) (f : PrepareFault) → ArePrepared w (take n sites) rows → drop n sites ≡ s ∷ drop (n + 1) sites → link_fault s (scratch w s) ≡ Some f → ready_fault w sites ≡ Some f
+first_unready w sites n s rows f h e g =
+    ap (ready_fault w) (sym (take-append-drop n sites))
+    ∙ ready_past w (take n sites) (drop n sites) rows h
+    ∙ ap (ready_fault w) e
+    ∙ fails_first w s (drop (n + 1) sites) f g
+
+pub size_and_sites : (w : World) (sites : List ℕ) → ((length sites == 0) || nat_lt 256 (length sites)) ≡ false → site_fault w [] sites ≡ None → prepare_fault w sites ≡ ready_fault w sites
+size_and_sites w sites e f = (λ i. first_of (then_some (e i) fault.BatchSize ∷ f i ∷ ready_fault w sites ∷ [])) ∙ only_one (ready_fault w sites)
+
+pub zip_each : {A B : Type 0} (P Q : A → B → Type 0) → ((x : A) (y : B) → P x y → Q x y) → (xs : List A) (ys : List B) → AllZip P xs ys → AllZip Q xs ys
+zip_each P Q f [] [] h = h
+zip_each P Q f [] (y ∷ ys) h = absurd h
+zip_each P Q f (x ∷ xs) [] h = absurd h
+zip_each P Q f (x ∷ xs) (y ∷ ys) h = (f x y h.0, zip_each P Q f xs ys h.1)

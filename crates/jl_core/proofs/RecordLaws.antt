@@ -1,13 +1,14 @@
 -- What a loader finds by name, as the map has it.
 use Rattle.std.specs.Prelude.{◌≡◌, ℕ, ◌<◌, ◌==◌, ◌&&◌, Bool, true, false, cond, List, [], ◌∷◌, ◌++◌, Vec, find, Option, Some, None, option_map, IfSome, All}
-use Rattle.std.specs.List.{AllByRecursion}
+use Rattle.std.specs.List.{AllByRecursion, AllZip, each_same}
+use Rattle.std.specs.Vec.{vec_len}
 use Rattle.std.specs.Bool.{one_answer}
 use Rattle.std.specs.Map.{lookup}
 use Rattle.indexmap.specs.IndexMap.{IndexMap, insert_entry}
 use Rattle.indexmap.proofs.CallerLemmas.{insert_entry-new}
-use Rattle.std.proofs.Common.{refl, ap, sym, ◌∙◌}
+use Rattle.std.proofs.Common.{refl, ap, sym, subst, ◌∙◌}
 use Rattle.std.proofs.lemmas.Bool.Decides.{Decides-eqb, Decides-like}
-use Rattle.std.proofs.lemmas.List.Elements.{recursion_from_All}
+use Rattle.std.proofs.lemmas.List.Elements.{All-from_recursion, recursion_from_All}
 use Rattle.std.proofs.lemmas.Slice.Eq.{bytes_eq-Decides}
 use Rattle.jl_classfile.specs.Pools.{same_text}
 use Rattle.jl_core.specs.Plain.{recorded}
@@ -51,3 +52,24 @@ pub new_entry : {A S : Type 0} (m : IndexMap (Vec ℕ A) ℕ S) (key : Vec ℕ A
 new_entry m key v name k e =
     insert_entry-new (λ k j. same_text k.items j.items) m key v
     (ap (λ (n : List ℕ). lookup (λ j. same_text n j.items) m.entries) k ∙ sym (first_loader name m.entries) ∙ e)
+
+-- ---- the same records once more
+
+-- each entry has the same name and class
+abbrev pub AreCopies : {A : Type 0} → List (Vec ℕ A × ℕ) → List (Vec ℕ A × ℕ) → Type 0
+AreCopies es fs = AllZip (λ e f. (AllZip (λ (x y : ℕ). y ≡ x) e.0.items f.0.items × (vec_len f.0 ≡ vec_len e.0)) × (f.1 ≡ e.1)) es fs
+
+pub recorded_same : {A : Type 0} (es fs : List (Vec ℕ A × ℕ)) → AreCopies es fs → recorded fs ≡ recorded es
+recorded_same [] [] h = refl
+recorded_same [] (f ∷ fs) h = absurd h
+recorded_same (e ∷ es) [] h = absurd h
+recorded_same {A = A} (e ∷ es) (f ∷ fs) h = λ i. ((0, each_same e.0.items f.0.items h.0.0.0 i), h.0.1 i) ∷ recorded_same es fs h.1 i
+
+there_too : {A : Type 0} (n : ℕ) (es fs : List (Vec ℕ A × ℕ)) → AreCopies es fs → AllByRecursion (λ e. e.1 < n) es → AllByRecursion (λ e. e.1 < n) fs
+there_too n [] [] h k = tt
+there_too n [] (f ∷ fs) h k = absurd h
+there_too n (e ∷ es) [] h k = absurd h
+there_too n (e ∷ es) (f ∷ fs) h k = (subst (λ m. m < n) (sym h.0.1) k.0, there_too n es fs h.1 k.1)
+
+pub copies_there : {A : Type 0} (n : ℕ) (es fs : List (Vec ℕ A × ℕ)) → AreCopies es fs → All (λ e. e.1 < n) es → All (λ e. e.1 < n) fs
+copies_there n es fs h k = All-from_recursion (λ e. e.1 < n) fs (there_too n es fs h (recursion_from_All (λ e. e.1 < n) es k))

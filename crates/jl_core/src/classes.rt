@@ -1,13 +1,13 @@
 //! The classes that are defined.
 
-ghost use Rattle.std.specs.Prelude.{◌≡◌, ◌<◌, ◌↔◌, IsTrue, length, slice_get, Some, None, MatchOption, IfSome};
+ghost use Rattle.std.specs.Prelude.{◌≡◌, ◌<◌, ◌↔◌, IsTrue, length, slice_get, Some, None, MatchOption, IfSome, IfOk};
 ghost use Rattle.jl_types.specs.Members as members;
 ghost use Rattle.jl_types.specs.World.{nothing_yet};
 ghost use Rattle.jl_core.specs.Plain.{IsPlain, IsPlainWorld};
 
 use indexmap::IndexMap;
 use jl_types::{Class, ClassId, LoaderId};
-use std::alloc::Global;
+use std::alloc::{AllocError, Global};
 use std::marker::Model;
 
 /// The classes that are defined, and what the one loader, number 0, finds by name (JVMS SE 17 §5.3). Each is public, no
@@ -39,6 +39,16 @@ impl Classes {
             rows: Vec::new(alloc),
             records: IndexMap::new(alloc),
         }
+    }
+
+    /// The same classes once more. Want of memory is an error.
+    pub(crate) fn copy(&self, alloc: Global) -> Result<Classes, AllocError>
+        ensures { IfOk result (λ copy. copy ≡ self.now) }
+    {
+        Ok(Classes {
+            rows: copy_rows(alloc, self.rows.as_slice())?,
+            records: self.records.clone()?,
+        })
     }
 
     /// The classes, by number.
@@ -77,4 +87,15 @@ impl Classes {
     {
         (class.number() as usize) < self.rows.len()
     }
+}
+
+/// The same classes once more. Want of memory is an error.
+fn copy_rows(alloc: Global, rows: &[Class]) -> Result<Vec<Class>, AllocError>
+    ensures { IfOk result (λ made. made.items ≡ rows.now) }
+{
+    let mut made = Vec::with_capacity(alloc, rows.len())?;
+    for row in rows {
+        made.push(row.copy(alloc)?)?;
+    }
+    Ok(made)
 }

@@ -1,6 +1,6 @@
 //! What an install is refused for.
 
-ghost use Rattle.std.specs.Prelude.{◌≡◌, ◌==◌, []};
+ghost use Rattle.std.specs.Prelude.{◌≡◌, ◌==◌, ◌||◌, nat_lt, []};
 ghost use Rattle.std.specs.List.{list_any};
 ghost use Rattle.jl_types.specs.Events as events;
 ghost use Rattle.jl_types.specs.Resolution.{first_of};
@@ -17,7 +17,7 @@ impl World {
     pub(crate) fn install_refusal(&self, rows: &[(SiteNo, Link)]) -> Option<Refusal>
         ensures { result ≡ events.install_fault self.now rows.now }
     {
-        if rows.is_empty() || rows.len() > MOST_ROWS {
+        if is_bad_size(rows.len()) {
             return Some(Refusal::BatchSize);
         }
         if let Some(refusal) = self.batch_refusal(rows) {
@@ -59,6 +59,13 @@ impl World {
         }
         None
     }
+}
+
+/// Whether a batch of so many rows has none, or too many.
+pub(crate) fn is_bad_size(rows: usize) -> bool
+    ensures { result ≡ ((rows == 0) || nat_lt 256 rows) }
+{
+    rows == 0 || rows > MOST_ROWS
 }
 
 /// Whether the site comes in these rows.

@@ -8,16 +8,21 @@
 mod cache;
 mod classes;
 mod define;
+mod fill;
 mod install;
 mod link;
 mod machine;
+mod preparation;
 mod request;
 mod resolve;
 mod select;
+mod snapshot;
 mod stage;
 mod upward;
 mod world;
 
 pub use cache::Cache;
 pub use machine::Core;
+pub use preparation::{Prepared, prepare};
+pub use snapshot::Snapshot;
 pub use world::World;

@@ -14,13 +14,14 @@ ghost use Rattle.jl_core.specs.Steps.{IsAccepted};
 
 use crate::cache::Cache;
 use crate::define::is_plain_file;
+use crate::snapshot::Snapshot;
 use crate::world::World;
 use jl_classfile::ClassFile;
 use jl_names::Seq;
 use jl_types::{
     Answer, Event, Link, LoaderId, Made, Place, Recv, Refusal, Reply, SiteNo, Unlinked,
 };
-use std::alloc::Global;
+use std::alloc::{AllocError, Global};
 use std::marker::Model;
 
 /// Classes, requested places and the links that are installed. Each installed link is its site's link from scratch.
@@ -103,6 +104,13 @@ impl Core {
         ensures scratch { AreScratch self.now.world self.now.links }
     {
         &self.links
+    }
+
+    /// The world as it is, with the count of the events that were accepted. Want of memory is an error.
+    pub fn snapshot(&self, alloc: Global) -> Result<Snapshot, AllocError>
+        ensures { IfOk result (λ snapshot. snapshot ≡ record { world = self.now.world; serial = self.now.accepted }) }
+    {
+        Ok(Snapshot::new(self.world.copy(alloc)?, self.accepted))
     }
 
     /// The loader defines a class of the file, and the links that aren't those from scratch any more go.

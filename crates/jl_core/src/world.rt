@@ -60,6 +60,16 @@ impl World {
         }
     }
 
+    /// The same world once more. Want of memory is an error.
+    pub fn copy(&self, alloc: Global) -> Result<World, AllocError>
+        ensures { IfOk result (λ copy. copy ≡ self.now) }
+    {
+        Ok(World {
+            classes: self.classes.copy(alloc)?,
+            places: self.places.clone()?,
+        })
+    }
+
     /// The file of a class that the loader may define, with its superclass. Takes no memory.
     ///
     /// # Errors

@@ -1,6 +1,6 @@
 -- What a preparation is answered: links for some sites, looked up apart from the events and installed later.
-use Rattle.std.specs.Prelude.{ℕ, ◌||◌, ◌==◌, nat_lt, nat_le, List, [], ◌∷◌, map, length, Option, Some, None, Result, Ok, Err}
-use Rattle.std.specs.List.{list_any}
+use Rattle.std.specs.Prelude.{◌≡◌, ℕ, ◌||◌, ◌==◌, nat_lt, nat_le, List, [], ◌∷◌, map, length, Option, Some, None, Result, Ok, Err}
+use Rattle.std.specs.List.{list_any, AllZip}
 use Rattle.std.specs.Bool.{then_some}
 use Rattle.jl_types.specs.declared.link.Link.{Link}
 use Rattle.jl_types.specs.declared.answer.Unlinked.{Unlinked}
@@ -26,6 +26,10 @@ link_fault s (Err reason) = Some (NotReady s)
 -- the first site that has no link from scratch
 abbrev pub ready_fault : World → List ℕ → Option PrepareFault
 ready_fault w sites = first_of (map (λ s. link_fault s (scratch w s)) sites)
+
+-- the rows are the sites in order, each with its link from scratch
+abbrev pub ArePrepared : World → List ℕ → List (ℕ × Link) → Type 0
+ArePrepared w sites rows = AllZip (λ s row. (row.0 ≡ s) × (scratch w s ≡ Ok row.1)) sites rows
 
 abbrev pub prepare_fault : World → List ℕ → Option PrepareFault
 prepare_fault w sites = first_of (

@@ -21,8 +21,8 @@ pub returns-then-comes : goal.returns-then-comes
 returns-then-comes c =
     let row = c.index-rows-number.result in
     let front = take c.loop-number.number c.args.rows.now in
-    sym (repeated_row c.args.self.now (sites_of front) row (drop (c.loop-number.number + 1) c.args.rows.now) (known c.before) (any_site row.0 front ∙ sym c.comes.ensures ∙ c.if-comes.true))
-    ∙ ap (batch_fault c.args.self.now (sites_of front)) (sym (split c.before))
+    sym (repeated_row c.args.self.now (sites_of (λ row. row.0) front) row (drop (c.loop-number.number + 1) c.args.rows.now) (known c.before) (any_site (λ row. row.0) row.0 front ∙ sym c.comes.ensures ∙ c.if-comes.true))
+    ∙ ap (batch_fault c.args.self.now (sites_of (λ row. row.0) front)) (sym (split c.before))
     ∙ c.loop-number.invariant
 
 pub loop-number-preserved : goal.loop-number-preserved
@@ -31,7 +31,7 @@ loop-number-preserved c =
     let front = take c.loop-number.number c.args.rows.now in
     let rest = drop (c.loop-number.number + 1) c.args.rows.now in
     ap (λ (sites : List ℕ). batch_fault c.args.self.now sites rest)
-    (ap sites_of (take_more c.args.rows.now c.loop-number.number row c.loop-number-test.true ∙ ap (λ (r : ℕ × Link). front ++ r ∷ []) (sym c.index-rows-number.is)) ∙ sites_more front row)
-    ∙ sym (new_row c.args.self.now (sites_of front) row rest (known c.before) (any_site row.0 front ∙ sym c.comes.ensures ∙ c.if-comes.false))
-    ∙ ap (batch_fault c.args.self.now (sites_of front)) (sym (split c.before))
+    (ap (sites_of (λ row. row.0)) (take_more c.args.rows.now c.loop-number.number row c.loop-number-test.true ∙ ap (λ (r : ℕ × Link). front ++ r ∷ []) (sym c.index-rows-number.is)) ∙ sites_more (λ row. row.0) front row)
+    ∙ sym (new_row c.args.self.now (sites_of (λ row. row.0) front) row rest (known c.before) (any_site (λ row. row.0) row.0 front ∙ sym c.comes.ensures ∙ c.if-comes.false))
+    ∙ ap (batch_fault c.args.self.now (sites_of (λ row. row.0) front)) (sym (split c.before))
     ∙ c.loop-number.invariant

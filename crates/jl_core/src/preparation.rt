@@ -1,0 +1,104 @@
+//! Links that are looked up apart from the events, and installed later.
+
+ghost use Rattle.std.specs.Prelude.{◌≡◌, ◌+◌, ◌≤◌, ◌⊎◌, ◌==◌, [], None, Some, Ok, length, IfOk, IfErr, OnOk};
+ghost use Rattle.std.specs.List.{list_any};
+ghost use Rattle.jl_types.specs.declared.refusal.PrepareFault.TheVariants as fault;
+ghost use Rattle.jl_types.specs.Preparation as prepared;
+ghost use Rattle.jl_types.specs.Preparation.{prepare_fault, link_fault, ArePrepared};
+ghost use Rattle.jl_types.specs.Links.{scratch};
+
+use crate::fill::fill;
+use crate::install::is_bad_size;
+use crate::snapshot::Snapshot;
+use crate::world::World;
+use jl_names::Seq;
+use jl_types::{Link, PrepareFault, SiteNo};
+use std::alloc::Global;
+
+/// Sites with their links from scratch, as they were after so many accepted events.
+#[derive(Debug, Drop)]
+pub struct Prepared {
+    pub serial: u64,
+    pub rows: Seq<(SiteNo, Link)>,
+}
+
+/// Looks up the links of these sites from scratch, in the world of the snapshot. Nothing is installed.
+///
+/// # Errors
+///
+/// Fewer than 1 or more than 256 sites; else the first site that isn't requested or comes twice; else the first one that
+/// has no link. Want of memory where there is none of these.
+pub fn prepare(
+    alloc: Global,
+    snapshot: &Snapshot,
+    sites: &[SiteNo],
+) -> Result<Prepared, PrepareFault>
+    ensures serial { IfOk result (λ prepared. prepared.serial ≡ snapshot.now.serial) }
+    ensures rows { IfOk result (λ prepared. ArePrepared snapshot.now.world sites.now prepared.rows) }
+    ensures accepted { OnOk result (prepare_fault snapshot.now.world sites.now ≡ None) }
+    ensures fault { IfErr result (λ f. (prepare_fault snapshot.now.world sites.now ≡ Some f)
+        ⊎ ((f ≡ fault.Memory) × (prepare_fault snapshot.now.world sites.now ≡ None))) }
+{
+    if is_bad_size(sites.len()) {
+        return Err(PrepareFault::BatchSize);
+    }
+    let world = snapshot.world();
+    if let Some(fault) = world.site_fault(sites) {
+        return Err(fault);
+    }
+    let Ok(mut rows) = Vec::with_capacity(alloc, sites.len()) else {
+        return Err(world.ready_fault(sites).unwrap_or(PrepareFault::Memory));
+    };
+    fill(sites, &mut rows, |site| world.row(*site))?;
+    Ok(Prepared {
+        serial: snapshot.serial(),
+        rows: Seq::of(rows),
+    })
+}
+
+impl World {
+    /// The fault of the first site that isn't requested, or comes earlier.
+    fn site_fault(&self, sites: &[SiteNo]) -> Option<PrepareFault>
+        ensures { result ≡ prepared.site_fault self.now [] sites.now }
+    {
+        for (number, site) in sites.iter().enumerate() {
+            if site.number() as usize >= self.site_count() {
+                return Some(PrepareFault::UnknownSite(*site));
+            }
+            if is_among(&sites[..number], *site) {
+                return Some(PrepareFault::Repeated(*site));
+            }
+        }
+        None
+    }
+
+    /// The fault of the first site that has no link from scratch.
+    fn ready_fault(&self, sites: &[SiteNo]) -> Option<PrepareFault>
+        ensures { result ≡ prepared.ready_fault self.now sites.now }
+    {
+        for site in sites {
+            if self.link_of(*site).is_err() {
+                return Some(PrepareFault::NotReady(*site));
+            }
+        }
+        None
+    }
+
+    /// The site with its link from scratch.
+    fn row(&self, site: SiteNo) -> Result<(SiteNo, Link), PrepareFault>
+        ensures ok { IfOk result (λ row. (row.0 ≡ site) × (scratch self.now site ≡ Ok row.1)) }
+        ensures err { IfErr result (λ f. link_fault site (scratch self.now site) ≡ Some f) }
+    {
+        match self.link_of(site) {
+            Ok(link) => Ok((site, link)),
+            Err(_) => Err(PrepareFault::NotReady(site)),
+        }
+    }
+}
+
+/// Whether the site is one of these.
+fn is_among(sites: &[SiteNo], site: SiteNo) -> bool
+    ensures { result ≡ list_any (λ s. s == site) sites.now }
+{
+    sites.iter().any(|other| *other == site)
+}
