@@ -2,6 +2,8 @@
 #![tactic(auto)]
 
 #[cfg(test)]
+mod cores;
+#[cfg(test)]
 mod devices;
 #[cfg(test)]
 mod faults;
@@ -15,5 +17,3 @@ mod scans;
 mod two_faults;
 #[cfg(test)]
 mod words;
-#[cfg(test)]
-mod worlds;
