@@ -8,3 +8,5 @@ pub mod PlaceLaws
 pub mod BatchLaws
 pub mod LinkLaws
 pub mod MachineLaws
+pub mod ListLaws
+pub mod FillLaws

@@ -19,7 +19,7 @@ turned a b = one_answer (a == b) (b == a) (Decides-eqb a b) (Decides-like (b == 
 
 -- ---- what is found
 
-found_first : (s t : ℕ) (l : Link) (rows : List (ℕ × Link)) → link_at ((s, l) ∷ rows) t ≡ (if s == t then Some l else link_at rows t)
+pub found_first : (s t : ℕ) (l : Link) (rows : List (ℕ × Link)) → link_at ((s, l) ∷ rows) t ≡ (if s == t then Some l else link_at rows t)
 found_first s t l rows = by_test (s == t)
   where
     by_test : (b : Bool) → option_map (λ row. row.1) (cond b (Some (s, l)) (find (λ row. row.0 == t) rows)) ≡ (if b then Some l else link_at rows t)
@@ -73,11 +73,11 @@ all_after n s l (row ∷ rows) h k = by_order (nat_lt s row.0) (s == row.0) (all
     by_order false false ih = (k.0, ih)
 
 -- each row before those behind it
-abbrev Rises : List (ℕ × Link) → Type 0
+abbrev pub Rises : List (ℕ × Link) → Type 0
 Rises [] = Unit {0}
 Rises (row ∷ rows) = AllByRecursion (λ (r : ℕ × Link). row.0 < r.0) rows × Rises rows
 
-wider : (n m : ℕ) (rows : List (ℕ × Link)) → n < m → AllByRecursion (λ (r : ℕ × Link). m < r.0) rows → AllByRecursion (λ (r : ℕ × Link). n < r.0) rows
+pub wider : (n m : ℕ) (rows : List (ℕ × Link)) → n < m → AllByRecursion (λ (r : ℕ × Link). m < r.0) rows → AllByRecursion (λ (r : ℕ × Link). n < r.0) rows
 wider n m [] h k = tt
 wider n m (row ∷ rows) h k = (let lt = k.0 in omega arith, wider n m rows h k.1)
 
@@ -99,7 +99,7 @@ rises_put s l (row ∷ rows) h = by_order (nat_lt s row.0) (s == row.0) refl ref
     by_order false false e f ih =
         (all_after row.0 s l rows (lt_of_le-ne (not_less s row.0 e) (λ same. clash (s == row.0) ((Decides-eqb s row.0).1 (sym same)) f)) h.0, ih)
 
-rises : (entries : List (ℕ × Link)) → Rises (by_site entries)
+pub rises : (entries : List (ℕ × Link)) → Rises (by_site entries)
 rises [] = tt
 rises (entry ∷ entries) = rises_put entry.0 entry.1 (by_site entries) (rises entries)
 

@@ -170,7 +170,7 @@ module _ (w : World) (s : ℕ) where
 
 -- ---- the links that go, site by site
 
-order : (s n : ℕ) → (s < n) ⊎ ((s ≡ n) ⊎ (n < s))
+pub order : (s n : ℕ) → (s < n) ⊎ ((s ≡ n) ⊎ (n < s))
 order zero zero = inr (inl refl)
 order zero (suc n) = inl (omega arith)
 order (suc s) zero = inr (inr (omega arith))

@@ -1,7 +1,7 @@
 -- What a function gives for items, one after another. A means of proof.
-use Rattle.std.specs.Prelude.{◌≡◌, ℕ, ◌+◌, List, ◌∷◌, drop, take, Result, Ok, Err}
-use Rattle.std.specs.List.{AllZip}
-use Rattle.std.specs.Fn.{FnReturnsAt}
+use Rattle.std.specs.Prelude.{◌≡◌, ℕ, ◌+◌, List, ◌∷◌, drop, take, Option, filter_map, Result, Ok, Err}
+use Rattle.std.specs.List.{AllZip, range_with_len}
+use Rattle.std.specs.Fn.{FnReturns, FnReturnsAt}
 use denote.Param.Members.{Shared}
 use denote.Ref.{Bor}
 
@@ -13,3 +13,9 @@ pub record FailsFirst {F T U E : Type 0} (g : Shared F (Bor T × Unit {0}) (Resu
   pub item : T
   pub next : drop count items ≡ item ∷ drop (count + 1) items
   pub fails : FnReturnsAt g make item (Err e)
+
+-- the items are what it gives for the numbers below the end, where it gives something
+pub record Gathers {F U : Type 0} (g : Shared F (ℕ × Unit {0}) (Option U)) (make : F) (end : ℕ) (items : List U) : Type 0 where
+  pub given : List (Option U)
+  pub each : AllZip (λ number one. FnReturns g make (number, tt) one) (range_with_len 0 end) given
+  pub some : items ≡ filter_map (λ one. one) given

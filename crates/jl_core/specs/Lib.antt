@@ -3,7 +3,6 @@ pub mod Admitted
 pub mod State
 pub mod LinkMaps
 pub mod Fills
-pub mod Steps
 pub mod Plain
 pub mod TargetCode
 pub mod Rows

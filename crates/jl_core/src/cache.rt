@@ -1,9 +1,11 @@
 //! The links that are installed.
 
-ghost use Rattle.std.specs.Prelude.{◌≡◌, ℕ, ◌==◌, [], None, OnOk, OnErr, if◌then◌else◌};
+ghost use Rattle.std.specs.Prelude.{◌≡◌, ℕ, ◌<◌, ◌==◌, [], Some, None, option_map, IfOk, OnOk, OnErr, if◌then◌else◌};
+ghost use Rattle.jl_types.specs.declared.link.Link.{Link};
 ghost use Rattle.jl_core.specs.State.{link_at, AreRising};
 ghost use Rattle.jl_core.specs.LinkMaps.{link_with};
 
+use crate::fill::gather;
 use indexmap::IndexMap;
 use jl_types::{Link, SiteNo};
 use std::alloc::{AllocError, Global};
@@ -41,6 +43,24 @@ impl Cache {
         ensures rising { AreRising self.now }
     {
         self.links.get(&site).copied()
+    }
+
+    /// The links of the first so many sites, by rising number. Want of memory is an error.
+    pub(crate) fn list(&self, alloc: Global, sites: u32) -> Result<Vec<(SiteNo, Link)>, AllocError>
+        requires { (s : ℕ) (l : Link) → link_at self.now s ≡ Some l → s < sites }
+        ensures { IfOk result (λ rows. rows.items ≡ self.now) }
+    {
+        let _ = &self.links;
+        gather(alloc, sites, |number| self.row(number))
+    }
+
+    /// The site of this number with its link, if one is installed.
+    fn row(&self, number: u32) -> Option<(SiteNo, Link)>
+        ensures { result ≡ option_map (λ link. (number, link)) (link_at self.now number) }
+    {
+        let site = SiteNo::new(number);
+        let link = self.get(site)?;
+        Some((site, link))
     }
 
     /// Installs these links, in place of those that the sites have.

@@ -1,10 +1,12 @@
-//! Lists that have room for what is made.
+//! Lists that are made item by item.
 
-ghost use Rattle.std.specs.Prelude.{◌≡◌, ◌+◌, ◌≤◌, [], Ok, length, IfErr, OnOk};
+ghost use Rattle.std.specs.Prelude.{◌≡◌, ◌+◌, ◌≤◌, [], Ok, length, IfOk, IfErr, OnOk};
 ghost use Rattle.std.specs.Fn.{FnReturnsAt};
 ghost use Rattle.std.specs.List.{AllZip};
 ghost use Rattle.std.specs.Vec.{vec_len, vec_capacity};
-ghost use Rattle.jl_core.specs.Fills.{FailsFirst};
+ghost use Rattle.jl_core.specs.Fills.{FailsFirst, Gathers};
+
+use std::alloc::{AllocError, Global};
 
 /// Fills an empty list, which has room for it, with what `make` gives for each item, in order. The first error ends it.
 pub(crate) fn fill<T, U: Drop, E: Drop, F: Fn(&T) -> Result<U, E>>(
@@ -23,4 +25,23 @@ pub(crate) fn fill<T, U: Drop, E: Drop, F: Fn(&T) -> Result<U, E>>(
         made.push_reserved(one);
     }
     Ok(())
+}
+
+/// What `make` gives for the numbers below the end, in order, where it gives something. Want of memory is an error.
+pub(crate) fn gather<U: Drop, F: Fn(u32) -> Option<U>>(
+    alloc: Global,
+    end: u32,
+    make: F,
+) -> Result<Vec<U>, AllocError>
+    requires { F.IsAlwaysCallable make }
+    ensures { IfOk result (λ made. Gathers F.Fn make end made.items) }
+{
+    let mut made = Vec::new(alloc);
+    for number in 0..end {
+        let Some(one) = make(number) else {
+            continue;
+        };
+        made.push(one)?;
+    }
+    Ok(made)
 }

@@ -9,8 +9,7 @@ ghost use Rattle.jl_types.specs.Calls as calls;
 ghost use Rattle.jl_types.specs.Events.{step};
 ghost use Rattle.jl_types.specs.History.{installs, kept};
 ghost use Rattle.jl_core.specs.Admitted.{admitted};
-ghost use Rattle.jl_core.specs.State.{empty_core, link_at, lost, AreScratch, AreRising, IsRefused};
-ghost use Rattle.jl_core.specs.Steps.{IsAccepted};
+ghost use Rattle.jl_core.specs.State.{empty_core, counted, link_at, lost, AreScratch, IsAccepted, IsRefused};
 
 use crate::cache::Cache;
 use crate::define::is_plain_file;
@@ -70,14 +69,7 @@ impl Core {
     ///
     /// The first refusal; want of memory where there is none. Nothing has changed then.
     pub fn apply(&mut self, alloc: Global, event: Event) -> Result<Reply, Refusal>
-        ensures made { IfOk result (λ reply. admitted self.old.max_sites self.old.world event ≡ Ok reply.made) }
-        ensures world { OnOk result (self.new.world ≡ step self.old.world event) }
-        ensures links { OnOk result ((s : ℕ) → link_at self.new.links s
-            ≡ kept (installs s event) (link_at self.old.links s) (scratch self.new.world s)) }
-        ensures dropped { IfOk result (λ reply. reply.dropped
-            ≡ lost (length self.old.world.places) self.old.links self.new.links) }
-        ensures limit { OnOk result (self.new.max_sites ≡ self.old.max_sites) }
-        ensures accepted { OnOk result (self.new.accepted ≡ min (self.old.accepted + 1) (2 ^ 64 - 1)) }
+        ensures accepted { IfOk result (IsAccepted self.old self.new event) }
         ensures refused { IfErr result (IsRefused (admitted self.old.max_sites self.old.world event)) }
         ensures unchanged { OnErr result (self.new ≡ self.old) }
     {
@@ -106,6 +98,13 @@ impl Core {
         &self.links
     }
 
+    /// Each site that has an installed link, with it, by rising number. Want of memory is an error.
+    pub fn list_links(&self, alloc: Global) -> Result<Vec<(SiteNo, Link)>, AllocError>
+        ensures { IfOk result (λ rows. rows.items ≡ self.now.links) }
+    {
+        self.links.list(alloc, self.world.site_count() as u32)
+    }
+
     /// The world as it is, with the count of the events that were accepted. Want of memory is an error.
     pub fn snapshot(&self, alloc: Global) -> Result<Snapshot, AllocError>
         ensures { IfOk result (λ snapshot. snapshot ≡ record { world = self.now.world; serial = self.now.accepted }) }
@@ -115,7 +114,7 @@ impl Core {
 
     /// The loader defines a class of the file, and the links that aren't those from scratch any more go.
     fn define(&mut self, alloc: Global, loader: LoaderId, file: ClassFile) -> Result<Reply, Refusal>
-        ensures ok { IfOk result (IsAccepted self.old self.new (event.Define loader file)) }
+        ensures ok { IfOk result (IsAccepted self.old (counted self.new) (event.Define loader file)) }
         ensures err { IfErr result (IsRefused (admitted self.old.max_sites self.old.world (event.Define loader file))) }
         ensures unchanged { OnErr result (self.new ≡ self.old) }
     {
@@ -137,7 +136,7 @@ impl Core {
 
     /// Gives the place a number, where it has none.
     fn request(&mut self, alloc: Global, place: Place) -> Result<Reply, Refusal>
-        ensures ok { IfOk result (IsAccepted self.old self.new (event.Request place)) }
+        ensures ok { IfOk result (IsAccepted self.old (counted self.new) (event.Request place)) }
         ensures err { IfErr result (IsRefused (admitted self.old.max_sites self.old.world (event.Request place))) }
         ensures unchanged { OnErr result (self.new ≡ self.old) }
     {
@@ -150,7 +149,7 @@ impl Core {
 
     /// Installs all of the links, or none.
     fn install(&mut self, alloc: Global, rows: &[(SiteNo, Link)]) -> Result<Reply, Refusal>
-        ensures ok { IfOk result (IsAccepted self.old self.new (event.Install rows.now)) }
+        ensures ok { IfOk result (IsAccepted self.old (counted self.new) (event.Install rows.now)) }
         ensures err { IfErr result (IsRefused (admitted self.old.max_sites self.old.world (event.Install rows.now))) }
         ensures unchanged { OnErr result (self.new ≡ self.old) }
     {

@@ -268,6 +268,21 @@ fn has_table(core: &Core, site: u32, rows: &[(u32, u32)]) -> bool {
     }
 }
 
+/// Whether these sites have installed links, in this order.
+fn are_listed(alloc: Global, core: &Core, expected: &[u32]) -> bool {
+    match core.list_links(alloc) {
+        Ok(rows) => {
+            let shown = rows.as_slice();
+            shown.len() == expected.len()
+                && shown
+                    .iter()
+                    .zip(expected.iter())
+                    .all(|(row, number)| row.0.number() == *number)
+        }
+        Err(_) => false,
+    }
+}
+
 /// Whether java/lang/Object is the parent that is missing.
 fn names_object(reply: &Result<Reply, Refusal>) -> bool {
     match reply {
@@ -409,7 +424,8 @@ fn installs_all_or_none(rt: HostRuntime) -> Result<(), Fail> {
     let stale = install(alloc, &mut core, rows);
     assert!(rt; presents_table(&stale, 0, [(1, 1), (3, 3)].as_slice()));
     assert!(rt; core.links().get(SiteNo::new(1)).is_none());
-    assert!(rt; is_installed(&install_one(alloc, &mut core, 1, Link::Plain(first(2)))));
+    assert!(rt; is_installed(&install_now(alloc, &mut core, sites.as_slice())));
+    assert!(rt; are_listed(alloc, &core, [0, 1].as_slice()));
     Ok(())
 }
 

@@ -25,13 +25,13 @@ pub installed_requested : (h : List Event) (s : ℕ) (l : Link) → installed h 
 installed_requested h s l e = requested (world_after h) s l (settled_now h s l (installed_to h s l e))
 
 module _ (f : ℕ → Option Link) where
-  abbrev row : ℕ → Option (ℕ × Link)
+  abbrev pub row : ℕ → Option (ℕ × Link)
   row s = option_map (λ l. (s, l)) (f s)
 
-  abbrev rows : ℕ → ℕ → List (ℕ × Link)
+  abbrev pub rows : ℕ → ℕ → List (ℕ × Link)
   rows a n = filter_map row (range_with_len a n)
 
-  above : (b a n : ℕ) → b < a → AllByRecursion (λ (r : ℕ × Link). b < r.0) (rows a n)
+  pub above : (b a n : ℕ) → b < a → AllByRecursion (λ (r : ℕ × Link). b < r.0) (rows a n)
   above b a zero h = tt
   above b a (suc n) h = by_first (f a) (above b (a + 1) n (omega arith))
     where

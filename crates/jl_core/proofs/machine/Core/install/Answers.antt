@@ -8,8 +8,7 @@ use Rattle.jl_types.specs.declared.refusal.Refusal.{Refusal}
 use Rattle.jl_types.specs.Links.{scratch}
 use Rattle.jl_types.specs.Events.{unless}
 use Rattle.jl_types.specs.History.{kept}
-use Rattle.jl_core.specs.State.{State, AreScratch, link_at}
-use Rattle.jl_core.specs.Steps.{IsAccepted}
+use Rattle.jl_core.specs.State.{State, IsAccepted, counted, AreScratch, link_at}
 use Rattle.jl_core.proofs.MachineLaws.{are_scratch, install_keeps, kept_once, nothing_lost}
 use Rattle.jl_core.proofs.machine.Core.install.Goals.{After-of}
 use Rattle.jl_core.proofs.machine.Core.install.Goals as goal
@@ -31,7 +30,7 @@ reply c = record { made = Nothing; dropped = c.of.result }
 
 pub returns-clause-ok : goal.returns-clause-ok
 returns-clause-ok c =
-    subst (λ (old : State). IsAccepted old (after c) (event.Install c.args.rows.now) (reply c)) c.self.view_is record {
+    subst (λ (old : State). IsAccepted old (counted (after c)) (event.Install c.args.rows.now) (reply c)) c.self.view_is record {
       made = ap (λ (o : Option Refusal). unless o Nothing) (sym c.install_refusal.ensures ∙ c.in_default.is);
       world = refl;
       links = keeps c;

@@ -6,8 +6,7 @@ use Rattle.jl_types.specs.declared.event.Reply.{Reply}
 use Rattle.jl_types.specs.World.{World}
 use Rattle.jl_types.specs.Links.{scratch}
 use Rattle.jl_types.specs.History.{kept}
-use Rattle.jl_core.specs.State.{State, AreScratch, link_at}
-use Rattle.jl_core.specs.Steps.{IsAccepted}
+use Rattle.jl_core.specs.State.{State, IsAccepted, counted, AreScratch, link_at}
 use Rattle.jl_core.proofs.MachineLaws.{are_scratch, request_keeps, nothing_lost}
 use Rattle.jl_core.proofs.machine.Core.request.Goals.{After-of}
 use Rattle.jl_core.proofs.machine.Core.request.Goals as goal
@@ -31,7 +30,7 @@ reply c = record { made = Site c.in_ok-site.site; dropped = c.of.result }
 
 pub returns-clause-ok : goal.returns-clause-ok
 returns-clause-ok c =
-    subst (λ (old : State). IsAccepted old (after c) (event.Request c.args.place) (reply c)) c.self.view_is record {
+    subst (λ (old : State). IsAccepted old (counted (after c)) (event.Request c.args.place) (reply c)) c.self.view_is record {
       made = c.in_ok-site.ensures.number;
       world = c.in_ok-site.ensures.ok;
       links = keeps c;
