@@ -3,9 +3,9 @@
 ghost use Rattle.std.specs.Prelude.{◌≡◌, map, IfOk};
 ghost use Rattle.serde_json.specs.Data.{array};
 ghost use Rattle.serde_json.specs.View.{view, items_of};
-ghost use Rattle.jl_cli.specs.NameReading.{name_text};
-ghost use Rattle.jl_cli.specs.ClassAnswers.{instruction_name, call_data, call_site_data};
-ghost use Rattle.jl_cli.specs.ClassAnswers.{site_data, method_data, class_data};
+ghost use Rattle.jl_json.specs.NameReading.{name_text};
+ghost use Rattle.jl_json.specs.ClassAnswers.{instruction_name, call_data, call_site_data};
+ghost use Rattle.jl_json.specs.ClassAnswers.{site_data, method_data, class_data};
 
 use crate::text::text_of;
 use jl_classfile::{CallSiteSpecifier, ClassFile, Kind, Method, Operand, Reference, Site};

@@ -1,7 +1,8 @@
 //! Names as text.
 
 ghost use Rattle.std.specs.Prelude.{◌≡◌, string_bytes, IfOk};
-ghost use Rattle.jl_cli.specs.NameReading.{name_text};
+ghost use Rattle.jl_json.specs.Names.{SpellsNames};
+ghost use Rattle.jl_json.specs.NameReading.{name_text};
 
 use jl_names::{NameFault, decode_mutf8};
 use std::alloc::{AllocError, Global};
@@ -20,3 +21,8 @@ pub fn text_of(alloc: Global, name: &[u8]) -> Result<String, AllocError>
         },
     }
 }
+
+/// The text of a name is that of its units.
+pub fn names_are_spelled()
+    ensures { SpellsNames name_text }
+{}

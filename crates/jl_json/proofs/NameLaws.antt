@@ -7,8 +7,8 @@ use Rattle.jl_names.specs.declared.fault.NameFault.TheVariants.{Memory}
 use Rattle.jl_names.proofs.UnitLaws.{IsMutf8-no_fault}
 use Rattle.jl_classfile.specs.Pools.{same_text}
 use Rattle.jl_classfile.proofs.SiteLaws.{text_is, same_self}
-use Rattle.jl_cli.specs.Names.{units_text, SpellsNames}
-use Rattle.jl_cli.specs.NameReading.{units_of, name_text}
+use Rattle.jl_json.specs.Names.{units_text, SpellsNames}
+use Rattle.jl_json.specs.NameReading.{units_of, name_text}
 
 unit_read : (u : ℕ) (rest : List ℕ) → u < 2 ^ 16 → units_of (unit_bytes u ++ rest) ≡ u ∷ units_of rest
 unit_read u [] lt = grind (arith, nat_tests)

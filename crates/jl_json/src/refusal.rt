@@ -2,8 +2,8 @@
 
 ghost use Rattle.std.specs.Prelude.{◌≡◌, None, Some, IfOk, OnOk};
 ghost use Rattle.serde_json.specs.View.{view, members_view};
-ghost use Rattle.jl_cli.specs.Refusals.{refusal_of, with_number, reason, place, method};
-ghost use Rattle.jl_cli.specs.Refusals.{pool_reason, pool_place, code_reason, code_place};
+ghost use Rattle.jl_json.specs.Refusals.{refusal_of, with_number, reason, place, method};
+ghost use Rattle.jl_json.specs.Refusals.{pool_reason, pool_place, code_reason, code_place};
 
 use jl_classfile::{ClassFault, CodeFault, PoolFault};
 use serde_json::{Map, Value, put};

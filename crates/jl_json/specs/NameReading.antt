@@ -1,8 +1,8 @@
--- A name's units read from its bytes. Only private clauses cite this.
+-- A name's text, by its units read from its bytes.
 use Rattle.std.specs.Prelude.{ℕ, ◌+◌, ◌*◌, ◌%◌, nat_lt, if◌then◌else◌, List, [], ◌∷◌}
 use Rattle.jl_names.specs.Mutf8.{mutf8}
 use Rattle.jl_classfile.specs.Pools.{same_text}
-use Rattle.jl_cli.specs.Names.{units_text}
+use Rattle.jl_json.specs.Names.{units_text}
 
 -- The units, each of one, two or three bytes, as its first one says. What a cut unit has is
 -- dropped.

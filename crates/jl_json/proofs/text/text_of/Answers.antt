@@ -1,9 +1,9 @@
 use Rattle.std.proofs.Common.{◌≡◌, ◌∙◌, sym, ap, List, ℕ, Result, Ok, Err, IfOk, String, Global, string_bytes}
 use Rattle.jl_names.specs.Mutf8.{IsMutf8}
-use Rattle.jl_cli.specs.Names.{units_text}
-use Rattle.jl_cli.specs.NameReading.{name_text}
-use Rattle.jl_cli.proofs.NameLaws.{of_units, of_none}
-use Rattle.jl_cli.proofs.text.text_of.Goals as goal
+use Rattle.jl_json.specs.Names.{units_text}
+use Rattle.jl_json.specs.NameReading.{name_text}
+use Rattle.jl_json.proofs.NameLaws.{of_units, of_none}
+use Rattle.jl_json.proofs.text.text_of.Goals as goal
 
 spelled : {E : Type 0} (r : Result (String Global) E) (name us read : List ℕ) → IsMutf8 name us → read ≡ us
     → IfOk r (λ s. string_bytes s ≡ units_text read) → IfOk r (λ s. string_bytes s ≡ name_text name)

@@ -1,0 +1,3 @@
+pub mod NameLaws
+pub mod FloatLaws
+pub mod Rows

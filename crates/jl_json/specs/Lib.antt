@@ -1,0 +1,4 @@
+pub mod Names
+pub mod ClassAnswers
+pub mod Refusals
+pub mod NameReading
