@@ -1,7 +1,8 @@
 //! What is answered, as JSON.
 //!
 //! The value of each answer stands in `specs/`, in reading order: `Names`, `ClassAnswers` and
-//! `Refusals` for class files.
+//! `Refusals` for class files; `LinkAnswers`, `CallAnswers`, `Replies` and `EventRefusals` for what
+//! is linked.
 #![tactic(auto)]
 
 // Class files.
@@ -9,6 +10,16 @@ mod class_answer;
 mod refusal;
 mod text;
 
+// Linking.
+mod call_answer;
+mod event_refusal;
+mod link_answer;
+mod reply;
+
+pub use call_answer::answer_value;
 pub use class_answer::class_value;
+pub use event_refusal::{event_refusal_value, prepare_refusal_value};
+pub use link_answer::{link_value, links_value, outcome_value, prepared_value};
 pub use refusal::Refusal;
+pub use reply::reply_value;
 pub use text::{names_are_spelled, text_of};
