@@ -1,3 +1,4 @@
 pub mod NameLaws
+pub mod CommandLaws
 pub mod FloatLaws
 pub mod Rows

@@ -5,4 +5,5 @@ pub mod LinkAnswers
 pub mod CallAnswers
 pub mod Replies
 pub mod EventRefusals
+pub mod Commands
 pub mod NameReading

@@ -1,8 +1,8 @@
-//! What is answered, as JSON.
+//! What is asked and answered, as JSON.
 //!
 //! The value of each answer stands in `specs/`, in reading order: `Names`, `ClassAnswers` and
 //! `Refusals` for class files; `LinkAnswers`, `CallAnswers`, `Replies` and `EventRefusals` for what
-//! is linked.
+//! is linked. Which JSON asks for something stands in `Commands`.
 #![tactic(auto)]
 
 // Class files.
@@ -16,8 +16,12 @@ mod event_refusal;
 mod link_answer;
 mod reply;
 
+// What is asked.
+mod command;
+
 pub use call_answer::answer_value;
 pub use class_answer::class_value;
+pub use command::{Command, read_command};
 pub use event_refusal::{event_refusal_value, prepare_refusal_value};
 pub use link_answer::{link_value, links_value, outcome_value, prepared_value};
 pub use refusal::Refusal;
