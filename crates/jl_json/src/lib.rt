@@ -18,6 +18,8 @@ mod reply;
 
 // What is asked.
 mod command;
+#[cfg(test)]
+mod tests;
 
 pub use call_answer::answer_value;
 pub use class_answer::class_value;
