@@ -1,4 +1,5 @@
 pub mod NameLaws
 pub mod CommandLaws
+pub mod FormLaws
 pub mod FloatLaws
 pub mod Rows

@@ -6,4 +6,5 @@ pub mod CallAnswers
 pub mod Replies
 pub mod EventRefusals
 pub mod Commands
+pub mod CommandForms
 pub mod NameReading

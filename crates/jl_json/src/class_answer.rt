@@ -105,7 +105,8 @@ fn methods_value(alloc: Global, methods: &[Method]) -> Result<Value, AllocError>
     Ok(Value::Array(values))
 }
 
-/// The answer to a class file.
+/// The answer to a class file: its name, and its methods with their invocations (JVMS SE 17 §4.1,
+/// §4.6, §6.5). Want of memory is an error.
 #[tactic(auto, unfolding(crate::specs::ClassAnswers::class_data))]
 pub fn class_value(alloc: Global, file: &ClassFile) -> Result<Value, AllocError>
     ensures { IfOk result (λ v. view v ≡ class_data name_text file.now) }

@@ -1,12 +1,14 @@
 //! Commands, read from JSON.
 
-ghost use Rattle.std.specs.Prelude.{◌≡◌, ◌^◌, codes, option_map, option_and_then, IfOk};
+ghost use Rattle.std.specs.Prelude.{◌≡◌, ◌^◌, codes, Some, option_map, option_and_then, IfOk};
 ghost use Rattle.serde_json.specs.Find.{as_object};
 ghost use Rattle.serde_json.specs.View.{view, items_view};
 ghost use Rattle.jl_json.specs.Commands.{number_in, number_at, numbers_in, sites_at, text_at};
 ghost use Rattle.jl_json.specs.Commands.{file_at, recv_in, define_of, request_of, prepare_of};
 ghost use Rattle.jl_json.specs.Commands.{install_of, call_of, call_on_of, member_count};
 ghost use Rattle.jl_json.specs.Commands.{command_of};
+ghost use Rattle.jl_json.specs.CommandForms.{IsCommand, command_data};
+ghost use Rattle.jl_json.specs.declared.command.Command.{Command};
 
 use hex::FromHexError;
 use jl_names::Seq;
@@ -180,7 +182,8 @@ fn member_count(value: &Value) -> Option<usize>
     Some(members.len())
 }
 
-/// The command that the JSON is, if it is one.
+/// The command that the JSON is, or `None` where it is none: an object of the members that the
+/// command has, and of no others. Want of memory is an error.
 pub fn read_command(alloc: Global, value: &Value) -> Result<Option<Command>, AllocError>
     ensures { IfOk result (λ command. command ≡ command_of (view value.now)) }
 {
@@ -198,3 +201,8 @@ pub fn read_command(alloc: Global, value: &Value) -> Result<Option<Command>, All
         _ => Ok(None),
     }
 }
+
+/// Each command is read from its form.
+pub fn each_command_is_read()
+    ensures { (c : Command) → IsCommand c → command_of (command_data c) ≡ Some c }
+{}

@@ -128,7 +128,9 @@ fn define_refusal_value(alloc: Global, fault: &DefineFault) -> Result<Value, All
     }
 }
 
-/// The answer that an event is refused.
+/// The answer that an event is refused: the name of the fault, behind the name of the fault that it
+/// is within, and the name, call site, site or link that it is about. A want of memory is `Memory`
+/// wherever it is within. Want of memory for the answer is an error.
 #[tactic(auto, unfolding(crate::specs::EventRefusals::event_refusal_data))]
 pub fn event_refusal_value(alloc: Global, refusal: &Refusal) -> Result<Value, AllocError>
     ensures { IfOk result (λ v. view v ≡ event_refusal_data name_text refusal.now) }
@@ -155,7 +157,8 @@ pub fn event_refusal_value(alloc: Global, refusal: &Refusal) -> Result<Value, Al
     }
 }
 
-/// The answer that links aren't prepared.
+/// The answer that links aren't prepared: the name of the fault, behind `Prepare`, and the site that
+/// it is about. Want of memory for the answer is an error.
 #[tactic(auto, unfolding(crate::specs::EventRefusals::prepare_refusal_data))]
 pub fn prepare_refusal_value(alloc: Global, fault: PrepareFault) -> Result<Value, AllocError>
     ensures { IfOk result (λ v. view v ≡ prepare_refusal_data fault) }

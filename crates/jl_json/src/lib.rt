@@ -2,7 +2,8 @@
 //!
 //! The value of each answer stands in `specs/`, in reading order: `Names`, `ClassAnswers` and
 //! `Refusals` for class files; `LinkAnswers`, `CallAnswers`, `Replies` and `EventRefusals` for what
-//! is linked. Which JSON asks for something stands in `Commands`.
+//! is linked. Which JSON asks for something stands in `Commands`, and
+//! a form of each command in `CommandForms`.
 #![tactic(auto)]
 
 // Class files.
@@ -23,7 +24,7 @@ mod tests;
 
 pub use call_answer::answer_value;
 pub use class_answer::class_value;
-pub use command::{Command, read_command};
+pub use command::{Command, each_command_is_read, read_command};
 pub use event_refusal::{event_refusal_value, prepare_refusal_value};
 pub use link_answer::{link_value, links_value, outcome_value, prepared_value};
 pub use refusal::Refusal;

@@ -13,7 +13,7 @@ use serde_json::{Value, json};
 use std::alloc::{AllocError, Global};
 
 /// The throwable's name in java.lang.
-pub(crate) fn throwable(throwable: Throwable) -> &'static str
+fn throwable(throwable: Throwable) -> &'static str
     ensures { result.now ≡ throwable_name throwable }
 {
     match throwable {
@@ -44,7 +44,8 @@ fn method_id_value(alloc: Global, method: MethodId) -> Result<Value, AllocError>
     json!(in alloc; [class, index])
 }
 
-/// The answer that is an outcome.
+/// An outcome: the method that runs, by its class and its place there, or the name of what is
+/// thrown (JVMS SE 17 §6.5). Want of memory is an error.
 pub fn outcome_value(alloc: Global, outcome: Outcome) -> Result<Value, AllocError>
     ensures { IfOk result (λ v. view v ≡ outcome_data outcome) }
 {
@@ -81,7 +82,8 @@ fn table_rows_value(alloc: Global, rows: &[(ClassId, Outcome)]) -> Result<Value,
     Ok(Value::Array(values))
 }
 
-/// The answer that is a link.
+/// A link: what the calls of its site come to, by the class of the receiver where that matters.
+/// Want of memory is an error.
 #[tactic(auto, unfolding(crate::specs::LinkAnswers::link_data))]
 pub fn link_value(alloc: Global, link: Link) -> Result<Value, AllocError>
     ensures { IfOk result (λ v. view v ≡ link_data link) }
@@ -130,7 +132,7 @@ fn site_links_value(alloc: Global, rows: &[(SiteNo, Link)]) -> Result<Value, All
     Ok(Value::Array(values))
 }
 
-/// The answer that lists sites with their links.
+/// The answer that lists sites with their links, in the order given. Want of memory is an error.
 pub fn links_value(alloc: Global, links: &[(SiteNo, Link)]) -> Result<Value, AllocError>
     ensures { IfOk result (λ v. view v ≡ links_data links.now) }
 {
@@ -138,7 +140,8 @@ pub fn links_value(alloc: Global, links: &[(SiteNo, Link)]) -> Result<Value, All
     json!(in alloc; {"links": links})
 }
 
-/// The answer to a preparation: the number of the batch, and its sites with their links.
+/// The answer to a preparation: the number of the batch, and its sites with their links, in the order
+/// given. Want of memory is an error.
 pub fn prepared_value(
     alloc: Global,
     batch: u32,

@@ -52,7 +52,7 @@ impl Refusal {
         }
     }
 
-    /// The answer.
+    /// The answer. Want of memory is an error.
     #[tactic(auto, unfolding(crate::specs::Refusals::refusal_of))]
     pub fn to_value(self, alloc: Global) -> Result<Value, AllocError>
         ensures { IfOk result (λ v. view v ≡ refusal_of self.reason.now self.at self.method) }

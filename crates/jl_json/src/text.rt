@@ -8,7 +8,7 @@ use jl_names::{NameFault, decode_mutf8};
 use std::alloc::{AllocError, Global};
 
 /// The text of a name in modified UTF-8 (JVMS SE 17 §4.4.7): two surrogates are their character, a
-/// lone one is U+FFFD.
+/// lone one is U+FFFD. Want of memory is an error.
 pub fn text_of(alloc: Global, name: &[u8]) -> Result<String, AllocError>
     ensures { IfOk result (λ text. string_bytes text ≡ name_text name.now) }
 {
