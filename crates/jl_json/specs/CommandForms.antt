@@ -1,8 +1,12 @@
--- The JSON of each command, in one form: keys in byte order, digits in lower case, the receiver named.
-use Rattle.std.specs.Prelude.{◌^◌, ◌<◌, codes, ⊤}
-use Rattle.std.specs.List.{AllByRecursion}
+-- The JSON of each command, in one form: keys in byte order, digits in lower case, the receiver named. A value that
+-- is a command has no keys but those of its form.
+use Rattle.std.specs.Prelude.{◌≡◌, ℕ, ◌^◌, ◌<◌, List, [], ◌∷◌, codes, true, Bool, ⊤}
+use Rattle.std.specs.List.{AllByRecursion, list_any}
+use Rattle.std.specs.Option.{option_map_or}
+use Rattle.std.specs.Str.{bytes_eq}
 use Rattle.hex.specs.Hex.{encode_lower, IsBytes}
-use Rattle.serde_json.specs.Data.{Data, null, string, object, no_members, member}
+use Rattle.serde_json.specs.Data.{Data, null, string, object, Members, no_members, member}
+use Rattle.serde_json.specs.Find.{as_object}
 use Rattle.jl_types.specs.declared.answer.Recv.{Recv}
 use Rattle.jl_types.specs.declared.answer.Recv.TheVariants.{Null, Of}
 use Rattle.jl_types.specs.declared.ids.Place.{Place}
@@ -54,3 +58,20 @@ IsCommand (Prepare sites) = AllByRecursion (λ s. s < 2 ^ 32) sites
 IsCommand (Install batch) = batch < 2 ^ 32
 IsCommand (Call site recv) = (site < 2 ^ 32) × IsReceiver recv
 IsCommand Links = ⊤
+
+-- ---- keys
+
+abbrev pub member_keys : Members → List (List ℕ)
+member_keys no_members = []
+member_keys (member key d members) = key ∷ member_keys members
+
+-- those of an object
+abbrev pub keys_of : Data → List (List ℕ)
+keys_of d = option_map_or member_keys (as_object d) []
+
+abbrev pub has_key : List (List ℕ) → List ℕ → Bool
+has_key keys key = list_any (bytes_eq key) keys
+
+-- each of the keys is one of those named
+abbrev pub AreAmong : List (List ℕ) → List (List ℕ) → Type 0
+AreAmong keys named = AllByRecursion (λ key. has_key named key ≡ true) keys

@@ -1,13 +1,14 @@
 //! Commands, read from JSON.
 
 ghost use Rattle.std.specs.Prelude.{◌≡◌, ◌^◌, codes, Some, option_map, option_and_then, IfOk};
+ghost use Rattle.serde_json.specs.Data.{Data};
 ghost use Rattle.serde_json.specs.Find.{as_object};
 ghost use Rattle.serde_json.specs.View.{view, items_view};
 ghost use Rattle.jl_json.specs.Commands.{number_in, number_at, numbers_in, sites_at, text_at};
 ghost use Rattle.jl_json.specs.Commands.{file_at, recv_in, define_of, request_of, prepare_of};
 ghost use Rattle.jl_json.specs.Commands.{install_of, call_of, call_on_of, member_count};
 ghost use Rattle.jl_json.specs.Commands.{command_of};
-ghost use Rattle.jl_json.specs.CommandForms.{IsCommand, command_data};
+ghost use Rattle.jl_json.specs.CommandForms.{IsCommand, command_data, keys_of, AreAmong};
 ghost use Rattle.jl_json.specs.declared.command.Command.{Command};
 
 use hex::FromHexError;
@@ -205,4 +206,10 @@ pub fn read_command(alloc: Global, value: &Value) -> Result<Option<Command>, All
 /// Each command is read from its form.
 pub fn each_command_is_read()
     ensures { (c : Command) → IsCommand c → command_of (command_data c) ≡ Some c }
+{}
+
+/// What is read as a command has no keys but those of the command's form.
+pub fn no_other_keys()
+    ensures { (d : Data) (c : Command) → command_of d ≡ Some c
+        → AreAmong (keys_of d) (keys_of (command_data c)) }
 {}

@@ -168,6 +168,16 @@ fn refused_events(rt: HostRuntime) -> Result<(), Fail> {
             },
             "{\"present\":{\"kind\":\"virtual\",\"table\":[[1,{\"run\":[1,0]}]]},\"refused\":\"Stale\",\"site\":0}",
         ),
+    ];
+    for (refusal, want) in &rows {
+        assert_text(&rt, event_refusal_value(rt.alloc(), refusal), *want)?;
+    }
+    Ok(())
+}
+
+#[test]
+fn refused_within_events(rt: HostRuntime) -> Result<(), Fail> {
+    let rows = [
         (
             EventRefusal::NotLinkable(NotLinkable::ArrayReceiver),
             "{\"refused\":\"NotLinkable.ArrayReceiver\"}",
@@ -224,37 +234,39 @@ fn refused_preparations(rt: HostRuntime) -> Result<(), Fail> {
     Ok(())
 }
 
+/// Commands, and how they print.
+const COMMANDS: [(&str, &str); 8] = [
+    (
+        "{\"do\":\"define\",\"loader\":0,\"hex\":\"cAFe\"}",
+        "Define { loader: LoaderId(0), file: Seq { items: [202, 254] } }",
+    ),
+    (
+        "{\"do\":\"request\",\"class\":65536,\"method\":65535,\"pc\":4}",
+        "Request(Place { class: ClassId(65536), method: 65535, pc: 4 })",
+    ),
+    (
+        "{\"do\":\"prepare\",\"sites\":[3,0]}",
+        "Prepare(Seq { items: [SiteNo(3), SiteNo(0)] })",
+    ),
+    (
+        "{\"do\":\"install\",\"prepared\":4294967295}",
+        "Install(4294967295)",
+    ),
+    ("{\"do\":\"call\",\"site\":2}", "Call(SiteNo(2), Null)"),
+    (
+        "{\"recv\":null,\"site\":2,\"do\":\"call\"}",
+        "Call(SiteNo(2), Null)",
+    ),
+    (
+        "{\"do\":\"call\",\"site\":2,\"recv\":1}",
+        "Call(SiteNo(2), Of(ClassId(1)))",
+    ),
+    ("{\"do\":\"links\"}", "Links"),
+];
+
 #[test]
 fn commands(rt: HostRuntime) -> Result<(), Fail> {
-    let rows = [
-        (
-            "{\"do\":\"define\",\"loader\":0,\"hex\":\"cAFe\"}",
-            "Define { loader: LoaderId(0), file: Seq { items: [202, 254] } }",
-        ),
-        (
-            "{\"do\":\"request\",\"class\":65536,\"method\":65535,\"pc\":4}",
-            "Request(Place { class: ClassId(65536), method: 65535, pc: 4 })",
-        ),
-        (
-            "{\"do\":\"prepare\",\"sites\":[3,0]}",
-            "Prepare(Seq { items: [SiteNo(3), SiteNo(0)] })",
-        ),
-        (
-            "{\"do\":\"install\",\"prepared\":4294967295}",
-            "Install(4294967295)",
-        ),
-        ("{\"do\":\"call\",\"site\":2}", "Call(SiteNo(2), Null)"),
-        (
-            "{\"recv\":null,\"site\":2,\"do\":\"call\"}",
-            "Call(SiteNo(2), Null)",
-        ),
-        (
-            "{\"do\":\"call\",\"site\":2,\"recv\":1}",
-            "Call(SiteNo(2), Of(ClassId(1)))",
-        ),
-        ("{\"do\":\"links\"}", "Links"),
-    ];
-    for (text, want) in rows {
+    for (text, want) in COMMANDS {
         let value = Value::from_str(rt.alloc(), text)?;
         match read_command(rt.alloc(), &value)? {
             Some(command) => {
@@ -264,6 +276,8 @@ fn commands(rt: HostRuntime) -> Result<(), Fail> {
             None => assert!(rt; false, "no command: {text}"),
         }
     }
+    each_command_is_read();
+    no_other_keys();
     Ok(())
 }
 
