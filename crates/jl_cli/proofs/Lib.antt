@@ -1,5 +1,4 @@
 pub mod BufferLaws
-pub mod NameLaws
 pub mod ScanLaws
 pub mod FloatLaws
 pub mod LineLaws

@@ -16,10 +16,10 @@ use Rattle.jl_classfile.specs.Parts.{Parts}
 use Rattle.jl_classfile.specs.ClassFiles.{IsClass}
 use Rattle.jl_classfile.specs.Shown.{shown}
 use Rattle.jl_classfile.specs.Faults.{IsFault}
-use Rattle.jl_cli.specs.NameReading.{name_text}
-use Rattle.jl_cli.specs.ClassAnswers.{class_data}
-use Rattle.jl_cli.proofs.NameLaws.{spells}
-use Rattle.jl_cli.specs.Refusals.{refusal_of, refusal_data, reason, place, method}
+use Rattle.jl_json.specs.NameReading.{name_text}
+use Rattle.jl_json.specs.ClassAnswers.{class_data}
+use Rattle.jl_json.proofs.NameLaws.{spells}
+use Rattle.jl_json.specs.Refusals.{refusal_of, refusal_data, reason, place, method}
 use Rattle.jl_cli.specs.Answers.{bad_command, file_of, IsFileAnswer, IsScanAnswer}
 
 memory_or_not : (f : ClassFault) → (f ≡ Memory) ⊎ (f ≢ Memory)

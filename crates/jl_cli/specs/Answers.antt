@@ -17,9 +17,9 @@ use Rattle.jl_cli.specs.declared.line_fault.LineFault.{LineFault}
 use Rattle.jl_cli.specs.declared.line_fault.LineFault.TheVariants.{TooLong}
 use Rattle.jl_cli.specs.declared.words.Mode.{Mode}
 use Rattle.jl_cli.specs.declared.words.Mode.TheVariants.{Scan}
-use Rattle.jl_cli.specs.Names.{SpellsNames}
-use Rattle.jl_cli.specs.ClassAnswers.{class_data}
-use Rattle.jl_cli.specs.Refusals.{refusal_data}
+use Rattle.jl_json.specs.Names.{SpellsNames}
+use Rattle.jl_json.specs.ClassAnswers.{class_data}
+use Rattle.jl_json.specs.Refusals.{refusal_data}
 use Rattle.jl_cli.specs.Lines.{newline, most_in_line, lines_of, NoNewline, ended}
 
 -- the answer to a line that is none of the stated forms

@@ -4,10 +4,6 @@ pub mod FailAt
 pub mod Statuses
 pub mod Words
 pub mod CommandLine
-pub mod Names
-pub mod ClassAnswers
-pub mod Refusals
 pub mod Lines
 pub mod Answers
 pub mod Progress
-pub mod NameReading

@@ -2,7 +2,7 @@
 //!
 //! Input and output are a [`Source`] and a [`Sink`], which count what failed. What is said of their
 //! bytes and counts stands in `specs/Devices`. What is answered stands in `specs/`, in reading
-//! order: `Lines`, `Names`, `ClassAnswers`, `Refusals`, `Answers`; what words ask for, in `Words`.
+//! order: `Lines`, `Answers`; what words ask for, in `Words`. The JSON is that of jl_json.
 #![tactic(auto)]
 
 // Words.
@@ -16,10 +16,7 @@ mod sink;
 mod source;
 
 // The answer to a line.
-mod class_answer;
-mod refusal;
 mod scan;
-mod text;
 
 // Lines.
 mod answers;

@@ -4,9 +4,8 @@ ghost use Rattle.std.specs.Prelude.{◌≡◌, ◌≤◌, ◌*◌, ◌/◌, leng
 ghost use Rattle.serde_json.specs.View.{view};
 ghost use Rattle.jl_cli.specs.Answers.{file_of, bad_command, IsFileAnswer, IsScanAnswer};
 
-use crate::class_answer::class_value;
-use crate::refusal::Refusal;
 use jl_classfile::read_class;
+use jl_json::{Refusal, class_value};
 use serde_json::{Value, json};
 use std::alloc::{AllocError, Global};
 

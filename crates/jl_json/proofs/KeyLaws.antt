@@ -1,0 +1,272 @@
+-- A value that is a command has no keys but those of its form: it has as many members as the form, and each of the
+-- form's keys, which differ.
+use Rattle.std.proofs.Common.{◌≡◌, ◌∙◌, sym, ap, subst, refl, ℕ, suc, ◌^◌, ◌==◌, List, [], ◌∷◌, length}
+use Rattle.std.proofs.Common.{Bool, true, false, ◌&&◌, ◌||◌, true≢false, if◌then◌else◌, codes, arith}
+use Rattle.std.proofs.Common.{Option, Some, None, option_map}
+use Rattle.std.specs.Ordering.{nat_cmp, match_ordering, is_eq}
+use Rattle.std.specs.declared.cmp.Ordering.{Ordering}
+use Rattle.std.specs.declared.cmp.Ordering.TheVariants.{Less, Equal, Greater}
+use Rattle.std.specs.Cmp.Lexicographic.{slice_cmp}
+use Rattle.std.specs.List.{AllByRecursion}
+use Rattle.std.specs.Result.{result_ok}
+use Rattle.std.specs.Str.{bytes_eq}
+use Rattle.std.proofs.lemmas.Bool.{eqb-true}
+use Rattle.std.proofs.lemmas.Map.Text.{is_eq-slice_cmp}
+use Rattle.std.proofs.lemmas.Option.{option_and_then_some, none-some, same_Some}
+use Rattle.std.proofs.lemmas.Slice.Eq.{bytes_eq-Decides}
+use Rattle.hex.specs.Hex.{decode_of}
+use Rattle.serde_json.specs.Data.{Data, null, boolean, number, string, array, object, Members, no_members, member}
+use Rattle.serde_json.specs.Find.{get, get_member, as_str, as_array}
+use Rattle.jl_types.specs.declared.answer.Recv.TheVariants.{Null}
+use Rattle.jl_json.specs.declared.command.Command.{Command}
+use Rattle.jl_json.specs.declared.command.Command.TheVariants.{Define, Request, Prepare, Install, Call, Links}
+use Rattle.jl_json.specs.Commands.{number_in, number_at, numbers_in, sites_at, text_at, file_at, recv_in, ◌>>=◌}
+use Rattle.jl_json.specs.Commands.{define_of, request_of, prepare_of, install_of, call_of, call_on_of}
+use Rattle.jl_json.specs.Commands.{member_count, by_word, command_of}
+use Rattle.jl_json.specs.CommandForms.{command_data, member_keys, keys_of, has_key, AreAmong}
+
+by_test : {P : Type 0} (b : Bool) → (b ≡ true → P) → (b ≡ false → P) → P
+by_test true on_true on_false = on_true refl
+by_test false on_true on_false = on_false refl
+
+abbrev Keys : Type 0
+Keys = List (List ℕ)
+
+-- ---- lists without repeats
+
+-- the keys but for the first that is k
+abbrev less : List ℕ → Keys → Keys
+less k [] = []
+less k (x ∷ xs) = if bytes_eq k x then xs else x ∷ less k xs
+
+abbrev Differ : Keys → Type 0
+Differ [] = Unit
+Differ (k ∷ ks) = AllByRecursion (λ j. bytes_eq j k ≡ false) ks × Differ ks
+
+abbrev Has : Keys → List ℕ → Type 0
+Has xs k = has_key xs k ≡ true
+
+in_rest : (b c : Bool) → (b || c) ≡ true → b ≡ false → c ≡ true
+in_rest true c h e = absurd (true≢false e)
+in_rest false c h e = h
+
+in_front : (b c : Bool) → b ≡ true → (b || c) ≡ true
+in_front true c e = refl
+in_front false c e = absurd (true≢false (sym e))
+
+behind : (b c : Bool) → c ≡ true → (b || c) ≡ true
+behind true c e = refl
+behind false c e = e
+
+shorter : (k : List ℕ) (xs : Keys) → Has xs k → length xs ≡ suc (length (less k xs))
+shorter k [] h = absurd (true≢false (sym h))
+shorter k (x ∷ xs) h = by_test (bytes_eq k x)
+    (λ e. rw e refl)
+    (λ e. rw e (ap suc (shorter k xs (in_rest (bytes_eq k x) (has_key xs k) h e))))
+
+left : (j k : List ℕ) (xs : Keys) → Has xs j → bytes_eq j k ≡ false → Has (less k xs) j
+left j k [] h other = absurd (true≢false (sym h))
+left j k (x ∷ xs) h other = by_test (bytes_eq k x)
+    (λ e. rw e (in_rest (bytes_eq j x) (has_key xs j) h
+    (subst (λ (y : List ℕ). bytes_eq j y ≡ false) ((bytes_eq-Decides k x).0 e) other)))
+    (λ e. rw e (by_test (bytes_eq j x)
+    (λ same. in_front (bytes_eq j x) (has_key (less k xs) j) same)
+    (λ apart. behind (bytes_eq j x) (has_key (less k xs) j)
+    (left j k xs (in_rest (bytes_eq j x) (has_key xs j) h apart) other))))
+
+all_left : (k : List ℕ) (ks xs : Keys) → AllByRecursion (λ j. bytes_eq j k ≡ false) ks
+    → AllByRecursion (Has xs) ks → AllByRecursion (Has (less k xs)) ks
+all_left k [] xs apart has = tt
+all_left k (j ∷ ks) xs apart has = (left j k xs has.0 apart.0, all_left k ks xs apart.1 has.1)
+
+among : (named xs : Keys) → Differ named → length xs ≡ length named → AllByRecursion (Has xs) named
+    → (j : List ℕ) → Has xs j → Has named j
+among [] [] differ same has j h = h
+among [] (x ∷ xs) differ same has j h = absurd (omega arith)
+among (k ∷ ks) xs differ same has j h = by_test (bytes_eq j k)
+    (λ e. in_front (bytes_eq j k) (has_key ks j) e)
+    (λ e. behind (bytes_eq j k) (has_key ks j) (among ks (less k xs) differ.1
+    (let long = shorter k xs has.0 in omega arith) (all_left k ks xs differ.0 has.1) j (left j k xs h e)))
+
+each : (P : List ℕ → Type 0) (xs : Keys) → ((j : List ℕ) → Has xs j → P j) → AllByRecursion P xs
+each P [] f = tt
+each P (x ∷ xs) f = (
+  f x (in_front (bytes_eq x x) (has_key xs x) ((bytes_eq-Decides x x).1 refl)),
+  each P xs (λ j h. f j (behind (bytes_eq j x) (has_key xs j) h)),
+)
+
+-- ---- members
+
+found_at : (o : Ordering) (rest : Option Data) (e d : Data) (m : Bool) → (rest ≡ Some d → m ≡ true)
+    → match_ordering o rest (Some e) rest ≡ Some d → (is_eq o || m) ≡ true
+found_at Less rest e d m f h = f h
+found_at Equal rest e d m f h = refl
+found_at Greater rest e d m f h = f h
+
+found : (k : List ℕ) (ms : Members) (d : Data) → get_member k ms ≡ Some d → Has (member_keys ms) k
+found k no_members d h = absurd (none-some d h)
+found k (member l e ms) d h =
+    ap (λ (b : Bool). b || has_key (member_keys ms) k) (sym (is_eq-slice_cmp k l))
+    ∙ found_at (slice_cmp nat_cmp k l) (get_member k ms) e d (has_key (member_keys ms) k) (found k ms d) h
+
+counted : (ms : Members) → length (member_keys ms) ≡ member_count ms
+counted no_members = refl
+counted (member k d ms) = ap suc (counted ms)
+
+next_found : {A : Type 0} (f : Data → Option A) (k : List ℕ) (ms : Members) (a : A)
+    → (get_member k ms >>= f) ≡ Some a → Has (member_keys ms) k
+next_found f k ms a e = option_and_then_some f (get_member k ms) a e (λ d is _. found k ms d is)
+
+file_found : (k : List ℕ) (ms : Members) (file : List ℕ) → file_at k (object ms) ≡ Some file
+    → Has (member_keys ms) k
+file_found k ms file e = option_and_then_some (λ text. result_ok (decode_of text)) (text_at k (object ms)) file e
+    (λ text is _. next_found as_str k ms text is)
+
+named_alone : (named : Keys) (ms : Members) → Differ named → member_count ms ≡ length named
+    → AllByRecursion (Has (member_keys ms)) named → AreAmong (member_keys ms) named
+named_alone named ms differ same has =
+    each (Has named) (member_keys ms) (among named (member_keys ms) differ (counted ms ∙ same) has)
+
+-- ---- commands
+
+-- the keys of the members are among those of the command's form
+abbrev IsForm : Members → Command → Type 0
+IsForm ms c = AreAmong (member_keys ms) (keys_of (command_data c))
+
+number_found : (bound : ℕ) (k : List ℕ) (ms : Members) (n : ℕ) → number_at bound k (object ms) ≡ Some n
+    → Has (member_keys ms) k
+number_found bound k ms n e = next_found (number_in bound) k ms n e
+
+define_keys : (ms : Members) (c : Command) → member_count ms ≡ 3 → Has (member_keys ms) (codes "do")
+    → define_of (object ms) ≡ Some c → IsForm ms c
+unfolding command_data
+define_keys ms c count asked e = option_and_then_some _ (number_at (2 ^ 32) (codes "loader") (object ms)) c e
+    (λ loader is next. option_and_then_some _ (file_at (codes "hex") (object ms)) c next
+    (λ file read made. subst (IsForm ms) (same_Some (Define loader file) c made)
+    (named_alone (codes "do" ∷ codes "hex" ∷ codes "loader" ∷ []) ms
+    ((refl, (refl, tt)), ((refl, tt), (tt, tt))) count (
+      asked,
+      (
+        file_found (codes "hex") ms file read,
+        (number_found (2 ^ 32) (codes "loader") ms loader is, tt),
+      ),
+    ))))
+
+request_keys : (ms : Members) (c : Command) → member_count ms ≡ 4 → Has (member_keys ms) (codes "do")
+    → request_of (object ms) ≡ Some c → IsForm ms c
+unfolding command_data
+request_keys ms c count asked e = option_and_then_some _ (number_at (2 ^ 32) (codes "class") (object ms)) c e
+    (λ class is next. option_and_then_some _ (number_at (2 ^ 16) (codes "method") (object ms)) c next
+    (λ method here last. option_and_then_some _ (number_at (2 ^ 16) (codes "pc") (object ms)) c last
+    (λ pc there made. subst (IsForm ms)
+    (same_Some (Request (record { class = class; method = method; pc = pc })) c made)
+    (named_alone (codes "class" ∷ codes "do" ∷ codes "method" ∷ codes "pc" ∷ []) ms
+    ((refl, (refl, (refl, tt))), ((refl, (refl, tt)), ((refl, tt), (tt, tt)))) count (
+      number_found (2 ^ 32) (codes "class") ms class is,
+      (
+        asked,
+        (
+          number_found (2 ^ 16) (codes "method") ms method here,
+          (number_found (2 ^ 16) (codes "pc") ms pc there, tt),
+        ),
+      ),
+    )))))
+
+mapped : {A : Type 0} {P : Type 0} (f : A → Command) (o : Option A) (c : Command) → option_map f o ≡ Some c
+    → ((a : A) → o ≡ Some a → f a ≡ c → P) → P
+mapped f None c e k = absurd (none-some c e)
+mapped f (Some a) c e k = k a refl (same_Some (f a) c e)
+
+prepare_keys : (ms : Members) (c : Command) → member_count ms ≡ 2 → Has (member_keys ms) (codes "do")
+    → prepare_of (object ms) ≡ Some c → IsForm ms c
+unfolding command_data
+prepare_keys ms c count asked e = mapped Prepare (sites_at (codes "sites") (object ms)) c e
+    (λ sites is made. subst (IsForm ms) made
+    (named_alone (codes "do" ∷ codes "sites" ∷ []) ms ((refl, tt), (tt, tt)) count
+    (asked, (next_found (λ d. as_array d >>= numbers_in) (codes "sites") ms sites is, tt))))
+
+install_keys : (ms : Members) (c : Command) → member_count ms ≡ 2 → Has (member_keys ms) (codes "do")
+    → install_of (object ms) ≡ Some c → IsForm ms c
+unfolding command_data
+install_keys ms c count asked e = mapped Install (number_at (2 ^ 32) (codes "prepared") (object ms)) c e
+    (λ batch is made. subst (IsForm ms) made
+    (named_alone (codes "do" ∷ codes "prepared" ∷ []) ms ((refl, tt), (tt, tt)) count
+    (asked, (number_found (2 ^ 32) (codes "prepared") ms batch is, tt))))
+
+-- a receiver may be named besides
+named_or_not : (xs : Keys) → AreAmong xs (codes "do" ∷ codes "site" ∷ [])
+    → AreAmong xs (codes "do" ∷ codes "recv" ∷ codes "site" ∷ [])
+named_or_not [] h = tt
+named_or_not (x ∷ xs) h = (
+  by_test (bytes_eq x (codes "do"))
+      (λ e. in_front (bytes_eq x (codes "do")) _ e)
+      (λ e. behind (bytes_eq x (codes "do")) _ (behind (bytes_eq x (codes "recv")) _
+      (in_rest (bytes_eq x (codes "do")) _ h.0 e))),
+  named_or_not xs h.1,
+)
+
+call_keys : (ms : Members) (c : Command) → member_count ms ≡ 2 → Has (member_keys ms) (codes "do")
+    → call_of (object ms) ≡ Some c → IsForm ms c
+unfolding command_data
+call_keys ms c count asked e = option_and_then_some _ (number_at (2 ^ 32) (codes "site") (object ms)) c e
+    (λ site is made. subst (IsForm ms) (same_Some (Call site Null) c made) (named_or_not (member_keys ms)
+    (named_alone (codes "do" ∷ codes "site" ∷ []) ms ((refl, tt), (tt, tt)) count
+    (asked, (number_found (2 ^ 32) (codes "site") ms site is, tt)))))
+
+call_on_keys : (ms : Members) (c : Command) → member_count ms ≡ 3 → Has (member_keys ms) (codes "do")
+    → call_on_of (object ms) ≡ Some c → IsForm ms c
+unfolding command_data
+call_on_keys ms c count asked e = option_and_then_some _ (number_at (2 ^ 32) (codes "site") (object ms)) c e
+    (λ site is next. option_and_then_some _ (get (codes "recv") (object ms)) c next
+    (λ value there last. option_and_then_some _ (recv_in value) c last
+    (λ recv read made. subst (IsForm ms) (same_Some (Call site recv) c made)
+    (named_alone (codes "do" ∷ codes "recv" ∷ codes "site" ∷ []) ms
+    ((refl, (refl, tt)), ((refl, tt), (tt, tt))) count (
+      asked,
+      (
+        found (codes "recv") ms value there,
+        (number_found (2 ^ 32) (codes "site") ms site is, tt),
+      ),
+    )))))
+
+links_keys : (ms : Members) (c : Command) → member_count ms ≡ 1 → Has (member_keys ms) (codes "do")
+    → Links ≡ c → IsForm ms c
+unfolding command_data
+links_keys ms c count asked made = subst (IsForm ms) made
+    (named_alone (codes "do" ∷ []) ms (tt, tt) count (asked, tt))
+
+-- the word and the count fit here, or further on
+here_or_on : {P : Type 0} (b : Bool) (count n : ℕ) (o rest : Option Command) (c : Command)
+    → (if b && (count == n) then o else rest) ≡ Some c → (count ≡ n → o ≡ Some c → P) → (rest ≡ Some c → P) → P
+here_or_on false count n o rest c e here on = on e
+here_or_on true count n o rest c e here on = by_test (count == n)
+    (λ same. here (eqb-true count n same) (rw same at e))
+    (λ other. on (rw other at e))
+
+word_keys : (word : List ℕ) (ms : Members) (c : Command) → Has (member_keys ms) (codes "do")
+    → by_word word (member_count ms) (object ms) ≡ Some c → IsForm ms c
+word_keys word ms c asked e =
+    here_or_on (bytes_eq word (codes "define")) (member_count ms) 3 _ _ c e
+    (λ n is. define_keys ms c n asked is) (λ e1.
+    here_or_on (bytes_eq word (codes "request")) (member_count ms) 4 _ _ c e1
+    (λ n is. request_keys ms c n asked is) (λ e2.
+    here_or_on (bytes_eq word (codes "prepare")) (member_count ms) 2 _ _ c e2
+    (λ n is. prepare_keys ms c n asked is) (λ e3.
+    here_or_on (bytes_eq word (codes "install")) (member_count ms) 2 _ _ c e3
+    (λ n is. install_keys ms c n asked is) (λ e4.
+    here_or_on (bytes_eq word (codes "call")) (member_count ms) 2 _ _ c e4
+    (λ n is. call_keys ms c n asked is) (λ e5.
+    here_or_on (bytes_eq word (codes "call")) (member_count ms) 3 _ _ c e5
+    (λ n is. call_on_keys ms c n asked is) (λ e6.
+    here_or_on (bytes_eq word (codes "links")) (member_count ms) 1 _ _ c e6
+    (λ n is. links_keys ms c n asked (same_Some Links c is)) (λ e7.
+    absurd (none-some c e7))))))))
+
+pub form_keys : (d : Data) (c : Command) → command_of d ≡ Some c → AreAmong (keys_of d) (keys_of (command_data c))
+form_keys null c e = absurd (none-some c e)
+form_keys (boolean b) c e = absurd (none-some c e)
+form_keys (number n) c e = absurd (none-some c e)
+form_keys (string s) c e = absurd (none-some c e)
+form_keys (array ds) c e = absurd (none-some c e)
+form_keys (object ms) c e = option_and_then_some _ (text_at (codes "do") (object ms)) c e
+    (λ word is next. word_keys word ms c (next_found as_str (codes "do") ms word is) next)

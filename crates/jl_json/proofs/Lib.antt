@@ -1,0 +1,6 @@
+pub mod NameLaws
+pub mod CommandLaws
+pub mod FormLaws
+pub mod KeyLaws
+pub mod FloatLaws
+pub mod Rows

@@ -1,0 +1,21 @@
+-- A name's text, by its units read from its bytes.
+use Rattle.std.specs.Prelude.{ℕ, ◌+◌, ◌*◌, ◌%◌, nat_lt, if◌then◌else◌, List, [], ◌∷◌}
+use Rattle.jl_names.specs.Mutf8.{mutf8}
+use Rattle.jl_classfile.specs.Pools.{same_text}
+use Rattle.jl_json.specs.Names.{units_text}
+
+-- The units, each of one, two or three bytes, as its first one says. What a cut unit has is
+-- dropped.
+abbrev pub units_of : List ℕ → List ℕ
+units_of [] = []
+units_of (a ∷ []) = if nat_lt a 0x80 then a ∷ [] else []
+units_of (a ∷ b ∷ []) =
+    if nat_lt a 0x80 then a ∷ units_of (b ∷ [])
+    else (if nat_lt a 0xe0 then (a % 32 * 64 + b % 64) ∷ [] else [])
+units_of (a ∷ b ∷ c ∷ rest) =
+    if nat_lt a 0x80 then a ∷ units_of (b ∷ c ∷ rest)
+    else (if nat_lt a 0xe0 then (a % 32 * 64 + b % 64) ∷ units_of (c ∷ rest)
+    else (a % 16 * 4096 + b % 64 * 64 + c % 64) ∷ units_of rest)
+
+unfoldable pub name_text : List ℕ → List ℕ
+name_text name = if same_text (mutf8 (units_of name)) name then units_text (units_of name) else []

@@ -1,0 +1,215 @@
+//! Commands, read from JSON.
+
+ghost use Rattle.std.specs.Prelude.{◌≡◌, ◌^◌, codes, Some, option_map, option_and_then, IfOk};
+ghost use Rattle.serde_json.specs.Data.{Data};
+ghost use Rattle.serde_json.specs.Find.{as_object};
+ghost use Rattle.serde_json.specs.View.{view, items_view};
+ghost use Rattle.jl_json.specs.Commands.{number_in, number_at, numbers_in, sites_at, text_at};
+ghost use Rattle.jl_json.specs.Commands.{file_at, recv_in, define_of, request_of, prepare_of};
+ghost use Rattle.jl_json.specs.Commands.{install_of, call_of, call_on_of, member_count};
+ghost use Rattle.jl_json.specs.Commands.{command_of};
+ghost use Rattle.jl_json.specs.CommandForms.{IsCommand, command_data, keys_of, AreAmong};
+ghost use Rattle.jl_json.specs.declared.command.Command.{Command};
+
+use hex::FromHexError;
+use jl_names::Seq;
+use jl_types::{ClassId, LoaderId, Place, Recv, SiteNo};
+use serde_json::Value;
+use std::alloc::{AllocError, Global};
+
+/// What is asked of a linker.
+#[derive(Debug, Drop)]
+pub enum Command {
+    /// The loader is to define a class of this file (JVMS SE 17 §5.3.5).
+    Define { loader: LoaderId, file: Seq<u8> },
+    /// The invocation at the place is to be linked.
+    Request(Place),
+    /// Links are to be prepared for these sites.
+    Prepare(Seq<SiteNo>),
+    /// The prepared batch of this number is to be installed.
+    Install(u32),
+    /// The site is called on the receiver.
+    Call(SiteNo, Recv),
+    /// The installed links are to be listed.
+    Links,
+}
+
+/// A number below 2^32.
+fn number_in(value: &Value) -> Option<u32>
+    ensures { result ≡ number_in (2 ^ 32) (view value.now) }
+{
+    let number = value.as_u64()?;
+    u32::try_from(number).ok()
+}
+
+/// The number below 2^32 under the key.
+fn number_at(value: &Value, key: &str) -> Option<u32>
+    ensures { result ≡ number_at (2 ^ 32) key.now (view value.now) }
+{
+    number_in(value.get(key)?)
+}
+
+/// The number below 2^16 under the key.
+fn index_at(value: &Value, key: &str) -> Option<u16>
+    ensures { result ≡ number_at (2 ^ 16) key.now (view value.now) }
+{
+    let number = value.get(key)?.as_u64()?;
+    u16::try_from(number).ok()
+}
+
+/// The text under the key.
+fn text_at<'a>(value: &'a Value, key: &str) -> Option<&'a str>
+    ensures { option_map (λ text. text.now) result ≡ text_at key.now (view value.now) }
+{
+    value.get(key)?.as_str()
+}
+
+/// The bytes under the key, which are there in hexadecimal.
+fn file_at(alloc: Global, value: &Value, key: &str) -> Result<Option<Seq<u8>>, AllocError>
+    ensures { IfOk result (λ file. file ≡ file_at key.now (view value.now)) }
+{
+    let Some(text) = text_at(value, key) else {
+        return Ok(None);
+    };
+    match hex::decode(alloc, text) {
+        Ok(bytes) => Ok(Some(Seq::of(bytes))),
+        Err(fault) => match fault {
+            FromHexError::OutOfMemory => Err(AllocError),
+            _ => Ok(None),
+        },
+    }
+}
+
+/// The sites of these numbers.
+fn sites_in(alloc: Global, items: &[Value]) -> Result<Option<Seq<SiteNo>>, AllocError>
+    ensures { IfOk result (λ sites. sites ≡ numbers_in (items_view items.now)) }
+{
+    let mut sites = Vec::new(alloc);
+    for item in items {
+        match number_in(item) {
+            Some(number) => sites.push(SiteNo::new(number))?,
+            None => return Ok(None),
+        }
+    }
+    Ok(Some(Seq::of(sites)))
+}
+
+/// The sites under the key, an array of their numbers.
+fn sites_at(alloc: Global, value: &Value, key: &str) -> Result<Option<Seq<SiteNo>>, AllocError>
+    ensures { IfOk result (λ sites. sites ≡ sites_at key.now (view value.now)) }
+{
+    match value.get(key).and_then(Value::as_array) {
+        Some(items) => sites_in(alloc, items),
+        None => Ok(None),
+    }
+}
+
+/// A receiver: null, or a class.
+fn recv_in(value: &Value) -> Option<Recv>
+    ensures { result ≡ recv_in (view value.now) }
+{
+    if value.is_null() {
+        return Some(Recv::Null);
+    }
+    let class = number_in(value)?;
+    Some(Recv::Of(ClassId::new(class)))
+}
+
+/// The command to define a class.
+fn define(alloc: Global, value: &Value) -> Result<Option<Command>, AllocError>
+    ensures { IfOk result (λ command. command ≡ define_of (view value.now)) }
+{
+    let Some(loader) = number_at(value, "loader") else {
+        return Ok(None);
+    };
+    let Some(file) = file_at(alloc, value, "hex")? else {
+        return Ok(None);
+    };
+    let loader = LoaderId::new(loader);
+    Ok(Some(Command::Define { loader, file }))
+}
+
+/// The command to link an invocation.
+fn request(value: &Value) -> Option<Command>
+    ensures { result ≡ request_of (view value.now) }
+{
+    let class = number_at(value, "class")?;
+    let method = index_at(value, "method")?;
+    let pc = index_at(value, "pc")?;
+    let class = ClassId::new(class);
+    Some(Command::Request(Place { class, method, pc }))
+}
+
+/// The command to prepare links.
+fn prepare(alloc: Global, value: &Value) -> Result<Option<Command>, AllocError>
+    ensures { IfOk result (λ command. command ≡ prepare_of (view value.now)) }
+{
+    match sites_at(alloc, value, "sites")? {
+        Some(sites) => Ok(Some(Command::Prepare(sites))),
+        None => Ok(None),
+    }
+}
+
+/// The command to install a batch.
+fn install(value: &Value) -> Option<Command>
+    ensures { result ≡ install_of (view value.now) }
+{
+    let prepared = number_at(value, "prepared")?;
+    Some(Command::Install(prepared))
+}
+
+/// The command to call a site on null.
+fn call(value: &Value) -> Option<Command>
+    ensures { result ≡ call_of (view value.now) }
+{
+    let site = number_at(value, "site")?;
+    Some(Command::Call(SiteNo::new(site), Recv::Null))
+}
+
+/// The command to call a site on a receiver.
+fn call_on(value: &Value) -> Option<Command>
+    ensures { result ≡ call_on_of (view value.now) }
+{
+    let site = number_at(value, "site")?;
+    let recv = recv_in(value.get("recv")?)?;
+    Some(Command::Call(SiteNo::new(site), recv))
+}
+
+/// How many members an object has.
+fn member_count(value: &Value) -> Option<usize>
+    ensures { result ≡ option_map member_count (as_object (view value.now)) }
+{
+    let members = value.as_object()?;
+    Some(members.len())
+}
+
+/// The command that the JSON is, or `None` where it is none: an object of the members that the
+/// command has, and of no others. Want of memory is an error.
+pub fn read_command(alloc: Global, value: &Value) -> Result<Option<Command>, AllocError>
+    ensures { IfOk result (λ command. command ≡ command_of (view value.now)) }
+{
+    let (Some(count), Some(word)) = (member_count(value), text_at(value, "do")) else {
+        return Ok(None);
+    };
+    match (word, count) {
+        ("define", 3) => define(alloc, value),
+        ("request", 4) => Ok(request(value)),
+        ("prepare", 2) => prepare(alloc, value),
+        ("install", 2) => Ok(install(value)),
+        ("call", 2) => Ok(call(value)),
+        ("call", 3) => Ok(call_on(value)),
+        ("links", 1) => Ok(Some(Command::Links)),
+        _ => Ok(None),
+    }
+}
+
+/// Each command is read from its form.
+pub fn each_command_is_read()
+    ensures { (c : Command) → IsCommand c → command_of (command_data c) ≡ Some c }
+{}
+
+/// What is read as a command has no keys but those of the command's form.
+pub fn no_other_keys()
+    ensures { (d : Data) (c : Command) → command_of d ≡ Some c
+        → AreAmong (keys_of d) (keys_of (command_data c)) }
+{}

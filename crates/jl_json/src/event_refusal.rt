@@ -1,0 +1,173 @@
+//! Answers that refuse an event or a preparation.
+
+ghost use Rattle.std.specs.Prelude.{◌≡◌, IfOk};
+ghost use Rattle.serde_json.specs.View.{view};
+ghost use Rattle.jl_json.specs.NameReading.{name_text};
+ghost use Rattle.jl_json.specs.EventRefusals.{refused, refused_at, refused_bound, refused_for};
+ghost use Rattle.jl_json.specs.EventRefusals.{refused_name, delegate_name, call_site_name};
+ghost use Rattle.jl_json.specs.EventRefusals.{not_linkable_name, define_refusal_data};
+ghost use Rattle.jl_json.specs.EventRefusals.{event_refusal_data, prepare_refusal_data};
+
+use crate::link_answer::link_value;
+use crate::text::text_of;
+use jl_names::Name;
+use jl_types::{
+    CallSiteFault, CallSiteId, DefineFault, DelegateFault, Link, NotLinkable, PrepareFault,
+    Refusal, SiteNo,
+};
+use serde_json::{Value, json};
+use std::alloc::{AllocError, Global};
+
+/// A fault alone.
+fn refused_value(alloc: Global, fault: &str) -> Result<Value, AllocError>
+    ensures { IfOk result (λ v. view v ≡ refused fault.now) }
+{
+    json!(in alloc; {"refused": fault})
+}
+
+/// A fault at a site.
+fn refused_at_value(alloc: Global, fault: &str, site: SiteNo) -> Result<Value, AllocError>
+    ensures { IfOk result (λ v. view v ≡ refused_at fault.now site) }
+{
+    let site = site.number();
+    json!(in alloc; {"refused": fault, "site": site})
+}
+
+/// A fault at a site that has this link now.
+fn refused_for_value(
+    alloc: Global,
+    fault: &str,
+    site: SiteNo,
+    present: Link,
+) -> Result<Value, AllocError>
+    ensures { IfOk result (λ v. view v ≡ refused_for fault.now site present) }
+{
+    let present = link_value(alloc, present)?;
+    let site = site.number();
+    json!(in alloc; {"present": present, "refused": fault, "site": site})
+}
+
+/// A fault at a call site.
+fn refused_bound_value(alloc: Global, fault: &str, bound: CallSiteId) -> Result<Value, AllocError>
+    ensures { IfOk result (λ v. view v ≡ refused_bound fault.now bound) }
+{
+    let bound = bound.number();
+    json!(in alloc; {"callsite": bound, "refused": fault})
+}
+
+/// A fault about a name.
+fn refused_name_value(alloc: Global, fault: &str, name: &Name) -> Result<Value, AllocError>
+    ensures { IfOk result (λ v. view v ≡ refused_name name_text fault.now name.now) }
+{
+    let name = text_of(alloc, name.as_slice())?;
+    json!(in alloc; {"name": name, "refused": fault})
+}
+
+/// The name of the fault.
+fn delegate_fault(fault: DelegateFault) -> &'static str
+    ensures { result.now ≡ delegate_name fault }
+{
+    match fault {
+        DelegateFault::UnknownLoader => "Delegate.UnknownLoader",
+        DelegateFault::NotRecorded => "Delegate.NotRecorded",
+        DelegateFault::AlreadyRecorded => "Delegate.AlreadyRecorded",
+        DelegateFault::Memory => "Memory",
+    }
+}
+
+/// The name of the fault.
+fn call_site_fault(fault: CallSiteFault) -> &'static str
+    ensures { result.now ≡ call_site_name fault }
+{
+    match fault {
+        CallSiteFault::UnknownCallSite => "CallSite.UnknownCallSite",
+        CallSiteFault::Constant => "CallSite.Constant",
+        CallSiteFault::WrongType => "CallSite.WrongType",
+        CallSiteFault::UnknownMethod => "CallSite.UnknownMethod",
+        CallSiteFault::NotStatic => "CallSite.NotStatic",
+        CallSiteFault::UnknownSwitch => "CallSite.UnknownSwitch",
+        CallSiteFault::TooDeep => "CallSite.TooDeep",
+        CallSiteFault::Full => "CallSite.Full",
+        CallSiteFault::Memory => "Memory",
+    }
+}
+
+/// The name of the fault.
+fn not_linkable(reason: NotLinkable) -> &'static str
+    ensures { result.now ≡ not_linkable_name reason }
+{
+    match reason {
+        NotLinkable::ArrayReceiver => "NotLinkable.ArrayReceiver",
+        NotLinkable::PolymorphicSignature => "NotLinkable.PolymorphicSignature",
+    }
+}
+
+/// The answer that a class isn't defined.
+#[tactic(auto, unfolding(crate::specs::EventRefusals::define_refusal_data))]
+fn define_refusal_value(alloc: Global, fault: &DefineFault) -> Result<Value, AllocError>
+    ensures { IfOk result (λ v. view v ≡ define_refusal_data name_text fault.now) }
+{
+    match fault {
+        DefineFault::UnknownLoader => refused_value(alloc, "Define.UnknownLoader"),
+        DefineFault::AlreadyRecorded => refused_value(alloc, "Define.AlreadyRecorded"),
+        DefineFault::NamesItself => refused_value(alloc, "Define.NamesItself"),
+        DefineFault::MissingParent(name) => {
+            refused_name_value(alloc, "Define.MissingParent", name)
+        }
+        DefineFault::SuperIsInterface => refused_value(alloc, "Define.SuperIsInterface"),
+        DefineFault::FinalSuper => refused_value(alloc, "Define.FinalSuper"),
+        DefineFault::NotAnInterface(name) => {
+            refused_name_value(alloc, "Define.NotAnInterface", name)
+        }
+        DefineFault::InaccessibleParent(name) => {
+            refused_name_value(alloc, "Define.InaccessibleParent", name)
+        }
+        DefineFault::SecondObject => refused_value(alloc, "Define.SecondObject"),
+        DefineFault::Full => refused_value(alloc, "Define.Full"),
+        DefineFault::Memory => refused_value(alloc, "Memory"),
+    }
+}
+
+/// The answer that an event is refused: the name of the fault, behind the name of the fault that it
+/// is within, and the name, call site, site or link that it is about. A want of memory is `Memory`
+/// wherever it is within. Want of memory for the answer is an error.
+#[tactic(auto, unfolding(crate::specs::EventRefusals::event_refusal_data))]
+pub fn event_refusal_value(alloc: Global, refusal: &Refusal) -> Result<Value, AllocError>
+    ensures { IfOk result (λ v. view v ≡ event_refusal_data name_text refusal.now) }
+{
+    match refusal {
+        Refusal::Define(fault) => define_refusal_value(alloc, fault),
+        Refusal::UnknownClass => refused_value(alloc, "UnknownClass"),
+        Refusal::NoSuchPlace => refused_value(alloc, "NoSuchPlace"),
+        Refusal::NotLinkable(reason) => refused_value(alloc, not_linkable(*reason)),
+        Refusal::SitesFull => refused_value(alloc, "SitesFull"),
+        Refusal::CallSite(fault) => refused_value(alloc, call_site_fault(*fault)),
+        Refusal::NotDynamic => refused_value(alloc, "NotDynamic"),
+        Refusal::AlreadyBound(bound) => refused_bound_value(alloc, "AlreadyBound", *bound),
+        Refusal::TypeMismatch => refused_value(alloc, "TypeMismatch"),
+        Refusal::Stale { site, present } => refused_for_value(alloc, "Stale", *site, *present),
+        Refusal::NotReady { site } => refused_at_value(alloc, "NotReady", *site),
+        Refusal::UnknownSite { site } => refused_at_value(alloc, "UnknownSite", *site),
+        Refusal::Repeated { site } => refused_at_value(alloc, "Repeated", *site),
+        Refusal::BatchSize => refused_value(alloc, "BatchSize"),
+        Refusal::Memory => refused_value(alloc, "Memory"),
+        Refusal::Delegate(fault) => refused_value(alloc, delegate_fault(*fault)),
+        Refusal::LoadersFull => refused_value(alloc, "LoadersFull"),
+        Refusal::NotYet => refused_value(alloc, "NotYet"),
+    }
+}
+
+/// The answer that links aren't prepared: the name of the fault, behind `Prepare`, and the site that
+/// it is about. Want of memory for the answer is an error.
+#[tactic(auto, unfolding(crate::specs::EventRefusals::prepare_refusal_data))]
+pub fn prepare_refusal_value(alloc: Global, fault: PrepareFault) -> Result<Value, AllocError>
+    ensures { IfOk result (λ v. view v ≡ prepare_refusal_data fault) }
+{
+    match fault {
+        PrepareFault::UnknownSite(site) => refused_at_value(alloc, "Prepare.UnknownSite", site),
+        PrepareFault::NotReady(site) => refused_at_value(alloc, "Prepare.NotReady", site),
+        PrepareFault::Repeated(site) => refused_at_value(alloc, "Prepare.Repeated", site),
+        PrepareFault::BatchSize => refused_value(alloc, "Prepare.BatchSize"),
+        PrepareFault::Memory => refused_value(alloc, "Memory"),
+    }
+}

@@ -1,0 +1,32 @@
+//! What is asked and answered, as JSON.
+//!
+//! The value of each answer stands in `specs/`, in reading order: `Names`, `ClassAnswers` and
+//! `Refusals` for class files; `LinkAnswers`, `CallAnswers`, `Replies` and `EventRefusals` for what
+//! is linked. Which JSON asks for something stands in `Commands`, and
+//! a form of each command in `CommandForms`.
+#![tactic(auto)]
+
+// Class files.
+mod class_answer;
+mod refusal;
+mod text;
+
+// Linking.
+mod call_answer;
+mod event_refusal;
+mod link_answer;
+mod reply;
+
+// What is asked.
+mod command;
+#[cfg(test)]
+mod tests;
+
+pub use call_answer::answer_value;
+pub use class_answer::class_value;
+pub use command::{Command, each_command_is_read, no_other_keys, read_command};
+pub use event_refusal::{event_refusal_value, prepare_refusal_value};
+pub use link_answer::{link_value, links_value, outcome_value, prepared_value};
+pub use refusal::Refusal;
+pub use reply::reply_value;
+pub use text::{names_are_spelled, text_of};

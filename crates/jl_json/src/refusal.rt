@@ -1,0 +1,144 @@
+//! Answers that refuse.
+
+ghost use Rattle.std.specs.Prelude.{◌≡◌, None, Some, IfOk, OnOk};
+ghost use Rattle.serde_json.specs.View.{view, members_view};
+ghost use Rattle.jl_json.specs.Refusals.{refusal_of, with_number, reason, place, method};
+ghost use Rattle.jl_json.specs.Refusals.{pool_reason, pool_place, code_reason, code_place};
+
+use jl_classfile::{ClassFault, CodeFault, PoolFault};
+use serde_json::{Map, Value, put};
+use std::alloc::{AllocError, Global};
+
+/// An answer that refuses: the name of the reason, the place that it is about, and the method, by
+/// its index.
+#[derive(Clone, Copy, Debug, PartialEq, Eq)]
+pub struct Refusal {
+    reason: &'static str,
+    at: Option<u32>,
+    method: Option<u32>,
+}
+
+impl Refusal {
+    /// A reason alone.
+    fn of(reason: &'static str) -> Self
+        ensures { (result.reason.now ≡ reason.now) × (result.at ≡ None) × (result.method ≡ None) }
+    {
+        Refusal {
+            reason,
+            at: None,
+            method: None,
+        }
+    }
+
+    /// A reason at a place.
+    fn at(reason: &'static str, at: u32) -> Self
+        ensures { (result.reason.now ≡ reason.now) × (result.at ≡ Some at)
+            × (result.method ≡ None) }
+    {
+        Refusal {
+            at: Some(at),
+            ..Refusal::of(reason)
+        }
+    }
+
+    /// A reason in a method.
+    fn in_method(reason: &'static str, method: u16) -> Self
+        ensures { (result.reason.now ≡ reason.now) × (result.at ≡ None)
+            × (result.method ≡ Some method) }
+    {
+        Refusal {
+            method: Some(u32::from(method)),
+            ..Refusal::of(reason)
+        }
+    }
+
+    /// The answer. Want of memory is an error.
+    #[tactic(auto, unfolding(crate::specs::Refusals::refusal_of))]
+    pub fn to_value(self, alloc: Global) -> Result<Value, AllocError>
+        ensures { IfOk result (λ v. view v ≡ refusal_of self.reason.now self.at self.method) }
+    {
+        let mut members = Map::new(alloc);
+        let reason = Value::try_from_str(alloc, self.reason)?;
+        put(&mut members, alloc, "refused", reason)?;
+        put_number(&mut members, alloc, "method", self.method)?;
+        put_number(&mut members, alloc, "at", self.at)?;
+        Ok(Value::Object(members))
+    }
+}
+
+/// Puts a number under a key, if there is one.
+fn put_number(
+    members: &mut Map<String, Value>,
+    alloc: Global,
+    key: &str,
+    number: Option<u32>,
+) -> Result<(), AllocError>
+    ensures { OnOk result (members_view members.new.entries
+        ≡ with_number key.now number (members_view members.old.entries)) }
+{
+    match number {
+        Some(number) => put(members, alloc, key, Value::from(number)),
+        None => Ok(()),
+    }
+}
+
+impl From<PoolFault> for Refusal {
+    ghost from_gives = { λ f r. (r.reason.now ≡ pool_reason f) × (r.at ≡ pool_place f)
+        × (r.method ≡ None) };
+
+    fn from(fault: PoolFault) -> Refusal {
+        match fault {
+            PoolFault::Truncated => Refusal::of("Pool.Truncated"),
+            PoolFault::BadTag(entry) => Refusal::at("Pool.BadTag", u32::from(entry)),
+            PoolFault::BadIndex(entry) => Refusal::at("Pool.BadIndex", u32::from(entry)),
+            PoolFault::BadUtf8(entry) => Refusal::at("Pool.BadUtf8", u32::from(entry)),
+            PoolFault::BadDescriptor(entry) => Refusal::at("Pool.BadDescriptor", u32::from(entry)),
+            PoolFault::Memory => Refusal::of("Memory"),
+        }
+    }
+}
+
+impl From<CodeFault> for Refusal {
+    ghost from_gives = { λ f r. (r.reason.now ≡ code_reason f) × (r.at ≡ code_place f)
+        × (r.method ≡ None) };
+
+    fn from(fault: CodeFault) -> Refusal {
+        match fault {
+            CodeFault::BadOpcode(pc) => Refusal::at("Code.BadOpcode", u32::from(pc)),
+            CodeFault::CutShort(pc) => Refusal::at("Code.CutShort", u32::from(pc)),
+            CodeFault::BadSwitch(pc) => Refusal::at("Code.BadSwitch", u32::from(pc)),
+            CodeFault::BadOperand(pc) => Refusal::at("Code.BadOperand", u32::from(pc)),
+            CodeFault::BadLayout => Refusal::of("Code.BadLayout"),
+            CodeFault::Memory => Refusal::of("Memory"),
+        }
+    }
+}
+
+impl From<ClassFault> for Refusal {
+    ghost from_gives = { λ f r. (r.reason.now ≡ reason f) × (r.at ≡ place f)
+        × (r.method ≡ method f) };
+
+    fn from(fault: ClassFault) -> Refusal {
+        match fault {
+            ClassFault::TooLarge => Refusal::of("TooLarge"),
+            ClassFault::BadMagic => Refusal::of("BadMagic"),
+            ClassFault::BadVersion => Refusal::of("BadVersion"),
+            ClassFault::Truncated => Refusal::of("Truncated"),
+            ClassFault::Pool(fault) => Refusal::from(fault),
+            ClassFault::ModuleFile => Refusal::of("ModuleFile"),
+            ClassFault::BadSuper => Refusal::of("BadSuper"),
+            ClassFault::DuplicateMethod(i) => Refusal::in_method("DuplicateMethod", i),
+            ClassFault::TwoCodes(i) => Refusal::in_method("TwoCodes", i),
+            ClassFault::Code(_, CodeFault::Memory) => Refusal::of("Memory"),
+            ClassFault::Code(i, fault) => Refusal {
+                method: Some(u32::from(i)),
+                ..Refusal::from(fault)
+            },
+            ClassFault::TrailingBytes => Refusal::of("TrailingBytes"),
+            ClassFault::BadMember(k) => Refusal::at("BadMember", k),
+            ClassFault::BadLink(number) => Refusal::at("BadLink", u32::from(number)),
+            ClassFault::BadNest => Refusal::of("BadNest"),
+            ClassFault::Memory => Refusal::of("Memory"),
+        }
+    }
+}
