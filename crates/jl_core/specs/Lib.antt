@@ -1,6 +1,7 @@
--- `Admitted` and `State` are what contracts cite; the others are means of proof.
+-- `Admitted`, `State` and `Preparations` are what contracts cite; the others are means of proof.
 pub mod Admitted
 pub mod State
+pub mod Preparations
 pub mod LinkMaps
 pub mod Fills
 pub mod Plain

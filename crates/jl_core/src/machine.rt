@@ -9,16 +9,19 @@ ghost use Rattle.jl_types.specs.Calls as calls;
 ghost use Rattle.jl_types.specs.Events.{step};
 ghost use Rattle.jl_types.specs.History.{installs, kept};
 ghost use Rattle.jl_core.specs.Admitted.{admitted};
+ghost use Rattle.jl_core.specs.Preparations.{IsPreparation};
 ghost use Rattle.jl_core.specs.State.{empty_core, counted, link_at, lost, AreScratch, IsAccepted, IsRefused};
 
 use crate::cache::Cache;
 use crate::define::is_plain_file;
+use crate::preparation::{Prepared, prepare_in};
 use crate::snapshot::Snapshot;
 use crate::world::World;
 use jl_classfile::ClassFile;
 use jl_names::Seq;
 use jl_types::{
-    Answer, Event, Link, LoaderId, Made, Place, Recv, Refusal, Reply, SiteNo, Unlinked,
+    Answer, Event, Link, LoaderId, Made, Place, PrepareFault, Recv, Refusal, Reply, SiteNo,
+    Unlinked,
 };
 use std::alloc::{AllocError, Global};
 use std::marker::Model;
@@ -96,6 +99,18 @@ impl Core {
         ensures scratch { AreScratch self.now.world self.now.links }
     {
         &self.links
+    }
+
+    /// Looks up the links of these sites from scratch, as a preparation in a snapshot does that is taken now, but without
+    /// the copy.
+    ///
+    /// # Errors
+    ///
+    /// Those of [`prepare`](crate::prepare).
+    pub fn prepare(&self, alloc: Global, sites: &[SiteNo]) -> Result<Prepared, PrepareFault>
+        ensures { IsPreparation (record { world = self.now.world; serial = self.now.accepted }) sites.now result }
+    {
+        prepare_in(alloc, &self.world, self.accepted, sites)
     }
 
     /// Each site that has an installed link, with it, by rising number. Want of memory is an error.

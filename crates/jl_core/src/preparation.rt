@@ -2,9 +2,9 @@
 
 ghost use Rattle.std.specs.Prelude.{◌≡◌, ◌+◌, ◌≤◌, ◌⊎◌, ◌==◌, [], None, Some, Ok, length, IfOk, IfErr, OnOk};
 ghost use Rattle.std.specs.List.{list_any};
-ghost use Rattle.jl_types.specs.declared.refusal.PrepareFault.TheVariants as fault;
 ghost use Rattle.jl_types.specs.Preparation as prepared;
-ghost use Rattle.jl_types.specs.Preparation.{prepare_fault, link_fault, ArePrepared};
+ghost use Rattle.jl_types.specs.Preparation.{link_fault};
+ghost use Rattle.jl_core.specs.Preparations.{IsPreparation};
 ghost use Rattle.jl_types.specs.Links.{scratch};
 
 use crate::fill::fill;
@@ -33,16 +33,23 @@ pub fn prepare(
     snapshot: &Snapshot,
     sites: &[SiteNo],
 ) -> Result<Prepared, PrepareFault>
-    ensures serial { IfOk result (λ prepared. prepared.serial ≡ snapshot.now.serial) }
-    ensures rows { IfOk result (λ prepared. ArePrepared snapshot.now.world sites.now prepared.rows) }
-    ensures accepted { OnOk result (prepare_fault snapshot.now.world sites.now ≡ None) }
-    ensures fault { IfErr result (λ f. (prepare_fault snapshot.now.world sites.now ≡ Some f)
-        ⊎ ((f ≡ fault.Memory) × (prepare_fault snapshot.now.world sites.now ≡ None))) }
+    ensures { IsPreparation snapshot.now sites.now result }
+{
+    prepare_in(alloc, snapshot.world(), snapshot.serial(), sites)
+}
+
+/// Looks up the links of these sites in the world as it is after so many accepted events.
+pub(crate) fn prepare_in(
+    alloc: Global,
+    world: &World,
+    serial: u64,
+    sites: &[SiteNo],
+) -> Result<Prepared, PrepareFault>
+    ensures { IsPreparation (record { world = world.now; serial = serial }) sites.now result }
 {
     if is_bad_size(sites.len()) {
         return Err(PrepareFault::BatchSize);
     }
-    let world = snapshot.world();
     if let Some(fault) = world.site_fault(sites) {
         return Err(fault);
     }
@@ -51,7 +58,7 @@ pub fn prepare(
     };
     fill(sites, &mut rows, |site| world.row(*site))?;
     Ok(Prepared {
-        serial: snapshot.serial(),
+        serial,
         rows: Seq::of(rows),
     })
 }
