@@ -20,7 +20,7 @@ use Rattle.jl_json.specs.NameReading.{name_text}
 use Rattle.jl_json.specs.ClassAnswers.{class_data}
 use Rattle.jl_json.proofs.NameLaws.{spells}
 use Rattle.jl_json.specs.Refusals.{refusal_of, refusal_data, reason, place, method}
-use Rattle.jl_cli.specs.Answers.{bad_command, file_of, IsFileAnswer, IsScanAnswer}
+use Rattle.jl_cli.specs.Answers.{bad_command, file_of, IsFaultAnswer, IsFileAnswer, IsScanAnswer}
 
 memory_or_not : (f : ClassFault) → (f ≡ Memory) ⊎ (f ≢ Memory)
 memory_or_not TooLarge = inr (λ e. absurd cc)
@@ -41,20 +41,16 @@ memory_or_not Memory = inl refl
 
 -- a fault's refusal is an answer
 refused : (bytes : List ℕ) (f : ClassFault) (answer : Data) → (f ≢ Memory → IsFault bytes f)
-    → answer ≡ refusal_data f → IsFileAnswer bytes answer
+    → answer ≡ refusal_data f → IsFaultAnswer bytes answer
 refused bytes f answer fault is = elim (memory_or_not f) [
-  | inl e ↦ inr (inr (is ∙ ap refusal_data e))
-  | inr some ↦ inr (inl (f, fault some, is))
+  | inl e ↦ inr (is ∙ ap refusal_data e)
+  | inr some ↦ inl (f, fault some, is)
 ]
 
-pub refusal_answers : {E : Type 0} (r : Result Value E) (bytes : List ℕ) (f : ClassFault) (name : List ℕ)
-    (at method_at : Option ℕ)
-    → (f ≢ Memory → IsFault bytes f) → name ≡ reason f → at ≡ place f → method_at ≡ method f
-    → IfOk r (λ v. view v ≡ refusal_of name at method_at) → IfOk r (λ v. IsFileAnswer bytes (view v))
-refusal_answers (Ok v) bytes f name at method_at fault names places methods is =
-    let same : refusal_of name at method_at ≡ refusal_of (reason f) (place f) (method f) = cc in
-    refused bytes f (view v) fault (is ∙ same)
-refusal_answers (Err e) bytes f name at method_at fault names places methods is = tt
+pub refusal_answers : {E : Type 0} (r : Result Value E) (bytes : List ℕ) (f : ClassFault)
+    → (f ≢ Memory → IsFault bytes f) → IfOk r (λ v. view v ≡ refusal_data f) → IfOk r (λ v. IsFaultAnswer bytes (view v))
+refusal_answers (Ok v) bytes f fault is = refused bytes f (view v) fault is
+refusal_answers (Err e) bytes f fault is = tt
 
 -- an answer to the bytes of a line is one to the line
 of_file : (o : Option (List ℕ)) (hit : Bool) (bytes : List ℕ) (answer : Data)
@@ -73,3 +69,7 @@ pub shown_answers : {E : Type 0} (r : Result Value E) (bytes : List ℕ) (p : Pa
     → file ≡ shown p → IfOk r (λ v. view v ≡ class_data name_text file) → IfOk r (λ v. IsFileAnswer bytes (view v))
 shown_answers (Ok v) bytes p file class is e = inl (p, name_text, class, spells, e ∙ ap (class_data name_text) is)
 shown_answers (Err e) bytes p file class is h = tt
+
+pub for_ok : {X E : Type 0} {P Q : X → Type 0} → ((x : X) → P x → Q x) → (r : Result X E) → IfOk r P → IfOk r Q
+for_ok f (Ok x) h = f x h
+for_ok f (Err e) h = tt

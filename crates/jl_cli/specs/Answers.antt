@@ -33,13 +33,17 @@ abbrev pub file_of : List ℕ → Option (List ℕ)
 file_of [] = None
 file_of (digit ∷ rest) = result_ok (decode_of (digit ∷ rest))
 
--- the answer to a file: what the class file shows, or a fault of the bytes, or want of memory
+-- the answer to a file that isn't read: a fault of the bytes, or want of memory
+abbrev pub IsFaultAnswer : List ℕ → Data → Type 0
+IsFaultAnswer bytes answer =
+    ((f : ClassFault) × IsFault bytes f × (answer ≡ refusal_data f)) ⊎ (answer ≡ refusal_data Memory)
+
+-- the answer to a file: what the class file shows, or why it isn't read
 abbrev pub IsFileAnswer : List ℕ → Data → Type 0
 IsFileAnswer bytes answer =
     ((p : Parts) × (text_of : List ℕ → List ℕ) × IsClass bytes p × SpellsNames text_of
     × (answer ≡ class_data text_of (shown p)))
-    ⊎ (((f : ClassFault) × IsFault bytes f × (answer ≡ refusal_data f))
-    ⊎ (answer ≡ refusal_data Memory))
+    ⊎ IsFaultAnswer bytes answer
 
 abbrev pub IsScanAnswer : List ℕ → Data → Type 0
 IsScanAnswer line answer =

@@ -6,4 +6,5 @@ pub mod Words
 pub mod CommandLine
 pub mod Lines
 pub mod Answers
+pub mod Sessions
 pub mod Progress

@@ -17,6 +17,7 @@ mod source;
 
 // The answer to a line.
 mod scan;
+mod session;
 
 // Lines.
 mod answers;

@@ -2,15 +2,16 @@
 
 ghost use Rattle.std.specs.Prelude.{◌≡◌, ◌≤◌, ◌*◌, ◌/◌, length, true, false, IfOk, MatchOption};
 ghost use Rattle.serde_json.specs.View.{view};
+ghost use Rattle.jl_json.specs.Refusals.{refusal_data};
 ghost use Rattle.jl_cli.specs.Answers.{file_of, bad_command, IsFileAnswer, IsScanAnswer};
 
-use jl_classfile::read_class;
+use jl_classfile::{ClassFault, read_class};
 use jl_json::{Refusal, class_value};
 use serde_json::{Value, json};
 use std::alloc::{AllocError, Global};
 
 /// The answer to a line that is none of the stated forms.
-fn bad_command(alloc: Global) -> Result<Value, AllocError>
+pub(crate) fn bad_command(alloc: Global) -> Result<Value, AllocError>
     ensures { IfOk result (λ v. view v ≡ bad_command) }
 {
     json!(in alloc; {"error": "BadCommand"})
@@ -22,8 +23,15 @@ fn file_answer(alloc: Global, bytes: &[u8]) -> Result<Value, AllocError>
 {
     match read_class(alloc, bytes) {
         Ok(file) => class_value(alloc, &file),
-        Err(fault) => Refusal::from(fault).to_value(alloc),
+        Err(fault) => fault_value(alloc, fault),
     }
+}
+
+/// The answer to bytes that are no class file, or that can't be read.
+pub(crate) fn fault_value(alloc: Global, fault: ClassFault) -> Result<Value, AllocError>
+    ensures { IfOk result (λ v. view v ≡ refusal_data fault) }
+{
+    Refusal::from(fault).to_value(alloc)
 }
 
 /// Whether the line is the hexadecimal of some bytes, which are written then.

@@ -1,4 +1,5 @@
-use Rattle.jl_cli.proofs.ScanLaws.{refusal_answers, shown_answers}
+use Rattle.std.proofs.Common.{inr}
+use Rattle.jl_cli.proofs.ScanLaws.{refusal_answers, shown_answers, for_ok}
 use Rattle.jl_cli.proofs.scan.file_answer.Goals as goal
 
 pub returns-in-Ok : goal.returns-in-Ok
@@ -8,6 +9,4 @@ returns-in-Ok c =
 
 pub returns-in-Err : goal.returns-in-Err
 returns-in-Err c =
-    refusal_answers c.to_value.result c.args.bytes.now c.in-Err.fault c.from.result.reason.now
-    c.from.result.at c.from.result.method
-    c.in-Err.ensures.fault c.from.ensures.0 c.from.ensures.1 c.from.ensures.2 c.to_value.ensures
+    for_ok (λ v. inr) c.fault_value.result (refusal_answers c.fault_value.result c.args.bytes.now c.in-Err.fault c.in-Err.ensures.fault c.fault_value.ensures)

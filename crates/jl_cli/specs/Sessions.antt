@@ -1,0 +1,100 @@
+-- What a line of commands is answered, by one core and the batches of links that were prepared.
+use Rattle.std.specs.Prelude.{◌≡◌, ◌⊎◌, ℕ, List, [], ◌∷◌, ◌++◌, length, slice_get, Option, Some, None, MatchOption, option_and_then, Result, Ok, Err, IsUtf8}
+use Rattle.serde_json.specs.Data.{Data}
+use Rattle.serde_json.specs.Read.{read}
+use Rattle.jl_classfile.specs.Parts.{Parts}
+use Rattle.jl_classfile.specs.ClassFiles.{IsClass}
+use Rattle.jl_classfile.specs.Shown.{shown}
+use Rattle.jl_types.specs.declared.link.Link.{Link}
+use Rattle.jl_types.specs.declared.event.Event.{Event}
+use Rattle.jl_types.specs.declared.event.Event.TheVariants as event
+use Rattle.jl_types.specs.declared.event.Reply.{Reply}
+use Rattle.jl_types.specs.declared.refusal.Refusal.{Refusal}
+use Rattle.jl_types.specs.declared.refusal.PrepareFault.{PrepareFault}
+use Rattle.jl_types.specs.Calls.{dispatch}
+use Rattle.jl_core.specs.declared.preparation.Prepared.{Prepared}
+use Rattle.jl_core.specs.State.{State, Snapshot, empty_core, IsApplied}
+use Rattle.jl_core.specs.Preparations.{IsPreparation}
+use Rattle.jl_json.specs.declared.command.Command.{Command}
+use Rattle.jl_json.specs.declared.command.Command.TheVariants as command
+use Rattle.jl_json.specs.Names.{SpellsNames}
+use Rattle.jl_json.specs.Replies.{reply_data}
+use Rattle.jl_json.specs.EventRefusals.{event_refusal_data, prepare_refusal_data}
+use Rattle.jl_json.specs.LinkAnswers.{links_data, prepared_data}
+use Rattle.jl_json.specs.CallAnswers.{answer_data}
+use Rattle.jl_json.specs.Commands.{command_of}
+use Rattle.jl_cli.specs.Answers.{bad_command, IsFaultAnswer}
+
+pub record Session : Type 0 where
+  pub core : State
+  pub batches : List (List (ℕ × Link))  -- those that were prepared, by number
+
+-- the core of 65,536 sites in which nothing happened yet
+abbrev pub new_session : Session
+new_session = record { core = empty_core 65536; batches = [] }
+
+-- ---- what a line asks for
+
+-- the command that the line's JSON is; or it is no JSON, or no command
+abbrev pub IsAsked : List ℕ → Option Command → Type 0
+IsAsked line (Some asked) = IsUtf8 line × (option_and_then command_of (read line) ≡ Some asked)
+IsAsked line None = IsUtf8 line → option_and_then command_of (read line) ≡ None
+
+-- ---- what a command is answered
+
+-- the JSON of the reply, or of the refusal
+abbrev pub IsEventData : Result Reply Refusal → Data → Type 0
+IsEventData (Ok reply) answer = answer ≡ reply_data reply
+IsEventData (Err r) answer =
+    (text_of : List ℕ → List ℕ) × SpellsNames text_of × (answer ≡ event_refusal_data text_of r)
+
+-- the core takes the event or refuses it, and the answer says which
+pub record IsEventAnswer (old : Session) (e : Event) (answer : Data) (new : Session) : Type 0 where
+  pub outcome : Result Reply Refusal
+  pub applied : IsApplied old.core e outcome new.core
+  pub batches : new.batches ≡ old.batches
+  pub said : IsEventData outcome answer
+
+-- the event of the class that the bytes are; or their fault, or want of memory
+abbrev pub IsDefineAnswer : Session → ℕ → List ℕ → Data → Session → Type 0
+IsDefineAnswer old loader bytes answer new =
+    ((p : Parts) × IsClass bytes p × IsEventAnswer old (event.Define loader (shown p)) answer new)
+    ⊎ ((new ≡ old) × IsFaultAnswer bytes answer)
+
+-- the core as it is, with the count of its events
+abbrev pub snapshot_of : Session → Snapshot
+snapshot_of session = record { world = session.core.world; serial = session.core.accepted }
+
+-- the batch is kept under the next number
+abbrev pub IsPreparedData : Session → Result Prepared PrepareFault → Data → Session → Type 0
+IsPreparedData old (Ok prepared) answer new =
+    (answer ≡ prepared_data (length old.batches) prepared.rows)
+    × (new ≡ record { core = old.core; batches = old.batches ++ prepared.rows ∷ [] })
+IsPreparedData old (Err f) answer new = (answer ≡ prepare_refusal_data f) × (new ≡ old)
+
+pub record IsPrepareAnswer (old : Session) (sites : List ℕ) (answer : Data) (new : Session) : Type 0 where
+  pub outcome : Result Prepared PrepareFault
+  pub prepared : IsPreparation (snapshot_of old) sites outcome
+  pub said : IsPreparedData old outcome answer new
+
+abbrev pub IsCommandAnswer : Session → Command → Data → Session → Type 0
+IsCommandAnswer old (command.Define loader file) answer new = IsDefineAnswer old loader file answer new
+IsCommandAnswer old (command.Request place) answer new = IsEventAnswer old (event.Request place) answer new
+IsCommandAnswer old (command.Prepare sites) answer new = IsPrepareAnswer old sites answer new
+IsCommandAnswer old (command.Install batch) answer new =
+    MatchOption (slice_get old.batches batch) ((answer ≡ bad_command) × (new ≡ old))
+    (λ rows. IsEventAnswer old (event.Install rows) answer new)
+IsCommandAnswer old (command.Call site recv) answer new =
+    (answer ≡ answer_data (dispatch old.core.world site recv)) × (new ≡ old)
+IsCommandAnswer old command.Links answer new = (answer ≡ links_data old.core.links) × (new ≡ old)
+
+-- ---- what a line is answered
+
+abbrev pub IsAskedAnswer : Session → Option Command → Data → Session → Type 0
+IsAskedAnswer old (Some asked) answer new = IsCommandAnswer old asked answer new
+IsAskedAnswer old None answer new = (answer ≡ bad_command) × (new ≡ old)
+
+pub record IsSessionAnswer (old : Session) (line : List ℕ) (answer : Data) (new : Session) : Type 0 where
+  pub asked : Option Command
+  pub is : IsAsked line asked
+  pub said : IsAskedAnswer old asked answer new

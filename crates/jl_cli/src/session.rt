@@ -1,0 +1,163 @@
+//! Commands, a line each, on one core.
+
+ghost use Rattle.std.specs.Prelude.{◌≡◌, IfOk, length};
+ghost use Rattle.serde_json.specs.View.{view};
+ghost use Rattle.jl_types.specs.declared.event.Event.TheVariants as event;
+ghost use Rattle.jl_json.specs.declared.command.Command.TheVariants as command;
+ghost use Rattle.jl_cli.specs.Sessions.{new_session, IsAsked, IsEventData, IsEventAnswer, IsDefineAnswer};
+ghost use Rattle.jl_cli.specs.Sessions.{IsPrepareAnswer, IsCommandAnswer, IsSessionAnswer};
+
+use crate::scan::{bad_command, fault_value};
+use jl_classfile::read_class;
+use jl_core::Core;
+use jl_json::{
+    Command, answer_value, event_refusal_value, links_value, prepare_refusal_value,
+    prepared_value, read_command, reply_value,
+};
+use jl_names::Seq;
+use jl_types::{Event, Link, LoaderId, Refusal, Reply, SiteNo};
+use serde_json::Value;
+use std::alloc::{AllocError, Global};
+use std::marker::Model;
+
+/// The most places that may be requested.
+const MOST_SITES: u32 = 65_536;
+
+/// One core, and the batches of links that were prepared, by number.
+#[derive(Drop)]
+pub struct Session {
+    core: Core,
+    batches: Vec<Seq<(SiteNo, Link)>>,
+}
+
+impl Model for Session {
+    ghost use Rattle.std.specs.Coded.{codes};
+    ghost use Rattle.jl_core.specs.TargetCode.{target_code};
+    ghost use Rattle.jl_cli.specs.Sessions.{Session};
+
+    ghost Value = { Session };
+
+    ghost coded = { Prim.hlevel (codes, target_code) };
+
+    ghost view = { λ s. record { core = s.core; batches = s.batches.items } };
+}
+
+/// The command that the line's JSON is, if it is one.
+fn command_in(alloc: Global, line: &[u8]) -> Result<Option<Command>, AllocError>
+    ensures { IfOk result (IsAsked line.now) }
+{
+    match Value::from_slice(alloc, line) {
+        Ok(value) => read_command(alloc, &value),
+        Err(error) => {
+            if error.is_memory() {
+                Err(AllocError)
+            } else {
+                Ok(None)
+            }
+        }
+    }
+}
+
+/// The answer to an event that came to this.
+fn event_value(alloc: Global, outcome: &Result<Reply, Refusal>) -> Result<Value, AllocError>
+    ensures { IfOk result (λ v. IsEventData outcome.now (view v)) }
+{
+    match outcome {
+        Ok(reply) => reply_value(alloc, reply),
+        Err(refusal) => event_refusal_value(alloc, refusal),
+    }
+}
+
+impl Session {
+    /// A core in which nothing happened yet.
+    pub(crate) fn new(alloc: Global) -> Self
+        ensures { result ≡ new_session }
+    {
+        Session {
+            core: Core::new(alloc, MOST_SITES),
+            batches: Vec::new(alloc),
+        }
+    }
+
+    /// The answer to a line. Want of memory for the line or its answer is an error.
+    pub(crate) fn answer(&mut self, alloc: Global, line: &[u8]) -> Result<Value, AllocError>
+        ensures { IfOk result (λ v. IsSessionAnswer self.old line.now (view v) self.new) }
+    {
+        match command_in(alloc, line)? {
+            Some(asked) => self.obey(alloc, asked),
+            None => bad_command(alloc),
+        }
+    }
+
+    /// The answer to a command.
+    fn obey(&mut self, alloc: Global, asked: Command) -> Result<Value, AllocError>
+        ensures { IfOk result (λ v. IsCommandAnswer self.old asked (view v) self.new) }
+    {
+        match asked {
+            Command::Define { loader, file } => self.define(alloc, loader, file.as_slice()),
+            Command::Request(place) => self.apply(alloc, Event::Request(place)),
+            Command::Prepare(sites) => self.prepare(alloc, sites.as_slice()),
+            Command::Install(batch) => self.install(alloc, batch),
+            Command::Call(site, recv) => answer_value(alloc, self.core.call(site, recv)),
+            Command::Links => {
+                let links = self.core.list_links(alloc)?;
+                links_value(alloc, links.as_slice())
+            }
+        }
+    }
+
+    /// The answer to an event: its reply, or the refusal.
+    fn apply(&mut self, alloc: Global, event: Event) -> Result<Value, AllocError>
+        ensures { IfOk result (λ v. IsEventAnswer self.old event (view v) self.new) }
+    {
+        let outcome = self.core.apply(alloc, event);
+        event_value(alloc, &outcome)
+    }
+
+    /// The answer to the definition of a class by the bytes of its file.
+    fn define(
+        &mut self,
+        alloc: Global,
+        loader: LoaderId,
+        bytes: &[u8],
+    ) -> Result<Value, AllocError>
+        ensures { IfOk result (λ v. IsDefineAnswer self.old loader bytes.now (view v) self.new) }
+    {
+        match read_class(alloc, bytes) {
+            Ok(file) => self.apply(alloc, Event::Define(loader, file)),
+            Err(fault) => fault_value(alloc, fault),
+        }
+    }
+
+    /// The answer to a preparation. The batch is kept.
+    fn prepare(&mut self, alloc: Global, sites: &[SiteNo]) -> Result<Value, AllocError>
+        ensures { IfOk result (λ v. IsPrepareAnswer self.old sites.now (view v) self.new) }
+    {
+        match self.core.prepare(alloc, sites) {
+            Ok(prepared) => {
+                let answer = prepared_value(alloc, self.next_batch()?, prepared.rows.as_slice())?;
+                self.batches.push(prepared.rows)?;
+                Ok(answer)
+            }
+            Err(fault) => prepare_refusal_value(alloc, fault),
+        }
+    }
+
+    /// The number of the next batch. More batches than numbers is an error.
+    fn next_batch(&self) -> Result<u32, AllocError>
+        ensures { IfOk result (λ number. number ≡ length self.now.batches) }
+    {
+        u32::try_from(self.batches.as_slice().len()).map_err(|_| AllocError)
+    }
+
+    /// The answer to the install of a batch.
+    fn install(&mut self, alloc: Global, batch: u32) -> Result<Value, AllocError>
+        ensures { IfOk result (λ v. IsCommandAnswer self.old (command.Install batch) (view v) self.new) }
+    {
+        let Some(rows) = self.batches.as_slice().get(batch as usize) else {
+            return bad_command(alloc);
+        };
+        let rows = Seq::of(rows.as_slice().to_vec(alloc)?);
+        self.apply(alloc, Event::Install(rows))
+    }
+}
