@@ -5,7 +5,8 @@ use Rattle.hex.proofs.OnLiterals.{hex_on_literals}
 use Rattle.serde_json.proofs.OnLiterals.{serde_json_on_literals}
 use Rattle.jl_cli.specs.declared.words.Mode.TheVariants.{Scan}
 use Rattle.jl_cli.specs.Lines.{lines_of}
-use Rattle.jl_cli.specs.Answers.{file_of, bad_command, answer_line, AreAnswers}
+use Rattle.jl_cli.specs.Scans.{file_of, bad_command}
+use Rattle.jl_cli.specs.Answers.{answer_line, AreAnswers}
 
 -- a newline at the end ends no further line
 lines_three : lines_of (codes "ab\n\nc") ≡ codes "ab" ∷ [] ∷ codes "c" ∷ []

@@ -19,8 +19,8 @@ use Rattle.jl_classfile.specs.Faults.{IsFault}
 use Rattle.jl_json.specs.NameReading.{name_text}
 use Rattle.jl_json.specs.ClassAnswers.{class_data}
 use Rattle.jl_json.proofs.NameLaws.{spells}
-use Rattle.jl_json.specs.Refusals.{refusal_of, refusal_data, reason, place, method}
-use Rattle.jl_cli.specs.Answers.{bad_command, file_of, IsFaultAnswer, IsFileAnswer, IsScanAnswer}
+use Rattle.jl_json.specs.Refusals.{refusal_data}
+use Rattle.jl_cli.specs.Scans.{bad_command, file_of, IsFaultAnswer, IsFileAnswer, IsScanAnswer}
 
 memory_or_not : (f : ClassFault) → (f ≡ Memory) ⊎ (f ≢ Memory)
 memory_or_not TooLarge = inr (λ e. absurd cc)

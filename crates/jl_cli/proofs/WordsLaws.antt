@@ -27,11 +27,11 @@ use Rattle.clap.proofs.FaultLemmas.{past, stopped_fault}
 use Rattle.clap.proofs.WalkLemmas.{walk_stopped}
 use Rattle.jl_cli.specs.declared.words.WordsFault.{WordsFault}
 use Rattle.jl_cli.specs.declared.words.WordsFault.TheVariants.{BadWords, Memory}
-use Rattle.jl_cli.specs.declared.words.Words.{Words}
 use Rattle.jl_cli.specs.declared.words.Words.TheVariants.{Lines}
-use Rattle.jl_cli.specs.declared.words.Mode.TheVariants.{Scan}
-use Rattle.jl_cli.specs.Words.{IsEnd, AskFor, AskForNothing}
-use Rattle.jl_cli.specs.CommandLine.{scan, linkd}
+use Rattle.jl_cli.specs.declared.words.Mode.{Mode}
+use Rattle.jl_cli.specs.declared.words.Mode.TheVariants.{Scan, Run}
+use Rattle.jl_cli.specs.Words.{IsEnd, AskFor, AskForNothing, word_of}
+use Rattle.jl_cli.specs.CommandLine.{bare_command, linkd, mode_of}
 
 -- some kind of error comes
 abbrev Comes : Kinds → Type 0
@@ -141,36 +141,46 @@ end_or_not (word ∷ []) = by_test (bytes_eq word dashes)
     (λ e. inr (not_end word e))
 end_or_not (word ∷ x ∷ rest) = inr (elim [ inl h ↦ absurd cc | inr h ↦ absurd cc ])
 
--- ---- the subcommand
+-- ---- a subcommand
 
-abbrev scan_word : Text
-scan_word = codes "scan"
+abbrev shape_of : Mode → Shape
+shape_of mode = bare_command (word_of mode)
 
 abbrev top : Shape
 top = (built linkd).top
 
-abbrev below : Shape
-below = record scan { disable_help_subcommand = true; is_built = true }
+abbrev below : Mode → Shape
+below mode = record (shape_of mode) { disable_help_subcommand = true; is_built = true }
 
-abbrev scan_fault : List Text → Kinds
-scan_fault rest = level_fault below [] nothing_held rest false []
+abbrev mode_fault : Mode → List Text → Kinds
+mode_fault mode rest = level_fault (below mode) [] nothing_held rest false []
 
-scan_takes : (rest : List Text) → IsEnd rest → scan_fault rest ≡ []
+takes_nothing : (mode : Mode) → mode_fault mode [] ≡ []
 unfolding walked walk_fault defaults_fault
-scan_takes rest (inl e) = ap scan_fault e
-scan_takes rest (inr e) = ap scan_fault e
+takes_nothing Scan = refl
+takes_nothing Run = refl
 
-scan_refuses : (rest : List Text) → ¬ IsEnd rest → Comes (scan_fault rest)
-scan_refuses [] h = absurd (h (inl refl))
-scan_refuses (word ∷ rest) h = first_comes _ _ (stray_words below [] word rest refl h)
+takes_dashes : (mode : Mode) → mode_fault mode (dashes ∷ []) ≡ []
+unfolding walked walk_fault defaults_fault
+takes_dashes Scan = refl
+takes_dashes Run = refl
+
+mode_takes : (mode : Mode) (rest : List Text) → IsEnd rest → mode_fault mode rest ≡ []
+mode_takes mode rest (inl e) = ap (mode_fault mode) e ∙ takes_nothing mode
+mode_takes mode rest (inr e) = ap (mode_fault mode) e ∙ takes_dashes mode
+
+mode_refuses : (mode : Mode) (rest : List Text) → ¬ IsEnd rest → Comes (mode_fault mode rest)
+mode_refuses mode [] h = absurd (h (inl refl))
+mode_refuses Scan (word ∷ rest) h = first_comes _ _ (stray_words (below Scan) [] word rest refl h)
+mode_refuses Run (word ∷ rest) h = first_comes _ _ (stray_words (below Run) [] word rest refl h)
 
 -- ---- the program's command
 
 abbrev names : Names
-names = (scan_word, []) ∷ []
+names = (word_of Scan, []) ∷ (word_of Run, []) ∷ []
 
-abbrev met_scan : List Text → Walk
-met_scan rest = record first { stopped = Some (scan_word, rest) }
+abbrev met : Mode → List Text → Walk
+met mode rest = record first { stopped = Some (word_of mode, rest) }
 
 -- what follows the walk
 abbrev over : Walk → Kinds
@@ -178,88 +188,113 @@ over w = or_else (entered_fault (built linkd) w.stopped) (or_else (settle_fault 
     (or_else (defaults_fault (settled [] w.held).rows [])
     (check_fault top (finished [] w.held) (is_some (entered (built linkd) w.stopped)))))
 
-walked_scan : (rest : List Text) → fold (walked [] names) first (scan_word ∷ rest) ≡ met_scan rest
+walked_mode : (mode : Mode) (rest : List Text) → fold (walked [] names) first (word_of mode ∷ rest) ≡ met mode rest
 unfolding walked
-walked_scan rest = sym (walk_stopped [] names first scan_word [] rest)
+walked_mode Scan rest = sym (walk_stopped [] names first (word_of Scan) [] rest)
+walked_mode Run rest = sym (walk_stopped [] names first (word_of Run) [] rest)
 
-scan_faults : (name : Text) (rest : List Text) → fault_of linkd (name ∷ scan_word ∷ rest) ≡ or_else (scan_fault rest) []
+mode_faults : (mode : Mode) (name : Text) (rest : List Text)
+    → fault_of linkd (name ∷ word_of mode ∷ rest) ≡ or_else (mode_fault mode rest) []
 unfolding walked walk_fault defaults_fault
-scan_faults name rest =
-    past _ _ (stopped_fault top names first (scan_word, []) rest) ∙ ap over (walked_scan rest)
+mode_faults Scan name rest =
+    past _ _ (stopped_fault top names first (word_of Scan, []) rest) ∙ ap over (walked_mode Scan rest)
+mode_faults Run name rest =
+    past _ _ (stopped_fault top names first (word_of Run, []) rest) ∙ ap over (walked_mode Run rest)
 
-scan_met : (name : Text) (rest : List Text)
-    → option_map (λ p. p.0) (subcommand_of linkd (name ∷ scan_word ∷ rest)) ≡ Some scan_word
-scan_met name rest = ap (λ (w : Walk). option_map (λ p. p.0) (entered (built linkd) w.stopped)) (walked_scan rest)
+mode_met : (mode : Mode) (name : Text) (rest : List Text)
+    → option_map (λ p. p.0) (subcommand_of linkd (name ∷ word_of mode ∷ rest)) ≡ Some (word_of mode)
+mode_met Scan name rest =
+    ap (λ (w : Walk). option_map (λ p. p.0) (entered (built linkd) w.stopped)) (walked_mode Scan rest)
+mode_met Run name rest =
+    ap (λ (w : Walk). option_map (λ p. p.0) (entered (built linkd) w.stopped)) (walked_mode Run rest)
 
 -- ---- the words
 
 second : (a b c d : Text) (x y : List Text) → a ∷ b ∷ x ≡ c ∷ d ∷ y → (b ≡ d) × (x ≡ y)
 second a b c d x y e = let tails : b ∷ x ≡ d ∷ y = cc in (cc, cc)
 
-other_word : (name word : Text) (rest : List Text) → bytes_eq scan_word word ≡ false
-    → AskForNothing (name ∷ word ∷ rest)
-other_word name word rest e (Lines Scan) =
-    λ p. absurd (true≢false (sym ((bytes_eq-Decides scan_word word).1
-    (sym (second name word p.0 scan_word rest p.1 p.2).0)) ∙ e))
+-- the word is no subcommand
+abbrev IsOther : Text → Type 0
+IsOther word = (bytes_eq (word_of Scan) word ≡ false) × (bytes_eq (word_of Run) word ≡ false)
 
-other_faults : (name word : Text) (rest : List Text) → bytes_eq scan_word word ≡ false
-    → Comes (fault_of linkd (name ∷ word ∷ rest))
+no_mode : (word : Text) → IsOther word → (mode : Mode) → ¬ (word ≡ word_of mode)
+no_mode word h Scan e = true≢false (sym ((bytes_eq-Decides (word_of Scan) word).1 (sym e)) ∙ h.0)
+no_mode word h Run e = true≢false (sym ((bytes_eq-Decides (word_of Run) word).1 (sym e)) ∙ h.1)
+
+other_word : (name word : Text) (rest : List Text) → IsOther word → AskForNothing (name ∷ word ∷ rest)
+other_word name word rest h (Lines mode) = λ p. no_mode word h mode (second name word p.0 (word_of mode) rest p.1 p.2).0
+
+other_faults : (name word : Text) (rest : List Text) → IsOther word → Comes (fault_of linkd (name ∷ word ∷ rest))
 unfolding walked walk_fault defaults_fault
 other_faults name word rest e = elim (end_or_not (word ∷ rest)) [
   | inl (inl h) ↦ absurd cc
   | inl (inr h) ↦ subst (λ (l : List Text). Comes (fault_of linkd (name ∷ l))) (sym h) tt
-  | inr h ↦ first_comes _ _ (stray_words top names word rest (rw e refl) h)
+  | inr h ↦ first_comes _ _ (stray_words top names word rest (rw (e.0, e.1) refl) h)
 ]
 
--- the words are taken for this
-abbrev IsTaken : Words → List Text → Type 0
-IsTaken asked words =
-    AskFor asked words × (fault_of linkd words ≡ [])
-    × (option_map (λ p. p.0) (subcommand_of linkd words) ≡ Some scan_word)
+-- the words are taken for this mode
+abbrev IsTaken : Mode → List Text → Type 0
+IsTaken mode words =
+    AskFor (Lines mode) words × (fault_of linkd words ≡ [])
+    × (option_map (λ p. p.0) (subcommand_of linkd words) ≡ Some (word_of mode))
 
 abbrev IsRefused : List Text → Type 0
 IsRefused words = AskForNothing words × Comes (fault_of linkd words)
 
-not_scan : (name : Text) (rest : List Text) → ¬ IsEnd rest → AskForNothing (name ∷ scan_word ∷ rest)
-not_scan name rest h (Lines Scan) = λ p. h (subst IsEnd (sym (second name scan_word p.0 scan_word rest p.1 p.2).1) p.3)
+not_mode : (mode : Mode) (name : Text) (rest : List Text) → ¬ IsEnd rest → AskForNothing (name ∷ word_of mode ∷ rest)
+not_mode mode name rest h (Lines asked) =
+    λ p. h (subst IsEnd (sym (second name (word_of mode) p.0 (word_of asked) rest p.1 p.2).1) p.3)
 
 none_asked : AskForNothing []
-none_asked (Lines Scan) = λ p. absurd cc
+none_asked (Lines mode) = λ p. absurd cc
 
 name_asked : (name : Text) → AskForNothing (name ∷ [])
-name_asked name (Lines Scan) = λ p. absurd cc
+name_asked name (Lines mode) = λ p. absurd cc
 
-scan_decided : (name : Text) (rest : List Text)
-    → IsTaken (Lines Scan) (name ∷ scan_word ∷ rest) ⊎ IsRefused (name ∷ scan_word ∷ rest)
-scan_decided name rest = elim (end_or_not rest) [
+mode_decided : (mode : Mode) (name : Text) (rest : List Text)
+    → IsTaken mode (name ∷ word_of mode ∷ rest) ⊎ IsRefused (name ∷ word_of mode ∷ rest)
+mode_decided mode name rest = elim (end_or_not rest) [
   | inl e ↦ inl (
     (name, rest, refl, e),
-    scan_faults name rest
-        ∙ ap (λ (k : Kinds). or_else k []) (scan_takes rest e),
-    scan_met name rest,
+    mode_faults mode name rest
+        ∙ ap (λ (k : Kinds). or_else k []) (mode_takes mode rest e),
+    mode_met mode name rest,
   )
   | inr h ↦ inr (
-    not_scan name rest h,
-    subst Comes (sym (scan_faults name rest))
-        (first_comes _ _ (scan_refuses rest h)),
+    not_mode mode name rest h,
+    subst Comes (sym (mode_faults mode name rest))
+        (first_comes _ _ (mode_refuses mode rest h)),
   )
 ]
 
-decided : (words : List Text) → IsTaken (Lines Scan) words ⊎ IsRefused words
+-- the words are taken for some mode, or refused
+abbrev IsDecided : List Text → Type 0
+IsDecided words = ((mode : Mode) × IsTaken mode words) ⊎ IsRefused words
+
+by_mode : (mode : Mode) (name word : Text) (rest : List Text) → bytes_eq (word_of mode) word ≡ true → IsDecided (name ∷ word ∷ rest)
+by_mode mode name word rest e =
+    subst (λ (x : Text). IsDecided (name ∷ x ∷ rest)) ((bytes_eq-Decides (word_of mode) word).0 e)
+    (elim (mode_decided mode name rest) [ inl p ↦ inl (mode, p) | inr p ↦ inr p ])
+
+decided : (words : List Text) → IsDecided words
 unfolding walked walk_fault defaults_fault
 decided [] = inr (none_asked, tt)
 decided (name ∷ []) = inr (name_asked name, tt)
-decided (name ∷ word ∷ rest) = by_test (bytes_eq scan_word word)
-    (λ e. subst (λ (x : Text). IsTaken (Lines Scan) (name ∷ x ∷ rest) ⊎ IsRefused (name ∷ x ∷ rest))
-    ((bytes_eq-Decides scan_word word).0 e) (scan_decided name rest))
-    (λ e. inr (other_word name word rest e, other_faults name word rest e))
+decided (name ∷ word ∷ rest) = by_test (bytes_eq (word_of Scan) word)
+    (by_mode Scan name word rest)
+    (λ e. by_test (bytes_eq (word_of Run) word)
+    (by_mode Run name word rest)
+    (λ f. inr (other_word name word rest (e, f), other_faults name word rest (e, f))))
 
-taken : (words : List Text) → fault_of linkd words ≡ []
-    → AskFor (Lines Scan) words × (option_map (λ p. p.0) (subcommand_of linkd words) ≡ Some (codes "scan"))
-taken words e = elim (decided words) [ inl p ↦ (p.0, p.2) | inr p ↦ absurd (subst Comes e p.1) ]
+-- the words ask for a mode, and name its subcommand
+abbrev IsMet : List Text → Option Text → Type 0
+IsMet words name = (mode : Mode) × AskFor (Lines mode) words × (name ≡ Some (word_of mode))
+
+taken : (words : List Text) → fault_of linkd words ≡ [] → IsMet words (option_map (λ p. p.0) (subcommand_of linkd words))
+taken words e = elim (decided words) [ inl p ↦ (p.0, p.1.0, p.1.2) | inr p ↦ absurd (subst Comes e p.1) ]
 
 refused : (words : List Text) (kind : ErrorKind) → IsAmong kind (fault_of linkd words) → AskForNothing words
-refused words kind h = elim (decided words) [ inl p ↦ absurd (subst (IsAmong kind) p.1 h) | inr p ↦ p.0 ]
+refused words kind h = elim (decided words) [ inl p ↦ absurd (subst (IsAmong kind) p.1.1 h) | inr p ↦ p.0 ]
 
 -- ---- the outcomes
 
@@ -272,21 +307,29 @@ NoFault a words = is_simple_and_free a ≡ true → fault_of a words ≡ []
 none_of : (a : App) (words : List Text) → a ≡ linkd → NoFault a words → fault_of linkd words ≡ []
 none_of a words is h = ap (λ (x : App). fault_of x words) (sym is) ∙ h (ap is_simple_and_free is ∙ linkd_free)
 
-pub asks : (a : App) (words : List Text) → a ≡ linkd → NoFault a words → AskFor (Lines Scan) words
-asks a words is h = (taken words (none_of a words is h)).0
-
 name_of_rows : (o : Option (Box SubCommand Global))
     → option_map (λ b. (out-SubCommand (box_value b)).name.now) o ≡ option_map (λ p. p.0) (subcommand_rows o)
 name_of_rows None = refl
 name_of_rows (Some b) = refl
 
-pub meets_scan : (a : App) (words : List Text) (m : ArgMatches) → a ≡ linkd → NoFault a words
-    → HasMatchesOf a words m → subcommand_name_of m ≡ Some (codes "scan")
-meets_scan a words m is h matches =
-    let met : subcommand_rows_of m ≡ subcommand_of linkd words =
+meets : (a : App) (words : List Text) (m : ArgMatches) → a ≡ linkd → NoFault a words
+    → HasMatchesOf a words m → IsMet words (subcommand_name_of m)
+meets a words m is h matches =
+    let met_rows : subcommand_rows_of m ≡ subcommand_of linkd words =
     (matches (ap is_simple is)).1 ∙ ap (λ (x : App). subcommand_of x words) is in
-    name_of_rows (out-ArgMatches m).subcommand ∙ ap (option_map (λ p. p.0)) met
-    ∙ (taken words (none_of a words is h)).1
+    subst (IsMet words) (sym (name_of_rows (out-ArgMatches m).subcommand ∙ ap (option_map (λ p. p.0)) met_rows))
+    (taken words (none_of a words is h))
+
+mode_of_word : (mode : Mode) → mode_of (Some (word_of mode)) ≡ Some mode
+mode_of_word Scan = refl
+mode_of_word Run = refl
+
+-- the mode that is read is the one that the words ask for
+pub asks : (a : App) (words : List Text) (m : ArgMatches) (o : Option Mode) → a ≡ linkd → NoFault a words
+    → HasMatchesOf a words m → o ≡ mode_of (subcommand_name_of m) → (mode : Mode) × AskFor (Lines mode) words × (o ≡ Some mode)
+asks a words m o is h matches read =
+    let p = meets a words m is h matches in
+    (p.0, p.1, read ∙ ap mode_of p.2 ∙ mode_of_word p.0)
 
 pub asks_nothing : (a : App) (words : List Text) (kind : ErrorKind) (fault : WordsFault) → a ≡ linkd
     → (is_simple_and_free a ≡ true → (kind ≡ OutOfMemory) ⊎ IsAmong kind (fault_of a words))

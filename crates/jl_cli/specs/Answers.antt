@@ -1,58 +1,24 @@
 -- What is answered to the lines of an input.
-use Rattle.std.specs.Prelude.{◌≡◌, ◌<◌, ◌≤◌, ℕ, List, [], ◌∷◌, ◌++◌, length, codes, Option, Some}
-use Rattle.std.specs.Prelude.{None, MatchOption, ◌⊎◌, ⊤}
-use Rattle.std.specs.Result.{result_ok}
+use Rattle.std.specs.Prelude.{◌≡◌, ◌<◌, ◌≤◌, ℕ, List, [], ◌∷◌, ◌++◌, length, Option, Some}
+use Rattle.std.specs.Prelude.{⊤}
 use Rattle.std.specs.List.{AllByRecursion, flat_map}
 use Rattle.std.specs.Io.KnownBytes.{Appends, Consumes}
-use Rattle.hex.specs.Hex.{decode_of}
-use Rattle.serde_json.specs.Data.{Data, string, object, no_members, member}
+use Rattle.serde_json.specs.Data.{Data}
 use Rattle.serde_json.specs.Written.{compact_text}
-use Rattle.jl_classfile.specs.declared.fault.ClassFault.{ClassFault}
-use Rattle.jl_classfile.specs.declared.fault.ClassFault.TheVariants.{Memory}
-use Rattle.jl_classfile.specs.Parts.{Parts}
-use Rattle.jl_classfile.specs.ClassFiles.{IsClass}
-use Rattle.jl_classfile.specs.Shown.{shown}
-use Rattle.jl_classfile.specs.Faults.{IsFault}
 use Rattle.jl_cli.specs.declared.line_fault.LineFault.{LineFault}
 use Rattle.jl_cli.specs.declared.line_fault.LineFault.TheVariants.{TooLong}
 use Rattle.jl_cli.specs.declared.words.Mode.{Mode}
-use Rattle.jl_cli.specs.declared.words.Mode.TheVariants.{Scan}
-use Rattle.jl_json.specs.Names.{SpellsNames}
-use Rattle.jl_json.specs.ClassAnswers.{class_data}
-use Rattle.jl_json.specs.Refusals.{refusal_data}
+use Rattle.jl_cli.specs.declared.words.Mode.TheVariants.{Scan, Run}
+use Rattle.jl_cli.specs.Scans.{IsScanAnswer}
+use Rattle.jl_cli.specs.Sessions.{Session, IsSessionAnswer}
 use Rattle.jl_cli.specs.Lines.{newline, most_in_line, lines_of, NoNewline, ended}
-
--- the answer to a line that is none of the stated forms
-abbrev pub bad_command : Data
-bad_command = object (member (codes "error") (string (codes "BadCommand")) no_members)
-
--- ---- the mode scan
-
--- the bytes that a line is the hexadecimal of, in either case; an empty line is that of none
-abbrev pub file_of : List ℕ → Option (List ℕ)
-file_of [] = None
-file_of (digit ∷ rest) = result_ok (decode_of (digit ∷ rest))
-
--- the answer to a file that isn't read: a fault of the bytes, or want of memory
-abbrev pub IsFaultAnswer : List ℕ → Data → Type 0
-IsFaultAnswer bytes answer =
-    ((f : ClassFault) × IsFault bytes f × (answer ≡ refusal_data f)) ⊎ (answer ≡ refusal_data Memory)
-
--- the answer to a file: what the class file shows, or why it isn't read
-abbrev pub IsFileAnswer : List ℕ → Data → Type 0
-IsFileAnswer bytes answer =
-    ((p : Parts) × (text_of : List ℕ → List ℕ) × IsClass bytes p × SpellsNames text_of
-    × (answer ≡ class_data text_of (shown p)))
-    ⊎ IsFaultAnswer bytes answer
-
-abbrev pub IsScanAnswer : List ℕ → Data → Type 0
-IsScanAnswer line answer =
-    MatchOption (file_of line) (answer ≡ bad_command) (λ bytes. IsFileAnswer bytes answer)
 
 -- ---- all lines
 
+-- what a line is answered: in the mode run, by some state of one core
 abbrev pub IsAnswer : Mode → List ℕ → Data → Type 0
 IsAnswer Scan line answer = IsScanAnswer line answer
+IsAnswer Run line answer = (old : Session) × (new : Session) × IsSessionAnswer old line answer new
 
 -- an answer as it is written: its text, and a newline
 unfoldable pub answer_line : Data → List ℕ

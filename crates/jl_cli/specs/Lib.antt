@@ -5,6 +5,7 @@ pub mod Statuses
 pub mod Words
 pub mod CommandLine
 pub mod Lines
-pub mod Answers
+pub mod Scans
 pub mod Sessions
+pub mod Answers
 pub mod Progress

@@ -23,7 +23,7 @@ use Rattle.jl_json.specs.EventRefusals.{event_refusal_data, prepare_refusal_data
 use Rattle.jl_json.specs.LinkAnswers.{links_data, prepared_data}
 use Rattle.jl_json.specs.CallAnswers.{answer_data}
 use Rattle.jl_json.specs.Commands.{command_of}
-use Rattle.jl_cli.specs.Answers.{bad_command, IsFaultAnswer}
+use Rattle.jl_cli.specs.Scans.{bad_command, IsFaultAnswer}
 
 pub record Session : Type 0 where
   pub core : State

@@ -2,11 +2,17 @@
 use Rattle.std.specs.Prelude.{◌≡◌, ◌⊎◌, ℕ, List, [], ◌∷◌, ◌++◌, codes}
 use Rattle.jl_cli.specs.declared.words.Words.{Words}
 use Rattle.jl_cli.specs.declared.words.Words.TheVariants.{Lines}
-use Rattle.jl_cli.specs.declared.words.Mode.TheVariants.{Scan}
+use Rattle.jl_cli.specs.declared.words.Mode.{Mode}
+use Rattle.jl_cli.specs.declared.words.Mode.TheVariants.{Scan, Run}
+
+-- the mode's subcommand
+abbrev pub word_of : Mode → List ℕ
+word_of Scan = codes "scan"
+word_of Run = codes "run"
 
 -- the subcommand that asks for this
 abbrev pub subcommand_words : Words → List (List ℕ)
-subcommand_words (Lines Scan) = codes "scan" ∷ []
+subcommand_words (Lines mode) = word_of mode ∷ []
 
 -- nothing, or the word that ends options
 abbrev pub IsEnd : List (List ℕ) → Type 0

@@ -1,10 +1,12 @@
 //! The answers to lines, gathered until they are written.
 
-ghost use Rattle.std.specs.Prelude.{◌≡◌, ◌<◌, ◌≤◌, ◌*◌, ◌++◌, [], ◌∷◌, length, take};
+ghost use Rattle.std.specs.Prelude.{◌≡◌, ◌<◌, ◌≤◌, false, ◌++◌, [], ◌∷◌, length, take};
 ghost use Rattle.std.specs.Prelude.{vec_len, string_bytes};
 ghost use Rattle.std.specs.Prelude.{IfOk, OnOk, OnErr, MatchOption};
 ghost use Rattle.std.specs.Io.KnownBytes.{Appends};
 ghost use Rattle.serde_json.specs.Data.{Data};
+ghost use Rattle.serde_json.specs.View.{view};
+ghost use Rattle.serde_json.specs.Written.{has_float};
 ghost use Rattle.jl_cli.specs.Devices.{CountsFailure};
 ghost use Rattle.jl_cli.specs.Answers.{IsAnswer, answer_line};
 ghost use Rattle.jl_cli.specs.Lines.{newline, NoNewline};
@@ -13,16 +15,20 @@ ghost use Rattle.jl_cli.specs.Progress.{IsFirstNewline, Gathers};
 use crate::failed::Failed;
 use crate::line_buffer::MOST_IN_LINE;
 use crate::scan::scan_answer;
+use crate::session::Session;
 use crate::sink::Sink;
 use crate::words::Mode;
 use memchr::memchr;
+use serde_json::Value;
 use std::alloc::{AllocError, Global};
 
 /// The answers that aren't written yet, each with a newline.
-#[derive(Debug, Drop)]
+#[derive(Drop)]
 pub struct Answers {
     alloc: Global,
     mode: Mode,
+    /// For the commands of the mode run.
+    session: Session,
     /// For the bytes of a line in hexadecimal.
     room: Vec<u8>,
     text: Vec<u8>,
@@ -39,6 +45,7 @@ impl Answers {
         Ok(Answers {
             alloc,
             mode,
+            session: Session::new(alloc),
             room,
             text,
         })
@@ -56,8 +63,22 @@ impl Answers {
         ensures err { OnErr result (self.new.text.items ≡ self.old.text.items) }
         ensures mode { self.new.mode ≡ self.old.mode }
     {
-        let text = answer_text(self.alloc, self.mode, line, &mut self.room)?;
+        let answer = self.value(line)?;
+        let text = text_of(self.alloc, &answer)?;
         self.text.extend_from_slice(text.as_bytes())
+    }
+
+    /// The answer to a line.
+    fn value(&mut self, line: &[u8]) -> Result<Value, AllocError>
+        requires { length line.now ≤ 2100000 }
+        ensures answer { IfOk result (λ v. IsAnswer self.old.mode line.now (view v)) }
+        ensures text { self.new.text.items ≡ self.old.text.items }
+        ensures mode { self.new.mode ≡ self.old.mode }
+    {
+        match self.mode {
+            Mode::Scan => scan_answer(self.alloc, line, &mut self.room),
+            Mode::Run => self.session.answer(self.alloc, line),
+        }
     }
 
     /// Adds the answer to each whole line of the text, in which no newline stands before
@@ -104,20 +125,12 @@ impl Answers {
     }
 }
 
-/// The answer to a line, with a newline.
-fn answer_text(
-    alloc: Global,
-    mode: Mode,
-    line: &[u8],
-    room: &mut [u8],
-) -> Result<String, AllocError>
-    requires { length line.now ≤ 2 * length room.old }
-    ensures { IfOk result (λ text. (answer : Data) × IsAnswer mode line.now answer
-        × (string_bytes text ≡ answer_line answer)) }
+/// The text of an answer, with a newline.
+#[tactic(auto, unfolding(crate::specs::Answers::answer_line))]
+fn text_of(alloc: Global, answer: &Value) -> Result<String, AllocError>
+    requires { has_float (view answer.now) ≡ false }
+    ensures { IfOk result (λ text. string_bytes text ≡ answer_line (view answer.now)) }
 {
-    let answer = match mode {
-        Mode::Scan => scan_answer(alloc, line, room)?,
-    };
     let mut text = answer.to_string(alloc)?;
     text.push('\n')?;
     Ok(text)

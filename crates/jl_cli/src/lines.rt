@@ -71,6 +71,42 @@ fn answer_rest<W: Sink>(rest: &[u8], answers: &mut Answers, writer: &mut W) -> R
     Ok(())
 }
 
+/// Answers each line of what is read, in order, to its end.
+fn answer_all<R: Source, W: Sink>(
+    input: &mut LineBuffer,
+    answers: &mut Answers,
+    reader: &mut R,
+    writer: &mut W,
+) -> Result<(), LineFault>
+    requires unread { input.old ≡ [] }
+    requires none { answers.old.text.items ≡ [] }
+    ensures answered { OnOk result (IsAtEnd (R.remaining reader.new)
+        × IfSome (R.remaining reader.old)
+        (λ text. AnswersAll answers.old.mode text (W.contents writer.old) (W.contents writer.new))) }
+    ensures whole { IfErr result
+        (λ f. (f ≡ Device → ¬ HasRisen (W.failures writer.old) (W.failures writer.new))
+        → IfSome (R.remaining reader.old) (λ text.
+        (first : AnswersFirst answers.old.mode text (W.contents writer.old) (W.contents writer.new))
+        × LongIf f first.after)) }
+    ensures read { IsErrOf result LineFault.Device
+        → ¬ HasRisen (W.failures writer.old) (W.failures writer.new)
+        → IfSome (R.remaining reader.old) (λ text. AnswersRead answers.old.mode text
+        (R.remaining reader.new) (W.contents writer.old) (W.contents writer.new)) }
+    ensures device { IsErrOf result LineFault.Device
+        → HasRisen (R.failures reader.old) (R.failures reader.new)
+        ⊎ (HasRisen (W.failures writer.old) (W.failures writer.new)
+        ⊎ (2 ^ 64 - 1 ≤ R.reads reader.new)) }
+{
+    for _ in 0..u64::MAX {
+        let searched = input.as_slice().len();
+        if input.read_from(reader)? == 0 {
+            return answer_rest(input.as_slice(), answers, writer);
+        }
+        answer_piece(input, searched, answers, writer)?;
+    }
+    Err(LineFault::Device)
+}
+
 /// Answers each line of the input, in order, to its end: one line of output for each. What stands
 /// behind the last newline is a line, too, unless it is empty. The answers to what was read are
 /// written before more is read.
@@ -111,12 +147,5 @@ pub fn run_lines<R: Source, W: Sink>(
 {
     let mut input = LineBuffer::new(alloc)?;
     let mut answers = Answers::new(alloc, mode)?;
-    for _ in 0..u64::MAX {
-        let searched = input.as_slice().len();
-        if input.read_from(reader)? == 0 {
-            return answer_rest(input.as_slice(), &mut answers, writer);
-        }
-        answer_piece(&mut input, searched, &mut answers, writer)?;
-    }
-    Err(LineFault::Device)
+    answer_all(&mut input, &mut answers, reader, writer)
 }

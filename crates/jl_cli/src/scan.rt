@@ -3,7 +3,7 @@
 ghost use Rattle.std.specs.Prelude.{◌≡◌, ◌≤◌, ◌*◌, ◌/◌, length, true, false, IfOk, MatchOption};
 ghost use Rattle.serde_json.specs.View.{view};
 ghost use Rattle.jl_json.specs.Refusals.{refusal_data};
-ghost use Rattle.jl_cli.specs.Answers.{file_of, bad_command, IsFileAnswer, IsScanAnswer};
+ghost use Rattle.jl_cli.specs.Scans.{file_of, bad_command, IsFileAnswer, IsScanAnswer};
 
 use jl_classfile::{ClassFault, read_class};
 use jl_json::{Refusal, class_value};

@@ -11,8 +11,8 @@ use crate::scan::{bad_command, fault_value};
 use jl_classfile::read_class;
 use jl_core::Core;
 use jl_json::{
-    Command, answer_value, event_refusal_value, links_value, prepare_refusal_value,
-    prepared_value, read_command, reply_value,
+    Command, answer_value, event_refusal_value, links_value, prepare_refusal_value, prepared_value,
+    read_command, reply_value,
 };
 use jl_names::Seq;
 use jl_types::{Event, Link, LoaderId, Refusal, Reply, SiteNo};
@@ -115,12 +115,7 @@ impl Session {
     }
 
     /// The answer to the definition of a class by the bytes of its file.
-    fn define(
-        &mut self,
-        alloc: Global,
-        loader: LoaderId,
-        bytes: &[u8],
-    ) -> Result<Value, AllocError>
+    fn define(&mut self, alloc: Global, loader: LoaderId, bytes: &[u8]) -> Result<Value, AllocError>
         ensures { IfOk result (λ v. IsDefineAnswer self.old loader bytes.now (view v) self.new) }
     {
         match read_class(alloc, bytes) {

@@ -1,11 +1,11 @@
 //! The words that the program was called with.
 
-ghost use Rattle.std.specs.Prelude.{◌≡◌, ◌≢◌, IfOk, IfErr, map, string_bytes};
+ghost use Rattle.std.specs.Prelude.{◌≡◌, ◌≢◌, IfOk, IfErr, map, option_map, string_bytes};
 ghost use Rattle.clap.specs.Words.{app_of, kind_of};
 ghost use Rattle.clap.specs.declared.error.kind.ErrorKind.TheVariants.{OutOfMemory};
 ghost use Rattle.jl_cli.specs.declared.words.WordsFault.TheVariants.{BadWords, Memory};
 ghost use Rattle.jl_cli.specs.Words.{AskFor, AskForNothing};
-ghost use Rattle.jl_cli.specs.CommandLine.{linkd};
+ghost use Rattle.jl_cli.specs.CommandLine.{with_scan, linkd, mode_of};
 
 use clap::error::ErrorKind;
 use clap::{Command, Error as ClapError};
@@ -17,6 +17,8 @@ use thiserror::Error;
 pub enum Mode {
     /// A line is a class file in hexadecimal, and its answer what the file shows.
     Scan,
+    /// A line is a command in JSON, and its answer what one core replies.
+    Run,
 }
 
 /// What the words ask for.
@@ -70,15 +72,33 @@ fn fault_of(error: &ClapError) -> WordsFault
     }
 }
 
-/// The words of the program, as clap takes them.
-fn command<'a>(alloc: Global) -> Result<Command<'a>, AllocError>
-    ensures { IfOk result (λ command. app_of command ≡ linkd) }
+/// The program with its first subcommand.
+fn with_scan<'a>(alloc: Global) -> Result<Command<'a>, AllocError>
+    ensures { IfOk result (λ command. app_of command ≡ with_scan) }
 {
     Command::new(alloc, "linkd")
         .disable_help_flag(true)
         .disable_help_subcommand(true)
         .subcommand_required(true)
         .subcommand(Command::new(alloc, "scan").disable_help_flag(true))
+}
+
+/// The words of the program, as clap takes them.
+fn command<'a>(alloc: Global) -> Result<Command<'a>, AllocError>
+    ensures { IfOk result (λ command. app_of command ≡ linkd) }
+{
+    with_scan(alloc)?.subcommand(Command::new(alloc, "run").disable_help_flag(true))
+}
+
+/// The mode of the subcommand.
+fn mode_of(name: Option<&str>) -> Option<Mode>
+    ensures { result ≡ mode_of (option_map (λ word. word.now) name.entry) }
+{
+    match name? {
+        "scan" => Some(Mode::Scan),
+        "run" => Some(Mode::Run),
+        _ => None,
+    }
 }
 
 /// What the words ask for, the program's name first.
@@ -92,8 +112,10 @@ pub fn read_words(alloc: Global, words: &[String]) -> Result<Words, WordsFault>
         → AskForNothing (map string_bytes words.now)) }
 {
     match command(alloc)?.try_get_matches_from(words) {
-        Ok(matches) if matches.subcommand_matches("scan").is_some() => Ok(Words::Lines(Mode::Scan)),
-        Ok(_) => Err(WordsFault::BadWords),
+        Ok(matches) => match mode_of(matches.subcommand_name()) {
+            Some(mode) => Ok(Words::Lines(mode)),
+            None => Err(WordsFault::BadWords),
+        },
         Err(error) => Err(fault_of(&error)),
     }
 }

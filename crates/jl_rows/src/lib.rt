@@ -10,6 +10,8 @@ mod faults;
 #[cfg(test)]
 mod input;
 #[cfg(test)]
+mod runs;
+#[cfg(test)]
 mod scan;
 #[cfg(test)]
 mod scans;

@@ -4,7 +4,7 @@ use jl_cli::{LineFault, Mode, Words, WordsFault, read_words};
 use std::test::Fail;
 
 #[test]
-fn takes_scan_alone(rt: HostRuntime) -> Result<(), Fail> {
+fn takes_its_subcommands(rt: HostRuntime) -> Result<(), Fail> {
     let rows = [
         ("linkd scan", Ok(Words::Lines(Mode::Scan))),
         ("linkd scan --", Ok(Words::Lines(Mode::Scan))),
@@ -13,7 +13,9 @@ fn takes_scan_alone(rt: HostRuntime) -> Result<(), Fail> {
         ("linkd scan -- scan", Err(WordsFault::BadWords)),
         ("", Err(WordsFault::BadWords)),
         ("linkd", Err(WordsFault::BadWords)),
-        ("linkd run", Err(WordsFault::BadWords)),
+        ("linkd run", Ok(Words::Lines(Mode::Run))),
+        ("linkd run --", Ok(Words::Lines(Mode::Run))),
+        ("linkd run scan", Err(WordsFault::BadWords)),
         ("linkd Scan", Err(WordsFault::BadWords)),
         ("linkd sc", Err(WordsFault::BadWords)),
         ("linkd help", Err(WordsFault::BadWords)),

@@ -1,8 +1,9 @@
-//! Reads class files, a line each, and answers what they show.
+//! A devirtualizing linker for the JVM, driven by lines.
 //!
-//! `linkd scan` answers each line of the standard input. The exit status is 0 where the input ended, and otherwise 1 for
-//! bad words, 2 for a line that is too long, 3 for a failed read or write and 4 for want of memory; a line on the
-//! standard error then says so.
+//! `linkd scan` reads class files, a line each, and answers what they show. `linkd run` reads commands, a line each, and
+//! answers them on one core: it defines classes, links invocations and answers calls. The exit status is 0 where the input
+//! ended, and otherwise 1 for bad words, 2 for a line that is too long, 3 for a failed read or write and 4 for want of
+//! memory; a line on the standard error then says so.
 #![tactic(auto)]
 
 use jl_cli::{Counted, Words, WordsFault, read_words, run_lines};

@@ -1,117 +1,34 @@
-use Rattle.std.proofs.Common.{◌≡◌, ◌∙◌, sym, ap, subst, ℕ, List, length, Err, arith}
+use Rattle.std.specs.Prelude.{◌≡◌, IfSome, IfErr, OnOk, IsErrOf}
+use Rattle.std.proofs.Common.{subst}
+use Rattle.std.specs.Io.KnownBytes.{IsAtEnd}
 use Rattle.jl_cli.specs.declared.words.Mode.{Mode}
 use Rattle.jl_cli.specs.declared.line_fault.LineFault.TheVariants.{Device}
-use Rattle.jl_cli.specs.Devices.{one_more, HasRisen}
-use Rattle.jl_cli.specs.Lines.{NoNewline}
-use Rattle.jl_cli.specs.Progress.{Runs}
-use Rattle.jl_cli.proofs.LineLaws.{runs_write}
-use Rattle.jl_cli.proofs.FaultLaws.{risen, Whole, ends, piece_fault, rest_whole, rest_answered}
-use Rattle.jl_cli.proofs.FaultLaws.{runs_mode, runs_held, same_at_end, exactly, fault_is}
-use Rattle.jl_cli.proofs.FaultLaws.{runs_whole}
-use Rattle.std.proofs.KnownBytes.{Keeps-refl}
+use Rattle.jl_cli.specs.Devices.{HasRisen}
+use Rattle.jl_cli.specs.Answers.{AnswersAll, AnswersFirst, AnswersRead, LongIf}
 use Rattle.jl_cli.proofs.lines.run_lines.Goals as goal
 
-pub returns-in_err-read_from-clause-whole : goal.returns-in_err-read_from-clause-whole
-returns-in_err-read_from-clause-whole g c =
-    exactly _ Device
-    (Whole c.args.mode (g.R.Source.remaining c.args.reader.now) (g.W.Sink.contents c.args.writer.now)
-    (g.W.Sink.contents c.loop.writer)
-    (HasRisen (g.W.Sink.failures c.args.writer.now) (g.W.Sink.failures c.loop.writer)))
-    c.from_residual-in_err-read_from.ensures.1
-    (ends _ _ _ _ _ _ _ Device (runs_mode _ _ _ _ _ _ _ c.loop.invariant.mode c.loop.invariant.ran) tt)
+-- the answers are in the mode that they were made in
 
-pub returns-then-branch-eq0-clause-answered : goal.returns-then-branch-eq0-clause-answered
-returns-then-branch-eq0-clause-answered g c =
-    let more = c.in_ok-read_from.ensures.more in
-    let same : c.as_slice.result.now ≡ c.loop.input = c.as_slice.ensures.value
-    ∙ same_at_end c.loop.input more.0 c.read_from.new.self c.in_ok-read_from.field-0 more.2 more.1
-    c.if-branch-eq0.true in
-    rest_answered c.loop.answers.mode c.args.mode (g.R.Source.remaining c.args.reader.now)
-    (g.R.Source.remaining c.read_from.new.reader) c.as_slice.result.now
-    (g.W.Sink.contents c.args.writer.now) (g.W.Sink.contents c.loop.writer)
-    (g.W.Sink.contents c.answer_rest.new.writer) c.answer_rest.result
-    (runs_held _ _ _ (g.R.Source.remaining c.read_from.new.reader) c.loop.input more.0 c.as_slice.result.now _ _
-    c.loop.invariant.ran more.3 (c.as_slice.ensures.value ∙ more.2))
-    (c.in_ok-read_from.ensures.end c.if-branch-eq0.true)
-    (subst NoNewline (sym same) c.loop.invariant.one)
-    (omega (arith, ap length same, c.loop.invariant.room))
-    c.answer_rest.ensures.answered
-    c.loop.invariant.mode
-
-pub returns-then-branch-eq0-clause-whole : goal.returns-then-branch-eq0-clause-whole
-returns-then-branch-eq0-clause-whole g c =
-    rest_whole c.loop.answers.mode c.args.mode (g.R.Source.remaining c.args.reader.now)
-    (g.R.Source.remaining c.loop.reader) c.loop.input
-    (g.W.Sink.contents c.args.writer.now) (g.W.Sink.contents c.loop.writer) (g.W.Sink.contents c.answer_rest.new.writer)
-    (HasRisen (g.W.Sink.failures c.args.writer.now) (g.W.Sink.failures c.answer_rest.new.writer)) c.answer_rest.result
-    c.loop.invariant.ran
-    c.answer_rest.ensures.whole
-    (λ e. risen _ _ (c.answer_rest.ensures.device e ∙ ap one_more c.loop.invariant.no_write_failed))
-    c.loop.invariant.mode
-
-pub returns-in_err-answer_piece-clause-whole : goal.returns-in_err-answer_piece-clause-whole
-returns-in_err-answer_piece-clause-whole g c =
-    let more = c.in_ok-read_from.ensures.more in
-    let told = c.in_err-answer_piece.ensures in
-    exactly _ c.in_err-answer_piece.field-0.0
-    (Whole c.args.mode (g.R.Source.remaining c.args.reader.now) (g.W.Sink.contents c.args.writer.now)
-    (g.W.Sink.contents c.answer_piece.new.writer)
-    (HasRisen (g.W.Sink.failures c.args.writer.now) (g.W.Sink.failures c.answer_piece.new.writer)))
-    c.from_residual-in_err-answer_piece.ensures.1
-    (subst (λ (m : Mode). Whole m (g.R.Source.remaining c.args.reader.now) (g.W.Sink.contents c.args.writer.now)
-    (g.W.Sink.contents c.answer_piece.new.writer)
-    (HasRisen (g.W.Sink.failures c.args.writer.now) (g.W.Sink.failures c.answer_piece.new.writer))
-    c.in_err-answer_piece.field-0.0)
-    c.loop.invariant.mode
-    (piece_fault c.loop.answers.mode _ (g.R.Source.remaining c.read_from.new.reader) c.read_from.new.self _
-    (g.W.Sink.contents c.loop.writer) _ _ c.in_err-answer_piece.field-0.0
-    (runs_held _ _ _ (g.R.Source.remaining c.read_from.new.reader) c.loop.input more.0 c.read_from.new.self _ _
-    c.loop.invariant.ran more.3 more.2)
-    told.whole
-    (λ e. risen _ _ (told.device (ap Err e) ∙ ap one_more c.loop.invariant.no_write_failed))))
-
-pub loop-preserved : goal.loop-preserved
-loop-preserved g c =
-    let more = c.in_ok-read_from.ensures.more in
-    let told = c.in_ok-answer_piece.ensures in
-    record {
-      room = told.room;
-      one = subst NoNewline (sym told.answered.1) told.answered.2;
-      ran = subst (λ (l : List ℕ). Runs c.answer_piece.new.answers.mode (g.R.Source.remaining c.args.reader.now)
-          (g.R.Source.remaining c.read_from.new.reader) l
-          (g.W.Sink.contents c.args.writer.now) (g.W.Sink.contents c.answer_piece.new.writer)) (sym told.answered.1)
-          (runs_mode _ _ _ _ _ _ _ (sym told.none.1)
-          (runs_write _ _ _ _ _ _ _ (runs_held _ _ _ (g.R.Source.remaining c.read_from.new.reader) c.loop.input
-          more.0 c.read_from.new.self _ _ c.loop.invariant.ran more.3 more.2) told.answered.0));
-      none = told.none.0;
-      mode = told.none.1 ∙ c.loop.invariant.mode;
-      reads = omega (arith, c.read_from.ensures.reads, c.loop.invariant.reads);
-      no_read_failed = c.in_ok-read_from.ensures.failures ∙ c.loop.invariant.no_read_failed;
-      no_write_failed = told.ok ∙ c.loop.invariant.no_write_failed;
-    }
+pub returns-clause-answered : goal.returns-clause-answered
+returns-clause-answered g c =
+    subst (λ (mode : Mode). OnOk c.answer_all.result (IsAtEnd (g.R.Source.remaining c.answer_all.new.reader)
+    × IfSome (g.R.Source.remaining c.args.reader.now)
+    (λ input. AnswersAll mode input (g.W.Sink.contents c.args.writer.now) (g.W.Sink.contents c.answer_all.new.writer))))
+    c.in_ok-answers.ensures.1 c.answer_all.ensures.answered
 
 pub returns-clause-whole : goal.returns-clause-whole
 returns-clause-whole g c =
-    ends _ _ _ _ _ _ _ Device (runs_mode _ _ _ _ _ _ _ c.loop.invariant.mode c.loop.invariant.ran) tt
-
-pub returns-in_err-read_from-clause-read : goal.returns-in_err-read_from-clause-read
-returns-in_err-read_from-clause-read g c = λ e none.
-    runs_whole c.loop.answers.mode c.args.mode _ (g.R.Source.remaining c.loop.reader)
-    (g.R.Source.remaining c.read_from.new.reader) c.loop.input _ _
-    c.loop.invariant.ran c.loop.invariant.one c.in_err-read_from.ensures.err.1 c.loop.invariant.mode
-
-pub returns-then-branch-eq0-clause-read : goal.returns-then-branch-eq0-clause-read
-returns-then-branch-eq0-clause-read g c =
-    λ e none. absurd (none (risen _ _ (c.answer_rest.ensures.device e ∙ ap one_more c.loop.invariant.no_write_failed)))
-
-pub returns-in_err-answer_piece-clause-read : goal.returns-in_err-answer_piece-clause-read
-returns-in_err-answer_piece-clause-read g c = λ e none.
-    absurd (none (risen _ _ (c.in_err-answer_piece.ensures.device
-    (ap Err (fault_is _ c.in_err-answer_piece.field-0.0 Device c.from_residual-in_err-answer_piece.ensures.1 e))
-    ∙ ap one_more c.loop.invariant.no_write_failed)))
+    subst (λ (mode : Mode). IfErr c.answer_all.result
+    (λ f. (f ≡ Device → ¬ HasRisen (g.W.Sink.failures c.args.writer.now) (g.W.Sink.failures c.answer_all.new.writer))
+    → IfSome (g.R.Source.remaining c.args.reader.now)
+    (λ input. (first : AnswersFirst mode input (g.W.Sink.contents c.args.writer.now) (g.W.Sink.contents c.answer_all.new.writer))
+    × LongIf f first.after)))
+    c.in_ok-answers.ensures.1 c.answer_all.ensures.whole
 
 pub returns-clause-read : goal.returns-clause-read
-returns-clause-read g c = λ e none.
-    runs_whole c.loop.answers.mode c.args.mode _ (g.R.Source.remaining c.loop.reader)
-    (g.R.Source.remaining c.loop.reader) c.loop.input _ _
-    c.loop.invariant.ran c.loop.invariant.one (Keeps-refl (g.R.Source.remaining c.loop.reader)) c.loop.invariant.mode
+returns-clause-read g c =
+    subst (λ (mode : Mode). IsErrOf c.answer_all.result Device
+    → ¬ HasRisen (g.W.Sink.failures c.args.writer.now) (g.W.Sink.failures c.answer_all.new.writer)
+    → IfSome (g.R.Source.remaining c.args.reader.now)
+    (λ input. AnswersRead mode input (g.R.Source.remaining c.answer_all.new.reader) (g.W.Sink.contents c.args.writer.now) (g.W.Sink.contents c.answer_all.new.writer)))
+    c.in_ok-answers.ensures.1 c.answer_all.ensures.read

@@ -1,21 +1,35 @@
-use Rattle.std.proofs.Common.{◌∙◌, sym, map, true≢false, string_bytes}
+use Rattle.std.proofs.Common.{◌≡◌, ◌∙◌, sym, ap, subst, map, string_bytes, Option, Some, None}
 use Rattle.clap.specs.Words.{app_of, kind_of}
-use Rattle.jl_cli.proofs.WordsLaws.{asks, meets_scan, asks_nothing}
+use Rattle.jl_cli.specs.declared.words.Mode.{Mode}
+use Rattle.jl_cli.specs.declared.words.Words.TheVariants.{Lines}
+use Rattle.jl_cli.specs.Words.{AskFor}
+use Rattle.jl_cli.specs.CommandLine.{mode_of}
+use Rattle.jl_cli.proofs.WordsLaws.{asks, asks_nothing}
 use Rattle.jl_cli.proofs.words.read_words.Goals as goal
 
-pub returns-in-Ok-clause-asked : goal.returns-in-Ok-clause-asked
-returns-in-Ok-clause-asked c =
-    asks (app_of c.in_ok-command.field-0) (map string_bytes c.args.words.now) c.in_ok-command.ensures
-    c.in-Ok.ensures.kinds
+same_mode : (a b : Mode) → Some a ≡ Some b → a ≡ b
+same_mode a b e = cc
 
-pub returns-in-Ok-2-clause-refused : goal.returns-in-Ok-2-clause-refused
-returns-in-Ok-2-clause-refused c =
-    let named = meets_scan (app_of c.in_ok-command.field-0) (map string_bytes c.args.words.now) c.in-Ok.matches
-    c.in_ok-command.ensures c.in-Ok.ensures.kinds c.in-Ok.ensures.matches in
-    absurd (true≢false (sym (c.subcommand_matches.ensures.found.1 named) ∙
-    (sym c.is_some.ensures ∙ c.if-is_some.false)))
+pub returns-in-Some-clause-asked : goal.returns-in-Some-clause-asked
+returns-in-Some-clause-asked c =
+    let p =
+    asks (app_of c.in_ok-command.field-0) (map string_bytes c.args.words.now) c.in-Ok.matches c.mode_of.result
+    c.in_ok-command.ensures c.in-Ok.ensures.kinds c.in-Ok.ensures.matches
+    (c.mode_of.ensures ∙ ap mode_of c.subcommand_name.ensures) in
+    subst (λ (mode : Mode). AskFor (Lines mode) (map string_bytes c.args.words.now)) (same_mode p.0 c.in-Some.mode (sym p.2 ∙ c.in-Some.is)) p.1
 
-pub returns-in-Err-clause-refused : goal.returns-in-Err-clause-refused
-returns-in-Err-clause-refused c =
+none_asked : (o : Option Mode) (mode : Mode) → o ≡ Some mode → o ≡ None → ⊥
+none_asked o mode e f = cc
+
+pub returns-in-Ok-clause-refused : goal.returns-in-Ok-clause-refused
+returns-in-Ok-clause-refused c =
+    let p =
+    asks (app_of c.in_ok-command.field-0) (map string_bytes c.args.words.now) c.in-Ok.matches c.mode_of.result
+    c.in_ok-command.ensures c.in-Ok.ensures.kinds c.in-Ok.ensures.matches
+    (c.mode_of.ensures ∙ ap mode_of c.subcommand_name.ensures) in
+    absurd (none_asked c.mode_of.result p.0 p.2 c.in-None.is)
+
+pub returns-clause-refused : goal.returns-clause-refused
+returns-clause-refused c =
     asks_nothing (app_of c.in_ok-command.field-0) (map string_bytes c.args.words.now) (kind_of c.in-Err.error)
     c.fault_of.result c.in_ok-command.ensures c.in-Err.ensures.kinds c.fault_of.ensures.memory

@@ -1,7 +1,7 @@
 use Rattle.std.proofs.Common.{◌≡◌, ◌<◌, ◌≤◌, [], length}
 use Rattle.jl_cli.specs.Lines.{NoNewline}
 use Rattle.jl_cli.specs.Progress.{Runs}
-use Rattle.jl_cli.proofs.lines.run_lines.Given as goal
+use Rattle.jl_cli.proofs.lines.answer_all.Given as goal
 
 abbrev pub invariant-loop : goal.invariant-loop
 invariant-loop g l = record {
@@ -10,7 +10,7 @@ invariant-loop g l = record {
   ran : Runs l.answers.mode (g.R.Source.remaining l.fn.reader) (g.R.Source.remaining l.reader) l.input
       (g.W.Sink.contents l.fn.writer) (g.W.Sink.contents l.writer);
   none : l.answers.text.items ≡ [];
-  mode : l.answers.mode ≡ l.fn.mode;
+  mode : l.answers.mode ≡ l.fn.answers.mode;
   reads : l.counter ≤ g.R.Source.reads l.reader;
   no_read_failed : g.R.Source.failures l.reader ≡ g.R.Source.failures l.fn.reader;
   no_write_failed : g.W.Sink.failures l.writer ≡ g.W.Sink.failures l.fn.writer;
