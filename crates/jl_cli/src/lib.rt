@@ -2,7 +2,8 @@
 //!
 //! Input and output are a [`Source`] and a [`Sink`], which count what failed. What is said of their
 //! bytes and counts stands in `specs/Devices`. What is answered stands in `specs/`, in reading
-//! order: `Lines`, `Answers`; what words ask for, in `Words`. The JSON is that of jl_json.
+//! order: `Lines`, `Scans`, `Sessions`, `Answers`; what words ask for, in `Words`. The JSON is that of
+//! jl_json.
 #![tactic(auto)]
 
 // Words.
@@ -30,6 +31,7 @@ pub use fail_at::FailAt;
 pub use failed::Failed;
 pub use line_fault::LineFault;
 pub use lines::run_lines;
+pub use session::Session;
 pub use sink::Sink;
 pub use source::Source;
 pub use words::{Mode, Words, WordsFault, read_words};

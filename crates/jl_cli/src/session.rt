@@ -23,7 +23,7 @@ use std::marker::Model;
 /// The most places that may be requested.
 const MOST_SITES: u32 = 65_536;
 
-/// One core, and the batches of links that were prepared, by number.
+/// One core, and the batches of links that were prepared, by number: what commands, a line each, are answered by.
 #[derive(Drop)]
 pub struct Session {
     core: Core,
@@ -70,7 +70,7 @@ fn event_value(alloc: Global, outcome: &Result<Reply, Refusal>) -> Result<Value,
 
 impl Session {
     /// A core in which nothing happened yet.
-    pub(crate) fn new(alloc: Global) -> Self
+    pub fn new(alloc: Global) -> Self
         ensures { result ≡ new_session }
     {
         Session {
@@ -79,8 +79,12 @@ impl Session {
         }
     }
 
-    /// The answer to a line. Want of memory for the line or its answer is an error.
-    pub(crate) fn answer(&mut self, alloc: Global, line: &[u8]) -> Result<Value, AllocError>
+    /// The answer to a line: a command in JSON, or none.
+    ///
+    /// # Errors
+    ///
+    /// Want of memory for the line or its answer. The command may have been obeyed.
+    pub fn answer(&mut self, alloc: Global, line: &[u8]) -> Result<Value, AllocError>
         ensures { IfOk result (λ v. IsSessionAnswer self.old line.now (view v) self.new) }
     {
         match command_in(alloc, line)? {
