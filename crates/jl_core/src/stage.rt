@@ -92,8 +92,8 @@ impl Classes {
 }
 
 /// The invocation at a pc.
-fn site_at(sites: &[Site], pc: u16) -> Option<&Site>
+fn site_at(sites: &[Site], pc: u32) -> Option<&Site>
     ensures { option_copied result ≡ find (λ site. site.pc == pc) sites.now }
 {
-    sites.iter().find(|site| site.pc == pc)
+    sites.iter().find(|site| u32::from(site.pc) == pc)
 }

@@ -43,7 +43,7 @@ abbrev pc_next : ℕ → ℕ → Option ℕ → Option Command
 pc_next class method pc = pc >>= (λ p. Some (Request (record { class = class; method = method; pc = p })))
 
 abbrev method_next : ℕ → ℕ → Option ℕ → Option Command
-method_next pc class method = method >>= (λ m. pc_next class m (below (2 ^ 16) pc))
+method_next pc class method = method >>= (λ m. pc_next class m (below (2 ^ 32) pc))
 
 abbrev class_next : ℕ → ℕ → Option ℕ → Option Command
 class_next method pc class = class >>= (λ c. method_next pc c (below (2 ^ 16) method))
@@ -62,7 +62,7 @@ again (Define loader file) h =
 again (Request place) h =
     ap (class_next place.method place.pc) (within (2 ^ 32) place.class h.0)
     ∙ ap (method_next place.pc place.class) (within (2 ^ 16) place.method h.1)
-    ∙ ap (pc_next place.class place.method) (within (2 ^ 16) place.pc h.2)
+    ∙ ap (pc_next place.class place.method) (within (2 ^ 32) place.pc h.2)
 again (Prepare sites) h = ap (option_map Prepare) (numbers_again sites h)
 again (Install batch) h = ap (option_map Install) (within (2 ^ 32) batch h)
 again (Call site recv) h =

@@ -157,7 +157,7 @@ request_keys : (ms : Members) (c : Command) → member_count ms ≡ 4 → Has (m
 unfolding command_data
 request_keys ms c count asked e = option_and_then_some _ (number_at (2 ^ 32) (codes "class") (object ms)) c e
     (λ class is next. option_and_then_some _ (number_at (2 ^ 16) (codes "method") (object ms)) c next
-    (λ method here last. option_and_then_some _ (number_at (2 ^ 16) (codes "pc") (object ms)) c last
+    (λ method here last. option_and_then_some _ (number_at (2 ^ 32) (codes "pc") (object ms)) c last
     (λ pc there made. subst (IsForm ms)
     (same_Some (Request (record { class = class; method = method; pc = pc })) c made)
     (named_alone (codes "class" ∷ codes "do" ∷ codes "method" ∷ codes "pc" ∷ []) ms
@@ -167,7 +167,7 @@ request_keys ms c count asked e = option_and_then_some _ (number_at (2 ^ 32) (co
         asked,
         (
           number_found (2 ^ 16) (codes "method") ms method here,
-          (number_found (2 ^ 16) (codes "pc") ms pc there, tt),
+          (number_found (2 ^ 32) (codes "pc") ms pc there, tt),
         ),
       ),
     )))))

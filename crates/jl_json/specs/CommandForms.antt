@@ -49,7 +49,7 @@ IsReceiver Null = ⊤
 IsReceiver (Of class) = class < 2 ^ 32
 
 abbrev pub IsPlace : Place → Type 0
-IsPlace place = (place.class < 2 ^ 32) × (place.method < 2 ^ 16) × (place.pc < 2 ^ 16)
+IsPlace place = (place.class < 2 ^ 32) × (place.method < 2 ^ 16) × (place.pc < 2 ^ 32)
 
 abbrev pub IsCommand : Command → Type 0
 IsCommand (Define loader file) = (loader < 2 ^ 32) × IsBytes file

@@ -69,7 +69,7 @@ abbrev pub request_of : Data → Option Command
 request_of d = do
   class ← number_at (2 ^ 32) (codes "class") d
   method ← number_at (2 ^ 16) (codes "method") d
-  pc ← number_at (2 ^ 16) (codes "pc") d
+  pc ← number_at (2 ^ 32) (codes "pc") d
   Some (Request (record { class = class; method = method; pc = pc }))
 
 abbrev pub prepare_of : Data → Option Command

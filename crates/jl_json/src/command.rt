@@ -135,7 +135,7 @@ fn request(value: &Value) -> Option<Command>
 {
     let class = number_at(value, "class")?;
     let method = index_at(value, "method")?;
-    let pc = index_at(value, "pc")?;
+    let pc = number_at(value, "pc")?;
     let class = ClassId::new(class);
     Some(Command::Request(Place { class, method, pc }))
 }

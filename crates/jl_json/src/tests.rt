@@ -241,8 +241,8 @@ const COMMANDS: [(&str, &str); 8] = [
         "Define { loader: LoaderId(0), file: Seq { items: [202, 254] } }",
     ),
     (
-        "{\"do\":\"request\",\"class\":65536,\"method\":65535,\"pc\":4}",
-        "Request(Place { class: ClassId(65536), method: 65535, pc: 4 })",
+        "{\"do\":\"request\",\"class\":65536,\"method\":65535,\"pc\":65536}",
+        "Request(Place { class: ClassId(65536), method: 65535, pc: 65536 })",
     ),
     (
         "{\"do\":\"prepare\",\"sites\":[3,0]}",

@@ -44,7 +44,7 @@ fn define(alloc: Global, core: &mut Core, file: ClassFile) -> Result<Reply, Refu
 }
 
 /// Requests the invocation in the class's first method.
-fn request(alloc: Global, core: &mut Core, class: u32, pc: u16) -> Result<Reply, Refusal> {
+fn request(alloc: Global, core: &mut Core, class: u32, pc: u32) -> Result<Reply, Refusal> {
     let class = ClassId::new(class);
     core.apply(
         alloc,
@@ -105,7 +105,7 @@ fn are_read(alloc: Global, core: &mut Core, texts: &[&str]) -> bool {
 }
 
 /// Whether the invocation is requested under this number.
-fn is_requested(alloc: Global, core: &mut Core, class: u32, pc: u16, site: u32) -> bool {
+fn is_requested(alloc: Global, core: &mut Core, class: u32, pc: u32, site: u32) -> bool {
     let reply = request(alloc, core, class, pc);
     is_made(&reply, Made::Site(SiteNo::new(site)), [].as_slice())
 }

@@ -110,6 +110,11 @@ fn waits_for_the_named_class(rt: HostRuntime) -> Result<(), Fail> {
                 r#"{"do":"request","class":1,"method":0,"pc":1}"#,
                 r#"{"refused":"NoSuchPlace"}"#,
             ),
+            // No code is so long.
+            (
+                r#"{"do":"request","class":1,"method":0,"pc":65536}"#,
+                r#"{"refused":"NoSuchPlace"}"#,
+            ),
             (
                 r#"{"do":"request","class":9,"method":0,"pc":0}"#,
                 r#"{"refused":"UnknownClass"}"#,
@@ -173,6 +178,7 @@ fn takes_commands_alone(rt: HostRuntime) -> Result<(), Fail> {
         r#"{"do":"define","hex":"0","loader":0}"#,
         r#"{"do":"request","class":4294967296,"method":0,"pc":0}"#,
         r#"{"do":"request","class":0,"method":65536,"pc":0}"#,
+        r#"{"do":"request","class":0,"method":0,"pc":4294967296}"#,
         r#"{"do":"request","class":-1,"method":0,"pc":0}"#,
         r#"{"do":"request","class":1.0,"method":0,"pc":0}"#,
         r#"{"do":"request","class":1e0,"method":0,"pc":0}"#,

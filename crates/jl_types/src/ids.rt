@@ -9,10 +9,11 @@ pub struct MethodId {
     pub index: u16,
 }
 
-/// An invocation in a class: the method's place among those that the class declares, and the pc in its code.
+/// An invocation in a class: the method's place among those that the class declares, and the pc in its code. No code has a
+/// pc of 2^16 or more.
 #[derive(Clone, Copy, Debug, PartialEq, Eq, Hash)]
 pub struct Place {
     pub class: ClassId,
     pub method: u16,
-    pub pc: u16,
+    pub pc: u32,
 }
