@@ -30,9 +30,6 @@ pub found_put : (s : ℕ) (l : Link) (rows : List (ℕ × Link)) (t : ℕ) → l
 found_put s l [] t = found_first s t l []
 found_put s l (row ∷ rows) t = by_order (nat_lt s row.0) (s == row.0) refl (found_put s l rows t)
   where
-    by_last : (b d : Bool) → (s == t) ≡ b → (row.0 == t) ≡ d → (s == row.0) ≡ false → option_map (λ r. r.1) (cond d (Some row) (find (λ r. r.0 == t) (put s l rows))) ≡ option_map (λ r. r.1) (cond d (Some row) (find (λ r. r.0 == t) (put s l rows)))
-    by_last b d e f g = refl
-
     by_key : (b d : Bool) → (s == t) ≡ b → (row.0 == t) ≡ d → (s == row.0) ≡ true → (if b then Some l else link_at rows t) ≡ (if b then Some l else option_map (λ r. r.1) (cond d (Some row) (find (λ r. r.0 == t) rows)))
     by_key true d e f g = refl
     by_key false true e f g = absurd (clash (s == t) ((Decides-eqb s t).1 ((Decides-eqb s row.0).0 g ∙ (Decides-eqb row.0 t).0 f)) e)
