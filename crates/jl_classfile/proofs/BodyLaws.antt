@@ -5,11 +5,11 @@ use Rattle.std.specs.List.{flat_map, AllByRecursion}
 use Rattle.jl_classfile.specs.declared.body.Attribute.{Attribute}
 use Rattle.jl_classfile.specs.declared.body.Member.{Member}
 use Rattle.jl_classfile.specs.declared.body.Body.{Body}
-use Rattle.jl_classfile.specs.Numbers.{u2, u4, counted}
+use Rattle.jl_pool.specs.Numbers.{u2, u4, counted}
 use Rattle.jl_classfile.specs.Layouts.{attribute_text, member_text, body_text, AttributeSized, Countable, MemberSized, BodySized}
-use Rattle.jl_classfile.specs.Reading.Fields.{◌>>=◌, number_at, bytes_at}
+use Rattle.jl_pool.specs.Reading.Fields.{◌>>=◌, number_at, bytes_at}
 use Rattle.jl_classfile.specs.Reading.Bodies.{Reader, with_front, items_at, counted_at, attribute_at, member_at, pair_of, numbers_at, lists_at, body_of, body_at}
-use Rattle.jl_classfile.proofs.Fields.{IsBytes, Takes, takes, bind_some, some_is, u2_takes, u2_again, u4_takes, u4_again, bytes_takes, bytes_again}
+use Rattle.jl_pool.proofs.Fields.{IsBytes, Takes, takes, bind_some, some_is, u2_takes, u2_again, u4_takes, u4_again, bytes_takes, bytes_again}
 
 -- ---- what a reader of one item has to do
 

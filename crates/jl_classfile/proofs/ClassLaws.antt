@@ -3,21 +3,22 @@ use Rattle.std.proofs.Common.{◌≡◌, ℕ, ◌<◌, ◌^◌, List, [], ◌∷
 use Rattle.std.specs.List.{AllByRecursion}
 use Rattle.jl_classfile.specs.declared.body.Attribute.{Attribute}
 use Rattle.jl_classfile.specs.declared.body.Member.{Member}
-use Rattle.jl_classfile.specs.declared.instruction.Instruction.{Instruction}
-use Rattle.jl_classfile.specs.Numbers.{u2, counted}
-use Rattle.jl_classfile.specs.Pools.{Pool}
-use Rattle.jl_classfile.specs.Codes.{code_bytes}
+use Rattle.jl_code.specs.declared.instruction.Instruction.{Instruction}
+use Rattle.jl_pool.specs.Numbers.{u2, counted}
+use Rattle.jl_pool.specs.Pools.{Pool}
+use Rattle.jl_code.specs.Codes.{code_bytes, IsCode}
 use Rattle.jl_classfile.specs.Layouts.{Layout}
 use Rattle.jl_classfile.specs.Parts.{Parts}
 use Rattle.jl_classfile.specs.Conditions.{codes_of, IsClassNumber, HoldsHost, HoldsMembers, Nest, HasCode, HaveCodes}
 use Rattle.jl_classfile.specs.ClassFiles.{IsClass, pool_of}
-use Rattle.jl_classfile.specs.Reading.Fields.{number_at}
+use Rattle.jl_pool.specs.Reading.Fields.{number_at}
 use Rattle.jl_classfile.specs.Reading.Bodies.{counted_at}
-use Rattle.jl_classfile.proofs.Fields.{some_is, u2_again}
-use Rattle.jl_classfile.proofs.PoolLaws.{u2_one}
+use Rattle.jl_pool.proofs.Fields.{some_is, u2_again}
+use Rattle.jl_pool.proofs.PoolLaws.{u2_one}
 use Rattle.jl_classfile.proofs.BodyLaws.{counted-again}
 use Rattle.jl_classfile.proofs.LayoutLaws.{one_layout}
-use Rattle.jl_classfile.proofs.CodeAttributeLaws.{one_code, one_held}
+use Rattle.jl_code.proofs.CodeFaultLaws.{one_code}
+use Rattle.jl_classfile.proofs.CodeAttributeLaws.{one_held}
 
 -- ---- what the attributes hold
 
@@ -28,7 +29,7 @@ one_has pool [] (Some a) b ha hb = absurd ha
 one_has pool (x ∷ []) None b ha hb = absurd ha
 one_has pool (x ∷ []) (Some a) None ha hb = absurd hb
 one_has pool (x ∷ []) (Some a) (Some b) ha hb =
-    ap (λ (i : List Instruction). Some i) (one_code 0 a b ha.code.places hb.code.places (one_held x.info (code_bytes a) (code_bytes b) ha.holds hb.holds))
+    ap (λ (i : List Instruction). Some i) (one_code pool (code_bytes a) a b ha.code (subst (λ (c : List ℕ). IsCode pool c b) (sym (one_held x.info (code_bytes a) (code_bytes b) ha.holds hb.holds)) hb.code))
 one_has pool (x ∷ y ∷ more) None b ha hb = absurd ha
 one_has pool (x ∷ y ∷ more) (Some a) b ha hb = absurd ha
 

@@ -1,41 +1,17 @@
--- A Code attribute holds one code at most, of one list of instructions.
-use Rattle.std.proofs.Common.{◌≡◌, ℕ, ◌+◌, ◌*◌, ◌<◌, ◌≤◌, ◌^◌, Bool, true, false, eqb, ◌||◌, List, [], ◌∷◌, ◌++◌, length, Option, Some, None, Result, Ok, refl, sym, ap, subst, ◌∙◌, length-append, arith}
+-- A Code attribute holds one code at most.
+use Rattle.std.proofs.Common.{◌≡◌, ℕ, ◌*◌, ◌<◌, ◌≤◌, ◌^◌, Bool, true, false, eqb, ◌||◌, List, [], ◌++◌, length, Option, Some, None, refl, sym, ap, subst, ◌∙◌, arith}
 use Rattle.std.specs.Prelude.{MatchOption, nat_lt, if◌then◌else◌}
 use Rattle.std.proofs.lemmas.Bool.{eqb-true}
 use Rattle.std.proofs.lemmas.Bool.Decides.{nat_tests}
 use Rattle.std.proofs.lemmas.List.{append-nil, nil_from_length}
 use Rattle.jl_classfile.specs.declared.body.Attribute.{Attribute}
-use Rattle.jl_classfile.specs.declared.instruction.Instruction.{Instruction}
-use Rattle.jl_classfile.specs.declared.instruction.Stop.{Stop}
-use Rattle.jl_classfile.specs.Numbers.{u2, u4, counted}
-use Rattle.jl_classfile.specs.Instructions.{instruction_text}
-use Rattle.jl_classfile.specs.Codes.{code_bytes, MayStandFrom}
+use Rattle.jl_pool.specs.Numbers.{u2, u4, counted}
 use Rattle.jl_classfile.specs.Layouts.{attribute_text, AttributeSized, Countable}
 use Rattle.jl_classfile.specs.CodeAttributes.{HoldsCode}
-use Rattle.jl_classfile.specs.Reading.Fields.{◌>>=◌, number_at, bytes_at}
-use Rattle.jl_classfile.specs.Reading.Instructions.{instruction_at}
+use Rattle.jl_pool.specs.Reading.Fields.{◌>>=◌, number_at, bytes_at}
 use Rattle.jl_classfile.specs.Reading.Bodies.{counted_at, attribute_at, if_filled, behind_code, code_in}
-use Rattle.jl_classfile.proofs.Fields.{IsBytes, bind_some, some_is, u2_takes, u2_again, u4_takes, u4_again, bytes_takes, bytes_again}
+use Rattle.jl_pool.proofs.Fields.{IsBytes, bind_some, some_is, u2_takes, u2_again, u4_takes, u4_again, bytes_takes, bytes_again}
 use Rattle.jl_classfile.proofs.BodyLaws.{attribute-takes, attribute-again, counted-takes, counted-again}
-use Rattle.jl_names.proofs.Bytes.{ok_is}
-use Rattle.jl_classfile.proofs.InstructionLaws.{instruction_again}
-use Rattle.jl_classfile.proofs.CodeLaws.{text-some}
-
--- ---- instructions
-
-abbrev found : Instruction × List ℕ → Result (Instruction × List ℕ) Stop
-found x = Ok x
-
-pub one_code : (pc : ℕ) (is js : List Instruction) → MayStandFrom pc is → MayStandFrom pc js → code_bytes is ≡ code_bytes js → is ≡ js
-one_code pc [] [] hi hj e = refl
-one_code pc [] (j ∷ js) hi hj e = absurd (omega (arith, ap length e, length-append (instruction_text j) (code_bytes js), text-some j))
-one_code pc (i ∷ is) [] hi hj e = absurd (omega (arith, ap length e, length-append (instruction_text i) (code_bytes is), text-some i))
-one_code pc (i ∷ is) (j ∷ js) hi hj e =
-    let both : found (i, code_bytes is) ≡ found (j, code_bytes js) = sym (instruction_again pc i (code_bytes is) hi.0) ∙ ap instruction_at e ∙ instruction_again pc j (code_bytes js) hj.0 in
-    let pairs = ok_is {E = Stop} (i, code_bytes is) (j, code_bytes js) both in
-    let first : i ≡ j = ap (λ (p : Instruction × List ℕ). p.0) pairs in
-    let more = one_code (pc + length (instruction_text i)) is js hi.1 (subst (λ (k : Instruction). MayStandFrom (pc + length (instruction_text k)) js) (sym first) hj.1) (ap (λ (p : Instruction × List ℕ). p.1) pairs) in
-    cc (first, more)
 
 -- ---- what an attribute holds is read
 

@@ -1,42 +1,30 @@
 -- No class file has a fault: what each pass finds out is that none of its faults holds.
-use Rattle.std.proofs.Common.{◌≡◌, ◌≢◌, ℕ, zero, suc, ◌+◌, ◌-◌, ◌<◌, ◌≤◌, ◌^◌, Bool, true, false, not, ◌&&◌, ◌||◌, List, [], ◌∷◌, ◌++◌, length, take, drop, Option, Some, None, Result, Ok, refl, sym, ap, subst, ◌∙◌, append_assoc, length-append, arith, inl, inr}
-use Rattle.std.specs.Prelude.{slice_get, is_some, ◌⊎◌, IsTrue, IsFalse, if◌then◌else◌, map}
-use Rattle.std.specs.List.{AllByRecursion, flat_map, list_any}
+use Rattle.std.proofs.Common.{◌≡◌, ◌≢◌, ℕ, zero, suc, ◌<◌, ◌≤◌, ◌^◌, Bool, true, false, not, ◌&&◌, ◌||◌, List, [], ◌∷◌, ◌++◌, length, take, drop, Option, Some, None, refl, sym, ap, subst, ◌∙◌, arith, inl, inr}
+use Rattle.std.specs.Prelude.{slice_get, IsTrue, IsFalse, map}
+use Rattle.std.specs.List.{AllByRecursion, list_any}
 use Rattle.std.proofs.lemmas.List.{append-nil}
-use Rattle.jl_names.proofs.Bytes.{ok_is}
-use Rattle.jl_classfile.specs.declared.constant.Constant.{Constant}
+use Rattle.jl_pool.specs.declared.constant.Constant.{Constant}
 use Rattle.jl_classfile.specs.declared.body.Attribute.{Attribute}
 use Rattle.jl_classfile.specs.declared.body.Member.{Member}
 use Rattle.jl_classfile.specs.declared.body.Body.{Body}
-use Rattle.jl_classfile.specs.declared.instruction.Instruction.{Instruction}
-use Rattle.jl_classfile.specs.declared.instruction.Instruction.TheVariants.{Plain, Wide, Invoke, TableSwitch, LookupSwitch}
-use Rattle.jl_classfile.specs.declared.instruction.Stop.{Stop}
-use Rattle.jl_classfile.specs.declared.pool_fault.PoolFault.{PoolFault}
-use Rattle.jl_classfile.specs.declared.pool_fault.PoolFault.TheVariants as pool
-use Rattle.jl_classfile.specs.declared.code_fault.CodeFault.{CodeFault}
-use Rattle.jl_classfile.specs.declared.code_fault.CodeFault.TheVariants as code
+use Rattle.jl_code.specs.declared.instruction.Instruction.{Instruction}
+use Rattle.jl_code.specs.declared.code_fault.CodeFault.{CodeFault}
+use Rattle.jl_code.specs.declared.code_fault.CodeFault.TheVariants as code
 use Rattle.jl_classfile.specs.declared.fault.ClassFault.{ClassFault}
 use Rattle.jl_classfile.specs.declared.fault.ClassFault.TheVariants.{TooLarge, BadMagic, BadVersion, Truncated, Pool as InPool, ModuleFile, BadSuper, DuplicateMethod, TwoCodes, Code, TrailingBytes, BadMember, BadLink, BadNest}
-use Rattle.jl_classfile.specs.Numbers.{u2}
-use Rattle.jl_classfile.specs.Constants.{constant_text, is_double}
-use Rattle.jl_classfile.specs.Pools.{Pool, places, places_of, pool_text, constant_at, IsWritten, IsSoundPool}
-use Rattle.jl_classfile.specs.Known.{plain_opcodes}
-use Rattle.jl_classfile.specs.Instructions.{instruction_text, MayStand, operands_in}
-use Rattle.jl_classfile.specs.Codes.{code_bytes, MayStandFrom, OperandFits, IsCode}
+use Rattle.jl_pool.specs.Pools.{Pool, pool_text, IsSoundPool}
+use Rattle.jl_code.specs.Codes.{code_bytes, IsCode}
 use Rattle.jl_classfile.specs.Layouts.{Layout, body_text, head_text, file_text, IsLayout}
 use Rattle.jl_classfile.specs.CodeAttributes.{IsCodeOf}
 use Rattle.jl_classfile.specs.Parts.{Parts}
 use Rattle.jl_classfile.specs.Conditions.{IsVersion, Links, Members, ClassAttributeLinks, Nest, HasCode, HaveCodes, class_numbers, IsClassNumber, super_fits, is_module, IsTextNumber, member_numbers, MemberLinks, FieldFits, MethodFits, is_interface, same_method, no_twins, codes_of}
 use Rattle.jl_classfile.specs.ClassFiles.{most_bytes, pool_of, IsClass}
-use Rattle.jl_classfile.specs.Faults.{SizeFault, HeadFault, TagFault, PoolStands, IsFirstNot, IsPoolFault, PoolPass, LayoutFault, LinksFault, MembersFault, AttributesFault, Runs, IsBadTag, is_opcode, begins_opcode, IsBadSwitch, IsScanFault, IsCodeFault, CodesFault, Pass, LaidFault, FailsWith, IsFault}
+use Rattle.jl_pool.specs.Faults.{PoolStands, IsPoolFault}
+use Rattle.jl_classfile.specs.Faults.{SizeFault, HeadFault, PoolPass, LayoutFault, LinksFault, MembersFault, AttributesFault, IsCodeFault, CodesFault, Pass, LaidFault, FailsWith, IsFault}
 use Rattle.jl_classfile.specs.Faults.{Sizing, Heading, Pooling, Laying, Linking, Membership, Attribution, Coding}
-use Rattle.jl_classfile.specs.Reading.Constants.{constant_at as read_constant}
-use Rattle.jl_classfile.specs.Reading.Instructions.{instruction_at}
 use Rattle.jl_classfile.proofs.AllLaws.{All-place, All-among}
-use Rattle.jl_classfile.proofs.ConstantLaws.{constant_again}
-use Rattle.jl_classfile.proofs.PoolLaws.{u2_one, either, places-append, bad_tag, one_pool}
-use Rattle.jl_classfile.proofs.InstructionLaws.{instruction_again, known_row}
-use Rattle.jl_classfile.proofs.CodeLaws.{text-some}
+use Rattle.jl_pool.proofs.PoolFaultLaws.{no_pool_fault}
+use Rattle.jl_code.proofs.CodeFaultLaws.{no_scan}
 use Rattle.jl_classfile.proofs.LayoutLaws.{head_one, layout_one}
 use Rattle.jl_classfile.proofs.CodeAttributeLaws.{one_held}
 
@@ -56,73 +44,10 @@ no_head bytes rest minor major _ e a b v = λ x. x
 
 -- ---- the pool
 
-at-front : (front back : Pool) (n : ℕ) (c : Constant) → constant_at (front ++ back) n ≡ Some c → (constant_at front n ≡ Some c) ⊎ (constant_at back (n - length front) ≡ Some c)
-at-front [] back n c e = inr (subst (λ (k : ℕ). constant_at back k ≡ Some c) (let same : n ≡ n - 0 = omega arith in same) e)
-at-front (p ∷ front) back zero c e = inl e
-at-front (p ∷ front) back (suc n) c e = elim (at-front front back n c e) [
-  | inl h ↦ inl h
-  | inr h ↦ inr (subst (λ (k : ℕ). constant_at back k ≡ Some c) (let same : n - length front ≡ suc n - suc (length front) = omega arith in same) h)
-]
-
-at-own : (b : Bool) (c d : Constant) (n : ℕ) → constant_at (Some c ∷ (if b then None ∷ [] else [])) n ≡ Some d → c ≡ d
-at-own b c d zero e = cc
-at-own true c d (suc zero) e = absurd cc
-at-own true c d (suc (suc n)) e = absurd cc
-at-own false c d (suc n) e = absurd cc
-
-All-flat : (P : Constant → Type 0) (cs : List Constant) (n : ℕ) (d : Constant) → AllByRecursion P cs → constant_at (flat_map places_of cs) n ≡ Some d → P d
-All-flat P [] n d h e = absurd cc
-All-flat P (c ∷ cs) n d h e = elim (at-front (places_of c) (flat_map places_of cs) n d e) [
-  | inl own ↦ subst P (at-own (is_double c) c d n own) h.0
-  | inr more ↦ All-flat P cs (n - length (places_of c)) d h.1 more
-]
-
-pub All-numbers : (P : Constant → Type 0) (cs : List Constant) (n : ℕ) (d : Constant) → AllByRecursion P cs → constant_at (places cs) n ≡ Some d → P d
-All-numbers P cs zero d h e = absurd cc
-All-numbers P cs (suc n) d h e = All-flat P cs n d h e
-
-no_first : (P : Constant → Type 0) (cs : List Constant) (n : ℕ) → AllByRecursion P cs → ¬ IsFirstNot P (places cs) n
-no_first P cs n h = λ f. f.isn't (All-numbers P cs n f.constant h f.there)
-
--- a bad tag isn't that of a constant that stands there
-met : (count i t : ℕ) (after : List ℕ) (more : List Constant) (left : List ℕ) → IsBadTag count i t → AllByRecursion IsWritten more → t ∷ after ≡ flat_map constant_text more ++ left
-    → (n b : ℕ) → n ≡ count → b < count → n ≡ b + length (flat_map places_of more) → ⊥
-met count i t after [] left bad written text n b e less all = absurd (omega (arith, e, less, all))
-met count i t after (c ∷ more) left bad written text n b e less all =
-    let read = ap read_constant (text ∙ append_assoc (constant_text c) (flat_map constant_text more) left) ∙ constant_again c (flat_map constant_text more ++ left) written.0 in
-    let unknown = bad_tag count i t after bad in
-    absurd cc
-
--- a whole pool begins with no bad tag
-no_bad_tag : (text : List ℕ) (cs : List Constant) (left : List ℕ) (i : ℕ) → PoolStands text cs left → ¬ TagFault text i
-no_bad_tag text cs left i h = λ fault.
-    let whole : text ≡ u2 (length (places cs)) ++ (flat_map constant_text cs ++ left) = h.bytes ∙ append_assoc (u2 (length (places cs))) (flat_map constant_text cs) left in
-    elim fault [
-      | inr none ↦
-          let counts = u2_one (length (places cs)) 0 (flat_map constant_text cs ++ left) none.1.0 h.written.count (omega arith) (sym whole ∙ none.1.1) in
-          absurd (omega (arith, counts.0))
-      | inl b ↦
-          let counts = u2_one (length (places cs)) b.count (flat_map constant_text cs ++ left) (flat_map constant_text b.before ++ b.tag ∷ b.left) h.written.count b.begins.count_size (sym whole ∙ b.begins.bytes) in
-          elim (either cs b.before left (b.tag ∷ b.left) h.written.each b.begins.each counts.1) [
-            | inl g ↦ absurd (omega (arith, counts.0, b.begins.more, ap (λ (m : List Constant). length (places m)) g.all, places-append cs g.more))
-            | inr g ↦ met b.count i b.tag b.left g.more left b.bad g.written g.text (length (places cs)) (length (places b.before)) counts.0 b.begins.more (ap (λ (m : List Constant). length (places m)) g.all ∙ places-append b.before g.more)
-          ]
-    ]
-
 pub no_pool : (bytes text : List ℕ) (minor major : ℕ) (cs : List Constant) (left : List ℕ) (f : ClassFault) → bytes ≡ head_text minor major ++ text → PoolStands text cs left → IsSoundPool cs → ¬ PoolPass bytes f
 no_pool bytes text minor major cs left (InPool f) e h sound = λ fault.
     let same : fault.2 ≡ text = ap (λ (t : List ℕ). drop 8 t) (sym fault.3 ∙ e) in
-    none f fault.4 (subst (λ (t : List ℕ). IsPoolFault t f) same fault.5)
-  where
-    none : (g : PoolFault) → g ≢ pool.Memory → IsPoolFault text g → ⊥
-    none pool.Truncated m p = p.0 cs left h
-    none (pool.BadTag i) m p = no_bad_tag text cs left i h p
-    none (pool.BadUtf8 i) m p = let same = one_pool text p.0 cs p.1 left p.2 h in no_first _ p.0 i (subst (λ (c : List Constant). AllByRecursion Rattle.jl_classfile.specs.Pools.HasText c) (sym same.0) sound.texts) p.3
-    none (pool.BadIndex i) m p =
-        let same = one_pool text p.0 cs p.1 left p.2 h in
-        no_first _ p.0 i (subst (λ (c : List Constant). AllByRecursion (λ d. IsTrue (Rattle.jl_classfile.specs.Pools.is_linked (places c) d)) c) (sym same.0) sound.links) p.3
-    none (pool.BadDescriptor i) m p = let same = one_pool text p.0 cs p.1 left p.2 h in no_first _ p.0 i (subst (λ (c : List Constant). AllByRecursion (Rattle.jl_classfile.specs.Pools.IsTyped (places c)) c) (sym same.0) sound.types) p.3
-    none pool.Memory m p = m refl
+    no_pool_fault text cs left f h sound fault.4 (subst (λ (t : List ℕ). IsPoolFault t f) same fault.5)
 no_pool bytes text minor major cs left _ e h sound = λ x. x
 
 -- ---- the layout
@@ -201,95 +126,6 @@ no_attributes major p b host members BadNest h nest = λ fault. fault host membe
 no_attributes major p b host members _ h nest = λ x. x
 
 -- ---- codes
-
-any_true : (b : Bool) → (b || true) ≡ true
-any_true true = refl
-any_true false = refl
-
-begins : (pc : ℕ) (i : Instruction) (rest : List ℕ) → MayStand pc i → begins_opcode (instruction_text i ++ rest) ≡ true
-begins pc (Plain opcode operands) rest m = known_row opcode (rw m refl) (operands ++ rest)
-begins pc (Invoke opcode number tail) rest m = known_row opcode (rw m.0 (any_true (is_some (operands_in plain_opcodes opcode)))) ((u2 number ++ tail) ++ rest)
-begins pc (Wide opcode operands) rest m = absurd cc
-begins pc (TableSwitch padding default low high offsets) rest m = let known = m.known in absurd cc
-begins pc (LookupSwitch padding default count pairs) rest m = let known = m.known in absurd cc
-
-pub record Front (pc : ℕ) (is js : List Instruction) (left : List ℕ) : Type 0 where
-  pub more : List Instruction
-  pub all : is ≡ js ++ more
-  pub text : left ≡ code_bytes more
-  pub stand : MayStandFrom (pc + length (code_bytes js)) more
-
-abbrev found : Instruction × List ℕ → Result (Instruction × List ℕ) Stop
-found x = Ok x
-
--- instructions at the front of a code are its own
-front : (pc : ℕ) (is js : List Instruction) (left : List ℕ) → MayStandFrom pc is → MayStandFrom pc js → code_bytes is ≡ code_bytes js ++ left → Front pc is js left
-front pc is [] left hi hj e = record { more = is; all = refl; text = sym e; stand = subst (λ (n : ℕ). MayStandFrom n is) (let same : pc ≡ pc + 0 = omega arith in same) hi }
-front pc [] (j ∷ js) left hi hj e = absurd (omega (arith, ap length e, length-append (instruction_text j ++ code_bytes js) left, length-append (instruction_text j) (code_bytes js), text-some j))
-front pc (i ∷ is) (j ∷ js) left hi hj e =
-    let both : found (i, code_bytes is) ≡ found (j, code_bytes js ++ left) =
-    sym (instruction_again pc i (code_bytes is) hi.0) ∙ ap instruction_at (e ∙ append_assoc (instruction_text j) (code_bytes js) left) ∙ instruction_again pc j (code_bytes js ++ left) hj.0 in
-    let pairs = ok_is {E = Stop} (i, code_bytes is) (j, code_bytes js ++ left) both in
-    let first : i ≡ j = ap (λ (x : Instruction × List ℕ). x.0) pairs in
-    let rest = front (pc + length (instruction_text j)) is js left (subst (λ (k : Instruction). MayStandFrom (pc + length (instruction_text k)) is) first hi.1) hj.1 (ap (λ (x : Instruction × List ℕ). x.1) pairs) in
-    record {
-      more = rest.more;
-      all = cc (first, rest.all);
-      text = rest.text;
-      stand = subst (λ (n : ℕ). MayStandFrom n rest.more) (let same : pc + length (instruction_text j) + length (code_bytes js) ≡ pc + length (code_bytes (j ∷ js)) = omega (arith, length-append (instruction_text j) (code_bytes js)) in same) rest.stand;
-    }
-
-All-back : {X : Type 0} (P : X → Type 0) (xs ys : List X) → AllByRecursion P (xs ++ ys) → AllByRecursion P ys
-All-back P [] ys h = h
-All-back P (x ∷ xs) ys h = All-back P xs ys h.1
-
-runs_front : (p : Pool) (bytes : List ℕ) (is js : List Instruction) (pc : ℕ) (left : List ℕ) → IsCode p bytes is → Runs bytes js pc left → Front 0 is js left
-runs_front p bytes is js pc left h r = front 0 is js left h.places r.places (sym h.bytes_are ∙ r.bytes_are)
-
-front_begins : (left : List ℕ) (more : List Instruction) (n : ℕ) → left ≡ code_bytes more → MayStandFrom n more → begins_opcode left ≡ true
-front_begins left [] n e stand = ap begins_opcode e
-front_begins left (i ∷ more) n e stand = ap begins_opcode e ∙ begins n i (code_bytes more) stand.0
-
-dead_front : (opcode : ℕ) (more : List ℕ) → is_opcode opcode ≡ false → begins_opcode (opcode ∷ more) ≡ false
-dead_front opcode [] e = e
-dead_front opcode (c ∷ more) e = rw e refl
-
--- no switch is known yet
-no_bad_switch : (pc : ℕ) (left : List ℕ) → begins_opcode left ≡ true → ¬ IsBadSwitch pc left
-no_bad_switch pc left e = λ s. elim s.4 [
-  | inl table ↦ let dead = ap begins_opcode table.2 ∙ dead_front 170 _ refl in absurd cc
-  | inr look ↦ let dead = ap begins_opcode look.1 ∙ dead_front 171 _ refl in absurd cc
-]
-
-no_cut : (pc : ℕ) (left : List ℕ) (more : List Instruction) → left ≡ code_bytes more → MayStandFrom pc more → left ≢ [] → ((i : Instruction) (rest : List ℕ) → MayStand pc i → left ≢ instruction_text i ++ rest) → ⊥
-no_cut pc left [] e stand some none = some e
-no_cut pc left (i ∷ more) e stand some none = none i (code_bytes more) stand.0 e
-
-no_operand : (p : Pool) (pc n : ℕ) (i : Instruction) (rest : List ℕ) (more : List Instruction) → instruction_text i ++ rest ≡ code_bytes more → MayStandFrom n more → MayStand pc i → AllByRecursion (OperandFits p) more → ¬ OperandFits p i → ⊥
-no_operand p pc n i rest [] e stand m fits not_so = absurd (omega (arith, ap length e, length-append (instruction_text i) rest, text-some i))
-no_operand p pc n i rest (k ∷ more) e stand m fits not_so =
-    let both : found (i, rest) ≡ found (k, code_bytes more) = sym (instruction_again pc i rest m) ∙ ap instruction_at e ∙ instruction_again n k (code_bytes more) stand.0 in
-    let pairs = ok_is {E = Stop} (i, rest) (k, code_bytes more) both in
-    not_so (subst (λ (x : Instruction). OperandFits p x) (sym (ap (λ (x : Instruction × List ℕ). x.0) pairs)) fits.0)
-
-clash_false : (b : Bool) → b ≡ true → ¬ IsFalse b
-clash_false true e = λ f. absurd cc
-clash_false false e = absurd cc
-
-pub no_scan : (p : Pool) (bytes : List ℕ) (is : List Instruction) (f : CodeFault) → IsCode p bytes is → f ≢ code.Memory → ¬ IsScanFault p bytes f
-no_scan p bytes is (code.BadOpcode pc) h m = λ x.
-    let r = runs_front p bytes is x.0 pc x.1 h x.2 in
-    clash_false (begins_opcode x.1) (front_begins x.1 r.more (0 + length (code_bytes x.0)) r.text r.stand) x.3
-no_scan p bytes is (code.BadSwitch pc) h m = λ x. no_bad_switch pc x.1 x.3 x.4
-no_scan p bytes is (code.CutShort pc) h m = λ x.
-    let r = runs_front p bytes is x.0 pc x.1 h x.2 in
-    let here : 0 + length (code_bytes x.0) ≡ pc = omega (arith, x.2.place) in
-    no_cut pc x.1 r.more r.text (subst (λ (n : ℕ). MayStandFrom n r.more) here r.stand) x.3 x.6
-no_scan p bytes is (code.BadOperand pc) h m = λ x.
-    let r = runs_front p bytes is x.0 pc (instruction_text x.1 ++ x.2) h x.3 in
-    no_operand p pc (0 + length (code_bytes x.0)) x.1 x.2 r.more r.text r.stand x.4 (All-back (OperandFits p) x.0 r.more (subst (λ (y : List Instruction). AllByRecursion (OperandFits p) y) r.all h.operands)) x.5
-no_scan p bytes is code.BadLayout h m = λ x. x
-no_scan p bytes is code.Memory h m = λ x. m refl
 
 -- a method's code, at its place
 code_at : (p : Pool) (ms : List Member) (codes : List (Option (List Instruction))) (i : ℕ) (m : Member) → HaveCodes p ms codes → slice_get ms i ≡ Some m → (c : Option (List Instruction)) × HasCode p (codes_of p m) c

@@ -2,7 +2,7 @@
 use Rattle.std.proofs.Common.{◌≡◌, ℕ, suc, ◌+◌, ◌-◌, ◌<◌, ◌≤◌, List, [], ◌∷◌, ◌++◌, Option, Some, None, refl, sym, ap, ◌∙◌, append_assoc, arith}
 use Rattle.std.proofs.lemmas.List.{append-nil}
 use Rattle.std.specs.Prelude.{option_map}
-use Rattle.jl_classfile.specs.Reading.Fields.{◌>>=◌}
+use Rattle.jl_pool.specs.Reading.Fields.{◌>>=◌}
 use Rattle.jl_classfile.specs.declared.body.Broken.{Broken}
 use Rattle.jl_classfile.specs.declared.body.Broken.TheVariants.{Cut, Memory}
 use Rattle.jl_classfile.specs.Reading.Bodies.{Reader, Stops, with_front, items_at}

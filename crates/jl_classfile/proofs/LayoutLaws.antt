@@ -1,15 +1,15 @@
 -- Bytes lie in one way at most.
 use Rattle.std.proofs.Common.{◌≡◌, ℕ, ◌<◌, ◌^◌, List, [], ◌++◌, refl, sym, ap, ◌∙◌, append_assoc, arith}
 use Rattle.std.proofs.lemmas.List.{append-nil}
-use Rattle.jl_classfile.specs.declared.constant.Constant.{Constant}
+use Rattle.jl_pool.specs.declared.constant.Constant.{Constant}
 use Rattle.jl_classfile.specs.declared.body.Body.{Body}
-use Rattle.jl_classfile.specs.Numbers.{u2, u4}
-use Rattle.jl_classfile.specs.Pools.{pool_text}
+use Rattle.jl_pool.specs.Numbers.{u2, u4}
+use Rattle.jl_pool.specs.Pools.{pool_text}
 use Rattle.jl_classfile.specs.Layouts.{Layout, body_text, head_text, file_text, IsLayout, BodySized}
-use Rattle.jl_classfile.specs.Reading.Fields.{number_at}
+use Rattle.jl_pool.specs.Reading.Fields.{number_at}
 use Rattle.jl_classfile.specs.Reading.Bodies.{body_at}
-use Rattle.jl_classfile.proofs.Fields.{some_is, u4_again}
-use Rattle.jl_classfile.proofs.PoolLaws.{u2_one, one_pool}
+use Rattle.jl_pool.proofs.Fields.{some_is, u4_again}
+use Rattle.jl_pool.proofs.PoolLaws.{u2_one, one_pool}
 use Rattle.jl_classfile.proofs.BodyLaws.{body-again}
 
 u4_one : (m n : ℕ) (x y : List ℕ) → m < 2 ^ 32 → n < 2 ^ 32 → u4 m ++ x ≡ u4 n ++ y → (m ≡ n) × (x ≡ y)

@@ -1,12 +1,5 @@
-pub mod Fields
-pub mod ConstantLaws
-pub mod FormLaws
 pub mod ItemLaws
 pub mod BodyLaws
-pub mod LookUpLaws
-pub mod SiteLaws
-pub mod InstructionLaws
-pub mod CodeLaws
 pub mod LayoutLaws
 pub mod LinkLaws
 pub mod MemberLaws
@@ -15,9 +8,7 @@ pub mod CodeAttributeLaws
 pub mod ClassLaws
 pub mod AllLaws
 pub mod FaultLaws
-pub mod TypedLaws
-pub mod PlaceLaws
-pub mod PoolLaws
 pub mod Rows
 pub mod ShownLaws
 pub mod ReadLaws
+pub mod NestLaws

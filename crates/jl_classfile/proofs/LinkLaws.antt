@@ -4,7 +4,7 @@ use Rattle.std.specs.Prelude.{All, IsTrue, IsFalse}
 use Rattle.std.specs.List.{AllByRecursion, Contains}
 use Rattle.std.proofs.lemmas.List.Elements.{Contains-append_left, Contains-append_right, recursion_from_All}
 use Rattle.jl_classfile.specs.declared.body.Body.{Body}
-use Rattle.jl_classfile.specs.Pools.{Pool}
+use Rattle.jl_pool.specs.Pools.{Pool}
 use Rattle.jl_classfile.specs.Conditions.{superclass_numbers, class_numbers, IsClassNumber, is_module, super_fits, Links}
 
 pub All-both : {X : Type 0} (P : X → Type 0) (xs ys : List X) → AllByRecursion P xs → AllByRecursion P ys → AllByRecursion P (xs ++ ys)

@@ -1,32 +1,33 @@
 -- The tests of members say what the definitions say.
-use Rattle.std.proofs.Common.{◌≡◌, ℕ, zero, suc, ◌+◌, ◌<◌, ◌≤◌, Bool, true, false, not, ◌&&◌, List, [], ◌∷◌, length, get_or, Option, Some, None, refl, sym, ap, subst, ◌∙◌, arith, inl, inr}
+use Rattle.std.proofs.Common.{◌≡◌, ℕ, zero, suc, ◌+◌, ◌<◌, ◌≤◌, Bool, true, false, not, ◌&&◌, List, [], ◌∷◌, ◌++◌, length, get_or, take, drop, Option, Some, None, refl, sym, ap, subst, ◌∙◌, arith, inl, inr}
 use Rattle.std.specs.Prelude.{◌==◌, ◌||◌, MatchOption, IfSome, IsTrue, map, slice_get, option_map, nat_le, All}
-use Rattle.std.specs.Option.{option_map_or, option_and_then}
+use Rattle.std.specs.Option.{option_map_or}
 use Rattle.std.specs.List.{AllByRecursion, Contains, list_any}
 use Rattle.std.specs.Borrow.{Bor}
 use Rattle.std.proofs.Math.ListN.{get_or-map}
 use Rattle.std.proofs.lemmas.List.{length-map}
 use Rattle.std.proofs.lemmas.Option.{slice_get-map, slice_get-get_or, slice_get_within, get_or_from_slice_get}
+use Rattle.std.proofs.lemmas.Bool.{cases_lt}
+use Rattle.std.proofs.Math.Seq.{take-append_seam}
 use Rattle.std.proofs.lemmas.Bool.Decides.{nat_tests}
 use Rattle.std.proofs.lemmas.List.Elements.{Contains-append_left, Contains-append_right, recursion_from_All}
 use Rattle.jl_names.specs.ClassNames.{is_unqualified}
 use Rattle.jl_names.specs.Descriptors.{IsFieldDescriptor}
-use Rattle.jl_names.specs.Repeats.{text_at as text_of_number, NameOneText, SameTexts, IsRepeat, NoRepeat, IsFirstRepeat}
+use Rattle.jl_names.specs.Repeats.{NameOneText, SameTexts, IsRepeat, NoRepeat, IsFirstRepeat}
 use Rattle.jl_classfile.specs.declared.body.Attribute.{Attribute}
 use Rattle.jl_classfile.specs.declared.body.Member.{Member}
 use Rattle.jl_classfile.specs.declared.body.Body.{Body}
-use Rattle.jl_classfile.specs.declared.constant.Constant.{Constant}
 use Rattle.jl_classfile.specs.declared.fault.ClassFault.{ClassFault}
 use Rattle.jl_classfile.specs.declared.fault.ClassFault.TheVariants.{BadLink, BadMember, DuplicateMethod, TwoCodes}
 use Rattle.jl_classfile.specs.Faults.{MembersFault}
 use Rattle.jl_classfile.proofs.LinkLaws.{All-both}
-use Rattle.jl_classfile.specs.Pools.{Pool, text_of, text_at, same_text}
+use Rattle.jl_pool.specs.Pools.{Pool, text_at, same_text}
 use Rattle.jl_classfile.specs.Conditions.{has_flag, STATIC, one_if, OnText, is_method_name, flags_fit, TakesFew, FieldFits, MethodFits, IsTextNumber, member_numbers, MemberLinks, is_text, same_place_text, same_method, no_twins, codes_of, is_interface, Members}
-use Rattle.jl_classfile.specs.Reading.Forms.{is_field, method_slots}
-use Rattle.jl_classfile.specs.Reading.Members.{on_text, field_fits, takes_few, method_fits, is_at, FieldTested, MethodTested, IsFieldFault, IsMethodFault, IsTwin, IsFirstTwin}
-use Rattle.jl_classfile.proofs.FormLaws.{is_field-is, IsSlots, SlotsAre, method_slots-is, one_slots}
-use Rattle.jl_classfile.proofs.TypedLaws.{Decides}
-use Rattle.jl_classfile.proofs.SiteLaws.{text_is, same_self}
+use Rattle.jl_pool.specs.Reading.Forms.{is_field, method_slots}
+use Rattle.jl_classfile.specs.Reading.Members.{on_text, field_fits, takes_few, method_fits, is_at, FieldTested, MethodTested, IsFieldFault, IsMethodFault, IsTwin, IsFirstTwin, IsTextAt, AreTexts}
+use Rattle.jl_pool.proofs.FormLaws.{and_true, is_field-is, IsSlots, SlotsAre, method_slots-is, one_slots}
+use Rattle.jl_pool.proofs.TypedLaws.{Decides}
+use Rattle.jl_code.proofs.SiteLaws.{text_is, same_self}
 
 -- ---- decisions
 
@@ -121,20 +122,32 @@ at_attribute m a c = Contains-append_right (m.name ∷ m.descriptor ∷ []) (map
 
 -- ---- twins
 
-joined : {X Y : Type 0} (f : X → Option Y) (o : Option X) → option_and_then f o ≡ option_and_then (λ y. y) (option_map f o)
-joined f None = refl
-joined f (Some x) = refl
+-- the methods before this place have their texts kept
+abbrev Kept : List (Option (Bor (List ℕ))) → Pool → List Member → ℕ → Type 0
+Kept texts pool ms i = (k : ℕ) (m : Member) → k < i → slice_get ms k ≡ Some m → AreTexts texts pool m
 
-text_joined : (o : Option (Option Constant)) → option_and_then (λ y. y) (option_map (option_and_then text_of) o) ≡ option_and_then text_of (option_and_then (λ place. place) o)
-text_joined None = refl
-text_joined (Some None) = refl
-text_joined (Some (Some c)) = refl
+-- what was kept stays
+abbrev Stays : List (Option (Bor (List ℕ))) → List (Option (Bor (List ℕ))) → Pool → Type 0
+Stays old new pool = (n : ℕ) → IsTextAt old pool n → IsTextAt new pool n
 
-pub same_texts : (texts : List (Option (Bor (List ℕ)))) (pool : Pool) (n : ℕ) → map (option_map (λ t. t.now)) texts ≡ map (option_and_then text_of) pool → text_of_number texts n ≡ text_at pool n
-same_texts texts pool n e =
-    joined (option_map (λ t. t.now)) (slice_get texts n)
-    ∙ ap (λ (o : Option (Option (List ℕ))). option_and_then (λ y. y) o) (sym (slice_get-map (option_map (λ (t : Bor (List ℕ)). t.now)) texts n) ∙ ap (λ (l : List (Option (List ℕ))). slice_get l n) e ∙ slice_get-map (option_and_then text_of) pool n)
-    ∙ text_joined (slice_get pool n)
+pub keep_more : (old mid new : List (Option (Bor (List ℕ)))) (pool : Pool) (ms : List Member) (i : ℕ) (m : Member) → i < length ms → m ≡ get_or ms i m → Kept old pool ms i
+    → Stays old mid pool → IsTextAt mid pool m.name → Stays mid new pool → IsTextAt new pool m.descriptor → Kept new pool ms (i + 1)
+keep_more old mid new pool ms i m within item kept first name second descriptor k n lt e = elim (cases_lt k i) [
+  | inl before ↦ let was = kept k n before e in (second n.name (first n.name was.0), second n.descriptor (first n.descriptor was.1))
+  | inr last ↦
+      let here : k ≡ i = omega (arith, lt, last) in
+      let stands : slice_get ms i ≡ Some m = slice_get-get_or ms i m within ∙ ap (λ (x : Member). Some x) (sym item) in
+      let both : ◌≡◌ {A = Option Member} (Some m) (Some n) = sym stands ∙ ap (λ (j : ℕ). slice_get ms j) (sym here) ∙ e in
+      let same : m ≡ n = cc in
+      subst (λ (x : Member). AreTexts new pool x) same (second m.name name, descriptor)
+]
+
+pub keep_all : (texts : List (Option (Bor (List ℕ)))) (pool : Pool) (ms : List Member) (i : ℕ) → length ms ≤ i → Kept texts pool ms i → (k : ℕ) (m : Member) → slice_get ms k ≡ Some m → AreTexts texts pool m
+keep_all texts pool ms i all kept k m e = let within = slice_get_within ms k m e in kept k m (omega (arith, within, all)) e
+
+-- all items were written
+pub filled : {X : Type 0} (n : ℕ) (old new : List X) → length new ≡ n → take n (new ++ drop (length new) old) ≡ new
+filled {X = X} n old new e = ap (λ (k : ℕ). take k (new ++ drop (length new) old)) (sym e) ∙ take-append_seam new (drop (length new) old)
 
 -- ---- one name and one descriptor
 
@@ -157,10 +170,6 @@ text_one : (pool : Pool) (m n : ℕ) → OneText pool m n → same_place_text po
 text_one pool m n o =
     ap (λ (u : Option (List ℕ)). option_map_or (is_text pool m) u false) o.other ∙ ap (λ (u : Option (List ℕ)). option_map_or (λ t. same_text t o.text) u false) o.one ∙ same_self o.text
 
-and_true : (a b : Bool) → (a && b) ≡ true → (a ≡ true) × (b ≡ true)
-and_true true b e = (refl, e)
-and_true false b e = absurd cc
-
 is_true : (b : Bool) → b ≡ true → IsTrue b
 is_true true e = refl
 is_true false e = absurd cc
@@ -172,12 +181,12 @@ true_is false e = absurd cc
 abbrev signature : Member → ℕ × ℕ
 signature m = (m.name, m.descriptor)
 
-module _ (texts : List (Option (Bor (List ℕ)))) (pool : Pool) (ms : List Member) (pairs : List (ℕ × ℕ)) (same : map (option_map (λ t. t.now)) texts ≡ map (option_and_then text_of) pool) (signed : pairs ≡ map (λ m. (m.name, m.descriptor)) ms) where
-  named : (m n : ℕ) → OneText pool m n → NameOneText texts n m
-  named m n o = record { text = o.text; one = same_texts texts pool n same ∙ o.other; other = same_texts texts pool m same ∙ o.one }
+module _ (texts : List (Option (Bor (List ℕ)))) (pool : Pool) (ms : List Member) (pairs : List (ℕ × ℕ)) (same : (k : ℕ) (m : Member) → slice_get ms k ≡ Some m → AreTexts texts pool m) (signed : pairs ≡ map (λ m. (m.name, m.descriptor)) ms) where
+  named : (m n : ℕ) → IsTextAt texts pool m → IsTextAt texts pool n → OneText pool m n → NameOneText texts n m
+  named m n x y o = record { text = o.text; one = y ∙ o.other; other = x ∙ o.one }
 
-  unnamed : (m n : ℕ) → NameOneText texts n m → OneText pool m n
-  unnamed m n o = record { text = o.text; one = sym (same_texts texts pool m same) ∙ o.other; other = sym (same_texts texts pool n same) ∙ o.one }
+  unnamed : (m n : ℕ) → IsTextAt texts pool m → IsTextAt texts pool n → NameOneText texts n m → OneText pool m n
+  unnamed m n x y o = record { text = o.text; one = sym x ∙ o.other; other = sym y ∙ o.one }
 
   pair_at : (i : ℕ) → slice_get pairs i ≡ option_map signature (slice_get ms i)
   pair_at i = ap (λ (l : List (ℕ × ℕ)). slice_get l i) signed ∙ slice_get-map signature ms i
@@ -192,6 +201,8 @@ module _ (texts : List (Option (Bor (List ℕ)))) (pool : Pool) (ms : List Membe
   twin_repeats : (i : ℕ) → IsTwin pool ms i → IsRepeat texts pairs i
   twin_repeats i t =
       let both = and_true (same_place_text pool t.other.name t.one.name) (same_place_text pool t.other.descriptor t.one.descriptor) (true_is (same_method pool t.other t.one) t.same) in
+      let other = same i t.other t.other_stands in
+      let one = same t.earlier t.one t.one_stands in
       record {
         earlier = t.earlier;
         before = t.before;
@@ -200,8 +211,8 @@ module _ (texts : List (Option (Bor (List ℕ)))) (pool : Pool) (ms : List Membe
         pair_stands = paired t.earlier t.one t.one_stands;
         again_stands = paired i t.other t.other_stands;
         same = record {
-          first = named t.other.name t.one.name (one_text pool t.other.name t.one.name both.0);
-          second = named t.other.descriptor t.one.descriptor (one_text pool t.other.descriptor t.one.descriptor both.1);
+          first = named t.other.name t.one.name other.0 one.0 (one_text pool t.other.name t.one.name both.0);
+          second = named t.other.descriptor t.one.descriptor other.1 one.1 (one_text pool t.other.descriptor t.one.descriptor both.1);
         };
       }
 
@@ -210,8 +221,10 @@ module _ (texts : List (Option (Bor (List ℕ)))) (pool : Pool) (ms : List Membe
       let a = unpaired r.earlier r.pair (slice_get ms r.earlier) refl (sym (pair_at r.earlier) ∙ r.pair_stands) in
       let b = unpaired i r.again (slice_get ms i) refl (sym (pair_at i) ∙ r.again_stands) in
       let there : SameTexts texts (signature a.0) (signature b.0) = subst (λ (p : ℕ × ℕ). SameTexts texts p (signature b.0)) (sym a.2) (subst (λ (q : ℕ × ℕ). SameTexts texts r.pair q) (sym b.2) r.same) in
-      let names = text_one pool b.0.name a.0.name (unnamed b.0.name a.0.name there.first) in
-      let descriptors = text_one pool b.0.descriptor a.0.descriptor (unnamed b.0.descriptor a.0.descriptor there.second) in
+      let other = same i b.0 b.1 in
+      let one = same r.earlier a.0 a.1 in
+      let names = text_one pool b.0.name a.0.name (unnamed b.0.name a.0.name other.0 one.0 there.first) in
+      let descriptors = text_one pool b.0.descriptor a.0.descriptor (unnamed b.0.descriptor a.0.descriptor other.1 one.1 there.second) in
       record {
         earlier = r.earlier;
         before = r.before;

@@ -1,6 +1,6 @@
 -- A fault of a pass is the first where no earlier pass fails.
-use Rattle.std.proofs.Common.{◌≡◌, ◌≢◌, ℕ, ◌<◌, ◌≤◌, Bool, true, false, ◌&&◌, List, [], ◌∷◌, ◌++◌, length, drop, Some, None, Result, Ok, Err, refl, sym, ap, subst, ◌∙◌, arith}
-use Rattle.std.specs.Prelude.{◌==◌, nat_le, if◌then◌else◌, All, IfOk, IfErr}
+use Rattle.std.proofs.Common.{◌≡◌, ◌≢◌, ℕ, ◌<◌, ◌≤◌, true, false, List, [], ◌∷◌, ◌++◌, length, drop, Option, Some, None, Result, Ok, Err, refl, sym, ap, subst, ◌∙◌, arith}
+use Rattle.std.specs.Prelude.{◌==◌, All, IfOk, IfErr}
 use Rattle.std.specs.List.{Contains}
 use Rattle.std.proofs.lemmas.Bool.Decides.{nat_tests}
 use Rattle.std.proofs.lemmas.List.Elements.{recursion_from_All}
@@ -11,24 +11,25 @@ use Rattle.jl_classfile.specs.declared.body.Body.{Body}
 use Rattle.jl_classfile.specs.declared.body.Broken.{Broken}
 use Rattle.jl_classfile.specs.declared.body.Broken.TheVariants as broken
 use Rattle.jl_classfile.specs.declared.class.ClassFile.{ClassFile}
-use Rattle.jl_classfile.specs.declared.constant.Constant.{Constant}
-use Rattle.jl_classfile.specs.declared.pool_fault.PoolFault.{PoolFault}
-use Rattle.jl_classfile.specs.declared.pool_fault.PoolFault.TheVariants as pool
+use Rattle.jl_pool.specs.declared.constant.Constant.{Constant}
+use Rattle.jl_pool.specs.declared.pool_fault.PoolFault.{PoolFault}
+use Rattle.jl_pool.specs.declared.pool_fault.PoolFault.TheVariants as pool
 use Rattle.jl_classfile.specs.declared.fault.ClassFault.{ClassFault}
-use Rattle.jl_classfile.specs.declared.fault.ClassFault.TheVariants.{TooLarge, Truncated, TrailingBytes, BadLink, Memory}
+use Rattle.jl_classfile.specs.declared.fault.ClassFault.TheVariants.{TooLarge, Truncated, TrailingBytes, BadLink, BadNest, Memory}
 use Rattle.jl_classfile.specs.Parts.{Parts}
-use Rattle.jl_classfile.specs.Pools.{Pool, places, pool_text, IsSoundPool}
+use Rattle.jl_pool.specs.Pools.{Pool, places, pool_text, IsSoundPool}
 use Rattle.jl_classfile.specs.Layouts.{Layout, head_text, body_text, file_text, BodySized, IsLayout}
-use Rattle.jl_classfile.specs.Conditions.{IsTextNumber, Links, Members, ClassAttributeLinks, Nest, HoldsHost, HoldsMembers, attributes_called, attributes_of}
+use Rattle.jl_classfile.specs.Conditions.{IsTextNumber, Links, Members, ClassAttributeLinks, Nest}
 use Rattle.jl_classfile.specs.ClassFiles.{most_bytes, pool_of, IsClass}
 use Rattle.jl_classfile.specs.Shown.{shown}
-use Rattle.jl_classfile.specs.Faults.{Pass, SizeFault, HeadFault, PoolStands, IsPoolFault, PoolPass, LayoutFault, LinksFault, MembersFault, AttributesFault, CodesFault, LaidFault, FailsWith, rank, IsFault}
+use Rattle.jl_pool.specs.Faults.{PoolStands, IsPoolFault}
+use Rattle.jl_classfile.specs.Faults.{Pass, SizeFault, HeadFault, PoolPass, LayoutFault, LinksFault, MembersFault, AttributesFault, CodesFault, LaidFault, FailsWith, rank, IsFault}
 use Rattle.jl_classfile.specs.Faults.{Sizing, Heading, Pooling, Laying, Linking, Membership, Attribution, Coding}
 use Rattle.jl_classfile.specs.Reading.Bodies.{body_at, Stops}
 use Rattle.jl_classfile.specs.Reading.Passes.{fault_of_pool, fault_of_broken, HasHead, HasPool, Lies, BodyShown}
 use Rattle.jl_classfile.proofs.FaultLaws.{no_size, no_head, no_pool, no_layout, laid_here, no_links, no_members, no_attributes}
 use Rattle.jl_classfile.proofs.MemberLaws.{contains_name}
-use Rattle.jl_classfile.proofs.PoolLaws.{one_pool}
+use Rattle.jl_pool.proofs.PoolLaws.{one_pool}
 use Rattle.jl_classfile.proofs.BodyLaws.{body-again}
 use Rattle.jl_classfile.proofs.LayoutLaws.{head_one, file_apart}
 
@@ -195,25 +196,14 @@ module _ (bytes : List ℕ) (major : ℕ) (p : Pool) (b : Body) (h : Lies bytes 
     first = before bytes 7 (omega arith) (λ lt. at_size) (λ lt. at_head) (λ lt. at_pool) (λ lt. at_layout) (λ lt. at_links links) (λ lt. at_members members) (high 7 7 (omega arith));
   }
 
--- no attribute of a class is read yet
-none_called : (name : List ℕ) (major : ℕ) (p : Pool) (b : Body) → attributes_called name major p b ≡ []
-none_called name major p b = by_test (nat_le 55 major) where
-  by_test : (late : Bool) → (if late && false then attributes_of p name b.attributes else []) ≡ []
-  by_test true = refl
-  by_test false = refl
+module _ (bytes : List ℕ) (major : ℕ) (p : Pool) (b : Body) (h : Lies bytes major p b) (host : Option ℕ) (members_of : Option (List ℕ)) (nest : Nest major p b host members_of) where
+  nest_here : Nest h.layout.major (pool_of h.layout) h.layout.body host members_of
+  nest_here = here bytes major p b h (λ n q c. Nest n q c host members_of) nest
 
-no_nest : (major : ℕ) (p : Pool) (b : Body) → Nest major p b None None
-no_nest major p b = record {
-  host_holds = subst (λ (l : List Attribute). HoldsHost p l None) (sym (none_called _ major p b)) tt;
-  members_hold = subst (λ (l : List Attribute). HoldsMembers p l None) (sym (none_called _ major p b)) tt;
-  not_both = tt;
-}
-
-module _ (bytes : List ℕ) (major : ℕ) (p : Pool) (b : Body) (h : Lies bytes major p b) where
   at_attributes : ClassAttributeLinks p b → (g : ClassFault) → ¬ LaidFault AttributesFault bytes g
   at_attributes attributes g =
       laid_here AttributesFault bytes h.layout g h.spelled h.laid
-      (no_attributes h.layout.major (pool_of h.layout) h.layout.body None None g (here bytes major p b h (λ n. ClassAttributeLinks) attributes) (no_nest h.layout.major (pool_of h.layout) h.layout.body))
+      (no_attributes h.layout.major (pool_of h.layout) h.layout.body host members_of g (here bytes major p b h (λ n. ClassAttributeLinks) attributes) nest_here)
 
   pub codes_first : (f : ClassFault) → Links major p b → Members p b → ClassAttributeLinks p b → CodesFault p b f → IsFault bytes f
   codes_first f links members attributes fault = record {
@@ -223,10 +213,10 @@ module _ (bytes : List ℕ) (major : ℕ) (p : Pool) (b : Body) (h : Lies bytes 
         (λ lt. at_links bytes major p b h links) (λ lt. at_members bytes major p b h members) (λ lt. at_attributes attributes);
   }
 
-  pub class_is : (file : ClassFile) → Links major p b → Members p b → ClassAttributeLinks p b → BodyShown p b file → (x : Parts) × IsClass bytes x × (file ≡ shown x)
+  pub class_is : (file : ClassFile) → Links major p b → Members p b → ClassAttributeLinks p b → BodyShown p b host members_of file → (x : Parts) × IsClass bytes x × (file ≡ shown x)
   class_is file links members attributes s =
-      let there : BodyShown (pool_of h.layout) h.layout.body file = here bytes major p b h (λ n q c. BodyShown q c file) s in (
-        record { layout = h.layout; codes = there.codes; nest_host = None; nest_members = None },
+      let there : BodyShown (pool_of h.layout) h.layout.body host members_of file = here bytes major p b h (λ n q c. BodyShown q c host members_of file) s in (
+        record { layout = h.layout; codes = there.codes; nest_host = host; nest_members = members_of },
         record {
           few = h.few;
           spelled = h.spelled;
@@ -236,7 +226,7 @@ module _ (bytes : List ℕ) (major : ℕ) (p : Pool) (b : Body) (h : Lies bytes 
           links = here bytes major p b h Links links;
           members = here bytes major p b h (λ n. Members) members;
           attributes = here bytes major p b h (λ n. ClassAttributeLinks) attributes;
-          nest = no_nest h.layout.major (pool_of h.layout) h.layout.body;
+          nest = nest_here;
           codes = there.have;
         },
         there.shown,
@@ -263,11 +253,15 @@ pub attributes_fault : (major : ℕ) (p : Pool) (b : Body) (attributes : List At
 attributes_fault major p b attributes f e x =
     subst (λ (g : ClassFault). AttributesFault major p b g) (sym x.1) (contains_name b.attributes x.0 (subst (λ (l : List Attribute). Contains l x.0) e x.2), x.3)
 
-module _ (bytes : List ℕ) (major : ℕ) (p : Pool) (b : Body) (h : Lies bytes major p b) (links : Links major p b) (members : Members p b) (attributes : ClassAttributeLinks p b) where
-  pub classes_are : (r : Result ClassFile ClassFault) → IfOk r (BodyShown p b) → IfOk r (λ file. (x : Parts) × IsClass bytes x × (file ≡ shown x))
-  classes_are (Ok file) s = class_is bytes major p b h file links members attributes s
+pub nest_fault : (major : ℕ) (p : Pool) (b : Body) (f : ClassFault) → f ≢ Memory → (f ≢ Memory → (f ≡ BadNest) × ((host : Option ℕ) (members : Option (List ℕ)) → ¬ Nest major p b host members)) → AttributesFault major p b f
+nest_fault major p b f other h = let x = h other in subst (λ (g : ClassFault). AttributesFault major p b g) (sym x.0) x.1
+
+module _ (bytes : List ℕ) (major : ℕ) (p : Pool) (b : Body) (h : Lies bytes major p b) (links : Links major p b) (members : Members p b) (attributes : ClassAttributeLinks p b)
+    (host : Option ℕ) (members_of : Option (List ℕ)) (nest : Nest major p b host members_of) where
+  pub classes_are : (r : Result ClassFile ClassFault) → IfOk r (BodyShown p b host members_of) → IfOk r (λ file. (x : Parts) × IsClass bytes x × (file ≡ shown x))
+  classes_are (Ok file) s = class_is bytes major p b h host members_of nest file links members attributes s
   classes_are (Err f) s = tt
 
   pub faults_are : (r : Result ClassFile ClassFault) → IfErr r (λ f. f ≢ Memory → CodesFault p b f) → IfErr r (λ f. f ≢ Memory → IsFault bytes f)
   faults_are (Ok file) s = tt
-  faults_are (Err f) s = λ other. codes_first bytes major p b h f links members attributes (s other)
+  faults_are (Err f) s = λ other. codes_first bytes major p b h host members_of nest f links members attributes (s other)

@@ -6,16 +6,17 @@ use Rattle.jl_classfile.specs.declared.body.Attribute.{Attribute}
 use Rattle.jl_classfile.specs.declared.body.Member.{Member}
 use Rattle.jl_classfile.specs.declared.body.Body.{Body}
 use Rattle.jl_classfile.specs.declared.class.Method.{Method}
-use Rattle.jl_classfile.specs.declared.instruction.Instruction.{Instruction}
-use Rattle.jl_classfile.specs.declared.code_fault.CodeFault.{CodeFault}
-use Rattle.jl_classfile.specs.declared.code_fault.CodeFault.TheVariants as code
+use Rattle.jl_code.specs.declared.instruction.Instruction.{Instruction}
+use Rattle.jl_code.specs.declared.code_fault.CodeFault.{CodeFault}
+use Rattle.jl_code.specs.declared.code_fault.CodeFault.TheVariants as code
 use Rattle.jl_classfile.specs.declared.fault.ClassFault.{ClassFault}
 use Rattle.jl_classfile.specs.declared.fault.ClassFault.TheVariants.{Code, Memory}
-use Rattle.jl_classfile.specs.Pools.{Pool}
-use Rattle.jl_classfile.specs.Codes.{IsCode, sites_from}
+use Rattle.jl_pool.specs.Pools.{Pool}
+use Rattle.jl_code.specs.Codes.{IsCode, sites_from}
 use Rattle.jl_classfile.specs.CodeAttributes.{HoldsCode, IsCodeOf}
 use Rattle.jl_classfile.specs.Conditions.{attributes_of, codes_of, HasCode, HaveCodes}
-use Rattle.jl_classfile.specs.Faults.{IsScanFault, CodesFault}
+use Rattle.jl_code.specs.Faults.{IsScanFault}
+use Rattle.jl_classfile.specs.Faults.{CodesFault}
 use Rattle.jl_classfile.specs.Shown.{shown_method, shown_methods}
 use Rattle.jl_classfile.specs.Reading.Passes.{fault_of_code, IsMethodFault, SitesShown, MethodShown, MethodsShown}
 

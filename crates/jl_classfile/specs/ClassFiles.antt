@@ -1,6 +1,6 @@
 -- What a class file is (JVMS 4).
 use Rattle.std.specs.Prelude.{◌≡◌, ℕ, ◌≤◌, List, length}
-use Rattle.jl_classfile.specs.Pools.{Pool, places, IsSoundPool}
+use Rattle.jl_pool.specs.Pools.{Pool, places, IsSoundPool}
 use Rattle.jl_classfile.specs.Layouts.{Layout, file_text, IsLayout}
 use Rattle.jl_classfile.specs.Parts.{Parts}
 use Rattle.jl_classfile.specs.Conditions.{IsVersion, Links, Members, ClassAttributeLinks, Nest, HaveCodes}

@@ -1,10 +1,10 @@
 -- What a Code attribute holds (JVMS 4.7.3).
 use Rattle.std.specs.Prelude.{◌≡◌, ℕ, ◌*◌, ◌<◌, ◌≤◌, ◌^◌, List, ◌++◌, length}
 use Rattle.jl_classfile.specs.declared.body.Attribute.{Attribute}
-use Rattle.jl_classfile.specs.declared.instruction.Instruction.{Instruction}
-use Rattle.jl_classfile.specs.Numbers.{u2, u4, counted}
-use Rattle.jl_classfile.specs.Pools.{Pool}
-use Rattle.jl_classfile.specs.Codes.{code_bytes, IsCode}
+use Rattle.jl_code.specs.declared.instruction.Instruction.{Instruction}
+use Rattle.jl_pool.specs.Numbers.{u2, u4, counted}
+use Rattle.jl_pool.specs.Pools.{Pool}
+use Rattle.jl_code.specs.Codes.{code_bytes, IsCode}
 use Rattle.jl_classfile.specs.Layouts.{attribute_text, AttributeSized, Countable}
 
 -- The attribute's bytes hold this code: of 1 to 65,535 bytes, behind two sizes and its length; an exception table of

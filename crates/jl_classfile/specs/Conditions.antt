@@ -2,17 +2,16 @@
 use Rattle.std.specs.Prelude.{◌≡◌, ℕ, ◌+◌, ◌<◌, ◌≤◌, ◌^◌, Bool, true, false, not, ◌==◌, ◌&&◌, ◌||◌, nat_le, if◌then◌else◌, IsTrue, IsFalse, IsSome, List, [], ◌∷◌, ◌++◌, length, filter, map, codes, Option, Some, None, ⊤, bit_and, MatchOption}
 use Rattle.std.specs.Option.{option_map_or}
 use Rattle.std.specs.List.{list_any, AllByRecursion}
-use Rattle.std.specs.Str.{byte}
 use Rattle.jl_names.specs.ClassNames.{is_unqualified}
 use Rattle.jl_names.specs.Descriptors.{IsFieldDescriptor}
 use Rattle.jl_names.specs.MethodTypes.{TakesSlots}
 use Rattle.jl_classfile.specs.declared.body.Attribute.{Attribute}
 use Rattle.jl_classfile.specs.declared.body.Member.{Member}
 use Rattle.jl_classfile.specs.declared.body.Body.{Body}
-use Rattle.jl_classfile.specs.declared.instruction.Instruction.{Instruction}
+use Rattle.jl_code.specs.declared.instruction.Instruction.{Instruction}
 use Rattle.jl_classfile.specs.Known.{class_attributes}
-use Rattle.jl_classfile.specs.Numbers.{u2, counted}
-use Rattle.jl_classfile.specs.Pools.{Pool, text_at, class_at, same_text}
+use Rattle.jl_pool.specs.Numbers.{u2, counted}
+use Rattle.jl_pool.specs.Pools.{Pool, text_at, class_at, same_text, has_angle}
 use Rattle.jl_classfile.specs.CodeAttributes.{IsCodeOf}
 
 -- ---- flags (JVMS 4.1, 4.6)
@@ -111,7 +110,7 @@ is_special name = same_text name (codes "<init>") || same_text name (codes "<cli
 
 -- the name of a method: without < and >, but <init> and <clinit>
 abbrev pub is_method_name : List ℕ → Bool
-is_method_name name = is_unqualified name && (is_special name || not (list_any (λ b. (b == byte "<") || (b == byte ">")) name))
+is_method_name name = is_unqualified name && (is_special name || not (has_angle name))
 
 -- at most one of PUBLIC, PRIVATE and PROTECTED; ABSTRACT neither PRIVATE nor STATIC; in an interface PUBLIC or PRIVATE
 abbrev pub are_method_flags : Bool → ℕ → Bool
@@ -172,15 +171,23 @@ abbrev pub attributes_called : List ℕ → ℕ → Pool → Body → List Attri
 attributes_called name major pool b =
     if nat_le 55 major && list_any (same_text name) class_attributes then attributes_of pool name b.attributes else []
 
+-- the bytes are the number of a class
+abbrev pub IsHost : Pool → List ℕ → ℕ → Type 0
+IsHost pool info n = (info ≡ u2 n) × (n < 2 ^ 16) × IsClassNumber pool n
+
+-- the bytes are a count and so many numbers of classes
+abbrev pub AreMembers : Pool → List ℕ → List ℕ → Type 0
+AreMembers pool info ns = (info ≡ counted u2 ns) × (length ns < 2 ^ 16) × AllByRecursion (λ n. (n < 2 ^ 16) × IsClassNumber pool n) ns
+
 -- none of them, or one, and what it holds
 abbrev pub HoldsHost : Pool → List Attribute → Option ℕ → Type 0
 HoldsHost pool [] None = ⊤
-HoldsHost pool (a ∷ []) (Some n) = (a.info ≡ u2 n) × (n < 2 ^ 16) × IsClassNumber pool n
+HoldsHost pool (a ∷ []) (Some n) = IsHost pool a.info n
 HoldsHost pool _ _ = ⊥
 
 abbrev pub HoldsMembers : Pool → List Attribute → Option (List ℕ) → Type 0
 HoldsMembers pool [] None = ⊤
-HoldsMembers pool (a ∷ []) (Some ns) = (a.info ≡ counted u2 ns) × (length ns < 2 ^ 16) × AllByRecursion (λ n. (n < 2 ^ 16) × IsClassNumber pool n) ns
+HoldsMembers pool (a ∷ []) (Some ns) = AreMembers pool a.info ns
 HoldsMembers pool _ _ = ⊥
 
 pub record Nest (major : ℕ) (pool : Pool) (b : Body) (host : Option ℕ) (members : Option (List ℕ)) : Type 0 where

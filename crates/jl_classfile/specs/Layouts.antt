@@ -1,12 +1,12 @@
 -- A class file as it lies: its parts and their text (JVMS 4.1, 4.5, 4.6, 4.7).
 use Rattle.std.specs.Prelude.{ℕ, ◌<◌, ◌^◌, List, ◌++◌, length}
 use Rattle.std.specs.List.{AllByRecursion}
-use Rattle.jl_classfile.specs.declared.constant.Constant.{Constant}
+use Rattle.jl_pool.specs.declared.constant.Constant.{Constant}
 use Rattle.jl_classfile.specs.declared.body.Attribute.{Attribute}
 use Rattle.jl_classfile.specs.declared.body.Member.{Member}
 use Rattle.jl_classfile.specs.declared.body.Body.{Body}
-use Rattle.jl_classfile.specs.Numbers.{u2, u4, counted}
-use Rattle.jl_classfile.specs.Pools.{pool_text, IsPool}
+use Rattle.jl_pool.specs.Numbers.{u2, u4, counted}
+use Rattle.jl_pool.specs.Pools.{pool_text, IsPool}
 
 abbrev pub attribute_text : Attribute → List ℕ
 attribute_text a = u2 a.name ++ (u4 (length a.info) ++ a.info)

@@ -1,9 +1,4 @@
-pub mod Numbers
-pub mod Constants
 pub mod Known
-pub mod Pools
-pub mod Instructions
-pub mod Codes
 pub mod Layouts
 pub mod CodeAttributes
 pub mod Parts

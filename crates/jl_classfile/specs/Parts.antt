@@ -1,6 +1,6 @@
 -- The parts of a class file: how it lies, and what its Code and nest attributes hold.
 use Rattle.std.specs.Prelude.{ℕ, List, Option}
-use Rattle.jl_classfile.specs.declared.instruction.Instruction.{Instruction}
+use Rattle.jl_code.specs.declared.instruction.Instruction.{Instruction}
 use Rattle.jl_classfile.specs.Layouts.{Layout}
 
 pub record Parts : Type 0 where

@@ -1,9 +1,5 @@
 -- Reading functions on lists: what the private readers compute. No public clause cites them.
-pub mod Fields
-pub mod Constants
-pub mod Forms
 pub mod Bodies
-pub mod Instructions
-pub mod Sites
 pub mod Members
+pub mod Nests
 pub mod Passes

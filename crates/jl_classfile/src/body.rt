@@ -3,12 +3,12 @@
 ghost use Rattle.std.specs.Prelude.{◌≡◌, ◌++◌, List, ℕ, IfOk, MatchOption, option_map};
 ghost use Rattle.jl_classfile.specs.Layouts.{body_text, BodySized};
 ghost use Rattle.jl_classfile.specs.CodeAttributes.{HoldsCode};
-ghost use Rattle.jl_classfile.specs.Reading.Fields.{Finds, number_at};
+ghost use Rattle.jl_pool.specs.Reading.Fields.{Finds, number_at};
 ghost use Rattle.jl_classfile.specs.Reading.Bodies.{Reads, items_at, counted_at, attribute_at, member_at, body_at, code_in};
 
-use crate::bytes::{bytes_at, u2_at, u4_at};
 use crate::fault::ClassFault;
 use jl_names::{Seq, Text};
+use jl_pool::{bytes_at, u2_at, u4_at};
 use std::alloc::{AllocFailed, Global};
 
 /// An attribute (JVMS SE 17 §4.7): the number of its name, and its bytes.
@@ -110,7 +110,7 @@ fn numbers_of(alloc: Global, count: u16, bytes: &[u8]) -> Result<(Seq<u16>, &[u8
 }
 
 /// Numbers behind their count, and what comes after them.
-fn numbers_at(alloc: Global, bytes: &[u8]) -> Result<(Seq<u16>, &[u8]), Broken>
+pub fn numbers_at(alloc: Global, bytes: &[u8]) -> Result<(Seq<u16>, &[u8]), Broken>
     ensures { Reads (λ x. (x.0, x.1.now)) result (counted_at (number_at 2) bytes.now) }
 {
     let (count, rest) = whole(u2_at(bytes))?;

@@ -2,7 +2,7 @@
 
 ghost use Rattle.std.specs.Prelude.{◌≡◌, IfOk};
 
-use crate::site::Site;
+use jl_code::Site;
 use jl_names::{Name, Seq};
 use std::alloc::{AllocError, Global};
 

@@ -3,8 +3,8 @@
 ghost use Rattle.std.specs.Prelude.{◌≡◌};
 ghost use Rattle.jl_classfile.specs.declared.fault.ClassFault.TheVariants.{Memory};
 
-use crate::code_fault::CodeFault;
-use crate::pool_fault::PoolFault;
+use jl_code::CodeFault;
+use jl_pool::PoolFault;
 use std::alloc::{AllocError, AllocFailed};
 
 /// Why bytes are no class file (JVMS SE 17 §4.1, §4.8). Where several hold, the first pass that fails tells:

@@ -10,7 +10,7 @@ ghost use Rattle.jl_classfile.specs.Reading.Passes.{IsBadLink};
 use crate::body::Body;
 use crate::fault::ClassFault;
 use crate::flags::{INTERFACE, MODULE, has_flag};
-use crate::pool::Pool;
+use jl_pool::Pool;
 
 const OBJECT: &[u8] = b"java/lang/Object";
 
@@ -40,7 +40,7 @@ fn check_superclass(pool: &Pool<'_>, number: u16) -> Result<(), ClassFault>
 }
 
 /// Tests that there is a class name at each of the numbers.
-fn check_classes(pool: &Pool<'_>, numbers: &[u16]) -> Result<(), ClassFault>
+pub fn check_classes(pool: &Pool<'_>, numbers: &[u16]) -> Result<(), ClassFault>
     ensures ok { OnOk result (All (IsClassNumber pool.now) numbers.now) }
     ensures fault { IfErr result (IsBadLink (IsClassNumber pool.now) numbers.now) }
 {

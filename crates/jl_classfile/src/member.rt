@@ -8,22 +8,23 @@ ghost use Rattle.std.specs.Prelude.{◌==◌, ◌||◌, nat_le};
 ghost use Rattle.jl_names.specs.ClassNames.{is_unqualified};
 ghost use Rattle.jl_classfile.specs.declared.body.Attribute.{Attribute};
 ghost use Rattle.jl_classfile.specs.declared.fault.ClassFault.TheVariants.{BadLink, Memory};
-ghost use Rattle.jl_classfile.specs.Pools.{text_of, text_at};
+ghost use Rattle.jl_pool.specs.Pools.{text_of, text_at};
 ghost use Rattle.jl_classfile.specs.Conditions.{has_flag, PUBLIC, PRIVATE, PROTECTED, STATIC, one_if, IsTextNumber, is_method_name, are_method_flags, flags_fit, attributes_of, is_text, Members};
 ghost use Rattle.jl_classfile.specs.declared.body.Member.{Member};
 ghost use Rattle.jl_classfile.specs.Faults.{MembersFault};
-ghost use Rattle.jl_classfile.specs.Reading.Forms.{form_of, is_field};
-ghost use Rattle.jl_classfile.specs.Reading.Members.{on_text, field_fits, takes_few, method_fits, is_at, FieldTested, MethodTested, IsFieldFault, IsMethodFault, IsTwin, IsFirstTwin};
+ghost use Rattle.jl_pool.specs.Reading.Forms.{form_of, is_field};
+ghost use Rattle.jl_classfile.specs.Reading.Members.{on_text, field_fits, takes_few, method_fits, is_at, FieldTested, MethodTested, IsFieldFault, IsMethodFault, IsTwin, IsFirstTwin, IsTextAt, AreTexts};
 
 use crate::body::{Attribute, Body, Member};
-use crate::constant::Constant;
 use crate::fault::ClassFault;
 use crate::flags::{ABSTRACT, PRIVATE, PROTECTED, PUBLIC, STATIC, has_flag};
-use crate::form::Form;
 use crate::links::is_interface;
-use crate::pool::Pool;
 use jl_names::first_repeat;
+use jl_pool::{Constant, Form, Pool};
 use std::alloc::Global;
+
+/// The name of the attribute that holds a method's code (JVMS SE 17 §4.7.3).
+pub const CODE: &[u8] = b"Code";
 
 /// Tests that a text stands at a number.
 fn check_text(pool: &Pool<'_>, number: u16) -> Result<(), ClassFault>
@@ -51,7 +52,7 @@ pub fn check_attribute_names(
 }
 
 /// Whether a name without a reserved byte stands at a number, or no text.
-#[tactic(auto, unfolding(crate::specs::Reading::Forms::form_of))]
+#[tactic(auto, unfolding(crate::specs::Reading::Members::form_of))]
 fn is_unqualified_at(pool: &Pool<'_>, number: u16) -> bool
     ensures { result ≡ on_text is_unqualified (text_at pool.now number) }
 {
@@ -62,7 +63,7 @@ fn is_unqualified_at(pool: &Pool<'_>, number: u16) -> bool
 }
 
 /// Whether a field's descriptor stands at a number, or no text.
-#[tactic(auto, unfolding(crate::specs::Reading::Forms::form_of))]
+#[tactic(auto, unfolding(crate::specs::Reading::Members::form_of))]
 fn is_field_at(pool: &Pool<'_>, number: u16) -> bool
     ensures { result ≡ on_text is_field (text_at pool.now number) }
 {
@@ -79,21 +80,14 @@ fn field_fits(pool: &Pool<'_>, field: &Member<'_>) -> bool
     is_unqualified_at(pool, field.name) && is_field_at(pool, field.descriptor)
 }
 
-/// Whether an angle bracket stands in a name.
-fn has_angle(name: &[u8]) -> bool
-    ensures { result ≡ list_any (λ b. (b == byte "<") || (b == byte ">")) name.now }
-{
-    name.iter().any(|byte| *byte == b'<' || *byte == b'>')
-}
-
 /// Whether a method may be called so: `<` and `>` stand in `<init>` and `<clinit>` alone (§4.2.2).
-#[tactic(auto, unfolding(crate::specs::Reading::Forms::form_of))]
+#[tactic(auto, unfolding(crate::specs::Reading::Members::form_of))]
 fn is_method_name(name: &[u8], form: Form) -> bool
     requires { form ≡ form_of name.now }
     ensures { result ≡ is_method_name name.now }
 {
     form.unqualified
-        && (name == b"<init>".as_slice() || name == b"<clinit>".as_slice() || !has_angle(name))
+        && (name == b"<init>".as_slice() || name == b"<clinit>".as_slice() || form.plain)
 }
 
 /// How many of PUBLIC, PRIVATE and PROTECTED are set.
@@ -126,7 +120,7 @@ fn slots_fit(flags: u16, form: Form) -> bool
 }
 
 /// Whether the name and flags of a method may be so. `<clinit>` may have any flags.
-#[tactic(auto, unfolding(crate::specs::Reading::Forms::form_of))]
+#[tactic(auto, unfolding(crate::specs::Reading::Members::form_of))]
 fn name_fits(pool: &Pool<'_>, interface: bool, method: &Member<'_>) -> bool
     ensures { result ≡ (on_text is_method_name (text_at pool.now method.now.name) && on_text (flags_fit interface method.now.flags) (text_at pool.now method.now.name)) }
 {
@@ -140,7 +134,7 @@ fn name_fits(pool: &Pool<'_>, interface: bool, method: &Member<'_>) -> bool
 }
 
 /// Whether the descriptor of a method may be so.
-#[tactic(auto, unfolding(crate::specs::Reading::Forms::form_of))]
+#[tactic(auto, unfolding(crate::specs::Reading::Members::form_of))]
 fn descriptor_fits(pool: &Pool<'_>, method: &Member<'_>) -> bool
     ensures { result ≡ on_text (takes_few method.now.flags) (text_at pool.now method.now.descriptor) }
 {
@@ -157,30 +151,37 @@ fn method_fits(pool: &Pool<'_>, interface: bool, method: &Member<'_>) -> bool
     name_fits(pool, interface, method) && descriptor_fits(pool, method)
 }
 
-/// Whether the attribute is called `Code`.
-fn is_code(pool: &Pool<'_>, attribute: &Attribute<'_>) -> bool
-    ensures { result ≡ is_text pool.now attribute.now.name (codes "Code") }
+/// Whether the attribute is called so.
+fn is_called(pool: &Pool<'_>, name: &[u8], attribute: &Attribute<'_>) -> bool
+    ensures { result ≡ is_text pool.now attribute.now.name name.now }
 {
     match pool.utf8(attribute.name) {
-        Some(name) => name == b"Code".as_slice(),
+        Some(text) => text == name,
         None => false,
     }
 }
 
-/// How many attributes are called `Code`.
-fn code_count(pool: &Pool<'_>, attributes: &[Attribute<'_>]) -> usize
-    ensures { result ≡ length (attributes_of pool.now (codes "Code") attributes.now) }
+/// How many attributes are called so.
+pub fn count_called(pool: &Pool<'_>, name: &[u8], attributes: &[Attribute<'_>]) -> usize
+    ensures { result ≡ length (attributes_of pool.now name.now attributes.now) }
 {
-    attributes.iter().filter(|a| is_code(pool, a)).count()
+    attributes
+        .iter()
+        .filter(|a| is_called(pool, name, a))
+        .count()
 }
 
-/// The bytes of the first attribute that is called `Code`.
-pub fn first_code<'a>(pool: &Pool<'_>, attributes: &[Attribute<'a>]) -> Option<&'a [u8]>
-    ensures { MatchOption result (attributes_of pool.now (codes "Code") attributes.now ≡ [])
-        (λ info. (a : Attribute) × (more : List Attribute) × (attributes_of pool.now (codes "Code") attributes.now ≡ a ∷ more) × (a.info ≡ info.now)) }
+/// The bytes of the first attribute that is called so.
+pub fn first_called<'a>(
+    pool: &Pool<'_>,
+    name: &[u8],
+    attributes: &[Attribute<'a>],
+) -> Option<&'a [u8]>
+    ensures { MatchOption result (attributes_of pool.now name.now attributes.now ≡ [])
+        (λ info. (a : Attribute) × (more : List Attribute) × (attributes_of pool.now name.now attributes.now ≡ a ∷ more) × (a.info ≡ info.now)) }
 {
     for attribute in attributes {
-        if is_code(pool, attribute) {
+        if is_called(pool, name, attribute) {
             return Some(attribute.info.as_bytes());
         }
     }
@@ -222,32 +223,47 @@ fn check_method(
         return Err(ClassFault::DuplicateMethod(index));
     }
     check_attribute_names(pool, method.attributes.as_slice())?;
-    if code_count(pool, method.attributes.as_slice()) > 1 {
+    if count_called(pool, CODE, method.attributes.as_slice()) > 1 {
         return Err(ClassFault::TwoCodes(index));
     }
     Ok(())
 }
 
-/// By number, the texts of a pool.
-fn texts_of<'a>(alloc: Global, pool: &Pool<'a>) -> Result<Vec<Option<&'a [u8]>>, ClassFault>
-    ensures ok { IfOk result (λ texts. map (option_map (λ t. t.now)) texts.items ≡ map (option_and_then text_of) pool.now) }
+/// By number, the texts of a pool that are the names and the descriptors of methods.
+fn texts_of<'a>(
+    alloc: Global,
+    pool: &Pool<'a>,
+    methods: &[Member<'_>],
+) -> Result<Vec<Option<&'a [u8]>>, ClassFault>
+    ensures ok { IfOk result (λ texts. (k : ℕ) (m : Member) → slice_get methods.now k ≡ Some m → AreTexts texts.items pool.now m) }
     ensures fault { IfErr result (λ f. f ≡ Memory) }
 {
-    let entries = pool.entries();
-    let mut texts = Vec::new(alloc);
-    for entry in entries {
-        texts.push(text_of(entry))?;
-    }
+    let mut texts = vec![in alloc; None; pool.entries().len()]?;
+    keep_texts(&mut texts, pool, methods);
     Ok(texts)
 }
 
-/// The text of an entry, where it is a Utf8.
-fn text_of<'a>(entry: &Option<Constant<'a>>) -> Option<&'a [u8]>
-    ensures { option_map (λ t. t.now) result ≡ option_and_then text_of entry.now }
+/// Keeps the texts of a pool that are the names and the descriptors of methods.
+fn keep_texts<'a>(texts: &mut [Option<&'a [u8]>], pool: &Pool<'a>, methods: &[Member<'_>])
+    requires { length texts.old ≡ length pool.now }
+    ensures length { length texts.new ≡ length texts.old }
+    ensures kept { (k : ℕ) (m : Member) → slice_get methods.now k ≡ Some m → AreTexts texts.new pool.now m }
 {
-    match entry {
-        Some(Constant::Utf8(text)) => Some(text.as_bytes()),
-        _ => None,
+    for method in methods {
+        keep_text(texts, pool, method.name);
+        keep_text(texts, pool, method.descriptor);
+    }
+}
+
+/// Keeps the text that stands at a number of a pool, if one does.
+fn keep_text<'a>(texts: &mut [Option<&'a [u8]>], pool: &Pool<'a>, number: u16)
+    requires { length texts.old ≡ length pool.now }
+    ensures length { length texts.new ≡ length texts.old }
+    ensures here { IsTextAt texts.new pool.now number }
+    ensures kept { (n : ℕ) → IsTextAt texts.old pool.now n → IsTextAt texts.new pool.now n }
+{
+    if usize::from(number) < texts.len() {
+        texts[usize::from(number)] = pool.utf8(number);
     }
 }
 
@@ -273,7 +289,7 @@ fn first_twin(
     ensures ok { IfOk result (λ twin. MatchOption twin ((i : ℕ) → ¬ IsTwin pool.now methods.now i) (IsFirstTwin pool.now methods.now)) }
     ensures fault { IfErr result (λ f. f ≡ Memory) }
 {
-    let texts = texts_of(alloc, pool)?;
+    let texts = texts_of(alloc, pool, methods)?;
     let signatures = signatures_of(alloc, methods)?;
     Ok(first_repeat(alloc, &texts, &signatures)?)
 }

@@ -1,29 +1,27 @@
 //! Reads a class file, pass after pass.
 
-ghost use Rattle.std.specs.Prelude.{◌<◌, ◌≤◌, ◌^◌, ◌≡◌, ◌≢◌, length, map, slice_get, All, List, ℕ, Some, IfOk, IfErr, MatchBool};
+ghost use Rattle.std.specs.Prelude.{◌<◌, ◌≤◌, ◌^◌, ◌≡◌, ◌≢◌, length, map, [], slice_get, All, List, ℕ, Some, IfOk, IfErr, MatchBool};
+ghost use Rattle.std.specs.Option.{option_and_then, unwrap_or};
 ghost use Rattle.jl_classfile.specs.declared.fault.ClassFault.{ClassFault};
 ghost use Rattle.jl_classfile.specs.Parts.{Parts};
 ghost use Rattle.jl_classfile.specs.ClassFiles.{IsClass};
 ghost use Rattle.jl_classfile.specs.declared.fault.ClassFault.TheVariants.{Memory};
 ghost use Rattle.jl_classfile.specs.declared.body.Member.{Member};
 ghost use Rattle.jl_classfile.specs.Faults.{HeadFault, CodesFault, IsFault};
-ghost use Rattle.jl_classfile.specs.Pools.{class_at};
+ghost use Rattle.jl_pool.specs.Pools.{class_at};
 ghost use Rattle.jl_classfile.specs.Shown.{shown, text_or_nothing, name_or_nothing};
 ghost use Rattle.jl_classfile.specs.Conditions.{IsVersion, codes_of};
 ghost use Rattle.jl_classfile.specs.Reading.Passes.{HasHead, fault_of_code, IsMethodFault, SitesShown, MethodShown, MethodsShown, BodyShown, HasPool, Lies};
 
 use crate::body::{Body, Member, body_at, code_in};
-use crate::bytes::{u2_at, u4_at};
 use crate::class::{ClassFile, Method};
-use crate::code::scan;
-use crate::code_fault::CodeFault;
 use crate::fault::ClassFault;
 use crate::links::check_links;
-use crate::member::{check_attribute_names, check_members, first_code};
-use crate::pool::Pool;
-use crate::pool_fault::PoolFault;
-use crate::site::Site;
+use crate::member::{CODE, check_attribute_names, check_members, first_called};
+use crate::nest::{NestNumbers, nest_of};
+use jl_code::{CodeFault, Site, scan};
 use jl_names::{Name, Seq};
+use jl_pool::{Pool, PoolFault, u2_at, u4_at};
 use std::alloc::{AllocError, Global};
 
 /// The most bytes of a class file.
@@ -96,7 +94,7 @@ fn sites_of(
     ensures ok { IfOk result (SitesShown pool.now method.now) }
     ensures fault { IfErr result (IsMethodFault pool.now index method.now) }
 {
-    let Some(info) = first_code(pool, method.attributes.as_slice()) else {
+    let Some(info) = first_called(pool, CODE, method.attributes.as_slice()) else {
         return Ok(Seq::of(Vec::new(alloc)));
     };
     let Some(code) = code_in(info) else {
@@ -134,12 +132,40 @@ fn kept_classes(alloc: Global, pool: &Pool<'_>, numbers: &[u16]) -> Result<Seq<N
 }
 
 /// The class name at a number, kept, if there is one.
-fn kept_superclass(alloc: Global, pool: &Pool<'_>, number: u16) -> Result<Option<Name>, AllocError>
+fn kept_class_if_any(
+    alloc: Global,
+    pool: &Pool<'_>,
+    number: u16,
+) -> Result<Option<Name>, AllocError>
     ensures { IfOk result (λ name. name ≡ class_at pool.now number) }
 {
     match pool.class_name(number) {
         Some(name) => Ok(Some(Name::copied(alloc, name)?)),
         None => Ok(None),
+    }
+}
+
+/// The name of the nest host, kept, if the class has one.
+fn kept_host(alloc: Global, pool: &Pool<'_>, host: Option<u16>) -> Result<Option<Name>, AllocError>
+    ensures { IfOk result (λ name. name ≡ option_and_then (class_at pool.now) host) }
+{
+    match host {
+        Some(number) => kept_class_if_any(alloc, pool, number),
+        None => Ok(None),
+    }
+}
+
+/// The names of the nest members, kept, none where the class lists none.
+fn kept_members(
+    alloc: Global,
+    pool: &Pool<'_>,
+    members: &Option<Seq<u16>>,
+) -> Result<Seq<Name>, AllocError>
+    ensures { IfOk result (λ names. names ≡ map (name_or_nothing pool.now) (unwrap_or members.now [])) }
+{
+    match members {
+        Some(numbers) => kept_classes(alloc, pool, numbers.as_slice()),
+        None => Ok(Seq::of(Vec::new(alloc))),
     }
 }
 
@@ -181,19 +207,24 @@ fn methods_of(
 }
 
 /// What a class file shows whose parts have no fault outside its codes.
-fn shown(alloc: Global, pool: &Pool<'_>, body: &Body<'_>) -> Result<ClassFile, ClassFault>
+fn shown(
+    alloc: Global,
+    pool: &Pool<'_>,
+    body: &Body<'_>,
+    nest: &NestNumbers,
+) -> Result<ClassFile, ClassFault>
     requires few { length body.now.methods < 2 ^ 16 }
     requires one_code { All (λ m. length (codes_of pool.now m) ≤ 1) body.now.methods }
-    ensures ok { IfOk result (BodyShown pool.now body.now) }
+    ensures ok { IfOk result (BodyShown pool.now body.now nest.now.host nest.now.members) }
     ensures fault { IfErr result (λ f. f ≢ Memory → CodesFault pool.now body.now f) }
 {
     Ok(ClassFile {
         name: kept_class(alloc, pool, body.this_class)?,
         flags: body.flags,
-        superclass: kept_superclass(alloc, pool, body.super_class)?,
+        superclass: kept_class_if_any(alloc, pool, body.super_class)?,
         interfaces: kept_classes(alloc, pool, body.interfaces.as_slice())?,
-        nest_host: None,
-        nest_members: Seq::of(Vec::new(alloc)),
+        nest_host: kept_host(alloc, pool, nest.host)?,
+        nest_members: kept_members(alloc, pool, &nest.members)?,
         methods: methods_of(alloc, pool, body.methods.as_slice())?,
     })
 }
@@ -233,7 +264,8 @@ pub fn read_class(alloc: Global, bytes: &[u8]) -> Result<ClassFile, ClassFault>
     check_links(major, &pool, &body)?;
     check_members(alloc, &pool, &body)?;
     check_attribute_names(&pool, body.attributes.as_slice())?;
-    shown(alloc, &pool, &body)
+    let nest = nest_of(alloc, major, &pool, &body)?;
+    shown(alloc, &pool, &body, &nest)
 }
 
 /// Bytes are one class file at most.

@@ -10,7 +10,7 @@ use Rattle.std.proofs.Common.{refl, ap, sym, subst, ◌∙◌}
 use Rattle.std.proofs.lemmas.Bool.Decides.{Decides-eqb, Decides-like}
 use Rattle.std.proofs.lemmas.List.Elements.{All-from_recursion, recursion_from_All}
 use Rattle.std.proofs.lemmas.Slice.Eq.{bytes_eq-Decides}
-use Rattle.jl_classfile.specs.Pools.{same_text}
+use Rattle.jl_pool.specs.Pools.{same_text}
 use Rattle.jl_core.specs.Plain.{recorded}
 
 same_turned : (a b : List ℕ) → same_text a b ≡ same_text b a

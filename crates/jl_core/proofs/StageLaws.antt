@@ -1,8 +1,8 @@
 -- What an invokevirtual selects.
 use Rattle.std.specs.Prelude.{◌≡◌, ℕ, Bool, false, List, Some, Ok, if◌then◌else◌}
 use Rattle.std.proofs.Common.{ap, sym, ◌∙◌}
-use Rattle.jl_classfile.specs.declared.reference.Reference.{Reference}
-use Rattle.jl_classfile.specs.declared.site.Kind.TheVariants.{Virtual}
+use Rattle.jl_pool.specs.declared.reference.Reference.{Reference}
+use Rattle.jl_code.specs.declared.site.Kind.TheVariants.{Virtual}
 use Rattle.jl_types.specs.declared.ids.MethodId.{MethodId}
 use Rattle.jl_types.specs.declared.answer.Throwable.TheVariants.{IncompatibleClassChangeError}
 use Rattle.jl_types.specs.World.{Classes}

@@ -1,6 +1,6 @@
 -- What the code keeps of what a site comes to before its receiver.
 use Rattle.std.specs.Prelude.{◌≡◌}
-use Rattle.jl_classfile.specs.declared.site.Kind.TheVariants.{Virtual}
+use Rattle.jl_code.specs.declared.site.Kind.TheVariants.{Virtual}
 use Rattle.jl_types.specs.Sites.{Stage, Waits, Fails, Calls, Selects, Invocation}
 use Rattle.jl_core.specs.declared.stage.Stage.{Stage as Kept}
 use Rattle.jl_core.specs.declared.stage.Stage.TheVariants as kept

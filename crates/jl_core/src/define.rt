@@ -4,7 +4,7 @@ ghost use Rattle.std.specs.Prelude.{◌≡◌, ◌<◌, ◌==◌, ◌&&◌, ◌�
 ghost use Rattle.std.specs.Bool.{then_some};
 ghost use Rattle.std.specs.List.{list_any, list_all};
 ghost use Rattle.jl_classfile.specs.Conditions.{object};
-ghost use Rattle.jl_classfile.specs.Pools.{same_text};
+ghost use Rattle.jl_pool.specs.Pools.{same_text};
 ghost use Rattle.jl_types.specs.declared.refusal.DefineFault.TheVariants as fault;
 ghost use Rattle.jl_types.specs.Members as members;
 ghost use Rattle.jl_types.specs.Definitions as definitions;

@@ -1,7 +1,7 @@
 //! The request of a place.
 
 ghost use Rattle.std.specs.Prelude.{◌≡◌, ◌≢◌, ◌≤◌, true, Some, Ok, Err, IfOk, IfErr, OnOk, OnErr};
-ghost use Rattle.jl_classfile.specs.declared.site.Site as site;
+ghost use Rattle.jl_code.specs.declared.site.Site as site;
 ghost use Rattle.jl_types.specs.Sites.{invocation_at};
 ghost use Rattle.jl_types.specs.Events as events;
 ghost use Rattle.jl_types.specs.declared.event.Event.TheVariants as event;
@@ -12,7 +12,7 @@ ghost use Rattle.jl_core.specs.Admitted.{admitted};
 ghost use Rattle.jl_core.specs.State.{IsRefused};
 
 use crate::world::World;
-use jl_classfile::{Kind, Operand, Site};
+use jl_code::{Kind, Operand, Site};
 use jl_names::Name;
 use jl_types::{NotLinkable, Place, Refusal, SiteNo};
 

@@ -5,8 +5,8 @@ ghost use Rattle.jl_types.specs.Resolution as resolution;
 ghost use Rattle.jl_core.specs.Plain.{IsPlainWorld};
 
 use crate::classes::Classes;
-use jl_classfile::Reference;
 use jl_names::Name;
+use jl_pool::Reference;
 use jl_types::{ClassId, MethodId, Missing, ResolveAnswer, Throwable};
 
 impl Classes {

@@ -3,14 +3,15 @@
 ghost use Rattle.std.specs.Prelude.{◌≡◌, ◌==◌, ℕ, true, Some, None, MatchOption, find, option_copied};
 ghost use Rattle.jl_types.specs.Sites as sites;
 ghost use Rattle.jl_types.specs.Resolution.{named_class};
-ghost use Rattle.jl_classfile.specs.declared.site.Kind.TheVariants.{Static, Virtual};
+ghost use Rattle.jl_code.specs.declared.site.Kind.TheVariants.{Static, Virtual};
 ghost use Rattle.jl_types.specs.World.{World};
 ghost use Rattle.jl_core.specs.Admitted.{is_supported};
 ghost use Rattle.jl_core.specs.Stages.{IsStage};
 
 use crate::classes::Classes;
-use jl_classfile::{Kind, Operand, Reference, Site};
+use jl_code::{Kind, Operand, Site};
 use jl_names::Name;
+use jl_pool::Reference;
 use jl_types::{ClassId, MethodId, Place, ResolveAnswer, Throwable, Unlinked};
 
 /// What a site comes to before its receiver is looked at (JVMS SE 17 §6.5).

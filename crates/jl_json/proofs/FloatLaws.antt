@@ -5,10 +5,10 @@ use Rattle.serde_json.specs.View.{items_of}
 use Rattle.serde_json.specs.Written.{has_float, items_have_float}
 use Rattle.jl_classfile.specs.declared.class.ClassFile.{ClassFile}
 use Rattle.jl_classfile.specs.declared.class.Method.{Method}
-use Rattle.jl_classfile.specs.declared.site.Kind.{Kind}
-use Rattle.jl_classfile.specs.declared.site.Operand.{Operand}
-use Rattle.jl_classfile.specs.declared.site.Operand.TheVariants as operand
-use Rattle.jl_classfile.specs.declared.site.Site.{Site}
+use Rattle.jl_code.specs.declared.site.Kind.{Kind}
+use Rattle.jl_code.specs.declared.site.Operand.{Operand}
+use Rattle.jl_code.specs.declared.site.Operand.TheVariants as operand
+use Rattle.jl_code.specs.declared.site.Site.{Site}
 use Rattle.jl_types.specs.declared.answer.Answer.{Answer}
 use Rattle.jl_types.specs.declared.answer.Answer.TheVariants as answer
 use Rattle.jl_types.specs.declared.answer.Outcome.{Outcome}

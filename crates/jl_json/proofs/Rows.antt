@@ -6,7 +6,7 @@ use Rattle.std.specs.Fmt.{digits}
 use lib.Utf8.{encode}
 use Rattle.serde_json.proofs.OnLiterals.{serde_json_on_literals}
 use Rattle.serde_json.specs.Written.{compact_text}
-use Rattle.jl_classfile.specs.declared.code_fault.CodeFault.TheVariants as code
+use Rattle.jl_code.specs.declared.code_fault.CodeFault.TheVariants as code
 use Rattle.jl_classfile.specs.declared.fault.ClassFault.TheVariants.{Code}
 use Rattle.jl_classfile.specs.Shown.{shown}
 use Rattle.jl_classfile.proofs.Rows.Object as object

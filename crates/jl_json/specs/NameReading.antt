@@ -1,7 +1,8 @@
 -- A name's text, by its units read from its bytes.
-use Rattle.std.specs.Prelude.{ℕ, ◌+◌, ◌*◌, ◌%◌, nat_lt, if◌then◌else◌, List, [], ◌∷◌}
+use Rattle.std.specs.Prelude.{ℕ, ◌+◌, ◌*◌, ◌%◌, ◌==◌, ◌&&◌, not, Bool, nat_lt, if◌then◌else◌, List, [], ◌∷◌}
+use Rattle.std.specs.List.{list_all}
 use Rattle.jl_names.specs.Mutf8.{mutf8}
-use Rattle.jl_classfile.specs.Pools.{same_text}
+use Rattle.jl_pool.specs.Pools.{same_text}
 use Rattle.jl_json.specs.Names.{units_text}
 
 -- The units, each of one, two or three bytes, as its first one says. What a cut unit has is
@@ -19,3 +20,7 @@ units_of (a ∷ b ∷ c ∷ rest) =
 
 unfoldable pub name_text : List ℕ → List ℕ
 name_text name = if same_text (mutf8 (units_of name)) name then units_text (units_of name) else []
+
+-- each unit has one byte
+abbrev pub is_plain : List ℕ → Bool
+is_plain name = list_all (λ b. not (b == 0) && nat_lt b 0x80) name

@@ -3,10 +3,10 @@
 use Rattle.std.specs.Prelude.{ℕ, List, codes, Option, Some, None}
 use Rattle.serde_json.specs.Data.{Data, number, unsigned, string, object}
 use Rattle.serde_json.specs.Data.{Members, no_members, member, put}
-use Rattle.jl_classfile.specs.declared.pool_fault.PoolFault.{PoolFault}
-use Rattle.jl_classfile.specs.declared.pool_fault.PoolFault.TheVariants as pool
-use Rattle.jl_classfile.specs.declared.code_fault.CodeFault.{CodeFault}
-use Rattle.jl_classfile.specs.declared.code_fault.CodeFault.TheVariants as code
+use Rattle.jl_pool.specs.declared.pool_fault.PoolFault.{PoolFault}
+use Rattle.jl_pool.specs.declared.pool_fault.PoolFault.TheVariants as pool
+use Rattle.jl_code.specs.declared.code_fault.CodeFault.{CodeFault}
+use Rattle.jl_code.specs.declared.code_fault.CodeFault.TheVariants as code
 use Rattle.jl_classfile.specs.declared.fault.ClassFault.{ClassFault}
 use Rattle.jl_classfile.specs.declared.fault.ClassFault.TheVariants.{TooLarge, BadMagic, BadVersion}
 use Rattle.jl_classfile.specs.declared.fault.ClassFault.TheVariants.{Truncated, Pool, ModuleFile}

@@ -8,8 +8,10 @@ ghost use Rattle.jl_json.specs.ClassAnswers.{instruction_name, call_data, call_s
 ghost use Rattle.jl_json.specs.ClassAnswers.{site_data, method_data, class_data};
 
 use crate::text::text_of;
-use jl_classfile::{CallSiteSpecifier, ClassFile, Kind, Method, Operand, Reference, Site};
+use jl_classfile::{ClassFile, Method};
+use jl_code::{Kind, Operand, Site};
 use jl_names::Name;
+use jl_pool::{CallSiteSpecifier, Reference};
 use serde_json::{Value, json};
 use std::alloc::{AllocError, Global};
 

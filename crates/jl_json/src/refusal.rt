@@ -5,7 +5,9 @@ ghost use Rattle.serde_json.specs.View.{view, members_view};
 ghost use Rattle.jl_json.specs.Refusals.{refusal_of, with_number, reason, place, method};
 ghost use Rattle.jl_json.specs.Refusals.{pool_reason, pool_place, code_reason, code_place};
 
-use jl_classfile::{ClassFault, CodeFault, PoolFault};
+use jl_classfile::ClassFault;
+use jl_code::CodeFault;
+use jl_pool::PoolFault;
 use serde_json::{Map, Value, put};
 use std::alloc::{AllocError, Global};
 

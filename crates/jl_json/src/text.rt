@@ -1,8 +1,8 @@
 //! Names as text.
 
-ghost use Rattle.std.specs.Prelude.{◌≡◌, string_bytes, IfOk};
+ghost use Rattle.std.specs.Prelude.{◌≡◌, true, string_bytes, IfOk};
 ghost use Rattle.jl_json.specs.Names.{SpellsNames};
-ghost use Rattle.jl_json.specs.NameReading.{name_text};
+ghost use Rattle.jl_json.specs.NameReading.{is_plain, name_text};
 
 use jl_names::{NameFault, decode_mutf8};
 use std::alloc::{AllocError, Global};
@@ -12,6 +12,9 @@ use std::alloc::{AllocError, Global};
 pub fn text_of(alloc: Global, name: &[u8]) -> Result<String, AllocError>
     ensures { IfOk result (λ text. string_bytes text ≡ name_text name.now) }
 {
+    if is_plain(name) {
+        return plain_text(alloc, name);
+    }
     match decode_mutf8(alloc, name) {
         Ok(units) => String::from_utf16_lossy(alloc, &units),
         Err(fault) => match fault {
@@ -19,6 +22,24 @@ pub fn text_of(alloc: Global, name: &[u8]) -> Result<String, AllocError>
             // No name in a class file is so.
             _ => Ok(String::new(alloc)),
         },
+    }
+}
+
+/// Whether each unit of the name has one byte.
+fn is_plain(name: &[u8]) -> bool
+    ensures { result ≡ is_plain name.now }
+{
+    name.iter().all(|byte| *byte != 0 && *byte < 0x80)
+}
+
+/// The text of a name whose units have one byte each: the same bytes.
+fn plain_text(alloc: Global, name: &[u8]) -> Result<String, AllocError>
+    requires { is_plain name.now ≡ true }
+    ensures { IfOk result (λ text. string_bytes text ≡ name_text name.now) }
+{
+    match std::str::from_utf8(name) {
+        Ok(text) => text.to_owned(alloc),
+        Err(_) => Ok(String::new(alloc)),
     }
 }
 

@@ -18,7 +18,7 @@ pub fn decode_mutf8(alloc: Global, text: &[u8]) -> Result<Vec<u16>, NameFault>
     ensures ok { IfOk result (λ units. IsMutf8 text.now units.items) }
     ensures fault { IfErr result (IsMutf8Fault text.now) }
 {
-    let mut units = Vec::new(alloc);
+    let mut units = Vec::with_capacity(alloc, text.len())?;
     let mut rest = text;
     while !rest.is_empty() {
         match unit_at(rest) {

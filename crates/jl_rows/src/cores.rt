@@ -1,11 +1,10 @@
 //! Events of a core, and the links and calls that they lead to.
 
-use jl_classfile::{
-    ABSTRACT, ClassFile, INTERFACE, Kind, Method, Operand, PUBLIC, Reference, STATIC, Site,
-    read_class,
-};
+use jl_classfile::{ABSTRACT, ClassFile, INTERFACE, Method, PUBLIC, STATIC, read_class};
+use jl_code::{Kind, Operand, Site};
 use jl_core::{Core, Prepared, prepare};
 use jl_names::{Name, Seq};
+use jl_pool::Reference;
 use jl_types::{
     Answer, ClassId, DefineFault, Event, Link, LoaderId, Made, MethodId, Missing, Outcome, Place,
     PrepareFault, Recv, Refusal, Reply, SiteNo, Table, TableKind, Throwable, Unlinked,

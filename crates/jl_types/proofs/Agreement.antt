@@ -3,12 +3,12 @@ use Rattle.std.specs.Prelude.{◌≡◌, ℕ, ◌==◌, ◌&&◌, ◌||◌, nat_
 use Rattle.std.specs.List.{list_any, list_all}
 use Rattle.std.proofs.Common.{refl, ap, sym, ◌∙◌, arith, inl, inr}
 use Rattle.std.proofs.lemmas.Bool.Decides.{Decides-eqb}
-use Rattle.jl_classfile.specs.declared.site.Kind.{Kind}
-use Rattle.jl_classfile.specs.declared.site.Kind.TheVariants.{Virtual, Special, Static, Interface, Dynamic}
-use Rattle.jl_classfile.specs.declared.site.Operand.{Operand}
-use Rattle.jl_classfile.specs.declared.site.Operand.TheVariants as operand
-use Rattle.jl_classfile.specs.declared.site.Site.{Site}
-use Rattle.jl_classfile.specs.declared.reference.Reference.{Reference}
+use Rattle.jl_code.specs.declared.site.Kind.{Kind}
+use Rattle.jl_code.specs.declared.site.Kind.TheVariants.{Virtual, Special, Static, Interface, Dynamic}
+use Rattle.jl_code.specs.declared.site.Operand.{Operand}
+use Rattle.jl_code.specs.declared.site.Operand.TheVariants as operand
+use Rattle.jl_code.specs.declared.site.Site.{Site}
+use Rattle.jl_pool.specs.declared.reference.Reference.{Reference}
 use Rattle.jl_types.specs.declared.answer.ResolveAnswer.{ResolveAnswer}
 use Rattle.jl_types.specs.declared.answer.ResolveAnswer.TheVariants as resolve
 use Rattle.jl_types.specs.declared.ids.Place.{Place}

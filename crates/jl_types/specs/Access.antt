@@ -1,7 +1,7 @@
 -- What is accessible to whom (JVMS 5.4.4), and nests (4.7.28, 4.7.29).
 use Rattle.std.specs.Prelude.{ℕ, Bool, not, ◌&&◌, ◌||◌, ◌==◌, List, Option, Some, None, slice_get, option_and_then, if◌then◌else◌}
 use Rattle.std.specs.List.{list_any}
-use Rattle.jl_classfile.specs.Pools.{same_text}
+use Rattle.jl_pool.specs.Pools.{same_text}
 use Rattle.jl_types.specs.declared.class.Class.{Class}
 use Rattle.jl_types.specs.declared.ids.MethodId.{MethodId}
 use Rattle.jl_types.specs.declared.answer.Missing.{Missing}

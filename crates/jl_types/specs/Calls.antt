@@ -1,7 +1,7 @@
 -- The answer to a call (JVMS 6.5). It knows of no links, tables or lists of receivers.
 use Rattle.std.specs.Prelude.{ℕ, Bool, true, ◌&&◌, if◌then◌else◌}
-use Rattle.jl_classfile.specs.declared.site.Kind.{Kind}
-use Rattle.jl_classfile.specs.declared.site.Kind.TheVariants.{Virtual, Special, Static, Interface, Dynamic}
+use Rattle.jl_code.specs.declared.site.Kind.{Kind}
+use Rattle.jl_code.specs.declared.site.Kind.TheVariants.{Virtual, Special, Static, Interface, Dynamic}
 use Rattle.jl_types.specs.declared.answer.Outcome.{Outcome}
 use Rattle.jl_types.specs.declared.answer.Outcome.TheVariants.{Run, Throws}
 use Rattle.jl_types.specs.declared.answer.Throwable.TheVariants.{NullPointerException}

@@ -3,7 +3,7 @@ use Rattle.std.specs.Prelude.{ℕ, Bool, not, ◌&&◌, ◌||◌, ◌==◌, nat_
 use Rattle.std.specs.List.{list_any}
 use Rattle.std.specs.Bool.{then_some}
 use Rattle.jl_classfile.specs.declared.class.ClassFile.{ClassFile}
-use Rattle.jl_classfile.specs.Pools.{same_text}
+use Rattle.jl_pool.specs.Pools.{same_text}
 use Rattle.jl_classfile.specs.Conditions.{has_flag, object, PUBLIC}
 use Rattle.jl_types.specs.declared.class.Class.{Class}
 use Rattle.jl_types.specs.declared.refusal.DefineFault.{DefineFault}

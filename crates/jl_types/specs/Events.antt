@@ -3,10 +3,10 @@ use Rattle.std.specs.Prelude.{ℕ, Bool, true, false, not, ◌&&◌, ◌||◌, �
 use Rattle.std.specs.Option.{option_map_or}
 use Rattle.std.specs.List.{list_any, starts_with}
 use Rattle.std.specs.Bool.{then_some}
-use Rattle.jl_classfile.specs.Pools.{same_text}
-use Rattle.jl_classfile.specs.declared.site.Operand.{Operand}
-use Rattle.jl_classfile.specs.declared.site.Operand.TheVariants as operand
-use Rattle.jl_classfile.specs.declared.site.Site.{Site}
+use Rattle.jl_pool.specs.Pools.{same_text}
+use Rattle.jl_code.specs.declared.site.Operand.{Operand}
+use Rattle.jl_code.specs.declared.site.Operand.TheVariants as operand
+use Rattle.jl_code.specs.declared.site.Site.{Site}
 use Rattle.jl_types.specs.declared.ids.Place.{Place}
 use Rattle.jl_types.specs.declared.link.Link.{Link}
 use Rattle.jl_types.specs.declared.answer.Unlinked.{Unlinked}

@@ -2,7 +2,7 @@
 use Rattle.std.specs.Prelude.{ℕ, not, ◌&&◌, ◌||◌, List, [], ◌∷◌, filter, filter_map, slice_get, Option, Some, None, option_and_then, option_to_list, Result, Ok, Err, if◌then◌else◌}
 use Rattle.std.specs.Bool.{beq}
 use Rattle.std.specs.List.{list_any}
-use Rattle.jl_classfile.specs.declared.reference.Reference.{Reference}
+use Rattle.jl_pool.specs.declared.reference.Reference.{Reference}
 use Rattle.jl_classfile.specs.Conditions.{object}
 use Rattle.jl_types.specs.declared.ids.MethodId.{MethodId}
 use Rattle.jl_types.specs.declared.answer.ResolveAnswer.{ResolveAnswer}

@@ -1,11 +1,11 @@
 -- What a requested invocation comes to before any receiver is looked at (JVMS 6.5): both its link and its calls rest on it.
 use Rattle.std.specs.Prelude.{ℕ, not, ◌&&◌, ◌==◌, slice_get, find, Option, Some, None, option_map, option_and_then, Result, Ok, Err, List, if◌then◌else◌}
-use Rattle.jl_classfile.specs.declared.reference.Reference.{Reference}
-use Rattle.jl_classfile.specs.declared.site.Kind.{Kind}
-use Rattle.jl_classfile.specs.declared.site.Kind.TheVariants.{Virtual, Special, Static, Interface, Dynamic}
-use Rattle.jl_classfile.specs.declared.site.Operand.{Operand}
-use Rattle.jl_classfile.specs.declared.site.Operand.TheVariants as operand
-use Rattle.jl_classfile.specs.declared.site.Site.{Site}
+use Rattle.jl_pool.specs.declared.reference.Reference.{Reference}
+use Rattle.jl_code.specs.declared.site.Kind.{Kind}
+use Rattle.jl_code.specs.declared.site.Kind.TheVariants.{Virtual, Special, Static, Interface, Dynamic}
+use Rattle.jl_code.specs.declared.site.Operand.{Operand}
+use Rattle.jl_code.specs.declared.site.Operand.TheVariants as operand
+use Rattle.jl_code.specs.declared.site.Site.{Site}
 use Rattle.jl_types.specs.declared.ids.MethodId.{MethodId}
 use Rattle.jl_types.specs.declared.ids.Place.{Place}
 use Rattle.jl_types.specs.declared.answer.Throwable.{Throwable}

@@ -2,8 +2,8 @@
 use Rattle.std.specs.Prelude.{ℕ, ◌+◌, max, Bool, false, not, ◌||◌, nat_lt, nat_le, List, [], ◌∷◌, length, slice_get, Option, if◌then◌else◌}
 use Rattle.std.specs.Bool.{then_some}
 use Rattle.std.specs.Option.{option_map_or}
-use Rattle.jl_classfile.specs.Pools.{same_text}
-use Rattle.jl_classfile.specs.Codes.{begins_special}
+use Rattle.jl_pool.specs.Pools.{same_text}
+use Rattle.jl_code.specs.Codes.{begins_special}
 use Rattle.jl_types.specs.declared.ids.MethodId.{MethodId}
 use Rattle.jl_types.specs.declared.refusal.CallSiteFault.{CallSiteFault}
 use Rattle.jl_types.specs.declared.refusal.CallSiteFault.TheVariants.{UnknownMethod, NotStatic, WrongType, UnknownSwitch, TooDeep}

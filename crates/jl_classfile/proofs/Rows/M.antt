@@ -1,12 +1,12 @@
 -- A class with one method and one invocation: a Code attribute, instructions and a site.
 use Rattle.std.proofs.Common.{◌≡◌, ℕ, List, [], ◌∷◌, ◌++◌, Some, None, refl, arith, rules, false, inl, inr}
 use Rattle.std.specs.Prelude.{codes}
-use Rattle.jl_classfile.specs.declared.constant.Constant.TheVariants.{Utf8, Class, Methodref, NameAndType}
-use Rattle.jl_classfile.specs.declared.site.Kind.TheVariants.{Virtual}
-use Rattle.jl_classfile.specs.declared.site.Operand.TheVariants.{Method as Called}
+use Rattle.jl_pool.specs.declared.constant.Constant.TheVariants.{Utf8, Class, Methodref, NameAndType}
+use Rattle.jl_code.specs.declared.site.Kind.TheVariants.{Virtual}
+use Rattle.jl_code.specs.declared.site.Operand.TheVariants.{Method as Called}
 use Rattle.jl_names.specs.MethodTypes.{TakesSlots}
-use Rattle.jl_classfile.specs.declared.instruction.Instruction.{Instruction}
-use Rattle.jl_classfile.specs.declared.instruction.Instruction.TheVariants.{Plain, Invoke}
+use Rattle.jl_code.specs.declared.instruction.Instruction.{Instruction}
+use Rattle.jl_code.specs.declared.instruction.Instruction.TheVariants.{Plain, Invoke}
 use Rattle.jl_classfile.specs.Layouts.{Layout, file_text}
 use Rattle.jl_classfile.specs.CodeAttributes.{IsCodeOf}
 use Rattle.jl_classfile.specs.Parts.{Parts}

@@ -1,7 +1,7 @@
 -- The 46 bytes of java/lang/Object.
 use Rattle.std.proofs.Common.{◌≡◌, ℕ, List, [], ◌∷◌, ◌++◌, None, refl, arith, inl, rules}
 use Rattle.std.specs.Prelude.{codes}
-use Rattle.jl_classfile.specs.declared.constant.Constant.TheVariants.{Utf8, Class}
+use Rattle.jl_pool.specs.declared.constant.Constant.TheVariants.{Utf8, Class}
 use Rattle.jl_classfile.specs.Layouts.{Layout, file_text}
 use Rattle.jl_classfile.specs.Parts.{Parts}
 use Rattle.jl_classfile.specs.ClassFiles.{IsClass}

@@ -6,7 +6,7 @@ use Rattle.jl_classfile.specs.declared.body.Member.{Member}
 use Rattle.jl_classfile.specs.declared.body.Body.{Body}
 use Rattle.jl_classfile.specs.declared.body.Broken.{Broken}
 use Rattle.jl_classfile.specs.declared.body.Broken.TheVariants.{Cut, Memory}
-use Rattle.jl_classfile.specs.Reading.Fields.{◌>>=◌, number_at, bytes_at}
+use Rattle.jl_pool.specs.Reading.Fields.{◌>>=◌, number_at, bytes_at}
 
 -- what a function returned, seen by view, is what reading gives, unless memory ran out
 abbrev pub Stops : {Y : Type 0} → Broken → Option Y → Type 0

@@ -2,13 +2,16 @@
 use Rattle.std.specs.Prelude.{◌≡◌, ℕ, ◌+◌, ◌<◌, ◌≤◌, ◌==◌, Bool, true, false, not, ◌&&◌, nat_le, IsTrue, List, length, Option, Some, None, slice_get}
 use Rattle.std.specs.Option.{option_map_or}
 use Rattle.std.specs.List.{Contains}
+use Rattle.std.specs.Borrow.{Bor}
 use Rattle.jl_names.specs.ClassNames.{is_unqualified}
+use Rattle.jl_names.specs.Repeats.{text_at as text_of_number}
 use Rattle.jl_classfile.specs.declared.body.Member.{Member}
 use Rattle.jl_classfile.specs.declared.fault.ClassFault.{ClassFault}
 use Rattle.jl_classfile.specs.declared.fault.ClassFault.TheVariants.{BadLink, BadMember, DuplicateMethod, TwoCodes}
-use Rattle.jl_classfile.specs.Pools.{Pool, text_at}
+use Rattle.jl_pool.specs.Pools.{Pool, text_at}
 use Rattle.jl_classfile.specs.Conditions.{has_flag, STATIC, one_if, is_method_name, flags_fit, IsTextNumber, MemberLinks, member_numbers, FieldFits, MethodFits, same_method, codes_of}
-use Rattle.jl_classfile.specs.Reading.Forms.{is_field, method_slots}
+use Rattle.jl_pool.specs.Reading.Forms.{is_field, method_slots}
+pub use Rattle.jl_pool.specs.Reading.Forms.{form_of}
 
 -- the test, where a text stands there
 abbrev pub on_text : (List ℕ → Bool) → Option (List ℕ) → Bool
@@ -62,3 +65,10 @@ pub record IsTwin (pool : Pool) (ms : List Member) (i : ℕ) : Type 0 where
 pub record IsFirstTwin (pool : Pool) (ms : List Member) (i : ℕ) : Type 0 where
   pub twin : IsTwin pool ms i
   pub first : (k : ℕ) → k < i → ¬ IsTwin pool ms k
+
+-- the text that is kept for a number is the one that stands there, if one does
+abbrev pub IsTextAt : List (Option (Bor (List ℕ))) → Pool → ℕ → Type 0
+IsTextAt texts pool n = text_of_number texts n ≡ text_at pool n
+
+abbrev pub AreTexts : List (Option (Bor (List ℕ))) → Pool → Member → Type 0
+AreTexts texts pool m = IsTextAt texts pool m.name × IsTextAt texts pool m.descriptor

@@ -1,27 +1,29 @@
 -- What the readers of the passes find out. No public clause cites this.
-use Rattle.std.specs.Prelude.{◌≡◌, ◌≢◌, ℕ, ◌≤◌, ◌<◌, ◌^◌, List, [], ◌∷◌, ◌++◌, length, map, Option, None, ⊤}
+use Rattle.std.specs.Prelude.{◌≡◌, ◌≢◌, ℕ, ◌≤◌, ◌<◌, ◌^◌, List, [], ◌∷◌, ◌++◌, length, map, Option, ⊤}
+use Rattle.std.specs.Option.{option_and_then, unwrap_or}
 use Rattle.std.specs.List.{Contains}
 use Rattle.jl_classfile.specs.declared.body.Attribute.{Attribute}
 use Rattle.jl_classfile.specs.declared.body.Member.{Member}
 use Rattle.jl_classfile.specs.declared.body.Body.{Body}
 use Rattle.jl_classfile.specs.declared.body.Broken.{Broken}
 use Rattle.jl_classfile.specs.declared.body.Broken.TheVariants as broken
-use Rattle.jl_classfile.specs.declared.pool_fault.PoolFault.{PoolFault}
-use Rattle.jl_classfile.specs.declared.pool_fault.PoolFault.TheVariants as pool
+use Rattle.jl_pool.specs.declared.pool_fault.PoolFault.{PoolFault}
+use Rattle.jl_pool.specs.declared.pool_fault.PoolFault.TheVariants as pool
 use Rattle.jl_classfile.specs.declared.class.ClassFile.{ClassFile}
-use Rattle.jl_classfile.specs.declared.constant.Constant.{Constant}
+use Rattle.jl_pool.specs.declared.constant.Constant.{Constant}
 use Rattle.jl_classfile.specs.declared.class.Method.{Method}
-use Rattle.jl_classfile.specs.declared.instruction.Instruction.{Instruction}
-use Rattle.jl_classfile.specs.declared.site.Site.{Site}
-use Rattle.jl_classfile.specs.declared.code_fault.CodeFault.{CodeFault}
-use Rattle.jl_classfile.specs.declared.code_fault.CodeFault.TheVariants as code
+use Rattle.jl_code.specs.declared.instruction.Instruction.{Instruction}
+use Rattle.jl_code.specs.declared.site.Site.{Site}
+use Rattle.jl_code.specs.declared.code_fault.CodeFault.{CodeFault}
+use Rattle.jl_code.specs.declared.code_fault.CodeFault.TheVariants as code
 use Rattle.jl_classfile.specs.declared.fault.ClassFault.{ClassFault}
 use Rattle.jl_classfile.specs.declared.fault.ClassFault.TheVariants.{Truncated, Pool as InPool, Code, BadLink, Memory}
-use Rattle.jl_classfile.specs.Pools.{Pool, class_at, places, IsSoundPool}
+use Rattle.jl_pool.specs.Pools.{Pool, class_at, places, IsSoundPool}
 use Rattle.jl_classfile.specs.Layouts.{Layout, head_text, file_text, IsLayout}
 use Rattle.jl_classfile.specs.Conditions.{IsVersion, codes_of, HasCode, HaveCodes}
 use Rattle.jl_classfile.specs.ClassFiles.{most_bytes, pool_of}
-use Rattle.jl_classfile.specs.Faults.{PoolStands, IsCodeFault}
+use Rattle.jl_pool.specs.Faults.{PoolStands}
+use Rattle.jl_classfile.specs.Faults.{IsCodeFault}
 use Rattle.jl_classfile.specs.Shown.{name_or_nothing, sites_of, shown_method, shown_methods}
 
 abbrev pub fault_of_broken : Broken → ClassFault
@@ -92,7 +94,7 @@ pub record MethodsShown (p : Pool) (ms : List Member) (methods : List Method) : 
   pub have : HaveCodes p ms codes
   pub shown : methods ≡ shown_methods p ms codes
 
-pub record BodyShown (p : Pool) (b : Body) (file : ClassFile) : Type 0 where
+pub record BodyShown (p : Pool) (b : Body) (host : Option ℕ) (members : Option (List ℕ)) (file : ClassFile) : Type 0 where
   pub codes : List (Option (List Instruction))
   pub have : HaveCodes p b.methods codes
   pub shown : file ≡ record {
@@ -100,7 +102,7 @@ pub record BodyShown (p : Pool) (b : Body) (file : ClassFile) : Type 0 where
     flags = b.flags;
     superclass = class_at p b.super_class;
     interfaces = map (name_or_nothing p) b.interfaces;
-    nest_host = None;
-    nest_members = [];
+    nest_host = option_and_then (class_at p) host;
+    nest_members = map (name_or_nothing p) (unwrap_or members []);
     methods = shown_methods p b.methods codes;
   }

@@ -2,8 +2,8 @@
 use Rattle.std.specs.Prelude.{◌≡◌, ℕ, zero, suc, List, [], ◌∷◌, ◌++◌, Some, None, Ok, Err, codes, refl, Box}
 use Rattle.std.proofs.Common.{Global}
 use Rattle.jl_classfile.specs.declared.class.Method.{Method}
-use Rattle.jl_classfile.specs.declared.site.Kind.TheVariants.{Dynamic}
-use Rattle.jl_classfile.specs.declared.site.Operand.TheVariants as operand
+use Rattle.jl_code.specs.declared.site.Kind.TheVariants.{Dynamic}
+use Rattle.jl_code.specs.declared.site.Operand.TheVariants as operand
 use Rattle.jl_types.specs.declared.ids.MethodId.{MethodId}
 use Rattle.jl_types.specs.declared.answer.Recv.TheVariants.{Null}
 use Rattle.jl_types.specs.declared.answer.Answer.TheVariants as answer

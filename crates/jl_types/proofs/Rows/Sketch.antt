@@ -2,9 +2,9 @@
 use Rattle.std.specs.Prelude.{ℕ, ◌+◌, List, [], ◌∷◌, Option, None, codes, true, false}
 use Rattle.jl_classfile.specs.declared.class.ClassFile.{ClassFile}
 use Rattle.jl_classfile.specs.declared.class.Method.{Method}
-use Rattle.jl_classfile.specs.declared.reference.Reference.{Reference}
-use Rattle.jl_classfile.specs.declared.site.Kind.{Kind}
-use Rattle.jl_classfile.specs.declared.site.Operand.TheVariants as operand
+use Rattle.jl_pool.specs.declared.reference.Reference.{Reference}
+use Rattle.jl_code.specs.declared.site.Kind.{Kind}
+use Rattle.jl_code.specs.declared.site.Operand.TheVariants as operand
 use Rattle.jl_types.specs.declared.class.Class.{Class}
 use Rattle.jl_types.specs.declared.ids.MethodId.{MethodId}
 use Rattle.jl_types.specs.World.{Classes, World}

@@ -1,6 +1,6 @@
 -- An invokespecial whose search finds an abstract method.
 use Rattle.std.specs.Prelude.{◌≡◌, [], ◌∷◌, Some, Ok, codes, refl}
-use Rattle.jl_classfile.specs.declared.site.Kind.TheVariants.{Special}
+use Rattle.jl_code.specs.declared.site.Kind.TheVariants.{Special}
 use Rattle.jl_types.specs.declared.answer.Outcome.TheVariants as outcome
 use Rattle.jl_types.specs.declared.answer.Recv.TheVariants.{Null, Of}
 use Rattle.jl_types.specs.declared.answer.Answer.TheVariants.{Throws, BadReceiver}

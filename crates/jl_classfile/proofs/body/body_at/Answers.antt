@@ -5,7 +5,7 @@ use Rattle.jl_classfile.specs.declared.body.Body.{Body}
 use Rattle.jl_classfile.specs.declared.body.Broken.{Broken}
 use Rattle.jl_classfile.specs.Layouts.{body_text, BodySized}
 use Rattle.jl_classfile.specs.Reading.Bodies.{Reads, body_at}
-use Rattle.jl_classfile.proofs.Fields.{IsBytes}
+use Rattle.jl_pool.proofs.Fields.{IsBytes}
 use Rattle.jl_classfile.proofs.BodyLaws.{body-takes}
 use Rattle.jl_classfile.proofs.body.body_at.Goals as goal
 

@@ -1,5 +1,5 @@
 use Rattle.std.proofs.Common.{◌≡◌, ◌-◌}
-use Rattle.jl_classfile.specs.Reading.Fields.{number_at}
+use Rattle.jl_pool.specs.Reading.Fields.{number_at}
 use Rattle.jl_classfile.specs.Reading.Bodies.{with_front, items_at}
 use Rattle.jl_classfile.proofs.body.numbers_of.Given as goal
 

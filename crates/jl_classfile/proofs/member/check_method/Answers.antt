@@ -16,11 +16,11 @@ returns-in_err-check_attribute_names-clause-fault c =
 
 pub returns-clause-ok : goal.returns-clause-ok
 returns-clause-ok c =
-    let counted = rw c.as_slice-2.ensures at c.code_count.ensures in (
+    let counted = rw c.as_slice-2.ensures at c.count_called.ensures in (
       record {
         links = member_links c.args.pool.now c.args.method.now c.in_ok-check_text.ensures.ok c.in_ok-check_text-2.ensures.ok (rw c.as_slice.ensures at c.in_ok-check_attribute_names.ensures.ok);
         fits = yes_when _ _ (method_fits-is c.args.pool.now c.args.interface c.args.method.now) (sym c.method_fits.ensures ∙ c.if-not-method_fits.false);
-        one_code = (let few = c.if-code_count-gt1.false in omega (arith, counted, few));
+        one_code = (let few = c.if-count_called-gt1.false in omega (arith, counted, few));
       },
       c.if-twin.false,
     )

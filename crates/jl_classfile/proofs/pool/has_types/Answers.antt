@@ -1,5 +1,0 @@
-use Rattle.jl_classfile.proofs.TypedLaws.{is_typed-is}
-use Rattle.jl_classfile.proofs.pool.has_types.Goals as goal
-
-pub returns : goal.returns
-returns c = rw c.is_typed.ensures (is_typed-is c.args.entries.now c.args.constant.now)

@@ -1,0 +1,161 @@
+-- The tests of an invocation say what the definition says.
+use Rattle.std.proofs.Common.{◌≡◌, ℕ, ◌≤◌, Bool, true, false, ◌&&◌, eqb, List, [], ◌∷◌, Option, Some, None, refl, sym, ap, subst, ◌∙◌, arith}
+use Rattle.std.specs.Prelude.{IsTrue, nat_le, if◌then◌else◌, option_map}
+use Rattle.std.specs.Option.{option_and_then, option_map_or}
+use Rattle.std.proofs.lemmas.Bool.Decides.{nat_tests}
+use Rattle.std.proofs.lemmas.Bool.{eqb-true, eq-eqb}
+use Rattle.jl_names.specs.MethodTypes.{TakesSlots}
+use Rattle.jl_pool.specs.declared.constant.Constant.{Constant}
+use Rattle.jl_pool.specs.declared.constant.Constant.TheVariants.{Methodref, InterfaceMethodref, NameAndType, InvokeDynamic}
+use Rattle.jl_pool.specs.declared.reference.Reference.{Reference}
+use Rattle.jl_pool.specs.declared.reference.CallSiteSpecifier.{CallSiteSpecifier}
+use Rattle.jl_code.specs.declared.site.Operand.{Operand}
+use Rattle.jl_code.specs.declared.site.Operand.TheVariants.{Method, CallSite}
+use Rattle.jl_code.specs.Known.{Invocation, invocations}
+use Rattle.jl_pool.specs.Pools.{Pool, constant_at, has_tag, text_at, same_text, Signed, both, reference, signed_of, signed_at, descriptor_of, descriptor_at, class_text_at, reference_of, reference_at, call_site_of, call_site_at}
+use Rattle.jl_code.specs.Instructions.{invocation_in}
+use Rattle.jl_code.specs.Codes.{either_operand, operand_at, operand_name, operand_type, may_name, most_slots, tail_of, Invokes}
+use Rattle.jl_pool.specs.Reading.Forms.{method_slots, slots_of_constant, slots_at}
+use Rattle.jl_code.specs.Reading.Sites.{is_tagged, if_fits, invoked}
+use Rattle.jl_pool.proofs.FormLaws.{and_true, SlotsAre, method_slots-is, one_slots}
+
+-- ---- the slots are those of the descriptor that is named
+
+both-some : {X Y Z : Type 0} (f : X → Y → Z) (a : Option X) (b : Option Y) (z : Z) → both f a b ≡ Some z → (x : X) × (y : Y) × (a ≡ Some x) × (b ≡ Some y) × (f x y ≡ z)
+both-some f None b z e = absurd cc
+both-some f (Some x) None z e = absurd cc
+both-some f (Some x) (Some y) z e = (x, y, refl, refl, cc)
+
+and_then-some : {X Y : Type 0} (f : X → Option Y) (o : Option X) (y : Y) → option_and_then f o ≡ Some y → (x : X) × (o ≡ Some x) × (f x ≡ Some y)
+and_then-some f None y e = absurd cc
+and_then-some f (Some x) y e = (x, refl, e)
+
+descriptor_of-signed : (pool : Pool) (c : Constant) (s : Signed) → signed_of pool c ≡ Some s → descriptor_of pool c ≡ Some s.ty
+descriptor_of-signed pool (NameAndType name ty) s e = let b = both-some (λ n t. record { name = n; ty = t }) (text_at pool name) (text_at pool ty) s e in b.3 ∙ ap (λ (q : Signed). Some q.ty) b.4
+descriptor_of-signed pool _ s e = absurd cc
+
+descriptor_at-signed : (pool : Pool) (n : ℕ) (s : Signed) → signed_at pool n ≡ Some s → descriptor_at pool n ≡ Some s.ty
+descriptor_at-signed pool n s e =
+    let c = and_then-some (signed_of pool) (constant_at pool n) s e in
+    ap (λ (o : Option Constant). option_and_then (descriptor_of pool) o) c.1 ∙ descriptor_of-signed pool c.0 s c.2
+
+signed_slots : (pool : Pool) (n : ℕ) (s : Signed) → signed_at pool n ≡ Some s → option_and_then method_slots (descriptor_at pool n) ≡ method_slots s.ty
+signed_slots pool n s e = ap (λ (o : Option (List ℕ)). option_and_then method_slots o) (descriptor_at-signed pool n s e)
+
+reference_slots : (pool : Pool) (c : Constant) (r : Reference (List ℕ)) → reference_of pool c ≡ Some r → slots_of_constant pool c ≡ method_slots r.ty
+reference_slots pool (Methodref owner nt) r e =
+    let b = both-some (reference false) (class_text_at pool owner) (signed_at pool nt) r e in signed_slots pool nt b.1 b.3 ∙ ap (λ (q : Reference (List ℕ)). method_slots q.ty) b.4
+reference_slots pool (InterfaceMethodref owner nt) r e =
+    let b = both-some (reference true) (class_text_at pool owner) (signed_at pool nt) r e in signed_slots pool nt b.1 b.3 ∙ ap (λ (q : Reference (List ℕ)). method_slots q.ty) b.4
+reference_slots pool _ r e = absurd cc
+
+map-some : {X Y : Type 0} (f : X → Y) (o : Option X) (y : Y) → option_map f o ≡ Some y → (x : X) × (o ≡ Some x) × (f x ≡ y)
+map-some f None y e = absurd cc
+map-some f (Some x) y e = (x, refl, cc)
+
+call_site_slots : (pool : Pool) (c : Constant) (k : CallSiteSpecifier (List ℕ)) → call_site_of pool c ≡ Some k → slots_of_constant pool c ≡ method_slots k.ty
+call_site_slots pool (InvokeDynamic bootstrap nt) k e =
+    let m = map-some (λ s. record { bootstrap = bootstrap; name = s.name; ty = s.ty }) (signed_at pool nt) k e in signed_slots pool nt m.0 m.1 ∙ ap (λ (q : CallSiteSpecifier (List ℕ)). method_slots q.ty) m.2
+call_site_slots pool _ k e = absurd cc
+
+slots_at-reference : (pool : Pool) (n : ℕ) (r : Reference (List ℕ)) → reference_at pool n ≡ Some r → slots_at pool n ≡ method_slots r.ty
+slots_at-reference pool n r e =
+    let c = and_then-some (reference_of pool) (constant_at pool n) r e in ap (λ (o : Option Constant). option_and_then (slots_of_constant pool) o) c.1 ∙ reference_slots pool c.0 r c.2
+
+slots_at-call_site : (pool : Pool) (n : ℕ) (k : CallSiteSpecifier (List ℕ)) → call_site_at pool n ≡ Some k → slots_at pool n ≡ method_slots k.ty
+slots_at-call_site pool n k e =
+    let c = and_then-some (call_site_of pool) (constant_at pool n) k e in ap (λ (o : Option Constant). option_and_then (slots_of_constant pool) o) c.1 ∙ call_site_slots pool c.0 k c.2
+
+slots_at-operand : (pool : Pool) (n : ℕ) (o : Operand (List ℕ)) → operand_at pool n ≡ Some o → slots_at pool n ≡ method_slots (operand_type o)
+slots_at-operand pool n o e = by_reference (reference_at pool n) refl e where
+  by_reference : (r : Option (Reference (List ℕ))) → reference_at pool n ≡ r → either_operand r (call_site_at pool n) ≡ Some o → slots_at pool n ≡ method_slots (operand_type o)
+  by_reference (Some r) is e = slots_at-reference pool n r is ∙ ap (λ (q : Operand (List ℕ)). method_slots (operand_type q)) (let same : Method r ≡ o = cc in same)
+  by_reference None is e = let m = map-some CallSite (call_site_at pool n) o e in slots_at-call_site pool n m.0 m.1 ∙ ap (λ (q : Operand (List ℕ)). method_slots (operand_type q)) m.2
+
+-- ---- an invocation
+
+true_is : (b : Bool) → IsTrue b → b ≡ true
+true_is true h = refl
+true_is false h = absurd cc
+
+is_true : (b : Bool) → b ≡ true → IsTrue b
+is_true true e = refl
+is_true false e = absurd cc
+
+tagged_row : (pool : Pool) (number : ℕ) (row : Option Invocation) → option_map_or (λ r. has_tag pool r.tags number) row false ≡ true
+    → (r : Invocation) × (row ≡ Some r) × (has_tag pool r.tags number ≡ true)
+tagged_row pool number None e = absurd cc
+tagged_row pool number (Some r) e = (r, refl, e)
+
+guarded : {X : Type 0} (b : Bool) (o : Option X) (x : X) → (if b then o else None) ≡ Some x → (b ≡ true) × (o ≡ Some x)
+guarded true o x e = (refl, e)
+guarded false o x e = absurd cc
+
+takes_found : (text : List ℕ) (found : Option ℕ) (n : ℕ) → SlotsAre text found → found ≡ Some n → TakesSlots text n
+takes_found text None n h e = absurd cc
+takes_found text (Some m) n h e = let same : m ≡ n = cc in subst (λ (k : ℕ). TakesSlots text k) same h.takes
+
+found_takes : (text : List ℕ) (found : Option ℕ) (n : ℕ) → SlotsAre text found → n ≤ 255 → TakesSlots text n → found ≡ Some n
+found_takes text None n h few t = absurd (h (n, few, t))
+found_takes text (Some m) n h few t = ap (λ (k : ℕ). Some k) (one_slots text m n h.takes t)
+
+pub text_is : (x y : List ℕ) → same_text x y ≡ true → x ≡ y
+text_is [] [] e = refl
+text_is [] (b ∷ y) e = absurd cc
+text_is (a ∷ x) [] e = absurd cc
+text_is (a ∷ x) (b ∷ y) e = let s = and_true (eqb a b) (same_text x y) e in cc (eqb-true a b s.0, text_is x y s.1)
+
+pub same_self : (x : List ℕ) → same_text x x ≡ true
+same_self [] = refl
+same_self (a ∷ x) = rw (eq-eqb a a refl, same_self x) refl
+
+few_most : (opcode : ℕ) → most_slots opcode ≤ 255
+few_most opcode = grind (arith, nat_tests)
+
+-- what the tests found is invoked
+pub invoked-some : (pool : Pool) (opcode number : ℕ) (tail : List ℕ) (o : Operand (List ℕ)) → invoked pool opcode number tail ≡ Some o → Invokes pool opcode number tail × (operand_at pool number ≡ Some o)
+unfolding invoked
+invoked-some pool opcode number tail o e =
+    let g = guarded (is_tagged pool opcode number) (option_and_then (λ p. option_and_then (if_fits opcode tail p) (slots_at pool number)) (operand_at pool number)) o e in
+    let row = tagged_row pool number (invocation_in invocations opcode) g.0 in
+    let named = and_then-some (λ p. option_and_then (if_fits opcode tail p) (slots_at pool number)) (operand_at pool number) o g.1 in
+    let counted = and_then-some (if_fits opcode tail named.0) (slots_at pool number) o named.2 in
+    let fits = guarded (may_name opcode (operand_name named.0) && (nat_le counted.0 (most_slots opcode) && same_text tail (tail_of opcode counted.0))) (Some named.0) o counted.2 in
+    let may = and_true (may_name opcode (operand_name named.0)) (nat_le counted.0 (most_slots opcode) && same_text tail (tail_of opcode counted.0)) fits.0 in
+    let few = and_true (nat_le counted.0 (most_slots opcode)) (same_text tail (tail_of opcode counted.0)) may.1 in
+    let same : Some named.0 ≡ Some o = fits.1 in
+    let there : operand_at pool number ≡ Some o = named.1 ∙ same in (
+      record {
+        row = row.0;
+        found = row.1;
+        tagged = is_true (has_tag pool row.0.tags number) row.2;
+        operand = named.0;
+        there = named.1;
+        named = is_true (may_name opcode (operand_name named.0)) may.0;
+        slots = counted.0;
+        counted = takes_found (operand_type named.0) (method_slots (operand_type named.0)) counted.0 (method_slots-is (operand_type named.0)) (sym (slots_at-operand pool number named.0 named.1) ∙ counted.1);
+        few = below counted.0 (most_slots opcode) few.0;
+        behind = text_is tail (tail_of opcode counted.0) few.1;
+      },
+      there,
+    )
+  where
+    below : (a b : ℕ) → nat_le a b ≡ true → a ≤ b
+    below a b h = grind (arith, nat_tests)
+
+-- what is invoked the tests find
+pub invoked-all : (pool : Pool) (opcode number : ℕ) (tail : List ℕ) (h : Invokes pool opcode number tail) → invoked pool opcode number tail ≡ Some h.operand
+unfolding invoked
+invoked-all pool opcode number tail h =
+    let slots : slots_at pool number ≡ Some h.slots = slots_at-operand pool number h.operand h.there ∙ found_takes (operand_type h.operand) (method_slots (operand_type h.operand)) h.slots (method_slots-is (operand_type h.operand)) (let most = few_most opcode in omega (arith, most, h.few)) h.counted in
+    let tagged : is_tagged pool opcode number ≡ true = ap (λ (r : Option Invocation). option_map_or (λ q. has_tag pool q.tags number) r false) h.found ∙ true_is (has_tag pool h.row.tags number) h.tagged in
+    let tail_same : same_text tail (tail_of opcode h.slots) ≡ true = ap (λ (t : List ℕ). same_text t (tail_of opcode h.slots)) h.behind ∙ same_self (tail_of opcode h.slots) in
+    let few : nat_le h.slots (most_slots opcode) ≡ true = above h.slots (most_slots opcode) h.few in
+    let may : may_name opcode (operand_name h.operand) ≡ true = true_is (may_name opcode (operand_name h.operand)) h.named in
+    rw (tagged, h.there, slots, may, few, tail_same) refl
+  where
+    above : (a b : ℕ) → a ≤ b → nat_le a b ≡ true
+    above a b h = grind (arith, nat_tests)
+
+pub invoked-none : (pool : Pool) (opcode number : ℕ) (tail : List ℕ) → invoked pool opcode number tail ≡ None → ¬ Invokes pool opcode number tail
+invoked-none pool opcode number tail e = λ h. let found = invoked-all pool opcode number tail h in absurd (let clash : Some h.operand ≡ None = sym found ∙ e in cc)

@@ -1,0 +1,102 @@
+-- A code: instructions one after another, and its invocations (JVMS 4.7.3, 4.9.1).
+use Rattle.std.specs.Prelude.{◌≡◌, ℕ, ◌+◌, ◌≤◌, Bool, false, not, ◌==◌, ◌&&◌, ◌||◌, if◌then◌else◌, IsTrue, List, [], ◌∷◌, ◌++◌, length, codes, Option, Some, None, ⊤, option_map}
+use Rattle.std.specs.List.{flat_map, AllByRecursion}
+use Rattle.std.specs.Str.{byte}
+use Rattle.jl_names.specs.MethodTypes.{TakesSlots}
+use Rattle.jl_pool.specs.declared.reference.Reference.{Reference}
+use Rattle.jl_pool.specs.declared.reference.CallSiteSpecifier.{CallSiteSpecifier}
+use Rattle.jl_code.specs.declared.site.Kind.{Kind}
+use Rattle.jl_code.specs.declared.site.Kind.TheVariants.{Virtual, Special, Static, Interface, Dynamic}
+use Rattle.jl_code.specs.declared.site.Operand.{Operand}
+use Rattle.jl_code.specs.declared.site.Operand.TheVariants.{Method, CallSite}
+use Rattle.jl_code.specs.declared.site.Site.{Site}
+use Rattle.jl_code.specs.Known.{Invocation, invocations}
+use Rattle.jl_pool.specs.Pools.{Pool, has_tag, same_text, reference_at, call_site_at}
+use Rattle.jl_code.specs.declared.instruction.Instruction.{Instruction}
+use Rattle.jl_code.specs.declared.instruction.Instruction.TheVariants.{Invoke}
+use Rattle.jl_code.specs.Instructions.{instruction_text, MayStand, invocation_in}
+
+abbrev pub code_bytes : List Instruction → List ℕ
+code_bytes instructions = flat_map instruction_text instructions
+
+-- each may stand where the ones before it end
+abbrev pub MayStandFrom : ℕ → List Instruction → Type 0
+MayStandFrom pc [] = ⊤
+MayStandFrom pc (i ∷ is) = MayStand pc i × MayStandFrom (pc + length (instruction_text i)) is
+
+-- ---- what is invoked
+
+abbrev pub kind_of : ℕ → Kind
+kind_of opcode =
+    if opcode == 182 then Virtual else (if opcode == 183 then Special else (if opcode == 184 then Static
+    else (if opcode == 185 then Interface else Dynamic)))
+
+abbrev pub either_operand : Option (Reference (List ℕ)) → Option (CallSiteSpecifier (List ℕ)) → Option (Operand (List ℕ))
+either_operand (Some r) s = Some (Method r)
+either_operand None s = option_map CallSite s
+
+-- what the number of an invocation names: a method, or else a call site
+abbrev pub operand_at : Pool → ℕ → Option (Operand (List ℕ))
+operand_at pool n = either_operand (reference_at pool n) (call_site_at pool n)
+
+abbrev pub site_list : ℕ → ℕ → Option (Operand (List ℕ)) → List Site
+site_list pc opcode None = []
+site_list pc opcode (Some operand) = record { pc = pc; kind = kind_of opcode; operand = operand } ∷ []
+
+abbrev pub site_at : Pool → ℕ → Instruction → List Site
+site_at pool pc (Invoke opcode number tail) = site_list pc opcode (operand_at pool number)
+site_at pool pc _ = []
+
+-- the invocations in order, each at the length of what stands before it
+abbrev pub sites_from : Pool → ℕ → List Instruction → List Site
+sites_from pool pc [] = []
+sites_from pool pc (i ∷ is) = site_at pool pc i ++ sites_from pool (pc + length (instruction_text i)) is
+
+-- ---- conditions
+
+abbrev pub operand_name : Operand (List ℕ) → List ℕ
+operand_name (Method r) = r.name
+operand_name (CallSite c) = c.name
+
+abbrev pub operand_type : Operand (List ℕ) → List ℕ
+operand_type (Method r) = r.ty
+operand_type (CallSite c) = c.ty
+
+abbrev pub begins_special : List ℕ → Bool
+begins_special [] = false
+begins_special (b ∷ bs) = b == byte "<"
+
+-- no method whose name begins with < is invoked, but <init> by invokespecial
+abbrev pub may_name : ℕ → List ℕ → Bool
+may_name opcode name = not (begins_special name) || ((opcode == 183) && same_text name (codes "<init>"))
+
+-- the bytes behind the number: invokeinterface tells the slots with the receiver's and a zero, invokedynamic two zeros
+abbrev pub tail_of : ℕ → ℕ → List ℕ
+tail_of opcode slots = if opcode == 185 then (slots + 1) ∷ 0 ∷ [] else (if opcode == 186 then 0 ∷ 0 ∷ [] else [])
+
+-- a receiver takes one of 255 slots
+abbrev pub most_slots : ℕ → ℕ
+most_slots opcode = if (opcode == 184) || (opcode == 186) then 255 else 254
+
+-- what an invocation names, and the bytes behind it
+pub record Invokes (pool : Pool) (opcode number : ℕ) (tail : List ℕ) : Type 0 where
+  pub row : Invocation
+  pub found : invocation_in invocations opcode ≡ Some row
+  pub tagged : IsTrue (has_tag pool row.tags number)
+  pub operand : Operand (List ℕ)
+  pub there : operand_at pool number ≡ Some operand
+  pub named : IsTrue (may_name opcode (operand_name operand))
+  pub slots : ℕ
+  pub counted : TakesSlots (operand_type operand) slots
+  pub few : slots ≤ most_slots opcode
+  pub behind : tail ≡ tail_of opcode slots
+
+abbrev pub OperandFits : Pool → Instruction → Type 0
+OperandFits pool (Invoke opcode number tail) = Invokes pool opcode number tail
+OperandFits pool _ = ⊤
+
+-- the bytes are these instructions
+pub record IsCode (pool : Pool) (bytes : List ℕ) (instructions : List Instruction) : Type 0 where
+  pub bytes_are : bytes ≡ code_bytes instructions
+  pub places : MayStandFrom 0 instructions
+  pub operands : AllByRecursion (OperandFits pool) instructions

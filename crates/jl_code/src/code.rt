@@ -1,0 +1,237 @@
+//! The invocations in a code (JVMS SE 17 §4.7.3, §4.9).
+
+ghost use Rattle.std.specs.Prelude.{◌≡◌, ◌≢◌, ◌<◌, ◌^◌, ◌++◌, List, ℕ, length, IfOk, IfErr, false};
+ghost use Rattle.std.specs.Prelude.{option_to_list};
+ghost use Rattle.std.specs.Option.{option_map_or};
+ghost use Rattle.jl_code.specs.declared.instruction.Instruction.{Instruction};
+ghost use Rattle.jl_code.specs.Known.{invocations};
+ghost use Rattle.jl_code.specs.Instructions.{invocation_in};
+ghost use Rattle.jl_pool.specs.Pools.{Pool, has_tag, same_text};
+ghost use Rattle.jl_code.specs.declared.code_fault.CodeFault.{CodeFault};
+ghost use Rattle.jl_code.specs.declared.code_fault.CodeFault.TheVariants.{Memory};
+ghost use Rattle.jl_code.specs.Codes.{kind_of, operand_at, operand_name, begins_special, may_name, most_slots, tail_of, site_at, sites_from, OperandFits, IsCode};
+ghost use Rattle.jl_code.specs.Faults.{IsScanFault};
+ghost use Rattle.jl_code.specs.Reading.Sites.{invoked, IsSiteFault};
+
+use crate::code_fault::CodeFault;
+use crate::instruction::{Instruction, Stop, instruction_at};
+use crate::site::{Kind, Operand, Site};
+use jl_names::{Name, Text};
+use jl_pool::{CallSiteSpecifier, Pool, Reference};
+use std::alloc::{AllocError, Global};
+
+/// The kind of an invocation.
+fn kind_of(opcode: u8) -> Kind
+    ensures { result ≡ kind_of opcode }
+{
+    match opcode {
+        182 => Kind::Virtual,
+        183 => Kind::Special,
+        184 => Kind::Static,
+        185 => Kind::Interface,
+        _ => Kind::Dynamic,
+    }
+}
+
+/// The method or call site that the entry at a number names.
+fn operand_at<'a>(pool: &Pool<'a>, number: u16) -> Option<Operand<Text<'a>>>
+    ensures { result ≡ operand_at pool.now number }
+{
+    match pool.method_ref(number) {
+        Some(reference) => Some(Operand::Method(reference)),
+        None => match pool.dynamic(number) {
+            Some(specifier) => Some(Operand::CallSite(specifier)),
+            None => None,
+        },
+    }
+}
+
+/// The name of what an operand names.
+fn operand_name<'a>(operand: &Operand<Text<'a>>) -> &'a [u8]
+    ensures { result.now ≡ operand_name operand.now }
+{
+    match operand {
+        Operand::Method(reference) => reference.name.as_bytes(),
+        Operand::CallSite(specifier) => specifier.name.as_bytes(),
+    }
+}
+
+/// Whether an entry of the right kind stands at the number that an invocation names.
+fn is_tagged(pool: &Pool<'_>, opcode: u8, number: u16) -> bool
+    ensures { result ≡ option_map_or (λ row. has_tag pool.now row.tags number) (invocation_in invocations opcode) false }
+{
+    match opcode {
+        182 => pool.has_tag(10, number),
+        183 | 184 => pool.has_tag(10, number) || pool.has_tag(11, number),
+        185 => pool.has_tag(11, number),
+        186 => pool.has_tag(18, number),
+        _ => false,
+    }
+}
+
+/// Whether a name begins with `<`.
+fn begins_special(name: &[u8]) -> bool
+    ensures { result ≡ begins_special name.now }
+{
+    match name {
+        [first, ..] => *first == b'<',
+        [] => false,
+    }
+}
+
+/// Whether an invocation may name this: a name that begins with `<` only as `<init>` by invokespecial.
+fn may_name(opcode: u8, name: &[u8]) -> bool
+    ensures { result ≡ may_name opcode name.now }
+{
+    !begins_special(name) || (opcode == 183 && name == b"<init>".as_slice())
+}
+
+/// The most slots of parameters: a receiver takes one of 255.
+fn most_slots(opcode: u8) -> u8
+    ensures { result ≡ most_slots opcode }
+{
+    if opcode == 184 || opcode == 186 {
+        255
+    } else {
+        254
+    }
+}
+
+/// Whether the bytes behind the number are as they have to be: invokeinterface tells the slots with the receiver's,
+/// and a zero; invokedynamic has two zeros.
+fn tail_fits(opcode: u8, slots: u8, tail: &[u8]) -> bool
+    ensures { result ≡ same_text tail.now (tail_of opcode slots) }
+{
+    match opcode {
+        185 => match tail {
+            [count, zero] => u16::from(*count) == u16::from(slots) + 1 && *zero == 0,
+            _ => false,
+        },
+        186 => tail == [0, 0].as_slice(),
+        _ => tail.is_empty(),
+    }
+}
+
+/// What an invocation names, where it may name that.
+#[tactic(auto, unfolding(crate::specs::Reading::Sites::invoked))]
+fn invoked<'a>(pool: &Pool<'a>, opcode: u8, number: u16, tail: &[u8]) -> Option<Operand<Text<'a>>>
+    ensures { result ≡ invoked pool.now opcode number tail.now }
+{
+    if !is_tagged(pool, opcode, number) {
+        return None;
+    }
+    let operand = operand_at(pool, number)?;
+    let slots = pool.slots(number)?;
+    let named = may_name(opcode, operand_name(&operand));
+    if named && slots <= most_slots(opcode) && tail_fits(opcode, slots, tail) {
+        Some(operand)
+    } else {
+        None
+    }
+}
+
+/// A text, kept.
+fn kept_text(alloc: Global, text: &Text<'_>) -> Result<Name, AllocError>
+    ensures { IfOk result (λ name. name ≡ text.now) }
+{
+    Name::copied(alloc, text.as_bytes())
+}
+
+/// A method's names, kept.
+fn kept_reference(
+    alloc: Global,
+    reference: &Reference<Text<'_>>,
+) -> Result<Reference<Name>, AllocError>
+    ensures { IfOk result (λ kept. kept ≡ reference.now) }
+{
+    Ok(Reference {
+        itf: reference.itf,
+        owner: kept_text(alloc, &reference.owner)?,
+        name: kept_text(alloc, &reference.name)?,
+        ty: kept_text(alloc, &reference.ty)?,
+    })
+}
+
+/// A call site's names, kept.
+fn kept_specifier(
+    alloc: Global,
+    specifier: &CallSiteSpecifier<Text<'_>>,
+) -> Result<CallSiteSpecifier<Name>, AllocError>
+    ensures { IfOk result (λ kept. kept ≡ specifier.now) }
+{
+    Ok(CallSiteSpecifier {
+        bootstrap: specifier.bootstrap,
+        name: kept_text(alloc, &specifier.name)?,
+        ty: kept_text(alloc, &specifier.ty)?,
+    })
+}
+
+/// An operand, kept.
+fn kept(alloc: Global, operand: &Operand<Text<'_>>) -> Result<Operand<Name>, AllocError>
+    ensures { IfOk result (λ kept. kept ≡ operand.now) }
+{
+    match operand {
+        Operand::Method(reference) => Ok(Operand::Method(kept_reference(alloc, reference)?)),
+        Operand::CallSite(specifier) => Ok(Operand::CallSite(kept_specifier(alloc, specifier)?)),
+    }
+}
+
+/// The site of an instruction, where it is an invocation.
+fn site_of(
+    alloc: Global,
+    pool: &Pool<'_>,
+    pc: u16,
+    instruction: &Instruction<'_>,
+) -> Result<Option<Site>, CodeFault>
+    ensures ok { IfOk result (λ site. OperandFits pool.now instruction.now × (option_to_list site ≡ site_at pool.now pc instruction.now)) }
+    ensures fault { IfErr result (IsSiteFault pool.now pc instruction.now) }
+{
+    match instruction {
+        Instruction::Invoke(opcode, number, tail) => {
+            match invoked(pool, *opcode, *number, tail.as_bytes()) {
+                Some(operand) => {
+                    let operand = kept(alloc, &operand)?;
+                    let kind = kind_of(*opcode);
+                    Ok(Some(Site { pc, kind, operand }))
+                }
+                None => Err(CodeFault::BadOperand(pc)),
+            }
+        }
+        _ => Ok(None),
+    }
+}
+
+/// The invocations of a code, in order, each at its place in bytes from the code's start.
+pub fn scan(alloc: Global, code: &[u8], pool: &Pool<'_>) -> Result<Vec<Site>, CodeFault>
+    requires { length code.now < 2 ^ 16 }
+    ensures ok { IfOk result (λ sites. (is : List Instruction) × IsCode pool.now code.now is × (sites.items ≡ sites_from pool.now 0 is)) }
+    ensures fault { IfErr result (IsScanFault pool.now code.now) }
+{
+    let mut sites = Vec::new(alloc);
+    let mut rest = code;
+    while !rest.is_empty() {
+        let pc = (code.len() - rest.len()) as u16;
+        match instruction_at(pc, rest) {
+            Ok((instruction, after)) => {
+                if let Some(site) = site_of(alloc, pool, pc, &instruction)? {
+                    sites.push(site)?;
+                }
+                rest = after;
+            }
+            Err(Stop::Cut) => return Err(CodeFault::CutShort(pc)),
+            Err(Stop::Opcode) => return Err(CodeFault::BadOpcode(pc)),
+            Err(Stop::Switch) => return Err(CodeFault::BadSwitch(pc)),
+        }
+    }
+    Ok(sites)
+}
+
+/// Bytes are one code at most.
+pub fn one_code()
+    ensures { (pool : Pool) (bytes : List ℕ) (is js : List Instruction) → IsCode pool bytes is → IsCode pool bytes js → is ≡ js }
+{}
+
+/// No code has a fault.
+pub fn no_fault_in_a_code()
+    ensures { (pool : Pool) (bytes : List ℕ) (is : List Instruction) (fault : CodeFault) → IsCode pool bytes is → fault ≢ Memory → ¬ IsScanFault pool bytes fault }
+{}

@@ -1,0 +1,17 @@
+//! The instructions of a code, and its invocations (JVMS SE 17 §4.7.3, §4.9, §6.5).
+//!
+//! What a code is, and why bytes are none, stands in `specs/`, in reading order: `Known`, `Instructions`, `Codes`,
+//! `Faults`.
+#![tactic(auto)]
+
+mod code;
+mod code_fault;
+mod instruction;
+mod site;
+
+pub use code::{no_fault_in_a_code, one_code, scan};
+pub use code_fault::CodeFault;
+pub use site::{Kind, Operand, Site};
+
+#[cfg(test)]
+mod tests;

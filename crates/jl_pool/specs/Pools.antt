@@ -1,0 +1,167 @@
+-- The constant pool (JVMS 4.4): constants by number, and what a pool has to meet.
+use Rattle.std.specs.Prelude.{ℕ, ◌<◌, ◌^◌, Bool, false, ◌==◌, ◌||◌, IsTrue, List, [], ◌∷◌, ◌++◌, length, slice_get, Option, Some, None, ⊤, ◌⊎◌, if◌then◌else◌, true, option_map}
+use Rattle.std.specs.Option.{option_and_then, option_map_or}
+use Rattle.std.specs.List.{flat_map, list_all, list_any, AllByRecursion}
+use Rattle.std.specs.Str.{byte}
+use Rattle.std.specs.Cmp.Lexicographic.{pointwise}
+use Rattle.jl_names.specs.Mutf8.{IsMutf8}
+use Rattle.jl_names.specs.ClassNames.{is_class_name}
+use Rattle.jl_names.specs.Descriptors.{IsFieldDescriptor}
+use Rattle.jl_names.specs.MethodTypes.{IsMethodDescriptor}
+use Rattle.jl_pool.specs.declared.constant.Constant.{Constant}
+use Rattle.jl_pool.specs.declared.constant.Constant.TheVariants.{Utf8, Class, Fieldref, Methodref, InterfaceMethodref, NameAndType, MethodType, Dynamic, InvokeDynamic}
+use Rattle.jl_pool.specs.declared.reference.Reference.{Reference}
+use Rattle.jl_pool.specs.declared.reference.CallSiteSpecifier.{CallSiteSpecifier}
+use Rattle.jl_pool.specs.Numbers.{u2}
+use Rattle.jl_pool.specs.Constants.{tag, constant_text, IsSized, is_double, names}
+use Rattle.jl_pool.specs.Known.{known_tags}
+
+-- A pool by number. Number 0 and the second number of a long or a double hold nothing.
+abbrev pub Pool : Type 0
+Pool = List (Option Constant)
+
+-- the numbers that a constant takes
+abbrev pub places_of : Constant → List (Option Constant)
+places_of c = Some c ∷ (if is_double c then None ∷ [] else [])
+
+abbrev pub places : List Constant → Pool
+places cs = None ∷ flat_map places_of cs
+
+-- the count of numbers, and the constants
+abbrev pub pool_text : List Constant → List ℕ
+pool_text cs = u2 (length (places cs)) ++ flat_map constant_text cs
+
+-- a text, byte for byte
+abbrev pub same_text : List ℕ → List ℕ → Bool
+same_text = pointwise ◌==◌
+
+-- < or > stands in it, as in the names that no method has but <init> and <clinit> (JVMS 4.2.2)
+abbrev pub has_angle : List ℕ → Bool
+has_angle text = list_any (λ b. (b == byte "<") || (b == byte ">")) text
+
+-- ---- what stands at a number
+
+abbrev pub constant_at : Pool → ℕ → Option Constant
+constant_at pool n = option_and_then (λ place. place) (slice_get pool n)
+
+-- something of one of these tags
+abbrev pub has_tag : Pool → List ℕ → ℕ → Bool
+has_tag pool tags n = option_map_or (λ c. list_any (λ t. t == tag c) tags) (constant_at pool n) false
+
+abbrev pub text_of : Constant → Option (List ℕ)
+text_of (Utf8 bytes) = Some bytes
+text_of _ = None
+
+-- the text of the Utf8 at a number
+abbrev pub text_at : Pool → ℕ → Option (List ℕ)
+text_at pool n = option_and_then text_of (constant_at pool n)
+
+abbrev pub class_text_of : Pool → Constant → Option (List ℕ)
+class_text_of pool (Class name) = text_at pool name
+class_text_of pool _ = None
+
+-- the text of the Class at a number: a class name, or an array's descriptor
+abbrev pub class_text_at : Pool → ℕ → Option (List ℕ)
+class_text_at pool n = option_and_then (class_text_of pool) (constant_at pool n)
+
+-- the class name at a number
+abbrev pub class_at : Pool → ℕ → Option (List ℕ)
+class_at pool n = option_and_then (λ text. if is_class_name text then Some text else None) (class_text_at pool n)
+
+abbrev pub descriptor_of : Pool → Constant → Option (List ℕ)
+descriptor_of pool (NameAndType name ty) = text_at pool ty
+descriptor_of pool _ = None
+
+-- the descriptor of the NameAndType at a number
+abbrev pub descriptor_at : Pool → ℕ → Option (List ℕ)
+descriptor_at pool n = option_and_then (descriptor_of pool) (constant_at pool n)
+
+-- both, where both are there
+abbrev pub both : {X Y Z : Type 0} → (X → Y → Z) → Option X → Option Y → Option Z
+both f None y = None
+both f (Some x) None = None
+both f (Some x) (Some y) = Some (f x y)
+
+-- a name with its descriptor
+pub record Signed : Type 0 where
+  pub name : List ℕ
+  pub ty : List ℕ
+
+abbrev pub signed_of : Pool → Constant → Option Signed
+signed_of pool (NameAndType name ty) = both (λ n t. record { name = n; ty = t }) (text_at pool name) (text_at pool ty)
+signed_of pool _ = None
+
+-- the name and the descriptor of the NameAndType at a number
+abbrev pub signed_at : Pool → ℕ → Option Signed
+signed_at pool n = option_and_then (signed_of pool) (constant_at pool n)
+
+abbrev pub reference : Bool → List ℕ → Signed → Reference (List ℕ)
+reference itf owner s = record { itf = itf; owner = owner; name = s.name; ty = s.ty }
+
+-- the method that a Methodref or an InterfaceMethodref names
+abbrev pub reference_of : Pool → Constant → Option (Reference (List ℕ))
+reference_of pool (Methodref owner name_and_type) = both (reference false) (class_text_at pool owner) (signed_at pool name_and_type)
+reference_of pool (InterfaceMethodref owner name_and_type) = both (reference true) (class_text_at pool owner) (signed_at pool name_and_type)
+reference_of pool _ = None
+
+abbrev pub reference_at : Pool → ℕ → Option (Reference (List ℕ))
+reference_at pool n = option_and_then (reference_of pool) (constant_at pool n)
+
+-- the call site that an InvokeDynamic gives
+abbrev pub call_site_of : Pool → Constant → Option (CallSiteSpecifier (List ℕ))
+call_site_of pool (InvokeDynamic bootstrap name_and_type) = option_map (λ s. record { bootstrap = bootstrap; name = s.name; ty = s.ty }) (signed_at pool name_and_type)
+call_site_of pool _ = None
+
+abbrev pub call_site_at : Pool → ℕ → Option (CallSiteSpecifier (List ℕ))
+call_site_at pool n = option_and_then (call_site_of pool) (constant_at pool n)
+
+-- ---- conditions
+
+-- its tag is known, and its numbers have their sizes
+pub record IsWritten (c : Constant) : Type 0 where
+  pub known : IsTrue (list_any (λ t. t == tag c) known_tags)
+  pub sized : IsSized c
+
+-- a list of constants that a pool can hold
+pub record IsPool (cs : List Constant) : Type 0 where
+  pub each : AllByRecursion IsWritten cs
+  pub count : length (places cs) < 2 ^ 16
+
+-- a Utf8 is modified UTF-8
+abbrev pub HasText : Constant → Type 0
+HasText (Utf8 bytes) = (units : List ℕ) × IsMutf8 bytes units
+HasText _ = ⊤
+
+-- each number that it names holds a constant of the right kind
+abbrev pub is_linked : Pool → Constant → Bool
+is_linked pool c = list_all (λ n. has_tag pool n.tags n.number) (names c)
+
+-- the text that may stand there is of this kind
+abbrev pub IfText : Option (List ℕ) → (List ℕ → Type 0) → Type 0
+IfText None IsKind = ⊥
+IfText (Some text) IsKind = IsKind text
+
+abbrev pub begins_array : List ℕ → Bool
+begins_array [] = false
+begins_array (b ∷ bs) = b == byte "["
+
+abbrev pub IsClassText : List ℕ → Type 0
+IsClassText text = IsTrue (is_class_name text) ⊎ (IsTrue (begins_array text) × IsFieldDescriptor text)
+
+-- the descriptors that it names are of the right kind
+abbrev pub IsTyped : Pool → Constant → Type 0
+IsTyped pool (Class name) = IfText (text_at pool name) IsClassText
+IsTyped pool (NameAndType name ty) = IfText (text_at pool ty) (λ text. IsFieldDescriptor text ⊎ IsMethodDescriptor text)
+IsTyped pool (Fieldref owner name_and_type) = IfText (descriptor_at pool name_and_type) IsFieldDescriptor
+IsTyped pool (Dynamic bootstrap name_and_type) = IfText (descriptor_at pool name_and_type) IsFieldDescriptor
+IsTyped pool (Methodref owner name_and_type) = IfText (descriptor_at pool name_and_type) IsMethodDescriptor
+IsTyped pool (InterfaceMethodref owner name_and_type) = IfText (descriptor_at pool name_and_type) IsMethodDescriptor
+IsTyped pool (InvokeDynamic bootstrap name_and_type) = IfText (descriptor_at pool name_and_type) IsMethodDescriptor
+IsTyped pool (MethodType ty) = IfText (text_at pool ty) IsMethodDescriptor
+IsTyped pool _ = ⊤
+
+-- what a pool has to meet beyond its layout
+pub record IsSoundPool (cs : List Constant) : Type 0 where
+  pub texts : AllByRecursion HasText cs
+  pub links : AllByRecursion (λ c. IsTrue (is_linked (places cs) c)) cs
+  pub types : AllByRecursion (IsTyped (places cs)) cs

@@ -1,0 +1,22 @@
+//! The constant pool of a class file (JVMS SE 17 §4.4).
+//!
+//! What a pool is, and why bytes begin with none, stands in `specs/`, in reading order: `Numbers`, `Constants`,
+//! `Known`, `Pools`, `Faults`.
+#![tactic(auto)]
+
+mod bytes;
+mod constant;
+mod form;
+mod pool;
+mod pool_fault;
+mod reference;
+
+pub use bytes::{bytes_at, u2_at, u4_at};
+pub use constant::Constant;
+pub use form::Form;
+pub use pool::{Pool, no_fault_in_a_pool, one_pool};
+pub use pool_fault::PoolFault;
+pub use reference::{CallSiteSpecifier, Reference};
+
+#[cfg(test)]
+mod tests;

@@ -1,0 +1,39 @@
+//! Why bytes are no constant pool.
+
+ghost use Rattle.std.specs.Prelude.{◌≡◌};
+ghost use Rattle.jl_pool.specs.declared.pool_fault.PoolFault.TheVariants.{Memory};
+
+use std::alloc::{AllocError, AllocFailed};
+
+/// Why bytes are no constant pool (JVMS SE 17 §4.4). A number is an entry's index.
+#[derive(Clone, Copy, Debug, PartialEq, Eq)]
+pub enum PoolFault {
+    /// The bytes end before the pool does.
+    Truncated,
+    /// The tag of this entry is unknown, or the entry takes two numbers and there is one left. 0: the count is 0.
+    BadTag(u16),
+    /// This entry names a number that is unusable or holds an entry of a wrong kind.
+    BadIndex(u16),
+    /// The text of this entry is no modified UTF-8 (§4.4.7).
+    BadUtf8(u16),
+    /// The name or descriptor that this entry names is of the wrong form (§4.2, §4.3).
+    BadDescriptor(u16),
+    /// Want of memory.
+    Memory,
+}
+
+impl From<AllocError> for PoolFault {
+    ghost from_gives = { λ _ f. f ≡ Memory };
+
+    fn from(_e: AllocError) -> PoolFault {
+        PoolFault::Memory
+    }
+}
+
+impl<T: Drop> From<AllocFailed<T>> for PoolFault {
+    ghost from_gives = { λ _ f. f ≡ Memory };
+
+    fn from(_e: AllocFailed<T>) -> PoolFault {
+        PoolFault::Memory
+    }
+}
