@@ -1,0 +1,40 @@
+# What both scripts need: a JDK, the built Java programs beside this file, and a folder that goes away at the end.
+# Sourced, with $here the folder of this file.
+
+export LC_ALL=C
+if [ -n "${JAVA_HOME:-}" ]; then
+    PATH="$JAVA_HOME/bin:$PATH"
+fi
+for tool in java javac javap; do
+    command -v "$tool" > /dev/null || { echo "no $tool: set JAVA_HOME to a JDK of version 17 or later" >&2; exit 2; }
+done
+
+work=$(mktemp -d)
+trap 'rm -rf "$work"' EXIT
+trap 'exit 130' INT TERM
+
+built="$work/built"
+mkdir "$built"
+# ASM stands inside the JDKs up to about 23; what needs it is built only where it does.
+asm=jdk.internal.org.objectweb.asm
+if javap --module java.base "$asm.ClassReader" > /dev/null 2>&1; then
+    has_asm=1
+    exports=(--add-exports "java.base/$asm=ALL-UNNAMED")
+    sources=("$here"/*.java)
+else
+    has_asm=0
+    exports=()
+    sources=()
+    for file in "$here"/*.java; do
+        case "$file" in
+            */Asm*.java) ;;
+            *) sources+=("$file") ;;
+        esac
+    done
+fi
+javac -Xlint:all -d "$built" ${exports[@]+"${exports[@]}"} "${sources[@]}"
+
+# Runs one of the programs. The collector is the one that takes no threads of its own.
+run_java() {
+    java -XX:+UseSerialGC -Xmx1500m ${exports[@]+"${exports[@]}"} -cp "$built" "$@"
+}

@@ -1,0 +1,103 @@
+#!/usr/bin/env bash
+# Runs `linkd scan` over the class files of the JDK, times it, and compares what it finds with another reader's counts.
+#
+#     bench/jdk.sh PROGRAM       PROGRAM is the built linkd
+#     bench/jdk.sh --speed       only how fast ASM reads the same files
+#
+# JAVA_HOME chooses the JDK (else java of the PATH). RUNS (3) is how often the scan is timed. JAVAP=n has javap read
+# each n-th class, as a third opinion. SPEED=0 leaves out ASM's speed. AS=61 writes that version into each file, for a
+# JDK whose class files are newer than the reader takes. KEEP=DIR keeps the lines, names, answers and counts there.
+set -eu
+here=$(cd "$(dirname "$0")" && pwd)
+. "$here/common.sh"
+
+speed() {
+    if [ "$has_asm" = 0 ]; then
+        echo "this JDK has no ASM, so there is nothing to compare the speed with"
+        return
+    fi
+    # A JVM for each, so that each first pass is cold.
+    run_java AsmSpeed 6 10
+    run_java AsmSpeed 0 10
+}
+
+if [ $# != 1 ]; then
+    sed -n '2,/^set/{/^#/s/^# \{0,1\}//p;}' "$0" >&2
+    exit 2
+fi
+java -version 2>&1 | sed -n 2p
+if [ "$1" = --speed ]; then
+    speed
+    exit 0
+fi
+program=$1
+[ -f "$program" ] && [ -x "$program" ] || { echo "$program is no program" >&2; exit 2; }
+case "$program" in
+    */*) ;;
+    *) program=./$program ;;
+esac
+data=${KEEP:-$work}
+mkdir -p "$data"
+
+echo "== the lines"
+run_java Lines "$data" ${AS:+"$AS"} | tee "$data/lines.txt"
+classes=$(wc -l < "$data/classes.names")
+bytes=$(awk '{ n += $NF } END { printf "%d", n }' "$data/classes.names")
+major=$(sed -n 's/^classes:.* //p' "$data/lines.txt")
+if [ "$major" -gt 61 ] && [ -z "${AS:-}" ]; then
+    echo "class files of major version $major; linkd reads 45 to 61: take JDK 17, or set AS=61" >&2
+    exit 2
+fi
+
+echo "== linkd scan, from a file to a file, one thread"
+# Seconds of one run; a status other than 0 ends the script.
+TIMEFORMAT=%R
+scan() {
+    { time "$program" scan < "$1" > "$2" 2> "$data/errors.txt"; } 2> "$data/time.txt" || {
+        echo "linkd scan ends with status $?: $(head -c 300 "$data/errors.txt")" >&2
+        exit 1
+    }
+}
+cat "$data/classes.hex" > /dev/null
+: > "$data/times.txt"
+for run in $(seq "${RUNS:-3}"); do
+    scan "$data/classes.hex" "$data/answers.json"
+    cat "$data/time.txt" >> "$data/times.txt"
+    echo "run $run: $(cat "$data/time.txt") s"
+done
+median=$(sort -n "$data/times.txt" | awk '{ t[NR] = $1 } END { print t[int((NR + 1) / 2)] }')
+answered=$(wc -c < "$data/answers.json")
+awk -v c="$classes" -v b="$bytes" -v s="$median" -v a="$answered" 'BEGIN {
+    printf "%d classes, %d bytes of class file (%d of hexadecimal), %d bytes of answers\n", c, b, 2 * b + c, a
+    printf "median %.2f s: %.0f classes a second, %.1f MB of class file a second\n", s, c / s, b / 1e6 / s
+}'
+
+status=0
+compare() {
+    run_java Count "$1" "$data/classes.hex" "$data/counts.$1" "$2"
+    run_java Compare "$data/classes.names" "$data/answers.json" "$data/counts.$1" "$1" || status=1
+}
+echo "== compared with another reader, class by class"
+if [ "$has_asm" = 1 ]; then
+    compare asm 1
+    if [ -n "${JAVAP:-}" ]; then
+        compare javap "$JAVAP"
+    fi
+else
+    compare javap "${JAVAP:-1}"
+fi
+
+echo "== module files"
+scan "$data/modules.hex" "$data/modules.json"
+run_java Compare "$data/modules.names" "$data/modules.json" modules || status=1
+
+if [ "${SPEED:-1}" = 1 ]; then
+    echo "== ASM on the same files, from memory"
+    speed
+fi
+if [ $status = 0 ]; then
+    echo "all as it must be"
+else
+    echo "NOT as it must be" >&2
+fi
+exit $status
