@@ -1,0 +1,78 @@
+-- What the numbers of a sketch's class file name, and what it shows.
+use Rattle.std.specs.Prelude.{◌≡◌, ◌<◌, ◌^◌, ℕ, Bool, true, false, List, [], ◌∷◌, map, codes, Some, IfSome, ⊤}
+use Rattle.std.specs.List.{AllByRecursion}
+use Rattle.jl_pool.specs.declared.constant.Constant.{Constant}
+use Rattle.jl_pool.specs.Pools.{places, text_at, class_text_at}
+use Rattle.jl_code.specs.declared.site.Operand.{Operand}
+use Rattle.jl_code.specs.declared.site.Operand.TheVariants.{Method, CallSite}
+use Rattle.jl_code.specs.Codes.{operand_at}
+use Rattle.jl_classfile.specs.declared.class.ClassFile.{ClassFile}
+use Rattle.jl_classfile.specs.declared.class.Method.{Method as ShownMethod}
+use Rattle.jl_classfile.specs.ClassFiles.{pool_of}
+use Rattle.jl_sketch.specs.declared.sketch.Sketch.{Sketch}
+use Rattle.jl_sketch.specs.declared.sketch.SketchMethod.{SketchMethod}
+use Rattle.jl_sketch.specs.declared.sketch.MethodName.{MethodName}
+use Rattle.jl_sketch.specs.declared.sketch.Call.{Call}
+use Rattle.jl_sketch.specs.declared.sketch.Call.TheVariants.{Virtual, Special, Static, Interface, Dynamic}
+use Rattle.jl_sketch.specs.Constants.{number, text_number, class_number, call_constant, has_code, sketch_constants}
+use Rattle.jl_sketch.specs.Layouts.{method_of, sketch_layout}
+
+abbrev pub method_operand : Bool → MethodName → Operand (List ℕ)
+method_operand itf m = Method (record { itf = itf; owner = m.owner; name = m.name; ty = m.ty })
+
+-- what a call names
+abbrev pub call_operand : Call → Operand (List ℕ)
+call_operand (Virtual m) = method_operand false m
+call_operand (Special itf m) = method_operand itf m
+call_operand (Static itf m) = method_operand itf m
+call_operand (Interface m) = method_operand true m
+call_operand (Dynamic name ty) = CallSite (record { bootstrap = 0; name = name; ty = ty })
+
+-- the number of a call's instruction names what the call does
+abbrev pub NamesCall : List Constant → Call → Type 0
+NamesCall cs call = operand_at (places cs) (number cs (call_constant cs call)) ≡ Some (call_operand call)
+
+-- so do the numbers of a method, of its Code attribute and of its calls
+pub record NamesMethod (cs : List Constant) (m : SketchMethod) : Type 0 where
+  pub name : text_at (places cs) (method_of cs m).name ≡ Some m.name
+  pub descriptor : text_at (places cs) (method_of cs m).descriptor ≡ Some m.ty
+  pub code : has_code m.flags ≡ true → text_at (places cs) (text_number cs (codes "Code")) ≡ Some (codes "Code")
+  pub calls : AllByRecursion (NamesCall cs) m.calls
+
+abbrev pub NamesHost : List Constant → List ℕ → Type 0
+NamesHost cs host = (text_at (places cs) (text_number cs (codes "NestHost")) ≡ Some (codes "NestHost")) × (class_text_at (places cs) (class_number cs host) ≡ Some host)
+
+abbrev pub NamesMembers : List Constant → List (List ℕ) → Type 0
+NamesMembers cs [] = ⊤
+NamesMembers cs (m ∷ ms) = (text_at (places cs) (text_number cs (codes "NestMembers")) ≡ Some (codes "NestMembers"))
+    × (map (class_text_at (places cs)) (map (class_number cs) (m ∷ ms)) ≡ map Some (m ∷ ms))
+
+-- flags are of their size
+abbrev pub AreFlags : Sketch → Type 0
+AreFlags s = (s.flags < 2 ^ 16) × AllByRecursion (λ m. m.flags < 2 ^ 16) s.methods
+
+-- every number of the layout names what the sketch says
+pub record NamesParts (s : Sketch) : Type 0 where
+  pub this_class : class_text_at (pool_of (sketch_layout s)) (sketch_layout s).body.this_class ≡ Some s.name
+  pub super_class : class_text_at (pool_of (sketch_layout s)) (sketch_layout s).body.super_class ≡ s.superclass
+  pub interfaces : map (class_text_at (pool_of (sketch_layout s))) (sketch_layout s).body.interfaces ≡ map Some s.interfaces
+  pub methods : AllByRecursion (NamesMethod (sketch_constants s)) s.methods
+  pub host : IfSome s.host (NamesHost (sketch_constants s))
+  pub members : NamesMembers (sketch_constants s) s.members
+
+-- ---- what is shown of it
+
+-- flags, name and descriptor of a method
+abbrev pub signature : SketchMethod → ℕ × (List ℕ × List ℕ)
+signature m = (m.flags, (m.name, m.ty))
+
+abbrev pub shown_signature : ShownMethod → ℕ × (List ℕ × List ℕ)
+shown_signature m = (m.flags, (m.name, m.ty))
+
+-- the class file has what the sketch declares
+pub record ShowsDeclarations (s : Sketch) (file : ClassFile) : Type 0 where
+  pub name : file.name ≡ s.name
+  pub flags : file.flags ≡ s.flags
+  pub superclass : file.superclass ≡ s.superclass
+  pub interfaces : file.interfaces ≡ s.interfaces
+  pub methods : map shown_signature file.methods ≡ map signature s.methods

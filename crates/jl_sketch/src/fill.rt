@@ -1,0 +1,155 @@
+//! Fills the pool: each constant behind its parts (JVMS SE 17 §4.4).
+
+ghost use Rattle.std.specs.Prelude.{◌≡◌, fold, codes, IfOk, OnOk};
+ghost use Rattle.jl_sketch.specs.Constants.{with_text, with_class, with_signed, with_method, with_call_site, with_call, with_declared, with_class_if_any, with_host, with_members, with_classes, sketch_constants};
+
+use crate::check::has_code;
+use crate::constants::{Constants, Entry};
+use crate::sketch::{Call, MethodName, Sketch, SketchMethod};
+use jl_names::Name;
+use std::alloc::{AllocError, Global};
+
+/// The names of attributes that a sketch has (§4.7.3, §4.7.28, §4.7.29).
+pub(crate) const CODE: &[u8] = b"Code";
+
+pub(crate) const NEST_HOST: &[u8] = b"NestHost";
+
+pub(crate) const NEST_MEMBERS: &[u8] = b"NestMembers";
+
+impl<'a> Constants<'a> {
+    fn enter_text(&mut self, text: &'a [u8]) -> Result<(), AllocError>
+        ensures { OnOk result (self.new ≡ with_text self.old text.now) }
+    {
+        self.enter(Entry::Utf8(text))
+    }
+
+    fn enter_class(&mut self, name: &'a Name) -> Result<(), AllocError>
+        ensures { OnOk result (self.new ≡ with_class self.old name.now) }
+    {
+        self.enter_text(name.as_slice())?;
+        self.enter(self.class(name))
+    }
+
+    fn enter_classes(&mut self, names: &'a [Name]) -> Result<(), AllocError>
+        ensures { OnOk result (self.new ≡ fold with_class self.old names.now) }
+    {
+        for name in names {
+            self.enter_class(name)?;
+        }
+        Ok(())
+    }
+
+    fn enter_class_if_any(&mut self, name: &'a Option<Name>) -> Result<(), AllocError>
+        ensures { OnOk result (self.new ≡ with_class_if_any self.old name.now) }
+    {
+        match name {
+            Some(name) => self.enter_class(name),
+            None => Ok(()),
+        }
+    }
+
+    fn enter_signed(&mut self, name: &'a Name, ty: &'a Name) -> Result<(), AllocError>
+        ensures { OnOk result (self.new ≡ with_signed self.old name.now ty.now) }
+    {
+        self.enter_text(name.as_slice())?;
+        self.enter_text(ty.as_slice())?;
+        self.enter(self.signed(name, ty))
+    }
+
+    fn enter_method(&mut self, itf: bool, method: &'a MethodName) -> Result<(), AllocError>
+        ensures { OnOk result (self.new ≡ with_method itf self.old method.now) }
+    {
+        self.enter_class(&method.owner)?;
+        self.enter_signed(&method.name, &method.ty)?;
+        self.enter(self.method(itf, method))
+    }
+
+    fn enter_call_site(&mut self, name: &'a Name, ty: &'a Name) -> Result<(), AllocError>
+        ensures { OnOk result (self.new ≡ with_call_site self.old name.now ty.now) }
+    {
+        self.enter_signed(name, ty)?;
+        self.enter(self.call_site(name, ty))
+    }
+
+    fn enter_call(&mut self, call: &'a Call) -> Result<(), AllocError>
+        ensures { OnOk result (self.new ≡ with_call self.old call.now) }
+    {
+        match call {
+            Call::Virtual(method) => self.enter_method(false, method),
+            Call::Special(itf, method) => self.enter_method(*itf, method),
+            Call::Static(itf, method) => self.enter_method(*itf, method),
+            Call::Interface(method) => self.enter_method(true, method),
+            Call::Dynamic(name, ty) => self.enter_call_site(name, ty),
+        }
+    }
+
+    fn enter_calls(&mut self, calls: &'a [Call]) -> Result<(), AllocError>
+        ensures { OnOk result (self.new ≡ fold with_call self.old calls.now) }
+    {
+        for call in calls {
+            self.enter_call(call)?;
+        }
+        Ok(())
+    }
+
+    fn enter_declared(&mut self, method: &'a SketchMethod) -> Result<(), AllocError>
+        ensures { OnOk result (self.new ≡ with_declared self.old method.now) }
+    {
+        self.enter_text(method.name.as_slice())?;
+        self.enter_text(method.ty.as_slice())?;
+        if has_code(method.flags) {
+            self.enter_text(CODE)?;
+        }
+        self.enter_calls(method.calls.as_slice())
+    }
+
+    fn enter_methods(&mut self, methods: &'a [SketchMethod]) -> Result<(), AllocError>
+        ensures { OnOk result (self.new ≡ fold with_declared self.old methods.now) }
+    {
+        for method in methods {
+            self.enter_declared(method)?;
+        }
+        Ok(())
+    }
+
+    fn enter_host(&mut self, host: &'a Option<Name>) -> Result<(), AllocError>
+        ensures { OnOk result (self.new ≡ with_host self.old host.now) }
+    {
+        let Some(host) = host else {
+            return Ok(());
+        };
+        self.enter_text(NEST_HOST)?;
+        self.enter_class(host)
+    }
+
+    fn enter_members(&mut self, members: &'a [Name]) -> Result<(), AllocError>
+        ensures { OnOk result (self.new ≡ with_members self.old members.now) }
+    {
+        if members.is_empty() {
+            return Ok(());
+        }
+        self.enter_text(NEST_MEMBERS)?;
+        self.enter_classes(members)
+    }
+
+    /// Enters this class, its superclass and its interfaces.
+    fn enter_supertypes(&mut self, sketch: &'a Sketch) -> Result<(), AllocError>
+        ensures { OnOk result (self.new ≡ with_classes self.old sketch.now) }
+    {
+        self.enter_class(&sketch.name)?;
+        self.enter_class_if_any(&sketch.superclass)?;
+        self.enter_classes(sketch.interfaces.as_slice())
+    }
+
+    /// The constants of a sketch.
+    pub(crate) fn of(alloc: Global, sketch: &'a Sketch) -> Result<Self, AllocError>
+        ensures { IfOk result (λ constants. constants ≡ sketch_constants sketch.now) }
+    {
+        let mut constants = Constants::new(alloc);
+        constants.enter_supertypes(sketch)?;
+        constants.enter_methods(sketch.methods.as_slice())?;
+        constants.enter_host(&sketch.host)?;
+        constants.enter_members(sketch.members.as_slice())?;
+        Ok(constants)
+    }
+}

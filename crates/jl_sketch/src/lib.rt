@@ -1,0 +1,22 @@
+//! Sketches: small class files as plain data, and their bytes (JVMS SE 17 §4).
+//!
+//! What a sketch's class file is, and why a sketch has none, stands in `specs/`, in reading order: `Counts`,
+//! `Constants`, `Layouts`, `Names`, `Faults`, over the class files of jl_classfile.
+#![tactic(auto)]
+
+mod check;
+mod constants;
+mod count;
+mod fault;
+mod fill;
+mod laws;
+mod sketch;
+mod write;
+
+pub use fault::SketchFault;
+pub use laws::{declarations_are_shown, numbers_name_their_parts, one_layout_of_a_sketch};
+pub use sketch::{Call, MethodName, Sketch, SketchMethod};
+pub use write::write_class;
+
+#[cfg(test)]
+mod tests;

@@ -1,0 +1,48 @@
+//! Sketches.
+
+use jl_names::{Name, Seq};
+
+/// A class file to be written (JVMS SE 17 §4.1), of version 61.0 and without fields: its name, access flags,
+/// superclass, direct superinterfaces and methods, its nest host and the members of its nest (§4.7.28, §4.7.29). Each
+/// text is in modified UTF-8 (§4.4.7), and may be any.
+#[derive(Debug, Drop)]
+pub struct Sketch {
+    pub name: Name,
+    pub flags: u16,
+    pub superclass: Option<Name>,
+    pub interfaces: Seq<Name>,
+    pub methods: Seq<SketchMethod>,
+    pub host: Option<Name>,
+    pub members: Seq<Name>,
+}
+
+/// A method (§4.6). Its code, unless it is abstract or native, is the calls in order and a return.
+#[derive(Debug, Drop)]
+pub struct SketchMethod {
+    pub name: Name,
+    pub ty: Name,
+    pub flags: u16,
+    pub calls: Seq<Call>,
+}
+
+/// A method by its class, name and descriptor (§4.4.2).
+#[derive(Debug, Drop)]
+pub struct MethodName {
+    pub owner: Name,
+    pub name: Name,
+    pub ty: Name,
+}
+
+/// An invocation (§6.5): invokevirtual, invokespecial, invokestatic, invokeinterface, invokedynamic.
+#[derive(Debug, Drop)]
+pub enum Call {
+    /// By a Methodref.
+    Virtual(MethodName),
+    /// By an InterfaceMethodref where this is so, else by a Methodref; so it is below.
+    Special(bool, MethodName),
+    Static(bool, MethodName),
+    /// By an InterfaceMethodref.
+    Interface(MethodName),
+    /// A call site of the bootstrap method 0, by a name and a descriptor.
+    Dynamic(Name, Name),
+}
