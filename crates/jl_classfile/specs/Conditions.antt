@@ -31,6 +31,9 @@ PROTECTED = 0x0004
 abbrev pub STATIC : ℕ
 STATIC = 0x0008
 
+abbrev pub NATIVE : ℕ
+NATIVE = 0x0100
+
 abbrev pub INTERFACE : ℕ
 INTERFACE = 0x0200
 

@@ -18,6 +18,9 @@ pub const STATIC: u16 = 0x0008;
 /// Without subclasses.
 pub const FINAL: u16 = 0x0010;
 
+/// With code that stands elsewhere.
+pub const NATIVE: u16 = 0x0100;
+
 /// An interface.
 pub const INTERFACE: u16 = 0x0200;
 

@@ -13,9 +13,11 @@ use jl_names::Seq;
 use jl_pool::{Pool, u2_at};
 use std::alloc::Global;
 
-const NEST_HOST: &[u8] = b"NestHost";
+/// The name of the attribute that holds a class's nest host (JVMS SE 17 §4.7.28).
+pub const NEST_HOST: &[u8] = b"NestHost";
 
-const NEST_MEMBERS: &[u8] = b"NestMembers";
+/// The name of the attribute that holds a class's nest members (§4.7.29).
+pub const NEST_MEMBERS: &[u8] = b"NestMembers";
 
 /// The numbers of the nest host and of the nest members of a class, where its attributes give them (JVMS SE 17
 /// §4.7.28, §4.7.29).

@@ -5,7 +5,7 @@ use Rattle.std.specs.List.{list_any}
 use Rattle.jl_pool.specs.declared.constant.Constant.{Constant}
 use Rattle.jl_pool.specs.declared.constant.Constant.TheVariants.{Utf8, Class, NameAndType, Methodref, InterfaceMethodref, InvokeDynamic}
 use Rattle.jl_pool.specs.Pools.{same_text}
-use Rattle.jl_classfile.specs.Conditions.{has_flag, ABSTRACT}
+use Rattle.jl_classfile.specs.Conditions.{has_flag, ABSTRACT, NATIVE}
 use Rattle.jl_sketch.specs.declared.sketch.Sketch.{Sketch}
 use Rattle.jl_sketch.specs.declared.sketch.SketchMethod.{SketchMethod}
 use Rattle.jl_sketch.specs.declared.sketch.MethodName.{MethodName}
@@ -86,9 +86,6 @@ with_call cs (Interface m) = with_method true cs m
 with_call cs (Dynamic name ty) = with_call_site cs name ty
 
 -- ---- the constants of a sketch
-
-abbrev pub NATIVE : ℕ
-NATIVE = 0x0100
 
 -- a method has code unless it is abstract or native (JVMS 4.7.3)
 abbrev pub has_code : ℕ → Bool

@@ -6,14 +6,11 @@ ghost use Rattle.jl_sketch.specs.Constants.{has_code};
 ghost use Rattle.jl_sketch.specs.Faults.{is_long, are_long, is_long_method_name, is_long_call, is_long_method, is_long_if_any, is_long_sketch, calls_without_code};
 
 use crate::sketch::{Call, MethodName, Sketch, SketchMethod};
-use jl_classfile::{ABSTRACT, has_flag};
+use jl_classfile::{ABSTRACT, NATIVE, has_flag};
 use jl_names::Name;
 
 /// The most bytes of a text, and the most entries of a list.
 const MOST: usize = 65_535;
-
-/// Without code here: it stands elsewhere.
-const NATIVE: u16 = 0x0100;
 
 /// Whether a method has code (JVMS SE 17 §4.7.3).
 pub(crate) fn has_code(flags: u16) -> bool

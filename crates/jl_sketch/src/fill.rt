@@ -6,15 +6,9 @@ ghost use Rattle.jl_sketch.specs.Constants.{with_text, with_class, with_signed, 
 use crate::check::has_code;
 use crate::constants::{Constants, Entry};
 use crate::sketch::{Call, MethodName, Sketch, SketchMethod};
+use jl_classfile::{CODE, NEST_HOST, NEST_MEMBERS};
 use jl_names::Name;
 use std::alloc::{AllocError, Global};
-
-/// The names of attributes that a sketch has (§4.7.3, §4.7.28, §4.7.29).
-pub(crate) const CODE: &[u8] = b"Code";
-
-pub(crate) const NEST_HOST: &[u8] = b"NestHost";
-
-pub(crate) const NEST_MEMBERS: &[u8] = b"NestMembers";
 
 impl<'a> Constants<'a> {
     fn enter_text(&mut self, text: &'a [u8]) -> Result<(), AllocError>

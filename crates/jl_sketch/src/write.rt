@@ -18,9 +18,8 @@ use crate::check::{first_without_code, has_code, is_long_sketch};
 use crate::constants::{Constants, Entry};
 use crate::count::count_byte;
 use crate::fault::SketchFault;
-use crate::fill::{CODE, NEST_HOST, NEST_MEMBERS};
 use crate::sketch::{Call, Sketch, SketchMethod};
-use jl_classfile::{ClassFault, read_class};
+use jl_classfile::{CODE, ClassFault, NEST_HOST, NEST_MEMBERS, read_class};
 use jl_names::Name;
 use std::alloc::{AllocError, Global};
 

@@ -1,4 +1,4 @@
--- What a text of a pool may stand for, as functions on lists. No public clause cites this.
+-- What a text of a pool may stand for, as functions on lists.
 use Rattle.std.specs.Prelude.{ℕ, ◌+◌, ◌==◌, nat_le, Bool, true, false, not, ◌&&◌, ◌||◌, is_some, slice_get, if◌then◌else◌, List, [], ◌∷◌, length, map, Option, Some, None, Result, Ok, Err, option_map}
 use Rattle.std.specs.Option.{option_and_then, option_map_or}
 use Rattle.std.specs.Str.{byte}
