@@ -3,4 +3,5 @@ pub mod CommandLaws
 pub mod FormLaws
 pub mod KeyLaws
 pub mod FloatLaws
+pub mod SendLaws
 pub mod Rows

@@ -1,18 +1,20 @@
 //! The answer to a class file: its name, and its methods with their invocations.
 
-ghost use Rattle.std.specs.Prelude.{◌≡◌, map, IfOk};
+ghost use Rattle.std.specs.Prelude.{◌≡◌, map, IfOk, OnOk};
 ghost use Rattle.serde_json.specs.Data.{array};
-ghost use Rattle.serde_json.specs.View.{view, items_of};
+ghost use Rattle.serde_json.specs.Events.{SendsValue};
+ghost use Rattle.serde_json.specs.View.{items_of};
+ghost use Rattle.serde_json.specs.Written.{compact_text};
 ghost use Rattle.jl_json.specs.NameReading.{name_text};
 ghost use Rattle.jl_json.specs.ClassAnswers.{instruction_name, call_data, call_site_data};
-ghost use Rattle.jl_json.specs.ClassAnswers.{site_data, method_data, class_data};
+ghost use Rattle.jl_json.specs.ClassAnswers.{name_data, number_data, site_data, method_data, class_data};
 
-use crate::text::text_of;
+use crate::text::{plain_text, text_of};
 use jl_classfile::{ClassFile, Method};
 use jl_code::{Kind, Operand, Site};
 use jl_names::Name;
 use jl_pool::{CallSiteSpecifier, Reference};
-use serde_json::{Value, json};
+use serde::{Described, Serialize, Serializer};
 use std::alloc::{AllocError, Global};
 
 /// The name of the instruction (JVMS SE 17 §6.5).
@@ -28,92 +30,165 @@ fn instruction(kind: Kind) -> &'static str
     }
 }
 
-/// An invocation of a method.
-fn call_value(
+/// Sends a name, as text.
+fn send_name<S: Serializer>(alloc: Global, name: &Name, out: &mut S) -> Result<(), S::Error>
+    ensures { OnOk result (SendsValue (name_data name_text name.now) (S.written out.old) (S.written out.new)) }
+{
+    if let Some(text) = plain_text(name.as_slice()) {
+        return out.str(text);
+    }
+    match text_of(alloc, name.as_slice()) {
+        Ok(text) => out.str(text.as_str()),
+        Err(_) => Err(out.custom("out of memory")),
+    }
+}
+
+/// Sends a number.
+fn send_number<S: Serializer>(number: u16, out: &mut S) -> Result<(), S::Error>
+    ensures { OnOk result (SendsValue (number_data number) (S.written out.old) (S.written out.new)) }
+{
+    out.u64(u64::from(number))
+}
+
+/// Sends an invocation of a method.
+fn send_call<S: Serializer>(
     alloc: Global,
     pc: u16,
     kind: Kind,
     reference: &Reference<Name>,
-) -> Result<Value, AllocError>
-    ensures { IfOk result (λ v. view v ≡ call_data name_text pc kind reference.now) }
+    out: &mut S,
+) -> Result<(), S::Error>
+    ensures { OnOk result (SendsValue (call_data name_text pc kind reference.now) (S.written out.old) (S.written out.new)) }
 {
-    let kind = instruction(kind);
-    let name = text_of(alloc, reference.name.as_slice())?;
-    let owner = text_of(alloc, reference.owner.as_slice())?;
-    let ty = text_of(alloc, reference.ty.as_slice())?;
-    json!(in alloc; {"kind": kind, "name": name, "of": owner, "pc": pc, "type": ty})
+    out.begin_map(Some(5))?;
+    out.key("kind")?;
+    out.str(instruction(kind))?;
+    out.key("name")?;
+    send_name(alloc, &reference.name, out)?;
+    out.key("of")?;
+    send_name(alloc, &reference.owner, out)?;
+    out.key("pc")?;
+    send_number(pc, out)?;
+    out.key("type")?;
+    send_name(alloc, &reference.ty, out)?;
+    out.end_map()
 }
 
-/// An invocation of a call site.
-fn call_site_value(
+/// Sends an invocation of a call site.
+fn send_call_site<S: Serializer>(
     alloc: Global,
     pc: u16,
     kind: Kind,
     specifier: &CallSiteSpecifier<Name>,
-) -> Result<Value, AllocError>
-    ensures { IfOk result (λ v. view v ≡ call_site_data name_text pc kind specifier.now) }
+    out: &mut S,
+) -> Result<(), S::Error>
+    ensures { OnOk result (SendsValue (call_site_data name_text pc kind specifier.now) (S.written out.old) (S.written out.new)) }
 {
-    let bootstrap = specifier.bootstrap;
-    let kind = instruction(kind);
-    let name = text_of(alloc, specifier.name.as_slice())?;
-    let ty = text_of(alloc, specifier.ty.as_slice())?;
-    json!(in alloc; {"bootstrap": bootstrap, "kind": kind, "name": name, "pc": pc, "type": ty})
+    out.begin_map(Some(5))?;
+    out.key("bootstrap")?;
+    send_number(specifier.bootstrap, out)?;
+    out.key("kind")?;
+    out.str(instruction(kind))?;
+    out.key("name")?;
+    send_name(alloc, &specifier.name, out)?;
+    out.key("pc")?;
+    send_number(pc, out)?;
+    out.key("type")?;
+    send_name(alloc, &specifier.ty, out)?;
+    out.end_map()
 }
 
-/// An invocation.
+/// Sends an invocation.
 #[tactic(auto, unfolding(crate::specs::ClassAnswers::site_data))]
-fn site_value(alloc: Global, site: &Site) -> Result<Value, AllocError>
-    ensures { IfOk result (λ v. view v ≡ site_data name_text site.now) }
+fn send_site<S: Serializer>(alloc: Global, site: &Site, out: &mut S) -> Result<(), S::Error>
+    ensures { OnOk result (SendsValue (site_data name_text site.now) (S.written out.old) (S.written out.new)) }
 {
     match &site.operand {
-        Operand::Method(reference) => call_value(alloc, site.pc, site.kind, reference),
-        Operand::CallSite(specifier) => call_site_value(alloc, site.pc, site.kind, specifier),
+        Operand::Method(reference) => send_call(alloc, site.pc, site.kind, reference, out),
+        Operand::CallSite(specifier) => send_call_site(alloc, site.pc, site.kind, specifier, out),
     }
 }
 
-/// Invocations, in order.
-fn sites_value(alloc: Global, sites: &[Site]) -> Result<Value, AllocError>
-    ensures { IfOk result (λ v. view v
-        ≡ array (items_of (map (site_data name_text) sites.now))) }
+/// Sends invocations, in order.
+fn send_sites<S: Serializer>(alloc: Global, sites: &[Site], out: &mut S) -> Result<(), S::Error>
+    ensures { OnOk result (SendsValue (array (items_of (map (site_data name_text) sites.now))) (S.written out.old) (S.written out.new)) }
 {
-    let mut values = Vec::new(alloc);
+    out.begin_seq(Some(sites.len()))?;
     for site in sites {
-        values.push(site_value(alloc, site)?)?;
+        send_site(alloc, site, out)?;
     }
-    Ok(Value::Array(values))
+    out.end_seq()
 }
 
-/// A method.
+/// Sends a method.
 #[tactic(auto, unfolding(crate::specs::ClassAnswers::method_data))]
-fn method_value(alloc: Global, method: &Method) -> Result<Value, AllocError>
-    ensures { IfOk result (λ v. view v ≡ method_data name_text method.now) }
+fn send_method<S: Serializer>(alloc: Global, method: &Method, out: &mut S) -> Result<(), S::Error>
+    ensures { OnOk result (SendsValue (method_data name_text method.now) (S.written out.old) (S.written out.new)) }
 {
-    let flags = method.flags;
-    let name = text_of(alloc, method.name.as_slice())?;
-    let sites = sites_value(alloc, method.sites.as_slice())?;
-    let ty = text_of(alloc, method.ty.as_slice())?;
-    json!(in alloc; {"flags": flags, "name": name, "sites": sites, "type": ty})
+    out.begin_map(Some(4))?;
+    out.key("flags")?;
+    send_number(method.flags, out)?;
+    out.key("name")?;
+    send_name(alloc, &method.name, out)?;
+    out.key("sites")?;
+    send_sites(alloc, method.sites.as_slice(), out)?;
+    out.key("type")?;
+    send_name(alloc, &method.ty, out)?;
+    out.end_map()
 }
 
-/// Methods, in order.
-fn methods_value(alloc: Global, methods: &[Method]) -> Result<Value, AllocError>
-    ensures { IfOk result (λ v. view v
-        ≡ array (items_of (map (method_data name_text) methods.now))) }
+/// Sends methods, in order.
+fn send_methods<S: Serializer>(
+    alloc: Global,
+    methods: &[Method],
+    out: &mut S,
+) -> Result<(), S::Error>
+    ensures { OnOk result (SendsValue (array (items_of (map (method_data name_text) methods.now))) (S.written out.old) (S.written out.new)) }
 {
-    let mut values = Vec::new(alloc);
+    out.begin_seq(Some(methods.len()))?;
     for method in methods {
-        values.push(method_value(alloc, method)?)?;
+        send_method(alloc, method, out)?;
     }
-    Ok(Value::Array(values))
+    out.end_seq()
 }
 
-/// The answer to a class file: its name, and its methods with their invocations (JVMS SE 17 §4.1,
-/// §4.6, §6.5). Want of memory is an error.
+/// A class file that is written as the answer to it.
+#[derive(Drop)]
+struct Shown<'a> {
+    alloc: Global,
+    file: &'a ClassFile,
+}
+
+impl<'a> Described for Shown<'a> {
+    ghost writes = { λ s. SendsValue (class_data name_text s.file.now) };
+}
+
+impl<'a> Serialize for Shown<'a> {
+    fn serialize<S: Serializer>(&self, out: &mut S) -> Result<(), S::Error> {
+        send_class(self.alloc, self.file, out)
+    }
+}
+
+/// Sends the answer to a class file.
 #[tactic(auto, unfolding(crate::specs::ClassAnswers::class_data))]
-pub fn class_value(alloc: Global, file: &ClassFile) -> Result<Value, AllocError>
-    ensures { IfOk result (λ v. view v ≡ class_data name_text file.now) }
+fn send_class<S: Serializer>(alloc: Global, file: &ClassFile, out: &mut S) -> Result<(), S::Error>
+    ensures { OnOk result (SendsValue (class_data name_text file.now) (S.written out.old) (S.written out.new)) }
 {
-    let name = text_of(alloc, file.name.as_slice())?;
-    let methods = methods_value(alloc, file.methods.as_slice())?;
-    json!(in alloc; {"class": name, "methods": methods})
+    out.begin_map(Some(2))?;
+    out.key("class")?;
+    send_name(alloc, &file.name, out)?;
+    out.key("methods")?;
+    send_methods(alloc, file.methods.as_slice(), out)?;
+    out.end_map()
+}
+
+/// The answer to a class file, as JSON: its name, and its methods with their invocations (JVMS SE 17 §4.1, §4.6,
+/// §6.5). Want of memory is an error.
+pub fn class_text(alloc: Global, file: &ClassFile) -> Result<Vec<u8>, AllocError>
+    ensures { IfOk result (λ text. text.items ≡ compact_text (class_data name_text file.now)) }
+{
+    match serde_json::to_vec(alloc, &Shown { alloc, file }) {
+        Ok(text) => Ok(text),
+        Err(_) => Err(AllocError),
+    }
 }

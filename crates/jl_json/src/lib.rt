@@ -23,7 +23,7 @@ mod command;
 mod tests;
 
 pub use call_answer::answer_value;
-pub use class_answer::class_value;
+pub use class_answer::class_text;
 pub use command::{Command, each_command_is_read, no_other_keys, read_command};
 pub use event_refusal::{event_refusal_value, prepare_refusal_value};
 pub use link_answer::{link_value, links_value, outcome_value, prepared_value};

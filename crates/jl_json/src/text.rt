@@ -1,6 +1,6 @@
 //! Names as text.
 
-ghost use Rattle.std.specs.Prelude.{◌≡◌, true, string_bytes, IfOk};
+ghost use Rattle.std.specs.Prelude.{◌≡◌, string_bytes, IfOk, IfSome};
 ghost use Rattle.jl_json.specs.Names.{SpellsNames};
 ghost use Rattle.jl_json.specs.NameReading.{is_plain, name_text};
 
@@ -12,8 +12,8 @@ use std::alloc::{AllocError, Global};
 pub fn text_of(alloc: Global, name: &[u8]) -> Result<String, AllocError>
     ensures { IfOk result (λ text. string_bytes text ≡ name_text name.now) }
 {
-    if is_plain(name) {
-        return plain_text(alloc, name);
+    if let Some(text) = plain_text(name) {
+        return text.to_owned(alloc);
     }
     match decode_mutf8(alloc, name) {
         Ok(units) => String::from_utf16_lossy(alloc, &units),
@@ -33,13 +33,14 @@ fn is_plain(name: &[u8]) -> bool
 }
 
 /// The text of a name whose units have one byte each: the same bytes.
-fn plain_text(alloc: Global, name: &[u8]) -> Result<String, AllocError>
-    requires { is_plain name.now ≡ true }
-    ensures { IfOk result (λ text. string_bytes text ≡ name_text name.now) }
+#[tactic(auto, using(crate::proofs::NameLaws::plain_text))]
+pub(crate) fn plain_text(name: &[u8]) -> Option<&str>
+    ensures { IfSome result (λ text. text.now ≡ name_text name.now) }
 {
-    match std::str::from_utf8(name) {
-        Ok(text) => text.to_owned(alloc),
-        Err(_) => Ok(String::new(alloc)),
+    if is_plain(name) {
+        std::str::from_utf8(name).ok()
+    } else {
+        None
     }
 }
 

@@ -15,6 +15,6 @@ returns-in-Ok c =
     spelled c.from_utf16_lossy.result c.args.name.now c.in-Ok.units.items c.deref.result.now c.in-Ok.ensures.ok
     c.deref.ensures.value c.from_utf16_lossy.ensures
 
-pub returns-in_default : goal.returns-in_default
-returns-in_default c =
-    c.new.ensures.bytes ∙ of_none c.args.name.now c.in-Err.fault c.in_default.not-Memory c.in-Err.ensures.fault
+pub returns-in_default-fault : goal.returns-in_default-fault
+returns-in_default-fault c =
+    c.new.ensures.bytes ∙ of_none c.args.name.now c.in-Err.fault c.in_default-fault.not-Memory c.in-Err.ensures.fault
