@@ -10,6 +10,7 @@ mod descriptor;
 mod fault;
 mod method_type;
 mod mutf8;
+mod name;
 mod repeat;
 mod seq;
 mod text;
@@ -19,8 +20,9 @@ pub use descriptor::{Element, FieldType, no_fault_in_field_descriptors, one_fiel
 pub use fault::NameFault;
 pub use method_type::{MethodType, method_slots, no_fault_in_method_descriptors, one_method_type};
 pub use mutf8::{decode_mutf8, encode_mutf8, is_text, no_fault_in_units, one_list_of_units};
+pub use name::Name;
 pub use repeat::first_repeat;
-pub use seq::{Name, Seq};
+pub use seq::Seq;
 pub use text::Text;
 
 #[cfg(test)]

@@ -84,24 +84,3 @@ impl<T: Hash> Hash for Seq<T> {
         self.as_slice().hash(state);
     }
 }
-
-/// A name or a descriptor that is kept: its bytes.
-pub type Name = Seq<u8>;
-
-impl Name {
-    ghost use Rattle.std.specs.Prelude.{IfOk};
-
-    /// A name of these bytes.
-    pub fn copied(alloc: Global, bytes: &[u8]) -> Result<Name, AllocError>
-        ensures { IfOk result (λ name. name ≡ bytes.now) }
-    {
-        Ok(Seq::of(bytes.to_vec(alloc)?))
-    }
-
-    /// The same name once more. Want of memory is an error.
-    pub fn copy(&self, alloc: Global) -> Result<Name, AllocError>
-        ensures { IfOk result (λ copy. copy ≡ self.now) }
-    {
-        Name::copied(alloc, self.as_slice())
-    }
-}

@@ -69,8 +69,6 @@ fn names(rt: HostRuntime) -> Result<(), Fail> {
     for (name, package) in packages {
         assert_eq!(rt; package_of(name), package);
     }
-    let name = Name::copied(rt.alloc(), b"java/lang/Object")?;
-    assert_eq!(rt; name.as_slice(), b"java/lang/Object".as_slice());
     let text = Text::of(b"A");
     assert_eq!(rt; text.as_bytes(), b"A".as_slice());
     Ok(())
@@ -85,15 +83,14 @@ fn hash_of<T: Hash>(value: &T) -> u64 {
 
 #[test]
 fn lists(rt: HostRuntime) -> Result<(), Fail> {
-    let run = Name::copied(rt.alloc(), b"run")?;
+    let run = Seq::of(b"run".to_vec(rt.alloc())?);
     let again = run.try_map(rt.alloc(), |byte| Ok(*byte))?;
     assert_eq!(rt; run, again);
-    assert_eq!(rt; run, run.copy(rt.alloc())?);
     assert_eq!(rt; hash_of(&run), hash_of(&again));
     assert_eq!(rt; hash_of(&run), hash_of(&b"run".as_slice()));
     let others: [&[u8]; 4] = [b"", b"ru", b"rub", b"runs"];
     for other in others {
-        assert_ne!(rt; run, Name::copied(rt.alloc(), other)?, "{other:?}");
+        assert_ne!(rt; run, Seq::of(other.to_vec(rt.alloc())?), "{other:?}");
     }
     let failed = run.try_map(rt.alloc(), |byte| {
         if *byte == b'u' {
@@ -102,6 +99,40 @@ fn lists(rt: HostRuntime) -> Result<(), Fail> {
         Ok(*byte)
     });
     assert!(rt; failed.is_err());
+    Ok(())
+}
+
+#[test]
+fn kept_names(rt: HostRuntime) -> Result<(), Fail> {
+    let run = Name::copied(rt.alloc(), b"run")?;
+    assert_eq!(rt; run.as_slice(), b"run".as_slice());
+    assert_eq!(rt; run, run.copy(rt.alloc())?);
+    assert_eq!(rt; hash_of(&run), hash_of(&b"run".as_slice()));
+    let others: [&[u8]; 4] = [b"", b"ru", b"rub", b"runs"];
+    for other in others {
+        assert_ne!(rt; run, Name::copied(rt.alloc(), other)?, "{other:?}");
+    }
+    Ok(())
+}
+
+#[test]
+fn cut_names(rt: HostRuntime) -> Result<(), Fail> {
+    let mut block = Name::of(b"AfA()V".to_vec(rt.alloc())?)?;
+    let first = block.split_to(1)?;
+    let second = block.split_to(1)?;
+    let none = block.split_to(0)?;
+    let third = block.split_to(1)?;
+    let last = block.split_to(3)?;
+    let copy = second.copy(rt.alloc())?;
+    drop(second);
+    assert_eq!(rt; first.as_slice(), b"A".as_slice());
+    assert_eq!(rt; copy.as_slice(), b"f".as_slice());
+    assert_eq!(rt; none.as_slice(), b"".as_slice());
+    assert_eq!(rt; first, third);
+    assert_ne!(rt; first, copy);
+    assert_eq!(rt; hash_of(&first), hash_of(&third));
+    assert_eq!(rt; last.as_slice(), b"()V".as_slice());
+    assert_eq!(rt; block.as_slice(), b"".as_slice());
     Ok(())
 }
 

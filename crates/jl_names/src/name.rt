@@ -1,0 +1,104 @@
+//! A name that is kept.
+
+ghost use Rattle.std.specs.Prelude.{◌≡◌, nat_eq};
+ghost use Rattle.std.specs.Cmp.{partial_equiv_from_equiv};
+ghost use Rattle.std.specs.Cmp.Lexicographic.{pointwise, nat_list_eq_equiv};
+ghost use Rattle.std.specs.Hash as fed;
+ghost use Rattle.std.specs.Hash.{items_Alike, same_Alike};
+ghost use Rattle.std.proofs.lemmas.Bool.Decides.{Decides-eqb};
+
+use bytes::Bytes;
+use std::alloc::{AllocError, Global};
+use std::hash::{Hash, Hasher};
+use std::marker::Model;
+
+/// A name or a descriptor that is kept. A clause sees its bytes.
+///
+/// The copies of a name share one block of bytes, and so do the names that are cut from one block. The block is kept
+/// as long as one of them is.
+#[derive(Debug, Drop)]
+pub struct Name {
+    bytes: Bytes,
+}
+
+impl Model for Name {
+    ghost use Rattle.std.specs.Prelude.{List, ℕ};
+
+    ghost Value = { List ℕ };
+
+    ghost view = { λ n. n.bytes };
+}
+
+impl Name {
+    ghost use Rattle.std.specs.Prelude.{◌≤◌, length, take, drop, IfOk, OnOk};
+
+    /// A name of these bytes, which are not copied.
+    pub fn of(bytes: Vec<u8>) -> Result<Name, AllocError>
+        ensures { IfOk result (λ name. name ≡ bytes.items) }
+    {
+        Ok(Name {
+            bytes: Bytes::from_vec(bytes)?,
+        })
+    }
+
+    /// A name of these bytes, in a block of its own.
+    pub fn copied(alloc: Global, bytes: &[u8]) -> Result<Name, AllocError>
+        ensures { IfOk result (λ name. name ≡ bytes.now) }
+    {
+        Name::of(bytes.to_vec(alloc)?)
+    }
+
+    /// The bytes, in order.
+    pub fn as_slice(&self) -> &[u8]
+        ensures { result.now ≡ self.now }
+    {
+        self.bytes.as_slice()
+    }
+
+    /// The same name once more, in the same block. It is an error where the block can count no more owners.
+    pub fn copy(&self, _alloc: Global) -> Result<Name, AllocError>
+        ensures { IfOk result (λ copy. copy ≡ self.now) }
+    {
+        Ok(Name {
+            bytes: self.bytes.clone()?,
+        })
+    }
+
+    /// The first so many bytes as a name in the same block; this one keeps the rest. It is an error where the block can
+    /// count no more owners.
+    pub fn split_to(&mut self, count: usize) -> Result<Name, AllocError>
+        requires { count ≤ length self.old }
+        ensures front { IfOk result (λ name. name ≡ take count self.old) }
+        ensures rest { OnOk result (self.new ≡ drop count self.old) }
+    {
+        Ok(Name {
+            bytes: self.bytes.split_to(count)?,
+        })
+    }
+}
+
+/// Names are equal where their bytes are, one by one.
+impl PartialEq for Name {
+    ghost eq = { pointwise nat_eq };
+
+    ghost laws = { partial_equiv_from_equiv nat_list_eq_equiv };
+
+    fn eq(&self, other: &Self) -> bool {
+        self.as_slice() == other.as_slice()
+    }
+}
+
+impl Eq for Name {
+    ghost laws = { nat_list_eq_equiv };
+}
+
+/// A name has the hash of its bytes.
+impl Hash for Name {
+    ghost hash_input = { fed.slice fed.u8 };
+
+    ghost respects_eq = { (items_Alike (same_Alike fed.u8 Decides-eqb)).fed };
+
+    fn hash<H: Hasher>(&self, state: &mut H) {
+        self.as_slice().hash(state);
+    }
+}
