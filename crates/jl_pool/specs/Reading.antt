@@ -3,3 +3,4 @@
 pub mod Fields
 pub mod Constants
 pub mod Forms
+pub mod Names

@@ -16,11 +16,14 @@ ghost use Rattle.jl_pool.specs.Reading.Forms.{form_of, forms_of, form_at, method
 use crate::bytes::{handle_at, pair_at, text_at, u2_at, u4_at, u8_at};
 use crate::constant::Constant;
 use crate::form::Form;
+use crate::names::names_of;
 use crate::pool_fault::PoolFault;
 use crate::reference::{CallSiteSpecifier, Reference};
-use jl_names::{Text, is_text};
+use jl_names::{Name, Text, is_text};
 use std::alloc::Global;
 use std::marker::Model;
+
+mod kept;
 
 /// The constants of a class file (JVMS SE 17 §4.4). A clause sees them by number.
 #[derive(Debug, Drop)]
@@ -28,6 +31,8 @@ pub struct Pool<'a> {
     entries: Vec<Option<Constant<'a>>>,
     /// By number, what the text of a Utf8 may stand for.
     forms: Vec<Option<Form>>,
+    /// By number, the text of a Utf8 as a name.
+    names: Vec<Option<Name>>,
 }
 
 impl<'a> Model for Pool<'a> {
@@ -40,8 +45,9 @@ impl<'a> Model for Pool<'a> {
 
     ghost use Rattle.std.specs.Prelude.{◌≡◌};
     ghost use Rattle.jl_pool.specs.Reading.Forms.{forms_of};
+    ghost use Rattle.jl_pool.specs.Reading.Names.{names_of};
 
-    ghost invariant = { λ p. p.forms.items ≡ forms_of p.entries.items };
+    ghost invariant = { λ p. (p.forms.items ≡ forms_of p.entries.items) × (p.names.items ≡ names_of p.entries.items) };
 }
 
 impl<'a> Pool<'a> {
@@ -60,7 +66,16 @@ impl<'a> Pool<'a> {
         let (entries, rest) = linked_at(alloc, bytes)?;
         let forms = forms_of(alloc, &entries)?;
         check_types(&entries, &forms)?;
-        Ok((Pool { entries, forms }, bytes.len() - rest.len()))
+        let names = names_of(alloc, &entries)?;
+        let used = bytes.len() - rest.len();
+        Ok((
+            Pool {
+                entries,
+                forms,
+                names,
+            },
+            used,
+        ))
     }
 
     /// The entries by number.

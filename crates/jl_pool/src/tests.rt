@@ -151,6 +151,68 @@ fn references(rt: HostRuntime) -> Result<(), Fail> {
     Ok(())
 }
 
+#[test]
+fn kept_texts(rt: HostRuntime) -> Result<(), Fail> {
+    let bytes = bytes_of(rt.alloc(), 26, &EACH_TAG)?;
+    let (pool, _) = Pool::read(rt.alloc(), &bytes)?;
+    let rows: [(u16, Option<&[u8]>, Option<&[u8]>); 10] = [
+        (1, Some(b"A"), None),
+        (2, None, Some(b"A")),
+        (3, Some(b"f"), None),
+        (4, Some(b"()V"), None),
+        (8, Some(b"I"), None),
+        (24, Some(b"[I"), None),
+        // The class of an array has no class name.
+        (25, None, None),
+        (0, None, None),
+        (15, None, None),
+        (26, None, None),
+    ];
+    for (number, text, class_name) in rows {
+        let kept = pool.kept_utf8(number);
+        assert_eq!(rt; kept.map(|name| name.as_slice()), text, "{number}");
+        let kept = pool.kept_class_name(number);
+        assert_eq!(rt; kept.map(|name| name.as_slice()), class_name, "{number}");
+    }
+    Ok(())
+}
+
+#[test]
+fn kept_references(rt: HostRuntime) -> Result<(), Fail> {
+    let bytes = bytes_of(rt.alloc(), 26, &EACH_TAG)?;
+    let (pool, _) = Pool::read(rt.alloc(), &bytes)?;
+    for (number, interface) in [(6, false), (7, true)] {
+        match pool.kept_method_ref(rt.alloc(), number)? {
+            Some(method) => {
+                assert_eq!(rt; method.itf, interface);
+                assert_eq!(rt; method.owner.as_slice(), b"A".as_slice());
+                assert_eq!(rt; method.name.as_slice(), b"f".as_slice());
+                assert_eq!(rt; method.ty.as_slice(), b"()V".as_slice());
+            }
+            None => assert!(rt; false, "{number}"),
+        }
+    }
+    match pool.kept_dynamic(rt.alloc(), 21)? {
+        Some(site) => {
+            assert_eq!(rt; site.bootstrap, 7);
+            assert_eq!(rt; site.name.as_slice(), b"f".as_slice());
+            assert_eq!(rt; site.ty.as_slice(), b"()V".as_slice());
+        }
+        None => assert!(rt; false),
+    }
+    for number in [0, 5, 10, 15, 20, 26] {
+        assert!(rt;
+            pool.kept_method_ref(rt.alloc(), number)?.is_none(),
+            "{number}"
+        );
+        assert!(rt;
+            pool.kept_dynamic(rt.alloc(), number)?.is_none(),
+            "{number}"
+        );
+    }
+    Ok(())
+}
+
 /// What comes before the handles below: 9 is a Fieldref, 10 a Methodref and 11 an InterfaceMethodref.
 const REFERENCES: [&[u8]; 11] = [
     b"\x01\x00\x01A",
