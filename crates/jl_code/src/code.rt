@@ -16,8 +16,8 @@ ghost use Rattle.jl_code.specs.Reading.Sites.{invoked, IsSiteFault};
 use crate::code_fault::CodeFault;
 use crate::instruction::{Instruction, Stop, instruction_at};
 use crate::site::{Kind, Operand, Site};
-use jl_names::{Name, Text};
-use jl_pool::{CallSiteSpecifier, Pool, Reference};
+use jl_names::Name;
+use jl_pool::Pool;
 use std::alloc::{AllocError, Global};
 
 /// The kind of an invocation.
@@ -34,25 +34,29 @@ fn kind_of(opcode: u8) -> Kind
 }
 
 /// The method or call site that the entry at a number names.
-fn operand_at<'a>(pool: &Pool<'a>, number: u16) -> Option<Operand<Text<'a>>>
-    ensures { result ≡ operand_at pool.now number }
+fn operand_at(
+    alloc: Global,
+    pool: &Pool<'_>,
+    number: u16,
+) -> Result<Option<Operand<Name>>, AllocError>
+    ensures { IfOk result (λ operand. operand ≡ operand_at pool.now number) }
 {
-    match pool.method_ref(number) {
-        Some(reference) => Some(Operand::Method(reference)),
-        None => match pool.dynamic(number) {
-            Some(specifier) => Some(Operand::CallSite(specifier)),
-            None => None,
-        },
+    if let Some(reference) = pool.kept_method_ref(alloc, number)? {
+        return Ok(Some(Operand::Method(reference)));
+    }
+    match pool.kept_dynamic(alloc, number)? {
+        Some(specifier) => Ok(Some(Operand::CallSite(specifier))),
+        None => Ok(None),
     }
 }
 
 /// The name of what an operand names.
-fn operand_name<'a>(operand: &Operand<Text<'a>>) -> &'a [u8]
+fn operand_name(operand: &Operand<Name>) -> &[u8]
     ensures { result.now ≡ operand_name operand.now }
 {
     match operand {
-        Operand::Method(reference) => reference.name.as_bytes(),
-        Operand::CallSite(specifier) => specifier.name.as_bytes(),
+        Operand::Method(reference) => reference.name.as_slice(),
+        Operand::CallSite(specifier) => specifier.name.as_slice(),
     }
 }
 
@@ -114,65 +118,29 @@ fn tail_fits(opcode: u8, slots: u8, tail: &[u8]) -> bool
 
 /// What an invocation names, where it may name that.
 #[tactic(auto, unfolding(crate::specs::Reading::Sites::invoked))]
-fn invoked<'a>(pool: &Pool<'a>, opcode: u8, number: u16, tail: &[u8]) -> Option<Operand<Text<'a>>>
-    ensures { result ≡ invoked pool.now opcode number tail.now }
+fn invoked(
+    alloc: Global,
+    pool: &Pool<'_>,
+    opcode: u8,
+    number: u16,
+    tail: &[u8],
+) -> Result<Option<Operand<Name>>, AllocError>
+    ensures { IfOk result (λ operand. operand ≡ invoked pool.now opcode number tail.now) }
 {
     if !is_tagged(pool, opcode, number) {
-        return None;
+        return Ok(None);
     }
-    let operand = operand_at(pool, number)?;
-    let slots = pool.slots(number)?;
+    let Some(operand) = operand_at(alloc, pool, number)? else {
+        return Ok(None);
+    };
+    let Some(slots) = pool.slots(number) else {
+        return Ok(None);
+    };
     let named = may_name(opcode, operand_name(&operand));
     if named && slots <= most_slots(opcode) && tail_fits(opcode, slots, tail) {
-        Some(operand)
+        Ok(Some(operand))
     } else {
-        None
-    }
-}
-
-/// A text, kept.
-fn kept_text(alloc: Global, text: &Text<'_>) -> Result<Name, AllocError>
-    ensures { IfOk result (λ name. name ≡ text.now) }
-{
-    Name::copied(alloc, text.as_bytes())
-}
-
-/// A method's names, kept.
-fn kept_reference(
-    alloc: Global,
-    reference: &Reference<Text<'_>>,
-) -> Result<Reference<Name>, AllocError>
-    ensures { IfOk result (λ kept. kept ≡ reference.now) }
-{
-    Ok(Reference {
-        itf: reference.itf,
-        owner: kept_text(alloc, &reference.owner)?,
-        name: kept_text(alloc, &reference.name)?,
-        ty: kept_text(alloc, &reference.ty)?,
-    })
-}
-
-/// A call site's names, kept.
-fn kept_specifier(
-    alloc: Global,
-    specifier: &CallSiteSpecifier<Text<'_>>,
-) -> Result<CallSiteSpecifier<Name>, AllocError>
-    ensures { IfOk result (λ kept. kept ≡ specifier.now) }
-{
-    Ok(CallSiteSpecifier {
-        bootstrap: specifier.bootstrap,
-        name: kept_text(alloc, &specifier.name)?,
-        ty: kept_text(alloc, &specifier.ty)?,
-    })
-}
-
-/// An operand, kept.
-fn kept(alloc: Global, operand: &Operand<Text<'_>>) -> Result<Operand<Name>, AllocError>
-    ensures { IfOk result (λ kept. kept ≡ operand.now) }
-{
-    match operand {
-        Operand::Method(reference) => Ok(Operand::Method(kept_reference(alloc, reference)?)),
-        Operand::CallSite(specifier) => Ok(Operand::CallSite(kept_specifier(alloc, specifier)?)),
+        Ok(None)
     }
 }
 
@@ -188,9 +156,8 @@ fn site_of(
 {
     match instruction {
         Instruction::Invoke(opcode, number, tail) => {
-            match invoked(pool, *opcode, *number, tail.as_bytes()) {
+            match invoked(alloc, pool, *opcode, *number, tail.as_bytes())? {
                 Some(operand) => {
-                    let operand = kept(alloc, &operand)?;
                     let kind = kind_of(*opcode);
                     Ok(Some(Site { pc, kind, operand }))
                 }
