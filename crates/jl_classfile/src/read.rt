@@ -1,7 +1,7 @@
 //! Reads a class file, pass after pass.
 
 ghost use Rattle.std.specs.Prelude.{◌<◌, ◌≤◌, ◌^◌, ◌≡◌, ◌≢◌, length, map, [], slice_get, All, List, ℕ, Some, IfOk, IfErr, MatchBool};
-ghost use Rattle.std.specs.Option.{option_and_then, unwrap_or};
+ghost use Rattle.std.specs.Option.{option_and_then, option_copied, unwrap_or};
 ghost use Rattle.jl_classfile.specs.declared.fault.ClassFault.{ClassFault};
 ghost use Rattle.jl_classfile.specs.Parts.{Parts};
 ghost use Rattle.jl_classfile.specs.ClassFiles.{IsClass};
@@ -106,18 +106,28 @@ fn sites_of(
     }
 }
 
+/// The name once more, and nothing where there is none.
+fn copy_or_nothing(alloc: Global, name: Option<&Name>) -> Result<Name, AllocError>
+    ensures { IfOk result (λ copy. copy ≡ unwrap_or (option_copied name.entry) []) }
+{
+    match name {
+        Some(name) => name.copy(alloc),
+        None => Name::copied(alloc, b""),
+    }
+}
+
 /// The text at a number, kept, and nothing where there is none.
 fn kept_text(alloc: Global, pool: &Pool<'_>, number: u16) -> Result<Name, AllocError>
     ensures { IfOk result (λ name. name ≡ text_or_nothing pool.now number) }
 {
-    Name::copied(alloc, pool.utf8(number).unwrap_or(b"".as_slice()))
+    copy_or_nothing(alloc, pool.kept_utf8(number))
 }
 
 /// The class name at a number, kept, and nothing where there is none.
 fn kept_class(alloc: Global, pool: &Pool<'_>, number: u16) -> Result<Name, AllocError>
     ensures { IfOk result (λ name. name ≡ name_or_nothing pool.now number) }
 {
-    Name::copied(alloc, pool.class_name(number).unwrap_or(b"".as_slice()))
+    copy_or_nothing(alloc, pool.kept_class_name(number))
 }
 
 /// The class names at the numbers, kept.
@@ -139,8 +149,8 @@ fn kept_class_if_any(
 ) -> Result<Option<Name>, AllocError>
     ensures { IfOk result (λ name. name ≡ class_at pool.now number) }
 {
-    match pool.class_name(number) {
-        Some(name) => Ok(Some(Name::copied(alloc, name)?)),
+    match pool.kept_class_name(number) {
+        Some(name) => Ok(Some(name.copy(alloc)?)),
         None => Ok(None),
     }
 }
