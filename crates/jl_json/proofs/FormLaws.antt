@@ -7,16 +7,21 @@ use Rattle.std.proofs.lemmas.Bool.Decides.{nat_tests}
 use Rattle.hex.specs.Hex.{encode_lower, decode_of}
 use Rattle.hex.specs.declared.error.FromHexError.{FromHexError}
 use Rattle.hex.proofs.HexLemmas.{decode_of-encode_lower}
+use Rattle.serde_json.specs.Data.{Data}
 use Rattle.serde_json.specs.View.{items_of}
 use Rattle.jl_types.specs.declared.answer.Recv.{Recv}
 use Rattle.jl_types.specs.declared.answer.Recv.TheVariants.{Null, Of}
 use Rattle.jl_json.specs.declared.command.Command.{Command}
 use Rattle.jl_json.specs.declared.command.Command.TheVariants.{Define, Request, Prepare, Install, Call, Links}
+use Rattle.jl_json.specs.declared.command.ClassSource.TheVariants.{File, Sketch}
+use Rattle.jl_sketch.specs.declared.sketch.Sketch.{Sketch as SketchOf}
 use Rattle.jl_json.specs.ClassAnswers.{number_data}
-use Rattle.jl_json.specs.Commands.{below, numbers_in, recv_in, command_of, ◌>>=◌}
+use Rattle.jl_json.specs.Members.{below, ◌>>=◌}
+use Rattle.jl_json.specs.Sketches.{sketch_of}
+use Rattle.jl_json.specs.Commands.{numbers_in, recv_in, command_of}
 use Rattle.jl_json.specs.CommandForms.{recv_data, command_data, IsReceiver, IsCommand}
 
-within : (bound n : ℕ) → n < bound → below bound n ≡ Some n
+pub within : (bound n : ℕ) → n < bound → below bound n ≡ Some n
 within bound n lt = grind (arith, nat_tests)
 
 numbers_again : (sites : List ℕ) → AllByRecursion (λ s. s < 2 ^ 32) sites
@@ -34,10 +39,17 @@ recv_again (Of class) h = ap (option_map Of) (within (2 ^ 32) class h)
 -- what follows a number of the form
 
 abbrev file_next : List ℕ → Option ℕ → Option Command
-file_next file loader = loader >>= (λ l. result_ok (decode_of (encode_lower file)) >>= (λ bytes. Some (Define l bytes)))
+file_next file loader =
+    loader >>= (λ l. option_map File (result_ok (decode_of (encode_lower file))) >>= (λ source. Some (Define l source)))
 
 abbrev bytes_next : ℕ → Result (List ℕ) FromHexError → Option Command
-bytes_next loader read = result_ok read >>= (λ bytes. Some (Define loader bytes))
+bytes_next loader read = option_map File (result_ok read) >>= (λ source. Some (Define loader source))
+
+abbrev sketch_next : ℕ → Option SketchOf → Option Command
+sketch_next loader s = option_map Sketch s >>= (λ source. Some (Define loader source))
+
+abbrev sketched_next : Data → Option ℕ → Option Command
+sketched_next sketch loader = loader >>= (λ l. sketch_next l (sketch_of sketch))
 
 abbrev pc_next : ℕ → ℕ → Option ℕ → Option Command
 pc_next class method pc = pc >>= (λ p. Some (Request (record { class = class; method = method; pc = p })))
@@ -54,17 +66,19 @@ recv_next site recv = recv >>= (λ r. Some (Call site r))
 abbrev site_next : Recv → Option ℕ → Option Command
 site_next recv site = site >>= (λ s. recv_next s (recv_in (recv_data recv)))
 
-pub again : (c : Command) → IsCommand c → command_of (command_data c) ≡ Some c
+pub again : (sketch : Data) (c : Command) → IsCommand sketch c → command_of (command_data sketch c) ≡ Some c
 unfolding command_data
-again (Define loader file) h =
+again sketch (Define loader (File file)) h =
     ap (file_next file) (within (2 ^ 32) loader h.0)
     ∙ ap (bytes_next loader) (decode_of-encode_lower file h.1)
-again (Request place) h =
+again sketch (Define loader (Sketch s)) h =
+    ap (sketched_next sketch) (within (2 ^ 32) loader h.0) ∙ ap (sketch_next loader) h.1
+again sketch (Request place) h =
     ap (class_next place.method place.pc) (within (2 ^ 32) place.class h.0)
     ∙ ap (method_next place.pc place.class) (within (2 ^ 16) place.method h.1)
     ∙ ap (pc_next place.class place.method) (within (2 ^ 32) place.pc h.2)
-again (Prepare sites) h = ap (option_map Prepare) (numbers_again sites h)
-again (Install batch) h = ap (option_map Install) (within (2 ^ 32) batch h)
-again (Call site recv) h =
+again sketch (Prepare sites) h = ap (option_map Prepare) (numbers_again sites h)
+again sketch (Install batch) h = ap (option_map Install) (within (2 ^ 32) batch h)
+again sketch (Call site recv) h =
     ap (site_next recv) (within (2 ^ 32) site h.0) ∙ ap (recv_next site) (recv_again recv h.1)
-again Links h = refl
+again sketch Links h = refl

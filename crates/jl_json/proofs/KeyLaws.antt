@@ -8,6 +8,7 @@ use Rattle.std.specs.declared.cmp.Ordering.{Ordering}
 use Rattle.std.specs.declared.cmp.Ordering.TheVariants.{Less, Equal, Greater}
 use Rattle.std.specs.Cmp.Lexicographic.{slice_cmp}
 use Rattle.std.specs.List.{AllByRecursion}
+use Rattle.std.specs.Option.{option_map_or}
 use Rattle.std.specs.Result.{result_ok}
 use Rattle.std.specs.Str.{bytes_eq}
 use Rattle.std.proofs.lemmas.Bool.{eqb-true}
@@ -20,10 +21,14 @@ use Rattle.serde_json.specs.Find.{get, get_member, as_str, as_array}
 use Rattle.jl_types.specs.declared.answer.Recv.TheVariants.{Null}
 use Rattle.jl_json.specs.declared.command.Command.{Command}
 use Rattle.jl_json.specs.declared.command.Command.TheVariants.{Define, Request, Prepare, Install, Call, Links}
-use Rattle.jl_json.specs.Commands.{number_in, number_at, numbers_in, sites_at, text_at, file_at, recv_in, ◌>>=◌}
+use Rattle.jl_json.specs.declared.command.ClassSource.{ClassSource}
+use Rattle.jl_json.specs.declared.command.ClassSource.TheVariants.{File, Sketch}
+use Rattle.jl_json.specs.Members.{number_in, number_at, text_at, member_keys, keys_of, has_key, AreAmong, ◌>>=◌}
+use Rattle.jl_json.specs.Sketches.{sketch_of}
+use Rattle.jl_json.specs.Commands.{numbers_in, sites_at, file_at, recv_in, source_of}
 use Rattle.jl_json.specs.Commands.{define_of, request_of, prepare_of, install_of, call_of, call_on_of}
 use Rattle.jl_json.specs.Commands.{member_count, by_word, command_of}
-use Rattle.jl_json.specs.CommandForms.{command_data, member_keys, keys_of, has_key, AreAmong}
+use Rattle.jl_json.specs.CommandForms.{command_data}
 
 by_test : {P : Type 0} (b : Bool) → (b ≡ true → P) → (b ≡ false → P) → P
 by_test true on_true on_false = on_true refl
@@ -130,35 +135,56 @@ named_alone named ms differ same has =
 -- ---- commands
 
 -- the keys of the members are among those of the command's form
-abbrev IsForm : Members → Command → Type 0
-IsForm ms c = AreAmong (member_keys ms) (keys_of (command_data c))
+abbrev IsForm : Data → Members → Command → Type 0
+IsForm sketch ms c = AreAmong (member_keys ms) (keys_of (command_data sketch c))
 
 number_found : (bound : ℕ) (k : List ℕ) (ms : Members) (n : ℕ) → number_at bound k (object ms) ≡ Some n
     → Has (member_keys ms) k
 number_found bound k ms n e = next_found (number_in bound) k ms n e
 
-define_keys : (ms : Members) (c : Command) → member_count ms ≡ 3 → Has (member_keys ms) (codes "do")
-    → define_of (object ms) ≡ Some c → IsForm ms c
-unfolding command_data
-define_keys ms c count asked e = option_and_then_some _ (number_at (2 ^ 32) (codes "loader") (object ms)) c e
-    (λ loader is next. option_and_then_some _ (file_at (codes "hex") (object ms)) c next
-    (λ file read made. subst (IsForm ms) (same_Some (Define loader file) c made)
-    (named_alone (codes "do" ∷ codes "hex" ∷ codes "loader" ∷ []) ms
-    ((refl, (refl, tt)), ((refl, tt), (tt, tt))) count (
-      asked,
-      (
-        file_found (codes "hex") ms file read,
-        (number_found (2 ^ 32) (codes "loader") ms loader is, tt),
-      ),
-    ))))
+mapped : {A B P : Type 0} (f : A → B) (o : Option A) (b : B) → option_map f o ≡ Some b
+    → ((a : A) → o ≡ Some a → f a ≡ b → P) → P
+mapped f None b e k = absurd (none-some b e)
+mapped f (Some a) b e k = k a refl (same_Some (f a) b e)
 
-request_keys : (ms : Members) (c : Command) → member_count ms ≡ 4 → Has (member_keys ms) (codes "do")
-    → request_of (object ms) ≡ Some c → IsForm ms c
+-- what a class is defined by, where this stands for a sketch
+abbrev source_from : Members → Option Data → Option ClassSource
+source_from ms o =
+    option_map_or (λ d. option_map Sketch (sketch_of d)) o (option_map File (file_at (codes "hex") (object ms)))
+
+source_keys : (sketch : Data) (ms : Members) (loader : ℕ) (source : ClassSource) (o : Option Data)
+    → member_count ms ≡ 3 → Has (member_keys ms) (codes "do") → Has (member_keys ms) (codes "loader")
+    → get_member (codes "sketch") ms ≡ o → source_from ms o ≡ Some source
+    → IsForm sketch ms (Define loader source)
 unfolding command_data
-request_keys ms c count asked e = option_and_then_some _ (number_at (2 ^ 32) (codes "class") (object ms)) c e
+source_keys sketch ms loader source None count asked told stands e =
+    mapped File (file_at (codes "hex") (object ms)) source e
+    (λ file read made. subst (λ (x : ClassSource). IsForm sketch ms (Define loader x)) made
+    (named_alone (codes "do" ∷ codes "hex" ∷ codes "loader" ∷ []) ms
+    ((refl, (refl, tt)), ((refl, tt), (tt, tt))) count
+    (asked, (file_found (codes "hex") ms file read, (told, tt)))))
+source_keys sketch ms loader source (Some d) count asked told stands e = mapped Sketch (sketch_of d) source e
+    (λ s read made. subst (λ (x : ClassSource). IsForm sketch ms (Define loader x)) made
+    (named_alone (codes "do" ∷ codes "loader" ∷ codes "sketch" ∷ []) ms
+    ((refl, (refl, tt)), ((refl, tt), (tt, tt))) count
+    (asked, (told, (found (codes "sketch") ms d stands, tt)))))
+
+define_keys : (sketch : Data) (ms : Members) (c : Command) → member_count ms ≡ 3 → Has (member_keys ms) (codes "do")
+    → define_of (object ms) ≡ Some c → IsForm sketch ms c
+define_keys sketch ms c count asked e =
+    option_and_then_some _ (number_at (2 ^ 32) (codes "loader") (object ms)) c e
+    (λ loader is next. option_and_then_some _ (source_of (object ms)) c next
+    (λ source read made. subst (IsForm sketch ms) (same_Some (Define loader source) c made)
+    (source_keys sketch ms loader source (get_member (codes "sketch") ms) count asked
+    (number_found (2 ^ 32) (codes "loader") ms loader is) refl read)))
+
+request_keys : (sketch : Data) (ms : Members) (c : Command) → member_count ms ≡ 4 → Has (member_keys ms) (codes "do")
+    → request_of (object ms) ≡ Some c → IsForm sketch ms c
+unfolding command_data
+request_keys sketch ms c count asked e = option_and_then_some _ (number_at (2 ^ 32) (codes "class") (object ms)) c e
     (λ class is next. option_and_then_some _ (number_at (2 ^ 16) (codes "method") (object ms)) c next
     (λ method here last. option_and_then_some _ (number_at (2 ^ 32) (codes "pc") (object ms)) c last
-    (λ pc there made. subst (IsForm ms)
+    (λ pc there made. subst (IsForm sketch ms)
     (same_Some (Request (record { class = class; method = method; pc = pc })) c made)
     (named_alone (codes "class" ∷ codes "do" ∷ codes "method" ∷ codes "pc" ∷ []) ms
     ((refl, (refl, (refl, tt))), ((refl, (refl, tt)), ((refl, tt), (tt, tt)))) count (
@@ -172,24 +198,19 @@ request_keys ms c count asked e = option_and_then_some _ (number_at (2 ^ 32) (co
       ),
     )))))
 
-mapped : {A : Type 0} {P : Type 0} (f : A → Command) (o : Option A) (c : Command) → option_map f o ≡ Some c
-    → ((a : A) → o ≡ Some a → f a ≡ c → P) → P
-mapped f None c e k = absurd (none-some c e)
-mapped f (Some a) c e k = k a refl (same_Some (f a) c e)
-
-prepare_keys : (ms : Members) (c : Command) → member_count ms ≡ 2 → Has (member_keys ms) (codes "do")
-    → prepare_of (object ms) ≡ Some c → IsForm ms c
+prepare_keys : (sketch : Data) (ms : Members) (c : Command) → member_count ms ≡ 2 → Has (member_keys ms) (codes "do")
+    → prepare_of (object ms) ≡ Some c → IsForm sketch ms c
 unfolding command_data
-prepare_keys ms c count asked e = mapped Prepare (sites_at (codes "sites") (object ms)) c e
-    (λ sites is made. subst (IsForm ms) made
+prepare_keys sketch ms c count asked e = mapped Prepare (sites_at (codes "sites") (object ms)) c e
+    (λ sites is made. subst (IsForm sketch ms) made
     (named_alone (codes "do" ∷ codes "sites" ∷ []) ms ((refl, tt), (tt, tt)) count
     (asked, (next_found (λ d. as_array d >>= numbers_in) (codes "sites") ms sites is, tt))))
 
-install_keys : (ms : Members) (c : Command) → member_count ms ≡ 2 → Has (member_keys ms) (codes "do")
-    → install_of (object ms) ≡ Some c → IsForm ms c
+install_keys : (sketch : Data) (ms : Members) (c : Command) → member_count ms ≡ 2 → Has (member_keys ms) (codes "do")
+    → install_of (object ms) ≡ Some c → IsForm sketch ms c
 unfolding command_data
-install_keys ms c count asked e = mapped Install (number_at (2 ^ 32) (codes "prepared") (object ms)) c e
-    (λ batch is made. subst (IsForm ms) made
+install_keys sketch ms c count asked e = mapped Install (number_at (2 ^ 32) (codes "prepared") (object ms)) c e
+    (λ batch is made. subst (IsForm sketch ms) made
     (named_alone (codes "do" ∷ codes "prepared" ∷ []) ms ((refl, tt), (tt, tt)) count
     (asked, (number_found (2 ^ 32) (codes "prepared") ms batch is, tt))))
 
@@ -205,21 +226,21 @@ named_or_not (x ∷ xs) h = (
   named_or_not xs h.1,
 )
 
-call_keys : (ms : Members) (c : Command) → member_count ms ≡ 2 → Has (member_keys ms) (codes "do")
-    → call_of (object ms) ≡ Some c → IsForm ms c
+call_keys : (sketch : Data) (ms : Members) (c : Command) → member_count ms ≡ 2 → Has (member_keys ms) (codes "do")
+    → call_of (object ms) ≡ Some c → IsForm sketch ms c
 unfolding command_data
-call_keys ms c count asked e = option_and_then_some _ (number_at (2 ^ 32) (codes "site") (object ms)) c e
-    (λ site is made. subst (IsForm ms) (same_Some (Call site Null) c made) (named_or_not (member_keys ms)
+call_keys sketch ms c count asked e = option_and_then_some _ (number_at (2 ^ 32) (codes "site") (object ms)) c e
+    (λ site is made. subst (IsForm sketch ms) (same_Some (Call site Null) c made) (named_or_not (member_keys ms)
     (named_alone (codes "do" ∷ codes "site" ∷ []) ms ((refl, tt), (tt, tt)) count
     (asked, (number_found (2 ^ 32) (codes "site") ms site is, tt)))))
 
-call_on_keys : (ms : Members) (c : Command) → member_count ms ≡ 3 → Has (member_keys ms) (codes "do")
-    → call_on_of (object ms) ≡ Some c → IsForm ms c
+call_on_keys : (sketch : Data) (ms : Members) (c : Command) → member_count ms ≡ 3 → Has (member_keys ms) (codes "do")
+    → call_on_of (object ms) ≡ Some c → IsForm sketch ms c
 unfolding command_data
-call_on_keys ms c count asked e = option_and_then_some _ (number_at (2 ^ 32) (codes "site") (object ms)) c e
+call_on_keys sketch ms c count asked e = option_and_then_some _ (number_at (2 ^ 32) (codes "site") (object ms)) c e
     (λ site is next. option_and_then_some _ (get (codes "recv") (object ms)) c next
     (λ value there last. option_and_then_some _ (recv_in value) c last
-    (λ recv read made. subst (IsForm ms) (same_Some (Call site recv) c made)
+    (λ recv read made. subst (IsForm sketch ms) (same_Some (Call site recv) c made)
     (named_alone (codes "do" ∷ codes "recv" ∷ codes "site" ∷ []) ms
     ((refl, (refl, tt)), ((refl, tt), (tt, tt))) count (
       asked,
@@ -229,10 +250,10 @@ call_on_keys ms c count asked e = option_and_then_some _ (number_at (2 ^ 32) (co
       ),
     )))))
 
-links_keys : (ms : Members) (c : Command) → member_count ms ≡ 1 → Has (member_keys ms) (codes "do")
-    → Links ≡ c → IsForm ms c
+links_keys : (sketch : Data) (ms : Members) (c : Command) → member_count ms ≡ 1 → Has (member_keys ms) (codes "do")
+    → Links ≡ c → IsForm sketch ms c
 unfolding command_data
-links_keys ms c count asked made = subst (IsForm ms) made
+links_keys sketch ms c count asked made = subst (IsForm sketch ms) made
     (named_alone (codes "do" ∷ []) ms (tt, tt) count (asked, tt))
 
 -- the word and the count fit here, or further on
@@ -243,30 +264,31 @@ here_or_on true count n o rest c e here on = by_test (count == n)
     (λ same. here (eqb-true count n same) (rw same at e))
     (λ other. on (rw other at e))
 
-word_keys : (word : List ℕ) (ms : Members) (c : Command) → Has (member_keys ms) (codes "do")
-    → by_word word (member_count ms) (object ms) ≡ Some c → IsForm ms c
-word_keys word ms c asked e =
+word_keys : (sketch : Data) (word : List ℕ) (ms : Members) (c : Command) → Has (member_keys ms) (codes "do")
+    → by_word word (member_count ms) (object ms) ≡ Some c → IsForm sketch ms c
+word_keys sketch word ms c asked e =
     here_or_on (bytes_eq word (codes "define")) (member_count ms) 3 _ _ c e
-    (λ n is. define_keys ms c n asked is) (λ e1.
+    (λ n is. define_keys sketch ms c n asked is) (λ e1.
     here_or_on (bytes_eq word (codes "request")) (member_count ms) 4 _ _ c e1
-    (λ n is. request_keys ms c n asked is) (λ e2.
+    (λ n is. request_keys sketch ms c n asked is) (λ e2.
     here_or_on (bytes_eq word (codes "prepare")) (member_count ms) 2 _ _ c e2
-    (λ n is. prepare_keys ms c n asked is) (λ e3.
+    (λ n is. prepare_keys sketch ms c n asked is) (λ e3.
     here_or_on (bytes_eq word (codes "install")) (member_count ms) 2 _ _ c e3
-    (λ n is. install_keys ms c n asked is) (λ e4.
+    (λ n is. install_keys sketch ms c n asked is) (λ e4.
     here_or_on (bytes_eq word (codes "call")) (member_count ms) 2 _ _ c e4
-    (λ n is. call_keys ms c n asked is) (λ e5.
+    (λ n is. call_keys sketch ms c n asked is) (λ e5.
     here_or_on (bytes_eq word (codes "call")) (member_count ms) 3 _ _ c e5
-    (λ n is. call_on_keys ms c n asked is) (λ e6.
+    (λ n is. call_on_keys sketch ms c n asked is) (λ e6.
     here_or_on (bytes_eq word (codes "links")) (member_count ms) 1 _ _ c e6
-    (λ n is. links_keys ms c n asked (same_Some Links c is)) (λ e7.
+    (λ n is. links_keys sketch ms c n asked (same_Some Links c is)) (λ e7.
     absurd (none-some c e7))))))))
 
-pub form_keys : (d : Data) (c : Command) → command_of d ≡ Some c → AreAmong (keys_of d) (keys_of (command_data c))
-form_keys null c e = absurd (none-some c e)
-form_keys (boolean b) c e = absurd (none-some c e)
-form_keys (number n) c e = absurd (none-some c e)
-form_keys (string s) c e = absurd (none-some c e)
-form_keys (array ds) c e = absurd (none-some c e)
-form_keys (object ms) c e = option_and_then_some _ (text_at (codes "do") (object ms)) c e
-    (λ word is next. word_keys word ms c (next_found as_str (codes "do") ms word is) next)
+pub form_keys : (d : Data) (c : Command) (sketch : Data) → command_of d ≡ Some c
+    → AreAmong (keys_of d) (keys_of (command_data sketch c))
+form_keys null c sketch e = absurd (none-some c e)
+form_keys (boolean b) c sketch e = absurd (none-some c e)
+form_keys (number n) c sketch e = absurd (none-some c e)
+form_keys (string s) c sketch e = absurd (none-some c e)
+form_keys (array ds) c sketch e = absurd (none-some c e)
+form_keys (object ms) c sketch e = option_and_then_some _ (text_at (codes "do") (object ms)) c e
+    (λ word is next. word_keys sketch word ms c (next_found as_str (codes "do") ms word is) next)

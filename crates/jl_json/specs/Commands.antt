@@ -1,51 +1,32 @@
 -- Which JSON is a command, and which command: an object of the members that are named here, and of no others.
-use Rattle.std.specs.Prelude.{ℕ, suc, ◌^◌, ◌==◌, ◌&&◌, nat_lt, if◌then◌else◌, List, [], ◌∷◌, codes}
-use Rattle.std.specs.Prelude.{Option, Some, None, is_some, option_map, option_and_then}
+use Rattle.std.specs.Prelude.{ℕ, suc, ◌^◌, ◌==◌, ◌&&◌, if◌then◌else◌, List, codes}
+use Rattle.std.specs.Prelude.{Option, Some, None, is_some, option_map}
+use Rattle.std.specs.Option.{option_map_or}
 use Rattle.std.specs.Result.{result_ok}
 use Rattle.std.specs.Str.{bytes_eq}
 use Rattle.hex.specs.Hex.{decode_of}
-use Rattle.serde_json.specs.Data.{Data, Items, no_items, item, Members, no_members, member}
-use Rattle.serde_json.specs.Find.{get, as_null, as_number, as_str, as_array, as_object, as_u64}
+use Rattle.serde_json.specs.Data.{Data, Items, Members, no_members, member}
+use Rattle.serde_json.specs.Find.{get, as_null, as_array, as_object}
 use Rattle.jl_types.specs.declared.answer.Recv.{Recv}
 use Rattle.jl_types.specs.declared.answer.Recv.TheVariants.{Null, Of}
 use Rattle.jl_json.specs.declared.command.Command.{Command}
 use Rattle.jl_json.specs.declared.command.Command.TheVariants.{Define, Request, Prepare, Install, Call, Links}
-
--- what comes next, where there is a value
-infixl 10 ◌>>=◌
-abbrev pub ◌>>=◌ : {A B : Type 0} → Option A → (A → Option B) → Option B
-o >>= f = option_and_then f o
+use Rattle.jl_json.specs.declared.command.ClassSource.{ClassSource}
+use Rattle.jl_json.specs.declared.command.ClassSource.TheVariants.{File, Sketch}
+use Rattle.jl_json.specs.Members.{◌>>=◌, number_in, number_at, text_at, each_in}
+use Rattle.jl_json.specs.Sketches.{sketch_of}
 
 -- ---- values of members
 
-abbrev pub below : ℕ → ℕ → Option ℕ
-below bound n = if nat_lt n bound then Some n else None
-
--- a whole number below the bound
-abbrev pub number_in : ℕ → Data → Option ℕ
-number_in bound d = do
-  n ← as_number d
-  whole ← as_u64 n
-  below bound whole
-
-abbrev pub number_at : ℕ → List ℕ → Data → Option ℕ
-number_at bound key d = get key d >>= number_in bound
-
 -- numbers below 2 ^ 32
 abbrev pub numbers_in : Items → Option (List ℕ)
-numbers_in no_items = Some []
-numbers_in (item d ds) = do
-  n ← number_in (2 ^ 32) d
-  option_map (λ numbers. n ∷ numbers) (numbers_in ds)
+numbers_in = each_in (number_in (2 ^ 32))
 
 abbrev pub sites_at : List ℕ → Data → Option (List ℕ)
 sites_at key d = do
   sites ← get key d
   items ← as_array sites
   numbers_in items
-
-abbrev pub text_at : List ℕ → Data → Option (List ℕ)
-text_at key d = get key d >>= as_str
 
 -- the bytes that a text is the hexadecimal of, in either case
 abbrev pub file_at : List ℕ → Data → Option (List ℕ)
@@ -59,11 +40,16 @@ recv_in d = if is_some (as_null d) then Some Null else option_map Of (number_in 
 
 -- ---- commands, by their members
 
+-- a sketch where there is one, else a file
+abbrev pub source_of : Data → Option ClassSource
+source_of d = option_map_or (λ sketch. option_map Sketch (sketch_of sketch)) (get (codes "sketch") d)
+    (option_map File (file_at (codes "hex") d))
+
 abbrev pub define_of : Data → Option Command
 define_of d = do
   loader ← number_at (2 ^ 32) (codes "loader") d
-  file ← file_at (codes "hex") d
-  Some (Define loader file)
+  source ← source_of d
+  Some (Define loader source)
 
 abbrev pub request_of : Data → Option Command
 request_of d = do

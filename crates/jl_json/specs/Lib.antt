@@ -5,6 +5,8 @@ pub mod LinkAnswers
 pub mod CallAnswers
 pub mod Replies
 pub mod EventRefusals
+pub mod Members
+pub mod Sketches
 pub mod Commands
 pub mod CommandForms
 pub mod NameReading

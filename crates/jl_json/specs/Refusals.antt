@@ -1,4 +1,4 @@
--- What is answered to a file that is refused, as JSON: the name of the fault, the place that it is
+-- What is answered to a file or a sketch that is refused, as JSON: the name of the fault, the place that it is
 -- about, the method.
 use Rattle.std.specs.Prelude.{ℕ, List, codes, Option, Some, None}
 use Rattle.serde_json.specs.Data.{Data, number, unsigned, string, object}
@@ -14,6 +14,8 @@ use Rattle.jl_classfile.specs.declared.fault.ClassFault.TheVariants.{BadSuper, D
 use Rattle.jl_classfile.specs.declared.fault.ClassFault.TheVariants.{TwoCodes, Code, TrailingBytes}
 use Rattle.jl_classfile.specs.declared.fault.ClassFault.TheVariants.{BadMember, BadLink, BadNest}
 use Rattle.jl_classfile.specs.declared.fault.ClassFault.TheVariants.{Memory}
+use Rattle.jl_sketch.specs.declared.fault.SketchFault.{SketchFault}
+use Rattle.jl_sketch.specs.declared.fault.SketchFault.TheVariants as sketch
 
 -- ---- the name of the fault
 
@@ -50,6 +52,12 @@ reason (BadLink n) = codes "BadLink"
 reason BadNest = codes "BadNest"
 reason Memory = codes "Memory"
 
+abbrev pub sketch_reason : SketchFault → List ℕ
+sketch_reason sketch.TooBig = codes "TooBig"
+sketch_reason (sketch.CallsWithoutCode i) = codes "CallsWithoutCode"
+sketch_reason (sketch.Refused f) = reason f
+sketch_reason sketch.Memory = codes "Memory"
+
 -- ---- its place: a number of an entry or a member, or a pc
 
 abbrev pub pool_place : PoolFault → Option ℕ
@@ -73,6 +81,10 @@ place (BadMember k) = Some k
 place (BadLink n) = Some n
 place _ = None
 
+abbrev pub sketch_place : SketchFault → Option ℕ
+sketch_place (sketch.Refused f) = place f
+sketch_place _ = None
+
 -- ---- the index of the method
 
 abbrev pub method : ClassFault → Option ℕ
@@ -81,6 +93,11 @@ method (TwoCodes i) = Some i
 method (Code i code.Memory) = None
 method (Code i f) = Some i
 method _ = None
+
+abbrev pub sketch_method : SketchFault → Option ℕ
+sketch_method (sketch.CallsWithoutCode i) = Some i
+sketch_method (sketch.Refused f) = method f
+sketch_method _ = None
 
 -- ---- the answer
 
@@ -96,3 +113,7 @@ refusal_of name at method =
 
 abbrev pub refusal_data : ClassFault → Data
 refusal_data f = refusal_of (reason f) (place f) (method f)
+
+-- that of a sketch whose bytes would be refused is theirs
+abbrev pub sketch_refusal_data : SketchFault → Data
+sketch_refusal_data f = refusal_of (sketch_reason f) (sketch_place f) (sketch_method f)

@@ -4,15 +4,17 @@ ghost use Rattle.std.specs.Prelude.{◌≡◌, ◌^◌, codes, Some, option_map,
 ghost use Rattle.serde_json.specs.Data.{Data};
 ghost use Rattle.serde_json.specs.Find.{as_object};
 ghost use Rattle.serde_json.specs.View.{view, items_view};
-ghost use Rattle.jl_json.specs.Commands.{number_in, number_at, numbers_in, sites_at, text_at};
-ghost use Rattle.jl_json.specs.Commands.{file_at, recv_in, define_of, request_of, prepare_of};
-ghost use Rattle.jl_json.specs.Commands.{install_of, call_of, call_on_of, member_count};
-ghost use Rattle.jl_json.specs.Commands.{command_of};
-ghost use Rattle.jl_json.specs.CommandForms.{IsCommand, command_data, keys_of, AreAmong};
+ghost use Rattle.jl_json.specs.Members.{number_in, number_at, text_at, keys_of, AreAmong};
+ghost use Rattle.jl_json.specs.Commands.{numbers_in, sites_at, file_at, recv_in, source_of};
+ghost use Rattle.jl_json.specs.Commands.{define_of, request_of, prepare_of, install_of, call_of};
+ghost use Rattle.jl_json.specs.Commands.{call_on_of, member_count, command_of};
+ghost use Rattle.jl_json.specs.CommandForms.{IsCommand, command_data};
 ghost use Rattle.jl_json.specs.declared.command.Command.{Command};
 
+use crate::sketch::read_sketch;
 use hex::FromHexError;
 use jl_names::Seq;
+use jl_sketch::Sketch;
 use jl_types::{ClassId, LoaderId, Place, Recv, SiteNo};
 use serde_json::Value;
 use std::alloc::{AllocError, Global};
@@ -20,8 +22,11 @@ use std::alloc::{AllocError, Global};
 /// What is asked of a linker.
 #[derive(Debug, Drop)]
 pub enum Command {
-    /// The loader is to define a class of this file (JVMS SE 17 §5.3.5).
-    Define { loader: LoaderId, file: Seq<u8> },
+    /// The loader is to define a class (JVMS SE 17 §5.3.5).
+    Define {
+        loader: LoaderId,
+        source: ClassSource,
+    },
     /// The invocation at the place is to be linked.
     Request(Place),
     /// Links are to be prepared for these sites.
@@ -32,6 +37,15 @@ pub enum Command {
     Call(SiteNo, Recv),
     /// The installed links are to be listed.
     Links,
+}
+
+/// What a class is defined by.
+#[derive(Debug, Drop)]
+pub enum ClassSource {
+    /// A class file (JVMS SE 17 §4).
+    File(Seq<u8>),
+    /// A sketch of one.
+    Sketch(Sketch),
 }
 
 /// A number below 2^32.
@@ -50,7 +64,7 @@ fn number_at(value: &Value, key: &str) -> Option<u32>
 }
 
 /// The number below 2^16 under the key.
-fn index_at(value: &Value, key: &str) -> Option<u16>
+pub(crate) fn index_at(value: &Value, key: &str) -> Option<u16>
     ensures { result ≡ number_at (2 ^ 16) key.now (view value.now) }
 {
     let number = value.get(key)?.as_u64()?;
@@ -58,7 +72,7 @@ fn index_at(value: &Value, key: &str) -> Option<u16>
 }
 
 /// The text under the key.
-fn text_at<'a>(value: &'a Value, key: &str) -> Option<&'a str>
+pub(crate) fn text_at<'a>(value: &'a Value, key: &str) -> Option<&'a str>
     ensures { option_map (λ text. text.now) result ≡ text_at key.now (view value.now) }
 {
     value.get(key)?.as_str()
@@ -115,6 +129,16 @@ fn recv_in(value: &Value) -> Option<Recv>
     Some(Recv::Of(ClassId::new(class)))
 }
 
+/// The sketch, or where there is none the file.
+fn class_source(alloc: Global, value: &Value) -> Result<Option<ClassSource>, AllocError>
+    ensures { IfOk result (λ source. source ≡ source_of (view value.now)) }
+{
+    match value.get("sketch") {
+        Some(sketch) => Ok(read_sketch(alloc, sketch)?.map(ClassSource::Sketch)),
+        None => Ok(file_at(alloc, value, "hex")?.map(ClassSource::File)),
+    }
+}
+
 /// The command to define a class.
 fn define(alloc: Global, value: &Value) -> Result<Option<Command>, AllocError>
     ensures { IfOk result (λ command. command ≡ define_of (view value.now)) }
@@ -122,11 +146,11 @@ fn define(alloc: Global, value: &Value) -> Result<Option<Command>, AllocError>
     let Some(loader) = number_at(value, "loader") else {
         return Ok(None);
     };
-    let Some(file) = file_at(alloc, value, "hex")? else {
+    let Some(source) = class_source(alloc, value)? else {
         return Ok(None);
     };
     let loader = LoaderId::new(loader);
-    Ok(Some(Command::Define { loader, file }))
+    Ok(Some(Command::Define { loader, source }))
 }
 
 /// The command to link an invocation.
@@ -203,13 +227,14 @@ pub fn read_command(alloc: Global, value: &Value) -> Result<Option<Command>, All
     }
 }
 
-/// Each command is read from its form.
+/// Each command is read from its form, a definition by a sketch from the JSON of the sketch.
 pub fn each_command_is_read()
-    ensures { (c : Command) → IsCommand c → command_of (command_data c) ≡ Some c }
+    ensures { (sketch : Data) (c : Command) → IsCommand sketch c
+        → command_of (command_data sketch c) ≡ Some c }
 {}
 
 /// What is read as a command has no keys but those of the command's form.
 pub fn no_other_keys()
-    ensures { (d : Data) (c : Command) → command_of d ≡ Some c
-        → AreAmong (keys_of d) (keys_of (command_data c)) }
+    ensures { (d : Data) (c : Command) (sketch : Data) → command_of d ≡ Some c
+        → AreAmong (keys_of d) (keys_of (command_data sketch c)) }
 {}

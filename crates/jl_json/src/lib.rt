@@ -2,7 +2,7 @@
 //!
 //! The value of each answer stands in `specs/`, in reading order: `Names`, `ClassAnswers` and
 //! `Refusals` for class files; `LinkAnswers`, `CallAnswers`, `Replies` and `EventRefusals` for what
-//! is linked. Which JSON asks for something stands in `Commands`, and
+//! is linked. Which JSON asks for something stands in `Members`, `Sketches` and `Commands`, and
 //! a form of each command in `CommandForms`.
 #![tactic(auto)]
 
@@ -19,14 +19,16 @@ mod reply;
 
 // What is asked.
 mod command;
+mod sketch;
 #[cfg(test)]
 mod tests;
 
 pub use call_answer::answer_value;
 pub use class_answer::class_text;
-pub use command::{Command, each_command_is_read, no_other_keys, read_command};
+pub use command::{ClassSource, Command, each_command_is_read, no_other_keys, read_command};
 pub use event_refusal::{event_refusal_value, prepare_refusal_value};
 pub use link_answer::{link_value, links_value, outcome_value, prepared_value};
 pub use refusal::Refusal;
 pub use reply::reply_value;
+pub use sketch::{least_sketch, no_other_sketch_keys, read_sketch};
 pub use text::{names_are_spelled, text_of};

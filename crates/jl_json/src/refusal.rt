@@ -4,10 +4,12 @@ ghost use Rattle.std.specs.Prelude.{◌≡◌, None, Some, IfOk, OnOk};
 ghost use Rattle.serde_json.specs.View.{view, members_view};
 ghost use Rattle.jl_json.specs.Refusals.{refusal_of, with_number, reason, place, method};
 ghost use Rattle.jl_json.specs.Refusals.{pool_reason, pool_place, code_reason, code_place};
+ghost use Rattle.jl_json.specs.Refusals.{sketch_reason, sketch_place, sketch_method};
 
 use jl_classfile::ClassFault;
 use jl_code::CodeFault;
 use jl_pool::PoolFault;
+use jl_sketch::SketchFault;
 use serde_json::{Map, Value, put};
 use std::alloc::{AllocError, Global};
 
@@ -141,6 +143,20 @@ impl From<ClassFault> for Refusal {
             ClassFault::BadLink(number) => Refusal::at("BadLink", u32::from(number)),
             ClassFault::BadNest => Refusal::of("BadNest"),
             ClassFault::Memory => Refusal::of("Memory"),
+        }
+    }
+}
+
+impl From<SketchFault> for Refusal {
+    ghost from_gives = { λ f r. (r.reason.now ≡ sketch_reason f) × (r.at ≡ sketch_place f)
+        × (r.method ≡ sketch_method f) };
+
+    fn from(fault: SketchFault) -> Refusal {
+        match fault {
+            SketchFault::TooBig => Refusal::of("TooBig"),
+            SketchFault::CallsWithoutCode(i) => Refusal::in_method("CallsWithoutCode", i),
+            SketchFault::Refused(fault) => Refusal::from(fault),
+            SketchFault::Memory => Refusal::of("Memory"),
         }
     }
 }

@@ -1,7 +1,10 @@
 //! Each form once, and values that are commands or are none.
 
 use crate::*;
+use jl_classfile::ClassFault;
+use jl_code::CodeFault;
 use jl_names::{Name, Seq};
+use jl_sketch::{Sketch, SketchFault};
 use jl_types::{
     Answer, CallSiteFault, CallSiteId, ClassId, DefineFault, DelegateFault, Link, LoaderId, Made,
     MethodId, Missing, NotLinkable, Outcome, PrepareFault, Recv, Refusal as EventRefusal, Reply,
@@ -235,10 +238,14 @@ fn refused_preparations(rt: HostRuntime) -> Result<(), Fail> {
 }
 
 /// Commands, and how they print.
-const COMMANDS: [(&str, &str); 8] = [
+const COMMANDS: [(&str, &str); 9] = [
     (
         "{\"do\":\"define\",\"loader\":0,\"hex\":\"cAFe\"}",
-        "Define { loader: LoaderId(0), file: Seq { items: [202, 254] } }",
+        "Define { loader: LoaderId(0), source: File(Seq { items: [202, 254] }) }",
+    ),
+    (
+        "{\"do\":\"define\",\"loader\":1,\"sketch\":{\"name\":\"M\",\"flags\":33}}",
+        "Define { loader: LoaderId(1), source: Sketch(Sketch { name: Seq { items: [77] }, flags: 33, superclass: None, interfaces: Seq { items: [] }, methods: Seq { items: [] }, host: None, members: Seq { items: [] } }) }",
     ),
     (
         "{\"do\":\"request\",\"class\":65536,\"method\":65535,\"pc\":65536}",
@@ -293,6 +300,8 @@ fn no_commands(rt: HostRuntime) -> Result<(), Fail> {
         "{\"do\":\"define\",\"loader\":0}",
         "{\"do\":\"define\",\"loader\":0,\"hex\":\"caf\"}",
         "{\"do\":\"define\",\"loader\":0,\"hex\":\"cg\"}",
+        "{\"do\":\"define\",\"loader\":0,\"sketch\":{\"name\":\"M\"}}",
+        "{\"do\":\"define\",\"loader\":0,\"hex\":\"\",\"sketch\":{\"name\":\"M\",\"flags\":33}}",
         "{\"do\":\"request\",\"class\":0,\"method\":65536,\"pc\":4}",
         "{\"do\":\"request\",\"class\":0,\"method\":0,\"at\":4}",
         "{\"do\":\"prepare\",\"sites\":[0,-1]}",
@@ -304,6 +313,185 @@ fn no_commands(rt: HostRuntime) -> Result<(), Fail> {
     for text in rows {
         let value = Value::from_str(rt.alloc(), text)?;
         assert!(rt; read_command(rt.alloc(), &value)?.is_none(), "{text}");
+    }
+    Ok(())
+}
+
+#[test]
+fn refused_sketches(rt: HostRuntime) -> Result<(), Fail> {
+    let cut = ClassFault::Code(2, CodeFault::CutShort(7));
+    let rows = [
+        (SketchFault::TooBig, "{\"refused\":\"TooBig\"}"),
+        (
+            SketchFault::CallsWithoutCode(3),
+            "{\"method\":3,\"refused\":\"CallsWithoutCode\"}",
+        ),
+        (
+            SketchFault::Refused(cut),
+            "{\"at\":7,\"method\":2,\"refused\":\"Code.CutShort\"}",
+        ),
+        (SketchFault::Memory, "{\"refused\":\"Memory\"}"),
+    ];
+    for (fault, want) in rows {
+        assert_text(&rt, Refusal::from(fault).to_value(rt.alloc()), want)?;
+    }
+    Ok(())
+}
+
+fn sketch(rt: &impl AllocGlobal, text: &str) -> Result<Option<Sketch>, Fail> {
+    let value = Value::from_str(rt.alloc(), text)?;
+    Ok(read_sketch(rt.alloc(), &value)?)
+}
+
+#[test]
+fn a_sketch(rt: HostRuntime) -> Result<(), Fail> {
+    let text =
+        "{\"name\":\"M\",\"super\":\"java/lang/Object\",\"flags\":33,\"methods\":[{\"name\":\"run\",\"type\":\"()V\",\"flags\":9,\"calls\":[{\"kind\":\"invokevirtual\",\"of\":\"A\",\"name\":\"f\",\"type\":\"()V\"}]}]}";
+    let Some(read) = sketch(&rt, text)? else {
+        assert!(rt; false, "no sketch");
+        return Ok(());
+    };
+    assert_eq!(rt; read.name.as_slice(), b"M".as_slice());
+    assert_eq!(rt; read.flags, 33);
+    assert!(rt;
+        matches!(&read.superclass, Some(name) if name.as_slice() == b"java/lang/Object".as_slice())
+    );
+    assert!(rt; read.interfaces.as_slice().is_empty());
+    assert!(rt; read.host.is_none());
+    assert!(rt; read.members.as_slice().is_empty());
+    assert_eq!(rt; read.methods.as_slice().len(), 1);
+    for method in read.methods.as_slice() {
+        assert_eq!(rt; method.name.as_slice(), b"run".as_slice());
+        assert_eq!(rt; method.ty.as_slice(), b"()V".as_slice());
+        assert_eq!(rt; method.flags, 9);
+        assert_eq!(rt; method.calls.as_slice().len(), 1);
+    }
+    least_sketch();
+    no_other_sketch_keys();
+    Ok(())
+}
+
+#[test]
+fn lists_of_names(rt: HostRuntime) -> Result<(), Fail> {
+    let text =
+        "{\"name\":\"I\",\"flags\":1537,\"interfaces\":[\"J\"],\"host\":\"H\",\"members\":[\"K\",\"L\"]}";
+    let Some(read) = sketch(&rt, text)? else {
+        assert!(rt; false, "no sketch");
+        return Ok(());
+    };
+    assert!(rt; read.superclass.is_none());
+    assert!(rt; matches!(&read.host, Some(name) if name.as_slice() == b"H".as_slice()));
+    let lists = format!(in rt.alloc(); "{:?} {:?}", read.interfaces, read.members)?;
+    assert_eq!(rt;
+        lists.as_str(),
+        "Seq { items: [Seq { items: [74] }] } Seq { items: [Seq { items: [75] }, Seq { items: [76] }] }"
+    );
+    Ok(())
+}
+
+#[test]
+fn calls_of_sketches(rt: HostRuntime) -> Result<(), Fail> {
+    let method =
+        "MethodName { owner: Seq { items: [65] }, name: Seq { items: [102] }, ty: Seq { items: [41] } }";
+    let rows = [
+        ("invokevirtual\",\"of\":\"A\"", "Virtual("),
+        ("invokespecial\",\"of\":\"A\"", "Special(false, "),
+        (
+            "invokespecial\",\"of\":\"A\",\"itf\":true",
+            "Special(true, ",
+        ),
+        (
+            "invokestatic\",\"of\":\"A\",\"itf\":false",
+            "Static(false, ",
+        ),
+        ("invokeinterface\",\"of\":\"A\"", "Interface("),
+    ];
+    for (kind, want) in rows {
+        let call = format!(in rt.alloc(); "{{\"name\":\"f\",\"type\":\")\",\"kind\":\"{kind}}}")?;
+        let want = format!(in rt.alloc(); "Seq {{ items: [{want}{method})] }}")?;
+        assert_call(&rt, &call, &want)?;
+    }
+    assert_call(
+        &rt,
+        "{\"kind\":\"invokedynamic\",\"name\":\"f\",\"type\":\")\"}",
+        "Seq { items: [Dynamic(Seq { items: [102] }, Seq { items: [41] })] }",
+    )
+}
+
+/// The call is read, and its list prints so.
+fn assert_call(rt: &(impl Abort + AllocGlobal), call: &str, want: &str) -> Result<(), Fail> {
+    let text = with_call(rt, call)?;
+    let Some(read) = sketch(rt, &text)? else {
+        assert!(rt; false, "no sketch: {call}");
+        return Ok(());
+    };
+    for method in read.methods.as_slice() {
+        let told = format!(in rt.alloc(); "{:?}", method.calls)?;
+        assert_eq!(rt; told.as_str(), want);
+    }
+    Ok(())
+}
+
+/// A sketch whose only method has this call.
+fn with_call(rt: &impl AllocGlobal, call: &str) -> Result<String, AllocError> {
+    format!(in rt.alloc();
+        "{{\"name\":\"M\",\"flags\":33,\"methods\":[{{\"name\":\"m\",\"type\":\"()V\",\"flags\":1,\"calls\":[{call}]}}]}}"
+    )
+}
+
+#[test]
+fn no_sketches(rt: HostRuntime) -> Result<(), Fail> {
+    let rows = [
+        "null",
+        "[]",
+        "{\"name\":\"M\"}",
+        "{\"name\":\"M\",\"flags\":65536}",
+        "{\"name\":\"M\",\"flags\":33.0}",
+        "{\"name\":\"M\",\"flags\":33,\"super\":null}",
+        "{\"name\":\"M\",\"flags\":33,\"host\":null}",
+        "{\"name\":\"M\",\"flags\":33,\"fields\":[]}",
+        "{\"name\":\"M\",\"flags\":33,\"members\":[1]}",
+        "{\"name\":\"M\",\"flags\":33,\"methods\":[{\"name\":\"m\",\"type\":\"()V\"}]}",
+    ];
+    for text in rows {
+        assert!(rt; sketch(&rt, text)?.is_none(), "{text}");
+    }
+    Ok(())
+}
+
+#[test]
+fn no_calls(rt: HostRuntime) -> Result<(), Fail> {
+    let rows = [
+        "\"kind\":\"invokedynamic\",\"of\":\"A\"",
+        "\"kind\":\"invokevirtual\",\"of\":\"A\",\"itf\":true",
+        "\"kind\":\"invokeinterface\",\"of\":\"A\",\"itf\":false",
+        "\"kind\":\"invokespecial\",\"of\":\"A\",\"itf\":null",
+        "\"kind\":\"invokestatic\"",
+        "\"kind\":\"invoke\",\"of\":\"A\"",
+        "\"of\":\"A\"",
+    ];
+    for row in rows {
+        let call = format!(in rt.alloc(); "{{\"name\":\"f\",\"type\":\"()V\",{row}}}")?;
+        let text = with_call(&rt, &call)?;
+        assert!(rt; sketch(&rt, &text)?.is_none(), "{text}");
+    }
+    Ok(())
+}
+
+#[test]
+fn texts_in_modified_utf8(rt: HostRuntime) -> Result<(), Fail> {
+    let rows: [(&str, &[u8]); 4] = [
+        ("\\u0000", &[0xc0, 0x80]),
+        ("\\ud83d\\ude00", &[0xed, 0xa0, 0xbd, 0xed, 0xb8, 0x80]),
+        ("\u{1f600}", &[0xed, 0xa0, 0xbd, 0xed, 0xb8, 0x80]),
+        ("a\u{e9}", &[0x61, 0xc3, 0xa9]),
+    ];
+    for (name, want) in rows {
+        let text = format!(in rt.alloc(); "{{\"name\":\"{name}\",\"flags\":0}}")?;
+        match sketch(&rt, &text)? {
+            Some(read) => assert_eq!(rt; read.name.as_slice(), want),
+            None => assert!(rt; false, "no sketch: {text}"),
+        }
     }
     Ok(())
 }
