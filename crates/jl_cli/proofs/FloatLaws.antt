@@ -3,8 +3,6 @@ use Rattle.std.proofs.Common.{◌≡◌, ◌∙◌, ap, ℕ, List, false, Option
 use Rattle.std.proofs.Common.{MatchOption, inl, inr}
 use Rattle.serde_json.specs.Data.{Data}
 use Rattle.serde_json.specs.Written.{has_float}
-use Rattle.jl_cli.specs.declared.words.Mode.{Mode}
-use Rattle.jl_cli.specs.declared.words.Mode.TheVariants.{Scan, Run}
 use Rattle.std.specs.Prelude.{slice_get, length}
 use Rattle.jl_types.specs.declared.link.Link.{Link}
 use Rattle.jl_types.specs.declared.event.Event.TheVariants as event
@@ -14,27 +12,40 @@ use Rattle.jl_types.specs.declared.refusal.PrepareFault.{PrepareFault}
 use Rattle.jl_core.specs.declared.preparation.Prepared.{Prepared}
 use Rattle.jl_json.specs.declared.command.Command.{Command}
 use Rattle.jl_json.specs.declared.command.Command.TheVariants as command
-use Rattle.jl_json.proofs.FloatLaws.{class_floats, refusal_floats, reply_floats, event_refusal_floats, prepared_floats, prepare_refusal_floats, answer_floats, links_floats}
-use Rattle.jl_cli.specs.Sessions.{Session, IsEventData, IsEventAnswer, IsPreparedData, IsCommandAnswer, IsAskedAnswer}
-use Rattle.jl_cli.specs.Scans.{bad_command, file_of, IsFaultAnswer, IsFileAnswer}
-use Rattle.jl_cli.specs.Answers.{IsAnswer}
+use Rattle.jl_json.proofs.FloatLaws.{refusal_floats, reply_floats, event_refusal_floats, prepared_floats, prepare_refusal_floats, answer_floats, links_floats}
+use Rattle.jl_cli.specs.Sessions.{Session, IsEventData, IsEventAnswer, IsFileDefined, IsDefineAnswer, IsPreparedData, IsCommandAnswer, IsAskedAnswer, IsSessionAnswer}
+use Rattle.jl_json.specs.declared.command.ClassSource.{ClassSource}
+use Rattle.jl_json.specs.declared.command.ClassSource.TheVariants as source
+use Rattle.jl_json.specs.Refusals.{sketch_refusal_data}
+use Rattle.jl_sketch.specs.declared.fault.SketchFault.{SketchFault}
+use Rattle.jl_sketch.specs.declared.fault.SketchFault.TheVariants as sketch
+use Rattle.jl_cli.specs.Jsons.{bad_command}
+use Rattle.jl_cli.specs.Scans.{IsFaultAnswer}
 
 fault_floats : (bytes : List ℕ) (answer : Data) → IsFaultAnswer bytes answer → has_float answer ≡ false
 fault_floats bytes answer (inl p) = ap has_float p.2 ∙ refusal_floats _ _ _
 fault_floats bytes answer (inr p) = ap has_float p ∙ refusal_floats _ _ _
 
-file_floats : (bytes : List ℕ) (answer : Data) → IsFileAnswer bytes answer → has_float answer ≡ false
-file_floats bytes answer (inl p) = ap has_float p.4 ∙ class_floats _ _
-file_floats bytes answer (inr p) = fault_floats bytes answer p
-
-line_floats : (o : Option (List ℕ)) (answer : Data)
-    → MatchOption o (answer ≡ bad_command) (λ bytes. IsFileAnswer bytes answer) → has_float answer ≡ false
-line_floats None answer is = ap has_float is
-line_floats (Some bytes) answer is = file_floats bytes answer is
-
 event_floats : (outcome : Result Reply Refusal) (answer : Data) → IsEventData outcome answer → has_float answer ≡ false
 event_floats (Ok reply) answer is = ap has_float is ∙ reply_floats reply
 event_floats (Err r) answer is = ap has_float is.2 ∙ event_refusal_floats is.0 r
+
+pub sketch_floats : (f : SketchFault) → has_float (sketch_refusal_data f) ≡ false
+sketch_floats sketch.TooBig = refusal_floats _ _ _
+sketch_floats (sketch.CallsWithoutCode i) = refusal_floats _ _ _
+sketch_floats (sketch.Refused f) = refusal_floats _ _ _
+sketch_floats sketch.Memory = refusal_floats _ _ _
+
+file_floats : (old : Session) (loader : ℕ) (bytes : List ℕ) (answer : Data) (new : Session)
+    → IsFileDefined old loader bytes answer new → has_float answer ≡ false
+file_floats old loader bytes answer new (inl p) = event_floats p.2.outcome answer p.2.said
+file_floats old loader bytes answer new (inr p) = fault_floats bytes answer p.1
+
+define_floats : (old : Session) (loader : ℕ) (s : ClassSource) (answer : Data) (new : Session)
+    → IsDefineAnswer old loader s answer new → has_float answer ≡ false
+define_floats old loader (source.File bytes) answer new is = file_floats old loader bytes answer new is
+define_floats old loader (source.Sketch sketch) answer new (inl p) = file_floats old loader p.0 answer new p.2
+define_floats old loader (source.Sketch sketch) answer new (inr p) = ap has_float p.1.2 ∙ sketch_floats p.1.0
 
 prepare_floats : (old : Session) (outcome : Result Prepared PrepareFault) (answer : Data) (new : Session)
     → IsPreparedData old outcome answer new → has_float answer ≡ false
@@ -49,8 +60,7 @@ install_floats (Some rows) old answer new is = event_floats is.outcome answer is
 
 command_floats : (old : Session) (asked : Command) (answer : Data) (new : Session)
     → IsCommandAnswer old asked answer new → has_float answer ≡ false
-command_floats old (command.Define loader file) answer new (inl p) = event_floats p.2.outcome answer p.2.said
-command_floats old (command.Define loader file) answer new (inr p) = fault_floats file answer p.1
+command_floats old (command.Define loader source) answer new is = define_floats old loader source answer new is
 command_floats old (command.Request place) answer new is = event_floats is.outcome answer is.said
 command_floats old (command.Prepare sites) answer new is = prepare_floats old is.outcome answer new is.said
 command_floats old (command.Install batch) answer new is = install_floats (slice_get old.batches batch) old answer new is
@@ -62,6 +72,6 @@ asked_floats : (old : Session) (asked : Option Command) (answer : Data) (new : S
 asked_floats old (Some asked) answer new is = command_floats old asked answer new is
 asked_floats old None answer new is = ap has_float is.0
 
-pub no_float : (mode : Mode) (line : List ℕ) (answer : Data) → IsAnswer mode line answer → has_float answer ≡ false
-no_float Scan line answer is = line_floats (file_of line) answer is
-no_float Run line answer is = asked_floats is.0 is.2.asked answer is.1 is.2.said
+pub session_floats : (old : Session) (line : List ℕ) (answer : Data) (new : Session)
+    → IsSessionAnswer old line answer new → has_float answer ≡ false
+session_floats old line answer new is = asked_floats old is.asked answer new is.said

@@ -1,4 +1,5 @@
 pub mod BufferLaws
+pub mod JsonLaws
 pub mod ScanLaws
 pub mod FloatLaws
 pub mod LineLaws

@@ -7,10 +7,9 @@ use Rattle.std.proofs.Math.Seq.{drop-append_seam}
 use Rattle.std.proofs.KnownBytes.{Appends-trans, Consumes-trans}
 use Rattle.std.specs.Io.KnownBytes.{Appends, Consumes, IsAtEnd}
 use Rattle.std.specs.List.{flat_map, AllByRecursion}
-use Rattle.serde_json.specs.Data.{Data}
 use Rattle.jl_cli.specs.declared.words.Mode.{Mode}
 use Rattle.jl_cli.specs.Lines.{newline, most_in_line, onto_first, lines_of, NoNewline, ended}
-use Rattle.jl_cli.specs.Answers.{IsAnswer, answer_line, AreAnswers, AreShort, AnswersAll, AnswersFirst, FirstIsLong}
+use Rattle.jl_cli.specs.Answers.{IsAnswer, AreAnswers, AreShort, AnswersAll, AnswersFirst, FirstIsLong}
 use Rattle.jl_cli.specs.Progress.{IsLine, Answered, Gathers, Writes, Runs, IsOver}
 
 pub all_append : {A : Type 0} (P : A → Type 0) (xs ys : List A) → AllByRecursion P xs → AllByRecursion P ys
@@ -66,20 +65,20 @@ answers_append mode (l ∷ ls) ms o p h k = (
   h.1 ++ p,
   h.2,
   ap (λ (l : List ℕ). l ++ p) h.3
-      ∙ append_assoc (answer_line h.0) h.1 p,
+      ∙ append_assoc (ended h.0) h.1 p,
   answers_append mode ls ms h.1 p h.4 k,
 )
 
 pub answered_none : (mode : Mode) → Answered mode [] []
 answered_none mode = record { lines = []; whole = refl; each = tt; answers = refl }
 
-answered_one : (mode : Mode) (line : List ℕ) (answer : Data) → IsLine line → IsAnswer mode line answer
-    → Answered mode (ended line) (answer_line answer)
+answered_one : (mode : Mode) (line : List ℕ) (answer : List ℕ) → IsLine line → IsAnswer mode line answer
+    → Answered mode (ended line) (ended answer)
 answered_one mode line answer h is = record {
   lines = line ∷ [];
   whole = sym (append-nil (ended line));
   each = (h, tt);
-  answers = (answer, [], is, sym (append-nil (answer_line answer)), refl);
+  answers = (answer, [], is, sym (append-nil (ended answer)), refl);
 }
 
 answered_append : (mode : Mode) (a b x y : List ℕ) → Answered mode a x → Answered mode b y
@@ -96,21 +95,21 @@ answered_append mode a b x y h k = record {
 -- ---- steps
 
 -- one more line is answered
-pub gathers_more : (mode : Mode) (bytes old mid new line after : List ℕ) (answer : Data)
+pub gathers_more : (mode : Mode) (bytes old mid new line after : List ℕ) (answer : List ℕ)
     (g : Gathers mode bytes old mid)
-    → g.left ≡ line ++ newline ∷ after → IsLine line → IsAnswer mode line answer → new ≡ mid ++ answer_line answer
+    → g.left ≡ line ++ newline ∷ after → IsLine line → IsAnswer mode line answer → new ≡ mid ++ ended answer
     → (k : Gathers mode bytes old new) × (k.left ≡ after)
 gathers_more mode bytes old mid new line after answer g is short answers grown = (
   record {
     done = g.done ++ ended line;
     left = after;
-    output = g.output ++ answer_line answer;
+    output = g.output ++ ended answer;
     split = g.split ∙ (ap (λ (l : List ℕ). g.done ++ l) (is ∙ sym (append_assoc line (newline ∷ []) after))
         ∙ sym (append_assoc g.done (ended line) after));
-    answered = answered_append mode g.done (ended line) g.output (answer_line answer) g.answered
+    answered = answered_append mode g.done (ended line) g.output (ended answer) g.answered
         (answered_one mode line answer short answers);
-    added = grown ∙ (ap (λ (l : List ℕ). l ++ answer_line answer) g.added
-        ∙ append_assoc old g.output (answer_line answer));
+    added = grown ∙ (ap (λ (l : List ℕ). l ++ ended answer) g.added
+        ∙ append_assoc old g.output (ended answer));
   },
   refl,
 )
@@ -140,12 +139,12 @@ pub left_behind : (bytes done left : List ℕ) (used : ℕ) → bytes ≡ done +
 left_behind bytes done left used split is =
     ap (λ k. drop k bytes) is ∙ (ap (drop (length done)) split ∙ drop-append_seam done left)
 
-pub answers_last : (mode : Mode) (rest : List ℕ) (answer : Data) → ¬ (rest ≡ []) → NoNewline rest
-    → IsAnswer mode rest answer → AreAnswers mode (lines_of rest) (answer_line answer)
+pub answers_last : (mode : Mode) (rest : List ℕ) (answer : List ℕ) → ¬ (rest ≡ []) → NoNewline rest
+    → IsAnswer mode rest answer → AreAnswers mode (lines_of rest) (ended answer)
 answers_last mode [] answer some one is = absurd (some refl)
 answers_last mode (b ∷ rest) answer some one is =
-    subst (λ (ls : List (List ℕ)). AreAnswers mode ls (answer_line answer)) (sym (line_last b rest one))
-    (answer, [], is, sym (append-nil (answer_line answer)), refl)
+    subst (λ (ls : List (List ℕ)). AreAnswers mode ls (ended answer)) (sym (line_last b rest one))
+    (answer, [], is, sym (append-nil (ended answer)), refl)
 
 pub answers_empty : (mode : Mode) (rest : List ℕ) → rest ≡ [] → AreAnswers mode (lines_of rest) []
 unfolding lines_of

@@ -5,8 +5,9 @@ use Rattle.hex.proofs.OnLiterals.{hex_on_literals}
 use Rattle.serde_json.proofs.OnLiterals.{serde_json_on_literals}
 use Rattle.jl_cli.specs.declared.words.Mode.TheVariants.{Scan}
 use Rattle.jl_cli.specs.Lines.{lines_of}
-use Rattle.jl_cli.specs.Scans.{file_of, bad_command}
-use Rattle.jl_cli.specs.Answers.{answer_line, AreAnswers}
+use Rattle.jl_cli.specs.Jsons.{bad_command}
+use Rattle.jl_cli.specs.Scans.{file_of}
+use Rattle.jl_cli.specs.Answers.{AreAnswers}
 
 -- a newline at the end ends no further line
 lines_three : lines_of (codes "ab\n\nc") ≡ codes "ab" ∷ [] ∷ codes "c" ∷ []
@@ -35,5 +36,7 @@ unfolding hex_on_literals
 hex_other = refl
 
 two_answers : AreAnswers Scan ([] ∷ codes "0g" ∷ []) (codes "{\"error\":\"BadCommand\"}\n{\"error\":\"BadCommand\"}\n")
-unfolding answer_line hex_on_literals serde_json_on_literals
-two_answers = (bad_command, codes "{\"error\":\"BadCommand\"}\n", refl, refl, (bad_command, [], refl, refl, refl))
+unfolding hex_on_literals serde_json_on_literals
+two_answers =
+    let said = codes "{\"error\":\"BadCommand\"}" in
+    (said, codes "{\"error\":\"BadCommand\"}\n", (bad_command, refl, refl), refl, (said, [], (bad_command, refl, refl), refl, refl))

@@ -20,7 +20,9 @@ use Rattle.jl_json.specs.NameReading.{name_text}
 use Rattle.jl_json.specs.ClassAnswers.{class_data}
 use Rattle.jl_json.proofs.NameLaws.{spells}
 use Rattle.jl_json.specs.Refusals.{refusal_data}
-use Rattle.jl_cli.specs.Scans.{bad_command, file_of, IsFaultAnswer, IsFileAnswer, IsScanAnswer}
+use Rattle.serde_json.specs.Written.{compact_text}
+use Rattle.jl_cli.specs.Jsons.{bad_command, IsTextOf}
+use Rattle.jl_cli.specs.Scans.{file_of, IsFaultAnswer, IsFileAnswer, IsScanAnswer}
 
 memory_or_not : (f : ClassFault) → (f ≡ Memory) ⊎ (f ≢ Memory)
 memory_or_not TooLarge = inr (λ e. absurd cc)
@@ -52,6 +54,15 @@ pub refusal_answers : {E : Type 0} (r : Result Value E) (bytes : List ℕ) (f : 
 refusal_answers (Ok v) bytes f fault is = refused bytes f (view v) fault is
 refusal_answers (Err e) bytes f fault is = tt
 
+pub refused_text : (bytes : List ℕ) (f : ClassFault) (answer : Data) (text : List ℕ) → (f ≢ Memory → IsFault bytes f)
+    → answer ≡ refusal_data f → text ≡ compact_text answer → IsTextOf (IsFileAnswer bytes) text
+refused_text bytes f answer text fault is said = (answer, inr (refused bytes f answer fault is), said)
+
+pub shown_text : (bytes : List ℕ) (p : Parts) (file : ClassFile) (text : List ℕ) → IsClass bytes p → file ≡ shown p
+    → text ≡ compact_text (class_data name_text file) → IsTextOf (IsFileAnswer bytes) text
+shown_text bytes p file text class is said =
+    (class_data name_text file, inl (p, name_text, class, spells, ap (class_data name_text) is), said)
+
 -- an answer to the bytes of a line is one to the line
 of_file : (o : Option (List ℕ)) (hit : Bool) (bytes : List ℕ) (answer : Data)
     → MatchOption o (hit ≡ false) (λ file. (hit ≡ true) × (bytes ≡ file))
@@ -59,16 +70,22 @@ of_file : (o : Option (List ℕ)) (hit : Bool) (bytes : List ℕ) (answer : Data
 of_file None hit bytes answer told is a = absurd cc
 of_file (Some file) hit bytes answer told is a = subst (λ (b : List ℕ). IsFileAnswer b answer) told.1 a
 
-pub file_answers : {E : Type 0} (r : Result Value E) (line : List ℕ) (hit : Bool) (bytes : List ℕ)
+pub file_text : (line : List ℕ) (hit : Bool) (bytes text : List ℕ)
     → MatchOption (file_of line) (hit ≡ false) (λ file. (hit ≡ true) × (bytes ≡ file)) → hit ≡ true
-    → IfOk r (λ v. IsFileAnswer bytes (view v)) → IfOk r (λ v. IsScanAnswer line (view v))
-file_answers (Ok v) line hit bytes told is a = of_file (file_of line) hit bytes (view v) told is a
-file_answers (Err e) line hit bytes told is a = tt
+    → IsTextOf (IsFileAnswer bytes) text → IsTextOf (IsScanAnswer line) text
+file_text line hit bytes text told is said =
+    (said.0, of_file (file_of line) hit bytes said.0 told is said.1, said.2)
 
-pub shown_answers : {E : Type 0} (r : Result Value E) (bytes : List ℕ) (p : Parts) (file : ClassFile) → IsClass bytes p
-    → file ≡ shown p → IfOk r (λ v. view v ≡ class_data name_text file) → IfOk r (λ v. IsFileAnswer bytes (view v))
-shown_answers (Ok v) bytes p file class is e = inl (p, name_text, class, spells, e ∙ ap (class_data name_text) is)
-shown_answers (Err e) bytes p file class is h = tt
+no_file : (o : Option (List ℕ)) (hit : Bool) (bytes : List ℕ)
+    → MatchOption o (hit ≡ false) (λ file. (hit ≡ true) × (bytes ≡ file))
+    → hit ≡ false → MatchOption o (bad_command ≡ bad_command) (λ file. IsFileAnswer file bad_command)
+no_file None hit bytes told is = refl
+no_file (Some file) hit bytes told is = absurd cc
+
+pub bad_text : (line : List ℕ) (hit : Bool) (bytes text : List ℕ)
+    → MatchOption (file_of line) (hit ≡ false) (λ file. (hit ≡ true) × (bytes ≡ file)) → hit ≡ false
+    → text ≡ compact_text bad_command → IsTextOf (IsScanAnswer line) text
+bad_text line hit bytes text told is said = (bad_command, no_file (file_of line) hit bytes told is, said)
 
 pub for_ok : {X E : Type 0} {P Q : X → Type 0} → ((x : X) → P x → Q x) → (r : Result X E) → IfOk r P → IfOk r Q
 for_ok f (Ok x) h = f x h

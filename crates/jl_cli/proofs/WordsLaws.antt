@@ -29,7 +29,7 @@ use Rattle.jl_cli.specs.declared.words.WordsFault.{WordsFault}
 use Rattle.jl_cli.specs.declared.words.WordsFault.TheVariants.{BadWords, Memory}
 use Rattle.jl_cli.specs.declared.words.Words.TheVariants.{Lines}
 use Rattle.jl_cli.specs.declared.words.Mode.{Mode}
-use Rattle.jl_cli.specs.declared.words.Mode.TheVariants.{Scan, Run}
+use Rattle.jl_cli.specs.declared.words.Mode.TheVariants.{Scan, Sketch, Run}
 use Rattle.jl_cli.specs.Words.{IsEnd, AskFor, AskForNothing, word_of}
 use Rattle.jl_cli.specs.CommandLine.{bare_command, linkd, mode_of}
 
@@ -158,11 +158,13 @@ mode_fault mode rest = level_fault (below mode) [] nothing_held rest false []
 takes_nothing : (mode : Mode) → mode_fault mode [] ≡ []
 unfolding walked walk_fault defaults_fault
 takes_nothing Scan = refl
+takes_nothing Sketch = refl
 takes_nothing Run = refl
 
 takes_dashes : (mode : Mode) → mode_fault mode (dashes ∷ []) ≡ []
 unfolding walked walk_fault defaults_fault
 takes_dashes Scan = refl
+takes_dashes Sketch = refl
 takes_dashes Run = refl
 
 mode_takes : (mode : Mode) (rest : List Text) → IsEnd rest → mode_fault mode rest ≡ []
@@ -172,12 +174,13 @@ mode_takes mode rest (inr e) = ap (mode_fault mode) e ∙ takes_dashes mode
 mode_refuses : (mode : Mode) (rest : List Text) → ¬ IsEnd rest → Comes (mode_fault mode rest)
 mode_refuses mode [] h = absurd (h (inl refl))
 mode_refuses Scan (word ∷ rest) h = first_comes _ _ (stray_words (below Scan) [] word rest refl h)
+mode_refuses Sketch (word ∷ rest) h = first_comes _ _ (stray_words (below Sketch) [] word rest refl h)
 mode_refuses Run (word ∷ rest) h = first_comes _ _ (stray_words (below Run) [] word rest refl h)
 
 -- ---- the program's command
 
 abbrev names : Names
-names = (word_of Scan, []) ∷ (word_of Run, []) ∷ []
+names = (word_of Scan, []) ∷ (word_of Sketch, []) ∷ (word_of Run, []) ∷ []
 
 abbrev met : Mode → List Text → Walk
 met mode rest = record first { stopped = Some (word_of mode, rest) }
@@ -191,6 +194,7 @@ over w = or_else (entered_fault (built linkd) w.stopped) (or_else (settle_fault 
 walked_mode : (mode : Mode) (rest : List Text) → fold (walked [] names) first (word_of mode ∷ rest) ≡ met mode rest
 unfolding walked
 walked_mode Scan rest = sym (walk_stopped [] names first (word_of Scan) [] rest)
+walked_mode Sketch rest = sym (walk_stopped [] names first (word_of Sketch) [] rest)
 walked_mode Run rest = sym (walk_stopped [] names first (word_of Run) [] rest)
 
 mode_faults : (mode : Mode) (name : Text) (rest : List Text)
@@ -198,6 +202,8 @@ mode_faults : (mode : Mode) (name : Text) (rest : List Text)
 unfolding walked walk_fault defaults_fault
 mode_faults Scan name rest =
     past _ _ (stopped_fault top names first (word_of Scan, []) rest) ∙ ap over (walked_mode Scan rest)
+mode_faults Sketch name rest =
+    past _ _ (stopped_fault top names first (word_of Sketch, []) rest) ∙ ap over (walked_mode Sketch rest)
 mode_faults Run name rest =
     past _ _ (stopped_fault top names first (word_of Run, []) rest) ∙ ap over (walked_mode Run rest)
 
@@ -205,6 +211,8 @@ mode_met : (mode : Mode) (name : Text) (rest : List Text)
     → option_map (λ p. p.0) (subcommand_of linkd (name ∷ word_of mode ∷ rest)) ≡ Some (word_of mode)
 mode_met Scan name rest =
     ap (λ (w : Walk). option_map (λ p. p.0) (entered (built linkd) w.stopped)) (walked_mode Scan rest)
+mode_met Sketch name rest =
+    ap (λ (w : Walk). option_map (λ p. p.0) (entered (built linkd) w.stopped)) (walked_mode Sketch rest)
 mode_met Run name rest =
     ap (λ (w : Walk). option_map (λ p. p.0) (entered (built linkd) w.stopped)) (walked_mode Run rest)
 
@@ -215,11 +223,14 @@ second a b c d x y e = let tails : b ∷ x ≡ d ∷ y = cc in (cc, cc)
 
 -- the word is no subcommand
 abbrev IsOther : Text → Type 0
-IsOther word = (bytes_eq (word_of Scan) word ≡ false) × (bytes_eq (word_of Run) word ≡ false)
+IsOther word =
+    (bytes_eq (word_of Scan) word ≡ false) × (bytes_eq (word_of Sketch) word ≡ false)
+    × (bytes_eq (word_of Run) word ≡ false)
 
 no_mode : (word : Text) → IsOther word → (mode : Mode) → ¬ (word ≡ word_of mode)
 no_mode word h Scan e = true≢false (sym ((bytes_eq-Decides (word_of Scan) word).1 (sym e)) ∙ h.0)
-no_mode word h Run e = true≢false (sym ((bytes_eq-Decides (word_of Run) word).1 (sym e)) ∙ h.1)
+no_mode word h Sketch e = true≢false (sym ((bytes_eq-Decides (word_of Sketch) word).1 (sym e)) ∙ h.1)
+no_mode word h Run e = true≢false (sym ((bytes_eq-Decides (word_of Run) word).1 (sym e)) ∙ h.2)
 
 other_word : (name word : Text) (rest : List Text) → IsOther word → AskForNothing (name ∷ word ∷ rest)
 other_word name word rest h (Lines mode) = λ p. no_mode word h mode (second name word p.0 (word_of mode) rest p.1 p.2).0
@@ -229,7 +240,7 @@ unfolding walked walk_fault defaults_fault
 other_faults name word rest e = elim (end_or_not (word ∷ rest)) [
   | inl (inl h) ↦ absurd cc
   | inl (inr h) ↦ subst (λ (l : List Text). Comes (fault_of linkd (name ∷ l))) (sym h) tt
-  | inr h ↦ first_comes _ _ (stray_words top names word rest (rw (e.0, e.1) refl) h)
+  | inr h ↦ first_comes _ _ (stray_words top names word rest (rw (e.0, e.1, e.2) refl) h)
 ]
 
 -- the words are taken for this mode
@@ -282,9 +293,11 @@ decided [] = inr (none_asked, tt)
 decided (name ∷ []) = inr (name_asked name, tt)
 decided (name ∷ word ∷ rest) = by_test (bytes_eq (word_of Scan) word)
     (by_mode Scan name word rest)
-    (λ e. by_test (bytes_eq (word_of Run) word)
+    (λ e. by_test (bytes_eq (word_of Sketch) word)
+    (by_mode Sketch name word rest)
+    (λ f. by_test (bytes_eq (word_of Run) word)
     (by_mode Run name word rest)
-    (λ f. inr (other_word name word rest (e, f), other_faults name word rest (e, f))))
+    (λ g. inr (other_word name word rest (e, f, g), other_faults name word rest (e, f, g)))))
 
 -- the words ask for a mode, and name its subcommand
 abbrev IsMet : List Text → Option Text → Type 0
@@ -322,6 +335,7 @@ meets a words m is h matches =
 
 mode_of_word : (mode : Mode) → mode_of (Some (word_of mode)) ≡ Some mode
 mode_of_word Scan = refl
+mode_of_word Sketch = refl
 mode_of_word Run = refl
 
 -- the mode that is read is the one that the words ask for

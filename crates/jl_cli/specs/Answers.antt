@@ -3,34 +3,32 @@ use Rattle.std.specs.Prelude.{◌≡◌, ◌<◌, ◌≤◌, ℕ, List, [], ◌�
 use Rattle.std.specs.Prelude.{⊤}
 use Rattle.std.specs.List.{AllByRecursion, flat_map}
 use Rattle.std.specs.Io.KnownBytes.{Appends, Consumes}
-use Rattle.serde_json.specs.Data.{Data}
-use Rattle.serde_json.specs.Written.{compact_text}
 use Rattle.jl_cli.specs.declared.line_fault.LineFault.{LineFault}
 use Rattle.jl_cli.specs.declared.line_fault.LineFault.TheVariants.{TooLong}
 use Rattle.jl_cli.specs.declared.words.Mode.{Mode}
-use Rattle.jl_cli.specs.declared.words.Mode.TheVariants.{Scan, Run}
+use Rattle.jl_cli.specs.declared.words.Mode.TheVariants.{Scan, Sketch, Run}
+use Rattle.jl_cli.specs.Jsons.{IsTextOf}
 use Rattle.jl_cli.specs.Scans.{IsScanAnswer}
+use Rattle.jl_cli.specs.Sketches.{IsSketchAnswer}
 use Rattle.jl_cli.specs.Sessions.{Session, IsSessionAnswer}
-use Rattle.jl_cli.specs.Lines.{newline, most_in_line, lines_of, NoNewline, ended}
+use Rattle.jl_cli.specs.Lines.{most_in_line, lines_of, NoNewline, ended}
 
 -- ---- all lines
 
--- what a line is answered: in the mode run, by some state of one core
-abbrev pub IsAnswer : Mode → List ℕ → Data → Type 0
-IsAnswer Scan line answer = IsScanAnswer line answer
-IsAnswer Run line answer = (old : Session) × (new : Session) × IsSessionAnswer old line answer new
+-- the text that a line is answered: in the mode run, by some state of one core
+abbrev pub IsAnswer : Mode → List ℕ → List ℕ → Type 0
+IsAnswer Scan line text = IsTextOf (IsScanAnswer line) text
+IsAnswer Sketch line text = IsSketchAnswer line text
+IsAnswer Run line text =
+    (old : Session) × (new : Session) × IsTextOf (λ answer. IsSessionAnswer old line answer new) text
 
--- an answer as it is written: its text, and a newline
-unfoldable pub answer_line : Data → List ℕ
-answer_line answer = compact_text answer ++ newline ∷ []
-
--- The output has an answer to each line, in order, and nothing else. Where a line may have several
--- answers, as want of memory, one of them is there.
+-- The output has an answer to each line, in order, each with a newline, and nothing else. Where a line may have
+-- several answers, as want of memory, one of them is there.
 abbrev pub AreAnswers : Mode → List (List ℕ) → List ℕ → Type 0
 AreAnswers mode [] output = output ≡ []
 AreAnswers mode (line ∷ lines) output =
-    (answer : Data) × (rest : List ℕ) × IsAnswer mode line answer
-    × (output ≡ answer_line answer ++ rest)
+    (answer : List ℕ) × (rest : List ℕ) × IsAnswer mode line answer
+    × (output ≡ ended answer ++ rest)
     × AreAnswers mode lines rest
 
 -- no line is over the limit

@@ -1,8 +1,8 @@
 -- What a line of the mode scan is answered.
-use Rattle.std.specs.Prelude.{◌≡◌, ◌⊎◌, ℕ, List, [], ◌∷◌, codes, Option, None, MatchOption}
+use Rattle.std.specs.Prelude.{◌≡◌, ◌⊎◌, ℕ, List, [], ◌∷◌, Option, None, MatchOption}
 use Rattle.std.specs.Result.{result_ok}
 use Rattle.hex.specs.Hex.{decode_of}
-use Rattle.serde_json.specs.Data.{Data, string, object, no_members, member}
+use Rattle.serde_json.specs.Data.{Data}
 use Rattle.jl_classfile.specs.declared.fault.ClassFault.{ClassFault}
 use Rattle.jl_classfile.specs.declared.fault.ClassFault.TheVariants.{Memory}
 use Rattle.jl_classfile.specs.Parts.{Parts}
@@ -12,10 +12,7 @@ use Rattle.jl_classfile.specs.Faults.{IsFault}
 use Rattle.jl_json.specs.Names.{SpellsNames}
 use Rattle.jl_json.specs.ClassAnswers.{class_data}
 use Rattle.jl_json.specs.Refusals.{refusal_data}
-
--- the answer to a line that is none of the stated forms
-abbrev pub bad_command : Data
-bad_command = object (member (codes "error") (string (codes "BadCommand")) no_members)
+use Rattle.jl_cli.specs.Jsons.{bad_command}
 
 -- the bytes that a line is the hexadecimal of, in either case; an empty line is that of none
 abbrev pub file_of : List ℕ → Option (List ℕ)

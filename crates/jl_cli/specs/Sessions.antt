@@ -1,10 +1,10 @@
 -- What a line of commands is answered, by one core and the batches of links that were prepared.
-use Rattle.std.specs.Prelude.{◌≡◌, ◌⊎◌, ℕ, List, [], ◌∷◌, ◌++◌, length, slice_get, Option, Some, None, MatchOption, option_and_then, Result, Ok, Err, IsUtf8}
+use Rattle.std.specs.Prelude.{◌≡◌, ◌⊎◌, ℕ, List, [], ◌∷◌, ◌++◌, length, slice_get, Option, Some, None, MatchOption, Result, Ok, Err}
 use Rattle.serde_json.specs.Data.{Data}
-use Rattle.serde_json.specs.Read.{read}
 use Rattle.jl_classfile.specs.Parts.{Parts}
 use Rattle.jl_classfile.specs.ClassFiles.{IsClass}
 use Rattle.jl_classfile.specs.Shown.{shown}
+use Rattle.jl_sketch.specs.Faults.{IsWritten}
 use Rattle.jl_types.specs.declared.link.Link.{Link}
 use Rattle.jl_types.specs.declared.event.Event.{Event}
 use Rattle.jl_types.specs.declared.event.Event.TheVariants as event
@@ -17,13 +17,17 @@ use Rattle.jl_core.specs.State.{State, Snapshot, empty_core, IsApplied}
 use Rattle.jl_core.specs.Preparations.{IsPreparation}
 use Rattle.jl_json.specs.declared.command.Command.{Command}
 use Rattle.jl_json.specs.declared.command.Command.TheVariants as command
+use Rattle.jl_json.specs.declared.command.ClassSource.{ClassSource}
+use Rattle.jl_json.specs.declared.command.ClassSource.TheVariants as source
 use Rattle.jl_json.specs.Names.{SpellsNames}
 use Rattle.jl_json.specs.Replies.{reply_data}
 use Rattle.jl_json.specs.EventRefusals.{event_refusal_data, prepare_refusal_data}
 use Rattle.jl_json.specs.LinkAnswers.{links_data, prepared_data}
 use Rattle.jl_json.specs.CallAnswers.{answer_data}
 use Rattle.jl_json.specs.Commands.{command_of}
-use Rattle.jl_cli.specs.Scans.{bad_command, IsFaultAnswer}
+use Rattle.jl_cli.specs.Jsons.{IsReadAs, bad_command}
+use Rattle.jl_cli.specs.Scans.{IsFaultAnswer}
+use Rattle.jl_cli.specs.Sketches.{IsSketchRefusal}
 
 pub record Session : Type 0 where
   pub core : State
@@ -32,13 +36,6 @@ pub record Session : Type 0 where
 -- the core of 65,536 sites in which nothing happened yet
 abbrev pub new_session : Session
 new_session = record { core = empty_core 65536; batches = [] }
-
--- ---- what a line asks for
-
--- the command that the line's JSON is; or it is no JSON, or no command
-abbrev pub IsAsked : List ℕ → Option Command → Type 0
-IsAsked line (Some asked) = IsUtf8 line × (option_and_then command_of (read line) ≡ Some asked)
-IsAsked line None = IsUtf8 line → option_and_then command_of (read line) ≡ None
 
 -- ---- what a command is answered
 
@@ -56,10 +53,17 @@ pub record IsEventAnswer (old : Session) (e : Event) (answer : Data) (new : Sess
   pub said : IsEventData outcome answer
 
 -- the event of the class that the bytes are; or their fault, or want of memory
-abbrev pub IsDefineAnswer : Session → ℕ → List ℕ → Data → Session → Type 0
-IsDefineAnswer old loader bytes answer new =
+abbrev pub IsFileDefined : Session → ℕ → List ℕ → Data → Session → Type 0
+IsFileDefined old loader bytes answer new =
     ((p : Parts) × IsClass bytes p × IsEventAnswer old (event.Define loader (shown p)) answer new)
     ⊎ ((new ≡ old) × IsFaultAnswer bytes answer)
+
+-- by the bytes of a file, or those that a sketch is written as; or why the sketch isn't written
+abbrev pub IsDefineAnswer : Session → ℕ → ClassSource → Data → Session → Type 0
+IsDefineAnswer old loader (source.File bytes) answer new = IsFileDefined old loader bytes answer new
+IsDefineAnswer old loader (source.Sketch sketch) answer new =
+    ((bytes : List ℕ) × IsWritten sketch bytes × IsFileDefined old loader bytes answer new)
+    ⊎ ((new ≡ old) × IsSketchRefusal sketch answer)
 
 -- the core as it is, with the count of its events
 abbrev pub snapshot_of : Session → Snapshot
@@ -78,7 +82,7 @@ pub record IsPrepareAnswer (old : Session) (sites : List ℕ) (answer : Data) (n
   pub said : IsPreparedData old outcome answer new
 
 abbrev pub IsCommandAnswer : Session → Command → Data → Session → Type 0
-IsCommandAnswer old (command.Define loader file) answer new = IsDefineAnswer old loader file answer new
+IsCommandAnswer old (command.Define loader source) answer new = IsDefineAnswer old loader source answer new
 IsCommandAnswer old (command.Request place) answer new = IsEventAnswer old (event.Request place) answer new
 IsCommandAnswer old (command.Prepare sites) answer new = IsPrepareAnswer old sites answer new
 IsCommandAnswer old (command.Install batch) answer new =
@@ -96,5 +100,5 @@ IsAskedAnswer old None answer new = (answer ≡ bad_command) × (new ≡ old)
 
 pub record IsSessionAnswer (old : Session) (line : List ℕ) (answer : Data) (new : Session) : Type 0 where
   pub asked : Option Command
-  pub is : IsAsked line asked
+  pub is : IsReadAs command_of line asked
   pub said : IsAskedAnswer old asked answer new

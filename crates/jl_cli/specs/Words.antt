@@ -3,11 +3,12 @@ use Rattle.std.specs.Prelude.{◌≡◌, ◌⊎◌, ℕ, List, [], ◌∷◌, �
 use Rattle.jl_cli.specs.declared.words.Words.{Words}
 use Rattle.jl_cli.specs.declared.words.Words.TheVariants.{Lines}
 use Rattle.jl_cli.specs.declared.words.Mode.{Mode}
-use Rattle.jl_cli.specs.declared.words.Mode.TheVariants.{Scan, Run}
+use Rattle.jl_cli.specs.declared.words.Mode.TheVariants.{Scan, Sketch, Run}
 
 -- the mode's subcommand
 abbrev pub word_of : Mode → List ℕ
 word_of Scan = codes "scan"
+word_of Sketch = codes "sketch"
 word_of Run = codes "run"
 
 -- the subcommand that asks for this

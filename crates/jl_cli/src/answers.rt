@@ -1,15 +1,11 @@
 //! The answers to lines, gathered until they are written.
 
-ghost use Rattle.std.specs.Prelude.{◌≡◌, ◌<◌, ◌≤◌, false, ◌++◌, [], ◌∷◌, length, take};
-ghost use Rattle.std.specs.Prelude.{vec_len, string_bytes};
+ghost use Rattle.std.specs.Prelude.{◌≡◌, ◌<◌, ◌≤◌, ◌++◌, [], ◌∷◌, List, ℕ, length, take, vec_len};
 ghost use Rattle.std.specs.Prelude.{IfOk, OnOk, OnErr, MatchOption};
 ghost use Rattle.std.specs.Io.KnownBytes.{Appends};
-ghost use Rattle.serde_json.specs.Data.{Data};
-ghost use Rattle.serde_json.specs.View.{view};
-ghost use Rattle.serde_json.specs.Written.{has_float};
 ghost use Rattle.jl_cli.specs.Devices.{CountsFailure};
-ghost use Rattle.jl_cli.specs.Answers.{IsAnswer, answer_line};
-ghost use Rattle.jl_cli.specs.Lines.{newline, NoNewline};
+ghost use Rattle.jl_cli.specs.Answers.{IsAnswer};
+ghost use Rattle.jl_cli.specs.Lines.{newline, NoNewline, ended};
 ghost use Rattle.jl_cli.specs.Progress.{IsFirstNewline, Gathers};
 
 use crate::failed::Failed;
@@ -17,9 +13,9 @@ use crate::line_buffer::MOST_IN_LINE;
 use crate::scan::scan_answer;
 use crate::session::Session;
 use crate::sink::Sink;
+use crate::sketch::sketch_answer;
 use crate::words::Mode;
 use memchr::memchr;
-use serde_json::Value;
 use std::alloc::{AllocError, Global};
 
 /// The answers that aren't written yet, each with a newline.
@@ -58,26 +54,27 @@ impl Answers {
     /// [`AllocError`]. The answers stay.
     pub fn answer(&mut self, line: &[u8]) -> Result<(), AllocError>
         requires { length line.now ≤ 2100000 }
-        ensures ok { OnOk result ((answer : Data) × IsAnswer self.old.mode line.now answer
-            × (self.new.text.items ≡ self.old.text.items ++ answer_line answer)) }
+        ensures ok { OnOk result ((text : List ℕ) × IsAnswer self.old.mode line.now text
+            × (self.new.text.items ≡ self.old.text.items ++ ended text)) }
         ensures err { OnErr result (self.new.text.items ≡ self.old.text.items) }
         ensures mode { self.new.mode ≡ self.old.mode }
     {
-        let answer = self.value(line)?;
-        let text = text_of(self.alloc, &answer)?;
-        self.text.extend_from_slice(text.as_bytes())
+        let mut text = self.text_for(line)?;
+        text.push(b'\n')?;
+        self.text.extend_from_slice(&text)
     }
 
     /// The answer to a line.
-    fn value(&mut self, line: &[u8]) -> Result<Value, AllocError>
+    fn text_for(&mut self, line: &[u8]) -> Result<Vec<u8>, AllocError>
         requires { length line.now ≤ 2100000 }
-        ensures answer { IfOk result (λ v. IsAnswer self.old.mode line.now (view v)) }
+        ensures answer { IfOk result (λ text. IsAnswer self.old.mode line.now text.items) }
         ensures text { self.new.text.items ≡ self.old.text.items }
         ensures mode { self.new.mode ≡ self.old.mode }
     {
         match self.mode {
             Mode::Scan => scan_answer(self.alloc, line, &mut self.room),
-            Mode::Run => self.session.answer(self.alloc, line),
+            Mode::Sketch => sketch_answer(self.alloc, line),
+            Mode::Run => self.session.answer_text(self.alloc, line),
         }
     }
 
@@ -123,17 +120,6 @@ impl Answers {
         self.text.clear();
         Ok(())
     }
-}
-
-/// The text of an answer, with a newline.
-#[tactic(auto, unfolding(crate::specs::Answers::answer_line))]
-fn text_of(alloc: Global, answer: &Value) -> Result<String, AllocError>
-    requires { has_float (view answer.now) ≡ false }
-    ensures { IfOk result (λ text. string_bytes text ≡ answer_line (view answer.now)) }
-{
-    let mut text = answer.to_string(alloc)?;
-    text.push('\n')?;
-    Ok(text)
 }
 
 /// The first whole line, and what stands behind its newline. No newline stands before `searched`.

@@ -2,7 +2,7 @@
 //!
 //! Input and output are a [`Source`] and a [`Sink`], which count what failed. What is said of their
 //! bytes and counts stands in `specs/Devices`. What is answered stands in `specs/`, in reading
-//! order: `Lines`, `Scans`, `Sessions`, `Answers`; what words ask for, in `Words`. The JSON is that of
+//! order: `Lines`, `Jsons`, `Scans`, `Sketches`, `Sessions`, `Answers`; what words ask for, in `Words`. The JSON is that of
 //! jl_json.
 #![tactic(auto)]
 
@@ -17,8 +17,10 @@ mod sink;
 mod source;
 
 // The answer to a line.
+mod json_line;
 mod scan;
 mod session;
+mod sketch;
 
 // Lines.
 mod answers;

@@ -4,17 +4,23 @@ ghost use Rattle.std.specs.Prelude.{◌≡◌, IfOk, length};
 ghost use Rattle.serde_json.specs.View.{view};
 ghost use Rattle.jl_types.specs.declared.event.Event.TheVariants as event;
 ghost use Rattle.jl_json.specs.declared.command.Command.TheVariants as command;
-ghost use Rattle.jl_cli.specs.Sessions.{new_session, IsAsked, IsEventData, IsEventAnswer, IsDefineAnswer};
+ghost use Rattle.jl_json.specs.declared.command.ClassSource.TheVariants as source;
+ghost use Rattle.jl_json.specs.Commands.{command_of};
+ghost use Rattle.jl_cli.specs.Jsons.{IsReadAs, IsTextOf};
+ghost use Rattle.jl_cli.specs.Sessions.{new_session, IsEventData, IsEventAnswer, IsFileDefined, IsDefineAnswer};
 ghost use Rattle.jl_cli.specs.Sessions.{IsPrepareAnswer, IsCommandAnswer, IsSessionAnswer};
 
-use crate::scan::{bad_command, fault_value};
+use crate::json_line::{bad_command, json_in, text_of};
+use crate::scan::fault_value;
+use crate::sketch::sketch_fault_value;
 use jl_classfile::read_class;
 use jl_core::Core;
 use jl_json::{
-    Command, answer_value, event_refusal_value, links_value, prepare_refusal_value, prepared_value,
-    read_command, reply_value,
+    ClassSource, Command, answer_value, event_refusal_value, links_value, prepare_refusal_value,
+    prepared_value, read_command, reply_value,
 };
 use jl_names::Seq;
+use jl_sketch::{Sketch, write_class};
 use jl_types::{Event, Link, LoaderId, Refusal, Reply, SiteNo};
 use serde_json::Value;
 use std::alloc::{AllocError, Global};
@@ -44,17 +50,11 @@ impl Model for Session {
 
 /// The command that the line's JSON is, if it is one.
 fn command_in(alloc: Global, line: &[u8]) -> Result<Option<Command>, AllocError>
-    ensures { IfOk result (IsAsked line.now) }
+    ensures { IfOk result (IsReadAs command_of line.now) }
 {
-    match Value::from_slice(alloc, line) {
-        Ok(value) => read_command(alloc, &value),
-        Err(error) => {
-            if error.is_memory() {
-                Err(AllocError)
-            } else {
-                Ok(None)
-            }
-        }
+    match json_in(alloc, line)? {
+        Some(value) => read_command(alloc, &value),
+        None => Ok(None),
     }
 }
 
@@ -93,12 +93,20 @@ impl Session {
         }
     }
 
+    /// The text of the answer to a line.
+    pub(crate) fn answer_text(&mut self, alloc: Global, line: &[u8]) -> Result<Vec<u8>, AllocError>
+        ensures { IfOk result (λ text. IsTextOf (λ answer. IsSessionAnswer self.old line.now answer self.new) text.items) }
+    {
+        let answer = self.answer(alloc, line)?;
+        text_of(alloc, &answer)
+    }
+
     /// The answer to a command.
     fn obey(&mut self, alloc: Global, asked: Command) -> Result<Value, AllocError>
         ensures { IfOk result (λ v. IsCommandAnswer self.old asked (view v) self.new) }
     {
         match asked {
-            Command::Define { loader, file } => self.define(alloc, loader, file.as_slice()),
+            Command::Define { loader, source } => self.define(alloc, loader, source),
             Command::Request(place) => self.apply(alloc, Event::Request(place)),
             Command::Prepare(sites) => self.prepare(alloc, sites.as_slice()),
             Command::Install(batch) => self.install(alloc, batch),
@@ -118,9 +126,44 @@ impl Session {
         event_value(alloc, &outcome)
     }
 
+    /// The answer to the definition of a class.
+    fn define(
+        &mut self,
+        alloc: Global,
+        loader: LoaderId,
+        source: ClassSource,
+    ) -> Result<Value, AllocError>
+        ensures { IfOk result (λ v. IsDefineAnswer self.old loader source (view v) self.new) }
+    {
+        match source {
+            ClassSource::File(bytes) => self.define_file(alloc, loader, bytes.as_slice()),
+            ClassSource::Sketch(sketch) => self.define_sketch(alloc, loader, &sketch),
+        }
+    }
+
+    /// The answer to the definition of a class by a sketch of its file.
+    fn define_sketch(
+        &mut self,
+        alloc: Global,
+        loader: LoaderId,
+        sketch: &Sketch,
+    ) -> Result<Value, AllocError>
+        ensures { IfOk result (λ v. IsDefineAnswer self.old loader (source.Sketch sketch.now) (view v) self.new) }
+    {
+        match write_class(alloc, sketch) {
+            Ok(bytes) => self.define_file(alloc, loader, &bytes),
+            Err(fault) => sketch_fault_value(alloc, fault),
+        }
+    }
+
     /// The answer to the definition of a class by the bytes of its file.
-    fn define(&mut self, alloc: Global, loader: LoaderId, bytes: &[u8]) -> Result<Value, AllocError>
-        ensures { IfOk result (λ v. IsDefineAnswer self.old loader bytes.now (view v) self.new) }
+    fn define_file(
+        &mut self,
+        alloc: Global,
+        loader: LoaderId,
+        bytes: &[u8],
+    ) -> Result<Value, AllocError>
+        ensures { IfOk result (λ v. IsFileDefined self.old loader bytes.now (view v) self.new) }
     {
         match read_class(alloc, bytes) {
             Ok(file) => self.apply(alloc, Event::Define(loader, file)),

@@ -5,7 +5,7 @@ ghost use Rattle.clap.specs.Words.{app_of, kind_of};
 ghost use Rattle.clap.specs.declared.error.kind.ErrorKind.TheVariants.{OutOfMemory};
 ghost use Rattle.jl_cli.specs.declared.words.WordsFault.TheVariants.{BadWords, Memory};
 ghost use Rattle.jl_cli.specs.Words.{AskFor, AskForNothing};
-ghost use Rattle.jl_cli.specs.CommandLine.{with_scan, linkd, mode_of};
+ghost use Rattle.jl_cli.specs.CommandLine.{with_scan, with_sketch, linkd, mode_of};
 
 use clap::error::ErrorKind;
 use clap::{Command, Error as ClapError};
@@ -17,6 +17,8 @@ use thiserror::Error;
 pub enum Mode {
     /// A line is a class file in hexadecimal, and its answer what the file shows.
     Scan,
+    /// A line is a sketch in JSON, and its answer the class file in hexadecimal.
+    Sketch,
     /// A line is a command in JSON, and its answer what one core replies.
     Run,
 }
@@ -83,11 +85,18 @@ fn with_scan<'a>(alloc: Global) -> Result<Command<'a>, AllocError>
         .subcommand(Command::new(alloc, "scan").disable_help_flag(true))
 }
 
+/// The program with its first two subcommands.
+fn with_sketch<'a>(alloc: Global) -> Result<Command<'a>, AllocError>
+    ensures { IfOk result (λ command. app_of command ≡ with_sketch) }
+{
+    with_scan(alloc)?.subcommand(Command::new(alloc, "sketch").disable_help_flag(true))
+}
+
 /// The words of the program, as clap takes them.
 fn command<'a>(alloc: Global) -> Result<Command<'a>, AllocError>
     ensures { IfOk result (λ command. app_of command ≡ linkd) }
 {
-    with_scan(alloc)?.subcommand(Command::new(alloc, "run").disable_help_flag(true))
+    with_sketch(alloc)?.subcommand(Command::new(alloc, "run").disable_help_flag(true))
 }
 
 /// The mode of the subcommand.
@@ -96,6 +105,7 @@ fn mode_of(name: Option<&str>) -> Option<Mode>
 {
     match name? {
         "scan" => Some(Mode::Scan),
+        "sketch" => Some(Mode::Sketch),
         "run" => Some(Mode::Run),
         _ => None,
     }

@@ -79,7 +79,7 @@ fn text_name(alloc: Global, text: &str) -> Result<Name, AllocError>
 {
     let units = text_units(alloc, text)?;
     match encode_mutf8(alloc, &units) {
-        Ok(bytes) => Ok(Seq::of(bytes)),
+        Ok(bytes) => Name::of(bytes),
         // Want of memory is its only error.
         Err(_) => Err(AllocError),
     }

@@ -2,7 +2,7 @@ use Rattle.std.proofs.Common.{◌≡◌, ◌∙◌, sym, ap, subst, refl, ℕ, s
 use Rattle.std.proofs.Common.{◌∷◌, ◌++◌, length, arith}
 use Rattle.std.specs.Io.KnownBytes.{Appends}
 use Rattle.std.proofs.lemmas.Bool.{eqb-true}
-use Rattle.jl_cli.specs.Answers.{answer_line}
+use Rattle.jl_cli.specs.Lines.{ended}
 use Rattle.jl_cli.proofs.LineLaws.{answers_last, answers_empty}
 use Rattle.jl_cli.proofs.lines.answer_rest.Goals as goal
 use Rattle.jl_cli.proofs.lines.answer_rest.Goals.{then-not-is_empty+in_ok-answer, else-not-is_empty}
@@ -22,12 +22,12 @@ pub returns-clause-answered : goal.returns-clause-answered
 returns-clause-answered g c = elim c.if-not-is_empty.branch [
   | then-not-is_empty+in_ok-answer w ↦
       let a = w.in_ok-answer.ensures.ok in (
-        answer_line a.0,
+        ended a.0,
         answers_last c.args.answers.now.mode c.args.rest.now a.0
             (some_there c.args.rest.now w.if-not-is_empty.ensures) c.requires.one a.1,
         subst (Appends (g.W.Sink.contents c.args.writer.now) (g.W.Sink.contents c.write_to.new.writer))
             (ap (λ x. x.text.items) w.answers-is
-            ∙ (a.2 ∙ ap (λ (l : List ℕ). l ++ answer_line a.0) c.requires.empty)) c.in_ok-write_to.ensures.written,
+            ∙ (a.2 ∙ ap (λ (l : List ℕ). l ++ ended a.0) c.requires.empty)) c.in_ok-write_to.ensures.written,
       )
   | else-not-is_empty w ↦ (
     [],

@@ -1,6 +1,6 @@
 use Rattle.std.proofs.Common.{refl, inr}
 use Rattle.jl_cli.proofs.ScanLaws.{refusal_answers, for_ok}
-use Rattle.jl_cli.proofs.session.Session.define.Goals as goal
+use Rattle.jl_cli.proofs.session.Session.define_file.Goals as goal
 
 pub returns-in-Err : goal.returns-in-Err
 returns-in-Err c =

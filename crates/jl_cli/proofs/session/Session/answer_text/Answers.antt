@@ -1,0 +1,11 @@
+use Rattle.serde_json.specs.View.{view}
+use Rattle.jl_cli.proofs.FloatLaws.{session_floats}
+use Rattle.jl_cli.proofs.ScanLaws.{for_ok}
+use Rattle.jl_cli.proofs.session.Session.answer_text.Goals as goal
+
+pub text_of-requires : goal.text_of-requires
+text_of-requires c = session_floats _ c.args.line.now (view c.in_ok-answer.answer) _ c.in_ok-answer.ensures
+
+pub returns : goal.returns
+returns c =
+    for_ok (λ text said. (view c.in_ok-answer.answer, c.in_ok-answer.ensures, said)) c.text_of.result c.text_of.ensures
