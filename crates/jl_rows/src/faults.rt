@@ -1,6 +1,6 @@
 //! Lines that are refused.
 
-use crate::scan::assert_answers;
+use crate::lines::assert_answers;
 use std::test::Fail;
 
 #[test]

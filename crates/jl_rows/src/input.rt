@@ -1,6 +1,6 @@
 //! Inputs of several lines, of long ones, and of none.
 
-use crate::scan::scanned;
+use crate::lines::scanned;
 use jl_cli::LineFault;
 use std::test::Fail;
 

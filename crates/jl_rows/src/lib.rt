@@ -10,11 +10,13 @@ mod faults;
 #[cfg(test)]
 mod input;
 #[cfg(test)]
+mod lines;
+#[cfg(test)]
 mod runs;
 #[cfg(test)]
-mod scan;
-#[cfg(test)]
 mod scans;
+#[cfg(test)]
+mod sketches;
 #[cfg(test)]
 mod two_faults;
 #[cfg(test)]

@@ -1,39 +1,30 @@
 //! Runs of commands over one core.
 
-use jl_cli::{Counted, LineFault, Mode, run_lines};
-use std::alloc::Global;
+use crate::lines::answered;
+use jl_cli::Mode;
 use std::process::Abort;
 use std::test::Fail;
 
 // java/lang/Object
 const OBJECT: &str =
-    r#"{"do":"define","hex":"cafebabe0000003d00030100106a6176612f6c616e672f4f626a6563740700010021000200000000000000000000","loader":0}"#;
+    r#"{"do":"define","loader":0,"sketch":{"name":"java/lang/Object","flags":33}}"#;
 
 // class A { public void f() {} }
 const A: &str =
-    r#"{"do":"define","hex":"cafebabe0000003d0008010001410700010100106a6176612f6c616e672f4f626a65637407000301000166010003282956010004436f6465002100020004000000000001000100050006000100070000000d0000000000000001b1000000000000","loader":0}"#;
+    r#"{"do":"define","loader":0,"sketch":{"name":"A","super":"java/lang/Object","flags":33,"methods":[{"name":"f","type":"()V","flags":1}]}}"#;
 
 // class B extends A {}
-const B: &str =
-    r#"{"do":"define","hex":"cafebabe0000003d000501000142070001010001410700030021000200040000000000000000","loader":0}"#;
+const B: &str = r#"{"do":"define","loader":0,"sketch":{"name":"B","super":"A","flags":33}}"#;
 
 // class M { public static void run() { virtual A.f } }
 const M: &str =
-    r#"{"do":"define","hex":"cafebabe0000003d000d0100014d0700010100106a6176612f6c616e672f4f626a65637407000301000372756e010003282956010004436f646501000141070008010001660c000a00060a0009000b00210002000400000000000100090005000600010007000000100000000000000004b6000cb1000000000000","loader":0}"#;
+    r#"{"do":"define","loader":0,"sketch":{"name":"M","super":"java/lang/Object","flags":33,"methods":[{"name":"run","type":"()V","flags":9,"calls":[{"kind":"invokevirtual","of":"A","name":"f","type":"()V"}]}]}}"#;
 
 // class C extends A { public void f() {} }
 const C: &str =
-    r#"{"do":"define","hex":"cafebabe0000003d0008010001430700010100014107000301000166010003282956010004436f6465002100020004000000000001000100050006000100070000000d0000000000000001b1000000000000","loader":0}"#;
+    r#"{"do":"define","loader":0,"sketch":{"name":"C","super":"A","flags":33,"methods":[{"name":"f","type":"()V","flags":1}]}}"#;
 
 const BAD_COMMAND: &str = r#"{"error":"BadCommand"}"#;
-
-/// What a run of commands over the input writes, and how it ends.
-fn ran(alloc: Global, input: &[u8]) -> (Vec<u8>, Result<(), LineFault>) {
-    let mut reader = Counted::new(input);
-    let mut writer = Counted::new(Vec::new(alloc));
-    let outcome = run_lines(alloc, Mode::Run, &mut reader, &mut writer);
-    (writer.into_inner(), outcome)
-}
 
 /// Asserts that a core in which nothing happened yet answers these lines so, one after another.
 fn assert_run(rt: &(impl Abort + AllocGlobal), rows: &[(&str, &str)]) -> Result<(), Fail> {
@@ -45,7 +36,7 @@ fn assert_run(rt: &(impl Abort + AllocGlobal), rows: &[(&str, &str)]) -> Result<
         expected.push_str(answer)?;
         expected.push('\n')?;
     }
-    let (written, outcome) = ran(rt.alloc(), input.as_bytes());
+    let (written, outcome) = answered(rt.alloc(), Mode::Run, input.as_bytes());
     let text = String::from_utf8_lossy(rt.alloc(), &written)?;
     assert_eq!(rt; outcome, Ok(()));
     assert!(rt; text.as_str() == expected.as_str(), "{text}");
@@ -150,14 +141,31 @@ fn refuses_definitions(rt: HostRuntime) -> Result<(), Fail> {
                 r#"{"do":"define","hex":"cafebabe0000003d0005010001490700010100106a6176612f6c616e672f4f626a6563740700030601000200040000000000000000","loader":0}"#,
                 r#"{"refused":"NotYet"}"#,
             ),
-            // The fault of the cut pool comes before the event's: there is no loader 7.
+            // The fault of the cut pool comes before the event's: there is no loader 7. So does a sketch's.
             (
                 r#"{"do":"define","hex":"cafebabe0000003d0005","loader":7}"#,
                 r#"{"refused":"Pool.Truncated"}"#,
             ),
             (
+                r#"{"do":"define","loader":7,"sketch":{"name":"a.b","flags":33}}"#,
+                r#"{"at":2,"refused":"Pool.BadDescriptor"}"#,
+            ),
+            (
+                r#"{"do":"define","loader":7,"sketch":{"name":"D","super":"A","flags":33,"methods":[{"name":"f","type":"()V","flags":1025,"calls":[{"kind":"invokestatic","of":"A","name":"g","type":"()V"}]}]}}"#,
+                r#"{"method":0,"refused":"CallsWithoutCode"}"#,
+            ),
+            (
+                r#"{"do":"define","loader":7,"sketch":{"name":"D","super":"A","flags":33}}"#,
+                r#"{"refused":"Define.UnknownLoader"}"#,
+            ),
+            (
                 r#"{"do":"define","hex":"","loader":0}"#,
                 r#"{"refused":"Truncated"}"#,
+            ),
+            // By its bytes, as by its sketch.
+            (
+                r#"{"do":"define","hex":"cafebabe0000003d000501000142070001010001410700030021000200040000000000000000","loader":0}"#,
+                r#"{"class":2,"dropped":[]}"#,
             ),
         ]
         .as_slice(),
@@ -175,6 +183,11 @@ fn takes_commands_alone(rt: HostRuntime) -> Result<(), Fail> {
         r#"{"do":"switch"}"#,
         r#"{"do":"install","prepared":0}"#,
         r#"{"do":"define","sketch":{},"loader":0}"#,
+        r#"{"do":"define","sketch":null,"loader":0}"#,
+        r#"{"do":"define","sketch":{"name":"java/lang/Object","flags":33,"super":null},"loader":0}"#,
+        r#"{"do":"define","hex":"","sketch":{"name":"java/lang/Object","flags":33},"loader":0}"#,
+        r#"{"do":"define","loader":0}"#,
+        r#"{"do":"define","more":0,"loader":0}"#,
         r#"{"do":"define","hex":"0","loader":0}"#,
         r#"{"do":"request","class":4294967296,"method":0,"pc":0}"#,
         r#"{"do":"request","class":0,"method":65536,"pc":0}"#,

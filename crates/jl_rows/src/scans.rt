@@ -1,6 +1,6 @@
 //! Class files, and what a scan shows of them.
 
-use crate::scan::assert_answers;
+use crate::lines::assert_answers;
 use std::test::Fail;
 
 #[test]

@@ -1,6 +1,6 @@
 //! Class files with two faults: the earlier pass comes first, and inside one pass the order of the format.
 
-use crate::scan::assert_answers;
+use crate::lines::assert_answers;
 use std::test::Fail;
 
 #[test]

@@ -1,0 +1,49 @@
+//! Runs over memory.
+
+use jl_cli::{Counted, LineFault, Mode, run_lines};
+use std::alloc::Global;
+use std::process::Abort;
+use std::test::Fail;
+
+/// What a run over the input writes, and how it ends.
+pub(crate) fn answered(
+    alloc: Global,
+    mode: Mode,
+    input: &[u8],
+) -> (Vec<u8>, Result<(), LineFault>) {
+    let mut reader = Counted::new(input);
+    let mut writer = Counted::new(Vec::new(alloc));
+    let outcome = run_lines(alloc, mode, &mut reader, &mut writer);
+    (writer.into_inner(), outcome)
+}
+
+/// What a scan of the input writes, and how it ends.
+pub(crate) fn scanned(alloc: Global, input: &[u8]) -> (Vec<u8>, Result<(), LineFault>) {
+    answered(alloc, Mode::Scan, input)
+}
+
+/// Asserts that each line, alone, has this answer in the mode.
+pub(crate) fn assert_each(
+    rt: &(impl Abort + AllocGlobal),
+    mode: Mode,
+    rows: &[(&str, &str)],
+) -> Result<(), Fail> {
+    for (line, answer) in rows {
+        let (written, outcome) = answered(rt.alloc(), mode, line.as_bytes());
+        let text = String::from_utf8_lossy(rt.alloc(), &written)?;
+        assert_eq!(rt; outcome, Ok(()), "at {line}");
+        assert!(rt;
+            text.as_str().strip_suffix('\n') == Some(*answer),
+            "{text} at {line}"
+        );
+    }
+    Ok(())
+}
+
+/// Asserts that each line, alone, has this answer of a scan.
+pub(crate) fn assert_answers(
+    rt: &(impl Abort + AllocGlobal),
+    rows: &[(&str, &str)],
+) -> Result<(), Fail> {
+    assert_each(rt, Mode::Scan, rows)
+}
