@@ -8,4 +8,8 @@ pub mod Naming
 pub mod SketchNames
 pub mod Sizes
 pub mod SketchLies
+pub mod SketchTexts
+pub mod SketchCodes
+pub mod SketchNest
 pub mod SketchShown
+pub mod CountLaws

@@ -1,6 +1,9 @@
 -- Sketches and their class files, worked by hand.
-use Rattle.std.proofs.Common.{◌≡◌, ℕ, [], ◌∷◌, ◌++◌, true, false, Some, None, refl}
+use Rattle.std.proofs.Common.{◌≡◌, ℕ, [], ◌∷◌, ◌++◌, true, false, map, Some, None, refl}
 use Rattle.std.specs.Prelude.{codes}
+use Rattle.jl_names.specs.Reading.Descriptors.{field_at, element_at, class_at}
+use Rattle.jl_names.specs.Reading.MethodTypes.{behind, return_at}
+use Rattle.jl_pool.specs.Reading.Forms.{method_slots, slots_from}
 use Rattle.jl_pool.specs.declared.constant.Constant.TheVariants.{Utf8, Class, NameAndType, Methodref, InterfaceMethodref, InvokeDynamic}
 use Rattle.jl_classfile.specs.Layouts.{file_text}
 use Rattle.jl_classfile.proofs.Rows.Object as object
@@ -12,6 +15,7 @@ use Rattle.jl_sketch.specs.Counts.{count_byte}
 use Rattle.jl_sketch.specs.Constants.{enter, number, sketch_constants}
 use Rattle.jl_sketch.specs.Layouts.{sketch_layout}
 use Rattle.jl_sketch.specs.Faults.{first_without_code}
+use Rattle.jl_sketch.specs.Names.{sites_of_calls}
 
 -- ---- java/lang/Object, and a class with one call
 
@@ -86,10 +90,21 @@ all_constants : sketch_constants all_calls ≡ Utf8 (codes "A") ∷ Class 1 ∷ 
 unfolding enter number
 all_constants = refl
 
+-- ---- what is shown of a code
+
+pcs : map (λ site. site.pc) (sites_of_calls 0 (Virtual f_of_A ∷ Special true f_of_A ∷ Static false f_of_A ∷ Interface f_of_A ∷ Dynamic (codes "f") (codes "()V") ∷ Virtual f_of_A ∷ [])) ≡ 0 ∷ 3 ∷ 6 ∷ 9 ∷ 14 ∷ 19 ∷ []
+pcs = refl
+
 -- ---- the count of invokeinterface
 
 counts_slots : count_byte (codes "(J[DLA;IZ)D") ≡ 7
+unfolding method_slots slots_from behind field_at element_at class_at return_at
 counts_slots = refl
 
 counts_none : count_byte (codes "()J") ≡ 1
+unfolding method_slots slots_from behind field_at element_at class_at return_at
 counts_none = refl
+
+counts_no_method : count_byte (codes "(I") ≡ 0
+unfolding method_slots slots_from behind field_at element_at class_at return_at
+counts_no_method = refl

@@ -37,7 +37,7 @@ short_call cs (Static itf m) = omega arith
 short_call cs (Interface m) = omega arith
 short_call cs (Dynamic name ty) = omega arith
 
-short_code : (cs : List Constant) (calls : List Call) → length (code_bytes (instructions cs calls)) ≤ 5 * length calls + 1
+pub short_code : (cs : List Constant) (calls : List Call) → length (code_bytes (instructions cs calls)) ≤ 5 * length calls + 1
 short_code cs [] = omega arith
 short_code cs (c ∷ calls) =
     let both : length (code_bytes (instructions cs (c ∷ calls))) ≡ length (instruction_text (call_instruction cs c)) + length (code_bytes (instructions cs calls))
@@ -79,7 +79,7 @@ few_items xs h = let few = ltb-false 65535 (length xs) h in omega (arith, few)
 numbers_info : (ns : List ℕ) → length ns < 2 ^ 16 → length (counted u2 ns) < 2 ^ 32
 numbers_info ns few = let rest = numbers_length ns in omega (arith, rest, few)
 
-few_numbers : (cs : List Constant) (names : List (List ℕ)) → is_long names ≡ false → length (map (class_number cs) names) < 2 ^ 16
+pub few_numbers : (cs : List Constant) (names : List (List ℕ)) → is_long names ≡ false → length (map (class_number cs) names) < 2 ^ 16
 few_numbers cs names h = rw (length-map names (class_number cs)) (few_items names h)
 
 members_sized : (cs : List Constant) (members : List (List ℕ)) → length cs ≤ 65534 → is_long members ≡ false
@@ -112,7 +112,7 @@ methods_sized cs (m ∷ ms) few f h =
     let s = or_parts (is_long_method m) (list_any is_long_method ms) h in
     (method_sized cs m few f.0 s.0, methods_sized cs ms few f.1 s.1)
 
-classes_sized : (cs : List Constant) (names : List (List ℕ)) → length cs ≤ 65534 → AllByRecursion (λ n. n < 2 ^ 16) (map (class_number cs) names)
+pub classes_sized : (cs : List Constant) (names : List (List ℕ)) → length cs ≤ 65534 → AllByRecursion (λ n. n < 2 ^ 16) (map (class_number cs) names)
 classes_sized cs [] few = tt
 classes_sized cs (n ∷ ns) few = (number_below cs (class_constant cs n) few, classes_sized cs ns few)
 

@@ -1,10 +1,13 @@
 -- What the numbers of a sketch's class file name, and what it shows.
-use Rattle.std.specs.Prelude.{◌≡◌, ◌<◌, ◌^◌, ℕ, Bool, true, false, List, [], ◌∷◌, map, codes, Some, IfSome, ⊤}
+use Rattle.std.specs.Prelude.{◌≡◌, ◌+◌, ◌<◌, ◌^◌, ℕ, Bool, true, false, List, [], ◌∷◌, map, codes, Some, IfSome, ⊤}
 use Rattle.std.specs.List.{AllByRecursion}
 use Rattle.jl_pool.specs.declared.constant.Constant.{Constant}
 use Rattle.jl_pool.specs.Pools.{places, text_at, class_text_at}
+use Rattle.jl_code.specs.declared.site.Kind.{Kind}
+use Rattle.jl_code.specs.declared.site.Kind.TheVariants as kind
 use Rattle.jl_code.specs.declared.site.Operand.{Operand}
 use Rattle.jl_code.specs.declared.site.Operand.TheVariants.{Method, CallSite}
+use Rattle.jl_code.specs.declared.site.Site.{Site}
 use Rattle.jl_code.specs.Codes.{operand_at}
 use Rattle.jl_classfile.specs.declared.class.ClassFile.{ClassFile}
 use Rattle.jl_classfile.specs.declared.class.Method.{Method as ShownMethod}
@@ -62,17 +65,37 @@ pub record NamesParts (s : Sketch) : Type 0 where
 
 -- ---- what is shown of it
 
--- flags, name and descriptor of a method
-abbrev pub signature : SketchMethod → ℕ × (List ℕ × List ℕ)
-signature m = (m.flags, (m.name, m.ty))
+abbrev pub call_kind : Call → Kind
+call_kind (Virtual m) = kind.Virtual
+call_kind (Special itf m) = kind.Special
+call_kind (Static itf m) = kind.Static
+call_kind (Interface m) = kind.Interface
+call_kind (Dynamic name ty) = kind.Dynamic
 
-abbrev pub shown_signature : ShownMethod → ℕ × (List ℕ × List ℕ)
-shown_signature m = (m.flags, (m.name, m.ty))
+-- how many bytes a call takes (JVMS 6.5)
+abbrev pub call_size : Call → ℕ
+call_size (Virtual m) = 3
+call_size (Special itf m) = 3
+call_size (Static itf m) = 3
+call_size (Interface m) = 5
+call_size (Dynamic name ty) = 5
 
--- the class file has what the sketch declares
-pub record ShowsDeclarations (s : Sketch) (file : ClassFile) : Type 0 where
-  pub name : file.name ≡ s.name
-  pub flags : file.flags ≡ s.flags
-  pub superclass : file.superclass ≡ s.superclass
-  pub interfaces : file.interfaces ≡ s.interfaces
-  pub methods : map shown_signature file.methods ≡ map signature s.methods
+-- the calls as invocations, one behind another from this pc on
+abbrev pub sites_of_calls : ℕ → List Call → List Site
+sites_of_calls pc [] = []
+sites_of_calls pc (call ∷ calls) = record { pc = pc; kind = call_kind call; operand = call_operand call } ∷ sites_of_calls (pc + call_size call) calls
+
+abbrev pub method_shown : SketchMethod → ShownMethod
+method_shown m = record { flags = m.flags; name = m.name; ty = m.ty; sites = sites_of_calls 0 m.calls }
+
+-- the class file of a sketch, as it is read again
+abbrev pub class_of : Sketch → ClassFile
+class_of s = record {
+  name = s.name;
+  flags = s.flags;
+  superclass = s.superclass;
+  interfaces = s.interfaces;
+  nest_host = s.host;
+  nest_members = s.members;
+  methods = map method_shown s.methods;
+}

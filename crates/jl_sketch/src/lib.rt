@@ -6,7 +6,6 @@
 
 mod check;
 mod constants;
-mod count;
 mod fault;
 mod fill;
 mod laws;
@@ -14,7 +13,9 @@ mod sketch;
 mod write;
 
 pub use fault::SketchFault;
-pub use laws::{declarations_are_shown, numbers_name_their_parts, one_layout_of_a_sketch};
+pub use laws::{
+    a_sketch_is_shown, counts_of_slots, numbers_name_their_parts, one_layout_of_a_sketch,
+};
 pub use sketch::{Call, MethodName, Sketch, SketchMethod};
 pub use write::write_class;
 

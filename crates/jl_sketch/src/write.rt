@@ -1,7 +1,7 @@
 //! Writes a sketch as a class file (JVMS SE 17 §4).
 
-ghost use Rattle.std.specs.Prelude.{◌≡◌, ◌≤◌, ◌++◌, ◌∷◌, length, map, IfOk, IfErr, OnOk};
-ghost use Rattle.std.specs.List.{flat_map};
+ghost use Rattle.std.specs.Prelude.{◌≡◌, ◌<◌, ◌≤◌, ◌^◌, ◌++◌, ◌∷◌, length, map, IfOk, IfErr, OnOk};
+ghost use Rattle.std.specs.List.{flat_map, AllByRecursion};
 ghost use Rattle.std.specs.Option.{option_map_or};
 ghost use Rattle.jl_pool.specs.Numbers.{u2, u4, counted};
 ghost use Rattle.jl_pool.specs.Constants.{constant_text};
@@ -9,18 +9,22 @@ ghost use Rattle.jl_pool.specs.Pools.{pool_text};
 ghost use Rattle.jl_code.specs.Instructions.{instruction_text};
 ghost use Rattle.jl_code.specs.Codes.{code_bytes};
 ghost use Rattle.jl_classfile.specs.Layouts.{attribute_text, member_text, body_text, file_text};
+ghost use Rattle.jl_classfile.specs.Parts.{Parts};
+ghost use Rattle.jl_classfile.specs.ClassFiles.{IsClass};
+ghost use Rattle.jl_classfile.specs.Shown.{shown};
+ghost use Rattle.jl_sketch.specs.Counts.{count_byte};
 ghost use Rattle.jl_sketch.specs.Constants.{class_number};
 ghost use Rattle.jl_sketch.specs.Entries.{constant_of, fault_of_class};
 ghost use Rattle.jl_sketch.specs.Layouts.{call_opcode, call_tail, call_instruction, instructions, code_info, code_attribute, method_attributes, method_of, host_attributes, member_attributes, body_of, layout_over};
 ghost use Rattle.jl_sketch.specs.Faults.{IsSketchFault, IsSpelled, IsWritten};
+ghost use Rattle.jl_sketch.specs.Names.{AreFlags, class_of};
 
 use crate::check::{first_without_code, has_code, is_long_sketch};
 use crate::constants::{Constants, Entry};
-use crate::count::count_byte;
 use crate::fault::SketchFault;
 use crate::sketch::{Call, Sketch, SketchMethod};
 use jl_classfile::{CODE, ClassFault, NEST_HOST, NEST_MEMBERS, read_class};
-use jl_names::Name;
+use jl_names::{Name, method_slots};
 use std::alloc::{AllocError, Global};
 
 /// The most constants of a pool that take one number each (JVMS SE 17 §4.1).
@@ -104,6 +108,16 @@ fn opcode(call: &Call) -> u8
         Call::Static(_, _) => 184,
         Call::Interface(_) => 185,
         Call::Dynamic(_, _) => 186,
+    }
+}
+
+/// The count of an invokeinterface (JVMS SE 17 §6.5), and 0 where the text is no method descriptor.
+fn count_byte(ty: &[u8]) -> u8
+    ensures { result ≡ count_byte ty.now }
+{
+    match method_slots(ty) {
+        Some(slots) => slots.wrapping_add(1),
+        None => 0,
     }
 }
 
@@ -208,7 +222,8 @@ fn push_method<'a>(
     constants: &Constants<'a>,
     method: &'a SketchMethod,
 ) -> Result<(), AllocError>
-    ensures { OnOk result (out.new.items ≡ out.old.items ++ member_text (method_of constants.now method.now)) }
+    ensures text { OnOk result (out.new.items ≡ out.old.items ++ member_text (method_of constants.now method.now)) }
+    ensures flags { method.now.flags < 2 ^ 16 }
 {
     push_u2(out, usize::from(method.flags))?;
     push_u2(out, constants.number(Entry::Utf8(method.name.as_slice())))?;
@@ -223,7 +238,8 @@ fn push_methods<'a>(
     constants: &Constants<'a>,
     methods: &'a [SketchMethod],
 ) -> Result<(), AllocError>
-    ensures { OnOk result (out.new.items ≡ out.old.items ++ counted member_text (map (method_of constants.now) methods.now)) }
+    ensures text { OnOk result (out.new.items ≡ out.old.items ++ counted member_text (map (method_of constants.now) methods.now)) }
+    ensures flags { OnOk result (AllByRecursion (λ m. m.flags < 2 ^ 16) methods.now) }
 {
     push_u2(out, methods.len())?;
     for method in methods {
@@ -323,7 +339,8 @@ fn push_body<'a>(
     constants: &Constants<'a>,
     sketch: &'a Sketch,
 ) -> Result<(), AllocError>
-    ensures { OnOk result (out.new.items ≡ out.old.items ++ body_text (body_of constants.now sketch.now)) }
+    ensures text { OnOk result (out.new.items ≡ out.old.items ++ body_text (body_of constants.now sketch.now)) }
+    ensures flags { OnOk result (AreFlags sketch.now) }
 {
     push_u2(out, usize::from(sketch.flags))?;
     push_u2(out, constants.number(constants.class(&sketch.name)))?;
@@ -341,7 +358,8 @@ fn file_of<'a>(
     sketch: &'a Sketch,
 ) -> Result<Vec<u8>, AllocError>
     requires { length constants.now ≤ 65534 }
-    ensures { IfOk result (λ bytes. bytes.items ≡ file_text (layout_over constants.now sketch.now)) }
+    ensures text { IfOk result (λ bytes. bytes.items ≡ file_text (layout_over constants.now sketch.now)) }
+    ensures flags { OnOk result (AreFlags sketch.now) }
 {
     let mut bytes = Vec::new(alloc);
     bytes.extend_from_slice(&[0xca, 0xfe, 0xba, 0xbe, 0, 0, 0, 61])?;
@@ -353,6 +371,7 @@ fn file_of<'a>(
 /// The bytes that the sketch is written as, where no fault comes before.
 fn bytes_of(alloc: Global, sketch: &Sketch) -> Result<Vec<u8>, SketchFault>
     ensures ok { IfOk result (λ bytes. IsSpelled sketch.now bytes.items) }
+    ensures flags { OnOk result (AreFlags sketch.now) }
     ensures fault { IfErr result (IsSketchFault sketch.now) }
 {
     if is_long_sketch(sketch) {
@@ -378,13 +397,14 @@ fn refused(fault: ClassFault) -> SketchFault
     }
 }
 
-/// The class file of the sketch (JVMS SE 17 §4), of version 61.0.
+/// The class file of the sketch (JVMS SE 17 §4), of version 61.0. Read again it shows what the sketch says.
 ///
 /// # Errors
 ///
 /// `TooBig`, then `CallsWithoutCode`, then `Refused` with the fault that `read_class` gives of the bytes; or `Memory`.
 pub fn write_class(alloc: Global, sketch: &Sketch) -> Result<Vec<u8>, SketchFault>
     ensures ok { IfOk result (λ bytes. IsWritten sketch.now bytes.items) }
+    ensures shown { IfOk result (λ bytes. (p : Parts) × IsClass bytes.items p × (shown p ≡ class_of sketch.now)) }
     ensures fault { IfErr result (IsSketchFault sketch.now) }
 {
     let bytes = bytes_of(alloc, sketch)?;
