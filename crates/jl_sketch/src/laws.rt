@@ -1,6 +1,6 @@
 //! Laws of sketches and their class files.
 
-ghost use Rattle.std.specs.Prelude.{◌≡◌, ◌≤◌, ◌+◌, ℕ, List, None, IsFalse};
+ghost use Rattle.std.specs.Prelude.{◌≡◌, ◌<◌, ◌≤◌, ◌+◌, ℕ, List, None, IsFalse};
 ghost use Rattle.jl_names.specs.MethodTypes.{TakesSlots};
 ghost use Rattle.jl_classfile.specs.ClassFiles.{IsClass};
 ghost use Rattle.jl_classfile.specs.Layouts.{file_text};
@@ -29,7 +29,9 @@ pub fn a_sketch_is_shown()
         → IsClass (file_text (sketch_layout sketch)) parts → shown parts ≡ class_of sketch }
 {}
 
-/// The count of an invokeinterface is one for the receiver and the slots of the descriptor's parameters.
+/// The count of an invokeinterface is one for the receiver and the slots of the descriptor's parameters, 255 at most in
+/// all, and 0 where there is no such number.
 pub fn counts_of_slots()
-    ensures { (ty : List ℕ) (slots : ℕ) → TakesSlots ty slots → slots ≤ 254 → count_byte ty ≡ slots + 1 }
+    ensures counted { (ty : List ℕ) (slots : ℕ) → TakesSlots ty slots → slots ≤ 254 → count_byte ty ≡ slots + 1 }
+    ensures none { (ty : List ℕ) → ((slots : ℕ) → TakesSlots ty slots → 254 < slots) → count_byte ty ≡ 0 }
 {}
