@@ -30,7 +30,7 @@ impl Model for Name {
 }
 
 impl Name {
-    ghost use Rattle.std.specs.Prelude.{◌≤◌, length, take, drop, IfOk, OnOk};
+    ghost use Rattle.std.specs.Prelude.{◌≤◌, length, take, drop, IfOk, OnOk, OnErr};
 
     /// A name of these bytes, which are not copied.
     pub fn of(bytes: Vec<u8>) -> Result<Name, AllocError>
@@ -70,6 +70,7 @@ impl Name {
         requires { count ≤ length self.old }
         ensures front { IfOk result (λ name. name ≡ take count self.old) }
         ensures rest { OnOk result (self.new ≡ drop count self.old) }
+        ensures err { OnErr result (self.new ≡ self.old) }
     {
         Ok(Name {
             bytes: self.bytes.split_to(count)?,
