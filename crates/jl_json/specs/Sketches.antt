@@ -1,5 +1,5 @@
 -- Which JSON is a sketch of a class file, and which sketch: objects of the members that are named here, and of no
--- others. A member that may be absent is not null.
+-- others. What may be absent may not be null.
 use Rattle.std.specs.Prelude.{ℕ, ◌^◌, if◌then◌else◌, Bool, false, List, [], ◌∷◌, codes}
 use Rattle.std.specs.Prelude.{Option, Some, None, option_map}
 use Rattle.std.specs.Char.Escape.{encode_utf16}
