@@ -55,7 +55,7 @@ fn is_object(pool: &Pool<'_>, number: u16) -> bool
     ensures { result ≡ is_object pool.now number }
 {
     match pool.class_name(number) {
-        Some(name) => name == OBJECT,
+        Some(name) => name.as_slice() == OBJECT,
         None => false,
     }
 }

@@ -126,6 +126,7 @@ fn name_fits(pool: &Pool<'_>, interface: bool, method: &Member<'_>) -> bool
 {
     match (pool.utf8(method.name), pool.form(method.name)) {
         (Some(name), Some(form)) => {
+            let name = name.as_slice();
             is_method_name(name, form)
                 && (name == b"<clinit>".as_slice() || are_method_flags(interface, method.flags))
         }
@@ -156,7 +157,7 @@ fn is_called(pool: &Pool<'_>, name: &[u8], attribute: &Attribute<'_>) -> bool
     ensures { result ≡ is_text pool.now attribute.now.name name.now }
 {
     match pool.utf8(attribute.name) {
-        Some(text) => text == name,
+        Some(text) => text.as_slice() == name,
         None => false,
     }
 }
@@ -232,7 +233,7 @@ fn check_method(
 /// By number, the texts of a pool that are the names and the descriptors of methods.
 fn texts_of<'a>(
     alloc: Global,
-    pool: &Pool<'a>,
+    pool: &'a Pool<'_>,
     methods: &[Member<'_>],
 ) -> Result<Vec<Option<&'a [u8]>>, ClassFault>
     ensures ok { IfOk result (λ texts. (k : ℕ) (m : Member) → slice_get methods.now k ≡ Some m → AreTexts texts.items pool.now m) }
@@ -244,7 +245,7 @@ fn texts_of<'a>(
 }
 
 /// Keeps the texts of a pool that are the names and the descriptors of methods.
-fn keep_texts<'a>(texts: &mut [Option<&'a [u8]>], pool: &Pool<'a>, methods: &[Member<'_>])
+fn keep_texts<'a>(texts: &mut [Option<&'a [u8]>], pool: &'a Pool<'_>, methods: &[Member<'_>])
     requires { length texts.old ≡ length pool.now }
     ensures length { length texts.new ≡ length texts.old }
     ensures kept { (k : ℕ) (m : Member) → slice_get methods.now k ≡ Some m → AreTexts texts.new pool.now m }
@@ -255,15 +256,25 @@ fn keep_texts<'a>(texts: &mut [Option<&'a [u8]>], pool: &Pool<'a>, methods: &[Me
     }
 }
 
+/// The text that stands at a number of a pool, if one does.
+fn text_at<'a>(pool: &'a Pool<'_>, number: u16) -> Option<&'a [u8]>
+    ensures { option_map (λ text. text.now) result ≡ text_at pool.now number }
+{
+    match pool.utf8(number) {
+        Some(name) => Some(name.as_slice()),
+        None => None,
+    }
+}
+
 /// Keeps the text that stands at a number of a pool, if one does.
-fn keep_text<'a>(texts: &mut [Option<&'a [u8]>], pool: &Pool<'a>, number: u16)
+fn keep_text<'a>(texts: &mut [Option<&'a [u8]>], pool: &'a Pool<'_>, number: u16)
     requires { length texts.old ≡ length pool.now }
     ensures length { length texts.new ≡ length texts.old }
     ensures here { IsTextAt texts.new pool.now number }
     ensures kept { (n : ℕ) → IsTextAt texts.old pool.now n → IsTextAt texts.new pool.now n }
 {
     if usize::from(number) < texts.len() {
-        texts[usize::from(number)] = pool.utf8(number);
+        texts[usize::from(number)] = text_at(pool, number);
     }
 }
 

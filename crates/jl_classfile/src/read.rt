@@ -120,14 +120,14 @@ fn copy_or_nothing(alloc: Global, name: Option<&Name>) -> Result<Name, AllocErro
 fn kept_text(alloc: Global, pool: &Pool<'_>, number: u16) -> Result<Name, AllocError>
     ensures { IfOk result (λ name. name ≡ text_or_nothing pool.now number) }
 {
-    copy_or_nothing(alloc, pool.kept_utf8(number))
+    copy_or_nothing(alloc, pool.utf8(number))
 }
 
 /// The class name at a number, kept, and nothing where there is none.
 fn kept_class(alloc: Global, pool: &Pool<'_>, number: u16) -> Result<Name, AllocError>
     ensures { IfOk result (λ name. name ≡ name_or_nothing pool.now number) }
 {
-    copy_or_nothing(alloc, pool.kept_class_name(number))
+    copy_or_nothing(alloc, pool.class_name(number))
 }
 
 /// The class names at the numbers, kept.
@@ -149,7 +149,7 @@ fn kept_class_if_any(
 ) -> Result<Option<Name>, AllocError>
     ensures { IfOk result (λ name. name ≡ class_at pool.now number) }
 {
-    match pool.kept_class_name(number) {
+    match pool.class_name(number) {
         Some(name) => Ok(Some(name.copy(alloc)?)),
         None => Ok(None),
     }

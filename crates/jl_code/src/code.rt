@@ -16,8 +16,8 @@ ghost use Rattle.jl_code.specs.Reading.Sites.{invoked, IsSiteFault};
 use crate::code_fault::CodeFault;
 use crate::instruction::{Instruction, Stop, instruction_at};
 use crate::site::{Kind, Operand, Site};
-use jl_names::Name;
-use jl_pool::Pool;
+use jl_names::{LentName, Name};
+use jl_pool::{CallSiteSpecifier, Pool, Reference};
 use std::alloc::{AllocError, Global};
 
 /// The kind of an invocation.
@@ -34,24 +34,20 @@ fn kind_of(opcode: u8) -> Kind
 }
 
 /// The method or call site that the entry at a number names.
-fn operand_at(
-    alloc: Global,
-    pool: &Pool<'_>,
-    number: u16,
-) -> Result<Option<Operand<Name>>, AllocError>
-    ensures { IfOk result (λ operand. operand ≡ operand_at pool.now number) }
+fn operand_at<'a>(pool: &'a Pool<'_>, number: u16) -> Option<Operand<LentName<'a>>>
+    ensures { result ≡ operand_at pool.now number }
 {
-    if let Some(reference) = pool.kept_method_ref(alloc, number)? {
-        return Ok(Some(Operand::Method(reference)));
-    }
-    match pool.kept_dynamic(alloc, number)? {
-        Some(specifier) => Ok(Some(Operand::CallSite(specifier))),
-        None => Ok(None),
+    match pool.method_ref(number) {
+        Some(reference) => Some(Operand::Method(reference)),
+        None => match pool.dynamic(number) {
+            Some(specifier) => Some(Operand::CallSite(specifier)),
+            None => None,
+        },
     }
 }
 
 /// The name of what an operand names.
-fn operand_name(operand: &Operand<Name>) -> &[u8]
+fn operand_name<'a>(operand: &Operand<LentName<'a>>) -> &'a [u8]
     ensures { result.now ≡ operand_name operand.now }
 {
     match operand {
@@ -118,29 +114,63 @@ fn tail_fits(opcode: u8, slots: u8, tail: &[u8]) -> bool
 
 /// What an invocation names, where it may name that.
 #[tactic(auto, unfolding(crate::specs::Reading::Sites::invoked))]
-fn invoked(
-    alloc: Global,
-    pool: &Pool<'_>,
+fn invoked<'a>(
+    pool: &'a Pool<'_>,
     opcode: u8,
     number: u16,
     tail: &[u8],
-) -> Result<Option<Operand<Name>>, AllocError>
-    ensures { IfOk result (λ operand. operand ≡ invoked pool.now opcode number tail.now) }
+) -> Option<Operand<LentName<'a>>>
+    ensures { result ≡ invoked pool.now opcode number tail.now }
 {
     if !is_tagged(pool, opcode, number) {
-        return Ok(None);
+        return None;
     }
-    let Some(operand) = operand_at(alloc, pool, number)? else {
-        return Ok(None);
-    };
-    let Some(slots) = pool.slots(number) else {
-        return Ok(None);
-    };
+    let operand = operand_at(pool, number)?;
+    let slots = pool.slots(number)?;
     let named = may_name(opcode, operand_name(&operand));
     if named && slots <= most_slots(opcode) && tail_fits(opcode, slots, tail) {
-        Ok(Some(operand))
+        Some(operand)
     } else {
-        Ok(None)
+        None
+    }
+}
+
+/// A method's names, kept.
+fn kept_reference(
+    alloc: Global,
+    reference: &Reference<LentName<'_>>,
+) -> Result<Reference<Name>, AllocError>
+    ensures { IfOk result (λ kept. kept ≡ reference.now) }
+{
+    Ok(Reference {
+        itf: reference.itf,
+        owner: reference.owner.copy(alloc)?,
+        name: reference.name.copy(alloc)?,
+        ty: reference.ty.copy(alloc)?,
+    })
+}
+
+/// A call site's names, kept.
+fn kept_specifier(
+    alloc: Global,
+    specifier: &CallSiteSpecifier<LentName<'_>>,
+) -> Result<CallSiteSpecifier<Name>, AllocError>
+    ensures { IfOk result (λ kept. kept ≡ specifier.now) }
+{
+    Ok(CallSiteSpecifier {
+        bootstrap: specifier.bootstrap,
+        name: specifier.name.copy(alloc)?,
+        ty: specifier.ty.copy(alloc)?,
+    })
+}
+
+/// An operand, kept.
+fn kept(alloc: Global, operand: &Operand<LentName<'_>>) -> Result<Operand<Name>, AllocError>
+    ensures { IfOk result (λ kept. kept ≡ operand.now) }
+{
+    match operand {
+        Operand::Method(reference) => Ok(Operand::Method(kept_reference(alloc, reference)?)),
+        Operand::CallSite(specifier) => Ok(Operand::CallSite(kept_specifier(alloc, specifier)?)),
     }
 }
 
@@ -156,8 +186,9 @@ fn site_of(
 {
     match instruction {
         Instruction::Invoke(opcode, number, tail) => {
-            match invoked(alloc, pool, *opcode, *number, tail.as_bytes())? {
+            match invoked(pool, *opcode, *number, tail.as_bytes()) {
                 Some(operand) => {
+                    let operand = kept(alloc, &operand)?;
                     let kind = kind_of(*opcode);
                     Ok(Some(Site { pc, kind, operand }))
                 }

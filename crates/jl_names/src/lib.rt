@@ -20,7 +20,7 @@ pub use descriptor::{Element, FieldType, no_fault_in_field_descriptors, one_fiel
 pub use fault::NameFault;
 pub use method_type::{MethodType, method_slots, no_fault_in_method_descriptors, one_method_type};
 pub use mutf8::{decode_mutf8, encode_mutf8, is_text, no_fault_in_units, one_list_of_units};
-pub use name::Name;
+pub use name::{LentName, Name};
 pub use repeat::first_repeat;
 pub use seq::Seq;
 pub use text::Text;

@@ -78,6 +78,45 @@ impl Name {
     }
 }
 
+/// A name that is lent. A clause sees its bytes.
+#[derive(Debug, Drop)]
+pub struct LentName<'a> {
+    name: &'a Name,
+}
+
+impl<'a> Model for LentName<'a> {
+    ghost use Rattle.std.specs.Prelude.{List, ℕ};
+
+    ghost Value = { List ℕ };
+
+    ghost view = { λ l. l.name.now };
+}
+
+impl<'a> LentName<'a> {
+    ghost use Rattle.std.specs.Prelude.{IfOk};
+
+    /// This name.
+    pub fn of(name: &'a Name) -> Self
+        ensures { result ≡ name.now }
+    {
+        LentName { name }
+    }
+
+    /// The bytes, in order.
+    pub fn as_slice(&self) -> &'a [u8]
+        ensures { result.now ≡ self.now }
+    {
+        self.name.as_slice()
+    }
+
+    /// The same name once more, as `Name::copy` gives it.
+    pub fn copy(&self, alloc: Global) -> Result<Name, AllocError>
+        ensures { IfOk result (λ copy. copy ≡ self.now) }
+    {
+        self.name.copy(alloc)
+    }
+}
+
 /// Names are equal where their bytes are, one by one.
 impl PartialEq for Name {
     ghost eq = { pointwise nat_eq };

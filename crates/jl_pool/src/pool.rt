@@ -16,14 +16,12 @@ ghost use Rattle.jl_pool.specs.Reading.Forms.{form_of, forms_of, form_at, method
 use crate::bytes::{handle_at, pair_at, text_at, u2_at, u4_at, u8_at};
 use crate::constant::Constant;
 use crate::form::Form;
-use crate::names::names_of;
+use crate::names::{name_at, names_of};
 use crate::pool_fault::PoolFault;
 use crate::reference::{CallSiteSpecifier, Reference};
-use jl_names::{Name, Text, is_text};
+use jl_names::{LentName, Name, Text, is_text};
 use std::alloc::Global;
 use std::marker::Model;
-
-mod kept;
 
 /// The constants of a class file (JVMS SE 17 §4.4). A clause sees them by number.
 #[derive(Debug, Drop)]
@@ -86,13 +84,10 @@ impl<'a> Pool<'a> {
     }
 
     /// The text of the Utf8 at a number.
-    pub fn utf8(&self, number: u16) -> Option<&'a [u8]>
+    pub fn utf8(&self, number: u16) -> Option<&Name>
         ensures { option_map (λ text. text.now) result ≡ text_at self.now number }
     {
-        match constant_of(&self.entries, number) {
-            Some(Constant::Utf8(text)) => Some(text.as_bytes()),
-            _ => None,
-        }
+        name_at(&self.names, number)
     }
 
     /// What the text of the Utf8 at a number may stand for.
@@ -103,7 +98,7 @@ impl<'a> Pool<'a> {
     }
 
     /// The text of the Class at a number: a class name, or an array's descriptor.
-    pub fn class_text(&self, number: u16) -> Option<&'a [u8]>
+    pub fn class_text(&self, number: u16) -> Option<&Name>
         ensures { option_map (λ text. text.now) result ≡ class_text_at self.now number }
     {
         match constant_of(&self.entries, number) {
@@ -113,7 +108,7 @@ impl<'a> Pool<'a> {
     }
 
     /// The name of the Class at a number, where it is no array's.
-    pub fn class_name(&self, number: u16) -> Option<&'a [u8]>
+    pub fn class_name(&self, number: u16) -> Option<&Name>
         ensures { option_map (λ text. text.now) result ≡ class_at self.now number }
     {
         match constant_of(&self.entries, number) {
@@ -124,7 +119,7 @@ impl<'a> Pool<'a> {
 
     /// The text of the Utf8 at a number, where it is a class name.
     #[tactic(auto, unfolding(crate::specs::Reading::Forms::form_of))]
-    fn text_if_class_name(&self, number: u16) -> Option<&'a [u8]>
+    fn text_if_class_name(&self, number: u16) -> Option<&Name>
         ensures { option_map (λ text. text.now) result ≡ option_and_then (λ text. if is_class_name text then Some text else None) (text_at self.now number) }
     {
         match self.form(number) {
@@ -134,7 +129,7 @@ impl<'a> Pool<'a> {
     }
 
     /// The name and the descriptor of the NameAndType at a number.
-    fn signed(&self, number: u16) -> Option<(&'a [u8], &'a [u8])>
+    fn signed(&self, number: u16) -> Option<(&Name, &Name)>
         ensures { option_map signed_texts result ≡ signed_at self.now number }
     {
         match constant_of(&self.entries, number) {
@@ -144,21 +139,21 @@ impl<'a> Pool<'a> {
     }
 
     /// The method of a class with a name and descriptor.
-    fn reference(&self, itf: bool, owner: u16, signed: u16) -> Option<Reference<Text<'a>>>
+    fn reference(&self, itf: bool, owner: u16, signed: u16) -> Option<Reference<LentName<'_>>>
         ensures { result ≡ both (reference itf) (class_text_at self.now owner) (signed_at self.now signed) }
     {
         let owner = self.class_text(owner)?;
         let (name, ty) = self.signed(signed)?;
         Some(Reference {
             itf,
-            owner: Text::of(owner),
-            name: Text::of(name),
-            ty: Text::of(ty),
+            owner: LentName::of(owner),
+            name: LentName::of(name),
+            ty: LentName::of(ty),
         })
     }
 
     /// The method that the Methodref or InterfaceMethodref at a number names.
-    pub fn method_ref(&self, number: u16) -> Option<Reference<Text<'a>>>
+    pub fn method_ref(&self, number: u16) -> Option<Reference<LentName<'_>>>
         ensures { result ≡ reference_at self.now number }
     {
         match constant_of(&self.entries, number) {
@@ -171,7 +166,7 @@ impl<'a> Pool<'a> {
     }
 
     /// The call site that the InvokeDynamic at a number gives.
-    pub fn dynamic(&self, number: u16) -> Option<CallSiteSpecifier<Text<'a>>>
+    pub fn dynamic(&self, number: u16) -> Option<CallSiteSpecifier<LentName<'_>>>
         ensures { result ≡ call_site_at self.now number }
     {
         match constant_of(&self.entries, number) {
@@ -179,8 +174,8 @@ impl<'a> Pool<'a> {
                 let (name, ty) = self.signed(*signed)?;
                 Some(CallSiteSpecifier {
                     bootstrap: *bootstrap,
-                    name: Text::of(name),
-                    ty: Text::of(ty),
+                    name: LentName::of(name),
+                    ty: LentName::of(ty),
                 })
             }
             _ => None,

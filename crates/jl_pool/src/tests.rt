@@ -109,9 +109,12 @@ fn texts(rt: HostRuntime) -> Result<(), Fail> {
         (26, None, None, None),
     ];
     for (number, utf8, class_text, class_name) in rows {
-        assert_eq!(rt; pool.utf8(number), utf8, "{number}");
-        assert_eq!(rt; pool.class_text(number), class_text, "{number}");
-        assert_eq!(rt; pool.class_name(number), class_name, "{number}");
+        let found = pool.utf8(number);
+        assert_eq!(rt; found.map(|name| name.as_slice()), utf8, "{number}");
+        let found = pool.class_text(number);
+        assert_eq!(rt; found.map(|name| name.as_slice()), class_text, "{number}");
+        let found = pool.class_name(number);
+        assert_eq!(rt; found.map(|name| name.as_slice()), class_name, "{number}");
         assert_eq!(rt; pool.form(number).is_some(), utf8.is_some(), "{number}");
         assert_eq!(rt; pool.has_tag(1, number), utf8.is_some(), "{number}");
         assert_eq!(rt; pool.has_tag(7, number), class_text.is_some(), "{number}");
@@ -127,9 +130,9 @@ fn references(rt: HostRuntime) -> Result<(), Fail> {
         match pool.method_ref(number) {
             Some(method) => {
                 assert_eq!(rt; method.itf, interface);
-                assert_eq!(rt; method.owner.as_bytes(), b"A".as_slice());
-                assert_eq!(rt; method.name.as_bytes(), b"f".as_slice());
-                assert_eq!(rt; method.ty.as_bytes(), b"()V".as_slice());
+                assert_eq!(rt; method.owner.as_slice(), b"A".as_slice());
+                assert_eq!(rt; method.name.as_slice(), b"f".as_slice());
+                assert_eq!(rt; method.ty.as_slice(), b"()V".as_slice());
             }
             None => assert!(rt; false, "{number}"),
         }
@@ -138,8 +141,8 @@ fn references(rt: HostRuntime) -> Result<(), Fail> {
     match pool.dynamic(21) {
         Some(site) => {
             assert_eq!(rt; site.bootstrap, 7);
-            assert_eq!(rt; site.name.as_bytes(), b"f".as_slice());
-            assert_eq!(rt; site.ty.as_bytes(), b"()V".as_slice());
+            assert_eq!(rt; site.name.as_slice(), b"f".as_slice());
+            assert_eq!(rt; site.ty.as_slice(), b"()V".as_slice());
         }
         None => assert!(rt; false),
     }
@@ -147,68 +150,6 @@ fn references(rt: HostRuntime) -> Result<(), Fail> {
         assert!(rt; pool.method_ref(number).is_none(), "{number}");
         assert!(rt; pool.dynamic(number).is_none(), "{number}");
         assert_eq!(rt; pool.slots(number), None, "{number}");
-    }
-    Ok(())
-}
-
-#[test]
-fn kept_texts(rt: HostRuntime) -> Result<(), Fail> {
-    let bytes = bytes_of(rt.alloc(), 26, &EACH_TAG)?;
-    let (pool, _) = Pool::read(rt.alloc(), &bytes)?;
-    let rows: [(u16, Option<&[u8]>, Option<&[u8]>); 10] = [
-        (1, Some(b"A"), None),
-        (2, None, Some(b"A")),
-        (3, Some(b"f"), None),
-        (4, Some(b"()V"), None),
-        (8, Some(b"I"), None),
-        (24, Some(b"[I"), None),
-        // The class of an array has no class name.
-        (25, None, None),
-        (0, None, None),
-        (15, None, None),
-        (26, None, None),
-    ];
-    for (number, text, class_name) in rows {
-        let kept = pool.kept_utf8(number);
-        assert_eq!(rt; kept.map(|name| name.as_slice()), text, "{number}");
-        let kept = pool.kept_class_name(number);
-        assert_eq!(rt; kept.map(|name| name.as_slice()), class_name, "{number}");
-    }
-    Ok(())
-}
-
-#[test]
-fn kept_references(rt: HostRuntime) -> Result<(), Fail> {
-    let bytes = bytes_of(rt.alloc(), 26, &EACH_TAG)?;
-    let (pool, _) = Pool::read(rt.alloc(), &bytes)?;
-    for (number, interface) in [(6, false), (7, true)] {
-        match pool.kept_method_ref(rt.alloc(), number)? {
-            Some(method) => {
-                assert_eq!(rt; method.itf, interface);
-                assert_eq!(rt; method.owner.as_slice(), b"A".as_slice());
-                assert_eq!(rt; method.name.as_slice(), b"f".as_slice());
-                assert_eq!(rt; method.ty.as_slice(), b"()V".as_slice());
-            }
-            None => assert!(rt; false, "{number}"),
-        }
-    }
-    match pool.kept_dynamic(rt.alloc(), 21)? {
-        Some(site) => {
-            assert_eq!(rt; site.bootstrap, 7);
-            assert_eq!(rt; site.name.as_slice(), b"f".as_slice());
-            assert_eq!(rt; site.ty.as_slice(), b"()V".as_slice());
-        }
-        None => assert!(rt; false),
-    }
-    for number in [0, 5, 10, 15, 20, 26] {
-        assert!(rt;
-            pool.kept_method_ref(rt.alloc(), number)?.is_none(),
-            "{number}"
-        );
-        assert!(rt;
-            pool.kept_dynamic(rt.alloc(), number)?.is_none(),
-            "{number}"
-        );
     }
     Ok(())
 }
