@@ -69,7 +69,7 @@ fn refuses_sketches(rt: HostRuntime) -> Result<(), Fail> {
             r#"{"at":2,"refused":"Pool.BadDescriptor"}"#,
         ),
         (
-            r#"{"name":"[A","super":"java/lang/Object","flags":33}"#,
+            r#"{"name":"[I","super":"java/lang/Object","flags":33}"#,
             r#"{"at":2,"refused":"BadLink"}"#,
         ),
         (
