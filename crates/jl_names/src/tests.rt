@@ -117,22 +117,21 @@ fn kept_names(rt: HostRuntime) -> Result<(), Fail> {
 
 #[test]
 fn cut_names(rt: HostRuntime) -> Result<(), Fail> {
-    let mut block = Name::of(b"AfA()V".to_vec(rt.alloc())?)?;
+    let mut block = Name::of(b"Af()V".to_vec(rt.alloc())?)?;
     let first = block.split_to(1)?;
     let second = block.split_to(1)?;
-    let none = block.split_to(0)?;
-    let third = block.split_to(1)?;
-    let last = block.split_to(3)?;
-    let copy = second.copy(rt.alloc())?;
-    drop(second);
     assert_eq!(rt; first.as_slice(), b"A".as_slice());
-    assert_eq!(rt; copy.as_slice(), b"f".as_slice());
-    assert_eq!(rt; none.as_slice(), b"".as_slice());
-    assert_eq!(rt; first, third);
-    assert_ne!(rt; first, copy);
-    assert_eq!(rt; hash_of(&first), hash_of(&third));
-    assert_eq!(rt; last.as_slice(), b"()V".as_slice());
-    assert_eq!(rt; block.as_slice(), b"".as_slice());
+    assert_eq!(rt; second.as_slice(), b"f".as_slice());
+    assert_eq!(rt; block.as_slice(), b"()V".as_slice());
+    Ok(())
+}
+
+#[test]
+fn copy_outlives_its_name(rt: HostRuntime) -> Result<(), Fail> {
+    let name = Name::copied(rt.alloc(), b"run")?;
+    let copy = name.copy(rt.alloc())?;
+    drop(name);
+    assert_eq!(rt; copy.as_slice(), b"run".as_slice());
     Ok(())
 }
 
