@@ -150,23 +150,23 @@ enum Shape {
             file.method(file.utf8("f"), type, calls(75 * eighths, new int[] {target}));
         }
     },
-    INTERFACES("one class name of 65,000 bytes, listed 2,000 times as a superinterface, which a JVM refuses", false) {
+    INTERFACES("one class name of 65,000 bytes, listed 60,000 times as a superinterface, which a JVM refuses", false) {
         @Override
         void fill(ClassBytes file, int eighths) throws IOException {
             int name = file.classEntry(file.utf8("a".repeat(8125 * eighths)));
-            for (int i = 0; i < 250 * eighths; i++) {
+            for (int i = 0; i < 7500 * eighths; i++) {
                 file.implement(name);
             }
         }
     },
-    NEST("one class name of 65,000 bytes, named by 2,000 Class entries, which are the nest's members", true) {
+    NEST("one class name of 65,000 bytes, named by 60,000 Class entries, which are the nest's members", true) {
         @Override
         void fill(ClassBytes file, int eighths) throws IOException {
             int name = file.utf8("a".repeat(8125 * eighths));
             ByteArrayOutputStream bytes = new ByteArrayOutputStream();
             DataOutputStream info = new DataOutputStream(bytes);
-            info.writeShort(250 * eighths);
-            for (int i = 0; i < 250 * eighths; i++) {
+            info.writeShort(7500 * eighths);
+            for (int i = 0; i < 7500 * eighths; i++) {
                 info.writeShort(file.classEntry(name));
             }
             file.attribute(file.utf8("NestMembers"), bytes.toByteArray());

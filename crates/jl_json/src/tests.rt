@@ -245,7 +245,7 @@ const COMMANDS: [(&str, &str); 9] = [
     ),
     (
         "{\"do\":\"define\",\"loader\":1,\"sketch\":{\"name\":\"M\",\"flags\":33}}",
-        "Define { loader: LoaderId(1), source: Sketch(Sketch { name: Seq { items: [77] }, flags: 33, superclass: None, interfaces: Seq { items: [] }, methods: Seq { items: [] }, host: None, members: Seq { items: [] } }) }",
+        "Define { loader: LoaderId(1), source: Sketch(Sketch { name: Name { bytes: b\"M\" }, flags: 33, superclass: None, interfaces: Seq { items: [] }, methods: Seq { items: [] }, host: None, members: Seq { items: [] } }) }",
     ),
     (
         "{\"do\":\"request\",\"class\":65536,\"method\":65535,\"pc\":65536}",
@@ -384,7 +384,7 @@ fn lists_of_names(rt: HostRuntime) -> Result<(), Fail> {
     let lists = format!(in rt.alloc(); "{:?} {:?}", read.interfaces, read.members)?;
     assert_eq!(rt;
         lists.as_str(),
-        "Seq { items: [Seq { items: [74] }] } Seq { items: [Seq { items: [75] }, Seq { items: [76] }] }"
+        "Seq { items: [Name { bytes: b\"J\" }] } Seq { items: [Name { bytes: b\"K\" }, Name { bytes: b\"L\" }] }"
     );
     Ok(())
 }
@@ -392,7 +392,7 @@ fn lists_of_names(rt: HostRuntime) -> Result<(), Fail> {
 #[test]
 fn calls_of_sketches(rt: HostRuntime) -> Result<(), Fail> {
     let method =
-        "MethodName { owner: Seq { items: [65] }, name: Seq { items: [102] }, ty: Seq { items: [41] } }";
+        "MethodName { owner: Name { bytes: b\"A\" }, name: Name { bytes: b\"f\" }, ty: Name { bytes: b\")\" } }";
     let rows = [
         ("invokevirtual\",\"of\":\"A\"", "Virtual("),
         ("invokespecial\",\"of\":\"A\"", "Special(false, "),
@@ -414,7 +414,7 @@ fn calls_of_sketches(rt: HostRuntime) -> Result<(), Fail> {
     assert_call(
         &rt,
         "{\"kind\":\"invokedynamic\",\"name\":\"f\",\"type\":\")\"}",
-        "Seq { items: [Dynamic(Seq { items: [102] }, Seq { items: [41] })] }",
+        "Seq { items: [Dynamic(Name { bytes: b\"f\" }, Name { bytes: b\")\" })] }",
     )
 }
 
