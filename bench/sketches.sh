@@ -28,6 +28,6 @@ for line in 'public class A {' '  public void f();' 'public class M {' '  public
     grep -qF -- "$line" "$work/javap.txt" || { echo "javap doesn't list: $line" >&2; exit 1; }
 done
 
-# No method of theirs has a stack or locals, so no JVM would take them that verifies.
+# The codes of A, M and C would want locals or a stack, which no sketched code has, so a JVM that verifies refuses them.
 echo "== a JVM that doesn't verify"
 run_java -XX:+UnlockDiagnosticVMOptions -XX:-BytecodeVerificationRemote Sketched --load "$classes" A B M C
