@@ -1,11 +1,11 @@
 -- A name in modified UTF-8 has its units' text.
 use Rattle.std.proofs.Common.{◌≡◌, ◌≢◌, ℕ, ◌^◌, ◌<◌, ◌≤◌, ◌&&◌, not, eqb, List, [], ◌∷◌, ◌++◌, map, get_or, Option, Some, refl, sym, ap, ◌∙◌, true, false, arith}
-use Rattle.std.specs.Prelude.{nat_lt, IsAscii, IsUtf8, encode_utf8_all}
+use Rattle.std.specs.Prelude.{nat_lt, IsAscii, encode_utf8_all}
 use Rattle.std.specs.Option.{unwrap_or}
 use Rattle.std.specs.List.{AllByRecursion}
 use Rattle.std.specs.Char.Utf16.{lone_unit_char, utf16_lossy_chars}
 use Rattle.std.proofs.lemmas.List.Elements.{All-from_recursion}
-use Rattle.std.proofs.lemmas.Str.{utf16_chars-nil, utf16_chars_lone, encodes-IsAscii, IsUtf8-from_ascii}
+use Rattle.std.proofs.lemmas.Str.{utf16_chars-nil, utf16_chars_lone, encodes-IsAscii}
 use Rattle.std.proofs.lemmas.Str.Ascii.{IsAscii-from_all}
 use Rattle.std.proofs.lemmas.Bool.Decides.{nat_tests}
 use Rattle.jl_names.specs.Mutf8.{unit_bytes, AreUnits, mutf8, IsMutf8, IsText, IsMutf8Fault}
@@ -96,9 +96,6 @@ below_128 (b ∷ name) h = (h.0.1, below_128 name h.1)
 
 ascii : (name : List ℕ) → is_plain name ≡ true → IsAscii name
 ascii name h = IsAscii-from_all name (All-from_recursion (λ b. b < 128) name (below_128 name (low_bytes name h)))
-
-pub plain_utf8 : (name : List ℕ) → is_plain name ≡ true → IsUtf8 name
-plain_utf8 name h = IsUtf8-from_ascii name (ascii name h)
 
 pub plain_text : (name : List ℕ) → is_plain name ≡ true → name_text name ≡ name
 plain_text name h =

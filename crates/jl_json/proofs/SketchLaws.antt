@@ -1,6 +1,6 @@
 -- Sketches: their keys, and the least of them.
-use Rattle.std.proofs.Common.{◌≡◌, sym, ap, refl, ℕ, ◌^◌, ◌<◌, List, [], ◌∷◌}
-use Rattle.std.proofs.Common.{Bool, true, false, ◌&&◌, ◌||◌, true≢false, if◌then◌else◌, map}
+use Rattle.std.proofs.Common.{◌≡◌, ap, refl, ℕ, ◌^◌, ◌<◌, List, [], ◌∷◌}
+use Rattle.std.proofs.Common.{Bool, true, false, ◌||◌, if◌then◌else◌, map}
 use Rattle.std.proofs.Common.{Option, Some, None, Global, String, string_bytes}
 use Rattle.std.specs.List.{list_all, list_any, AllByRecursion}
 use Rattle.std.specs.Str.{bytes_eq}
@@ -9,20 +9,17 @@ use Rattle.std.proofs.lemmas.Option.{none-some}
 use Rattle.serde_json.specs.Data.{Data}
 use Rattle.serde_json.specs.View.{members_view}
 use Rattle.serde_json.specs.declared.value.Value.{Value}
+use Rattle.jl_pool.proofs.FormLaws.{and_true}
 use Rattle.jl_sketch.specs.declared.sketch.Sketch.{Sketch}
 use Rattle.jl_json.specs.Members.{has_key, has_only, keys_of, member_keys, AreAmong, ◌>>=◌}
 use Rattle.jl_json.proofs.FormLaws.{within}
 use Rattle.jl_json.specs.Sketches.{sketch_keys, sketch_of, least, least_data}
 
-split_and : (a b : Bool) → (a && b) ≡ true → (a ≡ true) × (b ≡ true)
-split_and true b e = (refl, e)
-split_and false b e = absurd (true≢false (sym e))
-
 all_hold : {A : Type 0} (test : A → Bool) (xs : List A) → list_all test xs ≡ true
     → AllByRecursion (λ x. test x ≡ true) xs
 all_hold test [] h = tt
 all_hold test (x ∷ xs) h =
-    let p = split_and (test x) (list_all test xs) h in
+    let p = and_true (test x) (list_all test xs) h in
     (p.0, all_hold test xs p.1)
 
 taken : {A : Type 0} (b : Bool) (o : Option A) (a : A) → (if b then o else None) ≡ Some a → b ≡ true
