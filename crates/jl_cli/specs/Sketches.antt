@@ -2,6 +2,7 @@
 use Rattle.std.specs.Prelude.{◌≡◌, ◌⊎◌, ℕ, List, Option, Some, None}
 use Rattle.hex.specs.Hex.{encode_lower}
 use Rattle.serde_json.specs.Data.{Data}
+use Rattle.serde_json.specs.Written.{compact_text}
 use Rattle.jl_sketch.specs.declared.fault.SketchFault.{SketchFault}
 use Rattle.jl_sketch.specs.declared.sketch.Sketch.{Sketch}
 use Rattle.jl_sketch.specs.Faults.{IsSketchFault, IsWritten}
@@ -20,7 +21,7 @@ IsWrittenText sketch text =
 
 abbrev pub IsAskedText : Option Sketch → List ℕ → Type 0
 IsAskedText (Some sketch) text = IsWrittenText sketch text
-IsAskedText None text = IsTextOf (λ answer. answer ≡ bad_command) text
+IsAskedText None text = text ≡ compact_text bad_command
 
 abbrev pub IsSketchAnswer : List ℕ → List ℕ → Type 0
 IsSketchAnswer line text = (asked : Option Sketch) × IsReadAs sketch_of line asked × IsAskedText asked text

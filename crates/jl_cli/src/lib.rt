@@ -2,8 +2,8 @@
 //!
 //! Input and output are a [`Source`] and a [`Sink`], which count what failed. What is said of their
 //! bytes and counts stands in `specs/Devices`. What is answered stands in `specs/`, in reading
-//! order: `Lines`, `Jsons`, `Scans`, `Sketches`, `Sessions`, `Answers`; what words ask for, in `Words`. The JSON is that of
-//! jl_json.
+//! order: `Lines`, `Jsons`, `Scans`, `Sketches`, `Sessions`, `Answers`; what words ask for, in
+//! `Words`. The JSON is that of jl_json.
 #![tactic(auto)]
 
 // Words.
