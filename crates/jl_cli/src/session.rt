@@ -38,7 +38,7 @@ pub struct Session {
 
 impl Model for Session {
     ghost use Rattle.std.specs.Coded.{codes};
-    ghost use Rattle.jl_core.specs.TargetCode.{target_code};
+    ghost use Rattle.jl_types.specs.Means.TargetCode.{target_code};
     ghost use Rattle.jl_cli.specs.Sessions.{Session};
 
     ghost Value = { Session };

@@ -8,7 +8,7 @@ use Rattle.std.proofs.lemmas.List.{take-append-drop}
 use Rattle.jl_types.specs.declared.link.Link.{Link}
 use Rattle.jl_types.specs.declared.answer.Unlinked.{Unlinked}
 use Rattle.jl_types.specs.declared.refusal.Refusal.TheVariants.{Stale, Repeated}
-use Rattle.jl_types.specs.SameLink.{same_link}
+use Rattle.jl_types.specs.Means.SameLink.{same_link}
 use Rattle.jl_types.specs.declared.refusal.PrepareFault.{PrepareFault}
 use Rattle.jl_types.specs.declared.refusal.PrepareFault.TheVariants as fault
 use Rattle.jl_types.specs.Preparation.{site_fault, link_fault, ready_fault, prepare_fault, ArePrepared}

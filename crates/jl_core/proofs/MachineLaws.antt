@@ -14,7 +14,7 @@ use Rattle.jl_types.specs.declared.answer.Unlinked.{Unlinked}
 use Rattle.jl_types.specs.declared.refusal.Refusal.{Refusal}
 use Rattle.jl_types.specs.declared.refusal.Refusal.TheVariants as refusal
 use Rattle.jl_types.specs.declared.event.Event.TheVariants as event
-use Rattle.jl_types.specs.SameLink.{same_link, link_decides}
+use Rattle.jl_types.specs.Means.SameLink.{same_link, link_decides}
 use Rattle.jl_types.specs.World.{World}
 use Rattle.jl_types.specs.Resolution.{first_of}
 use Rattle.jl_types.specs.Sites.{invocation_at, stage_of, stage_at, by_operand}

@@ -5,7 +5,6 @@ pub mod Preparations
 pub mod LinkMaps
 pub mod Fills
 pub mod Plain
-pub mod TargetCode
 pub mod Rows
 pub mod Stages
 pub mod Batches

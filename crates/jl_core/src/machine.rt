@@ -38,7 +38,7 @@ pub struct Core {
 impl Model for Core {
     ghost use Rattle.std.specs.Prelude.{◌≤◌};
     ghost use Rattle.std.specs.Coded.{codes};
-    ghost use Rattle.jl_core.specs.TargetCode.{target_code};
+    ghost use Rattle.jl_types.specs.Means.TargetCode.{target_code};
     ghost use Rattle.jl_core.specs.State.{State, AreScratch};
 
     ghost Value = { State };

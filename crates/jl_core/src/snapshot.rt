@@ -14,7 +14,7 @@ pub struct Snapshot {
 
 impl Model for Snapshot {
     ghost use Rattle.std.specs.Coded.{codes};
-    ghost use Rattle.jl_core.specs.TargetCode.{target_code};
+    ghost use Rattle.jl_types.specs.Means.TargetCode.{target_code};
     ghost use Rattle.jl_core.specs.State.{Snapshot};
 
     ghost Value = { Snapshot };

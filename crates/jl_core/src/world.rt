@@ -32,7 +32,7 @@ impl Model for World {
     ghost use Rattle.std.specs.Prelude.{[], ◌≤◌, length};
     ghost use Rattle.jl_types.specs.World.{World};
     ghost use Rattle.std.specs.Coded.{codes};
-    ghost use Rattle.jl_core.specs.TargetCode.{target_code};
+    ghost use Rattle.jl_types.specs.Means.TargetCode.{target_code};
     ghost use Rattle.jl_core.specs.Plain.{AreSupported};
 
     ghost Value = { World };

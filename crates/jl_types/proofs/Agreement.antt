@@ -3,15 +3,7 @@ use Rattle.std.specs.Prelude.{◌≡◌, ℕ, ◌==◌, ◌&&◌, ◌||◌, nat_
 use Rattle.std.specs.List.{list_any, list_all}
 use Rattle.std.proofs.Common.{refl, ap, sym, ◌∙◌, arith, inl, inr}
 use Rattle.std.proofs.lemmas.Bool.Decides.{Decides-eqb}
-use Rattle.jl_code.specs.declared.site.Kind.{Kind}
-use Rattle.jl_code.specs.declared.site.Kind.TheVariants.{Virtual, Special, Static, Interface, Dynamic}
-use Rattle.jl_code.specs.declared.site.Operand.{Operand}
-use Rattle.jl_code.specs.declared.site.Operand.TheVariants as operand
-use Rattle.jl_code.specs.declared.site.Site.{Site}
 use Rattle.jl_pool.specs.declared.reference.Reference.{Reference}
-use Rattle.jl_types.specs.declared.answer.ResolveAnswer.{ResolveAnswer}
-use Rattle.jl_types.specs.declared.answer.ResolveAnswer.TheVariants as resolve
-use Rattle.jl_types.specs.declared.ids.Place.{Place}
 use Rattle.jl_types.specs.declared.ids.MethodId.{MethodId}
 use Rattle.jl_types.specs.declared.answer.Outcome.{Outcome}
 use Rattle.jl_types.specs.declared.answer.Outcome.TheVariants as outcome_is
@@ -28,11 +20,10 @@ use Rattle.jl_types.specs.declared.link.Link.TheVariants.{Fault, Plain, Direct, 
 use Rattle.jl_types.specs.declared.link.TableKind.{TableKind}
 use Rattle.jl_types.specs.declared.link.TableKind.TheVariants as table
 use Rattle.jl_types.specs.World.{World, Classes, CallSite}
-use Rattle.jl_types.specs.Members.{numbers, method_at, is_concrete, is_private, is_static, is_concrete_row}
+use Rattle.jl_types.specs.Members.{numbers, method_at, is_present, class_test, is_concrete, is_private, is_concrete_row}
 use Rattle.jl_types.specs.Ancestry.{is_ancestor, receivers}
 use Rattle.jl_types.specs.Selection.{is_init, virtual_outcome, interface_outcome, interface_ending, special_outcome, chosen, chosen_of, ending}
-use Rattle.jl_types.specs.Sites.{Invocation, Stage, Waits, Fails, Calls, Selects, stage, stage_at, stage_of, by_operand, by_call_site, call_site_of, by_name, by_resolution, by_kind, if_static, unless_static, invocation_at}
-use Rattle.jl_types.specs.Resolution.{resolved_at, named_class}
+use Rattle.jl_types.specs.Sites.{Selector, ByVirtual, ByInterface, BySpecial, Invocation, Stage, Waits, Fails, Calls, Selects, stage}
 use Rattle.jl_types.specs.Links.{outcome, table_rows, table_or_mega, virtual_link, runs, link_by, link_of, scratch}
 use Rattle.jl_types.specs.Calls.{answered, is_receiver, selected, answer_of, dispatch}
 use Rattle.jl_types.specs.Fast.{no_entry, entry_answer}
@@ -73,77 +64,6 @@ call_unlinked cs (Calls m) u recv e = cc
 call_unlinked cs (Selects i) u Null e = cc
 call_unlinked cs (Selects i) u (Of x) e = absurd (branch_unlinked (is_receiver cs i x) (outcome cs i x) u e)
 
--- ---- only these instructions select by the receiver
-
-abbrev selecting : Kind → Bool
-selecting Virtual = true
-selecting Special = true
-selecting Interface = true
-selecting Static = false
-selecting Dynamic = false
-
-abbrev IsProper : Stage → Type 0
-IsProper (Waits reason) = ⊤
-IsProper (Fails throwable) = ⊤
-IsProper (Calls m) = ⊤
-IsProper (Selects i) = selecting i.kind ≡ true
-
-proper_unless : (cs : Classes) (i : Invocation) → selecting i.kind ≡ true → IsProper (unless_static cs i)
-proper_unless cs i h = by_test (is_static cs i.method)
-  where
-    by_test : (b : Bool) → IsProper (if b then Fails IncompatibleClassChangeError else Selects i)
-    by_test true = tt
-    by_test false = h
-
-proper_if : (cs : Classes) (i : Invocation) → IsProper (if_static cs i)
-proper_if cs i = by_test (is_static cs i.method)
-  where
-    by_test : (b : Bool) → IsProper (if b then Calls i.method else Fails IncompatibleClassChangeError)
-    by_test true = tt
-    by_test false = tt
-
-proper_special : (cs : Classes) (i : Invocation) → selecting i.kind ≡ true → IsProper (by_kind cs i Special)
-proper_special cs i h = by_test (is_init i.ref.name && not (i.method.class == i.named))
-  where
-    by_test : (b : Bool) → IsProper (if b then Fails NoSuchMethodError else unless_static cs i)
-    by_test true = tt
-    by_test false = proper_unless cs i h
-
-proper_kind : (cs : Classes) (kind : Kind) (d named : ℕ) (ref : Reference (List ℕ)) (m : MethodId) → IsProper (by_kind cs (record { kind = kind; caller = d; named = named; ref = ref; method = m }) kind)
-proper_kind cs Virtual d named ref m = proper_unless cs (record { kind = Virtual; caller = d; named = named; ref = ref; method = m }) refl
-proper_kind cs Special d named ref m = proper_special cs (record { kind = Special; caller = d; named = named; ref = ref; method = m }) refl
-proper_kind cs Static d named ref m = proper_if cs (record { kind = Static; caller = d; named = named; ref = ref; method = m })
-proper_kind cs Interface d named ref m = proper_unless cs (record { kind = Interface; caller = d; named = named; ref = ref; method = m }) refl
-proper_kind cs Dynamic d named ref m = tt
-
-proper_resolution : (cs : Classes) (kind : Kind) (d : ℕ) (ref : Reference (List ℕ)) (named : ℕ) (r : Result MethodId ResolveAnswer) → IsProper (by_resolution cs kind d ref named r)
-proper_resolution cs kind d ref named (Err (resolve.NotReady missing)) = tt
-proper_resolution cs kind d ref named (Err (resolve.Fault throwable)) = tt
-proper_resolution cs kind d ref named (Ok m) = proper_kind cs kind d named ref m
-
-proper_name : (cs : Classes) (kind : Kind) (d : ℕ) (ref : Reference (List ℕ)) (named : Option ℕ) → IsProper (by_name cs kind d ref named)
-proper_name cs kind d ref None = tt
-proper_name cs kind d ref (Some named) = proper_resolution cs kind d ref named (resolved_at cs d ref (Some named))
-
-proper_call_site : (w : World) (site : Option CallSite) → IsProper (by_call_site w site)
-proper_call_site w None = tt
-proper_call_site w (Some site) = tt
-
-proper_site : (w : World) (s d : ℕ) (site : Option Site) → IsProper (stage_of w s d site)
-proper_site w s d None = tt
-proper_site w s d (Some site) = by_which site.kind site.operand
-  where
-    by_which : (kind : Kind) (op : Operand (List ℕ)) → IsProper (by_operand w s d kind op)
-    by_which kind (operand.Method ref) = proper_name w.classes kind d ref (named_class w.classes d ref)
-    by_which kind (operand.CallSite specifier) = proper_call_site w (call_site_of w s)
-
-proper_place : (w : World) (s : ℕ) (place : Option Place) → IsProper (stage_at w s place)
-proper_place w s None = tt
-proper_place w s (Some place) = proper_site w s place.class (invocation_at w.classes place)
-
-proper : (w : World) (s : ℕ) → IsProper (stage w s)
-proper w s = proper_place w s (slice_get w.places s)
-
 -- ---- a link that looks at the receiver is no fault and no plain one
 
 looks_table : (kind : TableKind) (rows : List (ℕ × Outcome)) → looks (table_or_mega kind rows) ≡ true
@@ -162,16 +82,14 @@ looks_virtual ((x, outcome_is.Run m) ∷ rows) = by_same (list_all (λ row. runs
     by_same true = refl
     by_same false = looks_table table.Virtual ((x, outcome_is.Run m) ∷ rows)
 
-looks_by : (cs : Classes) (i : Invocation) (kind : Kind) → selecting kind ≡ true → looks (link_by cs i kind) ≡ true
-looks_by cs i Virtual h = by_private (is_private cs i.method)
+looks_by : (cs : Classes) (i : Invocation) (selector : Selector) → looks (link_by cs i selector) ≡ true
+looks_by cs i ByVirtual = by_private (is_private cs i.method)
   where
     by_private : (b : Bool) → looks (if b then Direct (virtual_outcome cs i.named i.method) else virtual_link (table_rows cs i)) ≡ true
     by_private true = refl
     by_private false = looks_virtual (table_rows cs i)
-looks_by cs i Special h = refl
-looks_by cs i Interface h = looks_table table.Interface (table_rows cs i)
-looks_by cs i Static h = cc
-looks_by cs i Dynamic h = cc
+looks_by cs i ByInterface = looks_table table.Interface (table_rows cs i)
+looks_by cs i BySpecial = refl
 
 abbrev link_is : Link → Link → Type 0
 link_is a b = let l : Result Link Unlinked = Ok a in l ≡ Ok b
@@ -179,23 +97,23 @@ link_is a b = let l : Result Link Unlinked = Ok a in l ≡ Ok b
 ok_same : (a b : Link) → link_is a b → a ≡ b
 ok_same a b e = cc
 
-fault_call : (cs : Classes) (stage : Stage) (t : Throwable) (recv : Recv) → IsProper stage → link_of cs stage ≡ Ok (Fault t) → answer_of cs stage recv ≡ answer.Throws t
-fault_call cs (Waits reason) t recv p e = cc
-fault_call cs (Fails throwable) t recv p e = cc
-fault_call cs (Calls m) t recv p e = cc
-fault_call cs (Selects i) t recv p e = absurd (clash (looks (link_by cs i i.kind)) (looks_by cs i i.kind p) (ap looks (ok_same (link_by cs i i.kind) (Fault t) e)))
+fault_call : (cs : Classes) (stage : Stage) (t : Throwable) (recv : Recv) → link_of cs stage ≡ Ok (Fault t) → answer_of cs stage recv ≡ answer.Throws t
+fault_call cs (Waits reason) t recv e = cc
+fault_call cs (Fails throwable) t recv e = cc
+fault_call cs (Calls m) t recv e = cc
+fault_call cs (Selects i) t recv e = absurd (clash (looks (link_by cs i i.selector)) (looks_by cs i i.selector) (ap looks (ok_same (link_by cs i i.selector) (Fault t) e)))
 
-plain_call : (cs : Classes) (stage : Stage) (m : MethodId) (recv : Recv) → IsProper stage → link_of cs stage ≡ Ok (Plain m) → answer_of cs stage recv ≡ answer.Run m
-plain_call cs (Waits reason) m recv p e = cc
-plain_call cs (Fails throwable) m recv p e = cc
-plain_call cs (Calls n) m recv p e = cc
-plain_call cs (Selects i) m recv p e = absurd (clash (looks (link_by cs i i.kind)) (looks_by cs i i.kind p) (ap looks (ok_same (link_by cs i i.kind) (Plain m) e)))
+plain_call : (cs : Classes) (stage : Stage) (m : MethodId) (recv : Recv) → link_of cs stage ≡ Ok (Plain m) → answer_of cs stage recv ≡ answer.Run m
+plain_call cs (Waits reason) m recv e = cc
+plain_call cs (Fails throwable) m recv e = cc
+plain_call cs (Calls n) m recv e = cc
+plain_call cs (Selects i) m recv e = absurd (clash (looks (link_by cs i i.selector)) (looks_by cs i i.selector) (ap looks (ok_same (link_by cs i i.selector) (Plain m) e)))
 
 pub fault_is_thrown : (w : World) (s : ℕ) (t : Throwable) (recv : Recv) → scratch w s ≡ Ok (Fault t) → dispatch w s recv ≡ answer.Throws t
-fault_is_thrown w s t recv e = fault_call w.classes (stage w s) t recv (proper w s) e
+fault_is_thrown w s t recv e = fault_call w.classes (stage w s) t recv e
 
 pub plain_is_run : (w : World) (s : ℕ) (m : MethodId) (recv : Recv) → scratch w s ≡ Ok (Plain m) → dispatch w s recv ≡ answer.Run m
-plain_is_run w s m recv e = plain_call w.classes (stage w s) m recv (proper w s) e
+plain_is_run w s m recv e = plain_call w.classes (stage w s) m recv e
 
 -- ---- with a receiver
 
@@ -239,7 +157,7 @@ module _ (cs : Classes) (named x : ℕ) where
   -- the objects that are a named class are of its receivers
   pub among_receivers : is_concrete cs x ≡ true → is_ancestor cs named x ≡ true → list_any (λ y. y == x) (receivers cs named) ≡ true
   among_receivers h k =
-      let lt = passes_within is_concrete_row cs.rows x h in
+      let lt = passes_within is_concrete_row cs.rows x (and_both (is_present cs x) (class_test is_concrete_row cs x) h).1 in
       let all : list_any (λ y. y == x) (numbers cs) ≡ true = any-range-from (λ y. y == x) 0 (length cs.rows) x (omega arith) (omega arith) (same_number x) in
       any-filter-at (λ y. is_concrete cs y && is_ancestor cs named y) (λ y. y == x) x (numbers cs) all (both_and (is_concrete cs x) (is_ancestor cs named x) h k) (same_number x)
 
@@ -257,8 +175,8 @@ entry_of : (cs : Classes) (i : Invocation) (kind : TableKind) (x : ℕ) (b : Boo
 entry_of cs i kind x true e h = ap (entry_answer kind) (sym (entry_found (outcome cs i) x (receivers cs i.named) (among_receivers cs i.named x h e)))
 entry_of cs i kind x false e h = ap (entry_answer kind) (sym (no_entry_found (outcome cs i) x (receivers cs i.named) (not_among_receivers cs i.named x e)))
 
-abbrev invocation : Kind → ℕ → ℕ → Reference (List ℕ) → MethodId → Invocation
-invocation kind d named ref m = record { kind = kind; caller = d; named = named; ref = ref; method = m }
+abbrev invocation : Selector → ℕ → ℕ → Reference (List ℕ) → MethodId → Invocation
+invocation selector d named ref m = record { selector = selector; caller = d; named = named; ref = ref; method = m }
 
 table_shown : (kind k : TableKind) (rows rs : List (ℕ × Outcome)) → table_or_mega kind rows ≡ Table k rs → (k ≡ kind) × (rs ≡ rows)
 table_shown kind k rows rs e = by_size (nat_le (length rows) 8) e
@@ -282,26 +200,24 @@ entry_same k kind rs rows x h = λ i. entry_answer (sym h.0 i) (find (row_is x) 
 if_concrete : (b c : Bool) (a : Answer) → b ≡ true → (if b && c then a else answer.BadReceiver) ≡ (if c then a else answer.BadReceiver)
 if_concrete b c a h = ap (λ (b : Bool). if b && c then a else answer.BadReceiver) h
 
-table_call : (cs : Classes) (kind : Kind) (d named : ℕ) (ref : Reference (List ℕ)) (m : MethodId) (x : ℕ) (k : TableKind) (rs : List (ℕ × Outcome)) → link_by cs (invocation kind d named ref m) kind ≡ Table k rs → is_concrete cs x ≡ true → selected cs (invocation kind d named ref m) (Of x) ≡ entry_answer k (find (row_is x) rs)
-table_call cs Virtual d named ref m x k rs e h = by_private (is_private cs m) e
+table_call : (cs : Classes) (selector : Selector) (d named : ℕ) (ref : Reference (List ℕ)) (m : MethodId) (x : ℕ) (k : TableKind) (rs : List (ℕ × Outcome)) → link_by cs (invocation selector d named ref m) selector ≡ Table k rs → is_concrete cs x ≡ true → selected cs (invocation selector d named ref m) (Of x) ≡ entry_answer k (find (row_is x) rs)
+table_call cs ByVirtual d named ref m x k rs e h = by_private (is_private cs m) e
   where
-    by_private : (b : Bool) → (if b then Direct (virtual_outcome cs named m) else virtual_link (table_rows cs (invocation Virtual d named ref m))) ≡ Table k rs → selected cs (invocation Virtual d named ref m) (Of x) ≡ entry_answer k (find (row_is x) rs)
+    by_private : (b : Bool) → (if b then Direct (virtual_outcome cs named m) else virtual_link (table_rows cs (invocation ByVirtual d named ref m))) ≡ Table k rs → selected cs (invocation ByVirtual d named ref m) (Of x) ≡ entry_answer k (find (row_is x) rs)
     by_private true e = cc
     by_private false e =
         if_concrete (is_concrete cs x) (is_ancestor cs named x) (answered (virtual_outcome cs x m)) h
-        ∙ entry_of cs (invocation Virtual d named ref m) table.Virtual x (is_ancestor cs named x) refl h
-        ∙ entry_same k table.Virtual rs (table_rows cs (invocation Virtual d named ref m)) x (virtual_shown k (table_rows cs (invocation Virtual d named ref m)) rs e)
-table_call cs Interface d named ref m x k rs e h =
+        ∙ entry_of cs (invocation ByVirtual d named ref m) table.Virtual x (is_ancestor cs named x) refl h
+        ∙ entry_same k table.Virtual rs (table_rows cs (invocation ByVirtual d named ref m)) x (virtual_shown k (table_rows cs (invocation ByVirtual d named ref m)) rs e)
+table_call cs ByInterface d named ref m x k rs e h =
     if_concrete (is_concrete cs x) true (answered (interface_outcome cs x named m)) h
     ∙ by_ancestor (is_ancestor cs named x) refl
-    ∙ entry_same k table.Interface rs (table_rows cs (invocation Interface d named ref m)) x (table_shown table.Interface k (table_rows cs (invocation Interface d named ref m)) rs e)
+    ∙ entry_same k table.Interface rs (table_rows cs (invocation ByInterface d named ref m)) x (table_shown table.Interface k (table_rows cs (invocation ByInterface d named ref m)) rs e)
   where
-    by_ancestor : (b : Bool) → is_ancestor cs named x ≡ b → answered (interface_outcome cs x named m) ≡ entry_answer table.Interface (find (row_is x) (table_rows cs (invocation Interface d named ref m)))
-    by_ancestor true is = entry_of cs (invocation Interface d named ref m) table.Interface x true is h
-    by_ancestor false is = ap (λ (b : Bool). answered (if b then interface_ending cs (chosen cs x m) else outcome_is.Throws IncompatibleClassChangeError)) is ∙ entry_of cs (invocation Interface d named ref m) table.Interface x false is h
-table_call cs Special d named ref m x k rs e h = cc
-table_call cs Static d named ref m x k rs e h = cc
-table_call cs Dynamic d named ref m x k rs e h = cc
+    by_ancestor : (b : Bool) → is_ancestor cs named x ≡ b → answered (interface_outcome cs x named m) ≡ entry_answer table.Interface (find (row_is x) (table_rows cs (invocation ByInterface d named ref m)))
+    by_ancestor true is = entry_of cs (invocation ByInterface d named ref m) table.Interface x true is h
+    by_ancestor false is = ap (λ (b : Bool). answered (if b then interface_ending cs (chosen cs x m) else outcome_is.Throws IncompatibleClassChangeError)) is ∙ entry_of cs (invocation ByInterface d named ref m) table.Interface x false is h
+table_call cs BySpecial d named ref m x k rs e h = cc
 
 -- ---- direct links
 
@@ -343,8 +259,8 @@ direct_shown o g x (y ∷ xs) e k = by_first (g y) refl e
     by_first (outcome_is.Throws t) is e = absurd (no_table (nat_le (length ((y, outcome_is.Throws t) ∷ rows_of g xs)) 8) ((y, outcome_is.Throws t) ∷ rows_of g xs) e)
     by_first (outcome_is.Run m) is e = by_same m (list_all (λ row. runs m row.1) (rows_of g xs)) is refl e
 
-direct_outcome : (cs : Classes) (kind : Kind) (d named : ℕ) (ref : Reference (List ℕ)) (m : MethodId) (x : ℕ) (o : Outcome) → link_by cs (invocation kind d named ref m) kind ≡ Direct o → is_receiver cs (invocation kind d named ref m) x ≡ true → outcome cs (invocation kind d named ref m) x ≡ o
-direct_outcome cs Virtual d named ref m x o e h = by_private (is_private cs m) refl e
+direct_outcome : (cs : Classes) (selector : Selector) (d named : ℕ) (ref : Reference (List ℕ)) (m : MethodId) (x : ℕ) (o : Outcome) → link_by cs (invocation selector d named ref m) selector ≡ Direct o → is_receiver cs (invocation selector d named ref m) x ≡ true → outcome cs (invocation selector d named ref m) x ≡ o
+direct_outcome cs ByVirtual d named ref m x o e h = by_private (is_private cs m) refl e
   where
     both : (is_concrete cs x ≡ true) × (is_ancestor cs named x ≡ true)
     both = and_both (is_concrete cs x) (is_ancestor cs named x) h
@@ -352,23 +268,21 @@ direct_outcome cs Virtual d named ref m x o e h = by_private (is_private cs m) r
     direct_same : (a b : Outcome) → Direct a ≡ Direct b → a ≡ b
     direct_same a b e = cc
 
-    by_private : (b : Bool) → is_private cs m ≡ b → (if b then Direct (virtual_outcome cs named m) else virtual_link (table_rows cs (invocation Virtual d named ref m))) ≡ Direct o → virtual_outcome cs x m ≡ o
+    by_private : (b : Bool) → is_private cs m ≡ b → (if b then Direct (virtual_outcome cs named m) else virtual_link (table_rows cs (invocation ByVirtual d named ref m))) ≡ Direct o → virtual_outcome cs x m ≡ o
     by_private true is e =
         ap (λ (b : Bool). ending cs (if b then Picked m else chosen_of cs x m (method_at cs m))) is
         ∙ sym (ap (λ (b : Bool). ending cs (if b then Picked m else chosen_of cs named m (method_at cs m))) is)
         ∙ direct_same (virtual_outcome cs named m) o e
     by_private false is e = direct_shown o (λ x. virtual_outcome cs x m) x (receivers cs named) e (among_receivers cs named x both.0 both.1)
-direct_outcome cs Interface d named ref m x o e h = absurd (no_direct (nat_le (length (table_rows cs (invocation Interface d named ref m))) 8) e)
+direct_outcome cs ByInterface d named ref m x o e h = absurd (no_direct (nat_le (length (table_rows cs (invocation ByInterface d named ref m))) 8) e)
   where
-    no_direct : (b : Bool) → (if b then Table table.Interface (table_rows cs (invocation Interface d named ref m)) else Mega) ≡ Direct o → ⊥
+    no_direct : (b : Bool) → (if b then Table table.Interface (table_rows cs (invocation ByInterface d named ref m)) else Mega) ≡ Direct o → ⊥
     no_direct true e = cc
     no_direct false e = cc
-direct_outcome cs Special d named ref m x o e h = direct_same (special_outcome cs d named ref) o e
+direct_outcome cs BySpecial d named ref m x o e h = direct_same (special_outcome cs d named ref) o e
   where
     direct_same : (a b : Outcome) → Direct a ≡ Direct b → a ≡ b
     direct_same a b e = cc
-direct_outcome cs Static d named ref m x o e h = cc
-direct_outcome cs Dynamic d named ref m x o e h = cc
 
 -- ---- of a site
 
@@ -382,11 +296,11 @@ table_answers w s x k rows e h = by_stage (stage w s) e
     by_stage (Waits reason) e = cc
     by_stage (Fails throwable) e = cc
     by_stage (Calls m) e = cc
-    by_stage (Selects i) e = table_call w.classes i.kind i.caller i.named i.ref i.method x k rows (ok_same (link_by w.classes i i.kind) (Table k rows) e) h
+    by_stage (Selects i) e = table_call w.classes i.selector i.caller i.named i.ref i.method x k rows (ok_same (link_by w.classes i i.selector) (Table k rows) e) h
 
 pub direct_answers : (w : World) (s x : ℕ) (i : Invocation) (o : Outcome) → stage w s ≡ Selects i → scratch w s ≡ Ok (Direct o) → is_receiver w.classes i x ≡ true → dispatch w s (Of x) ≡ answered o
 direct_answers w s x i o is e h =
-    let link : link_by w.classes i i.kind ≡ Direct o = ok_same (link_by w.classes i i.kind) (Direct o) (sym (ap (link_of w.classes) is) ∙ e) in
+    let link : link_by w.classes i i.selector ≡ Direct o = ok_same (link_by w.classes i i.selector) (Direct o) (sym (ap (link_of w.classes) is) ∙ e) in
     ap (λ (st : Stage). answer_of w.classes st (Of x)) is
     ∙ ap (λ (b : Bool). if b then answered (outcome w.classes i x) else answer.BadReceiver) h
-    ∙ ap answered (direct_outcome w.classes i.kind i.caller i.named i.ref i.method x o link h)
+    ∙ ap answered (direct_outcome w.classes i.selector i.caller i.named i.ref i.method x o link h)

@@ -6,8 +6,7 @@ use Rattle.std.proofs.Common.{refl, ap, sym, subst, ◌∙◌, arith, add-one, i
 use Rattle.std.proofs.lemmas.Bool.Decides.{Decides-eqb}
 use Rattle.std.proofs.lemmas.List.Elements.{recursion_from_All}
 use Rattle.std.proofs.Math.Arith.{lt_of_le-ne}
-use Rattle.jl_types.specs.declared.class.Class.{Class}
-use Rattle.jl_types.specs.World.{Classes}
+use Rattle.jl_types.specs.World.{Class, Classes}
 use Rattle.jl_types.specs.Ancestry.{parents, IsAncestor, itself, over, is_ancestor_within, is_ancestor, superclasses_within, superclasses, is_subclass, is_proper_subclass, AreOrdered}
 use Rattle.jl_types.proofs.Bools.{or_right, or_cases, and_both, same_number, clash}
 use Rattle.jl_types.proofs.Lists.{some_same}

@@ -1,7 +1,8 @@
 -- Elements of lists by their places.
-use Rattle.std.specs.Prelude.{◌≡◌, ℕ, zero, suc, ◌<◌, ◌+◌, Bool, true, false, List, [], ◌∷◌, ◌++◌, length, drop, get_or, slice_get, Some}
+use Rattle.std.specs.Prelude.{◌≡◌, ℕ, zero, suc, ◌<◌, ◌+◌, Bool, true, false, List, [], ◌∷◌, ◌++◌, length, drop, get_or, slice_get, slice_set, Some}
+use Rattle.std.specs.List.{AllByRecursion}
 use Rattle.std.specs.Option.{option_map_or}
-use Rattle.std.proofs.Common.{refl, ap, sym, ◌∙◌, arith, add-one}
+use Rattle.std.proofs.Common.{refl, ap, sym, subst, ◌∙◌, arith, add-one}
 use Rattle.std.proofs.Math.Seq.{drop-cons}
 
 pub some_same : {A : Type 0} (a b : A) → Some a ≡ Some b → a ≡ b
@@ -37,3 +38,14 @@ element_at (x ∷ xs) (suc n) h = element_at xs n (omega arith)
 -- what is left begins with the next element
 pub rest_at : {A : Type 0} (xs : List A) (i : ℕ) (x : A) → i < length xs → x ≡ get_or xs i x → drop i xs ≡ x ∷ drop (i + 1) xs
 rest_at {A = A} xs i x lt e = rw add-one (drop-cons xs i x lt ∙ ap (λ (y : A). y ∷ drop (suc i) xs) (sym e))
+
+-- what holds of each element holds of the one at a place, and once one of those is put in its place
+pub all_at : {A : Type 0} (P : A → Type 0) (xs : List A) (n : ℕ) (x : A) → slice_get xs n ≡ Some x → AllByRecursion P xs → P x
+all_at P [] n x e h = cc
+all_at P (y ∷ xs) zero x e h = subst P (some_same y x e) h.0
+all_at P (y ∷ xs) (suc n) x e h = all_at P xs n x e h.1
+
+pub all_set : {A : Type 0} (P : A → Type 0) (xs : List A) (n : ℕ) (x : A) → P x → AllByRecursion P xs → AllByRecursion P (slice_set xs n x)
+all_set P [] n x p h = tt
+all_set P (y ∷ xs) zero x p h = (p, h.1)
+all_set P (y ∷ xs) (suc n) x p h = (h.0, all_set P xs n x p h.1)

@@ -1,42 +1,48 @@
 -- Whatever events come, a class's parents were defined before it.
-use Rattle.std.specs.Prelude.{◌≡◌, ℕ, zero, suc, ◌+◌, ◌<◌, ◌≤◌, ◌==◌, ◌&&◌, ◌⊎◌, Bool, true, false, cond, List, [], ◌∷◌, ◌++◌, length, slice_get, slice_index_or, find, filter_map, fold, Option, Some, None, option_map, option_and_then, option_to_list}
+use Rattle.std.specs.Prelude.{◌≡◌, ℕ, zero, suc, ◌+◌, ◌<◌, ◌≤◌, ◌==◌, ◌&&◌, ◌⊎◌, Bool, true, false, cond, List, [], ◌∷◌, ◌++◌, length, slice_get, slice_set, slice_index_or, find, filter_map, fold, Option, Some, None, option_map, option_and_then, option_to_list}
 use Rattle.std.specs.List.{AllByRecursion, cons_option}
+use Rattle.std.specs.Option.{option_map_or}
 use Rattle.std.proofs.Common.{refl, ap, sym, subst, ◌∙◌, arith, inl, inr, length-append}
 use Rattle.std.proofs.lemmas.List.Elements.{All-from_recursion, recursion_from_All}
 use Rattle.jl_classfile.specs.declared.class.ClassFile.{ClassFile}
-use Rattle.jl_pool.specs.Pools.{same_text}
-use Rattle.jl_types.specs.declared.class.Class.{Class}
+use Rattle.std.specs.Str.{bytes_eq}
 use Rattle.jl_types.specs.declared.event.Event.{Event}
 use Rattle.jl_types.specs.declared.event.Event.TheVariants as event
-use Rattle.jl_types.specs.World.{Classes, World, nothing_yet}
-use Rattle.jl_types.specs.Members.{lookup}
+use Rattle.jl_types.specs.World.{Class, Classes, World, nothing_yet}
+use Rattle.jl_types.specs.Members.{recorded, lookup}
 use Rattle.jl_types.specs.Ancestry.{parents, AreOrdered}
-use Rattle.jl_types.specs.Definitions.{class_made, defined, delegated}
+use Rattle.jl_types.specs.Definitions.{class_made, with_record, defined, delegated}
 use Rattle.jl_types.specs.Events.{step}
 use Rattle.jl_types.specs.History.{world_after}
-use Rattle.jl_types.proofs.Lists.{some_same, before_end, at_end}
+use Rattle.jl_types.proofs.Lists.{some_same, before_end, at_end, all_at, all_set}
 
--- the records name classes that are there, and parents come first
+-- the records name classes that are there
+abbrev pub AreBelow : ℕ → List (List ℕ × ℕ) → Type 0
+AreBelow n records = AllByRecursion (λ r. r.1 < n) records
+
+-- what loaders have recorded is there, and parents come first
 pub record IsGood (cs : Classes) : Type 0 where
-  pub there : AllByRecursion (λ r. r.1 < length cs.rows) cs.records
+  pub there : AllByRecursion (AreBelow (length cs.rows)) cs.loaders
   pub ordered : AreOrdered cs.rows
 
 -- ---- look-ups
 
-found_below : (n loader : ℕ) (name : List ℕ) (records : List ((ℕ × List ℕ) × ℕ)) → AllByRecursion (λ r. r.1 < n) records → (c : ℕ) → option_map (λ r. r.1) (find (λ r. (r.0.0 == loader) && same_text r.0.1 name) records) ≡ Some c → c < n
-found_below n loader name [] h c e = cc
-found_below n loader name (r ∷ records) h c e = by_test ((r.0.0 == loader) && same_text r.0.1 name) (found_below n loader name records h.1 c) e
+found_below : (n : ℕ) (name : List ℕ) (records : List (List ℕ × ℕ)) → AreBelow n records → (c : ℕ) → recorded name records ≡ Some c → c < n
+found_below n name [] h c e = cc
+found_below n name (r ∷ records) h c e = by_test (bytes_eq r.0 name) (found_below n name records h.1 c) e
   where
-    same : (a b : ℕ) → Some a ≡ Some b → a ≡ b
-    same a b e = cc
-
-    by_test : (b : Bool) → (option_map (λ r. r.1) (find (λ r. (r.0.0 == loader) && same_text r.0.1 name) records) ≡ Some c → c < n) → option_map (λ r. r.1) (cond b (Some r) (find (λ r. (r.0.0 == loader) && same_text r.0.1 name) records)) ≡ Some c → c < n
-    by_test true rest e = subst (λ k. k < n) (same r.1 c e) h.0
+    by_test : (b : Bool) → (recorded name records ≡ Some c → c < n) → option_map (λ r. r.1) (cond b (Some r) (find (λ r. bytes_eq r.0 name) records)) ≡ Some c → c < n
+    by_test true rest e = subst (λ k. k < n) (some_same r.1 c e) h.0
     by_test false rest e = rest e
 
 module _ (cs : Classes) (good : IsGood cs) (loader : ℕ) where
-  looked_up : (name : List ℕ) (c : ℕ) → lookup cs loader name ≡ Some c → c < length cs.rows
-  looked_up name c e = found_below (length cs.rows) loader name cs.records good.there c e
+  pub looked_up : (name : List ℕ) (c : ℕ) → lookup cs loader name ≡ Some c → c < length cs.rows
+  looked_up name c e = by_loader (slice_get cs.loaders loader) refl e
+    where
+      by_loader : (o : Option (List (List ℕ × ℕ))) → slice_get cs.loaders loader ≡ o → option_and_then (recorded name) o ≡ Some c → c < length cs.rows
+      by_loader None is e = cc
+      by_loader (Some records) is e =
+          found_below (length cs.rows) name records (all_at (AreBelow (length cs.rows)) cs.loaders loader records is good.there) c e
 
   one_below : (o : Option ℕ) → ((c : ℕ) → o ≡ Some c → c < length cs.rows) → (more : List ℕ) → AllByRecursion (λ p. p < length cs.rows) more → AllByRecursion (λ p. p < length cs.rows) (option_to_list o ++ more)
   one_below None h more rest = rest
@@ -65,13 +71,26 @@ none_behind [] x y (suc n) e = cc
 none_behind (z ∷ xs) x y zero e = omega arith
 none_behind (z ∷ xs) x y (suc n) e = let le = none_behind xs x y n e in omega arith
 
-wider : (n : ℕ) (records : List ((ℕ × List ℕ) × ℕ)) → AllByRecursion (λ r. r.1 < n) records → AllByRecursion (λ r. r.1 < n + 1) records
+wider : (n : ℕ) (records : List (List ℕ × ℕ)) → AreBelow n records → AreBelow (n + 1) records
 wider n [] h = tt
 wider n (r ∷ records) h = (let lt = h.0 in omega arith, wider n records h.1)
 
-joined : (n : ℕ) (records more : List ((ℕ × List ℕ) × ℕ)) → AllByRecursion (λ r. r.1 < n) records → AllByRecursion (λ r. r.1 < n) more → AllByRecursion (λ r. r.1 < n) (records ++ more)
-joined n [] more h k = k
-joined n (r ∷ records) more h k = (h.0, joined n records more h.1 k)
+all_wider : (n : ℕ) (loaders : List (List (List ℕ × ℕ))) → AllByRecursion (AreBelow n) loaders → AllByRecursion (AreBelow (n + 1)) loaders
+all_wider n [] h = tt
+all_wider n (records ∷ loaders) h = (wider n records h.0, all_wider n loaders h.1)
+
+one_more : (n : ℕ) (records : List (List ℕ × ℕ)) (name : List ℕ) (c : ℕ) → AreBelow n records → c < n → AreBelow n (records ++ (name, c) ∷ [])
+one_more n [] name c h lt = (lt, tt)
+one_more n (r ∷ records) name c h lt = (h.0, one_more n records name c h.1 lt)
+
+recorded_below : (n : ℕ) (loaders : List (List (List ℕ × ℕ))) (loader : ℕ) (name : List ℕ) (c : ℕ) → AllByRecursion (AreBelow n) loaders → c < n → AllByRecursion (AreBelow n) (with_record loaders loader name c)
+recorded_below n loaders loader name c h lt = by_loader (slice_get loaders loader) refl
+  where
+    by_loader : (o : Option (List (List ℕ × ℕ))) → slice_get loaders loader ≡ o → AllByRecursion (AreBelow n) (option_map_or (λ records. slice_set loaders loader (records ++ (name, c) ∷ [])) o loaders)
+    by_loader None is = h
+    by_loader (Some records) is =
+        all_set (AreBelow n) loaders loader (records ++ (name, c) ∷ [])
+        (one_more n records name c (all_at (AreBelow n) loaders loader records is h) lt) h
 
 less_or_same : (n m : ℕ) → n ≤ m → (n < m) ⊎ (n ≡ m)
 less_or_same zero zero h = inr refl
@@ -88,22 +107,25 @@ module _ (cs : Classes) (good : IsGood cs) (loader : ℕ) (file : ClassFile) whe
 
   pub defined_good : IsGood (defined cs loader file)
   defined_good = record {
-    there = subst (λ n. AllByRecursion (λ r. r.1 < n) (cs.records ++ ((loader, file.name), length cs.rows) ∷ [])) (sym (length-append cs.rows (class_made cs loader file ∷ []))) (joined (length cs.rows + 1) cs.records (((loader, file.name), length cs.rows) ∷ []) (wider (length cs.rows) cs.records good.there) (omega arith, tt));
+    there = subst (λ n. AllByRecursion (AreBelow n) (with_record cs.loaders loader file.name (length cs.rows)))
+        (sym (length-append cs.rows (class_made cs loader file ∷ [])))
+        (recorded_below (length cs.rows + 1) cs.loaders loader file.name (length cs.rows) (all_wider (length cs.rows) cs.loaders good.there) (omega arith));
     ordered = λ c row e. All-from_recursion (λ p. p < c) (parents row) (in_order c row e (less_or_same c (length cs.rows) (none_behind cs.rows (class_made cs loader file) row c e)));
   }
 
-record_below : (cs : Classes) (good : IsGood cs) (loader to : ℕ) (name : List ℕ) (o : Option ℕ) → lookup cs to name ≡ o → AllByRecursion (λ (r : (ℕ × List ℕ) × ℕ). r.1 < length cs.rows) (option_to_list (option_map (λ c. ((loader, name), c)) o))
-record_below cs good loader to name None e = tt
-record_below cs good loader to name (Some c) e = (looked_up cs good to name c e, tt)
-
 delegated_good : (cs : Classes) (good : IsGood cs) (loader : ℕ) (name : List ℕ) (to : ℕ) → IsGood (delegated cs loader name to)
-delegated_good cs good loader name to = record {
-  there = joined (length cs.rows) cs.records (option_to_list (option_map (λ c. ((loader, name), c)) (lookup cs to name))) good.there (record_below cs good loader to name (lookup cs to name) refl);
-  ordered = good.ordered;
-}
+delegated_good cs good loader name to = record { there = by_class (lookup cs to name) refl; ordered = good.ordered }
+  where
+    by_class : (o : Option ℕ) → lookup cs to name ≡ o → AllByRecursion (AreBelow (length cs.rows)) (option_map_or (with_record cs.loaders loader name) o cs.loaders)
+    by_class None e = good.there
+    by_class (Some c) e = recorded_below (length cs.rows) cs.loaders loader name c good.there (looked_up cs good to name c e)
+
+with_loader : (n : ℕ) (loaders : List (List (List ℕ × ℕ))) → AllByRecursion (AreBelow n) loaders → AllByRecursion (AreBelow n) (loaders ++ [] ∷ [])
+with_loader n [] h = (tt, tt)
+with_loader n (records ∷ loaders) h = (h.0, with_loader n loaders h.1)
 
 step_good : (w : World) (e : Event) → IsGood w.classes → IsGood ((step w e).classes)
-step_good w event.NewLoader good = record { there = good.there; ordered = good.ordered }
+step_good w event.NewLoader good = record { there = with_loader (length w.classes.rows) w.classes.loaders good.there; ordered = good.ordered }
 step_good w (event.Define loader file) good = defined_good w.classes good loader file
 step_good w (event.Delegate loader name to) good = delegated_good w.classes good loader name to
 step_good w (event.Request place) good = good
@@ -122,4 +144,4 @@ no_row : (c : ℕ) (row : Class) → slice_get [] c ≡ Some row → (k : ℕ) (
 no_row c row e = cc
 
 pub world_good : (h : List Event) → IsGood ((world_after h).classes)
-world_good h = fold_good h nothing_yet (record { there = tt; ordered = no_row })
+world_good h = fold_good h nothing_yet (record { there = (tt, tt); ordered = no_row })

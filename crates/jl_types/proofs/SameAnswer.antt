@@ -12,7 +12,7 @@ use Rattle.jl_types.specs.contracts.answer.Missing.{the_type}
 use Rattle.jl_types.specs.contracts.answer.MissingPartialEq.TheImpl as missing
 use Rattle.jl_types.specs.contracts.answer.UnlinkedPartialEq.TheImpl as unlinked
 use Rattle.jl_types.specs.contracts.answer.AnswerPartialEq.TheImpl as same
-use Rattle.jl_types.specs.Same.{throwable_decides, method_decides, decided}
+use Rattle.jl_types.specs.Means.Same.{throwable_decides, method_decides, decided}
 use Rattle.jl_types.proofs.Bools.{clash}
 
 missing_same : (x : Missing) → (missing.ghosts).eq x x ≡ true

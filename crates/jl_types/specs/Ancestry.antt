@@ -1,9 +1,8 @@
 -- Superclasses, superinterfaces, and the classes below (JVMS 4.1, 5.3.5). A class's parents were defined before it.
 use Rattle.std.specs.Prelude.{◌≡◌, ℕ, zero, suc, ◌+◌, ◌<◌, Bool, true, false, not, ◌&&◌, ◌||◌, ◌==◌, List, [], ◌∷◌, ◌++◌, slice_get, filter, Option, Some, option_to_list, option_and_then, All}
-use Rattle.std.specs.List.{list_any}
+use Rattle.std.specs.List.{list_any, range_with_len}
 use Rattle.std.specs.Option.{option_map_or}
-use Rattle.jl_types.specs.declared.class.Class.{Class}
-use Rattle.jl_types.specs.World.{Classes}
+use Rattle.jl_types.specs.World.{Class, Classes}
 use Rattle.jl_types.specs.Members.{numbers, is_concrete, is_interface}
 
 -- the superclass and the direct superinterfaces
@@ -60,9 +59,13 @@ is_proper_subclass cs x y = not (x == y) && is_subclass cs x y
 
 -- ---- sets of classes, by rising number
 
+-- the ancestors of c, itself among them, by rising number: parents come first, so none comes after c
+abbrev pub ancestors : List Class → ℕ → List ℕ
+ancestors rows c = filter (λ a. is_ancestor_within (c + 1) rows a c) (range_with_len 0 (c + 1))
+
 -- the direct and indirect superinterfaces of c, those of its superclasses among them
 abbrev pub superinterfaces : Classes → ℕ → List ℕ
-superinterfaces cs c = filter (λ k. is_interface cs k && is_proper_ancestor cs k c) (numbers cs)
+superinterfaces cs c = filter (λ k. is_interface cs k && not (k == c)) (ancestors cs.rows c)
 
 -- the classes that objects may be of which are a c
 abbrev pub receivers : Classes → ℕ → List ℕ

@@ -1,7 +1,5 @@
 -- The answer to a call (JVMS 6.5). It knows of no links, tables or lists of receivers.
 use Rattle.std.specs.Prelude.{ℕ, Bool, true, ◌&&◌, if◌then◌else◌}
-use Rattle.jl_code.specs.declared.site.Kind.{Kind}
-use Rattle.jl_code.specs.declared.site.Kind.TheVariants.{Virtual, Special, Static, Interface, Dynamic}
 use Rattle.jl_types.specs.declared.answer.Outcome.{Outcome}
 use Rattle.jl_types.specs.declared.answer.Outcome.TheVariants.{Run, Throws}
 use Rattle.jl_types.specs.declared.answer.Throwable.TheVariants.{NullPointerException}
@@ -12,7 +10,7 @@ use Rattle.jl_types.specs.declared.answer.Answer.TheVariants as answer
 use Rattle.jl_types.specs.World.{World, Classes}
 use Rattle.jl_types.specs.Members.{is_concrete}
 use Rattle.jl_types.specs.Ancestry.{is_ancestor}
-use Rattle.jl_types.specs.Sites.{Invocation, Stage, Waits, Fails, Calls, Selects, stage}
+use Rattle.jl_types.specs.Sites.{Selector, ByVirtual, ByInterface, BySpecial, Invocation, Stage, Waits, Fails, Calls, Selects, stage}
 use Rattle.jl_types.specs.Links.{outcome}
 
 abbrev pub answered : Outcome → Answer
@@ -20,16 +18,14 @@ answered (Run m) = answer.Run m
 answered (Throws throwable) = answer.Throws throwable
 
 -- at invokevirtual an object is a receiver only if its class has the named class among its ancestors
-abbrev pub fits_named : Classes → Invocation → Kind → ℕ → Bool
-fits_named cs i Virtual x = is_ancestor cs i.named x
-fits_named cs i Interface x = true
-fits_named cs i Special x = true
-fits_named cs i Static x = true
-fits_named cs i Dynamic x = true
+abbrev pub fits_named : Classes → Invocation → Selector → ℕ → Bool
+fits_named cs i ByVirtual x = is_ancestor cs i.named x
+fits_named cs i ByInterface x = true
+fits_named cs i BySpecial x = true
 
 -- an object may be of class x, and be a receiver here
 abbrev pub is_receiver : Classes → Invocation → ℕ → Bool
-is_receiver cs i x = is_concrete cs x && fits_named cs i i.kind x
+is_receiver cs i x = is_concrete cs x && fits_named cs i i.selector x
 
 abbrev pub selected : Classes → Invocation → Recv → Answer
 selected cs i Null = answer.Throws NullPointerException

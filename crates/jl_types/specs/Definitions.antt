@@ -1,16 +1,16 @@
 -- The definition of a class by a loader (JVMS 5.3.5), and delegation (5.3).
-use Rattle.std.specs.Prelude.{ℕ, Bool, not, ◌&&◌, ◌||◌, ◌==◌, nat_le, List, [], ◌∷◌, ◌++◌, find, filter_map, length, Option, option_map, option_and_then, option_to_list, is_some, is_none}
+use Rattle.std.specs.Prelude.{ℕ, Bool, not, ◌&&◌, ◌||◌, ◌==◌, nat_le, List, [], ◌∷◌, ◌++◌, find, filter_map, length, slice_get, slice_set, Option, option_map, option_and_then, option_to_list, is_some, is_none}
 use Rattle.std.specs.List.{list_any}
+use Rattle.std.specs.Option.{option_map_or}
 use Rattle.std.specs.Bool.{then_some}
 use Rattle.jl_classfile.specs.declared.class.ClassFile.{ClassFile}
-use Rattle.jl_pool.specs.Pools.{same_text}
+use Rattle.std.specs.Str.{bytes_eq}
 use Rattle.jl_classfile.specs.Conditions.{has_flag, object, PUBLIC}
-use Rattle.jl_types.specs.declared.class.Class.{Class}
 use Rattle.jl_types.specs.declared.refusal.DefineFault.{DefineFault}
 use Rattle.jl_types.specs.declared.refusal.DefineFault.TheVariants as define
 use Rattle.jl_types.specs.declared.refusal.DelegateFault.{DelegateFault}
 use Rattle.jl_types.specs.declared.refusal.DelegateFault.TheVariants as delegate
-use Rattle.jl_types.specs.World.{Classes}
+use Rattle.jl_types.specs.World.{Class, Classes}
 use Rattle.jl_types.specs.Members.{lookup, class_test, is_interface, share_package}
 use Rattle.jl_types.specs.Resolution.{first_of}
 
@@ -50,10 +50,10 @@ is_open_parent cs loader file name = named_test (is_open_to cs (class_made cs lo
 -- the first fault; of one kind, the superclass's comes first, and then those of the superinterfaces in order
 abbrev pub define_fault : Classes → ℕ → ClassFile → Option DefineFault
 define_fault cs loader file = first_of (
-    then_some (nat_le cs.loaders loader) define.UnknownLoader
-    ∷ then_some (same_text file.name object && not (loader == 0)) define.SecondObject
+    then_some (nat_le (length cs.loaders) loader) define.UnknownLoader
+    ∷ then_some (bytes_eq file.name object && not (loader == 0)) define.SecondObject
     ∷ then_some (is_some (lookup cs loader file.name)) define.AlreadyRecorded
-    ∷ then_some (list_any (same_text file.name) (parent_names file)) define.NamesItself
+    ∷ then_some (list_any (bytes_eq file.name) (parent_names file)) define.NamesItself
     ∷ option_map define.MissingParent (find (λ name. is_none (lookup cs loader name)) (parent_names file))
     ∷ then_some (list_any (named_test (is_interface cs) cs loader) (option_to_list file.superclass)) define.SuperIsInterface
     ∷ then_some (list_any (named_test (is_final cs) cs loader) (option_to_list file.superclass)) define.FinalSuper
@@ -62,27 +62,28 @@ define_fault cs loader file = first_of (
     ∷ then_some (nat_le 65536 (length cs.rows)) define.Full
     ∷ [])
 
+-- the loader records the class under the name
+abbrev pub with_record : List (List (List ℕ × ℕ)) → ℕ → List ℕ → ℕ → List (List (List ℕ × ℕ))
+with_record loaders loader name c =
+    option_map_or (λ records. slice_set loaders loader (records ++ (name, c) ∷ [])) (slice_get loaders loader) loaders
+
 -- the classes once the class is defined: its loader records it under its name
 abbrev pub defined : Classes → ℕ → ClassFile → Classes
-defined cs loader file = record {
-  loaders = cs.loaders;
+defined cs loader file = record cs {
+  loaders = with_record cs.loaders loader file.name (length cs.rows);
   rows = cs.rows ++ class_made cs loader file ∷ [];
-  records = cs.records ++ ((loader, file.name), length cs.rows) ∷ [];
 }
 
 -- ---- delegation
 
 abbrev pub delegate_fault : Classes → ℕ → List ℕ → ℕ → Option DelegateFault
 delegate_fault cs loader name to = first_of (
-    then_some (nat_le cs.loaders loader || nat_le cs.loaders to) delegate.UnknownLoader
+    then_some (nat_le (length cs.loaders) loader || nat_le (length cs.loaders) to) delegate.UnknownLoader
     ∷ then_some (is_none (lookup cs to name)) delegate.NotRecorded
     ∷ then_some (is_some (lookup cs loader name)) delegate.AlreadyRecorded
     ∷ [])
 
 -- the loader records what the other one finds
 abbrev pub delegated : Classes → ℕ → List ℕ → ℕ → Classes
-delegated cs loader name to = record {
-  loaders = cs.loaders;
-  rows = cs.rows;
-  records = cs.records ++ option_to_list (option_map (λ c. ((loader, name), c)) (lookup cs to name));
-}
+delegated cs loader name to =
+    record cs { loaders = option_map_or (with_record cs.loaders loader name) (lookup cs to name) cs.loaders }

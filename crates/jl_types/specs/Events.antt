@@ -1,9 +1,9 @@
 -- What an event is answered, and the world after it.
-use Rattle.std.specs.Prelude.{ℕ, Bool, true, false, not, ◌&&◌, ◌||◌, ◌+◌, ◌==◌, nat_lt, nat_le, List, [], ◌∷◌, ◌++◌, map, position, length, slice_get, slice_set, fold, Option, Some, None, Result, Ok, Err, option_map, codes, if◌then◌else◌}
+use Rattle.std.specs.Prelude.{◌≡◌, ◌≢◌, ◌<◌, ◌≤◌, All, AllPairs, ℕ, Bool, true, false, not, ◌&&◌, ◌||◌, ◌+◌, ◌==◌, nat_lt, nat_le, List, [], ◌∷◌, ◌++◌, map, position, length, slice_get, slice_set, fold, Option, Some, None, Result, Ok, Err, option_map, codes, if◌then◌else◌}
 use Rattle.std.specs.Option.{option_map_or}
 use Rattle.std.specs.List.{list_any, starts_with}
 use Rattle.std.specs.Bool.{then_some}
-use Rattle.jl_pool.specs.Pools.{same_text}
+use Rattle.std.specs.Str.{bytes_eq}
 use Rattle.jl_code.specs.declared.site.Operand.{Operand}
 use Rattle.jl_code.specs.declared.site.Operand.TheVariants as operand
 use Rattle.jl_code.specs.declared.site.Site.{Site}
@@ -19,14 +19,19 @@ use Rattle.jl_types.specs.declared.event.Made.TheVariants as made
 use Rattle.jl_types.specs.declared.refusal.CallSiteFault.{CallSiteFault}
 use Rattle.jl_types.specs.declared.refusal.CallSiteFault.TheVariants as fault
 use Rattle.jl_types.specs.declared.refusal.NotLinkable.TheVariants.{ArrayReceiver, PolymorphicSignature}
+use Rattle.jl_types.specs.declared.refusal.SitesFault.{SitesFault}
+use Rattle.jl_types.specs.declared.refusal.SitesFault.TheVariants as sites
 use Rattle.jl_types.specs.declared.refusal.Refusal.{Refusal}
 use Rattle.jl_types.specs.declared.refusal.Refusal.TheVariants.{Define, UnknownClass, NoSuchPlace, NotLinkable, SitesFull, CallSite, NotDynamic, AlreadyBound, TypeMismatch, Stale, NotReady, UnknownSite, Repeated, BatchSize, Delegate, LoadersFull}
-use Rattle.jl_types.specs.SameLink.{same_link}
-use Rattle.jl_types.specs.World.{World, Classes, Target, CallSite as CallSiteRow}
+use Rattle.jl_types.specs.Means.SameLink.{same_link}
+use Rattle.jl_types.specs.World.{World, Classes, CallSite as CallSiteRow}
+use Rattle.jl_types.specs.Target.{Target}
 use Rattle.jl_types.specs.Resolution.{first_of}
-use Rattle.jl_types.specs.Targets.{plain_target, target_fault}
+use Rattle.jl_types.specs.Targets.{target_fault}
+use Rattle.jl_types.specs.Members.{is_present}
 use Rattle.jl_types.specs.Sites.{invocation_at, bound_to}
 use Rattle.jl_types.specs.Links.{scratch}
+use Rattle.jl_types.specs.Batches.{is_bad_size, sites_fault}
 use Rattle.jl_types.specs.Definitions.{define_fault, defined, delegate_fault, delegated}
 
 -- the first refusal, else what the event gives a number to
@@ -46,8 +51,8 @@ names_array (operand.CallSite specifier) = false
 -- names a method of one of the classes whose methods any descriptor fits (JVMS 2.9.3)
 abbrev pub is_polymorphic : Operand (List ℕ) → Bool
 is_polymorphic (operand.Method ref) =
-    same_text ref.owner (codes "java/lang/invoke/MethodHandle")
-    || same_text ref.owner (codes "java/lang/invoke/VarHandle")
+    bytes_eq ref.owner (codes "java/lang/invoke/MethodHandle")
+    || bytes_eq ref.owner (codes "java/lang/invoke/VarHandle")
 is_polymorphic (operand.CallSite specifier) = false
 
 abbrev pub new_place_fault : ℕ → World → Site → Option Refusal
@@ -62,10 +67,14 @@ abbrev pub request_place : ℕ → World → Option ℕ → Site → Result Made
 request_place max_sites w (Some s) site = Ok (made.Site s)
 request_place max_sites w None site = unless (new_place_fault max_sites w site) (made.Site (length w.places))
 
-abbrev pub request_at : ℕ → World → Place → Option Site → Result Made Refusal
-request_at max_sites w place None =
-    Err (if nat_le (length w.classes.rows) place.class then UnknownClass else NoSuchPlace)
-request_at max_sites w place (Some site) = request_place max_sites w (position (same_place place) w.places) site
+abbrev pub if_invoked : ℕ → World → Place → Option Site → Result Made Refusal
+if_invoked max_sites w place None = Err NoSuchPlace
+if_invoked max_sites w place (Some site) = request_place max_sites w (position (same_place place) w.places) site
+
+abbrev pub request_at : ℕ → World → Place → Result Made Refusal
+request_at max_sites w place =
+    if is_present w.classes place.class then if_invoked max_sites w place (invocation_at w.classes place)
+    else Err UnknownClass
 
 abbrev pub requested : List Place → Place → List Place
 requested places place = if list_any (same_place place) places then places else places ++ place ∷ []
@@ -78,7 +87,7 @@ most_of_a_kind = 65536
 abbrev pub new_call_site_fault : World → List ℕ → Target → Option CallSiteFault
 new_call_site_fault w ty t = first_of (
     then_some (nat_le most_of_a_kind (length w.sites.call_sites)) fault.Full
-    ∷ target_fault w ty t
+    ∷ target_fault w (length w.sites.call_sites) ty t
     ∷ [])
 
 abbrev pub is_constant : CallSiteKind → Bool
@@ -86,17 +95,16 @@ is_constant Constant = true
 is_constant Mutable = false
 is_constant Volatile = false
 
-abbrev pub set_target_fault : World → Option CallSiteRow → Target → Option CallSiteFault
-set_target_fault w None t = Some fault.UnknownCallSite
-set_target_fault w (Some site) t = if is_constant site.kind then Some fault.Constant else target_fault w site.ty t
+abbrev pub set_target_fault : World → ℕ → Option CallSiteRow → Target → Option CallSiteFault
+set_target_fault w c None t = Some fault.UnknownCallSite
+set_target_fault w c (Some site) t = if is_constant site.kind then Some fault.Constant else target_fault w c site.ty t
 
 abbrev pub invalidate_fault : World → List ℕ → Option CallSiteFault
 invalidate_fault w points = then_some (list_any (nat_le (length w.sites.switches)) points) fault.UnknownSwitch
 
 abbrev pub retargeted : List CallSiteRow → ℕ → Target → List CallSiteRow
 retargeted sites c t =
-    option_map_or (λ site. slice_set sites c (record { kind = site.kind; ty = site.ty; target = t }))
-    (slice_get sites c) sites
+    option_map_or (λ site. slice_set sites c (record site { target = t })) (slice_get sites c) sites
 
 abbrev pub invalidated : List Bool → List ℕ → List Bool
 invalidated switches points = fold (λ left p. slice_set left p false) switches points
@@ -105,7 +113,7 @@ invalidated switches points = fold (λ left p. slice_set left p false) switches 
 
 abbrev pub type_fault : List ℕ → Option CallSiteRow → Option Refusal
 type_fault ty None = Some (CallSite fault.UnknownCallSite)
-type_fault ty (Some site) = then_some (not (same_text site.ty ty)) TypeMismatch
+type_fault ty (Some site) = then_some (not (bytes_eq site.ty ty)) TypeMismatch
 
 abbrev pub operand_fault : World → ℕ → ℕ → Operand (List ℕ) → Option Refusal
 operand_fault w s c (operand.Method ref) = Some NotDynamic
@@ -124,14 +132,9 @@ bind_fault w s c (Some place) = bind_at w s c (invocation_at w.classes place)
 
 -- ---- an install
 
--- the first row whose site isn't requested, or comes in an earlier row
-abbrev pub batch_fault : World → List ℕ → List (ℕ × Link) → Option Refusal
-batch_fault w earlier [] = None
-batch_fault w earlier ((s, l) ∷ rows) = first_of (
-    then_some (nat_le (length w.places) s) (UnknownSite s)
-    ∷ then_some (list_any (λ t. t == s) earlier) (Repeated s)
-    ∷ batch_fault w (s ∷ earlier) rows
-    ∷ [])
+abbrev pub of_sites : SitesFault → Refusal
+of_sites (sites.Unknown s) = UnknownSite s
+of_sites (sites.Repeated s) = Repeated s
 
 -- the row's link has to be the one from scratch now
 abbrev pub row_fault : ℕ → Link → Result Link Unlinked → Option Refusal
@@ -140,25 +143,33 @@ row_fault s l (Ok now) = if same_link now l then None else Some (Stale s now)
 
 abbrev pub install_fault : World → List (ℕ × Link) → Option Refusal
 install_fault w rows = first_of (
-    then_some ((length rows == 0) || nat_lt 256 (length rows)) BatchSize
-    ∷ batch_fault w [] rows
+    then_some (is_bad_size (length rows)) BatchSize
+    ∷ option_map of_sites (sites_fault w [] (map (λ row. row.0) rows))
     ∷ first_of (map (λ row. row_fault row.0 row.1 (scratch w row.0)) rows)
     ∷ [])
+
+-- An install is accepted: 1 to 256 rows, of requested sites, none of them twice, and each link is the one from scratch now.
+pub record Accepts (w : World) (rows : List (ℕ × Link)) : Type 0 where
+  pub some : 1 ≤ length rows
+  pub few : length rows ≤ 256
+  pub requested : All (λ row. row.0 < length w.places) rows
+  pub once : AllPairs (λ a b. a.0 ≢ b.0) rows
+  pub present : All (λ row. scratch w row.0 ≡ Ok row.1) rows
 
 -- ---- the verdict on an event, where at most so many sites may be requested: the first refusal, else what it makes
 
 abbrev pub verdict : ℕ → World → Event → Result Made Refusal
 verdict max_sites w event.NewLoader =
-    unless (then_some (nat_le 1024 w.classes.loaders) LoadersFull) (made.Loader w.classes.loaders)
+    unless (then_some (nat_le 1024 (length w.classes.loaders)) LoadersFull) (made.Loader (length w.classes.loaders))
 verdict max_sites w (event.Define loader file) =
     unless (option_map Define (define_fault w.classes loader file)) (made.Class (length w.classes.rows))
 verdict max_sites w (event.Delegate loader name to) =
     unless (option_map Delegate (delegate_fault w.classes loader name to)) made.Nothing
-verdict max_sites w (event.Request place) = request_at max_sites w place (invocation_at w.classes place)
+verdict max_sites w (event.Request place) = request_at max_sites w place
 verdict max_sites w (event.NewCallSite kind ty t) =
-    unless (option_map CallSite (new_call_site_fault w ty (plain_target t))) (made.CallSite (length w.sites.call_sites))
+    unless (option_map CallSite (new_call_site_fault w ty t)) (made.CallSite (length w.sites.call_sites))
 verdict max_sites w (event.SetTarget c t) =
-    unless (option_map CallSite (set_target_fault w (slice_get w.sites.call_sites c) (plain_target t))) made.Nothing
+    unless (option_map CallSite (set_target_fault w c (slice_get w.sites.call_sites c) t)) made.Nothing
 verdict max_sites w event.NewSwitch =
     unless (then_some (nat_le most_of_a_kind (length w.sites.switches)) (CallSite fault.Full))
     (made.Switch (length w.sites.switches))
@@ -178,13 +189,13 @@ abbrev pub with_switches : World → List Bool → World
 with_switches w switches = record w { sites = record w.sites { switches = switches } }
 
 abbrev pub step : World → Event → World
-step w event.NewLoader = with_classes w (record w.classes { loaders = w.classes.loaders + 1 })
+step w event.NewLoader = with_classes w (record w.classes { loaders = w.classes.loaders ++ [] ∷ [] })
 step w (event.Define loader file) = with_classes w (defined w.classes loader file)
 step w (event.Delegate loader name to) = with_classes w (delegated w.classes loader name to)
 step w (event.Request place) = record w { places = requested w.places place }
 step w (event.NewCallSite kind ty t) =
-    with_call_sites w (w.sites.call_sites ++ record { kind = kind; ty = ty; target = plain_target t } ∷ [])
-step w (event.SetTarget c t) = with_call_sites w (retargeted w.sites.call_sites c (plain_target t))
+    with_call_sites w (w.sites.call_sites ++ record { kind = kind; ty = ty; target = t } ∷ [])
+step w (event.SetTarget c t) = with_call_sites w (retargeted w.sites.call_sites c t)
 step w event.NewSwitch = with_switches w (w.sites.switches ++ true ∷ [])
 step w (event.Invalidate points) = with_switches w (invalidated w.sites.switches points)
 step w (event.Bind s c) = record w { bindings = w.bindings ++ (s, c) ∷ [] }

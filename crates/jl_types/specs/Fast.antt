@@ -8,6 +8,8 @@ use Rattle.jl_types.specs.declared.answer.Outcome.{Outcome}
 use Rattle.jl_types.specs.declared.answer.Recv.{Recv}
 use Rattle.jl_types.specs.declared.answer.Recv.TheVariants.{Null, Of}
 use Rattle.jl_types.specs.declared.answer.Answer.{Answer}
+use Rattle.jl_types.specs.declared.answer.Fast.{Fast}
+use Rattle.jl_types.specs.declared.answer.Fast.TheVariants.{Now, Miss}
 use Rattle.jl_types.specs.declared.answer.Answer.TheVariants as answer
 use Rattle.jl_types.specs.declared.answer.Throwable.TheVariants.{IncompatibleClassChangeError, NullPointerException}
 use Rattle.jl_types.specs.Calls.{answered}
@@ -20,15 +22,15 @@ abbrev pub entry_answer : TableKind → Option (ℕ × Outcome) → Answer
 entry_answer kind None = no_entry kind
 entry_answer kind (Some row) = answered row.1
 
--- the link's answer for a receiver; none is a miss
-abbrev pub link_answer : Link → Recv → Option Answer
-link_answer (Fault throwable) recv = Some (answer.Throws throwable)
-link_answer (Plain m) recv = Some (answer.Run m)
-link_answer (Direct outcome) Null = Some (answer.Throws NullPointerException)
-link_answer (Direct outcome) (Of x) = Some (answered outcome)
-link_answer (Table kind rows) Null = Some (answer.Throws NullPointerException)
-link_answer (Table kind rows) (Of x) = Some (entry_answer kind (find (λ row. row.0 == x) rows))
-link_answer Mega recv = None
+-- the link's answer for a receiver
+abbrev pub link_answer : Link → Recv → Fast
+link_answer (Fault throwable) recv = Now (answer.Throws throwable)
+link_answer (Plain m) recv = Now (answer.Run m)
+link_answer (Direct outcome) Null = Now (answer.Throws NullPointerException)
+link_answer (Direct outcome) (Of x) = Now (answered outcome)
+link_answer (Table kind rows) Null = Now (answer.Throws NullPointerException)
+link_answer (Table kind rows) (Of x) = Now (entry_answer kind (find (λ row. row.0 == x) rows))
+link_answer Mega recv = Miss
 
 -- ---- for a caller that knows of so many classes
 
@@ -44,6 +46,6 @@ is_newer n Null = false
 is_newer n (Of x) = nat_le n x
 
 -- a miss too where the receiver's class is newer than the classes that the caller knows of
-abbrev pub fast_answer : Option Link → ℕ → Recv → Option Answer
-fast_answer None n recv = None
-fast_answer (Some link) n recv = if looks_at_receiver link && is_newer n recv then None else link_answer link recv
+abbrev pub fast_answer : Option Link → ℕ → Recv → Fast
+fast_answer None n recv = Miss
+fast_answer (Some link) n recv = if looks_at_receiver link && is_newer n recv then Miss else link_answer link recv

@@ -4,12 +4,15 @@ use Rattle.std.specs.Option.{option_map_or}
 use Rattle.std.specs.List.{list_any, range_with_len}
 use Rattle.jl_types.specs.declared.link.Link.{Link}
 use Rattle.jl_types.specs.declared.answer.Unlinked.{Unlinked}
+use Rattle.jl_types.specs.declared.event.Made.{Made}
+use Rattle.jl_types.specs.declared.event.Reply.{Reply}
+use Rattle.jl_types.specs.declared.refusal.Refusal.{Refusal}
 use Rattle.jl_types.specs.declared.event.Event.{Event}
 use Rattle.jl_types.specs.declared.event.Event.TheVariants as event
-use Rattle.jl_types.specs.SameLink.{same_link}
+use Rattle.jl_types.specs.Means.SameLink.{same_link}
 use Rattle.jl_types.specs.World.{World, nothing_yet}
 use Rattle.jl_types.specs.Links.{scratch}
-use Rattle.jl_types.specs.Events.{step}
+use Rattle.jl_types.specs.Events.{verdict, step}
 
 abbrev pub world_after : List Event → World
 world_after h = fold step nothing_yet h
@@ -71,9 +74,17 @@ site_numbers h = range_with_len 0 (length (world_after h).places)
 abbrev pub installed_links : List Event → List (ℕ × Link)
 installed_links h = filter_map (λ s. option_map (λ l. (s, l)) (installed h s)) (site_numbers h)
 
+abbrev pub replied : List ℕ → Result Made Refusal → Result Reply Refusal
+replied dropped (Ok made) = Ok (record { made = made; dropped = dropped })
+replied dropped (Err refusal) = Err refusal
+
 -- what the event e drops after h, rising
 abbrev pub dropped : List Event → Event → List ℕ
 dropped h e = filter (λ s. is_some (installed h s) && is_none (installed (h ++ e ∷ []) s)) (site_numbers h)
+
+-- what the event is answered after h: the first refusal, or what it gives a number to and what it drops
+abbrev pub reply : ℕ → List Event → Event → Result Reply Refusal
+reply max_sites h e = replied (dropped h e) (verdict max_sites (world_after h) e)
 
 -- ---- one event more
 

@@ -1,7 +1,6 @@
--- What a link is and what a call comes to, in reading order. `Padded`, `Same` and `SameLink` are means of proof.
-pub mod Padded
-pub mod Same
-pub mod SameLink
+-- What a link is and what a call comes to, in reading order. `Means` has means of proof.
+pub mod Means
+pub mod Target
 pub mod World
 pub mod Members
 pub mod Ancestry
@@ -14,6 +13,7 @@ pub mod Sites
 pub mod Links
 pub mod Calls
 pub mod Definitions
+pub mod Batches
 pub mod Events
 pub mod Preparation
 pub mod History

@@ -2,8 +2,6 @@
 -- Ungar 1991).
 use Rattle.std.specs.Prelude.{ℕ, Bool, false, ◌&&◌, ◌==◌, nat_le, List, [], ◌∷◌, map, length, Result, Ok, Err, if◌then◌else◌}
 use Rattle.std.specs.List.{list_all}
-use Rattle.jl_code.specs.declared.site.Kind.{Kind}
-use Rattle.jl_code.specs.declared.site.Kind.TheVariants.{Virtual, Special, Static, Interface, Dynamic}
 use Rattle.jl_types.specs.declared.ids.MethodId.{MethodId}
 use Rattle.jl_types.specs.declared.answer.Outcome.{Outcome}
 use Rattle.jl_types.specs.declared.answer.Outcome.TheVariants.{Run, Throws}
@@ -16,19 +14,17 @@ use Rattle.jl_types.specs.World.{World, Classes}
 use Rattle.jl_types.specs.Members.{is_private}
 use Rattle.jl_types.specs.Ancestry.{receivers}
 use Rattle.jl_types.specs.Selection.{virtual_outcome, interface_outcome, special_outcome}
-use Rattle.jl_types.specs.Sites.{Invocation, Stage, Waits, Fails, Calls, Selects, stage}
+use Rattle.jl_types.specs.Sites.{Selector, ByVirtual, ByInterface, BySpecial, Invocation, Stage, Waits, Fails, Calls, Selects, stage}
 
 -- ---- what an invocation comes to for a receiver of class x
 
-abbrev pub outcome_by : Classes → Invocation → Kind → ℕ → Outcome
-outcome_by cs i Virtual x = virtual_outcome cs x i.method
-outcome_by cs i Interface x = interface_outcome cs x i.named i.method
-outcome_by cs i Special x = special_outcome cs i.caller i.named i.ref
-outcome_by cs i Static x = Run i.method
-outcome_by cs i Dynamic x = Run i.method
+abbrev pub outcome_by : Classes → Invocation → Selector → ℕ → Outcome
+outcome_by cs i ByVirtual x = virtual_outcome cs x i.method
+outcome_by cs i ByInterface x = interface_outcome cs x i.named i.method
+outcome_by cs i BySpecial x = special_outcome cs i.caller i.named i.ref
 
 abbrev pub outcome : Classes → Invocation → ℕ → Outcome
-outcome cs i x = outcome_by cs i i.kind x
+outcome cs i x = outcome_by cs i i.selector x
 
 -- ---- links
 
@@ -50,19 +46,17 @@ virtual_link ((x, Throws throwable) ∷ rows) = table_or_mega table.Virtual ((x,
 virtual_link ((x, Run m) ∷ rows) =
     if list_all (λ row. runs m row.1) rows then Direct (Run m) else table_or_mega table.Virtual ((x, Run m) ∷ rows)
 
-abbrev pub link_by : Classes → Invocation → Kind → Link
-link_by cs i Virtual =
+abbrev pub link_by : Classes → Invocation → Selector → Link
+link_by cs i ByVirtual =
     if is_private cs i.method then Direct (virtual_outcome cs i.named i.method) else virtual_link (table_rows cs i)
-link_by cs i Interface = table_or_mega table.Interface (table_rows cs i)
-link_by cs i Special = Direct (special_outcome cs i.caller i.named i.ref)
-link_by cs i Static = Plain i.method
-link_by cs i Dynamic = Plain i.method
+link_by cs i ByInterface = table_or_mega table.Interface (table_rows cs i)
+link_by cs i BySpecial = Direct (special_outcome cs i.caller i.named i.ref)
 
 abbrev pub link_of : Classes → Stage → Result Link Unlinked
 link_of cs (Waits reason) = Err reason
 link_of cs (Fails throwable) = Ok (Fault throwable)
 link_of cs (Calls m) = Ok (Plain m)
-link_of cs (Selects i) = Ok (link_by cs i i.kind)
+link_of cs (Selects i) = Ok (link_by cs i i.selector)
 
 -- the link of site s from scratch, or why it has none
 abbrev pub scratch : World → ℕ → Result Link Unlinked

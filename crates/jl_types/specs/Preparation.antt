@@ -1,23 +1,21 @@
 -- What a preparation is answered: links for some sites, looked up apart from the events and installed later.
-use Rattle.std.specs.Prelude.{◌≡◌, ℕ, ◌||◌, ◌==◌, nat_lt, nat_le, List, [], ◌∷◌, map, length, Option, Some, None, Result, Ok, Err}
-use Rattle.std.specs.List.{list_any, AllZip}
+use Rattle.std.specs.Prelude.{◌≡◌, ℕ, List, [], ◌∷◌, map, length, Option, Some, None, option_map, Result, Ok, Err}
+use Rattle.std.specs.List.{AllZip}
 use Rattle.std.specs.Bool.{then_some}
 use Rattle.jl_types.specs.declared.link.Link.{Link}
 use Rattle.jl_types.specs.declared.answer.Unlinked.{Unlinked}
+use Rattle.jl_types.specs.declared.refusal.SitesFault.{SitesFault}
+use Rattle.jl_types.specs.declared.refusal.SitesFault.TheVariants as sites
 use Rattle.jl_types.specs.declared.refusal.PrepareFault.{PrepareFault}
 use Rattle.jl_types.specs.declared.refusal.PrepareFault.TheVariants.{UnknownSite, NotReady, Repeated, BatchSize}
 use Rattle.jl_types.specs.World.{World}
 use Rattle.jl_types.specs.Resolution.{first_of}
+use Rattle.jl_types.specs.Batches.{is_bad_size, sites_fault}
 use Rattle.jl_types.specs.Links.{scratch}
 
--- the first site that isn't requested, or comes earlier
-abbrev pub site_fault : World → List ℕ → List ℕ → Option PrepareFault
-site_fault w earlier [] = None
-site_fault w earlier (s ∷ sites) = first_of (
-    then_some (nat_le (length w.places) s) (UnknownSite s)
-    ∷ then_some (list_any (λ t. t == s) earlier) (Repeated s)
-    ∷ site_fault w (s ∷ earlier) sites
-    ∷ [])
+abbrev pub of_sites : SitesFault → PrepareFault
+of_sites (sites.Unknown s) = UnknownSite s
+of_sites (sites.Repeated s) = Repeated s
 
 abbrev pub link_fault : ℕ → Result Link Unlinked → Option PrepareFault
 link_fault s (Ok link) = None
@@ -33,7 +31,7 @@ ArePrepared w sites rows = AllZip (λ s row. (row.0 ≡ s) × (scratch w s ≡ O
 
 abbrev pub prepare_fault : World → List ℕ → Option PrepareFault
 prepare_fault w sites = first_of (
-    then_some ((length sites == 0) || nat_lt 256 (length sites)) BatchSize
-    ∷ site_fault w [] sites
+    then_some (is_bad_size (length sites)) BatchSize
+    ∷ option_map of_sites (sites_fault w [] sites)
     ∷ ready_fault w sites
     ∷ [])

@@ -5,6 +5,8 @@ use Rattle.std.specs.List.{list_any}
 use Rattle.jl_pool.specs.declared.reference.Reference.{Reference}
 use Rattle.jl_classfile.specs.Conditions.{object}
 use Rattle.jl_types.specs.declared.ids.MethodId.{MethodId}
+use Rattle.jl_types.specs.declared.answer.Chosen.{Chosen}
+use Rattle.jl_types.specs.declared.answer.Chosen.TheVariants.{Method as Picked, Several, Nothing}
 use Rattle.jl_types.specs.declared.answer.ResolveAnswer.{ResolveAnswer}
 use Rattle.jl_types.specs.declared.answer.ResolveAnswer.TheVariants.{NotReady, Fault}
 use Rattle.jl_types.specs.declared.answer.Missing.TheVariants.{Named}
@@ -24,11 +26,17 @@ abbrev pub first_element : {A : Type 0} → List A → Option A
 first_element [] = None
 first_element (x ∷ xs) = Some x
 
--- the element of a list of one
-abbrev pub only : {A : Type 0} → List A → Option A
-only [] = None
-only (x ∷ []) = Some x
-only (x ∷ y ∷ xs) = None
+-- the one of these, if there is one, and none and several told apart
+abbrev pub pick : List MethodId → Chosen
+pick [] = Nothing
+pick (m ∷ []) = Picked m
+pick (m ∷ n ∷ ms) = Several
+
+-- where there is exactly one
+abbrev pub only : Chosen → Option MethodId
+only (Picked m) = Some m
+only Several = None
+only Nothing = None
 
 -- ---- superinterface methods
 
@@ -63,7 +71,7 @@ declared_in_object cs name ty =
 abbrev pub found_in_class : Classes → List ℕ → List ℕ → ℕ → Option MethodId
 found_in_class cs name ty c = first_of (
     declared_upward cs name ty c
-    ∷ only (defaults cs name ty c)
+    ∷ only (pick (defaults cs name ty c))
     ∷ first_element (candidates cs name ty c)
     ∷ [])
 
@@ -72,7 +80,7 @@ abbrev pub found_in_interface : Classes → List ℕ → List ℕ → ℕ → Op
 found_in_interface cs name ty c = first_of (
     declared cs name ty c
     ∷ declared_in_object cs name ty
-    ∷ only (defaults cs name ty c)
+    ∷ only (pick (defaults cs name ty c))
     ∷ first_element (candidates cs name ty c)
     ∷ [])
 
@@ -81,6 +89,11 @@ found cs ref named =
     if ref.itf then found_in_interface cs ref.name ref.ty named else found_in_class cs ref.name ref.ty named
 
 -- ---- resolution
+
+-- the class that a reference names, and the method that it resolves to
+pub record Resolved : Type 0 where
+  pub named : ℕ
+  pub method : MethodId
 
 abbrev pub by_access : MethodId → Access → Result MethodId ResolveAnswer
 by_access m Allowed = Ok m
@@ -103,10 +116,14 @@ resolved_in cs d ref named =
 abbrev pub named_class : Classes → ℕ → Reference (List ℕ) → Option ℕ
 named_class cs d ref = option_and_then (λ row. lookup cs row.loader ref.owner) (slice_get cs.rows d)
 
-abbrev pub resolved_at : Classes → ℕ → Reference (List ℕ) → Option ℕ → Result MethodId ResolveAnswer
-resolved_at cs d ref None = Err (NotReady Named)
-resolved_at cs d ref (Some named) = resolved_in cs d ref named
+abbrev pub naming : ℕ → Result MethodId ResolveAnswer → Result Resolved ResolveAnswer
+naming named (Ok m) = Ok (record { named = named; method = m })
+naming named (Err answer) = Err answer
 
--- the method that the reference resolves to, for the caller d
-abbrev pub resolved : Classes → ℕ → Reference (List ℕ) → Result MethodId ResolveAnswer
+abbrev pub resolved_at : Classes → ℕ → Reference (List ℕ) → Option ℕ → Result Resolved ResolveAnswer
+resolved_at cs d ref None = Err (NotReady Named)
+resolved_at cs d ref (Some named) = naming named (resolved_in cs d ref named)
+
+-- what the reference resolves to, for the caller d
+abbrev pub resolved : Classes → ℕ → Reference (List ℕ) → Result Resolved ResolveAnswer
 resolved cs d ref = resolved_at cs d ref (named_class cs d ref)

@@ -2,7 +2,7 @@
 use Rattle.std.specs.Prelude.{ℕ, not, ◌&&◌, ◌||◌, List, [], ◌∷◌, filter, filter_map, Option, Some, None, option_to_list, codes, Bool, if◌then◌else◌}
 use Rattle.jl_classfile.specs.declared.class.Method.{Method}
 use Rattle.jl_pool.specs.declared.reference.Reference.{Reference}
-use Rattle.jl_pool.specs.Pools.{same_text}
+use Rattle.std.specs.Str.{bytes_eq}
 use Rattle.jl_types.specs.declared.ids.MethodId.{MethodId}
 use Rattle.jl_types.specs.declared.answer.Outcome.{Outcome}
 use Rattle.jl_types.specs.declared.answer.Outcome.TheVariants.{Run, Throws}
@@ -12,21 +12,15 @@ use Rattle.jl_types.specs.declared.answer.Throwable.TheVariants.{IllegalAccessEr
 use Rattle.jl_types.specs.World.{Classes}
 use Rattle.jl_types.specs.Members.{method_at, declared, is_public, is_private, is_static, is_abstract, is_interface}
 use Rattle.jl_types.specs.Ancestry.{superclass_of, superclasses, is_proper_subclass, is_ancestor}
-use Rattle.jl_types.specs.Resolution.{first_of, first_element, declared_in_object, defaults}
+use Rattle.jl_types.specs.Resolution.{first_of, first_element, pick, declared_in_object, defaults}
 use Rattle.jl_types.specs.Overriding.{can_override}
 
 -- ---- selection
 
--- the only one of the maximally-specific methods that aren't abstract
-abbrev pub by_defaults : List MethodId → Chosen
-by_defaults [] = Nothing
-by_defaults (m ∷ []) = Picked m
-by_defaults (m ∷ n ∷ ms) = Several
-
--- what was found, else by the defaults
+-- what was found, else the one of the defaults
 abbrev pub found_or : Option MethodId → List MethodId → Chosen
 found_or (Some m) ms = Picked m
-found_or None ms = by_defaults ms
+found_or None ms = pick ms
 
 -- the first method that can override r, in x and its superclasses upward
 abbrev pub overriding : Classes → ℕ → MethodId → Method → Option MethodId
@@ -66,7 +60,7 @@ interface_outcome cs x named r =
 -- ---- invokespecial
 
 abbrev pub is_init : List ℕ → Bool
-is_init name = same_text name (codes "<init>")
+is_init name = bytes_eq name (codes "<init>")
 
 -- the search begins at the caller's direct superclass, if the method isn't `<init>` and a proper superclass of the caller
 -- is named, and else where the reference names

@@ -13,17 +13,23 @@ use Rattle.jl_types.specs.declared.answer.Throwable.TheVariants.{NoSuchMethodErr
 use Rattle.jl_types.specs.declared.answer.ResolveAnswer.{ResolveAnswer}
 use Rattle.jl_types.specs.declared.answer.ResolveAnswer.TheVariants as resolve
 use Rattle.jl_types.specs.declared.answer.Unlinked.{Unlinked}
-use Rattle.jl_types.specs.declared.answer.Unlinked.TheVariants.{NotReady, Unbound, NoSite}
+use Rattle.jl_types.specs.declared.answer.Unlinked.TheVariants.{NotReady, Unbound, Gone, NoSite}
 use Rattle.jl_types.specs.World.{World, Classes, CallSite}
-use Rattle.jl_types.specs.Members.{method_at, is_static}
-use Rattle.jl_types.specs.Resolution.{resolved_at, named_class}
+use Rattle.jl_types.specs.Members.{is_present, method_at, is_static}
+use Rattle.jl_types.specs.Resolution.{Resolved, resolved}
 use Rattle.jl_types.specs.Selection.{is_init}
 use Rattle.jl_types.specs.Targets.{evaluated}
 
--- an invocation whose method is resolved: the instruction, the caller's class, the class that the reference names, the
--- reference, and the method
+-- the instructions that select by the receiver
+pub data Selector : Type 0 where
+  ByVirtual : Selector
+  ByInterface : Selector
+  BySpecial : Selector
+
+-- an invocation whose method is resolved and selected by the receiver: the instruction, the caller's class, the class that
+-- the reference names, the reference, and the method
 pub record Invocation : Type 0 where
-  pub kind : Kind
+  pub selector : Selector
   pub caller : ℕ
   pub named : ℕ
   pub ref : Reference (List ℕ)
@@ -37,35 +43,34 @@ pub data Stage : Type 0 where
 
 -- ---- the instructions
 
--- a static method where one has to be, and none where none may be
-abbrev pub if_static : Classes → Invocation → Stage
-if_static cs i = if is_static cs i.method then Calls i.method else Fails IncompatibleClassChangeError
+-- a static method where one has to be
+abbrev pub if_static : Classes → MethodId → Stage
+if_static cs m = if is_static cs m then Calls m else Fails IncompatibleClassChangeError
 
-abbrev pub unless_static : Classes → Invocation → Stage
-unless_static cs i = if is_static cs i.method then Fails IncompatibleClassChangeError else Selects i
+-- and none where none may be
+abbrev pub selecting : Classes → Selector → ℕ → Reference (List ℕ) → Resolved → Stage
+selecting cs selector d ref r =
+    if is_static cs r.method then Fails IncompatibleClassChangeError else
+    Selects (record { selector = selector; caller = d; named = r.named; ref = ref; method = r.method })
 
-abbrev pub by_kind : Classes → Invocation → Kind → Stage
-by_kind cs i Static = if_static cs i
-by_kind cs i Virtual = unless_static cs i
-by_kind cs i Interface = unless_static cs i
-by_kind cs i Special =
-    if is_init i.ref.name && not (i.method.class == i.named) then Fails NoSuchMethodError else unless_static cs i
-by_kind cs i Dynamic = Waits Unbound
+-- the instruction's own checks; an invokedynamic names no method, but a call site
+abbrev pub by_kind : Classes → Kind → ℕ → Reference (List ℕ) → Resolved → Stage
+by_kind cs Static d ref r = if_static cs r.method
+by_kind cs Virtual d ref r = selecting cs ByVirtual d ref r
+by_kind cs Interface d ref r = selecting cs ByInterface d ref r
+by_kind cs Special d ref r =
+    if is_init ref.name && not (r.method.class == r.named) then Fails NoSuchMethodError else selecting cs BySpecial d ref r
+by_kind cs Dynamic d ref r = Waits Unbound
 
-abbrev pub by_resolution : Classes → Kind → ℕ → Reference (List ℕ) → ℕ → Result MethodId ResolveAnswer → Stage
-by_resolution cs kind d ref named (Err (resolve.NotReady missing)) = Waits (NotReady missing)
-by_resolution cs kind d ref named (Err (resolve.Fault throwable)) = Fails throwable
-by_resolution cs kind d ref named (Ok m) =
-    by_kind cs (record { kind = kind; caller = d; named = named; ref = ref; method = m }) kind
-
-abbrev pub by_name : Classes → Kind → ℕ → Reference (List ℕ) → Option ℕ → Stage
-by_name cs kind d ref None = by_resolution cs kind d ref 0 (resolved_at cs d ref None)
-by_name cs kind d ref (Some named) = by_resolution cs kind d ref named (resolved_at cs d ref (Some named))
+abbrev pub by_resolution : Classes → Kind → ℕ → Reference (List ℕ) → Result Resolved ResolveAnswer → Stage
+by_resolution cs kind d ref (Err (resolve.NotReady missing)) = Waits (NotReady missing)
+by_resolution cs kind d ref (Err (resolve.Fault throwable)) = Fails throwable
+by_resolution cs kind d ref (Ok r) = by_kind cs kind d ref r
 
 -- invokedynamic runs the target of the call site to which it is bound
 abbrev pub by_call_site : World → Option CallSite → Stage
 by_call_site w None = Waits Unbound
-by_call_site w (Some site) = Calls (evaluated w.sites.switches site.target)
+by_call_site w (Some site) = Calls (evaluated w.sites site.target)
 
 abbrev pub bound_to : World → ℕ → Option ℕ
 bound_to w s = option_map (λ b. b.1) (find (λ b. b.0 == s) w.bindings)
@@ -82,7 +87,7 @@ invocation_at cs place =
     (method_at cs (record { class = place.class; index = place.method }))
 
 abbrev pub by_operand : World → ℕ → ℕ → Kind → Operand (List ℕ) → Stage
-by_operand w s d kind (operand.Method ref) = by_name w.classes kind d ref (named_class w.classes d ref)
+by_operand w s d kind (operand.Method ref) = by_resolution w.classes kind d ref (resolved w.classes d ref)
 by_operand w s d kind (operand.CallSite specifier) = by_call_site w (call_site_of w s)
 
 abbrev pub stage_of : World → ℕ → ℕ → Option Site → Stage
@@ -91,7 +96,8 @@ stage_of w s d (Some site) = by_operand w s d site.kind site.operand
 
 abbrev pub stage_at : World → ℕ → Option Place → Stage
 stage_at w s None = Waits NoSite
-stage_at w s (Some place) = stage_of w s place.class (invocation_at w.classes place)
+stage_at w s (Some place) =
+    if is_present w.classes place.class then stage_of w s place.class (invocation_at w.classes place) else Waits Gone
 
 -- what site s comes to
 abbrev pub stage : World → ℕ → Stage

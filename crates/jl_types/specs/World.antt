@@ -1,20 +1,21 @@
 -- What there is to link: classes by loader (JVMS 5.3), requested places, call sites and switch points (java.lang.invoke).
 -- What has a number is numbered by its place in its list.
-use Rattle.std.specs.Prelude.{ℕ, Bool, List, []}
-use Rattle.jl_types.specs.declared.class.Class.{Class}
-use Rattle.jl_types.specs.declared.ids.MethodId.{MethodId}
+use Rattle.std.specs.Prelude.{ℕ, Bool, List, [], ◌∷◌, Option}
+use Rattle.jl_classfile.specs.declared.class.ClassFile.{ClassFile}
 use Rattle.jl_types.specs.declared.ids.Place.{Place}
 use Rattle.jl_types.specs.declared.target.CallSiteKind.{CallSiteKind}
+use Rattle.jl_types.specs.Target.{Target}
+
+-- a defined class or interface: its defining loader, what its class file shows, and its direct superclass and superinterfaces
+pub record Class : Type 0 where
+  pub loader : ℕ
+  pub file : ClassFile
+  pub superclass : Option ℕ
+  pub interfaces : List ℕ
 
 pub record Classes : Type 0 where
-  pub loaders : ℕ  -- how many loaders there are
+  pub loaders : List (List (List ℕ × ℕ))  -- of each loader, the names under which it finds classes, each with its class
   pub rows : List Class  -- the classes and interfaces, in order of definition
-  pub records : List ((ℕ × List ℕ) × ℕ)  -- a loader and a name, with the class that the loader finds under it
-
--- what a call site runs: a method; or the first part while a switch point is valid, and then the second
-pub data Target : Type 0 where
-  Method : MethodId → Target
-  Guard : ℕ → Target → Target → Target
 
 pub record CallSite : Type 0 where
   pub kind : CallSiteKind
@@ -31,9 +32,10 @@ pub record World : Type 0 where
   pub bindings : List (ℕ × ℕ)  -- an invokedynamic site with its call site
   pub sites : Sites
 
+-- one loader that has found nothing
 abbrev pub nothing_yet : World
 nothing_yet = record {
-  classes = record { loaders = 1; rows = []; records = [] };
+  classes = record { loaders = [] ∷ []; rows = [] };
   places = [];
   bindings = [];
   sites = record { call_sites = []; switches = [] };

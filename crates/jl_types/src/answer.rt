@@ -71,6 +71,17 @@ pub enum Answer {
     Unlinked(Unlinked),
 }
 
+/// What a call is answered at once, without a look at the classes.
+#[derive(Clone, Copy, Debug, PartialEq, Eq)]
+pub enum Fast {
+    /// This.
+    Now(Answer),
+    /// Nothing: the answer takes a look at the classes.
+    Miss,
+    /// Nothing any more: links aren't published to the caller.
+    Closed,
+}
+
 /// Whether two answers are equal, which they are by value.
 pub fn same_answer(a: Answer, b: Answer) -> bool
     ensures { MatchBool result (a ≡ b) (a ≢ b) }

@@ -7,18 +7,72 @@ use crate::loader_id::LoaderId;
 use jl_classfile::ClassFile;
 use jl_names::Seq;
 use std::alloc::{AllocError, Global};
+use std::marker::Model;
 
 /// A defined class or interface (JVMS SE 17 §5.3): its defining loader, what its file shows, and the classes that the
 /// loader had recorded under the names of its superclass and of its superinterfaces.
 #[derive(Debug, Drop)]
 pub struct Class {
-    pub loader: LoaderId,
-    pub file: ClassFile,
-    pub superclass: Option<ClassId>,
-    pub interfaces: Seq<ClassId>,
+    loader: LoaderId,
+    file: ClassFile,
+    superclass: Option<ClassId>,
+    interfaces: Seq<ClassId>,
+}
+
+impl Model for Class {
+    ghost use Rattle.jl_types.specs.World.{Class};
+
+    ghost Value = { Class };
+
+    ghost view = { λ c. record { loader = c.loader; file = c.file; superclass = c.superclass; interfaces = c.interfaces } };
 }
 
 impl Class {
+    /// The class that the loader makes of the file, below these classes.
+    pub fn new(
+        loader: LoaderId,
+        file: ClassFile,
+        superclass: Option<ClassId>,
+        interfaces: Seq<ClassId>,
+    ) -> Self
+        ensures { result ≡ record { loader = loader; file = file; superclass = superclass; interfaces = interfaces } }
+    {
+        Class {
+            loader,
+            file,
+            superclass,
+            interfaces,
+        }
+    }
+
+    /// Its defining loader.
+    pub fn loader(&self) -> LoaderId
+        ensures { result ≡ self.now.loader }
+    {
+        self.loader
+    }
+
+    /// What its class file shows.
+    pub fn file(&self) -> &ClassFile
+        ensures { result.now ≡ self.now.file }
+    {
+        &self.file
+    }
+
+    /// Its direct superclass, which java/lang/Object alone hasn't.
+    pub fn superclass(&self) -> Option<ClassId>
+        ensures { result ≡ self.now.superclass }
+    {
+        self.superclass
+    }
+
+    /// Its direct superinterfaces, as its file lists them.
+    pub fn interfaces(&self) -> &[ClassId]
+        ensures { result.now ≡ self.now.interfaces }
+    {
+        self.interfaces.as_slice()
+    }
+
     /// The same class once more. Want of memory is an error.
     pub fn copy(&self, alloc: Global) -> Result<Class, AllocError>
         ensures { IfOk result (λ copy. copy ≡ self.now) }

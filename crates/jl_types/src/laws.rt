@@ -2,7 +2,6 @@
 
 ghost use Rattle.std.specs.Prelude.{◌≡◌, ◌↔◌, ◌<◌, ◌≤◌, ◌++◌, ◌∷◌, [], ℕ, List, Some, Ok, Err, true, length, slice_get, find, ◌==◌, Decides, AllPairs, Contains};
 ghost use Rattle.std.specs.Option.{option_map_or};
-ghost use Rattle.jl_types.specs.declared.class.Class.{Class};
 ghost use Rattle.jl_types.specs.declared.ids.MethodId.{MethodId};
 ghost use Rattle.jl_types.specs.declared.answer.Throwable.{Throwable};
 ghost use Rattle.jl_types.specs.declared.answer.Throwable.TheVariants.{NullPointerException};
@@ -15,7 +14,7 @@ ghost use Rattle.jl_types.specs.declared.link.Link.{Link};
 ghost use Rattle.jl_types.specs.declared.link.Link.TheVariants as link;
 ghost use Rattle.jl_types.specs.declared.link.TableKind.{TableKind};
 ghost use Rattle.jl_types.specs.declared.event.Event.{Event};
-ghost use Rattle.jl_types.specs.World.{Classes, World};
+ghost use Rattle.jl_types.specs.World.{Class, Classes, World};
 ghost use Rattle.jl_types.specs.Members.{is_concrete};
 ghost use Rattle.jl_types.specs.Ancestry.{AreOrdered, IsAncestor, is_ancestor, superclasses};
 ghost use Rattle.jl_types.specs.Overriding.{CanOverride, can_override};

@@ -1,8 +1,8 @@
 //! The plain values that every crate of the linker speaks of: numbers, answers, links, targets, events and refusals.
 //!
-//! What a link is, and what a call comes to, stands in `specs/`, in reading order: `World`, `Members`, `Ancestry`,
-//! `Access`, `Resolution`, `Overriding`, `Selection`, `Targets`, `Sites`, `Links`, `Calls`, `Definitions`, `Events`,
-//! `Preparation`, `History`, `Fast`. The laws about them are the contracts of the functions of `laws`.
+//! What a link is, and what a call comes to, stands in `specs/`, in reading order: `Target`, `World`, `Members`,
+//! `Ancestry`, `Access`, `Resolution`, `Overriding`, `Selection`, `Targets`, `Sites`, `Links`, `Calls`, `Definitions`,
+//! `Batches`, `Events`, `Preparation`, `History`, `Fast`. The laws about them are the contracts of the functions of `laws`.
 #![tactic(auto)]
 
 // Numbers.
@@ -30,7 +30,7 @@ mod laws;
 mod tests;
 
 pub use answer::{
-    Answer, Chosen, Missing, Outcome, Recv, ResolveAnswer, Throwable, Unlinked, same_answer,
+    Answer, Chosen, Fast, Missing, Outcome, Recv, ResolveAnswer, Throwable, Unlinked, same_answer,
 };
 pub use call_site_id::CallSiteId;
 pub use class::Class;
@@ -43,8 +43,10 @@ pub use laws::{
 };
 pub use link::{Link, TableKind, same_link};
 pub use loader_id::LoaderId;
-pub use refusal::{CallSiteFault, DefineFault, DelegateFault, NotLinkable, PrepareFault, Refusal};
+pub use refusal::{
+    CallSiteFault, DefineFault, DelegateFault, NotLinkable, PrepareFault, Refusal, SitesFault,
+};
 pub use site_no::SiteNo;
 pub use switch_id::SwitchId;
 pub use table::Table;
-pub use target::{CallSiteKind, Target};
+pub use target::{CallSiteKind, Part, Target};

@@ -123,6 +123,15 @@ pub enum Refusal {
     NotYet,
 }
 
+/// Why the sites of a batch aren't taken, be they prepared or installed.
+#[derive(Clone, Copy, Debug, PartialEq, Eq)]
+pub enum SitesFault {
+    /// No place was requested under this number.
+    Unknown(SiteNo),
+    /// The site comes twice.
+    Repeated(SiteNo),
+}
+
 /// Why links aren't prepared.
 #[derive(Clone, Copy, Debug, PartialEq, Eq)]
 pub enum PrepareFault {

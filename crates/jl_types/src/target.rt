@@ -1,7 +1,11 @@
 //! What call sites run.
 
+ghost use Rattle.std.specs.Prelude.{◌≡◌};
+ghost use Rattle.jl_types.specs.Target as target;
+
 use crate::ids::MethodId;
 use crate::switch_id::SwitchId;
+use std::marker::Model;
 
 /// The kinds of call sites (java.lang.invoke). A mutable and a volatile one act alike here: a new target is seen by the
 /// next event.
@@ -12,11 +16,58 @@ pub enum CallSiteKind {
     Volatile,
 }
 
-/// What a call site runs.
+/// What a call site runs. A clause sees the tree, without where its parts lie in memory.
+#[cycle(target)]
 #[derive(Debug, Drop)]
-pub enum Target {
+pub struct Target {
+    pub part: Part,
+}
+
+/// The part of a target at its top.
+#[cycle(target)]
+#[derive(Debug, Drop)]
+pub enum Part {
     /// A static method.
     Method(MethodId),
     /// The first while the switch point is valid, and then the second (java.lang.invoke.SwitchPoint.guardWithTest).
     Guard(SwitchId, Box<Target>, Box<Target>),
+}
+
+impl Model for Target {
+    ghost use Rattle.jl_types.specs.Target.{Target, depth};
+    ghost use Rattle.jl_types.specs.Means.TargetCode.{target_code};
+
+    ghost Value = { Target };
+
+    ghost coded = { target_code };
+
+    ghost use Rattle.jl_types.specs.Means.Whole.{whole};
+
+    ghost view = { λ t. whole t.part };
+
+    ghost size = { depth };
+
+    ghost use Rattle.jl_types.specs.Means.WholeFalls.{part_le_depth};
+
+    ghost size_decreases = { λ t h. part_le_depth t.part };
+}
+
+impl Target {
+    /// The target that is this method.
+    pub fn method(method: MethodId) -> Target
+        ensures { result ≡ target.Method method }
+    {
+        Target {
+            part: Part::Method(method),
+        }
+    }
+
+    /// The guard of two targets.
+    pub fn guard(point: SwitchId, first: Box<Target>, fallback: Box<Target>) -> Target
+        ensures { result ≡ target.Guard point first.value fallback.value }
+    {
+        Target {
+            part: Part::Guard(point, first, fallback),
+        }
+    }
 }

@@ -1,6 +1,5 @@
 -- Call sites and switch points, over the whole history.
-use Rattle.std.specs.Prelude.{◌≡◌, ℕ, zero, suc, List, [], ◌∷◌, ◌++◌, Some, None, Ok, Err, codes, refl, Box}
-use Rattle.std.proofs.Common.{Global}
+use Rattle.std.specs.Prelude.{◌≡◌, ℕ, zero, suc, List, [], ◌∷◌, ◌++◌, Some, None, Ok, Err, codes, refl}
 use Rattle.jl_classfile.specs.declared.class.Method.{Method}
 use Rattle.jl_code.specs.declared.site.Kind.TheVariants.{Dynamic}
 use Rattle.jl_code.specs.declared.site.Operand.TheVariants as operand
@@ -10,8 +9,8 @@ use Rattle.jl_types.specs.declared.answer.Answer.TheVariants as answer
 use Rattle.jl_types.specs.declared.answer.Unlinked.TheVariants.{Unbound}
 use Rattle.jl_types.specs.declared.link.Link.TheVariants.{Plain}
 use Rattle.jl_types.specs.declared.target.CallSiteKind.TheVariants.{Constant, Mutable}
-use Rattle.jl_types.specs.declared.target.Target.{Target}
-use Rattle.jl_types.specs.declared.target.Target.TheVariants as target
+use Rattle.jl_types.specs.Target as target
+use Rattle.jl_types.specs.Target.{Target}
 use Rattle.jl_types.specs.declared.event.Event.{Event}
 use Rattle.jl_types.specs.declared.event.Event.TheVariants.{Define, Request, NewCallSite, SetTarget, NewSwitch, Invalidate, Bind, Install}
 use Rattle.jl_types.specs.declared.event.Made.TheVariants as made
@@ -72,54 +71,52 @@ old_target = refl
 stays_pending : installed_links (linked ++ SetTarget 0 (target.Method n) ∷ SetTarget 0 (target.Method m) ∷ []) ≡ []
 stays_pending = refl
 
--- wherever its parts lie in memory
-module _ (address : Box (Unit {0}) Global) where
-  -- a guard on point 0 with m first
-  abbrev guard : MethodId → Target
-  guard fallback = target.Guard' 0 address (target.Method m) address (target.Method fallback)
+-- a guard on point 0 with m first
+abbrev guard : MethodId → Target
+guard fallback = target.Guard 0 (target.Method m) (target.Method fallback)
 
-  abbrev guarded : MethodId → List Event
-  guarded fallback = bound (guard fallback) ++ Install ((0, Plain m) ∷ []) ∷ []
+abbrev guarded : MethodId → List Event
+guarded fallback = bound (guard fallback) ++ Install ((0, Plain m) ∷ []) ∷ []
 
-  same_fallback : dropped (guarded m) (Invalidate (0 ∷ [])) ≡ []
-  same_fallback = refl
+same_fallback : dropped (guarded m) (Invalidate (0 ∷ [])) ≡ []
+same_fallback = refl
 
-  still_linked : installed_links (guarded m ++ Invalidate (0 ∷ []) ∷ []) ≡ (0, Plain m) ∷ []
-  still_linked = refl
+still_linked : installed_links (guarded m ++ Invalidate (0 ∷ []) ∷ []) ≡ (0, Plain m) ∷ []
+still_linked = refl
 
-  other_fallback : dropped (guarded n) (Invalidate (0 ∷ [])) ≡ 0 ∷ []
-  other_fallback = refl
+other_fallback : dropped (guarded n) (Invalidate (0 ∷ [])) ≡ 0 ∷ []
+other_fallback = refl
 
-  runs_fallback : dispatch (world_after (guarded n ++ Invalidate (0 ∷ []) ∷ [])) 0 Null ≡ answer.Run n
-  runs_fallback = refl
+runs_fallback : dispatch (world_after (guarded n ++ Invalidate (0 ∷ []) ∷ [])) 0 Null ≡ answer.Run n
+runs_fallback = refl
 
-  invalid_for_good : dropped (guarded n ++ Invalidate (0 ∷ []) ∷ []) (Invalidate (0 ∷ [])) ≡ []
-  invalid_for_good = refl
+invalid_for_good : dropped (guarded n ++ Invalidate (0 ∷ []) ∷ []) (Invalidate (0 ∷ [])) ≡ []
+invalid_for_good = refl
 
-  no_point : verdict 65536 (world_after begun) (Invalidate (0 ∷ 1 ∷ [])) ≡ Err (refusal.CallSite fault.UnknownSwitch)
-  no_point = refl
+no_point : verdict 65536 (world_after begun) (Invalidate (0 ∷ 1 ∷ [])) ≡ Err (refusal.CallSite fault.UnknownSwitch)
+no_point = refl
 
-  -- ---- targets that aren't taken
+-- ---- targets that aren't taken
 
-  abbrev constant : List Event
-  constant = begun ++ NewCallSite Constant (codes "()V") (target.Method m) ∷ []
+abbrev constant : List Event
+constant = begun ++ NewCallSite Constant (codes "()V") (target.Method m) ∷ []
 
-  kept_constant : verdict 65536 (world_after constant) (SetTarget 0 (target.Method n)) ≡ Err (refusal.CallSite fault.Constant)
-  kept_constant = refl
+kept_constant : verdict 65536 (world_after constant) (SetTarget 0 (target.Method n)) ≡ Err (refusal.CallSite fault.Constant)
+kept_constant = refl
 
-  wrong_type : verdict 65536 (world_after begun) (NewCallSite Mutable (codes "()I") (target.Method m)) ≡ Err (refusal.CallSite fault.WrongType)
-  wrong_type = refl
+wrong_type : verdict 65536 (world_after begun) (NewCallSite Mutable (codes "()I") (target.Method m)) ≡ Err (refusal.CallSite fault.WrongType)
+wrong_type = refl
 
-  no_method : verdict 65536 (world_after begun) (NewCallSite Mutable (codes "()V") (target.Method (record { class = 1; index = 3 }))) ≡ Err (refusal.CallSite fault.UnknownMethod)
-  no_method = refl
+no_method : verdict 65536 (world_after begun) (NewCallSite Mutable (codes "()V") (target.Method (record { class = 1; index = 3 }))) ≡ Err (refusal.CallSite fault.UnknownMethod)
+no_method = refl
 
-  -- so many guards, one in the other
-  abbrev deep : ℕ → Target
-  deep zero = target.Method m
-  deep (suc k) = target.Guard' 0 address (deep k) address (target.Method n)
+-- so many guards, one in the other
+abbrev deep : ℕ → Target
+deep zero = target.Method m
+deep (suc k) = target.Guard 0 (deep k) (target.Method n)
 
-  deepest : verdict 65536 (world_after begun) (NewCallSite Mutable (codes "()V") (deep 63)) ≡ Ok (made.CallSite 0)
-  deepest = refl
+deepest : verdict 65536 (world_after begun) (NewCallSite Mutable (codes "()V") (deep 63)) ≡ Ok (made.CallSite 0)
+deepest = refl
 
-  too_deep : verdict 65536 (world_after begun) (NewCallSite Mutable (codes "()V") (deep 64)) ≡ Err (refusal.CallSite fault.TooDeep)
-  too_deep = refl
+too_deep : verdict 65536 (world_after begun) (NewCallSite Mutable (codes "()V") (deep 64)) ≡ Err (refusal.CallSite fault.TooDeep)
+too_deep = refl

@@ -1,7 +1,7 @@
 -- Two unrelated defaults, and one that is more specific.
 use Rattle.std.specs.Prelude.{◌≡◌, List, [], ◌∷◌, Some, codes, refl}
-use Rattle.jl_types.specs.declared.class.Class.{Class}
 use Rattle.jl_code.specs.declared.site.Kind.TheVariants.{Interface}
+use Rattle.jl_types.specs.World.{Class}
 use Rattle.jl_types.specs.declared.answer.Chosen.TheVariants.{Method as Picked, Several}
 use Rattle.jl_types.specs.declared.answer.Recv.TheVariants.{Null, Of}
 use Rattle.jl_types.specs.declared.answer.Answer.TheVariants.{Run, Throws}

@@ -6,6 +6,7 @@ use Rattle.jl_types.specs.declared.answer.Outcome.TheVariants.{Run}
 use Rattle.jl_types.specs.declared.answer.Recv.TheVariants.{Null, Of}
 use Rattle.jl_types.specs.declared.answer.Throwable.TheVariants.{NullPointerException}
 use Rattle.jl_types.specs.declared.answer.Answer.TheVariants as answer
+use Rattle.jl_types.specs.declared.answer.Fast.TheVariants.{Now, Miss}
 use Rattle.jl_types.specs.declared.link.Link.{Link}
 use Rattle.jl_types.specs.declared.link.Link.TheVariants.{Direct, Table, Mega}
 use Rattle.jl_types.specs.declared.link.TableKind.TheVariants as kind
@@ -116,20 +117,20 @@ no_class = refl
 abbrev three : Link
 three = Table kind.Virtual ((1, Run (first 1)) ∷ (2, Run (first 1)) ∷ (4, Run (first 4)) ∷ [])
 
-by_entry : fast_answer (Some three) 5 (Of 4) ≡ Some (answer.Run (first 4))
+by_entry : fast_answer (Some three) 5 (Of 4) ≡ Now (answer.Run (first 4))
 by_entry = refl
 
-without_entry : fast_answer (Some three) 5 (Of 3) ≡ Some answer.BadReceiver
+without_entry : fast_answer (Some three) 5 (Of 3) ≡ Now answer.BadReceiver
 without_entry = refl
 
-newer_class : fast_answer (Some three) 4 (Of 4) ≡ None
+newer_class : fast_answer (Some three) 4 (Of 4) ≡ Miss
 newer_class = refl
 
-of_null : fast_answer (Some three) 0 Null ≡ Some (answer.Throws NullPointerException)
+of_null : fast_answer (Some three) 0 Null ≡ Now (answer.Throws NullPointerException)
 of_null = refl
 
-pending : fast_answer None 5 (Of 4) ≡ None
+pending : fast_answer None 5 (Of 4) ≡ Miss
 pending = refl
 
-megamorphic : fast_answer (Some Mega) 5 Null ≡ None
+megamorphic : fast_answer (Some Mega) 5 Null ≡ Miss
 megamorphic = refl

@@ -1,7 +1,7 @@
 -- A protected method, from a subclass in another package.
 use Rattle.std.specs.Prelude.{◌≡◌, ℕ, List, [], ◌∷◌, Some, Ok, codes, refl}
-use Rattle.jl_types.specs.declared.class.Class.{Class}
 use Rattle.jl_code.specs.declared.site.Kind.TheVariants.{Virtual}
+use Rattle.jl_types.specs.World.{Class}
 use Rattle.jl_types.specs.declared.answer.Outcome.TheVariants.{Run}
 use Rattle.jl_types.specs.declared.answer.Throwable.TheVariants.{IllegalAccessError}
 use Rattle.jl_types.specs.declared.link.Link.TheVariants.{Fault, Direct}

@@ -5,7 +5,7 @@ use Rattle.jl_types.specs.declared.answer.Missing.TheVariants.{Named}
 use Rattle.jl_types.specs.declared.answer.Throwable.TheVariants.{IncompatibleClassChangeError, NoSuchMethodError}
 use Rattle.jl_types.specs.World.{Classes}
 use Rattle.jl_types.specs.Resolution.{resolved}
-use Rattle.jl_types.proofs.Rows.Sketch.{object, class, classes, method, first, class_ref, itf_ref}
+use Rattle.jl_types.proofs.Rows.Sketch.{object, class, classes, method, first, naming, class_ref, itf_ref}
 
 -- X 3 implements I 1 and J 2, each with its f; M 4 is the caller
 abbrev with_flags : ℕ → ℕ → Classes
@@ -17,14 +17,14 @@ with_flags i j = classes (object
     ∷ [])
 
 -- both abstract: that of the interface of least number
-both_abstract : resolved (with_flags 1025 1025) 4 (class_ref (codes "X") (codes "f")) ≡ Ok (first 1)
+both_abstract : resolved (with_flags 1025 1025) 4 (class_ref (codes "X") (codes "f")) ≡ Ok (naming 3 (first 1))
 both_abstract = refl
 
 -- the only one with a body
-one_body : resolved (with_flags 1025 1) 4 (class_ref (codes "X") (codes "f")) ≡ Ok (first 2)
+one_body : resolved (with_flags 1025 1) 4 (class_ref (codes "X") (codes "f")) ≡ Ok (naming 3 (first 2))
 one_body = refl
 
-by_interface : resolved (with_flags 1025 1) 4 (itf_ref (codes "I") (codes "f")) ≡ Ok (first 1)
+by_interface : resolved (with_flags 1025 1) 4 (itf_ref (codes "I") (codes "f")) ≡ Ok (naming 1 (first 1))
 by_interface = refl
 
 class_as_interface : resolved (with_flags 1025 1) 4 (itf_ref (codes "X") (codes "f")) ≡ Err (Fault IncompatibleClassChangeError)

@@ -1,13 +1,13 @@
 -- Small classes to write worlds with.
-use Rattle.std.specs.Prelude.{ℕ, ◌+◌, List, [], ◌∷◌, Option, None, codes, true, false}
+use Rattle.std.specs.Prelude.{ℕ, ◌+◌, ◌==◌, if◌then◌else◌, List, [], ◌∷◌, Option, None, codes, true, false}
 use Rattle.jl_classfile.specs.declared.class.ClassFile.{ClassFile}
 use Rattle.jl_classfile.specs.declared.class.Method.{Method}
 use Rattle.jl_pool.specs.declared.reference.Reference.{Reference}
 use Rattle.jl_code.specs.declared.site.Kind.{Kind}
 use Rattle.jl_code.specs.declared.site.Operand.TheVariants as operand
-use Rattle.jl_types.specs.declared.class.Class.{Class}
 use Rattle.jl_types.specs.declared.ids.MethodId.{MethodId}
-use Rattle.jl_types.specs.World.{Classes, World}
+use Rattle.jl_types.specs.World.{Class, Classes, World}
+use Rattle.jl_types.specs.Resolution.{Resolved}
 
 abbrev pub method : ℕ → List ℕ → Method
 method flags name = record { name = name; ty = codes "()V"; flags = flags; sites = [] }
@@ -34,17 +34,22 @@ class name flags superclass interfaces methods =
 abbrev pub object : Class
 object = class (codes "java/lang/Object") 33 None [] []
 
-abbrev records_from : ℕ → List Class → List ((ℕ × List ℕ) × ℕ)
-records_from n [] = []
-records_from n (row ∷ rows) = ((row.loader, row.file.name), n) ∷ records_from (n + 1) rows
+-- what the loader has recorded: each class that it defined, under the class's own name
+abbrev records_from : ℕ → ℕ → List Class → List (List ℕ × ℕ)
+records_from loader n [] = []
+records_from loader n (row ∷ rows) =
+    if row.loader == loader then (row.file.name, n) ∷ records_from loader (n + 1) rows else records_from loader (n + 1) rows
 
--- each recorded by its loader under its own name
 abbrev pub classes : List Class → Classes
-classes rows = record { loaders = 2; rows = rows; records = records_from 0 rows }
+classes rows = record { loaders = records_from 0 0 rows ∷ records_from 1 0 rows ∷ []; rows = rows }
 
 -- the first method of the class
 abbrev pub first : ℕ → MethodId
 first c = record { class = c; index = 0 }
+
+-- the resolved method, by the class that is named
+abbrev pub naming : ℕ → MethodId → Resolved
+naming named m = record { named = named; method = m }
 
 -- a world with site 0 at pc 0 of a class's first method
 abbrev pub world : List Class → ℕ → World

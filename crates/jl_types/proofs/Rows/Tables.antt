@@ -1,8 +1,8 @@
 -- A table of eight, and no more.
 use Rattle.std.specs.Prelude.{◌≡◌, ℕ, ◌+◌, List, [], ◌∷◌, map, Some, Ok, codes, refl}
 use Rattle.std.specs.List.{range_with_len}
-use Rattle.jl_types.specs.declared.class.Class.{Class}
 use Rattle.jl_code.specs.declared.site.Kind.TheVariants.{Virtual}
+use Rattle.jl_types.specs.World.{Class}
 use Rattle.jl_types.specs.declared.answer.Outcome.TheVariants.{Run}
 use Rattle.jl_types.specs.declared.link.Link.TheVariants.{Table, Mega}
 use Rattle.jl_types.specs.declared.link.TableKind.TheVariants as kind

@@ -2,7 +2,7 @@ use Rattle.std.specs.Prelude.{◌+◌, ℕ, List, drop}
 use Rattle.std.proofs.Common.{sym, ap, ◌∙◌}
 use Rattle.jl_types.specs.declared.link.Link.{Link}
 use Rattle.jl_types.specs.Resolution.{first_of}
-use Rattle.jl_types.specs.SameLink.{same_link}
+use Rattle.jl_types.specs.Means.SameLink.{same_link}
 use Rattle.jl_core.specs.Batches.{row_faults}
 use Rattle.jl_types.proofs.Bools.{not_true, not_false}
 use Rattle.jl_types.proofs.Lists.{rest_at}
