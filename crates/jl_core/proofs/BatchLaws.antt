@@ -1,22 +1,26 @@
 -- The rows of an install, one at a time.
-use Rattle.std.specs.Prelude.{◌≡◌, ℕ, ◌<◌, ◌+◌, ◌==◌, nat_le, nat_lt, take, drop, Bool, true, false, ◌||◌, List, [], ◌∷◌, ◌++◌, fold, map, length, Option, Some, None, Result, Ok, Err}
+use Rattle.std.specs.Prelude.{◌≡◌, ℕ, ◌<◌, ◌+◌, ◌==◌, nat_le, take, drop, get_or, Bool, true, false, ◌||◌, List, [], ◌∷◌, ◌++◌, fold, map, length, Option, Some, None, option_map, Result, Ok, Err}
 use Rattle.std.specs.Bool.{then_some}
 use Rattle.std.specs.List.{list_any, AllZip}
 use Rattle.std.proofs.Common.{refl, ap, sym, ◌∙◌, arith, inl, inr, append-nil}
 use Rattle.std.proofs.lemmas.Bool.Decides.{leb_tells}
-use Rattle.std.proofs.lemmas.List.{take-append-drop}
+use Rattle.std.proofs.lemmas.List.{take-append-drop, take_more}
 use Rattle.jl_types.specs.declared.link.Link.{Link}
 use Rattle.jl_types.specs.declared.answer.Unlinked.{Unlinked}
-use Rattle.jl_types.specs.declared.refusal.Refusal.TheVariants.{Stale, Repeated}
+use Rattle.jl_types.specs.declared.refusal.SitesFault.{SitesFault}
+use Rattle.jl_types.specs.declared.refusal.SitesFault.TheVariants.{Repeated}
+use Rattle.jl_types.specs.declared.refusal.Refusal.TheVariants.{Stale}
 use Rattle.jl_types.specs.Means.SameLink.{same_link}
 use Rattle.jl_types.specs.declared.refusal.PrepareFault.{PrepareFault}
 use Rattle.jl_types.specs.declared.refusal.PrepareFault.TheVariants as fault
-use Rattle.jl_types.specs.Preparation.{site_fault, link_fault, ready_fault, prepare_fault, ArePrepared}
+use Rattle.jl_types.specs.Batches.{is_bad_size, sites_fault}
+use Rattle.jl_types.specs.Preparation.{of_sites, link_fault, ready_fault, prepare_fault, ArePrepared}
 use Rattle.jl_types.specs.World.{World}
 use Rattle.jl_types.specs.Links.{scratch}
-use Rattle.jl_types.specs.Events.{batch_fault, row_fault}
+use Rattle.jl_types.specs.Events.{row_fault}
 use Rattle.jl_types.specs.Resolution.{first_of}
 use Rattle.jl_types.proofs.Bools.{or_none}
+use Rattle.jl_types.proofs.Lists.{rest_at}
 use Rattle.jl_core.specs.Batches.{row_faults}
 
 only_one : {A : Type 0} (o : Option A) → first_of (o ∷ []) ≡ o
@@ -61,22 +65,36 @@ module _ {A : Type 0} (site : A → ℕ) where
   pub sites_more : (rows : List A) (row : A) → sites_of (rows ++ row ∷ []) ≡ site row ∷ sites_of rows
   sites_more rows row = fold_end [] rows row
 
-pub repeated_row : (w : World) (sites : List ℕ) (row : ℕ × Link) (rows : List (ℕ × Link)) → nat_le (length w.places) row.0 ≡ false → list_any (λ t. t == row.0) sites ≡ true → batch_fault w sites (row ∷ rows) ≡ Some (Repeated row.0)
-repeated_row w sites row rows e f = rw (e, f) refl
+pub repeated_site : (w : World) (earlier : List ℕ) (s : ℕ) (sites : List ℕ) → nat_le (length w.places) s ≡ false → list_any (λ t. t == s) earlier ≡ true → sites_fault w earlier (s ∷ sites) ≡ Some (Repeated s)
+repeated_site w earlier s sites e f = rw (e, f) refl
 
-pub new_row : (w : World) (sites : List ℕ) (row : ℕ × Link) (rows : List (ℕ × Link)) → nat_le (length w.places) row.0 ≡ false → list_any (λ t. t == row.0) sites ≡ false → batch_fault w sites (row ∷ rows) ≡ batch_fault w (row.0 ∷ sites) rows
-new_row w sites row rows e f = rw (e, f) (only_one (batch_fault w (row.0 ∷ sites) rows))
+pub new_site : (w : World) (earlier : List ℕ) (s : ℕ) (sites : List ℕ) → nat_le (length w.places) s ≡ false → list_any (λ t. t == s) earlier ≡ false → sites_fault w earlier (s ∷ sites) ≡ sites_fault w (s ∷ earlier) sites
+new_site w earlier s sites e f = rw (e, f) (only_one (sites_fault w (s ∷ earlier) sites))
 
 pub is_known : (n s : ℕ) → s < n → nat_le n s ≡ false
 is_known n s h = elim (leb_tells n s) [ inl p ↦ absurd (let q = p.1 in omega arith) | inr p ↦ p.0 ]
 
--- ---- the sites of a preparation
+-- one row on, where the rows before have no fault
+module _ {A : Type 0} (site : A → ℕ) (w : World) (rows : List A) (n : ℕ) (row : A) (lt : n < length rows) (is : row ≡ get_or rows n row) (s : ℕ) (same : s ≡ site row) (known : s < length w.places) where
+  abbrev left : ℕ → Option SitesFault
+  left k = sites_fault w (sites_of site (take k rows)) (map site (drop k rows))
 
-pub repeated_site : (w : World) (earlier : List ℕ) (s : ℕ) (sites : List ℕ) → nat_le (length w.places) s ≡ false → list_any (λ t. t == s) earlier ≡ true → site_fault w earlier (s ∷ sites) ≡ Some (fault.Repeated s)
-repeated_site w earlier s sites e f = rw (e, f) refl
+  split : left n ≡ sites_fault w (sites_of site (take n rows)) (s ∷ map site (drop (n + 1) rows))
+  split =
+      ap (λ (rs : List A). sites_fault w (sites_of site (take n rows)) (map site rs)) (rest_at rows n row lt is)
+      ∙ ap (λ t. sites_fault w (sites_of site (take n rows)) (t ∷ map site (drop (n + 1) rows))) (sym same)
 
-pub new_site : (w : World) (earlier : List ℕ) (s : ℕ) (sites : List ℕ) → nat_le (length w.places) s ≡ false → list_any (λ t. t == s) earlier ≡ false → site_fault w earlier (s ∷ sites) ≡ site_fault w (s ∷ earlier) sites
-new_site w earlier s sites e f = rw (e, f) (only_one (site_fault w (s ∷ earlier) sites))
+  pub comes_again : list_any (λ r. site r == s) (take n rows) ≡ true → left n ≡ Some (Repeated s)
+  comes_again h = split ∙ repeated_site w (sites_of site (take n rows)) s (map site (drop (n + 1) rows)) (is_known (length w.places) s known) (any_site site s (take n rows) ∙ h)
+
+  pub comes_first : list_any (λ r. site r == s) (take n rows) ≡ false → left (n + 1) ≡ left n
+  comes_first h =
+      ap (λ (earlier : List ℕ). sites_fault w earlier (map site (drop (n + 1) rows)))
+      (ap (sites_of site) (take_more rows n row lt ∙ ap (λ (r : A). take n rows ++ r ∷ []) (sym is)) ∙ sites_more site (take n rows) row ∙ ap (λ t. t ∷ sites_of site (take n rows)) (sym same))
+      ∙ sym (new_site w (sites_of site (take n rows)) s (map site (drop (n + 1) rows)) (is_known (length w.places) s known) (any_site site s (take n rows) ∙ h))
+      ∙ sym split
+
+-- ---- the links of a preparation
 
 first_site : (w : World) (s : ℕ) (sites : List ℕ) (r : Result Link Unlinked) → scratch w s ≡ r → ready_fault w (s ∷ sites) ≡ first_of (link_fault s r ∷ map (λ s. link_fault s (scratch w s)) sites)
 first_site w s sites r e = ap (λ (r : Result Link Unlinked). first_of (link_fault s r ∷ map (λ s. link_fault s (scratch w s)) sites)) e
@@ -107,8 +125,8 @@ first_unready w sites n s rows f h e g =
     ∙ ap (ready_fault w) e
     ∙ fails_first w s (drop (n + 1) sites) f g
 
-pub size_and_sites : (w : World) (sites : List ℕ) → ((length sites == 0) || nat_lt 256 (length sites)) ≡ false → site_fault w [] sites ≡ None → prepare_fault w sites ≡ ready_fault w sites
-size_and_sites w sites e f = (λ i. first_of (then_some (e i) fault.BatchSize ∷ f i ∷ ready_fault w sites ∷ [])) ∙ only_one (ready_fault w sites)
+pub size_and_sites : (w : World) (sites : List ℕ) → is_bad_size (length sites) ≡ false → sites_fault w [] sites ≡ None → prepare_fault w sites ≡ ready_fault w sites
+size_and_sites w sites e f = (λ i. first_of (then_some (e i) fault.BatchSize ∷ option_map of_sites (f i) ∷ ready_fault w sites ∷ [])) ∙ only_one (ready_fault w sites)
 
 pub zip_each : {A B : Type 0} (P Q : A → B → Type 0) → ((x : A) (y : B) → P x y → Q x y) → (xs : List A) (ys : List B) → AllZip P xs ys → AllZip Q xs ys
 zip_each P Q f [] [] h = h

@@ -3,8 +3,7 @@ use Rattle.std.specs.Prelude.{◌≡◌, ℕ, length, ◌<◌, ◌==◌, Bool, t
 use Rattle.std.specs.List.{list_any}
 use Rattle.std.specs.Option.{option_map_or}
 use Rattle.std.proofs.Common.{refl, ap, sym, ◌∙◌, add-one}
-use Rattle.jl_types.specs.World.{Classes}
-use Rattle.jl_types.specs.declared.class.Class.{Class}
+use Rattle.jl_types.specs.World.{Class, Classes}
 use Rattle.jl_types.specs.declared.ids.MethodId.{MethodId}
 use Rattle.jl_classfile.specs.declared.class.Method.{Method}
 use Rattle.jl_types.specs.Members.{declared}

@@ -7,14 +7,13 @@ use Rattle.std.proofs.lemmas.Bool.{ltb-true}
 use Rattle.std.proofs.lemmas.Bool.Decides.{Decides-eqb}
 use Rattle.std.proofs.lemmas.List.Elements.{All-from_recursion, recursion_from_All}
 use Rattle.jl_classfile.specs.declared.class.ClassFile.{ClassFile}
-use Rattle.jl_types.specs.declared.class.Class.{Class}
-use Rattle.jl_types.specs.World.{Classes}
+use Rattle.jl_types.specs.World.{Class, Classes}
 use Rattle.jl_types.specs.Members.{lookup}
 use Rattle.jl_types.specs.Ancestry.{AreOrdered}
 use Rattle.jl_types.specs.Definitions.{class_made, defined}
-use Rattle.jl_types.proofs.Orders.{IsGood, defined_good}
+use Rattle.jl_types.proofs.Orders.{AreBelow, IsGood, defined_good}
 use Rattle.jl_core.specs.Admitted.{is_plain_file}
-use Rattle.jl_core.specs.Plain.{recorded, HasSuperclass, IsPlain, IsPlainWorld}
+use Rattle.jl_core.specs.Plain.{named, HasSuperclass, IsPlain, IsPlainWorld}
 use Rattle.std.specs.Bool.{then_some}
 use Rattle.jl_types.specs.declared.refusal.DefineFault.{DefineFault}
 use Rattle.jl_types.specs.declared.refusal.DefineFault.TheVariants as define
@@ -55,11 +54,11 @@ made_is cs loader file o p h = λ i. record {
   interfaces = sym (ap (filter_map (lookup cs loader)) (no_interfaces file p)) i;
 }
 
-recorded_end : {A : Type 0} (entries : List (Vec ℕ A × ℕ)) (e : Vec ℕ A × ℕ) → recorded (entries ++ e ∷ []) ≡ recorded entries ++ ((0, e.0.items), e.1) ∷ []
-recorded_end [] e = refl
-recorded_end {A = A} (x ∷ entries) e = ap (λ (rs : List ((ℕ × List ℕ) × ℕ)). ((0, x.0.items), x.1) ∷ rs) (recorded_end entries e)
+named_end : {A : Type 0} (entries : List (Vec ℕ A × ℕ)) (e : Vec ℕ A × ℕ) → named (entries ++ e ∷ []) ≡ named entries ++ (e.0.items, e.1) ∷ []
+named_end [] e = refl
+named_end {A = A} (x ∷ entries) e = ap (λ (rs : List (List ℕ × ℕ)). (x.0.items, x.1) ∷ rs) (named_end entries e)
 
-records_there : {A : Type 0} (n : ℕ) (entries : List (Vec ℕ A × ℕ)) → AllByRecursion (λ e. e.1 < n) entries → AllByRecursion (λ (r : (ℕ × List ℕ) × ℕ). r.1 < n) (recorded entries)
+records_there : {A : Type 0} (n : ℕ) (entries : List (Vec ℕ A × ℕ)) → AllByRecursion (λ e. e.1 < n) entries → AreBelow n (named entries)
 records_there n [] h = tt
 records_there n (e ∷ entries) h = (h.0, records_there n entries h.1)
 
@@ -75,10 +74,10 @@ either P (z ∷ xs) x y (suc n) h k e = either P xs x y n (λ n y e. h (suc n) y
 
 module _ {A : Type 0} (rows : List Class) (entries : List (Vec ℕ A × ℕ)) (w : IsPlainWorld rows) (t : All (λ e. e.1 < length rows) entries) (file : ClassFile) (p : is_plain_file file ≡ true) where
   abbrev old : Classes
-  old = record { loaders = 1; rows = rows; records = recorded entries }
+  old = record { loaders = named entries ∷ []; rows = rows }
 
   good : IsGood old
-  good = record { there = records_there (length rows) entries (recursion_from_All (λ e. e.1 < length rows) entries t); ordered = w.ordered }
+  good = record { there = (records_there (length rows) entries (recursion_from_All (λ e. e.1 < length rows) entries t), tt); ordered = w.ordered }
 
   file_plain : (o : Option ℕ) → IsPlain (plain_class 0 file o)
   file_plain o = record { plain = p; alone = refl; few = ltb-true (length file.methods) 65536 (plain_parts file p).3 }
@@ -95,11 +94,10 @@ module _ {A : Type 0} (rows : List Class) (entries : List (Vec ℕ A × ℕ)) (w
       subst (λ n. All (λ e. e.1 < n) (entries ++ (key, length rows) ∷ [])) (sym (length-append rows (plain_class 0 file o ∷ [])))
       (All-from_recursion (λ e. e.1 < length rows + 1) (entries ++ (key, length rows) ∷ []) (entries_wider (length rows) entries (key, length rows) (recursion_from_All (λ e. e.1 < length rows) entries t) (omega arith)))
 
-  pub defined_is : (key : Vec ℕ A) (o : Option ℕ) → key.items ≡ file.name → HasSuperclass old 0 file o → record { loaders = 1; rows = rows ++ plain_class 0 file o ∷ []; records = recorded (entries ++ (key, length rows) ∷ []) } ≡ defined old 0 file
+  pub defined_is : (key : Vec ℕ A) (o : Option ℕ) → key.items ≡ file.name → HasSuperclass old 0 file o → record { loaders = named (entries ++ (key, length rows) ∷ []) ∷ []; rows = rows ++ plain_class 0 file o ∷ [] } ≡ defined old 0 file
   defined_is key o k h = λ i. record {
-    loaders = 1;
+    loaders = (named_end entries (key, length rows) ∙ ap (λ (name : List ℕ). named entries ++ (name, length rows) ∷ []) k) i ∷ [];
     rows = rows ++ made_is old 0 file o p h i ∷ [];
-    records = (recorded_end entries (key, length rows) ∙ ap (λ (name : List ℕ). recorded entries ++ ((0, name), length rows) ∷ []) k) i;
   }
 
 -- ---- the faults, in their order

@@ -1,5 +1,5 @@
 -- What one event does to the installed links.
-use Rattle.std.specs.Prelude.{◌≡◌, ℕ, zero, suc, ◌+◌, ◌<◌, ◌≤◌, ◌==◌, ◌⊎◌, ◌&&◌, ◌||◌, nat_lt, Bool, true, false, cond, List, [], ◌∷◌, ◌++◌, filter, length, slice_get, Option, Some, None, is_some, is_none, Result, Ok, Err, if◌then◌else◌}
+use Rattle.std.specs.Prelude.{◌≡◌, ℕ, zero, suc, ◌+◌, ◌<◌, ◌≤◌, ◌==◌, ◌⊎◌, ◌&&◌, ◌||◌, nat_lt, Bool, true, false, cond, List, [], ◌∷◌, ◌++◌, filter, length, slice_get, Option, Some, None, map, option_map, is_some, is_none, Result, Ok, Err, if◌then◌else◌}
 use Rattle.std.specs.Bool.{then_some}
 use Rattle.std.specs.List.{list_any, range_with_len}
 use Rattle.std.proofs.Common.{refl, ap, sym, subst, ◌∙◌, arith, inl, inr, append-nil}
@@ -17,9 +17,12 @@ use Rattle.jl_types.specs.declared.event.Event.TheVariants as event
 use Rattle.jl_types.specs.Means.SameLink.{same_link, link_decides}
 use Rattle.jl_types.specs.World.{World}
 use Rattle.jl_types.specs.Resolution.{first_of}
-use Rattle.jl_types.specs.Sites.{invocation_at, stage_of, stage_at, by_operand}
+use Rattle.jl_types.specs.declared.answer.Unlinked.TheVariants.{Gone}
+use Rattle.jl_types.specs.Sites.{Stage, Waits, invocation_at, stage_of, stage_at, by_operand}
 use Rattle.jl_types.specs.Links.{scratch, link_of}
-use Rattle.jl_types.specs.Events.{row_fault, install_fault, batch_fault, same_place, step}
+use Rattle.jl_types.specs.Members.{is_present}
+use Rattle.jl_types.specs.Batches.{is_bad_size, sites_fault}
+use Rattle.jl_types.specs.Events.{of_sites, row_fault, install_fault, same_place, step}
 use Rattle.jl_types.specs.History.{has_link, kept}
 use Rattle.jl_types.proofs.Bools.{clash}
 use Rattle.jl_types.proofs.Lists.{before_end, some_same}
@@ -112,7 +115,8 @@ module _ (w : World) (place : Place) where
 
   same_at : (s : ℕ) (o : Option Place) → stage_at after s o ≡ stage_at w s o
   same_at s None = refl
-  same_at s (Some p) = same_stage s p.class (invocation_at w.classes p)
+  same_at s (Some p) =
+      ap (λ (st : Stage). if is_present w.classes p.class then st else Waits Gone) (same_stage s p.class (invocation_at w.classes p))
 
   kept_places : (s : ℕ) → s < length w.places → (b : Bool) → slice_get (if b then w.places else w.places ++ place ∷ []) s ≡ slice_get w.places s
   kept_places s lt true = refl
@@ -162,9 +166,10 @@ module _ (w : World) (s : ℕ) where
 
   pub install_keeps : (links rows : List (ℕ × Link)) → install_fault w rows ≡ None → AreScratch w links → link_with rows (link_at links s) s ≡ kept (list_any (λ row. row.0 == s) rows) (link_at links s) (scratch w s)
   install_keeps links rows e h =
+      let unknown = option_map of_sites (sites_fault w [] (map (λ row. row.0) rows)) in
       let links_faults = first_of (row_faults w rows) ∷ [] in
-      let size = none_first (then_some ((length rows == 0) || nat_lt 256 (length rows)) refusal.BatchSize) (batch_fault w [] rows ∷ links_faults) e in
-      let batch = none_first (batch_fault w [] rows) links_faults size.1 in
+      let size = none_first (then_some (is_bad_size (length rows)) refusal.BatchSize) (unknown ∷ links_faults) e in
+      let batch = none_first unknown links_faults size.1 in
       let each = none_first (first_of (row_faults w rows)) [] batch.1 in
       installed_by (link_at links s) rows each.0 (h s)
 

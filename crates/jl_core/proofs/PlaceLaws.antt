@@ -1,24 +1,25 @@
 -- A class more leaves the requested places as they are.
-use Rattle.std.specs.Prelude.{◌≡◌, ℕ, ◌<◌, ◌≤◌, ◌==◌, nat_le, Bool, true, false, if◌then◌else◌, position, List, [], ◌∷◌, ◌++◌, length, slice_get, find, Option, Some, None, option_and_then, Result, Ok, Err, OnOk, OnErr}
+use Rattle.std.specs.Prelude.{◌≡◌, ℕ, ◌<◌, ◌≤◌, ◌==◌, nat_le, Bool, true, false, if◌then◌else◌, position, List, [], ◌∷◌, ◌++◌, length, slice_get, find, Option, Some, None, is_some, option_and_then, Result, Ok, Err, OnOk, OnErr}
 use Rattle.std.specs.Option.{option_map_or}
 use Rattle.std.proofs.Common.{refl, ap, sym, subst, ◌∙◌, arith, inl, inr, length-append}
 use Rattle.jl_classfile.specs.declared.class.ClassFile.{ClassFile}
 use Rattle.jl_code.specs.declared.site.Site.{Site}
-use Rattle.jl_types.specs.declared.class.Class.{Class}
 use Rattle.jl_types.specs.declared.ids.Place.{Place}
 use Rattle.std.specs.Bool.{then_some}
 use Rattle.std.proofs.lemmas.Bool.Decides.{leb_tells}
 use Rattle.jl_types.specs.declared.event.Made.TheVariants as made
 use Rattle.jl_types.specs.declared.refusal.NotLinkable.TheVariants.{ArrayReceiver, PolymorphicSignature}
 use Rattle.jl_types.specs.declared.refusal.Refusal.{Refusal}
-use Rattle.jl_types.specs.declared.refusal.Refusal.TheVariants.{NotLinkable, SitesFull, NotYet}
-use Rattle.jl_types.specs.Events.{same_place, names_array, is_polymorphic, new_place_fault, request_place, request_at, unless}
+use Rattle.jl_types.specs.declared.refusal.Refusal.TheVariants.{NotLinkable, SitesFull, UnknownClass, NotYet}
+use Rattle.jl_types.specs.declared.event.Event.TheVariants as event
+use Rattle.jl_types.specs.Members.{is_present}
+use Rattle.jl_types.specs.Events.{same_place, names_array, is_polymorphic, new_place_fault, request_place, if_invoked, request_at, unless}
 use Rattle.jl_types.specs.Resolution.{first_of}
 use Rattle.jl_types.proofs.Bools.{clash}
 use Rattle.jl_types.proofs.Lists.{before_end, is_within}
 use Rattle.jl_core.proofs.DefineLaws.{either}
-use Rattle.jl_core.specs.Admitted.{request_admitted}
-use Rattle.jl_types.specs.World.{Classes, World}
+use Rattle.jl_core.specs.Admitted.{admitted}
+use Rattle.jl_types.specs.World.{Class, Classes, World}
 use Rattle.jl_types.specs.Definitions.{class_made, defined}
 use Rattle.jl_types.specs.Sites.{invocation_at}
 use Rattle.jl_core.specs.Admitted.{is_supported}
@@ -40,12 +41,22 @@ pub supported_after : {X E : Type 0} (r : Result X E) (cs new : Classes) (loader
 supported_after (Ok x) cs new loader file places e f h = subst (λ k. AreSupported k places) (sym e) (λ s place is. still_there cs loader file place (h s place is))
 supported_after (Err x) cs new loader file places e f h = subst (λ k. AreSupported k places) (sym f) h
 
+-- where there is an invocation, there is the class
+pub invoked_present : (cs : Classes) (place : Place) (site : Site) → invocation_at cs place ≡ Some site → is_present cs place.class ≡ true
+invoked_present cs place site e = by_row (slice_get cs.rows place.class) e
+  where
+    by_row : (row : Option Class) → in_row row place ≡ Some site → is_some row ≡ true
+    by_row None h = cc
+    by_row (Some row) h = refl
+
 -- ---- one place more
 
-pub refused_new : (max_sites : ℕ) (w : World) (place : Place) (site : Site) (r : Refusal) → invocation_at w.classes place ≡ Some site → is_supported site ≡ true → position (same_place place) w.places ≡ None → new_place_fault max_sites w site ≡ Some r → request_admitted max_sites w place (invocation_at w.classes place) ≡ Err r
+pub refused_new : (max_sites : ℕ) (w : World) (place : Place) (site : Site) (r : Refusal) → invocation_at w.classes place ≡ Some site → is_supported site ≡ true → position (same_place place) w.places ≡ None → new_place_fault max_sites w site ≡ Some r → admitted max_sites w (event.Request place) ≡ Err r
 refused_new max_sites w place site r e s p f =
-    ap (request_admitted max_sites w place) e
-    ∙ ap (λ (b : Bool). if b then request_at max_sites w place (Some site) else Err NotYet) s
+    ap (λ (o : Option Site). if option_map_or is_supported o true then request_at max_sites w place else Err NotYet) e
+    ∙ ap (λ (b : Bool). if b then request_at max_sites w place else Err NotYet) s
+    ∙ ap (λ (b : Bool). if b then if_invoked max_sites w place (invocation_at w.classes place) else Err UnknownClass) (invoked_present w.classes place site e)
+    ∙ ap (if_invoked max_sites w place) e
     ∙ ap (λ (o : Option ℕ). request_place max_sites w o site) p
     ∙ ap (λ (o : Option Refusal). unless o (made.Site (length w.places))) f
 

@@ -12,15 +12,14 @@ use Rattle.jl_classfile.specs.declared.class.Method.{Method}
 use Rattle.jl_pool.specs.declared.reference.Reference.{Reference}
 use Rattle.jl_classfile.specs.Conditions.{has_flag, PUBLIC, PRIVATE, STATIC, INTERFACE}
 use Rattle.std.specs.Str.{bytes_eq}
-use Rattle.jl_types.specs.declared.class.Class.{Class}
 use Rattle.jl_types.specs.declared.ids.MethodId.{MethodId}
 use Rattle.jl_types.specs.declared.answer.ResolveAnswer.TheVariants.{Fault}
 use Rattle.jl_types.specs.declared.answer.Throwable.TheVariants.{IncompatibleClassChangeError}
-use Rattle.jl_types.specs.World.{Classes}
-use Rattle.jl_types.specs.Members.{is_interface, is_public_class, method_at, methods_of, method_test, is_public, is_called, declared, numbers}
-use Rattle.jl_types.specs.Ancestry.{parents, superclasses, superclasses_within, superinterfaces, is_ancestor, is_ancestor_within, is_subclass, is_proper_ancestor}
+use Rattle.jl_types.specs.World.{Class, Classes}
+use Rattle.jl_types.specs.Members.{is_interface, is_public_class, method_at, methods_of, method_test, is_public, is_called, declared}
+use Rattle.jl_types.specs.Ancestry.{parents, superclasses, superclasses_within, superinterfaces, ancestors, is_ancestor, is_ancestor_within, is_subclass}
 use Rattle.jl_types.specs.Access.{is_accessible_class}
-use Rattle.jl_types.specs.Resolution.{first_of, first_element, only, candidates, defaults, declared_upward, found_in_class, if_accessible, resolved_in}
+use Rattle.jl_types.specs.Resolution.{first_of, first_element, only, pick, candidates, defaults, declared_upward, found_in_class, if_accessible, resolved_in}
 use Rattle.jl_types.specs.Overriding.{are_alike, is_visible, can_override}
 use Rattle.jl_types.specs.Selection.{overriding, chosen}
 use Rattle.jl_types.specs.declared.answer.Chosen.TheVariants.{Nothing}
@@ -62,7 +61,7 @@ module _ (cs : Classes) (w : IsPlainWorld cs.rows) where
       by_row (Some row) e = not_true (has_flag row.file.flags INTERFACE) (plain_parts row.file (w.each c row e).plain).1
 
   pub no_superinterfaces : (c : ℕ) → superinterfaces cs c ≡ []
-  no_superinterfaces c = filter_none (λ k. is_interface cs k && is_proper_ancestor cs k c) (numbers cs) (λ k. ap (λ (b : Bool). b && is_proper_ancestor cs k c) (no_interface k))
+  no_superinterfaces c = filter_none (λ k. is_interface cs k && not (k == c)) (ancestors cs.rows c) (λ k. ap (λ (b : Bool). b && not (k == c)) (no_interface k))
 
   pub no_candidates : (name ty : List ℕ) (c : ℕ) → candidates cs name ty c ≡ []
   no_candidates name ty c = rw (no_superinterfaces c) refl
@@ -108,7 +107,7 @@ module _ (cs : Classes) (w : IsPlainWorld cs.rows) where
   pub found_upward : (name ty : List ℕ) (c : ℕ) → found_in_class cs name ty c ≡ declared_upward cs name ty c
   found_upward name ty c = by_upward (declared_upward cs name ty c)
     where
-      by_upward : (o : Option MethodId) → first_of (o ∷ only (defaults cs name ty c) ∷ first_element (candidates cs name ty c) ∷ []) ≡ o
+      by_upward : (o : Option MethodId) → first_of (o ∷ only (pick (defaults cs name ty c)) ∷ first_element (candidates cs name ty c) ∷ []) ≡ o
       by_upward (Some m) = refl
       by_upward None = rw (no_defaults name ty c, no_candidates name ty c) refl
 

@@ -1,6 +1,7 @@
 -- What this core admits for now, and its verdict on an event: what it doesn't admit yet is refused before everything else.
-use Rattle.std.specs.Prelude.{ℕ, Bool, true, false, not, ◌&&◌, ◌==◌, nat_lt, List, length, Option, Some, None, Result, Err, if◌then◌else◌}
+use Rattle.std.specs.Prelude.{ℕ, Bool, true, false, not, ◌&&◌, ◌==◌, nat_lt, List, length, Result, Err, if◌then◌else◌}
 use Rattle.std.specs.List.{list_all}
+use Rattle.std.specs.Option.{option_map_or}
 use Rattle.jl_classfile.specs.Conditions.{has_flag, PUBLIC, INTERFACE}
 use Rattle.jl_classfile.specs.declared.class.ClassFile.{ClassFile}
 use Rattle.jl_classfile.specs.declared.class.Method.{Method}
@@ -9,7 +10,6 @@ use Rattle.jl_code.specs.declared.site.Kind.TheVariants.{Virtual, Special, Stati
 use Rattle.jl_code.specs.declared.site.Operand.{Operand}
 use Rattle.jl_code.specs.declared.site.Operand.TheVariants as operand
 use Rattle.jl_code.specs.declared.site.Site.{Site}
-use Rattle.jl_types.specs.declared.ids.Place.{Place}
 use Rattle.jl_types.specs.declared.event.Event.{Event}
 use Rattle.jl_types.specs.declared.event.Event.TheVariants as event
 use Rattle.jl_types.specs.declared.event.Made.{Made}
@@ -17,7 +17,7 @@ use Rattle.jl_types.specs.declared.refusal.Refusal.{Refusal}
 use Rattle.jl_types.specs.declared.refusal.Refusal.TheVariants.{NotYet}
 use Rattle.jl_types.specs.World.{World}
 use Rattle.jl_types.specs.Sites.{invocation_at}
-use Rattle.jl_types.specs.Events.{request_at, verdict}
+use Rattle.jl_types.specs.Events.{verdict}
 
 abbrev pub is_public_method : Method → Bool
 is_public_method method = has_flag method.flags PUBLIC
@@ -46,14 +46,11 @@ is_supported site = is_supported_kind site.kind && names_method site.operand
 
 -- ---- the verdict
 
-abbrev pub request_admitted : ℕ → World → Place → Option Site → Result Made Refusal
-request_admitted max_sites w place None = request_at max_sites w place None
-request_admitted max_sites w place (Some site) =
-    if is_supported site then request_at max_sites w place (Some site) else Err NotYet
-
 abbrev pub admitted : ℕ → World → Event → Result Made Refusal
 admitted max_sites w (event.Define loader file) =
     if is_plain_file file then verdict max_sites w (event.Define loader file) else Err NotYet
-admitted max_sites w (event.Request place) = request_admitted max_sites w place (invocation_at w.classes place)
+admitted max_sites w (event.Request place) =
+    if option_map_or is_supported (invocation_at w.classes place) true then verdict max_sites w (event.Request place)
+    else Err NotYet
 admitted max_sites w (event.Install rows) = verdict max_sites w (event.Install rows)
 admitted max_sites w e = Err NotYet

@@ -9,9 +9,8 @@ use Rattle.std.specs.Str.{bytes_eq}
 use Rattle.jl_classfile.specs.declared.class.ClassFile.{ClassFile}
 use Rattle.jl_classfile.specs.declared.class.Method.{Method}
 use Rattle.jl_types.specs.declared.ids.Place.{Place}
-use Rattle.jl_types.specs.declared.class.Class.{Class}
 use Rattle.jl_types.specs.declared.ids.MethodId.{MethodId}
-use Rattle.jl_types.specs.World.{Classes}
+use Rattle.jl_types.specs.World.{Class, Classes}
 use Rattle.jl_types.specs.Members.{declared, lookup}
 use Rattle.jl_types.specs.declared.refusal.DefineFault.{DefineFault}
 use Rattle.jl_types.specs.declared.refusal.DefineFault.TheVariants.{UnknownLoader, SecondObject, AlreadyRecorded, NamesItself, FinalSuper, Full}
@@ -32,9 +31,9 @@ pub record IsPlainWorld (rows : List Class) : Type 0 where
   pub few : length rows ≤ 65536
   pub each : (c : ℕ) (row : Class) → slice_get rows c ≡ Some row → IsPlain row
 
--- what loader 0 has recorded
-abbrev pub recorded : {A : Type 0} → List (Vec ℕ A × ℕ) → List ((ℕ × List ℕ) × ℕ)
-recorded entries = map (λ e. ((0, e.0.items), e.1)) entries
+-- the names that loader 0 has recorded, each with its class
+abbrev pub named : {A : Type 0} → List (Vec ℕ A × ℕ) → List (List ℕ × ℕ)
+named entries = map (λ e. (e.0.items, e.1)) entries
 
 -- the records name classes that are there
 abbrev pub AreThere : {A : Type 0} → ℕ → List (Vec ℕ A × ℕ) → Type 0
@@ -73,7 +72,7 @@ pub record IsAddable (cs : Classes) (file : ClassFile) (superclass : Option ℕ)
 -- the faults that are tested before the parents are looked up
 abbrev pub first_faults : Classes → ℕ → ClassFile → List (Option DefineFault)
 first_faults cs loader file =
-    then_some (nat_le cs.loaders loader) UnknownLoader
+    then_some (nat_le (length cs.loaders) loader) UnknownLoader
     ∷ then_some (bytes_eq file.name object && not (loader == 0)) SecondObject
     ∷ then_some (is_some (lookup cs loader file.name)) AlreadyRecorded
     ∷ then_some (list_any (bytes_eq file.name) (parent_names file)) NamesItself

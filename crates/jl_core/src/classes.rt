@@ -1,6 +1,6 @@
 //! The classes that are defined.
 
-ghost use Rattle.std.specs.Prelude.{◌≡◌, ◌<◌, ◌↔◌, IsTrue, length, slice_get, Some, None, MatchOption, IfSome, IfOk};
+ghost use Rattle.std.specs.Prelude.{◌≡◌, ◌<◌, length, slice_get, Some, None, MatchOption, IfSome, IfOk};
 ghost use Rattle.jl_types.specs.Members as members;
 ghost use Rattle.jl_types.specs.World.{nothing_yet};
 ghost use Rattle.jl_core.specs.Plain.{IsPlain, IsPlainWorld};
@@ -19,13 +19,13 @@ pub(crate) struct Classes {
 }
 
 impl Model for Classes {
-    ghost use Rattle.std.specs.Prelude.{length};
+    ghost use Rattle.std.specs.Prelude.{length, ◌∷◌, []};
     ghost use Rattle.jl_types.specs.World.{Classes};
-    ghost use Rattle.jl_core.specs.Plain.{IsPlainWorld, AreThere, recorded};
+    ghost use Rattle.jl_core.specs.Plain.{IsPlainWorld, AreThere, named};
 
     ghost Value = { Classes };
 
-    ghost view = { λ c. record { loaders = 1; rows = c.rows.items; records = recorded c.records.entries } };
+    ghost view = { λ c. record { loaders = named c.records.entries ∷ []; rows = c.rows.items } };
 
     ghost invariant = { λ c. IsPlainWorld c.rows.items × AreThere (length c.rows.items) c.records.entries };
 }
@@ -55,7 +55,7 @@ impl Classes {
     pub(crate) fn rows(&self) -> &[Class]
         ensures rows { result.now ≡ self.now.rows }
         ensures plain { IsPlainWorld self.now.rows }
-        ensures loaders { self.now.loaders ≡ 1 }
+        ensures loaders { length self.now.loaders ≡ 1 }
     {
         self.rows.as_slice()
     }
@@ -83,9 +83,9 @@ impl Classes {
 
     /// Whether there is a class of this number.
     pub(crate) fn has_class(&self, class: ClassId) -> bool
-        ensures { IsTrue result ↔ (class < length self.now.rows) }
+        ensures { result ≡ members.is_present self.now class }
     {
-        (class.number() as usize) < self.rows.len()
+        self.class_at(class).is_some()
     }
 }
 

@@ -59,7 +59,7 @@ impl Classes {
     fn first_fault(&self, loader: LoaderId, file: &ClassFile) -> Option<DefineFault>
         ensures same { result ≡ first_of (first_faults self.now loader file.now) }
         ensures plain { IsPlainWorld self.now.rows }
-        ensures loaders { self.now.loaders ≡ 1 }
+        ensures loaders { length self.now.loaders ≡ 1 }
     {
         let _ = self.rows();
         if loader.number() >= 1 {
@@ -122,7 +122,7 @@ impl Classes {
         ensures { result ≡ definitions.is_final self.now class }
     {
         match self.class_at(class) {
-            Some(row) => has_flag(row.file.flags, FINAL),
+            Some(row) => has_flag(row.file().flags, FINAL),
             None => false,
         }
     }
@@ -168,12 +168,12 @@ impl Classes {
         let key = key_of(alloc, &linked.file)?;
         self.rows.reserve(1)?;
         self.records.insert(key, class)?;
-        self.rows.push_reserved(Class {
-            loader: LoaderId::new(0),
-            file: linked.file,
-            superclass: linked.superclass,
-            interfaces: Seq::of(Vec::new(alloc)),
-        });
+        self.rows.push_reserved(Class::new(
+            LoaderId::new(0),
+            linked.file,
+            linked.superclass,
+            Seq::of(Vec::new(alloc)),
+        ));
         Ok(class)
     }
 }

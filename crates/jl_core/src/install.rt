@@ -1,16 +1,13 @@
 //! What an install is refused for.
 
-ghost use Rattle.std.specs.Prelude.{◌≡◌, ◌==◌, ◌||◌, nat_lt, []};
-ghost use Rattle.std.specs.List.{list_any};
+ghost use Rattle.std.specs.Prelude.{◌≡◌};
 ghost use Rattle.jl_types.specs.Events as events;
 ghost use Rattle.jl_types.specs.Resolution.{first_of};
 ghost use Rattle.jl_core.specs.Batches.{row_faults};
 
+use crate::batch::is_bad_size;
 use crate::world::World;
 use jl_types::{Link, Refusal, SiteNo};
-
-/// The most rows of a batch.
-const MOST_ROWS: usize = 256;
 
 impl World {
     /// The refusal of an install of these rows, if there is one. Takes no memory.
@@ -20,26 +17,10 @@ impl World {
         if is_bad_size(rows.len()) {
             return Some(Refusal::BatchSize);
         }
-        if let Some(refusal) = self.batch_refusal(rows) {
-            return Some(refusal);
+        if let Some(fault) = self.sites_fault(rows) {
+            return Some(Refusal::from(fault));
         }
         self.row_refusal(rows)
-    }
-
-    /// The refusal of the first row whose site isn't requested, or comes in an earlier row.
-    fn batch_refusal(&self, rows: &[(SiteNo, Link)]) -> Option<Refusal>
-        ensures { result ≡ events.batch_fault self.now [] rows.now }
-    {
-        for (number, row) in rows.iter().enumerate() {
-            let site = row.0;
-            if site.number() as usize >= self.places.len() {
-                return Some(Refusal::UnknownSite { site });
-            }
-            if comes(&rows[..number], site) {
-                return Some(Refusal::Repeated { site });
-            }
-        }
-        None
     }
 
     /// The refusal of the first row that isn't the site's link from scratch.
@@ -59,18 +40,4 @@ impl World {
         }
         None
     }
-}
-
-/// Whether a batch of so many rows has none, or too many.
-pub(crate) fn is_bad_size(rows: usize) -> bool
-    ensures { result ≡ ((rows == 0) || nat_lt 256 rows) }
-{
-    rows == 0 || rows > MOST_ROWS
-}
-
-/// Whether the site comes in these rows.
-fn comes(rows: &[(SiteNo, Link)], site: SiteNo) -> bool
-    ensures { result ≡ list_any (λ row. row.0 == site) rows.now }
-{
-    rows.iter().any(|row| row.0 == site)
 }

@@ -5,6 +5,7 @@
 //! `specs/Admitted` what an event is answered. The other definitions here are means of proof.
 #![tactic(auto)]
 
+mod batch;
 mod cache;
 mod classes;
 mod define;

@@ -14,8 +14,10 @@ impl Classes {
         ensures { result ≡ members.is_concrete self.now class }
     {
         match self.class_at(class) {
-            Some(row) => !has_flag(row.file.flags, INTERFACE)
-                && !has_flag(row.file.flags, ABSTRACT),
+            Some(row) => {
+                let flags = row.file().flags;
+                !has_flag(flags, INTERFACE) && !has_flag(flags, ABSTRACT)
+            }
             None => false,
         }
     }

@@ -1,14 +1,13 @@
 //! Links that are looked up apart from the events, and installed later.
 
-ghost use Rattle.std.specs.Prelude.{◌≡◌, ◌+◌, ◌≤◌, ◌⊎◌, ◌==◌, [], None, Some, Ok, length, IfOk, IfErr, OnOk};
-ghost use Rattle.std.specs.List.{list_any};
+ghost use Rattle.std.specs.Prelude.{◌≡◌, ◌+◌, ◌≤◌, ◌⊎◌, None, Some, Ok, length, IfOk, IfErr, OnOk};
 ghost use Rattle.jl_types.specs.Preparation as prepared;
 ghost use Rattle.jl_types.specs.Preparation.{link_fault};
 ghost use Rattle.jl_core.specs.Preparations.{IsPreparation};
 ghost use Rattle.jl_types.specs.Links.{scratch};
 
+use crate::batch::is_bad_size;
 use crate::fill::fill;
-use crate::install::is_bad_size;
 use crate::snapshot::Snapshot;
 use crate::world::World;
 use jl_names::Seq;
@@ -50,8 +49,8 @@ pub(crate) fn prepare_in(
     if is_bad_size(sites.len()) {
         return Err(PrepareFault::BatchSize);
     }
-    if let Some(fault) = world.site_fault(sites) {
-        return Err(fault);
+    if let Some(fault) = world.sites_fault(sites) {
+        return Err(PrepareFault::from(fault));
     }
     let Ok(mut rows) = Vec::with_capacity(alloc, sites.len()) else {
         return Err(world.ready_fault(sites).unwrap_or(PrepareFault::Memory));
@@ -64,21 +63,6 @@ pub(crate) fn prepare_in(
 }
 
 impl World {
-    /// The fault of the first site that isn't requested, or comes earlier.
-    fn site_fault(&self, sites: &[SiteNo]) -> Option<PrepareFault>
-        ensures { result ≡ prepared.site_fault self.now [] sites.now }
-    {
-        for (number, site) in sites.iter().enumerate() {
-            if site.number() as usize >= self.site_count() {
-                return Some(PrepareFault::UnknownSite(*site));
-            }
-            if is_among(&sites[..number], *site) {
-                return Some(PrepareFault::Repeated(*site));
-            }
-        }
-        None
-    }
-
     /// The fault of the first site that has no link from scratch.
     fn ready_fault(&self, sites: &[SiteNo]) -> Option<PrepareFault>
         ensures { result ≡ prepared.ready_fault self.now sites.now }
@@ -101,11 +85,4 @@ impl World {
             Err(_) => Err(PrepareFault::NotReady(site)),
         }
     }
-}
-
-/// Whether the site is one of these.
-fn is_among(sites: &[SiteNo], site: SiteNo) -> bool
-    ensures { result ≡ list_any (λ s. s == site) sites.now }
-{
-    sites.iter().any(|other| *other == site)
 }

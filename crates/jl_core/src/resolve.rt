@@ -20,7 +20,7 @@ impl Classes {
         ensures there { IfSome result (λ class. class < length self.now.rows) }
         ensures plain { IsPlainWorld self.now.rows }
     {
-        let loader = self.class_at(caller)?.loader;
+        let loader = self.class_at(caller)?.loader();
         self.lookup(loader, reference.owner.as_slice())
     }
 
@@ -50,8 +50,8 @@ impl Classes {
         caller: ClassId,
         reference: &Reference<Name>,
     ) -> Result<(ClassId, MethodId), ResolveAnswer>
-        ensures ok { IfOk result (λ found. (resolution.named_class self.now caller reference.now ≡ Some found.0)
-            × (resolution.resolved self.now caller reference.now ≡ Ok found.1)) }
+        ensures ok { IfOk result (λ found. resolution.resolved self.now caller reference.now
+            ≡ Ok (record { named = found.0; method = found.1 })) }
         ensures err { IfErr result (λ answer. resolution.resolved self.now caller reference.now ≡ Err answer) }
     {
         let Some(named) = self.named_class(caller, reference) else {

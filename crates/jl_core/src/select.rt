@@ -18,7 +18,7 @@ impl Classes {
         ensures plain { IsPlainWorld self.now.rows }
     {
         let row = self.class_at(method.class)?;
-        row.file.methods.as_slice().get(usize::from(method.index))
+        row.file().methods.as_slice().get(usize::from(method.index))
     }
 
     /// Whether the first method can override the second one.

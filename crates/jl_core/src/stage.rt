@@ -2,7 +2,7 @@
 
 ghost use Rattle.std.specs.Prelude.{◌≡◌, ◌==◌, ℕ, true, Some, None, MatchOption, find, option_copied};
 ghost use Rattle.jl_types.specs.Sites as sites;
-ghost use Rattle.jl_types.specs.Resolution.{named_class};
+ghost use Rattle.jl_types.specs.Resolution.{resolved};
 ghost use Rattle.jl_code.specs.declared.site.Kind.TheVariants.{Static, Virtual};
 ghost use Rattle.jl_types.specs.World.{World};
 ghost use Rattle.jl_core.specs.Admitted.{is_supported};
@@ -57,8 +57,8 @@ impl Classes {
 
     /// What an invokevirtual of the reference comes to.
     pub(crate) fn virtual_stage(&self, caller: ClassId, reference: &Reference<Name>) -> Stage
-        ensures { IsStage result (sites.by_name self.now Virtual caller reference.now
-            (named_class self.now caller reference.now)) }
+        ensures { IsStage result (sites.by_resolution self.now Virtual caller reference.now
+            (resolved self.now caller reference.now)) }
     {
         match self.resolve(caller, reference) {
             Ok((named, method)) => {
@@ -75,8 +75,8 @@ impl Classes {
 
     /// What an invokestatic of the reference comes to.
     pub(crate) fn static_stage(&self, caller: ClassId, reference: &Reference<Name>) -> Stage
-        ensures { IsStage result (sites.by_name self.now Static caller reference.now
-            (named_class self.now caller reference.now)) }
+        ensures { IsStage result (sites.by_resolution self.now Static caller reference.now
+            (resolved self.now caller reference.now)) }
     {
         match self.resolve(caller, reference) {
             Ok((_, method)) => {

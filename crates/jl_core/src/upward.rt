@@ -23,7 +23,7 @@ impl Classes {
         ensures { result ≡ members.declared self.now name.now ty.now class }
     {
         let row = self.class_at(class)?;
-        let place = place_of(row.file.methods.as_slice(), name, ty)?;
+        let place = place_of(row.file().methods.as_slice(), name, ty)?;
         Some(MethodId {
             class,
             index: place as u16,
@@ -35,7 +35,7 @@ impl Classes {
         ensures same { result ≡ ancestry.superclass_of self.now class }
         ensures plain { IsPlainWorld self.now.rows }
     {
-        self.class_at(class)?.superclass
+        self.class_at(class)?.superclass()
     }
 
     /// Whether the class is the other one or one of its subclasses.

@@ -118,6 +118,9 @@ impl World {
         let Some(place) = self.places.get_index(site.number() as usize) else {
             return Stage::Waits(Unlinked::NoSite);
         };
+        if !self.classes.has_class(place.class) {
+            return Stage::Waits(Unlinked::Gone);
+        }
         let Some(invocation) = self.classes.invocation_at(place) else {
             return Stage::Waits(Unlinked::NoSite);
         };

@@ -147,6 +147,32 @@ pub enum PrepareFault {
     Memory,
 }
 
+impl From<SitesFault> for Refusal {
+    ghost use Rattle.jl_types.specs.Events.{of_sites};
+
+    ghost from_gives = { λ fault r. r ≡ of_sites fault };
+
+    fn from(fault: SitesFault) -> Refusal {
+        match fault {
+            SitesFault::Unknown(site) => Refusal::UnknownSite { site },
+            SitesFault::Repeated(site) => Refusal::Repeated { site },
+        }
+    }
+}
+
+impl From<SitesFault> for PrepareFault {
+    ghost use Rattle.jl_types.specs.Preparation.{of_sites};
+
+    ghost from_gives = { λ fault f. f ≡ of_sites fault };
+
+    fn from(fault: SitesFault) -> PrepareFault {
+        match fault {
+            SitesFault::Unknown(site) => PrepareFault::UnknownSite(site),
+            SitesFault::Repeated(site) => PrepareFault::Repeated(site),
+        }
+    }
+}
+
 impl From<AllocError> for DefineFault {
     ghost from_gives = { λ _ f. f ≡ define.Memory };
 

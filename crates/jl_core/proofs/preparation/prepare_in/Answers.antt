@@ -1,8 +1,10 @@
-use Rattle.std.specs.Prelude.{◌≡◌, ℕ, take, Some, Ok}
-use Rattle.std.proofs.Common.{rules, of_calls, refl, sym, subst, ◌∙◌, inl}
+use Rattle.std.specs.Prelude.{◌≡◌, ℕ, [], take, Some, Ok}
+use Rattle.std.proofs.Common.{rules, of_calls, refl, sym, ap, subst, ◌∙◌, inl}
 use Rattle.std.proofs.lemmas.Result.{err_from_is_err_and}
 use Rattle.jl_types.specs.declared.link.Link.{Link}
 use Rattle.jl_types.specs.Links.{scratch}
+use Rattle.std.proofs.lemmas.List.{map-id}
+use Rattle.jl_types.specs.Batches.{sites_fault}
 use Rattle.jl_types.specs.Preparation.{link_fault, ArePrepared}
 use Rattle.jl_core.proofs.BatchLaws.{all_ready, first_unready, size_and_sites, zip_each}
 use Rattle.jl_core.proofs.preparation.prepare_in.Goals.{After-of, After-drop-rows}
@@ -16,7 +18,7 @@ rows_are c =
 pub returns : goal.returns
 returns c = record {
   accepted =
-      size_and_sites c.args.world.now c.args.sites.now (sym c.is_bad_size.ensures ∙ c.if-is_bad_size.false) (sym c.site_fault.ensures ∙ c.in_default.is)
+      size_and_sites c.args.world.now c.args.sites.now (sym c.is_bad_size.ensures ∙ c.if-is_bad_size.false) (sym (c.sites_fault.ensures ∙ ap (sites_fault c.args.world.now []) (map-id c.args.sites.now)) ∙ c.in_default.is)
       ∙ all_ready c.args.world.now c.args.sites.now c.of.result (rows_are c);
   rows = rows_are c;
   serial = refl;
@@ -34,5 +36,5 @@ returns-in_err-fill c =
     let k = first.fails in
     search (rules, of_calls)
     in
-    rw (p.1, p.2) (inl (size_and_sites c.args.world.now sites (sym c.is_bad_size.ensures ∙ c.if-is_bad_size.false) (sym c.site_fault.ensures ∙ c.in_default.is)
+    rw (p.1, p.2) (inl (size_and_sites c.args.world.now sites (sym c.is_bad_size.ensures ∙ c.if-is_bad_size.false) (sym (c.sites_fault.ensures ∙ ap (sites_fault c.args.world.now []) (map-id c.args.sites.now)) ∙ c.in_default.is)
     ∙ first_unready c.args.world.now sites first.count first.item first.made c.in_err-fill.field-0.0 made first.next unready))

@@ -1,10 +1,9 @@
 use Rattle.std.specs.Prelude.{◌≡◌, ◌<◌, ℕ, List, ◌++◌, ◌∷◌, [], length, All, Vec}
 use Rattle.std.proofs.Common.{Global, sym, ap, subst, ◌∙◌}
-use Rattle.jl_types.specs.World.{Classes}
+use Rattle.jl_types.specs.World.{Class, Classes}
 use Rattle.jl_types.specs.Definitions.{defined}
-use Rattle.jl_types.specs.declared.class.Class.{Class}
 use Rattle.jl_types.specs.Members as members
-use Rattle.jl_core.specs.Plain.{recorded, HasSuperclass, IsPlainWorld}
+use Rattle.jl_core.specs.Plain.{named, HasSuperclass, IsPlainWorld}
 use Rattle.jl_core.proofs.DefineLaws.{plain_class, still_plain, still_there, defined_is}
 use Rattle.jl_core.proofs.RecordLaws.{new_entry}
 use Rattle.jl_core.proofs.classes.Classes.add.Goals.{After-push_reserved}
@@ -13,7 +12,7 @@ use Rattle.jl_core.proofs.classes.Classes.add.Goals as goal
 rows_are : (c : After-push_reserved) → c.push_reserved.new.self.items ≡ c.self.inside.rows.items ++ plain_class 0 c.args.linked.file c.args.linked.superclass ∷ []
 rows_are c =
     c.push_reserved.ensures.items
-    ∙ (λ i. c.reserve.ensures.items i ++ record { loader = c.new.ensures i; file = c.args.linked.file; superclass = c.args.linked.superclass; interfaces = (c.of.ensures ∙ c.new-2.ensures.items) i } ∷ [])
+    ∙ (λ i. c.reserve.ensures.items i ++ (c.new-3.ensures ∙ (λ j. record { loader = c.new.ensures j; file = c.args.linked.file; superclass = c.args.linked.superclass; interfaces = (c.of.ensures ∙ c.new-2.ensures.items) j })) i ∷ [])
 
 entries_are : (c : After-push_reserved) → c.insert.new.self.entries ≡ c.self.inside.records.entries ++ (c.in_ok-key.key, length c.self.inside.rows.items) ∷ []
 entries_are c =
@@ -21,7 +20,7 @@ entries_are c =
     ∙ new_entry c.self.inside.records c.in_ok-key.key c.new-class.result c.args.linked.file.name c.in_ok-key.ensures (ap (λ (s : Classes). members.lookup s 0 c.args.linked.file.name) c.self.view_is ∙ c.requires.fresh)
     ∙ ap (λ (n : ℕ). c.self.inside.records.entries ++ (c.in_ok-key.key, n) ∷ []) (c.new-class.ensures ∙ ap length c.rows.ensures.rows ∙ sym (ap (λ (s : Classes). length s.rows) c.self.view_is))
 
-found : (c : After-push_reserved) → HasSuperclass (record { loaders = 1; rows = c.self.inside.rows.items; records = recorded c.self.inside.records.entries }) 0 c.args.linked.file c.args.linked.superclass
+found : (c : After-push_reserved) → HasSuperclass (record { loaders = named c.self.inside.records.entries ∷ []; rows = c.self.inside.rows.items }) 0 c.args.linked.file c.args.linked.superclass
 found c = subst (λ (s : Classes). HasSuperclass s 0 c.args.linked.file c.args.linked.superclass) (sym c.self.view_is) c.requires.found
 
 pub invariant_of-self-2 : goal.invariant_of-self-2
@@ -36,6 +35,6 @@ invariant_of-self-2 c =
 
 pub returns-clause-ok : goal.returns-clause-ok
 returns-clause-ok c =
-    (λ i. record { loaders = 1; rows = rows_are c i; records = recorded (entries_are c i) })
+    (λ i. record { loaders = named (entries_are c i) ∷ []; rows = rows_are c i })
     ∙ defined_is c.self.inside.rows.items c.self.inside.records.entries c.self.invariant.0 c.self.invariant.1 c.args.linked.file c.requires.plain c.in_ok-key.key c.args.linked.superclass c.in_ok-key.ensures (found c)
     ∙ ap (λ (s : Classes). defined s 0 c.args.linked.file) c.self.view_is

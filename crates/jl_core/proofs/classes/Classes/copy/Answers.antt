@@ -1,8 +1,8 @@
-use Rattle.std.specs.Prelude.{◌<◌, List, All, length}
+use Rattle.std.specs.Prelude.{◌<◌, List, [], ◌∷◌, All, length}
 use Rattle.std.proofs.Common.{sym, subst, ◌∙◌}
-use Rattle.jl_types.specs.declared.class.Class.{Class}
+use Rattle.jl_types.specs.World.{Class}
 use Rattle.jl_core.specs.Plain.{IsPlainWorld}
-use Rattle.jl_core.proofs.RecordLaws.{recorded_same, copies_there}
+use Rattle.jl_core.proofs.RecordLaws.{named_same, copies_there}
 use Rattle.jl_core.proofs.classes.Classes.copy.Goals as goal
 
 pub invariant_of-result : goal.invariant_of-result
@@ -16,5 +16,5 @@ invariant_of-result c =
 pub returns : goal.returns
 returns c =
     let rows = c.in_ok-copy_rows.ensures ∙ c.as_slice.ensures.value in
-    (λ i. record { loaders = 1; rows = rows i; records = recorded_same c.self.inside.records.entries c.in_ok-clone.field-0.entries c.in_ok-clone.ensures.cases i })
+    (λ i. record { loaders = named_same c.self.inside.records.entries c.in_ok-clone.field-0.entries c.in_ok-clone.ensures.cases i ∷ []; rows = rows i })
     ∙ c.self.view_is
