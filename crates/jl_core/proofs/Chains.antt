@@ -5,7 +5,7 @@ use Rattle.std.specs.Option.{option_map_or}
 use Rattle.std.proofs.Common.{refl, ap, sym, ◌∙◌, add-one}
 use Rattle.jl_types.specs.World.{Class, Classes}
 use Rattle.jl_types.specs.declared.ids.MethodId.{MethodId}
-use Rattle.jl_classfile.specs.declared.class.Method.{Method}
+use Rattle.jl_classfile.specs.Class.{Method}
 use Rattle.jl_types.specs.Members.{declared}
 use Rattle.jl_types.specs.Overriding.{can_override}
 use Rattle.jl_types.specs.Selection.{overriding}

@@ -1,12 +1,11 @@
 -- What a definition refuses and makes, where the file is plain.
-use Rattle.std.specs.Prelude.{◌≡◌, ℕ, zero, suc, ◌+◌, ◌<◌, ◌≤◌, ◌==◌, Bool, true, false, ◌||◌, List, [], ◌∷◌, ◌++◌, Vec, length, slice_get, filter_map, find, not, cond, nat_le, is_none, option_map, Option, Some, None, option_and_then, option_to_list, All}
+use Rattle.std.specs.Prelude.{◌≡◌, ℕ, zero, suc, ◌+◌, ◌^◌, ◌<◌, ◌≤◌, ◌==◌, Bool, true, false, ◌||◌, List, [], ◌∷◌, ◌++◌, Vec, length, slice_get, filter_map, find, not, cond, nat_le, is_none, option_map, Option, Some, None, option_and_then, option_to_list, All}
 use Rattle.std.specs.List.{list_any, AllByRecursion}
 use Rattle.std.specs.Option.{option_map_or}
 use Rattle.std.proofs.Common.{refl, ap, sym, subst, ◌∙◌, arith, length-append}
-use Rattle.std.proofs.lemmas.Bool.{ltb-true}
 use Rattle.std.proofs.lemmas.Bool.Decides.{Decides-eqb}
 use Rattle.std.proofs.lemmas.List.Elements.{All-from_recursion, recursion_from_All}
-use Rattle.jl_classfile.specs.declared.class.ClassFile.{ClassFile}
+use Rattle.jl_classfile.specs.Class.{ClassFile}
 use Rattle.jl_types.specs.World.{Class, Classes}
 use Rattle.jl_types.specs.Members.{lookup}
 use Rattle.jl_types.specs.Ancestry.{AreOrdered}
@@ -72,7 +71,7 @@ either P [] x y (suc n) h k e = cc
 either P (z ∷ xs) x y zero h k e = h 0 y e
 either P (z ∷ xs) x y (suc n) h k e = either P xs x y n (λ n y e. h (suc n) y e) k e
 
-module _ {A : Type 0} (rows : List Class) (entries : List (Vec ℕ A × ℕ)) (w : IsPlainWorld rows) (t : All (λ e. e.1 < length rows) entries) (file : ClassFile) (p : is_plain_file file ≡ true) where
+module _ {A : Type 0} (rows : List Class) (entries : List (Vec ℕ A × ℕ)) (w : IsPlainWorld rows) (t : All (λ e. e.1 < length rows) entries) (file : ClassFile) (p : is_plain_file file ≡ true) (few : length file.methods < 2 ^ 16) where
   abbrev old : Classes
   old = record { loaders = named entries ∷ []; rows = rows }
 
@@ -80,7 +79,7 @@ module _ {A : Type 0} (rows : List Class) (entries : List (Vec ℕ A × ℕ)) (w
   good = record { there = (records_there (length rows) entries (recursion_from_All (λ e. e.1 < length rows) entries t), tt); ordered = w.ordered }
 
   file_plain : (o : Option ℕ) → IsPlain (plain_class 0 file o)
-  file_plain o = record { plain = p; alone = refl; few = ltb-true (length file.methods) 65536 (plain_parts file p).3 }
+  file_plain o = record { plain = p; alone = refl; few = few }
 
   pub still_plain : (o : Option ℕ) → HasSuperclass old 0 file o → length rows < 65536 → IsPlainWorld (rows ++ plain_class 0 file o ∷ [])
   still_plain o h lt = record {

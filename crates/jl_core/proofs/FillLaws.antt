@@ -5,13 +5,9 @@ use Rattle.std.specs.Fn.{FnReturns}
 use Rattle.std.proofs.Common.{refl, ap, sym, subst, ◌∙◌, arith, append-nil}
 use Rattle.std.proofs.lemmas.Slice.Zip.{all_zipped_more}
 use Rattle.jl_core.specs.Fills.{Gathers}
-use Rattle.jl_core.proofs.RowLaws.{range_end}
+use Rattle.std.proofs.lemmas.List.Elements.{filter_map-append}
+use Rattle.jl_types.proofs.Lists.{range_end}
 use denote.Param.Members.{Shared}
-
-ends_with : {U : Type 0} (given : List (Option U)) (one : Option U) → filter_map (λ one. one) (given ++ one ∷ []) ≡ filter_map (λ one. one) given ++ cons_option one []
-ends_with [] one = refl
-ends_with (None ∷ given) one = ends_with given one
-ends_with {U = U} (Some x ∷ given) one = ap (λ (xs : List U). x ∷ xs) (ends_with given one)
 
 module _ {F U : Type 0} (g : Shared F (ℕ × Unit {0}) (Option U)) (make : F) (end : ℕ) (items : List U) (before : Gathers g make end items) where
   each_more : (one : Option U) → FnReturns g make (end, tt) one → AllZip (λ number one. FnReturns g make (number, tt) one) (range_with_len 0 (end + 1)) (before.given ++ one ∷ [])
@@ -24,14 +20,14 @@ module _ {F U : Type 0} (g : Shared F (ℕ × Unit {0}) (Option U)) (make : F) (
   gives_nothing h = record {
     given = before.given ++ None ∷ [];
     each = each_more None h;
-    some = before.some ∙ sym (ends_with before.given None ∙ append-nil (filter_map (λ one. one) before.given));
+    some = before.some ∙ sym (filter_map-append (λ one. one) before.given (None ∷ []) ∙ append-nil (filter_map (λ one. one) before.given));
   }
 
   pub gives_one : (x : U) (more : List U) → more ≡ items ++ x ∷ [] → FnReturns g make (end, tt) (Some x) → Gathers g make (end + 1) more
   gives_one x more e h = record {
     given = before.given ++ Some x ∷ [];
     each = each_more (Some x) h;
-    some = e ∙ ap (λ (xs : List U). xs ++ x ∷ []) before.some ∙ sym (ends_with before.given (Some x));
+    some = e ∙ ap (λ (xs : List U). xs ++ x ∷ []) before.some ∙ sym (filter_map-append (λ one. one) before.given (Some x ∷ []));
   }
 
 -- what is given by a function

@@ -5,7 +5,7 @@ use Rattle.std.specs.List.{list_any, range_with_len}
 use Rattle.std.proofs.Common.{refl, ap, sym, subst, ◌∙◌, arith, inl, inr, append-nil}
 use Rattle.std.proofs.lemmas.Bool.{ltb-true}
 use Rattle.std.proofs.lemmas.Bool.Decides.{Decides-eqb, Decides-ltb}
-use Rattle.jl_code.specs.declared.site.Site.{Site}
+use Rattle.jl_code.specs.Site.{Site}
 use Rattle.jl_code.specs.declared.site.Operand.{Operand}
 use Rattle.jl_code.specs.declared.site.Operand.TheVariants as operand
 use Rattle.jl_types.specs.declared.ids.Place.{Place}
@@ -31,7 +31,8 @@ use Rattle.jl_core.specs.Batches.{row_faults}
 use Rattle.jl_core.specs.State.{link_at, lost, AreScratch}
 use Rattle.jl_core.specs.LinkMaps.{link_with}
 use Rattle.jl_core.proofs.PlainLaws.{filter_none}
-use Rattle.jl_core.proofs.RowLaws.{range_end, filter_end}
+use Rattle.std.proofs.lemmas.List.Elements.{filter-append}
+use Rattle.jl_types.proofs.Lists.{range_end}
 
 -- ---- a link that stays
 
@@ -195,7 +196,7 @@ module _ (w : World) (before : List (ℕ × Link)) where
   gone_more : (n : ℕ) → gone (n + 1) ≡ gone n ++ cond (goes n) (n ∷ []) []
   gone_more n =
       ap (filter goes) (range_end 0 n ∙ ap (λ (k : ℕ). range_with_len 0 n ++ k ∷ []) (omega arith))
-      ∙ filter_end goes (range_with_len 0 n) n
+      ∙ filter-append goes (range_with_len 0 n) (n ∷ [])
 
   passed : (n s : ℕ) → s < n → so_far n s ≡ kept false (link_at before s) (scratch w s)
   passed n s lt = ap (λ (b : Bool). cond b (kept false (link_at before s) (scratch w s)) (link_at before s)) ((Decides-ltb s n).1 lt)

@@ -7,8 +7,7 @@ use Rattle.std.specs.Bool.{one_answer}
 use Rattle.std.proofs.Common.{append-nil}
 use Rattle.std.proofs.lemmas.Bool.Decides.{Decides-eqb, Decides-like}
 use Rattle.std.proofs.lemmas.Bool.{ltb-true}
-use Rattle.jl_classfile.specs.declared.class.ClassFile.{ClassFile}
-use Rattle.jl_classfile.specs.declared.class.Method.{Method}
+use Rattle.jl_classfile.specs.Class.{ClassFile, Method}
 use Rattle.jl_pool.specs.declared.reference.Reference.{Reference}
 use Rattle.jl_classfile.specs.Conditions.{has_flag, PUBLIC, PRIVATE, STATIC, INTERFACE}
 use Rattle.std.specs.Str.{bytes_eq}
@@ -28,13 +27,12 @@ use Rattle.jl_types.proofs.Lists.{some_same, element_at}
 use Rattle.jl_core.specs.Admitted.{is_plain_file, is_public_method}
 use Rattle.jl_core.specs.Plain.{alike, IsPlainWorld}
 
-pub plain_parts : (file : ClassFile) → is_plain_file file ≡ true → (has_flag file.flags PUBLIC ≡ true) × (not (has_flag file.flags INTERFACE) ≡ true) × ((length file.interfaces == 0) ≡ true) × (nat_lt (length file.methods) 65536 ≡ true) × (list_all is_public_method file.methods ≡ true)
+pub plain_parts : (file : ClassFile) → is_plain_file file ≡ true → (has_flag file.flags PUBLIC ≡ true) × (not (has_flag file.flags INTERFACE) ≡ true) × ((length file.interfaces == 0) ≡ true) × (list_all is_public_method file.methods ≡ true)
 plain_parts file h =
     let a = and_both (has_flag file.flags PUBLIC) _ h in
     let b = and_both (not (has_flag file.flags INTERFACE)) _ a.1 in
     let d = and_both (length file.interfaces == 0) _ b.1 in
-    let e = and_both (nat_lt (length file.methods) 65536) _ d.1 in
-    (a.0, b.0, d.0, e.0, e.1)
+    (a.0, b.0, d.0, d.1)
 
 pub filter_none : {A : Type 0} (p : A → Bool) (xs : List A) → ((x : A) → p x ≡ false) → filter p xs ≡ []
 filter_none p [] h = refl
@@ -75,7 +73,7 @@ module _ (cs : Classes) (w : IsPlainWorld cs.rows) where
     where
       by_row : (row : Option Class) → slice_get cs.rows m.class ≡ row → slice_get (option_map_or (λ row. row.file.methods) row []) m.index ≡ Some method → option_map_or (λ method. has_flag method.flags PUBLIC) (method_at cs m) false ≡ true
       by_row None is h = cc
-      by_row (Some row) is h = ap (λ (o : Option Method). option_map_or (λ method. has_flag method.flags PUBLIC) o false) e ∙ all_at is_public_method row.file.methods m.index method (plain_parts row.file (w.each m.class row is).plain).4 h
+      by_row (Some row) is h = ap (λ (o : Option Method). option_map_or (λ method. has_flag method.flags PUBLIC) o false) e ∙ all_at is_public_method row.file.methods m.index method (plain_parts row.file (w.each m.class row is).plain).3 h
 
   -- a class that is there is accessible
   pub there_accessible : (d c : ℕ) (row : Class) → slice_get cs.rows c ≡ Some row → is_accessible_class cs d c ≡ true

@@ -9,27 +9,10 @@ use Rattle.jl_types.specs.declared.answer.Outcome.TheVariants.{Run, Throws}
 use Rattle.jl_types.specs.World.{Classes}
 use Rattle.jl_types.specs.Selection.{virtual_outcome}
 use Rattle.jl_types.specs.Links.{runs}
+use Rattle.jl_types.proofs.Lists.{range_end}
+use Rattle.std.proofs.lemmas.List.{map-append}
+use Rattle.std.proofs.lemmas.List.Elements.{filter-append}
 use Rattle.jl_core.specs.Rows.{is_virtual_receiver, rows_below, common_run, joined}
-
-pub range_end : (a n : ℕ) → range_with_len a (n + 1) ≡ range_with_len a n ++ (a + n) ∷ []
-range_end a zero = ap (λ (k : ℕ). k ∷ []) (omega arith)
-range_end a (suc n) =
-    ap (range_with_len a) (add-one (suc n))
-    ∙ ap (λ (k : ℕ). a ∷ range_with_len (a + 1) k) (sym (add-one n))
-    ∙ ap (λ (xs : List ℕ). a ∷ xs) (range_end (a + 1) n)
-    ∙ ap (λ (k : ℕ). a ∷ (range_with_len (a + 1) n ++ k ∷ [])) (omega arith)
-
-pub filter_end : (p : ℕ → Bool) (xs : List ℕ) (x : ℕ) → filter p (xs ++ x ∷ []) ≡ filter p xs ++ cond (p x) (x ∷ []) []
-filter_end p [] x = refl
-filter_end p (y ∷ xs) x = by_test (p y) (filter_end p xs x)
-  where
-    by_test : (b : Bool) → filter p (xs ++ x ∷ []) ≡ filter p xs ++ cond (p x) (x ∷ []) [] → cond b (y ∷ filter p (xs ++ x ∷ [])) (filter p (xs ++ x ∷ [])) ≡ cond b (y ∷ filter p xs) (filter p xs) ++ cond (p x) (x ∷ []) []
-    by_test true e = ap (λ (zs : List ℕ). y ∷ zs) e
-    by_test false e = e
-
-map_end : {A B : Type 0} (f : A → B) (xs ys : List A) → map f (xs ++ ys) ≡ map f xs ++ map f ys
-map_end f [] ys = refl
-map_end f (x ∷ xs) ys = ap (λ (zs : List _). f x ∷ zs) (map_end f xs ys)
 
 module _ (cs : Classes) (named : ℕ) (r : MethodId) where
   abbrev row : ℕ → ℕ × Outcome
@@ -38,8 +21,8 @@ module _ (cs : Classes) (named : ℕ) (r : MethodId) where
   rows_end : (n : ℕ) (b : Bool) → is_virtual_receiver cs named n ≡ b → rows_below cs named r (n + 1) ≡ rows_below cs named r n ++ cond b (row n ∷ []) []
   rows_end n b e =
       ap (λ (xs : List ℕ). map row (filter (is_virtual_receiver cs named) xs)) (range_end 0 n ∙ ap (λ (k : ℕ). range_with_len 0 n ++ k ∷ []) (omega arith))
-      ∙ ap (map row) (filter_end (is_virtual_receiver cs named) (range_with_len 0 n) n)
-      ∙ map_end row (filter (is_virtual_receiver cs named) (range_with_len 0 n)) (cond (is_virtual_receiver cs named n) (n ∷ []) [])
+      ∙ ap (map row) (filter-append (is_virtual_receiver cs named) (range_with_len 0 n) (n ∷ []))
+      ∙ map-append row (filter (is_virtual_receiver cs named) (range_with_len 0 n)) (cond (is_virtual_receiver cs named n) (n ∷ []) [])
       ∙ by_test b e
     where
       by_test : (b : Bool) → is_virtual_receiver cs named n ≡ b → rows_below cs named r n ++ map row (cond (is_virtual_receiver cs named n) (n ∷ []) []) ≡ rows_below cs named r n ++ cond b (row n ∷ []) []

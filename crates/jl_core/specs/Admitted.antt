@@ -1,15 +1,14 @@
 -- What this core admits for now, and its verdict on an event: what it doesn't admit yet is refused before everything else.
-use Rattle.std.specs.Prelude.{ℕ, Bool, true, false, not, ◌&&◌, ◌==◌, nat_lt, List, length, Result, Err, if◌then◌else◌}
+use Rattle.std.specs.Prelude.{ℕ, Bool, true, false, not, ◌&&◌, ◌==◌, List, length, Result, Err, if◌then◌else◌}
 use Rattle.std.specs.List.{list_all}
 use Rattle.std.specs.Option.{option_map_or}
 use Rattle.jl_classfile.specs.Conditions.{has_flag, PUBLIC, INTERFACE}
-use Rattle.jl_classfile.specs.declared.class.ClassFile.{ClassFile}
-use Rattle.jl_classfile.specs.declared.class.Method.{Method}
+use Rattle.jl_classfile.specs.Class.{ClassFile, Method}
 use Rattle.jl_code.specs.declared.site.Kind.{Kind}
 use Rattle.jl_code.specs.declared.site.Kind.TheVariants.{Virtual, Special, Static, Interface, Dynamic}
 use Rattle.jl_code.specs.declared.site.Operand.{Operand}
 use Rattle.jl_code.specs.declared.site.Operand.TheVariants as operand
-use Rattle.jl_code.specs.declared.site.Site.{Site}
+use Rattle.jl_code.specs.Site.{Site}
 use Rattle.jl_types.specs.declared.event.Event.{Event}
 use Rattle.jl_types.specs.declared.event.Event.TheVariants as event
 use Rattle.jl_types.specs.declared.event.Made.{Made}
@@ -22,12 +21,11 @@ use Rattle.jl_types.specs.Events.{verdict}
 abbrev pub is_public_method : Method → Bool
 is_public_method method = has_flag method.flags PUBLIC
 
--- the file of a public class that is no interface and lists none, with public methods alone; one with more methods than a
--- class file can have is none
+-- the file of a public class that is no interface and lists none, with public methods alone
 abbrev pub is_plain_file : ClassFile → Bool
 is_plain_file file =
     has_flag file.flags PUBLIC && (not (has_flag file.flags INTERFACE)
-    && ((length file.interfaces == 0) && ((nat_lt (length file.methods) 65536) && list_all is_public_method file.methods)))
+    && ((length file.interfaces == 0) && list_all is_public_method file.methods))
 
 -- an invokevirtual or an invokestatic
 abbrev pub is_supported_kind : Kind → Bool

@@ -6,8 +6,7 @@ use Rattle.std.specs.List.{list_any}
 use Rattle.std.specs.Option.{option_map_or}
 use Rattle.jl_classfile.specs.Conditions.{has_flag, PRIVATE, STATIC, object}
 use Rattle.std.specs.Str.{bytes_eq}
-use Rattle.jl_classfile.specs.declared.class.ClassFile.{ClassFile}
-use Rattle.jl_classfile.specs.declared.class.Method.{Method}
+use Rattle.jl_classfile.specs.Class.{ClassFile, Method}
 use Rattle.jl_types.specs.declared.ids.Place.{Place}
 use Rattle.jl_types.specs.declared.ids.MethodId.{MethodId}
 use Rattle.jl_types.specs.World.{Class, Classes}
@@ -65,6 +64,7 @@ HasSuperclass cs loader file (Some c) =
 -- a class of this file may be added: nothing speaks against its definition by loader 0
 pub record IsAddable (cs : Classes) (file : ClassFile) (superclass : Option ℕ) : Type 0 where
   pub plain : is_plain_file file ≡ true
+  pub few : length file.methods < 2 ^ 16
   pub found : HasSuperclass cs 0 file superclass
   pub fresh : lookup cs 0 file.name ≡ None
   pub room : length cs.rows < 65536

@@ -1,6 +1,6 @@
 //! The definition of a class (JVMS SE 17 §5.3.5).
 
-ghost use Rattle.std.specs.Prelude.{◌≡◌, ◌<◌, ◌==◌, ◌&&◌, ◌≢◌, not, nat_le, is_some, true, Some, None, length, List, ℕ, IfOk, IfErr, OnOk, OnErr, ◌∷◌, []};
+ghost use Rattle.std.specs.Prelude.{◌≡◌, ◌<◌, ◌==◌, ◌^◌, ◌&&◌, ◌≢◌, not, nat_le, is_some, true, Some, None, length, List, ℕ, IfOk, IfErr, OnOk, OnErr, ◌∷◌, []};
 ghost use Rattle.std.specs.Bool.{then_some};
 ghost use Rattle.std.specs.List.{list_any, list_all};
 ghost use Rattle.jl_classfile.specs.Conditions.{object};
@@ -32,12 +32,10 @@ const MOST_CLASSES: usize = 65_536;
 pub(crate) fn is_plain_file(file: &ClassFile) -> bool
     ensures { result ≡ is_plain_file file.now }
 {
-    let methods = file.methods.as_slice();
-    has_flag(file.flags, PUBLIC)
-        && !has_flag(file.flags, INTERFACE)
-        && file.interfaces.as_slice().len() == 0
-        && methods.len() < 65_536
-        && are_public(methods)
+    has_flag(file.flags(), PUBLIC)
+        && !has_flag(file.flags(), INTERFACE)
+        && file.interfaces().len() == 0
+        && are_public(file.methods())
 }
 
 /// Whether each method is public.
@@ -51,7 +49,7 @@ fn are_public(methods: &[Method]) -> bool
 fn is_public_method(method: &Method) -> bool
     ensures { result ≡ is_public_method method.now }
 {
-    has_flag(method.flags, PUBLIC)
+    has_flag(method.flags(), PUBLIC)
 }
 
 impl Classes {
@@ -60,12 +58,14 @@ impl Classes {
         ensures same { result ≡ first_of (first_faults self.now loader file.now) }
         ensures plain { IsPlainWorld self.now.rows }
         ensures loaders { length self.now.loaders ≡ 1 }
+        ensures few { length file.now.methods < 2 ^ 16 }
     {
         let _ = self.rows();
+        let _ = file.methods();
         if loader.number() >= 1 {
             return Some(DefineFault::UnknownLoader);
         }
-        let name = file.name.as_slice();
+        let name = file.name().as_slice();
         if name == b"java/lang/Object".as_slice() && loader.number() != 0 {
             return Some(DefineFault::SecondObject);
         }
@@ -79,26 +79,23 @@ impl Classes {
     }
 
     /// The file as it is, and the class that the loader has recorded under the superclass's name.
-    fn with_superclass(&self, loader: LoaderId, mut file: ClassFile) -> Result<Linked, DefineFault>
+    fn with_superclass(&self, loader: LoaderId, file: ClassFile) -> Result<Linked, DefineFault>
         ensures found { IfOk result (λ linked. (linked.file ≡ file) × HasSuperclass self.now loader file linked.superclass) }
         ensures missing { IfErr result (λ f. (name : List ℕ) × (file.superclass ≡ Some name)
             × (members.lookup self.now loader name ≡ None) × (f ≡ fault.MissingParent name)) }
     {
-        let Some(name) = file.superclass.take() else {
+        let Some(name) = file.superclass() else {
             return Ok(Linked {
                 file,
                 superclass: None,
             });
         };
         match self.lookup(loader, name.as_slice()) {
-            Some(class) => {
-                file.superclass = Some(name);
-                Ok(Linked {
-                    file,
-                    superclass: Some(class),
-                })
-            }
-            None => Err(DefineFault::MissingParent(name)),
+            Some(class) => Ok(Linked {
+                file,
+                superclass: Some(class),
+            }),
+            None => Err(DefineFault::MissingParent(file.into_superclass())),
         }
     }
 
@@ -122,7 +119,7 @@ impl Classes {
         ensures { result ≡ definitions.is_final self.now class }
     {
         match self.class_at(class) {
-            Some(row) => has_flag(row.file().flags, FINAL),
+            Some(row) => has_flag(row.file().flags(), FINAL),
             None => false,
         }
     }
@@ -182,7 +179,7 @@ impl Classes {
 fn key_of(alloc: Global, file: &ClassFile) -> Result<Vec<u8>, AllocError>
     ensures { IfOk result (λ key. key.items ≡ file.now.name) }
 {
-    file.name.as_slice().to_vec(alloc)
+    file.name().as_slice().to_vec(alloc)
 }
 
 /// Whether the class is its own superclass or superinterface.
@@ -190,12 +187,12 @@ fn key_of(alloc: Global, file: &ClassFile) -> Result<Vec<u8>, AllocError>
 fn names_itself(file: &ClassFile) -> bool
     ensures { result ≡ list_any (bytes_eq file.now.name) (definitions.parent_names file.now) }
 {
-    let name = file.name.as_slice();
-    let by_superclass = match &file.superclass {
+    let name = file.name().as_slice();
+    let by_superclass = match file.superclass() {
         Some(superclass) => name == superclass.as_slice(),
         None => false,
     };
-    by_superclass || is_among(name, file.interfaces.as_slice())
+    by_superclass || is_among(name, file.interfaces())
 }
 
 /// Whether the name is one of these.

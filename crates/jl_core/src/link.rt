@@ -15,7 +15,7 @@ impl Classes {
     {
         match self.class_at(class) {
             Some(row) => {
-                let flags = row.file().flags;
+                let flags = row.file().flags();
                 !has_flag(flags, INTERFACE) && !has_flag(flags, ABSTRACT)
             }
             None => false,

@@ -1,7 +1,7 @@
 //! The request of a place.
 
 ghost use Rattle.std.specs.Prelude.{◌≡◌, ◌≢◌, ◌≤◌, true, Some, Ok, Err, IfOk, IfErr, OnOk, OnErr};
-ghost use Rattle.jl_code.specs.declared.site.Site as site;
+ghost use Rattle.jl_code.specs.Site as site;
 ghost use Rattle.jl_types.specs.Sites.{invocation_at};
 ghost use Rattle.jl_types.specs.Events as events;
 ghost use Rattle.jl_types.specs.declared.event.Event.TheVariants as event;
@@ -57,10 +57,10 @@ impl World {
         if !is_supported(invocation) {
             return Err(Refusal::NotYet);
         }
-        if names_array(&invocation.operand) {
+        if names_array(invocation.operand()) {
             return Ok(Some(Refusal::NotLinkable(NotLinkable::ArrayReceiver)));
         }
-        if is_polymorphic(&invocation.operand) {
+        if is_polymorphic(invocation.operand()) {
             return Ok(Some(Refusal::NotLinkable(NotLinkable::PolymorphicSignature)));
         }
         if self.places.len() >= max_sites as usize {
@@ -74,7 +74,7 @@ impl World {
 fn is_supported(site: &Site) -> bool
     ensures { result ≡ is_supported site.now }
 {
-    is_supported_kind(site.kind) && names_method(&site.operand)
+    is_supported_kind(site.kind()) && names_method(site.operand())
 }
 
 /// Whether it is the kind of an invokevirtual or an invokestatic.

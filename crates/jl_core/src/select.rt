@@ -18,7 +18,7 @@ impl Classes {
         ensures plain { IsPlainWorld self.now.rows }
     {
         let row = self.class_at(method.class)?;
-        row.file().methods.as_slice().get(usize::from(method.index))
+        row.file().methods().get(usize::from(method.index))
     }
 
     /// Whether the first method can override the second one.
@@ -38,7 +38,7 @@ impl Classes {
         let Some(method) = self.method_at(resolved) else {
             return Chosen::Nothing;
         };
-        if has_flag(method.flags, PRIVATE) {
+        if has_flag(method.flags(), PRIVATE) {
             return Chosen::Method(*resolved);
         }
         match self.overriding(receiver, resolved, method) {
@@ -56,7 +56,7 @@ impl Classes {
     ) -> Option<MethodId>
         ensures { result ≡ own_overriding self.now class resolved.now method.now }
     {
-        let found = self.declared(class, method.name.as_slice(), method.ty.as_slice())?;
+        let found = self.declared(class, method.name().as_slice(), method.ty().as_slice())?;
         if self.can_override(&found, resolved) {
             Some(found)
         } else {
@@ -107,7 +107,7 @@ impl Classes {
         ensures { result ≡ members.is_abstract self.now method.now }
     {
         match self.method_at(method) {
-            Some(method) => has_flag(method.flags, ABSTRACT),
+            Some(method) => has_flag(method.flags(), ABSTRACT),
             None => false,
         }
     }
@@ -117,7 +117,7 @@ impl Classes {
         ensures { result ≡ members.is_static self.now method.now }
     {
         match self.method_at(method) {
-            Some(method) => has_flag(method.flags, STATIC),
+            Some(method) => has_flag(method.flags(), STATIC),
             None => false,
         }
     }
@@ -127,7 +127,7 @@ impl Classes {
         ensures { result ≡ members.is_private self.now method.now }
     {
         match self.method_at(method) {
-            Some(method) => has_flag(method.flags, PRIVATE),
+            Some(method) => has_flag(method.flags(), PRIVATE),
             None => false,
         }
     }
@@ -137,9 +137,9 @@ impl Classes {
 fn are_alike(lower: &Method, upper: &Method) -> bool
     ensures { result ≡ alike lower.now upper.now }
 {
-    !has_flag(lower.flags, STATIC)
-        && !has_flag(upper.flags, STATIC)
-        && !has_flag(lower.flags, PRIVATE)
-        && upper.name.as_slice() == lower.name.as_slice()
-        && upper.ty.as_slice() == lower.ty.as_slice()
+    !has_flag(lower.flags(), STATIC)
+        && !has_flag(upper.flags(), STATIC)
+        && !has_flag(lower.flags(), PRIVATE)
+        && upper.name().as_slice() == lower.name().as_slice()
+        && upper.ty().as_slice() == lower.ty().as_slice()
 }

@@ -37,7 +37,7 @@ impl Classes {
             class: place.class,
             index: place.method,
         })?;
-        site_at(method.sites.as_slice(), place.pc)
+        site_at(method.sites(), place.pc)
     }
 
     /// What an invokevirtual or an invokestatic comes to.
@@ -46,8 +46,8 @@ impl Classes {
         ensures { (w : World) (s : ℕ) → w.classes ≡ self.now
             → IsStage result (sites.by_operand w s caller invocation.now.kind invocation.now.operand) }
     {
-        match &invocation.operand {
-            Operand::Method(reference) => match invocation.kind {
+        match invocation.operand() {
+            Operand::Method(reference) => match invocation.kind() {
                 Kind::Static => self.static_stage(caller, reference),
                 _ => self.virtual_stage(caller, reference),
             },
@@ -96,5 +96,5 @@ impl Classes {
 fn site_at(sites: &[Site], pc: u32) -> Option<&Site>
     ensures { option_copied result ≡ find (λ site. site.pc == pc) sites.now }
 {
-    sites.iter().find(|site| u32::from(site.pc) == pc)
+    sites.iter().find(|site| u32::from(site.pc()) == pc)
 }

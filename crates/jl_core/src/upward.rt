@@ -14,7 +14,7 @@ use jl_types::{ClassId, MethodId};
 fn place_of(methods: &[Method], name: &[u8], ty: &[u8]) -> Option<usize>
     ensures { result ≡ position (members.is_called name.now ty.now) methods.now }
 {
-    methods.iter().position(|method| method.name.as_slice() == name && method.ty.as_slice() == ty)
+    methods.iter().position(|method| method.name().as_slice() == name && method.ty().as_slice() == ty)
 }
 
 impl Classes {
@@ -23,7 +23,7 @@ impl Classes {
         ensures { result ≡ members.declared self.now name.now ty.now class }
     {
         let row = self.class_at(class)?;
-        let place = place_of(row.file().methods.as_slice(), name, ty)?;
+        let place = place_of(row.file().methods(), name, ty)?;
         Some(MethodId {
             class,
             index: place as u16,

@@ -14,7 +14,7 @@ use Rattle.jl_types.proofs.Lists.{some_same}
 -- ---- ancestors
 
 -- two tests that agree below c agree on parents that come before it
-any_alike : (f g : ℕ → Bool) (c : ℕ) → ((p : ℕ) → p < c → f p ≡ g p) → (ps : List ℕ) → AllByRecursion (λ p. p < c) ps → list_any f ps ≡ list_any g ps
+pub any_alike : (f g : ℕ → Bool) (c : ℕ) → ((p : ℕ) → p < c → f p ≡ g p) → (ps : List ℕ) → AllByRecursion (λ p. p < c) ps → list_any f ps ≡ list_any g ps
 any_alike f g c h [] o = refl
 any_alike f g c h (p ∷ ps) o = λ i. h p o.0 i || any_alike f g c h ps o.1 i
 

@@ -4,6 +4,7 @@ pub mod Bools
 pub mod Ancestors
 pub mod Overrides
 pub mod Orders
+pub mod Grown
 pub mod Settling
 pub mod Installed
 pub mod OneMore

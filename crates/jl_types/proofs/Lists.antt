@@ -1,6 +1,6 @@
 -- Elements of lists by their places.
 use Rattle.std.specs.Prelude.{◌≡◌, ℕ, zero, suc, ◌<◌, ◌+◌, Bool, true, false, List, [], ◌∷◌, ◌++◌, length, drop, get_or, slice_get, slice_set, Some}
-use Rattle.std.specs.List.{AllByRecursion}
+use Rattle.std.specs.List.{AllByRecursion, range_with_len}
 use Rattle.std.specs.Option.{option_map_or}
 use Rattle.std.proofs.Common.{refl, ap, sym, subst, ◌∙◌, arith, add-one}
 use Rattle.std.proofs.Math.Seq.{drop-cons}
@@ -49,3 +49,12 @@ pub all_set : {A : Type 0} (P : A → Type 0) (xs : List A) (n : ℕ) (x : A) �
 all_set P [] n x p h = tt
 all_set P (y ∷ xs) zero x p h = (p, h.1)
 all_set P (y ∷ xs) (suc n) x p h = (h.0, all_set P xs n x p h.1)
+
+-- a range one longer
+pub range_end : (a n : ℕ) → range_with_len a (n + 1) ≡ range_with_len a n ++ (a + n) ∷ []
+range_end a zero = ap (λ (k : ℕ). k ∷ []) (omega arith)
+range_end a (suc n) =
+    ap (range_with_len a) (add-one (suc n))
+    ∙ ap (λ (k : ℕ). a ∷ range_with_len (a + 1) k) (sym (add-one n))
+    ∙ ap (λ (xs : List ℕ). a ∷ xs) (range_end (a + 1) n)
+    ∙ ap (λ (k : ℕ). a ∷ (range_with_len (a + 1) n ++ k ∷ [])) (omega arith)

@@ -3,7 +3,7 @@ use Rattle.std.specs.Prelude.{ℕ, Bool, not, ◌&&◌, ◌||◌, ◌==◌, nat_
 use Rattle.std.specs.List.{list_any}
 use Rattle.std.specs.Option.{option_map_or}
 use Rattle.std.specs.Bool.{then_some}
-use Rattle.jl_classfile.specs.declared.class.ClassFile.{ClassFile}
+use Rattle.jl_classfile.specs.Class.{ClassFile}
 use Rattle.std.specs.Str.{bytes_eq}
 use Rattle.jl_classfile.specs.Conditions.{has_flag, object, PUBLIC}
 use Rattle.jl_types.specs.declared.refusal.DefineFault.{DefineFault}

@@ -1,7 +1,7 @@
 -- What there is to link: classes by loader (JVMS 5.3), requested places, call sites and switch points (java.lang.invoke).
 -- What has a number is numbered by its place in its list.
 use Rattle.std.specs.Prelude.{ℕ, Bool, List, [], ◌∷◌, Option}
-use Rattle.jl_classfile.specs.declared.class.ClassFile.{ClassFile}
+use Rattle.jl_classfile.specs.Class.{ClassFile}
 use Rattle.jl_types.specs.declared.ids.Place.{Place}
 use Rattle.jl_types.specs.declared.target.CallSiteKind.{CallSiteKind}
 use Rattle.jl_types.specs.Target.{Target}

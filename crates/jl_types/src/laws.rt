@@ -1,6 +1,7 @@
 //! The laws of the definitions: each is the contract of a function that does nothing.
 
-ghost use Rattle.std.specs.Prelude.{◌≡◌, ◌↔◌, ◌<◌, ◌≤◌, ◌++◌, ◌∷◌, [], ℕ, List, Some, Ok, Err, true, length, slice_get, find, ◌==◌, Decides, AllPairs, Contains};
+ghost use Rattle.std.specs.Prelude.{◌≡◌, ◌↔◌, ◌<◌, ◌≤◌, ◌++◌, ◌∷◌, [], ℕ, List, Some, Ok, Err, true, length, slice_get, find, filter, ◌==◌, ◌&&◌, Decides, AllPairs, Contains};
+ghost use Rattle.std.specs.List.{list_any};
 ghost use Rattle.std.specs.Option.{option_map_or};
 ghost use Rattle.jl_types.specs.declared.ids.MethodId.{MethodId};
 ghost use Rattle.jl_types.specs.declared.answer.Throwable.{Throwable};
@@ -16,7 +17,9 @@ ghost use Rattle.jl_types.specs.declared.link.TableKind.{TableKind};
 ghost use Rattle.jl_types.specs.declared.event.Event.{Event};
 ghost use Rattle.jl_types.specs.World.{Class, Classes, World};
 ghost use Rattle.jl_types.specs.Members.{is_concrete};
-ghost use Rattle.jl_types.specs.Ancestry.{AreOrdered, IsAncestor, is_ancestor, superclasses};
+ghost use Rattle.jl_classfile.specs.Class.{ClassFile};
+ghost use Rattle.jl_types.specs.Definitions.{defined};
+ghost use Rattle.jl_types.specs.Ancestry.{AreOrdered, IsAncestor, is_ancestor, ancestors, receivers, superclasses};
 ghost use Rattle.jl_types.specs.Overriding.{CanOverride, can_override};
 ghost use Rattle.jl_types.specs.Sites.{Invocation, Selects, stage};
 ghost use Rattle.jl_types.specs.Links.{scratch};
@@ -37,6 +40,22 @@ pub fn ancestors_of_ancestors()
     ensures onward { (cs : Classes) → AreOrdered cs.rows → (a b c : ℕ)
         → is_ancestor cs a b ≡ true → is_ancestor cs b c ≡ true → is_ancestor cs a c ≡ true }
     ensures decided { (cs : Classes) → AreOrdered cs.rows → (a x : ℕ) → Decides (is_ancestor cs a x) (IsAncestor cs.rows a x) }
+{}
+
+/// Where parents come first, the list of a class's ancestors has exactly its ancestors.
+pub fn ancestors_are_listed()
+    ensures { (cs : Classes) → AreOrdered cs.rows → (a c : ℕ)
+        → is_ancestor cs a c ≡ list_any (λ k. k == a) (ancestors cs.rows c) }
+{}
+
+/// The definition of a class leaves the ancestors of the others as they are, and adds to the receivers of a class at most
+/// the new one, where objects may be of that and it is below the class.
+pub fn one_class_more()
+    ensures ancestors { (cs : Classes) → AreOrdered cs.rows → (loader : ℕ) (file : ClassFile) (c : ℕ) → c < length cs.rows
+        → ancestors (defined cs loader file).rows c ≡ ancestors cs.rows c }
+    ensures receivers { (cs : Classes) → AreOrdered cs.rows → (loader : ℕ) (file : ClassFile) (c : ℕ)
+        → let new = defined cs loader file in receivers new c
+        ≡ receivers cs c ++ filter (λ x. is_concrete new x && is_ancestor new c x) (length cs.rows ∷ []) }
 {}
 
 /// The superclasses of a class, itself the first, are it and those of its direct superclass.

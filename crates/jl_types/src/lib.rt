@@ -38,7 +38,8 @@ pub use class_id::ClassId;
 pub use event::{Event, Made, Reply};
 pub use ids::{MethodId, Place};
 pub use laws::{
-    ancestors_of_ancestors, each_site_once, links_give_the_answers, one_event_more,
+    ancestors_are_listed, ancestors_of_ancestors, each_site_once, links_give_the_answers,
+    one_class_more, one_event_more,
     overriding_is_decided, parents_come_first, settled_links, superclasses_upward, unlinked_calls,
 };
 pub use link::{Link, TableKind, same_link};

@@ -1,7 +1,6 @@
 -- Small classes to write worlds with.
 use Rattle.std.specs.Prelude.{ℕ, ◌+◌, ◌==◌, if◌then◌else◌, List, [], ◌∷◌, Option, None, codes, true, false}
-use Rattle.jl_classfile.specs.declared.class.ClassFile.{ClassFile}
-use Rattle.jl_classfile.specs.declared.class.Method.{Method}
+use Rattle.jl_classfile.specs.Class.{ClassFile, Method}
 use Rattle.jl_pool.specs.declared.reference.Reference.{Reference}
 use Rattle.jl_code.specs.declared.site.Kind.{Kind}
 use Rattle.jl_code.specs.declared.site.Operand.TheVariants as operand

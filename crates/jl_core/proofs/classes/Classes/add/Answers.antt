@@ -28,13 +28,13 @@ invariant_of-self-2 c =
     let rows = c.self.inside.rows.items in
     let entries = c.self.inside.records.entries in
     let room = subst (λ (s : Classes). length s.rows < 65536) (sym c.self.view_is) c.requires.room in (
-      subst IsPlainWorld (sym (rows_are c)) (still_plain rows entries c.self.invariant.0 c.self.invariant.1 c.args.linked.file c.requires.plain c.args.linked.superclass (found c) room),
+      subst IsPlainWorld (sym (rows_are c)) (still_plain rows entries c.self.invariant.0 c.self.invariant.1 c.args.linked.file c.requires.plain c.requires.few c.args.linked.superclass (found c) room),
       subst (λ (es : List (Vec ℕ Global × ℕ)). All (λ e. e.1 < length c.push_reserved.new.self.items) es) (sym (entries_are c))
-          (subst (λ (rs : List Class). All (λ e. e.1 < length rs) (entries ++ (c.in_ok-key.key, length rows) ∷ [])) (sym (rows_are c)) (still_there rows entries c.self.invariant.0 c.self.invariant.1 c.args.linked.file c.requires.plain c.in_ok-key.key c.args.linked.superclass)),
+          (subst (λ (rs : List Class). All (λ e. e.1 < length rs) (entries ++ (c.in_ok-key.key, length rows) ∷ [])) (sym (rows_are c)) (still_there rows entries c.self.invariant.0 c.self.invariant.1 c.args.linked.file c.requires.plain c.requires.few c.in_ok-key.key c.args.linked.superclass)),
     )
 
 pub returns-clause-ok : goal.returns-clause-ok
 returns-clause-ok c =
     (λ i. record { loaders = named (entries_are c i) ∷ []; rows = rows_are c i })
-    ∙ defined_is c.self.inside.rows.items c.self.inside.records.entries c.self.invariant.0 c.self.invariant.1 c.args.linked.file c.requires.plain c.in_ok-key.key c.args.linked.superclass c.in_ok-key.ensures (found c)
+    ∙ defined_is c.self.inside.rows.items c.self.inside.records.entries c.self.invariant.0 c.self.invariant.1 c.args.linked.file c.requires.plain c.requires.few c.in_ok-key.key c.args.linked.superclass c.in_ok-key.ensures (found c)
     ∙ ap (λ (s : Classes). defined s 0 c.args.linked.file) c.self.view_is
