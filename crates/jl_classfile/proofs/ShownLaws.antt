@@ -5,7 +5,7 @@ use Rattle.std.proofs.Math.Seq.{take-suc}
 use Rattle.jl_classfile.specs.declared.body.Attribute.{Attribute}
 use Rattle.jl_classfile.specs.declared.body.Member.{Member}
 use Rattle.jl_classfile.specs.declared.body.Body.{Body}
-use Rattle.jl_classfile.specs.declared.class.Method.{Method}
+use Rattle.jl_classfile.specs.Class.{Method}
 use Rattle.jl_code.specs.declared.instruction.Instruction.{Instruction}
 use Rattle.jl_code.specs.declared.code_fault.CodeFault.{CodeFault}
 use Rattle.jl_code.specs.declared.code_fault.CodeFault.TheVariants as code
@@ -76,6 +76,15 @@ shown_more p [] [] m c h = refl
 shown_more p [] (d ∷ codes) m c h = absurd h
 shown_more p (n ∷ ms) [] m c h = absurd h
 shown_more p (n ∷ ms) (d ∷ codes) m c h = ap (λ (l : List Method). shown_method p n d ∷ l) (shown_more p ms codes m c h.1)
+
+shown_count : (p : Pool) (ms : List Member) (codes : List (Option (List Instruction))) → HaveCodes p ms codes → length (shown_methods p ms codes) ≡ length ms
+shown_count p [] codes h = refl
+shown_count p (m ∷ ms) [] h = absurd h
+shown_count p (m ∷ ms) (c ∷ codes) h = ap (λ (n : ℕ). suc n) (shown_count p ms codes h.1)
+
+-- a class file shows as many methods as it has
+pub as_many : (p : Pool) (ms : List Member) (methods : List Method) → MethodsShown p ms methods → length methods ≡ length ms
+as_many p ms methods s = ap (λ (l : List Method). length l) s.shown ∙ shown_count p ms s.codes s.have
 
 pub one_more_shown : (p : Pool) (ms : List Member) (methods : List Method) (m : Member) (method : Method) → MethodsShown p ms methods → MethodShown p m method → MethodsShown p (ms ++ m ∷ []) (methods ++ method ∷ [])
 one_more_shown p ms methods m method s k = record {

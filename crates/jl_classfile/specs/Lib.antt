@@ -4,6 +4,7 @@ pub mod CodeAttributes
 pub mod Parts
 pub mod Conditions
 pub mod ClassFiles
+pub mod Class
 pub mod Shown
 pub mod Faults
 pub mod Reading

@@ -1,22 +1,59 @@
 //! What a class file shows.
 
-ghost use Rattle.std.specs.Prelude.{◌≡◌, IfOk};
+ghost use Rattle.std.specs.Prelude.{◌≡◌, ◌<◌, ◌^◌, length, option_copied, IfOk};
 
 use jl_code::Site;
 use jl_names::{Name, Seq};
 use std::alloc::{AllocError, Global};
+use std::marker::Model;
 
 /// A method of a class file (JVMS SE 17 §4.6): its access flags, name and descriptor, and the invocations in its
-/// code, by rising pc.
+/// code, by rising pc. What it answers is lent, and takes no memory.
 #[derive(Debug, Drop)]
 pub struct Method {
-    pub flags: u16,
-    pub name: Name,
-    pub ty: Name,
-    pub sites: Seq<Site>,
+    pub(crate) flags: u16,
+    pub(crate) name: Name,
+    pub(crate) ty: Name,
+    pub(crate) sites: Seq<Site>,
+}
+
+impl Model for Method {
+    ghost use Rattle.jl_classfile.specs.Class as plain;
+
+    ghost Value = { plain.Method };
+
+    ghost view = { λ m. record { flags = m.flags; name = m.name; ty = m.ty; sites = m.sites } };
 }
 
 impl Method {
+    /// Its access flags.
+    pub fn flags(&self) -> u16
+        ensures { result ≡ self.now.flags }
+    {
+        self.flags
+    }
+
+    /// Its name.
+    pub fn name(&self) -> &Name
+        ensures { result.now ≡ self.now.name }
+    {
+        &self.name
+    }
+
+    /// Its descriptor.
+    pub fn ty(&self) -> &Name
+        ensures { result.now ≡ self.now.ty }
+    {
+        &self.ty
+    }
+
+    /// The invocations in its code, by rising pc.
+    pub fn sites(&self) -> &[Site]
+        ensures { result.now ≡ self.now.sites }
+    {
+        self.sites.as_slice()
+    }
+
     /// The same method once more. Want of memory is an error.
     fn copy(&self, alloc: Global) -> Result<Method, AllocError>
         ensures { IfOk result (λ copy. copy ≡ self.now) }
@@ -32,19 +69,88 @@ impl Method {
 
 /// What is kept of a class file (JVMS SE 17 §4.1): its name, access flags, superclass (java/lang/Object alone has
 /// none), direct superinterfaces, nest host and nest members as the file names them (§4.7.28, §4.7.29), and methods,
-/// in file order. Each text is in modified UTF-8.
+/// in file order. Each text is in modified UTF-8. What it answers is lent, and takes no memory.
 #[derive(Debug, Drop)]
 pub struct ClassFile {
-    pub name: Name,
-    pub flags: u16,
-    pub superclass: Option<Name>,
-    pub interfaces: Seq<Name>,
-    pub nest_host: Option<Name>,
-    pub nest_members: Seq<Name>,
-    pub methods: Seq<Method>,
+    pub(crate) name: Name,
+    pub(crate) flags: u16,
+    pub(crate) superclass: Option<Name>,
+    pub(crate) interfaces: Seq<Name>,
+    pub(crate) nest_host: Option<Name>,
+    pub(crate) nest_members: Seq<Name>,
+    pub(crate) methods: Seq<Method>,
+}
+
+impl Model for ClassFile {
+    ghost use Rattle.std.specs.Prelude.{◌<◌, ◌^◌, length};
+    ghost use Rattle.jl_classfile.specs.Class as plain;
+
+    ghost Value = { plain.ClassFile };
+
+    ghost view = { λ f. record {
+      name = f.name;
+      flags = f.flags;
+      superclass = f.superclass;
+      interfaces = f.interfaces;
+      nest_host = f.nest_host;
+      nest_members = f.nest_members;
+      methods = f.methods;
+    } };
+
+    ghost invariant = { λ f. length f.methods < 2 ^ 16 };
 }
 
 impl ClassFile {
+    /// Its name.
+    pub fn name(&self) -> &Name
+        ensures { result.now ≡ self.now.name }
+    {
+        &self.name
+    }
+
+    /// Its access flags.
+    pub fn flags(&self) -> u16
+        ensures { result ≡ self.now.flags }
+    {
+        self.flags
+    }
+
+    /// The name of its superclass, which java/lang/Object alone has not.
+    pub fn superclass(&self) -> Option<&Name>
+        ensures { option_copied result ≡ self.now.superclass }
+    {
+        self.superclass.as_ref()
+    }
+
+    /// The names of its direct superinterfaces, in the file's order.
+    pub fn interfaces(&self) -> &[Name]
+        ensures { result.now ≡ self.now.interfaces }
+    {
+        self.interfaces.as_slice()
+    }
+
+    /// The name of its nest host, where the file names one.
+    pub fn nest_host(&self) -> Option<&Name>
+        ensures { option_copied result ≡ self.now.nest_host }
+    {
+        self.nest_host.as_ref()
+    }
+
+    /// The names of its nest members, in the file's order.
+    pub fn nest_members(&self) -> &[Name]
+        ensures { result.now ≡ self.now.nest_members }
+    {
+        self.nest_members.as_slice()
+    }
+
+    /// Its methods, in the file's order: fewer than 65,536.
+    pub fn methods(&self) -> &[Method]
+        ensures methods { result.now ≡ self.now.methods }
+        ensures few { length result.now < 2 ^ 16 }
+    {
+        self.methods.as_slice()
+    }
+
     /// The same class file once more. Want of memory is an error.
     pub fn copy(&self, alloc: Global) -> Result<ClassFile, AllocError>
         ensures { IfOk result (λ copy. copy ≡ self.now) }

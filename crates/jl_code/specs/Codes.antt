@@ -9,7 +9,7 @@ use Rattle.jl_code.specs.declared.site.Kind.{Kind}
 use Rattle.jl_code.specs.declared.site.Kind.TheVariants.{Virtual, Special, Static, Interface, Dynamic}
 use Rattle.jl_code.specs.declared.site.Operand.{Operand}
 use Rattle.jl_code.specs.declared.site.Operand.TheVariants.{Method, CallSite}
-use Rattle.jl_code.specs.declared.site.Site.{Site}
+use Rattle.jl_code.specs.Site.{Site}
 use Rattle.jl_code.specs.Known.{Invocation, invocations}
 use Rattle.jl_pool.specs.Pools.{Pool, has_tag, same_text, reference_at, call_site_at}
 use Rattle.jl_code.specs.declared.instruction.Instruction.{Instruction}

@@ -1,5 +1,6 @@
 pub mod Known
 pub mod Instructions
+pub mod Site
 pub mod Codes
 pub mod Faults
 pub mod Reading

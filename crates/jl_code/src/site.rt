@@ -5,6 +5,7 @@ ghost use Rattle.std.specs.Prelude.{◌≡◌, IfOk};
 use jl_names::Name;
 use jl_pool::{CallSiteSpecifier, Reference};
 use std::alloc::{AllocError, Global};
+use std::marker::Model;
 
 /// Which instruction invokes (JVMS SE 17 §6.5): invokevirtual, invokespecial, invokestatic, invokeinterface,
 /// invokedynamic.
@@ -36,15 +37,44 @@ impl Operand<Name> {
     }
 }
 
-/// An invocation. Its pc counts bytes from the code's start.
+/// An invocation. A clause sees its place, its kind and what it names.
 #[derive(Debug, Drop)]
 pub struct Site {
-    pub pc: u16,
-    pub kind: Kind,
-    pub operand: Operand<Name>,
+    pub(crate) pc: u16,
+    pub(crate) kind: Kind,
+    pub(crate) operand: Operand<Name>,
+}
+
+impl Model for Site {
+    ghost use Rattle.jl_code.specs.Site as plain;
+
+    ghost Value = { plain.Site };
+
+    ghost view = { λ s. record { pc = s.pc; kind = s.kind; operand = s.operand } };
 }
 
 impl Site {
+    /// Its place, in bytes from the code's start.
+    pub fn pc(&self) -> u16
+        ensures { result ≡ self.now.pc }
+    {
+        self.pc
+    }
+
+    /// Which instruction it is.
+    pub fn kind(&self) -> Kind
+        ensures { result ≡ self.now.kind }
+    {
+        self.kind
+    }
+
+    /// What it names. This lends and takes no memory.
+    pub fn operand(&self) -> &Operand<Name>
+        ensures { result.now ≡ self.now.operand }
+    {
+        &self.operand
+    }
+
     /// The same invocation once more. Want of memory is an error.
     pub fn copy(&self, alloc: Global) -> Result<Site, AllocError>
         ensures { IfOk result (λ copy. copy ≡ self.now) }

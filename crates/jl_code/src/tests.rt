@@ -36,8 +36,8 @@ fn is_f(operand: &Operand<Name>) -> bool {
 /// Whether these are invocations of A.f:()V at these places.
 fn are_sites(sites: &[Site], expected: &[(u16, Kind)]) -> bool {
     sites.len() == expected.len()
-        && sites.iter().zip(expected.iter()).all(|(site, place)| (site.pc, site.kind) == *place
-            && is_f(&site.operand))
+        && sites.iter().zip(expected.iter()).all(|(site, place)| (site.pc(), site.kind()) == *place
+            && is_f(site.operand()))
 }
 
 /// Whether the code invokes A.f:()V at these places, and nothing else.

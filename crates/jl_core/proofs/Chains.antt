@@ -6,7 +6,7 @@ use Rattle.std.proofs.Common.{refl, ap, sym, ◌∙◌, add-one}
 use Rattle.jl_types.specs.World.{Classes}
 use Rattle.jl_types.specs.declared.class.Class.{Class}
 use Rattle.jl_types.specs.declared.ids.MethodId.{MethodId}
-use Rattle.jl_classfile.specs.declared.class.Method.{Method}
+use Rattle.jl_classfile.specs.Class.{Method}
 use Rattle.jl_types.specs.Members.{declared}
 use Rattle.jl_types.specs.Overriding.{can_override}
 use Rattle.jl_types.specs.Selection.{overriding}

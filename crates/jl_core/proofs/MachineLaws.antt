@@ -5,7 +5,7 @@ use Rattle.std.specs.List.{list_any, range_with_len}
 use Rattle.std.proofs.Common.{refl, ap, sym, subst, ◌∙◌, arith, inl, inr, append-nil}
 use Rattle.std.proofs.lemmas.Bool.{ltb-true}
 use Rattle.std.proofs.lemmas.Bool.Decides.{Decides-eqb, Decides-ltb}
-use Rattle.jl_code.specs.declared.site.Site.{Site}
+use Rattle.jl_code.specs.Site.{Site}
 use Rattle.jl_code.specs.declared.site.Operand.{Operand}
 use Rattle.jl_code.specs.declared.site.Operand.TheVariants as operand
 use Rattle.jl_types.specs.declared.ids.Place.{Place}

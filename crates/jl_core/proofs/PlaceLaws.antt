@@ -2,8 +2,8 @@
 use Rattle.std.specs.Prelude.{◌≡◌, ℕ, ◌<◌, ◌≤◌, ◌==◌, nat_le, Bool, true, false, if◌then◌else◌, position, List, [], ◌∷◌, ◌++◌, length, slice_get, find, Option, Some, None, option_and_then, Result, Ok, Err, OnOk, OnErr}
 use Rattle.std.specs.Option.{option_map_or}
 use Rattle.std.proofs.Common.{refl, ap, sym, subst, ◌∙◌, arith, inl, inr, length-append}
-use Rattle.jl_classfile.specs.declared.class.ClassFile.{ClassFile}
-use Rattle.jl_code.specs.declared.site.Site.{Site}
+use Rattle.jl_classfile.specs.Class.{ClassFile}
+use Rattle.jl_code.specs.Site.{Site}
 use Rattle.jl_types.specs.declared.class.Class.{Class}
 use Rattle.jl_types.specs.declared.ids.Place.{Place}
 use Rattle.std.specs.Bool.{then_some}

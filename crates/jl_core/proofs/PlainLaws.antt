@@ -7,8 +7,8 @@ use Rattle.std.specs.Bool.{one_answer}
 use Rattle.std.proofs.Common.{append-nil}
 use Rattle.std.proofs.lemmas.Bool.Decides.{Decides-eqb, Decides-like}
 use Rattle.std.proofs.lemmas.Bool.{ltb-true}
-use Rattle.jl_classfile.specs.declared.class.ClassFile.{ClassFile}
-use Rattle.jl_classfile.specs.declared.class.Method.{Method}
+use Rattle.jl_classfile.specs.Class.{ClassFile}
+use Rattle.jl_classfile.specs.Class.{Method}
 use Rattle.jl_pool.specs.declared.reference.Reference.{Reference}
 use Rattle.jl_classfile.specs.Conditions.{has_flag, PUBLIC, PRIVATE, STATIC, INTERFACE}
 use Rattle.jl_pool.specs.Pools.{same_text}

@@ -2,13 +2,13 @@
 use Rattle.std.specs.Prelude.{ℕ, Bool, true, false, not, ◌&&◌, ◌==◌, nat_lt, List, length, Option, Some, None, Result, Err, if◌then◌else◌}
 use Rattle.std.specs.List.{list_all}
 use Rattle.jl_classfile.specs.Conditions.{has_flag, PUBLIC, INTERFACE}
-use Rattle.jl_classfile.specs.declared.class.ClassFile.{ClassFile}
-use Rattle.jl_classfile.specs.declared.class.Method.{Method}
+use Rattle.jl_classfile.specs.Class.{ClassFile}
+use Rattle.jl_classfile.specs.Class.{Method}
 use Rattle.jl_code.specs.declared.site.Kind.{Kind}
 use Rattle.jl_code.specs.declared.site.Kind.TheVariants.{Virtual, Special, Static, Interface, Dynamic}
 use Rattle.jl_code.specs.declared.site.Operand.{Operand}
 use Rattle.jl_code.specs.declared.site.Operand.TheVariants as operand
-use Rattle.jl_code.specs.declared.site.Site.{Site}
+use Rattle.jl_code.specs.Site.{Site}
 use Rattle.jl_types.specs.declared.ids.Place.{Place}
 use Rattle.jl_types.specs.declared.event.Event.{Event}
 use Rattle.jl_types.specs.declared.event.Event.TheVariants as event

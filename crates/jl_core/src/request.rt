@@ -1,7 +1,7 @@
 //! The request of a place.
 
 ghost use Rattle.std.specs.Prelude.{◌≡◌, ◌≢◌, ◌≤◌, true, Some, Ok, Err, IfOk, IfErr, OnOk, OnErr};
-ghost use Rattle.jl_code.specs.declared.site.Site as site;
+ghost use Rattle.jl_code.specs.Site as site;
 ghost use Rattle.jl_types.specs.Sites.{invocation_at};
 ghost use Rattle.jl_types.specs.Events as events;
 ghost use Rattle.jl_types.specs.declared.event.Event.TheVariants as event;

@@ -3,12 +3,11 @@ use Rattle.std.proofs.Common.{◌≡◌, refl, ℕ, List, [], ◌∷◌, map, fa
 use Rattle.serde_json.specs.Data.{Data}
 use Rattle.serde_json.specs.View.{items_of}
 use Rattle.serde_json.specs.Written.{has_float, items_have_float}
-use Rattle.jl_classfile.specs.declared.class.ClassFile.{ClassFile}
-use Rattle.jl_classfile.specs.declared.class.Method.{Method}
+use Rattle.jl_classfile.specs.Class.{ClassFile, Method}
 use Rattle.jl_code.specs.declared.site.Kind.{Kind}
 use Rattle.jl_code.specs.declared.site.Operand.{Operand}
 use Rattle.jl_code.specs.declared.site.Operand.TheVariants as operand
-use Rattle.jl_code.specs.declared.site.Site.{Site}
+use Rattle.jl_code.specs.Site.{Site}
 use Rattle.jl_types.specs.declared.answer.Answer.{Answer}
 use Rattle.jl_types.specs.declared.answer.Answer.TheVariants as answer
 use Rattle.jl_types.specs.declared.answer.Outcome.{Outcome}

@@ -2,8 +2,7 @@
 use Rattle.std.specs.Prelude.{ℕ, List, map, codes}
 use Rattle.serde_json.specs.Data.{Data, number, unsigned, string, array, object, no_members, member}
 use Rattle.serde_json.specs.View.{items_of}
-use Rattle.jl_classfile.specs.declared.class.ClassFile.{ClassFile}
-use Rattle.jl_classfile.specs.declared.class.Method.{Method}
+use Rattle.jl_classfile.specs.Class.{ClassFile, Method}
 use Rattle.jl_pool.specs.declared.reference.Reference.{Reference}
 use Rattle.jl_pool.specs.declared.reference.CallSiteSpecifier.{CallSiteSpecifier}
 use Rattle.jl_code.specs.declared.site.Kind.{Kind}
@@ -11,7 +10,7 @@ use Rattle.jl_code.specs.declared.site.Kind.TheVariants.{Virtual, Special, Stati
 use Rattle.jl_code.specs.declared.site.Kind.TheVariants.{Interface, Dynamic}
 use Rattle.jl_code.specs.declared.site.Operand.{Operand}
 use Rattle.jl_code.specs.declared.site.Operand.TheVariants as operand
-use Rattle.jl_code.specs.declared.site.Site.{Site}
+use Rattle.jl_code.specs.Site.{Site}
 
 abbrev pub number_data : ℕ → Data
 number_data n = number (unsigned n)

@@ -103,9 +103,15 @@ fn send_call_site<S: Serializer>(
 fn send_site<S: Serializer>(alloc: Global, site: &Site, out: &mut S) -> Result<(), S::Error>
     ensures { OnOk result (SendsValue (site_data name_text site.now) (S.written out.old) (S.written out.new)) }
 {
-    match &site.operand {
-        Operand::Method(reference) => send_call(alloc, site.pc, site.kind, reference, out),
-        Operand::CallSite(specifier) => send_call_site(alloc, site.pc, site.kind, specifier, out),
+    match site.operand() {
+        Operand::Method(reference) => send_call(alloc, site.pc(), site.kind(), reference, out),
+        Operand::CallSite(specifier) => send_call_site(
+            alloc,
+            site.pc(),
+            site.kind(),
+            specifier,
+            out,
+        ),
     }
 }
 
@@ -127,13 +133,13 @@ fn send_method<S: Serializer>(alloc: Global, method: &Method, out: &mut S) -> Re
 {
     out.begin_map(Some(4))?;
     out.key("flags")?;
-    send_number(method.flags, out)?;
+    send_number(method.flags(), out)?;
     out.key("name")?;
-    send_name(alloc, &method.name, out)?;
+    send_name(alloc, method.name(), out)?;
     out.key("sites")?;
-    send_sites(alloc, method.sites.as_slice(), out)?;
+    send_sites(alloc, method.sites(), out)?;
     out.key("type")?;
-    send_name(alloc, &method.ty, out)?;
+    send_name(alloc, method.ty(), out)?;
     out.end_map()
 }
 
@@ -176,9 +182,9 @@ fn send_class<S: Serializer>(alloc: Global, file: &ClassFile, out: &mut S) -> Re
 {
     out.begin_map(Some(2))?;
     out.key("class")?;
-    send_name(alloc, &file.name, out)?;
+    send_name(alloc, file.name(), out)?;
     out.key("methods")?;
-    send_methods(alloc, file.methods.as_slice(), out)?;
+    send_methods(alloc, file.methods(), out)?;
     out.end_map()
 }
 

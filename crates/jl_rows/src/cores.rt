@@ -1,10 +1,9 @@
 //! Events of a core, and the links and calls that they lead to.
 
-use jl_classfile::{ABSTRACT, ClassFile, INTERFACE, Method, PUBLIC, STATIC, read_class};
-use jl_code::{Kind, Operand, Site};
+use jl_classfile::{ABSTRACT, ClassFile, INTERFACE, PUBLIC, STATIC, read_class};
 use jl_core::{Core, Prepared, prepare};
 use jl_names::{Name, Seq};
-use jl_pool::Reference;
+use jl_sketch::{Call, MethodName, Sketch, SketchMethod, write_class};
 use jl_types::{
     Answer, ClassId, DefineFault, Event, Link, LoaderId, Made, MethodId, Missing, Outcome, Place,
     PrepareFault, Recv, Refusal, Reply, SiteNo, Table, TableKind, Throwable, Unlinked,
@@ -147,32 +146,61 @@ fn is_installed(reply: &Result<Reply, Refusal>) -> bool {
     is_made(reply, Made::Nothing, [].as_slice())
 }
 
+/// The class file that the sketch is written as, read again.
+fn written(alloc: Global, sketch: &Sketch) -> Option<ClassFile> {
+    let bytes = write_class(alloc, sketch).ok()?;
+    read_class(alloc, &bytes).ok()
+}
+
+/// A method of this name, of type ()V.
+fn method(
+    alloc: Global,
+    flags: u16,
+    name: &[u8],
+    calls: Seq<Call>,
+) -> Result<SketchMethod, AllocError> {
+    Ok(SketchMethod {
+        name: Name::copied(alloc, name)?,
+        ty: Name::copied(alloc, b"()V".as_slice())?,
+        flags,
+        calls,
+    })
+}
+
+/// A class of this name, below the one of the other name, with these methods.
+fn class_of(
+    alloc: Global,
+    name: &[u8],
+    flags: u16,
+    parent: &[u8],
+    methods: Seq<SketchMethod>,
+) -> Result<ClassFile, AllocError> {
+    let sketch = Sketch {
+        name: Name::copied(alloc, name)?,
+        flags,
+        superclass: Some(Name::copied(alloc, parent)?),
+        interfaces: Seq::of(Vec::new(alloc)),
+        methods,
+        host: None,
+        members: Seq::of(Vec::new(alloc)),
+    };
+    written(alloc, &sketch).ok_or(AllocError)
+}
+
 /// A class of this name, below the one of the other name, with a method f:()V of these flags if there are some.
 fn sketched(
     alloc: Global,
     name: &[u8],
     flags: u16,
     parent: &[u8],
-    method: Option<u16>,
+    method_flags: Option<u16>,
 ) -> Result<ClassFile, AllocError> {
     let mut methods = Vec::new(alloc);
-    if let Some(flags) = method {
-        methods.push(Method {
-            flags,
-            name: Name::copied(alloc, b"f".as_slice())?,
-            ty: Name::copied(alloc, b"()V".as_slice())?,
-            sites: Seq::of(Vec::new(alloc)),
-        })?;
+    if let Some(flags) = method_flags {
+        let calls = Seq::of(Vec::new(alloc));
+        methods.push(method(alloc, flags, b"f".as_slice(), calls)?)?;
     }
-    Ok(ClassFile {
-        name: Name::copied(alloc, name)?,
-        flags,
-        superclass: Some(Name::copied(alloc, parent)?),
-        interfaces: Seq::of(Vec::new(alloc)),
-        nest_host: None,
-        nest_members: Seq::of(Vec::new(alloc)),
-        methods: Seq::of(methods),
-    })
+    class_of(alloc, name, flags, parent, Seq::of(methods))
 }
 
 /// A public class below A, with its own f.
@@ -180,47 +208,26 @@ fn child(alloc: Global, name: &[u8]) -> Result<ClassFile, AllocError> {
     sketched(alloc, name, PUBLIC, b"A".as_slice(), Some(PUBLIC))
 }
 
-/// An invocation of a method of type ()V.
-fn invocation(
-    alloc: Global,
-    pc: u16,
-    kind: Kind,
-    owner: &[u8],
-    name: &[u8],
-) -> Result<Site, AllocError> {
-    Ok(Site {
-        pc,
-        kind,
-        operand: Operand::Method(Reference {
-            itf: false,
-            owner: Name::copied(alloc, owner)?,
-            name: Name::copied(alloc, name)?,
-            ty: Name::copied(alloc, b"()V".as_slice())?,
-        }),
+/// A method of this class, of type ()V.
+fn named(alloc: Global, owner: &[u8], name: &[u8]) -> Result<MethodName, AllocError> {
+    Ok(MethodName {
+        owner: Name::copied(alloc, owner)?,
+        name: Name::copied(alloc, name)?,
+        ty: Name::copied(alloc, b"()V".as_slice())?,
     })
 }
 
 // class N { public static void run() { virtual A.f; static N.run } }
 fn two_calls(alloc: Global) -> Result<ClassFile, AllocError> {
-    let mut sites = Vec::new(alloc);
-    sites.push(invocation(alloc, 0, Kind::Virtual, b"A".as_slice(), b"f".as_slice())?)?;
-    sites.push(invocation(alloc, 3, Kind::Static, b"N".as_slice(), b"run".as_slice())?)?;
+    let mut calls = Vec::new(alloc);
+    calls.push(Call::Virtual(named(alloc, b"A".as_slice(), b"f".as_slice())?))?;
+    let run = named(alloc, b"N".as_slice(), b"run".as_slice())?;
+    calls.push(Call::Static(false, run))?;
     let mut methods = Vec::new(alloc);
-    methods.push(Method {
-        flags: PUBLIC | STATIC,
-        name: Name::copied(alloc, b"run".as_slice())?,
-        ty: Name::copied(alloc, b"()V".as_slice())?,
-        sites: Seq::of(sites),
-    })?;
-    let mut file = sketched(
-        alloc,
-        b"N".as_slice(),
-        PUBLIC,
-        b"java/lang/Object".as_slice(),
-        None,
-    )?;
-    file.methods = Seq::of(methods);
-    Ok(file)
+    let flags = PUBLIC | STATIC;
+    methods.push(method(alloc, flags, b"run".as_slice(), Seq::of(calls))?)?;
+    let object = b"java/lang/Object".as_slice();
+    class_of(alloc, b"N".as_slice(), PUBLIC, object, Seq::of(methods))
 }
 
 /// The first method of the class.

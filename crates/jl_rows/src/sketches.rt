@@ -1,7 +1,7 @@
 //! Sketches, written as class files.
 
 use crate::lines::{answered, assert_each};
-use jl_classfile::{ClassFile, read_class};
+use jl_classfile::read_class;
 use jl_cli::Mode;
 use jl_names::Name;
 use std::alloc::Global;
@@ -121,8 +121,8 @@ fn nest_host_of(alloc: Global, sketch: &str) -> Option<Name> {
     outcome.ok()?;
     let (_, digits) = written.as_slice().split_last()?;
     let bytes = hex::decode(alloc, digits).ok()?;
-    let ClassFile { nest_host, .. } = read_class(alloc, &bytes).ok()?;
-    nest_host
+    let file = read_class(alloc, &bytes).ok()?;
+    file.nest_host()?.copy(alloc).ok()
 }
 
 #[test]

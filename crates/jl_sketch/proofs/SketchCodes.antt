@@ -14,7 +14,7 @@ use Rattle.jl_pool.proofs.Fields.{some_is, u4_again}
 use Rattle.jl_pool.proofs.PoolLaws.{u2_one}
 use Rattle.jl_code.specs.declared.instruction.Instruction.{Instruction}
 use Rattle.jl_code.specs.declared.instruction.Stop.{Stop}
-use Rattle.jl_code.specs.declared.site.Site.{Site}
+use Rattle.jl_code.specs.Site.{Site}
 use Rattle.jl_code.specs.Instructions.{instruction_text, MayStand}
 use Rattle.jl_code.specs.Codes.{code_bytes, MayStandFrom, site_list, site_at, sites_from}
 use Rattle.jl_code.specs.Reading.Instructions.{instruction_at}

@@ -8,9 +8,8 @@ use Rattle.std.proofs.lemmas.Bool.Decides.{nat_tests}
 use Rattle.jl_pool.specs.declared.constant.Constant.{Constant}
 use Rattle.jl_pool.specs.Pools.{Pool, places, class_at}
 use Rattle.jl_code.specs.declared.instruction.Instruction.{Instruction}
-use Rattle.jl_code.specs.declared.site.Site.{Site}
-use Rattle.jl_classfile.specs.declared.class.ClassFile.{ClassFile}
-use Rattle.jl_classfile.specs.declared.class.Method.{Method as ShownMethod}
+use Rattle.jl_code.specs.Site.{Site}
+use Rattle.jl_classfile.specs.Class.{ClassFile, Method as ShownMethod}
 use Rattle.jl_classfile.specs.Layouts.{Layout, file_text}
 use Rattle.jl_classfile.specs.Parts.{Parts}
 use Rattle.jl_classfile.specs.Conditions.{IsClassNumber, superclass_numbers, class_numbers, Nest, HasCode, codes_of, HaveCodes}

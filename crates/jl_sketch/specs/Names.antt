@@ -7,10 +7,9 @@ use Rattle.jl_code.specs.declared.site.Kind.{Kind}
 use Rattle.jl_code.specs.declared.site.Kind.TheVariants as kind
 use Rattle.jl_code.specs.declared.site.Operand.{Operand}
 use Rattle.jl_code.specs.declared.site.Operand.TheVariants.{Method, CallSite}
-use Rattle.jl_code.specs.declared.site.Site.{Site}
+use Rattle.jl_code.specs.Site.{Site}
 use Rattle.jl_code.specs.Codes.{operand_at}
-use Rattle.jl_classfile.specs.declared.class.ClassFile.{ClassFile}
-use Rattle.jl_classfile.specs.declared.class.Method.{Method as ShownMethod}
+use Rattle.jl_classfile.specs.Class.{ClassFile, Method as ShownMethod}
 use Rattle.jl_classfile.specs.ClassFiles.{pool_of}
 use Rattle.jl_sketch.specs.declared.sketch.Sketch.{Sketch}
 use Rattle.jl_sketch.specs.declared.sketch.SketchMethod.{SketchMethod}

@@ -1,6 +1,6 @@
 -- Selection (JVMS 5.4.6), and what the instructions make of it (6.5).
 use Rattle.std.specs.Prelude.{ℕ, not, ◌&&◌, ◌||◌, List, [], ◌∷◌, filter, filter_map, Option, Some, None, option_to_list, codes, Bool, if◌then◌else◌}
-use Rattle.jl_classfile.specs.declared.class.Method.{Method}
+use Rattle.jl_classfile.specs.Class.{Method}
 use Rattle.jl_pool.specs.declared.reference.Reference.{Reference}
 use Rattle.jl_pool.specs.Pools.{same_text}
 use Rattle.jl_types.specs.declared.ids.MethodId.{MethodId}

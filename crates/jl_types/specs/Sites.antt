@@ -5,7 +5,7 @@ use Rattle.jl_code.specs.declared.site.Kind.{Kind}
 use Rattle.jl_code.specs.declared.site.Kind.TheVariants.{Virtual, Special, Static, Interface, Dynamic}
 use Rattle.jl_code.specs.declared.site.Operand.{Operand}
 use Rattle.jl_code.specs.declared.site.Operand.TheVariants as operand
-use Rattle.jl_code.specs.declared.site.Site.{Site}
+use Rattle.jl_code.specs.Site.{Site}
 use Rattle.jl_types.specs.declared.ids.MethodId.{MethodId}
 use Rattle.jl_types.specs.declared.ids.Place.{Place}
 use Rattle.jl_types.specs.declared.answer.Throwable.{Throwable}

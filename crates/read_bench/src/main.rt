@@ -42,10 +42,8 @@ fn read_all(alloc: Global, files: &[Vec<u8>]) -> Totals {
         if let Ok(class) = read_class(alloc, bytes) {
             totals.classes = totals.classes.saturating_add(1);
             totals.bytes = totals.bytes.saturating_add(bytes.len() as u64);
-            for method in class.methods.as_slice() {
-                totals.sites = totals
-                    .sites
-                    .saturating_add(method.sites.as_slice().len() as u64);
+            for method in class.methods() {
+                totals.sites = totals.sites.saturating_add(method.sites().len() as u64);
             }
         }
     }

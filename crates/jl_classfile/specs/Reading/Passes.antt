@@ -9,11 +9,10 @@ use Rattle.jl_classfile.specs.declared.body.Broken.{Broken}
 use Rattle.jl_classfile.specs.declared.body.Broken.TheVariants as broken
 use Rattle.jl_pool.specs.declared.pool_fault.PoolFault.{PoolFault}
 use Rattle.jl_pool.specs.declared.pool_fault.PoolFault.TheVariants as pool
-use Rattle.jl_classfile.specs.declared.class.ClassFile.{ClassFile}
+use Rattle.jl_classfile.specs.Class.{ClassFile, Method}
 use Rattle.jl_pool.specs.declared.constant.Constant.{Constant}
-use Rattle.jl_classfile.specs.declared.class.Method.{Method}
 use Rattle.jl_code.specs.declared.instruction.Instruction.{Instruction}
-use Rattle.jl_code.specs.declared.site.Site.{Site}
+use Rattle.jl_code.specs.Site.{Site}
 use Rattle.jl_code.specs.declared.code_fault.CodeFault.{CodeFault}
 use Rattle.jl_code.specs.declared.code_fault.CodeFault.TheVariants as code
 use Rattle.jl_classfile.specs.declared.fault.ClassFault.{ClassFault}

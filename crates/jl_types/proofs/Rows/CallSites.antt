@@ -1,7 +1,7 @@
 -- Call sites and switch points, over the whole history.
 use Rattle.std.specs.Prelude.{◌≡◌, ℕ, zero, suc, List, [], ◌∷◌, ◌++◌, Some, None, Ok, Err, codes, refl, Box}
 use Rattle.std.proofs.Common.{Global}
-use Rattle.jl_classfile.specs.declared.class.Method.{Method}
+use Rattle.jl_classfile.specs.Class.{Method}
 use Rattle.jl_code.specs.declared.site.Kind.TheVariants.{Dynamic}
 use Rattle.jl_code.specs.declared.site.Operand.TheVariants as operand
 use Rattle.jl_types.specs.declared.ids.MethodId.{MethodId}

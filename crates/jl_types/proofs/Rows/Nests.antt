@@ -1,7 +1,7 @@
 -- A private method of a nest.
 use Rattle.std.specs.Prelude.{◌≡◌, ℕ, List, [], ◌∷◌, Option, Some, None, Ok, Err, codes, refl}
 use Rattle.jl_types.specs.declared.class.Class.{Class}
-use Rattle.jl_classfile.specs.declared.class.Method.{Method}
+use Rattle.jl_classfile.specs.Class.{Method}
 use Rattle.jl_code.specs.declared.site.Kind.TheVariants.{Virtual}
 use Rattle.jl_types.specs.declared.answer.Outcome.TheVariants.{Run}
 use Rattle.jl_types.specs.declared.answer.Missing.TheVariants.{MethodHost}

@@ -2,7 +2,7 @@ use Rattle.std.proofs.Common.{◌≡◌, ◌-◌, length, sym, ap, ◌∙◌, re
 use Rattle.std.specs.Prelude.{option_to_list}
 use Rattle.std.proofs.lemmas.Result.{err_from_is_err_and}
 use Rattle.std.proofs.lemmas.List.{append-nil}
-use Rattle.jl_code.specs.declared.site.Site.{Site}
+use Rattle.jl_code.specs.Site.{Site}
 use Rattle.jl_code.specs.Codes.{site_at}
 use Rattle.jl_code.proofs.CodeLaws.{Scanned, Scanned-more, Scanned-cut, Scanned-unknown, Scanned-switch, Scanned-operand, shorter}
 use Rattle.jl_code.proofs.code.scan.Goals as goal

@@ -1,7 +1,7 @@
 use Rattle.std.specs.Prelude.{Option, false}
 use Rattle.std.specs.Option.{option_map_or}
 use Rattle.std.proofs.Common.{sym, ap, ◌∙◌}
-use Rattle.jl_code.specs.declared.site.Site.{Site}
+use Rattle.jl_code.specs.Site.{Site}
 use Rattle.jl_core.specs.Admitted.{is_supported}
 use Rattle.jl_core.proofs.world.World.stage.Goals as goal
 
