@@ -4,6 +4,7 @@ use Rattle.std.specs.List.{list_any, list_all, cons_option, position_or_len}
 use Rattle.std.specs.Option.{option_map_or}
 use Rattle.std.proofs.Common.{refl, ap, sym, ◌∙◌, add-one}
 use Rattle.std.specs.Bool.{one_answer}
+use Rattle.std.specs.Str.{bytes_eq}
 use Rattle.std.proofs.Common.{append-nil}
 use Rattle.std.proofs.lemmas.Bool.Decides.{Decides-eqb, Decides-like}
 use Rattle.std.proofs.lemmas.Bool.{ltb-true}
@@ -11,7 +12,6 @@ use Rattle.jl_classfile.specs.Class.{ClassFile}
 use Rattle.jl_classfile.specs.Class.{Method}
 use Rattle.jl_pool.specs.declared.reference.Reference.{Reference}
 use Rattle.jl_classfile.specs.Conditions.{has_flag, PUBLIC, PRIVATE, STATIC, INTERFACE}
-use Rattle.jl_pool.specs.Pools.{same_text}
 use Rattle.jl_types.specs.declared.class.Class.{Class}
 use Rattle.jl_types.specs.declared.ids.MethodId.{MethodId}
 use Rattle.jl_types.specs.declared.answer.ResolveAnswer.TheVariants.{Fault}
@@ -140,7 +140,7 @@ module _ (cs : Classes) (w : IsPlainWorld cs.rows) where
   override_alike c a = override_at c a (are_alike cs c a) refl (λ h. let r = alike_there c a h in or_left (is_public cs a) _ (there_public a r.0 r.1))
 
   pub alike_is : (c a : MethodId) (m n : Method) → method_at cs c ≡ Some m → method_at cs a ≡ Some n → are_alike cs c a ≡ alike m n
-  alike_is c a m n e f = rw (e, f) (assoc (not (has_flag m.flags STATIC)) (not (has_flag n.flags STATIC)) (not (has_flag m.flags PRIVATE)) (same_text n.name m.name && same_text n.ty m.ty))
+  alike_is c a m n e f = rw (e, f) (assoc (not (has_flag m.flags STATIC)) (not (has_flag n.flags STATIC)) (not (has_flag m.flags PRIVATE)) (bytes_eq n.name m.name && bytes_eq n.ty m.ty))
     where
       assoc : (x y z t : Bool) → ((x && (y && z)) && t) ≡ (x && (y && (z && t)))
       assoc true true z t = refl

@@ -4,8 +4,8 @@ use Rattle.std.specs.Prelude.{◌≡◌, ℕ, ◌<◌, ◌≤◌, ◌^◌, Bool,
 use Rattle.std.specs.Bool.{then_some}
 use Rattle.std.specs.List.{list_any}
 use Rattle.std.specs.Option.{option_map_or}
+use Rattle.std.specs.Str.{bytes_eq}
 use Rattle.jl_classfile.specs.Conditions.{has_flag, PRIVATE, STATIC, object}
-use Rattle.jl_pool.specs.Pools.{same_text}
 use Rattle.jl_classfile.specs.Class.{ClassFile}
 use Rattle.jl_classfile.specs.Class.{Method}
 use Rattle.jl_types.specs.declared.ids.Place.{Place}
@@ -44,7 +44,7 @@ AreThere n entries = All (λ e. e.1 < n) entries
 abbrev pub alike : Method → Method → Bool
 alike c a =
     not (has_flag c.flags STATIC) && (not (has_flag a.flags STATIC) && (not (has_flag c.flags PRIVATE)
-    && (same_text a.name c.name && same_text a.ty c.ty)))
+    && (bytes_eq a.name c.name && bytes_eq a.ty c.ty)))
 
 -- the class's own declaration, where it can override the resolved method
 abbrev pub own_overriding : Classes → ℕ → MethodId → Method → Option MethodId
@@ -74,9 +74,9 @@ pub record IsAddable (cs : Classes) (file : ClassFile) (superclass : Option ℕ)
 abbrev pub first_faults : Classes → ℕ → ClassFile → List (Option DefineFault)
 first_faults cs loader file =
     then_some (nat_le cs.loaders loader) UnknownLoader
-    ∷ then_some (same_text file.name object && not (loader == 0)) SecondObject
+    ∷ then_some (bytes_eq file.name object && not (loader == 0)) SecondObject
     ∷ then_some (is_some (lookup cs loader file.name)) AlreadyRecorded
-    ∷ then_some (list_any (same_text file.name) (parent_names file)) NamesItself
+    ∷ then_some (list_any (bytes_eq file.name) (parent_names file)) NamesItself
     ∷ []
 
 -- the faults that are tested once the superclass is found

@@ -3,8 +3,8 @@
 ghost use Rattle.std.specs.Prelude.{◌≡◌, ◌<◌, ◌==◌, ◌&&◌, ◌≢◌, not, nat_le, is_some, true, Some, None, length, List, ℕ, IfOk, IfErr, OnOk, OnErr, ◌∷◌, []};
 ghost use Rattle.std.specs.Bool.{then_some};
 ghost use Rattle.std.specs.List.{list_any, list_all};
+ghost use Rattle.std.specs.Str.{bytes_eq};
 ghost use Rattle.jl_classfile.specs.Conditions.{object};
-ghost use Rattle.jl_pool.specs.Pools.{same_text};
 ghost use Rattle.jl_types.specs.declared.refusal.DefineFault.TheVariants as fault;
 ghost use Rattle.jl_types.specs.Members as members;
 ghost use Rattle.jl_types.specs.Definitions as definitions;
@@ -188,7 +188,7 @@ fn key_of(alloc: Global, file: &ClassFile) -> Result<Vec<u8>, AllocError>
 /// Whether the class is its own superclass or superinterface.
 #[tactic(auto, using(crate::proofs::DefineLaws::any_parent))]
 fn names_itself(file: &ClassFile) -> bool
-    ensures { result ≡ list_any (same_text file.now.name) (definitions.parent_names file.now) }
+    ensures { result ≡ list_any (bytes_eq file.now.name) (definitions.parent_names file.now) }
 {
     let name = file.name.as_slice();
     let by_superclass = match &file.superclass {
@@ -200,7 +200,7 @@ fn names_itself(file: &ClassFile) -> bool
 
 /// Whether the name is one of these.
 fn is_among(name: &[u8], names: &[Name]) -> bool
-    ensures { result ≡ list_any (same_text name.now) names.now }
+    ensures { result ≡ list_any (bytes_eq name.now) names.now }
 {
     names.iter().any(|other| name == other.as_slice())
 }

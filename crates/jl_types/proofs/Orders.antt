@@ -1,10 +1,10 @@
 -- Whatever events come, a class's parents were defined before it.
 use Rattle.std.specs.Prelude.{◌≡◌, ℕ, zero, suc, ◌+◌, ◌<◌, ◌≤◌, ◌==◌, ◌&&◌, ◌⊎◌, Bool, true, false, cond, List, [], ◌∷◌, ◌++◌, length, slice_get, slice_index_or, find, filter_map, fold, Option, Some, None, option_map, option_and_then, option_to_list}
 use Rattle.std.specs.List.{AllByRecursion, cons_option}
+use Rattle.std.specs.Str.{bytes_eq}
 use Rattle.std.proofs.Common.{refl, ap, sym, subst, ◌∙◌, arith, inl, inr, length-append}
 use Rattle.std.proofs.lemmas.List.Elements.{All-from_recursion, recursion_from_All}
 use Rattle.jl_classfile.specs.Class.{ClassFile}
-use Rattle.jl_pool.specs.Pools.{same_text}
 use Rattle.jl_types.specs.declared.class.Class.{Class}
 use Rattle.jl_types.specs.declared.event.Event.{Event}
 use Rattle.jl_types.specs.declared.event.Event.TheVariants as event
@@ -23,14 +23,14 @@ pub record IsGood (cs : Classes) : Type 0 where
 
 -- ---- look-ups
 
-found_below : (n loader : ℕ) (name : List ℕ) (records : List ((ℕ × List ℕ) × ℕ)) → AllByRecursion (λ r. r.1 < n) records → (c : ℕ) → option_map (λ r. r.1) (find (λ r. (r.0.0 == loader) && same_text r.0.1 name) records) ≡ Some c → c < n
+found_below : (n loader : ℕ) (name : List ℕ) (records : List ((ℕ × List ℕ) × ℕ)) → AllByRecursion (λ r. r.1 < n) records → (c : ℕ) → option_map (λ r. r.1) (find (λ r. (r.0.0 == loader) && bytes_eq r.0.1 name) records) ≡ Some c → c < n
 found_below n loader name [] h c e = cc
-found_below n loader name (r ∷ records) h c e = by_test ((r.0.0 == loader) && same_text r.0.1 name) (found_below n loader name records h.1 c) e
+found_below n loader name (r ∷ records) h c e = by_test ((r.0.0 == loader) && bytes_eq r.0.1 name) (found_below n loader name records h.1 c) e
   where
     same : (a b : ℕ) → Some a ≡ Some b → a ≡ b
     same a b e = cc
 
-    by_test : (b : Bool) → (option_map (λ r. r.1) (find (λ r. (r.0.0 == loader) && same_text r.0.1 name) records) ≡ Some c → c < n) → option_map (λ r. r.1) (cond b (Some r) (find (λ r. (r.0.0 == loader) && same_text r.0.1 name) records)) ≡ Some c → c < n
+    by_test : (b : Bool) → (option_map (λ r. r.1) (find (λ r. (r.0.0 == loader) && bytes_eq r.0.1 name) records) ≡ Some c → c < n) → option_map (λ r. r.1) (cond b (Some r) (find (λ r. (r.0.0 == loader) && bytes_eq r.0.1 name) records)) ≡ Some c → c < n
     by_test true rest e = subst (λ k. k < n) (same r.1 c e) h.0
     by_test false rest e = rest e
 

@@ -1,7 +1,7 @@
 -- What is accessible to whom (JVMS 5.4.4), and nests (4.7.28, 4.7.29).
 use Rattle.std.specs.Prelude.{ℕ, Bool, not, ◌&&◌, ◌||◌, ◌==◌, List, Option, Some, None, slice_get, option_and_then, if◌then◌else◌}
 use Rattle.std.specs.List.{list_any}
-use Rattle.jl_pool.specs.Pools.{same_text}
+use Rattle.std.specs.Str.{bytes_eq}
 use Rattle.jl_types.specs.declared.class.Class.{Class}
 use Rattle.jl_types.specs.declared.ids.MethodId.{MethodId}
 use Rattle.jl_types.specs.declared.answer.Missing.{Missing}
@@ -18,7 +18,7 @@ is_accessible_class cs d c = is_public_class cs c || same_package cs c d
 
 -- h's NestMembers lists the name
 abbrev pub lists_member : Classes → ℕ → List ℕ → Bool
-lists_member cs h name = class_test (λ host. list_any (same_text name) host.file.nest_members) cs h
+lists_member cs h name = class_test (λ host. list_any (bytes_eq name) host.file.nest_members) cs h
 
 -- m's NestHost names h: h is the host if it is in m's run-time package and lists m, and else m is its own
 abbrev pub host_if_listed : Classes → ℕ → Class → ℕ → ℕ

@@ -2,8 +2,8 @@
 use Rattle.std.specs.Prelude.{ℕ, Bool, not, ◌&&◌, ◌||◌, ◌==◌, nat_le, List, [], ◌∷◌, ◌++◌, find, filter_map, length, Option, option_map, option_and_then, option_to_list, is_some, is_none}
 use Rattle.std.specs.List.{list_any}
 use Rattle.std.specs.Bool.{then_some}
+use Rattle.std.specs.Str.{bytes_eq}
 use Rattle.jl_classfile.specs.Class.{ClassFile}
-use Rattle.jl_pool.specs.Pools.{same_text}
 use Rattle.jl_classfile.specs.Conditions.{has_flag, object, PUBLIC}
 use Rattle.jl_types.specs.declared.class.Class.{Class}
 use Rattle.jl_types.specs.declared.refusal.DefineFault.{DefineFault}
@@ -51,9 +51,9 @@ is_open_parent cs loader file name = named_test (is_open_to cs (class_made cs lo
 abbrev pub define_fault : Classes → ℕ → ClassFile → Option DefineFault
 define_fault cs loader file = first_of (
     then_some (nat_le cs.loaders loader) define.UnknownLoader
-    ∷ then_some (same_text file.name object && not (loader == 0)) define.SecondObject
+    ∷ then_some (bytes_eq file.name object && not (loader == 0)) define.SecondObject
     ∷ then_some (is_some (lookup cs loader file.name)) define.AlreadyRecorded
-    ∷ then_some (list_any (same_text file.name) (parent_names file)) define.NamesItself
+    ∷ then_some (list_any (bytes_eq file.name) (parent_names file)) define.NamesItself
     ∷ option_map define.MissingParent (find (λ name. is_none (lookup cs loader name)) (parent_names file))
     ∷ then_some (list_any (named_test (is_interface cs) cs loader) (option_to_list file.superclass)) define.SuperIsInterface
     ∷ then_some (list_any (named_test (is_final cs) cs loader) (option_to_list file.superclass)) define.FinalSuper

@@ -3,7 +3,7 @@ use Rattle.std.specs.Prelude.{ℕ, Bool, true, false, not, ◌&&◌, ◌||◌, �
 use Rattle.std.specs.Option.{option_map_or}
 use Rattle.std.specs.List.{list_any, starts_with}
 use Rattle.std.specs.Bool.{then_some}
-use Rattle.jl_pool.specs.Pools.{same_text}
+use Rattle.std.specs.Str.{bytes_eq}
 use Rattle.jl_code.specs.declared.site.Operand.{Operand}
 use Rattle.jl_code.specs.declared.site.Operand.TheVariants as operand
 use Rattle.jl_code.specs.Site.{Site}
@@ -46,8 +46,8 @@ names_array (operand.CallSite specifier) = false
 -- names a method of one of the classes whose methods any descriptor fits (JVMS 2.9.3)
 abbrev pub is_polymorphic : Operand (List ℕ) → Bool
 is_polymorphic (operand.Method ref) =
-    same_text ref.owner (codes "java/lang/invoke/MethodHandle")
-    || same_text ref.owner (codes "java/lang/invoke/VarHandle")
+    bytes_eq ref.owner (codes "java/lang/invoke/MethodHandle")
+    || bytes_eq ref.owner (codes "java/lang/invoke/VarHandle")
 is_polymorphic (operand.CallSite specifier) = false
 
 abbrev pub new_place_fault : ℕ → World → Site → Option Refusal
@@ -105,7 +105,7 @@ invalidated switches points = fold (λ left p. slice_set left p false) switches 
 
 abbrev pub type_fault : List ℕ → Option CallSiteRow → Option Refusal
 type_fault ty None = Some (CallSite fault.UnknownCallSite)
-type_fault ty (Some site) = then_some (not (same_text site.ty ty)) TypeMismatch
+type_fault ty (Some site) = then_some (not (bytes_eq site.ty ty)) TypeMismatch
 
 abbrev pub operand_fault : World → ℕ → ℕ → Operand (List ℕ) → Option Refusal
 operand_fault w s c (operand.Method ref) = Some NotDynamic

@@ -2,9 +2,9 @@
 use Rattle.std.specs.Prelude.{ℕ, Bool, false, not, ◌&&◌, ◌==◌, List, [], Option, find, position, slice_get, option_map, length}
 use Rattle.std.specs.Option.{option_map_or}
 use Rattle.std.specs.List.{range_with_len}
+use Rattle.std.specs.Str.{bytes_eq}
 use Rattle.jl_names.specs.ClassNames.{package_of}
 use Rattle.jl_classfile.specs.Class.{Method}
-use Rattle.jl_pool.specs.Pools.{same_text}
 use Rattle.jl_classfile.specs.Conditions.{has_flag, PUBLIC, PRIVATE, PROTECTED, STATIC, INTERFACE, ABSTRACT}
 use Rattle.jl_types.specs.declared.class.Class.{Class}
 use Rattle.jl_types.specs.declared.ids.MethodId.{MethodId}
@@ -31,14 +31,14 @@ is_concrete cs c = class_test is_concrete_row cs c
 
 -- classes of one run-time package: one defining loader, one package name (5.3)
 abbrev pub share_package : Class → Class → Bool
-share_package a b = (a.loader == b.loader) && same_text (package_of a.file.name) (package_of b.file.name)
+share_package a b = (a.loader == b.loader) && bytes_eq (package_of a.file.name) (package_of b.file.name)
 
 abbrev pub same_package : Classes → ℕ → ℕ → Bool
 same_package cs c d = class_test (λ a. class_test (share_package a) cs d) cs c
 
 -- the class that the loader has recorded under the name
 abbrev pub lookup : Classes → ℕ → List ℕ → Option ℕ
-lookup cs loader name = option_map (λ r. r.1) (find (λ r. (r.0.0 == loader) && same_text r.0.1 name) cs.records)
+lookup cs loader name = option_map (λ r. r.1) (find (λ r. (r.0.0 == loader) && bytes_eq r.0.1 name) cs.records)
 
 -- the numbers of all classes, rising
 abbrev pub numbers : Classes → List ℕ
@@ -76,7 +76,7 @@ is_package_private cs m = not (is_public cs m) && (not (is_protected cs m) && no
 
 -- of this name and descriptor
 abbrev pub is_called : List ℕ → List ℕ → Method → Bool
-is_called name ty method = same_text method.name name && same_text method.ty ty
+is_called name ty method = bytes_eq method.name name && bytes_eq method.ty ty
 
 -- the method of this name and descriptor that the class itself declares
 abbrev pub declared : Classes → List ℕ → List ℕ → ℕ → Option MethodId

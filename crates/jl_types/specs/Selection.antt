@@ -1,8 +1,8 @@
 -- Selection (JVMS 5.4.6), and what the instructions make of it (6.5).
 use Rattle.std.specs.Prelude.{ℕ, not, ◌&&◌, ◌||◌, List, [], ◌∷◌, filter, filter_map, Option, Some, None, option_to_list, codes, Bool, if◌then◌else◌}
+use Rattle.std.specs.Str.{bytes_eq}
 use Rattle.jl_classfile.specs.Class.{Method}
 use Rattle.jl_pool.specs.declared.reference.Reference.{Reference}
-use Rattle.jl_pool.specs.Pools.{same_text}
 use Rattle.jl_types.specs.declared.ids.MethodId.{MethodId}
 use Rattle.jl_types.specs.declared.answer.Outcome.{Outcome}
 use Rattle.jl_types.specs.declared.answer.Outcome.TheVariants.{Run, Throws}
@@ -66,7 +66,7 @@ interface_outcome cs x named r =
 -- ---- invokespecial
 
 abbrev pub is_init : List ℕ → Bool
-is_init name = same_text name (codes "<init>")
+is_init name = bytes_eq name (codes "<init>")
 
 -- the search begins at the caller's direct superclass, if the method isn't `<init>` and a proper superclass of the caller
 -- is named, and else where the reference names

@@ -2,7 +2,7 @@
 use Rattle.std.specs.Prelude.{ℕ, ◌+◌, max, Bool, false, not, ◌||◌, nat_lt, nat_le, List, [], ◌∷◌, length, slice_get, Option, if◌then◌else◌}
 use Rattle.std.specs.Bool.{then_some}
 use Rattle.std.specs.Option.{option_map_or}
-use Rattle.jl_pool.specs.Pools.{same_text}
+use Rattle.std.specs.Str.{bytes_eq}
 use Rattle.jl_code.specs.Codes.{begins_special}
 use Rattle.jl_types.specs.declared.ids.MethodId.{MethodId}
 use Rattle.jl_types.specs.declared.refusal.CallSiteFault.{CallSiteFault}
@@ -42,7 +42,7 @@ abbrev pub may_be_named : Classes → MethodId → Bool
 may_be_named cs m = method_test (λ method. not (begins_special method.name)) cs m
 
 abbrev pub is_of_type : Classes → List ℕ → MethodId → Bool
-is_of_type cs ty m = method_test (λ method. same_text method.ty ty) cs m
+is_of_type cs ty m = method_test (λ method. bytes_eq method.ty ty) cs m
 
 -- of a call site of this type: a guard before its parts, the first part before the second
 abbrev pub part_fault : World → List ℕ → Target → Option CallSiteFault
