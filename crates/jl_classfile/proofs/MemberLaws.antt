@@ -4,12 +4,14 @@ use Rattle.std.specs.Prelude.{◌==◌, ◌||◌, MatchOption, IfSome, IsTrue, m
 use Rattle.std.specs.Option.{option_map_or}
 use Rattle.std.specs.List.{AllByRecursion, Contains, list_any}
 use Rattle.std.specs.Borrow.{Bor}
+use Rattle.std.specs.Str.{bytes_eq}
 use Rattle.std.proofs.Math.ListN.{get_or-map}
 use Rattle.std.proofs.lemmas.List.{length-map}
 use Rattle.std.proofs.lemmas.Option.{slice_get-map, slice_get-get_or, slice_get_within, get_or_from_slice_get}
 use Rattle.std.proofs.lemmas.Bool.{cases_lt}
 use Rattle.std.proofs.Math.Seq.{take-append_seam}
 use Rattle.std.proofs.lemmas.Bool.Decides.{nat_tests}
+use Rattle.std.proofs.lemmas.Slice.Eq.{bytes_eq-Decides}
 use Rattle.std.proofs.lemmas.List.Elements.{Contains-append_left, Contains-append_right, recursion_from_All}
 use Rattle.jl_names.specs.ClassNames.{is_unqualified}
 use Rattle.jl_names.specs.Descriptors.{IsFieldDescriptor}
@@ -21,13 +23,12 @@ use Rattle.jl_classfile.specs.declared.fault.ClassFault.{ClassFault}
 use Rattle.jl_classfile.specs.declared.fault.ClassFault.TheVariants.{BadLink, BadMember, DuplicateMethod, TwoCodes}
 use Rattle.jl_classfile.specs.Faults.{MembersFault}
 use Rattle.jl_classfile.proofs.LinkLaws.{All-both}
-use Rattle.jl_pool.specs.Pools.{Pool, text_at, same_text}
+use Rattle.jl_pool.specs.Pools.{Pool, text_at}
 use Rattle.jl_classfile.specs.Conditions.{has_flag, STATIC, one_if, OnText, is_method_name, flags_fit, TakesFew, FieldFits, MethodFits, IsTextNumber, member_numbers, MemberLinks, is_text, same_place_text, same_method, no_twins, codes_of, is_interface, Members}
 use Rattle.jl_pool.specs.Reading.Forms.{is_field, method_slots}
 use Rattle.jl_classfile.specs.Reading.Members.{on_text, field_fits, takes_few, method_fits, is_at, FieldTested, MethodTested, IsFieldFault, IsMethodFault, IsTwin, IsFirstTwin, IsTextAt, AreTexts}
 use Rattle.jl_pool.proofs.FormLaws.{and_true, is_field-is, IsSlots, SlotsAre, method_slots-is, one_slots}
 use Rattle.jl_pool.proofs.TypedLaws.{Decides}
-use Rattle.jl_code.proofs.SiteLaws.{text_is, same_self}
 
 -- ---- decisions
 
@@ -151,9 +152,9 @@ filled {X = X} n old new e = ap (λ (k : ℕ). take k (new ++ drop (length new) 
 
 -- ---- one name and one descriptor
 
-placed : (pool : Pool) (n : ℕ) (t : List ℕ) (u : Option (List ℕ)) → text_at pool n ≡ u → option_map_or (λ x. same_text x t) u false ≡ true → text_at pool n ≡ Some t
+placed : (pool : Pool) (n : ℕ) (t : List ℕ) (u : Option (List ℕ)) → text_at pool n ≡ u → option_map_or (λ x. bytes_eq x t) u false ≡ true → text_at pool n ≡ Some t
 placed pool n t None e h = absurd cc
-placed pool n t (Some x) e h = e ∙ ap (λ (y : List ℕ). Some y) (text_is x t h)
+placed pool n t (Some x) e h = e ∙ ap (λ (y : List ℕ). Some y) ((bytes_eq-Decides x t).0 h)
 
 pub record OneText (pool : Pool) (m n : ℕ) : Type 0 where
   pub text : List ℕ
@@ -168,7 +169,7 @@ one_text pool m n e = by_text (text_at pool n) refl e where
 
 text_one : (pool : Pool) (m n : ℕ) → OneText pool m n → same_place_text pool m n ≡ true
 text_one pool m n o =
-    ap (λ (u : Option (List ℕ)). option_map_or (is_text pool m) u false) o.other ∙ ap (λ (u : Option (List ℕ)). option_map_or (λ t. same_text t o.text) u false) o.one ∙ same_self o.text
+    ap (λ (u : Option (List ℕ)). option_map_or (is_text pool m) u false) o.other ∙ ap (λ (u : Option (List ℕ)). option_map_or (λ t. bytes_eq t o.text) u false) o.one ∙ (bytes_eq-Decides o.text o.text).1 refl
 
 is_true : (b : Bool) → b ≡ true → IsTrue b
 is_true true e = refl

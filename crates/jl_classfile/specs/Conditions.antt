@@ -2,6 +2,7 @@
 use Rattle.std.specs.Prelude.{◌≡◌, ℕ, ◌+◌, ◌<◌, ◌≤◌, ◌^◌, Bool, true, false, not, ◌==◌, ◌&&◌, ◌||◌, nat_le, if◌then◌else◌, IsTrue, IsFalse, IsSome, List, [], ◌∷◌, ◌++◌, length, filter, map, codes, Option, Some, None, ⊤, bit_and, MatchOption}
 use Rattle.std.specs.Option.{option_map_or}
 use Rattle.std.specs.List.{list_any, AllByRecursion}
+use Rattle.std.specs.Str.{bytes_eq}
 use Rattle.jl_names.specs.ClassNames.{is_unqualified}
 use Rattle.jl_names.specs.Descriptors.{IsFieldDescriptor}
 use Rattle.jl_names.specs.MethodTypes.{TakesSlots}
@@ -11,7 +12,7 @@ use Rattle.jl_classfile.specs.declared.body.Body.{Body}
 use Rattle.jl_code.specs.declared.instruction.Instruction.{Instruction}
 use Rattle.jl_classfile.specs.Known.{class_attributes}
 use Rattle.jl_pool.specs.Numbers.{u2, counted}
-use Rattle.jl_pool.specs.Pools.{Pool, text_at, class_at, same_text, has_angle}
+use Rattle.jl_pool.specs.Pools.{Pool, text_at, class_at, has_angle}
 use Rattle.jl_classfile.specs.CodeAttributes.{IsCodeOf}
 
 -- ---- flags (JVMS 4.1, 4.6)
@@ -61,7 +62,7 @@ abbrev pub IsClassNumber : Pool → ℕ → Type 0
 IsClassNumber pool n = IsSome (class_at pool n)
 
 abbrev pub is_object : Pool → ℕ → Bool
-is_object pool n = option_map_or (λ text. same_text text object) (class_at pool n) false
+is_object pool n = option_map_or (λ text. bytes_eq text object) (class_at pool n) false
 
 -- of the superclass, if there is one
 abbrev pub superclass_numbers : ℕ → List ℕ
@@ -109,7 +110,7 @@ abbrev pub one_if : Bool → ℕ
 one_if b = if b then 1 else 0
 
 abbrev pub is_special : List ℕ → Bool
-is_special name = same_text name (codes "<init>") || same_text name (codes "<clinit>")
+is_special name = bytes_eq name (codes "<init>") || bytes_eq name (codes "<clinit>")
 
 -- the name of a method: without < and >, but <init> and <clinit>
 abbrev pub is_method_name : List ℕ → Bool
@@ -124,7 +125,7 @@ are_method_flags interface flags =
 
 -- any flags are those of <clinit>
 abbrev pub flags_fit : Bool → ℕ → List ℕ → Bool
-flags_fit interface flags name = same_text name (codes "<clinit>") || are_method_flags interface flags
+flags_fit interface flags name = bytes_eq name (codes "<clinit>") || are_method_flags interface flags
 
 -- 255 slots at most, with the receiver's unless the method is static
 abbrev pub TakesFew : ℕ → List ℕ → Type 0
@@ -140,7 +141,7 @@ pub record MethodFits (pool : Pool) (interface : Bool) (m : Member) : Type 0 whe
   pub flags : OnText (text_at pool m.name) (λ name. IsTrue (flags_fit interface m.flags name))
 
 abbrev pub is_text : Pool → ℕ → List ℕ → Bool
-is_text pool n text = option_map_or (λ t. same_text t text) (text_at pool n) false
+is_text pool n text = option_map_or (λ t. bytes_eq t text) (text_at pool n) false
 
 abbrev pub same_place_text : Pool → ℕ → ℕ → Bool
 same_place_text pool m n = option_map_or (is_text pool m) (text_at pool n) false
@@ -172,7 +173,7 @@ pub record Members (pool : Pool) (b : Body) : Type 0 where
 -- those of a name that is read, from version 55 on
 abbrev pub attributes_called : List ℕ → ℕ → Pool → Body → List Attribute
 attributes_called name major pool b =
-    if nat_le 55 major && list_any (same_text name) class_attributes then attributes_of pool name b.attributes else []
+    if nat_le 55 major && list_any (bytes_eq name) class_attributes then attributes_of pool name b.attributes else []
 
 -- the bytes are the number of a class
 abbrev pub IsHost : Pool → List ℕ → ℕ → Type 0

@@ -1,9 +1,10 @@
 -- The tests of an invocation say what the definition says.
-use Rattle.std.proofs.Common.{◌≡◌, ℕ, ◌≤◌, Bool, true, false, ◌&&◌, eqb, List, [], ◌∷◌, Option, Some, None, refl, sym, ap, subst, ◌∙◌, arith}
+use Rattle.std.proofs.Common.{◌≡◌, ℕ, ◌≤◌, Bool, true, false, ◌&&◌, List, Option, Some, None, refl, sym, ap, subst, ◌∙◌, arith}
 use Rattle.std.specs.Prelude.{IsTrue, nat_le, if◌then◌else◌, option_map}
 use Rattle.std.specs.Option.{option_and_then, option_map_or}
+use Rattle.std.specs.Str.{bytes_eq}
 use Rattle.std.proofs.lemmas.Bool.Decides.{nat_tests}
-use Rattle.std.proofs.lemmas.Bool.{eqb-true, eq-eqb}
+use Rattle.std.proofs.lemmas.Slice.Eq.{bytes_eq-Decides}
 use Rattle.jl_names.specs.MethodTypes.{TakesSlots}
 use Rattle.jl_pool.specs.declared.constant.Constant.{Constant}
 use Rattle.jl_pool.specs.declared.constant.Constant.TheVariants.{Methodref, InterfaceMethodref, NameAndType, InvokeDynamic}
@@ -12,7 +13,7 @@ use Rattle.jl_pool.specs.declared.reference.CallSiteSpecifier.{CallSiteSpecifier
 use Rattle.jl_code.specs.declared.site.Operand.{Operand}
 use Rattle.jl_code.specs.declared.site.Operand.TheVariants.{Method, CallSite}
 use Rattle.jl_code.specs.Known.{Invocation, invocations}
-use Rattle.jl_pool.specs.Pools.{Pool, constant_at, has_tag, text_at, same_text, Signed, both, reference, signed_of, signed_at, descriptor_of, descriptor_at, class_text_at, reference_of, reference_at, call_site_of, call_site_at}
+use Rattle.jl_pool.specs.Pools.{Pool, constant_at, has_tag, text_at, Signed, both, reference, signed_of, signed_at, descriptor_of, descriptor_at, class_text_at, reference_of, reference_at, call_site_of, call_site_at}
 use Rattle.jl_code.specs.Instructions.{invocation_in}
 use Rattle.jl_code.specs.Codes.{either_operand, operand_at, operand_name, operand_type, may_name, most_slots, tail_of, Invokes}
 use Rattle.jl_pool.specs.Reading.Forms.{method_slots, slots_of_constant, slots_at}
@@ -99,16 +100,6 @@ found_takes : (text : List ℕ) (found : Option ℕ) (n : ℕ) → SlotsAre text
 found_takes text None n h few t = absurd (h (n, few, t))
 found_takes text (Some m) n h few t = ap (λ (k : ℕ). Some k) (one_slots text m n h.takes t)
 
-pub text_is : (x y : List ℕ) → same_text x y ≡ true → x ≡ y
-text_is [] [] e = refl
-text_is [] (b ∷ y) e = absurd cc
-text_is (a ∷ x) [] e = absurd cc
-text_is (a ∷ x) (b ∷ y) e = let s = and_true (eqb a b) (same_text x y) e in cc (eqb-true a b s.0, text_is x y s.1)
-
-pub same_self : (x : List ℕ) → same_text x x ≡ true
-same_self [] = refl
-same_self (a ∷ x) = rw (eq-eqb a a refl, same_self x) refl
-
 few_most : (opcode : ℕ) → most_slots opcode ≤ 255
 few_most opcode = grind (arith, nat_tests)
 
@@ -120,9 +111,9 @@ invoked-some pool opcode number tail o e =
     let row = tagged_row pool number (invocation_in invocations opcode) g.0 in
     let named = and_then-some (λ p. option_and_then (if_fits opcode tail p) (slots_at pool number)) (operand_at pool number) o g.1 in
     let counted = and_then-some (if_fits opcode tail named.0) (slots_at pool number) o named.2 in
-    let fits = guarded (may_name opcode (operand_name named.0) && (nat_le counted.0 (most_slots opcode) && same_text tail (tail_of opcode counted.0))) (Some named.0) o counted.2 in
-    let may = and_true (may_name opcode (operand_name named.0)) (nat_le counted.0 (most_slots opcode) && same_text tail (tail_of opcode counted.0)) fits.0 in
-    let few = and_true (nat_le counted.0 (most_slots opcode)) (same_text tail (tail_of opcode counted.0)) may.1 in
+    let fits = guarded (may_name opcode (operand_name named.0) && (nat_le counted.0 (most_slots opcode) && bytes_eq tail (tail_of opcode counted.0))) (Some named.0) o counted.2 in
+    let may = and_true (may_name opcode (operand_name named.0)) (nat_le counted.0 (most_slots opcode) && bytes_eq tail (tail_of opcode counted.0)) fits.0 in
+    let few = and_true (nat_le counted.0 (most_slots opcode)) (bytes_eq tail (tail_of opcode counted.0)) may.1 in
     let same : Some named.0 ≡ Some o = fits.1 in
     let there : operand_at pool number ≡ Some o = named.1 ∙ same in (
       record {
@@ -135,7 +126,7 @@ invoked-some pool opcode number tail o e =
         slots = counted.0;
         counted = takes_found (operand_type named.0) (method_slots (operand_type named.0)) counted.0 (method_slots-is (operand_type named.0)) (sym (slots_at-operand pool number named.0 named.1) ∙ counted.1);
         few = below counted.0 (most_slots opcode) few.0;
-        behind = text_is tail (tail_of opcode counted.0) few.1;
+        behind = (bytes_eq-Decides tail (tail_of opcode counted.0)).0 few.1;
       },
       there,
     )
@@ -149,7 +140,7 @@ unfolding invoked
 invoked-all pool opcode number tail h =
     let slots : slots_at pool number ≡ Some h.slots = slots_at-operand pool number h.operand h.there ∙ found_takes (operand_type h.operand) (method_slots (operand_type h.operand)) h.slots (method_slots-is (operand_type h.operand)) (let most = few_most opcode in omega (arith, most, h.few)) h.counted in
     let tagged : is_tagged pool opcode number ≡ true = ap (λ (r : Option Invocation). option_map_or (λ q. has_tag pool q.tags number) r false) h.found ∙ true_is (has_tag pool h.row.tags number) h.tagged in
-    let tail_same : same_text tail (tail_of opcode h.slots) ≡ true = ap (λ (t : List ℕ). same_text t (tail_of opcode h.slots)) h.behind ∙ same_self (tail_of opcode h.slots) in
+    let tail_same : bytes_eq tail (tail_of opcode h.slots) ≡ true = (bytes_eq-Decides tail (tail_of opcode h.slots)).1 h.behind in
     let few : nat_le h.slots (most_slots opcode) ≡ true = above h.slots (most_slots opcode) h.few in
     let may : may_name opcode (operand_name h.operand) ≡ true = true_is (may_name opcode (operand_name h.operand)) h.named in
     rw (tagged, h.there, slots, may, few, tail_same) refl

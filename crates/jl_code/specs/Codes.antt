@@ -1,7 +1,7 @@
 -- A code: instructions one after another, and its invocations (JVMS 4.7.3, 4.9.1).
 use Rattle.std.specs.Prelude.{◌≡◌, ℕ, ◌+◌, ◌≤◌, Bool, false, not, ◌==◌, ◌&&◌, ◌||◌, if◌then◌else◌, IsTrue, List, [], ◌∷◌, ◌++◌, length, codes, Option, Some, None, ⊤, option_map}
 use Rattle.std.specs.List.{flat_map, AllByRecursion}
-use Rattle.std.specs.Str.{byte}
+use Rattle.std.specs.Str.{byte, bytes_eq}
 use Rattle.jl_names.specs.MethodTypes.{TakesSlots}
 use Rattle.jl_pool.specs.declared.reference.Reference.{Reference}
 use Rattle.jl_pool.specs.declared.reference.CallSiteSpecifier.{CallSiteSpecifier}
@@ -11,7 +11,7 @@ use Rattle.jl_code.specs.declared.site.Operand.{Operand}
 use Rattle.jl_code.specs.declared.site.Operand.TheVariants.{Method, CallSite}
 use Rattle.jl_code.specs.Site.{Site}
 use Rattle.jl_code.specs.Known.{Invocation, invocations}
-use Rattle.jl_pool.specs.Pools.{Pool, has_tag, same_text, reference_at, call_site_at}
+use Rattle.jl_pool.specs.Pools.{Pool, has_tag, reference_at, call_site_at}
 use Rattle.jl_code.specs.declared.instruction.Instruction.{Instruction}
 use Rattle.jl_code.specs.declared.instruction.Instruction.TheVariants.{Invoke}
 use Rattle.jl_code.specs.Instructions.{instruction_text, MayStand, invocation_in}
@@ -68,7 +68,7 @@ begins_special (b ∷ bs) = b == byte "<"
 
 -- no method whose name begins with < is invoked, but <init> by invokespecial
 abbrev pub may_name : ℕ → List ℕ → Bool
-may_name opcode name = not (begins_special name) || ((opcode == 183) && same_text name (codes "<init>"))
+may_name opcode name = not (begins_special name) || ((opcode == 183) && bytes_eq name (codes "<init>"))
 
 -- the bytes behind the number: invokeinterface tells the slots with the receiver's and a zero, invokedynamic two zeros
 abbrev pub tail_of : ℕ → ℕ → List ℕ

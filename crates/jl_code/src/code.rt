@@ -3,10 +3,11 @@
 ghost use Rattle.std.specs.Prelude.{◌≡◌, ◌≢◌, ◌<◌, ◌^◌, ◌++◌, List, ℕ, length, IfOk, IfErr, false};
 ghost use Rattle.std.specs.Prelude.{option_to_list};
 ghost use Rattle.std.specs.Option.{option_map_or};
+ghost use Rattle.std.specs.Str.{bytes_eq};
 ghost use Rattle.jl_code.specs.declared.instruction.Instruction.{Instruction};
 ghost use Rattle.jl_code.specs.Known.{invocations};
 ghost use Rattle.jl_code.specs.Instructions.{invocation_in};
-ghost use Rattle.jl_pool.specs.Pools.{Pool, has_tag, same_text};
+ghost use Rattle.jl_pool.specs.Pools.{Pool, has_tag};
 ghost use Rattle.jl_code.specs.declared.code_fault.CodeFault.{CodeFault};
 ghost use Rattle.jl_code.specs.declared.code_fault.CodeFault.TheVariants.{Memory};
 ghost use Rattle.jl_code.specs.Codes.{kind_of, operand_at, operand_name, begins_special, may_name, most_slots, tail_of, site_at, sites_from, OperandFits, IsCode};
@@ -100,7 +101,7 @@ fn most_slots(opcode: u8) -> u8
 /// Whether the bytes behind the number are as they have to be: invokeinterface tells the slots with the receiver's,
 /// and a zero; invokedynamic has two zeros.
 fn tail_fits(opcode: u8, slots: u8, tail: &[u8]) -> bool
-    ensures { result ≡ same_text tail.now (tail_of opcode slots) }
+    ensures { result ≡ bytes_eq tail.now (tail_of opcode slots) }
 {
     match opcode {
         185 => match tail {

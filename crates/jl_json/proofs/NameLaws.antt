@@ -4,7 +4,9 @@ use Rattle.std.specs.Prelude.{nat_lt, IsAscii, encode_utf8_all}
 use Rattle.std.specs.Option.{unwrap_or}
 use Rattle.std.specs.List.{AllByRecursion}
 use Rattle.std.specs.Char.Utf16.{lone_unit_char, utf16_lossy_chars}
+use Rattle.std.specs.Str.{bytes_eq}
 use Rattle.std.proofs.lemmas.List.Elements.{All-from_recursion}
+use Rattle.std.proofs.lemmas.Slice.Eq.{bytes_eq-Decides}
 use Rattle.std.proofs.lemmas.Str.{utf16_chars-nil, utf16_chars_lone, encodes-IsAscii}
 use Rattle.std.proofs.lemmas.Str.Ascii.{IsAscii-from_all}
 use Rattle.std.proofs.lemmas.Bool.Decides.{nat_tests}
@@ -12,9 +14,7 @@ use Rattle.jl_names.specs.Mutf8.{unit_bytes, AreUnits, mutf8, IsMutf8, IsText, I
 use Rattle.jl_names.specs.declared.fault.NameFault.{NameFault}
 use Rattle.jl_names.specs.declared.fault.NameFault.TheVariants.{Memory}
 use Rattle.jl_names.proofs.UnitLaws.{IsMutf8-no_fault}
-use Rattle.jl_pool.specs.Pools.{same_text}
 use Rattle.jl_pool.proofs.FormLaws.{and_true}
-use Rattle.jl_code.proofs.SiteLaws.{text_is, same_self}
 use Rattle.jl_json.specs.Names.{units_text, SpellsNames}
 use Rattle.jl_json.specs.NameReading.{units_of, is_plain, name_text}
 
@@ -37,17 +37,15 @@ pub of_units : (name us : List ℕ) → IsMutf8 name us → name_text name ≡ u
 unfolding name_text
 of_units name us h =
     let read : units_of name ≡ us = ap units_of h.bytes ∙ units_read us h.in_range in
-    let back : same_text (mutf8 (units_of name)) name ≡ true =
-    ap (λ (l : List ℕ). same_text (mutf8 l) name) read ∙ ap (λ (l : List ℕ). same_text l name) (sym h.bytes)
-    ∙ same_self name in
+    let back : bytes_eq (mutf8 (units_of name)) name ≡ true = (bytes_eq-Decides (mutf8 (units_of name)) name).1 (ap mutf8 read ∙ sym h.bytes) in
     rw back (ap units_text read)
 
 of_no_text : (name : List ℕ) → ¬ IsText name → name_text name ≡ []
 unfolding name_text
 of_no_text name none =
-    elim (same_text (mutf8 (units_of name)) name) as (λ b. same_text (mutf8 (units_of name)) name
+    elim (bytes_eq (mutf8 (units_of name)) name) as (λ b. bytes_eq (mutf8 (units_of name)) name
     ≡ b → name_text name ≡ []) [
-      | true ↦ λ e. absurd (none (units_of name, record { in_range = in_range name; bytes = sym (text_is _ _ e) }))
+      | true ↦ λ e. absurd (none (units_of name, record { in_range = in_range name; bytes = sym ((bytes_eq-Decides (mutf8 (units_of name)) name).0 e) }))
       | false ↦ λ e. rw e refl
     ] refl
 

@@ -1,8 +1,8 @@
 -- A name's text, by its units read from its bytes.
 use Rattle.std.specs.Prelude.{ℕ, ◌+◌, ◌*◌, ◌%◌, ◌==◌, ◌&&◌, not, Bool, nat_lt, if◌then◌else◌, List, [], ◌∷◌}
 use Rattle.std.specs.List.{list_all}
+use Rattle.std.specs.Str.{bytes_eq}
 use Rattle.jl_names.specs.Mutf8.{mutf8}
-use Rattle.jl_pool.specs.Pools.{same_text}
 use Rattle.jl_json.specs.Names.{units_text}
 
 -- The units, each of one, two or three bytes, as its first one says. What a cut unit has is
@@ -19,7 +19,7 @@ units_of (a ∷ b ∷ c ∷ rest) =
     else (a % 16 * 4096 + b % 64 * 64 + c % 64) ∷ units_of rest)
 
 unfoldable pub name_text : List ℕ → List ℕ
-name_text name = if same_text (mutf8 (units_of name)) name then units_text (units_of name) else []
+name_text name = if bytes_eq (mutf8 (units_of name)) name then units_text (units_of name) else []
 
 -- each unit has one byte
 abbrev pub is_plain : List ℕ → Bool

@@ -105,7 +105,13 @@ fn send_site<S: Serializer>(alloc: Global, site: &Site, out: &mut S) -> Result<(
 {
     match site.operand() {
         Operand::Method(reference) => send_call(alloc, site.pc(), site.kind(), reference, out),
-        Operand::CallSite(specifier) => send_call_site(alloc, site.pc(), site.kind(), specifier, out),
+        Operand::CallSite(specifier) => send_call_site(
+            alloc,
+            site.pc(),
+            site.kind(),
+            specifier,
+            out,
+        ),
     }
 }
 

@@ -3,7 +3,6 @@ use Rattle.std.specs.Prelude.{ℕ, ◌<◌, ◌^◌, Bool, false, ◌==◌, ◌|
 use Rattle.std.specs.Option.{option_and_then, option_map_or}
 use Rattle.std.specs.List.{flat_map, list_all, list_any, AllByRecursion}
 use Rattle.std.specs.Str.{byte}
-use Rattle.std.specs.Cmp.Lexicographic.{pointwise}
 use Rattle.jl_names.specs.Mutf8.{IsMutf8}
 use Rattle.jl_names.specs.ClassNames.{is_class_name}
 use Rattle.jl_names.specs.Descriptors.{IsFieldDescriptor}
@@ -30,10 +29,6 @@ places cs = None ∷ flat_map places_of cs
 -- the count of numbers, and the constants
 abbrev pub pool_text : List Constant → List ℕ
 pool_text cs = u2 (length (places cs)) ++ flat_map constant_text cs
-
--- a text, byte for byte
-abbrev pub same_text : List ℕ → List ℕ → Bool
-same_text = pointwise ◌==◌
 
 -- < or > stands in it, as in the names that no method has but <init> and <clinit> (JVMS 4.2.2)
 abbrev pub has_angle : List ℕ → Bool

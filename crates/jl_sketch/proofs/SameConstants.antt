@@ -1,9 +1,9 @@
 -- Equal constants are one constant.
 use Rattle.std.proofs.Common.{◌≡◌, ℕ, true, ◌&&◌, eqb, List, refl, ap, ◌∙◌}
+use Rattle.std.proofs.lemmas.Slice.Eq.{bytes_eq-Decides}
 use Rattle.std.proofs.lemmas.Bool.{false≢true, eqb-true, eq-eqb, and_parts, and_from}
 use Rattle.jl_pool.specs.declared.constant.Constant.{Constant}
 use Rattle.jl_pool.specs.declared.constant.Constant.TheVariants.{Utf8, Integer, Float, Long, Double, Class, String, Fieldref, Methodref, InterfaceMethodref, NameAndType, MethodHandle, MethodType, Dynamic, InvokeDynamic, Module, Package}
-use Rattle.jl_code.proofs.SiteLaws.{text_is, same_self}
 use Rattle.jl_sketch.specs.Constants.{same_constant}
 
 two_is : (f : ℕ → ℕ → Constant) (a b c d : ℕ) → (eqb a c && eqb b d) ≡ true → f a b ≡ f c d
@@ -12,7 +12,7 @@ two_is f a b c d h =
     ap (λ n. f n b) (eqb-true a c s.0) ∙ ap (f c) (eqb-true b d s.1)
 
 pub one_constant : (x y : Constant) → same_constant x y ≡ true → x ≡ y
-one_constant (Utf8 a) (Utf8 c) h = ap Utf8 (text_is a c h)
+one_constant (Utf8 a) (Utf8 c) h = ap Utf8 ((bytes_eq-Decides a c).0 h)
 one_constant (Utf8 a) (Integer c) h = absurd (false≢true h)
 one_constant (Utf8 a) (Float c) h = absurd (false≢true h)
 one_constant (Utf8 a) (Long c) h = absurd (false≢true h)
@@ -131,7 +131,7 @@ both_same a b = and_from (eqb a a) (eqb b b) (eq-eqb a a refl) (eq-eqb b b refl)
 
 -- a constant of these kinds is equal to itself
 pub same_utf8 : (text : List ℕ) → same_constant (Utf8 text) (Utf8 text) ≡ true
-same_utf8 text = same_self text
+same_utf8 text = (bytes_eq-Decides text text).1 refl
 
 pub same_class : (a : ℕ) → same_constant (Class a) (Class a) ≡ true
 same_class a = eq-eqb a a refl

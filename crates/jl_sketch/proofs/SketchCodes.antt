@@ -3,12 +3,13 @@ use Rattle.std.proofs.Common.{◌≡◌, ℕ, ◌+◌, ◌<◌, ◌≤◌, ◌^�
 use Rattle.std.specs.Prelude.{codes}
 use Rattle.std.specs.Option.{option_map_or}
 use Rattle.std.specs.List.{AllByRecursion}
+use Rattle.std.specs.Str.{bytes_eq}
 use Rattle.std.proofs.lemmas.Bool.{false≢true, ltb-false, eqb-true}
 use Rattle.std.proofs.lemmas.List.{nil_from_length}
 use Rattle.jl_names.proofs.Bytes.{ok_is}
 use Rattle.jl_pool.specs.declared.constant.Constant.{Constant}
 use Rattle.jl_pool.specs.Numbers.{u2, u4, counted}
-use Rattle.jl_pool.specs.Pools.{Pool, places, text_at, same_text}
+use Rattle.jl_pool.specs.Pools.{Pool, places, text_at}
 use Rattle.jl_pool.specs.Reading.Fields.{number_at}
 use Rattle.jl_pool.proofs.Fields.{some_is, u4_again}
 use Rattle.jl_pool.proofs.PoolLaws.{u2_one}
@@ -118,8 +119,8 @@ sites_are cs (call ∷ calls) pc h =
 
 -- ---- a method
 
-pub named : (pool : Pool) (n : ℕ) (text name : List ℕ) → text_at pool n ≡ Some text → is_text pool n name ≡ same_text text name
-named pool n text name e = ap (λ (o : Option (List ℕ)). option_map_or (λ t. same_text t name) o false) e
+pub named : (pool : Pool) (n : ℕ) (text name : List ℕ) → text_at pool n ≡ Some text → is_text pool n name ≡ bytes_eq text name
+named pool n text name e = ap (λ (o : Option (List ℕ)). option_map_or (λ t. bytes_eq t name) o false) e
 
 code_found : (pool : Pool) (a : Attribute) (code : Option (List Instruction)) → text_at pool a.name ≡ Some (codes "Code") → HasCode pool (attributes_of pool (codes "Code") (a ∷ [])) code → HasCode pool (a ∷ []) code
 code_found pool a code e h = subst (λ (b : Bool). HasCode pool (if b then a ∷ [] else []) code) (named pool a.name (codes "Code") (codes "Code") e) h

@@ -2,9 +2,9 @@
 use Rattle.std.specs.Prelude.{ℕ, ◌+◌, Bool, true, false, not, ◌==◌, ◌&&◌, List, [], ◌∷◌, ◌++◌, fold, codes, position, Option, Some, None, if◌then◌else◌}
 use Rattle.std.specs.Option.{option_map_or}
 use Rattle.std.specs.List.{list_any}
+use Rattle.std.specs.Str.{bytes_eq}
 use Rattle.jl_pool.specs.declared.constant.Constant.{Constant}
 use Rattle.jl_pool.specs.declared.constant.Constant.TheVariants.{Utf8, Class, NameAndType, Methodref, InterfaceMethodref, InvokeDynamic}
-use Rattle.jl_pool.specs.Pools.{same_text}
 use Rattle.jl_classfile.specs.Conditions.{has_flag, ABSTRACT, NATIVE}
 use Rattle.jl_sketch.specs.declared.sketch.Sketch.{Sketch}
 use Rattle.jl_sketch.specs.declared.sketch.SketchMethod.{SketchMethod}
@@ -14,7 +14,7 @@ use Rattle.jl_sketch.specs.declared.sketch.Call.TheVariants.{Virtual, Special, S
 
 -- two constants of the kinds that a sketch has are equal
 abbrev pub same_constant : Constant → Constant → Bool
-same_constant (Utf8 a) (Utf8 b) = same_text a b
+same_constant (Utf8 a) (Utf8 b) = bytes_eq a b
 same_constant (Class a) (Class b) = a == b
 same_constant (NameAndType a b) (NameAndType c d) = (a == c) && (b == d)
 same_constant (Methodref a b) (Methodref c d) = (a == c) && (b == d)
