@@ -26,4 +26,6 @@ mod sketches;
 #[cfg(test)]
 mod two_faults;
 #[cfg(test)]
+mod values;
+#[cfg(test)]
 mod words;
