@@ -12,6 +12,3 @@ mod site;
 pub use code::{no_fault_in_a_code, one_code, scan};
 pub use code_fault::CodeFault;
 pub use site::{Kind, Operand, Site};
-
-#[cfg(test)]
-mod tests;

@@ -20,8 +20,6 @@ mod reply;
 // What is asked.
 mod command;
 mod sketch;
-#[cfg(test)]
-mod tests;
 
 pub use call_answer::answer_value;
 pub use class_answer::class_text;

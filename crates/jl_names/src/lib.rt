@@ -24,6 +24,3 @@ pub use name::{LentName, Name};
 pub use repeat::first_repeat;
 pub use seq::Seq;
 pub use text::Text;
-
-#[cfg(test)]
-mod tests;

@@ -18,6 +18,3 @@ pub use form::Form;
 pub use pool::{Pool, no_fault_in_a_pool, one_pool};
 pub use pool_fault::PoolFault;
 pub use reference::{CallSiteSpecifier, Reference};
-
-#[cfg(test)]
-mod tests;

@@ -10,6 +10,12 @@ mod faults;
 #[cfg(test)]
 mod input;
 #[cfg(test)]
+mod json_answers;
+#[cfg(test)]
+mod json_commands;
+#[cfg(test)]
+mod json_sketches;
+#[cfg(test)]
 mod lines;
 #[cfg(test)]
 mod runs;
@@ -19,5 +25,7 @@ mod scans;
 mod sketches;
 #[cfg(test)]
 mod two_faults;
+#[cfg(test)]
+mod values;
 #[cfg(test)]
 mod words;

@@ -18,6 +18,3 @@ pub use laws::{
 };
 pub use sketch::{Call, MethodName, Sketch, SketchMethod};
 pub use write::write_class;
-
-#[cfg(test)]
-mod tests;

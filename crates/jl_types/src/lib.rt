@@ -26,8 +26,6 @@ mod refusal;
 
 // The laws of the definitions.
 mod laws;
-#[cfg(test)]
-mod tests;
 
 pub use answer::{
     Answer, Chosen, Fast, Missing, Outcome, Recv, ResolveAnswer, Throwable, Unlinked, same_answer,

@@ -1,7 +1,9 @@
-use super::*;
+//! Sketches and their bytes.
+
 use jl_classfile::ClassFault;
 use jl_names::{Name, Seq};
 use jl_pool::PoolFault;
+use jl_sketch::{Call, MethodName, Sketch, SketchFault, SketchMethod, write_class};
 use std::alloc::{AllocError, Global};
 use std::test::Fail;
 

@@ -1,5 +1,10 @@
-use super::*;
+//! Constant pools.
+
 use jl_names::Name;
+use jl_pool::{
+    CallSiteSpecifier, Constant, Pool, PoolFault, Reference, bytes_at, no_fault_in_a_pool,
+    one_pool, u2_at, u4_at,
+};
 use std::alloc::{AllocError, Global};
 use std::test::Fail;
 

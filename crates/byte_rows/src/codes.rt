@@ -1,4 +1,6 @@
-use super::*;
+//! Codes and their invocations.
+
+use jl_code::{CodeFault, Kind, Operand, Site, no_fault_in_a_code, one_code, scan};
 use jl_names::Name;
 use jl_pool::Pool;
 use std::alloc::{AllocError, Global};

@@ -1,4 +1,11 @@
-use super::*;
+//! Names and descriptors.
+
+use jl_names::{
+    Element, FieldType, MethodType, Name, NameFault, Seq, Text, decode_mutf8, encode_mutf8,
+    first_repeat, is_class_name, is_text, is_unqualified, method_slots,
+    no_fault_in_field_descriptors, no_fault_in_method_descriptors, no_fault_in_units,
+    one_field_type, one_list_of_units, one_method_type, package_of,
+};
 use std::alloc::{AllocError, Global};
 use std::hash::{DefaultHasher, Hash, Hasher};
 use std::test::Fail;

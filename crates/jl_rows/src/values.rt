@@ -1,6 +1,6 @@
-//! Each call once.
+//! Plain values: each call once.
 
-use crate::{
+use jl_types::{
     Answer, CallSiteId, ClassId, Link, LoaderId, MethodId, Missing, Outcome, SiteNo, SwitchId,
     Table, TableKind, Throwable, Unlinked, same_answer, same_link,
 };

@@ -1,0 +1,12 @@
+//! Tests of the crates that read and write bytes: worked rows of names, constant pools, codes and sketches. Nothing
+//! here is called by other crates.
+#![tactic(auto)]
+
+#[cfg(test)]
+mod codes;
+#[cfg(test)]
+mod names;
+#[cfg(test)]
+mod pools;
+#[cfg(test)]
+mod sketches;
