@@ -3,9 +3,9 @@
 #
 #     bench/try_edits.sh [NAME..]     NAMEs are crates; without one, all that have edits
 #
-# They are tried on a copy of the repository, where they stand in must-fail/ in the place of those that the gate tries,
-# each crate once the proofs below it are built. JOBS crates are tried at a time (as many as there are processors, if
-# unset); 2.2 GB of memory for each is enough. The last line is 'N refused, M not'.
+# They are tried on a copy of the repository, where they stand in must-fail/ in the place of those that the gate tries.
+# JOBS crates are tried at a time (as many as there are processors, if unset); 2.5 GB of memory for each is enough. The last
+# line is 'N refused, M not'.
 set -eu
 top=$(cd "$(dirname "$0")/.." && pwd)
 if [ $# = 0 ]; then
@@ -24,16 +24,12 @@ cd "$copy"
 rm -rf crates/*/must-fail
 for name in "$@"; do
     mv "crates/$name/edits" "crates/$name/must-fail"
-done
-
-rt all check --jobs "${JOBS:-$(nproc)}" > built.txt || { cat built.txt; exit 1; }
-for name in "$@"; do
-    (cd "crates/$name" && rt lib > built.txt) || { cat "crates/$name/built.txt"; exit 1; }
+    (cd "crates/$name" && rt check > built.txt) || { cat "crates/$name/built.txt"; exit 1; }
 done
 printf '%s\n' "$@" | xargs -P "${JOBS:-$(nproc)}" -I NAME sh -c 'rt must-fail NAME > NAME.edits.txt 2>&1 || true'
 
-cat *.edits.txt
+cat ./*.edits.txt
 tried=$(ls crates/*/must-fail/*.edit | wc -l)
-refused=$(cat *.edits.txt | grep -c 'refused, as it must be' || true)
+refused=$(cat ./*.edits.txt | grep -c 'refused, as it must be' || true)
 echo "$refused refused, $((tried - refused)) not"
 [ "$refused" = "$tried" ]

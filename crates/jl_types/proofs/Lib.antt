@@ -3,11 +3,13 @@ pub mod Lists
 pub mod Bools
 pub mod Ancestors
 pub mod Overrides
+pub mod Walks
 pub mod Orders
 pub mod Grown
 pub mod Settling
 pub mod Installed
 pub mod OneMore
+pub mod Accepting
 pub mod InstalledLinks
 pub mod Agreement
 pub mod SameAnswer

@@ -49,7 +49,7 @@ module _ (cs : Classes) where
 
   -- ---- the test is complete
 
-  alike_of : {c a : MethodId} → CanOverride cs c a → are_alike cs c a ≡ true
+  pub alike_of : {c a : MethodId} → CanOverride cs c a → are_alike cs c a ≡ true
   alike_of (directly alike visible) = alike
   alike_of (through alike flagless b below above r s) = alike
 

@@ -1,5 +1,5 @@
 -- Overriding (JVMS 5.4.5).
-use Rattle.std.specs.Prelude.{ℕ, zero, suc, ◌+◌, Bool, false, not, ◌&&◌, ◌||◌, List, map, filter, length, IsTrue}
+use Rattle.std.specs.Prelude.{◌≡◌, ℕ, zero, suc, ◌+◌, Bool, true, false, not, ◌&&◌, ◌||◌, List, map, filter, length, IsTrue}
 use Rattle.std.specs.List.{list_any, range_with_len}
 use Rattle.jl_types.specs.declared.ids.MethodId.{MethodId}
 use Rattle.jl_types.specs.World.{Classes}
@@ -23,6 +23,16 @@ pub data CanOverride (cs : Classes) : MethodId → MethodId → Type 0 where
   through : {c a : MethodId} → IsTrue (are_alike cs c a) → IsTrue (is_package_private cs a)
       → (b : MethodId) → IsTrue (is_proper_subclass cs c.class b.class) → IsTrue (is_proper_subclass cs b.class a.class)
       → CanOverride cs c b → CanOverride cs b a → CanOverride cs c a
+
+-- A class strictly between those of c and a, in the run-time package of a's class, declares a method like a that is public or
+-- protected.
+pub record IsBridged (cs : Classes) (c a : MethodId) : Type 0 where
+  pub method : MethodId
+  pub below : is_proper_subclass cs c.class method.class ≡ true
+  pub above : is_proper_subclass cs method.class a.class ≡ true
+  pub package_is : same_package cs a.class method.class ≡ true
+  pub alike : are_alike cs method a ≡ true
+  pub visible : (is_public cs method || is_protected cs method) ≡ true
 
 -- ---- the same as a test
 

@@ -1,6 +1,6 @@
 //! The laws of the definitions: each is the contract of a function that does nothing.
 
-ghost use Rattle.std.specs.Prelude.{◌≡◌, ◌↔◌, ◌<◌, ◌≤◌, ◌++◌, ◌∷◌, [], ℕ, List, Some, Ok, Err, true, length, slice_get, find, filter, ◌==◌, ◌&&◌, Decides, AllPairs, Contains};
+ghost use Rattle.std.specs.Prelude.{◌≡◌, ◌↔◌, ◌<◌, ◌≤◌, ◌++◌, ◌∷◌, [], ℕ, List, Some, Ok, Err, true, false, length, slice_get, find, filter, ◌==◌, ◌&&◌, Decides, AllPairs, Contains};
 ghost use Rattle.std.specs.List.{list_any};
 ghost use Rattle.std.specs.Option.{option_map_or};
 ghost use Rattle.jl_types.specs.declared.ids.MethodId.{MethodId};
@@ -15,12 +15,15 @@ ghost use Rattle.jl_types.specs.declared.link.Link.{Link};
 ghost use Rattle.jl_types.specs.declared.link.Link.TheVariants as link;
 ghost use Rattle.jl_types.specs.declared.link.TableKind.{TableKind};
 ghost use Rattle.jl_types.specs.declared.event.Event.{Event};
+ghost use Rattle.jl_types.specs.declared.event.Event.TheVariants as event;
+ghost use Rattle.jl_types.specs.declared.event.Made.TheVariants as made;
+ghost use Rattle.jl_types.specs.Events.{Accepts, verdict};
 ghost use Rattle.jl_types.specs.World.{Class, Classes, World};
-ghost use Rattle.jl_types.specs.Members.{is_concrete};
+ghost use Rattle.jl_types.specs.Members.{is_concrete, is_package_private};
 ghost use Rattle.jl_classfile.specs.Class.{ClassFile};
 ghost use Rattle.jl_types.specs.Definitions.{defined};
 ghost use Rattle.jl_types.specs.Ancestry.{AreOrdered, IsAncestor, is_ancestor, ancestors, receivers, superclasses};
-ghost use Rattle.jl_types.specs.Overriding.{CanOverride, can_override};
+ghost use Rattle.jl_types.specs.Overriding.{CanOverride, are_alike, can_override, is_visible, IsBridged};
 ghost use Rattle.jl_types.specs.Sites.{Invocation, Selects, stage};
 ghost use Rattle.jl_types.specs.Links.{scratch};
 ghost use Rattle.jl_types.specs.Calls.{answered, is_receiver, dispatch};
@@ -69,6 +72,18 @@ pub fn overriding_is_decided()
     ensures { (cs : Classes) → AreOrdered cs.rows → (c a : MethodId) → Decides (can_override cs c a) (CanOverride cs c a) }
 {}
 
+/// A method overrides another one only if they are alike, and does if the other is visible. One that isn't visible it overrides
+/// exactly if that has no access flag and a class between declares an alike method, public or protected, in that one's
+/// run-time package: one walk up the superclasses decides it (JVMS SE 17 §5.4.5).
+pub fn overriding_in_one_walk()
+    ensures alike { (cs : Classes) (c a : MethodId) → CanOverride cs c a → are_alike cs c a ≡ true }
+    ensures visible { (cs : Classes) (c a : MethodId)
+        → are_alike cs c a ≡ true → is_visible cs c a ≡ true → CanOverride cs c a }
+    ensures bridged { (cs : Classes) → AreOrdered cs.rows → (c a : MethodId)
+        → are_alike cs c a ≡ true → is_visible cs c a ≡ false
+        → CanOverride cs c a ↔ ((is_package_private cs a ≡ true) × IsBridged cs c a) }
+{}
+
 /// A site has no link from scratch exactly where its calls are unlinked, for the same reason.
 pub fn unlinked_calls()
     ensures { (w : World) (s : ℕ) (reason : Unlinked) (recv : Recv)
@@ -89,6 +104,13 @@ pub fn links_give_the_answers()
     ensures table { (w : World) (s x : ℕ) (kind : TableKind) (rows : List (ℕ × Outcome))
         → scratch w s ≡ Ok (link.Table kind rows)
         → is_concrete w.classes x ≡ true → dispatch w s (Of x) ≡ entry_answer kind (find (λ row. row.0 == x) rows) }
+{}
+
+/// An install is accepted exactly where its rows are 1 to 256, of requested sites, none of them twice, and each link is the
+/// one from scratch.
+pub fn accepted_installs()
+    ensures { (max_sites : ℕ) (w : World) (rows : List (ℕ × Link))
+        → (verdict max_sites w (event.Install rows) ≡ Ok made.Nothing) ↔ Accepts w rows }
 {}
 
 /// A site has an installed link exactly where it is settled with it; then the site is requested, and its link from scratch
