@@ -10,3 +10,8 @@ pub mod Resolution
 pub mod Interfaces
 pub mod Loaders
 pub mod CallSites
+pub mod Access
+pub mod Searches
+pub mod Definitions
+pub mod Limits
+pub mod Targets

@@ -1,0 +1,87 @@
+-- What a loader refuses to define (JVMS 5.3.5), each fault once, and each pair of neighbours in their order.
+use Rattle.std.specs.Prelude.{◌≡◌, ℕ, List, [], ◌∷◌, ◌++◌, Option, Some, None, Ok, Err, Result, codes, refl}
+use Rattle.jl_types.specs.declared.event.Event.{Event}
+use Rattle.jl_types.specs.declared.event.Event.TheVariants.{NewLoader, Define, Delegate}
+use Rattle.jl_types.specs.declared.event.Made.{Made}
+use Rattle.jl_types.specs.declared.event.Made.TheVariants as made
+use Rattle.jl_types.specs.declared.refusal.Refusal.{Refusal}
+use Rattle.jl_types.specs.declared.refusal.Refusal.TheVariants as refusal
+use Rattle.jl_types.specs.declared.refusal.DefineFault.TheVariants.{UnknownLoader, AlreadyRecorded, NamesItself, MissingParent, SuperIsInterface, FinalSuper, NotAnInterface, InaccessibleParent, SecondObject}
+use Rattle.jl_types.specs.Events.{verdict}
+use Rattle.jl_types.specs.History.{world_after}
+
+abbrev object : List ℕ
+object = codes "java/lang/Object"
+
+abbrev defines : ℕ → List ℕ → ℕ → List ℕ → List (List ℕ) → Event
+defines loader name flags parent interfaces =
+    Define loader (record { name = name; flags = flags; superclass = Some parent; interfaces = interfaces; nest_host = None; nest_members = []; methods = [] })
+
+abbrev root : ℕ → Event
+root loader = Define loader (record { name = object; flags = 33; superclass = None; interfaces = []; nest_host = None; nest_members = []; methods = [] })
+
+-- java/lang/Object 0, which loader 1 finds, too; F 1 is final, I 2 an interface, p/A 3 and p/I 4 aren't public, J 5 is a final
+-- interface
+abbrev before : List Event
+before = root 0 ∷ NewLoader ∷ Delegate 1 object 0
+    ∷ defines 0 (codes "F") 49 object []
+    ∷ defines 0 (codes "I") 1537 object []
+    ∷ defines 0 (codes "p/A") 32 object []
+    ∷ defines 0 (codes "p/I") 1536 object []
+    ∷ defines 0 (codes "J") 1553 object []
+    ∷ []
+
+abbrev answers : Event → Result Made Refusal
+answers e = verdict 65536 (world_after before) e
+
+-- ---- each alone
+
+implements : answers (defines 0 (codes "X") 33 object (codes "I" ∷ [])) ≡ Ok (made.Class 6)
+implements = refl
+
+final_superclass : answers (defines 0 (codes "X") 33 (codes "F") []) ≡ Err (refusal.Define FinalSuper)
+final_superclass = refl
+
+interface_as_superclass : answers (defines 0 (codes "X") 33 (codes "I") []) ≡ Err (refusal.Define SuperIsInterface)
+interface_as_superclass = refl
+
+class_as_interface : answers (defines 0 (codes "X") 33 object (codes "I" ∷ codes "F" ∷ [])) ≡ Err (refusal.Define (NotAnInterface (codes "F")))
+class_as_interface = refl
+
+closed_interface : answers (defines 0 (codes "q/X") 33 object (codes "I" ∷ codes "p/I" ∷ [])) ≡ Err (refusal.Define (InaccessibleParent (codes "p/I")))
+closed_interface = refl
+
+open_in_package : answers (defines 0 (codes "p/X") 33 object (codes "p/I" ∷ [])) ≡ Ok (made.Class 6)
+open_in_package = refl
+
+missing_interface : answers (defines 0 (codes "X") 33 object (codes "I" ∷ codes "K" ∷ [])) ≡ Err (refusal.Define (MissingParent (codes "K")))
+missing_interface = refl
+
+its_own_interface : answers (defines 0 (codes "X") 1537 object (codes "X" ∷ [])) ≡ Err (refusal.Define NamesItself)
+its_own_interface = refl
+
+-- ---- in order
+
+unknown_before_second : answers (root 2) ≡ Err (refusal.Define UnknownLoader)
+unknown_before_second = refl
+
+second_before_recorded : answers (root 1) ≡ Err (refusal.Define SecondObject)
+second_before_recorded = refl
+
+recorded_before_itself : answers (defines 0 (codes "F") 33 (codes "F") []) ≡ Err (refusal.Define AlreadyRecorded)
+recorded_before_itself = refl
+
+itself_before_missing : answers (defines 0 (codes "X") 33 (codes "X") []) ≡ Err (refusal.Define NamesItself)
+itself_before_missing = refl
+
+missing_before_interface : answers (defines 0 (codes "X") 33 (codes "I") (codes "K" ∷ [])) ≡ Err (refusal.Define (MissingParent (codes "K")))
+missing_before_interface = refl
+
+interface_before_final : answers (defines 0 (codes "X") 33 (codes "J") []) ≡ Err (refusal.Define SuperIsInterface)
+interface_before_final = refl
+
+final_before_no_interface : answers (defines 0 (codes "X") 33 (codes "F") (codes "F" ∷ [])) ≡ Err (refusal.Define FinalSuper)
+final_before_no_interface = refl
+
+no_interface_before_closed : answers (defines 0 (codes "q/X") 33 (codes "p/A") (codes "p/A" ∷ [])) ≡ Err (refusal.Define (NotAnInterface (codes "p/A")))
+no_interface_before_closed = refl

@@ -1,0 +1,86 @@
+-- What there is room for, and places that are never linked.
+use Rattle.std.specs.Prelude.{◌≡◌, ℕ, zero, suc, List, [], ◌∷◌, Some, None, Ok, Err, length, replicate, codes, refl}
+use Rattle.jl_code.specs.declared.site.Kind.TheVariants.{Virtual}
+use Rattle.jl_types.specs.declared.ids.MethodId.{MethodId}
+use Rattle.jl_types.specs.declared.ids.Place.{Place}
+use Rattle.jl_types.specs.declared.event.Event.TheVariants.{NewLoader, NewSwitch, NewCallSite, Request}
+use Rattle.jl_types.specs.declared.event.Made.TheVariants as made
+use Rattle.jl_types.specs.declared.refusal.Refusal.TheVariants as refusal
+use Rattle.jl_types.specs.declared.refusal.NotLinkable.TheVariants.{ArrayReceiver, PolymorphicSignature}
+use Rattle.jl_types.specs.declared.refusal.CallSiteFault.TheVariants as fault
+use Rattle.jl_types.specs.declared.refusal.PrepareFault.TheVariants as prepare
+use Rattle.jl_types.specs.declared.target.CallSiteKind.TheVariants.{Mutable}
+use Rattle.jl_types.specs.Target.{Target}
+use Rattle.jl_types.specs.World.{World}
+use Rattle.jl_types.specs.Events.{verdict}
+use Rattle.jl_types.specs.Preparation.{prepare_fault}
+use Rattle.jl_types.proofs.Rows.Sketch.{object, class, world, calling, class_ref}
+
+-- ---- loaders, call sites, switch points
+
+last_loader : (max_sites : ℕ) (w : World) → length w.classes.loaders ≡ 1023 → verdict max_sites w NewLoader ≡ Ok (made.Loader 1023)
+last_loader max_sites w e = rw e refl
+
+too_many_loaders : (max_sites : ℕ) (w : World) → length w.classes.loaders ≡ 1024 → verdict max_sites w NewLoader ≡ Err refusal.LoadersFull
+too_many_loaders max_sites w e = rw e refl
+
+-- whatever the target is
+too_many_call_sites : (max_sites : ℕ) (w : World) (ty : List ℕ) (t : Target) → length w.sites.call_sites ≡ 65536 → verdict max_sites w (NewCallSite Mutable ty t) ≡ Err (refusal.CallSite fault.Full)
+too_many_call_sites max_sites w ty t e = rw e refl
+
+last_switch : (max_sites : ℕ) (w : World) → length w.sites.switches ≡ 65535 → verdict max_sites w NewSwitch ≡ Ok (made.Switch 65535)
+last_switch max_sites w e = rw e refl
+
+too_many_switches : (max_sites : ℕ) (w : World) → length w.sites.switches ≡ 65536 → verdict max_sites w NewSwitch ≡ Err (refusal.CallSite fault.Full)
+too_many_switches max_sites w e = rw e refl
+
+-- ---- places
+
+-- M 1 calls f of this owner; its place is requested already as site 0, and so is no other
+abbrev calls : List ℕ → World
+calls owner = world (object ∷ class (codes "M") 33 (Some 0) [] (calling 9 (codes "run") Virtual (class_ref owner (codes "f")) ∷ calling 9 (codes "too") Virtual (class_ref owner (codes "f")) ∷ []) ∷ []) 1
+
+abbrev other : Place
+other = record { class = 1; method = 1; pc = 0 }
+
+room_for_one_more : verdict 2 (calls (codes "A")) (Request other) ≡ Ok (made.Site 1)
+room_for_one_more = refl
+
+no_room : verdict 1 (calls (codes "A")) (Request other) ≡ Err refusal.SitesFull
+no_room = refl
+
+of_an_array : verdict 1 (calls (codes "[LColor;")) (Request other) ≡ Err (refusal.NotLinkable ArrayReceiver)
+of_an_array = refl
+
+of_method_handles : verdict 1 (calls (codes "java/lang/invoke/MethodHandle")) (Request other) ≡ Err (refusal.NotLinkable PolymorphicSignature)
+of_method_handles = refl
+
+of_var_handles : verdict 1 (calls (codes "java/lang/invoke/VarHandle")) (Request other) ≡ Err (refusal.NotLinkable PolymorphicSignature)
+of_var_handles = refl
+
+-- a place that is requested keeps its number, linkable or not
+requested_before : verdict 1 (calls (codes "[LColor;")) (Request (record { class = 1; method = 0; pc = 0 })) ≡ Ok (made.Site 0)
+requested_before = refl
+
+-- ---- preparations: site 0 isn't ready, since A isn't there
+
+not_ready : prepare_fault (calls (codes "A")) (0 ∷ []) ≡ Some (prepare.NotReady 0)
+not_ready = refl
+
+unknown_before_not_ready : prepare_fault (calls (codes "A")) (0 ∷ 9 ∷ []) ≡ Some (prepare.UnknownSite 9)
+unknown_before_not_ready = refl
+
+unknown_before_later_repeat : prepare_fault (calls (codes "A")) (0 ∷ 9 ∷ 0 ∷ []) ≡ Some (prepare.UnknownSite 9)
+unknown_before_later_repeat = refl
+
+repeated_before_later_unknown : prepare_fault (calls (codes "A")) (0 ∷ 0 ∷ 9 ∷ []) ≡ Some (prepare.Repeated 0)
+repeated_before_later_unknown = refl
+
+no_sites : prepare_fault (calls (codes "A")) [] ≡ Some prepare.BatchSize
+no_sites = refl
+
+too_many_sites : prepare_fault (calls (codes "A")) (replicate 257 9) ≡ Some prepare.BatchSize
+too_many_sites = refl
+
+as_many_as_may_be : prepare_fault (calls (codes "A")) (replicate 256 9) ≡ Some (prepare.UnknownSite 9)
+as_many_as_may_be = refl

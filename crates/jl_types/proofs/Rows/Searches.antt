@@ -1,0 +1,109 @@
+-- What resolution, selection and invokespecial look through (JVMS 5.4.3.3, 5.4.3.4, 5.4.6, 6.5).
+use Rattle.std.specs.Prelude.{◌≡◌, ℕ, List, [], ◌∷◌, Some, None, Ok, Err, codes, refl}
+use Rattle.jl_classfile.specs.Class.{Method}
+use Rattle.jl_code.specs.declared.site.Kind.TheVariants.{Special, Interface}
+use Rattle.jl_pool.specs.declared.reference.Reference.{Reference}
+use Rattle.jl_types.specs.declared.ids.MethodId.{MethodId}
+use Rattle.jl_types.specs.declared.answer.Chosen.TheVariants.{Method as Picked, Nothing}
+use Rattle.jl_types.specs.declared.answer.Outcome.TheVariants.{Run, Throws}
+use Rattle.jl_types.specs.declared.answer.Recv.TheVariants.{Of}
+use Rattle.jl_types.specs.declared.answer.Answer.TheVariants as answer
+use Rattle.jl_types.specs.declared.answer.Unlinked.TheVariants.{Gone}
+use Rattle.jl_types.specs.declared.answer.ResolveAnswer.TheVariants.{Fault}
+use Rattle.jl_types.specs.declared.answer.Throwable.TheVariants.{NoSuchMethodError}
+use Rattle.jl_types.specs.declared.link.Link.TheVariants as link
+use Rattle.jl_types.specs.World.{Class, Classes}
+use Rattle.jl_types.specs.Resolution.{resolved}
+use Rattle.jl_types.specs.Selection.{chosen}
+use Rattle.jl_types.specs.Links.{scratch}
+use Rattle.jl_types.specs.Calls.{dispatch}
+use Rattle.jl_types.proofs.Rows.Sketch.{object, class, classes, method, first, naming, world, calling, class_ref, itf_ref}
+
+-- java/lang/Object with this method
+abbrev root : Method → Class
+root m = class (codes "java/lang/Object") 33 None [] (m ∷ [])
+
+-- ---- java/lang/Object's methods, from an interface
+
+-- I 1 declares these; M 2 is the caller
+abbrev under : Method → List Method → Classes
+under m own = classes (root m ∷ class (codes "I") 1537 (Some 0) [] own ∷ class (codes "M") 33 (Some 0) [] [] ∷ [])
+
+of_object : resolved (under (method 1 (codes "h")) []) 2 (itf_ref (codes "I") (codes "h")) ≡ Ok (naming 1 (first 0))
+of_object = refl
+
+own_first : resolved (under (method 1 (codes "h")) (method 1 (codes "h") ∷ [])) 2 (itf_ref (codes "I") (codes "h")) ≡ Ok (naming 1 (first 1))
+own_first = refl
+
+protected_of_object : resolved (under (method 4 (codes "h")) []) 2 (itf_ref (codes "I") (codes "h")) ≡ Err (Fault NoSuchMethodError)
+protected_of_object = refl
+
+static_of_object : resolved (under (method 9 (codes "h")) []) 2 (itf_ref (codes "I") (codes "h")) ≡ Err (Fault NoSuchMethodError)
+static_of_object = refl
+
+-- ---- superinterface methods that count, and those that hide others
+
+-- I 1 with f; K 2 below it; X 3 implements K; M 4
+abbrev stacked : ℕ → List Method → Classes
+stacked flags own = classes (object
+    ∷ class (codes "I") 1537 (Some 0) [] (method flags (codes "f") ∷ [])
+    ∷ class (codes "K") 1537 (Some 0) (1 ∷ []) own
+    ∷ class (codes "X") 33 (Some 0) (2 ∷ []) []
+    ∷ class (codes "M") 33 (Some 0) [] []
+    ∷ [])
+
+static_candidate : resolved (stacked 9 []) 4 (class_ref (codes "X") (codes "f")) ≡ Err (Fault NoSuchMethodError)
+static_candidate = refl
+
+private_candidate : resolved (stacked 2 []) 4 (class_ref (codes "X") (codes "f")) ≡ Err (Fault NoSuchMethodError)
+private_candidate = refl
+
+-- an abstract f of K hides the default of I: nothing is picked, though something is found
+hidden_default : chosen (stacked 1 (method 1025 (codes "f") ∷ [])) 3 (first 1) ≡ Nothing
+hidden_default = refl
+
+found_though_hidden : resolved (stacked 1 (method 1025 (codes "f") ∷ [])) 4 (class_ref (codes "X") (codes "f")) ≡ Ok (naming 3 (first 1))
+found_though_hidden = refl
+
+-- a static one hides nothing
+nothing_hidden : chosen (stacked 1 (method 9 (codes "f") ∷ [])) 3 (first 1) ≡ Picked (first 1)
+nothing_hidden = refl
+
+-- ---- invokespecial
+
+-- A 1 with f, B 2 below it with its own, C 3 below B calls A.f: the search begins at B
+by_direct_superclass : scratch (world (object
+    ∷ class (codes "A") 33 (Some 0) [] (method 1 (codes "f") ∷ [])
+    ∷ class (codes "B") 33 (Some 1) [] (method 1 (codes "f") ∷ [])
+    ∷ class (codes "C") 33 (Some 2) [] (calling 1 (codes "run") Special (class_ref (codes "A") (codes "f")) ∷ [])
+    ∷ []) 3) 0 ≡ Ok (link.Direct (Run (first 2)))
+by_direct_superclass = refl
+
+-- X 2 implements I 1 and calls I.h, which java/lang/Object alone declares
+special_of_object : scratch (world (root (method 1 (codes "h"))
+    ∷ class (codes "I") 1537 (Some 0) [] []
+    ∷ class (codes "X") 33 (Some 0) (1 ∷ []) (calling 1 (codes "run") Special (itf_ref (codes "I") (codes "h")) ∷ [])
+    ∷ []) 2) 0 ≡ Ok (link.Direct (Run (first 0)))
+special_of_object = refl
+
+-- B 2 has no constructor of its own
+inherited_constructor : scratch (world (object
+    ∷ class (codes "A") 33 (Some 0) [] (method 1 (codes "<init>") ∷ [])
+    ∷ class (codes "B") 33 (Some 1) [] []
+    ∷ class (codes "M") 33 (Some 0) [] (calling 9 (codes "run") Special (class_ref (codes "B") (codes "<init>")) ∷ [])
+    ∷ []) 3) 0 ≡ Ok (link.Fault NoSuchMethodError)
+inherited_constructor = refl
+
+-- ---- invokeinterface of a private method
+
+-- I 1 calls its own private f; X 2 implements it
+private_runs : dispatch (world (object
+    ∷ class (codes "I") 1537 (Some 0) [] (calling 1 (codes "run") Interface (itf_ref (codes "I") (codes "f")) ∷ method 2 (codes "f") ∷ [])
+    ∷ class (codes "X") 33 (Some 0) (1 ∷ []) []
+    ∷ []) 1) 0 (Of 2) ≡ answer.Run (record { class = 1; index = 1 })
+private_runs = refl
+
+-- ---- a place whose class isn't there
+
+absent_class : scratch (world (object ∷ []) 7) 0 ≡ Err Gone
+absent_class = refl
