@@ -342,24 +342,39 @@ fn descriptors(rt: HostRuntime) -> Result<(), Fail> {
     Ok(())
 }
 
-#[test]
-fn copies(rt: HostRuntime) -> Result<(), Fail> {
-    let method = Reference {
+/// The InterfaceMethodref of A.f:()V.
+fn interface_method(alloc: Global) -> Result<Reference<Name>, AllocError> {
+    Ok(Reference {
         itf: true,
-        owner: Name::copied(rt.alloc(), b"A")?,
-        name: Name::copied(rt.alloc(), b"f")?,
-        ty: Name::copied(rt.alloc(), b"()V")?,
-    };
+        owner: Name::copied(alloc, b"A")?,
+        name: Name::copied(alloc, b"f")?,
+        ty: Name::copied(alloc, b"()V")?,
+    })
+}
+
+#[test]
+fn copies_of_references(rt: HostRuntime) -> Result<(), Fail> {
+    let method = interface_method(rt.alloc())?;
     let copy = method.copy(rt.alloc())?;
     assert!(rt; copy.itf);
     assert_eq!(rt; copy.owner.as_slice(), b"A".as_slice());
     assert_eq!(rt; copy.name.as_slice(), b"f".as_slice());
     assert_eq!(rt; copy.ty.as_slice(), b"()V".as_slice());
-    let site = CallSiteSpecifier {
+    Ok(())
+}
+
+/// The call site g:()I of bootstrap method 7.
+fn call_site(alloc: Global) -> Result<CallSiteSpecifier<Name>, AllocError> {
+    Ok(CallSiteSpecifier {
         bootstrap: 7,
-        name: Name::copied(rt.alloc(), b"g")?,
-        ty: Name::copied(rt.alloc(), b"()I")?,
-    };
+        name: Name::copied(alloc, b"g")?,
+        ty: Name::copied(alloc, b"()I")?,
+    })
+}
+
+#[test]
+fn copies_of_call_sites(rt: HostRuntime) -> Result<(), Fail> {
+    let site = call_site(rt.alloc())?;
     let copy = site.copy(rt.alloc())?;
     assert_eq!(rt; copy.bootstrap, 7);
     assert_eq!(rt; copy.name.as_slice(), b"g".as_slice());

@@ -10,12 +10,6 @@ mod faults;
 #[cfg(test)]
 mod input;
 #[cfg(test)]
-mod json_answers;
-#[cfg(test)]
-mod json_commands;
-#[cfg(test)]
-mod json_sketches;
-#[cfg(test)]
 mod lines;
 #[cfg(test)]
 mod runs;
@@ -25,7 +19,5 @@ mod scans;
 mod sketches;
 #[cfg(test)]
 mod two_faults;
-#[cfg(test)]
-mod values;
 #[cfg(test)]
 mod words;
