@@ -1,6 +1,6 @@
 -- What a run leaves that ends with a fault.
-use Rattle.std.proofs.Common.{◌≡◌, ◌≢◌, ◌∙◌, sym, ap, subst, refl, ℕ, ◌≤◌, List, [], ◌∷◌, ◌++◌}
-use Rattle.std.proofs.Common.{length, append-nil, Option, Some, None, IfSome, Result, Ok, Err}
+use Rattle.std.proofs.Common.{◌≡◌, ◌≢◌, ◌∙◌, sym, ap, subst, refl, inl, ℕ, ◌≤◌, List, [], ◌∷◌, ◌++◌}
+use Rattle.std.proofs.Common.{length, append-nil, append_assoc, Option, Some, None, IfSome, Result, Ok, Err}
 use Rattle.std.proofs.Common.{IfErr, OnOk, arith}
 use Rattle.std.specs.Result.{IsErrAnd}
 use Rattle.std.specs.Io.KnownBytes.{Keeps, Appends, Consumes, IsAtEnd}
@@ -9,45 +9,61 @@ use Rattle.jl_cli.specs.declared.words.Mode.{Mode}
 use Rattle.jl_cli.specs.declared.line_fault.LineFault.{LineFault}
 use Rattle.jl_cli.specs.declared.line_fault.LineFault.TheVariants.{TooLong, Device, Memory}
 use Rattle.jl_cli.specs.Devices.{one_more, HasRisen}
-use Rattle.jl_cli.specs.Lines.{most_in_line, lines_of, NoNewline}
-use Rattle.jl_cli.specs.Answers.{AreAnswers, AnswersAll, AnswersFirst, AnswersRead, LongIf}
-use Rattle.jl_cli.specs.Progress.{Writes, Runs, OverIf}
-use Rattle.jl_cli.proofs.LineLaws.{runs_first, runs_read, runs_write, runs_all}
+use Rattle.jl_cli.specs.Lines.{newline, most_in_line, lines_of, NoNewline}
+use Rattle.jl_cli.specs.Sessions.{Session}
+use Rattle.jl_cli.specs.Answers.{AreAnswers, LacksFirst, AnswersAll, AnswersFirst, AnswersRead, LongIf, LeftBy}
+use Rattle.jl_cli.specs.Progress.{Writes, Runs, LacksNext, StopsBy}
+use Rattle.jl_cli.proofs.LineLaws.{line_first, over_first, runs_first, runs_read, runs_write, runs_all}
 
 pub risen : (old new : ℕ) → new ≡ one_more old → HasRisen old new
 risen old new is = grind arith
 
--- the first lines are answered, but for a failed write
-abbrev pub Whole : Mode → Option (List ℕ) → Option (List ℕ) → Option (List ℕ) → Type 0 → LineFault → Type 0
-Whole mode start old new failed f =
-    (f ≡ Device → ¬ failed) → IfSome start (λ input. (first : AnswersFirst mode input old new) × LongIf f first.after)
+-- the first lines are answered, but for a failed write, and this session is left
+abbrev pub Whole : Mode → Session → Session → Option (List ℕ) → Option (List ℕ) → Option (List ℕ) → Type 0
+    → LineFault → Type 0
+Whole mode from session start old new failed f =
+    (f ≡ Device → ¬ failed) → IfSome start (λ input. (first : AnswersFirst mode from input old new)
+    × LongIf f first.after × LeftBy f mode first.last first.after session)
 
-pub ends : (mode : Mode) (start now : Option (List ℕ)) (held : List ℕ) (old new : Option (List ℕ))
-    (failed : Type 0) (f : LineFault)
-    → Runs mode start now held old new → OverIf f held → Whole mode start old new failed f
-ends mode None now held old new failed f r over = λ _. tt
-ends mode (Some xs) now held old new failed TooLong r over =
-    λ _. let p = runs_first mode (Some xs) now held old new r in (p.0, p.1 over)
-ends mode (Some xs) now held old new failed Device r over =
-    λ _. let p = runs_first mode (Some xs) now held old new r in (p.0, tt)
-ends mode (Some xs) now held old new failed Memory r over =
-    λ _. let p = runs_first mode (Some xs) now held old new r in (p.0, tt)
+-- the line for which memory lacked is the first of those that are left
+next_line : (mode : Mode) (last session : Session) (left ys : List ℕ) (l : LacksNext mode last left session)
+    → lines_of (left ++ ys) ≡ l.line ∷ lines_of (l.behind ++ ys)
+next_line mode last session left ys l =
+    ap (λ (bytes : List ℕ). lines_of (bytes ++ ys)) l.is
+    ∙ (ap lines_of (append_assoc l.line (newline ∷ l.behind) ys) ∙ line_first l.line (l.behind ++ ys) l.one)
 
-pub piece_fault : (mode : Mode) (start now : Option (List ℕ)) (held : List ℕ) (old mid new : Option (List ℕ))
-    (failed : Type 0) (f : LineFault)
-    → Runs mode start now held old mid → (f ≢ Device → (w : Writes mode held mid new) × OverIf f w.left)
-    → (f ≡ Device → failed) → Whole mode start old new failed f
-piece_fault mode start now held old mid new failed TooLong r h device =
-    let w = h (λ e. absurd cc) in ends mode start now w.0.left old new failed TooLong
-    (runs_write mode start now held old mid new r w.0) w.1
-piece_fault mode start now held old mid new failed Device r h device = λ none. absurd (none refl (device refl))
-piece_fault mode start now held old mid new failed Memory r h device =
-    let w = h (λ e. absurd cc) in ends mode start now w.0.left old new failed Memory
-    (runs_write mode start now held old mid new r w.0) w.1
+stops : (f : LineFault) (mode : Mode) (last session : Session) (left ys : List ℕ) → StopsBy f mode last left session
+    → LongIf f (lines_of (left ++ ys)) × LeftBy f mode last (lines_of (left ++ ys)) session
+stops TooLong mode last session left ys h = (over_first left ys h.0, h.1)
+stops Device mode last session left ys h = (tt, h)
+stops Memory mode last session left ys h = (
+  tt,
+  subst (λ (ls : List (List ℕ)). LacksFirst mode last ls session) (sym (next_line mode last session left ys h)) h.lacks,
+)
 
-runs_kept : (mode : Mode) (start now : Option (List ℕ)) (held : List ℕ) (old mid new : Option (List ℕ))
-    → Runs mode start now held old mid → Keeps mid new → Runs mode start now held old new
-runs_kept mode start now held old mid new r kept =
+pub ends : (mode : Mode) (from last session : Session) (start now : Option (List ℕ)) (held : List ℕ)
+    (old new : Option (List ℕ)) (failed : Type 0) (f : LineFault) → Runs mode from last start now held old new
+    → StopsBy f mode last held session → Whole mode from session start old new failed f
+ends mode from last session start now held old new failed f r stop =
+    λ _. runs_first mode from last session start now held old new f r (λ ys is. stops f mode last session held ys stop)
+
+pub piece_fault : (mode : Mode) (from last session : Session) (start now : Option (List ℕ)) (held text : List ℕ)
+    (old mid new : Option (List ℕ)) (failed : Type 0) (f : LineFault) → Runs mode from last start now held old mid
+    → (f ≢ Device → (w : Writes mode last held mid new) × StopsBy f mode w.last w.left session × (text ≡ []))
+    → (f ≡ Device → failed) → Whole mode from session start old new failed f
+piece_fault mode from last session start now held text old mid new failed TooLong r h device =
+    let w = h (λ e. absurd cc) in ends mode from w.0.last session start now w.0.left old new failed TooLong
+    (runs_write mode from last start now held old mid new r w.0) w.1
+piece_fault mode from last session start now held text old mid new failed Device r h device =
+    λ none. absurd (none refl (device refl))
+piece_fault mode from last session start now held text old mid new failed Memory r h device =
+    let w = h (λ e. absurd cc) in ends mode from w.0.last session start now w.0.left old new failed Memory
+    (runs_write mode from last start now held old mid new r w.0) w.1
+
+runs_kept : (mode : Mode) (from last : Session) (start now : Option (List ℕ)) (held : List ℕ)
+    (old mid new : Option (List ℕ))
+    → Runs mode from last start now held old mid → Keeps mid new → Runs mode from last start now held old new
+runs_kept mode from last start now held old mid new r kept =
     record {
       done = r.done;
       output = r.output;
@@ -57,48 +73,72 @@ runs_kept mode start now held old mid new r kept =
           mid new r.output r.written kept;
     }
 
-rest_fault : (mode : Mode) (start now : Option (List ℕ)) (held : List ℕ) (old mid new : Option (List ℕ))
-    (failed : Type 0) (f : LineFault)
-    → Runs mode start now held old mid → (f ≢ Device → Keeps mid new × (f ≢ TooLong)) → (f ≡ Device → failed)
-    → Whole mode start old new failed f
-rest_fault mode start now held old mid new failed TooLong r h device = absurd ((h (λ e. absurd cc)).1 refl)
-rest_fault mode start now held old mid new failed Device r h device = λ none. absurd (none refl (device refl))
-rest_fault mode start now held old mid new failed Memory r h device =
-    ends mode start now held old new failed Memory
-    (runs_kept mode start now held old mid new r (h (λ e. absurd cc)).0) tt
+-- at the end nothing follows what is held
+held_alone : (now : Option (List ℕ)) (held ys : List ℕ) → IsAtEnd now → now ≡ Some ys → held ++ ys ≡ held
+held_alone now held ys end is =
+    let none : ys ≡ [] = subst IsAtEnd is end in ap (λ (l : List ℕ). held ++ l) none ∙ append-nil held
 
-pub rest_whole : {T : Type 0} (mode other : Mode) (start now : Option (List ℕ)) (held : List ℕ)
-    (old mid new : Option (List ℕ)) (failed : Type 0) (r : Result T LineFault)
-    → Runs mode start now held old mid → IfErr r (λ f. f ≢ Device → Keeps mid new × (f ≢ TooLong))
+rest_fault : (mode : Mode) (from last session : Session) (start now : Option (List ℕ)) (held : List ℕ)
+    (old mid new : Option (List ℕ)) (failed : Type 0) (f : LineFault)
+    → Runs mode from last start now held old mid → IsAtEnd now
+    → (f ≢ Device → Keeps mid new × (f ≢ TooLong) × LacksFirst mode last (lines_of held) session)
+    → (f ≡ Device → failed) → Whole mode from session start old new failed f
+rest_fault mode from last session start now held old mid new failed TooLong r end h device =
+    absurd ((h (λ e. absurd cc)).1 refl)
+rest_fault mode from last session start now held old mid new failed Device r end h device =
+    λ none. absurd (none refl (device refl))
+rest_fault mode from last session start now held old mid new failed Memory r end h device =
+    let lacks = h (λ e. absurd cc) in
+    λ _. runs_first mode from last session start now held old new Memory
+    (runs_kept mode from last start now held old mid new r lacks.0)
+    (λ ys is. (
+      tt,
+      subst (λ (l : List ℕ). LacksFirst mode last (lines_of l) session) (sym (held_alone now held ys end is)) lacks.2,
+    ))
+
+pub rest_whole : {T : Type 0} (mode other : Mode) (from last session : Session) (start now : Option (List ℕ))
+    (held : List ℕ) (old mid new : Option (List ℕ)) (failed : Type 0) (r : Result T LineFault)
+    → Runs mode from last start now held old mid → IsAtEnd now
+    → IfErr r (λ f. f ≢ Device → Keeps mid new × (f ≢ TooLong) × LacksFirst mode last (lines_of held) session)
     → (r ≡ Err Device → failed) → mode ≡ other
-    → IfErr r (Whole other start old new failed)
-rest_whole mode other start now held old mid new failed (Ok x) run h device is = tt
-rest_whole mode other start now held old mid new failed (Err f) run h device is =
-    subst (λ (m : Mode). Whole m start old new failed f) is
-    (rest_fault mode start now held old mid new failed f run h (λ e. device (ap Err e)))
+    → IfErr r (Whole other from session start old new failed)
+rest_whole mode other from last session start now held old mid new failed (Ok x) run end h device is = tt
+rest_whole mode other from last session start now held old mid new failed (Err f) run end h device is =
+    subst (λ (m : Mode). Whole m from session start old new failed f) is
+    (rest_fault mode from last session start now held old mid new failed f run end h (λ e. device (ap Err e)))
 
-pub rest_answered : {T E : Type 0} (mode other : Mode) (start now : Option (List ℕ)) (held : List ℕ)
-    (old mid new : Option (List ℕ)) (r : Result T E)
-    → Runs mode start now held old mid → IsAtEnd now → NoNewline held → length held ≤ most_in_line
-    → OnOk r ((output : List ℕ) × AreAnswers mode (lines_of held) output × Appends mid new output) → mode ≡ other
-    → OnOk r (IsAtEnd now × IfSome start (λ input. AnswersAll other input old new))
-rest_answered mode other start now held old mid new (Ok x) run end one short h is = (
+pub rest_answered : {T E : Type 0} (mode other : Mode) (from last session : Session) (start now : Option (List ℕ))
+    (held : List ℕ) (old mid new : Option (List ℕ)) (r : Result T E)
+    → Runs mode from last start now held old mid → IsAtEnd now → NoNewline held → length held ≤ most_in_line
+    → OnOk r ((output : List ℕ) × AreAnswers mode last (lines_of held) output session × Appends mid new output)
+    → mode ≡ other
+    → OnOk r (IsAtEnd now × IfSome start (λ input. (all : AnswersAll other from input old new) × (session ≡ all.last)))
+rest_answered mode other from last session start now held old mid new (Ok x) run end one short h is = (
   end,
-  subst (λ (m : Mode). IfSome start (λ input. AnswersAll m input old new)) is
-      (runs_all mode start now held h.0 old mid new run end one short h.1 h.2),
+  subst (λ (m : Mode). IfSome start (λ input. (all : AnswersAll m from input old new) × (session ≡ all.last))) is
+      (runs_all mode from last session start now held h.0 old mid new run end one short h.1 h.2),
 )
-rest_answered mode other start now held old mid new (Err e) run end one short h is = tt
+rest_answered mode other from last session start now held old mid new (Err e) run end one short h is = tt
 
-pub runs_mode : (mode other : Mode) (start now : Option (List ℕ)) (held : List ℕ) (old new : Option (List ℕ))
-    → mode ≡ other → Runs mode start now held old new → Runs other start now held old new
-runs_mode mode other start now held old new is r = subst (λ (m : Mode). Runs m start now held old new) is r
+pub runs_mode : (mode other : Mode) (from last : Session) (start now : Option (List ℕ)) (held : List ℕ)
+    (old new : Option (List ℕ))
+    → mode ≡ other → Runs mode from last start now held old new → Runs other from last start now held old new
+runs_mode mode other from last start now held old new is r =
+    subst (λ (m : Mode). Runs m from last start now held old new) is r
 
-pub runs_held : (mode : Mode) (start now then' : Option (List ℕ)) (input piece held : List ℕ)
-    (old new : Option (List ℕ)) → Runs mode start now input old new
-    → Consumes now then' piece → held ≡ input ++ piece → Runs mode start then' held old new
-runs_held mode start now then' input piece held old new r consumed is =
-    subst (λ (l : List ℕ). Runs mode start then' l old new) (sym is)
-    (runs_read mode start now then' input piece old new r consumed)
+pub runs_held : (mode : Mode) (from last : Session) (start now then' : Option (List ℕ)) (input piece held : List ℕ)
+    (old new : Option (List ℕ)) → Runs mode from last start now input old new
+    → Consumes now then' piece → held ≡ input ++ piece → Runs mode from last start then' held old new
+runs_held mode from last start now then' input piece held old new r consumed is =
+    subst (λ (l : List ℕ). Runs mode from last start then' l old new) (sym is)
+    (runs_read mode from last start now then' input piece old new r consumed)
+
+pub runs_left : (mode : Mode) (from last session : Session) (start now : Option (List ℕ)) (left held : List ℕ)
+    (old new : Option (List ℕ)) → left ≡ held → last ≡ session
+    → Runs mode from last start now left old new → Runs mode from session start now held old new
+runs_left mode from last session start now left held old new is same r =
+    subst (λ (l : List ℕ). Runs mode from session start now l old new) is
+    (subst (λ (s : Session). Runs mode from s start now left old new) same r)
 
 nothing : (xs : List ℕ) → length xs ≡ 0 → xs ≡ []
 nothing [] e = refl
@@ -124,18 +164,83 @@ fault_is (Ok x) f h is e = absurd is
 fault_is {T = T} (Err g) f h is e = sym is ∙ err_is T g h e
 
 -- all lines of which the newline was read are answered
-pub runs_whole : (mode other : Mode) (start now then' : Option (List ℕ)) (held : List ℕ)
-    (old new : Option (List ℕ)) → Runs mode start now held old new
-    → NoNewline held → Keeps now then' → mode ≡ other → IfSome start (λ input. AnswersRead other input then' old new)
-runs_whole mode other None now then' held old new r one kept is = tt
-runs_whole mode other (Some xs) now then' held old new r one kept is = record {
-  before = r.answered.lines;
-  tail = held;
-  read =
-      subst (λ (l : List ℕ). Consumes (Some xs) then' (l ++ held)) r.answered.whole
-      (Consumes-kept (Some xs) now then' (r.done ++ held) r.read kept);
-  one = one;
-  output = r.output;
-  answers = subst (λ (m : Mode). AreAnswers m r.answered.lines r.output) is r.answered.answers;
-  written = r.written;
-}
+pub runs_whole : (mode other : Mode) (from last : Session) (start now then' : Option (List ℕ)) (held : List ℕ)
+    (old new : Option (List ℕ)) → Runs mode from last start now held old new
+    → NoNewline held → Keeps now then' → mode ≡ other
+    → IfSome start (λ input. (read : AnswersRead other from input then' old new) × (last ≡ read.last))
+runs_whole mode other from last None now then' held old new r one kept is = tt
+runs_whole mode other from last (Some xs) now then' held old new r one kept is = (
+  record {
+    before = r.answered.lines;
+    tail = held;
+    read =
+        subst (λ (l : List ℕ). Consumes (Some xs) then' (l ++ held)) r.answered.whole
+        (Consumes-kept (Some xs) now then' (r.done ++ held) r.read kept);
+    one = one;
+    output = r.output;
+    last = last;
+    answers = subst (λ (m : Mode). AreAnswers m from r.answered.lines r.output last) is r.answered.answers;
+    written = r.written;
+  },
+  refl,
+)
+
+-- ---- a whole run
+
+unlacked : (mode : Mode) (session : Session) (lines : List (List ℕ)) → LacksFirst mode session lines session
+unlacked mode session [] = refl
+unlacked mode session (line ∷ lines) = inl refl
+
+nothing_written : (old : Option (List ℕ)) → Appends old old []
+nothing_written None = tt
+nothing_written (Some xs) = sym (append-nil xs)
+
+-- memory lacked before anything was read
+pub none_whole : (mode : Mode) (session : Session) (start old : Option (List ℕ)) (failed : Type 0)
+    → Whole mode session session start old old failed Memory
+none_whole mode session None old failed = λ _. tt
+none_whole mode session (Some xs) old failed = λ _. (
+  record {
+    before = [];
+    after = lines_of xs;
+    split = refl;
+    short = tt;
+    output = [];
+    last = session;
+    answers = (refl, refl);
+    written = nothing_written old;
+  },
+  tt,
+  unlacked mode session (lines_of xs),
+)
+
+-- of a run with a session that isn't looked at afterwards
+pub all_of : {T E : Type 0} (mode : Mode) (from fresh session : Session) (start now old new : Option (List ℕ))
+    (r : Result T E) → from ≡ fresh
+    → OnOk r (IsAtEnd now × IfSome start (λ input. (all : AnswersAll mode from input old new) × (session ≡ all.last)))
+    → OnOk r (IsAtEnd now × IfSome start (λ input. AnswersAll mode fresh input old new))
+all_of mode from fresh session None now old new (Ok x) is h = (h.0, tt)
+all_of mode from fresh session (Some xs) now old new (Ok x) is h =
+    (h.0, subst (λ (s : Session). AnswersAll mode s xs old new) is h.1.0)
+all_of mode from fresh session start now old new (Err e) is h = tt
+
+first_of : (mode : Mode) (from fresh session : Session) (start old new : Option (List ℕ)) (failed : Type 0) (f : LineFault)
+    → from ≡ fresh → Whole mode from session start old new failed f
+    → (f ≡ Device → ¬ failed) → IfSome start (λ input. (first : AnswersFirst mode fresh input old new) × LongIf f first.after)
+first_of mode from fresh session None old new failed f is h none = tt
+first_of mode from fresh session (Some xs) old new failed f is h none =
+    subst (λ (s : Session). (first : AnswersFirst mode s xs old new) × LongIf f first.after) is ((h none).0, (h none).1)
+
+pub whole_of : {T : Type 0} (mode : Mode) (from fresh session : Session) (start old new : Option (List ℕ)) (failed : Type 0)
+    (r : Result T LineFault) → from ≡ fresh → IfErr r (Whole mode from session start old new failed)
+    → IfErr r (λ f. (f ≡ Device → ¬ failed)
+    → IfSome start (λ input. (first : AnswersFirst mode fresh input old new) × LongIf f first.after))
+whole_of mode from fresh session start old new failed (Ok x) is h = tt
+whole_of mode from fresh session start old new failed (Err f) is h =
+    first_of mode from fresh session start old new failed f is h
+
+pub read_of : (mode : Mode) (from fresh session : Session) (start now old new : Option (List ℕ)) → from ≡ fresh
+    → IfSome start (λ input. (read : AnswersRead mode from input now old new) × (session ≡ read.last))
+    → IfSome start (λ input. AnswersRead mode fresh input now old new)
+read_of mode from fresh session None now old new is h = tt
+read_of mode from fresh session (Some xs) now old new is h = subst (λ (s : Session). AnswersRead mode s xs now old new) is h.0

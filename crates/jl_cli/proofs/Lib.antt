@@ -1,5 +1,6 @@
 pub mod BufferLaws
 pub mod JsonLaws
+pub mod LackLaws
 pub mod ScanLaws
 pub mod FloatLaws
 pub mod LineLaws

@@ -8,9 +8,11 @@ use Rattle.std.proofs.KnownBytes.{Appends-trans, Consumes-trans}
 use Rattle.std.specs.Io.KnownBytes.{Appends, Consumes, IsAtEnd}
 use Rattle.std.specs.List.{flat_map, AllByRecursion}
 use Rattle.jl_cli.specs.declared.words.Mode.{Mode}
+use Rattle.jl_cli.specs.declared.line_fault.LineFault.{LineFault}
 use Rattle.jl_cli.specs.Lines.{newline, most_in_line, onto_first, lines_of, NoNewline, ended}
-use Rattle.jl_cli.specs.Answers.{IsAnswer, AreAnswers, AreShort, AnswersAll, AnswersFirst, FirstIsLong}
-use Rattle.jl_cli.specs.Progress.{IsLine, Answered, Gathers, Writes, Runs, IsOver}
+use Rattle.jl_cli.specs.Sessions.{Session, LacksAnswer}
+use Rattle.jl_cli.specs.Answers.{IsAnswer, AreAnswers, AreShort, AnswersAll, AnswersFirst, FirstIsLong, LacksFirst, LongIf, LeftBy}
+use Rattle.jl_cli.specs.Progress.{IsLine, Answered, Gathers, Writes, Runs, IsOver, LacksNext}
 
 pub all_append : {A : Type 0} (P : A → Type 0) (xs ys : List A) → AllByRecursion P xs → AllByRecursion P ys
     → AllByRecursion P (xs ++ ys)
@@ -19,7 +21,7 @@ all_append P (x ∷ xs) ys h k = (h.0, all_append P xs ys h.1 k)
 
 -- ---- the lines of an input
 
-line_first : (line rest : List ℕ) → NoNewline line → lines_of (line ++ newline ∷ rest) ≡ line ∷ lines_of rest
+pub line_first : (line rest : List ℕ) → NoNewline line → lines_of (line ++ newline ∷ rest) ≡ line ∷ lines_of rest
 unfolding lines_of
 line_first [] rest h = refl
 line_first (b ∷ line) rest h = rw (h.0) (ap (onto_first b) (line_first line rest h.1))
@@ -57,78 +59,119 @@ first_long b (c ∷ left) more h =
 
 -- ---- answers
 
-answers_append : (mode : Mode) (ls ms : List (List ℕ)) (o p : List ℕ) → AreAnswers mode ls o
-    → AreAnswers mode ms p → AreAnswers mode (ls ++ ms) (o ++ p)
-answers_append mode [] ms o p h k = subst (AreAnswers mode ms) (ap (λ (l : List ℕ). l ++ p) (sym h)) k
-answers_append mode (l ∷ ls) ms o p h k = (
+-- answers to lines, and then to more lines by the session that these leave
+answers_append : (mode : Mode) (from mid last : Session) (ls ms : List (List ℕ)) (o p : List ℕ)
+    → AreAnswers mode from ls o mid → AreAnswers mode mid ms p last → AreAnswers mode from (ls ++ ms) (o ++ p) last
+answers_append mode from mid last [] ms o p h k =
+    subst (λ (s : Session). AreAnswers mode s ms (o ++ p) last) h.1
+    (subst (λ (l : List ℕ). AreAnswers mode mid ms l last) (ap (λ (l : List ℕ). l ++ p) (sym h.0)) k)
+answers_append mode from mid last (l ∷ ls) ms o p h k = (
   h.0,
   h.1 ++ p,
   h.2,
-  ap (λ (l : List ℕ). l ++ p) h.3
+  h.3,
+  ap (λ (l : List ℕ). l ++ p) h.4
       ∙ append_assoc (ended h.0) h.1 p,
-  answers_append mode ls ms h.1 p h.4 k,
+  answers_append mode h.2 mid last ls ms h.1 p h.5 k,
 )
 
-pub answered_none : (mode : Mode) → Answered mode [] []
-answered_none mode = record { lines = []; whole = refl; each = tt; answers = refl }
+pub answered_none : (mode : Mode) (session : Session) → Answered mode session [] [] session
+answered_none mode session = record { lines = []; whole = refl; each = tt; answers = (refl, refl) }
 
-answered_one : (mode : Mode) (line : List ℕ) (answer : List ℕ) → IsLine line → IsAnswer mode line answer
-    → Answered mode (ended line) (ended answer)
-answered_one mode line answer h is = record {
+answered_one : (mode : Mode) (old new : Session) (line : List ℕ) (answer : List ℕ) → IsLine line
+    → IsAnswer mode old line answer new → Answered mode old (ended line) (ended answer) new
+answered_one mode old new line answer h is = record {
   lines = line ∷ [];
   whole = sym (append-nil (ended line));
   each = (h, tt);
-  answers = (answer, [], is, sym (append-nil (ended answer)), refl);
+  answers = (answer, [], new, is, sym (append-nil (ended answer)), (refl, refl));
 }
 
-answered_append : (mode : Mode) (a b x y : List ℕ) → Answered mode a x → Answered mode b y
-    → Answered mode (a ++ b) (x ++ y)
-answered_append mode a b x y h k = record {
+answered_append : (mode : Mode) (from mid last : Session) (a b x y : List ℕ) → Answered mode from a x mid
+    → Answered mode mid b y last → Answered mode from (a ++ b) (x ++ y) last
+answered_append mode from mid last a b x y h k = record {
   lines = h.lines ++ k.lines;
   whole =
       ap (λ (l : List ℕ). l ++ b) h.whole ∙ ap (λ (l : List ℕ). flat_map ended h.lines ++ l) k.whole
       ∙ sym (flat_map-append ended h.lines k.lines);
   each = all_append IsLine h.lines k.lines h.each k.each;
-  answers = answers_append mode h.lines k.lines x y h.answers k.answers;
+  answers = answers_append mode from mid last h.lines k.lines x y h.answers k.answers;
 }
 
 -- ---- steps
 
 -- one more line is answered
-pub gathers_more : (mode : Mode) (bytes old mid new line after : List ℕ) (answer : List ℕ)
-    (g : Gathers mode bytes old mid)
-    → g.left ≡ line ++ newline ∷ after → IsLine line → IsAnswer mode line answer → new ≡ mid ++ ended answer
-    → (k : Gathers mode bytes old new) × (k.left ≡ after)
-gathers_more mode bytes old mid new line after answer g is short answers grown = (
+pub gathers_more : (mode : Mode) (from next : Session) (bytes old mid new line after : List ℕ) (answer : List ℕ)
+    (g : Gathers mode from bytes old mid)
+    → g.left ≡ line ++ newline ∷ after → IsLine line → IsAnswer mode g.last line answer next
+    → new ≡ mid ++ ended answer
+    → (k : Gathers mode from bytes old new) × (k.left ≡ after) × (next ≡ k.last)
+gathers_more mode from next bytes old mid new line after answer g is short answers grown = (
   record {
     done = g.done ++ ended line;
     left = after;
     output = g.output ++ ended answer;
+    last = next;
     split = g.split ∙ (ap (λ (l : List ℕ). g.done ++ l) (is ∙ sym (append_assoc line (newline ∷ []) after))
         ∙ sym (append_assoc g.done (ended line) after));
-    answered = answered_append mode g.done (ended line) g.output (ended answer) g.answered
-        (answered_one mode line answer short answers);
+    answered = answered_append mode from g.last next g.done (ended line) g.output (ended answer) g.answered
+        (answered_one mode g.last next line answer short answers);
     added = grown ∙ (ap (λ (l : List ℕ). l ++ ended answer) g.added
         ∙ append_assoc old g.output (ended answer));
   },
   refl,
+  refl,
 )
 
--- ---- what is written
-
-pub writes : (mode : Mode) (bytes seen old_text text : List ℕ) (old new : Option (List ℕ))
-    (g : Gathers mode seen old_text text)
-    → seen ≡ bytes → old_text ≡ [] → Appends old new text
-    → (w : Writes mode bytes old new) × (w.left ≡ g.left) × (w.done ≡ g.done)
-writes mode bytes seen old_text text old new g is none appended = (
+-- memory lacks for the answer to the next line
+pub gathers_stop : (mode other : Mode) (from held session : Session) (bytes old mid new rest line behind : List ℕ)
+    (g : Gathers mode from bytes old mid) → g.left ≡ rest → rest ≡ line ++ newline ∷ behind → NoNewline line
+    → held ≡ g.last → other ≡ mode → new ≡ mid
+    → LacksAnswer held (λ text. IsAnswer other held line text session) session
+    → (k : Gathers mode from bytes old new) × LacksNext mode k.last k.left session
+gathers_stop mode other from held session bytes old mid new rest line behind g left is one same kept stays lacks = (
   record {
     done = g.done;
     left = g.left;
     output = g.output;
+    last = g.last;
+    split = g.split;
+    answered = g.answered;
+    added = stays ∙ g.added;
+  },
+  record {
+    line = line;
+    behind = behind;
+    is = left ∙ is;
+    one = one;
+    lacks = subst (λ (s : Session). LacksAnswer s (λ text. IsAnswer mode s line text session) session) same
+        (subst (λ (m : Mode). LacksAnswer held (λ text. IsAnswer m held line text session) session) kept lacks);
+  },
+)
+
+pub lacks_at : (mode : Mode) (a b session : Session) (x y : List ℕ) → a ≡ b → x ≡ y → LacksNext mode b y session
+    → LacksNext mode a x session
+lacks_at mode a b session x y same is lacks =
+    subst (λ (l : List ℕ). LacksNext mode a l session) (sym is)
+    (subst (λ (s : Session). LacksNext mode s y session) (sym same) lacks)
+
+-- ---- what is written
+
+pub writes : (mode : Mode) (from : Session) (bytes seen old_text text : List ℕ) (old new : Option (List ℕ))
+    (g : Gathers mode from seen old_text text)
+    → seen ≡ bytes → old_text ≡ [] → Appends old new text
+    → (w : Writes mode from bytes old new) × (w.left ≡ g.left) × (w.done ≡ g.done) × (w.last ≡ g.last)
+writes mode from bytes seen old_text text old new g is none appended = (
+  record {
+    done = g.done;
+    left = g.left;
+    output = g.output;
+    last = g.last;
     split = sym is ∙ g.split;
     answered = g.answered;
     written = subst (Appends old new) (g.added ∙ ap (λ (l : List ℕ). l ++ g.output) none) appended;
   },
+  refl,
   refl,
   refl,
 )
@@ -139,24 +182,31 @@ pub left_behind : (bytes done left : List ℕ) (used : ℕ) → bytes ≡ done +
 left_behind bytes done left used split is =
     ap (λ k. drop k bytes) is ∙ (ap (drop (length done)) split ∙ drop-append_seam done left)
 
-pub answers_last : (mode : Mode) (rest : List ℕ) (answer : List ℕ) → ¬ (rest ≡ []) → NoNewline rest
-    → IsAnswer mode rest answer → AreAnswers mode (lines_of rest) (ended answer)
-answers_last mode [] answer some one is = absurd (some refl)
-answers_last mode (b ∷ rest) answer some one is =
-    subst (λ (ls : List (List ℕ)). AreAnswers mode ls (ended answer)) (sym (line_last b rest one))
-    (answer, [], is, sym (append-nil (ended answer)), refl)
+pub answers_last : (mode : Mode) (old new : Session) (rest : List ℕ) (answer : List ℕ) → ¬ (rest ≡ [])
+    → NoNewline rest → IsAnswer mode old rest answer new → AreAnswers mode old (lines_of rest) (ended answer) new
+answers_last mode old new [] answer some one is = absurd (some refl)
+answers_last mode old new (b ∷ rest) answer some one is =
+    subst (λ (ls : List (List ℕ)). AreAnswers mode old ls (ended answer) new) (sym (line_last b rest one))
+    (answer, [], new, is, sym (append-nil (ended answer)), (refl, refl))
 
-pub answers_empty : (mode : Mode) (rest : List ℕ) → rest ≡ [] → AreAnswers mode (lines_of rest) []
+pub answers_empty : (mode : Mode) (old new : Session) (rest : List ℕ) → rest ≡ [] → new ≡ old
+    → AreAnswers mode old (lines_of rest) [] new
 unfolding lines_of
-answers_empty mode [] is = refl
-answers_empty mode (b ∷ rest) is = absurd cc
+answers_empty mode old new [] is same = (refl, same)
+answers_empty mode old new (b ∷ rest) is same = absurd cc
+
+pub lacks_last : (mode : Mode) (old new : Session) (rest : List ℕ) → ¬ (rest ≡ []) → NoNewline rest
+    → LacksAnswer old (λ text. IsAnswer mode old rest text new) new → LacksFirst mode old (lines_of rest) new
+lacks_last mode old new [] some one lacks = absurd (some refl)
+lacks_last mode old new (b ∷ rest) some one lacks =
+    subst (λ (ls : List (List ℕ)). LacksFirst mode old ls new) (sym (line_last b rest one)) lacks
 
 -- ---- a run
 
-pub runs_read : (mode : Mode) (start now then' : Option (List ℕ)) (held piece : List ℕ)
-    (old new : Option (List ℕ)) → Runs mode start now held old new
-    → Consumes now then' piece → Runs mode start then' (held ++ piece) old new
-runs_read mode start now then' held piece old new r consumed = record {
+pub runs_read : (mode : Mode) (from last : Session) (start now then' : Option (List ℕ)) (held piece : List ℕ)
+    (old new : Option (List ℕ)) → Runs mode from last start now held old new
+    → Consumes now then' piece → Runs mode from last start then' (held ++ piece) old new
+runs_read mode from last start now then' held piece old new r consumed = record {
   done = r.done;
   output = r.output;
   answered = r.answered;
@@ -165,13 +215,13 @@ runs_read mode start now then' held piece old new r consumed = record {
   written = r.written;
 }
 
-pub runs_write : (mode : Mode) (start now : Option (List ℕ)) (held : List ℕ) (old mid new : Option (List ℕ))
-    → Runs mode start now held old mid
-    → (w : Writes mode held mid new) → Runs mode start now w.left old new
-runs_write mode start now held old mid new r w = record {
+pub runs_write : (mode : Mode) (from last : Session) (start now : Option (List ℕ)) (held : List ℕ)
+    (old mid new : Option (List ℕ)) → Runs mode from last start now held old mid
+    → (w : Writes mode last held mid new) → Runs mode from w.last start now w.left old new
+runs_write mode from last start now held old mid new r w = record {
   done = r.done ++ w.done;
   output = r.output ++ w.output;
-  answered = answered_append mode r.done w.done r.output w.output r.answered w.answered;
+  answered = answered_append mode from last w.last r.done w.done r.output w.output r.answered w.answered;
   read =
       subst (Consumes start now) (ap (λ (l : List ℕ). r.done ++ l) w.split
       ∙ sym (append_assoc r.done w.done w.left)) r.read;
@@ -190,28 +240,33 @@ short_each : (lines : List (List ℕ)) → AllByRecursion IsLine lines → AreSh
 short_each [] h = tt
 short_each (line ∷ lines) h = (h.0.short, short_each lines h.1)
 
-over_first : (left rest : List ℕ) → IsOver left → FirstIsLong (lines_of (left ++ rest))
+pub over_first : (left rest : List ℕ) → IsOver left → FirstIsLong (lines_of (left ++ rest))
 over_first [] rest h = absurd (omega (arith, h.long))
 over_first (b ∷ left) rest h =
     let p = first_long b left rest h.one in
     subst FirstIsLong (sym p.2) (lt_le _ _ _ h.long p.3)
 
-pub runs_first : (mode : Mode) (start now : Option (List ℕ)) (held : List ℕ) (old new : Option (List ℕ))
-    → Runs mode start now held old new
-    → IfSome start (λ input. (first : AnswersFirst mode input old new) × (IsOver held → FirstIsLong first.after))
-runs_first mode None now held old new r = tt
-runs_first mode (Some xs) None held old new r = absurd r.read
-runs_first mode (Some xs) (Some ys) held old new r = (
+pub runs_first : (mode : Mode) (from last session : Session) (start now : Option (List ℕ)) (held : List ℕ)
+    (old new : Option (List ℕ)) (f : LineFault) → Runs mode from last start now held old new
+    → ((ys : List ℕ) → now ≡ Some ys
+    → LongIf f (lines_of (held ++ ys)) × LeftBy f mode last (lines_of (held ++ ys)) session)
+    → IfSome start (λ input. (first : AnswersFirst mode from input old new) × LongIf f first.after
+    × LeftBy f mode first.last first.after session)
+runs_first mode from last session None now held old new f r stop = tt
+runs_first mode from last session (Some xs) None held old new f r stop = absurd r.read
+runs_first mode from last session (Some xs) (Some ys) held old new f r stop = (
   record {
     before = r.answered.lines;
     after = lines_of (held ++ ys);
     split = read_lines r.done held ys xs r.answered.lines r.read r.answered.whole r.answered.each;
     short = short_each r.answered.lines r.answered.each;
     output = r.output;
+    last = last;
     answers = r.answered.answers;
     written = r.written;
   },
-  over_first held ys,
+  (stop ys refl).0,
+  (stop ys refl).1,
 )
 
 short_last : (held : List ℕ) → NoNewline held → length held ≤ most_in_line → AreShort (lines_of held)
@@ -219,22 +274,27 @@ unfolding lines_of
 short_last [] one short = tt
 short_last (b ∷ held) one short = subst AreShort (sym (line_last b held one)) (short, tt)
 
-pub runs_all : (mode : Mode) (start now : Option (List ℕ)) (held output : List ℕ) (old mid new : Option (List ℕ))
-    → Runs mode start now held old mid
-    → IsAtEnd now → NoNewline held → length held ≤ most_in_line → AreAnswers mode (lines_of held) output
-    → Appends mid new output
-    → IfSome start (λ input. AnswersAll mode input old new)
-runs_all mode None now held output old mid new r end one short answers appended = tt
-runs_all mode (Some xs) None held output old mid new r end one short answers appended = absurd r.read
-runs_all mode (Some xs) (Some ys) held output old mid new r end one short answers appended =
+pub runs_all : (mode : Mode) (from mid_session last : Session) (start now : Option (List ℕ)) (held output : List ℕ)
+    (old mid new : Option (List ℕ)) → Runs mode from mid_session start now held old mid
+    → IsAtEnd now → NoNewline held → length held ≤ most_in_line
+    → AreAnswers mode mid_session (lines_of held) output last → Appends mid new output
+    → IfSome start (λ input. (all : AnswersAll mode from input old new) × (last ≡ all.last))
+runs_all mode from mid_session last None now held output old mid new r end one short answers appended = tt
+runs_all mode from mid_session last (Some xs) None held output old mid new r end one short answers appended =
+    absurd r.read
+runs_all mode from mid_session last (Some xs) (Some ys) held output old mid new r end one short answers appended =
     let all : lines_of xs ≡ r.answered.lines ++ lines_of held =
     read_lines r.done held ys xs r.answered.lines r.read r.answered.whole r.answered.each
-    ∙ ap (λ (l : List ℕ). r.answered.lines ++ lines_of l) (ap (λ (l : List ℕ). held ++ l) end ∙ append-nil held) in
-    record {
-      short = subst AreShort (sym all) (all_append (λ (line : List ℕ). length line ≤ most_in_line)
-          r.answered.lines (lines_of held) (short_each r.answered.lines r.answered.each) (short_last held one short));
-      output = r.output ++ output;
-      answers = subst (λ (ls : List (List ℕ)). AreAnswers mode ls (r.output ++ output)) (sym all)
-          (answers_append mode r.answered.lines (lines_of held) r.output output r.answered.answers answers);
-      written = Appends-trans old mid new r.output output r.written appended;
-    }
+    ∙ ap (λ (l : List ℕ). r.answered.lines ++ lines_of l) (ap (λ (l : List ℕ). held ++ l) end ∙ append-nil held) in (
+      record {
+        short = subst AreShort (sym all) (all_append (λ (line : List ℕ). length line ≤ most_in_line)
+            r.answered.lines (lines_of held) (short_each r.answered.lines r.answered.each) (short_last held one short));
+        output = r.output ++ output;
+        last = last;
+        answers = subst (λ (ls : List (List ℕ)). AreAnswers mode from ls (r.output ++ output) last) (sym all)
+            (answers_append mode from mid_session last r.answered.lines (lines_of held) r.output output
+            r.answered.answers answers);
+        written = Appends-trans old mid new r.output output r.written appended;
+      },
+      refl,
+    )

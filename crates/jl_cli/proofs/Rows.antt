@@ -4,10 +4,11 @@ use Rattle.std.specs.Prelude.{codes}
 use Rattle.hex.proofs.OnLiterals.{hex_on_literals}
 use Rattle.serde_json.proofs.OnLiterals.{serde_json_on_literals}
 use Rattle.jl_cli.specs.declared.words.Mode.TheVariants.{Scan}
-use Rattle.jl_cli.specs.Lines.{lines_of}
+use Rattle.jl_cli.specs.Lines.{lines_of, ended}
 use Rattle.jl_cli.specs.Jsons.{bad_command}
 use Rattle.jl_cli.specs.Scans.{file_of}
-use Rattle.jl_cli.specs.Answers.{AreAnswers}
+use Rattle.jl_cli.specs.Answers.{IsAnswer, AreAnswers}
+use Rattle.jl_cli.specs.Sessions.{Session}
 
 -- a newline at the end ends no further line
 lines_three : lines_of (codes "ab\n\nc") ≡ codes "ab" ∷ [] ∷ codes "c" ∷ []
@@ -35,8 +36,9 @@ hex_other : file_of (codes "cg") ≡ None
 unfolding hex_on_literals
 hex_other = refl
 
-two_answers : AreAnswers Scan ([] ∷ codes "0g" ∷ []) (codes "{\"error\":\"BadCommand\"}\n{\"error\":\"BadCommand\"}\n")
+two_answers : (session : Session) → AreAnswers Scan session ([] ∷ codes "0g" ∷ []) (codes "{\"error\":\"BadCommand\"}\n{\"error\":\"BadCommand\"}\n") session
 unfolding hex_on_literals serde_json_on_literals
-two_answers =
+two_answers session =
     let said = codes "{\"error\":\"BadCommand\"}" in
-    (said, codes "{\"error\":\"BadCommand\"}\n", (bad_command, refl, refl), refl, (said, [], (bad_command, refl, refl), refl, refl))
+    let bad : IsAnswer Scan session [] said session = ((bad_command, refl, refl), refl) in
+    (said, ended said, session, bad, refl, (said, [], session, ((bad_command, refl, refl), refl), refl, (refl, refl)))

@@ -37,6 +37,10 @@ pub record Session : Type 0 where
 abbrev pub new_session : Session
 new_session = record { core = empty_core 65536; batches = [] }
 
+-- Where memory lacks for an answer, the session is as before, or as one of these answers leaves it.
+abbrev pub LacksAnswer : {A : Type 0} → Session → (A → Type 0) → Session → Type 0
+LacksAnswer {A = A} old IsSaid new = (new ≡ old) ⊎ ((answer : A) × IsSaid answer)
+
 -- ---- what a command is answered
 
 -- the JSON of the reply, or of the refusal

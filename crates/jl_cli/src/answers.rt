@@ -1,12 +1,13 @@
 //! The answers to lines, gathered until they are written.
 
 ghost use Rattle.std.specs.Prelude.{◌≡◌, ◌<◌, ◌≤◌, ◌++◌, [], ◌∷◌, List, ℕ, length, take, vec_len};
-ghost use Rattle.std.specs.Prelude.{IfOk, OnOk, OnErr, MatchOption};
+ghost use Rattle.std.specs.Prelude.{IfOk, OnOk, OnErr, MatchOption, MatchResult};
 ghost use Rattle.std.specs.Io.KnownBytes.{Appends};
 ghost use Rattle.jl_cli.specs.Devices.{CountsFailure};
+ghost use Rattle.jl_cli.specs.Sessions.{LacksAnswer};
 ghost use Rattle.jl_cli.specs.Answers.{IsAnswer};
 ghost use Rattle.jl_cli.specs.Lines.{newline, NoNewline, ended};
-ghost use Rattle.jl_cli.specs.Progress.{IsFirstNewline, Gathers};
+ghost use Rattle.jl_cli.specs.Progress.{IsFirstNewline, Gathers, LacksNext};
 
 use crate::failed::Failed;
 use crate::line_buffer::MOST_IN_LINE;
@@ -23,8 +24,6 @@ use std::alloc::{AllocError, Global};
 pub struct Answers {
     alloc: Global,
     mode: Mode,
-    /// For the commands of the mode run.
-    session: Session,
     /// For the bytes of a line in hexadecimal.
     room: Vec<u8>,
     text: Vec<u8>,
@@ -41,40 +40,45 @@ impl Answers {
         Ok(Answers {
             alloc,
             mode,
-            session: Session::new(alloc),
             room,
             text,
         })
     }
 
-    /// Adds the answer to a line.
+    /// Adds the answer to a line. In the mode run the session gives it.
     ///
     /// # Errors
     ///
-    /// [`AllocError`]. The answers stay.
-    pub fn answer(&mut self, line: &[u8]) -> Result<(), AllocError>
+    /// [`AllocError`]. The answers stay; the line's command may have been obeyed.
+    pub fn answer(&mut self, session: &mut Session, line: &[u8]) -> Result<(), AllocError>
         requires { length line.now ≤ 2100000 }
-        ensures ok { OnOk result ((text : List ℕ) × IsAnswer self.old.mode line.now text
+        ensures ok { OnOk result ((text : List ℕ)
+            × IsAnswer self.old.mode session.old line.now text session.new
             × (self.new.text.items ≡ self.old.text.items ++ ended text)) }
         ensures err { OnErr result (self.new.text.items ≡ self.old.text.items) }
+        ensures lacks { OnErr result (LacksAnswer session.old
+            (λ text. IsAnswer self.old.mode session.old line.now text session.new) session.new) }
         ensures mode { self.new.mode ≡ self.old.mode }
     {
-        let mut text = self.text_for(line)?;
+        let mut text = self.text_for(session, line)?;
         text.push(b'\n')?;
         self.text.extend_from_slice(&text)
     }
 
     /// The answer to a line.
-    fn text_for(&mut self, line: &[u8]) -> Result<Vec<u8>, AllocError>
+    fn text_for(&mut self, session: &mut Session, line: &[u8]) -> Result<Vec<u8>, AllocError>
         requires { length line.now ≤ 2100000 }
-        ensures answer { IfOk result (λ text. IsAnswer self.old.mode line.now text.items) }
+        ensures answer { IfOk result
+            (λ text. IsAnswer self.old.mode session.old line.now text.items session.new) }
+        ensures lacks { OnErr result (LacksAnswer session.old
+            (λ text. IsAnswer self.old.mode session.old line.now text session.new) session.new) }
         ensures text { self.new.text.items ≡ self.old.text.items }
         ensures mode { self.new.mode ≡ self.old.mode }
     {
         match self.mode {
             Mode::Scan => scan_answer(self.alloc, line, &mut self.room),
             Mode::Sketch => sketch_answer(self.alloc, line),
-            Mode::Run => self.session.answer_text(self.alloc, line),
+            Mode::Run => session.answer_text(self.alloc, line),
         }
     }
 
@@ -83,21 +87,28 @@ impl Answers {
     ///
     /// # Errors
     ///
-    /// [`AllocError`]. The answers to the lines before were added.
-    pub fn answer_lines(&mut self, text: &[u8], searched: usize) -> Result<usize, AllocError>
+    /// [`AllocError`]. The answers to the lines before were added; the next line's command may have been obeyed.
+    pub fn answer_lines(
+        &mut self,
+        session: &mut Session,
+        text: &[u8],
+        searched: usize,
+    ) -> Result<usize, AllocError>
         requires short { length text.now ≤ 2100001 }
         requires within { searched ≤ length text.now }
         requires none { NoNewline (take searched text.now) }
-        ensures gathered { (g : Gathers self.old.mode text.now self.old.text.items
+        ensures gathered { (g : Gathers self.old.mode session.old text.now self.old.text.items
             self.new.text.items)
-            × IfOk result (λ used. (used ≡ length g.done) × NoNewline g.left) }
+            × MatchResult result
+            (λ used. (used ≡ length g.done) × NoNewline g.left × (session.new ≡ g.last))
+            (λ _. LacksNext self.old.mode g.last g.left session.new) }
         ensures bound { IfOk result (λ used. used ≤ length text.now) }
         ensures mode { self.new.mode ≡ self.old.mode }
     {
         let mut rest = text;
         let mut searched = searched;
         while let Some((line, behind)) = first_line(rest, searched) {
-            self.answer(line)?;
+            self.answer(session, line)?;
             rest = behind;
             searched = 0;
         }

@@ -32,7 +32,7 @@ pub use counted::Counted;
 pub use fail_at::FailAt;
 pub use failed::Failed;
 pub use line_fault::LineFault;
-pub use lines::run_lines;
+pub use lines::{run_lines, run_lines_with};
 pub use session::Session;
 pub use sink::Sink;
 pub use source::Source;

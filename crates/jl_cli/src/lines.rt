@@ -6,12 +6,15 @@ ghost use Rattle.std.specs.Io.KnownBytes.{Appends, Keeps, IsAtEnd};
 ghost use Rattle.jl_cli.specs.declared.line_fault.LineFault.TheVariants.{TooLong, Device};
 ghost use Rattle.jl_cli.specs.Devices.{one_more, HasRisen};
 ghost use Rattle.jl_cli.specs.Lines.{lines_of, NoNewline};
-ghost use Rattle.jl_cli.specs.Answers.{AreAnswers, AnswersAll, AnswersFirst, AnswersRead, LongIf};
-ghost use Rattle.jl_cli.specs.Progress.{Writes, OverIf};
+ghost use Rattle.jl_cli.specs.Sessions.{new_session};
+ghost use Rattle.jl_cli.specs.Answers.{AreAnswers, LacksFirst, AnswersAll, AnswersFirst, AnswersRead};
+ghost use Rattle.jl_cli.specs.Answers.{LongIf, LeftBy};
+ghost use Rattle.jl_cli.specs.Progress.{Writes, StopsBy};
 
 use crate::answers::Answers;
 use crate::line_buffer::LineBuffer;
 use crate::line_fault::LineFault;
+use crate::session::Session;
 use crate::sink::Sink;
 use crate::source::Source;
 use crate::words::Mode;
@@ -22,18 +25,20 @@ use std::alloc::Global;
 fn answer_piece<W: Sink>(
     input: &mut LineBuffer,
     searched: usize,
+    session: &mut Session,
     answers: &mut Answers,
     writer: &mut W,
 ) -> Result<(), LineFault>
     requires within { searched ≤ length input.old }
     requires none { NoNewline (take searched input.old) }
     requires empty { answers.old.text.items ≡ [] }
-    ensures answered { OnOk result (
-        (w : Writes answers.old.mode input.old (W.contents writer.old) (W.contents writer.new))
-        × (input.new ≡ w.left) × NoNewline w.left) }
+    ensures answered { OnOk result ((w : Writes answers.old.mode session.old input.old
+        (W.contents writer.old) (W.contents writer.new))
+        × (input.new ≡ w.left) × NoNewline w.left × (session.new ≡ w.last)) }
     ensures whole { IfErr result (λ f. f ≢ Device
-        → (w : Writes answers.old.mode input.old (W.contents writer.old) (W.contents writer.new))
-        × OverIf f w.left) }
+        → (w : Writes answers.old.mode session.old input.old
+        (W.contents writer.old) (W.contents writer.new))
+        × StopsBy f answers.old.mode w.last w.left session.new × (answers.new.text.items ≡ [])) }
     ensures none { OnOk result ((answers.new.text.items ≡ [])
         × (answers.new.mode ≡ answers.old.mode)) }
     ensures room { OnOk result (length input.new < 2100001) }
@@ -41,7 +46,7 @@ fn answer_piece<W: Sink>(
     ensures device { IsErrOf result LineFault.Device
         → W.failures writer.new ≡ one_more (W.failures writer.old) }
 {
-    let answered = answers.answer_lines(input.as_slice(), searched);
+    let answered = answers.answer_lines(session, input.as_slice(), searched);
     answers.write_to(writer)?;
     let used = answered?;
     if used == 0 && input.is_full() {
@@ -52,20 +57,26 @@ fn answer_piece<W: Sink>(
 }
 
 /// Answers what stands behind the last newline, if anything does.
-fn answer_rest<W: Sink>(rest: &[u8], answers: &mut Answers, writer: &mut W) -> Result<(), LineFault>
+fn answer_rest<W: Sink>(
+    rest: &[u8],
+    session: &mut Session,
+    answers: &mut Answers,
+    writer: &mut W,
+) -> Result<(), LineFault>
     requires short { length rest.now ≤ 2100000 }
     requires one { NoNewline rest.now }
     requires empty { answers.old.text.items ≡ [] }
     ensures answered { OnOk result ((output : List ℕ)
-        × AreAnswers answers.old.mode (lines_of rest.now) output
+        × AreAnswers answers.old.mode session.old (lines_of rest.now) output session.new
         × Appends (W.contents writer.old) (W.contents writer.new) output) }
     ensures whole { IfErr result (λ f. f ≢ Device
-        → Keeps (W.contents writer.old) (W.contents writer.new) × (f ≢ TooLong)) }
+        → Keeps (W.contents writer.old) (W.contents writer.new) × (f ≢ TooLong)
+        × LacksFirst answers.old.mode session.old (lines_of rest.now) session.new) }
     ensures device { IsErrOf result LineFault.Device
         → W.failures writer.new ≡ one_more (W.failures writer.old) }
 {
     if !rest.is_empty() {
-        answers.answer(rest)?;
+        answers.answer(session, rest)?;
     }
     answers.write_to(writer)?;
     Ok(())
@@ -74,6 +85,7 @@ fn answer_rest<W: Sink>(rest: &[u8], answers: &mut Answers, writer: &mut W) -> R
 /// Answers each line of what is read, in order, to its end.
 fn answer_all<R: Source, W: Sink>(
     input: &mut LineBuffer,
+    session: &mut Session,
     answers: &mut Answers,
     reader: &mut R,
     writer: &mut W,
@@ -81,17 +93,18 @@ fn answer_all<R: Source, W: Sink>(
     requires unread { input.old ≡ [] }
     requires none { answers.old.text.items ≡ [] }
     ensures answered { OnOk result (IsAtEnd (R.remaining reader.new)
-        × IfSome (R.remaining reader.old)
-        (λ text. AnswersAll answers.old.mode text (W.contents writer.old) (W.contents writer.new))) }
+        × IfSome (R.remaining reader.old) (λ text. (all : AnswersAll answers.old.mode session.old text
+        (W.contents writer.old) (W.contents writer.new)) × (session.new ≡ all.last))) }
     ensures whole { IfErr result
         (λ f. (f ≡ Device → ¬ HasRisen (W.failures writer.old) (W.failures writer.new))
-        → IfSome (R.remaining reader.old) (λ text.
-        (first : AnswersFirst answers.old.mode text (W.contents writer.old) (W.contents writer.new))
-        × LongIf f first.after)) }
+        → IfSome (R.remaining reader.old) (λ text. (first : AnswersFirst answers.old.mode session.old
+        text (W.contents writer.old) (W.contents writer.new)) × LongIf f first.after
+        × LeftBy f answers.old.mode first.last first.after session.new)) }
     ensures read { IsErrOf result LineFault.Device
         → ¬ HasRisen (W.failures writer.old) (W.failures writer.new)
-        → IfSome (R.remaining reader.old) (λ text. AnswersRead answers.old.mode text
-        (R.remaining reader.new) (W.contents writer.old) (W.contents writer.new)) }
+        → IfSome (R.remaining reader.old) (λ text. (read : AnswersRead answers.old.mode session.old text
+        (R.remaining reader.new) (W.contents writer.old) (W.contents writer.new))
+        × (session.new ≡ read.last)) }
     ensures device { IsErrOf result LineFault.Device
         → HasRisen (R.failures reader.old) (R.failures reader.new)
         ⊎ (HasRisen (W.failures writer.old) (W.failures writer.new)
@@ -100,22 +113,23 @@ fn answer_all<R: Source, W: Sink>(
     for _ in 0..u64::MAX {
         let searched = input.as_slice().len();
         if input.read_from(reader)? == 0 {
-            return answer_rest(input.as_slice(), answers, writer);
+            return answer_rest(input.as_slice(), session, answers, writer);
         }
-        answer_piece(input, searched, answers, writer)?;
+        answer_piece(input, searched, session, answers, writer)?;
     }
     Err(LineFault::Device)
 }
 
 /// Answers each line of the input, in order, to its end: one line of output for each. What stands
 /// behind the last newline is a line, too, unless it is empty. The answers to what was read are
-/// written before more is read.
+/// written before more is read. In the mode run the first line is answered by a new session, and
+/// each further one by the session that the line before left.
 ///
 /// # Errors
 ///
 /// - [`LineFault::TooLong`]: the next line has over 2,100,000 bytes without its newline.
 /// - [`LineFault::Device`]: a read or a write failed, or there were 2^64 - 1 reads.
-/// - [`LineFault::Memory`]: want of memory for a line or its answer.
+/// - [`LineFault::Memory`]: want of memory for the buffers, or for the answer to the next line.
 ///
 /// But for a failed write the answers to all lines before were written whole.
 pub fn run_lines<R: Source, W: Sink>(
@@ -126,20 +140,57 @@ pub fn run_lines<R: Source, W: Sink>(
 ) -> Result<(), LineFault>
     // The input was read to its end, and the answers to its lines were written.
     ensures answered { OnOk result (IsAtEnd (R.remaining reader.new)
-        × IfSome (R.remaining reader.old)
-        (λ input. AnswersAll mode input (W.contents writer.old) (W.contents writer.new))) }
+        × IfSome (R.remaining reader.old) (λ input. AnswersAll mode new_session input
+        (W.contents writer.old) (W.contents writer.new))) }
     // But for a failed write the answers to some first lines were written whole, and the next line
     // is over the limit where one is said to be too long.
     ensures whole { IfErr result
         (λ f. (f ≡ Device → ¬ HasRisen (W.failures writer.old) (W.failures writer.new))
         → IfSome (R.remaining reader.old) (λ input.
-        (first : AnswersFirst mode input (W.contents writer.old) (W.contents writer.new))
+        (first : AnswersFirst mode new_session input (W.contents writer.old) (W.contents writer.new))
         × LongIf f first.after)) }
     // After a failed read these are all lines of which the newline was read.
     ensures read { IsErrOf result LineFault.Device
         → ¬ HasRisen (W.failures writer.old) (W.failures writer.new)
-        → IfSome (R.remaining reader.old) (λ input. AnswersRead mode input
+        → IfSome (R.remaining reader.old) (λ input. AnswersRead mode new_session input
         (R.remaining reader.new) (W.contents writer.old) (W.contents writer.new)) }
+    ensures device { IsErrOf result LineFault.Device
+        → HasRisen (R.failures reader.old) (R.failures reader.new)
+        ⊎ (HasRisen (W.failures writer.old) (W.failures writer.new)
+        ⊎ (2 ^ 64 - 1 ≤ R.reads reader.new)) }
+{
+    let mut session = Session::new(alloc);
+    run_lines_with(alloc, mode, &mut session, reader, writer)
+}
+
+/// Answers each line of the input as [`run_lines`] does, from this session on.
+///
+/// # Errors
+///
+/// Those of [`run_lines`]. But for a failed write the session is as the answered lines left it; for
+/// want of memory it may have obeyed the next line, too, and no other.
+pub fn run_lines_with<R: Source, W: Sink>(
+    alloc: Global,
+    mode: Mode,
+    session: &mut Session,
+    reader: &mut R,
+    writer: &mut W,
+) -> Result<(), LineFault>
+    ensures answered { OnOk result (IsAtEnd (R.remaining reader.new)
+        × IfSome (R.remaining reader.old) (λ input. (all : AnswersAll mode session.old input
+        (W.contents writer.old) (W.contents writer.new)) × (session.new ≡ all.last))) }
+    // But for a failed write no line was obeyed whose answer wasn't written, but for the next one
+    // where memory lacks.
+    ensures whole { IfErr result
+        (λ f. (f ≡ Device → ¬ HasRisen (W.failures writer.old) (W.failures writer.new))
+        → IfSome (R.remaining reader.old) (λ input.
+        (first : AnswersFirst mode session.old input (W.contents writer.old) (W.contents writer.new))
+        × LongIf f first.after × LeftBy f mode first.last first.after session.new)) }
+    ensures read { IsErrOf result LineFault.Device
+        → ¬ HasRisen (W.failures writer.old) (W.failures writer.new)
+        → IfSome (R.remaining reader.old) (λ input. (read : AnswersRead mode session.old input
+        (R.remaining reader.new) (W.contents writer.old) (W.contents writer.new))
+        × (session.new ≡ read.last)) }
     ensures device { IsErrOf result LineFault.Device
         → HasRisen (R.failures reader.old) (R.failures reader.new)
         ⊎ (HasRisen (W.failures writer.old) (W.failures writer.new)
@@ -147,5 +198,5 @@ pub fn run_lines<R: Source, W: Sink>(
 {
     let mut input = LineBuffer::new(alloc)?;
     let mut answers = Answers::new(alloc, mode)?;
-    answer_all(&mut input, &mut answers, reader, writer)
+    answer_all(&mut input, session, &mut answers, reader, writer)
 }

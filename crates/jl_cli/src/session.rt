@@ -1,6 +1,6 @@
 //! Commands, a line each, on one core.
 
-ghost use Rattle.std.specs.Prelude.{◌≡◌, IfOk, length};
+ghost use Rattle.std.specs.Prelude.{◌≡◌, IfOk, OnErr, length};
 ghost use Rattle.serde_json.specs.View.{view};
 ghost use Rattle.jl_types.specs.declared.event.Event.TheVariants as event;
 ghost use Rattle.jl_json.specs.declared.command.Command.TheVariants as command;
@@ -8,7 +8,7 @@ ghost use Rattle.jl_json.specs.declared.command.ClassSource.TheVariants as sourc
 ghost use Rattle.jl_json.specs.Commands.{command_of};
 ghost use Rattle.jl_cli.specs.Jsons.{IsReadAs, IsTextOf};
 ghost use Rattle.jl_cli.specs.Sessions.{new_session, IsEventData, IsEventAnswer, IsFileDefined, IsDefineAnswer};
-ghost use Rattle.jl_cli.specs.Sessions.{IsPrepareAnswer, IsCommandAnswer, IsSessionAnswer};
+ghost use Rattle.jl_cli.specs.Sessions.{IsPrepareAnswer, IsCommandAnswer, IsSessionAnswer, LacksAnswer};
 
 use crate::json_line::{bad_command, json_in, text_of};
 use crate::scan::fault_value;
@@ -83,9 +83,10 @@ impl Session {
     ///
     /// # Errors
     ///
-    /// Want of memory for the line or its answer. The command may have been obeyed.
+    /// Want of memory for the line or its answer. The command was obeyed, or the session stays.
     pub fn answer(&mut self, alloc: Global, line: &[u8]) -> Result<Value, AllocError>
-        ensures { IfOk result (λ v. IsSessionAnswer self.old line.now (view v) self.new) }
+        ensures ok { IfOk result (λ v. IsSessionAnswer self.old line.now (view v) self.new) }
+        ensures lacks { OnErr result (LacksAnswer self.old (λ answer. IsSessionAnswer self.old line.now answer self.new) self.new) }
     {
         match command_in(alloc, line)? {
             Some(asked) => self.obey(alloc, asked),
@@ -95,7 +96,8 @@ impl Session {
 
     /// The text of the answer to a line.
     pub(crate) fn answer_text(&mut self, alloc: Global, line: &[u8]) -> Result<Vec<u8>, AllocError>
-        ensures { IfOk result (λ text. IsTextOf (λ answer. IsSessionAnswer self.old line.now answer self.new) text.items) }
+        ensures ok { IfOk result (λ text. IsTextOf (λ answer. IsSessionAnswer self.old line.now answer self.new) text.items) }
+        ensures lacks { OnErr result (LacksAnswer self.old (λ answer. IsSessionAnswer self.old line.now answer self.new) self.new) }
     {
         let answer = self.answer(alloc, line)?;
         text_of(alloc, &answer)
@@ -103,7 +105,8 @@ impl Session {
 
     /// The answer to a command.
     fn obey(&mut self, alloc: Global, asked: Command) -> Result<Value, AllocError>
-        ensures { IfOk result (λ v. IsCommandAnswer self.old asked (view v) self.new) }
+        ensures ok { IfOk result (λ v. IsCommandAnswer self.old asked (view v) self.new) }
+        ensures lacks { OnErr result (LacksAnswer self.old (λ answer. IsCommandAnswer self.old asked answer self.new) self.new) }
     {
         match asked {
             Command::Define { loader, source } => self.define(alloc, loader, source),
@@ -120,7 +123,8 @@ impl Session {
 
     /// The answer to an event: its reply, or the refusal.
     fn apply(&mut self, alloc: Global, event: Event) -> Result<Value, AllocError>
-        ensures { IfOk result (λ v. IsEventAnswer self.old event (view v) self.new) }
+        ensures ok { IfOk result (λ v. IsEventAnswer self.old event (view v) self.new) }
+        ensures lacks { OnErr result (LacksAnswer self.old (λ answer. IsEventAnswer self.old event answer self.new) self.new) }
     {
         let outcome = self.core.apply(alloc, event);
         event_value(alloc, &outcome)
@@ -133,7 +137,8 @@ impl Session {
         loader: LoaderId,
         source: ClassSource,
     ) -> Result<Value, AllocError>
-        ensures { IfOk result (λ v. IsDefineAnswer self.old loader source (view v) self.new) }
+        ensures ok { IfOk result (λ v. IsDefineAnswer self.old loader source (view v) self.new) }
+        ensures lacks { OnErr result (LacksAnswer self.old (λ answer. IsDefineAnswer self.old loader source answer self.new) self.new) }
     {
         match source {
             ClassSource::File(bytes) => self.define_file(alloc, loader, bytes.as_slice()),
@@ -148,7 +153,8 @@ impl Session {
         loader: LoaderId,
         sketch: &Sketch,
     ) -> Result<Value, AllocError>
-        ensures { IfOk result (λ v. IsDefineAnswer self.old loader (source.Sketch sketch.now) (view v) self.new) }
+        ensures ok { IfOk result (λ v. IsDefineAnswer self.old loader (source.Sketch sketch.now) (view v) self.new) }
+        ensures lacks { OnErr result (LacksAnswer self.old (λ answer. IsDefineAnswer self.old loader (source.Sketch sketch.now) answer self.new) self.new) }
     {
         match write_class(alloc, sketch) {
             Ok(bytes) => self.define_file(alloc, loader, &bytes),
@@ -163,7 +169,8 @@ impl Session {
         loader: LoaderId,
         bytes: &[u8],
     ) -> Result<Value, AllocError>
-        ensures { IfOk result (λ v. IsFileDefined self.old loader bytes.now (view v) self.new) }
+        ensures ok { IfOk result (λ v. IsFileDefined self.old loader bytes.now (view v) self.new) }
+        ensures lacks { OnErr result (LacksAnswer self.old (λ answer. IsFileDefined self.old loader bytes.now answer self.new) self.new) }
     {
         match read_class(alloc, bytes) {
             Ok(file) => self.apply(alloc, Event::Define(loader, file)),
@@ -173,7 +180,8 @@ impl Session {
 
     /// The answer to a preparation. The batch is kept.
     fn prepare(&mut self, alloc: Global, sites: &[SiteNo]) -> Result<Value, AllocError>
-        ensures { IfOk result (λ v. IsPrepareAnswer self.old sites.now (view v) self.new) }
+        ensures ok { IfOk result (λ v. IsPrepareAnswer self.old sites.now (view v) self.new) }
+        ensures stays { OnErr result (self.new ≡ self.old) }
     {
         match self.core.prepare(alloc, sites) {
             Ok(prepared) => {
@@ -194,7 +202,8 @@ impl Session {
 
     /// The answer to the install of a batch.
     fn install(&mut self, alloc: Global, batch: u32) -> Result<Value, AllocError>
-        ensures { IfOk result (λ v. IsCommandAnswer self.old (command.Install batch) (view v) self.new) }
+        ensures ok { IfOk result (λ v. IsCommandAnswer self.old (command.Install batch) (view v) self.new) }
+        ensures lacks { OnErr result (LacksAnswer self.old (λ answer. IsCommandAnswer self.old (command.Install batch) answer self.new) self.new) }
     {
         let Some(rows) = self.batches.as_slice().get(batch as usize) else {
             return bad_command(alloc);

@@ -1,24 +1,23 @@
-use Rattle.std.proofs.Common.{◌≡◌, ◌∙◌, sym, ap, subst, ℕ, List, length, Err, arith}
+use Rattle.std.proofs.Common.{◌≡◌, ◌∙◌, sym, ap, subst, refl, length, Err, arith}
 use Rattle.jl_cli.specs.declared.words.Mode.{Mode}
 use Rattle.jl_cli.specs.declared.line_fault.LineFault.TheVariants.{Device}
 use Rattle.jl_cli.specs.Devices.{one_more, HasRisen}
 use Rattle.jl_cli.specs.Lines.{NoNewline}
-use Rattle.jl_cli.specs.Progress.{Runs}
 use Rattle.jl_cli.proofs.LineLaws.{runs_write}
 use Rattle.jl_cli.proofs.FaultLaws.{risen, Whole, ends, piece_fault, rest_whole, rest_answered}
 use Rattle.jl_cli.proofs.FaultLaws.{runs_mode, runs_held, same_at_end, exactly, fault_is}
-use Rattle.jl_cli.proofs.FaultLaws.{runs_whole}
+use Rattle.jl_cli.proofs.FaultLaws.{runs_whole, runs_left}
 use Rattle.std.proofs.KnownBytes.{Keeps-refl}
 use Rattle.jl_cli.proofs.lines.answer_all.Goals as goal
 
 pub returns-in_err-read_from-clause-whole : goal.returns-in_err-read_from-clause-whole
 returns-in_err-read_from-clause-whole g c =
     exactly _ Device
-    (Whole c.args.answers.now.mode (g.R.Source.remaining c.args.reader.now) (g.W.Sink.contents c.args.writer.now)
-    (g.W.Sink.contents c.loop.writer)
+    (Whole c.args.answers.now.mode c.args.session.now c.loop.session (g.R.Source.remaining c.args.reader.now)
+    (g.W.Sink.contents c.args.writer.now) (g.W.Sink.contents c.loop.writer)
     (HasRisen (g.W.Sink.failures c.args.writer.now) (g.W.Sink.failures c.loop.writer)))
     c.from_residual.ensures.1
-    (ends _ _ _ _ _ _ _ Device (runs_mode _ _ _ _ _ _ _ c.loop.invariant.mode c.loop.invariant.ran) tt)
+    (ends _ _ _ _ _ _ _ _ _ _ Device (runs_mode _ _ _ _ _ _ _ _ _ c.loop.invariant.mode c.loop.invariant.ran) refl)
 
 pub returns-then-branch-eq0-clause-answered : goal.returns-then-branch-eq0-clause-answered
 returns-then-branch-eq0-clause-answered g c =
@@ -26,11 +25,12 @@ returns-then-branch-eq0-clause-answered g c =
     let same : c.as_slice.result.now ≡ c.loop.input = c.as_slice.ensures.value
     ∙ same_at_end c.loop.input more.0 c.read_from.new.self c.in_ok-read_from.field-0 more.2 more.1
     c.if-branch-eq0.true in
-    rest_answered c.loop.answers.mode c.args.answers.now.mode (g.R.Source.remaining c.args.reader.now)
+    rest_answered c.loop.answers.mode c.args.answers.now.mode c.args.session.now c.loop.session c.answer_rest.new.session
+    (g.R.Source.remaining c.args.reader.now)
     (g.R.Source.remaining c.read_from.new.reader) c.as_slice.result.now
     (g.W.Sink.contents c.args.writer.now) (g.W.Sink.contents c.loop.writer)
     (g.W.Sink.contents c.answer_rest.new.writer) c.answer_rest.result
-    (runs_held _ _ _ (g.R.Source.remaining c.read_from.new.reader) c.loop.input more.0 c.as_slice.result.now _ _
+    (runs_held _ _ _ _ _ (g.R.Source.remaining c.read_from.new.reader) c.loop.input more.0 c.as_slice.result.now _ _
     c.loop.invariant.ran more.3 (c.as_slice.ensures.value ∙ more.2))
     (c.in_ok-read_from.ensures.end c.if-branch-eq0.true)
     (subst NoNewline (sym same) c.loop.invariant.one)
@@ -40,11 +40,14 @@ returns-then-branch-eq0-clause-answered g c =
 
 pub returns-then-branch-eq0-clause-whole : goal.returns-then-branch-eq0-clause-whole
 returns-then-branch-eq0-clause-whole g c =
-    rest_whole c.loop.answers.mode c.args.answers.now.mode (g.R.Source.remaining c.args.reader.now)
-    (g.R.Source.remaining c.loop.reader) c.loop.input
+    let more = c.in_ok-read_from.ensures.more in
+    rest_whole c.loop.answers.mode c.args.answers.now.mode c.args.session.now c.loop.session c.answer_rest.new.session
+    (g.R.Source.remaining c.args.reader.now) (g.R.Source.remaining c.read_from.new.reader) c.as_slice.result.now
     (g.W.Sink.contents c.args.writer.now) (g.W.Sink.contents c.loop.writer) (g.W.Sink.contents c.answer_rest.new.writer)
     (HasRisen (g.W.Sink.failures c.args.writer.now) (g.W.Sink.failures c.answer_rest.new.writer)) c.answer_rest.result
-    c.loop.invariant.ran
+    (runs_held _ _ _ _ _ (g.R.Source.remaining c.read_from.new.reader) c.loop.input more.0 c.as_slice.result.now _ _
+    c.loop.invariant.ran more.3 (c.as_slice.ensures.value ∙ more.2))
+    (c.in_ok-read_from.ensures.end c.if-branch-eq0.true)
     c.answer_rest.ensures.whole
     (λ e. risen _ _ (c.answer_rest.ensures.device e ∙ ap one_more c.loop.invariant.no_write_failed))
     c.loop.invariant.mode
@@ -54,18 +57,20 @@ returns-in_err-answer_piece-clause-whole g c =
     let more = c.in_ok-read_from.ensures.more in
     let told = c.in_err-answer_piece.ensures in
     exactly _ c.in_err-answer_piece.field-0.0
-    (Whole c.args.answers.now.mode (g.R.Source.remaining c.args.reader.now) (g.W.Sink.contents c.args.writer.now)
-    (g.W.Sink.contents c.answer_piece.new.writer)
+    (Whole c.args.answers.now.mode c.args.session.now c.answer_piece.new.session (g.R.Source.remaining c.args.reader.now)
+    (g.W.Sink.contents c.args.writer.now) (g.W.Sink.contents c.answer_piece.new.writer)
     (HasRisen (g.W.Sink.failures c.args.writer.now) (g.W.Sink.failures c.answer_piece.new.writer)))
     c.from_residual-in_err-answer_piece.ensures.1
-    (subst (λ (m : Mode). Whole m (g.R.Source.remaining c.args.reader.now) (g.W.Sink.contents c.args.writer.now)
+    (subst (λ (m : Mode). Whole m c.args.session.now c.answer_piece.new.session (g.R.Source.remaining c.args.reader.now)
+    (g.W.Sink.contents c.args.writer.now)
     (g.W.Sink.contents c.answer_piece.new.writer)
     (HasRisen (g.W.Sink.failures c.args.writer.now) (g.W.Sink.failures c.answer_piece.new.writer))
     c.in_err-answer_piece.field-0.0)
     c.loop.invariant.mode
-    (piece_fault c.loop.answers.mode _ (g.R.Source.remaining c.read_from.new.reader) c.read_from.new.self _
+    (piece_fault c.loop.answers.mode _ c.loop.session _ _ (g.R.Source.remaining c.read_from.new.reader)
+    c.read_from.new.self c.answer_piece.new.answers.text.items _
     (g.W.Sink.contents c.loop.writer) _ _ c.in_err-answer_piece.field-0.0
-    (runs_held _ _ _ (g.R.Source.remaining c.read_from.new.reader) c.loop.input more.0 c.read_from.new.self _ _
+    (runs_held _ _ _ _ _ (g.R.Source.remaining c.read_from.new.reader) c.loop.input more.0 c.read_from.new.self _ _
     c.loop.invariant.ran more.3 more.2)
     told.whole
     (λ e. risen _ _ (told.device (ap Err e) ∙ ap one_more c.loop.invariant.no_write_failed))))
@@ -77,11 +82,9 @@ loop-preserved g c =
     record {
       room = told.room;
       one = subst NoNewline (sym told.answered.1) told.answered.2;
-      ran = subst (λ (l : List ℕ). Runs c.answer_piece.new.answers.mode (g.R.Source.remaining c.args.reader.now)
-          (g.R.Source.remaining c.read_from.new.reader) l
-          (g.W.Sink.contents c.args.writer.now) (g.W.Sink.contents c.answer_piece.new.writer)) (sym told.answered.1)
-          (runs_mode _ _ _ _ _ _ _ (sym told.none.1)
-          (runs_write _ _ _ _ _ _ _ (runs_held _ _ _ (g.R.Source.remaining c.read_from.new.reader) c.loop.input
+      ran = runs_left _ _ _ _ _ _ _ _ _ _ (sym told.answered.1) (sym told.answered.3)
+          (runs_mode _ _ _ _ _ _ _ _ _ (sym told.none.1)
+          (runs_write _ _ _ _ _ _ _ _ _ (runs_held _ _ _ _ _ (g.R.Source.remaining c.read_from.new.reader) c.loop.input
           more.0 c.read_from.new.self _ _ c.loop.invariant.ran more.3 more.2) told.answered.0));
       none = told.none.0;
       mode = told.none.1 ∙ c.loop.invariant.mode;
@@ -92,11 +95,11 @@ loop-preserved g c =
 
 pub returns-clause-whole : goal.returns-clause-whole
 returns-clause-whole g c =
-    ends _ _ _ _ _ _ _ Device (runs_mode _ _ _ _ _ _ _ c.loop.invariant.mode c.loop.invariant.ran) tt
+    ends _ _ _ _ _ _ _ _ _ _ Device (runs_mode _ _ _ _ _ _ _ _ _ c.loop.invariant.mode c.loop.invariant.ran) refl
 
 pub returns-in_err-read_from-clause-read : goal.returns-in_err-read_from-clause-read
 returns-in_err-read_from-clause-read g c = λ e none.
-    runs_whole c.loop.answers.mode c.args.answers.now.mode _ (g.R.Source.remaining c.loop.reader)
+    runs_whole c.loop.answers.mode c.args.answers.now.mode _ _ _ (g.R.Source.remaining c.loop.reader)
     (g.R.Source.remaining c.read_from.new.reader) c.loop.input _ _
     c.loop.invariant.ran c.loop.invariant.one c.in_err-read_from.ensures.err.1 c.loop.invariant.mode
 
@@ -112,6 +115,6 @@ returns-in_err-answer_piece-clause-read g c = λ e none.
 
 pub returns-clause-read : goal.returns-clause-read
 returns-clause-read g c = λ e none.
-    runs_whole c.loop.answers.mode c.args.answers.now.mode _ (g.R.Source.remaining c.loop.reader)
+    runs_whole c.loop.answers.mode c.args.answers.now.mode _ _ _ (g.R.Source.remaining c.loop.reader)
     (g.R.Source.remaining c.loop.reader) c.loop.input _ _
     c.loop.invariant.ran c.loop.invariant.one (Keeps-refl (g.R.Source.remaining c.loop.reader)) c.loop.invariant.mode

@@ -7,7 +7,7 @@ abbrev pub invariant-loop : goal.invariant-loop
 invariant-loop g l = record {
   room : length l.input < 2100001;
   one : NoNewline l.input;
-  ran : Runs l.answers.mode (g.R.Source.remaining l.fn.reader) (g.R.Source.remaining l.reader) l.input
+  ran : Runs l.answers.mode l.fn.session l.session (g.R.Source.remaining l.fn.reader) (g.R.Source.remaining l.reader) l.input
       (g.W.Sink.contents l.fn.writer) (g.W.Sink.contents l.writer);
   none : l.answers.text.items ≡ [];
   mode : l.answers.mode ≡ l.fn.answers.mode;

@@ -1,9 +1,15 @@
-use Rattle.std.proofs.Common.{◌≡◌, ◌∙◌, sym, ap, subst, refl, ℕ, suc, ◌==◌, true, false, List, []}
+use Rattle.std.proofs.Common.{◌≡◌, ◌≢◌, ◌∙◌, sym, ap, subst, refl, ℕ, suc, ◌==◌, true, false, List, []}
 use Rattle.std.proofs.Common.{◌∷◌, ◌++◌, length, arith}
 use Rattle.std.specs.Io.KnownBytes.{Appends}
 use Rattle.std.proofs.lemmas.Bool.{eqb-true}
-use Rattle.jl_cli.specs.Lines.{ended}
-use Rattle.jl_cli.proofs.LineLaws.{answers_last, answers_empty}
+use Rattle.std.specs.Io.KnownBytes.{Keeps}
+use Rattle.std.proofs.KnownBytes.{Keeps-refl}
+use Rattle.jl_cli.specs.declared.line_fault.LineFault.TheVariants.{TooLong, Device, Memory}
+use Rattle.jl_cli.specs.Lines.{lines_of, ended}
+use Rattle.jl_cli.specs.Sessions.{Session}
+use Rattle.jl_cli.specs.Answers.{AreAnswers, LacksFirst}
+use Rattle.jl_cli.proofs.FaultLaws.{exactly}
+use Rattle.jl_cli.proofs.LineLaws.{answers_last, answers_empty, lacks_last}
 use Rattle.jl_cli.proofs.lines.answer_rest.Goals as goal
 use Rattle.jl_cli.proofs.lines.answer_rest.Goals.{then-not-is_empty+in_ok-answer, else-not-is_empty}
 
@@ -23,16 +29,32 @@ returns-clause-answered g c = elim c.if-not-is_empty.branch [
   | then-not-is_empty+in_ok-answer w ↦
       let a = w.in_ok-answer.ensures.ok in (
         ended a.0,
-        answers_last c.args.answers.now.mode c.args.rest.now a.0
-            (some_there c.args.rest.now w.if-not-is_empty.ensures) c.requires.one a.1,
+        subst (λ (s : Session). AreAnswers c.args.answers.now.mode c.args.session.now (lines_of c.args.rest.now) (ended a.0) s)
+            (sym w.session-is)
+            (answers_last c.args.answers.now.mode c.args.session.now _ c.args.rest.now a.0
+            (some_there c.args.rest.now w.if-not-is_empty.ensures) c.requires.one a.1),
         subst (Appends (g.W.Sink.contents c.args.writer.now) (g.W.Sink.contents c.write_to.new.writer))
             (ap (λ x. x.text.items) w.answers-is
             ∙ (a.2 ∙ ap (λ (l : List ℕ). l ++ ended a.0) c.requires.empty)) c.in_ok-write_to.ensures.written,
       )
   | else-not-is_empty w ↦ (
     [],
-    answers_empty c.args.answers.now.mode c.args.rest.now (none_there c.args.rest.now w.if-not-is_empty.ensures),
+    answers_empty c.args.answers.now.mode c.args.session.now _ c.args.rest.now
+        (none_there c.args.rest.now w.if-not-is_empty.ensures) w.session-is,
     subst (Appends (g.W.Sink.contents c.args.writer.now) (g.W.Sink.contents c.write_to.new.writer))
         (ap (λ x. x.text.items) w.answers-is ∙ c.requires.empty) c.in_ok-write_to.ensures.written,
   )
 ]
+
+pub returns-in_err-answer-clause-whole : goal.returns-in_err-answer-clause-whole
+returns-in_err-answer-clause-whole g c =
+    exactly c.from_residual.result Memory
+    (λ f. f ≢ Device → Keeps (g.W.Sink.contents c.args.writer.now) (g.W.Sink.contents c.args.writer.now) × (f ≢ TooLong)
+    × LacksFirst c.args.answers.now.mode c.args.session.now (lines_of c.args.rest.now) c.answer.new.session)
+    c.from_residual.ensures.1
+    (λ _. (
+      Keeps-refl (g.W.Sink.contents c.args.writer.now),
+      (λ e. absurd cc),
+      lacks_last c.args.answers.now.mode c.args.session.now c.answer.new.session c.args.rest.now
+          (some_there c.args.rest.now c.if-not-is_empty.ensures) c.requires.one c.in_err-answer.ensures.lacks,
+    ))

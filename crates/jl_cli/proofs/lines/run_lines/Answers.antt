@@ -1,34 +1,23 @@
-use Rattle.std.specs.Prelude.{◌≡◌, IfSome, IfErr, OnOk, IsErrOf}
-use Rattle.std.proofs.Common.{subst}
-use Rattle.std.specs.Io.KnownBytes.{IsAtEnd}
-use Rattle.jl_cli.specs.declared.words.Mode.{Mode}
-use Rattle.jl_cli.specs.declared.line_fault.LineFault.TheVariants.{Device}
-use Rattle.jl_cli.specs.Devices.{HasRisen}
-use Rattle.jl_cli.specs.Answers.{AnswersAll, AnswersFirst, AnswersRead, LongIf}
+use Rattle.jl_cli.proofs.FaultLaws.{all_of, whole_of, read_of}
 use Rattle.jl_cli.proofs.lines.run_lines.Goals as goal
 
--- the answers are in the mode that they were made in
+-- the session is a new one, and is dropped
 
 pub returns-clause-answered : goal.returns-clause-answered
 returns-clause-answered g c =
-    subst (λ (mode : Mode). OnOk c.answer_all.result (IsAtEnd (g.R.Source.remaining c.answer_all.new.reader)
-    × IfSome (g.R.Source.remaining c.args.reader.now)
-    (λ input. AnswersAll mode input (g.W.Sink.contents c.args.writer.now) (g.W.Sink.contents c.answer_all.new.writer))))
-    c.in_ok-answers.ensures.1 c.answer_all.ensures.answered
+    all_of c.args.mode _ _ c.run_lines_with.new.session (g.R.Source.remaining c.args.reader.now)
+    (g.R.Source.remaining c.run_lines_with.new.reader) (g.W.Sink.contents c.args.writer.now)
+    (g.W.Sink.contents c.run_lines_with.new.writer) c.run_lines_with.result c.new-session.ensures
+    c.run_lines_with.ensures.answered
 
 pub returns-clause-whole : goal.returns-clause-whole
 returns-clause-whole g c =
-    subst (λ (mode : Mode). IfErr c.answer_all.result
-    (λ f. (f ≡ Device → ¬ HasRisen (g.W.Sink.failures c.args.writer.now) (g.W.Sink.failures c.answer_all.new.writer))
-    → IfSome (g.R.Source.remaining c.args.reader.now)
-    (λ input. (first : AnswersFirst mode input (g.W.Sink.contents c.args.writer.now) (g.W.Sink.contents c.answer_all.new.writer))
-    × LongIf f first.after)))
-    c.in_ok-answers.ensures.1 c.answer_all.ensures.whole
+    whole_of c.args.mode _ _ c.run_lines_with.new.session (g.R.Source.remaining c.args.reader.now)
+    (g.W.Sink.contents c.args.writer.now) (g.W.Sink.contents c.run_lines_with.new.writer) _ c.run_lines_with.result
+    c.new-session.ensures c.run_lines_with.ensures.whole
 
 pub returns-clause-read : goal.returns-clause-read
-returns-clause-read g c =
-    subst (λ (mode : Mode). IsErrOf c.answer_all.result Device
-    → ¬ HasRisen (g.W.Sink.failures c.args.writer.now) (g.W.Sink.failures c.answer_all.new.writer)
-    → IfSome (g.R.Source.remaining c.args.reader.now)
-    (λ input. AnswersRead mode input (g.R.Source.remaining c.answer_all.new.reader) (g.W.Sink.contents c.args.writer.now) (g.W.Sink.contents c.answer_all.new.writer)))
-    c.in_ok-answers.ensures.1 c.answer_all.ensures.read
+returns-clause-read g c = λ e none.
+    read_of c.args.mode _ _ c.run_lines_with.new.session (g.R.Source.remaining c.args.reader.now)
+    (g.R.Source.remaining c.run_lines_with.new.reader) (g.W.Sink.contents c.args.writer.now)
+    (g.W.Sink.contents c.run_lines_with.new.writer) c.new-session.ensures (c.run_lines_with.ensures.read e none)

@@ -1,10 +1,12 @@
 use Rattle.std.proofs.Common.{◌≡◌, ◌∙◌, sym, ap, subst, refl, ◌+◌, [], ◌∷◌, ◌++◌, length}
 use Rattle.std.proofs.Common.{length-append, append-nil, arith}
 use Rattle.jl_cli.specs.declared.words.Mode.{Mode}
+use Rattle.jl_cli.specs.Sessions.{Session}
 use Rattle.jl_cli.specs.Answers.{IsAnswer}
 use Rattle.jl_cli.specs.Lines.{NoNewline}
 use Rattle.jl_cli.specs.Progress.{IsLine}
-use Rattle.jl_cli.proofs.LineLaws.{answered_none, gathers_more}
+use Rattle.jl_cli.proofs.LackLaws.{match_err}
+use Rattle.jl_cli.proofs.LineLaws.{answered_none, gathers_more, gathers_stop}
 use Rattle.jl_cli.proofs.answers.Answers.answer_lines.Goals as goal
 
 pub loop-line-init : goal.loop-line-init
@@ -17,11 +19,13 @@ loop-line-init c = record {
       done = [];
       left = c.args.text.now;
       output = [];
+      last = c.args.session.now;
       split = refl;
       answered = answered_none
-          c.args.self.now.mode;
+          c.args.self.now.mode c.args.session.now;
       added = sym (append-nil c.args.self.now.text.items);
     },
+    refl,
     refl,
   );
   mode = refl;
@@ -45,8 +49,12 @@ loop-line-preserved c =
       within = omega arith;
       short = omega (arith, size, c.loop-line.invariant.short);
       none = tt;
-      gathered = gathers_more _ _ _ _ _ line behind answer.0 g (c.loop-line.invariant.gathered.1 ∙ split) fits
-          (subst (λ (m : Mode). IsAnswer m line answer.0) c.loop-line.invariant.mode answer.1) answer.2;
+      gathered = gathers_more _ _ c.answer.new.session _ _ _ _ line behind answer.0 g
+          (c.loop-line.invariant.gathered.1 ∙ split) fits
+          (subst (λ (s : Session). IsAnswer c.args.self.now.mode s line answer.0 c.answer.new.session)
+          c.loop-line.invariant.gathered.2
+          (subst (λ (m : Mode). IsAnswer m c.loop-line.session line answer.0 c.answer.new.session)
+          c.loop-line.invariant.mode answer.1)) answer.2;
       mode = c.in_ok-answer.ensures.mode ∙ c.loop-line.invariant.mode;
     }
 
@@ -59,5 +67,17 @@ returns-clause-gathered c =
         omega (arith, ap length g.split, length-append g.done g.left, ap length left),
         subst NoNewline
             (sym left) c.in_default.ensures,
+        c.loop-line.invariant.gathered.2,
       ),
+    )
+
+pub returns-in_err-answer-clause-gathered : goal.returns-in_err-answer-clause-gathered
+returns-in_err-answer-clause-gathered c =
+    let known = c.loop-line.invariant.gathered in
+    let stop = gathers_stop _ _ _ c.loop-line.session c.answer.new.session _ _ _ _ _ c.in-Some.line.now c.in-Some.behind.now
+    known.0 known.1 c.in-Some.ensures.1 c.in-Some.ensures.0 known.2 c.loop-line.invariant.mode
+    c.in_err-answer.ensures.err c.in_err-answer.ensures.lacks in (
+      stop.0,
+      match_err (λ used. (used ≡ length stop.0.done) × NoNewline stop.0.left × (c.answer.new.session ≡ stop.0.last)) _
+          c.from_residual.result c.from_residual.ensures.1 stop.1,
     )

@@ -8,7 +8,8 @@ invariant-loop-line l = record {
   within : l.searched ≤ length l.rest;
   short : length l.rest ≤ length l.text;
   none : NoNewline (take l.searched l.rest);
-  gathered : (g : Gathers l.fn.self.mode l.text l.fn.self.text.items l.self.text.items) × (g.left ≡ l.rest);
+  gathered : (g : Gathers l.fn.self.mode l.fn.session l.text l.fn.self.text.items l.self.text.items)
+      × (g.left ≡ l.rest) × (l.session ≡ g.last);
   mode : l.self.mode ≡ l.fn.self.mode;
 }
 

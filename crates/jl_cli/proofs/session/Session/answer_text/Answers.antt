@@ -4,8 +4,8 @@ use Rattle.jl_cli.proofs.ScanLaws.{for_ok}
 use Rattle.jl_cli.proofs.session.Session.answer_text.Goals as goal
 
 pub text_of-requires : goal.text_of-requires
-text_of-requires c = session_floats _ c.args.line.now (view c.in_ok-answer.answer) _ c.in_ok-answer.ensures
+text_of-requires c = session_floats _ c.args.line.now (view c.in_ok-answer.answer) _ c.in_ok-answer.ensures.ok
 
-pub returns : goal.returns
-returns c =
-    for_ok (λ text said. (view c.in_ok-answer.answer, c.in_ok-answer.ensures, said)) c.text_of.result c.text_of.ensures
+pub returns-clause-ok : goal.returns-clause-ok
+returns-clause-ok c =
+    for_ok (λ text said. (view c.in_ok-answer.answer, c.in_ok-answer.ensures.ok, said)) c.text_of.result c.text_of.ensures
