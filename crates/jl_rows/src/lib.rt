@@ -2,8 +2,6 @@
 #![tactic(auto)]
 
 #[cfg(test)]
-mod cores;
-#[cfg(test)]
 mod devices;
 #[cfg(test)]
 mod faults;
