@@ -19,13 +19,10 @@ use Rattle.jl_types.specs.World.{World}
 use Rattle.jl_types.specs.Links.{scratch}
 use Rattle.jl_types.specs.Events.{row_fault}
 use Rattle.jl_types.specs.Resolution.{first_of}
-use Rattle.jl_types.proofs.Bools.{or_none}
+use Rattle.jl_types.proofs.Bools.{or_none, not_le}
+use Rattle.jl_types.proofs.Firsts.{first_alone}
 use Rattle.jl_types.proofs.Lists.{rest_at}
 use Rattle.jl_core.specs.Batches.{row_faults}
-
-only_one : {A : Type 0} (o : Option A) → first_of (o ∷ []) ≡ o
-only_one None = refl
-only_one (Some r) = refl
 
 -- ---- links that aren't those from scratch
 
@@ -69,10 +66,7 @@ pub repeated_site : (w : World) (earlier : List ℕ) (s : ℕ) (sites : List ℕ
 repeated_site w earlier s sites e f = rw (e, f) refl
 
 pub new_site : (w : World) (earlier : List ℕ) (s : ℕ) (sites : List ℕ) → nat_le (length w.places) s ≡ false → list_any (λ t. t == s) earlier ≡ false → sites_fault w earlier (s ∷ sites) ≡ sites_fault w (s ∷ earlier) sites
-new_site w earlier s sites e f = rw (e, f) (only_one (sites_fault w (s ∷ earlier) sites))
-
-pub is_known : (n s : ℕ) → s < n → nat_le n s ≡ false
-is_known n s h = elim (leb_tells n s) [ inl p ↦ absurd (let q = p.1 in omega arith) | inr p ↦ p.0 ]
+new_site w earlier s sites e f = rw (e, f) (first_alone (sites_fault w (s ∷ earlier) sites))
 
 -- one row on, where the rows before have no fault
 module _ {A : Type 0} (site : A → ℕ) (w : World) (rows : List A) (n : ℕ) (row : A) (lt : n < length rows) (is : row ≡ get_or rows n row) (s : ℕ) (same : s ≡ site row) (known : s < length w.places) where
@@ -85,13 +79,13 @@ module _ {A : Type 0} (site : A → ℕ) (w : World) (rows : List A) (n : ℕ) (
       ∙ ap (λ t. sites_fault w (sites_of site (take n rows)) (t ∷ map site (drop (n + 1) rows))) (sym same)
 
   pub comes_again : list_any (λ r. site r == s) (take n rows) ≡ true → left n ≡ Some (Repeated s)
-  comes_again h = split ∙ repeated_site w (sites_of site (take n rows)) s (map site (drop (n + 1) rows)) (is_known (length w.places) s known) (any_site site s (take n rows) ∙ h)
+  comes_again h = split ∙ repeated_site w (sites_of site (take n rows)) s (map site (drop (n + 1) rows)) (not_le (length w.places) s known) (any_site site s (take n rows) ∙ h)
 
   pub comes_first : list_any (λ r. site r == s) (take n rows) ≡ false → left (n + 1) ≡ left n
   comes_first h =
       ap (λ (earlier : List ℕ). sites_fault w earlier (map site (drop (n + 1) rows)))
       (ap (sites_of site) (take_more rows n row lt ∙ ap (λ (r : A). take n rows ++ r ∷ []) (sym is)) ∙ sites_more site (take n rows) row ∙ ap (λ t. t ∷ sites_of site (take n rows)) (sym same))
-      ∙ sym (new_site w (sites_of site (take n rows)) s (map site (drop (n + 1) rows)) (is_known (length w.places) s known) (any_site site s (take n rows) ∙ h))
+      ∙ sym (new_site w (sites_of site (take n rows)) s (map site (drop (n + 1) rows)) (not_le (length w.places) s known) (any_site site s (take n rows) ∙ h))
       ∙ sym split
 
 -- ---- the links of a preparation
@@ -126,7 +120,7 @@ first_unready w sites n s rows f h e g =
     ∙ fails_first w s (drop (n + 1) sites) f g
 
 pub size_and_sites : (w : World) (sites : List ℕ) → is_bad_size (length sites) ≡ false → sites_fault w [] sites ≡ None → prepare_fault w sites ≡ ready_fault w sites
-size_and_sites w sites e f = (λ i. first_of (then_some (e i) fault.BatchSize ∷ option_map of_sites (f i) ∷ ready_fault w sites ∷ [])) ∙ only_one (ready_fault w sites)
+size_and_sites w sites e f = (λ i. first_of (then_some (e i) fault.BatchSize ∷ option_map of_sites (f i) ∷ ready_fault w sites ∷ [])) ∙ first_alone (ready_fault w sites)
 
 pub zip_each : {A B : Type 0} (P Q : A → B → Type 0) → ((x : A) (y : B) → P x y → Q x y) → (xs : List A) (ys : List B) → AllZip P xs ys → AllZip Q xs ys
 zip_each P Q f [] [] h = h

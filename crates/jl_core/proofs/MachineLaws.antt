@@ -26,6 +26,8 @@ use Rattle.jl_types.specs.Events.{of_sites, row_fault, install_fault, same_place
 use Rattle.jl_types.specs.History.{has_link, kept}
 use Rattle.jl_types.proofs.Bools.{clash}
 use Rattle.jl_types.proofs.Lists.{before_end, some_same}
+use Rattle.jl_types.proofs.Firsts.{first_none}
+use Rattle.jl_types.proofs.Accepting.{linked, good_link}
 use Rattle.jl_types.proofs.InstalledLinks.{requested as link_requested}
 use Rattle.jl_core.specs.Batches.{row_faults}
 use Rattle.jl_core.specs.State.{link_at, lost, AreScratch}
@@ -38,9 +40,6 @@ use Rattle.jl_types.proofs.Lists.{range_end}
 
 same_itself : (l : Link) → same_link l l ≡ true
 same_itself l = (link_decides l l).1 refl
-
-abbrev linked : Link → Result Link Unlinked
-linked l = Ok l
 
 -- what is kept is the link from scratch
 pub kept_scratch : (b : Bool) (before : Option Link) (r : Result Link Unlinked) (l : Link) → kept b before r ≡ Some l → r ≡ Ok l
@@ -134,18 +133,6 @@ module _ (w : World) (place : Place) where
 
 -- ---- an install
 
-none_first : (o : Option Refusal) (rest : List (Option Refusal)) → first_of (o ∷ rest) ≡ None → (o ≡ None) × (first_of rest ≡ None)
-none_first None rest e = (refl, e)
-none_first (Some r) rest e = cc
-
-good_link : (s : ℕ) (l : Link) (r : Result Link Unlinked) → row_fault s l r ≡ None → r ≡ Ok l
-good_link s l (Err reason) e = cc
-good_link s l (Ok now) e = by_test (same_link now l) refl e
-  where
-    by_test : (b : Bool) → same_link now l ≡ b → (if b then None else Some (refusal.Stale s now)) ≡ None → linked now ≡ linked l
-    by_test true is e = ap linked ((link_decides now l).0 is)
-    by_test false is e = cc
-
 module _ (w : World) (s : ℕ) where
   same_site : (row : ℕ × Link) → scratch w row.0 ≡ Ok row.1 → (row.0 == s) ≡ true → scratch w s ≡ Ok row.1
   same_site row h e = ap (scratch w) (sym ((Decides-eqb row.0 s).0 e)) ∙ h
@@ -153,7 +140,7 @@ module _ (w : World) (s : ℕ) where
   installed_by : (before : Option Link) (rows : List (ℕ × Link)) → first_of (row_faults w rows) ≡ None → ((l : Link) → before ≡ Some l → scratch w s ≡ Ok l) → link_with rows before s ≡ kept (list_any (λ row. row.0 == s) rows) before (scratch w s)
   installed_by before [] e h = sym (kept_same before (scratch w s) h)
   installed_by before (row ∷ rows) e h =
-      let parts = none_first (row_fault row.0 row.1 (scratch w row.0)) (row_faults w rows) e in
+      let parts = first_none (row_fault row.0 row.1 (scratch w row.0)) (row_faults w rows) e in
       by_test (row.0 == s) refl (good_link row.0 row.1 (scratch w row.0) parts.0) (λ link k. installed_by link rows parts.1 k)
     where
       either_way : (b : Bool) → scratch w s ≡ Ok row.1 → kept b (Some row.1) (scratch w s) ≡ kept true before (scratch w s)
@@ -169,9 +156,9 @@ module _ (w : World) (s : ℕ) where
   install_keeps links rows e h =
       let unknown = option_map of_sites (sites_fault w [] (map (λ row. row.0) rows)) in
       let links_faults = first_of (row_faults w rows) ∷ [] in
-      let size = none_first (then_some (is_bad_size (length rows)) refusal.BatchSize) (unknown ∷ links_faults) e in
-      let batch = none_first unknown links_faults size.1 in
-      let each = none_first (first_of (row_faults w rows)) [] batch.1 in
+      let size = first_none (then_some (is_bad_size (length rows)) refusal.BatchSize) (unknown ∷ links_faults) e in
+      let batch = first_none unknown links_faults size.1 in
+      let each = first_none (first_of (row_faults w rows)) [] batch.1 in
       installed_by (link_at links s) rows each.0 (h s)
 
 -- ---- the links that go, site by site

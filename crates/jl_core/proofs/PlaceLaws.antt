@@ -15,7 +15,8 @@ use Rattle.jl_types.specs.declared.event.Event.TheVariants as event
 use Rattle.jl_types.specs.Members.{is_present}
 use Rattle.jl_types.specs.Events.{same_place, names_array, is_polymorphic, new_place_fault, request_place, if_invoked, request_at, unless}
 use Rattle.jl_types.specs.Resolution.{first_of}
-use Rattle.jl_types.proofs.Bools.{clash}
+use Rattle.jl_types.proofs.Bools.{below}
+use Rattle.jl_types.proofs.Firsts.{first_none, test_none}
 use Rattle.jl_types.proofs.Lists.{before_end, is_within}
 use Rattle.jl_core.proofs.DefineLaws.{either}
 use Rattle.jl_core.specs.Admitted.{admitted}
@@ -62,14 +63,10 @@ refused_new max_sites w place site r e s p f =
 
 pub room_there : (max_sites : ℕ) (w : World) (site : Site) → new_place_fault max_sites w site ≡ None → length w.places < max_sites
 room_there max_sites w site e =
-    let a = none_there (names_array site.operand) (NotLinkable ArrayReceiver) _ e in
-    let b = none_there (is_polymorphic site.operand) (NotLinkable PolymorphicSignature) _ a.1 in
-    let d = none_there (nat_le max_sites (length w.places)) SitesFull _ b.1 in
-    elim (leb_tells max_sites (length w.places)) [ inl p ↦ absurd (clash (nat_le max_sites (length w.places)) p.0 d.0) | inr p ↦ p.1 ]
-  where
-    none_there : (b : Bool) (f : Refusal) (rest : List (Option Refusal)) → first_of (then_some b f ∷ rest) ≡ None → (b ≡ false) × (first_of rest ≡ None)
-    none_there true f rest e = cc
-    none_there false f rest e = (refl, e)
+    let a = first_none (then_some (names_array site.operand) (NotLinkable ArrayReceiver)) _ e in
+    let b = first_none (then_some (is_polymorphic site.operand) (NotLinkable PolymorphicSignature)) _ a.1 in
+    let d = first_none (then_some (nat_le max_sites (length w.places)) SitesFull) _ b.1 in
+    below max_sites (length w.places) (test_none (nat_le max_sites (length w.places)) SitesFull d.0)
 
 pub place_supported : (cs : Classes) (keys : List Place) (place : Place) (site : Site) → invocation_at cs place ≡ Some site → is_supported site ≡ true → AreSupported cs keys → (b : Bool) → AreSupported cs (if b then keys else keys ++ place ∷ [])
 place_supported cs keys place site e s h true = h

@@ -3,7 +3,7 @@ use Rattle.std.specs.Prelude.{◌≡◌, ◌≢◌, ◌↔◌, ℕ, zero, suc, �
 use Rattle.std.specs.Bool.{then_some}
 use Rattle.std.specs.List.{AllByRecursion, list_any}
 use Rattle.std.proofs.Common.{refl, ap, sym, ◌∙◌, arith, inl, inr, Decides}
-use Rattle.std.proofs.lemmas.Bool.Decides.{Decides-eqb, Decides-ltb, Decides-or, leb_tells}
+use Rattle.std.proofs.lemmas.Bool.Decides.{Decides-eqb, Decides-ltb, Decides-or}
 use Rattle.std.proofs.lemmas.List.Elements.{All-from_recursion, recursion_from_All}
 use Rattle.std.proofs.lemmas.List.Kept.{AllPairs-cons}
 use Rattle.jl_types.specs.declared.link.Link.{Link}
@@ -21,7 +21,8 @@ use Rattle.jl_types.specs.Resolution.{first_of}
 use Rattle.jl_types.specs.Links.{scratch}
 use Rattle.jl_types.specs.Batches.{is_bad_size, sites_fault}
 use Rattle.jl_types.specs.Events.{of_sites, row_fault, install_fault, Accepts, unless, verdict}
-use Rattle.jl_types.proofs.Bools.{clash}
+use Rattle.jl_types.proofs.Bools.{clash, below, not_le}
+use Rattle.jl_types.proofs.Firsts.{first_none, test_none}
 use Rattle.jl_types.proofs.Settling.{le_or_lt}
 
 -- ---- the size
@@ -44,24 +45,10 @@ size_good n h k = by_test (is_bad_size n) refl
 
 -- ---- the sites
 
-first_none : {A : Type 0} (o : Option A) (rest : List (Option A)) → first_of (o ∷ rest) ≡ None → (o ≡ None) × (first_of rest ≡ None)
-first_none None rest e = (refl, e)
-first_none (Some r) rest e = cc
-
-test_none : {A : Type 0} (b : Bool) (x : A) → then_some b x ≡ None → b ≡ false
-test_none true x e = cc
-test_none false x e = refl
-
 -- requested sites that come neither earlier nor twice
 abbrev AreFresh : World → List ℕ → List ℕ → Type 0
 AreFresh w earlier [] = ⊤
 AreFresh w earlier (s ∷ rest) = (s < length w.places) × (list_any (λ t. t == s) earlier ≡ false) × AreFresh w (s ∷ earlier) rest
-
-below : (n s : ℕ) → nat_le n s ≡ false → s < n
-below n s e = elim (leb_tells n s) [ inl p ↦ absurd (clash (nat_le n s) p.0 e) | inr p ↦ p.1 ]
-
-not_below : (n s : ℕ) → s < n → nat_le n s ≡ false
-not_below n s h = elim (leb_tells n s) [ inl p ↦ absurd (let q = p.1 in omega arith) | inr p ↦ p.0 ]
 
 fresh : (w : World) (earlier all : List ℕ) → sites_fault w earlier all ≡ None → AreFresh w earlier all
 fresh w earlier [] e = tt
@@ -78,7 +65,7 @@ fresh w earlier (s ∷ rest) e =
 no_fault : (w : World) (earlier all : List ℕ) → AreFresh w earlier all → sites_fault w earlier all ≡ None
 no_fault w earlier [] h = refl
 no_fault w earlier (s ∷ rest) h =
-    (λ i. first_of (then_some (not_below (length w.places) s h.0 i) (sites.Unknown s) ∷ then_some (h.1 i) (sites.Repeated s) ∷ no_fault w (s ∷ earlier) rest h.2 i ∷ []))
+    (λ i. first_of (then_some (not_le (length w.places) s h.0 i) (sites.Unknown s) ∷ then_some (h.1 i) (sites.Repeated s) ∷ no_fault w (s ∷ earlier) rest h.2 i ∷ []))
 
 -- ---- the rows
 
@@ -158,10 +145,10 @@ none_new (row ∷ rows) = (refl, none_new rows)
 
 -- ---- the links
 
-abbrev linked : Link → Result Link Unlinked
+abbrev pub linked : Link → Result Link Unlinked
 linked l = Ok l
 
-good_link : (s : ℕ) (l : Link) (r : Result Link Unlinked) → row_fault s l r ≡ None → r ≡ Ok l
+pub good_link : (s : ℕ) (l : Link) (r : Result Link Unlinked) → row_fault s l r ≡ None → r ≡ Ok l
 good_link s l (Err reason) e = cc
 good_link s l (Ok now) e = by_test (same_link now l) refl e
   where

@@ -1,8 +1,8 @@
 -- Tests put together, and tests over lists.
-use Rattle.std.specs.Prelude.{◌≡◌, ℕ, zero, suc, ◌+◌, ◌<◌, ◌≤◌, ◌==◌, ◌⊎◌, Bool, true, false, not, cond, ◌&&◌, ◌||◌, List, [], ◌∷◌, map, filter}
+use Rattle.std.specs.Prelude.{◌≡◌, ℕ, zero, suc, ◌+◌, ◌<◌, ◌≤◌, ◌==◌, ◌⊎◌, nat_le, Bool, true, false, not, cond, ◌&&◌, ◌||◌, List, [], ◌∷◌, map, filter}
 use Rattle.std.specs.List.{list_any, range_with_len}
 use Rattle.std.proofs.Common.{refl, ap, ◌∙◌, arith, inl, inr}
-use Rattle.std.proofs.lemmas.Bool.Decides.{Decides-eqb}
+use Rattle.std.proofs.lemmas.Bool.Decides.{Decides-eqb, leb_tells}
 use Rattle.std.proofs.Math.Arith.{lt_of_le-ne}
 
 pub or_right : (a b : Bool) → b ≡ true → (a || b) ≡ true
@@ -97,3 +97,9 @@ any-range-from f a (suc n) i h k is = by_place f a n i (a == i) refl h k is (λ 
     by_place : (f : ℕ → Bool) (a n i : ℕ) (b : Bool) → (a == i) ≡ b → a ≤ i → i < a + suc n → f i ≡ true → (a + 1 ≤ i → list_any f (range_with_len (a + 1) n) ≡ true) → list_any f (range_with_len a (suc n)) ≡ true
     by_place f a n i true e h k is rest = or_left (f a) (list_any f (range_with_len (a + 1) n)) (ap f ((Decides-eqb a i).0 e) ∙ is)
     by_place f a n i false e h k is rest = or_right (f a) (list_any f (range_with_len (a + 1) n)) (rest (above a i h (lt_of_le-ne h (λ same. clash (a == i) ((Decides-eqb a i).1 same) e))))
+
+pub below : (n m : ℕ) → nat_le n m ≡ false → m < n
+below n m e = elim (leb_tells n m) [ inl p ↦ absurd (clash (nat_le n m) p.0 e) | inr p ↦ p.1 ]
+
+pub not_le : (n m : ℕ) → m < n → nat_le n m ≡ false
+not_le n m h = elim (leb_tells n m) [ inl p ↦ absurd (let q = p.1 in omega arith) | inr p ↦ p.0 ]

@@ -1,5 +1,6 @@
 pub mod Rows
 pub mod Lists
+pub mod Firsts
 pub mod Bools
 pub mod Ancestors
 pub mod Overrides
