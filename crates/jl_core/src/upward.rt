@@ -14,7 +14,8 @@ use jl_types::{ClassId, MethodId};
 fn place_of(methods: &[Method], name: &[u8], ty: &[u8]) -> Option<usize>
     ensures { result ≡ position (members.is_called name.now ty.now) methods.now }
 {
-    methods.iter().position(|method| method.name().as_slice() == name && method.ty().as_slice() == ty)
+    methods.iter().position(|method| method.name().as_slice() == name
+        && method.ty().as_slice() == ty)
 }
 
 impl Classes {

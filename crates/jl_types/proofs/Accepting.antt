@@ -55,8 +55,7 @@ fresh w earlier [] e = tt
 fresh w earlier (s ∷ rest) e =
     let known = first_none (then_some (nat_le (length w.places) s) (sites.Unknown s)) _ e in
     let once = first_none (then_some (list_any (λ t. t == s) earlier) (sites.Repeated s)) _ known.1 in
-    let more = first_none (sites_fault w (s ∷ earlier) rest) [] once.1 in
-    (
+    let more = first_none (sites_fault w (s ∷ earlier) rest) [] once.1 in (
       below (length w.places) s (test_none (nat_le (length w.places) s) (sites.Unknown s) known.0),
       test_none (list_any (λ t. t == s) earlier) (sites.Repeated s) once.0,
       fresh w (s ∷ earlier) rest more.0,
@@ -128,8 +127,7 @@ apart_fresh : (w : World) (earlier : List ℕ) (rows : List (ℕ × Link)) → A
 apart_fresh w earlier [] h = tt
 apart_fresh w earlier (row ∷ rows) h =
     let head : All (Other row) rows = λ k d lt. h.once 0 (suc k) d (omega arith) (omega arith) in
-    let tail : AllPairs Other rows = λ i j d lt le. h.once (suc i) (suc j) d (omega arith) (omega arith) in
-    (
+    let tail : AllPairs Other rows = λ i j d lt le. h.once (suc i) (suc j) d (omega arith) (omega arith) in (
       h.requested.0,
       h.new.0,
       apart_fresh w (row.0 ∷ earlier) rows (record {

@@ -36,9 +36,9 @@ pub use class_id::ClassId;
 pub use event::{Event, Made, Reply};
 pub use ids::{MethodId, Place};
 pub use laws::{
-    accepted_installs, ancestors_are_listed, ancestors_of_ancestors, each_site_once, links_give_the_answers,
-    one_class_more, one_event_more,
-    overriding_in_one_walk, overriding_is_decided, parents_come_first, settled_links, superclasses_upward, unlinked_calls,
+    accepted_installs, ancestors_are_listed, ancestors_of_ancestors, each_site_once,
+    links_give_the_answers, one_class_more, one_event_more, overriding_in_one_walk,
+    overriding_is_decided, parents_come_first, settled_links, superclasses_upward, unlinked_calls,
 };
 pub use link::{Link, TableKind, same_link};
 pub use loader_id::LoaderId;
