@@ -4,7 +4,7 @@
 #     bench/try_edits.sh [NAME..]     NAMEs are crates; without one, all that have edits
 #
 # They are tried on a copy of the repository, where they stand in must-fail/ in the place of those that the gate tries.
-# JOBS crates are tried at a time (as many as there are processors, if unset); 2.5 GB of memory for each is enough. The last
+# JOBS crates are tried at a time (as many as there are processors, if unset); 3.5 GB of memory for each is enough. The last
 # line is 'N refused, M not'.
 set -eu
 top=$(cd "$(dirname "$0")/.." && pwd)
