@@ -50,225 +50,172 @@ fn invokes(alloc: Global, code: &[u8], expected: &[(u16, Kind)]) -> bool {
     }
 }
 
-/// The fault of the code.
-fn fault_of(alloc: Global, code: &[u8]) -> Option<CodeFault> {
-    sites_of(alloc, code)?.err()
-}
+/// Codes, and the places where they invoke A.f:()V.
+const INVOCATIONS: [(&[u8], &[(u16, Kind)]); 23] = [
+    // The length of each instruction.
+    (&[16, 0xca, 0xb1], &[]),
+    (&[17, 0xca, 0xca, 0xb1], &[]),
+    (&[18, 0xca, 0xb1], &[]),
+    (&[132, 0xca, 0xca, 0xb1], &[]),
+    (&[153, 0xca, 0xca, 0xb1], &[]),
+    (&[169, 0xca, 0xb1], &[]),
+    (&[187, 0xca, 0xca, 0xb1], &[]),
+    (&[188, 0xca, 0xb1], &[]),
+    (&[189, 0xca, 0xca, 0xb1], &[]),
+    (&[192, 0xca, 0xca, 0xb1], &[]),
+    (&[197, 0xca, 0xca, 0xca, 0xb1], &[]),
+    (&[200, 0xca, 0xca, 0xca, 0xca, 0xb1], &[]),
+    (&[], &[]),
+    (
+        &[0xb6, 0, 2, 0xb7, 0, 2, 0xb8, 0, 2, 0xb1],
+        &[(0, Kind::Virtual), (3, Kind::Special), (6, Kind::Static)],
+    ),
+    // Behind each instruction of a length of its own.
+    (
+        &[
+            0, 16, 0xca, 17, 0xca, 0xca, 197, 0xca, 0xca, 0xca, 200, 0xca, 0xca, 0xca, 0xca, 0xb8,
+            0, 2, 0xb1,
+        ],
+        &[(15, Kind::Static)],
+    ),
+    // Behind iinc with wide, and behind iload.
+    (
+        &[0xc4, 0x84, 0, 1, 0xff, 0xff, 0xb8, 0, 2, 0xb1],
+        &[(6, Kind::Static)],
+    ),
+    (&[0xc4, 0x15, 0, 1, 0xb8, 0, 2, 0xb1], &[(4, Kind::Static)]),
+    // tableswitch at 1 with two bytes of padding, at 3 with none, and from -1 to 1 with three that aren't 0.
+    (
+        &[
+            0, 0xaa, 0, 0, 0, 0, 0, 0x13, 0, 0, 0, 0, 0, 0, 0, 0, 0, 0, 0, 0x13, 0xb8, 0, 2, 0xb1,
+        ],
+        &[(20, Kind::Static)],
+    ),
+    (
+        &[
+            0, 0, 0, 0xaa, 0, 0, 0, 0x11, 0, 0, 0, 0, 0, 0, 0, 0, 0, 0, 0, 0x11, 0xb8, 0, 2, 0xb1,
+        ],
+        &[(20, Kind::Static)],
+    ),
+    (
+        &[
+            0xaa, 1, 2, 3, 0, 0, 0, 0, 0xff, 0xff, 0xff, 0xff, 0, 0, 0, 1, 0xca, 0, 0, 0, 0xca, 0,
+            0, 0, 0xca, 0, 0, 0, 0xb8, 0, 2, 0xb1,
+        ],
+        &[(28, Kind::Static)],
+    ),
+    // lookupswitch of no pair and of one at 0, and of one at 2 with one byte of padding.
+    (
+        &[0xab, 0, 0, 0, 0, 0, 0, 0xc, 0, 0, 0, 0, 0xb8, 0, 2, 0xb1],
+        &[(12, Kind::Static)],
+    ),
+    (
+        &[
+            0xab, 0, 0, 0, 0, 0, 0, 0x14, 0, 0, 0, 1, 0xca, 0, 0, 7, 0, 0, 0, 0x14, 0xb8, 0, 2,
+            0xb1,
+        ],
+        &[(20, Kind::Static)],
+    ),
+    (
+        &[
+            0, 0, 0xab, 0xff, 0, 0, 0, 0x12, 0, 0, 0, 1, 0xca, 0, 0, 7, 0, 0, 0, 0x12, 0xb8, 0, 2,
+            0xb1,
+        ],
+        &[(20, Kind::Static)],
+    ),
+];
 
 #[test]
-fn lengths(rt: HostRuntime) -> Result<(), Fail> {
-    let codes: [&[u8]; 13] = [
-        &[16, 0xca, 0xb1],
-        &[17, 0xca, 0xca, 0xb1],
-        &[18, 0xca, 0xb1],
-        &[132, 0xca, 0xca, 0xb1],
-        &[153, 0xca, 0xca, 0xb1],
-        &[169, 0xca, 0xb1],
-        &[187, 0xca, 0xca, 0xb1],
-        &[188, 0xca, 0xb1],
-        &[189, 0xca, 0xca, 0xb1],
-        &[192, 0xca, 0xca, 0xb1],
-        &[197, 0xca, 0xca, 0xca, 0xb1],
-        &[200, 0xca, 0xca, 0xca, 0xca, 0xb1],
-        &[],
-    ];
-    for code in codes {
-        assert!(rt; invokes(rt.alloc(), code, &[]), "{code:?}");
-    }
-    Ok(())
-}
-
-#[test]
-fn invocations(rt: HostRuntime) -> Result<(), Fail> {
-    let rows: [(&[u8], &[(u16, Kind)]); 4] = [
-        (
-            &[0xb6, 0, 2, 0xb7, 0, 2, 0xb8, 0, 2, 0xb1],
-            &[(0, Kind::Virtual), (3, Kind::Special), (6, Kind::Static)],
-        ),
-        // Behind each instruction of a length of its own.
-        (
-            &[
-                0, 16, 0xca, 17, 0xca, 0xca, 197, 0xca, 0xca, 0xca, 200, 0xca, 0xca, 0xca, 0xca,
-                0xb8, 0, 2, 0xb1,
-            ],
-            &[(15, Kind::Static)],
-        ),
-        // Behind iinc with wide, and behind iload.
-        (
-            &[0xc4, 0x84, 0, 1, 0xff, 0xff, 0xb8, 0, 2, 0xb1],
-            &[(6, Kind::Static)],
-        ),
-        (&[0xc4, 0x15, 0, 1, 0xb8, 0, 2, 0xb1], &[(4, Kind::Static)]),
-    ];
-    for (code, expected) in rows {
+fn invocations(rt: HostRuntime) {
+    for (code, expected) in INVOCATIONS {
         assert!(rt; invokes(rt.alloc(), code, expected), "{code:?}");
     }
-    Ok(())
 }
 
-#[test]
-fn switches(rt: HostRuntime) -> Result<(), Fail> {
-    let rows: [(&[u8], u16); 6] = [
-        // tableswitch at 1 with two bytes of padding, at 3 with none, and from -1 to 1 with three that aren't 0.
-        (
-            &[
-                0, 0xaa, 0, 0, 0, 0, 0, 0x13, 0, 0, 0, 0, 0, 0, 0, 0, 0, 0, 0, 0x13, 0xb8, 0, 2,
-                0xb1,
-            ],
-            20,
-        ),
-        (
-            &[
-                0, 0, 0, 0xaa, 0, 0, 0, 0x11, 0, 0, 0, 0, 0, 0, 0, 0, 0, 0, 0, 0x11, 0xb8, 0, 2,
-                0xb1,
-            ],
-            20,
-        ),
-        (
-            &[
-                0xaa, 1, 2, 3, 0, 0, 0, 0, 0xff, 0xff, 0xff, 0xff, 0, 0, 0, 1, 0xca, 0, 0, 0, 0xca,
-                0, 0, 0, 0xca, 0, 0, 0, 0xb8, 0, 2, 0xb1,
-            ],
-            28,
-        ),
-        // lookupswitch of no pair and of one at 0, and of one at 2 with one byte of padding.
-        (
-            &[0xab, 0, 0, 0, 0, 0, 0, 0xc, 0, 0, 0, 0, 0xb8, 0, 2, 0xb1],
-            12,
-        ),
-        (
-            &[
-                0xab, 0, 0, 0, 0, 0, 0, 0x14, 0, 0, 0, 1, 0xca, 0, 0, 7, 0, 0, 0, 0x14, 0xb8, 0, 2,
-                0xb1,
-            ],
-            20,
-        ),
-        (
-            &[
-                0, 0, 0xab, 0xff, 0, 0, 0, 0x12, 0, 0, 0, 1, 0xca, 0, 0, 7, 0, 0, 0, 0x12, 0xb8, 0,
-                2, 0xb1,
-            ],
-            20,
-        ),
-    ];
-    for (code, pc) in rows {
-        assert!(rt;
-            invokes(rt.alloc(), code, &[(pc, Kind::Static)]),
-            "{code:?}"
-        );
+/// Whether the code has the fault.
+fn has_fault(alloc: Global, code: &[u8], fault: CodeFault) -> bool {
+    match sites_of(alloc, code) {
+        Some(Err(found)) => found == fault,
+        _ => false,
     }
-    Ok(())
 }
 
-#[test]
-fn unknown_opcodes(rt: HostRuntime) -> Result<(), Fail> {
-    let rows: [(&[u8], u16); 5] = [
-        (&[0xca], 0),
-        (&[0, 0xff, 0xb1], 1),
-        // wide before nop, also where more bytes follow, and before tableswitch.
-        (&[0xc4, 0], 0),
-        (&[0, 0xc4, 0, 0, 0], 1),
-        (&[0xc4, 0xaa, 0, 0], 0),
-    ];
-    for (code, pc) in rows {
-        assert_eq!(rt;
-            fault_of(rt.alloc(), code),
-            Some(CodeFault::BadOpcode(pc)),
-            "{code:?}"
-        );
-    }
-    Ok(())
-}
-
-#[test]
-fn cut_codes(rt: HostRuntime) -> Result<(), Fail> {
-    let rows: [(&[u8], u16); 10] = [
-        (&[0xc4], 0),
-        (&[0xc4, 0x84, 0, 1, 0xff], 0),
-        (&[0xb8, 0], 0),
-        // Before what is wrong with the operand.
-        (&[0xb9, 0, 2, 1], 0),
-        // Within the offsets of a tableswitch at 1 and at 3, and of one from the least to the greatest number.
-        (
-            &[0, 0xaa, 0, 0, 0, 0, 0, 0x13, 0, 0, 0, 0, 0, 0, 0, 0, 0, 0],
-            1,
-        ),
-        (
-            &[0, 0, 0, 0xaa, 0, 0, 0, 0x11, 0, 0, 0, 0, 0, 0, 0, 0, 0, 0],
-            3,
-        ),
-        (
-            &[
-                0xaa, 0, 0, 0, 0, 0, 0, 0, 0x80, 0, 0, 0, 0x7f, 0xff, 0xff, 0xff, 0, 0, 0, 0,
-            ],
-            0,
-        ),
-        // Within the numbers of a tableswitch, and those of a lookupswitch.
-        (&[0xaa, 0, 0, 0, 0, 0, 0, 0, 0, 0, 0, 1, 0, 0, 0], 0),
-        (&[0xab, 0, 0, 0, 0, 0, 0, 0, 0xff, 0xff, 0xff], 0),
-        // Within the pairs of a lookupswitch.
-        (
-            &[0xab, 0, 0, 0, 0, 0, 0, 0, 0, 0, 0, 1, 0, 0, 0, 0, 0, 0, 0],
-            0,
-        ),
-    ];
-    for (code, pc) in rows {
-        assert_eq!(rt;
-            fault_of(rt.alloc(), code),
-            Some(CodeFault::CutShort(pc)),
-            "{code:?}"
-        );
-    }
-    Ok(())
-}
-
-#[test]
-fn bad_switches(rt: HostRuntime) -> Result<(), Fail> {
-    let rows: [(&[u8], u16); 4] = [
-        // From 1 to 0, and from 0 to -1.
-        (&[0xaa, 0, 0, 0, 0, 0, 0, 0, 0, 0, 0, 1, 0, 0, 0, 0], 0),
-        (
-            &[
-                0, 0xaa, 0, 0, 0, 0, 0, 0, 0, 0, 0, 0, 0xff, 0xff, 0xff, 0xff, 0xb1,
-            ],
-            1,
-        ),
-        // -1 pairs, also where the bytes end there.
-        (
-            &[
-                0xab, 0, 0, 0, 0, 0, 0, 0, 0xff, 0xff, 0xff, 0xff, 0, 0, 0, 0, 0xb1,
-            ],
-            0,
-        ),
-        (&[0xab, 0, 0, 0, 0, 0, 0, 0, 0xff, 0xff, 0xff, 0xff], 0),
-    ];
-    for (code, pc) in rows {
-        assert_eq!(rt;
-            fault_of(rt.alloc(), code),
-            Some(CodeFault::BadSwitch(pc)),
-            "{code:?}"
-        );
-    }
-    Ok(())
-}
-
-#[test]
-fn bad_operands(rt: HostRuntime) -> Result<(), Fail> {
+/// Codes, and their faults.
+const FAULTS: [(&[u8], CodeFault); 23] = [
+    (&[0xca], CodeFault::BadOpcode(0)),
+    (&[0, 0xff, 0xb1], CodeFault::BadOpcode(1)),
+    // wide before nop, also where more bytes follow, and before tableswitch.
+    (&[0xc4, 0], CodeFault::BadOpcode(0)),
+    (&[0, 0xc4, 0, 0, 0], CodeFault::BadOpcode(1)),
+    (&[0xc4, 0xaa, 0, 0], CodeFault::BadOpcode(0)),
+    (&[0xc4], CodeFault::CutShort(0)),
+    (&[0xc4, 0x84, 0, 1, 0xff], CodeFault::CutShort(0)),
+    (&[0xb8, 0], CodeFault::CutShort(0)),
+    // Before what is wrong with the operand.
+    (&[0xb9, 0, 2, 1], CodeFault::CutShort(0)),
+    // Within the offsets of a tableswitch at 1 and at 3, and of one from the least to the greatest number.
+    (
+        &[0, 0xaa, 0, 0, 0, 0, 0, 0x13, 0, 0, 0, 0, 0, 0, 0, 0, 0, 0],
+        CodeFault::CutShort(1),
+    ),
+    (
+        &[0, 0, 0, 0xaa, 0, 0, 0, 0x11, 0, 0, 0, 0, 0, 0, 0, 0, 0, 0],
+        CodeFault::CutShort(3),
+    ),
+    (
+        &[
+            0xaa, 0, 0, 0, 0, 0, 0, 0, 0x80, 0, 0, 0, 0x7f, 0xff, 0xff, 0xff, 0, 0, 0, 0,
+        ],
+        CodeFault::CutShort(0),
+    ),
+    // Within the numbers of a tableswitch, and those of a lookupswitch.
+    (
+        &[0xaa, 0, 0, 0, 0, 0, 0, 0, 0, 0, 0, 1, 0, 0, 0],
+        CodeFault::CutShort(0),
+    ),
+    (
+        &[0xab, 0, 0, 0, 0, 0, 0, 0, 0xff, 0xff, 0xff],
+        CodeFault::CutShort(0),
+    ),
+    // Within the pairs of a lookupswitch.
+    (
+        &[0xab, 0, 0, 0, 0, 0, 0, 0, 0, 0, 0, 1, 0, 0, 0, 0, 0, 0, 0],
+        CodeFault::CutShort(0),
+    ),
+    // From 1 to 0, and from 0 to -1.
+    (
+        &[0xaa, 0, 0, 0, 0, 0, 0, 0, 0, 0, 0, 1, 0, 0, 0, 0],
+        CodeFault::BadSwitch(0),
+    ),
+    (
+        &[
+            0, 0xaa, 0, 0, 0, 0, 0, 0, 0, 0, 0, 0, 0xff, 0xff, 0xff, 0xff, 0xb1,
+        ],
+        CodeFault::BadSwitch(1),
+    ),
+    // -1 pairs, also where the bytes end there.
+    (
+        &[
+            0xab, 0, 0, 0, 0, 0, 0, 0, 0xff, 0xff, 0xff, 0xff, 0, 0, 0, 0, 0xb1,
+        ],
+        CodeFault::BadSwitch(0),
+    ),
+    (
+        &[0xab, 0, 0, 0, 0, 0, 0, 0, 0xff, 0xff, 0xff, 0xff],
+        CodeFault::BadSwitch(0),
+    ),
     // A Methodref where an InterfaceMethodref or an InvokeDynamic belongs, a Class, and no entry.
-    let codes: [&[u8]; 4] = [
-        &[0xb9, 0, 2, 1, 0],
-        &[0xba, 0, 2, 0, 0],
-        &[0xb7, 0, 3],
-        &[0xb6, 0, 9],
-    ];
-    for code in codes {
-        assert_eq!(rt;
-            fault_of(rt.alloc(), code),
-            Some(CodeFault::BadOperand(0)),
-            "{code:?}"
-        );
+    (&[0xb9, 0, 2, 1, 0], CodeFault::BadOperand(0)),
+    (&[0xba, 0, 2, 0, 0], CodeFault::BadOperand(0)),
+    (&[0xb7, 0, 3], CodeFault::BadOperand(0)),
+    (&[0xb6, 0, 9], CodeFault::BadOperand(0)),
+];
+
+#[test]
+fn faults(rt: HostRuntime) {
+    for (code, fault) in FAULTS {
+        assert!(rt; has_fault(rt.alloc(), code, fault), "{code:?}");
     }
-    Ok(())
 }
 
 #[test]

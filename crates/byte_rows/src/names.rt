@@ -10,75 +10,96 @@ use std::alloc::{AllocError, Global};
 use std::hash::{DefaultHasher, Hash, Hasher};
 use std::test::Fail;
 
-#[test]
-fn units(rt: HostRuntime) -> Result<(), Fail> {
-    let faults: [(&[u8], NameFault); 7] = [
-        (&[0x00], NameFault::BadByte(0)),
-        (&[0xf0, 0x9f, 0x98, 0x80], NameFault::BadByte(0)),
-        (&[0x41, 0xc1, 0x81], NameFault::BadByte(1)),
-        (&[0x41, 0xe1, 0x41, 0x80], NameFault::BadByte(1)),
-        (&[0x41, 0xc3, 0x41, 0x00, 0xc3], NameFault::BadByte(1)),
-        (&[0xc3], NameFault::Truncated),
-        (&[0xe0, 0x41], NameFault::Truncated),
-    ];
-    for (text, fault) in faults {
-        assert_eq!(rt;
-            decode_mutf8(rt.alloc(), text).err(),
-            Some(fault),
-            "{text:?}"
-        );
-        assert!(rt; !is_text(text), "{text:?}");
+/// Bytes that are no modified UTF-8, and their faults.
+const BAD_TEXTS: [(&[u8], NameFault); 7] = [
+    (&[0x00], NameFault::BadByte(0)),
+    (&[0xf0, 0x9f, 0x98, 0x80], NameFault::BadByte(0)),
+    (&[0x41, 0xc1, 0x81], NameFault::BadByte(1)),
+    (&[0x41, 0xe1, 0x41, 0x80], NameFault::BadByte(1)),
+    (&[0x41, 0xc3, 0x41, 0x00, 0xc3], NameFault::BadByte(1)),
+    (&[0xc3], NameFault::Truncated),
+    (&[0xe0, 0x41], NameFault::Truncated),
+];
+
+/// Units, and the texts that they are written as.
+const TEXTS: [(&[u16], &[u8]); 3] = [
+    (&[], &[]),
+    (&[0xd83d, 0xde00], &[0xed, 0xa0, 0xbd, 0xed, 0xb8, 0x80]),
+    (
+        &[0, 0x41, 0x7ff, 0x800, 0xd83d, 0xde00],
+        &[
+            0xc0, 0x80, 0x41, 0xdf, 0xbf, 0xe0, 0xa0, 0x80, 0xed, 0xa0, 0xbd, 0xed, 0xb8, 0x80,
+        ],
+    ),
+];
+
+/// Whether the bytes are no text, and have this fault.
+fn is_bad_text(alloc: Global, text: &[u8], fault: NameFault) -> bool {
+    !is_text(text) && decode_mutf8(alloc, text).err() == Some(fault)
+}
+
+/// Whether the units are written as the text.
+fn encodes(alloc: Global, units: &[u16], text: &[u8]) -> bool {
+    match encode_mutf8(alloc, units) {
+        Ok(written) => written.as_slice() == text,
+        Err(_) => false,
     }
-    let texts: [(&[u16], &[u8]); 3] = [
-        (&[], &[]),
-        (&[0xd83d, 0xde00], &[0xed, 0xa0, 0xbd, 0xed, 0xb8, 0x80]),
-        (
-            &[0, 0x41, 0x7ff, 0x800, 0xd83d, 0xde00],
-            &[
-                0xc0, 0x80, 0x41, 0xdf, 0xbf, 0xe0, 0xa0, 0x80, 0xed, 0xa0, 0xbd, 0xed, 0xb8, 0x80,
-            ],
-        ),
-    ];
-    for (units, text) in texts {
-        assert_eq!(rt; encode_mutf8(rt.alloc(), units)?.as_slice(), text);
-        assert_eq!(rt; decode_mutf8(rt.alloc(), text)?.as_slice(), units);
-        assert!(rt; is_text(text), "{text:?}");
+}
+
+/// Whether the text is read as the units.
+fn decodes(alloc: Global, text: &[u8], units: &[u16]) -> bool {
+    match decode_mutf8(alloc, text) {
+        Ok(read) => read.as_slice() == units,
+        Err(_) => false,
     }
-    one_list_of_units();
-    no_fault_in_units();
-    Ok(())
 }
 
 #[test]
-fn names(rt: HostRuntime) -> Result<(), Fail> {
-    let class_names: [(&[u8], bool, bool); 11] = [
-        (b"java/lang/Object", true, false),
-        (b"<x(", true, true),
-        (b"a", true, true),
-        (b"a/b", true, false),
-        (b"", false, false),
-        (b"a//b", false, false),
-        (b"/a", false, false),
-        (b"a/", false, false),
-        (b"a.b", false, false),
-        (b"[I", false, false),
-        (b"a;", false, false),
-    ];
-    for (name, class, unqualified) in class_names {
+fn units(rt: HostRuntime) {
+    for (text, fault) in BAD_TEXTS {
+        assert!(rt; is_bad_text(rt.alloc(), text, fault), "{text:?}");
+    }
+    for (units, text) in TEXTS {
+        assert!(rt; is_text(text), "{text:?}");
+        assert!(rt; encodes(rt.alloc(), units, text), "{text:?}");
+        assert!(rt; decodes(rt.alloc(), text, units), "{text:?}");
+    }
+    one_list_of_units();
+    no_fault_in_units();
+}
+
+/// Names, and whether each is a class name, and an unqualified name.
+const CLASS_NAMES: [(&[u8], bool, bool); 11] = [
+    (b"java/lang/Object", true, false),
+    (b"<x(", true, true),
+    (b"a", true, true),
+    (b"a/b", true, false),
+    (b"", false, false),
+    (b"a//b", false, false),
+    (b"/a", false, false),
+    (b"a/", false, false),
+    (b"a.b", false, false),
+    (b"[I", false, false),
+    (b"a;", false, false),
+];
+
+/// Names, and their packages.
+const PACKAGES: [(&[u8], &[u8]); 3] = [
+    (b"java/lang/Object", b"java/lang"),
+    (b"A", b""),
+    (b"", b""),
+];
+
+#[test]
+fn names(rt: HostRuntime) {
+    for (name, class, unqualified) in CLASS_NAMES {
         assert_eq!(rt; is_class_name(name), class, "{name:?}");
         assert_eq!(rt; is_unqualified(name), unqualified, "{name:?}");
     }
-    let packages: [(&[u8], &[u8]); 3] = [
-        (b"java/lang/Object", b"java/lang"),
-        (b"A", b""),
-        (b"", b""),
-    ];
-    for (name, package) in packages {
+    for (name, package) in PACKAGES {
         assert_eq!(rt; package_of(name), package);
     }
-    let text = Text::of(b"A");
-    assert_eq!(rt; text.as_bytes(), b"A".as_slice());
-    Ok(())
+    assert_eq!(rt; Text::of(b"A").as_bytes(), b"A".as_slice());
 }
 
 /// The hash of a value.
@@ -88,87 +109,142 @@ fn hash_of<T: Hash>(value: &T) -> u64 {
     state.finish()
 }
 
-#[test]
-fn lists(rt: HostRuntime) -> Result<(), Fail> {
-    let run = Seq::of(b"run".to_vec(rt.alloc())?);
-    let again = run.try_map(rt.alloc(), |byte| Ok(*byte))?;
-    assert_eq!(rt; run, again);
-    assert_eq!(rt; hash_of(&run), hash_of(&again));
-    assert_eq!(rt; hash_of(&run), hash_of(&b"run".as_slice()));
-    let others: [&[u8]; 4] = [b"", b"ru", b"rub", b"runs"];
-    for other in others {
-        assert_ne!(rt; run, Seq::of(other.to_vec(rt.alloc())?), "{other:?}");
-    }
-    let failed = run.try_map(rt.alloc(), |byte| {
+/// What is not "run".
+const OTHERS: [&[u8]; 4] = [b"", b"ru", b"rub", b"runs"];
+
+/// A list of these bytes.
+fn list(alloc: Global, bytes: &[u8]) -> Result<Seq<u8>, AllocError> {
+    Ok(Seq::of(bytes.to_vec(alloc)?))
+}
+
+/// A copy of the list, made byte by byte.
+fn mapped(alloc: Global, bytes: &[u8]) -> Result<Seq<u8>, AllocError> {
+    list(alloc, bytes)?.try_map(alloc, |byte| Ok(*byte))
+}
+
+/// What comes of a copy that fails at the byte u.
+fn mapped_to_u(alloc: Global, bytes: &[u8]) -> Result<Seq<u8>, AllocError> {
+    list(alloc, bytes)?.try_map(alloc, |byte| {
         if *byte == b'u' {
             return Err(AllocError);
         }
         Ok(*byte)
-    });
-    assert!(rt; failed.is_err());
+    })
+}
+
+#[test]
+fn lists(rt: HostRuntime) -> Result<(), Fail> {
+    let run = list(rt.alloc(), b"run")?;
+    assert_eq!(rt; hash_of(&run), hash_of(&b"run".as_slice()));
+    let again = mapped(rt.alloc(), b"run")?;
+    assert_eq!(rt; run, again);
+    assert_eq!(rt; hash_of(&run), hash_of(&again));
+    for other in OTHERS {
+        assert_ne!(rt; run, list(rt.alloc(), other)?, "{other:?}");
+    }
+    assert!(rt; mapped_to_u(rt.alloc(), b"r").is_ok());
+    assert!(rt; mapped_to_u(rt.alloc(), b"run").is_err());
     Ok(())
+}
+
+/// Whether a name of the bytes is another than this one.
+fn is_other(alloc: Global, name: &Name, bytes: &[u8]) -> bool {
+    match Name::copied(alloc, bytes) {
+        Ok(other) => *name != other,
+        Err(_) => false,
+    }
+}
+
+/// Whether the copy of this name, which has these bytes, is equal to it.
+fn is_copied(alloc: Global, name: &Name, bytes: &[u8]) -> bool {
+    match name.copy(alloc) {
+        Ok(copy) => copy == *name && copy.as_slice() == bytes,
+        Err(_) => false,
+    }
+}
+
+/// The first byte of a block, its second, and the rest, as names.
+fn cut_names(alloc: Global) -> Result<(Name, Name, Name), AllocError> {
+    let mut block = Name::of(b"Af()V".to_vec(alloc)?)?;
+    let first = block.split_to(1)?;
+    let second = block.split_to(1)?;
+    Ok((first, second, block))
+}
+
+/// The copy of a name that is let go.
+fn copy_alone(alloc: Global) -> Result<Name, AllocError> {
+    Name::copied(alloc, b"run")?.copy(alloc)
 }
 
 #[test]
 fn kept_names(rt: HostRuntime) -> Result<(), Fail> {
     let run = Name::copied(rt.alloc(), b"run")?;
     assert_eq!(rt; run.as_slice(), b"run".as_slice());
-    assert_eq!(rt; run, run.copy(rt.alloc())?);
+    assert!(rt; is_copied(rt.alloc(), &run, b"run"));
     assert_eq!(rt; hash_of(&run), hash_of(&b"run".as_slice()));
-    let others: [&[u8]; 4] = [b"", b"ru", b"rub", b"runs"];
-    for other in others {
-        assert_ne!(rt; run, Name::copied(rt.alloc(), other)?, "{other:?}");
+    for other in OTHERS {
+        assert!(rt; is_other(rt.alloc(), &run, other), "{other:?}");
     }
-    Ok(())
-}
-
-#[test]
-fn cut_names(rt: HostRuntime) -> Result<(), Fail> {
-    let mut block = Name::of(b"Af()V".to_vec(rt.alloc())?)?;
-    let first = block.split_to(1)?;
-    let second = block.split_to(1)?;
-    assert_eq!(rt; first.as_slice(), b"A".as_slice());
-    assert_eq!(rt; second.as_slice(), b"f".as_slice());
-    assert_eq!(rt; block.as_slice(), b"()V".as_slice());
-    Ok(())
-}
-
-#[test]
-fn copy_outlives_its_name(rt: HostRuntime) -> Result<(), Fail> {
-    let name = Name::copied(rt.alloc(), b"run")?;
-    let copy = name.copy(rt.alloc())?;
-    drop(name);
+    let copy = copy_alone(rt.alloc())?;
     assert_eq!(rt; copy.as_slice(), b"run".as_slice());
     Ok(())
 }
 
 #[test]
-fn field_descriptors(rt: HostRuntime) -> Result<(), Fail> {
-    let faults: [(&[u8], usize); 6] = [
-        (b"L;", 1),
-        (b"La//b;", 3),
-        (b"La.b;", 2),
-        (b"[V", 1),
-        (b"", 0),
-        (b"II", 1),
-    ];
-    for (text, at) in faults {
-        let fault = FieldType::parse(text).err();
-        assert_eq!(rt; fault, Some(NameFault::BadDescriptor(at)), "{text:?}");
+fn shared_names(rt: HostRuntime) -> Result<(), Fail> {
+    let (first, second, rest) = cut_names(rt.alloc())?;
+    assert_eq!(rt; first.as_slice(), b"A".as_slice());
+    assert_eq!(rt; second.as_slice(), b"f".as_slice());
+    assert_eq!(rt; rest.as_slice(), b"()V".as_slice());
+    Ok(())
+}
+
+/// Texts that are no field descriptors, and where.
+const BAD_FIELDS: [(&[u8], usize); 6] = [
+    (b"L;", 1),
+    (b"La//b;", 3),
+    (b"La.b;", 2),
+    (b"[V", 1),
+    (b"", 0),
+    (b"II", 1),
+];
+
+/// Whether the text is no field descriptor from here on.
+fn is_bad_field(text: &[u8], at: usize) -> bool {
+    FieldType::parse(text).err() == Some(NameFault::BadDescriptor(at))
+}
+
+/// Whether the text is an array of so many dimensions of the class.
+fn is_array_of(text: &[u8], dimensions: u8, class: &[u8]) -> bool {
+    match FieldType::parse(text) {
+        Ok(ty) => {
+            ty.dimensions == dimensions
+                && matches!(ty.element, Element::Class(name) if name.as_bytes() == class)
+        }
+        Err(_) => false,
     }
-    let names = FieldType::parse(b"[[Ljava/lang/String;")?;
-    assert_eq!(rt; names.dimensions, 2);
-    let string = b"java/lang/String".as_slice();
-    assert!(rt; matches!(names.element, Element::Class(name) if name.as_bytes() == string));
-    let mut most = vec![in rt.alloc(); b'['; 255]?;
-    most.push(b'I')?;
-    assert_eq!(rt; FieldType::parse(&most)?.dimensions, 255);
-    most.insert(0, b'[')?;
-    let over = FieldType::parse(&most).err();
-    assert_eq!(rt; over, Some(NameFault::BadDescriptor(255)));
+}
+
+/// The dimensions that an array of ints has, made with so many.
+fn dimensions(alloc: Global, count: usize) -> Result<u8, NameFault> {
+    let mut text = vec![in alloc; b'['; count]?;
+    text.push(b'I')?;
+    Ok(FieldType::parse(&text)?.dimensions)
+}
+
+#[test]
+fn field_descriptors(rt: HostRuntime) {
+    for (text, at) in BAD_FIELDS {
+        assert!(rt; is_bad_field(text, at), "{text:?}");
+    }
+    assert!(rt; is_array_of(b"[[Ljava/lang/String;", 2, b"java/lang/String"));
+    assert_eq!(rt; dimensions(rt.alloc(), 255), Ok(255));
+    assert_eq!(rt;
+        dimensions(rt.alloc(), 256),
+        Err(NameFault::BadDescriptor(255))
+    );
     one_field_type();
     no_fault_in_field_descriptors();
-    Ok(())
 }
 
 /// A method descriptor with this many parameters of one letter.
@@ -181,61 +257,93 @@ fn with_parameters(alloc: Global, letter: u8, count: usize) -> Result<Vec<u8>, A
     Ok(text)
 }
 
+/// The slots of the method descriptor.
+fn slots_of(alloc: Global, text: &[u8]) -> Result<u8, NameFault> {
+    Ok(MethodType::parse(alloc, text)?.slots())
+}
+
+/// Whether the text is a method descriptor of so many slots, or has this fault.
+fn has_slots(alloc: Global, text: &[u8], expected: Result<u8, NameFault>) -> bool {
+    slots_of(alloc, text) == expected && method_slots(text) == expected.ok()
+}
+
+/// Whether a method descriptor with this many parameters of one letter has so many slots, or this fault.
+fn have_slots(alloc: Global, letter: u8, count: usize, expected: Result<u8, NameFault>) -> bool {
+    match with_parameters(alloc, letter, count) {
+        Ok(text) => has_slots(alloc, &text, expected),
+        Err(_) => false,
+    }
+}
+
+/// Texts, and the slots of the method descriptor, or its fault.
+const METHODS: [(&[u8], Result<u8, NameFault>); 7] = [
+    (b"()", Err(NameFault::BadDescriptor(2))),
+    (b"(V)V", Err(NameFault::BadDescriptor(1))),
+    (b"()Vx", Err(NameFault::BadDescriptor(3))),
+    (b"I", Err(NameFault::BadDescriptor(0))),
+    (b"", Err(NameFault::BadDescriptor(0))),
+    (b"(IJ[Ljava/lang/String", Err(NameFault::BadDescriptor(21))),
+    (b"(IJ[Ljava/lang/String;)V", Ok(4)),
+];
+
+/// Letters, so many parameters of them, and the slots of these, or the fault.
+const PARAMETERS: [(u8, usize, Result<u8, NameFault>); 5] = [
+    (b'I', 255, Ok(255)),
+    (b'J', 127, Ok(254)),
+    (b'I', 0, Ok(0)),
+    (b'I', 256, Err(NameFault::TooManySlots)),
+    (b'J', 128, Err(NameFault::TooManySlots)),
+];
+
 #[test]
-fn method_descriptors(rt: HostRuntime) -> Result<(), Fail> {
-    let faults: [(&[u8], usize); 6] = [
-        (b"()", 2),
-        (b"(V)V", 1),
-        (b"()Vx", 3),
-        (b"I", 0),
-        (b"", 0),
-        (b"(IJ[Ljava/lang/String", 21),
-    ];
-    for (text, at) in faults {
-        let fault = MethodType::parse(rt.alloc(), text).err();
-        assert_eq!(rt; fault, Some(NameFault::BadDescriptor(at)), "{text:?}");
-        assert_eq!(rt; method_slots(text), None, "{text:?}");
+fn method_descriptors(rt: HostRuntime) {
+    for (text, expected) in METHODS {
+        assert!(rt; has_slots(rt.alloc(), text, expected), "{text:?}");
     }
-    let four = b"(IJ[Ljava/lang/String;)V";
-    assert_eq!(rt; MethodType::parse(rt.alloc(), four)?.slots(), 4);
-    assert_eq!(rt; method_slots(four), Some(4));
-    for (letter, count, slots) in [(b'I', 255, 255), (b'J', 127, 254), (b'I', 0, 0)] {
-        let text = with_parameters(rt.alloc(), letter, count)?;
-        assert_eq!(rt; MethodType::parse(rt.alloc(), &text)?.slots(), slots);
-        assert_eq!(rt; method_slots(&text), Some(slots));
-    }
-    for (letter, count) in [(b'I', 256), (b'J', 128)] {
-        let text = with_parameters(rt.alloc(), letter, count)?;
-        let fault = MethodType::parse(rt.alloc(), &text).err();
-        assert_eq!(rt; fault, Some(NameFault::TooManySlots));
-        assert_eq!(rt; method_slots(&text), None);
+    for (letter, count, expected) in PARAMETERS {
+        assert!(rt;
+            have_slots(rt.alloc(), letter, count, expected),
+            "{letter} {count}"
+        );
     }
     one_method_type();
     no_fault_in_method_descriptors();
-    Ok(())
+}
+
+/// Texts under their numbers.
+const NUMBERED: [Option<&[u8]>; 5] = [None, Some(b"a"), Some(b"()V"), Some(b"()I"), Some(b"a")];
+
+/// Pairs of numbers, and the first that repeats an earlier one.
+const PAIRS: [(&[(u16, u16)], Option<usize>); 7] = [
+    (&[], None),
+    (&[(1, 2), (1, 3), (2, 1)], None),
+    (&[(1, 2), (4, 2)], Some(1)),
+    (&[(1, 2), (1, 3), (4, 2)], Some(2)),
+    (&[(1, 2), (3, 3), (1, 2), (3, 3), (4, 2)], Some(2)),
+    (&[(0, 2), (0, 2), (2, 0), (2, 0)], None),
+    (&[(1, 5), (1, 5), (65_535, 2), (65_535, 2)], None),
+];
+
+/// Whether this is the first pair of texts that repeats an earlier one.
+fn is_repeat(
+    alloc: Global,
+    texts: &[Option<&[u8]>],
+    pairs: &[(u16, u16)],
+    expected: Option<usize>,
+) -> bool {
+    match first_repeat(alloc, texts, pairs) {
+        Ok(found) => found == expected,
+        Err(_) => false,
+    }
 }
 
 #[test]
-fn repeats(rt: HostRuntime) -> Result<(), Fail> {
-    let texts: [Option<&[u8]>; 5] = [None, Some(b"a"), Some(b"()V"), Some(b"()I"), Some(b"a")];
-    let rows: [(&[(u16, u16)], Option<usize>); 7] = [
-        (&[], None),
-        (&[(1, 2), (1, 3), (2, 1)], None),
-        (&[(1, 2), (4, 2)], Some(1)),
-        (&[(1, 2), (1, 3), (4, 2)], Some(2)),
-        (&[(1, 2), (3, 3), (1, 2), (3, 3), (4, 2)], Some(2)),
-        (&[(0, 2), (0, 2), (2, 0), (2, 0)], None),
-        (&[(1, 5), (1, 5), (65_535, 2), (65_535, 2)], None),
-    ];
-    for (pairs, found) in rows {
-        assert_eq!(rt;
-            first_repeat(rt.alloc(), &texts, pairs)?,
-            found,
+fn repeats(rt: HostRuntime) {
+    for (pairs, expected) in PAIRS {
+        assert!(rt;
+            is_repeat(rt.alloc(), &NUMBERED, pairs, expected),
             "{pairs:?}"
         );
     }
-    let no_texts: [Option<&[u8]>; 0] = [];
-    let pairs = [(0, 0), (0, 0)];
-    assert_eq!(rt; first_repeat(rt.alloc(), &no_texts, &pairs)?, None);
-    Ok(())
+    assert!(rt; is_repeat(rt.alloc(), &[], &[(0, 0), (0, 0)], None));
 }

@@ -19,12 +19,6 @@ fn bytes_of(alloc: Global, count: u8, entries: &[&[u8]]) -> Result<Vec<u8>, Allo
     Ok(bytes)
 }
 
-/// The fault of such a pool.
-fn fault_of(alloc: Global, count: u8, entries: &[&[u8]]) -> Result<Option<PoolFault>, AllocError> {
-    let bytes = bytes_of(alloc, count, entries)?;
-    Ok(Pool::read(alloc, &bytes).err())
-}
-
 /// Each tag at least once: 26 numbers, 110 bytes with the count.
 const EACH_TAG: [&[u8]; 23] = [
     b"\x01\x00\x01A",
@@ -54,109 +48,253 @@ const EACH_TAG: [&[u8]; 23] = [
     b"\x07\x00\x18",
 ];
 
+/// The tags of these entries, and 0 for a number that has none.
+const TAGS: [u8; 26] = [
+    0, 1, 7, 1, 1, 12, 10, 11, 1, 12, 9, 8, 3, 4, 5, 0, 6, 0, 15, 16, 17, 18, 19, 20, 1, 7,
+];
+
+/// The tag of the entry, and 0 for none.
+fn tag_of(entry: &Option<Constant<'_>>) -> u8 {
+    match entry {
+        Some(constant) => constant.tag(),
+        None => 0,
+    }
+}
+
+/// Whether the entries of these numbers hold the bits that stand in the bytes.
+fn have_bits(entries: &[Option<Constant<'_>>]) -> bool {
+    matches!(entries.get(12), Some(Some(Constant::Integer(42))))
+        && matches!(entries.get(13), Some(Some(Constant::Float(0x3f80_0000))))
+        && matches!(entries.get(14), Some(Some(Constant::Long(0x1_0000_0002))))
+        && matches!(
+            entries.get(16),
+            Some(Some(Constant::Double(0x3ff0_0000_0000_0000)))
+        )
+        && matches!(entries.get(18), Some(Some(Constant::MethodHandle(6, 6))))
+        && matches!(entries.get(20), Some(Some(Constant::Dynamic(5, 9))))
+}
+
 #[test]
-fn each_tag(rt: HostRuntime) -> Result<(), Fail> {
+fn entries(rt: HostRuntime) -> Result<(), Fail> {
     let mut bytes = bytes_of(rt.alloc(), 26, &EACH_TAG)?;
     assert_eq!(rt; bytes.len(), 110);
     // The byte behind isn't the pool's.
     bytes.push(0x01)?;
     let (pool, used) = Pool::read(rt.alloc(), &bytes)?;
     assert_eq!(rt; used, 110);
-    let tags = [
-        0, 1, 7, 1, 1, 12, 10, 11, 1, 12, 9, 8, 3, 4, 5, 0, 6, 0, 15, 16, 17, 18, 19, 20, 1, 7,
-    ];
-    assert_eq!(rt; pool.entries().len(), tags.len());
-    for (entry, tag) in pool.entries().iter().zip(tags) {
-        let found = match entry {
-            Some(constant) => constant.tag(),
-            None => 0,
-        };
-        assert_eq!(rt; found, tag);
+    assert_eq!(rt; pool.entries().len(), TAGS.len());
+    for (entry, tag) in pool.entries().iter().zip(TAGS) {
+        assert_eq!(rt; tag_of(entry), tag);
     }
+    assert!(rt; have_bits(pool.entries()));
     one_pool();
     no_fault_in_a_pool();
     Ok(())
 }
 
-#[test]
-fn bits(rt: HostRuntime) -> Result<(), Fail> {
-    let bytes = bytes_of(rt.alloc(), 26, &EACH_TAG)?;
-    let (pool, _) = Pool::read(rt.alloc(), &bytes)?;
-    let entries = pool.entries();
-    assert!(rt; matches!(entries.get(12), Some(Some(Constant::Integer(42)))));
-    assert!(rt; matches!(entries.get(13), Some(Some(Constant::Float(0x3f80_0000)))));
-    assert!(rt; matches!(entries.get(14), Some(Some(Constant::Long(0x1_0000_0002)))));
-    assert!(rt;
-        matches!(
-            entries.get(16),
-            Some(Some(Constant::Double(0x3ff0_0000_0000_0000)))
-        )
-    );
-    assert!(rt; matches!(entries.get(18), Some(Some(Constant::MethodHandle(6, 6)))));
-    assert!(rt; matches!(entries.get(20), Some(Some(Constant::Dynamic(5, 9)))));
-    Ok(())
+/// Numbers of these entries, and the Utf8, the text of the Class and the class name that each is.
+const TEXTS: [(u16, Option<&[u8]>, Option<&[u8]>, Option<&[u8]>); 8] = [
+    (1, Some(b"A"), None, None),
+    (2, None, Some(b"A"), Some(b"A")),
+    (24, Some(b"[I"), None, None),
+    // The class of an array has a text, and no class name.
+    (25, None, Some(b"[I"), None),
+    (11, None, None, None),
+    // Number 0, the second of a Long, and one past the end.
+    (0, None, None, None),
+    (15, None, None, None),
+    (26, None, None, None),
+];
+
+/// Whether the number is a Utf8 of this text, and of no other kind.
+fn has_utf8(pool: &Pool<'_>, number: u16, text: Option<&[u8]>) -> bool {
+    pool.utf8(number).map(|name| name.as_slice()) == text
+        && pool.form(number).is_some() == text.is_some()
+        && pool.has_tag(1, number) == text.is_some()
 }
 
-#[test]
-fn texts(rt: HostRuntime) -> Result<(), Fail> {
-    let bytes = bytes_of(rt.alloc(), 26, &EACH_TAG)?;
-    let (pool, _) = Pool::read(rt.alloc(), &bytes)?;
-    let rows: [(u16, Option<&[u8]>, Option<&[u8]>, Option<&[u8]>); 8] = [
-        (1, Some(b"A"), None, None),
-        (2, None, Some(b"A"), Some(b"A")),
-        (24, Some(b"[I"), None, None),
-        // The class of an array has a text, and no class name.
-        (25, None, Some(b"[I"), None),
-        (11, None, None, None),
-        // Number 0, the second of a Long, and one past the end.
-        (0, None, None, None),
-        (15, None, None, None),
-        (26, None, None, None),
-    ];
-    for (number, utf8, class_text, class_name) in rows {
-        let found = pool.utf8(number);
-        assert_eq!(rt; found.map(|name| name.as_slice()), utf8, "{number}");
-        let found = pool.class_text(number);
-        assert_eq!(rt; found.map(|name| name.as_slice()), class_text, "{number}");
-        let found = pool.class_name(number);
-        assert_eq!(rt; found.map(|name| name.as_slice()), class_name, "{number}");
-        assert_eq!(rt; pool.form(number).is_some(), utf8.is_some(), "{number}");
-        assert_eq!(rt; pool.has_tag(1, number), utf8.is_some(), "{number}");
-        assert_eq!(rt; pool.has_tag(7, number), class_text.is_some(), "{number}");
-    }
-    Ok(())
+/// Whether the number is a Class of this text and this class name.
+fn has_class(pool: &Pool<'_>, number: u16, text: Option<&[u8]>, name: Option<&[u8]>) -> bool {
+    pool.class_text(number).map(|name| name.as_slice()) == text
+        && pool.class_name(number).map(|name| name.as_slice()) == name
+        && pool.has_tag(7, number) == text.is_some()
 }
 
-#[test]
-fn references(rt: HostRuntime) -> Result<(), Fail> {
-    let bytes = bytes_of(rt.alloc(), 26, &EACH_TAG)?;
-    let (pool, _) = Pool::read(rt.alloc(), &bytes)?;
-    for (number, interface) in [(6, false), (7, true)] {
-        match pool.method_ref(number) {
-            Some(method) => {
-                assert_eq!(rt; method.itf, interface);
-                assert_eq!(rt; method.owner.as_slice(), b"A".as_slice());
-                assert_eq!(rt; method.name.as_slice(), b"f".as_slice());
-                assert_eq!(rt; method.ty.as_slice(), b"()V".as_slice());
-            }
-            None => assert!(rt; false, "{number}"),
+/// Whether the number is a method A.f:()V of a class, or of an interface.
+fn has_method(pool: &Pool<'_>, number: u16, interface: bool) -> bool {
+    match pool.method_ref(number) {
+        Some(method) => {
+            method.itf == interface
+                && method.owner.as_slice() == b"A".as_slice()
+                && method.name.as_slice() == b"f".as_slice()
+                && method.ty.as_slice() == b"()V".as_slice()
+                && pool.slots(number) == Some(0)
         }
-        assert_eq!(rt; pool.slots(number), Some(0));
+        None => false,
     }
-    match pool.dynamic(21) {
+}
+
+/// Whether the number is the call site f:()V of bootstrap method 7.
+fn has_call_site(pool: &Pool<'_>, number: u16) -> bool {
+    match pool.dynamic(number) {
         Some(site) => {
-            assert_eq!(rt; site.bootstrap, 7);
-            assert_eq!(rt; site.name.as_slice(), b"f".as_slice());
-            assert_eq!(rt; site.ty.as_slice(), b"()V".as_slice());
+            site.bootstrap == 7
+                && site.name.as_slice() == b"f".as_slice()
+                && site.ty.as_slice() == b"()V".as_slice()
         }
-        None => assert!(rt; false),
+        None => false,
     }
+}
+
+/// Whether the number is no method and no call site.
+fn has_none(pool: &Pool<'_>, number: u16) -> bool {
+    pool.method_ref(number).is_none()
+        && pool.dynamic(number).is_none()
+        && pool.slots(number).is_none()
+}
+
+#[test]
+fn texts_and_references(rt: HostRuntime) -> Result<(), Fail> {
+    let bytes = bytes_of(rt.alloc(), 26, &EACH_TAG)?;
+    let (pool, _) = Pool::read(rt.alloc(), &bytes)?;
+    for (number, utf8, class_text, class_name) in TEXTS {
+        assert!(rt; has_utf8(&pool, number, utf8), "{number}");
+        assert!(rt;
+            has_class(&pool, number, class_text, class_name),
+            "{number}"
+        );
+    }
+    assert!(rt; has_method(&pool, 6, false));
+    assert!(rt; has_method(&pool, 7, true));
+    assert!(rt; has_call_site(&pool, 21));
     for number in [0, 5, 10, 15, 20, 26] {
-        assert!(rt; pool.method_ref(number).is_none(), "{number}");
-        assert!(rt; pool.dynamic(number).is_none(), "{number}");
-        assert_eq!(rt; pool.slots(number), None, "{number}");
+        assert!(rt; has_none(&pool, number), "{number}");
     }
     Ok(())
+}
+
+/// Whether the pool of this count, of these entries and then this one, has this fault, or none.
+fn has_fault(
+    alloc: Global,
+    count: u8,
+    entries: &[&[u8]],
+    last: &[u8],
+    fault: Option<PoolFault>,
+) -> bool {
+    match bytes_with(alloc, count, entries, last) {
+        Ok(bytes) => Pool::read(alloc, &bytes).err() == fault,
+        Err(_) => false,
+    }
+}
+
+/// A pool of this count, of these entries and then this one.
+fn bytes_with(
+    alloc: Global,
+    count: u8,
+    entries: &[&[u8]],
+    last: &[u8],
+) -> Result<Vec<u8>, AllocError> {
+    let mut bytes = bytes_of(alloc, count, entries)?;
+    bytes.extend_from_slice(last)?;
+    Ok(bytes)
+}
+
+/// The count of a pool, the entries, and the fault.
+const POOLS: [(u8, &[&[u8]], Option<PoolFault>); 19] = [
+    // Bytes that are no tag.
+    (
+        2,
+        &[b"\x00\x00\x00\x00\x00\x00\x00\x00\x00"],
+        Some(PoolFault::BadTag(1)),
+    ),
+    (
+        2,
+        &[b"\x02\x00\x00\x00\x00\x00\x00\x00\x00"],
+        Some(PoolFault::BadTag(1)),
+    ),
+    (
+        2,
+        &[b"\x0d\x00\x00\x00\x00\x00\x00\x00\x00"],
+        Some(PoolFault::BadTag(1)),
+    ),
+    (
+        2,
+        &[b"\x0e\x00\x00\x00\x00\x00\x00\x00\x00"],
+        Some(PoolFault::BadTag(1)),
+    ),
+    (
+        2,
+        &[b"\x15\x00\x00\x00\x00\x00\x00\x00\x00"],
+        Some(PoolFault::BadTag(1)),
+    ),
+    (
+        2,
+        &[b"\xff\x00\x00\x00\x00\x00\x00\x00\x00"],
+        Some(PoolFault::BadTag(1)),
+    ),
+    // No room for number 0.
+    (0, &[], Some(PoolFault::BadTag(0))),
+    // A Long and a Double with room for two numbers, and in the last place, there with their bytes and without.
+    (3, &[b"\x05\x00\x00\x00\x00\x00\x00\x00\x00"], None),
+    (3, &[b"\x06\x00\x00\x00\x00\x00\x00\x00\x00"], None),
+    (
+        3,
+        &[b"\x01\x00\x01A", b"\x05\x00\x00\x00\x00\x00\x00\x00\x00"],
+        Some(PoolFault::BadTag(2)),
+    ),
+    (
+        3,
+        &[b"\x01\x00\x01A", b"\x06\x00\x00\x00\x00\x00\x00\x00\x00"],
+        Some(PoolFault::BadTag(2)),
+    ),
+    (3, &[b"\x01\x00\x01A", b"\x05"], Some(PoolFault::BadTag(2))),
+    (3, &[b"\x01\x00\x01A", b"\x06"], Some(PoolFault::BadTag(2))),
+    (4, &[b"\x01\x00\x01A", b"\x05"], Some(PoolFault::Truncated)),
+    (4, &[b"\x01\x00\x01A", b"\x06"], Some(PoolFault::Truncated)),
+    // Entry 6 names the second number of the Long at 4.
+    (
+        7,
+        &[
+            b"\x01\x00\x01A",
+            b"\x07\x00\x01",
+            b"\x01\x00\x03()V",
+            b"\x05\x00\x00\x00\x00\x00\x00\x00\x00",
+            b"\x0a\x00\x02\x00\x05",
+        ],
+        Some(PoolFault::BadIndex(6)),
+    ),
+    (2, &[b"\x01\x00\x01\x00"], Some(PoolFault::BadUtf8(1))),
+    // The text at 2 comes before the number at 1, and that before the descriptor at 3.
+    (
+        5,
+        &[
+            b"\x07\x00\x05",
+            b"\x01\x00\x01\x00",
+            b"\x10\x00\x04",
+            b"\x01\x00\x01I",
+        ],
+        Some(PoolFault::BadUtf8(2)),
+    ),
+    (
+        5,
+        &[
+            b"\x10\x00\x04",
+            b"\x01\x00\x01A",
+            b"\x07\x00\x05",
+            b"\x01\x00\x01I",
+        ],
+        Some(PoolFault::BadIndex(3)),
+    ),
+];
+
+#[test]
+fn faults(rt: HostRuntime) {
+    for (count, entries, fault) in POOLS {
+        assert!(rt;
+            has_fault(rt.alloc(), count, entries, &[], fault),
+            "{entries:?}"
+        );
+    }
 }
 
 /// What comes before the handles below: 9 is a Fieldref, 10 a Methodref and 11 an InterfaceMethodref.
@@ -174,172 +312,110 @@ const REFERENCES: [&[u8]; 11] = [
     b"\x0b\x00\x02\x00\x05",
 ];
 
+/// By its kind, what a method handle may refer to.
+const REFERRED: [&[u8]; 11] = [
+    &[],
+    &[9],
+    &[9],
+    &[9],
+    &[9],
+    &[10],
+    &[10, 11],
+    &[10, 11],
+    &[10],
+    &[11],
+    &[],
+];
+
+/// Whether a method handle of this kind may refer to this entry, or to no other place.
+fn is_handle(alloc: Global, kind: u8, reference: u8, good: bool) -> bool {
+    let fault = if good {
+        None
+    } else {
+        Some(PoolFault::BadIndex(12))
+    };
+    has_fault(
+        alloc,
+        13,
+        &REFERENCES,
+        &[0x0f, kind, 0x00, reference],
+        fault,
+    )
+}
+
 #[test]
-fn method_handles(rt: HostRuntime) -> Result<(), Fail> {
-    // By kind, what it may refer to.
-    let kinds: [&[u8]; 11] = [
-        &[],
-        &[9],
-        &[9],
-        &[9],
-        &[9],
-        &[10],
-        &[10, 11],
-        &[10, 11],
-        &[10],
-        &[11],
-        &[],
-    ];
+fn method_handles(rt: HostRuntime) {
     let mut kind = 0;
-    for good in kinds {
+    for good in REFERRED {
         for reference in [0, 2, 8, 9, 10, 11, 12, 13] {
-            let mut bytes = bytes_of(rt.alloc(), 13, &REFERENCES)?;
-            bytes.extend_from_slice(&[0x0f, kind, 0x00, reference])?;
-            let fault = if good.contains(&reference) {
-                None
-            } else {
-                Some(PoolFault::BadIndex(12))
-            };
-            assert_eq!(rt;
-                Pool::read(rt.alloc(), &bytes).err(),
-                fault,
+            assert!(rt;
+                is_handle(rt.alloc(), kind, reference, good.contains(&reference)),
                 "{kind} {reference}"
             );
         }
         kind = kind.saturating_add(1);
     }
-    Ok(())
 }
 
-#[test]
-fn tags(rt: HostRuntime) -> Result<(), Fail> {
-    for tag in [0, 2, 13, 14, 21, 255] {
-        let bytes = [0, 2, tag, 0, 0, 0, 0, 0, 0, 0, 0];
-        assert_eq!(rt;
-            Pool::read(rt.alloc(), &bytes).err(),
-            Some(PoolFault::BadTag(1)),
-            "{tag}"
-        );
-    }
-    let rows: [(&[u8], Option<PoolFault>); 9] = [
-        // No room for number 0.
-        (b"\x00\x00", Some(PoolFault::BadTag(0))),
-        // A Long and a Double with room for two numbers, and in the last place, there with their bytes and without.
-        (b"\x00\x03\x05\x00\x00\x00\x00\x00\x00\x00\x00", None),
-        (b"\x00\x03\x06\x00\x00\x00\x00\x00\x00\x00\x00", None),
-        (
-            b"\x00\x03\x01\x00\x01A\x05\x00\x00\x00\x00\x00\x00\x00\x00",
-            Some(PoolFault::BadTag(2)),
-        ),
-        (
-            b"\x00\x03\x01\x00\x01A\x06\x00\x00\x00\x00\x00\x00\x00\x00",
-            Some(PoolFault::BadTag(2)),
-        ),
-        (b"\x00\x03\x01\x00\x01A\x05", Some(PoolFault::BadTag(2))),
-        (b"\x00\x03\x01\x00\x01A\x06", Some(PoolFault::BadTag(2))),
-        (b"\x00\x04\x01\x00\x01A\x05", Some(PoolFault::Truncated)),
-        (b"\x00\x04\x01\x00\x01A\x06", Some(PoolFault::Truncated)),
-    ];
-    for (bytes, fault) in rows {
-        assert_eq!(rt; Pool::read(rt.alloc(), bytes).err(), fault, "{bytes:?}");
-    }
-    Ok(())
+/// Whether the bytes end too early for a pool.
+fn is_cut(alloc: Global, bytes: &[u8]) -> bool {
+    Pool::read(alloc, bytes).err() == Some(PoolFault::Truncated)
 }
 
 #[test]
 fn cut(rt: HostRuntime) -> Result<(), Fail> {
     let bytes = bytes_of(rt.alloc(), 26, &EACH_TAG)?;
-    for (len, _) in bytes.iter().enumerate() {
-        if let Some(front) = bytes.get(..len) {
-            assert_eq!(rt;
-                Pool::read(rt.alloc(), front).err(),
-                Some(PoolFault::Truncated),
-                "{len}"
-            );
-        }
+    for len in 0..bytes.len() {
+        assert!(rt; is_cut(rt.alloc(), &bytes[..len]), "{len}");
     }
     Ok(())
 }
 
-#[test]
-fn texts_and_links(rt: HostRuntime) -> Result<(), Fail> {
-    // Entry 6 names the second number of the Long at 4.
-    let beside: [&[u8]; 5] = [
-        b"\x01\x00\x01A",
-        b"\x07\x00\x01",
-        b"\x01\x00\x03()V",
-        b"\x05\x00\x00\x00\x00\x00\x00\x00\x00",
-        b"\x0a\x00\x02\x00\x05",
-    ];
-    assert_eq!(rt;
-        fault_of(rt.alloc(), 7, &beside)?,
-        Some(PoolFault::BadIndex(6))
-    );
-    assert_eq!(rt;
-        fault_of(rt.alloc(), 2, &[b"\x01\x00\x01\x00"])?,
-        Some(PoolFault::BadUtf8(1))
-    );
-    // The text at 2 comes before the number at 1, and that before the descriptor at 3.
-    let all: [&[u8]; 4] = [
-        b"\x07\x00\x05",
-        b"\x01\x00\x01\x00",
-        b"\x10\x00\x04",
-        b"\x01\x00\x01I",
-    ];
-    assert_eq!(rt; fault_of(rt.alloc(), 5, &all)?, Some(PoolFault::BadUtf8(2)));
-    let two: [&[u8]; 4] = [
-        b"\x10\x00\x04",
-        b"\x01\x00\x01A",
-        b"\x07\x00\x05",
-        b"\x01\x00\x01I",
-    ];
-    assert_eq!(rt;
-        fault_of(rt.alloc(), 5, &two)?,
-        Some(PoolFault::BadIndex(3))
-    );
-    Ok(())
+/// What comes before the constants below: 5 has a method's descriptor, and 7 a field's.
+const DESCRIPTORS: [&[u8]; 7] = [
+    b"\x01\x00\x01A",
+    b"\x07\x00\x01",
+    b"\x01\x00\x01f",
+    b"\x01\x00\x03()V",
+    b"\x0c\x00\x03\x00\x04",
+    b"\x01\x00\x01I",
+    b"\x0c\x00\x03\x00\x06",
+];
+
+/// Constants with a method's descriptor, at 5, and with a field's, at 7 or 6, and whether they may have it.
+const DESCRIBED: [(&[u8], bool); 14] = [
+    (b"\x10\x00\x04", true),
+    (b"\x10\x00\x06", false),
+    (b"\x11\x00\x00\x00\x05", false),
+    (b"\x11\x00\x00\x00\x07", true),
+    (b"\x12\x00\x00\x00\x05", true),
+    (b"\x12\x00\x00\x00\x07", false),
+    (b"\x09\x00\x02\x00\x05", false),
+    (b"\x09\x00\x02\x00\x07", true),
+    (b"\x0a\x00\x02\x00\x05", true),
+    (b"\x0a\x00\x02\x00\x07", false),
+    (b"\x0b\x00\x02\x00\x05", true),
+    (b"\x0b\x00\x02\x00\x07", false),
+    (b"\x0c\x00\x03\x00\x01", false),
+    // A class name may have any byte but four.
+    (b"\x07\x00\x04", true),
+];
+
+/// Whether the constant may have its descriptor or not, as is said.
+fn is_described(alloc: Global, entry: &[u8], good: bool) -> bool {
+    let fault = if good {
+        None
+    } else {
+        Some(PoolFault::BadDescriptor(8))
+    };
+    has_fault(alloc, 9, &DESCRIPTORS, entry, fault)
 }
 
 #[test]
-fn descriptors(rt: HostRuntime) -> Result<(), Fail> {
-    let common: [&[u8]; 7] = [
-        b"\x01\x00\x01A",
-        b"\x07\x00\x01",
-        b"\x01\x00\x01f",
-        b"\x01\x00\x03()V",
-        b"\x0c\x00\x03\x00\x04",
-        b"\x01\x00\x01I",
-        b"\x0c\x00\x03\x00\x06",
-    ];
-    // A constant with a method's descriptor, at 5, and with a field's, at 7 or 6.
-    let rows: [(&[u8], bool); 14] = [
-        (b"\x10\x00\x04", true),
-        (b"\x10\x00\x06", false),
-        (b"\x11\x00\x00\x00\x05", false),
-        (b"\x11\x00\x00\x00\x07", true),
-        (b"\x12\x00\x00\x00\x05", true),
-        (b"\x12\x00\x00\x00\x07", false),
-        (b"\x09\x00\x02\x00\x05", false),
-        (b"\x09\x00\x02\x00\x07", true),
-        (b"\x0a\x00\x02\x00\x05", true),
-        (b"\x0a\x00\x02\x00\x07", false),
-        (b"\x0b\x00\x02\x00\x05", true),
-        (b"\x0b\x00\x02\x00\x07", false),
-        (b"\x0c\x00\x03\x00\x01", false),
-        // A class name may have any byte but four.
-        (b"\x07\x00\x04", true),
-    ];
-    for (entry, good) in rows {
-        let mut bytes = bytes_of(rt.alloc(), 9, &common)?;
-        bytes.extend_from_slice(entry)?;
-        let fault = if good {
-            None
-        } else {
-            Some(PoolFault::BadDescriptor(8))
-        };
-        assert_eq!(rt; Pool::read(rt.alloc(), &bytes).err(), fault, "{entry:?}");
+fn descriptors(rt: HostRuntime) {
+    for (entry, good) in DESCRIBED {
+        assert!(rt; is_described(rt.alloc(), entry, good), "{entry:?}");
     }
-    Ok(())
 }
 
 /// The InterfaceMethodref of A.f:()V.
@@ -352,15 +428,9 @@ fn interface_method(alloc: Global) -> Result<Reference<Name>, AllocError> {
     })
 }
 
-#[test]
-fn copies_of_references(rt: HostRuntime) -> Result<(), Fail> {
-    let method = interface_method(rt.alloc())?;
-    let copy = method.copy(rt.alloc())?;
-    assert!(rt; copy.itf);
-    assert_eq!(rt; copy.owner.as_slice(), b"A".as_slice());
-    assert_eq!(rt; copy.name.as_slice(), b"f".as_slice());
-    assert_eq!(rt; copy.ty.as_slice(), b"()V".as_slice());
-    Ok(())
+/// A copy of that.
+fn copied_method(alloc: Global) -> Result<Reference<Name>, AllocError> {
+    interface_method(alloc)?.copy(alloc)
 }
 
 /// The call site g:()I of bootstrap method 7.
@@ -372,13 +442,22 @@ fn call_site(alloc: Global) -> Result<CallSiteSpecifier<Name>, AllocError> {
     })
 }
 
+/// A copy of that.
+fn copied_call_site(alloc: Global) -> Result<CallSiteSpecifier<Name>, AllocError> {
+    call_site(alloc)?.copy(alloc)
+}
+
 #[test]
-fn copies_of_call_sites(rt: HostRuntime) -> Result<(), Fail> {
-    let site = call_site(rt.alloc())?;
-    let copy = site.copy(rt.alloc())?;
-    assert_eq!(rt; copy.bootstrap, 7);
-    assert_eq!(rt; copy.name.as_slice(), b"g".as_slice());
-    assert_eq!(rt; copy.ty.as_slice(), b"()I".as_slice());
+fn copies(rt: HostRuntime) -> Result<(), Fail> {
+    let method = copied_method(rt.alloc())?;
+    assert!(rt; method.itf);
+    assert_eq!(rt; method.owner.as_slice(), b"A".as_slice());
+    assert_eq!(rt; method.name.as_slice(), b"f".as_slice());
+    assert_eq!(rt; method.ty.as_slice(), b"()V".as_slice());
+    let site = copied_call_site(rt.alloc())?;
+    assert_eq!(rt; site.bootstrap, 7);
+    assert_eq!(rt; site.name.as_slice(), b"g".as_slice());
+    assert_eq!(rt; site.ty.as_slice(), b"()I".as_slice());
     Ok(())
 }
 

@@ -5,7 +5,6 @@ use jl_names::{Name, Seq};
 use jl_pool::PoolFault;
 use jl_sketch::{Call, MethodName, Sketch, SketchFault, SketchMethod, write_class};
 use std::alloc::{AllocError, Global};
-use std::test::Fail;
 
 const OBJECT: &[u8] = b"java/lang/Object";
 
@@ -86,178 +85,178 @@ fn calls_f(alloc: Global, flags: u16) -> Result<Sketch, AllocError> {
     runs(alloc, flags, one(alloc, Call::Virtual(f))?)
 }
 
-/// Whether the sketch is written as these parts.
-fn gives(alloc: Global, sketch: &Sketch, parts: &[&[u8]]) -> Result<bool, AllocError> {
-    let mut expected: Vec<u8> = Vec::new(alloc);
-    for part in parts {
-        expected.extend_from_slice(part)?;
-    }
-    Ok(match write_class(alloc, sketch) {
-        Ok(bytes) => bytes.as_slice() == expected.as_slice(),
-        Err(_) => false,
-    })
-}
-
-#[test]
-fn object(rt: HostRuntime) -> Result<(), Fail> {
-    let mut sketch = empty(rt.alloc(), OBJECT, OBJECT)?;
+/// java/lang/Object.
+fn root(alloc: Global) -> Result<Sketch, AllocError> {
+    let mut sketch = empty(alloc, OBJECT, OBJECT)?;
     sketch.superclass = None;
-    let parts: [&[u8]; 4] = [
-        &[0xca, 0xfe, 0xba, 0xbe, 0, 0, 0, 0x3d, 0, 3, 1, 0, 16],
-        OBJECT,
-        &[7, 0, 1, 0, 0x21, 0, 2, 0, 0, 0, 0],
-        &[0, 0, 0, 0, 0, 0],
-    ];
-    assert!(rt; gives(rt.alloc(), &sketch, &parts)?);
-    Ok(())
+    Ok(sketch)
+}
+
+/// A class of the nest of Out.
+fn hosted(alloc: Global) -> Result<Sketch, AllocError> {
+    let mut sketch = empty(alloc, b"In", OBJECT)?;
+    sketch.host = Some(Name::copied(alloc, b"Out")?);
+    Ok(sketch)
+}
+
+/// A class whose nest has itself for a member.
+fn nest(alloc: Global) -> Result<Sketch, AllocError> {
+    let mut sketch = empty(alloc, b"A", OBJECT)?;
+    sketch.members = one(alloc, Name::copied(alloc, b"A")?)?;
+    Ok(sketch)
+}
+
+/// The class file of java/lang/Object.
+const ROOT: [&[u8]; 4] = [
+    &[0xca, 0xfe, 0xba, 0xbe, 0, 0, 0, 0x3d, 0, 3, 1, 0, 16],
+    OBJECT,
+    &[7, 0, 1, 0, 0x21, 0, 2, 0, 0, 0, 0],
+    &[0, 0, 0, 0, 0, 0],
+];
+
+/// The class file of A, with a method f.
+const A: [&[u8]; 8] = [
+    &[
+        0xca, 0xfe, 0xba, 0xbe, 0, 0, 0, 0x3d, 0, 8, 1, 0, 1, b'A', 7, 0, 1, 1, 0, 16,
+    ],
+    OBJECT,
+    &[
+        7, 0, 3, 1, 0, 1, b'f', 1, 0, 3, b'(', b')', b'V', 1, 0, 4, b'C', b'o', b'd', b'e',
+    ],
+    &[0, 0x21, 0, 2, 0, 4, 0, 0, 0, 0, 0, 1],
+    &[0, 1, 0, 5, 0, 6, 0, 1, 0, 7, 0, 0, 0, 13],
+    &[0, 0, 0, 0, 0, 0, 0, 1],
+    &[0xb1, 0, 0, 0, 0],
+    &[0, 0],
+];
+
+/// The class file of M, whose method run calls A.f.
+const M: [&[u8]; 9] = [
+    &[
+        0xca, 0xfe, 0xba, 0xbe, 0, 0, 0, 0x3d, 0, 13, 1, 0, 1, b'M', 7, 0, 1, 1, 0, 16,
+    ],
+    OBJECT,
+    &[
+        7, 0, 3, 1, 0, 3, b'r', b'u', b'n', 1, 0, 3, b'(', b')', b'V', 1, 0, 4,
+    ],
+    b"Code",
+    &[
+        1, 0, 1, b'A', 7, 0, 8, 1, 0, 1, b'f', 12, 0, 10, 0, 6, 10, 0, 9, 0, 11,
+    ],
+    &[0, 0x21, 0, 2, 0, 4, 0, 0, 0, 0, 0, 1],
+    &[0, 9, 0, 5, 0, 6, 0, 1, 0, 7, 0, 0, 0, 16],
+    &[0, 0, 0, 0, 0, 0, 0, 4, 0xb6, 0, 12, 0xb1],
+    &[0, 0, 0, 0, 0, 0],
+];
+
+/// The class file of B below A.
+const B: [&[u8]; 2] = [
+    &[
+        0xca, 0xfe, 0xba, 0xbe, 0, 0, 0, 0x3d, 0, 5, 1, 0, 1, b'B', 7, 0, 1, 1, 0, 1, b'A', 7,
+    ],
+    &[0, 3, 0, 0x21, 0, 2, 0, 4, 0, 0, 0, 0, 0, 0, 0, 0],
+];
+
+/// The class file of C below A, with a method f.
+const C: [&[u8]; 5] = [
+    &[
+        0xca, 0xfe, 0xba, 0xbe, 0, 0, 0, 0x3d, 0, 8, 1, 0, 1, b'C', 7, 0, 1, 1, 0, 1, b'A', 7,
+    ],
+    &[
+        0, 3, 1, 0, 1, b'f', 1, 0, 3, b'(', b')', b'V', 1, 0, 4, b'C', b'o', b'd', b'e',
+    ],
+    &[0, 0x21, 0, 2, 0, 4, 0, 0, 0, 0, 0, 1],
+    &[0, 1, 0, 5, 0, 6, 0, 1, 0, 7, 0, 0, 0, 13],
+    &[0, 0, 0, 0, 0, 0, 0, 1, 0xb1, 0, 0, 0, 0, 0, 0],
+];
+
+/// The class file of In, of the nest of Out.
+const IN: [&[u8]; 6] = [
+    &[
+        0xca, 0xfe, 0xba, 0xbe, 0, 0, 0, 0x3d, 0, 8, 1, 0, 2, b'I', b'n', 7, 0, 1, 1, 0, 16,
+    ],
+    OBJECT,
+    &[7, 0, 3, 1, 0, 8],
+    b"NestHost",
+    &[
+        1, 0, 3, b'O', b'u', b't', 7, 0, 6, 0, 0x21, 0, 2, 0, 4, 0, 0, 0, 0, 0, 0,
+    ],
+    &[0, 1, 0, 5, 0, 0, 0, 2, 0, 7],
+];
+
+/// The class file of A, a nest of itself.
+const NEST: [&[u8]; 5] = [
+    &[
+        0xca, 0xfe, 0xba, 0xbe, 0, 0, 0, 0x3d, 0, 6, 1, 0, 1, b'A', 7, 0, 1, 1, 0, 16,
+    ],
+    OBJECT,
+    &[7, 0, 3, 1, 0, 11],
+    b"NestMembers",
+    &[
+        0, 0x21, 0, 2, 0, 4, 0, 0, 0, 0, 0, 0, 0, 1, 0, 5, 0, 0, 0, 4, 0, 1, 0, 2,
+    ],
+];
+
+/// Whether the bytes are these parts, in order.
+fn are_parts(bytes: &[u8], parts: &[&[u8]]) -> bool {
+    let mut rest = bytes;
+    for part in parts {
+        match rest.strip_prefix(*part) {
+            Some(behind) => rest = behind,
+            None => return false,
+        }
+    }
+    rest.is_empty()
+}
+
+/// Whether the sketch is written as these parts.
+fn gives(alloc: Global, sketch: Result<Sketch, AllocError>, parts: &[&[u8]]) -> bool {
+    match sketch {
+        Ok(sketch) => is_written(alloc, &sketch, parts),
+        Err(_) => false,
+    }
+}
+
+/// Whether the sketch, once made, is written as these parts.
+fn is_written(alloc: Global, sketch: &Sketch, parts: &[&[u8]]) -> bool {
+    match write_class(alloc, sketch) {
+        Ok(bytes) => are_parts(&bytes, parts),
+        Err(_) => false,
+    }
 }
 
 #[test]
-fn one_method(rt: HostRuntime) -> Result<(), Fail> {
-    let parts: [&[u8]; 8] = [
-        &[
-            0xca, 0xfe, 0xba, 0xbe, 0, 0, 0, 0x3d, 0, 8, 1, 0, 1, b'A', 7, 0, 1, 1, 0, 16,
-        ],
-        OBJECT,
-        &[
-            7, 0, 3, 1, 0, 1, b'f', 1, 0, 3, b'(', b')', b'V', 1, 0, 4, b'C', b'o', b'd', b'e',
-        ],
-        &[0, 0x21, 0, 2, 0, 4, 0, 0, 0, 0, 0, 1],
-        &[0, 1, 0, 5, 0, 6, 0, 1, 0, 7, 0, 0, 0, 13],
-        &[0, 0, 0, 0, 0, 0, 0, 1],
-        &[0xb1, 0, 0, 0, 0],
-        &[0, 0],
-    ];
-    assert!(rt; gives(rt.alloc(), &with_f(rt.alloc(), b"A", OBJECT)?, &parts)?);
-    Ok(())
+fn class_files(rt: HostRuntime) {
+    let alloc = rt.alloc();
+    assert!(rt; gives(alloc, root(alloc), &ROOT));
+    assert!(rt; gives(alloc, with_f(alloc, b"A", OBJECT), &A));
+    assert!(rt; gives(alloc, calls_f(alloc, 9), &M));
+    assert!(rt; gives(alloc, empty(alloc, b"B", b"A"), &B));
+    assert!(rt; gives(alloc, with_f(alloc, b"C", b"A"), &C));
+    assert!(rt; gives(alloc, hosted(alloc), &IN));
+    assert!(rt; gives(alloc, nest(alloc), &NEST));
 }
 
-#[test]
-fn one_call(rt: HostRuntime) -> Result<(), Fail> {
-    let parts: [&[u8]; 9] = [
-        &[
-            0xca, 0xfe, 0xba, 0xbe, 0, 0, 0, 0x3d, 0, 13, 1, 0, 1, b'M', 7, 0, 1, 1, 0, 16,
-        ],
-        OBJECT,
-        &[
-            7, 0, 3, 1, 0, 3, b'r', b'u', b'n', 1, 0, 3, b'(', b')', b'V', 1, 0, 4,
-        ],
-        b"Code",
-        &[
-            1, 0, 1, b'A', 7, 0, 8, 1, 0, 1, b'f', 12, 0, 10, 0, 6, 10, 0, 9, 0, 11,
-        ],
-        &[0, 0x21, 0, 2, 0, 4, 0, 0, 0, 0, 0, 1],
-        &[0, 9, 0, 5, 0, 6, 0, 1, 0, 7, 0, 0, 0, 16],
-        &[0, 0, 0, 0, 0, 0, 0, 4, 0xb6, 0, 12, 0xb1],
-        &[0, 0, 0, 0, 0, 0],
-    ];
-    assert!(rt; gives(rt.alloc(), &calls_f(rt.alloc(), 9)?, &parts)?);
-    Ok(())
+/// A class whose method run, of these flags, makes no calls.
+fn calls_none(alloc: Global, flags: u16) -> Result<Sketch, AllocError> {
+    runs(alloc, flags, Seq::of(Vec::new(alloc)))
 }
 
-#[test]
-fn subclasses(rt: HostRuntime) -> Result<(), Fail> {
-    let b: [&[u8]; 2] = [
-        &[
-            0xca, 0xfe, 0xba, 0xbe, 0, 0, 0, 0x3d, 0, 5, 1, 0, 1, b'B', 7, 0, 1, 1, 0, 1, b'A', 7,
-        ],
-        &[0, 3, 0, 0x21, 0, 2, 0, 4, 0, 0, 0, 0, 0, 0, 0, 0],
-    ];
-    let c: [&[u8]; 5] = [
-        &[
-            0xca, 0xfe, 0xba, 0xbe, 0, 0, 0, 0x3d, 0, 8, 1, 0, 1, b'C', 7, 0, 1, 1, 0, 1, b'A', 7,
-        ],
-        &[
-            0, 3, 1, 0, 1, b'f', 1, 0, 3, b'(', b')', b'V', 1, 0, 4, b'C', b'o', b'd', b'e',
-        ],
-        &[0, 0x21, 0, 2, 0, 4, 0, 0, 0, 0, 0, 1],
-        &[0, 1, 0, 5, 0, 6, 0, 1, 0, 7, 0, 0, 0, 13],
-        &[0, 0, 0, 0, 0, 0, 0, 1, 0xb1, 0, 0, 0, 0, 0, 0],
-    ];
-    assert!(rt; gives(rt.alloc(), &empty(rt.alloc(), b"B", b"A")?, &b)?);
-    assert!(rt; gives(rt.alloc(), &with_f(rt.alloc(), b"C", b"A")?, &c)?);
-    Ok(())
+/// A class with the flag MODULE.
+fn module(alloc: Global) -> Result<Sketch, AllocError> {
+    let mut sketch = empty(alloc, b"A", OBJECT)?;
+    sketch.flags = 0x8021;
+    Ok(sketch)
 }
 
-#[test]
-fn nest_host(rt: HostRuntime) -> Result<(), Fail> {
-    let mut sketch = empty(rt.alloc(), b"In", OBJECT)?;
-    sketch.host = Some(Name::copied(rt.alloc(), b"Out")?);
-    let parts: [&[u8]; 6] = [
-        &[
-            0xca, 0xfe, 0xba, 0xbe, 0, 0, 0, 0x3d, 0, 8, 1, 0, 2, b'I', b'n', 7, 0, 1, 1, 0, 16,
-        ],
-        OBJECT,
-        &[7, 0, 3, 1, 0, 8],
-        b"NestHost",
-        &[
-            1, 0, 3, b'O', b'u', b't', 7, 0, 6, 0, 0x21, 0, 2, 0, 4, 0, 0, 0, 0, 0, 0,
-        ],
-        &[0, 1, 0, 5, 0, 0, 0, 2, 0, 7],
-    ];
-    assert!(rt; gives(rt.alloc(), &sketch, &parts)?);
-    Ok(())
+/// A class with a name of so many bytes.
+fn named(alloc: Global, length: usize) -> Result<Sketch, AllocError> {
+    empty(alloc, &vec![in alloc; b'a'; length]?, OBJECT)
 }
 
-#[test]
-fn nest_members(rt: HostRuntime) -> Result<(), Fail> {
-    let mut sketch = empty(rt.alloc(), b"A", OBJECT)?;
-    sketch.members = one(rt.alloc(), Name::copied(rt.alloc(), b"A")?)?;
-    let parts: [&[u8]; 5] = [
-        &[
-            0xca, 0xfe, 0xba, 0xbe, 0, 0, 0, 0x3d, 0, 6, 1, 0, 1, b'A', 7, 0, 1, 1, 0, 16,
-        ],
-        OBJECT,
-        &[7, 0, 3, 1, 0, 11],
-        b"NestMembers",
-        &[
-            0, 0x21, 0, 2, 0, 4, 0, 0, 0, 0, 0, 0, 0, 1, 0, 5, 0, 0, 0, 4, 0, 1, 0, 2,
-        ],
-    ];
-    assert!(rt; gives(rt.alloc(), &sketch, &parts)?);
-    Ok(())
-}
-
-/// The fault of the sketch.
-fn fault_of(alloc: Global, sketch: &Sketch) -> Option<SketchFault> {
-    write_class(alloc, sketch).err()
-}
-
-#[test]
-fn methods_without_code(rt: HostRuntime) -> Result<(), Fail> {
-    let no_calls = runs(rt.alloc(), 1033, Seq::of(Vec::new(rt.alloc())))?;
-    let calls = SketchFault::CallsWithoutCode(0);
-    let refused = SketchFault::Refused(ClassFault::BadMember(0));
-    assert_eq!(rt;
-        fault_of(rt.alloc(), &calls_f(rt.alloc(), 1033)?),
-        Some(calls)
-    );
-    assert_eq!(rt;
-        fault_of(rt.alloc(), &calls_f(rt.alloc(), 0x0109)?),
-        Some(calls)
-    );
-    assert_eq!(rt; fault_of(rt.alloc(), &no_calls), Some(refused));
-    Ok(())
-}
-
-#[test]
-fn refused_names_and_flags(rt: HostRuntime) -> Result<(), Fail> {
-    let bad_name = SketchFault::Refused(ClassFault::Pool(PoolFault::BadDescriptor(2)));
-    assert_eq!(rt;
-        fault_of(rt.alloc(), &empty(rt.alloc(), b"a.b", OBJECT)?),
-        Some(bad_name)
-    );
-    let mut module = empty(rt.alloc(), b"A", OBJECT)?;
-    module.flags = 0x8021;
-    let refused = SketchFault::Refused(ClassFault::ModuleFile);
-    assert_eq!(rt; fault_of(rt.alloc(), &module), Some(refused));
-    Ok(())
-}
-
-/// An invokeinterface of a method with so many long parameters, and int ones behind them.
-fn of_parameters(alloc: Global, longs: usize, ints: usize) -> Result<Call, AllocError> {
-    let mut ty: Vec<u8> = Vec::new(alloc);
-    ty.push(b'(')?;
+/// A type of a method with so many long parameters, and int ones behind them.
+fn with_parameters(alloc: Global, longs: usize, ints: usize) -> Result<Vec<u8>, AllocError> {
+    let mut ty = vec![in alloc; b'(']?;
     for _ in 0..longs {
         ty.push(b'J')?;
     }
@@ -265,27 +264,50 @@ fn of_parameters(alloc: Global, longs: usize, ints: usize) -> Result<Call, Alloc
         ty.push(b'I')?;
     }
     ty.extend_from_slice(b")V")?;
-    Ok(Call::Interface(of_a(alloc, b"f", &ty)?))
+    Ok(ty)
+}
+
+/// A class with an invokeinterface of a method with so many long parameters, and int ones behind them.
+fn calls_with(alloc: Global, longs: usize, ints: usize) -> Result<Sketch, AllocError> {
+    let ty = with_parameters(alloc, longs, ints)?;
+    let f = of_a(alloc, b"f", &ty)?;
+    runs(alloc, 9, one(alloc, Call::Interface(f))?)
+}
+
+/// The fault of the sketch, None too where it could not be made.
+fn fault_of(alloc: Global, sketch: Result<Sketch, AllocError>) -> Option<SketchFault> {
+    write_class(alloc, &sketch.ok()?).err()
+}
+
+/// Whether the sketch is written.
+fn is_accepted(alloc: Global, sketch: Result<Sketch, AllocError>) -> bool {
+    match sketch {
+        Ok(sketch) => write_class(alloc, &sketch).is_ok(),
+        Err(_) => false,
+    }
 }
 
 #[test]
-fn slots(rt: HostRuntime) -> Result<(), Fail> {
-    let most = of_parameters(rt.alloc(), 127, 0)?;
-    let over = of_parameters(rt.alloc(), 127, 1)?;
-    let accepted = runs(rt.alloc(), 9, one(rt.alloc(), most)?)?;
-    let refused = runs(rt.alloc(), 9, one(rt.alloc(), over)?)?;
-    assert!(rt; write_class(rt.alloc(), &accepted).is_ok());
-    let fault = fault_of(rt.alloc(), &refused);
-    assert!(rt; matches!(fault, Some(SketchFault::Refused(ClassFault::Code(0, _)))));
-    Ok(())
-}
-
-#[test]
-fn sizes(rt: HostRuntime) -> Result<(), Fail> {
-    let long = vec![in rt.alloc(); b'a'; 65_536]?;
-    let sketch = empty(rt.alloc(), &long, OBJECT)?;
-    assert_eq!(rt; fault_of(rt.alloc(), &sketch), Some(SketchFault::TooBig));
-    let sketch = empty(rt.alloc(), &long[1..], OBJECT)?;
-    assert!(rt; write_class(rt.alloc(), &sketch).is_ok());
-    Ok(())
+fn faults(rt: HostRuntime) {
+    let alloc = rt.alloc();
+    let calls = Some(SketchFault::CallsWithoutCode(0));
+    let member = Some(SketchFault::Refused(ClassFault::BadMember(0)));
+    let name = ClassFault::Pool(PoolFault::BadDescriptor(2));
+    assert_eq!(rt; fault_of(alloc, calls_f(alloc, 1033)), calls);
+    assert_eq!(rt; fault_of(alloc, calls_f(alloc, 0x0109)), calls);
+    assert_eq!(rt; fault_of(alloc, calls_none(alloc, 1033)), member);
+    assert_eq!(rt;
+        fault_of(alloc, empty(alloc, b"a.b", OBJECT)),
+        Some(SketchFault::Refused(name))
+    );
+    let module = fault_of(alloc, module(alloc));
+    assert_eq!(rt; module, Some(SketchFault::Refused(ClassFault::ModuleFile)));
+    let over = fault_of(alloc, calls_with(alloc, 127, 1));
+    assert!(rt; matches!(over, Some(SketchFault::Refused(ClassFault::Code(0, _)))));
+    assert_eq!(rt;
+        fault_of(alloc, named(alloc, 65_536)),
+        Some(SketchFault::TooBig)
+    );
+    assert!(rt; is_accepted(alloc, calls_with(alloc, 127, 0)));
+    assert!(rt; is_accepted(alloc, named(alloc, 65_535)));
 }
