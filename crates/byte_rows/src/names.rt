@@ -8,7 +8,6 @@ use jl_names::{
 };
 use std::alloc::{AllocError, Global};
 use std::hash::{DefaultHasher, Hash, Hasher};
-use std::test::Fail;
 
 /// Bytes that are no modified UTF-8, and their faults.
 const BAD_TEXTS: [(&[u8], NameFault); 7] = [
@@ -56,10 +55,10 @@ fn decodes(alloc: Global, text: &[u8], units: &[u16]) -> bool {
 
 #[test]
 fn units(rt: HostRuntime) {
-    for (text, fault) in BAD_TEXTS {
-        assert!(rt; is_bad_text(rt.alloc(), text, fault), "{text:?}");
+    for (text, fault) in &BAD_TEXTS {
+        assert!(rt; is_bad_text(rt.alloc(), text, *fault), "{text:?}");
     }
-    for (units, text) in TEXTS {
+    for (units, text) in &TEXTS {
         assert!(rt; is_text(text), "{text:?}");
         assert!(rt; encodes(rt.alloc(), units, text), "{text:?}");
         assert!(rt; decodes(rt.alloc(), text, units), "{text:?}");
@@ -90,16 +89,20 @@ const PACKAGES: [(&[u8], &[u8]); 3] = [
     (b"", b""),
 ];
 
+/// Whether the name is a class name and an unqualified name, or not, as is said.
+fn is_named(name: &[u8], class: bool, unqualified: bool) -> bool {
+    is_class_name(name) == class && is_unqualified(name) == unqualified
+}
+
 #[test]
 fn names(rt: HostRuntime) {
-    for (name, class, unqualified) in CLASS_NAMES {
-        assert_eq!(rt; is_class_name(name), class, "{name:?}");
-        assert_eq!(rt; is_unqualified(name), unqualified, "{name:?}");
+    for (name, class, unqualified) in &CLASS_NAMES {
+        assert!(rt; is_named(name, *class, *unqualified), "{name:?}");
     }
-    for (name, package) in PACKAGES {
-        assert_eq!(rt; package_of(name), package);
+    for (name, package) in &PACKAGES {
+        assert!(rt; package_of(name) == *package, "{name:?}");
     }
-    assert_eq!(rt; Text::of(b"A").as_bytes(), b"A".as_slice());
+    assert!(rt; Text::of(b"A").as_bytes() == b"A".as_slice());
 }
 
 /// The hash of a value.
@@ -117,9 +120,28 @@ fn list(alloc: Global, bytes: &[u8]) -> Result<Seq<u8>, AllocError> {
     Ok(Seq::of(bytes.to_vec(alloc)?))
 }
 
-/// A copy of the list, made byte by byte.
-fn mapped(alloc: Global, bytes: &[u8]) -> Result<Seq<u8>, AllocError> {
-    list(alloc, bytes)?.try_map(alloc, |byte| Ok(*byte))
+/// Whether the list, mapped byte by byte, is equal to it and has its hash.
+fn is_mapped(alloc: Global, run: &Seq<u8>) -> bool {
+    match run.try_map(alloc, |byte| Ok(*byte)) {
+        Ok(again) => *run == again && hash_of(run) == hash_of(&again),
+        Err(_) => false,
+    }
+}
+
+/// Whether a list of these bytes has their hash, and can be mapped.
+fn is_list(alloc: Global, bytes: &[u8]) -> bool {
+    match list(alloc, bytes) {
+        Ok(run) => hash_of(&run) == hash_of(&bytes) && is_mapped(alloc, &run),
+        Err(_) => false,
+    }
+}
+
+/// Whether lists of these bytes and of those differ.
+fn lists_differ(alloc: Global, bytes: &[u8], others: &[u8]) -> bool {
+    match (list(alloc, bytes), list(alloc, others)) {
+        (Ok(run), Ok(other)) => run != other,
+        _ => false,
+    }
 }
 
 /// What comes of a copy that fails at the byte u.
@@ -133,18 +155,13 @@ fn mapped_to_u(alloc: Global, bytes: &[u8]) -> Result<Seq<u8>, AllocError> {
 }
 
 #[test]
-fn lists(rt: HostRuntime) -> Result<(), Fail> {
-    let run = list(rt.alloc(), b"run")?;
-    assert_eq!(rt; hash_of(&run), hash_of(&b"run".as_slice()));
-    let again = mapped(rt.alloc(), b"run")?;
-    assert_eq!(rt; run, again);
-    assert_eq!(rt; hash_of(&run), hash_of(&again));
+fn lists(rt: HostRuntime) {
+    assert!(rt; is_list(rt.alloc(), b"run"));
     for other in OTHERS {
-        assert_ne!(rt; run, list(rt.alloc(), other)?, "{other:?}");
+        assert!(rt; lists_differ(rt.alloc(), b"run", other), "{other:?}");
     }
     assert!(rt; mapped_to_u(rt.alloc(), b"r").is_ok());
     assert!(rt; mapped_to_u(rt.alloc(), b"run").is_err());
-    Ok(())
 }
 
 /// Whether a name of the bytes is another than this one.
@@ -163,40 +180,63 @@ fn is_copied(alloc: Global, name: &Name, bytes: &[u8]) -> bool {
     }
 }
 
-/// The first byte of a block, its second, and the rest, as names.
-fn cut_names(alloc: Global) -> Result<(Name, Name, Name), AllocError> {
+/// Whether the first byte of a block, its second and the rest are these names.
+fn are_cut(first: &Name, second: &Name, rest: &Name) -> bool {
+    first.as_slice() == b"A".as_slice()
+        && second.as_slice() == b"f".as_slice()
+        && rest.as_slice() == b"()V".as_slice()
+}
+
+/// Whether names are cut from one block.
+fn cut_names(alloc: Global) -> Result<bool, AllocError> {
     let mut block = Name::of(b"Af()V".to_vec(alloc)?)?;
     let first = block.split_to(1)?;
     let second = block.split_to(1)?;
-    Ok((first, second, block))
+    Ok(are_cut(&first, &second, &block))
 }
 
-/// The copy of a name that is let go.
-fn copy_alone(alloc: Global) -> Result<Name, AllocError> {
-    Name::copied(alloc, b"run")?.copy(alloc)
+/// The copy of a name of these bytes, which is let go.
+fn copy_alone(alloc: Global, bytes: &[u8]) -> Result<Name, AllocError> {
+    Name::copied(alloc, bytes)?.copy(alloc)
 }
 
-#[test]
-fn kept_names(rt: HostRuntime) -> Result<(), Fail> {
-    let run = Name::copied(rt.alloc(), b"run")?;
-    assert_eq!(rt; run.as_slice(), b"run".as_slice());
-    assert!(rt; is_copied(rt.alloc(), &run, b"run"));
-    assert_eq!(rt; hash_of(&run), hash_of(&b"run".as_slice()));
-    for other in OTHERS {
-        assert!(rt; is_other(rt.alloc(), &run, other), "{other:?}");
+/// Whether the name has these bytes, and their hash.
+fn is_name(name: &Name, bytes: &[u8]) -> bool {
+    name.as_slice() == bytes && hash_of(name) == hash_of(&bytes)
+}
+
+/// Whether a name of these bytes is kept, and so is its copy.
+fn is_kept(alloc: Global, bytes: &[u8]) -> bool {
+    match Name::copied(alloc, bytes) {
+        Ok(name) => is_name(&name, bytes) && is_copied(alloc, &name, bytes),
+        Err(_) => false,
     }
-    let copy = copy_alone(rt.alloc())?;
-    assert_eq!(rt; copy.as_slice(), b"run".as_slice());
-    Ok(())
+}
+
+/// Whether names of these bytes and of those differ.
+fn differ(alloc: Global, bytes: &[u8], others: &[u8]) -> bool {
+    match Name::copied(alloc, bytes) {
+        Ok(name) => is_other(alloc, &name, others),
+        Err(_) => false,
+    }
+}
+
+/// Whether the copy of a name of these bytes has them once the name is let go.
+fn outlives(alloc: Global, bytes: &[u8]) -> bool {
+    match copy_alone(alloc, bytes) {
+        Ok(copy) => copy.as_slice() == bytes,
+        Err(_) => false,
+    }
 }
 
 #[test]
-fn shared_names(rt: HostRuntime) -> Result<(), Fail> {
-    let (first, second, rest) = cut_names(rt.alloc())?;
-    assert_eq!(rt; first.as_slice(), b"A".as_slice());
-    assert_eq!(rt; second.as_slice(), b"f".as_slice());
-    assert_eq!(rt; rest.as_slice(), b"()V".as_slice());
-    Ok(())
+fn kept_names(rt: HostRuntime) {
+    assert!(rt; is_kept(rt.alloc(), b"run"));
+    assert!(rt; outlives(rt.alloc(), b"run"));
+    for other in OTHERS {
+        assert!(rt; differ(rt.alloc(), b"run", other), "{other:?}");
+    }
+    assert!(rt; matches!(cut_names(rt.alloc()), Ok(true)));
 }
 
 /// Texts that are no field descriptors, and where.
@@ -234,15 +274,12 @@ fn dimensions(alloc: Global, count: usize) -> Result<u8, NameFault> {
 
 #[test]
 fn field_descriptors(rt: HostRuntime) {
-    for (text, at) in BAD_FIELDS {
-        assert!(rt; is_bad_field(text, at), "{text:?}");
+    for (text, at) in &BAD_FIELDS {
+        assert!(rt; is_bad_field(text, *at), "{text:?}");
     }
     assert!(rt; is_array_of(b"[[Ljava/lang/String;", 2, b"java/lang/String"));
-    assert_eq!(rt; dimensions(rt.alloc(), 255), Ok(255));
-    assert_eq!(rt;
-        dimensions(rt.alloc(), 256),
-        Err(NameFault::BadDescriptor(255))
-    );
+    assert!(rt; dimensions(rt.alloc(), 255) == Ok(255));
+    assert!(rt; dimensions(rt.alloc(), 256) == Err(NameFault::BadDescriptor(255)));
     one_field_type();
     no_fault_in_field_descriptors();
 }
@@ -297,12 +334,12 @@ const PARAMETERS: [(u8, usize, Result<u8, NameFault>); 5] = [
 
 #[test]
 fn method_descriptors(rt: HostRuntime) {
-    for (text, expected) in METHODS {
-        assert!(rt; has_slots(rt.alloc(), text, expected), "{text:?}");
+    for (text, expected) in &METHODS {
+        assert!(rt; has_slots(rt.alloc(), text, *expected), "{text:?}");
     }
-    for (letter, count, expected) in PARAMETERS {
+    for (letter, count, expected) in &PARAMETERS {
         assert!(rt;
-            have_slots(rt.alloc(), letter, count, expected),
+            have_slots(rt.alloc(), *letter, *count, *expected),
             "{letter} {count}"
         );
     }
@@ -339,9 +376,9 @@ fn is_repeat(
 
 #[test]
 fn repeats(rt: HostRuntime) {
-    for (pairs, expected) in PAIRS {
+    for (pairs, expected) in &PAIRS {
         assert!(rt;
-            is_repeat(rt.alloc(), &NUMBERED, pairs, expected),
+            is_repeat(rt.alloc(), &NUMBERED, pairs, *expected),
             "{pairs:?}"
         );
     }

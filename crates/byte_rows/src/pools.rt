@@ -6,6 +6,7 @@ use jl_pool::{
     one_pool, u2_at, u4_at,
 };
 use std::alloc::{AllocError, Global};
+use std::process::Abort;
 use std::test::Fail;
 
 /// A pool of this count, and what stands behind the count.
@@ -16,6 +17,18 @@ fn bytes_of(alloc: Global, count: u8, entries: &[&[u8]]) -> Result<Vec<u8>, Allo
     for entry in entries {
         bytes.extend_from_slice(entry)?;
     }
+    Ok(bytes)
+}
+
+/// A pool of this count, of these entries and then this one.
+fn bytes_with(
+    alloc: Global,
+    count: u8,
+    entries: &[&[u8]],
+    last: &[u8],
+) -> Result<Vec<u8>, AllocError> {
+    let mut bytes = bytes_of(alloc, count, entries)?;
+    bytes.extend_from_slice(last)?;
     Ok(bytes)
 }
 
@@ -63,6 +76,13 @@ fn tag_of(entry: &Option<Constant<'_>>) -> u8 {
 
 /// Whether the entries of these numbers hold the bits that stand in the bytes.
 fn have_bits(entries: &[Option<Constant<'_>>]) -> bool {
+    have_numbers(entries)
+        && matches!(entries.get(18), Some(Some(Constant::MethodHandle(6, 6))))
+        && matches!(entries.get(20), Some(Some(Constant::Dynamic(5, 9))))
+}
+
+/// Whether the numbers among the entries have the bits that stand in the bytes.
+fn have_numbers(entries: &[Option<Constant<'_>>]) -> bool {
     matches!(entries.get(12), Some(Some(Constant::Integer(42))))
         && matches!(entries.get(13), Some(Some(Constant::Float(0x3f80_0000))))
         && matches!(entries.get(14), Some(Some(Constant::Long(0x1_0000_0002))))
@@ -70,26 +90,15 @@ fn have_bits(entries: &[Option<Constant<'_>>]) -> bool {
             entries.get(16),
             Some(Some(Constant::Double(0x3ff0_0000_0000_0000)))
         )
-        && matches!(entries.get(18), Some(Some(Constant::MethodHandle(6, 6))))
-        && matches!(entries.get(20), Some(Some(Constant::Dynamic(5, 9))))
 }
 
-#[test]
-fn entries(rt: HostRuntime) -> Result<(), Fail> {
-    let mut bytes = bytes_of(rt.alloc(), 26, &EACH_TAG)?;
-    assert_eq!(rt; bytes.len(), 110);
-    // The byte behind isn't the pool's.
-    bytes.push(0x01)?;
-    let (pool, used) = Pool::read(rt.alloc(), &bytes)?;
-    assert_eq!(rt; used, 110);
-    assert_eq!(rt; pool.entries().len(), TAGS.len());
-    for (entry, tag) in pool.entries().iter().zip(TAGS) {
-        assert_eq!(rt; tag_of(entry), tag);
+/// Asserts that the entries have these tags, and their bits.
+fn assert_entries(rt: &impl Abort, entries: &[Option<Constant<'_>>]) {
+    assert!(rt; entries.len() == TAGS.len());
+    for (number, (entry, tag)) in entries.iter().zip(TAGS).enumerate() {
+        assert!(rt; tag_of(entry) == tag, "{number}");
     }
-    assert!(rt; have_bits(pool.entries()));
-    one_pool();
-    no_fault_in_a_pool();
-    Ok(())
+    assert!(rt; have_bits(entries));
 }
 
 /// Numbers of these entries, and the Utf8, the text of the Class and the class name that each is.
@@ -153,23 +162,34 @@ fn has_none(pool: &Pool<'_>, number: u16) -> bool {
         && pool.slots(number).is_none()
 }
 
-#[test]
-fn texts_and_references(rt: HostRuntime) -> Result<(), Fail> {
-    let bytes = bytes_of(rt.alloc(), 26, &EACH_TAG)?;
-    let (pool, _) = Pool::read(rt.alloc(), &bytes)?;
-    for (number, utf8, class_text, class_name) in TEXTS {
-        assert!(rt; has_utf8(&pool, number, utf8), "{number}");
+/// Asserts what the numbers name.
+fn assert_names(rt: &impl Abort, pool: &Pool<'_>) {
+    for (number, utf8, class_text, class_name) in &TEXTS {
+        assert!(rt; has_utf8(pool, *number, *utf8), "{number}");
         assert!(rt;
-            has_class(&pool, number, class_text, class_name),
+            has_class(pool, *number, *class_text, *class_name),
             "{number}"
         );
     }
-    assert!(rt; has_method(&pool, 6, false));
-    assert!(rt; has_method(&pool, 7, true));
-    assert!(rt; has_call_site(&pool, 21));
+    assert!(rt; has_method(pool, 6, false));
+    assert!(rt; has_method(pool, 7, true));
+    assert!(rt; has_call_site(pool, 21));
     for number in [0, 5, 10, 15, 20, 26] {
-        assert!(rt; has_none(&pool, number), "{number}");
+        assert!(rt; has_none(pool, number), "{number}");
     }
+}
+
+#[test]
+fn each_tag(rt: HostRuntime) -> Result<(), Fail> {
+    // The byte behind isn't the pool's.
+    let bytes = bytes_with(rt.alloc(), 26, &EACH_TAG, &[0x01])?;
+    assert!(rt; bytes.len() == 111);
+    let (pool, used) = Pool::read(rt.alloc(), &bytes)?;
+    assert!(rt; used == 110);
+    assert_entries(&rt, pool.entries());
+    assert_names(&rt, &pool);
+    one_pool();
+    no_fault_in_a_pool();
     Ok(())
 }
 
@@ -185,18 +205,6 @@ fn has_fault(
         Ok(bytes) => Pool::read(alloc, &bytes).err() == fault,
         Err(_) => false,
     }
-}
-
-/// A pool of this count, of these entries and then this one.
-fn bytes_with(
-    alloc: Global,
-    count: u8,
-    entries: &[&[u8]],
-    last: &[u8],
-) -> Result<Vec<u8>, AllocError> {
-    let mut bytes = bytes_of(alloc, count, entries)?;
-    bytes.extend_from_slice(last)?;
-    Ok(bytes)
 }
 
 /// The count of a pool, the entries, and the fault.
@@ -289,9 +297,9 @@ const POOLS: [(u8, &[&[u8]], Option<PoolFault>); 19] = [
 
 #[test]
 fn faults(rt: HostRuntime) {
-    for (count, entries, fault) in POOLS {
+    for (count, entries, fault) in &POOLS {
         assert!(rt;
-            has_fault(rt.alloc(), count, entries, &[], fault),
+            has_fault(rt.alloc(), *count, entries, &[], *fault),
             "{entries:?}"
         );
     }
@@ -413,8 +421,8 @@ fn is_described(alloc: Global, entry: &[u8], good: bool) -> bool {
 
 #[test]
 fn descriptors(rt: HostRuntime) {
-    for (entry, good) in DESCRIBED {
-        assert!(rt; is_described(rt.alloc(), entry, good), "{entry:?}");
+    for (entry, good) in &DESCRIBED {
+        assert!(rt; is_described(rt.alloc(), entry, *good), "{entry:?}");
     }
 }
 
@@ -447,29 +455,53 @@ fn copied_call_site(alloc: Global) -> Result<CallSiteSpecifier<Name>, AllocError
     call_site(alloc)?.copy(alloc)
 }
 
-#[test]
-fn copies(rt: HostRuntime) -> Result<(), Fail> {
-    let method = copied_method(rt.alloc())?;
-    assert!(rt; method.itf);
-    assert_eq!(rt; method.owner.as_slice(), b"A".as_slice());
-    assert_eq!(rt; method.name.as_slice(), b"f".as_slice());
-    assert_eq!(rt; method.ty.as_slice(), b"()V".as_slice());
-    let site = copied_call_site(rt.alloc())?;
-    assert_eq!(rt; site.bootstrap, 7);
-    assert_eq!(rt; site.name.as_slice(), b"g".as_slice());
-    assert_eq!(rt; site.ty.as_slice(), b"()I".as_slice());
-    Ok(())
+/// Whether this is the InterfaceMethodref of A.f:()V.
+fn is_interface_method(method: &Reference<Name>) -> bool {
+    method.itf
+        && method.owner.as_slice() == b"A".as_slice()
+        && method.name.as_slice() == b"f".as_slice()
+        && method.ty.as_slice() == b"()V".as_slice()
+}
+
+/// Whether this is the call site g:()I of bootstrap method 7.
+fn is_call_site(site: &CallSiteSpecifier<Name>) -> bool {
+    site.bootstrap == 7
+        && site.name.as_slice() == b"g".as_slice()
+        && site.ty.as_slice() == b"()I".as_slice()
 }
 
 #[test]
+fn copies(rt: HostRuntime) {
+    let method = copied_method(rt.alloc());
+    assert!(rt; matches!(&method, Ok(method) if is_interface_method(method)));
+    let site = copied_call_site(rt.alloc());
+    assert!(rt; matches!(&site, Ok(site) if is_call_site(site)));
+}
+
+/// Bytes, and the number of two bytes at their front with what is behind it.
+const TWO_BYTES: [(&[u8], Option<(u16, &[u8])>); 2] = [
+    (&[1, 2, 3], Some((0x0102, &[3]))),
+    (&[1], None),
+];
+
+/// Bytes, and the number of four bytes at their front with what is behind it.
+const FOUR_BYTES: [(&[u8], Option<(u32, &[u8])>); 2] = [
+    (&[1, 2, 3, 4], Some((0x0102_0304, &[]))),
+    (&[1, 2, 3], None),
+];
+
+/// Counts, and so many of the bytes 1, 2, 3 with what is behind them.
+const FRONTS: [(usize, Option<(&[u8], &[u8])>); 2] = [(2, Some((&[1, 2], &[3]))), (4, None)];
+
+#[test]
 fn numbers(rt: HostRuntime) {
-    assert_eq!(rt; u2_at(&[1, 2, 3]), Some((0x0102, [3].as_slice())));
-    assert_eq!(rt; u2_at(&[1]), None);
-    assert_eq!(rt; u4_at(&[1, 2, 3, 4]), Some((0x0102_0304, [].as_slice())));
-    assert_eq!(rt; u4_at(&[1, 2, 3]), None);
-    assert_eq!(rt;
-        bytes_at(2, &[1, 2, 3]),
-        Some(([1, 2].as_slice(), [3].as_slice()))
-    );
-    assert_eq!(rt; bytes_at(4, &[1, 2, 3]), None);
+    for (bytes, found) in &TWO_BYTES {
+        assert!(rt; u2_at(bytes) == *found, "{bytes:?}");
+    }
+    for (bytes, found) in &FOUR_BYTES {
+        assert!(rt; u4_at(bytes) == *found, "{bytes:?}");
+    }
+    for (count, found) in &FRONTS {
+        assert!(rt; bytes_at(*count, &[1, 2, 3]) == *found, "{count}");
+    }
 }
