@@ -61,7 +61,7 @@ fn invokes(alloc: Global, code: &[u8], expected: &[(u16, Kind)]) -> bool {
 }
 
 /// Codes, and the places where they invoke A.f:()V.
-const INVOCATIONS: [(&[u8], &[(u16, Kind)]); 23] = [
+const INVOCATIONS: &[(&[u8], &[(u16, Kind)])] = &[
     // The length of each instruction.
     (&[16, 0xca, 0xb1], &[]),
     (&[17, 0xca, 0xca, 0xb1], &[]),
@@ -137,7 +137,7 @@ const INVOCATIONS: [(&[u8], &[(u16, Kind)]); 23] = [
 
 #[test]
 fn invocations(rt: HostRuntime) {
-    for (code, expected) in &INVOCATIONS {
+    for (code, expected) in INVOCATIONS {
         assert!(rt; invokes(rt.alloc(), code, expected), "{code:?}");
     }
 }
@@ -151,7 +151,7 @@ fn has_fault(alloc: Global, code: &[u8], fault: CodeFault) -> bool {
 }
 
 /// Codes, and their faults.
-const FAULTS: [(&[u8], CodeFault); 23] = [
+const FAULTS: &[(&[u8], CodeFault)] = &[
     (&[0xca], CodeFault::BadOpcode(0)),
     (&[0, 0xff, 0xb1], CodeFault::BadOpcode(1)),
     // wide before nop, also where more bytes follow, and before tableswitch.
@@ -223,7 +223,7 @@ const FAULTS: [(&[u8], CodeFault); 23] = [
 
 #[test]
 fn faults(rt: HostRuntime) {
-    for (code, fault) in &FAULTS {
+    for (code, fault) in FAULTS {
         assert!(rt; has_fault(rt.alloc(), code, *fault), "{code:?}");
     }
 }

@@ -10,7 +10,7 @@ use std::alloc::{AllocError, Global};
 use std::hash::{DefaultHasher, Hash, Hasher};
 
 /// Bytes that are no modified UTF-8, and their faults.
-const BAD_TEXTS: [(&[u8], NameFault); 7] = [
+const BAD_TEXTS: &[(&[u8], NameFault)] = &[
     (&[0x00], NameFault::BadByte(0)),
     (&[0xf0, 0x9f, 0x98, 0x80], NameFault::BadByte(0)),
     (&[0x41, 0xc1, 0x81], NameFault::BadByte(1)),
@@ -21,7 +21,7 @@ const BAD_TEXTS: [(&[u8], NameFault); 7] = [
 ];
 
 /// Units, and the texts that they are written as.
-const TEXTS: [(&[u16], &[u8]); 3] = [
+const TEXTS: &[(&[u16], &[u8])] = &[
     (&[], &[]),
     (&[0xd83d, 0xde00], &[0xed, 0xa0, 0xbd, 0xed, 0xb8, 0x80]),
     (
@@ -55,10 +55,10 @@ fn decodes(alloc: Global, text: &[u8], units: &[u16]) -> bool {
 
 #[test]
 fn units(rt: HostRuntime) {
-    for (text, fault) in &BAD_TEXTS {
+    for (text, fault) in BAD_TEXTS {
         assert!(rt; is_bad_text(rt.alloc(), text, *fault), "{text:?}");
     }
-    for (units, text) in &TEXTS {
+    for (units, text) in TEXTS {
         assert!(rt; is_text(text), "{text:?}");
         assert!(rt; encodes(rt.alloc(), units, text), "{text:?}");
         assert!(rt; decodes(rt.alloc(), text, units), "{text:?}");
@@ -68,7 +68,7 @@ fn units(rt: HostRuntime) {
 }
 
 /// Names, and whether each is a class name, and an unqualified name.
-const CLASS_NAMES: [(&[u8], bool, bool); 11] = [
+const CLASS_NAMES: &[(&[u8], bool, bool)] = &[
     (b"java/lang/Object", true, false),
     (b"<x(", true, true),
     (b"a", true, true),
@@ -83,11 +83,7 @@ const CLASS_NAMES: [(&[u8], bool, bool); 11] = [
 ];
 
 /// Names, and their packages.
-const PACKAGES: [(&[u8], &[u8]); 3] = [
-    (b"java/lang/Object", b"java/lang"),
-    (b"A", b""),
-    (b"", b""),
-];
+const PACKAGES: &[(&[u8], &[u8])] = &[(b"java/lang/Object", b"java/lang"), (b"A", b""), (b"", b"")];
 
 /// Whether the name is a class name and an unqualified name, or not, as is said.
 fn is_named(name: &[u8], class: bool, unqualified: bool) -> bool {
@@ -96,10 +92,10 @@ fn is_named(name: &[u8], class: bool, unqualified: bool) -> bool {
 
 #[test]
 fn names(rt: HostRuntime) {
-    for (name, class, unqualified) in &CLASS_NAMES {
+    for (name, class, unqualified) in CLASS_NAMES {
         assert!(rt; is_named(name, *class, *unqualified), "{name:?}");
     }
-    for (name, package) in &PACKAGES {
+    for (name, package) in PACKAGES {
         assert!(rt; package_of(name) == *package, "{name:?}");
     }
     assert!(rt; Text::of(b"A").as_bytes() == b"A".as_slice());
@@ -113,7 +109,7 @@ fn hash_of<T: Hash>(value: &T) -> u64 {
 }
 
 /// What is not "run".
-const OTHERS: [&[u8]; 4] = [b"", b"ru", b"rub", b"runs"];
+const OTHERS: &[&[u8]] = &[b"", b"ru", b"rub", b"runs"];
 
 /// A list of these bytes.
 fn list(alloc: Global, bytes: &[u8]) -> Result<Seq<u8>, AllocError> {
@@ -240,7 +236,7 @@ fn kept_names(rt: HostRuntime) {
 }
 
 /// Texts that are no field descriptors, and where.
-const BAD_FIELDS: [(&[u8], usize); 6] = [
+const BAD_FIELDS: &[(&[u8], usize)] = &[
     (b"L;", 1),
     (b"La//b;", 3),
     (b"La.b;", 2),
@@ -274,7 +270,7 @@ fn dimensions(alloc: Global, count: usize) -> Result<u8, NameFault> {
 
 #[test]
 fn field_descriptors(rt: HostRuntime) {
-    for (text, at) in &BAD_FIELDS {
+    for (text, at) in BAD_FIELDS {
         assert!(rt; is_bad_field(text, *at), "{text:?}");
     }
     assert!(rt; is_array_of(b"[[Ljava/lang/String;", 2, b"java/lang/String"));
@@ -313,7 +309,7 @@ fn have_slots(alloc: Global, letter: u8, count: usize, expected: Result<u8, Name
 }
 
 /// Texts, and the slots of the method descriptor, or its fault.
-const METHODS: [(&[u8], Result<u8, NameFault>); 7] = [
+const METHODS: &[(&[u8], Result<u8, NameFault>)] = &[
     (b"()", Err(NameFault::BadDescriptor(2))),
     (b"(V)V", Err(NameFault::BadDescriptor(1))),
     (b"()Vx", Err(NameFault::BadDescriptor(3))),
@@ -324,7 +320,7 @@ const METHODS: [(&[u8], Result<u8, NameFault>); 7] = [
 ];
 
 /// Letters, so many parameters of them, and the slots of these, or the fault.
-const PARAMETERS: [(u8, usize, Result<u8, NameFault>); 5] = [
+const PARAMETERS: &[(u8, usize, Result<u8, NameFault>)] = &[
     (b'I', 255, Ok(255)),
     (b'J', 127, Ok(254)),
     (b'I', 0, Ok(0)),
@@ -334,10 +330,10 @@ const PARAMETERS: [(u8, usize, Result<u8, NameFault>); 5] = [
 
 #[test]
 fn method_descriptors(rt: HostRuntime) {
-    for (text, expected) in &METHODS {
+    for (text, expected) in METHODS {
         assert!(rt; has_slots(rt.alloc(), text, *expected), "{text:?}");
     }
-    for (letter, count, expected) in &PARAMETERS {
+    for (letter, count, expected) in PARAMETERS {
         assert!(rt;
             have_slots(rt.alloc(), *letter, *count, *expected),
             "{letter} {count}"
@@ -348,10 +344,10 @@ fn method_descriptors(rt: HostRuntime) {
 }
 
 /// Texts under their numbers.
-const NUMBERED: [Option<&[u8]>; 5] = [None, Some(b"a"), Some(b"()V"), Some(b"()I"), Some(b"a")];
+const NUMBERED: &[Option<&[u8]>] = &[None, Some(b"a"), Some(b"()V"), Some(b"()I"), Some(b"a")];
 
 /// Pairs of numbers, and the first that repeats an earlier one.
-const PAIRS: [(&[(u16, u16)], Option<usize>); 7] = [
+const PAIRS: &[(&[(u16, u16)], Option<usize>)] = &[
     (&[], None),
     (&[(1, 2), (1, 3), (2, 1)], None),
     (&[(1, 2), (4, 2)], Some(1)),
@@ -376,9 +372,9 @@ fn is_repeat(
 
 #[test]
 fn repeats(rt: HostRuntime) {
-    for (pairs, expected) in &PAIRS {
+    for (pairs, expected) in PAIRS {
         assert!(rt;
-            is_repeat(rt.alloc(), &NUMBERED, pairs, *expected),
+            is_repeat(rt.alloc(), NUMBERED, pairs, *expected),
             "{pairs:?}"
         );
     }

@@ -33,7 +33,7 @@ fn bytes_with(
 }
 
 /// Each tag at least once: 26 numbers, 110 bytes with the count.
-const EACH_TAG: [&[u8]; 23] = [
+const EACH_TAG: &[&[u8]] = &[
     b"\x01\x00\x01A",
     b"\x07\x00\x01",
     b"\x01\x00\x01f",
@@ -62,7 +62,7 @@ const EACH_TAG: [&[u8]; 23] = [
 ];
 
 /// The tags of these entries, and 0 for a number that has none.
-const TAGS: [u8; 26] = [
+const TAGS: &[u8] = &[
     0, 1, 7, 1, 1, 12, 10, 11, 1, 12, 9, 8, 3, 4, 5, 0, 6, 0, 15, 16, 17, 18, 19, 20, 1, 7,
 ];
 
@@ -96,13 +96,13 @@ fn have_numbers(entries: &[Option<Constant<'_>>]) -> bool {
 fn assert_entries(rt: &impl Abort, entries: &[Option<Constant<'_>>]) {
     assert!(rt; entries.len() == TAGS.len());
     for (number, (entry, tag)) in entries.iter().zip(TAGS).enumerate() {
-        assert!(rt; tag_of(entry) == tag, "{number}");
+        assert!(rt; tag_of(entry) == *tag, "{number}");
     }
     assert!(rt; have_bits(entries));
 }
 
 /// Numbers of these entries, and the Utf8, the text of the Class and the class name that each is.
-const TEXTS: [(u16, Option<&[u8]>, Option<&[u8]>, Option<&[u8]>); 8] = [
+const TEXTS: &[(u16, Option<&[u8]>, Option<&[u8]>, Option<&[u8]>)] = &[
     (1, Some(b"A"), None, None),
     (2, None, Some(b"A"), Some(b"A")),
     (24, Some(b"[I"), None, None),
@@ -164,7 +164,7 @@ fn has_none(pool: &Pool<'_>, number: u16) -> bool {
 
 /// Asserts what the numbers name.
 fn assert_names(rt: &impl Abort, pool: &Pool<'_>) {
-    for (number, utf8, class_text, class_name) in &TEXTS {
+    for (number, utf8, class_text, class_name) in TEXTS {
         assert!(rt; has_utf8(pool, *number, *utf8), "{number}");
         assert!(rt;
             has_class(pool, *number, *class_text, *class_name),
@@ -182,7 +182,7 @@ fn assert_names(rt: &impl Abort, pool: &Pool<'_>) {
 #[test]
 fn each_tag(rt: HostRuntime) -> Result<(), Fail> {
     // The byte behind isn't the pool's.
-    let bytes = bytes_with(rt.alloc(), 26, &EACH_TAG, &[0x01])?;
+    let bytes = bytes_with(rt.alloc(), 26, EACH_TAG, &[0x01])?;
     assert!(rt; bytes.len() == 111);
     let (pool, used) = Pool::read(rt.alloc(), &bytes)?;
     assert!(rt; used == 110);
@@ -208,7 +208,7 @@ fn has_fault(
 }
 
 /// The count of a pool, the entries, and the fault.
-const POOLS: [(u8, &[&[u8]], Option<PoolFault>); 19] = [
+const POOLS: &[(u8, &[&[u8]], Option<PoolFault>)] = &[
     // Bytes that are no tag.
     (
         2,
@@ -297,7 +297,7 @@ const POOLS: [(u8, &[&[u8]], Option<PoolFault>); 19] = [
 
 #[test]
 fn faults(rt: HostRuntime) {
-    for (count, entries, fault) in &POOLS {
+    for (count, entries, fault) in POOLS {
         assert!(rt;
             has_fault(rt.alloc(), *count, entries, &[], *fault),
             "{entries:?}"
@@ -306,7 +306,7 @@ fn faults(rt: HostRuntime) {
 }
 
 /// What comes before the handles below: 9 is a Fieldref, 10 a Methodref and 11 an InterfaceMethodref.
-const REFERENCES: [&[u8]; 11] = [
+const REFERENCES: &[&[u8]] = &[
     b"\x01\x00\x01A",
     b"\x07\x00\x01",
     b"\x01\x00\x01f",
@@ -321,7 +321,7 @@ const REFERENCES: [&[u8]; 11] = [
 ];
 
 /// By its kind, what a method handle may refer to.
-const REFERRED: [&[u8]; 11] = [
+const REFERRED: &[&[u8]] = &[
     &[],
     &[9],
     &[9],
@@ -342,13 +342,7 @@ fn is_handle(alloc: Global, kind: u8, reference: u8, good: bool) -> bool {
     } else {
         Some(PoolFault::BadIndex(12))
     };
-    has_fault(
-        alloc,
-        13,
-        &REFERENCES,
-        &[0x0f, kind, 0x00, reference],
-        fault,
-    )
+    has_fault(alloc, 13, REFERENCES, &[0x0f, kind, 0x00, reference], fault)
 }
 
 #[test]
@@ -372,7 +366,7 @@ fn is_cut(alloc: Global, bytes: &[u8]) -> bool {
 
 #[test]
 fn cut(rt: HostRuntime) -> Result<(), Fail> {
-    let bytes = bytes_of(rt.alloc(), 26, &EACH_TAG)?;
+    let bytes = bytes_of(rt.alloc(), 26, EACH_TAG)?;
     for len in 0..bytes.len() {
         assert!(rt; is_cut(rt.alloc(), &bytes[..len]), "{len}");
     }
@@ -380,7 +374,7 @@ fn cut(rt: HostRuntime) -> Result<(), Fail> {
 }
 
 /// What comes before the constants below: 5 has a method's descriptor, and 7 a field's.
-const DESCRIPTORS: [&[u8]; 7] = [
+const DESCRIPTORS: &[&[u8]] = &[
     b"\x01\x00\x01A",
     b"\x07\x00\x01",
     b"\x01\x00\x01f",
@@ -391,7 +385,7 @@ const DESCRIPTORS: [&[u8]; 7] = [
 ];
 
 /// Constants with a method's descriptor, at 5, and with a field's, at 7 or 6, and whether they may have it.
-const DESCRIBED: [(&[u8], bool); 14] = [
+const DESCRIBED: &[(&[u8], bool)] = &[
     (b"\x10\x00\x04", true),
     (b"\x10\x00\x06", false),
     (b"\x11\x00\x00\x00\x05", false),
@@ -416,12 +410,12 @@ fn is_described(alloc: Global, entry: &[u8], good: bool) -> bool {
     } else {
         Some(PoolFault::BadDescriptor(8))
     };
-    has_fault(alloc, 9, &DESCRIPTORS, entry, fault)
+    has_fault(alloc, 9, DESCRIPTORS, entry, fault)
 }
 
 #[test]
 fn descriptors(rt: HostRuntime) {
-    for (entry, good) in &DESCRIBED {
+    for (entry, good) in DESCRIBED {
         assert!(rt; is_described(rt.alloc(), entry, *good), "{entry:?}");
     }
 }
@@ -479,29 +473,29 @@ fn copies(rt: HostRuntime) {
 }
 
 /// Bytes, and the number of two bytes at their front with what is behind it.
-const TWO_BYTES: [(&[u8], Option<(u16, &[u8])>); 2] = [
+const TWO_BYTES: &[(&[u8], Option<(u16, &[u8])>)] = &[
     (&[1, 2, 3], Some((0x0102, &[3]))),
     (&[1], None),
 ];
 
 /// Bytes, and the number of four bytes at their front with what is behind it.
-const FOUR_BYTES: [(&[u8], Option<(u32, &[u8])>); 2] = [
+const FOUR_BYTES: &[(&[u8], Option<(u32, &[u8])>)] = &[
     (&[1, 2, 3, 4], Some((0x0102_0304, &[]))),
     (&[1, 2, 3], None),
 ];
 
 /// Counts, and so many of the bytes 1, 2, 3 with what is behind them.
-const FRONTS: [(usize, Option<(&[u8], &[u8])>); 2] = [(2, Some((&[1, 2], &[3]))), (4, None)];
+const FRONTS: &[(usize, Option<(&[u8], &[u8])>)] = &[(2, Some((&[1, 2], &[3]))), (4, None)];
 
 #[test]
 fn numbers(rt: HostRuntime) {
-    for (bytes, found) in &TWO_BYTES {
+    for (bytes, found) in TWO_BYTES {
         assert!(rt; u2_at(bytes) == *found, "{bytes:?}");
     }
-    for (bytes, found) in &FOUR_BYTES {
+    for (bytes, found) in FOUR_BYTES {
         assert!(rt; u4_at(bytes) == *found, "{bytes:?}");
     }
-    for (count, found) in &FRONTS {
+    for (count, found) in FRONTS {
         assert!(rt; bytes_at(*count, &[1, 2, 3]) == *found, "{count}");
     }
 }

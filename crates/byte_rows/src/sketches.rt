@@ -108,7 +108,7 @@ fn nest(alloc: Global) -> Result<Sketch, AllocError> {
 }
 
 /// The class file of java/lang/Object.
-const ROOT: [&[u8]; 4] = [
+const ROOT: &[&[u8]] = &[
     &[0xca, 0xfe, 0xba, 0xbe, 0, 0, 0, 0x3d, 0, 3, 1, 0, 16],
     OBJECT,
     &[7, 0, 1, 0, 0x21, 0, 2, 0, 0, 0, 0],
@@ -116,7 +116,7 @@ const ROOT: [&[u8]; 4] = [
 ];
 
 /// The class file of A, with a method f.
-const A: [&[u8]; 8] = [
+const A: &[&[u8]] = &[
     &[
         0xca, 0xfe, 0xba, 0xbe, 0, 0, 0, 0x3d, 0, 8, 1, 0, 1, b'A', 7, 0, 1, 1, 0, 16,
     ],
@@ -132,7 +132,7 @@ const A: [&[u8]; 8] = [
 ];
 
 /// The class file of M, whose method run calls A.f.
-const M: [&[u8]; 9] = [
+const M: &[&[u8]] = &[
     &[
         0xca, 0xfe, 0xba, 0xbe, 0, 0, 0, 0x3d, 0, 13, 1, 0, 1, b'M', 7, 0, 1, 1, 0, 16,
     ],
@@ -151,7 +151,7 @@ const M: [&[u8]; 9] = [
 ];
 
 /// The class file of B below A.
-const B: [&[u8]; 2] = [
+const B: &[&[u8]] = &[
     &[
         0xca, 0xfe, 0xba, 0xbe, 0, 0, 0, 0x3d, 0, 5, 1, 0, 1, b'B', 7, 0, 1, 1, 0, 1, b'A', 7,
     ],
@@ -159,7 +159,7 @@ const B: [&[u8]; 2] = [
 ];
 
 /// The class file of C below A, with a method f.
-const C: [&[u8]; 5] = [
+const C: &[&[u8]] = &[
     &[
         0xca, 0xfe, 0xba, 0xbe, 0, 0, 0, 0x3d, 0, 8, 1, 0, 1, b'C', 7, 0, 1, 1, 0, 1, b'A', 7,
     ],
@@ -172,7 +172,7 @@ const C: [&[u8]; 5] = [
 ];
 
 /// The class file of In, of the nest of Out.
-const IN: [&[u8]; 6] = [
+const IN: &[&[u8]] = &[
     &[
         0xca, 0xfe, 0xba, 0xbe, 0, 0, 0, 0x3d, 0, 8, 1, 0, 2, b'I', b'n', 7, 0, 1, 1, 0, 16,
     ],
@@ -186,7 +186,7 @@ const IN: [&[u8]; 6] = [
 ];
 
 /// The class file of A, a nest of itself.
-const NEST: [&[u8]; 5] = [
+const NEST: &[&[u8]] = &[
     &[
         0xca, 0xfe, 0xba, 0xbe, 0, 0, 0, 0x3d, 0, 6, 1, 0, 1, b'A', 7, 0, 1, 1, 0, 16,
     ],
@@ -229,13 +229,13 @@ fn is_written(alloc: Global, sketch: &Sketch, parts: &[&[u8]]) -> bool {
 #[test]
 fn class_files(rt: HostRuntime) {
     let alloc = rt.alloc();
-    assert!(rt; gives(alloc, root(alloc), &ROOT));
-    assert!(rt; gives(alloc, with_f(alloc, b"A", OBJECT), &A));
-    assert!(rt; gives(alloc, calls_f(alloc, 9), &M));
-    assert!(rt; gives(alloc, empty(alloc, b"B", b"A"), &B));
-    assert!(rt; gives(alloc, with_f(alloc, b"C", b"A"), &C));
-    assert!(rt; gives(alloc, hosted(alloc), &IN));
-    assert!(rt; gives(alloc, nest(alloc), &NEST));
+    assert!(rt; gives(alloc, root(alloc), ROOT));
+    assert!(rt; gives(alloc, with_f(alloc, b"A", OBJECT), A));
+    assert!(rt; gives(alloc, calls_f(alloc, 9), M));
+    assert!(rt; gives(alloc, empty(alloc, b"B", b"A"), B));
+    assert!(rt; gives(alloc, with_f(alloc, b"C", b"A"), C));
+    assert!(rt; gives(alloc, hosted(alloc), IN));
+    assert!(rt; gives(alloc, nest(alloc), NEST));
 }
 
 /// A class whose method run, of these flags, makes no calls.
