@@ -1,87 +1,90 @@
 //! The words of the program.
 
 use jl_cli::{LineFault, Mode, Words, WordsFault, read_words};
-use std::test::Fail;
+use std::alloc::{AllocError, Global};
 
-#[test]
-fn takes_its_subcommands(rt: HostRuntime) -> Result<(), Fail> {
-    let rows = [
-        ("linkd scan", Ok(Words::Lines(Mode::Scan))),
-        ("linkd scan --", Ok(Words::Lines(Mode::Scan))),
-        ("linkd --", Err(WordsFault::BadWords)),
-        ("linkd -- scan", Err(WordsFault::BadWords)),
-        ("linkd scan -- scan", Err(WordsFault::BadWords)),
-        ("", Err(WordsFault::BadWords)),
-        ("linkd", Err(WordsFault::BadWords)),
-        ("linkd sketch", Ok(Words::Lines(Mode::Sketch))),
-        ("linkd sketch --", Ok(Words::Lines(Mode::Sketch))),
-        ("linkd sketch scan", Err(WordsFault::BadWords)),
-        ("linkd sketches", Err(WordsFault::BadWords)),
-        ("linkd run", Ok(Words::Lines(Mode::Run))),
-        ("linkd run --", Ok(Words::Lines(Mode::Run))),
-        ("linkd run scan", Err(WordsFault::BadWords)),
-        ("linkd Scan", Err(WordsFault::BadWords)),
-        ("linkd sc", Err(WordsFault::BadWords)),
-        ("linkd help", Err(WordsFault::BadWords)),
-        ("linkd help scan", Err(WordsFault::BadWords)),
-        ("linkd --help", Err(WordsFault::BadWords)),
-        ("linkd -h", Err(WordsFault::BadWords)),
-        ("linkd --version", Err(WordsFault::BadWords)),
-        ("linkd -V", Err(WordsFault::BadWords)),
-        ("linkd scan scan", Err(WordsFault::BadWords)),
-        ("linkd scan --help", Err(WordsFault::BadWords)),
-        ("linkd scan -h", Err(WordsFault::BadWords)),
-        ("linkd scan help", Err(WordsFault::BadWords)),
-        ("linkd scan --workers 2", Err(WordsFault::BadWords)),
-    ];
-    for (line, expected) in rows {
-        let mut words = Vec::new(rt.alloc());
-        for word in line.split_whitespace() {
-            words.push(String::from_str(rt.alloc(), word)?)?;
-        }
-        assert_eq!(rt; read_words(rt.alloc(), &words), expected, "at {line:?}");
+/// Command lines, and what their words ask for.
+const LINES: &[(&str, Result<Words, WordsFault>)] = &[
+    ("linkd scan", Ok(Words::Lines(Mode::Scan))),
+    ("linkd scan --", Ok(Words::Lines(Mode::Scan))),
+    ("linkd --", Err(WordsFault::BadWords)),
+    ("linkd -- scan", Err(WordsFault::BadWords)),
+    ("linkd scan -- scan", Err(WordsFault::BadWords)),
+    ("", Err(WordsFault::BadWords)),
+    ("linkd", Err(WordsFault::BadWords)),
+    ("linkd sketch", Ok(Words::Lines(Mode::Sketch))),
+    ("linkd sketch --", Ok(Words::Lines(Mode::Sketch))),
+    ("linkd sketch scan", Err(WordsFault::BadWords)),
+    ("linkd sketches", Err(WordsFault::BadWords)),
+    ("linkd run", Ok(Words::Lines(Mode::Run))),
+    ("linkd run --", Ok(Words::Lines(Mode::Run))),
+    ("linkd run scan", Err(WordsFault::BadWords)),
+    ("linkd Scan", Err(WordsFault::BadWords)),
+    ("linkd sc", Err(WordsFault::BadWords)),
+    ("linkd help", Err(WordsFault::BadWords)),
+    ("linkd help scan", Err(WordsFault::BadWords)),
+    ("linkd --help", Err(WordsFault::BadWords)),
+    ("linkd -h", Err(WordsFault::BadWords)),
+    ("linkd --version", Err(WordsFault::BadWords)),
+    ("linkd -V", Err(WordsFault::BadWords)),
+    ("linkd scan scan", Err(WordsFault::BadWords)),
+    ("linkd scan --help", Err(WordsFault::BadWords)),
+    ("linkd scan -h", Err(WordsFault::BadWords)),
+    ("linkd scan help", Err(WordsFault::BadWords)),
+    ("linkd scan --workers 2", Err(WordsFault::BadWords)),
+];
+
+/// The words of the line.
+fn words_of(alloc: Global, line: &str) -> Result<Vec<String>, AllocError> {
+    let mut words = Vec::new(alloc);
+    for word in line.split_whitespace() {
+        words.push(String::from_str(alloc, word)?)?;
     }
-    Ok(())
+    Ok(words)
+}
+
+/// Whether the words of the line ask for this.
+fn asks_for(alloc: Global, line: &str, expected: Result<Words, WordsFault>) -> bool {
+    match words_of(alloc, line) {
+        Ok(words) => read_words(alloc, &words) == expected,
+        Err(_) => false,
+    }
 }
 
 #[test]
-fn has_statuses_and_texts(rt: HostRuntime) -> Result<(), Fail> {
-    let alloc = rt.alloc();
-    let rows = [
-        (
-            WordsFault::BadWords.status(),
-            WordsFault::BadWords.to_string(alloc)?,
-            1,
-            "bad words",
-        ),
-        (
-            WordsFault::Memory.status(),
-            WordsFault::Memory.to_string(alloc)?,
-            4,
-            "out of memory",
-        ),
-        (
-            LineFault::TooLong.status(),
-            LineFault::TooLong.to_string(alloc)?,
-            2,
-            "line too long",
-        ),
-        (
-            LineFault::Device.status(),
-            LineFault::Device.to_string(alloc)?,
-            3,
-            "input or output failed",
-        ),
-        (
-            LineFault::Memory.status(),
-            LineFault::Memory.to_string(alloc)?,
-            4,
-            "out of memory",
-        ),
-    ];
-    for (status, text, wanted, expected) in rows {
-        assert_eq!(rt; status, wanted);
-        assert!(rt; text.as_str() == expected, "{text}");
+fn takes_its_subcommands(rt: HostRuntime) {
+    for (line, expected) in LINES {
+        assert!(rt; asks_for(rt.alloc(), line, *expected), "at {line:?}");
     }
-    Ok(())
+}
+
+/// Whether the fault of words is shown as this text.
+fn shows_words_fault(alloc: Global, fault: WordsFault, text: &str) -> bool {
+    match fault.to_string(alloc) {
+        Ok(shown) => shown.as_str() == text,
+        Err(_) => false,
+    }
+}
+
+/// Whether the fault of lines is shown as this text.
+fn shows_line_fault(alloc: Global, fault: LineFault, text: &str) -> bool {
+    match fault.to_string(alloc) {
+        Ok(shown) => shown.as_str() == text,
+        Err(_) => false,
+    }
+}
+
+#[test]
+fn has_statuses_and_texts(rt: HostRuntime) {
+    let alloc = rt.alloc();
+    assert!(rt; WordsFault::BadWords.status() == 1);
+    assert!(rt; shows_words_fault(alloc, WordsFault::BadWords, "bad words"));
+    assert!(rt; WordsFault::Memory.status() == 4);
+    assert!(rt; shows_words_fault(alloc, WordsFault::Memory, "out of memory"));
+    assert!(rt; LineFault::TooLong.status() == 2);
+    assert!(rt; shows_line_fault(alloc, LineFault::TooLong, "line too long"));
+    assert!(rt; LineFault::Device.status() == 3);
+    assert!(rt; shows_line_fault(alloc, LineFault::Device, "input or output failed"));
+    assert!(rt; LineFault::Memory.status() == 4);
+    assert!(rt; shows_line_fault(alloc, LineFault::Memory, "out of memory"));
 }
