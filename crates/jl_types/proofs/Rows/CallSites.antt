@@ -23,7 +23,7 @@ use Rattle.jl_types.specs.History.{world_after, installed_links, dropped}
 use Rattle.jl_types.proofs.Rows.Sketch.{method, file}
 
 -- with an invokedynamic of ()V at pc 0
-abbrev bootstrapping : Method
+abbrev pub bootstrapping : Method
 bootstrapping = record {
   name = codes "r";
   ty = codes "()V";
