@@ -1,11 +1,11 @@
 -- Links by site: what is found once a link is put in its place, and their order.
 use Rattle.std.specs.Prelude.{◌≡◌, ℕ, zero, suc, ◌<◌, ◌≤◌, ◌==◌, ◌⊎◌, nat_lt, Bool, true, false, cond, List, [], ◌∷◌, ◌++◌, find, Option, Some, option_map, Result, Ok, Err, OnOk, if◌then◌else◌}
 use Rattle.std.specs.List.{AllByRecursion}
-use Rattle.std.specs.Bool.{one_answer}
 use Rattle.std.specs.Map.{lookup}
 use Rattle.std.proofs.Common.{refl, ap, sym, subst, ◌∙◌, arith, inl, inr}
 use Rattle.std.proofs.lemmas.Bool.{ltb-true}
-use Rattle.std.proofs.lemmas.Bool.Decides.{Decides-eqb, Decides-like, Decides-ltb}
+use Rattle.std.proofs.lemmas.Cmp.{nat_eq_equiv}
+use Rattle.std.proofs.lemmas.Bool.Decides.{Decides-eqb, Decides-ltb}
 use Rattle.std.proofs.lemmas.List.Elements.{All-from_recursion}
 use Rattle.std.proofs.lemmas.List.Kept.{AllPairs-cons}
 use Rattle.std.proofs.Math.Arith.{lt_of_le-ne}
@@ -13,9 +13,6 @@ use Rattle.jl_types.specs.declared.link.Link.{Link}
 use Rattle.jl_types.proofs.Bools.{clash}
 use Rattle.jl_core.specs.State.{link_at, AreRising}
 use Rattle.jl_core.specs.LinkMaps.{put, by_site, link_with}
-
-turned : (a b : ℕ) → (a == b) ≡ (b == a)
-turned a b = one_answer (a == b) (b == a) (Decides-eqb a b) (Decides-like (b == a) sym sym (Decides-eqb b a))
 
 -- ---- what is found
 
@@ -51,7 +48,7 @@ pub found_by_site : (entries : List (ℕ × Link)) (t : ℕ) → link_at (by_sit
 found_by_site [] t = refl
 found_by_site (entry ∷ entries) t =
     found_put entry.0 entry.1 (by_site entries) t
-    ∙ ap (λ (b : Bool). if b then Some entry.1 else link_at (by_site entries) t) (turned entry.0 t)
+    ∙ ap (λ (b : Bool). if b then Some entry.1 else link_at (by_site entries) t) (nat_eq_equiv.symm entry.0 t)
     ∙ by_test (t == entry.0) (found_by_site entries t)
   where
     by_test : (b : Bool) → link_at (by_site entries) t ≡ lookup (λ k. t == k) entries → (if b then Some entry.1 else link_at (by_site entries) t) ≡ cond b (Some entry.1) (lookup (λ k. t == k) entries)

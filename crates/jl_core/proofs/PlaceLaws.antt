@@ -1,12 +1,11 @@
 -- A class more leaves the requested places as they are.
 use Rattle.std.specs.Prelude.{◌≡◌, ℕ, ◌<◌, ◌≤◌, ◌==◌, nat_le, Bool, true, false, if◌then◌else◌, position, List, [], ◌∷◌, ◌++◌, length, slice_get, find, Option, Some, None, is_some, option_and_then, Result, Ok, Err, OnOk, OnErr}
 use Rattle.std.specs.Option.{option_map_or}
-use Rattle.std.proofs.Common.{refl, ap, sym, subst, ◌∙◌, arith, inl, inr, length-append}
+use Rattle.std.proofs.Common.{refl, ap, sym, subst, ◌∙◌, arith, length-append}
 use Rattle.jl_classfile.specs.Class.{ClassFile}
 use Rattle.jl_code.specs.Site.{Site}
 use Rattle.jl_types.specs.declared.ids.Place.{Place}
 use Rattle.std.specs.Bool.{then_some}
-use Rattle.std.proofs.lemmas.Bool.Decides.{leb_tells}
 use Rattle.jl_types.specs.declared.event.Made.TheVariants as made
 use Rattle.jl_types.specs.declared.refusal.NotLinkable.TheVariants.{ArrayReceiver, PolymorphicSignature}
 use Rattle.jl_types.specs.declared.refusal.Refusal.{Refusal}
@@ -14,11 +13,10 @@ use Rattle.jl_types.specs.declared.refusal.Refusal.TheVariants.{NotLinkable, Sit
 use Rattle.jl_types.specs.declared.event.Event.TheVariants as event
 use Rattle.jl_types.specs.Members.{is_present}
 use Rattle.jl_types.specs.Events.{same_place, names_array, is_polymorphic, new_place_fault, request_place, if_invoked, request_at, unless}
-use Rattle.jl_types.specs.Resolution.{first_of}
 use Rattle.jl_types.proofs.Bools.{below}
 use Rattle.jl_types.proofs.Firsts.{first_none, test_none}
-use Rattle.jl_types.proofs.Lists.{before_end, is_within}
-use Rattle.jl_core.proofs.DefineLaws.{either}
+use Rattle.jl_types.proofs.Lists.{before_end, each_and_last}
+use Rattle.std.proofs.lemmas.Option.{slice_get_within}
 use Rattle.jl_core.specs.Admitted.{admitted}
 use Rattle.jl_types.specs.World.{Class, Classes, World}
 use Rattle.jl_types.specs.Definitions.{class_made, defined}
@@ -36,7 +34,7 @@ still_there cs loader file place h = by_row (slice_get cs.rows place.class) refl
   where
     by_row : (row : Option Class) → slice_get cs.rows place.class ≡ row → option_map_or is_supported (in_row row place) false ≡ true → option_map_or is_supported (invocation_at (defined cs loader file) place) false ≡ true
     by_row None e k = cc
-    by_row (Some row) e k = ap (λ (o : Option Class). option_map_or is_supported (in_row o place) false) (before_end cs.rows (class_made cs loader file) place.class (is_within cs.rows place.class row e) ∙ e) ∙ k
+    by_row (Some row) e k = ap (λ (o : Option Class). option_map_or is_supported (in_row o place) false) (before_end cs.rows (class_made cs loader file) place.class (slice_get_within cs.rows place.class row e) ∙ e) ∙ k
 
 pub supported_after : {X E : Type 0} (r : Result X E) (cs new : Classes) (loader : ℕ) (file : ClassFile) (places : List Place) → OnOk r (new ≡ defined cs loader file) → OnErr r (new ≡ cs) → AreSupported cs places → AreSupported new places
 supported_after (Ok x) cs new loader file places e f h = subst (λ k. AreSupported k places) (sym e) (λ s place is. still_there cs loader file place (h s place is))
@@ -70,7 +68,7 @@ room_there max_sites w site e =
 
 pub place_supported : (cs : Classes) (keys : List Place) (place : Place) (site : Site) → invocation_at cs place ≡ Some site → is_supported site ≡ true → AreSupported cs keys → (b : Bool) → AreSupported cs (if b then keys else keys ++ place ∷ [])
 place_supported cs keys place site e s h true = h
-place_supported cs keys place site e s h false = λ n other is. either (λ p. option_map_or is_supported (invocation_at cs p) false ≡ true) keys place other n h (ap (λ (o : Option Site). option_map_or is_supported o false) e ∙ s) is
+place_supported cs keys place site e s h false = λ n other is. each_and_last (λ p. option_map_or is_supported (invocation_at cs p) false ≡ true) keys place other n h (ap (λ (o : Option Site). option_map_or is_supported o false) e ∙ s) is
 
 pub place_few : (keys : List Place) (place : Place) (most : ℕ) → length keys < most → (b : Bool) → length (if b then keys else keys ++ place ∷ []) ≤ most
 place_few keys place most h true = omega arith

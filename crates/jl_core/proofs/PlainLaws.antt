@@ -3,10 +3,11 @@ use Rattle.std.specs.Prelude.{◌≡◌, ℕ, zero, suc, ◌+◌, ◌<◌, ◌==
 use Rattle.std.specs.List.{list_any, list_all, cons_option, position_or_len}
 use Rattle.std.specs.Option.{option_map_or}
 use Rattle.std.proofs.Common.{refl, ap, sym, ◌∙◌, add-one}
-use Rattle.std.specs.Bool.{one_answer}
 use Rattle.std.proofs.Common.{append-nil}
-use Rattle.std.proofs.lemmas.Bool.Decides.{Decides-eqb, Decides-like}
-use Rattle.std.proofs.lemmas.Bool.{ltb-true}
+use Rattle.std.proofs.lemmas.Bool.{eqb-true, ltb-true}
+use Rattle.std.proofs.lemmas.Cmp.{nat_eq_equiv}
+use Rattle.std.proofs.lemmas.List.{nil_from_length}
+use Rattle.std.proofs.lemmas.Option.{same_Some}
 use Rattle.jl_classfile.specs.Class.{ClassFile, Method}
 use Rattle.jl_pool.specs.declared.reference.Reference.{Reference}
 use Rattle.jl_classfile.specs.Conditions.{has_flag, PUBLIC, PRIVATE, STATIC, INTERFACE}
@@ -23,7 +24,7 @@ use Rattle.jl_types.specs.Overriding.{are_alike, is_visible, can_override}
 use Rattle.jl_types.specs.Selection.{overriding, chosen}
 use Rattle.jl_types.specs.declared.answer.Chosen.TheVariants.{Nothing}
 use Rattle.jl_types.proofs.Bools.{and_both, not_true, or_left, or_none}
-use Rattle.jl_types.proofs.Lists.{some_same, element_at}
+use Rattle.jl_types.proofs.Lists.{element_at}
 use Rattle.jl_core.specs.Admitted.{is_plain_file, is_public_method}
 use Rattle.jl_core.specs.Plain.{alike, IsPlainWorld}
 
@@ -34,16 +35,16 @@ plain_parts file h =
     let d = and_both (length file.interfaces == 0) _ b.1 in
     (a.0, b.0, d.0, d.1)
 
+pub no_interfaces : (file : ClassFile) → is_plain_file file ≡ true → file.interfaces ≡ []
+no_interfaces file h = nil_from_length file.interfaces (eqb-true (length file.interfaces) 0 (plain_parts file h).2)
+
 pub filter_none : {A : Type 0} (p : A → Bool) (xs : List A) → ((x : A) → p x ≡ false) → filter p xs ≡ []
 filter_none p [] h = refl
 filter_none p (x ∷ xs) h = rw (h x) (filter_none p xs h)
 
 all_at : (p : Method → Bool) (ms : List Method) (i : ℕ) (m : Method) → list_all p ms ≡ true → slice_get ms i ≡ Some m → p m ≡ true
 all_at p [] i m h e = cc
-all_at p (x ∷ ms) zero m h e = ap p (same x m e) ∙ (and_both (p x) (list_all p ms) h).0
-  where
-    same : (a b : Method) → Some a ≡ Some b → b ≡ a
-    same a b e = cc
+all_at p (x ∷ ms) zero m h e = ap p (sym (same_Some x m e)) ∙ (and_both (p x) (list_all p ms) h).0
 all_at p (x ∷ ms) (suc i) m h e = all_at p ms i m (and_both (p x) (list_all p ms) h).1 e
 
 lt_of : {n m : ℕ} → nat_lt n m ≡ true → n < m
@@ -88,7 +89,7 @@ module _ (cs : Classes) (w : IsPlainWorld cs.rows) where
           let k = position_or_len (is_called name ty) (methods_of cs c) in
           let lt : k < length (methods_of cs c) = lt_of is in
           let r = element_at (methods_of cs c) k lt in
-          (r.0, sym (ap (method_at cs) (some_same (record { class = c; index = k }) m h)) ∙ r.1)
+          (r.0, sym (ap (method_at cs) (same_Some (record { class = c; index = k }) m h)) ∙ r.1)
       by_place false is h = cc
 
   first_there : (name ty : List ℕ) (xs : List ℕ) (m : MethodId) → first_element (filter_map (declared cs name ty) xs) ≡ Some m → (method : Method) × (method_at cs m ≡ Some method)
@@ -154,9 +155,6 @@ module _ (cs : Classes) (w : IsPlainWorld cs.rows) where
   parents_are : (row : Class) → row.interfaces ≡ [] → parents row ≡ option_to_list row.superclass
   parents_are row h = rw h (append-nil (option_to_list row.superclass))
 
-  same_either : (a b : ℕ) → (a == b) ≡ (b == a)
-  same_either a b = one_answer (a == b) (b == a) (Decides-eqb a b) (Decides-like (b == a) sym sym (Decides-eqb b a))
-
   chain_within : (a n x : ℕ) → is_ancestor_within n cs.rows a x ≡ list_any (λ c. c == a) (superclasses_within n cs.rows x)
   chain_within a zero x = refl
   chain_within a (suc n) x = by_row (slice_get cs.rows x) refl (chain_within a n)
@@ -167,7 +165,7 @@ module _ (cs : Classes) (w : IsPlainWorld cs.rows) where
 
       by_row : (row : Option Class) → slice_get cs.rows x ≡ row → ((p : ℕ) → is_ancestor_within n cs.rows a p ≡ list_any (λ c. c == a) (superclasses_within n cs.rows p)) → option_map_or (λ row. (a == x) || list_any (is_ancestor_within n cs.rows a) (parents row)) row false ≡ list_any (λ c. c == a) (option_map_or (λ row. x ∷ option_map_or (superclasses_within n cs.rows) row.superclass []) row [])
       by_row None e ih = refl
-      by_row (Some row) e ih = rw (parents_are row (w.each x row e).alone, same_either a x) (ap (λ (b : Bool). (x == a) || b) (by_superclass row.superclass ih))
+      by_row (Some row) e ih = rw (parents_are row (w.each x row e).alone, nat_eq_equiv.symm a x) (ap (λ (b : Bool). (x == a) || b) (by_superclass row.superclass ih))
 
   pub ancestor_subclass : (a x : ℕ) → is_ancestor cs a x ≡ is_subclass cs x a
   ancestor_subclass a x = chain_within a (x + 1) x

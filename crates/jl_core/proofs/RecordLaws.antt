@@ -1,5 +1,5 @@
 -- What a loader finds by name, as the map has it.
-use Rattle.std.specs.Prelude.{◌≡◌, ℕ, zero, suc, ◌<◌, slice_get, option_and_then, Bool, true, false, cond, List, [], ◌∷◌, ◌++◌, Vec, find, Option, Some, None, option_map, IfSome, All}
+use Rattle.std.specs.Prelude.{◌≡◌, ℕ, zero, suc, ◌<◌, slice_get, option_and_then, Bool, true, false, cond, List, [], ◌∷◌, ◌++◌, Vec, find, Some, None, option_map, IfSome, All}
 use Rattle.std.specs.List.{AllByRecursion, AllZip, each_same}
 use Rattle.std.specs.Vec.{vec_len}
 use Rattle.std.specs.Bool.{one_answer}

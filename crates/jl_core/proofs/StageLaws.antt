@@ -1,6 +1,6 @@
 -- What an invokevirtual selects.
-use Rattle.std.specs.Prelude.{◌≡◌, ℕ, Bool, false, List, Some, Ok, if◌then◌else◌}
-use Rattle.std.proofs.Common.{ap, sym, ◌∙◌}
+use Rattle.std.specs.Prelude.{◌≡◌, ℕ, Bool, false, List, Ok, if◌then◌else◌}
+use Rattle.std.proofs.Common.{ap, ◌∙◌}
 use Rattle.jl_pool.specs.declared.reference.Reference.{Reference}
 use Rattle.jl_code.specs.declared.site.Kind.TheVariants.{Virtual}
 use Rattle.jl_types.specs.declared.ids.MethodId.{MethodId}

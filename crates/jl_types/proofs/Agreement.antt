@@ -1,5 +1,5 @@
 -- A link from scratch gives the answer of the call.
-use Rattle.std.specs.Prelude.{◌≡◌, ℕ, ◌==◌, ◌&&◌, ◌||◌, nat_le, Bool, true, false, not, cond, ⊤, List, [], ◌∷◌, length, map, filter, find, slice_get, Option, Some, None, Result, Ok, Err, if◌then◌else◌}
+use Rattle.std.specs.Prelude.{◌≡◌, ℕ, ◌==◌, ◌&&◌, ◌||◌, nat_le, Bool, true, false, cond, List, [], ◌∷◌, length, map, filter, find, Some, None, Result, Ok, Err, if◌then◌else◌}
 use Rattle.std.specs.List.{list_any, list_all}
 use Rattle.std.proofs.Common.{refl, ap, sym, ◌∙◌, arith, inl, inr}
 use Rattle.std.proofs.lemmas.Bool.Decides.{Decides-eqb}
@@ -9,7 +9,7 @@ use Rattle.jl_types.specs.declared.answer.Outcome.{Outcome}
 use Rattle.jl_types.specs.declared.answer.Outcome.TheVariants as outcome_is
 use Rattle.jl_types.specs.declared.answer.Chosen.TheVariants.{Method as Picked}
 use Rattle.jl_types.specs.declared.answer.Throwable.{Throwable}
-use Rattle.jl_types.specs.declared.answer.Throwable.TheVariants.{NoSuchMethodError, NullPointerException, IncompatibleClassChangeError}
+use Rattle.jl_types.specs.declared.answer.Throwable.TheVariants.{NullPointerException, IncompatibleClassChangeError}
 use Rattle.jl_types.specs.declared.answer.Unlinked.{Unlinked}
 use Rattle.jl_types.specs.declared.answer.Recv.{Recv}
 use Rattle.jl_types.specs.declared.answer.Recv.TheVariants.{Null, Of}
@@ -19,10 +19,10 @@ use Rattle.jl_types.specs.declared.link.Link.{Link}
 use Rattle.jl_types.specs.declared.link.Link.TheVariants.{Fault, Plain, Direct, Table, Mega}
 use Rattle.jl_types.specs.declared.link.TableKind.{TableKind}
 use Rattle.jl_types.specs.declared.link.TableKind.TheVariants as table
-use Rattle.jl_types.specs.World.{World, Classes, CallSite}
+use Rattle.jl_types.specs.World.{World, Classes}
 use Rattle.jl_types.specs.Members.{numbers, method_at, is_present, class_test, is_concrete, is_private, is_concrete_row}
 use Rattle.jl_types.specs.Ancestry.{is_ancestor, receivers}
-use Rattle.jl_types.specs.Selection.{is_init, virtual_outcome, interface_outcome, interface_ending, special_outcome, chosen, chosen_of, ending}
+use Rattle.jl_types.specs.Selection.{virtual_outcome, interface_outcome, interface_ending, special_outcome, chosen, chosen_of, ending}
 use Rattle.jl_types.specs.Sites.{Selector, ByVirtual, ByInterface, BySpecial, Invocation, Stage, Waits, Fails, Calls, Selects, stage}
 use Rattle.jl_types.specs.Links.{outcome, table_rows, table_or_mega, virtual_link, runs, link_by, link_of, scratch}
 use Rattle.jl_types.specs.Calls.{answered, is_receiver, selected, answer_of, dispatch}

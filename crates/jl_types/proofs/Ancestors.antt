@@ -9,7 +9,7 @@ use Rattle.std.proofs.Math.Arith.{lt_of_le-ne}
 use Rattle.jl_types.specs.World.{Class, Classes}
 use Rattle.jl_types.specs.Ancestry.{parents, IsAncestor, itself, over, is_ancestor_within, is_ancestor, superclasses_within, superclasses, is_subclass, is_proper_subclass, AreOrdered}
 use Rattle.jl_types.proofs.Bools.{or_right, or_cases, and_both, same_number, clash}
-use Rattle.jl_types.proofs.Lists.{some_same}
+use Rattle.std.proofs.lemmas.Option.{same_Some}
 
 -- ---- ancestors
 
@@ -94,7 +94,7 @@ of_ancestors cs o a b c h k = (ancestor_decides cs o a c).1 (onward cs.rows a b 
 
 first_of_all : (P : ℕ → Type 0) (o : Option ℕ) (ps : List ℕ) (s : ℕ) → o ≡ Some s → AllByRecursion P (option_to_list o ++ ps) → P s
 first_of_all P None ps s e h = cc
-first_of_all P (Some q) ps s e h = subst P (some_same q s e) h.0
+first_of_all P (Some q) ps s e h = subst P (same_Some q s e) h.0
 
 module _ (rows : List Class) (o : AreOrdered rows) where
   pub superclass_below : (c : ℕ) (row : Class) → slice_get rows c ≡ Some row → (s : ℕ) → row.superclass ≡ Some s → s < c

@@ -8,11 +8,11 @@ use Rattle.std.proofs.lemmas.Bool.Decides.{Decides-eqb}
 use Rattle.std.proofs.lemmas.List.Elements.{recursion_from_All, filter-append}
 use Rattle.jl_classfile.specs.Class.{ClassFile}
 use Rattle.jl_types.specs.World.{Class, Classes}
-use Rattle.jl_types.specs.Members.{is_concrete, is_concrete_row, numbers}
-use Rattle.jl_types.specs.Ancestry.{parents, is_parent, AreOrdered, IsAncestor, itself, over, is_ancestor_within, is_ancestor, ancestors, receivers}
+use Rattle.jl_types.specs.Members.{is_concrete, is_concrete_row}
+use Rattle.jl_types.specs.Ancestry.{parents, AreOrdered, IsAncestor, itself, over, is_ancestor_within, is_ancestor, ancestors, receivers}
 use Rattle.jl_types.specs.Definitions.{class_made, defined}
-use Rattle.jl_types.proofs.Bools.{or_cases, and_both, both_and, same_number, Passing, any-filter, any-filter-at, any-range-from}
-use Rattle.jl_types.proofs.Lists.{before_end, is_within, range_end}
+use Rattle.jl_types.proofs.Bools.{or_cases, same_number, any-filter, any-filter-at, any-range-from}
+use Rattle.jl_types.proofs.Lists.{before_end, range_end}
 use Rattle.jl_types.proofs.Ancestors.{any_alike, ancestor_decides}
 
 -- ---- the list of ancestors

@@ -4,6 +4,7 @@ use Rattle.std.specs.List.{range_with_len, AllByRecursion, cons_option}
 use Rattle.std.proofs.Common.{refl, ap, subst, ◌∙◌, arith, inl, inr}
 use Rattle.std.proofs.lemmas.List.Elements.{All-from_recursion}
 use Rattle.std.proofs.lemmas.List.Kept.{AllPairs-cons}
+use Rattle.std.proofs.lemmas.Option.{same_Some, slice_get_within}
 use Rattle.jl_types.specs.declared.ids.Place.{Place}
 use Rattle.jl_types.specs.declared.link.Link.{Link}
 use Rattle.jl_types.specs.declared.event.Event.{Event}
@@ -11,7 +12,6 @@ use Rattle.jl_types.specs.World.{World}
 use Rattle.jl_types.specs.Sites.{stage_at}
 use Rattle.jl_types.specs.Links.{scratch, link_of}
 use Rattle.jl_types.specs.History.{world_after, installed, installed_links}
-use Rattle.jl_types.proofs.Lists.{some_same, is_within}
 use Rattle.jl_types.proofs.Installed.{installed_to, settled_now}
 
 pub requested : (w : World) (s : ℕ) (l : Link) → scratch w s ≡ Ok l → s < length w.places
@@ -19,7 +19,7 @@ requested w s l e = by_place (slice_get w.places s) refl e
   where
     by_place : (place : Option Place) → slice_get w.places s ≡ place → link_of w.classes (stage_at w s place) ≡ Ok l → s < length w.places
     by_place None is e = cc
-    by_place (Some place) is e = is_within w.places s place is
+    by_place (Some place) is e = slice_get_within w.places s place is
 
 pub installed_requested : (h : List Event) (s : ℕ) (l : Link) → installed h s ≡ Some l → s < length (world_after h).places
 installed_requested h s l e = requested (world_after h) s l (settled_now h s l (installed_to h s l e))
@@ -70,7 +70,7 @@ module _ (f : ℕ → Option Link) where
 
       first : (o : Option Link) → o ≡ Some l → a ≡ s → Contains (cons_option (option_map (λ l. (a, l)) o) (rows (a + 1) n)) (s, l)
       first None e same = cc
-      first (Some m) e same = (0, omega arith, λ i. (same i, some_same m l e i))
+      first (Some m) e same = (0, omega arith, λ i. (same i, same_Some m l e i))
 
       later : (o : Option Link) → Contains (rows (a + 1) n) (s, l) → Contains (cons_option (option_map (λ l. (a, l)) o) (rows (a + 1) n)) (s, l)
       later None c = c

@@ -1,5 +1,5 @@
 -- Overriding is decided in one walk upward: methods without access flag between the two add nothing.
-use Rattle.std.specs.Prelude.{◌≡◌, ◌↔◌, ℕ, zero, suc, ◌+◌, ◌<◌, ◌==◌, Bool, true, false, not, ◌&&◌, ◌||◌, ◌⊎◌, List, ◌∷◌, [], slice_get, Option, Some, None}
+use Rattle.std.specs.Prelude.{◌≡◌, ◌↔◌, ℕ, zero, suc, ◌+◌, ◌<◌, ◌==◌, Bool, true, false, not, ◌&&◌, ◌||◌, ◌⊎◌, [], slice_get, Option, Some, None}
 use Rattle.std.specs.List.{list_any}
 use Rattle.std.specs.Option.{option_map_or}
 use Rattle.std.specs.Str.{bytes_eq}
@@ -14,7 +14,7 @@ use Rattle.jl_types.specs.Members.{method_at, method_test, is_called, is_public,
 use Rattle.jl_types.specs.Ancestry.{superclasses, is_subclass, is_proper_subclass, AreOrdered}
 use Rattle.jl_types.specs.Overriding.{are_alike, is_visible, CanOverride, directly, through, IsBridged}
 use Rattle.jl_types.proofs.Bools.{or_right, or_left, or_cases, and_both, both_and, clash, not_true}
-use Rattle.jl_types.proofs.Lists.{some_same}
+use Rattle.std.proofs.lemmas.Option.{same_Some}
 use Rattle.jl_types.proofs.Ancestors.{superclass_below, superclasses_is, subclass_above}
 use Rattle.jl_types.proofs.Overrides.{alike_of}
 
@@ -50,7 +50,7 @@ module _ (cs : Classes) where
   package_onward c d e h k =
       let p = shares c d h in
       let q = shares d e k in
-      let same : p.second ≡ q.first = some_same p.second q.first (sym p.second_is ∙ q.first_is) in
+      let same : p.second ≡ q.first = same_Some p.second q.first (sym p.second_is ∙ q.first_is) in
       shared c e (record {
         first = p.first;
         second = q.second;
@@ -96,7 +96,7 @@ module _ (cs : Classes) where
       let private = and_both (not (is_static cs a)) (not (is_private cs c)) first.1 in
       let m = named c a p.1 in
       let n = named b a q.1 in
-      let same : m.second ≡ n.second = some_same m.second n.second (sym m.second_is ∙ n.second_is) in
+      let same : m.second ≡ n.second = same_Some m.second n.second (sym m.second_is ∙ n.second_is) in
       both_and (not (is_static cs c) && (not (is_static cs b) && not (is_private cs c))) _
       (both_and (not (is_static cs c)) _ first.0 (both_and (not (is_static cs b)) _ second.0 private.1))
       (names c b (record {
@@ -119,7 +119,7 @@ module _ (cs : Classes) where
       let instance = and_both (not (is_static cs a)) (not (is_private cs b)) second.1 in
       let m = named c b p.1 in
       let n = named b a q.1 in
-      let same : m.second ≡ n.first = some_same m.second n.first (sym m.second_is ∙ n.first_is) in
+      let same : m.second ≡ n.first = same_Some m.second n.first (sym m.second_is ∙ n.first_is) in
       both_and (not (is_static cs c) && (not (is_static cs a) && not (is_private cs c))) _
       (both_and (not (is_static cs c)) _ first.0 (both_and (not (is_static cs a)) _ instance.0 private.1))
       (names c a (record {

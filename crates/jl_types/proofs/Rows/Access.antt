@@ -1,8 +1,6 @@
 -- Who may name a method (JVMS 5.4.4): each sentence of the rule once.
 use Rattle.std.specs.Prelude.{◌≡◌, ℕ, List, [], ◌∷◌, Option, Some, None, Ok, Err, Result, codes, refl}
 use Rattle.jl_classfile.specs.Class.{Method}
-use Rattle.jl_pool.specs.declared.reference.Reference.{Reference}
-use Rattle.jl_types.specs.declared.ids.MethodId.{MethodId}
 use Rattle.jl_types.specs.declared.answer.ResolveAnswer.{ResolveAnswer}
 use Rattle.jl_types.specs.declared.answer.ResolveAnswer.TheVariants.{NotReady, Fault}
 use Rattle.jl_types.specs.declared.answer.Missing.TheVariants.{CallerHost, MethodHost}

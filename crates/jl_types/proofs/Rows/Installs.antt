@@ -20,7 +20,7 @@ use Rattle.jl_types.proofs.Rows.CallSites.{bootstrapping}
 abbrev before : List Event
 before = Define 0 (file (codes "java/lang/Object") 33 [])
     ∷ Define 0 (record (file (codes "T") 33 (
-      method 9 (codes "m") ∷ calling 9 (codes "run") Static (class_ref (codes "T") (codes "m")) ∷ bootstrapping ∷ []
+    method 9 (codes "m") ∷ calling 9 (codes "run") Static (class_ref (codes "T") (codes "m")) ∷ bootstrapping ∷ []
     )) { superclass = Some (codes "java/lang/Object") })
     ∷ Request (record { class = 1; method = 1; pc = 0 })
     ∷ Request (record { class = 1; method = 2; pc = 0 })

@@ -1,7 +1,6 @@
 -- What there is room for, and places that are never linked.
-use Rattle.std.specs.Prelude.{◌≡◌, ℕ, zero, suc, List, [], ◌∷◌, Some, None, Ok, Err, length, replicate, codes, refl}
+use Rattle.std.specs.Prelude.{◌≡◌, ℕ, List, [], ◌∷◌, Some, Ok, Err, length, replicate, codes, refl}
 use Rattle.jl_code.specs.declared.site.Kind.TheVariants.{Virtual}
-use Rattle.jl_types.specs.declared.ids.MethodId.{MethodId}
 use Rattle.jl_types.specs.declared.ids.Place.{Place}
 use Rattle.jl_types.specs.declared.event.Event.TheVariants.{NewLoader, NewSwitch, NewCallSite, Request}
 use Rattle.jl_types.specs.declared.event.Made.TheVariants as made

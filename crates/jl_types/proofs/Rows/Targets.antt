@@ -3,7 +3,6 @@ use Rattle.std.specs.Prelude.{◌≡◌, ℕ, zero, suc, List, [], ◌∷◌, �
 use Rattle.jl_classfile.specs.Class.{Method}
 use Rattle.jl_code.specs.declared.site.Kind.TheVariants.{Dynamic, Static}
 use Rattle.jl_code.specs.declared.site.Operand.TheVariants as operand
-use Rattle.jl_types.specs.declared.ids.MethodId.{MethodId}
 use Rattle.jl_types.specs.declared.target.CallSiteKind.TheVariants.{Constant, Mutable}
 use Rattle.jl_types.specs.Target as target
 use Rattle.jl_types.specs.Target.{Target}

@@ -4,7 +4,7 @@ use Rattle.jl_types.specs.World.{Class, Classes}
 use Rattle.jl_types.specs.Definitions.{defined}
 use Rattle.jl_types.specs.Members as members
 use Rattle.jl_core.specs.Plain.{named, HasSuperclass, IsPlainWorld}
-use Rattle.jl_core.proofs.DefineLaws.{plain_class, still_plain, still_there, defined_is}
+use Rattle.jl_core.proofs.AddLaws.{plain_class, still_plain, still_there, defined_is}
 use Rattle.jl_core.proofs.RecordLaws.{new_entry}
 use Rattle.jl_core.proofs.classes.Classes.add.Goals.{After-push_reserved}
 use Rattle.jl_core.proofs.classes.Classes.add.Goals as goal

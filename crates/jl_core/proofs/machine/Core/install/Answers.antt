@@ -9,7 +9,8 @@ use Rattle.jl_types.specs.Links.{scratch}
 use Rattle.jl_types.specs.Events.{unless}
 use Rattle.jl_types.specs.History.{kept}
 use Rattle.jl_core.specs.State.{State, IsAccepted, counted, AreScratch, link_at}
-use Rattle.jl_core.proofs.MachineLaws.{are_scratch, install_keeps, kept_once, nothing_lost}
+use Rattle.jl_core.proofs.KeptLaws.{are_scratch, kept_once, nothing_lost}
+use Rattle.jl_core.proofs.InstallLaws.{install_keeps}
 use Rattle.jl_core.proofs.machine.Core.install.Goals.{After-of}
 use Rattle.jl_core.proofs.machine.Core.install.Goals as goal
 

@@ -1,4 +1,4 @@
-use Rattle.std.specs.Prelude.{◌<◌, length}
+use Rattle.std.specs.Prelude.{◌<◌}
 use Rattle.std.proofs.Common.{sym, subst, ◌∙◌}
 use Rattle.jl_core.proofs.BatchLaws.{comes_again, comes_first}
 use Rattle.jl_core.proofs.world.World.sites_fault.Goals as goal
