@@ -22,7 +22,8 @@ found_is : (cs : Classes) (loader : ℕ) (file : ClassFile) (o : Option ℕ) →
 found_is cs loader file None h = sym (ap (option_and_then (lookup cs loader)) h)
 found_is cs loader file (Some c) h = sym (ap (option_and_then (lookup cs loader)) h.1 ∙ h.2)
 
-pub made_is : (cs : Classes) (loader : ℕ) (file : ClassFile) (o : Option ℕ) → is_plain_file file ≡ true → HasSuperclass cs loader file o → plain_class loader file o ≡ class_made cs loader file
+pub made_is : (cs : Classes) (loader : ℕ) (file : ClassFile) (o : Option ℕ) → is_plain_file file ≡ true → HasSuperclass cs loader file o
+    → plain_class loader file o ≡ class_made cs loader file
 made_is cs loader file o p h = λ i. record {
   loader = loader;
   file = file;
@@ -38,7 +39,8 @@ records_there : {A : Type 0} (n : ℕ) (entries : List (Vec ℕ A × ℕ)) → A
 records_there n [] h = tt
 records_there n (e ∷ entries) h = (h.0, records_there n entries h.1)
 
-module _ {A : Type 0} (rows : List Class) (entries : List (Vec ℕ A × ℕ)) (w : IsPlainWorld rows) (t : All (λ e. e.1 < length rows) entries) (file : ClassFile) (p : is_plain_file file ≡ true) (few : length file.methods < 2 ^ 16) where
+module _ {A : Type 0} (rows : List Class) (entries : List (Vec ℕ A × ℕ)) (w : IsPlainWorld rows) (t : All (λ e. e.1 < length rows) entries) (file : ClassFile)
+    (p : is_plain_file file ≡ true) (few : length file.methods < 2 ^ 16) where
   abbrev old : Classes
   old = record { loaders = named entries ∷ []; rows = rows }
 
@@ -61,7 +63,8 @@ module _ {A : Type 0} (rows : List Class) (entries : List (Vec ℕ A × ℕ)) (w
       (All-push (λ e. e.1 < length rows + 1) entries (key, length rows)
       (All-weaker (λ e. e.1 < length rows) (λ e. e.1 < length rows + 1) (λ e lt. omega arith) entries t) (omega arith))
 
-  pub defined_is : (key : Vec ℕ A) (o : Option ℕ) → key.items ≡ file.name → HasSuperclass old 0 file o → record { loaders = named (entries ++ (key, length rows) ∷ []) ∷ []; rows = rows ++ plain_class 0 file o ∷ [] } ≡ defined old 0 file
+  pub defined_is : (key : Vec ℕ A) (o : Option ℕ) → key.items ≡ file.name → HasSuperclass old 0 file o
+      → record { loaders = named (entries ++ (key, length rows) ∷ []) ∷ []; rows = rows ++ plain_class 0 file o ∷ [] } ≡ defined old 0 file
   defined_is key o k h = λ i. record {
     loaders = (named_end entries (key, length rows) ∙ ap (λ (name : List ℕ). named entries ++ (name, length rows) ∷ []) k) i ∷ [];
     rows = rows ++ made_is old 0 file o p h i ∷ [];

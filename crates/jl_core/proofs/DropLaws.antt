@@ -1,16 +1,16 @@
 -- The links that go and those that stay, site by site.
-use Rattle.std.specs.Prelude.{◌≡◌, ℕ, ◌+◌, ◌<◌, ◌≤◌, ◌==◌, ◌⊎◌, ◌&&◌, nat_lt, Bool, true, false, cond, List, [], ◌∷◌, ◌++◌, filter, Option, Some, None, is_some, is_none, if◌then◌else◌}
+use Rattle.std.specs.Prelude.{◌≡◌, ℕ, ◌+◌, ◌<◌, ◌≤◌, ◌==◌, ◌⊎◌, ◌&&◌, nat_lt, Bool, true, false, cond, List, [], ◌∷◌, ◌++◌}
+use Rattle.std.specs.Prelude.{filter, Option, Some, None, is_some, is_none, if◌then◌else◌}
 use Rattle.std.specs.List.{range_with_len}
 use Rattle.std.proofs.Common.{refl, ap, sym, subst, ◌∙◌, arith, inl, inr, append-nil}
-use Rattle.std.proofs.lemmas.Bool.{cases_order, le-ltb}
+use Rattle.std.proofs.lemmas.Bool.{cases_order, le-ltb, both_ways}
 use Rattle.std.proofs.lemmas.Bool.Decides.{Decides-eqb, Decides-ltb}
+use Rattle.std.proofs.lemmas.List.Elements.{filter-append}
 use Rattle.jl_types.specs.declared.link.Link.{Link}
 use Rattle.jl_types.specs.World.{World}
 use Rattle.jl_types.specs.Links.{scratch}
 use Rattle.jl_types.specs.History.{kept}
-use Rattle.jl_types.proofs.Bools.{clash}
 use Rattle.jl_core.specs.State.{link_at, lost}
-use Rattle.std.proofs.lemmas.List.Elements.{filter-append}
 use Rattle.jl_types.proofs.Lists.{range_end}
 use Rattle.jl_core.proofs.KeptLaws.{kept_none, kept_none_lost}
 
@@ -59,7 +59,7 @@ module _ (w : World) (before : List (ℕ × Link)) where
 
       by_test : (b : Bool) → (n == s) ≡ b → (if b then None else so_far n s) ≡ so_far (n + 1) s
       by_test true is = subst (λ k. None ≡ so_far (n + 1) k) ((Decides-eqb n s).0 is) (sym e ∙ sym (passed (n + 1) n (omega arith)))
-      by_test false is = by_place (λ same. clash (n == s) ((Decides-eqb n s).1 same) is) (cases_order s n)
+      by_test false is = by_place (λ same. both_ways (n == s) is ((Decides-eqb n s).1 same)) (cases_order s n)
 
   stays_there : (n : ℕ) → kept false (link_at before n) (scratch w n) ≡ link_at before n → goes n ≡ false
   stays_there n e = kept_none_lost (link_at before n) (kept false (link_at before n) (scratch w n)) e
@@ -80,7 +80,7 @@ module _ (w : World) (before : List (ℕ × Link)) where
 
       by_test : (b : Bool) → nat_lt s n ≡ b → cond b (kept false (link_at before s) (scratch w s)) (link_at before s) ≡ kept false (link_at before s) (scratch w s)
       by_test true e = refl
-      by_test false e = none (link_at before s) refl (λ lt. clash (nat_lt s n) ((Decides-ltb s n).1 lt) e)
+      by_test false e = none (link_at before s) refl (λ lt. both_ways (nat_lt s n) e ((Decides-ltb s n).1 lt))
 
   pub gone_is_lost : (n : ℕ) (left : List (ℕ × Link)) → ((s : ℕ) → link_at left s ≡ kept false (link_at before s) (scratch w s)) → gone n ≡ lost n before left
   gone_is_lost n left h = λ i. filter (λ s. is_some (link_at before s) && is_none (sym (h s) i)) (range_with_len 0 n)

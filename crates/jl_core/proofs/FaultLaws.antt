@@ -1,27 +1,24 @@
 -- The first fault of a definition, where the file is plain.
-use Rattle.std.specs.Prelude.{◌≡◌, ℕ, ◌<◌, Bool, true, false, ◌||◌, List, [], ◌∷◌, ◌++◌, length, find, not, cond, nat_le, is_none, option_map, Option, Some, None, option_to_list}
+use Rattle.std.specs.Prelude.{◌≡◌, ℕ, ◌<◌, Bool, true, false, ◌||◌, List, [], ◌∷◌, ◌++◌, length, find, not, cond, nat_le, is_none, option_map}
+use Rattle.std.specs.Prelude.{Option, Some, None, option_to_list}
 use Rattle.std.specs.List.{list_any}
 use Rattle.std.specs.Option.{option_map_or}
 use Rattle.std.proofs.Common.{refl, ap, sym, ◌∙◌}
+use Rattle.std.specs.Bool.{then_some}
+use Rattle.std.proofs.lemmas.Bool.{or_left}
 use Rattle.jl_classfile.specs.Class.{ClassFile}
 use Rattle.jl_types.specs.World.{Class, Classes}
-use Rattle.jl_types.specs.Members.{lookup}
-use Rattle.jl_types.specs.Definitions.{class_made}
+use Rattle.jl_types.specs.Members.{lookup, is_interface, share_package}
+use Rattle.jl_types.specs.Definitions.{class_made, parent_names, named_test, is_final, is_open_parent, is_open_to, define_fault}
 use Rattle.jl_core.specs.Admitted.{is_plain_file}
-use Rattle.jl_core.specs.Plain.{HasSuperclass, IsPlainWorld}
-use Rattle.std.specs.Bool.{then_some}
+use Rattle.jl_core.specs.Plain.{HasSuperclass, IsPlainWorld, first_faults, last_faults}
 use Rattle.jl_types.specs.declared.refusal.DefineFault.{DefineFault}
 use Rattle.jl_types.specs.declared.refusal.DefineFault.TheVariants as define
 use Rattle.jl_types.specs.Resolution.{first_of}
-use Rattle.jl_types.specs.Definitions.{parent_names, named_test, is_final, is_open_parent, is_open_to, define_fault}
-use Rattle.jl_types.specs.Members.{is_interface}
-use Rattle.jl_core.specs.Plain.{first_faults, last_faults}
 use Rattle.jl_classfile.specs.Conditions.{has_flag, PUBLIC}
-use Rattle.jl_types.specs.Members.{share_package}
-use Rattle.jl_types.proofs.Bools.{or_left, or_none}
+use Rattle.jl_types.proofs.Bools.{or_none}
 use Rattle.jl_types.proofs.Lists.{element_at}
-use Rattle.jl_core.proofs.PlainLaws.{plain_parts, no_interface}
-use Rattle.jl_core.proofs.PlainLaws.{no_interfaces}
+use Rattle.jl_core.proofs.PlainLaws.{plain_parts, no_interface, no_interfaces}
 
 joined_none : {A : Type 0} (xs ys : List (Option A)) → first_of xs ≡ None → first_of (xs ++ ys) ≡ first_of ys
 joined_none [] ys e = refl
@@ -49,10 +46,16 @@ module _ (cs : Classes) (loader : ℕ) (file : ClassFile) (p : is_plain_file fil
       names = λ i. option_to_list (h i) ++ no_interfaces file p i
 
       no_missing : option_map define.MissingParent (find (λ name. is_none (lookup cs loader name)) (parent_names file)) ≡ None
-      no_missing = ap (λ (ns : List (List ℕ)). option_map define.MissingParent (find (λ name. is_none (lookup cs loader name)) ns)) names ∙ ap (λ (o : Option ℕ). option_map define.MissingParent (cond (is_none o) (Some name) None)) l
+      no_missing =
+          ap (λ (ns : List (List ℕ)). option_map define.MissingParent (find (λ name. is_none (lookup cs loader name)) ns)) names
+          ∙ ap (λ (o : Option ℕ). option_map define.MissingParent (cond (is_none o) (Some name) None)) l
 
       tested : (test : ℕ → Bool) → list_any (named_test test cs loader) (option_to_list file.superclass) ≡ test c
-      tested test = ap (λ (o : Option (List ℕ)). list_any (named_test test cs loader) (option_to_list o)) h ∙ ap (λ (o : Option ℕ). list_any test (option_to_list o) || false) l ∙ or_none (test c || false) ∙ or_none (test c)
+      tested test =
+          ap (λ (o : Option (List ℕ)). list_any (named_test test cs loader) (option_to_list o)) h
+          ∙ ap (λ (o : Option ℕ). list_any test (option_to_list o) || false) l
+          ∙ or_none (test c || false)
+          ∙ or_none (test c)
 
       no_bad_interface : option_map define.NotAnInterface (find (λ name. not (named_test (is_interface cs) cs loader name)) file.interfaces) ≡ None
       no_bad_interface = ap (λ (ns : List (List ℕ)). option_map define.NotAnInterface (find (λ name. not (named_test (is_interface cs) cs loader name)) ns)) (no_interfaces file p)
@@ -76,7 +79,11 @@ module _ (cs : Classes) (loader : ℕ) (file : ClassFile) (p : is_plain_file fil
       last_is_some : define_fault cs loader file ≡ first_of (last_faults cs (Some c))
       last_is_some =
           joined_none (first_faults cs loader file) (rest_faults cs loader file) none
-          ∙ (λ i. first_of (no_missing i ∷ then_some ((tested (is_interface cs) ∙ no_interface cs w c) i) define.SuperIsInterface ∷ then_some ((tested (is_final cs) ∙ sym (or_none (is_final cs c))) i) define.FinalSuper ∷ no_bad_interface i ∷ no_closed i ∷ then_some (nat_le 65536 (length cs.rows)) define.Full ∷ []))
+          ∙ (λ i.
+          first_of
+          (no_missing i ∷ then_some ((tested (is_interface cs) ∙ no_interface cs w c) i) define.SuperIsInterface
+          ∷ then_some ((tested (is_final cs) ∙ sym (or_none (is_final cs c))) i) define.FinalSuper ∷ no_bad_interface i ∷ no_closed i
+          ∷ then_some (nat_le 65536 (length cs.rows)) define.Full ∷ []))
           ∙ skipped (then_some (is_final cs c || false) define.FinalSuper) (then_some (nat_le 65536 (length cs.rows)) define.Full)
 
     pub last_is : (o : Option ℕ) → HasSuperclass cs loader file o → define_fault cs loader file ≡ first_of (last_faults cs o)

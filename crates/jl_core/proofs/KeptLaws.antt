@@ -2,13 +2,13 @@
 use Rattle.std.specs.Prelude.{◌≡◌, ℕ, ◌&&◌, ◌||◌, Bool, true, false, List, [], Option, Some, None, is_some, is_none, Result, Ok, Err, if◌then◌else◌}
 use Rattle.std.specs.List.{range_with_len}
 use Rattle.std.proofs.Common.{refl, ap, sym, ◌∙◌}
+use Rattle.std.proofs.lemmas.Option.{same_Some}
 use Rattle.jl_types.specs.declared.link.Link.{Link}
 use Rattle.jl_types.specs.declared.answer.Unlinked.{Unlinked}
 use Rattle.jl_types.specs.Means.SameLink.{same_link, link_decides}
 use Rattle.jl_types.specs.World.{World}
 use Rattle.jl_types.specs.Links.{scratch}
 use Rattle.jl_types.specs.History.{has_link, kept}
-use Rattle.std.proofs.lemmas.Option.{same_Some}
 use Rattle.jl_types.proofs.Accepting.{linked}
 use Rattle.jl_core.specs.State.{link_at, lost, AreScratch}
 use Rattle.jl_core.proofs.PlainLaws.{filter_none}
@@ -25,7 +25,8 @@ kept_scratch b before (Ok now) l e = by_test (b || has_link before now) e
     by_test true e = ap linked (same_Some now l e)
     by_test false e = cc
 
-pub are_scratch : (w : World) (links : List (ℕ × Link)) (b : ℕ → Bool) (before : ℕ → Option Link) → ((s : ℕ) → link_at links s ≡ kept (b s) (before s) (scratch w s)) → AreScratch w links
+pub are_scratch : (w : World) (links : List (ℕ × Link)) (b : ℕ → Bool) (before : ℕ → Option Link)
+    → ((s : ℕ) → link_at links s ≡ kept (b s) (before s) (scratch w s)) → AreScratch w links
 are_scratch w links b before h = λ s l e. kept_scratch (b s) (before s) (scratch w s) l (sym (h s) ∙ e)
 
 pub kept_none : (r : Result Link Unlinked) → kept false None r ≡ None

@@ -3,13 +3,12 @@ use Rattle.std.specs.Prelude.{◌≡◌, ℕ, zero, suc, ◌+◌, ◌<◌, ◌�
 use Rattle.std.specs.List.{AllByRecursion, cons_option}
 use Rattle.std.proofs.Common.{refl, ap, sym, subst, ◌∙◌, arith, inl, inr}
 use Rattle.std.proofs.lemmas.Bool.Decides.{Decides-eqb}
-use Rattle.jl_types.specs.declared.link.Link.{Link}
-use Rattle.jl_types.proofs.Bools.{clash}
 use Rattle.std.proofs.lemmas.Option.{same_Some}
+use Rattle.std.proofs.lemmas.Bool.{cases_order, both_ways}
+use Rattle.jl_types.specs.declared.link.Link.{Link}
 use Rattle.jl_types.proofs.InstalledLinks.{row, rows, above}
 use Rattle.jl_core.specs.State.{link_at}
 use Rattle.jl_core.proofs.LinkLaws.{Rises, found_first, wider}
-use Rattle.std.proofs.lemmas.Bool.{cases_order}
 
 -- ---- what is found
 
@@ -48,7 +47,7 @@ same_links (x ∷ xs) (y ∷ ys) h k e = by_order (cases_order x.0 y.0) (same_li
             none_below s xs (subst (λ n. AllByRecursion (λ (r : ℕ × Link). n < r.0) xs) here h.0)
             ∙ sym (none_below s ys (subst (λ n. AllByRecursion (λ (r : ℕ × Link). n < r.0) ys) (sym same ∙ here) k.0))
         by_test false is =
-            let other : ¬ (x.0 ≡ s) = λ at. clash (x.0 == s) ((Decides-eqb x.0 s).1 at) is in
+            let other : ¬ (x.0 ≡ s) = λ at. both_ways (x.0 == s) is ((Decides-eqb x.0 s).1 at) in
             sym (other_there x.0 s x.1 xs other) ∙ e s ∙ other_there y.0 s y.1 ys (λ at. other (same ∙ at))
 
     heads : x.0 ≡ y.0 → x ≡ y

@@ -35,7 +35,8 @@ module _ (f : ℕ → Option Link) where
   above b a zero h = tt
   above b a (suc n) h = by_first (f a) (above b (a + 1) n (omega arith))
     where
-      by_first : (o : Option Link) → AllByRecursion (λ (r : ℕ × Link). b < r.0) (rows (a + 1) n) → AllByRecursion (λ (r : ℕ × Link). b < r.0) (cons_option (option_map (λ l. (a, l)) o) (rows (a + 1) n))
+      by_first : (o : Option Link) → AllByRecursion (λ (r : ℕ × Link). b < r.0) (rows (a + 1) n)
+          → AllByRecursion (λ (r : ℕ × Link). b < r.0) (cons_option (option_map (λ l. (a, l)) o) (rows (a + 1) n))
       by_first None rest = rest
       by_first (Some l) rest = (h, rest)
 
@@ -45,13 +46,16 @@ module _ (f : ℕ → Option Link) where
     where
       by_first : (o : Option Link) → AllPairs (λ r q. r.0 < q.0) (rows (a + 1) n) → AllPairs (λ r q. r.0 < q.0) (cons_option (option_map (λ l. (a, l)) o) (rows (a + 1) n))
       by_first None rest = rest
-      by_first (Some l) rest = AllPairs-cons (λ (r q : ℕ × Link). r.0 < q.0) (a, l) (rows (a + 1) n) (All-from_recursion (λ (r : ℕ × Link). a < r.0) (rows (a + 1) n) (above a (a + 1) n (omega arith))) rest
+      by_first (Some l) rest =
+          AllPairs-cons (λ (r q : ℕ × Link). r.0 < q.0) (a, l) (rows (a + 1) n)
+          (All-from_recursion (λ (r : ℕ × Link). a < r.0) (rows (a + 1) n) (above a (a + 1) n (omega arith))) rest
 
   right : (a n : ℕ) → AllByRecursion (λ (r : ℕ × Link). f r.0 ≡ Some r.1) (rows a n)
   right a zero = tt
   right a (suc n) = by_first (f a) refl (right (a + 1) n)
     where
-      by_first : (o : Option Link) → f a ≡ o → AllByRecursion (λ (r : ℕ × Link). f r.0 ≡ Some r.1) (rows (a + 1) n) → AllByRecursion (λ (r : ℕ × Link). f r.0 ≡ Some r.1) (cons_option (option_map (λ l. (a, l)) o) (rows (a + 1) n))
+      by_first : (o : Option Link) → f a ≡ o → AllByRecursion (λ (r : ℕ × Link). f r.0 ≡ Some r.1) (rows (a + 1) n)
+          → AllByRecursion (λ (r : ℕ × Link). f r.0 ≡ Some r.1) (cons_option (option_map (λ l. (a, l)) o) (rows (a + 1) n))
       by_first None e rest = rest
       by_first (Some l) e rest = (e, rest)
 

@@ -43,7 +43,8 @@ all_set P (y ∷ xs) zero x p h = (p, h.1)
 all_set P (y ∷ xs) (suc n) x p h = (h.0, all_set P xs n x p h.1)
 
 -- what holds of each element and of the one that is added
-pub each_and_last : {A : Type 0} (P : A → Type 0) (xs : List A) (x y : A) (n : ℕ) → ((n : ℕ) (y : A) → slice_get xs n ≡ Some y → P y) → P x → slice_get (xs ++ x ∷ []) n ≡ Some y → P y
+pub each_and_last : {A : Type 0} (P : A → Type 0) (xs : List A) (x y : A) (n : ℕ) → ((n : ℕ) (y : A) → slice_get xs n ≡ Some y → P y) → P x
+    → slice_get (xs ++ x ∷ []) n ≡ Some y → P y
 each_and_last P [] x y zero h k e = subst P (same_Some x y e) k
 each_and_last P [] x y (suc n) h k e = cc
 each_and_last P (z ∷ xs) x y zero h k e = h 0 y e

@@ -1,12 +1,13 @@
 -- Whatever events come, a class's parents were defined before it.
-use Rattle.std.specs.Prelude.{◌≡◌, ℕ, zero, suc, ◌+◌, ◌<◌, ◌≤◌, ◌⊎◌, Bool, true, false, cond, List, [], ◌∷◌, ◌++◌, length, slice_get, slice_set, slice_index_or, find, filter_map, fold, Option, Some, None, option_map, option_and_then, option_to_list}
+use Rattle.std.specs.Prelude.{◌≡◌, ℕ, zero, suc, ◌+◌, ◌<◌, ◌≤◌, ◌⊎◌, Bool, true, false, cond, List, [], ◌∷◌, ◌++◌, length}
+use Rattle.std.specs.Prelude.{slice_get, slice_set, slice_index_or, find, filter_map, fold, Option, Some, None, option_map, option_and_then, option_to_list}
 use Rattle.std.specs.List.{AllByRecursion, cons_option}
 use Rattle.std.specs.Option.{option_map_or}
 use Rattle.std.proofs.Common.{refl, ap, sym, subst, ◌∙◌, arith, inl, inr, length-append, eq-or-lt_of_le}
 use Rattle.std.proofs.lemmas.List.Elements.{All-from_recursion, recursion_from_All}
 use Rattle.std.proofs.lemmas.Option.{same_Some}
-use Rattle.jl_classfile.specs.Class.{ClassFile}
 use Rattle.std.specs.Str.{bytes_eq}
+use Rattle.jl_classfile.specs.Class.{ClassFile}
 use Rattle.jl_types.specs.declared.event.Event.{Event}
 use Rattle.jl_types.specs.declared.event.Event.TheVariants as event
 use Rattle.jl_types.specs.World.{Class, Classes, World, nothing_yet}
@@ -45,7 +46,8 @@ module _ (cs : Classes) (good : IsGood cs) (loader : ℕ) where
       by_loader (Some records) is e =
           found_below (length cs.rows) name records (all_at (AreBelow (length cs.rows)) cs.loaders loader records is good.there) c e
 
-  one_below : (o : Option ℕ) → ((c : ℕ) → o ≡ Some c → c < length cs.rows) → (more : List ℕ) → AllByRecursion (λ p. p < length cs.rows) more → AllByRecursion (λ p. p < length cs.rows) (option_to_list o ++ more)
+  one_below : (o : Option ℕ) → ((c : ℕ) → o ≡ Some c → c < length cs.rows) → (more : List ℕ) → AllByRecursion (λ p. p < length cs.rows) more
+      → AllByRecursion (λ p. p < length cs.rows) (option_to_list o ++ more)
   one_below None h more rest = rest
   one_below (Some c) h more rest = (h c refl, rest)
 
@@ -57,7 +59,9 @@ module _ (cs : Classes) (good : IsGood cs) (loader : ℕ) where
   all_below [] = tt
   all_below (name ∷ names) = by_first (lookup cs loader name) (λ c e. looked_up name c e) (all_below names)
     where
-      by_first : (o : Option ℕ) → ((c : ℕ) → o ≡ Some c → c < length cs.rows) → AllByRecursion (λ p. p < length cs.rows) (filter_map (lookup cs loader) names) → AllByRecursion (λ p. p < length cs.rows) (cons_option o (filter_map (lookup cs loader) names))
+      by_first : (o : Option ℕ) → ((c : ℕ) → o ≡ Some c → c < length cs.rows)
+          → AllByRecursion (λ p. p < length cs.rows) (filter_map (lookup cs loader) names)
+          → AllByRecursion (λ p. p < length cs.rows) (cons_option o (filter_map (lookup cs loader) names))
       by_first None h rest = rest
       by_first (Some c) h rest = (h c refl, rest)
 
@@ -84,20 +88,26 @@ one_more : (n : ℕ) (records : List (List ℕ × ℕ)) (name : List ℕ) (c : �
 one_more n [] name c h lt = (lt, tt)
 one_more n (r ∷ records) name c h lt = (h.0, one_more n records name c h.1 lt)
 
-recorded_below : (n : ℕ) (loaders : List (List (List ℕ × ℕ))) (loader : ℕ) (name : List ℕ) (c : ℕ) → AllByRecursion (AreBelow n) loaders → c < n → AllByRecursion (AreBelow n) (with_record loaders loader name c)
+recorded_below : (n : ℕ) (loaders : List (List (List ℕ × ℕ))) (loader : ℕ) (name : List ℕ) (c : ℕ) → AllByRecursion (AreBelow n) loaders → c < n
+    → AllByRecursion (AreBelow n) (with_record loaders loader name c)
 recorded_below n loaders loader name c h lt = by_loader (slice_get loaders loader) refl
   where
-    by_loader : (o : Option (List (List ℕ × ℕ))) → slice_get loaders loader ≡ o → AllByRecursion (AreBelow n) (option_map_or (λ records. slice_set loaders loader (records ++ (name, c) ∷ [])) o loaders)
+    by_loader : (o : Option (List (List ℕ × ℕ))) → slice_get loaders loader ≡ o
+        → AllByRecursion (AreBelow n) (option_map_or (λ records. slice_set loaders loader (records ++ (name, c) ∷ [])) o loaders)
     by_loader None is = h
     by_loader (Some records) is =
         all_set (AreBelow n) loaders loader (records ++ (name, c) ∷ [])
         (one_more n records name c (all_at (AreBelow n) loaders loader records is h) lt) h
 
 module _ (cs : Classes) (good : IsGood cs) (loader : ℕ) (file : ClassFile) where
-  in_order : (c : ℕ) (row : Class) → slice_get (cs.rows ++ class_made cs loader file ∷ []) c ≡ Some row → (c ≡ length cs.rows) ⊎ (c < length cs.rows) → AllByRecursion (λ p. p < c) (parents row)
+  in_order : (c : ℕ) (row : Class) → slice_get (cs.rows ++ class_made cs loader file ∷ []) c ≡ Some row → (c ≡ length cs.rows) ⊎ (c < length cs.rows)
+      → AllByRecursion (λ p. p < c) (parents row)
   in_order c row e (inr lt) = recursion_from_All (λ p. p < c) (parents row) (good.ordered c row (sym (before_end cs.rows (class_made cs loader file) c lt) ∙ e))
   in_order c row e (inl same) =
-      let made : class_made cs loader file ≡ row = same_Some (class_made cs loader file) row (sym (at_end cs.rows (class_made cs loader file)) ∙ ap (slice_get (cs.rows ++ class_made cs loader file ∷ [])) (sym same) ∙ e) in
+      let made : class_made cs loader file ≡ row =
+      same_Some (class_made cs loader file) row
+      (sym (at_end cs.rows (class_made cs loader file)) ∙ ap (slice_get (cs.rows ++ class_made cs loader file ∷ [])) (sym same) ∙ e)
+      in
       subst (λ k. AllByRecursion (λ p. p < k) (parents row)) (sym same) (subst (λ r. AllByRecursion (λ p. p < length cs.rows) (parents r)) made (parents_below cs good loader file))
 
   pub defined_good : IsGood (defined cs loader file)

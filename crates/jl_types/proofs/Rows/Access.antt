@@ -82,7 +82,8 @@ no_caller_host = refl
 no_method_host : resolved (nested (codes "Out") None []) 2 (class_ref (codes "In") (codes "g")) ≡ Err (NotReady MethodHost)
 no_method_host = refl
 
-both_listed : resolved (nested (codes "Out") (Some (codes "Out")) (in_nest (codes "Out") None (codes "In" ∷ codes "X" ∷ []) [] ∷ [])) 2 (class_ref (codes "In") (codes "g")) ≡ Ok (naming 1 (first 1))
+both_listed : resolved (nested (codes "Out") (Some (codes "Out")) (in_nest (codes "Out") None (codes "In" ∷ codes "X" ∷ []) [] ∷ [])) 2
+    (class_ref (codes "In") (codes "g")) ≡ Ok (naming 1 (first 1))
 both_listed = refl
 
 one_listed : resolved (nested (codes "Out") (Some (codes "Out")) (in_nest (codes "Out") None (codes "X" ∷ []) [] ∷ [])) 2 (class_ref (codes "In") (codes "g")) ≡ Err (Fault IllegalAccessError)

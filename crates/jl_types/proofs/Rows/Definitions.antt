@@ -6,7 +6,8 @@ use Rattle.jl_types.specs.declared.event.Made.{Made}
 use Rattle.jl_types.specs.declared.event.Made.TheVariants as made
 use Rattle.jl_types.specs.declared.refusal.Refusal.{Refusal}
 use Rattle.jl_types.specs.declared.refusal.Refusal.TheVariants as refusal
-use Rattle.jl_types.specs.declared.refusal.DefineFault.TheVariants.{UnknownLoader, AlreadyRecorded, NamesItself, MissingParent, SuperIsInterface, FinalSuper, NotAnInterface, InaccessibleParent, SecondObject, Full}
+use Rattle.jl_types.specs.declared.refusal.DefineFault.TheVariants.{UnknownLoader, AlreadyRecorded, NamesItself, MissingParent, SuperIsInterface, FinalSuper}
+use Rattle.jl_types.specs.declared.refusal.DefineFault.TheVariants.{NotAnInterface, InaccessibleParent, SecondObject, Full}
 use Rattle.jl_types.specs.World.{Class, World}
 use Rattle.jl_types.specs.Events.{verdict}
 use Rattle.jl_types.specs.History.{world_after}
@@ -87,7 +88,7 @@ final_before_no_interface = refl
 no_interface_before_closed : answers (defines 0 (codes "q/X") 33 (codes "p/A") (codes "p/A" ∷ [])) ≡ Err (refusal.Define (NotAnInterface (codes "p/A")))
 no_interface_before_closed = refl
 
--- of one fault the superclass's first, then those of the superinterfaces as the file has them
+-- ---- of one fault, the superclass's first, then those of the superinterfaces as the file has them
 
 missing_superclass_first : answers (defines 0 (codes "X") 33 (codes "L") (codes "K" ∷ [])) ≡ Err (refusal.Define (MissingParent (codes "L")))
 missing_superclass_first = refl
@@ -95,8 +96,8 @@ missing_superclass_first = refl
 missing_in_file_order : answers (defines 0 (codes "X") 33 object (codes "L" ∷ codes "K" ∷ [])) ≡ Err (refusal.Define (MissingParent (codes "L")))
 missing_in_file_order = refl
 
-classes_in_file_order : answers (defines 0 (codes "X") 33 object (codes "F" ∷ object ∷ [])) ≡ Err (refusal.Define (NotAnInterface (codes "F")))
-classes_in_file_order = refl
+no_interfaces_in_file_order : answers (defines 0 (codes "X") 33 object (codes "F" ∷ object ∷ [])) ≡ Err (refusal.Define (NotAnInterface (codes "F")))
+no_interfaces_in_file_order = refl
 
 closed_superclass_first : answers (defines 0 (codes "q/X") 33 (codes "p/A") (codes "p/I" ∷ [])) ≡ Err (refusal.Define (InaccessibleParent (codes "p/A")))
 closed_superclass_first = refl

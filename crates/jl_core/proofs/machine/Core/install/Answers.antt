@@ -38,7 +38,11 @@ returns-clause-ok c =
       dropped =
           c.of.ensures ∙ c.new.ensures.items
           ∙ sym (nothing_lost (length c.self.inside.world.places) c.self.inside.links c.install.new.self
-          (λ s l e. ap is_some (keeps c s ∙ kept_once (list_any (λ row. row.0 == s) c.args.rows.now) (link_at c.self.inside.links s) (scratch c.self.inside.world s) l e (c.self.invariant.0 s l e))));
+          (λ s l e.
+          ap is_some
+          (keeps c s
+          ∙ kept_once (list_any (λ row. row.0 == s) c.args.rows.now) (link_at c.self.inside.links s) (scratch c.self.inside.world s) l e
+          (c.self.invariant.0 s l e))));
       limit = refl;
       count = refl;
     }
