@@ -21,7 +21,8 @@ Again {X} item text IsSo = (x : X) (rest : List ℕ) → IsSo x → item (text x
 
 -- ---- items one after another
 
-front_some : {X : Type 0} (x : X) (r : Option (List X × List ℕ)) (y : List X × List ℕ) → with_front (x ∷ []) r ≡ Some y → (z : List X × List ℕ) × (r ≡ Some z) × (y ≡ (x ∷ z.0, z.1))
+front_some : {X : Type 0} (x : X) (r : Option (List X × List ℕ)) (y : List X × List ℕ) → with_front (x ∷ []) r ≡ Some y
+    → (z : List X × List ℕ) × (r ≡ Some z) × (y ≡ (x ∷ z.0, z.1))
 front_some x None y e = absurd cc
 front_some x (Some z) y e = (z, refl, sym (some_is _ _ e))
 
@@ -30,7 +31,8 @@ pub record ItemsTaken {X : Type 0} (text : X → List ℕ) (IsSo : X → Type 0)
   pub each : AllByRecursion IsSo y.0
   pub so_many : length y.0 ≡ n
 
-items-takes : {X : Type 0} (item : Reader X) (text : X → List ℕ) (IsSo : X → Type 0) → Taker item text IsSo → (n : ℕ) (bytes : List ℕ) (y : List X × List ℕ) → IsBytes bytes → items_at item n bytes ≡ Some y → ItemsTaken text IsSo bytes n y
+items-takes : {X : Type 0} (item : Reader X) (text : X → List ℕ) (IsSo : X → Type 0) → Taker item text IsSo
+    → (n : ℕ) (bytes : List ℕ) (y : List X × List ℕ) → IsBytes bytes → items_at item n bytes ≡ Some y → ItemsTaken text IsSo bytes n y
 unfolding items_at
 items-takes {X = X} item text IsSo taker zero bytes y fits e =
     subst (λ (z : List X × List ℕ). ItemsTaken text IsSo bytes 0 z) (some_is ([], bytes) y e) (record { taken = takes bytes [] bytes fits refl; each = tt; so_many = refl })
@@ -41,12 +43,16 @@ items-takes {X = X} item text IsSo taker (suc n) bytes y fits e =
     let more = items-takes item text IsSo taker n a.0.1 b.0 t.0.bytes_left b.1 in
     subst (λ (z : List X × List ℕ). ItemsTaken text IsSo bytes (suc n) z) (sym b.2)
     (record {
-      taken = record { parts = t.0.parts ∙ ap (λ (r : List ℕ). text a.0.0 ++ r) more.taken.parts ∙ sym (append_assoc (text a.0.0) (flat_map text b.0.0) b.0.1); bytes_left = more.taken.bytes_left };
+      taken = record {
+        parts = t.0.parts ∙ ap (λ (r : List ℕ). text a.0.0 ++ r) more.taken.parts ∙ sym (append_assoc (text a.0.0) (flat_map text b.0.0) b.0.1);
+        bytes_left = more.taken.bytes_left;
+      };
       each = (t.1, more.each);
       so_many = omega (arith, more.so_many);
     })
 
-items-again : {X : Type 0} (item : Reader X) (text : X → List ℕ) (IsSo : X → Type 0) → Again item text IsSo → (xs : List X) (rest : List ℕ) → AllByRecursion IsSo xs → items_at item (length xs) (flat_map text xs ++ rest) ≡ Some (xs, rest)
+items-again : {X : Type 0} (item : Reader X) (text : X → List ℕ) (IsSo : X → Type 0) → Again item text IsSo → (xs : List X) (rest : List ℕ)
+    → AllByRecursion IsSo xs → items_at item (length xs) (flat_map text xs ++ rest) ≡ Some (xs, rest)
 unfolding items_at
 items-again item text IsSo again [] rest h = refl
 items-again {X = X} item text IsSo again (x ∷ xs) rest h =
@@ -62,7 +68,11 @@ counted-takes {X = X} item text IsSo taker bytes y fits e =
     let s = u2_takes bytes n.0 fits n.1 in
     let t = items-takes item text IsSo taker n.0.0 n.0.1 y s.0.bytes_left n.2 in (
       record {
-        parts = s.0.parts ∙ ap (λ (k : ℕ). u2 k ++ n.0.1) (sym t.so_many) ∙ ap (λ (r : List ℕ). u2 (length y.0) ++ r) t.taken.parts ∙ sym (append_assoc (u2 (length y.0)) (flat_map text y.0) y.1);
+        parts =
+            s.0.parts
+            ∙ ap (λ (k : ℕ). u2 k ++ n.0.1) (sym t.so_many)
+            ∙ ap (λ (r : List ℕ). u2 (length y.0) ++ r) t.taken.parts
+            ∙ sym (append_assoc (u2 (length y.0)) (flat_map text y.0) y.1);
         bytes_left = t.taken.bytes_left;
       },
       record { count = omega (arith, t.so_many, s.1); each = t.each },
@@ -103,17 +113,44 @@ attribute-again a rest h = rw (u2_again a.name (u4 (length a.info) ++ (a.info ++
 pub member-takes : Taker member_at member_text MemberSized
 unfolding member_at
 member-takes bytes x fits e =
-    let s0 = bind_some (number_at 2 bytes) (λ flags. number_at 2 flags.1 >>= λ name. number_at 2 name.1 >>= λ descriptor. counted_at attribute_at descriptor.1 >>= λ attributes. Some (record { flags = flags.0; name = name.0; descriptor = descriptor.0; attributes = attributes.0 }, attributes.1)) x e in
+    let s0 =
+    bind_some (number_at 2 bytes)
+    (λ flags.
+    number_at 2 flags.1 >>= λ name. number_at 2 name.1 >>= λ descriptor. counted_at attribute_at descriptor.1 >>= λ attributes. Some
+    (record { flags = flags.0; name = name.0; descriptor = descriptor.0; attributes = attributes.0 }, attributes.1))
+    x e
+    in
     let t0 = u2_takes bytes s0.0 fits s0.1 in
-    let s1 = bind_some (number_at 2 s0.0.1) (λ name. number_at 2 name.1 >>= λ descriptor. counted_at attribute_at descriptor.1 >>= λ attributes. Some (record { flags = s0.0.0; name = name.0; descriptor = descriptor.0; attributes = attributes.0 }, attributes.1)) x s0.2 in
+    let s1 =
+    bind_some (number_at 2 s0.0.1)
+    (λ name.
+    number_at 2 name.1 >>= λ descriptor. counted_at attribute_at descriptor.1 >>= λ attributes. Some
+    (record { flags = s0.0.0; name = name.0; descriptor = descriptor.0; attributes = attributes.0 }, attributes.1))
+    x s0.2
+    in
     let t1 = u2_takes s0.0.1 s1.0 t0.0.bytes_left s1.1 in
-    let s2 = bind_some (number_at 2 s1.0.1) (λ descriptor. counted_at attribute_at descriptor.1 >>= λ attributes. Some (record { flags = s0.0.0; name = s1.0.0; descriptor = descriptor.0; attributes = attributes.0 }, attributes.1)) x s1.2 in
+    let s2 =
+    bind_some (number_at 2 s1.0.1)
+    (λ descriptor.
+    counted_at attribute_at descriptor.1 >>= λ attributes. Some
+    (record { flags = s0.0.0; name = s1.0.0; descriptor = descriptor.0; attributes = attributes.0 }, attributes.1))
+    x s1.2
+    in
     let t2 = u2_takes s1.0.1 s2.0 t1.0.bytes_left s2.1 in
     let s3 = bind_some (counted_at attribute_at s2.0.1) (λ attributes. Some (record { flags = s0.0.0; name = s1.0.0; descriptor = s2.0.0; attributes = attributes.0 }, attributes.1)) x s2.2 in
     let t3 = counted-takes attribute_at attribute_text AttributeSized attribute-takes s2.0.1 s3.0 t2.0.bytes_left s3.1 in
     let got : Member = record { flags = s0.0.0; name = s1.0.0; descriptor = s2.0.0; attributes = s3.0.0 } in
-    subst (λ (y : Member × List ℕ). Takes bytes (member_text y.0) y.1 × MemberSized y.0) (some_is (got, s3.0.1) x s3.2)
-    (record { parts = t0.0.parts ∙ ap (λ (r : List ℕ). u2 s0.0.0 ++ r) t1.0.parts ∙ ap (λ (r : List ℕ). u2 s0.0.0 ++ (u2 s1.0.0 ++ r)) t2.0.parts ∙ ap (λ (r : List ℕ). u2 s0.0.0 ++ (u2 s1.0.0 ++ (u2 s2.0.0 ++ r))) t3.0.parts; bytes_left = t3.0.bytes_left }, record { flags = t0.1; name = t1.1; descriptor = t2.1; attributes = t3.1 })
+    subst (λ (y : Member × List ℕ). Takes bytes (member_text y.0) y.1 × MemberSized y.0) (some_is (got, s3.0.1) x s3.2) (
+      record {
+        parts =
+            t0.0.parts
+            ∙ ap (λ (r : List ℕ). u2 s0.0.0 ++ r) t1.0.parts
+            ∙ ap (λ (r : List ℕ). u2 s0.0.0 ++ (u2 s1.0.0 ++ r)) t2.0.parts
+            ∙ ap (λ (r : List ℕ). u2 s0.0.0 ++ (u2 s1.0.0 ++ (u2 s2.0.0 ++ r))) t3.0.parts;
+        bytes_left = t3.0.bytes_left;
+      },
+      record { flags = t0.1; name = t1.1; descriptor = t2.1; attributes = t3.1 },
+    )
 
 pub member-again : Again member_at member_text MemberSized
 unfolding member_at
@@ -133,7 +170,8 @@ pair_text text_x text_y p = text_x p.0 ++ text_y p.1
 abbrev pub Both : {X Y : Type 0} → (X → Type 0) → (Y → Type 0) → X × Y → Type 0
 Both IsX IsY p = IsX p.0 × IsY p.1
 
-pub pair-takes : {X Y : Type 0} (first : Reader X) (second : Reader Y) (text_x : X → List ℕ) (text_y : Y → List ℕ) (IsX : X → Type 0) (IsY : Y → Type 0) → Taker first text_x IsX → Taker second text_y IsY
+pub pair-takes : {X Y : Type 0} (first : Reader X) (second : Reader Y) (text_x : X → List ℕ) (text_y : Y → List ℕ) (IsX : X → Type 0) (IsY : Y → Type 0)
+    → Taker first text_x IsX → Taker second text_y IsY
     → Taker (pair_of first second) (pair_text text_x text_y) (Both IsX IsY)
 pair-takes {X = X} {Y = Y} first second text_x text_y IsX IsY takes_x takes_y bytes p fits e =
     let a = bind_some (first bytes) (λ x. second x.1 >>= λ y. Some ((x.0, y.0), y.1)) p e in
@@ -143,7 +181,8 @@ pair-takes {X = X} {Y = Y} first second text_x text_y IsX IsY takes_x takes_y by
     subst (λ (q : (X × Y) × List ℕ). Takes bytes (text_x q.0.0 ++ text_y q.0.1) q.1 × (IsX q.0.0 × IsY q.0.1)) (some_is ((a.0.0, b.0.0), b.0.1) p b.2)
     (record { parts = s.0.parts ∙ ap (λ (r : List ℕ). text_x a.0.0 ++ r) t.0.parts ∙ sym (append_assoc (text_x a.0.0) (text_y b.0.0) b.0.1); bytes_left = t.0.bytes_left }, (s.1, t.1))
 
-pub pair-again : {X Y : Type 0} (first : Reader X) (second : Reader Y) (text_x : X → List ℕ) (text_y : Y → List ℕ) (IsX : X → Type 0) (IsY : Y → Type 0) → Again first text_x IsX → Again second text_y IsY
+pub pair-again : {X Y : Type 0} (first : Reader X) (second : Reader Y) (text_x : X → List ℕ) (text_y : Y → List ℕ) (IsX : X → Type 0) (IsY : Y → Type 0)
+    → Again first text_x IsX → Again second text_y IsY
     → Again (pair_of first second) (pair_text text_x text_y) (Both IsX IsY)
 pair-again {X = X} {Y = Y} first second text_x text_y IsX IsY again_x again_y p rest h =
     ap (λ (b : List ℕ). pair_of first second b) (append_assoc (text_x p.0) (text_y p.1) rest)
@@ -156,10 +195,14 @@ abbrev IsNumber : ℕ → Type 0
 IsNumber n = n < 2 ^ 16
 
 numbers-takes : Taker numbers_at (pair_text u2 (pair_text u2 u2)) (Both IsNumber (Both IsNumber IsNumber))
-numbers-takes = pair-takes (number_at 2) (pair_of (number_at 2) (number_at 2)) u2 (pair_text u2 u2) IsNumber (Both IsNumber IsNumber) u2_takes (pair-takes (number_at 2) (number_at 2) u2 u2 IsNumber IsNumber u2_takes u2_takes)
+numbers-takes =
+    pair-takes (number_at 2) (pair_of (number_at 2) (number_at 2)) u2 (pair_text u2 u2) IsNumber (Both IsNumber IsNumber) u2_takes
+    (pair-takes (number_at 2) (number_at 2) u2 u2 IsNumber IsNumber u2_takes u2_takes)
 
 numbers-again : Again numbers_at (pair_text u2 (pair_text u2 u2)) (Both IsNumber (Both IsNumber IsNumber))
-numbers-again = pair-again (number_at 2) (pair_of (number_at 2) (number_at 2)) u2 (pair_text u2 u2) IsNumber (Both IsNumber IsNumber) u2_again (pair-again (number_at 2) (number_at 2) u2 u2 IsNumber IsNumber u2_again u2_again)
+numbers-again =
+    pair-again (number_at 2) (pair_of (number_at 2) (number_at 2)) u2 (pair_text u2 u2) IsNumber (Both IsNumber IsNumber) u2_again
+    (pair-again (number_at 2) (number_at 2) u2 u2 IsNumber IsNumber u2_again u2_again)
 
 abbrev members_text : List Member × (List Member × List Attribute) → List ℕ
 members_text = pair_text (counted member_text) (pair_text (counted member_text) (counted attribute_text))
@@ -179,8 +222,11 @@ lists-takes =
     let members = counted-takes member_at member_text MemberSized member-takes in
     pair-takes (counted_at (number_at 2)) (pair_of (counted_at member_at) (pair_of (counted_at member_at) (counted_at attribute_at))) (counted u2) members_text (Countable IsNumber) MembersSized
     (counted-takes (number_at 2) u2 IsNumber u2_takes)
-    (pair-takes (counted_at member_at) (pair_of (counted_at member_at) (counted_at attribute_at)) (counted member_text) (pair_text (counted member_text) (counted attribute_text)) (Countable MemberSized)
-    (Both (Countable MemberSized) (Countable AttributeSized)) members (pair-takes (counted_at member_at) (counted_at attribute_at) (counted member_text) (counted attribute_text) (Countable MemberSized) (Countable AttributeSized) members attributes))
+    (pair-takes (counted_at member_at) (pair_of (counted_at member_at) (counted_at attribute_at)) (counted member_text)
+    (pair_text (counted member_text) (counted attribute_text)) (Countable MemberSized)
+    (Both (Countable MemberSized) (Countable AttributeSized)) members
+    (pair-takes (counted_at member_at) (counted_at attribute_at) (counted member_text) (counted attribute_text) (Countable MemberSized) (Countable AttributeSized)
+    members attributes))
 
 lists-again : Again lists_at lists_text ListsSized
 lists-again =
@@ -188,8 +234,11 @@ lists-again =
     let members = counted-again member_at member_text MemberSized member-again in
     pair-again (counted_at (number_at 2)) (pair_of (counted_at member_at) (pair_of (counted_at member_at) (counted_at attribute_at))) (counted u2) members_text (Countable IsNumber) MembersSized
     (counted-again (number_at 2) u2 IsNumber u2_again)
-    (pair-again (counted_at member_at) (pair_of (counted_at member_at) (counted_at attribute_at)) (counted member_text) (pair_text (counted member_text) (counted attribute_text)) (Countable MemberSized)
-    (Both (Countable MemberSized) (Countable AttributeSized)) members (pair-again (counted_at member_at) (counted_at attribute_at) (counted member_text) (counted attribute_text) (Countable MemberSized) (Countable AttributeSized) members attributes))
+    (pair-again (counted_at member_at) (pair_of (counted_at member_at) (counted_at attribute_at)) (counted member_text)
+    (pair_text (counted member_text) (counted attribute_text)) (Countable MemberSized)
+    (Both (Countable MemberSized) (Countable AttributeSized)) members
+    (pair-again (counted_at member_at) (counted_at attribute_at) (counted member_text) (counted attribute_text) (Countable MemberSized) (Countable AttributeSized)
+    members attributes))
 
 map_some : {X Y : Type 0} (f : X → Y) (o : Option X) (y : Y) → option_map f o ≡ Some y → (x : X) × (o ≡ Some x) × (f x ≡ y)
 map_some f None y e = absurd cc

@@ -29,7 +29,9 @@ one_has pool [] (Some a) b ha hb = absurd ha
 one_has pool (x ∷ []) None b ha hb = absurd ha
 one_has pool (x ∷ []) (Some a) None ha hb = absurd hb
 one_has pool (x ∷ []) (Some a) (Some b) ha hb =
-    ap (λ (i : List Instruction). Some i) (one_code pool (code_bytes a) a b ha.code (subst (λ (c : List ℕ). IsCode pool c b) (sym (one_held x.info (code_bytes a) (code_bytes b) ha.holds hb.holds)) hb.code))
+    ap (λ (i : List Instruction). Some i)
+    (one_code pool (code_bytes a) a b ha.code
+    (subst (λ (c : List ℕ). IsCode pool c b) (sym (one_held x.info (code_bytes a) (code_bytes b) ha.holds hb.holds)) hb.code))
 one_has pool (x ∷ y ∷ more) None b ha hb = absurd ha
 one_has pool (x ∷ y ∷ more) (Some a) b ha hb = absurd ha
 
@@ -84,7 +86,9 @@ made p = refl
 pub one_class : (bytes : List ℕ) (p q : Parts) → IsClass bytes p → IsClass bytes q → p ≡ q
 one_class bytes p q h k =
     let layouts = one_layout p.layout q.layout h.laid k.laid (sym h.spelled ∙ k.spelled) in
-    let nest : Nest p.layout.major (pool_of p.layout) p.layout.body q.nest_host q.nest_members = subst (λ (l : Layout). Nest l.major (pool_of l) l.body q.nest_host q.nest_members) (sym layouts) k.nest in
+    let nest : Nest p.layout.major (pool_of p.layout) p.layout.body q.nest_host q.nest_members =
+    subst (λ (l : Layout). Nest l.major (pool_of l) l.body q.nest_host q.nest_members) (sym layouts) k.nest
+    in
     let kept : HaveCodes (pool_of p.layout) p.layout.body.methods q.codes = subst (λ (l : Layout). HaveCodes (pool_of l) l.body.methods q.codes) (sym layouts) k.codes in
     let codes = one_have (pool_of p.layout) p.layout.body.methods p.codes q.codes h.codes kept in
     let hosts = one_host (pool_of p.layout) _ p.nest_host q.nest_host h.nest.host_holds nest.host_holds in

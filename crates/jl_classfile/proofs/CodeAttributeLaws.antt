@@ -1,5 +1,6 @@
 -- A Code attribute holds one code at most.
-use Rattle.std.proofs.Common.{◌≡◌, ℕ, ◌*◌, ◌<◌, ◌≤◌, ◌^◌, Bool, true, false, eqb, ◌||◌, List, [], ◌++◌, length, Option, Some, None, refl, sym, ap, subst, ◌∙◌, arith}
+use Rattle.std.proofs.Common.{◌≡◌, ℕ, ◌*◌, ◌<◌, ◌≤◌, ◌^◌, Bool, true, false, eqb, ◌||◌, List, [], ◌++◌, length, Option, Some, None}
+use Rattle.std.proofs.Common.{refl, sym, ap, subst, ◌∙◌, arith}
 use Rattle.std.specs.Prelude.{MatchOption, nat_lt, if◌then◌else◌}
 use Rattle.std.proofs.lemmas.Bool.{eqb-true}
 use Rattle.std.proofs.lemmas.Bool.Decides.{nat_tests}
@@ -21,8 +22,12 @@ in_range n some few = grind (arith, nat_tests)
 behind_again : (code : List ℕ) (exceptions : ℕ) (table : List ℕ) (attributes : List Attribute) → exceptions < 2 ^ 16 → length table ≡ 8 * exceptions → Countable AttributeSized attributes
     → behind_code (code, u2 exceptions ++ (table ++ counted attribute_text attributes)) ≡ Some code
 behind_again code exceptions table attributes size rows sized =
-    let all = ap (λ (r : List ℕ). counted_at attribute_at r) (sym (append-nil (counted attribute_text attributes))) ∙ counted-again attribute_at attribute_text AttributeSized attribute-again attributes [] sized in
-    ap (λ (o : Option (ℕ × List ℕ)). o >>= λ n. bytes_at (8 * n.0) n.1 >>= λ t. counted_at attribute_at t.1 >>= λ a. if_filled code a.1) (u2_again exceptions (table ++ counted attribute_text attributes) size)
+    let all =
+    ap (λ (r : List ℕ). counted_at attribute_at r) (sym (append-nil (counted attribute_text attributes)))
+    ∙ counted-again attribute_at attribute_text AttributeSized attribute-again attributes [] sized
+    in
+    ap (λ (o : Option (ℕ × List ℕ)). o >>= λ n. bytes_at (8 * n.0) n.1 >>= λ t. counted_at attribute_at t.1 >>= λ a. if_filled code a.1)
+    (u2_again exceptions (table ++ counted attribute_text attributes) size)
     ∙ ap (λ (o : Option (List ℕ × List ℕ)). o >>= λ t. counted_at attribute_at t.1 >>= λ a. if_filled code a.1) (bytes_again (8 * exceptions) table (counted attribute_text attributes) rows)
     ∙ ap (λ (o : Option (List Attribute × List ℕ)). o >>= λ a. if_filled code a.1) all
 
@@ -34,7 +39,8 @@ unfolding code_in
 held_again info code h =
     let last : List ℕ = u2 h.exceptions ++ (h.table ++ counted attribute_text h.attributes) in
     ap (λ (b : List ℕ). number_at 2 b >>= λ s. number_at 2 s.1 >>= λ l. number_at 4 l.1 >>= if_length) h.spelled
-    ∙ ap (λ (o : Option (ℕ × List ℕ)). o >>= λ s. number_at 2 s.1 >>= λ l. number_at 4 l.1 >>= if_length) (u2_again h.max_stack (u2 h.max_locals ++ (u4 (length code) ++ (code ++ last))) h.max_stack_size)
+    ∙ ap (λ (o : Option (ℕ × List ℕ)). o >>= λ s. number_at 2 s.1 >>= λ l. number_at 4 l.1 >>= if_length)
+    (u2_again h.max_stack (u2 h.max_locals ++ (u4 (length code) ++ (code ++ last))) h.max_stack_size)
     ∙ ap (λ (o : Option (ℕ × List ℕ)). o >>= λ l. number_at 4 l.1 >>= if_length) (u2_again h.max_locals (u4 (length code) ++ (code ++ last)) h.max_locals_size)
     ∙ ap (λ (o : Option (ℕ × List ℕ)). o >>= if_length) (u4_again (length code) (code ++ last) (let few = h.few in omega (arith, few)))
     ∙ ap (λ (b : Bool). if b then None else (bytes_at (length code) (code ++ last) >>= behind_code)) (in_range (length code) h.some h.few)
@@ -60,7 +66,8 @@ high k h = grind (arith, nat_tests)
 
 length_is : (n : ℕ × List ℕ) (got : List ℕ) → if_length n ≡ Some got → (1 ≤ n.0) × (n.0 ≤ 65535) × ((bytes_at n.0 n.1 >>= behind_code) ≡ Some got)
 length_is n got e = by_test ((eqb n.0 0) || nat_lt 65535 n.0) refl e where
-  by_test : (b : Bool) → ((eqb n.0 0) || nat_lt 65535 n.0) ≡ b → (if b then None else (bytes_at n.0 n.1 >>= behind_code)) ≡ Some got → (1 ≤ n.0) × (n.0 ≤ 65535) × ((bytes_at n.0 n.1 >>= behind_code) ≡ Some got)
+  by_test : (b : Bool) → ((eqb n.0 0) || nat_lt 65535 n.0) ≡ b → (if b then None else (bytes_at n.0 n.1 >>= behind_code)) ≡ Some got
+      → (1 ≤ n.0) × (n.0 ≤ 65535) × ((bytes_at n.0 n.1 >>= behind_code) ≡ Some got)
   by_test true out e = absurd cc
   by_test false within e = (low n.0 within, high n.0 within, e)
 
@@ -91,7 +98,9 @@ held_takes info code fits e =
       exceptions = x.0.0;
       table = t.0.0;
       attributes = a.0.0;
-      spelled = spelled_by info s.0.0 l.0.0 n.0.0 x.0.0 b.0.0 t.0.0 (counted attribute_text a.0.0) s.0.1 l.0.1 n.0.1 b.0.1 x.0.1 t.0.1 s_is.0.parts l_is.0.parts n_is.0.parts (sym b_is.1) b_is.0.parts x_is.0.parts t_is.0.parts table_end;
+      spelled =
+          spelled_by info s.0.0 l.0.0 n.0.0 x.0.0 b.0.0 t.0.0 (counted attribute_text a.0.0) s.0.1 l.0.1 n.0.1 b.0.1 x.0.1 t.0.1 s_is.0.parts l_is.0.parts n_is.0.parts
+          (sym b_is.1) b_is.0.parts x_is.0.parts t_is.0.parts table_end;
       max_stack_size = s_is.1;
       max_locals_size = l_is.1;
       some = omega (arith, b_is.1, k.0);
@@ -101,12 +110,21 @@ held_takes info code fits e =
       attributes_sized = a_is.1;
     })
   where
-    spelled_by : (info : List ℕ) (s l n x : ℕ) (code table last r1 r2 r3 r4 r5 r6 : List ℕ) → info ≡ u2 s ++ r1 → r1 ≡ u2 l ++ r2 → r2 ≡ u4 n ++ r3 → n ≡ length code → r3 ≡ code ++ r4 → r4 ≡ u2 x ++ r5 → r5 ≡ table ++ r6 → r6 ≡ last
+    spelled_by : (info : List ℕ) (s l n x : ℕ) (code table last r1 r2 r3 r4 r5 r6 : List ℕ) → info ≡ u2 s ++ r1 → r1 ≡ u2 l ++ r2 → r2 ≡ u4 n ++ r3
+        → n ≡ length code → r3 ≡ code ++ r4 → r4 ≡ u2 x ++ r5 → r5 ≡ table ++ r6 → r6 ≡ last
         → info ≡ u2 s ++ (u2 l ++ (u4 (length code) ++ (code ++ (u2 x ++ (table ++ last)))))
     spelled_by info s l n x code table last r1 r2 r3 r4 r5 r6 e1 e2 e3 e4 e5 e6 e7 e8 =
-        e1 ∙ ap (λ (r : List ℕ). u2 s ++ r) (e2 ∙ ap (λ (r : List ℕ). u2 l ++ r) (e3 ∙ ap (λ (k : ℕ). u4 k ++ r3) e4 ∙ ap (λ (r : List ℕ). u4 (length code) ++ r) (e5 ∙ ap (λ (r : List ℕ). code ++ r) (e6 ∙ ap (λ (r : List ℕ). u2 x ++ r) (e7 ∙ ap (λ (r : List ℕ). table ++ r) e8)))))
+        e1
+        ∙ ap (λ (r : List ℕ). u2 s ++ r)
+        (e2
+        ∙ ap (λ (r : List ℕ). u2 l ++ r)
+        (e3
+        ∙ ap (λ (k : ℕ). u4 k ++ r3) e4
+        ∙ ap (λ (r : List ℕ). u4 (length code) ++ r)
+        (e5 ∙ ap (λ (r : List ℕ). code ++ r) (e6 ∙ ap (λ (r : List ℕ). u2 x ++ r) (e7 ∙ ap (λ (r : List ℕ). table ++ r) e8)))))
 
 -- what reading answers
-pub held_decides : (info : List ℕ) (read : Option (List ℕ)) → IsBytes info → code_in info ≡ read → MatchOption read ((code : List ℕ) → ¬ HoldsCode info code) (λ code. HoldsCode info code)
+pub held_decides : (info : List ℕ) (read : Option (List ℕ)) → IsBytes info → code_in info ≡ read
+    → MatchOption read ((code : List ℕ) → ¬ HoldsCode info code) (λ code. HoldsCode info code)
 held_decides info None fits e = λ code h. absurd (let clash = sym (held_again info code h) ∙ e in cc)
 held_decides info (Some code) fits e = held_takes info code fits e

@@ -1,5 +1,6 @@
 -- No class file has a fault: what each pass finds out is that none of its faults holds.
-use Rattle.std.proofs.Common.{◌≡◌, ◌≢◌, ℕ, zero, suc, ◌<◌, ◌≤◌, ◌^◌, Bool, true, false, not, ◌&&◌, ◌||◌, List, [], ◌∷◌, ◌++◌, length, take, drop, Option, Some, None, refl, sym, ap, subst, ◌∙◌, arith, inl, inr}
+use Rattle.std.proofs.Common.{◌≡◌, ◌≢◌, ℕ, zero, suc, ◌<◌, ◌≤◌, ◌^◌, Bool, true, false, not, ◌&&◌, ◌||◌, List, [], ◌∷◌}
+use Rattle.std.proofs.Common.{◌++◌, length, take, drop, Option, Some, None, refl, sym, ap, subst, ◌∙◌, arith, inl, inr}
 use Rattle.std.specs.Prelude.{slice_get, IsTrue, IsFalse, map}
 use Rattle.std.specs.List.{AllByRecursion, list_any}
 use Rattle.std.proofs.lemmas.List.{append-nil}
@@ -11,13 +12,15 @@ use Rattle.jl_code.specs.declared.instruction.Instruction.{Instruction}
 use Rattle.jl_code.specs.declared.code_fault.CodeFault.{CodeFault}
 use Rattle.jl_code.specs.declared.code_fault.CodeFault.TheVariants as code
 use Rattle.jl_classfile.specs.declared.fault.ClassFault.{ClassFault}
-use Rattle.jl_classfile.specs.declared.fault.ClassFault.TheVariants.{TooLarge, BadMagic, BadVersion, Truncated, Pool as InPool, ModuleFile, BadSuper, DuplicateMethod, TwoCodes, Code, TrailingBytes, BadMember, BadLink, BadNest}
+use Rattle.jl_classfile.specs.declared.fault.ClassFault.TheVariants.{TooLarge, BadMagic, BadVersion, Truncated, Pool as InPool, ModuleFile, BadSuper, DuplicateMethod}
+use Rattle.jl_classfile.specs.declared.fault.ClassFault.TheVariants.{TwoCodes, Code, TrailingBytes, BadMember, BadLink, BadNest}
 use Rattle.jl_pool.specs.Pools.{Pool, pool_text, IsSoundPool}
 use Rattle.jl_code.specs.Codes.{code_bytes, IsCode}
 use Rattle.jl_classfile.specs.Layouts.{Layout, body_text, head_text, file_text, IsLayout}
 use Rattle.jl_classfile.specs.CodeAttributes.{IsCodeOf}
 use Rattle.jl_classfile.specs.Parts.{Parts}
-use Rattle.jl_classfile.specs.Conditions.{IsVersion, Links, Members, ClassAttributeLinks, Nest, HasCode, HaveCodes, class_numbers, IsClassNumber, super_fits, is_module, IsTextNumber, member_numbers, MemberLinks, FieldFits, MethodFits, is_interface, same_method, no_twins, codes_of}
+use Rattle.jl_classfile.specs.Conditions.{IsVersion, Links, Members, ClassAttributeLinks, Nest, HasCode, HaveCodes, class_numbers, IsClassNumber, super_fits, is_module}
+use Rattle.jl_classfile.specs.Conditions.{IsTextNumber, member_numbers, MemberLinks, FieldFits, MethodFits, is_interface, same_method, no_twins, codes_of}
 use Rattle.jl_classfile.specs.ClassFiles.{most_bytes, pool_of, IsClass}
 use Rattle.jl_pool.specs.Faults.{PoolStands, IsPoolFault}
 use Rattle.jl_classfile.specs.Faults.{SizeFault, HeadFault, PoolPass, LayoutFault, LinksFault, MembersFault, AttributesFault, IsCodeFault, CodesFault, Pass, LaidFault, FailsWith, IsFault}
@@ -34,7 +37,8 @@ pub no_size : (bytes : List ℕ) (f : ClassFault) → length bytes ≤ most_byte
 no_size bytes TooLarge h = λ over. absurd (omega (arith, h, over))
 no_size bytes _ h = λ x. x
 
-pub no_head : (bytes rest : List ℕ) (minor major : ℕ) (f : ClassFault) → bytes ≡ head_text minor major ++ rest → minor < 2 ^ 16 → major < 2 ^ 16 → IsVersion minor major → ¬ HeadFault bytes f
+pub no_head : (bytes rest : List ℕ) (minor major : ℕ) (f : ClassFault) → bytes ≡ head_text minor major ++ rest → minor < 2 ^ 16 → major < 2 ^ 16
+    → IsVersion minor major → ¬ HeadFault bytes f
 no_head bytes rest minor major Truncated e a b v = λ short. absurd (omega (arith, short, ap length e))
 no_head bytes rest minor major BadMagic e a b v = λ h. h.1 (ap (λ (t : List ℕ). take 4 t) e)
 no_head bytes rest minor major BadVersion e a b v = λ h.
@@ -44,7 +48,8 @@ no_head bytes rest minor major _ e a b v = λ x. x
 
 -- ---- the pool
 
-pub no_pool : (bytes text : List ℕ) (minor major : ℕ) (cs : List Constant) (left : List ℕ) (f : ClassFault) → bytes ≡ head_text minor major ++ text → PoolStands text cs left → IsSoundPool cs → ¬ PoolPass bytes f
+pub no_pool : (bytes text : List ℕ) (minor major : ℕ) (cs : List Constant) (left : List ℕ) (f : ClassFault) → bytes ≡ head_text minor major ++ text
+    → PoolStands text cs left → IsSoundPool cs → ¬ PoolPass bytes f
 no_pool bytes text minor major cs left (InPool f) e h sound = λ fault.
     let same : fault.2 ≡ text = ap (λ (t : List ℕ). drop 8 t) (sym fault.3 ∙ e) in
     no_pool_fault text cs left f h sound fault.4 (subst (λ (t : List ℕ). IsPoolFault t f) same fault.5)
@@ -58,7 +63,8 @@ no_layout bytes l TrailingBytes e h = λ more. more.3 (sym (layout_one l more.0 
 no_layout bytes l _ e h = λ x. x
 
 -- a fault of what lies so is one of this layout
-pub laid_here : (Fault : ℕ → Pool → Body → ClassFault → Type 0) (bytes : List ℕ) (l : Layout) (f : ClassFault) → bytes ≡ file_text l → IsLayout l → ¬ Fault l.major (pool_of l) l.body f → ¬ LaidFault Fault bytes f
+pub laid_here : (Fault : ℕ → Pool → Body → ClassFault → Type 0) (bytes : List ℕ) (l : Layout) (f : ClassFault) → bytes ≡ file_text l → IsLayout l
+    → ¬ Fault l.major (pool_of l) l.body f → ¬ LaidFault Fault bytes f
 laid_here Fault bytes l f e h none = λ fault.
     let same = layout_one fault.0 l [] [] fault.1 h (append-nil (file_text fault.0) ∙ sym fault.2 ∙ e ∙ sym (append-nil (file_text l))) in
     none (subst (λ (m : Layout). Fault m.major (pool_of m) m.body f) same.0 fault.3)
@@ -91,18 +97,22 @@ not_twin p m (k ∷ ms) zero n h e = let same : k ≡ n = cc in subst (λ (x : M
 not_twin p m (k ∷ ms) (suc j) n h e = not_twin p m ms j n (or_not (same_method p m k) (list_any (same_method p m) ms) h).1 e
 
 -- a later one is none of those before the list
-twin_before : (p : Pool) (earlier ms : List Member) (j i : ℕ) (a b : Member) → IsTrue (no_twins p earlier ms) → slice_get earlier j ≡ Some a → slice_get ms i ≡ Some b → ¬ IsTrue (same_method p b a)
+twin_before : (p : Pool) (earlier ms : List Member) (j i : ℕ) (a b : Member) → IsTrue (no_twins p earlier ms) → slice_get earlier j ≡ Some a
+    → slice_get ms i ≡ Some b → ¬ IsTrue (same_method p b a)
 twin_before p earlier [] j i a b h ea eb = absurd cc
 twin_before p earlier (m ∷ ms) j zero a b h ea eb =
     let same : m ≡ b = cc in
     subst (λ (x : Member). ¬ IsTrue (same_method p x a)) same (not_twin p m earlier j a (and_both (not (list_any (same_method p m) earlier)) (no_twins p (m ∷ earlier) ms) h).0 ea)
 twin_before p earlier (m ∷ ms) j (suc i) a b h ea eb = twin_before p (m ∷ earlier) ms (suc j) i a b (and_both (not (list_any (same_method p m) earlier)) (no_twins p (m ∷ earlier) ms) h).1 ea eb
 
-twin_within : (p : Pool) (earlier ms : List Member) (j i : ℕ) (a b : Member) → IsTrue (no_twins p earlier ms) → j < i → slice_get ms j ≡ Some a → slice_get ms i ≡ Some b → ¬ IsTrue (same_method p b a)
+twin_within : (p : Pool) (earlier ms : List Member) (j i : ℕ) (a b : Member) → IsTrue (no_twins p earlier ms) → j < i → slice_get ms j ≡ Some a
+    → slice_get ms i ≡ Some b → ¬ IsTrue (same_method p b a)
 twin_within p earlier [] j i a b h lt ea eb = absurd cc
 twin_within p earlier (m ∷ ms) j zero a b h lt ea eb = absurd (omega arith)
-twin_within p earlier (m ∷ ms) zero (suc i) a b h lt ea eb = twin_before p (m ∷ earlier) ms zero i a b (and_both (not (list_any (same_method p m) earlier)) (no_twins p (m ∷ earlier) ms) h).1 ea eb
-twin_within p earlier (m ∷ ms) (suc j) (suc i) a b h lt ea eb = twin_within p (m ∷ earlier) ms j i a b (and_both (not (list_any (same_method p m) earlier)) (no_twins p (m ∷ earlier) ms) h).1 (omega arith) ea eb
+twin_within p earlier (m ∷ ms) zero (suc i) a b h lt ea eb =
+    twin_before p (m ∷ earlier) ms zero i a b (and_both (not (list_any (same_method p m) earlier)) (no_twins p (m ∷ earlier) ms) h).1 ea eb
+twin_within p earlier (m ∷ ms) (suc j) (suc i) a b h lt ea eb =
+    twin_within p (m ∷ earlier) ms j i a b (and_both (not (list_any (same_method p m) earlier)) (no_twins p (m ∷ earlier) ms) h).1 (omega arith) ea eb
 
 pub no_members : (p : Pool) (b : Body) (f : ClassFault) → Members p b → ¬ MembersFault p b f
 no_members p b (BadLink n) h = λ fault. fault.3 (All-among (IsTextNumber p) (member_numbers fault.0) n (All-among (MemberLinks p) (b.fields ++ b.methods) fault.0 h.links fault.1) fault.2)
@@ -120,15 +130,18 @@ All-map : {X Y : Type 0} (P : Y → Type 0) (f : X → Y) (xs : List X) → AllB
 All-map P f [] h = tt
 All-map P f (x ∷ xs) h = (h.0, All-map P f xs h.1)
 
-pub no_attributes : (major : ℕ) (p : Pool) (b : Body) (host : Option ℕ) (members : Option (List ℕ)) (f : ClassFault) → ClassAttributeLinks p b → Nest major p b host members → ¬ AttributesFault major p b f
-no_attributes major p b host members (BadLink n) h nest = λ fault. fault.1 (All-among (IsTextNumber p) (map (λ a. a.name) b.attributes) n (All-map (IsTextNumber p) (λ a. a.name) b.attributes h) fault.0)
+pub no_attributes : (major : ℕ) (p : Pool) (b : Body) (host : Option ℕ) (members : Option (List ℕ)) (f : ClassFault) → ClassAttributeLinks p b
+    → Nest major p b host members → ¬ AttributesFault major p b f
+no_attributes major p b host members (BadLink n) h nest =
+    λ fault. fault.1 (All-among (IsTextNumber p) (map (λ a. a.name) b.attributes) n (All-map (IsTextNumber p) (λ a. a.name) b.attributes h) fault.0)
 no_attributes major p b host members BadNest h nest = λ fault. fault host members nest
 no_attributes major p b host members _ h nest = λ x. x
 
 -- ---- codes
 
 -- a method's code, at its place
-code_at : (p : Pool) (ms : List Member) (codes : List (Option (List Instruction))) (i : ℕ) (m : Member) → HaveCodes p ms codes → slice_get ms i ≡ Some m → (c : Option (List Instruction)) × HasCode p (codes_of p m) c
+code_at : (p : Pool) (ms : List Member) (codes : List (Option (List Instruction))) (i : ℕ) (m : Member) → HaveCodes p ms codes → slice_get ms i ≡ Some m
+    → (c : Option (List Instruction)) × HasCode p (codes_of p m) c
 code_at p [] codes i m h e = absurd cc
 code_at p (k ∷ ms) [] i m h e = absurd h
 code_at p (k ∷ ms) (c ∷ codes) zero m h e = let same : k ≡ m = cc in (c, subst (λ (x : Member). HasCode p (codes_of p x) c) same h.0)
@@ -158,7 +171,8 @@ pub no_pass : (bytes : List ℕ) (p : Parts) (pass : Pass) (f : ClassFault) → 
 no_pass bytes p Sizing f h = no_size bytes f h.few
 no_pass bytes p Heading f h = no_head bytes (pool_text p.layout.constants ++ body_text p.layout.body) p.layout.minor p.layout.major f h.spelled h.laid.minor h.laid.major h.version
 no_pass bytes p Pooling f h =
-    no_pool bytes (pool_text p.layout.constants ++ body_text p.layout.body) p.layout.minor p.layout.major p.layout.constants (body_text p.layout.body) f h.spelled (record { bytes = refl; written = h.laid.pool }) h.pool
+    no_pool bytes (pool_text p.layout.constants ++ body_text p.layout.body) p.layout.minor p.layout.major p.layout.constants (body_text p.layout.body) f h.spelled
+    (record { bytes = refl; written = h.laid.pool }) h.pool
 no_pass bytes p Laying f h = no_layout bytes p.layout f h.spelled h.laid
 no_pass bytes p Linking f h = laid_here LinksFault bytes p.layout f h.spelled h.laid (no_links p.layout.major (pool_of p.layout) p.layout.body f h.links)
 no_pass bytes p Membership f h = laid_here (λ major. MembersFault) bytes p.layout f h.spelled h.laid (no_members (pool_of p.layout) p.layout.body f h.members)

@@ -10,7 +10,8 @@ pub record IsHead (bytes : List ℕ) (minor major : ℕ) (rest : List ℕ) : Typ
   pub minor_size : minor < 2 ^ 16
   pub major_size : major < 2 ^ 16
 
-pub head_takes : (bytes after next rest : List ℕ) (magic minor major : ℕ) → IsBytes bytes → number_at 4 bytes ≡ Some (magic, after) → magic ≡ 0xcafebabe → number_at 2 after ≡ Some (minor, next) → number_at 2 next ≡ Some (major, rest)
+pub head_takes : (bytes after next rest : List ℕ) (magic minor major : ℕ) → IsBytes bytes → number_at 4 bytes ≡ Some (magic, after) → magic ≡ 0xcafebabe
+    → number_at 2 after ≡ Some (minor, next) → number_at 2 next ≡ Some (major, rest)
     → IsHead bytes minor major rest
 head_takes bytes after next rest magic minor major fits e is f g =
     let a = u4_takes bytes (magic, after) fits e in

@@ -30,21 +30,26 @@ pub items-more : {X : Type 0} (item : Reader X) (n k : ℕ) (front : List X) (re
     → with_front front (items_at item (n - k) rest) ≡ all → with_front (front ++ x ∷ []) (items_at item (n - (k + 1)) after) ≡ all
 items-more {X = X} item n k front rest after x all h e so_far =
     sym (front_twice front (x ∷ []) (items_at item (n - (k + 1)) after))
-    ∙ ap (λ (r : Option (List X × List ℕ)). with_front front r) (sym (items-step item n k rest h ∙ ap (λ (o : Option (X × List ℕ)). o >>= λ y. with_front (y.0 ∷ []) (items_at item (n - (k + 1)) y.1)) e))
+    ∙ ap (λ (r : Option (List X × List ℕ)). with_front front r)
+    (sym (items-step item n k rest h ∙ ap (λ (o : Option (X × List ℕ)). o >>= λ y. with_front (y.0 ∷ []) (items_at item (n - (k + 1)) y.1)) e))
     ∙ so_far
 
 -- none stands there
 pub items-stop : {X : Type 0} (item : Reader X) (n k : ℕ) (front : List X) (rest : List ℕ) (all : Option (List X × List ℕ)) → k < n → item rest ≡ None
     → with_front front (items_at item (n - k) rest) ≡ all → all ≡ None
 items-stop {X = X} item n k front rest all h e so_far =
-    sym so_far ∙ ap (λ (r : Option (List X × List ℕ)). with_front front r) (items-step item n k rest h ∙ ap (λ (o : Option (X × List ℕ)). o >>= λ y. with_front (y.0 ∷ []) (items_at item (n - (k + 1)) y.1)) e)
+    sym so_far
+    ∙ ap (λ (r : Option (List X × List ℕ)). with_front front r)
+    (items-step item n k rest h ∙ ap (λ (o : Option (X × List ℕ)). o >>= λ y. with_front (y.0 ∷ []) (items_at item (n - (k + 1)) y.1)) e)
 
 -- all were read
 pub items-end : {X : Type 0} (item : Reader X) (n k : ℕ) (front : List X) (rest : List ℕ) (all : Option (List X × List ℕ)) → n ≤ k
     → with_front front (items_at item (n - k) rest) ≡ all → all ≡ Some (front, rest)
 items-end {X = X} item n k front rest all h so_far =
     let none : n - k ≡ 0 = omega arith in
-    sym so_far ∙ ap (λ (r : Option (List X × List ℕ)). with_front front r) (ap (λ (m : ℕ). items_at item m rest) none ∙ items-zero item rest) ∙ ap (λ (xs : List X). Some (xs, rest)) (append-nil front)
+    sym so_far
+    ∙ ap (λ (r : Option (List X × List ℕ)). with_front front r) (ap (λ (m : ℕ). items_at item m rest) none ∙ items-zero item rest)
+    ∙ ap (λ (xs : List X). Some (xs, rest)) (append-nil front)
 
 pub items-broken : {X : Type 0} (item : Reader X) (n k : ℕ) (front : List X) (rest : List ℕ) (all : Option (List X × List ℕ)) (e : Broken) → k < n → Stops e (item rest)
     → with_front front (items_at item (n - k) rest) ≡ all → Stops e all
@@ -61,13 +66,16 @@ pub rest-more : {X : Type 0} (item : Reader X) (n k : ℕ) (rest after : List �
     → option_map (λ y. y.1) (items_at item (n - k) rest) ≡ all → option_map (λ y. y.1) (items_at item (n - (k + 1)) after) ≡ all
 rest-more {X = X} item n k rest after x all h e so_far =
     sym (rest-front (x ∷ []) (items_at item (n - (k + 1)) after))
-    ∙ ap (λ (r : Option (List X × List ℕ)). option_map (λ y. y.1) r) (sym (items-step item n k rest h ∙ ap (λ (o : Option (X × List ℕ)). o >>= λ y. with_front (y.0 ∷ []) (items_at item (n - (k + 1)) y.1)) e))
+    ∙ ap (λ (r : Option (List X × List ℕ)). option_map (λ y. y.1) r)
+    (sym (items-step item n k rest h ∙ ap (λ (o : Option (X × List ℕ)). o >>= λ y. with_front (y.0 ∷ []) (items_at item (n - (k + 1)) y.1)) e))
     ∙ so_far
 
 pub rest-stop : {X : Type 0} (item : Reader X) (n k : ℕ) (rest : List ℕ) (all : Option (List ℕ)) → k < n → item rest ≡ None
     → option_map (λ y. y.1) (items_at item (n - k) rest) ≡ all → all ≡ None
 rest-stop {X = X} item n k rest all h e so_far =
-    sym so_far ∙ ap (λ (r : Option (List X × List ℕ)). option_map (λ y. y.1) r) (items-step item n k rest h ∙ ap (λ (o : Option (X × List ℕ)). o >>= λ y. with_front (y.0 ∷ []) (items_at item (n - (k + 1)) y.1)) e)
+    sym so_far
+    ∙ ap (λ (r : Option (List X × List ℕ)). option_map (λ y. y.1) r)
+    (items-step item n k rest h ∙ ap (λ (o : Option (X × List ℕ)). o >>= λ y. with_front (y.0 ∷ []) (items_at item (n - (k + 1)) y.1)) e)
 
 pub rest-end : {X : Type 0} (item : Reader X) (n k : ℕ) (rest : List ℕ) (all : Option (List ℕ)) → n ≤ k
     → option_map (λ y. y.1) (items_at item (n - k) rest) ≡ all → all ≡ Some rest

@@ -39,7 +39,9 @@ head_one a b c d x y ha hb hc hd e =
 
 -- a layout's bytes, and more
 pub file_apart : (l : Layout) (x : List ℕ) → file_text l ++ x ≡ head_text l.minor l.major ++ (pool_text l.constants ++ (body_text l.body ++ x))
-file_apart l x = append_assoc (head_text l.minor l.major) (pool_text l.constants ++ body_text l.body) x ∙ ap (λ (r : List ℕ). head_text l.minor l.major ++ r) (append_assoc (pool_text l.constants) (body_text l.body) x)
+file_apart l x =
+    append_assoc (head_text l.minor l.major) (pool_text l.constants ++ body_text l.body) x
+    ∙ ap (λ (r : List ℕ). head_text l.minor l.major ++ r) (append_assoc (pool_text l.constants) (body_text l.body) x)
 
 make : ℕ → ℕ → List Constant → Body → Layout
 make minor major constants body = record { minor = minor; major = major; constants = constants; body = body }
@@ -50,8 +52,14 @@ made l = refl
 
 pub layout_one : (l m : Layout) (x y : List ℕ) → IsLayout l → IsLayout m → file_text l ++ x ≡ file_text m ++ y → (l ≡ m) × (x ≡ y)
 layout_one l m x y hl hm e =
-    let heads = head_one l.minor l.major m.minor m.major (pool_text l.constants ++ (body_text l.body ++ x)) (pool_text m.constants ++ (body_text m.body ++ y)) hl.minor hl.major hm.minor hm.major (sym (file_apart l x) ∙ e ∙ file_apart m y) in
-    let pools = one_pool (pool_text l.constants ++ (body_text l.body ++ x)) l.constants m.constants (body_text l.body ++ x) (body_text m.body ++ y) (record { bytes = refl; written = hl.pool }) (record { bytes = heads.rest; written = hm.pool }) in
+    let heads =
+    head_one l.minor l.major m.minor m.major (pool_text l.constants ++ (body_text l.body ++ x)) (pool_text m.constants ++ (body_text m.body ++ y)) hl.minor hl.major
+    hm.minor hm.major (sym (file_apart l x) ∙ e ∙ file_apart m y)
+    in
+    let pools =
+    one_pool (pool_text l.constants ++ (body_text l.body ++ x)) l.constants m.constants (body_text l.body ++ x) (body_text m.body ++ y)
+    (record { bytes = refl; written = hl.pool }) (record { bytes = heads.rest; written = hm.pool })
+    in
     let bodies = body_one l.body m.body x y hl.body hm.body pools.1 in
     let same : make l.minor l.major l.constants l.body ≡ make m.minor m.major m.constants m.body = cc (heads.minor, heads.major, pools.0, bodies.0) in
     (sym (made l) ∙ same ∙ made m, bodies.1)

@@ -27,7 +27,8 @@ is_true : (b : Bool) → b ≡ true → IsTrue b
 is_true true e = refl
 is_true false e = absurd cc
 
-pub tested : (major : ℕ) (p : Pool) (b : Body) → is_module major b ≡ false → IsClassNumber p b.this_class → AllByRecursion (IsClassNumber p) (superclass_numbers b.super_class) → All (IsClassNumber p) b.interfaces
+pub tested : (major : ℕ) (p : Pool) (b : Body) → is_module major b ≡ false → IsClassNumber p b.this_class
+    → AllByRecursion (IsClassNumber p) (superclass_numbers b.super_class) → All (IsClassNumber p) b.interfaces
     → super_fits p b ≡ true → Links major p b
 tested major p b no_module this super interfaces fits = record {
   no_module = is_false (is_module major b) no_module;

@@ -1,5 +1,6 @@
 -- The tests of members say what the definitions say.
-use Rattle.std.proofs.Common.{◌≡◌, ℕ, zero, suc, ◌+◌, ◌<◌, ◌≤◌, Bool, true, false, not, ◌&&◌, List, [], ◌∷◌, ◌++◌, length, get_or, take, drop, Option, Some, None, refl, sym, ap, subst, ◌∙◌, arith, inl, inr}
+use Rattle.std.proofs.Common.{◌≡◌, ℕ, zero, suc, ◌+◌, ◌<◌, ◌≤◌, Bool, true, false, not, ◌&&◌, List, [], ◌∷◌, ◌++◌, length, get_or}
+use Rattle.std.proofs.Common.{take, drop, Option, Some, None, refl, sym, ap, subst, ◌∙◌, arith, inl, inr}
 use Rattle.std.specs.Prelude.{◌==◌, ◌||◌, MatchOption, IfSome, IsTrue, map, slice_get, option_map, nat_le, All}
 use Rattle.std.specs.Option.{option_map_or}
 use Rattle.std.specs.List.{AllByRecursion, Contains, list_any}
@@ -24,7 +25,8 @@ use Rattle.jl_classfile.specs.declared.fault.ClassFault.TheVariants.{BadLink, Ba
 use Rattle.jl_classfile.specs.Faults.{MembersFault}
 use Rattle.jl_classfile.proofs.LinkLaws.{All-both}
 use Rattle.jl_pool.specs.Pools.{Pool, text_at}
-use Rattle.jl_classfile.specs.Conditions.{has_flag, STATIC, one_if, OnText, is_method_name, flags_fit, TakesFew, FieldFits, MethodFits, IsTextNumber, member_numbers, MemberLinks, is_text, same_place_text, same_method, no_twins, codes_of, is_interface, Members}
+use Rattle.jl_classfile.specs.Conditions.{has_flag, STATIC, one_if, OnText, is_method_name, flags_fit, TakesFew, FieldFits, MethodFits, IsTextNumber, member_numbers}
+use Rattle.jl_classfile.specs.Conditions.{MemberLinks, is_text, same_place_text, same_method, no_twins, codes_of, is_interface, Members}
 use Rattle.jl_pool.specs.Reading.Forms.{is_field, method_slots}
 use Rattle.jl_classfile.specs.Reading.Members.{on_text, field_fits, takes_few, method_fits, is_at, FieldTested, MethodTested, IsFieldFault, IsMethodFault, IsTwin, IsFirstTwin, IsTextAt, AreTexts}
 use Rattle.jl_pool.proofs.FormLaws.{and_true, is_field-is, IsSlots, SlotsAre, method_slots-is, one_slots}
@@ -41,7 +43,8 @@ decides_test : (b : Bool) → Decides b (IsTrue b)
 decides_test true = refl
 decides_test false = λ h. absurd cc
 
-decides_on : (test : List ℕ → Bool) (IsKind : List ℕ → Type 0) → ((text : List ℕ) → Decides (test text) (IsKind text)) → (text : Option (List ℕ)) → Decides (on_text test text) (OnText text IsKind)
+decides_on : (test : List ℕ → Bool) (IsKind : List ℕ → Type 0) → ((text : List ℕ) → Decides (test text) (IsKind text)) → (text : Option (List ℕ))
+    → Decides (on_text test text) (OnText text IsKind)
 decides_on test IsKind h None = tt
 decides_on test IsKind h (Some text) = h text
 
@@ -62,7 +65,8 @@ field_fits-is pool m =
     decides_from (field_fits pool m) (OnText (text_at pool m.name) (λ name. IsTrue (is_unqualified name)) × OnText (text_at pool m.descriptor) IsFieldDescriptor) (FieldFits pool m)
     (λ p. record { name = p.0; descriptor = p.1 }) (λ f. (f.name, f.descriptor))
     (decides_both (on_text is_unqualified (text_at pool m.name)) (on_text is_field (text_at pool m.descriptor)) _ _
-    (decides_on is_unqualified (λ name. IsTrue (is_unqualified name)) (λ t. decides_test (is_unqualified t)) (text_at pool m.name)) (decides_on is_field IsFieldDescriptor is_field-is (text_at pool m.descriptor)))
+    (decides_on is_unqualified (λ name. IsTrue (is_unqualified name)) (λ t. decides_test (is_unqualified t)) (text_at pool m.name))
+    (decides_on is_field IsFieldDescriptor is_field-is (text_at pool m.descriptor)))
 
 few_is : (flags n : ℕ) → nat_le (n + one_if (not (has_flag flags STATIC))) 255 ≡ true → n + one_if (not (has_flag flags STATIC)) ≤ 255
 few_is flags n e = grind (arith, nat_tests)
@@ -74,7 +78,15 @@ takes_few-is : (flags : ℕ) (text : List ℕ) → Decides (takes_few flags text
 takes_few-is flags text = by_slots (method_slots text) (method_slots-is text) where
   by_test : (n : ℕ) → IsSlots text n → (b : Bool) → nat_le (n + one_if (not (has_flag flags STATIC))) 255 ≡ b → Decides b (TakesFew flags text)
   by_test n h true e = (n, few_is flags n e, h.takes)
-  by_test n h false e = λ x. let same = one_slots text n x.0 h.takes x.2 in let low = few_test flags x.0 x.1 in absurd (let clash : nat_le (x.0 + one_if (not (has_flag flags STATIC))) 255 ≡ false = ap (λ (k : ℕ). nat_le (k + one_if (not (has_flag flags STATIC))) 255) (sym same) ∙ e in cc)
+  by_test n h false e =
+      λ x.
+      let same = one_slots text n x.0 h.takes x.2 in
+      let low = few_test flags x.0 x.1 in
+      absurd
+      (let clash : nat_le (x.0 + one_if (not (has_flag flags STATIC))) 255 ≡ false =
+      ap (λ (k : ℕ). nat_le (k + one_if (not (has_flag flags STATIC))) 255) (sym same) ∙ e
+      in
+      cc)
 
   by_slots : (found : Option ℕ) → SlotsAre text found → Decides (option_map_or (λ n. nat_le (n + one_if (not (has_flag flags STATIC))) 255) found false) (TakesFew flags text)
   by_slots None none = λ x. none (x.0, (let low = x.1 in omega (arith, low)), x.2)
@@ -83,7 +95,9 @@ takes_few-is flags text = by_slots (method_slots text) (method_slots-is text) wh
 pub method_fits-is : (pool : Pool) (interface : Bool) (m : Member) → Decides (method_fits pool interface m) (MethodFits pool interface m)
 method_fits-is pool interface m =
     decides_from (method_fits pool interface m)
-    ((OnText (text_at pool m.name) (λ name. IsTrue (is_method_name name)) × OnText (text_at pool m.name) (λ name. IsTrue (flags_fit interface m.flags name))) × OnText (text_at pool m.descriptor) (TakesFew m.flags)) (MethodFits pool interface m)
+    ((OnText (text_at pool m.name) (λ name. IsTrue (is_method_name name)) × OnText (text_at pool m.name) (λ name. IsTrue (flags_fit interface m.flags name)))
+    × OnText (text_at pool m.descriptor) (TakesFew m.flags))
+    (MethodFits pool interface m)
     (λ p. record { name = p.0.0; descriptor = p.1; flags = p.0.1 }) (λ f. ((f.name, f.flags), f.descriptor))
     (decides_both (on_text is_method_name (text_at pool m.name) && on_text (flags_fit interface m.flags) (text_at pool m.name)) (on_text (takes_few m.flags) (text_at pool m.descriptor)) _ _
     (decides_both (on_text is_method_name (text_at pool m.name)) (on_text (flags_fit interface m.flags) (text_at pool m.name)) _ _
@@ -143,7 +157,8 @@ keep_more old mid new pool ms i m within item kept first name second descriptor 
       subst (λ (x : Member). AreTexts new pool x) same (second m.name name, descriptor)
 ]
 
-pub keep_all : (texts : List (Option (Bor (List ℕ)))) (pool : Pool) (ms : List Member) (i : ℕ) → length ms ≤ i → Kept texts pool ms i → (k : ℕ) (m : Member) → slice_get ms k ≡ Some m → AreTexts texts pool m
+pub keep_all : (texts : List (Option (Bor (List ℕ)))) (pool : Pool) (ms : List Member) (i : ℕ) → length ms ≤ i → Kept texts pool ms i → (k : ℕ) (m : Member)
+    → slice_get ms k ≡ Some m → AreTexts texts pool m
 keep_all texts pool ms i all kept k m e = let within = slice_get_within ms k m e in kept k m (omega (arith, within, all)) e
 
 -- all items were written
@@ -169,7 +184,9 @@ one_text pool m n e = by_text (text_at pool n) refl e where
 
 text_one : (pool : Pool) (m n : ℕ) → OneText pool m n → same_place_text pool m n ≡ true
 text_one pool m n o =
-    ap (λ (u : Option (List ℕ)). option_map_or (is_text pool m) u false) o.other ∙ ap (λ (u : Option (List ℕ)). option_map_or (λ t. bytes_eq t o.text) u false) o.one ∙ (bytes_eq-Decides o.text o.text).1 refl
+    ap (λ (u : Option (List ℕ)). option_map_or (is_text pool m) u false) o.other
+    ∙ ap (λ (u : Option (List ℕ)). option_map_or (λ t. bytes_eq t o.text) u false) o.one
+    ∙ (bytes_eq-Decides o.text o.text).1 refl
 
 is_true : (b : Bool) → b ≡ true → IsTrue b
 is_true true e = refl
@@ -182,7 +199,8 @@ true_is false e = absurd cc
 abbrev signature : Member → ℕ × ℕ
 signature m = (m.name, m.descriptor)
 
-module _ (texts : List (Option (Bor (List ℕ)))) (pool : Pool) (ms : List Member) (pairs : List (ℕ × ℕ)) (same : (k : ℕ) (m : Member) → slice_get ms k ≡ Some m → AreTexts texts pool m) (signed : pairs ≡ map (λ m. (m.name, m.descriptor)) ms) where
+module _ (texts : List (Option (Bor (List ℕ)))) (pool : Pool) (ms : List Member) (pairs : List (ℕ × ℕ))
+    (same : (k : ℕ) (m : Member) → slice_get ms k ≡ Some m → AreTexts texts pool m) (signed : pairs ≡ map (λ m. (m.name, m.descriptor)) ms) where
   named : (m n : ℕ) → IsTextAt texts pool m → IsTextAt texts pool n → OneText pool m n → NameOneText texts n m
   named m n x y o = record { text = o.text; one = y ∙ o.other; other = x ∙ o.one }
 
@@ -221,7 +239,9 @@ module _ (texts : List (Option (Bor (List ℕ)))) (pool : Pool) (ms : List Membe
   repeat_twins i r =
       let a = unpaired r.earlier r.pair (slice_get ms r.earlier) refl (sym (pair_at r.earlier) ∙ r.pair_stands) in
       let b = unpaired i r.again (slice_get ms i) refl (sym (pair_at i) ∙ r.again_stands) in
-      let there : SameTexts texts (signature a.0) (signature b.0) = subst (λ (p : ℕ × ℕ). SameTexts texts p (signature b.0)) (sym a.2) (subst (λ (q : ℕ × ℕ). SameTexts texts r.pair q) (sym b.2) r.same) in
+      let there : SameTexts texts (signature a.0) (signature b.0) =
+      subst (λ (p : ℕ × ℕ). SameTexts texts p (signature b.0)) (sym a.2) (subst (λ (q : ℕ × ℕ). SameTexts texts r.pair q) (sym b.2) r.same)
+      in
       let other = same i b.0 b.1 in
       let one = same r.earlier a.0 a.1 in
       let names = text_one pool b.0.name a.0.name (unnamed b.0.name a.0.name other.0 one.0 there.first) in
@@ -256,7 +276,8 @@ none_and true b e h = absurd cc
 
 abbrev Fresh : Pool → List Member → List Member → Type 0
 Fresh pool earlier ms =
-    (i : ℕ) (m : Member) → slice_get ms i ≡ Some m → (list_any (same_method pool m) earlier ≡ false) × ((j : ℕ) (e : Member) → j < i → slice_get ms j ≡ Some e → same_method pool m e ≡ false)
+    (i : ℕ) (m : Member) → slice_get ms i ≡ Some m
+    → (list_any (same_method pool m) earlier ≡ false) × ((j : ℕ) (e : Member) → j < i → slice_get ms j ≡ Some e → same_method pool m e ≡ false)
 
 distinct_from : (pool : Pool) (earlier ms : List Member) → Fresh pool earlier ms → IsTrue (no_twins pool earlier ms)
 distinct_from pool earlier [] h = refl
@@ -268,9 +289,15 @@ distinct_from pool earlier (m ∷ ms) h = none_and (list_any (same_method pool m
 
 distinct : (pool : Pool) (ms : List Member) → ((i : ℕ) → ¬ IsTwin pool ms i) → IsTrue (no_twins pool [] ms)
 distinct pool ms none =
-    distinct_from pool [] ms (λ i m e. (refl, λ j a lt ea. not_so (same_method pool m a) (λ s. none i (record { earlier = j; before = lt; one = a; other = m; one_stands = ea; other_stands = e; same = s }))))
+    distinct_from pool [] ms
+    (λ i m e. (
+      refl,
+      λ j a lt ea.
+          not_so (same_method pool m a) (λ s. none i (record { earlier = j; before = lt; one = a; other = m; one_stands = ea; other_stands = e; same = s })),
+    ))
 
-pub distinct_unless : (pool : Pool) (ms : List Member) (found : Option ℕ) → MatchOption found ((i : ℕ) → ¬ IsTwin pool ms i) (IsFirstTwin pool ms) → IfSome found (λ t. length ms ≤ t) → IsTrue (no_twins pool [] ms)
+pub distinct_unless : (pool : Pool) (ms : List Member) (found : Option ℕ) → MatchOption found ((i : ℕ) → ¬ IsTwin pool ms i) (IsFirstTwin pool ms)
+    → IfSome found (λ t. length ms ≤ t) → IsTrue (no_twins pool [] ms)
 distinct_unless pool ms None none h = distinct pool ms none
 distinct_unless pool ms (Some t) f h = let low = slice_get_within ms t f.twin.other f.twin.other_stands in absurd (omega (arith, h, low))
 
@@ -284,7 +311,8 @@ contains_at xs i x e = (i, slice_get_within xs i x e, get_or_from_slice_get xs i
 same_place : (t i : ℕ) → (t == i) ≡ true → t ≡ i
 same_place t i e = grind (arith, nat_tests)
 
-twin_at : (pool : Pool) (ms : List Member) (found : Option ℕ) (i : ℕ) → MatchOption found ((k : ℕ) → ¬ IsTwin pool ms k) (IsFirstTwin pool ms) → is_at found i ≡ true → IsTwin pool ms i
+twin_at : (pool : Pool) (ms : List Member) (found : Option ℕ) (i : ℕ) → MatchOption found ((k : ℕ) → ¬ IsTwin pool ms k) (IsFirstTwin pool ms)
+    → is_at found i ≡ true → IsTwin pool ms i
 twin_at pool ms None i none e = absurd cc
 twin_at pool ms (Some t) i f e = subst (λ (k : ℕ). IsTwin pool ms k) (same_place t i e) f.twin
 
@@ -350,7 +378,8 @@ pub field_fault_of : (pool : Pool) (b : Body) (fields : List Member) (f : ClassF
     → (i : ℕ) × (m : Member) × (slice_get fields i ≡ Some m) × IsFieldFault pool i m f → MembersFault pool b f
 field_fault_of pool b fields f ef x = field_fault pool b x.0 x.1 f (ap (λ (xs : List Member). slice_get xs x.0) (sym ef) ∙ x.2) x.3
 
-pub method_fault_of : (pool : Pool) (b : Body) (found : Option ℕ) (fields methods : List Member) (interface : Bool) (f : ClassFault) → fields ≡ b.fields → methods ≡ b.methods → interface ≡ is_interface b
+pub method_fault_of : (pool : Pool) (b : Body) (found : Option ℕ) (fields methods : List Member) (interface : Bool) (f : ClassFault) → fields ≡ b.fields
+    → methods ≡ b.methods → interface ≡ is_interface b
     → MatchOption found ((k : ℕ) → ¬ IsTwin pool methods k) (IsFirstTwin pool methods)
     → (i : ℕ) × (m : Member) × (slice_get methods i ≡ Some m) × IsMethodFault pool interface (length fields + i) i (is_at found i) m f → MembersFault pool b f
 method_fault_of pool b found fields methods interface f ef em ei t x =

@@ -1,5 +1,6 @@
 -- A fault of a pass is the first where no earlier pass fails.
-use Rattle.std.proofs.Common.{◌≡◌, ◌≢◌, ℕ, ◌<◌, ◌≤◌, true, false, List, [], ◌∷◌, ◌++◌, length, drop, Option, Some, None, Result, Ok, Err, refl, sym, ap, subst, ◌∙◌, arith}
+use Rattle.std.proofs.Common.{◌≡◌, ◌≢◌, ℕ, ◌<◌, ◌≤◌, true, false, List, [], ◌∷◌, ◌++◌, length, drop, Option, Some, None, Result, Ok}
+use Rattle.std.proofs.Common.{Err, refl, sym, ap, subst, ◌∙◌, arith}
 use Rattle.std.specs.Prelude.{◌==◌, All, IfOk, IfErr}
 use Rattle.std.specs.List.{Contains}
 use Rattle.std.proofs.lemmas.Bool.Decides.{nat_tests}
@@ -37,8 +38,10 @@ use Rattle.jl_classfile.proofs.LayoutLaws.{head_one, file_apart}
 abbrev None_before : List ℕ → ℕ → Type 0
 None_before bytes n = (earlier : Pass) (g : ClassFault) → rank earlier < n → ¬ FailsWith earlier bytes g
 
-before : (bytes : List ℕ) (n : ℕ) → n ≤ 8 → (1 < n → (g : ClassFault) → ¬ SizeFault bytes g) → (2 < n → (g : ClassFault) → ¬ HeadFault bytes g) → (3 < n → (g : ClassFault) → ¬ PoolPass bytes g)
-    → (4 < n → (g : ClassFault) → ¬ LayoutFault bytes g) → (5 < n → (g : ClassFault) → ¬ LaidFault LinksFault bytes g) → (6 < n → (g : ClassFault) → ¬ LaidFault (λ major. MembersFault) bytes g)
+before : (bytes : List ℕ) (n : ℕ) → n ≤ 8 → (1 < n → (g : ClassFault) → ¬ SizeFault bytes g) → (2 < n → (g : ClassFault) → ¬ HeadFault bytes g)
+    → (3 < n → (g : ClassFault) → ¬ PoolPass bytes g)
+    → (4 < n → (g : ClassFault) → ¬ LayoutFault bytes g) → (5 < n → (g : ClassFault) → ¬ LaidFault LinksFault bytes g)
+    → (6 < n → (g : ClassFault) → ¬ LaidFault (λ major. MembersFault) bytes g)
     → (7 < n → (g : ClassFault) → ¬ LaidFault AttributesFault bytes g) → None_before bytes n
 before bytes n top a b c d e f h Sizing g lt = a lt g
 before bytes n top a b c d e f h Heading g lt = b lt g
@@ -58,17 +61,22 @@ pub size_first : (bytes : List ℕ) → most_bytes < length bytes → IsFault by
 size_first bytes over = record {
   pass = Sizing;
   fails = over;
-  first = before bytes 1 (omega arith) (high 1 1 (omega arith)) (high 2 1 (omega arith)) (high 3 1 (omega arith)) (high 4 1 (omega arith)) (high 5 1 (omega arith)) (high 6 1 (omega arith)) (high 7 1 (omega arith));
+  first =
+      before bytes 1 (omega arith) (high 1 1 (omega arith)) (high 2 1 (omega arith)) (high 3 1 (omega arith)) (high 4 1 (omega arith)) (high 5 1 (omega arith))
+      (high 6 1 (omega arith)) (high 7 1 (omega arith));
 }
 
 pub head_first : (bytes : List ℕ) (f : ClassFault) → length bytes ≤ most_bytes → HeadFault bytes f → IsFault bytes f
 head_first bytes f few fault = record {
   pass = Heading;
   fails = fault;
-  first = before bytes 2 (omega arith) (λ lt g. no_size bytes g few) (high 2 2 (omega arith)) (high 3 2 (omega arith)) (high 4 2 (omega arith)) (high 5 2 (omega arith)) (high 6 2 (omega arith)) (high 7 2 (omega arith));
+  first =
+      before bytes 2 (omega arith) (λ lt g. no_size bytes g few) (high 2 2 (omega arith)) (high 3 2 (omega arith)) (high 4 2 (omega arith)) (high 5 2 (omega arith))
+      (high 6 2 (omega arith)) (high 7 2 (omega arith));
 }
 
-pub pool_first : (bytes text : List ℕ) (major : ℕ) (f : PoolFault) → length bytes ≤ most_bytes → HasHead bytes text major → IsPoolFault text f → fault_of_pool f ≢ Memory → IsFault bytes (fault_of_pool f)
+pub pool_first : (bytes text : List ℕ) (major : ℕ) (f : PoolFault) → length bytes ≤ most_bytes → HasHead bytes text major → IsPoolFault text f
+    → fault_of_pool f ≢ Memory → IsFault bytes (fault_of_pool f)
 pool_first bytes text major f few head fault other = record {
   pass = Pooling;
   fails = passed f fault other;
@@ -86,7 +94,8 @@ pool_first bytes text major f few head fault other = record {
 -- ---- the layout
 
 pub has_pool : (bytes text behind : List ℕ) (major used : ℕ) (p : Pool) → length bytes ≤ most_bytes → HasHead bytes text major
-    → (cs : List Constant) × (left : List ℕ) × PoolStands text cs left × IsSoundPool cs × (p ≡ places cs) × (used ≡ length (pool_text cs)) → behind ≡ drop used text → HasPool bytes major p behind
+    → (cs : List Constant) × (left : List ℕ) × PoolStands text cs left × IsSoundPool cs × (p ≡ places cs) × (used ≡ length (pool_text cs))
+    → behind ≡ drop used text → HasPool bytes major p behind
 has_pool bytes text behind major used p few head h rest = record {
   few = few;
   text = text;
@@ -104,7 +113,8 @@ laying_first bytes major p left f h fault = record {
   pass = Laying;
   fails = fault;
   first = before bytes 4 (omega arith) (λ lt g. no_size bytes g h.few) (λ lt g. no_head bytes h.text h.head.minor major g h.head.spelled h.head.minor_size h.head.major_size h.head.version)
-      (λ lt g. no_pool bytes h.text h.head.minor major h.constants left g h.head.spelled h.stands h.sound) (high 4 4 (omega arith)) (high 5 4 (omega arith)) (high 6 4 (omega arith)) (high 7 4 (omega arith));
+      (λ lt g. no_pool bytes h.text h.head.minor major h.constants left g h.head.spelled h.stands h.sound) (high 4 4 (omega arith)) (high 5 4 (omega arith))
+      (high 6 4 (omega arith)) (high 7 4 (omega arith));
 }
 
 layout_of : (bytes : List ℕ) (major : ℕ) (p : Pool) (left : List ℕ) → HasPool bytes major p left → Body → Layout
@@ -114,35 +124,47 @@ laid_of : (bytes : List ℕ) (major : ℕ) (p : Pool) (left : List ℕ) (h : Has
 unfolding layout_of
 laid_of bytes major p left h b sized = record { minor = h.head.minor_size; major = h.head.major_size; pool = h.stands.written; body = sized }
 
-spelled_of : (bytes : List ℕ) (major : ℕ) (p : Pool) (left : List ℕ) (h : HasPool bytes major p left) (b : Body) (rest : List ℕ) → left ≡ body_text b ++ rest → bytes ≡ file_text (layout_of bytes major p left h b) ++ rest
+spelled_of : (bytes : List ℕ) (major : ℕ) (p : Pool) (left : List ℕ) (h : HasPool bytes major p left) (b : Body) (rest : List ℕ) → left ≡ body_text b ++ rest
+    → bytes ≡ file_text (layout_of bytes major p left h b) ++ rest
 unfolding layout_of
 spelled_of bytes major p left h b rest e =
-    h.head.spelled ∙ ap (λ (t : List ℕ). head_text h.head.minor major ++ t) (h.stands.bytes ∙ ap (λ (t : List ℕ). pool_text h.constants ++ t) e) ∙ sym (file_apart (layout_of bytes major p left h b) rest)
+    h.head.spelled
+    ∙ ap (λ (t : List ℕ). head_text h.head.minor major ++ t) (h.stands.bytes ∙ ap (λ (t : List ℕ). pool_text h.constants ++ t) e)
+    ∙ sym (file_apart (layout_of bytes major p left h b) rest)
 
 cut_first : (bytes : List ℕ) (major : ℕ) (p : Pool) (left : List ℕ) → HasPool bytes major p left → body_at left ≡ None → IsFault bytes Truncated
 cut_first bytes major p left h none = laying_first bytes major p left Truncated h never where
   never : LayoutFault bytes Truncated
   never l more laid e =
-      let heads = head_one h.head.minor major l.minor l.major h.text (pool_text l.constants ++ (body_text l.body ++ more)) h.head.minor_size h.head.major_size laid.minor laid.major (sym h.head.spelled ∙ e ∙ file_apart l more) in
+      let heads =
+      head_one h.head.minor major l.minor l.major h.text (pool_text l.constants ++ (body_text l.body ++ more)) h.head.minor_size h.head.major_size laid.minor
+      laid.major (sym h.head.spelled ∙ e ∙ file_apart l more)
+      in
       let pools = one_pool h.text h.constants l.constants left (body_text l.body ++ more) h.stands (record { bytes = heads.rest; written = laid.pool }) in
       let again = body-again l.body more laid.body in
       let clash : body_at left ≡ Some (l.body, more) = ap (λ (t : List ℕ). body_at t) pools.1 ∙ again in
       absurd (let same = sym none ∙ clash in cc)
 
-pub broken_first : (bytes : List ℕ) (major : ℕ) (p : Pool) (left : List ℕ) (e : Broken) → HasPool bytes major p left → Stops e (body_at left) → fault_of_broken e ≢ Memory → IsFault bytes (fault_of_broken e)
+pub broken_first : (bytes : List ℕ) (major : ℕ) (p : Pool) (left : List ℕ) (e : Broken) → HasPool bytes major p left → Stops e (body_at left)
+    → fault_of_broken e ≢ Memory → IsFault bytes (fault_of_broken e)
 broken_first bytes major p left broken.Cut h stops other = cut_first bytes major p left h stops
 broken_first bytes major p left broken.Memory h stops other = absurd (other refl)
 
-pub trailing_first : (bytes : List ℕ) (major : ℕ) (p : Pool) (left : List ℕ) (b : Body) (rest : List ℕ) → HasPool bytes major p left → BodySized b × (left ≡ body_text b ++ rest) → rest ≢ [] → IsFault bytes TrailingBytes
+pub trailing_first : (bytes : List ℕ) (major : ℕ) (p : Pool) (left : List ℕ) (b : Body) (rest : List ℕ) → HasPool bytes major p left
+    → BodySized b × (left ≡ body_text b ++ rest) → rest ≢ [] → IsFault bytes TrailingBytes
 trailing_first bytes major p left b rest h body more =
     laying_first bytes major p left TrailingBytes h (layout_of bytes major p left h b, rest, laid_of bytes major p left h b body.0, more, spelled_of bytes major p left h b rest body.1)
 
-pub lies : (bytes : List ℕ) (major : ℕ) (p : Pool) (left : List ℕ) (b : Body) (rest : List ℕ) → HasPool bytes major p left → BodySized b × (left ≡ body_text b ++ rest) → rest ≡ [] → Lies bytes major p b
+pub lies : (bytes : List ℕ) (major : ℕ) (p : Pool) (left : List ℕ) (b : Body) (rest : List ℕ) → HasPool bytes major p left
+    → BodySized b × (left ≡ body_text b ++ rest) → rest ≡ [] → Lies bytes major p b
 unfolding layout_of
 lies bytes major p left b rest h body none = record {
   layout = layout_of bytes major p left h b;
   few = h.few;
-  spelled = spelled_of bytes major p left h b rest body.1 ∙ ap (λ (t : List ℕ). file_text (layout_of bytes major p left h b) ++ t) none ∙ append-nil (file_text (layout_of bytes major p left h b));
+  spelled =
+      spelled_of bytes major p left h b rest body.1
+      ∙ ap (λ (t : List ℕ). file_text (layout_of bytes major p left h b) ++ t) none
+      ∙ append-nil (file_text (layout_of bytes major p left h b));
   laid = laid_of bytes major p left h b body.0;
   version = h.head.version;
   sound = h.sound;
@@ -164,7 +186,9 @@ module _ (bytes : List ℕ) (major : ℕ) (p : Pool) (b : Body) (h : Lies bytes 
   at_head g = no_head bytes (pool_text h.layout.constants ++ body_text h.layout.body) h.layout.minor h.layout.major g h.spelled h.laid.minor h.laid.major h.version
 
   at_pool : (g : ClassFault) → ¬ PoolPass bytes g
-  at_pool g = no_pool bytes (pool_text h.layout.constants ++ body_text h.layout.body) h.layout.minor h.layout.major h.layout.constants (body_text h.layout.body) g h.spelled (record { bytes = refl; written = h.laid.pool }) h.sound
+  at_pool g =
+      no_pool bytes (pool_text h.layout.constants ++ body_text h.layout.body) h.layout.minor h.layout.major h.layout.constants (body_text h.layout.body) g h.spelled
+      (record { bytes = refl; written = h.laid.pool }) h.sound
 
   at_layout : (g : ClassFault) → ¬ LayoutFault bytes g
   at_layout g = no_layout bytes h.layout g h.spelled h.laid
@@ -253,7 +277,8 @@ pub attributes_fault : (major : ℕ) (p : Pool) (b : Body) (attributes : List At
 attributes_fault major p b attributes f e x =
     subst (λ (g : ClassFault). AttributesFault major p b g) (sym x.1) (contains_name b.attributes x.0 (subst (λ (l : List Attribute). Contains l x.0) e x.2), x.3)
 
-pub nest_fault : (major : ℕ) (p : Pool) (b : Body) (f : ClassFault) → f ≢ Memory → (f ≢ Memory → (f ≡ BadNest) × ((host : Option ℕ) (members : Option (List ℕ)) → ¬ Nest major p b host members)) → AttributesFault major p b f
+pub nest_fault : (major : ℕ) (p : Pool) (b : Body) (f : ClassFault) → f ≢ Memory
+    → (f ≢ Memory → (f ≡ BadNest) × ((host : Option ℕ) (members : Option (List ℕ)) → ¬ Nest major p b host members)) → AttributesFault major p b f
 nest_fault major p b f other h = let x = h other in subst (λ (g : ClassFault). AttributesFault major p b g) (sym x.0) x.1
 
 module _ (bytes : List ℕ) (major : ℕ) (p : Pool) (b : Body) (h : Lies bytes major p b) (links : Links major p b) (members : Members p b) (attributes : ClassAttributeLinks p b)

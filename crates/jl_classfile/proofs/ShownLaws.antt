@@ -1,5 +1,6 @@
 -- What a class file shows of its methods.
-use Rattle.std.proofs.Common.{◌≡◌, ◌≢◌, ℕ, ◌≤◌, List, [], ◌∷◌, ◌++◌, length, Option, Some, None, refl, sym, ap, subst, ◌∙◌, suc, ◌+◌, ◌<◌, get_or, take, arith}
+use Rattle.std.proofs.Common.{◌≡◌, ◌≢◌, ℕ, ◌≤◌, List, [], ◌∷◌, ◌++◌, length, Option, Some, None, refl, sym, ap, subst, ◌∙◌, suc}
+use Rattle.std.proofs.Common.{◌+◌, ◌<◌, get_or, take, arith}
 use Rattle.std.specs.Prelude.{slice_get, codes}
 use Rattle.std.proofs.Math.Seq.{take-suc}
 use Rattle.jl_classfile.specs.declared.body.Attribute.{Attribute}
@@ -48,10 +49,12 @@ sites_some p m info bytes is h holds c = record {
   shown = refl;
 }
 
-pub bad_layout : (p : Pool) (m : Member) (index : ℕ) (info : List ℕ) → HasInfo p m info → ((bytes : List ℕ) → ¬ HoldsCode info bytes) → IsMethodFault p index m (Code index code.BadLayout)
+pub bad_layout : (p : Pool) (m : Member) (index : ℕ) (info : List ℕ) → HasInfo p m info → ((bytes : List ℕ) → ¬ HoldsCode info bytes)
+    → IsMethodFault p index m (Code index code.BadLayout)
 bad_layout p m index info h none = (h.attribute, refl, h.only, (λ e. absurd cc), λ bytes. subst (λ (t : List ℕ). ¬ HoldsCode t bytes) (sym h.is) (none bytes))
 
-pub bad_code : (p : Pool) (m : Member) (index : ℕ) (info bytes : List ℕ) (f : CodeFault) → HasInfo p m info → HoldsCode info bytes → IsScanFault p bytes f → IsMethodFault p index m (fault_of_code index f)
+pub bad_code : (p : Pool) (m : Member) (index : ℕ) (info bytes : List ℕ) (f : CodeFault) → HasInfo p m info → HoldsCode info bytes → IsScanFault p bytes f
+    → IsMethodFault p index m (fault_of_code index f)
 bad_code p m index info bytes code.Memory h holds fault = tt
 bad_code p m index info bytes code.BadLayout h holds fault = absurd fault
 bad_code p m index info bytes (code.BadOpcode pc) h holds fault = (h.attribute, refl, h.only, (λ e. absurd cc), (bytes, subst (λ (t : List ℕ). HoldsCode t bytes) (sym h.is) holds, fault))
@@ -64,7 +67,8 @@ bad_code p m index info bytes (code.BadOperand pc) h holds fault = (h.attribute,
 pub none_shown : (p : Pool) → MethodsShown p [] []
 none_shown p = record { codes = []; have = tt; shown = refl }
 
-have_more : (p : Pool) (ms : List Member) (codes : List (Option (List Instruction))) (m : Member) (c : Option (List Instruction)) → HaveCodes p ms codes → HasCode p (codes_of p m) c → HaveCodes p (ms ++ m ∷ []) (codes ++ c ∷ [])
+have_more : (p : Pool) (ms : List Member) (codes : List (Option (List Instruction))) (m : Member) (c : Option (List Instruction)) → HaveCodes p ms codes
+    → HasCode p (codes_of p m) c → HaveCodes p (ms ++ m ∷ []) (codes ++ c ∷ [])
 have_more p [] [] m c h k = (k, tt)
 have_more p [] (d ∷ codes) m c h k = absurd h
 have_more p (n ∷ ms) [] m c h k = absurd h
@@ -86,18 +90,21 @@ shown_count p (m ∷ ms) (c ∷ codes) h = ap (λ (n : ℕ). suc n) (shown_count
 pub as_many : (p : Pool) (ms : List Member) (methods : List Method) → MethodsShown p ms methods → length methods ≡ length ms
 as_many p ms methods s = ap (λ (l : List Method). length l) s.shown ∙ shown_count p ms s.codes s.have
 
-pub one_more_shown : (p : Pool) (ms : List Member) (methods : List Method) (m : Member) (method : Method) → MethodsShown p ms methods → MethodShown p m method → MethodsShown p (ms ++ m ∷ []) (methods ++ method ∷ [])
+pub one_more_shown : (p : Pool) (ms : List Member) (methods : List Method) (m : Member) (method : Method) → MethodsShown p ms methods → MethodShown p m method
+    → MethodsShown p (ms ++ m ∷ []) (methods ++ method ∷ [])
 one_more_shown p ms methods m method s k = record {
   codes = s.codes ++ k.code ∷ [];
   have = have_more p ms s.codes m k.code s.have k.has;
   shown = ap (λ (l : List Method). l ++ method ∷ []) s.shown ∙ ap (λ (x : Method). shown_methods p ms s.codes ++ x ∷ []) k.shown ∙ sym (shown_more p ms s.codes m k.code s.have);
 }
 
-pub methods_step : (p : Pool) (ms : List Member) (methods : List Method) (i : ℕ) (d : Member) (method : Method) → i < length ms → MethodsShown p (take i ms) methods → MethodShown p (get_or ms i d) method
+pub methods_step : (p : Pool) (ms : List Member) (methods : List Method) (i : ℕ) (d : Member) (method : Method) → i < length ms → MethodsShown p (take i ms) methods
+    → MethodShown p (get_or ms i d) method
     → MethodsShown p (take (i + 1) ms) (methods ++ method ∷ [])
 methods_step p ms methods i d method h s k =
     let next : i + 1 ≡ suc i = omega arith in
-    subst (λ (l : List Member). MethodsShown p l (methods ++ method ∷ [])) (sym (ap (λ (n : ℕ). take n ms) next ∙ take-suc ms i d h)) (one_more_shown p (take i ms) methods (get_or ms i d) method s k)
+    subst (λ (l : List Member). MethodsShown p l (methods ++ method ∷ [])) (sym (ap (λ (n : ℕ). take n ms) next ∙ take-suc ms i d h))
+    (one_more_shown p (take i ms) methods (get_or ms i d) method s k)
 
 pub codes_fault : (p : Pool) (b : Body) (f : ClassFault) → f ≢ Memory → (i : ℕ) × (m : Member) × (slice_get b.methods i ≡ Some m) × IsMethodFault p i m f → CodesFault p b f
 codes_fault p b (Code i f) h x =

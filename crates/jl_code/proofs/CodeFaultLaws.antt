@@ -1,5 +1,6 @@
 -- No code has a fault, and bytes are one code at most.
-use Rattle.std.proofs.Common.{◌≡◌, ◌≢◌, ℕ, ◌+◌, Bool, true, false, List, [], ◌∷◌, ◌++◌, length, Result, Ok, Err, refl, sym, ap, subst, ◌∙◌, append_assoc, length-append, arith}
+use Rattle.std.proofs.Common.{◌≡◌, ◌≢◌, ℕ, ◌+◌, Bool, true, false, List, [], ◌∷◌, ◌++◌, length, Result, Ok, Err, refl, sym, ap, subst}
+use Rattle.std.proofs.Common.{◌∙◌, append_assoc, length-append, arith}
 use Rattle.std.specs.Prelude.{IsFalse}
 use Rattle.std.specs.List.{AllByRecursion}
 use Rattle.jl_names.proofs.Bytes.{ok_is}
@@ -44,15 +45,26 @@ front pc is [] left hi hj e = record { more = is; all = refl; text = sym e; stan
 front pc [] (j ∷ js) left hi hj e = absurd (omega (arith, ap length e, length-append (instruction_text j ++ code_bytes js) left, length-append (instruction_text j) (code_bytes js), text-some j))
 front pc (i ∷ is) (j ∷ js) left hi hj e =
     let both : found (i, code_bytes is) ≡ found (j, code_bytes js ++ left) =
-    sym (instruction_again pc i (code_bytes is) hi.0) ∙ ap (instruction_at pc) (e ∙ append_assoc (instruction_text j) (code_bytes js) left) ∙ instruction_again pc j (code_bytes js ++ left) hj.0 in
+    sym (instruction_again pc i (code_bytes is) hi.0)
+    ∙ ap (instruction_at pc) (e ∙ append_assoc (instruction_text j) (code_bytes js) left)
+    ∙ instruction_again pc j (code_bytes js ++ left) hj.0 in
     let pairs = ok_is {E = Stop} (i, code_bytes is) (j, code_bytes js ++ left) both in
     let first : i ≡ j = ap (λ (x : Instruction × List ℕ). x.0) pairs in
-    let rest = front (pc + length (instruction_text j)) is js left (subst (λ (k : Instruction). MayStandFrom (pc + length (instruction_text k)) is) first hi.1) hj.1 (ap (λ (x : Instruction × List ℕ). x.1) pairs) in
+    let rest =
+    front (pc + length (instruction_text j)) is js left (subst (λ (k : Instruction). MayStandFrom (pc + length (instruction_text k)) is) first hi.1) hj.1
+    (ap (λ (x : Instruction × List ℕ). x.1) pairs)
+    in
     record {
       more = rest.more;
       all = cc (first, rest.all);
       text = rest.text;
-      stand = subst (λ (n : ℕ). MayStandFrom n rest.more) (let same : pc + length (instruction_text j) + length (code_bytes js) ≡ pc + length (code_bytes (j ∷ js)) = omega (arith, length-append (instruction_text j) (code_bytes js)) in same) rest.stand;
+      stand =
+          subst (λ (n : ℕ). MayStandFrom n rest.more)
+          (let same : pc + length (instruction_text j) + length (code_bytes js) ≡ pc + length (code_bytes (j ∷ js)) =
+          omega (arith, length-append (instruction_text j) (code_bytes js))
+          in
+          same)
+          rest.stand;
     }
 
 All-back : {X : Type 0} (P : X → Type 0) (xs ys : List X) → AllByRecursion P (xs ++ ys) → AllByRecursion P ys
@@ -73,11 +85,13 @@ no_bad_switch pc left more e stand = λ s. by more stand (sym (bad_again pc left
   by [] stand e = nothing_stands pc (sym e)
   by (i ∷ more) stand e = let clash : bad ≡ found (i, code_bytes more) = e ∙ instruction_again pc i (code_bytes more) stand.0 in cc
 
-no_cut : (pc : ℕ) (left : List ℕ) (more : List Instruction) → left ≡ code_bytes more → MayStandFrom pc more → left ≢ [] → ((i : Instruction) (rest : List ℕ) → MayStand pc i → left ≢ instruction_text i ++ rest) → ⊥
+no_cut : (pc : ℕ) (left : List ℕ) (more : List Instruction) → left ≡ code_bytes more → MayStandFrom pc more → left ≢ []
+    → ((i : Instruction) (rest : List ℕ) → MayStand pc i → left ≢ instruction_text i ++ rest) → ⊥
 no_cut pc left [] e stand some none = some e
 no_cut pc left (i ∷ more) e stand some none = none i (code_bytes more) stand.0 e
 
-no_operand : (p : Pool) (pc : ℕ) (i : Instruction) (rest : List ℕ) (more : List Instruction) → instruction_text i ++ rest ≡ code_bytes more → MayStandFrom pc more → MayStand pc i → AllByRecursion (OperandFits p) more → ¬ OperandFits p i → ⊥
+no_operand : (p : Pool) (pc : ℕ) (i : Instruction) (rest : List ℕ) (more : List Instruction) → instruction_text i ++ rest ≡ code_bytes more
+    → MayStandFrom pc more → MayStand pc i → AllByRecursion (OperandFits p) more → ¬ OperandFits p i → ⊥
 no_operand p pc i rest [] e stand m fits not_so = absurd (omega (arith, ap length e, length-append (instruction_text i) rest, text-some i))
 no_operand p pc i rest (k ∷ more) e stand m fits not_so =
     let both : found (i, rest) ≡ found (k, code_bytes more) = sym (instruction_again pc i rest m) ∙ ap (instruction_at pc) e ∙ instruction_again pc k (code_bytes more) stand.0 in
@@ -132,7 +146,10 @@ one_list pc (i ∷ is) (j ∷ js) hi hj e =
     let both : found (i, code_bytes is) ≡ found (j, code_bytes js) = sym (instruction_again pc i (code_bytes is) hi.0) ∙ ap (instruction_at pc) e ∙ instruction_again pc j (code_bytes js) hj.0 in
     let pairs = ok_is {E = Stop} (i, code_bytes is) (j, code_bytes js) both in
     let first : i ≡ j = ap (λ (p : Instruction × List ℕ). p.0) pairs in
-    let more = one_list (pc + length (instruction_text i)) is js hi.1 (subst (λ (k : Instruction). MayStandFrom (pc + length (instruction_text k)) js) (sym first) hj.1) (ap (λ (p : Instruction × List ℕ). p.1) pairs) in
+    let more =
+    one_list (pc + length (instruction_text i)) is js hi.1 (subst (λ (k : Instruction). MayStandFrom (pc + length (instruction_text k)) js) (sym first) hj.1)
+    (ap (λ (p : Instruction × List ℕ). p.1) pairs)
+    in
     cc (first, more)
 
 pub one_code : (p : Pool) (bytes : List ℕ) (is js : List Instruction) → IsCode p bytes is → IsCode p bytes js → is ≡ js

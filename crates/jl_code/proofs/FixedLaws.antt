@@ -1,5 +1,6 @@
 -- Instructions of a fixed length, and behind a wide.
-use Rattle.std.proofs.Common.{◌≡◌, ◌≢◌, ℕ, ◌<◌, ◌^◌, true, false, List, [], ◌∷◌, ◌++◌, length, Option, Some, None, Result, refl, sym, ap, subst, ◌∙◌, append_assoc}
+use Rattle.std.proofs.Common.{◌≡◌, ◌≢◌, ℕ, ◌<◌, ◌^◌, true, false, List, [], ◌∷◌, ◌++◌, length, Option, Some, None, Result, refl, sym, ap}
+use Rattle.std.proofs.Common.{subst, ◌∙◌, append_assoc}
 use Rattle.jl_code.specs.declared.instruction.Instruction.TheVariants.{Plain, Wide, Invoke}
 use Rattle.jl_code.specs.declared.instruction.Stop.{Stop}
 use Rattle.jl_code.specs.declared.instruction.Stop.TheVariants.{Cut, Opcode, Switch}
@@ -22,14 +23,16 @@ invocation_again : (opcode number : ℕ) (tail rest : List ℕ) → number < 2 ^
 invocation_again opcode number tail rest size =
     ap (λ (b : List ℕ). invocation_at opcode (length tail) b) (append_assoc (u2 number) tail rest) ∙ rw (u2_again number (tail ++ rest) size, bytes_again (length tail) tail rest refl) refl
 
-pub fixed_again-plain : (opcode : ℕ) (operands rest : List ℕ) → operands_in plain_opcodes opcode ≡ Some (length operands) → fixed_at opcode (operands ++ rest) ≡ found (Plain opcode operands, rest)
+pub fixed_again-plain : (opcode : ℕ) (operands rest : List ℕ) → operands_in plain_opcodes opcode ≡ Some (length operands)
+    → fixed_at opcode (operands ++ rest) ≡ found (Plain opcode operands, rest)
 unfolding fixed_at
 fixed_again-plain opcode operands rest row =
     ap (λ (o : Option ℕ). by_row o (tail_in invocations opcode) opcode (operands ++ rest)) row
     ∙ ap (λ (t : Option ℕ). by_row (Some (length operands)) t opcode (operands ++ rest)) (one_table opcode (length operands) row)
     ∙ ap or_cut (plain_again opcode operands rest)
 
-pub fixed_again-invocation : (opcode number : ℕ) (tail rest : List ℕ) → tail_in invocations opcode ≡ Some (length tail) → number < 2 ^ 16 → fixed_at opcode ((u2 number ++ tail) ++ rest) ≡ found (Invoke opcode number tail, rest)
+pub fixed_again-invocation : (opcode number : ℕ) (tail rest : List ℕ) → tail_in invocations opcode ≡ Some (length tail) → number < 2 ^ 16
+    → fixed_at opcode ((u2 number ++ tail) ++ rest) ≡ found (Invoke opcode number tail, rest)
 unfolding fixed_at
 fixed_again-invocation opcode number tail rest row size =
     ap (λ (t : Option ℕ). by_row (operands_in plain_opcodes opcode) t opcode ((u2 number ++ tail) ++ rest)) row
@@ -38,14 +41,16 @@ fixed_again-invocation opcode number tail rest row size =
 prepend : (opcode : ℕ) (bytes text rest : List ℕ) → Takes bytes text rest → Takes (opcode ∷ bytes) (opcode ∷ text) rest
 prepend opcode bytes text rest t = record { parts = ap (λ (x : List ℕ). opcode ∷ x) t.parts; bytes_left = t.bytes_left }
 
-plain_takes : (pc opcode count : ℕ) (bytes : List ℕ) (x : Read) → IsBytes bytes → operands_in plain_opcodes opcode ≡ Some count → plain_at opcode count bytes ≡ Some x → Spelled pc (opcode ∷ bytes) x.0 x.1
+plain_takes : (pc opcode count : ℕ) (bytes : List ℕ) (x : Read) → IsBytes bytes → operands_in plain_opcodes opcode ≡ Some count
+    → plain_at opcode count bytes ≡ Some x → Spelled pc (opcode ∷ bytes) x.0 x.1
 plain_takes pc opcode count bytes x fits row e =
     let b = bind_some (bytes_at count bytes) (λ o. Some (Plain opcode o.0, o.1)) x e in
     let t = bytes_takes count bytes b.0 fits b.1 in
     subst (λ (y : Read). Spelled pc (opcode ∷ bytes) y.0 y.1) (some_is (Plain opcode b.0.0, b.0.1) x b.2)
     (record { taken = prepend opcode bytes b.0.0 b.0.1 t.0; stands = row ∙ ap (λ (n : ℕ). Some n) (sym t.1) })
 
-invocation_takes : (pc opcode tail : ℕ) (bytes : List ℕ) (x : Read) → IsBytes bytes → tail_in invocations opcode ≡ Some tail → invocation_at opcode tail bytes ≡ Some x → Spelled pc (opcode ∷ bytes) x.0 x.1
+invocation_takes : (pc opcode tail : ℕ) (bytes : List ℕ) (x : Read) → IsBytes bytes → tail_in invocations opcode ≡ Some tail
+    → invocation_at opcode tail bytes ≡ Some x → Spelled pc (opcode ∷ bytes) x.0 x.1
 invocation_takes pc opcode tail bytes x fits row e =
     let n = bind_some (number_at 2 bytes) (λ n. bytes_at tail n.1 >>= λ t. Some (Invoke opcode n.0 t.0, t.1)) x e in
     let b = bind_some (bytes_at tail n.0.1) (λ t. Some (Invoke opcode n.0.0 t.0, t.1)) x n.2 in
@@ -97,7 +102,8 @@ fixed_no_switch opcode bytes = by_tables opcode bytes (stopped Switch)
 
 -- ---- behind a wide
 
-pub wide_again : (opcode : ℕ) (operands rest : List ℕ) → operands_in wide_opcodes opcode ≡ Some (length operands) → wide_at (opcode ∷ (operands ++ rest)) ≡ found (Wide opcode operands, rest)
+pub wide_again : (opcode : ℕ) (operands rest : List ℕ) → operands_in wide_opcodes opcode ≡ Some (length operands)
+    → wide_at (opcode ∷ (operands ++ rest)) ≡ found (Wide opcode operands, rest)
 unfolding wide_at
 wide_again opcode operands rest row =
     ap (λ (o : Option ℕ). wide_by_row o opcode (operands ++ rest)) row ∙ rw (bytes_again (length operands) operands rest refl) refl
@@ -112,7 +118,8 @@ by_wide_table {P} opcode bytes r wide none e = by (operands_in wide_opcodes opco
   by (Some count) o e = wide count o e
   by None o e = none o e
 
-wide_some : (pc opcode count : ℕ) (bytes : List ℕ) (x : Read) → IsBytes bytes → operands_in wide_opcodes opcode ≡ Some count → (bytes_at count bytes >>= λ o. Some (Wide opcode o.0, o.1)) ≡ Some x → Spelled pc (196 ∷ opcode ∷ bytes) x.0 x.1
+wide_some : (pc opcode count : ℕ) (bytes : List ℕ) (x : Read) → IsBytes bytes → operands_in wide_opcodes opcode ≡ Some count
+    → (bytes_at count bytes >>= λ o. Some (Wide opcode o.0, o.1)) ≡ Some x → Spelled pc (196 ∷ opcode ∷ bytes) x.0 x.1
 wide_some pc opcode count bytes x fits row e =
     let b = bind_some (bytes_at count bytes) (λ o. Some (Wide opcode o.0, o.1)) x e in
     let t = bytes_takes count bytes b.0 fits b.1 in

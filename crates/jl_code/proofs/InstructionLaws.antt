@@ -13,7 +13,8 @@ use Rattle.jl_pool.proofs.Fields.{IsBytes, IsBytes-rest}
 use Rattle.jl_code.proofs.StopLaws.{Read, found, stopped, Spelled}
 use Rattle.jl_code.proofs.OpcodeLaws.{IsFixed, fixed-plain, fixed-invocation, begins_table, begins_look_up}
 use Rattle.jl_code.proofs.FixedLaws.{fixed_again-plain, fixed_again-invocation, fixed_takes, fixed_cut, fixed_unknown, fixed_no_switch, wide_again, wide_takes, wide_cut, wide_unknown, wide_no_switch}
-use Rattle.jl_code.proofs.SwitchLaws.{table_text, table_again, table_bad_again, table_takes, table_bad, table_no_opcode, look_up_text, look_up_again, look_up_bad_again, look_up_takes, look_up_bad, look_up_no_opcode}
+use Rattle.jl_code.proofs.SwitchLaws.{table_text, table_again, table_bad_again, table_takes, table_bad, table_no_opcode, look_up_text, look_up_again, look_up_bad_again}
+use Rattle.jl_code.proofs.SwitchLaws.{look_up_takes, look_up_bad, look_up_no_opcode}
 
 first_fixed : (pc opcode : ℕ) (bytes : List ℕ) → IsFixed opcode → instruction_at pc (opcode ∷ bytes) ≡ fixed_at opcode bytes
 unfolding instruction_at
@@ -25,7 +26,8 @@ instruction_again pc (Plain opcode operands) rest m = first_fixed pc opcode (ope
 instruction_again pc (Invoke opcode number tail) rest m =
     first_fixed pc opcode ((u2 number ++ tail) ++ rest) (fixed-invocation opcode (length tail) m.0) ∙ fixed_again-invocation opcode number tail rest m.0 m.1
 instruction_again pc (Wide opcode operands) rest m = wide_again opcode operands rest m
-instruction_again pc (TableSwitch padding default low high offsets) rest m = ap (instruction_at pc) (table_text padding default low high offsets rest) ∙ table_again pc padding default low high offsets rest m
+instruction_again pc (TableSwitch padding default low high offsets) rest m =
+    ap (instruction_at pc) (table_text padding default low high offsets rest) ∙ table_again pc padding default low high offsets rest m
 instruction_again pc (LookupSwitch padding default count pairs) rest m = ap (instruction_at pc) (look_up_text padding default count pairs rest) ∙ look_up_again pc padding default count pairs rest m
 
 pub nothing_stands : (pc : ℕ) → instruction_at pc [] ≢ Err Switch
@@ -33,7 +35,8 @@ unfolding instruction_at
 nothing_stands pc = λ e. let clash : stopped Cut ≡ stopped Switch = e in cc
 
 -- by the first byte
-by_first : (P : ℕ → Type 0) (pc opcode : ℕ) (bytes : List ℕ) (r : Result Read Stop) → (table_switch_at pc bytes ≡ r → P 170) → (lookup_switch_at pc bytes ≡ r → P 171) → (wide_at bytes ≡ r → P 196)
+by_first : (P : ℕ → Type 0) (pc opcode : ℕ) (bytes : List ℕ) (r : Result Read Stop) → (table_switch_at pc bytes ≡ r → P 170)
+    → (lookup_switch_at pc bytes ≡ r → P 171) → (wide_at bytes ≡ r → P 196)
     → (IsFixed opcode → fixed_at opcode bytes ≡ r → P opcode) → instruction_at pc (opcode ∷ bytes) ≡ r → P opcode
 unfolding instruction_at
 by_first P pc opcode bytes r table look_up wide fixed e = by (eqb opcode 170) (eqb opcode 171) (eqb opcode 196) refl refl refl e where
@@ -68,7 +71,9 @@ pub record IsCut (pc : ℕ) (left : List ℕ) : Type 0 where
 
 pub instruction_cut : (pc opcode : ℕ) (bytes : List ℕ) → instruction_at pc (opcode ∷ bytes) ≡ Err Cut → IsCut pc (opcode ∷ bytes)
 instruction_cut pc opcode bytes e = record {
-  begins = by_first (λ first. begins_opcode (first ∷ bytes) ≡ true) pc opcode bytes (stopped Cut) (λ t. begins_table bytes) (λ l. begins_look_up bytes) (wide_cut bytes) (λ fixed. fixed_cut opcode bytes) e;
+  begins =
+      by_first (λ first. begins_opcode (first ∷ bytes) ≡ true) pc opcode bytes (stopped Cut) (λ t. begins_table bytes) (λ l. begins_look_up bytes) (wide_cut bytes)
+      (λ fixed. fixed_cut opcode bytes) e;
   no_switch = λ s. let clash : stopped Cut ≡ stopped Switch = sym e ∙ bad_again pc (opcode ∷ bytes) s in cc;
 }
 
@@ -77,7 +82,8 @@ unfolding instruction_at
 instruction_unknown pc [] fits e = absurd (let clash : stopped Cut ≡ stopped Opcode = e in cc)
 instruction_unknown pc (opcode ∷ bytes) fits e =
     let behind = IsBytes-rest opcode bytes fits in
-    by_first (λ first. begins_opcode (first ∷ bytes) ≡ false) pc opcode bytes (stopped Opcode) (λ t. absurd (table_no_opcode pc bytes behind t)) (λ l. absurd (look_up_no_opcode pc bytes behind l)) (wide_unknown bytes)
+    by_first (λ first. begins_opcode (first ∷ bytes) ≡ false) pc opcode bytes (stopped Opcode) (λ t. absurd (table_no_opcode pc bytes behind t))
+    (λ l. absurd (look_up_no_opcode pc bytes behind l)) (wide_unknown bytes)
     (fixed_unknown opcode bytes) e
 
 pub record IsStopped (pc : ℕ) (left : List ℕ) : Type 0 where

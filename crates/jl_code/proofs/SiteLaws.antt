@@ -13,7 +13,8 @@ use Rattle.jl_pool.specs.declared.reference.CallSiteSpecifier.{CallSiteSpecifier
 use Rattle.jl_code.specs.declared.site.Operand.{Operand}
 use Rattle.jl_code.specs.declared.site.Operand.TheVariants.{Method, CallSite}
 use Rattle.jl_code.specs.Known.{Invocation, invocations}
-use Rattle.jl_pool.specs.Pools.{Pool, constant_at, has_tag, text_at, Signed, both, reference, signed_of, signed_at, descriptor_of, descriptor_at, class_text_at, reference_of, reference_at, call_site_of, call_site_at}
+use Rattle.jl_pool.specs.Pools.{Pool, constant_at, has_tag, text_at, Signed, both, reference, signed_of, signed_at, descriptor_of, descriptor_at, class_text_at}
+use Rattle.jl_pool.specs.Pools.{reference_of, reference_at, call_site_of, call_site_at}
 use Rattle.jl_code.specs.Instructions.{invocation_in}
 use Rattle.jl_code.specs.Codes.{either_operand, operand_at, operand_name, operand_type, may_name, most_slots, tail_of, Invokes}
 use Rattle.jl_pool.specs.Reading.Forms.{method_slots, slots_of_constant, slots_at}
@@ -56,7 +57,8 @@ map-some f (Some x) y e = (x, refl, cc)
 
 call_site_slots : (pool : Pool) (c : Constant) (k : CallSiteSpecifier (List ℕ)) → call_site_of pool c ≡ Some k → slots_of_constant pool c ≡ method_slots k.ty
 call_site_slots pool (InvokeDynamic bootstrap nt) k e =
-    let m = map-some (λ s. record { bootstrap = bootstrap; name = s.name; ty = s.ty }) (signed_at pool nt) k e in signed_slots pool nt m.0 m.1 ∙ ap (λ (q : CallSiteSpecifier (List ℕ)). method_slots q.ty) m.2
+    let m = map-some (λ s. record { bootstrap = bootstrap; name = s.name; ty = s.ty }) (signed_at pool nt) k e in
+    signed_slots pool nt m.0 m.1 ∙ ap (λ (q : CallSiteSpecifier (List ℕ)). method_slots q.ty) m.2
 call_site_slots pool _ k e = absurd cc
 
 slots_at-reference : (pool : Pool) (n : ℕ) (r : Reference (List ℕ)) → reference_at pool n ≡ Some r → slots_at pool n ≡ method_slots r.ty
@@ -104,7 +106,8 @@ few_most : (opcode : ℕ) → most_slots opcode ≤ 255
 few_most opcode = grind (arith, nat_tests)
 
 -- what the tests found is invoked
-pub invoked-some : (pool : Pool) (opcode number : ℕ) (tail : List ℕ) (o : Operand (List ℕ)) → invoked pool opcode number tail ≡ Some o → Invokes pool opcode number tail × (operand_at pool number ≡ Some o)
+pub invoked-some : (pool : Pool) (opcode number : ℕ) (tail : List ℕ) (o : Operand (List ℕ)) → invoked pool opcode number tail ≡ Some o
+    → Invokes pool opcode number tail × (operand_at pool number ≡ Some o)
 unfolding invoked
 invoked-some pool opcode number tail o e =
     let g = guarded (is_tagged pool opcode number) (option_and_then (λ p. option_and_then (if_fits opcode tail p) (slots_at pool number)) (operand_at pool number)) o e in
@@ -124,7 +127,9 @@ invoked-some pool opcode number tail o e =
         there = named.1;
         named = is_true (may_name opcode (operand_name named.0)) may.0;
         slots = counted.0;
-        counted = takes_found (operand_type named.0) (method_slots (operand_type named.0)) counted.0 (method_slots-is (operand_type named.0)) (sym (slots_at-operand pool number named.0 named.1) ∙ counted.1);
+        counted =
+            takes_found (operand_type named.0) (method_slots (operand_type named.0)) counted.0 (method_slots-is (operand_type named.0))
+            (sym (slots_at-operand pool number named.0 named.1) ∙ counted.1);
         few = below counted.0 (most_slots opcode) few.0;
         behind = (bytes_eq-Decides tail (tail_of opcode counted.0)).0 few.1;
       },
@@ -138,8 +143,14 @@ invoked-some pool opcode number tail o e =
 pub invoked-all : (pool : Pool) (opcode number : ℕ) (tail : List ℕ) (h : Invokes pool opcode number tail) → invoked pool opcode number tail ≡ Some h.operand
 unfolding invoked
 invoked-all pool opcode number tail h =
-    let slots : slots_at pool number ≡ Some h.slots = slots_at-operand pool number h.operand h.there ∙ found_takes (operand_type h.operand) (method_slots (operand_type h.operand)) h.slots (method_slots-is (operand_type h.operand)) (let most = few_most opcode in omega (arith, most, h.few)) h.counted in
-    let tagged : is_tagged pool opcode number ≡ true = ap (λ (r : Option Invocation). option_map_or (λ q. has_tag pool q.tags number) r false) h.found ∙ true_is (has_tag pool h.row.tags number) h.tagged in
+    let slots : slots_at pool number ≡ Some h.slots =
+    slots_at-operand pool number h.operand h.there
+    ∙ found_takes (operand_type h.operand) (method_slots (operand_type h.operand)) h.slots (method_slots-is (operand_type h.operand))
+    (let most = few_most opcode in omega (arith, most, h.few)) h.counted
+    in
+    let tagged : is_tagged pool opcode number ≡ true =
+    ap (λ (r : Option Invocation). option_map_or (λ q. has_tag pool q.tags number) r false) h.found ∙ true_is (has_tag pool h.row.tags number) h.tagged
+    in
     let tail_same : bytes_eq tail (tail_of opcode h.slots) ≡ true = (bytes_eq-Decides tail (tail_of opcode h.slots)).1 h.behind in
     let few : nat_le h.slots (most_slots opcode) ≡ true = above h.slots (most_slots opcode) h.few in
     let may : may_name opcode (operand_name h.operand) ≡ true = true_is (may_name opcode (operand_name h.operand)) h.named in

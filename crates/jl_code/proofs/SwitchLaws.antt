@@ -1,5 +1,6 @@
 -- Switches.
-use Rattle.std.proofs.Common.{◌≡◌, ◌≢◌, ℕ, ◌+◌, ◌*◌, ◌-◌, ◌%◌, ◌<◌, ◌≤◌, ◌^◌, Bool, true, false, cond, leb, ltb, List, ◌∷◌, ◌++◌, length, Option, Some, None, Result, refl, sym, ap, subst, ◌∙◌, append_assoc, arith, inl, inr}
+use Rattle.std.proofs.Common.{◌≡◌, ◌≢◌, ℕ, ◌+◌, ◌*◌, ◌-◌, ◌%◌, ◌<◌, ◌≤◌, ◌^◌, Bool, true, false, cond, leb, ltb, List}
+use Rattle.std.proofs.Common.{◌∷◌, ◌++◌, length, Option, Some, None, Result, refl, sym, ap, subst, ◌∙◌, append_assoc, arith, inl, inr}
 use Rattle.std.proofs.lemmas.Bool.{ltb-true, ltb-false, lt-ltb, le-ltb, leb-true, leb-false, le-leb, lt-leb}
 use Rattle.jl_code.specs.declared.instruction.Instruction.TheVariants.{TableSwitch, LookupSwitch}
 use Rattle.jl_code.specs.declared.instruction.Stop.{Stop}
@@ -60,11 +61,13 @@ head_takes pc bytes x fits e =
     })
 
 -- whatever is read as the default
-head_again : (pc : ℕ) (padding : List ℕ) (default read number : ℕ) (rest : List ℕ) → Pads padding pc → number_at 4 (u4 default ++ (u4 number ++ rest)) ≡ Some (read, u4 number ++ rest) → number < 2 ^ 32
+head_again : (pc : ℕ) (padding : List ℕ) (default read number : ℕ) (rest : List ℕ) → Pads padding pc
+    → number_at 4 (u4 default ++ (u4 number ++ rest)) ≡ Some (read, u4 number ++ rest) → number < 2 ^ 32
     → head_at pc (padding ++ (u4 default ++ (u4 number ++ rest))) ≡ Some ((padding, read, number), rest)
 unfolding head_at
 head_again pc padding default read number rest pads d size =
-    ap (λ (o : Option (List ℕ × List ℕ)). o >>= λ p. number_at 4 p.1 >>= λ d. number_at 4 d.1 >>= λ n. Some ((p.0, d.0, n.0), n.1)) (padding_again pc padding (u4 default ++ (u4 number ++ rest)) pads)
+    ap (λ (o : Option (List ℕ × List ℕ)). o >>= λ p. number_at 4 p.1 >>= λ d. number_at 4 d.1 >>= λ n. Some ((p.0, d.0, n.0), n.1))
+    (padding_again pc padding (u4 default ++ (u4 number ++ rest)) pads)
     ∙ ap (λ (o : Option (ℕ × List ℕ)). o >>= λ d. number_at 4 d.1 >>= λ n. Some ((padding, d.0, n.0), n.1)) d
     ∙ ap (λ (o : Option (ℕ × List ℕ)). o >>= λ n. Some ((padding, read, n.0), n.1)) (u4_again number rest size)
 
@@ -93,10 +96,12 @@ table_reads : (pc : ℕ) (padding : List ℕ) (default read low high : ℕ) (res
     → table_switch_at pc (padding ++ (u4 default ++ (u4 low ++ (u4 high ++ rest)))) ≡ offsets_at (padding, read, low) high rest
 unfolding table_switch_at
 table_reads pc padding default read low high rest pads d low_size high_size =
-    ap (λ (o : Option ((List ℕ × ℕ × ℕ) × List ℕ)). with_part o (λ head. with_part (number_at 4 head.1) (λ n. offsets_at head.0 n.0 n.1))) (head_again pc padding default read low (u4 high ++ rest) pads d low_size)
+    ap (λ (o : Option ((List ℕ × ℕ × ℕ) × List ℕ)). with_part o (λ head. with_part (number_at 4 head.1) (λ n. offsets_at head.0 n.0 n.1)))
+    (head_again pc padding default read low (u4 high ++ rest) pads d low_size)
     ∙ ap (λ (o : Option (ℕ × List ℕ)). with_part o (λ n. offsets_at (padding, read, low) n.0 n.1)) (u4_again high rest high_size)
 
-offsets_again : (padding : List ℕ) (default low high least most : ℕ) (offsets rest : List ℕ) → from_least low ≡ least → from_least high ≡ most → least ≤ most → length offsets + 4 * least ≡ 4 * (most + 1)
+offsets_again : (padding : List ℕ) (default low high least most : ℕ) (offsets rest : List ℕ) → from_least low ≡ least → from_least high ≡ most
+    → least ≤ most → length offsets + 4 * least ≡ 4 * (most + 1)
     → offsets_at (padding, default, low) high (offsets ++ rest) ≡ found (TableSwitch padding default low high offsets, rest)
 offsets_again padding default low high least most offsets rest l h order count =
     rw (l, h, le-ltb most least order, bytes_again (4 * (most - least + 1)) offsets rest (count_offsets least most (length offsets) order count)) refl
@@ -161,7 +166,9 @@ spelled_table pc bytes x h =
     subst (λ (y : Read). Spelled pc (170 ∷ bytes) y.0 y.1) (some_is (TableSwitch h.padding h.default h.low h.high b.0.0, b.0.1) x b.2)
     (record {
       taken = record {
-        parts = ap (λ (y : List ℕ). 170 ∷ y) (h.parts ∙ ap (λ (y : List ℕ). h.padding ++ (u4 h.default ++ (u4 h.low ++ (u4 h.high ++ y)))) o.0.parts) ∙ sym (table_text h.padding h.default h.low h.high b.0.0 b.0.1);
+        parts =
+            ap (λ (y : List ℕ). 170 ∷ y) (h.parts ∙ ap (λ (y : List ℕ). h.padding ++ (u4 h.default ++ (u4 h.low ++ (u4 h.high ++ y)))) o.0.parts)
+            ∙ sym (table_text h.padding h.default h.low h.high b.0.0 b.0.1);
         bytes_left = o.0.bytes_left;
       };
       stands = record {
@@ -180,7 +187,10 @@ table_takes pc bytes x fits e = spelled_table pc bytes x (has_table pc bytes (fo
 
 bad_table : (pc : ℕ) (bytes : List ℕ) → HasTable pc bytes (stopped Switch) → IsBadSwitch pc (170 ∷ bytes)
 bad_table pc bytes h =
-    let bad = guarded-bad (ltb (from_least h.high) (from_least h.low)) (bytes_at (4 * (from_least h.high - from_least h.low + 1)) h.rest >>= λ o. Some (TableSwitch h.padding h.default h.low h.high o.0, o.1)) h.gives in
+    let bad =
+    guarded-bad (ltb (from_least h.high) (from_least h.low))
+    (bytes_at (4 * (from_least h.high - from_least h.low + 1)) h.rest >>= λ o. Some (TableSwitch h.padding h.default h.low h.high o.0, o.1)) h.gives
+    in
     (h.padding, h.default, h.rest, h.pads, inl (h.low, h.high, ap (λ (y : List ℕ). 170 ∷ y) h.parts, h.low_size, h.high_size, ltb-true (from_least h.high) (from_least h.low) bad))
 
 pub table_bad : (pc : ℕ) (bytes : List ℕ) → IsBytes bytes → table_switch_at pc bytes ≡ stopped Switch → IsBadSwitch pc (170 ∷ bytes)
@@ -189,14 +199,17 @@ table_bad pc bytes fits e = bad_table pc bytes (has_table pc bytes (stopped Swit
 pub table_no_opcode : (pc : ℕ) (bytes : List ℕ) → IsBytes bytes → table_switch_at pc bytes ≢ stopped Opcode
 table_no_opcode pc bytes fits = λ e.
     let h = has_table pc bytes (stopped Opcode) fits (other_some Opcode (λ e. absurd cc)) e in
-    guarded-opcode (ltb (from_least h.high) (from_least h.low)) (bytes_at (4 * (from_least h.high - from_least h.low + 1)) h.rest >>= λ o. Some (TableSwitch h.padding h.default h.low h.high o.0, o.1)) h.gives
+    guarded-opcode (ltb (from_least h.high) (from_least h.low))
+    (bytes_at (4 * (from_least h.high - from_least h.low + 1)) h.rest >>= λ o. Some (TableSwitch h.padding h.default h.low h.high o.0, o.1)) h.gives
 
 -- ---- lookupswitch
 
-pub look_up_text : (padding : List ℕ) (default count : ℕ) (pairs rest : List ℕ) → instruction_text (LookupSwitch padding default count pairs) ++ rest ≡ 171 ∷ (padding ++ (u4 default ++ (u4 count ++ (pairs ++ rest))))
+pub look_up_text : (padding : List ℕ) (default count : ℕ) (pairs rest : List ℕ)
+    → instruction_text (LookupSwitch padding default count pairs) ++ rest ≡ 171 ∷ (padding ++ (u4 default ++ (u4 count ++ (pairs ++ rest))))
 look_up_text padding default count pairs rest = ap (λ (x : List ℕ). 171 ∷ x) (append_assoc padding (u4 default ++ (u4 count ++ pairs)) rest)
 
-look_up_reads : (pc : ℕ) (padding : List ℕ) (default read count : ℕ) (rest : List ℕ) → Pads padding pc → number_at 4 (u4 default ++ (u4 count ++ rest)) ≡ Some (read, u4 count ++ rest) → count < 2 ^ 32
+look_up_reads : (pc : ℕ) (padding : List ℕ) (default read count : ℕ) (rest : List ℕ) → Pads padding pc
+    → number_at 4 (u4 default ++ (u4 count ++ rest)) ≡ Some (read, u4 count ++ rest) → count < 2 ^ 32
     → lookup_switch_at pc (padding ++ (u4 default ++ (u4 count ++ rest))) ≡ pairs_at (padding, read, count) rest
 unfolding lookup_switch_at
 look_up_reads pc padding default read count rest pads d size =
@@ -237,7 +250,9 @@ spelled_look_up pc bytes x h =
     subst (λ (y : Read). Spelled pc (171 ∷ bytes) y.0 y.1) (some_is (LookupSwitch h.padding h.default h.count b.0.0, b.0.1) x b.2)
     (record {
       taken = record {
-        parts = ap (λ (y : List ℕ). 171 ∷ y) (h.head.parts ∙ ap (λ (y : List ℕ). h.padding ++ (u4 h.default ++ (u4 h.count ++ y))) p.0.parts) ∙ sym (look_up_text h.padding h.default h.count b.0.0 b.0.1);
+        parts =
+            ap (λ (y : List ℕ). 171 ∷ y) (h.head.parts ∙ ap (λ (y : List ℕ). h.padding ++ (u4 h.default ++ (u4 h.count ++ y))) p.0.parts)
+            ∙ sym (look_up_text h.padding h.default h.count b.0.0 b.0.1);
         bytes_left = p.0.bytes_left;
       };
       stands = record { known = refl; pads = h.head.pads; default_size = h.head.default_size; not_negative = leb-false (2 ^ 31) h.count g.0; sizes = p.1 };

@@ -1,10 +1,11 @@
 -- The rows of an install, one at a time.
-use Rattle.std.specs.Prelude.{◌≡◌, ℕ, ◌<◌, ◌+◌, ◌==◌, nat_le, take, drop, get_or, Bool, true, false, ◌||◌, List, [], ◌∷◌, ◌++◌, fold, map, length, Option, Some, None, option_map, Result, Ok, Err}
+use Rattle.std.specs.Prelude.{◌≡◌, ℕ, ◌<◌, ◌+◌, ◌==◌, nat_le, take, drop, get_or, Bool, true, false, ◌||◌, List, [], ◌∷◌, ◌++◌, fold}
+use Rattle.std.specs.Prelude.{map, length, Option, Some, None, option_map, Result, Ok, Err}
 use Rattle.std.specs.Bool.{then_some}
 use Rattle.std.specs.List.{list_any, AllZip}
-use Rattle.std.proofs.Common.{refl, ap, sym, ◌∙◌, arith, inl, inr, append-nil}
-use Rattle.std.proofs.lemmas.Bool.Decides.{leb_tells}
+use Rattle.std.proofs.Common.{refl, ap, sym, ◌∙◌, append-nil}
 use Rattle.std.proofs.lemmas.List.{take-append-drop, take_more}
+use Rattle.std.proofs.lemmas.Bool.{lt-leb}
 use Rattle.jl_types.specs.declared.link.Link.{Link}
 use Rattle.jl_types.specs.declared.answer.Unlinked.{Unlinked}
 use Rattle.jl_types.specs.declared.refusal.SitesFault.{SitesFault}
@@ -19,20 +20,23 @@ use Rattle.jl_types.specs.World.{World}
 use Rattle.jl_types.specs.Links.{scratch}
 use Rattle.jl_types.specs.Events.{row_fault}
 use Rattle.jl_types.specs.Resolution.{first_of}
-use Rattle.jl_types.proofs.Bools.{or_none, not_le}
+use Rattle.jl_types.proofs.Bools.{or_none}
 use Rattle.jl_types.proofs.Firsts.{first_alone}
 use Rattle.jl_types.proofs.Lists.{rest_at}
 use Rattle.jl_core.specs.Batches.{row_faults}
 
 -- ---- links that aren't those from scratch
 
-first_row : (w : World) (row : ℕ × Link) (rows : List (ℕ × Link)) (r : Result Link Unlinked) → scratch w row.0 ≡ r → first_of (row_faults w (row ∷ rows)) ≡ first_of (row_fault row.0 row.1 r ∷ row_faults w rows)
+first_row : (w : World) (row : ℕ × Link) (rows : List (ℕ × Link)) (r : Result Link Unlinked) → scratch w row.0 ≡ r
+    → first_of (row_faults w (row ∷ rows)) ≡ first_of (row_fault row.0 row.1 r ∷ row_faults w rows)
 first_row w row rows r e = ap (λ (r : Result Link Unlinked). first_of (row_fault row.0 row.1 r ∷ row_faults w rows)) e
 
-pub stale_row : (w : World) (row : ℕ × Link) (rows : List (ℕ × Link)) (now : Link) → scratch w row.0 ≡ Ok now → same_link now row.1 ≡ false → first_of (row_faults w (row ∷ rows)) ≡ Some (Stale row.0 now)
+pub stale_row : (w : World) (row : ℕ × Link) (rows : List (ℕ × Link)) (now : Link) → scratch w row.0 ≡ Ok now → same_link now row.1 ≡ false
+    → first_of (row_faults w (row ∷ rows)) ≡ Some (Stale row.0 now)
 stale_row w row rows now e d = first_row w row rows (Ok now) e ∙ rw d refl
 
-pub good_row : (w : World) (row : ℕ × Link) (rows : List (ℕ × Link)) (now : Link) → scratch w row.0 ≡ Ok now → same_link now row.1 ≡ true → first_of (row_faults w (row ∷ rows)) ≡ first_of (row_faults w rows)
+pub good_row : (w : World) (row : ℕ × Link) (rows : List (ℕ × Link)) (now : Link) → scratch w row.0 ≡ Ok now → same_link now row.1 ≡ true
+    → first_of (row_faults w (row ∷ rows)) ≡ first_of (row_faults w rows)
 good_row w row rows now e d = first_row w row rows (Ok now) e ∙ rw d refl
 
 -- ---- unknown and repeated sites
@@ -42,7 +46,8 @@ module _ {A : Type 0} (site : A → ℕ) where
   abbrev pub sites_of : List A → List ℕ
   sites_of rows = fold (λ sites row. site row ∷ sites) [] rows
 
-  any_fold : (s : ℕ) (rows : List A) (sites : List ℕ) → list_any (λ t. t == s) (fold (λ sites row. site row ∷ sites) sites rows) ≡ (list_any (λ row. site row == s) rows || list_any (λ t. t == s) sites)
+  any_fold : (s : ℕ) (rows : List A) (sites : List ℕ)
+      → list_any (λ t. t == s) (fold (λ sites row. site row ∷ sites) sites rows) ≡ (list_any (λ row. site row == s) rows || list_any (λ t. t == s) sites)
   any_fold s [] sites = refl
   any_fold s (row ∷ rows) sites = any_fold s rows (site row ∷ sites) ∙ turned (list_any (λ row. site row == s) rows) (site row == s) (list_any (λ t. t == s) sites)
     where
@@ -62,14 +67,17 @@ module _ {A : Type 0} (site : A → ℕ) where
   pub sites_more : (rows : List A) (row : A) → sites_of (rows ++ row ∷ []) ≡ site row ∷ sites_of rows
   sites_more rows row = fold_end [] rows row
 
-pub repeated_site : (w : World) (earlier : List ℕ) (s : ℕ) (sites : List ℕ) → nat_le (length w.places) s ≡ false → list_any (λ t. t == s) earlier ≡ true → sites_fault w earlier (s ∷ sites) ≡ Some (Repeated s)
+pub repeated_site : (w : World) (earlier : List ℕ) (s : ℕ) (sites : List ℕ) → nat_le (length w.places) s ≡ false → list_any (λ t. t == s) earlier ≡ true
+    → sites_fault w earlier (s ∷ sites) ≡ Some (Repeated s)
 repeated_site w earlier s sites e f = rw (e, f) refl
 
-pub new_site : (w : World) (earlier : List ℕ) (s : ℕ) (sites : List ℕ) → nat_le (length w.places) s ≡ false → list_any (λ t. t == s) earlier ≡ false → sites_fault w earlier (s ∷ sites) ≡ sites_fault w (s ∷ earlier) sites
+pub new_site : (w : World) (earlier : List ℕ) (s : ℕ) (sites : List ℕ) → nat_le (length w.places) s ≡ false → list_any (λ t. t == s) earlier ≡ false
+    → sites_fault w earlier (s ∷ sites) ≡ sites_fault w (s ∷ earlier) sites
 new_site w earlier s sites e f = rw (e, f) (first_alone (sites_fault w (s ∷ earlier) sites))
 
 -- one row on, where the rows before have no fault
-module _ {A : Type 0} (site : A → ℕ) (w : World) (rows : List A) (n : ℕ) (row : A) (lt : n < length rows) (is : row ≡ get_or rows n row) (s : ℕ) (same : s ≡ site row) (known : s < length w.places) where
+module _ {A : Type 0} (site : A → ℕ) (w : World) (rows : List A) (n : ℕ) (row : A) (lt : n < length rows) (is : row ≡ get_or rows n row) (s : ℕ)
+    (same : s ≡ site row) (known : s < length w.places) where
   abbrev left : ℕ → Option SitesFault
   left k = sites_fault w (sites_of site (take k rows)) (map site (drop k rows))
 
@@ -79,18 +87,21 @@ module _ {A : Type 0} (site : A → ℕ) (w : World) (rows : List A) (n : ℕ) (
       ∙ ap (λ t. sites_fault w (sites_of site (take n rows)) (t ∷ map site (drop (n + 1) rows))) (sym same)
 
   pub comes_again : list_any (λ r. site r == s) (take n rows) ≡ true → left n ≡ Some (Repeated s)
-  comes_again h = split ∙ repeated_site w (sites_of site (take n rows)) s (map site (drop (n + 1) rows)) (not_le (length w.places) s known) (any_site site s (take n rows) ∙ h)
+  comes_again h = split ∙ repeated_site w (sites_of site (take n rows)) s (map site (drop (n + 1) rows)) (lt-leb (length w.places) s known) (any_site site s (take n rows) ∙ h)
 
   pub comes_first : list_any (λ r. site r == s) (take n rows) ≡ false → left (n + 1) ≡ left n
   comes_first h =
       ap (λ (earlier : List ℕ). sites_fault w earlier (map site (drop (n + 1) rows)))
-      (ap (sites_of site) (take_more rows n row lt ∙ ap (λ (r : A). take n rows ++ r ∷ []) (sym is)) ∙ sites_more site (take n rows) row ∙ ap (λ t. t ∷ sites_of site (take n rows)) (sym same))
-      ∙ sym (new_site w (sites_of site (take n rows)) s (map site (drop (n + 1) rows)) (not_le (length w.places) s known) (any_site site s (take n rows) ∙ h))
+      (ap (sites_of site) (take_more rows n row lt ∙ ap (λ (r : A). take n rows ++ r ∷ []) (sym is))
+      ∙ sites_more site (take n rows) row
+      ∙ ap (λ t. t ∷ sites_of site (take n rows)) (sym same))
+      ∙ sym (new_site w (sites_of site (take n rows)) s (map site (drop (n + 1) rows)) (lt-leb (length w.places) s known) (any_site site s (take n rows) ∙ h))
       ∙ sym split
 
 -- ---- the links of a preparation
 
-first_site : (w : World) (s : ℕ) (sites : List ℕ) (r : Result Link Unlinked) → scratch w s ≡ r → ready_fault w (s ∷ sites) ≡ first_of (link_fault s r ∷ map (λ s. link_fault s (scratch w s)) sites)
+first_site : (w : World) (s : ℕ) (sites : List ℕ) (r : Result Link Unlinked) → scratch w s ≡ r
+    → ready_fault w (s ∷ sites) ≡ first_of (link_fault s r ∷ map (λ s. link_fault s (scratch w s)) sites)
 first_site w s sites r e = ap (λ (r : Result Link Unlinked). first_of (link_fault s r ∷ map (λ s. link_fault s (scratch w s)) sites)) e
 
 pub not_ready : (w : World) (s : ℕ) (sites : List ℕ) (reason : Unlinked) → scratch w s ≡ Err reason → ready_fault w (s ∷ sites) ≡ Some (fault.NotReady s)
@@ -112,7 +123,8 @@ all_ready w sites rows h = ap (ready_fault w) (sym (append-nil sites)) ∙ ready
 fails_first : (w : World) (s : ℕ) (sites : List ℕ) (f : PrepareFault) → link_fault s (scratch w s) ≡ Some f → ready_fault w (s ∷ sites) ≡ Some f
 fails_first w s sites f e = ap (λ (o : Option PrepareFault). first_of (o ∷ map (λ s. link_fault s (scratch w s)) sites)) e
 
-pub first_unready : (w : World) (sites : List ℕ) (n s : ℕ) (rows : List (ℕ × Link)) (f : PrepareFault) → ArePrepared w (take n sites) rows → drop n sites ≡ s ∷ drop (n + 1) sites → link_fault s (scratch w s) ≡ Some f → ready_fault w sites ≡ Some f
+pub first_unready : (w : World) (sites : List ℕ) (n s : ℕ) (rows : List (ℕ × Link)) (f : PrepareFault) → ArePrepared w (take n sites) rows
+    → drop n sites ≡ s ∷ drop (n + 1) sites → link_fault s (scratch w s) ≡ Some f → ready_fault w sites ≡ Some f
 first_unready w sites n s rows f h e g =
     ap (ready_fault w) (sym (take-append-drop n sites))
     ∙ ready_past w (take n sites) (drop n sites) rows h

@@ -1,5 +1,6 @@
 -- The laws of a walk up the superclasses, step by step.
-use Rattle.std.specs.Prelude.{◌≡◌, ℕ, length, ◌<◌, ◌==◌, Bool, true, false, ◌||◌, List, [], ◌∷◌, slice_get, filter, filter_map, Option, Some, None, option_and_then, if◌then◌else◌}
+use Rattle.std.specs.Prelude.{◌≡◌, ℕ, length, ◌<◌, ◌==◌, Bool, true, false, ◌||◌, List, [], ◌∷◌, slice_get, filter, filter_map, Option, Some}
+use Rattle.std.specs.Prelude.{None, option_and_then, if◌then◌else◌}
 use Rattle.std.specs.List.{list_any}
 use Rattle.std.specs.Option.{option_map_or}
 use Rattle.std.proofs.Common.{refl, ap, sym, ◌∙◌, add-one}
@@ -20,7 +21,8 @@ module _ (cs : Classes) (o : AreOrdered cs.rows) (c : ℕ) where
   row_of : (s : ℕ) → superclass_of cs c ≡ Some s → (row : Class) × (slice_get cs.rows c ≡ Some row) × (row.superclass ≡ Some s)
   row_of s e = by_row (slice_get cs.rows c) refl e
     where
-      by_row : (r : Option Class) → slice_get cs.rows c ≡ r → option_and_then (λ row. row.superclass) r ≡ Some s → (row : Class) × (slice_get cs.rows c ≡ Some row) × (row.superclass ≡ Some s)
+      by_row : (r : Option Class) → slice_get cs.rows c ≡ r → option_and_then (λ row. row.superclass) r ≡ Some s
+          → (row : Class) × (slice_get cs.rows c ≡ Some row) × (row.superclass ≡ Some s)
       by_row None is h = cc
       by_row (Some row) is h = (row, is, h)
 
@@ -56,7 +58,8 @@ module _ (cs : Classes) (o : AreOrdered cs.rows) (r : MethodId) (method : Method
   of_chain xs = first_element (filter (λ m. can_override cs m r) (filter_map (declared cs method.name method.ty) xs))
 
   -- in a class whose own declaration can't override, nothing is found
-  passed : (d : Option MethodId) → declared cs method.name method.ty c ≡ d → option_and_then (λ m. if can_override cs m r then Some m else None) d ≡ None → (xs : List ℕ) → of_chain (c ∷ xs) ≡ of_chain xs
+  passed : (d : Option MethodId) → declared cs method.name method.ty c ≡ d → option_and_then (λ m. if can_override cs m r then Some m else None) d ≡ None
+      → (xs : List ℕ) → of_chain (c ∷ xs) ≡ of_chain xs
   passed None e h xs = rw e refl
   passed (Some m) e h xs = by_test (can_override cs m r) refl h
     where

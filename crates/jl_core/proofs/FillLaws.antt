@@ -13,7 +13,8 @@ module _ {F U : Type 0} (g : Shared F (ℕ × Unit {0}) (Option U)) (make : F) (
   each_more : (one : Option U) → FnReturns g make (end, tt) one → AllZip (λ number one. FnReturns g make (number, tt) one) (range_with_len 0 (end + 1)) (before.given ++ one ∷ [])
   each_more one h =
       let last : 0 + end ≡ end = omega arith in
-      subst (λ (numbers : List ℕ). AllZip (λ number one. FnReturns g make (number, tt) one) numbers (before.given ++ one ∷ [])) (sym (range_end 0 end ∙ ap (λ k. range_with_len 0 end ++ k ∷ []) last))
+      subst (λ (numbers : List ℕ). AllZip (λ number one. FnReturns g make (number, tt) one) numbers (before.given ++ one ∷ []))
+      (sym (range_end 0 end ∙ ap (λ k. range_with_len 0 end ++ k ∷ []) last))
       (all_zipped_more (λ number one. FnReturns g make (number, tt) one) (range_with_len 0 end) before.given end one before.each h)
 
   pub gives_nothing : FnReturns g make (end, tt) None → Gathers g make (end + 1) items
@@ -31,7 +32,8 @@ module _ {F U : Type 0} (g : Shared F (ℕ × Unit {0}) (Option U)) (make : F) (
   }
 
 -- what is given by a function
-pub all_given : {U : Type 0} (f : ℕ → Option U) (numbers : List ℕ) (given : List (Option U)) → AllZip (λ number one. one ≡ f number) numbers given → filter_map (λ one. one) given ≡ filter_map f numbers
+pub all_given : {U : Type 0} (f : ℕ → Option U) (numbers : List ℕ) (given : List (Option U)) → AllZip (λ number one. one ≡ f number) numbers given
+    → filter_map (λ one. one) given ≡ filter_map f numbers
 all_given f [] [] h = refl
 all_given f [] (one ∷ given) h = absurd h
 all_given f (number ∷ numbers) [] h = absurd h

@@ -3,10 +3,14 @@ pub mod PlainLaws
 pub mod RowLaws
 pub mod StageLaws
 pub mod RecordLaws
-pub mod DefineLaws
+pub mod AddLaws
+pub mod FaultLaws
 pub mod PlaceLaws
 pub mod BatchLaws
 pub mod LinkLaws
-pub mod MachineLaws
+pub mod KeptLaws
+pub mod RequestLaws
+pub mod InstallLaws
+pub mod DropLaws
 pub mod ListLaws
 pub mod FillLaws

@@ -1,21 +1,18 @@
 -- Links by site: what is found once a link is put in its place, and their order.
-use Rattle.std.specs.Prelude.{◌≡◌, ℕ, zero, suc, ◌<◌, ◌≤◌, ◌==◌, ◌⊎◌, nat_lt, Bool, true, false, cond, List, [], ◌∷◌, ◌++◌, find, Option, Some, option_map, Result, Ok, Err, OnOk, if◌then◌else◌}
+use Rattle.std.specs.Prelude.{◌≡◌, ℕ, ◌<◌, ◌==◌, nat_lt, Bool, true, false, cond, List, [], ◌∷◌, ◌++◌, find}
+use Rattle.std.specs.Prelude.{Option, Some, option_map, Result, Ok, Err, OnOk, if◌then◌else◌}
 use Rattle.std.specs.List.{AllByRecursion}
-use Rattle.std.specs.Bool.{one_answer}
 use Rattle.std.specs.Map.{lookup}
-use Rattle.std.proofs.Common.{refl, ap, sym, subst, ◌∙◌, arith, inl, inr}
-use Rattle.std.proofs.lemmas.Bool.{ltb-true}
-use Rattle.std.proofs.lemmas.Bool.Decides.{Decides-eqb, Decides-like, Decides-ltb}
+use Rattle.std.proofs.Common.{refl, ap, sym, subst, ◌∙◌, arith}
+use Rattle.std.proofs.lemmas.Bool.{ltb-false, ltb-true, both_ways}
+use Rattle.std.proofs.lemmas.Cmp.{nat_eq_equiv}
+use Rattle.std.proofs.lemmas.Bool.Decides.{Decides-eqb}
 use Rattle.std.proofs.lemmas.List.Elements.{All-from_recursion}
 use Rattle.std.proofs.lemmas.List.Kept.{AllPairs-cons}
 use Rattle.std.proofs.Math.Arith.{lt_of_le-ne}
 use Rattle.jl_types.specs.declared.link.Link.{Link}
-use Rattle.jl_types.proofs.Bools.{clash}
 use Rattle.jl_core.specs.State.{link_at, AreRising}
 use Rattle.jl_core.specs.LinkMaps.{put, by_site, link_with}
-
-turned : (a b : ℕ) → (a == b) ≡ (b == a)
-turned a b = one_answer (a == b) (b == a) (Decides-eqb a b) (Decides-like (b == a) sym sym (Decides-eqb b a))
 
 -- ---- what is found
 
@@ -30,18 +27,23 @@ pub found_put : (s : ℕ) (l : Link) (rows : List (ℕ × Link)) (t : ℕ) → l
 found_put s l [] t = found_first s t l []
 found_put s l (row ∷ rows) t = by_order (nat_lt s row.0) (s == row.0) refl (found_put s l rows t)
   where
-    by_key : (b d : Bool) → (s == t) ≡ b → (row.0 == t) ≡ d → (s == row.0) ≡ true → (if b then Some l else link_at rows t) ≡ (if b then Some l else option_map (λ r. r.1) (cond d (Some row) (find (λ r. r.0 == t) rows)))
+    by_key : (b d : Bool) → (s == t) ≡ b → (row.0 == t) ≡ d → (s == row.0) ≡ true
+        → (if b then Some l else link_at rows t) ≡ (if b then Some l else option_map (λ r. r.1) (cond d (Some row) (find (λ r. r.0 == t) rows)))
     by_key true d e f g = refl
-    by_key false true e f g = absurd (clash (s == t) ((Decides-eqb s t).1 ((Decides-eqb s row.0).0 g ∙ (Decides-eqb row.0 t).0 f)) e)
+    by_key false true e f g = absurd (both_ways (s == t) e ((Decides-eqb s t).1 ((Decides-eqb s row.0).0 g ∙ (Decides-eqb row.0 t).0 f)))
     by_key false false e f g = refl
 
-    below : (b d : Bool) → (s == t) ≡ b → (row.0 == t) ≡ d → (s == row.0) ≡ false → link_at (put s l rows) t ≡ (if b then Some l else link_at rows t) → option_map (λ r. r.1) (cond d (Some row) (find (λ r. r.0 == t) (put s l rows))) ≡ (if b then Some l else option_map (λ r. r.1) (cond d (Some row) (find (λ r. r.0 == t) rows)))
-    below true true e f g ih = absurd (clash (s == row.0) ((Decides-eqb s row.0).1 ((Decides-eqb s t).0 e ∙ sym ((Decides-eqb row.0 t).0 f))) g)
+    below : (b d : Bool) → (s == t) ≡ b → (row.0 == t) ≡ d → (s == row.0) ≡ false → link_at (put s l rows) t ≡ (if b then Some l else link_at rows t)
+        → option_map (λ r. r.1) (cond d (Some row) (find (λ r. r.0 == t) (put s l rows)))
+        ≡ (if b then Some l else option_map (λ r. r.1) (cond d (Some row) (find (λ r. r.0 == t) rows)))
+    below true true e f g ih = absurd (both_ways (s == row.0) g ((Decides-eqb s row.0).1 ((Decides-eqb s t).0 e ∙ sym ((Decides-eqb row.0 t).0 f))))
     below true false e f g ih = ih
     below false true e f g ih = refl
     below false false e f g ih = ih
 
-    by_order : (before same : Bool) → (s == row.0) ≡ same → link_at (put s l rows) t ≡ (if s == t then Some l else link_at rows t) → link_at (if before then (s, l) ∷ row ∷ rows else if same then (s, l) ∷ rows else row ∷ put s l rows) t ≡ (if s == t then Some l else link_at (row ∷ rows) t)
+    by_order : (before same : Bool) → (s == row.0) ≡ same → link_at (put s l rows) t ≡ (if s == t then Some l else link_at rows t)
+        → link_at (if before then (s, l) ∷ row ∷ rows else if same then (s, l) ∷ rows else row ∷ put s l rows) t
+        ≡ (if s == t then Some l else link_at (row ∷ rows) t)
     by_order true same e ih = found_first s t l (row ∷ rows)
     by_order false true e ih = found_first s t l rows ∙ by_key (s == t) (row.0 == t) refl refl e
     by_order false false e ih = below (s == t) (row.0 == t) refl refl e ih
@@ -51,10 +53,11 @@ pub found_by_site : (entries : List (ℕ × Link)) (t : ℕ) → link_at (by_sit
 found_by_site [] t = refl
 found_by_site (entry ∷ entries) t =
     found_put entry.0 entry.1 (by_site entries) t
-    ∙ ap (λ (b : Bool). if b then Some entry.1 else link_at (by_site entries) t) (turned entry.0 t)
+    ∙ ap (λ (b : Bool). if b then Some entry.1 else link_at (by_site entries) t) (nat_eq_equiv.symm entry.0 t)
     ∙ by_test (t == entry.0) (found_by_site entries t)
   where
-    by_test : (b : Bool) → link_at (by_site entries) t ≡ lookup (λ k. t == k) entries → (if b then Some entry.1 else link_at (by_site entries) t) ≡ cond b (Some entry.1) (lookup (λ k. t == k) entries)
+    by_test : (b : Bool) → link_at (by_site entries) t ≡ lookup (λ k. t == k) entries
+        → (if b then Some entry.1 else link_at (by_site entries) t) ≡ cond b (Some entry.1) (lookup (λ k. t == k) entries)
     by_test true e = refl
     by_test false e = e
 
@@ -64,7 +67,8 @@ all_after : (n s : ℕ) (l : Link) (rows : List (ℕ × Link)) → n < s → All
 all_after n s l [] h k = (h, tt)
 all_after n s l (row ∷ rows) h k = by_order (nat_lt s row.0) (s == row.0) (all_after n s l rows h k.1)
   where
-    by_order : (before same : Bool) → AllByRecursion (λ (r : ℕ × Link). n < r.0) (put s l rows) → AllByRecursion (λ (r : ℕ × Link). n < r.0) (if before then (s, l) ∷ row ∷ rows else if same then (s, l) ∷ rows else row ∷ put s l rows)
+    by_order : (before same : Bool) → AllByRecursion (λ (r : ℕ × Link). n < r.0) (put s l rows)
+        → AllByRecursion (λ (r : ℕ × Link). n < r.0) (if before then (s, l) ∷ row ∷ rows else if same then (s, l) ∷ rows else row ∷ put s l rows)
     by_order true same ih = (h, k)
     by_order false true ih = (h, k.1)
     by_order false false ih = (k.0, ih)
@@ -78,23 +82,16 @@ pub wider : (n m : ℕ) (rows : List (ℕ × Link)) → n < m → AllByRecursion
 wider n m [] h k = tt
 wider n m (row ∷ rows) h k = (let lt = k.0 in omega arith, wider n m rows h k.1)
 
-not_less : (n m : ℕ) → nat_lt n m ≡ false → m ≤ n
-not_less n m e = elim (le_or_lt m n) [ inl h ↦ h | inr h ↦ absurd (clash (nat_lt n m) ((Decides-ltb n m).1 h) e) ]
-  where
-    le_or_lt : (n m : ℕ) → (n ≤ m) ⊎ (m < n)
-    le_or_lt zero m = inl (omega arith)
-    le_or_lt (suc n) zero = inr (omega arith)
-    le_or_lt (suc n) (suc m) = elim (le_or_lt n m) [ inl h ↦ inl (omega arith) | inr h ↦ inr (omega arith) ]
-
 rises_put : (s : ℕ) (l : Link) (rows : List (ℕ × Link)) → Rises rows → Rises (put s l rows)
 rises_put s l [] h = (tt, tt)
 rises_put s l (row ∷ rows) h = by_order (nat_lt s row.0) (s == row.0) refl refl (rises_put s l rows h.1)
   where
-    by_order : (before same : Bool) → nat_lt s row.0 ≡ before → (s == row.0) ≡ same → Rises (put s l rows) → Rises (if before then (s, l) ∷ row ∷ rows else if same then (s, l) ∷ rows else row ∷ put s l rows)
+    by_order : (before same : Bool) → nat_lt s row.0 ≡ before → (s == row.0) ≡ same → Rises (put s l rows)
+        → Rises (if before then (s, l) ∷ row ∷ rows else if same then (s, l) ∷ rows else row ∷ put s l rows)
     by_order true same e f ih = ((ltb-true s row.0 e, wider s row.0 rows (ltb-true s row.0 e) h.0), h)
     by_order false true e f ih = (subst (λ n. AllByRecursion (λ (r : ℕ × Link). n < r.0) rows) (sym ((Decides-eqb s row.0).0 f)) h.0, h.1)
     by_order false false e f ih =
-        (all_after row.0 s l rows (lt_of_le-ne (not_less s row.0 e) (λ same. clash (s == row.0) ((Decides-eqb s row.0).1 (sym same)) f)) h.0, ih)
+        (all_after row.0 s l rows (lt_of_le-ne (ltb-false s row.0 e) (λ same. both_ways (s == row.0) f ((Decides-eqb s row.0).1 (sym same)))) h.0, ih)
 
 pub rises : (entries : List (ℕ × Link)) → Rises (by_site entries)
 rises [] = tt
@@ -109,7 +106,8 @@ sites_rise entries = pairs_of (by_site entries) (rises entries)
 
 -- ---- rows, one after another
 
-pub link_more : (rows : List (ℕ × Link)) (row : ℕ × Link) (before : Option Link) (s : ℕ) → link_with (rows ++ row ∷ []) before s ≡ (if row.0 == s then Some row.1 else link_with rows before s)
+pub link_more : (rows : List (ℕ × Link)) (row : ℕ × Link) (before : Option Link) (s : ℕ)
+    → link_with (rows ++ row ∷ []) before s ≡ (if row.0 == s then Some row.1 else link_with rows before s)
 link_more [] row before s = refl
 link_more (r ∷ rows) row before s = link_more rows row (if r.0 == s then Some r.1 else before) s
 

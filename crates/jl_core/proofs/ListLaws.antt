@@ -3,13 +3,12 @@ use Rattle.std.specs.Prelude.{◌≡◌, ℕ, zero, suc, ◌+◌, ◌<◌, ◌�
 use Rattle.std.specs.List.{AllByRecursion, cons_option}
 use Rattle.std.proofs.Common.{refl, ap, sym, subst, ◌∙◌, arith, inl, inr}
 use Rattle.std.proofs.lemmas.Bool.Decides.{Decides-eqb}
+use Rattle.std.proofs.lemmas.Option.{same_Some}
+use Rattle.std.proofs.lemmas.Bool.{cases_order, both_ways}
 use Rattle.jl_types.specs.declared.link.Link.{Link}
-use Rattle.jl_types.proofs.Bools.{clash}
-use Rattle.jl_types.proofs.Lists.{some_same}
 use Rattle.jl_types.proofs.InstalledLinks.{row, rows, above}
 use Rattle.jl_core.specs.State.{link_at}
 use Rattle.jl_core.proofs.LinkLaws.{Rises, found_first, wider}
-use Rattle.jl_core.proofs.MachineLaws.{order}
 
 -- ---- what is found
 
@@ -37,7 +36,7 @@ same_links : (xs ys : List (ℕ × Link)) → Rises xs → Rises ys → ((s : �
 same_links [] [] h k e = refl
 same_links [] (y ∷ ys) h k e = absurd (no_link y.1 (sym (same_there y.0 y.1 ys) ∙ sym (e y.0)))
 same_links (x ∷ xs) [] h k e = absurd (no_link x.1 (sym (same_there x.0 x.1 xs) ∙ e x.0))
-same_links (x ∷ xs) (y ∷ ys) h k e = by_order (order x.0 y.0) (same_links xs ys h.1 k.1)
+same_links (x ∷ xs) (y ∷ ys) h k e = by_order (cases_order x.0 y.0) (same_links xs ys h.1 k.1)
   where
     tails : x.0 ≡ y.0 → (s : ℕ) → link_at xs s ≡ link_at ys s
     tails same s = by_test (x.0 == s) refl
@@ -48,17 +47,17 @@ same_links (x ∷ xs) (y ∷ ys) h k e = by_order (order x.0 y.0) (same_links xs
             none_below s xs (subst (λ n. AllByRecursion (λ (r : ℕ × Link). n < r.0) xs) here h.0)
             ∙ sym (none_below s ys (subst (λ n. AllByRecursion (λ (r : ℕ × Link). n < r.0) ys) (sym same ∙ here) k.0))
         by_test false is =
-            let other : ¬ (x.0 ≡ s) = λ at. clash (x.0 == s) ((Decides-eqb x.0 s).1 at) is in
+            let other : ¬ (x.0 ≡ s) = λ at. both_ways (x.0 == s) is ((Decides-eqb x.0 s).1 at) in
             sym (other_there x.0 s x.1 xs other) ∙ e s ∙ other_there y.0 s y.1 ys (λ at. other (same ∙ at))
 
     heads : x.0 ≡ y.0 → x ≡ y
     heads same =
-        let links : x.1 ≡ y.1 = some_same x.1 y.1 (sym (same_there x.0 x.1 xs) ∙ e x.0 ∙ ap (link_at (y ∷ ys)) same ∙ same_there y.0 y.1 ys) in
+        let links : x.1 ≡ y.1 = same_Some x.1 y.1 (sym (same_there x.0 x.1 xs) ∙ e x.0 ∙ ap (link_at (y ∷ ys)) same ∙ same_there y.0 y.1 ys) in
         λ i. (same i, links i)
 
-    by_order : ((x.0 < y.0) ⊎ ((x.0 ≡ y.0) ⊎ (y.0 < x.0))) → (((s : ℕ) → link_at xs s ≡ link_at ys s) → xs ≡ ys) → x ∷ xs ≡ y ∷ ys
-    by_order (inl lt) rest = absurd (no_link x.1 (sym (same_there x.0 x.1 xs) ∙ e x.0 ∙ none_below x.0 (y ∷ ys) (lt, wider x.0 y.0 ys lt k.0)))
-    by_order (inr (inl same)) rest = λ i. heads same i ∷ rest (tails same) i
+    by_order : ((x.0 ≡ y.0) ⊎ ((x.0 < y.0) ⊎ (y.0 < x.0))) → (((s : ℕ) → link_at xs s ≡ link_at ys s) → xs ≡ ys) → x ∷ xs ≡ y ∷ ys
+    by_order (inr (inl lt)) rest = absurd (no_link x.1 (sym (same_there x.0 x.1 xs) ∙ e x.0 ∙ none_below x.0 (y ∷ ys) (lt, wider x.0 y.0 ys lt k.0)))
+    by_order (inl same) rest = λ i. heads same i ∷ rest (tails same) i
     by_order (inr (inr gt)) rest = absurd (no_link y.1 (sym (same_there y.0 y.1 ys) ∙ sym (e y.0) ∙ none_below y.0 (x ∷ xs) (gt, wider y.0 x.0 xs gt h.0)))
 
 -- ---- the links of the first sites
@@ -79,7 +78,7 @@ module _ (f : ℕ → Option Link) where
 
     found_from : (a n : ℕ) → a + n ≡ end → (s : ℕ) → a ≤ s → link_at (rows f a n) s ≡ f s
     found_from a zero e s h = nothing_past s (omega arith) (f s) refl
-    found_from a (suc n) e s h = by_place (order a s) (found_from (a + 1) n (omega arith) s)
+    found_from a (suc n) e s h = by_place (cases_order a s) (found_from (a + 1) n (omega arith) s)
       where
         here : (o : Option Link) → a ≡ s → f a ≡ o → link_at (cons_option (option_map (λ l. (a, l)) o) (rows f (a + 1) n)) s ≡ o
         here None same is = subst (λ k. link_at (rows f (a + 1) n) k ≡ None) same (none_below a (rows f (a + 1) n) (above f a (a + 1) n (omega arith)))
@@ -89,9 +88,9 @@ module _ (f : ℕ → Option Link) where
         later None lt rest = rest
         later (Some l) lt rest = other_there a s l (rows f (a + 1) n) (λ same. omega arith) ∙ rest
 
-        by_place : ((a < s) ⊎ ((a ≡ s) ⊎ (s < a))) → (a + 1 ≤ s → link_at (rows f (a + 1) n) s ≡ f s) → link_at (rows f a (suc n)) s ≡ f s
-        by_place (inl lt) rest = later (f a) lt (rest (omega arith))
-        by_place (inr (inl same)) rest = here (f a) same refl ∙ ap f same
+        by_place : ((a ≡ s) ⊎ ((a < s) ⊎ (s < a))) → (a + 1 ≤ s → link_at (rows f (a + 1) n) s ≡ f s) → link_at (rows f a (suc n)) s ≡ f s
+        by_place (inr (inl lt)) rest = later (f a) lt (rest (omega arith))
+        by_place (inl same) rest = here (f a) same refl ∙ ap f same
         by_place (inr (inr gt)) rest = absurd (omega arith)
 
 -- a rising list is that of the links of its sites

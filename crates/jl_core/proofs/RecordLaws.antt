@@ -1,28 +1,27 @@
 -- What a loader finds by name, as the map has it.
-use Rattle.std.specs.Prelude.{◌≡◌, ℕ, zero, suc, ◌<◌, slice_get, option_and_then, Bool, true, false, cond, List, [], ◌∷◌, ◌++◌, Vec, find, Option, Some, None, option_map, IfSome, All}
+use Rattle.std.specs.Prelude.{◌≡◌, ℕ, zero, suc, ◌<◌, slice_get, option_and_then, Bool, true, false, cond, List, [], ◌∷◌, ◌++◌, Vec, find, Some, None, option_map, IfSome, All}
 use Rattle.std.specs.List.{AllByRecursion, AllZip, each_same}
 use Rattle.std.specs.Vec.{vec_len}
-use Rattle.std.specs.Bool.{one_answer}
 use Rattle.std.specs.Map.{lookup}
+use Rattle.std.proofs.lemmas.Cmp.{nat_list_eq_equiv}
+use Rattle.std.proofs.Common.{refl, ap, sym, subst, ◌∙◌}
+use Rattle.std.proofs.lemmas.List.Elements.{All-from_recursion, recursion_from_All}
+use Rattle.std.specs.Str.{bytes_eq}
 use Rattle.indexmap.specs.IndexMap.{IndexMap, insert_entry}
 use Rattle.indexmap.proofs.CallerLemmas.{insert_entry-new}
-use Rattle.std.proofs.Common.{refl, ap, sym, subst, ◌∙◌}
-use Rattle.std.proofs.lemmas.Bool.Decides.{Decides-like}
-use Rattle.std.proofs.lemmas.List.Elements.{All-from_recursion, recursion_from_All}
-use Rattle.std.proofs.lemmas.Slice.Eq.{bytes_eq-Decides}
-use Rattle.std.specs.Str.{bytes_eq}
 use Rattle.jl_types.specs.Members.{recorded}
 use Rattle.jl_core.specs.Plain.{named}
-
-same_turned : (a b : List ℕ) → bytes_eq a b ≡ bytes_eq b a
-same_turned a b = one_answer (bytes_eq a b) (bytes_eq b a) (bytes_eq-Decides a b) (Decides-like (bytes_eq b a) sym sym (bytes_eq-Decides b a))
 
 -- what is recorded under the name is what the map has there
 pub recorded_is : {A : Type 0} (name : List ℕ) (entries : List (Vec ℕ A × ℕ)) → recorded name (named entries) ≡ lookup (λ k. bytes_eq name k.items) entries
 recorded_is name [] = refl
-recorded_is {A = A} name (e ∷ entries) = ap (λ (b : Bool). option_map (λ r. r.1) (cond b (Some (e.0.items, e.1)) (find (λ r. bytes_eq r.0 name) (named entries)))) (same_turned e.0.items name) ∙ by_test (bytes_eq name e.0.items) (recorded_is name entries)
+recorded_is {A = A} name (e ∷ entries) =
+    ap (λ (b : Bool). option_map (λ r. r.1) (cond b (Some (e.0.items, e.1)) (find (λ r. bytes_eq r.0 name) (named entries)))) (nat_list_eq_equiv.symm e.0.items name)
+    ∙ by_test (bytes_eq name e.0.items) (recorded_is name entries)
   where
-    by_test : (b : Bool) → recorded name (named entries) ≡ lookup (λ k. bytes_eq name k.items) entries → option_map (λ r. r.1) (cond b (Some (e.0.items, e.1)) (find (λ r. bytes_eq r.0 name) (named entries))) ≡ cond b (Some e.1) (lookup (λ k. bytes_eq name k.items) entries)
+    by_test : (b : Bool) → recorded name (named entries) ≡ lookup (λ k. bytes_eq name k.items) entries
+        → option_map (λ r. r.1) (cond b (Some (e.0.items, e.1)) (find (λ r. bytes_eq r.0 name) (named entries)))
+        ≡ cond b (Some e.1) (lookup (λ k. bytes_eq name k.items) entries)
     by_test true rest = refl
     by_test false rest = rest
 
@@ -43,7 +42,8 @@ pub there_of : {K : Type 0} (test : K → Bool) (n : ℕ) (entries : List (K × 
 there_of test n entries h = found_there test n entries (recursion_from_All (λ e. e.1 < n) entries h)
 
 -- a name that isn't recorded comes behind the others
-pub new_entry : {A S : Type 0} (m : IndexMap (Vec ℕ A) ℕ S) (key : Vec ℕ A) (v : ℕ) (name : List ℕ) → key.items ≡ name → recorded name (named m.entries) ≡ None → insert_entry (λ k j. bytes_eq k.items j.items) m.entries key v ≡ m.entries ++ (key, v) ∷ []
+pub new_entry : {A S : Type 0} (m : IndexMap (Vec ℕ A) ℕ S) (key : Vec ℕ A) (v : ℕ) (name : List ℕ) → key.items ≡ name
+    → recorded name (named m.entries) ≡ None → insert_entry (λ k j. bytes_eq k.items j.items) m.entries key v ≡ m.entries ++ (key, v) ∷ []
 new_entry m key v name k e =
     insert_entry-new (λ k j. bytes_eq k.items j.items) m key v
     (ap (λ (n : List ℕ). lookup (λ j. bytes_eq n j.items) m.entries) k ∙ sym (recorded_is name m.entries) ∙ e)

@@ -183,7 +183,6 @@ fn key_of(alloc: Global, file: &ClassFile) -> Result<Vec<u8>, AllocError>
 }
 
 /// Whether the class is its own superclass or superinterface.
-#[tactic(auto, using(crate::proofs::DefineLaws::any_parent))]
 fn names_itself(file: &ClassFile) -> bool
     ensures { result ≡ list_any (bytes_eq file.now.name) (definitions.parent_names file.now) }
 {

@@ -1,5 +1,6 @@
 -- A name in modified UTF-8 has its units' text.
-use Rattle.std.proofs.Common.{◌≡◌, ◌≢◌, ℕ, ◌^◌, ◌<◌, ◌≤◌, ◌&&◌, not, eqb, List, [], ◌∷◌, ◌++◌, map, get_or, Option, Some, refl, sym, ap, ◌∙◌, true, false, arith}
+use Rattle.std.proofs.Common.{◌≡◌, ◌≢◌, ℕ, ◌^◌, ◌<◌, ◌≤◌, ◌&&◌, not, eqb, List, [], ◌∷◌, ◌++◌, map, get_or, Option, Some, refl}
+use Rattle.std.proofs.Common.{sym, ap, ◌∙◌, true, false, arith}
 use Rattle.std.specs.Prelude.{nat_lt, IsAscii, encode_utf8_all}
 use Rattle.std.specs.Option.{unwrap_or}
 use Rattle.std.specs.List.{AllByRecursion}

@@ -1,11 +1,13 @@
 -- A constant is read where its text stands, and only there.
-use Rattle.std.proofs.Common.{◌≡◌, ◌≢◌, ℕ, ◌^◌, ◌<◌, Bool, true, false, eqb, not, ◌&&◌, ◌||◌, List, [], ◌∷◌, ◌++◌, length, Option, Some, None, Result, Ok, Err, refl, sym, ap, subst, ◌∙◌, inl, inr}
+use Rattle.std.proofs.Common.{◌≡◌, ◌≢◌, ℕ, ◌^◌, ◌<◌, Bool, true, false, eqb, not, ◌&&◌, ◌||◌, List, [], ◌∷◌, ◌++◌, length, Option}
+use Rattle.std.proofs.Common.{Some, None, Result, Ok, Err, refl, sym, ap, subst, ◌∙◌, inl, inr}
 use Rattle.std.specs.Prelude.{IsTrue}
 use Rattle.std.specs.List.{list_any, AllByRecursion}
 use Rattle.std.proofs.lemmas.Bool.{eqb-true}
 use Rattle.jl_names.proofs.Bytes.{chosen}
 use Rattle.jl_pool.specs.declared.constant.Constant.{Constant}
-use Rattle.jl_pool.specs.declared.constant.Constant.TheVariants.{Utf8, Integer, Float, Long, Double, Class, String, Fieldref, Methodref, InterfaceMethodref, NameAndType, MethodHandle, MethodType, Dynamic, InvokeDynamic, Module, Package}
+use Rattle.jl_pool.specs.declared.constant.Constant.TheVariants.{Utf8, Integer, Float, Long, Double, Class, String, Fieldref, Methodref, InterfaceMethodref, NameAndType}
+use Rattle.jl_pool.specs.declared.constant.Constant.TheVariants.{MethodHandle, MethodType, Dynamic, InvokeDynamic, Module, Package}
 use Rattle.jl_pool.specs.declared.pool.Stop.{Stop}
 use Rattle.jl_pool.specs.declared.pool.Stop.TheVariants.{Tag}
 use Rattle.jl_pool.specs.Numbers.{u1, u2, u4, u8}
@@ -14,7 +16,8 @@ use Rattle.jl_pool.specs.Known.{known_tags}
 use Rattle.jl_pool.specs.Pools.{IsWritten}
 use Rattle.jl_pool.specs.Reading.Fields.{number_at, pair_at, handle_at, text_at}
 use Rattle.jl_pool.specs.Reading.Constants.{is_known, is_wide, is_bad_tag, within, of_bits, of_wide_bits, of_number, of_pair, payload_at, or_cut, constant_at}
-use Rattle.jl_pool.proofs.Fields.{IsBytes, IsBytes-rest, Takes, bind_some, some_is, u2_takes, u2_again, u4_takes, u4_again, u8_takes, u8_again, pair_takes, pair_again, handle_takes, handle_again, text_takes, text_again}
+use Rattle.jl_pool.proofs.Fields.{IsBytes, IsBytes-rest, Takes, bind_some, some_is, u2_takes, u2_again, u4_takes, u4_again, u8_takes, u8_again, pair_takes, pair_again}
+use Rattle.jl_pool.proofs.Fields.{handle_takes, handle_again, text_takes, text_again}
 
 payload_again : (c : Constant) (rest : List ℕ) → IsWritten c → payload_at (tag c) (payload c ++ rest) ≡ Some (c, rest)
 unfolding payload_at
@@ -90,7 +93,9 @@ module _ (bytes : List ℕ) (x : Constant × List ℕ) (fits : IsBytes bytes) wh
   of_two t is e = of_part (pair_at bytes) (λ y. u2 y.0 ++ u2 y.1) (λ y. (y.0 < 2 ^ 16) × (y.1 < 2 ^ 16)) (of_pair t) t bytes x (λ y e. let s = pair_takes bytes y fits e in (s.0, (s.1, s.2))) is e
 
   of_handle : within (λ y. MethodHandle y.0 y.1) (handle_at bytes) ≡ Some x → Payload 15 bytes x
-  of_handle e = of_part (handle_at bytes) (λ y. u1 y.0 ++ u2 y.1) (λ y. (y.0 < 2 ^ 8) × (y.1 < 2 ^ 16)) (λ y. MethodHandle y.0 y.1) 15 bytes x (λ y e. let s = handle_takes bytes y fits e in (s.0, (s.1, s.2))) (λ y lt. (refl, refl, lt)) e
+  of_handle e =
+      of_part (handle_at bytes) (λ y. u1 y.0 ++ u2 y.1) (λ y. (y.0 < 2 ^ 8) × (y.1 < 2 ^ 16)) (λ y. MethodHandle y.0 y.1) 15 bytes x
+      (λ y e. let s = handle_takes bytes y fits e in (s.0, (s.1, s.2))) (λ y lt. (refl, refl, lt)) e
 
   of_text : within Utf8 (text_at bytes) ≡ Some x → Payload 1 bytes x
   of_text e = of_part (text_at bytes) (λ y. u2 (length y) ++ y) (λ y. length y < 2 ^ 16) Utf8 1 bytes x (λ y. text_takes bytes y fits) (λ y lt. (refl, refl, lt)) e
@@ -156,7 +161,12 @@ constant_takes last (t ∷ bytes) x fits e =
 pub constant_tag : (last : Bool) (bytes : List ℕ) → constant_at last bytes ≡ Err Tag → (t : ℕ) × (rest : List ℕ) × (bytes ≡ t ∷ rest) × IsTrue (is_bad_tag last t)
 unfolding constant_at
 constant_tag last [] e = absurd cc
-constant_tag last (t ∷ bytes) e = (t, bytes, refl, elim (chosen (is_bad_tag last t) (Err Tag) (or_cut (payload_at t bytes)) (Err Tag) e) [ inl p ↦ p.0 | inr p ↦ absurd (no_tag (payload_at t bytes) p.1) ])
+constant_tag last (t ∷ bytes) e = (
+  t,
+  bytes,
+  refl,
+  elim (chosen (is_bad_tag last t) (Err Tag) (or_cut (payload_at t bytes)) (Err Tag) e) [ inl p ↦ p.0 | inr p ↦ absurd (no_tag (payload_at t bytes) p.1) ],
+)
 
 pub constant_bad : (last : Bool) (t : ℕ) (rest : List ℕ) → IsTrue (is_bad_tag last t) → constant_at last (t ∷ rest) ≡ Err Tag
 unfolding constant_at

@@ -1,5 +1,6 @@
 -- What is read is spelled so, and what is spelled so is read.
-use Rattle.std.proofs.Common.{◌≡◌, ℕ, suc, ◌^◌, ◌<◌, Bool, true, false, cond, ltb, List, [], ◌∷◌, ◌++◌, length, get_or, take, drop, Option, Some, None, refl, sym, ap, subst, ◌∙◌, length-append, arith}
+use Rattle.std.proofs.Common.{◌≡◌, ℕ, suc, ◌^◌, ◌<◌, Bool, true, false, cond, ltb, List, [], ◌∷◌, ◌++◌, length, get_or, take, drop, Option}
+use Rattle.std.proofs.Common.{Some, None, refl, sym, ap, subst, ◌∙◌, length-append, arith}
 use Rattle.std.proofs.lemmas.Bool.{ltb-false, le-ltb}
 use Rattle.std.proofs.lemmas.List.{take_at, drop_at, take-append-drop, length-take}
 use Rattle.byteorder.specs.Endian.{big_number}
@@ -93,8 +94,11 @@ u8_takes (a ∷ b ∷ c ∷ d ∷ i ∷ j ∷ k ∷ l ∷ rest) x fits e =
     let bytes = a ∷ b ∷ c ∷ d ∷ i ∷ j ∷ k ∷ l ∷ rest in
     let n = big_number 8 (a ∷ b ∷ c ∷ d ∷ i ∷ j ∷ k ∷ l ∷ []) in
     let g = guard_some (ltb (length bytes) 8) (n, rest) x e in
-    subst (λ (y : ℕ × List ℕ). Takes bytes (u8 y.0) y.1 × (y.0 < 2 ^ 64)) g.1
-    (takes bytes (u8 n) rest fits (ap (λ (t : List ℕ). t ++ rest) (sym (u8_back a b c d i j k l (fits 0) (fits 1) (fits 2) (fits 3) (fits 4) (fits 5) (fits 6) (fits 7)))), big_from-lt 0 8 bytes fits)
+    subst (λ (y : ℕ × List ℕ). Takes bytes (u8 y.0) y.1 × (y.0 < 2 ^ 64)) g.1 (
+      takes bytes (u8 n) rest fits
+          (ap (λ (t : List ℕ). t ++ rest) (sym (u8_back a b c d i j k l (fits 0) (fits 1) (fits 2) (fits 3) (fits 4) (fits 5) (fits 6) (fits 7)))),
+      big_from-lt 0 8 bytes fits,
+    )
 
 pub u8_again : (n : ℕ) (rest : List ℕ) → n < 2 ^ 64 → number_at 8 (u8 n ++ rest) ≡ Some (n, rest)
 u8_again n rest lt = grind (arith, big_number-reads_back 8 n rest lt)
@@ -142,8 +146,11 @@ text_takes bytes x fits e =
     let s = u2_takes bytes a.0 fits a.1 in
     let g = guard_some (ltb (length left) n) (take n left, drop n left) x a.2 in
     let len : length (take n left) ≡ n = omega (arith, length-take n left, ltb-false _ _ g.0) in
-    subst (λ (y : List ℕ × List ℕ). Takes bytes (u2 (length y.0) ++ y.0) y.1 × (length y.0 < 2 ^ 16)) g.1
-    (takes bytes (u2 (length (take n left)) ++ take n left) (drop n left) fits (s.0.parts ∙ ap (λ (t : List ℕ). u2 n ++ t) (sym (take-append-drop n left)) ∙ ap (λ (k : ℕ). u2 k ++ (take n left ++ drop n left)) (sym len)), omega (arith, len, s.1))
+    subst (λ (y : List ℕ × List ℕ). Takes bytes (u2 (length y.0) ++ y.0) y.1 × (length y.0 < 2 ^ 16)) g.1 (
+      takes bytes (u2 (length (take n left)) ++ take n left) (drop n left) fits
+          (s.0.parts ∙ ap (λ (t : List ℕ). u2 n ++ t) (sym (take-append-drop n left)) ∙ ap (λ (k : ℕ). u2 k ++ (take n left ++ drop n left)) (sym len)),
+      omega (arith, len, s.1),
+    )
 
 pub text_again : (text rest : List ℕ) → length text < 2 ^ 16 → text_at ((u2 (length text) ++ text) ++ rest) ≡ Some (text, rest)
 unfolding text_at
@@ -171,5 +178,8 @@ u4_takes (a ∷ b ∷ []) x fits e = absurd cc
 u4_takes (a ∷ b ∷ c ∷ []) x fits e = absurd cc
 u4_takes (a ∷ b ∷ c ∷ d ∷ rest) x fits e =
     let g = guard_some (ltb (length (a ∷ b ∷ c ∷ d ∷ rest)) 4) (big_number 4 (a ∷ b ∷ c ∷ d ∷ rest), rest) x e in
-    subst (λ (y : ℕ × List ℕ). Takes (a ∷ b ∷ c ∷ d ∷ rest) (u4 y.0) y.1 × (y.0 < 2 ^ 32)) g.1
-    (takes (a ∷ b ∷ c ∷ d ∷ rest) (u4 (big_number 4 (a ∷ b ∷ c ∷ d ∷ []))) rest fits (ap (λ (t : List ℕ). t ++ rest) (sym (u4_back a b c d (fits 0) (fits 1) (fits 2) (fits 3)))), omega (arith, fits 0, fits 1, fits 2, fits 3))
+    subst (λ (y : ℕ × List ℕ). Takes (a ∷ b ∷ c ∷ d ∷ rest) (u4 y.0) y.1 × (y.0 < 2 ^ 32)) g.1 (
+      takes (a ∷ b ∷ c ∷ d ∷ rest) (u4 (big_number 4 (a ∷ b ∷ c ∷ d ∷ []))) rest fits
+          (ap (λ (t : List ℕ). t ++ rest) (sym (u4_back a b c d (fits 0) (fits 1) (fits 2) (fits 3)))),
+      omega (arith, fits 0, fits 1, fits 2, fits 3),
+    )

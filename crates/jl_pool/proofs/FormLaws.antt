@@ -1,5 +1,6 @@
 -- What a text may stand for, found by reading it, is what the definitions say.
-use Rattle.std.proofs.Common.{◌≡◌, ℕ, ◌+◌, ◌<◌, ◌≤◌, Bool, true, false, eqb, ◌&&◌, not, List, [], ◌∷◌, length, Option, Some, None, Result, Ok, Err, refl, sym, ap, ◌∙◌, arith}
+use Rattle.std.proofs.Common.{◌≡◌, ℕ, ◌+◌, ◌<◌, ◌≤◌, Bool, true, false, eqb, ◌&&◌, not, List, [], ◌∷◌, length, Option, Some, None, Result}
+use Rattle.std.proofs.Common.{Ok, Err, refl, sym, ap, ◌∙◌, arith}
 use Rattle.jl_names.specs.declared.fault.NameFault.{NameFault}
 use Rattle.jl_names.specs.declared.fault.NameFault.TheVariants.{BadByte, Truncated, BadDescriptor, TooManySlots, Memory}
 use Rattle.std.specs.Prelude.{IfOk, IfErr, is_ok, MatchBool, MatchOption, nat_le, if◌then◌else◌}
@@ -41,21 +42,27 @@ SlotsFound text found = MatchOption found (¬ FewSlots text) (λ x. (x.0 ≤ 255
 from_is : (turns : List ℕ) (text : List ℕ) (n : ℕ) (rest : List ℕ) → length rest < length turns → n ≤ 255 → SlotsStand text n rest → SlotsFound text (slots_from turns n rest)
 unfolding slots_from
 from_is [] text n rest short few s = absurd (omega arith)
-from_is (turn ∷ turns) text n rest short few s = at_bracket (λ x e fits. from_is turns text (n + slots_of x.0) x.1 (let less = field_less rest x.1 x.0 e in omega (arith, less, short)) fits (SlotsStand-more text n rest x.0 x.1 s e (omega (arith, fits)))) (behind 41 rest) refl where
-  at_sum : ((x : FieldType × List ℕ) → field_at rest ≡ Ok x → n + slots_of x.0 ≤ 255 → SlotsFound text (slots_from turns (n + slots_of x.0) x.1))
-      → (x : FieldType × List ℕ) → field_at rest ≡ Ok x → (b : Bool) → nat_le (n + slots_of x.0) 255 ≡ b → SlotsFound text (if b then slots_from turns (n + slots_of x.0) x.1 else None)
-  at_sum next x e true fits = next x e (grind (arith, nat_tests))
-  at_sum next x e false over = over_none text n rest x.0 x.1 s e (grind (arith, nat_tests))
+from_is (turn ∷ turns) text n rest short few s =
+    at_bracket
+    (λ x e fits.
+    from_is turns text (n + slots_of x.0) x.1 (let less = field_less rest x.1 x.0 e in omega (arith, less, short)) fits
+    (SlotsStand-more text n rest x.0 x.1 s e (omega (arith, fits))))
+    (behind 41 rest) refl where
+      at_sum : ((x : FieldType × List ℕ) → field_at rest ≡ Ok x → n + slots_of x.0 ≤ 255 → SlotsFound text (slots_from turns (n + slots_of x.0) x.1))
+          → (x : FieldType × List ℕ) → field_at rest ≡ Ok x → (b : Bool) → nat_le (n + slots_of x.0) 255 ≡ b
+          → SlotsFound text (if b then slots_from turns (n + slots_of x.0) x.1 else None)
+      at_sum next x e true fits = next x e (grind (arith, nat_tests))
+      at_sum next x e false over = over_none text n rest x.0 x.1 s e (grind (arith, nat_tests))
 
-  at_field : ((x : FieldType × List ℕ) → field_at rest ≡ Ok x → n + slots_of x.0 ≤ 255 → SlotsFound text (slots_from turns (n + slots_of x.0) x.1))
-      → behind 41 rest ≡ None → (read : Result (FieldType × List ℕ) (List ℕ)) → field_at rest ≡ read → SlotsFound text (at_type (slots_from turns) n read)
-  at_field next unclosed (Err left) e = stopped_none text n rest left s unclosed e
-  at_field next unclosed (Ok x) e = at_sum next x e (nat_le (n + slots_of x.0) 255) refl
+      at_field : ((x : FieldType × List ℕ) → field_at rest ≡ Ok x → n + slots_of x.0 ≤ 255 → SlotsFound text (slots_from turns (n + slots_of x.0) x.1))
+          → behind 41 rest ≡ None → (read : Result (FieldType × List ℕ) (List ℕ)) → field_at rest ≡ read → SlotsFound text (at_type (slots_from turns) n read)
+      at_field next unclosed (Err left) e = stopped_none text n rest left s unclosed e
+      at_field next unclosed (Ok x) e = at_sum next x e (nat_le (n + slots_of x.0) 255) refl
 
-  at_bracket : ((x : FieldType × List ℕ) → field_at rest ≡ Ok x → n + slots_of x.0 ≤ 255 → SlotsFound text (slots_from turns (n + slots_of x.0) x.1))
-      → (o : Option (List ℕ)) → behind 41 rest ≡ o → SlotsFound text (at_close n o (at_type (slots_from turns) n (field_at rest)))
-  at_bracket next (Some after) e = (few, SlotsStand-closed text n rest after s e)
-  at_bracket next None e = at_field next e (field_at rest) refl
+      at_bracket : ((x : FieldType × List ℕ) → field_at rest ≡ Ok x → n + slots_of x.0 ≤ 255 → SlotsFound text (slots_from turns (n + slots_of x.0) x.1))
+          → (o : Option (List ℕ)) → behind 41 rest ≡ o → SlotsFound text (at_close n o (at_type (slots_from turns) n (field_at rest)))
+      at_bracket next (Some after) e = (few, SlotsStand-closed text n rest after s e)
+      at_bracket next None e = at_field next e (field_at rest) refl
 
 pub record IsSlots (text : List ℕ) (n : ℕ) : Type 0 where
   pub few : n ≤ 255
@@ -70,11 +77,13 @@ none_before inner = record { types = []; stand = record { each = tt; bytes = ref
 method_slots-at : (text : List ℕ) (opened : Option (List ℕ)) → behind 40 text ≡ opened → SlotsAre text (option_and_then slots_behind opened)
 method_slots-at text None e = unopened_none text e
 method_slots-at text (Some inner) e = at_parameters (slots_from (0 ∷ inner) 0 inner) (from_is (0 ∷ inner) inner 0 inner (omega arith) (omega arith) (none_before inner)) where
-  at_end : (n : ℕ) (middle left : List ℕ) (r : Option FieldType) → n ≤ 255 → SlotsStand inner n (41 ∷ middle) → return_at middle ≡ Ok (r, left) → (b : Bool) → eqb (length left) 0 ≡ b → SlotsAre text (if b then Some n else None)
+  at_end : (n : ℕ) (middle left : List ℕ) (r : Option FieldType) → n ≤ 255 → SlotsStand inner n (41 ∷ middle) → return_at middle ≡ Ok (r, left)
+      → (b : Bool) → eqb (length left) 0 ≡ b → SlotsAre text (if b then Some n else None)
   at_end n middle left r few s h true none = record { few = few; takes = (whole_slots text inner middle left n r e s h none).1 }
   at_end n middle left r few s h false some = trailing_none text inner middle left n r e s h some
 
-  at_return : (n : ℕ) (middle : List ℕ) → n ≤ 255 → SlotsStand inner n (41 ∷ middle) → (read : Result (Option FieldType × List ℕ) (List ℕ)) → return_at middle ≡ read → SlotsAre text (if_whole n read)
+  at_return : (n : ℕ) (middle : List ℕ) → n ≤ 255 → SlotsStand inner n (41 ∷ middle) → (read : Result (Option FieldType × List ℕ) (List ℕ))
+      → return_at middle ≡ read → SlotsAre text (if_whole n read)
   at_return n middle few s (Err left) h = result_none text inner middle left n e s h
   at_return n middle few s (Ok x) h = at_end n middle x.1 x.0 few s h (eqb (length x.1) 0) refl
 

@@ -16,7 +16,9 @@ by_place (Some (Some c)) = refl
 
 pub form_at-forms : (pool : Pool) (n : ℕ) → form_at (forms_of pool) n ≡ option_map form_of (text_at pool n)
 form_at-forms pool n =
-    ap (λ (o : Option (Option Form)). option_and_then (λ place. place) o) (slice_get-map (λ (place : Option Constant). option_map form_of (option_and_then text_of place)) pool n) ∙ by_place (slice_get pool n)
+    ap (λ (o : Option (Option Form)). option_and_then (λ place. place) o)
+    (slice_get-map (λ (place : Option Constant). option_map form_of (option_and_then text_of place)) pool n)
+    ∙ by_place (slice_get pool n)
 
 pub form_slots : (text : Option (List ℕ)) → option_and_then (λ (f : Form). f.slots) (option_map form_of text) ≡ option_and_then method_slots text
 unfolding form_of

@@ -1,5 +1,6 @@
 -- No sound pool has a fault.
-use Rattle.std.proofs.Common.{◌≡◌, ◌≢◌, ℕ, zero, suc, ◌+◌, ◌-◌, ◌<◌, Bool, true, false, List, [], ◌∷◌, ◌++◌, length, Some, None, refl, sym, ap, subst, ◌∙◌, append_assoc, length-append, arith, inl, inr}
+use Rattle.std.proofs.Common.{◌≡◌, ◌≢◌, ℕ, zero, suc, ◌+◌, ◌-◌, ◌<◌, Bool, true, false, List, [], ◌∷◌, ◌++◌, length, Some, None, refl}
+use Rattle.std.proofs.Common.{sym, ap, subst, ◌∙◌, append_assoc, length-append, arith, inl, inr}
 use Rattle.std.specs.Prelude.{◌⊎◌, IsTrue, if◌then◌else◌}
 use Rattle.std.specs.List.{AllByRecursion, flat_map}
 use Rattle.jl_pool.specs.declared.constant.Constant.{Constant}
@@ -40,7 +41,8 @@ no_first : (P : Constant → Type 0) (cs : List Constant) (n : ℕ) → AllByRec
 no_first P cs n h = λ f. f.isn't (All-numbers P cs n f.constant h f.there)
 
 -- a bad tag isn't that of a constant that stands there
-none_met : (count i t : ℕ) (after : List ℕ) (more : List Constant) (left : List ℕ) → IsBadTag count i t → AllByRecursion IsWritten more → t ∷ after ≡ flat_map constant_text more ++ left
+none_met : (count i t : ℕ) (after : List ℕ) (more : List Constant) (left : List ℕ) → IsBadTag count i t → AllByRecursion IsWritten more
+    → t ∷ after ≡ flat_map constant_text more ++ left
     → i < count → count ≡ i + length (flat_map places_of more) → ⊥
 none_met count i t after [] left bad written text less all = absurd (omega (arith, less, all))
 none_met count i t after (c ∷ more) left bad written text less all =
@@ -55,7 +57,10 @@ no_bad_tag text cs left i h = λ fault.
           let counts = u2_one (length (places cs)) 0 (flat_map constant_text cs ++ left) none.1.0 h.written.count (omega arith) (sym whole ∙ none.1.1) in
           absurd (omega (arith, counts.0))
       | inl b ↦
-          let counts = u2_one (length (places cs)) b.count (flat_map constant_text cs ++ left) (flat_map constant_text b.before ++ b.tag ∷ b.left) h.written.count b.begins.count_size (sym whole ∙ b.begins.bytes) in
+          let counts =
+          u2_one (length (places cs)) b.count (flat_map constant_text cs ++ left) (flat_map constant_text b.before ++ b.tag ∷ b.left) h.written.count
+          b.begins.count_size (sym whole ∙ b.begins.bytes)
+          in
           elim (either cs b.before left (b.tag ∷ b.left) h.written.each b.begins.each counts.1) [
             | inl g ↦ absurd (omega (arith, counts.0, b.begins.more, ap (λ (m : List Constant). length (places m)) g.all, places-append cs g.more))
             | inr g ↦
@@ -67,8 +72,12 @@ no_bad_tag text cs left i h = λ fault.
 pub no_pool_fault : (text : List ℕ) (cs : List Constant) (left : List ℕ) (f : PoolFault) → PoolStands text cs left → IsSoundPool cs → f ≢ pool.Memory → ¬ IsPoolFault text f
 no_pool_fault text cs left pool.Truncated h sound m = λ p. p.0 cs left h
 no_pool_fault text cs left (pool.BadTag i) h sound m = λ p. no_bad_tag text cs left i h p
-no_pool_fault text cs left (pool.BadUtf8 i) h sound m = λ p. let same = one_pool text p.0 cs p.1 left p.2 h in no_first _ p.0 i (subst (λ (c : List Constant). AllByRecursion HasText c) (sym same.0) sound.texts) p.3
+no_pool_fault text cs left (pool.BadUtf8 i) h sound m =
+    λ p. let same = one_pool text p.0 cs p.1 left p.2 h in no_first _ p.0 i (subst (λ (c : List Constant). AllByRecursion HasText c) (sym same.0) sound.texts) p.3
 no_pool_fault text cs left (pool.BadIndex i) h sound m = λ p.
     let same = one_pool text p.0 cs p.1 left p.2 h in no_first _ p.0 i (subst (λ (c : List Constant). AllByRecursion (λ d. IsTrue (is_linked (places c) d)) c) (sym same.0) sound.links) p.3
-no_pool_fault text cs left (pool.BadDescriptor i) h sound m = λ p. let same = one_pool text p.0 cs p.1 left p.2 h in no_first _ p.0 i (subst (λ (c : List Constant). AllByRecursion (IsTyped (places c)) c) (sym same.0) sound.types) p.3
+no_pool_fault text cs left (pool.BadDescriptor i) h sound m =
+    λ p.
+    let same = one_pool text p.0 cs p.1 left p.2 h in
+    no_first _ p.0 i (subst (λ (c : List Constant). AllByRecursion (IsTyped (places c)) c) (sym same.0) sound.types) p.3
 no_pool_fault text cs left pool.Memory h sound m = λ p. m refl

@@ -1,12 +1,14 @@
 -- One constant after another.
-use Rattle.std.proofs.Common.{◌≡◌, ℕ, ◌+◌, ◌^◌, ◌<◌, ◌≤◌, Bool, true, false, cond, eqb, not, ◌&&◌, ◌||◌, List, [], ◌∷◌, ◌++◌, length, Option, Some, None, Ok, Err, refl, sym, ap, subst, ◌∙◌, append_assoc, length-append, get_or, arith, inl, inr}
+use Rattle.std.proofs.Common.{◌≡◌, ℕ, ◌+◌, ◌^◌, ◌<◌, ◌≤◌, Bool, true, false, cond, eqb, not, ◌&&◌, ◌||◌, List, [], ◌∷◌, ◌++◌}
+use Rattle.std.proofs.Common.{length, Option, Some, None, Ok, Err, refl, sym, ap, subst, ◌∙◌, append_assoc, length-append, get_or, arith, inl, inr}
 use Rattle.std.specs.Prelude.{◌⊎◌, IsTrue}
 use Rattle.std.specs.List.{flat_map, AllByRecursion}
 use Rattle.std.proofs.lemmas.Bool.Decides.{nat_tests}
 use Rattle.std.proofs.lemmas.Grind.{flat_map-append}
 use Rattle.std.proofs.lemmas.List.{append-nil}
 use Rattle.jl_pool.specs.declared.constant.Constant.{Constant}
-use Rattle.jl_pool.specs.declared.constant.Constant.TheVariants.{Utf8, Integer, Float, Long, Double, Class, String, Fieldref, Methodref, InterfaceMethodref, NameAndType, MethodHandle, MethodType, Dynamic, InvokeDynamic, Module, Package}
+use Rattle.jl_pool.specs.declared.constant.Constant.TheVariants.{Utf8, Integer, Float, Long, Double, Class, String, Fieldref, Methodref, InterfaceMethodref, NameAndType}
+use Rattle.jl_pool.specs.declared.constant.Constant.TheVariants.{MethodHandle, MethodType, Dynamic, InvokeDynamic, Module, Package}
 use Rattle.jl_pool.specs.declared.pool.Stop.TheVariants.{Cut, Tag}
 use Rattle.jl_pool.specs.declared.pool_fault.PoolFault.{PoolFault}
 use Rattle.jl_pool.specs.declared.pool_fault.PoolFault.TheVariants.{Truncated, BadTag, BadUtf8, BadIndex, BadDescriptor}
@@ -110,14 +112,16 @@ texts-push cs c rest =
     ∙ append_assoc (flat_map constant_text cs) (constant_text c) rest
 
 -- a constant that was read ends below the count
-pub ends_below : (count place : ℕ) (rest : List ℕ) (c : Constant) (after : List ℕ) → IsBytes rest → place < count → constant_at (eqb (place + 1) count) rest ≡ Ok (c, after) → place + length (places_of c) ≤ count
+pub ends_below : (count place : ℕ) (rest : List ℕ) (c : Constant) (after : List ℕ) → IsBytes rest → place < count
+    → constant_at (eqb (place + 1) count) rest ≡ Ok (c, after) → place + length (places_of c) ≤ count
 ends_below count place rest c after fits lt e =
     let r = constant_takes (eqb (place + 1) count) rest (c, after) fits e in
     let le = wide_fits count place (is_wide (tag c)) lt r.room in
     omega (arith, places_by_tag c, le)
 
 pub SoFar-more : (bytes : List ℕ) (entries : List (Option Constant)) (rest : List ℕ) (count place : ℕ) (c : Constant) (after : List ℕ)
-    → SoFar bytes entries rest count place → place < count → constant_at (eqb (place + 1) count) rest ≡ Ok (c, after) → SoFar bytes (entries ++ places_of c) after count (place + length (places_of c))
+    → SoFar bytes entries rest count place → place < count → constant_at (eqb (place + 1) count) rest ≡ Ok (c, after)
+    → SoFar bytes (entries ++ places_of c) after count (place + length (places_of c))
 SoFar-more bytes entries rest count place c after s lt e =
     let r = constant_takes (eqb (place + 1) count) rest (c, after) s.bytes_left e in
     record {
@@ -142,7 +146,8 @@ SoFar-done bytes entries rest count place size le s =
       s.by_number,
     )
 
-opens : (bytes : List ℕ) (entries : List (Option Constant)) (rest : List ℕ) (count place : ℕ) (s : SoFar bytes entries rest count place) → count < 2 ^ 16 → place < count → Opens (u2 count ++ bytes) count s.cs rest
+opens : (bytes : List ℕ) (entries : List (Option Constant)) (rest : List ℕ) (count place : ℕ) (s : SoFar bytes entries rest count place) → count < 2 ^ 16
+    → place < count → Opens (u2 count ++ bytes) count s.cs rest
 opens bytes entries rest count place s size lt = record {
   count_size = size;
   bytes = ap (λ (x : List ℕ). u2 count ++ x) s.spelled;
@@ -202,7 +207,8 @@ cut_none count place left (c ∷ more) y e le h text =
     absurd (let read = ap (constant_at (eqb (place + 1) count)) regrouped ∙ constant_again (eqb (place + 1) count) c (flat_map constant_text more ++ y) h.0 fits in cc)
 
 -- nor is its tag bad
-tag_none : (count place i t : ℕ) (left rest : List ℕ) (more : List Constant) → constant_at (eqb (place + 1) count) rest ≡ Err Cut → place < count → place ≡ i + length (flat_map places_of more)
+tag_none : (count place i t : ℕ) (left rest : List ℕ) (more : List Constant) → constant_at (eqb (place + 1) count) rest ≡ Err Cut → place < count
+    → place ≡ i + length (flat_map places_of more)
     → AllByRecursion IsWritten more → t ∷ left ≡ flat_map constant_text more ++ rest → ¬ IsBadTag count i t
 tag_none count place i t left rest [] e lt is h text = λ bad.
     let here : place ≡ i = omega arith in
@@ -212,10 +218,14 @@ tag_none count place i t left rest [] e lt is h text = λ bad.
 tag_none count place i t left rest (c ∷ more) e lt is h text = λ bad.
     met count i t c h.0 (cc) (omega (arith, length-append (places_of c) (flat_map places_of more))) bad
 
-module _ (bytes : List ℕ) (entries : List (Option Constant)) (rest : List ℕ) (count place : ℕ) (s : SoFar bytes entries rest count place) (size : count < 2 ^ 16) (lt : place < count) (e : constant_at (eqb (place + 1) count) rest ≡ Err Cut) where
+module _ (bytes : List ℕ) (entries : List (Option Constant)) (rest : List ℕ) (count place : ℕ) (s : SoFar bytes entries rest count place) (size : count < 2 ^ 16)
+    (lt : place < count) (e : constant_at (eqb (place + 1) count) rest ≡ Err Cut) where
   no_pool : (cs : List Constant) (left : List ℕ) → ¬ PoolStands (u2 count ++ bytes) cs left
   no_pool cs left = λ h.
-      let one = u2_one count (length (places cs)) bytes (flat_map constant_text cs ++ left) size h.written.count (h.bytes ∙ append_assoc (u2 (length (places cs))) (flat_map constant_text cs) left) in
+      let one =
+      u2_one count (length (places cs)) bytes (flat_map constant_text cs ++ left) size h.written.count
+      (h.bytes ∙ append_assoc (u2 (length (places cs))) (flat_map constant_text cs) left)
+      in
       elim (either s.cs cs rest left s.written h.written.each (sym s.spelled ∙ one.1)) [
         | inl g ↦
             let all : count ≡ place + length (flat_map places_of g.more) = omega (arith, one.0, s.next, ap (λ (m : List Constant). length (places m)) g.all, places-append s.cs g.more) in

@@ -5,7 +5,8 @@ use Rattle.jl_names.specs.ClassNames.{is_class_name}
 use Rattle.jl_names.specs.Descriptors.{IsFieldDescriptor}
 use Rattle.jl_names.specs.MethodTypes.{IsMethodDescriptor}
 use Rattle.jl_pool.specs.declared.constant.Constant.{Constant}
-use Rattle.jl_pool.specs.declared.constant.Constant.TheVariants.{Utf8, Integer, Float, Long, Double, Class, String, Fieldref, Methodref, InterfaceMethodref, NameAndType, MethodHandle, MethodType, Dynamic, InvokeDynamic, Module, Package}
+use Rattle.jl_pool.specs.declared.constant.Constant.TheVariants.{Utf8, Integer, Float, Long, Double, Class, String, Fieldref, Methodref, InterfaceMethodref, NameAndType}
+use Rattle.jl_pool.specs.declared.constant.Constant.TheVariants.{MethodHandle, MethodType, Dynamic, InvokeDynamic, Module, Package}
 use Rattle.jl_pool.specs.Pools.{Pool, text_at, descriptor_at, begins_array, IfText, IsClassText, IsTyped}
 use Rattle.jl_pool.specs.Reading.Forms.{is_field, method_slots, form_of, is_class_text, takes_slots, is_typed}
 use Rattle.jl_pool.proofs.FormLaws.{is_field-is, IsSlots, method_slots-is}
@@ -37,7 +38,8 @@ is_method-is text = by_found (method_slots text) (method_slots-is text) where
 is_class_text-is : (text : List ℕ) → Decides (is_class_text text) (IsClassText text)
 is_class_text-is text =
     let array = decides_and (is_field text) (begins_array text) (IsFieldDescriptor text) (IsTrue (begins_array text)) (is_field-is text) (decides_true (begins_array text)) in
-    decides_or (is_class_name text) (is_field text && begins_array text) (IsTrue (is_class_name text)) (IsTrue (begins_array text) × IsFieldDescriptor text) (decides_true (is_class_name text)) (turned (is_field text && begins_array text) array) where
+    decides_or (is_class_name text) (is_field text && begins_array text) (IsTrue (is_class_name text)) (IsTrue (begins_array text) × IsFieldDescriptor text)
+    (decides_true (is_class_name text)) (turned (is_field text && begins_array text) array) where
       turned : (b : Bool) → Decides b (IsFieldDescriptor text × IsTrue (begins_array text)) → Decides b (IsTrue (begins_array text) × IsFieldDescriptor text)
       turned true h = (h.1, h.0)
       turned false h = λ x. h (x.1, x.0)

@@ -17,7 +17,8 @@ use Rattle.jl_sketch.specs.Constants.{has_code, with_text, with_class, with_memb
 use Rattle.jl_sketch.specs.Entries.{constant_of}
 use Rattle.jl_sketch.specs.Layouts.{member_attributes, code_attribute, method_attributes}
 
-pub with_some_members : (cs : List Constant) (members : List (List ℕ)) → (length members == 0) ≡ false → with_members cs members ≡ fold with_class (with_text cs (codes "NestMembers")) members
+pub with_some_members : (cs : List Constant) (members : List (List ℕ)) → (length members == 0) ≡ false
+    → with_members cs members ≡ fold with_class (with_text cs (codes "NestMembers")) members
 with_some_members cs [] h = absurd (false≢true (sym h))
 with_some_members cs (m ∷ ms) h = refl
 
@@ -53,10 +54,13 @@ one_more : (n : ℕ) → suc n ≡ n + 1
 one_more n = omega arith
 
 -- the pool's bytes, from the count and each constant's
-pub pool_is : (es : List Entry) (cs : List Constant) (out done : List ℕ) (n : ℕ) → map constant_of es ≡ cs → n ≡ length cs → done ≡ (out ++ u2 (n + 1)) ++ flat_map constant_text (map constant_of es)
+pub pool_is : (es : List Entry) (cs : List Constant) (out done : List ℕ) (n : ℕ) → map constant_of es ≡ cs → n ≡ length cs
+    → done ≡ (out ++ u2 (n + 1)) ++ flat_map constant_text (map constant_of es)
     → done ≡ out ++ pool_text cs
 pool_is es cs out done n he hn hd =
-    let places_are : length (places cs) ≡ n + 1 = ap (λ (xs : List Constant). length (places xs)) (sym he) ∙ ap suc (one_place es ∙ sym (length-map es constant_of) ∙ ap length he ∙ sym hn) ∙ one_more n in
+    let places_are : length (places cs) ≡ n + 1 =
+    ap (λ (xs : List Constant). length (places xs)) (sym he) ∙ ap suc (one_place es ∙ sym (length-map es constant_of) ∙ ap length he ∙ sym hn) ∙ one_more n
+    in
     hd ∙ append_assoc out (u2 (n + 1)) (flat_map constant_text (map constant_of es))
     ∙ ap (λ (xs : List Constant). out ++ (u2 (n + 1) ++ flat_map constant_text xs)) he
     ∙ ap (λ k. out ++ (u2 k ++ flat_map constant_text cs)) (sym places_are)

@@ -23,5 +23,6 @@ none_is ty (Some m) h over = omega (arith, h.few, over m h.takes)
 pub no_count : (ty : List ℕ) → ((n : ℕ) → TakesSlots ty n → 254 < n) → count_byte ty ≡ 0
 no_count ty over = none_is ty (method_slots ty) (method_slots-is ty) over
 
-pub counted_byte : (ty : List ℕ) (found : Option ℕ) → MatchOption found (¬ IsMethodDescriptor ty) (λ n. (n ≤ 255) × TakesSlots ty n) → option_map_or (λ n. (n + 1) % 256) found 0 ≡ count_byte ty
+pub counted_byte : (ty : List ℕ) (found : Option ℕ) → MatchOption found (¬ IsMethodDescriptor ty) (λ n. (n ≤ 255) × TakesSlots ty n)
+    → option_map_or (λ n. (n + 1) % 256) found 0 ≡ count_byte ty
 counted_byte ty found h = ap (λ (o : Option ℕ). option_map_or (λ n. (n + 1) % 256) o 0) (counted ty found h)

@@ -51,7 +51,8 @@ same (InvokeDynamic m) (Methodref i j) = refl
 same (InvokeDynamic m) (InterfaceMethodref i j) = refl
 same (InvokeDynamic m) (InvokeDynamic i) = refl
 
-pub entered : (keys new : List Entry) (cs : List Constant) (e : Entry) → new ≡ (if list_any (same_entry e) keys then keys else keys ++ e ∷ []) → map constant_of keys ≡ cs → map constant_of new ≡ enter cs (constant_of e)
+pub entered : (keys new : List Entry) (cs : List Constant) (e : Entry) → new ≡ (if list_any (same_entry e) keys then keys else keys ++ e ∷ [])
+    → map constant_of keys ≡ cs → map constant_of new ≡ enter cs (constant_of e)
 unfolding enter
 entered keys new cs e he hcs =
     let any = any_by constant_of (same_entry e) (same_constant (constant_of e)) (same e) keys in

@@ -1,5 +1,6 @@
 -- A constant that is there, at its number, and stays there when more are entered.
-use Rattle.std.proofs.Common.{◌≡◌, ℕ, ◌+◌, ◌<◌, ◌||◌, Bool, true, false, cond, not, nat_lt, List, [], ◌∷◌, ◌++◌, length, Some, None, refl, sym, ap, ◌∙◌, suc, arith, append_assoc, if◌then◌else◌}
+use Rattle.std.proofs.Common.{◌≡◌, ℕ, ◌+◌, ◌<◌, ◌||◌, Bool, true, false, cond, not, nat_lt, List, [], ◌∷◌, ◌++◌, length, Some, None, refl}
+use Rattle.std.proofs.Common.{sym, ap, ◌∙◌, suc, arith, append_assoc, if◌then◌else◌}
 use Rattle.std.specs.List.{list_any, flat_map, prefix_len, position, AllByRecursion}
 use Rattle.std.specs.Option.{option_map_or}
 use Rattle.std.proofs.lemmas.Bool.{false≢true, or_parts, lt-ltb}
@@ -91,7 +92,8 @@ holds_entered cs c s h = by_test (list_any (same_constant c) cs) refl
 
 -- ---- its number
 
-first_at : (p : Constant → Bool) (before after : List Constant) (c : Constant) → list_any p before ≡ false → p c ≡ true → prefix_len (λ x. not (p x)) (before ++ c ∷ after) ≡ length before
+first_at : (p : Constant → Bool) (before after : List Constant) (c : Constant) → list_any p before ≡ false → p c ≡ true
+    → prefix_len (λ x. not (p x)) (before ++ c ∷ after) ≡ length before
 first_at p [] after c f e = ap (λ (b : Bool). cond (not b) (1 + prefix_len (λ x. not (p x)) after) 0) e
 first_at p (d ∷ ds) after c f e =
     let s = or_parts (p d) (list_any p ds) f in

@@ -8,7 +8,8 @@ use Rattle.jl_pool.specs.declared.reference.Reference.{Reference}
 use Rattle.jl_pool.specs.declared.reference.CallSiteSpecifier.{CallSiteSpecifier}
 use Rattle.jl_pool.specs.Pools.{places, text_of, text_at, class_text_of, class_text_at, both, Signed, signed_of, signed_at, reference, reference_of, reference_at, call_site_of, call_site_at}
 use Rattle.jl_sketch.specs.declared.sketch.MethodName.{MethodName}
-use Rattle.jl_sketch.specs.Constants.{enter, number, text_number, class_constant, class_number, signed_constant, signed_number, method_constant, call_site_constant, with_text, with_class, with_signed, with_method, with_call_site}
+use Rattle.jl_sketch.specs.Constants.{enter, number, text_number, class_constant, class_number, signed_constant, signed_number, method_constant, call_site_constant}
+use Rattle.jl_sketch.specs.Constants.{with_text, with_class, with_signed, with_method, with_call_site}
 use Rattle.jl_sketch.proofs.SameConstants.{same_utf8, same_class, same_signed, same_methodref, same_interface_methodref, same_dynamic}
 use Rattle.jl_sketch.proofs.Holding.{ArePlain, Grows, grows_on, grows_enter, Holds, holds_on, holds_entered, number_stays, stands}
 

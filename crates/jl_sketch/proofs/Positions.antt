@@ -1,5 +1,6 @@
 -- Tests and places in a list whose items stand for others.
-use Rattle.std.proofs.Common.{◌≡◌, ℕ, ◌+◌, Bool, true, false, cond, not, ◌||◌, nat_lt, List, [], ◌∷◌, ◌++◌, length, map, Some, None, refl, sym, ap, ◌∙◌, if◌then◌else◌}
+use Rattle.std.proofs.Common.{◌≡◌, ℕ, ◌+◌, Bool, true, false, cond, not, ◌||◌, nat_lt, List, [], ◌∷◌, ◌++◌, length, map, Some, None, refl, sym}
+use Rattle.std.proofs.Common.{ap, ◌∙◌, if◌then◌else◌}
 use Rattle.std.specs.List.{list_any, prefix_len, position}
 use Rattle.std.proofs.lemmas.List.{length-map, map_push}
 

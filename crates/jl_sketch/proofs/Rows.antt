@@ -79,7 +79,9 @@ all_calls = record {
     name = codes "Code";
     ty = codes "()V";
     flags = 9;
-    calls = Virtual f_of_A ∷ Special true f_of_A ∷ Static false f_of_A ∷ Interface (record { owner = codes "A"; name = codes "f"; ty = codes "(JI)V" }) ∷ Dynamic (codes "f") (codes "()V") ∷ [];
+    calls =
+        Virtual f_of_A ∷ Special true f_of_A ∷ Static false f_of_A ∷ Interface (record { owner = codes "A"; name = codes "f"; ty = codes "(JI)V" })
+        ∷ Dynamic (codes "f") (codes "()V") ∷ [];
   } ∷ [];
   host = None;
   members = codes "A" ∷ codes "M" ∷ [];
@@ -92,7 +94,10 @@ all_constants = refl
 
 -- ---- what is shown of a code
 
-pcs : map (λ site. site.pc) (sites_of_calls 0 (Virtual f_of_A ∷ Special true f_of_A ∷ Static false f_of_A ∷ Interface f_of_A ∷ Dynamic (codes "f") (codes "()V") ∷ Virtual f_of_A ∷ [])) ≡ 0 ∷ 3 ∷ 6 ∷ 9 ∷ 14 ∷ 19 ∷ []
+pcs : map (λ site. site.pc)
+    (sites_of_calls 0
+    (Virtual f_of_A ∷ Special true f_of_A ∷ Static false f_of_A ∷ Interface f_of_A ∷ Dynamic (codes "f") (codes "()V") ∷ Virtual f_of_A ∷ []))
+    ≡ 0 ∷ 3 ∷ 6 ∷ 9 ∷ 14 ∷ 19 ∷ []
 pcs = refl
 
 -- ---- the count of invokeinterface

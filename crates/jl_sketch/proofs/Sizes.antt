@@ -1,5 +1,6 @@
 -- The numbers of a sketch that isn't too big are of the sizes that they are written in.
-use Rattle.std.proofs.Common.{◌≡◌, ℕ, ◌+◌, ◌<◌, ◌≤◌, ◌^◌, ◌||◌, Bool, true, false, cond, nat_lt, List, [], ◌∷◌, ◌++◌, length, Some, None, refl, sym, ap, ◌∙◌, subst, arith, if◌then◌else◌}
+use Rattle.std.proofs.Common.{◌≡◌, ℕ, ◌+◌, ◌<◌, ◌≤◌, ◌^◌, ◌||◌, Bool, true, false, cond, nat_lt, List, [], ◌∷◌, ◌++◌, length}
+use Rattle.std.proofs.Common.{Some, None, refl, sym, ap, ◌∙◌, subst, arith, if◌then◌else◌}
 use Rattle.std.specs.Prelude.{Option, fold, codes}
 use Rattle.std.specs.Option.{option_map_or}
 use Rattle.std.specs.List.{list_any, position_or_len, AllByRecursion}
@@ -13,7 +14,8 @@ use Rattle.jl_sketch.specs.declared.sketch.SketchMethod.{SketchMethod}
 use Rattle.jl_sketch.specs.declared.sketch.MethodName.{MethodName}
 use Rattle.jl_sketch.specs.declared.sketch.Call.{Call}
 use Rattle.jl_sketch.specs.declared.sketch.Call.TheVariants.{Virtual, Special, Static, Interface, Dynamic}
-use Rattle.jl_sketch.specs.Constants.{same_constant, enter, number, class_constant, signed_constant, method_constant, call_site_constant, has_code, with_text, with_class, with_class_if_any, with_signed, with_method, with_call_site, with_call, with_declared, with_host, with_members, sketch_constants}
+use Rattle.jl_sketch.specs.Constants.{same_constant, enter, number, class_constant, signed_constant, method_constant, call_site_constant, has_code, with_text, with_class}
+use Rattle.jl_sketch.specs.Constants.{with_class_if_any, with_signed, with_method, with_call_site, with_call, with_declared, with_host, with_members, sketch_constants}
 use Rattle.jl_sketch.specs.Faults.{is_long, are_long, is_long_method_name, is_long_call, is_long_method, is_long_if_any, is_long_sketch}
 use Rattle.jl_sketch.proofs.Holding.{Grows, grows_enter}
 use Rattle.jl_sketch.proofs.Naming.{text_grows, class_grows, signed_grows, method_plain}
@@ -119,7 +121,8 @@ fits_call cs (Dynamic name ty) h = fits_call_site cs name ty h
 
 -- ---- one after another
 
-fits_fold : {X : Type 0} (f : List Constant → X → List Constant) (is_bad : X → Bool) → ((cs : List Constant) (x : X) → Grows cs (f cs x)) → ((cs : List Constant) (x : X) → is_bad x ≡ false → Fits cs (f cs x))
+fits_fold : {X : Type 0} (f : List Constant → X → List Constant) (is_bad : X → Bool) → ((cs : List Constant) (x : X) → Grows cs (f cs x))
+    → ((cs : List Constant) (x : X) → is_bad x ≡ false → Fits cs (f cs x))
     → (xs : List X) (cs : List Constant) → list_any is_bad xs ≡ false → Fits cs (fold f cs xs)
 fits_fold f is_bad grows fits [] cs h = λ few w. w
 fits_fold f is_bad grows fits (x ∷ xs) cs h =
@@ -193,7 +196,10 @@ constants_written s h few =
     let all : List Constant = sketch_constants s in
     let to_super : Fits [] super = fits_on [] this super (if_any_grows s.superclass this) (fits_class [] s.name h.name) (fits_if_any s.superclass this h.superclass) in
     let to_interfaces : Fits [] interfaces = fits_on [] super interfaces (classes_grow s.interfaces super) to_super (fits_classes s.interfaces super h.interfaces) in
-    let to_methods : Fits [] methods = fits_on [] interfaces methods (fold_grows with_declared declared_grows s.methods interfaces) to_interfaces (fits_fold with_declared is_long_method declared_grows fits_declared s.methods interfaces h.each_method) in
+    let to_methods : Fits [] methods =
+    fits_on [] interfaces methods (fold_grows with_declared declared_grows s.methods interfaces) to_interfaces
+    (fits_fold with_declared is_long_method declared_grows fits_declared s.methods interfaces h.each_method)
+    in
     let to_host : Fits [] hosted = fits_on [] methods hosted (host_grows s.host methods) to_methods (fits_host s.host methods h.host) in
     let to_all : Fits [] all = fits_on [] hosted all (members_grow s.members hosted) to_host (fits_members s.members hosted h.members) in
     to_all few tt

@@ -1,5 +1,6 @@
 -- The Code attribute of a method holds the calls of the sketch, and nothing else can be read of it.
-use Rattle.std.proofs.Common.{◌≡◌, ℕ, ◌+◌, ◌<◌, ◌≤◌, ◌^◌, ◌&&◌, not, Bool, true, false, List, [], ◌∷◌, ◌++◌, length, Option, Some, None, Result, Ok, refl, sym, ap, ◌∙◌, subst, arith, length-append, if◌then◌else◌, ◌==◌}
+use Rattle.std.proofs.Common.{◌≡◌, ℕ, ◌+◌, ◌<◌, ◌≤◌, ◌^◌, ◌&&◌, not, Bool, true, false, List, [], ◌∷◌, ◌++◌, length, Option, Some}
+use Rattle.std.proofs.Common.{None, Result, Ok, refl, sym, ap, ◌∙◌, subst, arith, length-append, if◌then◌else◌, ◌==◌}
 use Rattle.std.specs.Prelude.{codes}
 use Rattle.std.specs.Option.{option_map_or}
 use Rattle.std.specs.List.{AllByRecursion}
@@ -62,7 +63,10 @@ one_list pc (i ∷ is) (j ∷ js) hi hj e =
     let both : found (i, code_bytes is) ≡ found (j, code_bytes js) = sym (instruction_again pc i (code_bytes is) hi.0) ∙ ap (instruction_at pc) e ∙ instruction_again pc j (code_bytes js) hj.0 in
     let pairs = ok_is {E = Stop} (i, code_bytes is) (j, code_bytes js) both in
     let first : i ≡ j = ap (λ (p : Instruction × List ℕ). p.0) pairs in
-    let more = one_list (pc + length (instruction_text i)) is js hi.1 (subst (λ (k : Instruction). MayStandFrom (pc + length (instruction_text k)) js) (sym first) hj.1) (ap (λ (p : Instruction × List ℕ). p.1) pairs) in
+    let more =
+    one_list (pc + length (instruction_text i)) is js hi.1 (subst (λ (k : Instruction). MayStandFrom (pc + length (instruction_text k)) js) (sym first) hj.1)
+    (ap (λ (p : Instruction × List ℕ). p.1) pairs)
+    in
     cc (first, more)
 
 -- ---- what the attribute holds
@@ -94,7 +98,8 @@ held_is ours theirs small h =
 
 -- ---- the sites of the calls
 
-call_site : (cs : List Constant) (pc : ℕ) (call : Call) → NamesCall cs call → site_at (places cs) pc (call_instruction cs call) ≡ record { pc = pc; kind = call_kind call; operand = call_operand call } ∷ []
+call_site : (cs : List Constant) (pc : ℕ) (call : Call) → NamesCall cs call
+    → site_at (places cs) pc (call_instruction cs call) ≡ record { pc = pc; kind = call_kind call; operand = call_operand call } ∷ []
 call_site cs pc (Virtual m) h = ap (site_list pc 182) h
 call_site cs pc (Special itf m) h = ap (site_list pc 183) h
 call_site cs pc (Static itf m) h = ap (site_list pc 184) h
@@ -122,7 +127,8 @@ sites_are cs (call ∷ calls) pc h =
 pub named : (pool : Pool) (n : ℕ) (text name : List ℕ) → text_at pool n ≡ Some text → is_text pool n name ≡ bytes_eq text name
 named pool n text name e = ap (λ (o : Option (List ℕ)). option_map_or (λ t. bytes_eq t name) o false) e
 
-code_found : (pool : Pool) (a : Attribute) (code : Option (List Instruction)) → text_at pool a.name ≡ Some (codes "Code") → HasCode pool (attributes_of pool (codes "Code") (a ∷ [])) code → HasCode pool (a ∷ []) code
+code_found : (pool : Pool) (a : Attribute) (code : Option (List Instruction)) → text_at pool a.name ≡ Some (codes "Code")
+    → HasCode pool (attributes_of pool (codes "Code") (a ∷ [])) code → HasCode pool (a ∷ []) code
 code_found pool a code e h = subst (λ (b : Bool). HasCode pool (if b then a ∷ [] else []) code) (named pool a.name (codes "Code") (codes "Code") e) h
 
 code_below : (cs : List Constant) (calls : List Call) → is_long calls ≡ false → length (code_bytes (instructions cs calls)) < 2 ^ 32
@@ -131,7 +137,8 @@ code_below cs calls h =
     let code = short_code cs calls in
     omega (arith, few, code)
 
-coded_sites : (cs : List Constant) (calls : List Call) (code : Option (List Instruction)) → length cs ≤ 65534 → is_long calls ≡ false → AllByRecursion (NamesCall cs) calls → HasCode (places cs) (code_attribute cs calls ∷ []) code
+coded_sites : (cs : List Constant) (calls : List Call) (code : Option (List Instruction)) → length cs ≤ 65534 → is_long calls ≡ false
+    → AllByRecursion (NamesCall cs) calls → HasCode (places cs) (code_attribute cs calls ∷ []) code
     → sites_of (places cs) code ≡ sites_of_calls 0 calls
 coded_sites cs calls None few short names h = absurd h
 coded_sites cs calls (Some is) few short names h =
@@ -153,7 +160,8 @@ no_calls m e h =
     nil_from_length m.calls (eqb-true (length m.calls) 0 (not_false (length m.calls == 0) some))
 
 -- the sites that are read in a method are those of its calls
-pub method_sites : (cs : List Constant) (m : SketchMethod) (code : Option (List Instruction)) → length cs ≤ 65534 → is_long m.calls ≡ false → calls_without_code m ≡ false → NamesMethod cs m → HasCode (places cs) (codes_of (places cs) (method_of cs m)) code
+pub method_sites : (cs : List Constant) (m : SketchMethod) (code : Option (List Instruction)) → length cs ≤ 65534 → is_long m.calls ≡ false
+    → calls_without_code m ≡ false → NamesMethod cs m → HasCode (places cs) (codes_of (places cs) (method_of cs m)) code
     → sites_of (places cs) code ≡ sites_of_calls 0 m.calls
 method_sites cs m code few short without h k = by_code (has_code m.flags) refl
   where

@@ -1,5 +1,6 @@
 -- A sketch's class file can be written: each of its numbers has its size.
-use Rattle.std.proofs.Common.{◌≡◌, ℕ, ◌+◌, ◌*◌, ◌<◌, ◌≤◌, ◌^◌, ◌||◌, Bool, true, false, nat_lt, List, [], ◌∷◌, ◌++◌, length, map, Some, None, refl, sym, ap, arith, suc, if◌then◌else◌}
+use Rattle.std.proofs.Common.{◌≡◌, ℕ, ◌+◌, ◌*◌, ◌<◌, ◌≤◌, ◌^◌, ◌||◌, Bool, true, false, nat_lt, List, [], ◌∷◌, ◌++◌, length}
+use Rattle.std.proofs.Common.{map, Some, None, refl, sym, ap, arith, suc, if◌then◌else◌}
 use Rattle.std.specs.Prelude.{Option, codes}
 use Rattle.std.specs.Option.{option_map_or}
 use Rattle.std.specs.List.{list_any, flat_map, AllByRecursion}
@@ -86,7 +87,8 @@ members_sized : (cs : List Constant) (members : List (List ℕ)) → length cs �
     → AttributeSized (record { name = text_number cs (codes "NestMembers"); info = counted u2 (map (class_number cs) members) })
 members_sized cs members few h = record { name = number_below cs (Utf8 (codes "NestMembers")) few; info = numbers_info (map (class_number cs) members) (few_numbers cs members h) }
 
-nest_sized : (cs : List Constant) (host : Option (List ℕ)) (members : List (List ℕ)) → length cs ≤ 65534 → is_long members ≡ false → Countable AttributeSized (host_attributes cs host ++ member_attributes cs members)
+nest_sized : (cs : List Constant) (host : Option (List ℕ)) (members : List (List ℕ)) → length cs ≤ 65534 → is_long members ≡ false
+    → Countable AttributeSized (host_attributes cs host ++ member_attributes cs members)
 nest_sized cs None [] few h = record { count = omega arith; each = tt }
 nest_sized cs (Some host) [] few h = record { count = omega arith; each = (host_sized cs host few, tt) }
 nest_sized cs None (m ∷ ms) few h = record { count = omega arith; each = (members_sized cs (m ∷ ms) few h, tt) }
@@ -106,7 +108,8 @@ method_sized cs m few f h =
       attributes = if_coded (has_code m.flags) (code_attribute cs m.calls) (code_sized cs m.calls few c.0);
     }
 
-methods_sized : (cs : List Constant) (ms : List SketchMethod) → length cs ≤ 65534 → AllByRecursion (λ m. m.flags < 2 ^ 16) ms → list_any is_long_method ms ≡ false → AllByRecursion MemberSized (map (method_of cs) ms)
+methods_sized : (cs : List Constant) (ms : List SketchMethod) → length cs ≤ 65534 → AllByRecursion (λ m. m.flags < 2 ^ 16) ms
+    → list_any is_long_method ms ≡ false → AllByRecursion MemberSized (map (method_of cs) ms)
 methods_sized cs [] few f h = tt
 methods_sized cs (m ∷ ms) few f h =
     let s = or_parts (is_long_method m) (list_any is_long_method ms) h in

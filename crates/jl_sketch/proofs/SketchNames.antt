@@ -15,10 +15,13 @@ use Rattle.jl_sketch.specs.declared.sketch.SketchMethod.{SketchMethod}
 use Rattle.jl_sketch.specs.declared.sketch.MethodName.{MethodName}
 use Rattle.jl_sketch.specs.declared.sketch.Call.{Call}
 use Rattle.jl_sketch.specs.declared.sketch.Call.TheVariants.{Virtual, Special, Static, Interface, Dynamic}
-use Rattle.jl_sketch.specs.Constants.{number, text_number, class_number, method_constant, call_site_constant, has_code, with_text, with_class, with_class_if_any, with_method, with_call_site, with_call, with_declared, with_host, with_members, sketch_constants}
+use Rattle.jl_sketch.specs.Constants.{number, text_number, class_number, method_constant, call_site_constant, has_code, with_text, with_class, with_class_if_any}
+use Rattle.jl_sketch.specs.Constants.{with_method, with_call_site, with_call, with_declared, with_host, with_members, sketch_constants}
 use Rattle.jl_sketch.specs.Names.{method_operand, NamesCall, NamesMethod, NamesHost, NamesMembers, NamesParts}
 use Rattle.jl_sketch.proofs.Holding.{ArePlain, Grows, grows_self, grows_on, holds_on, stands}
-use Rattle.jl_sketch.proofs.Naming.{text_grows, text_entered, text_named, texts_grow, first_text_entered, second_text_entered, class_grows, class_entered, class_on, class_named, HasMethod, method_grows, method_entered, method_on, method_named, HasCallSite, call_site_grows, call_site_entered, call_site_on, call_site_named}
+use Rattle.jl_sketch.proofs.Naming.{text_grows, text_entered, text_named, texts_grow, first_text_entered, second_text_entered, class_grows, class_entered, class_on}
+use Rattle.jl_sketch.proofs.Naming.{class_named, HasMethod, method_grows, method_entered, method_on, method_named, HasCallSite, call_site_grows, call_site_entered}
+use Rattle.jl_sketch.proofs.Naming.{call_site_on, call_site_named}
 
 pub fold_grows : {X : Type 0} (f : List Constant → X → List Constant) → ((cs : List Constant) (x : X) → Grows cs (f cs x)) → (xs : List X) (cs : List Constant) → Grows cs (fold f cs xs)
 fold_grows f each [] cs = grows_self cs
@@ -32,7 +35,8 @@ classes_grow names cs = fold_grows with_class class_grows names cs
 one_class : (cs all : List Constant) (name : List ℕ) → ArePlain cs → Grows (with_class cs name) all → class_text_at (places all) (class_number all name) ≡ Some name
 one_class cs all name h g = class_named all name (class_on (with_class cs name) all name g (class_entered cs name h))
 
-classes_named : (names : List (List ℕ)) (cs all : List Constant) → ArePlain cs → Grows (fold with_class cs names) all → map (class_text_at (places all)) (map (class_number all) names) ≡ map Some names
+classes_named : (names : List (List ℕ)) (cs all : List Constant) → ArePlain cs → Grows (fold with_class cs names) all
+    → map (class_text_at (places all)) (map (class_number all) names) ≡ map Some names
 classes_named [] cs all h g = refl
 classes_named (n ∷ ns) cs all h g =
     let next : List Constant = with_class cs n in
@@ -44,7 +48,8 @@ pub if_any_grows : (name : Option (List ℕ)) (cs : List Constant) → Grows cs 
 if_any_grows None cs = grows_self cs
 if_any_grows (Some name) cs = class_grows cs name
 
-if_any_named : (name : Option (List ℕ)) (cs all : List Constant) → ArePlain cs → Grows (with_class_if_any cs name) all → class_text_at (places all) (option_map_or (class_number all) name 0) ≡ name
+if_any_named : (name : Option (List ℕ)) (cs all : List Constant) → ArePlain cs → Grows (with_class_if_any cs name) all
+    → class_text_at (places all) (option_map_or (class_number all) name 0) ≡ name
 if_any_named None cs all h g = refl
 if_any_named (Some name) cs all h g = one_class cs all name h g
 
@@ -57,15 +62,19 @@ call_grows cs (Static itf m) = method_grows cs itf m
 call_grows cs (Interface m) = method_grows cs true m
 call_grows cs (Dynamic name ty) = call_site_grows cs name ty
 
-method_call : (cs all : List Constant) (itf : Bool) (m : MethodName) → ArePlain cs → Grows (with_method itf cs m) all → operand_at (places all) (number all (method_constant all itf m)) ≡ Some (method_operand itf m)
+method_call : (cs all : List Constant) (itf : Bool) (m : MethodName) → ArePlain cs → Grows (with_method itf cs m) all
+    → operand_at (places all) (number all (method_constant all itf m)) ≡ Some (method_operand itf m)
 method_call cs all itf m h g =
     let has : HasMethod all itf m = method_on (with_method itf cs m) all itf m g (method_entered cs itf m h) in
     ap (λ (o : Option (Reference (List ℕ))). either_operand o (call_site_at (places all) (number all (method_constant all itf m)))) (method_named all itf m has)
 
-dynamic_call : (cs all : List Constant) (name ty : List ℕ) → ArePlain cs → Grows (with_call_site cs name ty) all → operand_at (places all) (number all (call_site_constant all name ty)) ≡ Some (CallSite (record { bootstrap = 0; name = name; ty = ty }))
+dynamic_call : (cs all : List Constant) (name ty : List ℕ) → ArePlain cs → Grows (with_call_site cs name ty) all
+    → operand_at (places all) (number all (call_site_constant all name ty)) ≡ Some (CallSite (record { bootstrap = 0; name = name; ty = ty }))
 dynamic_call cs all name ty h g =
     let has : HasCallSite all name ty = call_site_on (with_call_site cs name ty) all name ty g (call_site_entered cs name ty h) in
-    let none : reference_at (places all) (number all (call_site_constant all name ty)) ≡ None = ap (option_and_then (reference_of (places all))) (stands all (call_site_constant all name ty) has.call_site) in
+    let none : reference_at (places all) (number all (call_site_constant all name ty)) ≡ None =
+    ap (option_and_then (reference_of (places all))) (stands all (call_site_constant all name ty) has.call_site)
+    in
     ap (λ (o : Option (Reference (List ℕ))). either_operand o (call_site_at (places all) (number all (call_site_constant all name ty)))) none
     ∙ ap (λ (o : Option (CallSiteSpecifier (List ℕ))). either_operand None o) (call_site_named all name ty has)
 
@@ -144,8 +153,10 @@ host_named : (host : Option (List ℕ)) (cs all : List Constant) → ArePlain cs
 host_named None cs all h g = tt
 host_named (Some host) cs all h g =
     let named : List Constant = with_text cs (codes "NestHost") in
-    let from_name : Grows named all = grows_on named (with_class named host) all (class_grows named host) g in
-    (text_named all (codes "NestHost") (holds_on named all (Utf8 (codes "NestHost")) from_name (text_entered cs (codes "NestHost") h)), one_class named all host ((text_grows cs (codes "NestHost")).plain h) g)
+    let from_name : Grows named all = grows_on named (with_class named host) all (class_grows named host) g in (
+      text_named all (codes "NestHost") (holds_on named all (Utf8 (codes "NestHost")) from_name (text_entered cs (codes "NestHost") h)),
+      one_class named all host ((text_grows cs (codes "NestHost")).plain h) g,
+    )
 
 pub members_grow : (members : List (List ℕ)) (cs : List Constant) → Grows cs (with_members cs members)
 members_grow [] cs = grows_self cs
@@ -157,8 +168,10 @@ members_named : (members : List (List ℕ)) (cs all : List Constant) → ArePlai
 members_named [] cs all h g = tt
 members_named (m ∷ ms) cs all h g =
     let named : List Constant = with_text cs (codes "NestMembers") in
-    let from_name : Grows named all = grows_on named (fold with_class named (m ∷ ms)) all (classes_grow (m ∷ ms) named) g in
-    (text_named all (codes "NestMembers") (holds_on named all (Utf8 (codes "NestMembers")) from_name (text_entered cs (codes "NestMembers") h)), classes_named (m ∷ ms) named all ((text_grows cs (codes "NestMembers")).plain h) g)
+    let from_name : Grows named all = grows_on named (fold with_class named (m ∷ ms)) all (classes_grow (m ∷ ms) named) g in (
+      text_named all (codes "NestMembers") (holds_on named all (Utf8 (codes "NestMembers")) from_name (text_entered cs (codes "NestMembers") h)),
+      classes_named (m ∷ ms) named all ((text_grows cs (codes "NestMembers")).plain h) g,
+    )
 
 -- ---- the sketch
 

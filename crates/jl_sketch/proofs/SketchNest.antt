@@ -1,5 +1,6 @@
 -- The nest attributes of a class file that is read from a sketch's bytes hold the sketch's host and members.
-use Rattle.std.proofs.Common.{◌≡◌, ℕ, ◌<◌, ◌≤◌, ◌^◌, Bool, false, List, [], ◌∷◌, ◌++◌, length, map, Option, Some, None, refl, sym, ap, ◌∙◌, subst, if◌then◌else◌}
+use Rattle.std.proofs.Common.{◌≡◌, ℕ, ◌<◌, ◌≤◌, ◌^◌, Bool, false, List, [], ◌∷◌, ◌++◌, length, map, Option, Some, None, refl, sym, ap}
+use Rattle.std.proofs.Common.{◌∙◌, subst, if◌then◌else◌}
 use Rattle.std.specs.Prelude.{codes, IfSome}
 use Rattle.std.specs.Option.{option_and_then, unwrap_or}
 use Rattle.std.specs.List.{AllByRecursion}
@@ -33,17 +34,23 @@ host_alone cs (Some host) h = ap (λ (b : Bool). if b then host_attributes cs (S
 
 no_members : (cs : List Constant) (members : List (List ℕ)) → NamesMembers cs members → attributes_of (places cs) (codes "NestHost") (member_attributes cs members) ≡ []
 no_members cs [] h = refl
-no_members cs (m ∷ ms) h = ap (λ (b : Bool). if b then member_attributes cs (m ∷ ms) else []) (named (places cs) (text_number cs (codes "NestMembers")) (codes "NestMembers") (codes "NestHost") h.0)
+no_members cs (m ∷ ms) h =
+    ap (λ (b : Bool). if b then member_attributes cs (m ∷ ms) else [])
+    (named (places cs) (text_number cs (codes "NestMembers")) (codes "NestMembers") (codes "NestHost") h.0)
 
 no_host : (cs : List Constant) (host : Option (List ℕ)) → IfSome host (NamesHost cs) → attributes_of (places cs) (codes "NestMembers") (host_attributes cs host) ≡ []
 no_host cs None h = refl
 no_host cs (Some host) h = ap (λ (b : Bool). if b then host_attributes cs (Some host) else []) (named (places cs) (text_number cs (codes "NestHost")) (codes "NestHost") (codes "NestMembers") h.0)
 
-members_alone : (cs : List Constant) (members : List (List ℕ)) → NamesMembers cs members → attributes_of (places cs) (codes "NestMembers") (member_attributes cs members) ≡ member_attributes cs members
+members_alone : (cs : List Constant) (members : List (List ℕ)) → NamesMembers cs members
+    → attributes_of (places cs) (codes "NestMembers") (member_attributes cs members) ≡ member_attributes cs members
 members_alone cs [] h = refl
-members_alone cs (m ∷ ms) h = ap (λ (b : Bool). if b then member_attributes cs (m ∷ ms) else []) (named (places cs) (text_number cs (codes "NestMembers")) (codes "NestMembers") (codes "NestMembers") h.0)
+members_alone cs (m ∷ ms) h =
+    ap (λ (b : Bool). if b then member_attributes cs (m ∷ ms) else [])
+    (named (places cs) (text_number cs (codes "NestMembers")) (codes "NestMembers") (codes "NestMembers") h.0)
 
-of_both : (pool : Pool) (name : List ℕ) (xs ys front back : List Attribute) → attributes_of pool name xs ≡ front → attributes_of pool name ys ≡ back → attributes_of pool name (xs ++ ys) ≡ front ++ back
+of_both : (pool : Pool) (name : List ℕ) (xs ys front back : List Attribute) → attributes_of pool name xs ≡ front → attributes_of pool name ys ≡ back
+    → attributes_of pool name (xs ++ ys) ≡ front ++ back
 of_both pool name xs ys front back e k =
     filter-append (λ a. is_text pool a.name name) xs ys
     ∙ ap (λ (zs : List Attribute). zs ++ attributes_of pool name ys) e
@@ -62,7 +69,8 @@ members_found cs host members h k =
 
 -- ---- the host
 
-host_held : (cs : List Constant) (host : Option (List ℕ)) (o : Option ℕ) → length cs ≤ 65534 → IfSome host (NamesHost cs) → HoldsHost (places cs) (host_attributes cs host) o → option_and_then (class_at (places cs)) o ≡ host
+host_held : (cs : List Constant) (host : Option (List ℕ)) (o : Option ℕ) → length cs ≤ 65534 → IfSome host (NamesHost cs)
+    → HoldsHost (places cs) (host_attributes cs host) o → option_and_then (class_at (places cs)) o ≡ host
 host_held cs None None few h k = refl
 host_held cs None (Some n) few h k = absurd k
 host_held cs (Some host) None few h k = absurd k
@@ -92,7 +100,8 @@ each_class : (pool : Pool) (ns : List ℕ) → AllByRecursion (λ n. (n < 2 ^ 16
 each_class pool [] h = tt
 each_class pool (n ∷ ns) h = (h.0.1, each_class pool ns h.1)
 
-members_held : (cs : List Constant) (members : List (List ℕ)) (o : Option (List ℕ)) → length cs ≤ 65534 → is_long members ≡ false → NamesMembers cs members → HoldsMembers (places cs) (member_attributes cs members) o
+members_held : (cs : List Constant) (members : List (List ℕ)) (o : Option (List ℕ)) → length cs ≤ 65534 → is_long members ≡ false → NamesMembers cs members
+    → HoldsMembers (places cs) (member_attributes cs members) o
     → map (name_or_nothing (places cs)) (unwrap_or o []) ≡ members
 members_held cs [] None few short h k = refl
 members_held cs [] (Some ns) few short h k = absurd k
@@ -103,6 +112,8 @@ members_held cs (m ∷ ms) (Some ns) few short h k =
     ap (map (name_or_nothing (places cs))) (sym same)
     ∙ names_are (places cs) ours (m ∷ ms) h.1 (subst (λ (l : List ℕ). AllByRecursion (IsClassNumber (places cs)) l) (sym same) (each_class (places cs) ns k.2))
 
-pub members_are : (cs : List Constant) (host : Option (List ℕ)) (members : List (List ℕ)) (o : Option (List ℕ)) → length cs ≤ 65534 → is_long members ≡ false → IfSome host (NamesHost cs) → NamesMembers cs members
-    → HoldsMembers (places cs) (attributes_of (places cs) (codes "NestMembers") (host_attributes cs host ++ member_attributes cs members)) o → map (name_or_nothing (places cs)) (unwrap_or o []) ≡ members
+pub members_are : (cs : List Constant) (host : Option (List ℕ)) (members : List (List ℕ)) (o : Option (List ℕ)) → length cs ≤ 65534
+    → is_long members ≡ false → IfSome host (NamesHost cs) → NamesMembers cs members
+    → HoldsMembers (places cs) (attributes_of (places cs) (codes "NestMembers") (host_attributes cs host ++ member_attributes cs members)) o
+    → map (name_or_nothing (places cs)) (unwrap_or o []) ≡ members
 members_are cs host members o few short h k holds = members_held cs members o few short k (subst (λ (l : List Attribute). HoldsMembers (places cs) l o) (members_found cs host members h k) holds)

@@ -1,5 +1,6 @@
 -- A class file that is read from a sketch's bytes shows the sketch.
-use Rattle.std.proofs.Common.{◌≡◌, ℕ, ◌+◌, ◌≤◌, Bool, true, false, cond, not, ◌||◌, nat_lt, List, [], ◌∷◌, length, map, Some, None, refl, sym, ap, ◌∙◌, subst, arith, suc}
+use Rattle.std.proofs.Common.{◌≡◌, ℕ, ◌+◌, ◌≤◌, Bool, true, false, cond, not, ◌||◌, nat_lt, List, [], ◌∷◌, length, map, Some, None, refl, sym}
+use Rattle.std.proofs.Common.{ap, ◌∙◌, subst, arith, suc}
 use Rattle.std.specs.Prelude.{Option, IsFalse}
 use Rattle.std.specs.Option.{option_map_or, option_and_then, unwrap_or}
 use Rattle.std.specs.List.{list_any, prefix_len, position, AllByRecursion}
@@ -67,7 +68,8 @@ none_first p xs h = by_test (nat_lt first (length xs)) refl
 make_method : ℕ → List ℕ → List ℕ → List Site → ShownMethod
 make_method flags name ty sites = record { flags = flags; name = name; ty = ty; sites = sites }
 
-method_is : (cs : List Constant) (m : SketchMethod) (code : Option (List Instruction)) → length cs ≤ 65534 → is_long_method m ≡ false → calls_without_code m ≡ false → NamesMethod cs m → HasCode (places cs) (codes_of (places cs) (method_of cs m)) code
+method_is : (cs : List Constant) (m : SketchMethod) (code : Option (List Instruction)) → length cs ≤ 65534 → is_long_method m ≡ false
+    → calls_without_code m ≡ false → NamesMethod cs m → HasCode (places cs) (codes_of (places cs) (method_of cs m)) code
     → shown_method (places cs) (method_of cs m) code ≡ method_shown m
 unfolding make_method
 method_is cs m code few short without h k =
@@ -81,7 +83,8 @@ method_is cs m code few short without h k =
     ∙ ap (λ (t : List ℕ). make_method m.flags m.name t (sites_of (places cs) code)) ty
     ∙ ap (λ (l : List Site). make_method m.flags m.name m.ty l) sites
 
-methods_are : (cs : List Constant) (ms : List SketchMethod) (codes : List (Option (List Instruction))) → length cs ≤ 65534 → list_any is_long_method ms ≡ false → list_any calls_without_code ms ≡ false → AllByRecursion (NamesMethod cs) ms
+methods_are : (cs : List Constant) (ms : List SketchMethod) (codes : List (Option (List Instruction))) → length cs ≤ 65534 → list_any is_long_method ms ≡ false
+    → list_any calls_without_code ms ≡ false → AllByRecursion (NamesMethod cs) ms
     → HaveCodes (places cs) (map (method_of cs) ms) codes → shown_methods (places cs) (map (method_of cs) ms) codes ≡ map method_shown ms
 methods_are cs [] codes few short without h k = refl
 methods_are cs (m ∷ ms) [] few short without h k = absurd k
@@ -94,13 +97,22 @@ methods_are cs (m ∷ ms) (code ∷ codes) few short without h k =
 -- ---- the class
 
 make : List ℕ → ℕ → Option (List ℕ) → List (List ℕ) → Option (List ℕ) → List (List ℕ) → List ShownMethod → ClassFile
-make name flags superclass interfaces host members methods = record { name = name; flags = flags; superclass = superclass; interfaces = interfaces; nest_host = host; nest_members = members; methods = methods }
+make name flags superclass interfaces host members methods = record {
+  name = name;
+  flags = flags;
+  superclass = superclass;
+  interfaces = interfaces;
+  nest_host = host;
+  nest_members = members;
+  methods = methods;
+}
 
 made : (f : ClassFile) → make f.name f.flags f.superclass f.interfaces f.nest_host f.nest_members f.methods ≡ f
 unfolding make
 made f = refl
 
-same_class : (f g : ClassFile) → f.name ≡ g.name → f.flags ≡ g.flags → f.superclass ≡ g.superclass → f.interfaces ≡ g.interfaces → f.nest_host ≡ g.nest_host → f.nest_members ≡ g.nest_members → f.methods ≡ g.methods → f ≡ g
+same_class : (f g : ClassFile) → f.name ≡ g.name → f.flags ≡ g.flags → f.superclass ≡ g.superclass → f.interfaces ≡ g.interfaces
+    → f.nest_host ≡ g.nest_host → f.nest_members ≡ g.nest_members → f.methods ≡ g.methods → f ≡ g
 same_class f g name flags superclass interfaces host members methods =
     let same : make f.name f.flags f.superclass f.interfaces f.nest_host f.nest_members f.methods ≡ make g.name g.flags g.superclass g.interfaces g.nest_host g.nest_members g.methods = cc in
     sym (made f) ∙ same ∙ made g
@@ -123,11 +135,15 @@ sketch_shown s p f h without k =
     same_class (shown p) (class_of s)
     (ap (λ (l : Layout). name_or_nothing (pool_of l) l.body.this_class) e ∙ name_is pool (class_number cs s.name) s.name named.this_class links.0)
     (ap (λ (l : Layout). l.body.flags) e)
-    (ap (λ (l : Layout). class_at (pool_of l) l.body.super_class) e ∙ super_is pool super s.superclass named.super_class (all_front (IsClassNumber pool) (superclass_numbers super) interfaces links.1) refl)
-    (ap (λ (l : Layout). map (name_or_nothing (pool_of l)) l.body.interfaces) e ∙ names_are pool interfaces s.interfaces named.interfaces (all_back (IsClassNumber pool) (superclass_numbers super) interfaces links.1))
+    (ap (λ (l : Layout). class_at (pool_of l) l.body.super_class) e
+    ∙ super_is pool super s.superclass named.super_class (all_front (IsClassNumber pool) (superclass_numbers super) interfaces links.1) refl)
+    (ap (λ (l : Layout). map (name_or_nothing (pool_of l)) l.body.interfaces) e
+    ∙ names_are pool interfaces s.interfaces named.interfaces (all_back (IsClassNumber pool) (superclass_numbers super) interfaces links.1))
     (ap (λ (l : Layout). option_and_then (class_at (pool_of l)) p.nest_host) e ∙ host_is cs s.host s.members p.nest_host few named.host named.members nest.host_holds)
-    (ap (λ (l : Layout). map (name_or_nothing (pool_of l)) (unwrap_or p.nest_members [])) e ∙ members_are cs s.host s.members p.nest_members few short_members.0 named.host named.members nest.members_hold)
-    (ap (λ (l : Layout). shown_methods (pool_of l) l.body.methods p.codes) e ∙ methods_are cs s.methods p.codes few small.each_method (none_first calls_without_code s.methods without) named.methods codes)
+    (ap (λ (l : Layout). map (name_or_nothing (pool_of l)) (unwrap_or p.nest_members [])) e
+    ∙ members_are cs s.host s.members p.nest_members few short_members.0 named.host named.members nest.members_hold)
+    (ap (λ (l : Layout). shown_methods (pool_of l) l.body.methods p.codes) e
+    ∙ methods_are cs s.methods p.codes few small.each_method (none_first calls_without_code s.methods without) named.methods codes)
 
 pub written_shown : (s : Sketch) (bytes : List ℕ) (p : Parts) → AreFlags s → IsSpelled s bytes → IsClass bytes p → shown p ≡ class_of s
 written_shown s bytes p f h k = sketch_shown s p f h.fits h.coded (subst (λ (text : List ℕ). IsClass text p) h.spelled k)

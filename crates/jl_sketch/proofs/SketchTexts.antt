@@ -33,7 +33,8 @@ all_back P [] ys h = h
 all_back P (x ∷ xs) ys h = all_back P xs ys h.1
 
 -- the superclass, none at number 0
-pub super_is : (pool : Pool) (n : ℕ) (name : Option (List ℕ)) → class_text_at pool n ≡ name → AllByRecursion (IsClassNumber pool) (superclass_numbers n) → class_text_at pool 0 ≡ None → class_at pool n ≡ name
+pub super_is : (pool : Pool) (n : ℕ) (name : Option (List ℕ)) → class_text_at pool n ≡ name → AllByRecursion (IsClassNumber pool) (superclass_numbers n)
+    → class_text_at pool 0 ≡ None → class_at pool n ≡ name
 super_is pool n None h all zero = ap (option_and_then (λ (text : List ℕ). if is_class_name text then Some text else None)) h
 super_is pool n (Some name) h all zero = by_test (n == 0) refl
   where
@@ -45,7 +46,8 @@ super_is pool n (Some name) h all zero = by_test (n == 0) refl
         let some = subst (λ (b : Bool). AllByRecursion (IsClassNumber pool) (if b then [] else n ∷ [])) k all in
         class_is pool n name h some.0
 
-pub names_are : (pool : Pool) (ns : List ℕ) (names : List (List ℕ)) → map (class_text_at pool) ns ≡ map Some names → AllByRecursion (IsClassNumber pool) ns → map (name_or_nothing pool) ns ≡ names
+pub names_are : (pool : Pool) (ns : List ℕ) (names : List (List ℕ)) → map (class_text_at pool) ns ≡ map Some names → AllByRecursion (IsClassNumber pool) ns
+    → map (name_or_nothing pool) ns ≡ names
 names_are pool [] [] h all = refl
 names_are pool [] (n ∷ names) h all = absurd cc
 names_are pool (n ∷ ns) [] h all = absurd cc

@@ -1,14 +1,15 @@
 -- The verdict on an install is what is said of the rows that it accepts.
-use Rattle.std.specs.Prelude.{◌≡◌, ◌≢◌, ◌↔◌, ℕ, zero, suc, ◌+◌, ◌<◌, ◌≤◌, ◌⊎◌, ◌==◌, ◌||◌, nat_lt, nat_le, ⊤, Bool, true, false, List, [], ◌∷◌, map, length, Option, Some, None, option_map, Result, Ok, Err, All, AllPairs, if◌then◌else◌}
+use Rattle.std.specs.Prelude.{◌≡◌, ◌≢◌, ◌↔◌, ℕ, suc, ◌<◌, ◌≤◌, ◌⊎◌, ◌==◌, ◌||◌, nat_lt, nat_le, ⊤, Bool, true, false, List}
+use Rattle.std.specs.Prelude.{[], ◌∷◌, map, length, Option, Some, None, option_map, Result, Ok, Err, All, AllPairs, if◌then◌else◌}
 use Rattle.std.specs.Bool.{then_some}
 use Rattle.std.specs.List.{AllByRecursion, list_any}
-use Rattle.std.proofs.Common.{refl, ap, sym, ◌∙◌, arith, inl, inr, Decides}
+use Rattle.std.proofs.Common.{refl, ap, ◌∙◌, arith, inl, inr, Decides}
 use Rattle.std.proofs.lemmas.Bool.Decides.{Decides-eqb, Decides-ltb, Decides-or}
 use Rattle.std.proofs.lemmas.List.Elements.{All-from_recursion, recursion_from_All}
 use Rattle.std.proofs.lemmas.List.Kept.{AllPairs-cons}
+use Rattle.std.proofs.lemmas.Bool.{cases_lt, or_parts, ne_eqb, both_ways, leb-false, lt-leb}
 use Rattle.jl_types.specs.declared.link.Link.{Link}
 use Rattle.jl_types.specs.declared.answer.Unlinked.{Unlinked}
-use Rattle.jl_types.specs.declared.event.Made.{Made}
 use Rattle.jl_types.specs.declared.event.Made.TheVariants as made
 use Rattle.jl_types.specs.declared.event.Event.TheVariants as event
 use Rattle.jl_types.specs.declared.refusal.Refusal.{Refusal}
@@ -21,9 +22,7 @@ use Rattle.jl_types.specs.Resolution.{first_of}
 use Rattle.jl_types.specs.Links.{scratch}
 use Rattle.jl_types.specs.Batches.{is_bad_size, sites_fault}
 use Rattle.jl_types.specs.Events.{of_sites, row_fault, install_fault, Accepts, unless, verdict}
-use Rattle.jl_types.proofs.Bools.{clash, below, not_le}
 use Rattle.jl_types.proofs.Firsts.{first_none, test_none}
-use Rattle.jl_types.proofs.Settling.{le_or_lt}
 
 -- ---- the size
 
@@ -32,8 +31,8 @@ bad_decides n = Decides-or (n == 0) (nat_lt 256 n) (Decides-eqb n 0) (Decides-lt
 
 good_size : (n : ℕ) → is_bad_size n ≡ false → (1 ≤ n) × (n ≤ 256)
 good_size n e = (
-  elim (le_or_lt 1 n) [ inl h ↦ h | inr lt ↦ absurd (clash (is_bad_size n) ((bad_decides n).1 (inl (omega arith))) e) ],
-  elim (le_or_lt n 256) [ inl h ↦ h | inr lt ↦ absurd (clash (is_bad_size n) ((bad_decides n).1 (inr lt)) e) ],
+  elim (cases_lt n 1) [ inr h ↦ h | inl lt ↦ absurd (both_ways (is_bad_size n) e ((bad_decides n).1 (inl (omega arith)))) ],
+  elim (cases_lt 256 n) [ inr h ↦ h | inl lt ↦ absurd (both_ways (is_bad_size n) e ((bad_decides n).1 (inr lt))) ],
 )
 
 size_good : (n : ℕ) → 1 ≤ n → n ≤ 256 → is_bad_size n ≡ false
@@ -56,7 +55,7 @@ fresh w earlier (s ∷ rest) e =
     let known = first_none (then_some (nat_le (length w.places) s) (sites.Unknown s)) _ e in
     let once = first_none (then_some (list_any (λ t. t == s) earlier) (sites.Repeated s)) _ known.1 in
     let more = first_none (sites_fault w (s ∷ earlier) rest) [] once.1 in (
-      below (length w.places) s (test_none (nat_le (length w.places) s) (sites.Unknown s) known.0),
+      leb-false (length w.places) s (test_none (nat_le (length w.places) s) (sites.Unknown s) known.0),
       test_none (list_any (λ t. t == s) earlier) (sites.Repeated s) once.0,
       fresh w (s ∷ earlier) rest more.0,
     )
@@ -64,7 +63,7 @@ fresh w earlier (s ∷ rest) e =
 no_fault : (w : World) (earlier all : List ℕ) → AreFresh w earlier all → sites_fault w earlier all ≡ None
 no_fault w earlier [] h = refl
 no_fault w earlier (s ∷ rest) h =
-    (λ i. first_of (then_some (not_le (length w.places) s h.0 i) (sites.Unknown s) ∷ then_some (h.1 i) (sites.Repeated s) ∷ no_fault w (s ∷ earlier) rest h.2 i ∷ []))
+    (λ i. first_of (then_some (lt-leb (length w.places) s h.0 i) (sites.Unknown s) ∷ then_some (h.1 i) (sites.Repeated s) ∷ no_fault w (s ∷ earlier) rest h.2 i ∷ []))
 
 -- ---- the rows
 
@@ -82,20 +81,17 @@ record AreApart (w : World) (earlier : List ℕ) (rows : List (ℕ × Link)) : T
   new : AllByRecursion (λ row. list_any (λ t. t == row.0) earlier ≡ false) rows
   once : AllPairs Other rows
 
-or_false : (a b : Bool) → (a || b) ≡ false → (a ≡ false) × (b ≡ false)
-or_false true b h = cc
-or_false false b h = (refl, h)
-
-not_first : (s : ℕ) (earlier : List ℕ) (rows : List (ℕ × Link)) → AllByRecursion (λ row. list_any (λ t. t == row.0) (s ∷ earlier) ≡ false) rows → AllByRecursion (λ row. (s == row.0) ≡ false) rows × AllByRecursion (λ row. list_any (λ t. t == row.0) earlier ≡ false) rows
+not_first : (s : ℕ) (earlier : List ℕ) (rows : List (ℕ × Link)) → AllByRecursion (λ row. list_any (λ t. t == row.0) (s ∷ earlier) ≡ false) rows
+    → AllByRecursion (λ row. (s == row.0) ≡ false) rows × AllByRecursion (λ row. list_any (λ t. t == row.0) earlier ≡ false) rows
 not_first s earlier [] h = (tt, tt)
 not_first s earlier (row ∷ rows) h =
-    let both = or_false (s == row.0) (list_any (λ t. t == row.0) earlier) h.0 in
+    let both = or_parts (s == row.0) (list_any (λ t. t == row.0) earlier) h.0 in
     let rest = not_first s earlier rows h.1 in
     ((both.0, rest.0), (both.1, rest.1))
 
 others : (row : ℕ × Link) (rows : List (ℕ × Link)) → AllByRecursion (λ r. (row.0 == r.0) ≡ false) rows → AllByRecursion (Other row) rows
 others row [] h = tt
-others row (r ∷ rows) h = (λ same. clash (row.0 == r.0) ((Decides-eqb row.0 r.0).1 same) h.0, others row rows h.1)
+others row (r ∷ rows) h = (λ same. both_ways (row.0 == r.0) h.0 ((Decides-eqb row.0 r.0).1 same), others row rows h.1)
 
 apart : (w : World) (earlier : List ℕ) (rows : List (ℕ × Link)) → AreFresh w earlier (sites_in rows) → AreApart w earlier rows
 apart w earlier [] h = record { requested = tt; new = tt; once = λ i j d lt le. absurd (omega arith) }
@@ -108,20 +104,14 @@ apart w earlier (row ∷ rows) h =
       once = AllPairs-cons Other row rows (All-from_recursion (Other row) rows (others row rows parts.0)) rest.once;
     }
 
-also_first : (s : ℕ) (earlier : List ℕ) (rows : List (ℕ × Link)) → AllByRecursion (λ row. list_any (λ t. t == row.0) earlier ≡ false) rows → AllByRecursion (λ row. (s == row.0) ≡ false) rows → AllByRecursion (λ row. list_any (λ t. t == row.0) (s ∷ earlier) ≡ false) rows
+also_first : (s : ℕ) (earlier : List ℕ) (rows : List (ℕ × Link)) → AllByRecursion (λ row. list_any (λ t. t == row.0) earlier ≡ false) rows
+    → AllByRecursion (λ row. (s == row.0) ≡ false) rows → AllByRecursion (λ row. list_any (λ t. t == row.0) (s ∷ earlier) ≡ false) rows
 also_first s earlier [] h k = tt
 also_first s earlier (row ∷ rows) h k = (ap (λ (b : Bool). b || list_any (λ t. t == row.0) earlier) k.0 ∙ h.0, also_first s earlier rows h.1 k.1)
 
-differ : (s t : ℕ) → s ≢ t → (s == t) ≡ false
-differ s t h = by_test (s == t) refl
-  where
-    by_test : (b : Bool) → (s == t) ≡ b → b ≡ false
-    by_test true e = absurd (h ((Decides-eqb s t).0 e))
-    by_test false e = refl
-
 all_differ : (row : ℕ × Link) (rows : List (ℕ × Link)) → AllByRecursion (Other row) rows → AllByRecursion (λ r. (row.0 == r.0) ≡ false) rows
 all_differ row [] h = tt
-all_differ row (r ∷ rows) h = (differ row.0 r.0 h.0, all_differ row rows h.1)
+all_differ row (r ∷ rows) h = (ne_eqb row.0 r.0 h.0, all_differ row rows h.1)
 
 apart_fresh : (w : World) (earlier : List ℕ) (rows : List (ℕ × Link)) → AreApart w earlier rows → AreFresh w earlier (sites_in rows)
 apart_fresh w earlier [] h = tt
@@ -198,7 +188,10 @@ module _ (w : World) where
         new = none_new rows;
         once = a.once;
       } in
-      (λ i. first_of (then_some (size_good (length rows) a.some a.few i) refusal.BatchSize ∷ option_map of_sites (no_fault w [] (sites_in rows) (apart_fresh w [] rows all) i) ∷ none_stale rows (recursion_from_All (λ (row : ℕ × Link). scratch w row.0 ≡ Ok row.1) rows a.present) i ∷ []))
+      (λ i.
+      first_of
+      (then_some (size_good (length rows) a.some a.few i) refusal.BatchSize ∷ option_map of_sites (no_fault w [] (sites_in rows) (apart_fresh w [] rows all) i)
+      ∷ none_stale rows (recursion_from_All (λ (row : ℕ × Link). scratch w row.0 ≡ Ok row.1) rows a.present) i ∷ []))
 
   unless_none : (o : Option Refusal) → unless o made.Nothing ≡ Ok made.Nothing → o ≡ None
   unless_none None e = refl

@@ -1,15 +1,18 @@
 -- A link from scratch gives the answer of the call.
-use Rattle.std.specs.Prelude.{◌≡◌, ℕ, ◌==◌, ◌&&◌, ◌||◌, nat_le, Bool, true, false, not, cond, ⊤, List, [], ◌∷◌, length, map, filter, find, slice_get, Option, Some, None, Result, Ok, Err, if◌then◌else◌}
+use Rattle.std.specs.Prelude.{◌≡◌, ℕ, ◌==◌, ◌&&◌, ◌||◌, nat_le, Bool, true, false, cond, List, [], ◌∷◌, length, map, filter, find, Some, None}
+use Rattle.std.specs.Prelude.{Result, Ok, Err, if◌then◌else◌}
 use Rattle.std.specs.List.{list_any, list_all}
 use Rattle.std.proofs.Common.{refl, ap, sym, ◌∙◌, arith, inl, inr}
 use Rattle.std.proofs.lemmas.Bool.Decides.{Decides-eqb}
+use Rattle.std.proofs.lemmas.Bool.{or_cases, and_parts, and_from, both_ways}
+use Rattle.std.proofs.lemmas.Cmp.{nat_eq_equiv}
 use Rattle.jl_pool.specs.declared.reference.Reference.{Reference}
 use Rattle.jl_types.specs.declared.ids.MethodId.{MethodId}
 use Rattle.jl_types.specs.declared.answer.Outcome.{Outcome}
 use Rattle.jl_types.specs.declared.answer.Outcome.TheVariants as outcome_is
 use Rattle.jl_types.specs.declared.answer.Chosen.TheVariants.{Method as Picked}
 use Rattle.jl_types.specs.declared.answer.Throwable.{Throwable}
-use Rattle.jl_types.specs.declared.answer.Throwable.TheVariants.{NoSuchMethodError, NullPointerException, IncompatibleClassChangeError}
+use Rattle.jl_types.specs.declared.answer.Throwable.TheVariants.{NullPointerException, IncompatibleClassChangeError}
 use Rattle.jl_types.specs.declared.answer.Unlinked.{Unlinked}
 use Rattle.jl_types.specs.declared.answer.Recv.{Recv}
 use Rattle.jl_types.specs.declared.answer.Recv.TheVariants.{Null, Of}
@@ -19,15 +22,15 @@ use Rattle.jl_types.specs.declared.link.Link.{Link}
 use Rattle.jl_types.specs.declared.link.Link.TheVariants.{Fault, Plain, Direct, Table, Mega}
 use Rattle.jl_types.specs.declared.link.TableKind.{TableKind}
 use Rattle.jl_types.specs.declared.link.TableKind.TheVariants as table
-use Rattle.jl_types.specs.World.{World, Classes, CallSite}
+use Rattle.jl_types.specs.World.{World, Classes}
 use Rattle.jl_types.specs.Members.{numbers, method_at, is_present, class_test, is_concrete, is_private, is_concrete_row}
 use Rattle.jl_types.specs.Ancestry.{is_ancestor, receivers}
-use Rattle.jl_types.specs.Selection.{is_init, virtual_outcome, interface_outcome, interface_ending, special_outcome, chosen, chosen_of, ending}
+use Rattle.jl_types.specs.Selection.{virtual_outcome, interface_outcome, interface_ending, special_outcome, chosen, chosen_of, ending}
 use Rattle.jl_types.specs.Sites.{Selector, ByVirtual, ByInterface, BySpecial, Invocation, Stage, Waits, Fails, Calls, Selects, stage}
 use Rattle.jl_types.specs.Links.{outcome, table_rows, table_or_mega, virtual_link, runs, link_by, link_of, scratch}
 use Rattle.jl_types.specs.Calls.{answered, is_receiver, selected, answer_of, dispatch}
 use Rattle.jl_types.specs.Fast.{no_entry, entry_answer}
-use Rattle.jl_types.proofs.Bools.{or_cases, and_both, both_and, same_number, clash, any-range-from, any-filter-at}
+use Rattle.jl_types.proofs.Bools.{any-range-from, any-filter-at}
 use Rattle.jl_types.proofs.Lists.{passes_within}
 
 -- installed where the outcome hangs on the receiver
@@ -101,13 +104,13 @@ fault_call : (cs : Classes) (stage : Stage) (t : Throwable) (recv : Recv) → li
 fault_call cs (Waits reason) t recv e = cc
 fault_call cs (Fails throwable) t recv e = cc
 fault_call cs (Calls m) t recv e = cc
-fault_call cs (Selects i) t recv e = absurd (clash (looks (link_by cs i i.selector)) (looks_by cs i i.selector) (ap looks (ok_same (link_by cs i i.selector) (Fault t) e)))
+fault_call cs (Selects i) t recv e = absurd (both_ways (looks (link_by cs i i.selector)) (ap looks (ok_same (link_by cs i i.selector) (Fault t) e)) (looks_by cs i i.selector))
 
 plain_call : (cs : Classes) (stage : Stage) (m : MethodId) (recv : Recv) → link_of cs stage ≡ Ok (Plain m) → answer_of cs stage recv ≡ answer.Run m
 plain_call cs (Waits reason) m recv e = cc
 plain_call cs (Fails throwable) m recv e = cc
 plain_call cs (Calls n) m recv e = cc
-plain_call cs (Selects i) m recv e = absurd (clash (looks (link_by cs i i.selector)) (looks_by cs i i.selector) (ap looks (ok_same (link_by cs i i.selector) (Plain m) e)))
+plain_call cs (Selects i) m recv e = absurd (both_ways (looks (link_by cs i i.selector)) (ap looks (ok_same (link_by cs i i.selector) (Plain m) e)) (looks_by cs i i.selector))
 
 pub fault_is_thrown : (w : World) (s : ℕ) (t : Throwable) (recv : Recv) → scratch w s ≡ Ok (Fault t) → dispatch w s recv ≡ answer.Throws t
 fault_is_thrown w s t recv e = fault_call w.classes (stage w s) t recv e
@@ -128,7 +131,9 @@ entry_found : (g : ℕ → Outcome) (x : ℕ) (xs : List ℕ) → list_any (λ y
 entry_found g x [] h = cc
 entry_found g x (y ∷ xs) h = by_test (y == x) refl h (entry_found g x xs)
   where
-    by_test : (b : Bool) → (y == x) ≡ b → (b || list_any (λ y. y == x) xs) ≡ true → (list_any (λ y. y == x) xs ≡ true → find (row_is x) (rows_of g xs) ≡ Some (x, g x)) → cond b (Some (y, g y)) (find (row_is x) (rows_of g xs)) ≡ Some (x, g x)
+    by_test : (b : Bool) → (y == x) ≡ b → (b || list_any (λ y. y == x) xs) ≡ true
+        → (list_any (λ y. y == x) xs ≡ true → find (row_is x) (rows_of g xs) ≡ Some (x, g x))
+        → cond b (Some (y, g y)) (find (row_is x) (rows_of g xs)) ≡ Some (x, g x)
     by_test true e h rest = ap (λ (z : ℕ). Some (z, g z)) ((Decides-eqb y x).0 e)
     by_test false e h rest = rest h
 
@@ -136,7 +141,8 @@ no_entry_found : (g : ℕ → Outcome) (x : ℕ) (xs : List ℕ) → list_any (�
 no_entry_found g x [] h = refl
 no_entry_found g x (y ∷ xs) h = by_test (y == x) h (no_entry_found g x xs)
   where
-    by_test : (b : Bool) → (b || list_any (λ y. y == x) xs) ≡ false → (list_any (λ y. y == x) xs ≡ false → find (row_is x) (rows_of g xs) ≡ None) → cond b (Some (y, g y)) (find (row_is x) (rows_of g xs)) ≡ None
+    by_test : (b : Bool) → (b || list_any (λ y. y == x) xs) ≡ false → (list_any (λ y. y == x) xs ≡ false → find (row_is x) (rows_of g xs) ≡ None)
+        → cond b (Some (y, g y)) (find (row_is x) (rows_of g xs)) ≡ None
     by_test true h rest = cc
     by_test false h rest = rest h
 
@@ -146,7 +152,7 @@ none_left p x [] h = refl
 none_left p x (y ∷ xs) h = by_test (p y) refl (none_left p x xs h)
   where
     not_same : (b : Bool) → (y == x) ≡ b → p y ≡ true → b ≡ false
-    not_same true e k = absurd (clash (p x) (sym (ap p ((Decides-eqb y x).0 e)) ∙ k) h)
+    not_same true e k = absurd (both_ways (p x) h (sym (ap p ((Decides-eqb y x).0 e)) ∙ k))
     not_same false e k = refl
 
     by_test : (b : Bool) → p y ≡ b → list_any (λ y. y == x) (filter p xs) ≡ false → list_any (λ y. y == x) (cond b (y ∷ filter p xs) (filter p xs)) ≡ false
@@ -157,9 +163,9 @@ module _ (cs : Classes) (named x : ℕ) where
   -- the objects that are a named class are of its receivers
   pub among_receivers : is_concrete cs x ≡ true → is_ancestor cs named x ≡ true → list_any (λ y. y == x) (receivers cs named) ≡ true
   among_receivers h k =
-      let lt = passes_within is_concrete_row cs.rows x (and_both (is_present cs x) (class_test is_concrete_row cs x) h).1 in
-      let all : list_any (λ y. y == x) (numbers cs) ≡ true = any-range-from (λ y. y == x) 0 (length cs.rows) x (omega arith) (omega arith) (same_number x) in
-      any-filter-at (λ y. is_concrete cs y && is_ancestor cs named y) (λ y. y == x) x (numbers cs) all (both_and (is_concrete cs x) (is_ancestor cs named x) h k) (same_number x)
+      let lt = passes_within is_concrete_row cs.rows x (and_parts (is_present cs x) (class_test is_concrete_row cs x) h).1 in
+      let all : list_any (λ y. y == x) (numbers cs) ≡ true = any-range-from (λ y. y == x) 0 (length cs.rows) x (omega arith) (omega arith) (nat_eq_equiv.refl x) in
+      any-filter-at (λ y. is_concrete cs y && is_ancestor cs named y) (λ y. y == x) x (numbers cs) all (and_from (is_concrete cs x) (is_ancestor cs named x) h k) (nat_eq_equiv.refl x)
 
   pub not_among_receivers : is_ancestor cs named x ≡ false → list_any (λ y. y == x) (receivers cs named) ≡ false
   not_among_receivers h = none_left (λ y. is_concrete cs y && is_ancestor cs named y) x (numbers cs) (and_false (is_concrete cs x) (is_ancestor cs named x) h)
@@ -171,7 +177,8 @@ module _ (cs : Classes) (named x : ℕ) where
 -- ---- tables
 
 -- the answer of a table to an object of class x, where the entries are those of the receivers
-entry_of : (cs : Classes) (i : Invocation) (kind : TableKind) (x : ℕ) (b : Bool) → is_ancestor cs i.named x ≡ b → is_concrete cs x ≡ true → (if b then answered (outcome cs i x) else no_entry kind) ≡ entry_answer kind (find (row_is x) (table_rows cs i))
+entry_of : (cs : Classes) (i : Invocation) (kind : TableKind) (x : ℕ) (b : Bool) → is_ancestor cs i.named x ≡ b → is_concrete cs x ≡ true
+    → (if b then answered (outcome cs i x) else no_entry kind) ≡ entry_answer kind (find (row_is x) (table_rows cs i))
 entry_of cs i kind x true e h = ap (entry_answer kind) (sym (entry_found (outcome cs i) x (receivers cs i.named) (among_receivers cs i.named x h e)))
 entry_of cs i kind x false e h = ap (entry_answer kind) (sym (no_entry_found (outcome cs i) x (receivers cs i.named) (not_among_receivers cs i.named x e)))
 
@@ -190,7 +197,8 @@ virtual_shown k [] rs e = (cc, cc)
 virtual_shown k ((x, outcome_is.Throws t) ∷ rows) rs e = table_shown table.Virtual k ((x, outcome_is.Throws t) ∷ rows) rs e
 virtual_shown k ((x, outcome_is.Run m) ∷ rows) rs e = by_same (list_all (λ row. runs m row.1) rows) e
   where
-    by_same : (b : Bool) → (if b then Direct (outcome_is.Run m) else table_or_mega table.Virtual ((x, outcome_is.Run m) ∷ rows)) ≡ Table k rs → (k ≡ table.Virtual) × (rs ≡ (x, outcome_is.Run m) ∷ rows)
+    by_same : (b : Bool) → (if b then Direct (outcome_is.Run m) else table_or_mega table.Virtual ((x, outcome_is.Run m) ∷ rows)) ≡ Table k rs
+        → (k ≡ table.Virtual) × (rs ≡ (x, outcome_is.Run m) ∷ rows)
     by_same true e = cc
     by_same false e = table_shown table.Virtual k ((x, outcome_is.Run m) ∷ rows) rs e
 
@@ -200,10 +208,13 @@ entry_same k kind rs rows x h = λ i. entry_answer (sym h.0 i) (find (row_is x) 
 if_concrete : (b c : Bool) (a : Answer) → b ≡ true → (if b && c then a else answer.BadReceiver) ≡ (if c then a else answer.BadReceiver)
 if_concrete b c a h = ap (λ (b : Bool). if b && c then a else answer.BadReceiver) h
 
-table_call : (cs : Classes) (selector : Selector) (d named : ℕ) (ref : Reference (List ℕ)) (m : MethodId) (x : ℕ) (k : TableKind) (rs : List (ℕ × Outcome)) → link_by cs (invocation selector d named ref m) selector ≡ Table k rs → is_concrete cs x ≡ true → selected cs (invocation selector d named ref m) (Of x) ≡ entry_answer k (find (row_is x) rs)
+table_call : (cs : Classes) (selector : Selector) (d named : ℕ) (ref : Reference (List ℕ)) (m : MethodId) (x : ℕ) (k : TableKind) (rs : List (ℕ × Outcome))
+    → link_by cs (invocation selector d named ref m) selector ≡ Table k rs → is_concrete cs x ≡ true
+    → selected cs (invocation selector d named ref m) (Of x) ≡ entry_answer k (find (row_is x) rs)
 table_call cs ByVirtual d named ref m x k rs e h = by_private (is_private cs m) e
   where
-    by_private : (b : Bool) → (if b then Direct (virtual_outcome cs named m) else virtual_link (table_rows cs (invocation ByVirtual d named ref m))) ≡ Table k rs → selected cs (invocation ByVirtual d named ref m) (Of x) ≡ entry_answer k (find (row_is x) rs)
+    by_private : (b : Bool) → (if b then Direct (virtual_outcome cs named m) else virtual_link (table_rows cs (invocation ByVirtual d named ref m))) ≡ Table k rs
+        → selected cs (invocation ByVirtual d named ref m) (Of x) ≡ entry_answer k (find (row_is x) rs)
     by_private true e = cc
     by_private false e =
         if_concrete (is_concrete cs x) (is_ancestor cs named x) (answered (virtual_outcome cs x m)) h
@@ -214,23 +225,27 @@ table_call cs ByInterface d named ref m x k rs e h =
     ∙ by_ancestor (is_ancestor cs named x) refl
     ∙ entry_same k table.Interface rs (table_rows cs (invocation ByInterface d named ref m)) x (table_shown table.Interface k (table_rows cs (invocation ByInterface d named ref m)) rs e)
   where
-    by_ancestor : (b : Bool) → is_ancestor cs named x ≡ b → answered (interface_outcome cs x named m) ≡ entry_answer table.Interface (find (row_is x) (table_rows cs (invocation ByInterface d named ref m)))
+    by_ancestor : (b : Bool) → is_ancestor cs named x ≡ b
+        → answered (interface_outcome cs x named m) ≡ entry_answer table.Interface (find (row_is x) (table_rows cs (invocation ByInterface d named ref m)))
     by_ancestor true is = entry_of cs (invocation ByInterface d named ref m) table.Interface x true is h
-    by_ancestor false is = ap (λ (b : Bool). answered (if b then interface_ending cs (chosen cs x m) else outcome_is.Throws IncompatibleClassChangeError)) is ∙ entry_of cs (invocation ByInterface d named ref m) table.Interface x false is h
+    by_ancestor false is =
+        ap (λ (b : Bool). answered (if b then interface_ending cs (chosen cs x m) else outcome_is.Throws IncompatibleClassChangeError)) is
+        ∙ entry_of cs (invocation ByInterface d named ref m) table.Interface x false is h
 table_call cs BySpecial d named ref m x k rs e h = cc
 
 -- ---- direct links
 
 runs_same : (m : MethodId) (o : Outcome) → runs m o ≡ true → o ≡ outcome_is.Run m
 runs_same m (outcome_is.Run n) h =
-    let both = and_both (m.class == n.class) (m.index == n.index) h in
+    let both = and_parts (m.class == n.class) (m.index == n.index) h in
     λ i. outcome_is.Run (record { class = sym ((Decides-eqb m.class n.class).0 both.0) i; index = sym ((Decides-eqb m.index n.index).0 both.1) i })
 runs_same m (outcome_is.Throws t) h = cc
 
-all_run : (m : MethodId) (g : ℕ → Outcome) (x : ℕ) (xs : List ℕ) → list_all (λ row. runs m row.1) (rows_of g xs) ≡ true → list_any (λ y. y == x) xs ≡ true → g x ≡ outcome_is.Run m
+all_run : (m : MethodId) (g : ℕ → Outcome) (x : ℕ) (xs : List ℕ) → list_all (λ row. runs m row.1) (rows_of g xs) ≡ true
+    → list_any (λ y. y == x) xs ≡ true → g x ≡ outcome_is.Run m
 all_run m g x [] h k = cc
 all_run m g x (y ∷ xs) h k =
-    let both = and_both (runs m (g y)) (list_all (λ row. runs m row.1) (rows_of g xs)) h in
+    let both = and_parts (runs m (g y)) (list_all (λ row. runs m row.1) (rows_of g xs)) h in
     elim (or_cases (y == x) (list_any (λ y. y == x) xs) k) [
       | inl same ↦ sym (ap g ((Decides-eqb y x).0 same)) ∙ runs_same m (g y) both.0
       | inr more ↦ all_run m g x xs both.1 more
@@ -244,7 +259,8 @@ direct_shown o g x (y ∷ xs) e k = by_first (g y) refl e
     no_table true rows e = cc
     no_table false rows e = cc
 
-    by_same : (m : MethodId) (b : Bool) → g y ≡ outcome_is.Run m → list_all (λ row. runs m row.1) (rows_of g xs) ≡ b → (if b then Direct (outcome_is.Run m) else table_or_mega table.Virtual ((y, outcome_is.Run m) ∷ rows_of g xs)) ≡ Direct o → g x ≡ o
+    by_same : (m : MethodId) (b : Bool) → g y ≡ outcome_is.Run m → list_all (λ row. runs m row.1) (rows_of g xs) ≡ b
+        → (if b then Direct (outcome_is.Run m) else table_or_mega table.Virtual ((y, outcome_is.Run m) ∷ rows_of g xs)) ≡ Direct o → g x ≡ o
     by_same m true is all e =
         let found : g x ≡ outcome_is.Run m = elim (or_cases (y == x) (list_any (λ y. y == x) xs) k) [
           | inl same ↦ sym (ap g ((Decides-eqb y x).0 same)) ∙ is
@@ -259,16 +275,20 @@ direct_shown o g x (y ∷ xs) e k = by_first (g y) refl e
     by_first (outcome_is.Throws t) is e = absurd (no_table (nat_le (length ((y, outcome_is.Throws t) ∷ rows_of g xs)) 8) ((y, outcome_is.Throws t) ∷ rows_of g xs) e)
     by_first (outcome_is.Run m) is e = by_same m (list_all (λ row. runs m row.1) (rows_of g xs)) is refl e
 
-direct_outcome : (cs : Classes) (selector : Selector) (d named : ℕ) (ref : Reference (List ℕ)) (m : MethodId) (x : ℕ) (o : Outcome) → link_by cs (invocation selector d named ref m) selector ≡ Direct o → is_receiver cs (invocation selector d named ref m) x ≡ true → outcome cs (invocation selector d named ref m) x ≡ o
+direct_outcome : (cs : Classes) (selector : Selector) (d named : ℕ) (ref : Reference (List ℕ)) (m : MethodId) (x : ℕ) (o : Outcome)
+    → link_by cs (invocation selector d named ref m) selector ≡ Direct o → is_receiver cs (invocation selector d named ref m) x ≡ true
+    → outcome cs (invocation selector d named ref m) x ≡ o
 direct_outcome cs ByVirtual d named ref m x o e h = by_private (is_private cs m) refl e
   where
     both : (is_concrete cs x ≡ true) × (is_ancestor cs named x ≡ true)
-    both = and_both (is_concrete cs x) (is_ancestor cs named x) h
+    both = and_parts (is_concrete cs x) (is_ancestor cs named x) h
 
     direct_same : (a b : Outcome) → Direct a ≡ Direct b → a ≡ b
     direct_same a b e = cc
 
-    by_private : (b : Bool) → is_private cs m ≡ b → (if b then Direct (virtual_outcome cs named m) else virtual_link (table_rows cs (invocation ByVirtual d named ref m))) ≡ Direct o → virtual_outcome cs x m ≡ o
+    by_private : (b : Bool) → is_private cs m ≡ b
+        → (if b then Direct (virtual_outcome cs named m) else virtual_link (table_rows cs (invocation ByVirtual d named ref m))) ≡ Direct o
+        → virtual_outcome cs x m ≡ o
     by_private true is e =
         ap (λ (b : Bool). ending cs (if b then Picked m else chosen_of cs x m (method_at cs m))) is
         ∙ sym (ap (λ (b : Bool). ending cs (if b then Picked m else chosen_of cs named m (method_at cs m))) is)
@@ -289,7 +309,8 @@ direct_outcome cs BySpecial d named ref m x o e h = direct_same (special_outcome
 pub null_is_thrown : (w : World) (s : ℕ) (i : Invocation) → stage w s ≡ Selects i → dispatch w s Null ≡ answer.Throws NullPointerException
 null_is_thrown w s i e = ap (λ (st : Stage). answer_of w.classes st Null) e
 
-pub table_answers : (w : World) (s x : ℕ) (k : TableKind) (rows : List (ℕ × Outcome)) → scratch w s ≡ Ok (Table k rows) → is_concrete w.classes x ≡ true → dispatch w s (Of x) ≡ entry_answer k (find (row_is x) rows)
+pub table_answers : (w : World) (s x : ℕ) (k : TableKind) (rows : List (ℕ × Outcome)) → scratch w s ≡ Ok (Table k rows) → is_concrete w.classes x ≡ true
+    → dispatch w s (Of x) ≡ entry_answer k (find (row_is x) rows)
 table_answers w s x k rows e h = by_stage (stage w s) e
   where
     by_stage : (st : Stage) → link_of w.classes st ≡ Ok (Table k rows) → answer_of w.classes st (Of x) ≡ entry_answer k (find (row_is x) rows)
@@ -298,7 +319,8 @@ table_answers w s x k rows e h = by_stage (stage w s) e
     by_stage (Calls m) e = cc
     by_stage (Selects i) e = table_call w.classes i.selector i.caller i.named i.ref i.method x k rows (ok_same (link_by w.classes i i.selector) (Table k rows) e) h
 
-pub direct_answers : (w : World) (s x : ℕ) (i : Invocation) (o : Outcome) → stage w s ≡ Selects i → scratch w s ≡ Ok (Direct o) → is_receiver w.classes i x ≡ true → dispatch w s (Of x) ≡ answered o
+pub direct_answers : (w : World) (s x : ℕ) (i : Invocation) (o : Outcome) → stage w s ≡ Selects i → scratch w s ≡ Ok (Direct o)
+    → is_receiver w.classes i x ≡ true → dispatch w s (Of x) ≡ answered o
 direct_answers w s x i o is e h =
     let link : link_by w.classes i i.selector ≡ Direct o = ok_same (link_by w.classes i i.selector) (Direct o) (sym (ap (link_of w.classes) is) ∙ e) in
     ap (λ (st : Stage). answer_of w.classes st (Of x)) is

@@ -1,15 +1,17 @@
 -- The tests of ancestors and of superclasses say what they are to say, where parents come first.
-use Rattle.std.specs.Prelude.{◌≡◌, ℕ, zero, suc, ◌+◌, ◌<◌, ◌≤◌, ◌==◌, Bool, true, false, ◌||◌, not, List, [], ◌∷◌, ◌++◌, slice_get, Option, Some, None, option_to_list, Decides}
+use Rattle.std.specs.Prelude.{◌≡◌, ℕ, zero, suc, ◌+◌, ◌<◌, ◌≤◌, ◌==◌, Bool, true, false, ◌||◌, not, List, [], ◌∷◌, ◌++◌}
+use Rattle.std.specs.Prelude.{slice_get, Option, Some, None, option_to_list, Decides}
 use Rattle.std.specs.List.{AllByRecursion, list_any}
 use Rattle.std.specs.Option.{option_map_or}
 use Rattle.std.proofs.Common.{refl, ap, sym, subst, ◌∙◌, arith, add-one, inl, inr}
 use Rattle.std.proofs.lemmas.Bool.Decides.{Decides-eqb}
 use Rattle.std.proofs.lemmas.List.Elements.{recursion_from_All}
 use Rattle.std.proofs.Math.Arith.{lt_of_le-ne}
+use Rattle.std.proofs.lemmas.Bool.{or_right, or_cases, and_parts, both_ways}
+use Rattle.std.proofs.lemmas.Cmp.{nat_eq_equiv}
+use Rattle.std.proofs.lemmas.Option.{same_Some}
 use Rattle.jl_types.specs.World.{Class, Classes}
 use Rattle.jl_types.specs.Ancestry.{parents, IsAncestor, itself, over, is_ancestor_within, is_ancestor, superclasses_within, superclasses, is_subclass, is_proper_subclass, AreOrdered}
-use Rattle.jl_types.proofs.Bools.{or_right, or_cases, and_both, same_number, clash}
-use Rattle.jl_types.proofs.Lists.{some_same}
 
 -- ---- ancestors
 
@@ -27,7 +29,7 @@ record Member (f : ℕ → Bool) (ps : List ℕ) : Type 0 where
 member : (f : ℕ → Bool) (ps : List ℕ) → list_any f ps ≡ true → Member f ps
 member f [] h = cc
 member f (p ∷ ps) h = elim (or_cases (f p) (list_any f ps) h) [
-  | inl is ↦ record { number = p; among = ap (λ (b : Bool). b || list_any (λ q. p == q) ps) (same_number p); passes = is }
+  | inl is ↦ record { number = p; among = ap (λ (b : Bool). b || list_any (λ q. p == q) ps) (nat_eq_equiv.refl p); passes = is }
   | inr more ↦ behind f p ps (member f ps more)
 ]
   where
@@ -42,7 +44,8 @@ any_of f p (q ∷ ps) h m = elim (or_cases (p == q) (list_any (λ q. p == q) ps)
 ]
 
 module _ (rows : List Class) (a : ℕ) where
-  here_or : (n x : ℕ) → ((p : ℕ) → is_ancestor_within n rows a p ≡ true → IsAncestor rows a p) → (row : Class) → slice_get rows x ≡ Some row → (b : Bool) → (a == x) ≡ b → (b || list_any (is_ancestor_within n rows a) (parents row)) ≡ true → IsAncestor rows a x
+  here_or : (n x : ℕ) → ((p : ℕ) → is_ancestor_within n rows a p ≡ true → IsAncestor rows a p) → (row : Class) → slice_get rows x ≡ Some row
+      → (b : Bool) → (a == x) ≡ b → (b || list_any (is_ancestor_within n rows a) (parents row)) ≡ true → IsAncestor rows a x
   here_or n x ih row e true is h =
       let same : a ≡ x = (Decides-eqb a x).0 is in
       subst (λ y. IsAncestor rows a y) same (itself (ap (slice_get rows) same ∙ e))
@@ -50,7 +53,8 @@ module _ (rows : List Class) (a : ℕ) where
       let r = member (is_ancestor_within n rows a) (parents row) h in
       over e r.among (ih r.number r.passes)
 
-  at_row : (n x : ℕ) → ((p : ℕ) → is_ancestor_within n rows a p ≡ true → IsAncestor rows a p) → (row : Option Class) → slice_get rows x ≡ row → option_map_or (λ r. (a == x) || list_any (is_ancestor_within n rows a) (parents r)) row false ≡ true → IsAncestor rows a x
+  at_row : (n x : ℕ) → ((p : ℕ) → is_ancestor_within n rows a p ≡ true → IsAncestor rows a p) → (row : Option Class) → slice_get rows x ≡ row
+      → option_map_or (λ r. (a == x) || list_any (is_ancestor_within n rows a) (parents r)) row false ≡ true → IsAncestor rows a x
   at_row n x ih None e h = cc
   at_row n x ih (Some row) e h = here_or n x ih row e (a == x) refl h
 
@@ -59,7 +63,8 @@ module _ (rows : List Class) (a : ℕ) where
   sound (suc n) x h = at_row n x (sound n) (slice_get rows x) refl h
 
 module _ (rows : List Class) (o : AreOrdered rows) (a : ℕ) where
-  alike_at : (f g : ℕ → Bool) (c : ℕ) → ((p : ℕ) → p < c → f p ≡ g p) → (row : Option Class) → slice_get rows c ≡ row → option_map_or (λ r. (a == c) || list_any f (parents r)) row false ≡ option_map_or (λ r. (a == c) || list_any g (parents r)) row false
+  alike_at : (f g : ℕ → Bool) (c : ℕ) → ((p : ℕ) → p < c → f p ≡ g p) → (row : Option Class) → slice_get rows c ≡ row
+      → option_map_or (λ r. (a == c) || list_any f (parents r)) row false ≡ option_map_or (λ r. (a == c) || list_any g (parents r)) row false
   alike_at f g c h None e = refl
   alike_at f g c h (Some row) e = ap (λ (b : Bool). (a == c) || b) (any_alike f g c h (parents row) (recursion_from_All (λ p. p < c) (parents row) (o c row e)))
 
@@ -71,17 +76,24 @@ module _ (rows : List Class) (o : AreOrdered rows) (a : ℕ) where
 
   -- a is an ancestor of c where it is c or one of a parent
   above_is : (c : ℕ) (row : Class) → slice_get rows c ≡ Some row → is_ancestor_within (c + 1) rows a c ≡ ((a == c) || list_any (λ p. is_ancestor_within (p + 1) rows a p) (parents row))
-  above_is c row e = rw (add-one c, e) (ap (λ (b : Bool). (a == c) || b) (any_alike (is_ancestor_within c rows a) (λ p. is_ancestor_within (p + 1) rows a p) c (λ p lt. enough c (p + 1) p lt (omega arith)) (parents row) (recursion_from_All (λ p. p < c) (parents row) (o c row e))))
+  above_is c row e =
+      rw (add-one c, e)
+      (ap (λ (b : Bool). (a == c) || b)
+      (any_alike (is_ancestor_within c rows a) (λ p. is_ancestor_within (p + 1) rows a p) c (λ p lt. enough c (p + 1) p lt (omega arith)) (parents row)
+      (recursion_from_All (λ p. p < c) (parents row) (o c row e))))
 
   complete : {x : ℕ} → IsAncestor rows a x → is_ancestor_within (x + 1) rows a x ≡ true
-  complete (itself {row = row} e) = above_is a row e ∙ ap (λ (b : Bool). b || list_any (λ p. is_ancestor_within (p + 1) rows a p) (parents row)) (same_number a)
-  complete (over {x = x} {p = p} {row = row} e m r) = above_is x row e ∙ or_right (a == x) (list_any (λ p. is_ancestor_within (p + 1) rows a p) (parents row)) (any_of (λ p. is_ancestor_within (p + 1) rows a p) p (parents row) (complete r) m)
+  complete (itself {row = row} e) = above_is a row e ∙ ap (λ (b : Bool). b || list_any (λ p. is_ancestor_within (p + 1) rows a p) (parents row)) (nat_eq_equiv.refl a)
+  complete (over {x = x} {p = p} {row = row} e m r) =
+      above_is x row e
+      ∙ or_right (a == x) (list_any (λ p. is_ancestor_within (p + 1) rows a p) (parents row))
+      (any_of (λ p. is_ancestor_within (p + 1) rows a p) p (parents row) (complete r) m)
 
 pub ancestor_decides : (cs : Classes) → AreOrdered cs.rows → (a x : ℕ) → Decides (is_ancestor cs a x) (IsAncestor cs.rows a x)
 ancestor_decides cs o a x = (sound cs.rows a (x + 1) x, complete cs.rows o a)
 
 pub among_itself : (cs : Classes) (c : ℕ) (row : Class) → slice_get cs.rows c ≡ Some row → is_ancestor cs c c ≡ true
-among_itself cs c row e = rw (add-one c, e, same_number c) refl
+among_itself cs c row e = rw (add-one c, e, nat_eq_equiv.refl c) refl
 
 onward : (rows : List Class) (a b : ℕ) → IsAncestor rows a b → {c : ℕ} → IsAncestor rows b c → IsAncestor rows a c
 onward rows a b r (itself e) = r
@@ -94,17 +106,19 @@ of_ancestors cs o a b c h k = (ancestor_decides cs o a c).1 (onward cs.rows a b 
 
 first_of_all : (P : ℕ → Type 0) (o : Option ℕ) (ps : List ℕ) (s : ℕ) → o ≡ Some s → AllByRecursion P (option_to_list o ++ ps) → P s
 first_of_all P None ps s e h = cc
-first_of_all P (Some q) ps s e h = subst P (some_same q s e) h.0
+first_of_all P (Some q) ps s e h = subst P (same_Some q s e) h.0
 
 module _ (rows : List Class) (o : AreOrdered rows) where
   pub superclass_below : (c : ℕ) (row : Class) → slice_get rows c ≡ Some row → (s : ℕ) → row.superclass ≡ Some s → s < c
   superclass_below c row e s is = first_of_all (λ p. p < c) row.superclass row.interfaces s is (recursion_from_All (λ p. p < c) (parents row) (o c row e))
 
-  next_alike : (f g : ℕ → List ℕ) (c : ℕ) → ((p : ℕ) → p < c → f p ≡ g p) → (row : Class) → slice_get rows c ≡ Some row → (s : Option ℕ) → row.superclass ≡ s → option_map_or f s [] ≡ option_map_or g s []
+  next_alike : (f g : ℕ → List ℕ) (c : ℕ) → ((p : ℕ) → p < c → f p ≡ g p) → (row : Class) → slice_get rows c ≡ Some row → (s : Option ℕ)
+      → row.superclass ≡ s → option_map_or f s [] ≡ option_map_or g s []
   next_alike f g c h row e None is = refl
   next_alike f g c h row e (Some s) is = h s (superclass_below c row e s is)
 
-  chain_at : (f g : ℕ → List ℕ) (c : ℕ) → ((p : ℕ) → p < c → f p ≡ g p) → (row : Option Class) → slice_get rows c ≡ row → option_map_or (λ r. c ∷ option_map_or f r.superclass []) row [] ≡ option_map_or (λ r. c ∷ option_map_or g r.superclass []) row []
+  chain_at : (f g : ℕ → List ℕ) (c : ℕ) → ((p : ℕ) → p < c → f p ≡ g p) → (row : Option Class) → slice_get rows c ≡ row
+      → option_map_or (λ r. c ∷ option_map_or f r.superclass []) row [] ≡ option_map_or (λ r. c ∷ option_map_or g r.superclass []) row []
   chain_at f g c h None e = refl
   chain_at f g c h (Some row) e = ap (λ (xs : List ℕ). c ∷ xs) (next_alike f g c h row e row.superclass refl)
 
@@ -115,13 +129,21 @@ module _ (rows : List Class) (o : AreOrdered rows) where
 
   -- a class, and its superclass's chain
   pub chain_is : (c : ℕ) (row : Class) → slice_get rows c ≡ Some row → superclasses_within (c + 1) rows c ≡ c ∷ option_map_or (λ s. superclasses_within (s + 1) rows s) row.superclass []
-  chain_is c row e = rw (add-one c, e) (ap (λ (xs : List ℕ). c ∷ xs) (next_alike (superclasses_within c rows) (λ s. superclasses_within (s + 1) rows s) c (λ p lt. chain_enough c (p + 1) p lt (omega arith)) row e row.superclass refl))
+  chain_is c row e =
+      rw (add-one c, e)
+      (ap (λ (xs : List ℕ). c ∷ xs)
+      (next_alike (superclasses_within c rows) (λ s. superclasses_within (s + 1) rows s) c (λ p lt. chain_enough c (p + 1) p lt (omega arith)) row e
+      row.superclass refl))
 
-  above_next : (n c : ℕ) (y : ℕ) → ((p : ℕ) → list_any (λ k. k == y) (superclasses_within n rows p) ≡ true → y ≤ p) → (row : Class) → slice_get rows c ≡ Some row → (s : Option ℕ) → row.superclass ≡ s → list_any (λ k. k == y) (option_map_or (superclasses_within n rows) s []) ≡ true → y ≤ c
+  above_next : (n c : ℕ) (y : ℕ) → ((p : ℕ) → list_any (λ k. k == y) (superclasses_within n rows p) ≡ true → y ≤ p) → (row : Class)
+      → slice_get rows c ≡ Some row → (s : Option ℕ) → row.superclass ≡ s
+      → list_any (λ k. k == y) (option_map_or (superclasses_within n rows) s []) ≡ true → y ≤ c
   above_next n c y ih row e None is h = cc
   above_next n c y ih row e (Some s) is h = let lt = superclass_below c row e s is in let le = ih s h in omega arith
 
-  above_at : (n c : ℕ) (y : ℕ) → ((p : ℕ) → list_any (λ k. k == y) (superclasses_within n rows p) ≡ true → y ≤ p) → (row : Option Class) → slice_get rows c ≡ row → list_any (λ k. k == y) (option_map_or (λ r. c ∷ option_map_or (superclasses_within n rows) r.superclass []) row []) ≡ true → y ≤ c
+  above_at : (n c : ℕ) (y : ℕ) → ((p : ℕ) → list_any (λ k. k == y) (superclasses_within n rows p) ≡ true → y ≤ p) → (row : Option Class)
+      → slice_get rows c ≡ row → list_any (λ k. k == y) (option_map_or (λ r. c ∷ option_map_or (superclasses_within n rows) r.superclass []) row []) ≡ true
+      → y ≤ c
   above_at n c y ih None e h = cc
   above_at n c y ih (Some row) e h = elim (or_cases (c == y) (list_any (λ k. k == y) (option_map_or (superclasses_within n rows) row.superclass [])) h) [
     | inl is ↦ (let same : c ≡ y = (Decides-eqb c y).0 is in omega arith)
@@ -135,13 +157,14 @@ module _ (rows : List Class) (o : AreOrdered rows) where
 
 pub subclass_above : (cs : Classes) → AreOrdered cs.rows → (x y : ℕ) → is_proper_subclass cs x y ≡ true → y < x
 subclass_above cs o x y h =
-    let both = and_both (not (x == y)) (is_subclass cs x y) h in
+    let both = and_parts (not (x == y)) (is_subclass cs x y) h in
     let le = chain_below cs.rows o (x + 1) x y both.1 in
     strict x y le both.0 (x == y) refl
   where
     strict : (x y : ℕ) → y ≤ x → not (x == y) ≡ true → (b : Bool) → (x == y) ≡ b → y < x
-    strict x y le h true e = absurd (let k : not (x == y) ≡ false = ap not e in clash (not (x == y)) h k)
-    strict x y le h false e = lt_of_le-ne le (λ same. clash (x == y) ((Decides-eqb x y).1 (sym same)) e)
+    strict x y le h true e = absurd (let k : not (x == y) ≡ false = ap not e in both_ways (not (x == y)) k h)
+    strict x y le h false e = lt_of_le-ne le (λ same. both_ways (x == y) e ((Decides-eqb x y).1 (sym same)))
 
-pub superclasses_is : (cs : Classes) → AreOrdered cs.rows → (c : ℕ) (row : Class) → slice_get cs.rows c ≡ Some row → superclasses cs c ≡ c ∷ option_map_or (superclasses cs) row.superclass []
+pub superclasses_is : (cs : Classes) → AreOrdered cs.rows → (c : ℕ) (row : Class) → slice_get cs.rows c ≡ Some row
+    → superclasses cs c ≡ c ∷ option_map_or (superclasses cs) row.superclass []
 superclasses_is cs o c row e = chain_is cs.rows o c row e

@@ -1,47 +1,14 @@
 -- Tests put together, and tests over lists.
-use Rattle.std.specs.Prelude.{◌≡◌, ℕ, zero, suc, ◌+◌, ◌<◌, ◌≤◌, ◌==◌, ◌⊎◌, nat_le, Bool, true, false, not, cond, ◌&&◌, ◌||◌, List, [], ◌∷◌, map, filter}
+use Rattle.std.specs.Prelude.{◌≡◌, ℕ, zero, suc, ◌+◌, ◌<◌, ◌≤◌, ◌==◌, ◌⊎◌, Bool, true, false, cond, ◌||◌, List, [], ◌∷◌, map, filter}
 use Rattle.std.specs.List.{list_any, range_with_len}
 use Rattle.std.proofs.Common.{refl, ap, ◌∙◌, arith, inl, inr}
-use Rattle.std.proofs.lemmas.Bool.Decides.{Decides-eqb, leb_tells}
+use Rattle.std.proofs.lemmas.Bool.{or_right, or_left, or_cases, both_ways}
+use Rattle.std.proofs.lemmas.Bool.Decides.{Decides-eqb}
 use Rattle.std.proofs.Math.Arith.{lt_of_le-ne}
-
-pub or_right : (a b : Bool) → b ≡ true → (a || b) ≡ true
-or_right true b h = refl
-or_right false b h = h
-
-pub or_left : (a b : Bool) → a ≡ true → (a || b) ≡ true
-or_left true b h = refl
-or_left false b h = cc
-
-pub or_cases : (a b : Bool) → (a || b) ≡ true → (a ≡ true) ⊎ (b ≡ true)
-or_cases true b h = inl refl
-or_cases false b h = inr h
-
-pub and_both : (a b : Bool) → (a && b) ≡ true → (a ≡ true) × (b ≡ true)
-and_both true b h = (refl, h)
-and_both false b h = cc
-
-pub both_and : (a b : Bool) → a ≡ true → b ≡ true → (a && b) ≡ true
-both_and true b h k = k
-both_and false b h k = cc
 
 pub or_none : (b : Bool) → (b || false) ≡ b
 or_none true = refl
 or_none false = refl
-
-pub not_true : (b : Bool) → not b ≡ true → b ≡ false
-not_true true h = cc
-not_true false h = refl
-
-pub not_false : (b : Bool) → not b ≡ false → b ≡ true
-not_false true h = refl
-not_false false h = cc
-
-pub clash : (b : Bool) → b ≡ true → b ≡ false → ⊥
-clash b h k = cc
-
-pub same_number : (n : ℕ) → (n == n) ≡ true
-same_number n = (Decides-eqb n n).1 refl
 
 -- an element of a list that passes both tests
 pub record Passing {A : Type 0} (p f : A → Bool) : Type 0 where
@@ -54,11 +21,13 @@ pub any-filter : {A : Type 0} (p f : A → Bool) (xs : List A) → list_any f (f
 any-filter p f [] h = cc
 any-filter p f (x ∷ xs) h = by_test p f x xs (p x) refl h (any-filter p f xs)
   where
-    here_or : {A : Type 0} (p f : A → Bool) (x : A) (xs : List A) → p x ≡ true → (f x ≡ true) ⊎ (list_any f (filter p xs) ≡ true) → (list_any f (filter p xs) ≡ true → Passing p f) → Passing p f
+    here_or : {A : Type 0} (p f : A → Bool) (x : A) (xs : List A) → p x ≡ true → (f x ≡ true) ⊎ (list_any f (filter p xs) ≡ true)
+        → (list_any f (filter p xs) ≡ true → Passing p f) → Passing p f
     here_or p f x xs e (inl is) rest = record { item = x; meets = e; passes = is }
     here_or p f x xs e (inr more) rest = rest more
 
-    by_test : {A : Type 0} (p f : A → Bool) (x : A) (xs : List A) (b : Bool) → p x ≡ b → list_any f (cond b (x ∷ filter p xs) (filter p xs)) ≡ true → (list_any f (filter p xs) ≡ true → Passing p f) → Passing p f
+    by_test : {A : Type 0} (p f : A → Bool) (x : A) (xs : List A) (b : Bool) → p x ≡ b → list_any f (cond b (x ∷ filter p xs) (filter p xs)) ≡ true
+        → (list_any f (filter p xs) ≡ true → Passing p f) → Passing p f
     by_test p f x xs true e h rest = here_or p f x xs e (or_cases (f x) (list_any f (filter p xs)) h) rest
     by_test p f x xs false e h rest = rest h
 
@@ -74,7 +43,8 @@ any-filter-at p f y (x ∷ xs) m h k = by_place p f y x xs (x == y) refl m h k (
     more_or p f x xs true e h = or_right (f x) (list_any f (filter p xs)) h
     more_or p f x xs false e h = h
 
-    by_place : (p f : ℕ → Bool) (y x : ℕ) (xs : List ℕ) (b : Bool) → (x == y) ≡ b → (b || list_any (λ x. x == y) xs) ≡ true → p y ≡ true → f y ≡ true → (list_any (λ x. x == y) xs ≡ true → list_any f (filter p xs) ≡ true) → list_any f (filter p (x ∷ xs)) ≡ true
+    by_place : (p f : ℕ → Bool) (y x : ℕ) (xs : List ℕ) (b : Bool) → (x == y) ≡ b → (b || list_any (λ x. x == y) xs) ≡ true → p y ≡ true
+        → f y ≡ true → (list_any (λ x. x == y) xs ≡ true → list_any f (filter p xs) ≡ true) → list_any f (filter p (x ∷ xs)) ≡ true
     by_place p f y x xs true e m h k rest = found p f y x xs ((Decides-eqb x y).0 e) h k
     by_place p f y x xs false e m h k rest = more_or p f x xs (p x) refl (rest m)
 
@@ -94,12 +64,7 @@ any-range-from f a (suc n) i h k is = by_place f a n i (a == i) refl h k is (λ 
     above : (a i : ℕ) → a ≤ i → a < i → a + 1 ≤ i
     above a i h k = omega arith
 
-    by_place : (f : ℕ → Bool) (a n i : ℕ) (b : Bool) → (a == i) ≡ b → a ≤ i → i < a + suc n → f i ≡ true → (a + 1 ≤ i → list_any f (range_with_len (a + 1) n) ≡ true) → list_any f (range_with_len a (suc n)) ≡ true
+    by_place : (f : ℕ → Bool) (a n i : ℕ) (b : Bool) → (a == i) ≡ b → a ≤ i → i < a + suc n → f i ≡ true
+        → (a + 1 ≤ i → list_any f (range_with_len (a + 1) n) ≡ true) → list_any f (range_with_len a (suc n)) ≡ true
     by_place f a n i true e h k is rest = or_left (f a) (list_any f (range_with_len (a + 1) n)) (ap f ((Decides-eqb a i).0 e) ∙ is)
-    by_place f a n i false e h k is rest = or_right (f a) (list_any f (range_with_len (a + 1) n)) (rest (above a i h (lt_of_le-ne h (λ same. clash (a == i) ((Decides-eqb a i).1 same) e))))
-
-pub below : (n m : ℕ) → nat_le n m ≡ false → m < n
-below n m e = elim (leb_tells n m) [ inl p ↦ absurd (clash (nat_le n m) p.0 e) | inr p ↦ p.1 ]
-
-pub not_le : (n m : ℕ) → m < n → nat_le n m ≡ false
-not_le n m h = elim (leb_tells n m) [ inl p ↦ absurd (let q = p.1 in omega arith) | inr p ↦ p.0 ]
+    by_place f a n i false e h k is rest = or_right (f a) (list_any f (range_with_len (a + 1) n)) (rest (above a i h (lt_of_le-ne h (λ same. both_ways (a == i) e ((Decides-eqb a i).1 same)))))

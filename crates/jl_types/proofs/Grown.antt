@@ -1,18 +1,21 @@
 -- What one class more leaves as it is: the ancestors of the others, and the receivers among them.
-use Rattle.std.specs.Prelude.{◌≡◌, ℕ, zero, suc, ◌+◌, ◌<◌, ◌≤◌, ◌==◌, Bool, true, false, ◌||◌, ◌&&◌, is_some, List, [], ◌∷◌, ◌++◌, length, filter, slice_get, Option, Some, None, if◌then◌else◌}
+use Rattle.std.specs.Prelude.{◌≡◌, ℕ, zero, suc, ◌+◌, ◌<◌, ◌≤◌, ◌==◌, Bool, true, false, ◌||◌, ◌&&◌, is_some, List, [], ◌∷◌}
+use Rattle.std.specs.Prelude.{◌++◌, length, filter, slice_get, Option, Some, None, if◌then◌else◌}
 use Rattle.std.specs.List.{AllByRecursion, list_any, range_with_len}
 use Rattle.std.specs.Option.{option_map_or}
 use Rattle.std.specs.Bool.{one_answer}
 use Rattle.std.proofs.Common.{refl, ap, sym, subst, ◌∙◌, arith, inl, inr, length-append}
 use Rattle.std.proofs.lemmas.Bool.Decides.{Decides-eqb}
 use Rattle.std.proofs.lemmas.List.Elements.{recursion_from_All, filter-append}
+use Rattle.std.proofs.lemmas.Bool.{or_cases}
+use Rattle.std.proofs.lemmas.Cmp.{nat_eq_equiv}
 use Rattle.jl_classfile.specs.Class.{ClassFile}
 use Rattle.jl_types.specs.World.{Class, Classes}
-use Rattle.jl_types.specs.Members.{is_concrete, is_concrete_row, numbers}
-use Rattle.jl_types.specs.Ancestry.{parents, is_parent, AreOrdered, IsAncestor, itself, over, is_ancestor_within, is_ancestor, ancestors, receivers}
+use Rattle.jl_types.specs.Members.{is_concrete, is_concrete_row}
+use Rattle.jl_types.specs.Ancestry.{parents, AreOrdered, IsAncestor, itself, over, is_ancestor_within, is_ancestor, ancestors, receivers}
 use Rattle.jl_types.specs.Definitions.{class_made, defined}
-use Rattle.jl_types.proofs.Bools.{or_cases, and_both, both_and, same_number, Passing, any-filter, any-filter-at, any-range-from}
-use Rattle.jl_types.proofs.Lists.{before_end, is_within, range_end}
+use Rattle.jl_types.proofs.Bools.{any-filter, any-filter-at, any-range-from}
+use Rattle.jl_types.proofs.Lists.{before_end, range_end}
 use Rattle.jl_types.proofs.Ancestors.{any_alike, ancestor_decides}
 
 -- ---- the list of ancestors
@@ -44,7 +47,7 @@ among_ancestors cs o a c = one_answer (is_ancestor cs a c) (list_any (λ k. k ==
     unlisted h =
         let le = above cs.rows o a ((ancestor_decides cs o a c).0 h) in
         any-filter-at (λ k. is_ancestor_within (c + 1) cs.rows k c) (λ k. k == a) a (range_with_len 0 (c + 1))
-        (any-range-from (λ k. k == a) 0 (c + 1) a (omega arith) (omega arith) (same_number a)) h (same_number a)
+        (any-range-from (λ k. k == a) 0 (c + 1) a (omega arith) (omega arith) (nat_eq_equiv.refl a)) h (nat_eq_equiv.refl a)
 
 -- ---- one class more
 
@@ -52,9 +55,15 @@ module _ (rows : List Class) (o : AreOrdered rows) (row : Class) where
   abbrev more : List Class
   more = rows ++ row ∷ []
 
-  old_row : (a n c : ℕ) → ((p : ℕ) → p < length rows → is_ancestor_within n more a p ≡ is_ancestor_within n rows a p) → c < length rows → (r : Option Class) → slice_get rows c ≡ r → option_map_or (λ r. (a == c) || list_any (is_ancestor_within n more a) (parents r)) r false ≡ option_map_or (λ r. (a == c) || list_any (is_ancestor_within n rows a) (parents r)) r false
+  old_row : (a n c : ℕ) → ((p : ℕ) → p < length rows → is_ancestor_within n more a p ≡ is_ancestor_within n rows a p) → c < length rows
+      → (r : Option Class) → slice_get rows c ≡ r
+      → option_map_or (λ r. (a == c) || list_any (is_ancestor_within n more a) (parents r)) r false
+      ≡ option_map_or (λ r. (a == c) || list_any (is_ancestor_within n rows a) (parents r)) r false
   old_row a n c ih lt None e = refl
-  old_row a n c ih lt (Some r) e = ap (λ (b : Bool). (a == c) || b) (any_alike (is_ancestor_within n more a) (is_ancestor_within n rows a) c (λ p below. ih p (omega arith)) (parents r) (recursion_from_All (λ p. p < c) (parents r) (o c r e)))
+  old_row a n c ih lt (Some r) e =
+      ap (λ (b : Bool). (a == c) || b)
+      (any_alike (is_ancestor_within n more a) (is_ancestor_within n rows a) c (λ p below. ih p (omega arith)) (parents r)
+      (recursion_from_All (λ p. p < c) (parents r) (o c r e)))
 
   pub old_within : (a n c : ℕ) → c < length rows → is_ancestor_within n more a c ≡ is_ancestor_within n rows a c
   old_within a zero c lt = refl

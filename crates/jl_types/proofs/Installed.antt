@@ -1,43 +1,51 @@
 -- The test of History says what its relation says.
-use Rattle.std.specs.Prelude.{◌≡◌, ℕ, ◌+◌, ◌<◌, ◌≤◌, ◌⊎◌, ◌||◌, nat_le, Bool, true, false, List, length, Some, None, Ok, Err, Result, if◌then◌else◌}
+use Rattle.std.specs.Prelude.{◌≡◌, ℕ, ◌+◌, ◌<◌, ◌≤◌, ◌⊎◌, ◌||◌, nat_le, Bool, true, List, length, Some, None, Ok, Err, Result, if◌then◌else◌}
 use Rattle.std.proofs.Common.{refl, ap, sym, ◌∙◌, arith, inl, inr, Decides, subst}
 use Rattle.std.proofs.lemmas.Bool.Decides.{Decides-below_and, Decides-below_or, Decides-and, Decides-or, Decides-like, leb_tells}
 use Rattle.std.proofs.Math.Seq.{take-length}
+use Rattle.std.proofs.lemmas.Bool.{cases_lt}
+use Rattle.std.proofs.lemmas.Option.{cond_some}
 use Rattle.jl_types.specs.declared.link.Link.{Link}
 use Rattle.jl_types.specs.declared.answer.Unlinked.{Unlinked}
 use Rattle.jl_types.specs.declared.event.Event.{Event}
 use Rattle.jl_types.specs.Means.SameLink.{same_link, link_decides}
 use Rattle.jl_types.specs.Links.{scratch}
 use Rattle.jl_types.specs.History.{Settled, installed_at, scratch_after, world_after, is_link, all_below, any_below, settled_since, settled, installed, installed_of}
-use Rattle.jl_types.proofs.Settling.{within, le_or_lt}
+use Rattle.jl_types.proofs.Settling.{within}
+
+le_decides : (n m : ℕ) → Decides (nat_le n m) (n ≤ m)
+le_decides n m = elim (leb_tells n m) [ inl p ↦ (λ e. p.1, λ h. p.0) | inr p ↦ (λ e. cc, λ h. absurd (omega arith)) ]
 
 pub is_link_decides : (r : Result Link Unlinked) (l : Link) → Decides (is_link r l) (r ≡ Ok l)
 is_link_decides (Ok now) l = Decides-like (same_link now l) (ap Ok) (λ e. cc) (link_decides now l)
 is_link_decides (Err reason) l = (λ e. cc, λ e. cc)
 
-le_decides : (n m : ℕ) → Decides (nat_le n m) (n ≤ m)
-le_decides n m = elim (leb_tells n m) [ inl p ↦ (λ e. p.1, λ h. p.0) | inr p ↦ (λ e. cc, λ h. absurd (omega arith)) ]
-
-picked : (b : Bool) (now l : Link) → (if b then Some now else None) ≡ Some l → (b ≡ true) × (now ≡ l)
-picked true now l e = (refl, cc)
-picked false now l e = cc
-
 module _ (h : List Event) (s : ℕ) (l : Link) where
   since_decides : (since : ℕ) → Decides (settled_since h s l since) ((installed_at h since s ≡ true) × ((n : ℕ) → n < length h + 1 → (n ≤ since) ⊎ (scratch_after h n s ≡ Ok l)))
   since_decides since =
       Decides-and (installed_at h since s) (all_below (λ n. nat_le n since || is_link (scratch_after h n s) l) (length h + 1)) (λ e. e, λ e. e)
-      (Decides-below_and (λ n. nat_le n since || is_link (scratch_after h n s) l) (λ n. (n ≤ since) ⊎ (scratch_after h n s ≡ Ok l)) (all_below (λ n. nat_le n since || is_link (scratch_after h n s) l))
+      (Decides-below_and (λ n. nat_le n since || is_link (scratch_after h n s) l) (λ n. (n ≤ since) ⊎ (scratch_after h n s ≡ Ok l))
+      (all_below (λ n. nat_le n since || is_link (scratch_after h n s) l))
       (λ n. Decides-or (nat_le n since) (is_link (scratch_after h n s) l) (le_decides n since) (is_link_decides (scratch_after h n s) l)) refl (λ n. refl) (length h + 1))
 
   pub settled_decides : Decides (settled h s l) (Settled h s l)
   settled_decides =
-      let some = Decides-below_or (settled_since h s l) (λ since. (installed_at h since s ≡ true) × ((n : ℕ) → n < length h + 1 → (n ≤ since) ⊎ (scratch_after h n s ≡ Ok l))) (any_below (settled_since h s l)) since_decides refl (λ n. refl) (length h) in (
+      let some =
+      Decides-below_or (settled_since h s l)
+      (λ since. (installed_at h since s ≡ true) × ((n : ℕ) → n < length h + 1 → (n ≤ since) ⊎ (scratch_after h n s ≡ Ok l)))
+      (any_below (settled_since h s l)) since_decides refl (λ n. refl) (length h)
+      in (
         λ e. let f = some.0 e in record {
           since = f.0;
           installed = f.2.0;
           stayed = λ n lt le. elim (f.2.1 n (omega arith)) [ inl small ↦ absurd (omega arith) | inr is ↦ is ];
         },
-        λ st. some.1 (st.since, within h s st.since st.installed, (st.installed, λ n lt. elim (le_or_lt n st.since) [ inl small ↦ inl small | inr large ↦ inr (st.stayed n large (omega arith)) ])),
+        λ st.
+            some.1 (
+              st.since,
+              within h s st.since st.installed,
+              (st.installed, λ n lt. elim (cases_lt st.since n) [ inr small ↦ inl small | inl large ↦ inr (st.stayed n large (omega arith)) ]),
+            ),
       )
 
   -- a settled site's link is its link now
@@ -53,7 +61,7 @@ module _ (h : List Event) (s : ℕ) (l : Link) where
   from_now : (r : Result Link Unlinked) → installed_of h s r ≡ Some l → Settled h s l
   from_now (Err reason) e = cc
   from_now (Ok now) e =
-      let p = picked (settled h s now) now l e in
+      let p = cond_some (settled h s now) now l e in
       settled_decides.0 (subst (λ (k : Link). settled h s k ≡ true) p.1 p.0)
 
   pub installed_to : installed h s ≡ Some l → Settled h s l

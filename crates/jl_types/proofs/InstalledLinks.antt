@@ -4,6 +4,7 @@ use Rattle.std.specs.List.{range_with_len, AllByRecursion, cons_option}
 use Rattle.std.proofs.Common.{refl, ap, subst, ◌∙◌, arith, inl, inr}
 use Rattle.std.proofs.lemmas.List.Elements.{All-from_recursion}
 use Rattle.std.proofs.lemmas.List.Kept.{AllPairs-cons}
+use Rattle.std.proofs.lemmas.Option.{same_Some, slice_get_within}
 use Rattle.jl_types.specs.declared.ids.Place.{Place}
 use Rattle.jl_types.specs.declared.link.Link.{Link}
 use Rattle.jl_types.specs.declared.event.Event.{Event}
@@ -11,7 +12,6 @@ use Rattle.jl_types.specs.World.{World}
 use Rattle.jl_types.specs.Sites.{stage_at}
 use Rattle.jl_types.specs.Links.{scratch, link_of}
 use Rattle.jl_types.specs.History.{world_after, installed, installed_links}
-use Rattle.jl_types.proofs.Lists.{some_same, is_within}
 use Rattle.jl_types.proofs.Installed.{installed_to, settled_now}
 
 pub requested : (w : World) (s : ℕ) (l : Link) → scratch w s ≡ Ok l → s < length w.places
@@ -19,7 +19,7 @@ requested w s l e = by_place (slice_get w.places s) refl e
   where
     by_place : (place : Option Place) → slice_get w.places s ≡ place → link_of w.classes (stage_at w s place) ≡ Ok l → s < length w.places
     by_place None is e = cc
-    by_place (Some place) is e = is_within w.places s place is
+    by_place (Some place) is e = slice_get_within w.places s place is
 
 pub installed_requested : (h : List Event) (s : ℕ) (l : Link) → installed h s ≡ Some l → s < length (world_after h).places
 installed_requested h s l e = requested (world_after h) s l (settled_now h s l (installed_to h s l e))
@@ -35,7 +35,8 @@ module _ (f : ℕ → Option Link) where
   above b a zero h = tt
   above b a (suc n) h = by_first (f a) (above b (a + 1) n (omega arith))
     where
-      by_first : (o : Option Link) → AllByRecursion (λ (r : ℕ × Link). b < r.0) (rows (a + 1) n) → AllByRecursion (λ (r : ℕ × Link). b < r.0) (cons_option (option_map (λ l. (a, l)) o) (rows (a + 1) n))
+      by_first : (o : Option Link) → AllByRecursion (λ (r : ℕ × Link). b < r.0) (rows (a + 1) n)
+          → AllByRecursion (λ (r : ℕ × Link). b < r.0) (cons_option (option_map (λ l. (a, l)) o) (rows (a + 1) n))
       by_first None rest = rest
       by_first (Some l) rest = (h, rest)
 
@@ -45,13 +46,16 @@ module _ (f : ℕ → Option Link) where
     where
       by_first : (o : Option Link) → AllPairs (λ r q. r.0 < q.0) (rows (a + 1) n) → AllPairs (λ r q. r.0 < q.0) (cons_option (option_map (λ l. (a, l)) o) (rows (a + 1) n))
       by_first None rest = rest
-      by_first (Some l) rest = AllPairs-cons (λ (r q : ℕ × Link). r.0 < q.0) (a, l) (rows (a + 1) n) (All-from_recursion (λ (r : ℕ × Link). a < r.0) (rows (a + 1) n) (above a (a + 1) n (omega arith))) rest
+      by_first (Some l) rest =
+          AllPairs-cons (λ (r q : ℕ × Link). r.0 < q.0) (a, l) (rows (a + 1) n)
+          (All-from_recursion (λ (r : ℕ × Link). a < r.0) (rows (a + 1) n) (above a (a + 1) n (omega arith))) rest
 
   right : (a n : ℕ) → AllByRecursion (λ (r : ℕ × Link). f r.0 ≡ Some r.1) (rows a n)
   right a zero = tt
   right a (suc n) = by_first (f a) refl (right (a + 1) n)
     where
-      by_first : (o : Option Link) → f a ≡ o → AllByRecursion (λ (r : ℕ × Link). f r.0 ≡ Some r.1) (rows (a + 1) n) → AllByRecursion (λ (r : ℕ × Link). f r.0 ≡ Some r.1) (cons_option (option_map (λ l. (a, l)) o) (rows (a + 1) n))
+      by_first : (o : Option Link) → f a ≡ o → AllByRecursion (λ (r : ℕ × Link). f r.0 ≡ Some r.1) (rows (a + 1) n)
+          → AllByRecursion (λ (r : ℕ × Link). f r.0 ≡ Some r.1) (cons_option (option_map (λ l. (a, l)) o) (rows (a + 1) n))
       by_first None e rest = rest
       by_first (Some l) e rest = (e, rest)
 
@@ -70,7 +74,7 @@ module _ (f : ℕ → Option Link) where
 
       first : (o : Option Link) → o ≡ Some l → a ≡ s → Contains (cons_option (option_map (λ l. (a, l)) o) (rows (a + 1) n)) (s, l)
       first None e same = cc
-      first (Some m) e same = (0, omega arith, λ i. (same i, some_same m l e i))
+      first (Some m) e same = (0, omega arith, λ i. (same i, same_Some m l e i))
 
       later : (o : Option Link) → Contains (rows (a + 1) n) (s, l) → Contains (cons_option (option_map (λ l. (a, l)) o) (rows (a + 1) n)) (s, l)
       later None c = c

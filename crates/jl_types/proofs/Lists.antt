@@ -3,10 +3,8 @@ use Rattle.std.specs.Prelude.{◌≡◌, ℕ, zero, suc, ◌<◌, ◌+◌, Bool,
 use Rattle.std.specs.List.{AllByRecursion, range_with_len}
 use Rattle.std.specs.Option.{option_map_or}
 use Rattle.std.proofs.Common.{refl, ap, sym, subst, ◌∙◌, arith, add-one}
+use Rattle.std.proofs.lemmas.Option.{same_Some}
 use Rattle.std.proofs.Math.Seq.{drop-cons}
-
-pub some_same : {A : Type 0} (a b : A) → Some a ≡ Some b → a ≡ b
-some_same a b e = cc
 
 -- the elements before the one that is added keep their places
 pub before_end : {A : Type 0} (xs : List A) (x : A) (n : ℕ) → n < length xs → slice_get (xs ++ x ∷ []) n ≡ slice_get xs n
@@ -17,12 +15,6 @@ before_end (y ∷ xs) x (suc n) h = before_end xs x n (omega arith)
 pub at_end : {A : Type 0} (xs : List A) (x : A) → slice_get (xs ++ x ∷ []) (length xs) ≡ Some x
 at_end [] x = refl
 at_end (y ∷ xs) x = at_end xs x
-
--- a place with an element is one of the list
-pub is_within : {A : Type 0} (xs : List A) (n : ℕ) (x : A) → slice_get xs n ≡ Some x → n < length xs
-is_within [] n x e = cc
-is_within (y ∷ xs) zero x e = omega arith
-is_within (y ∷ xs) (suc n) x e = let lt = is_within xs n x e in omega arith
 
 pub passes_within : {A : Type 0} (test : A → Bool) (xs : List A) (n : ℕ) → option_map_or test (slice_get xs n) false ≡ true → n < length xs
 passes_within test [] n h = cc
@@ -42,13 +34,21 @@ rest_at {A = A} xs i x lt e = rw add-one (drop-cons xs i x lt ∙ ap (λ (y : A)
 -- what holds of each element holds of the one at a place, and once one of those is put in its place
 pub all_at : {A : Type 0} (P : A → Type 0) (xs : List A) (n : ℕ) (x : A) → slice_get xs n ≡ Some x → AllByRecursion P xs → P x
 all_at P [] n x e h = cc
-all_at P (y ∷ xs) zero x e h = subst P (some_same y x e) h.0
+all_at P (y ∷ xs) zero x e h = subst P (same_Some y x e) h.0
 all_at P (y ∷ xs) (suc n) x e h = all_at P xs n x e h.1
 
 pub all_set : {A : Type 0} (P : A → Type 0) (xs : List A) (n : ℕ) (x : A) → P x → AllByRecursion P xs → AllByRecursion P (slice_set xs n x)
 all_set P [] n x p h = tt
 all_set P (y ∷ xs) zero x p h = (p, h.1)
 all_set P (y ∷ xs) (suc n) x p h = (h.0, all_set P xs n x p h.1)
+
+-- what holds of each element and of the one that is added
+pub each_and_last : {A : Type 0} (P : A → Type 0) (xs : List A) (x y : A) (n : ℕ) → ((n : ℕ) (y : A) → slice_get xs n ≡ Some y → P y) → P x
+    → slice_get (xs ++ x ∷ []) n ≡ Some y → P y
+each_and_last P [] x y zero h k e = subst P (same_Some x y e) k
+each_and_last P [] x y (suc n) h k e = cc
+each_and_last P (z ∷ xs) x y zero h k e = h 0 y e
+each_and_last P (z ∷ xs) x y (suc n) h k e = each_and_last P xs x y n (λ n y e. h (suc n) y e) k e
 
 -- a range one longer
 pub range_end : (a n : ℕ) → range_with_len a (n + 1) ≡ range_with_len a n ++ (a + n) ∷ []

@@ -19,7 +19,8 @@ has_link_decides (Some m) l = Decides-like (same_link m l) (ap Some) (λ e. cc) 
 module _ (h : List Event) (e : Event) (s : ℕ) where
   by_link : (l : Link) → scratch (world_after (h ++ e ∷ [])) s ≡ Ok l → settled (h ++ e ∷ []) s l ≡ (installs s e || has_link (installed h s) l)
   by_link l now = one_answer (settled (h ++ e ∷ []) s l) (installs s e || has_link (installed h s) l)
-      (Decides-like (settled (h ++ e ∷ []) s l) (λ st. (only_so h e s l st).1) (λ u. elim u [ inl i ↦ settles h e s l i now | inr old ↦ stays h e s l old now ]) (settled_decides (h ++ e ∷ []) s l))
+      (Decides-like (settled (h ++ e ∷ []) s l) (λ st. (only_so h e s l st).1) (λ u. elim u [ inl i ↦ settles h e s l i now | inr old ↦ stays h e s l old now ])
+      (settled_decides (h ++ e ∷ []) s l))
       (Decides-or (installs s e) (has_link (installed h s) l) (λ i. i, λ i. i)
       (Decides-like (has_link (installed h s) l) (installed_to h s l) (installed_from h s l) (has_link_decides (installed h s) l)))
 

@@ -1,11 +1,13 @@
 -- Whatever events come, a class's parents were defined before it.
-use Rattle.std.specs.Prelude.{◌≡◌, ℕ, zero, suc, ◌+◌, ◌<◌, ◌≤◌, ◌==◌, ◌&&◌, ◌⊎◌, Bool, true, false, cond, List, [], ◌∷◌, ◌++◌, length, slice_get, slice_set, slice_index_or, find, filter_map, fold, Option, Some, None, option_map, option_and_then, option_to_list}
+use Rattle.std.specs.Prelude.{◌≡◌, ℕ, zero, suc, ◌+◌, ◌<◌, ◌≤◌, ◌⊎◌, Bool, true, false, cond, List, [], ◌∷◌, ◌++◌, length}
+use Rattle.std.specs.Prelude.{slice_get, slice_set, slice_index_or, find, filter_map, fold, Option, Some, None, option_map, option_and_then, option_to_list}
 use Rattle.std.specs.List.{AllByRecursion, cons_option}
 use Rattle.std.specs.Option.{option_map_or}
-use Rattle.std.proofs.Common.{refl, ap, sym, subst, ◌∙◌, arith, inl, inr, length-append}
+use Rattle.std.proofs.Common.{refl, ap, sym, subst, ◌∙◌, arith, inl, inr, length-append, eq-or-lt_of_le}
 use Rattle.std.proofs.lemmas.List.Elements.{All-from_recursion, recursion_from_All}
-use Rattle.jl_classfile.specs.Class.{ClassFile}
+use Rattle.std.proofs.lemmas.Option.{same_Some}
 use Rattle.std.specs.Str.{bytes_eq}
+use Rattle.jl_classfile.specs.Class.{ClassFile}
 use Rattle.jl_types.specs.declared.event.Event.{Event}
 use Rattle.jl_types.specs.declared.event.Event.TheVariants as event
 use Rattle.jl_types.specs.World.{Class, Classes, World, nothing_yet}
@@ -14,7 +16,7 @@ use Rattle.jl_types.specs.Ancestry.{parents, AreOrdered}
 use Rattle.jl_types.specs.Definitions.{class_made, with_record, defined, delegated}
 use Rattle.jl_types.specs.Events.{step}
 use Rattle.jl_types.specs.History.{world_after}
-use Rattle.jl_types.proofs.Lists.{some_same, before_end, at_end, all_at, all_set}
+use Rattle.jl_types.proofs.Lists.{before_end, at_end, all_at, all_set}
 
 -- the records name classes that are there
 abbrev pub AreBelow : ℕ → List (List ℕ × ℕ) → Type 0
@@ -32,7 +34,7 @@ found_below n name [] h c e = cc
 found_below n name (r ∷ records) h c e = by_test (bytes_eq r.0 name) (found_below n name records h.1 c) e
   where
     by_test : (b : Bool) → (recorded name records ≡ Some c → c < n) → option_map (λ r. r.1) (cond b (Some r) (find (λ r. bytes_eq r.0 name) records)) ≡ Some c → c < n
-    by_test true rest e = subst (λ k. k < n) (some_same r.1 c e) h.0
+    by_test true rest e = subst (λ k. k < n) (same_Some r.1 c e) h.0
     by_test false rest e = rest e
 
 module _ (cs : Classes) (good : IsGood cs) (loader : ℕ) where
@@ -44,7 +46,8 @@ module _ (cs : Classes) (good : IsGood cs) (loader : ℕ) where
       by_loader (Some records) is e =
           found_below (length cs.rows) name records (all_at (AreBelow (length cs.rows)) cs.loaders loader records is good.there) c e
 
-  one_below : (o : Option ℕ) → ((c : ℕ) → o ≡ Some c → c < length cs.rows) → (more : List ℕ) → AllByRecursion (λ p. p < length cs.rows) more → AllByRecursion (λ p. p < length cs.rows) (option_to_list o ++ more)
+  one_below : (o : Option ℕ) → ((c : ℕ) → o ≡ Some c → c < length cs.rows) → (more : List ℕ) → AllByRecursion (λ p. p < length cs.rows) more
+      → AllByRecursion (λ p. p < length cs.rows) (option_to_list o ++ more)
   one_below None h more rest = rest
   one_below (Some c) h more rest = (h c refl, rest)
 
@@ -56,7 +59,9 @@ module _ (cs : Classes) (good : IsGood cs) (loader : ℕ) where
   all_below [] = tt
   all_below (name ∷ names) = by_first (lookup cs loader name) (λ c e. looked_up name c e) (all_below names)
     where
-      by_first : (o : Option ℕ) → ((c : ℕ) → o ≡ Some c → c < length cs.rows) → AllByRecursion (λ p. p < length cs.rows) (filter_map (lookup cs loader) names) → AllByRecursion (λ p. p < length cs.rows) (cons_option o (filter_map (lookup cs loader) names))
+      by_first : (o : Option ℕ) → ((c : ℕ) → o ≡ Some c → c < length cs.rows)
+          → AllByRecursion (λ p. p < length cs.rows) (filter_map (lookup cs loader) names)
+          → AllByRecursion (λ p. p < length cs.rows) (cons_option o (filter_map (lookup cs loader) names))
       by_first None h rest = rest
       by_first (Some c) h rest = (h c refl, rest)
 
@@ -83,26 +88,26 @@ one_more : (n : ℕ) (records : List (List ℕ × ℕ)) (name : List ℕ) (c : �
 one_more n [] name c h lt = (lt, tt)
 one_more n (r ∷ records) name c h lt = (h.0, one_more n records name c h.1 lt)
 
-recorded_below : (n : ℕ) (loaders : List (List (List ℕ × ℕ))) (loader : ℕ) (name : List ℕ) (c : ℕ) → AllByRecursion (AreBelow n) loaders → c < n → AllByRecursion (AreBelow n) (with_record loaders loader name c)
+recorded_below : (n : ℕ) (loaders : List (List (List ℕ × ℕ))) (loader : ℕ) (name : List ℕ) (c : ℕ) → AllByRecursion (AreBelow n) loaders → c < n
+    → AllByRecursion (AreBelow n) (with_record loaders loader name c)
 recorded_below n loaders loader name c h lt = by_loader (slice_get loaders loader) refl
   where
-    by_loader : (o : Option (List (List ℕ × ℕ))) → slice_get loaders loader ≡ o → AllByRecursion (AreBelow n) (option_map_or (λ records. slice_set loaders loader (records ++ (name, c) ∷ [])) o loaders)
+    by_loader : (o : Option (List (List ℕ × ℕ))) → slice_get loaders loader ≡ o
+        → AllByRecursion (AreBelow n) (option_map_or (λ records. slice_set loaders loader (records ++ (name, c) ∷ [])) o loaders)
     by_loader None is = h
     by_loader (Some records) is =
         all_set (AreBelow n) loaders loader (records ++ (name, c) ∷ [])
         (one_more n records name c (all_at (AreBelow n) loaders loader records is h) lt) h
 
-less_or_same : (n m : ℕ) → n ≤ m → (n < m) ⊎ (n ≡ m)
-less_or_same zero zero h = inr refl
-less_or_same zero (suc m) h = inl (omega arith)
-less_or_same (suc n) zero h = absurd (omega arith)
-less_or_same (suc n) (suc m) h = elim (less_or_same n m (omega arith)) [ inl lt ↦ inl (omega arith) | inr e ↦ inr (ap suc e) ]
-
 module _ (cs : Classes) (good : IsGood cs) (loader : ℕ) (file : ClassFile) where
-  in_order : (c : ℕ) (row : Class) → slice_get (cs.rows ++ class_made cs loader file ∷ []) c ≡ Some row → (c < length cs.rows) ⊎ (c ≡ length cs.rows) → AllByRecursion (λ p. p < c) (parents row)
-  in_order c row e (inl lt) = recursion_from_All (λ p. p < c) (parents row) (good.ordered c row (sym (before_end cs.rows (class_made cs loader file) c lt) ∙ e))
-  in_order c row e (inr same) =
-      let made : class_made cs loader file ≡ row = some_same (class_made cs loader file) row (sym (at_end cs.rows (class_made cs loader file)) ∙ ap (slice_get (cs.rows ++ class_made cs loader file ∷ [])) (sym same) ∙ e) in
+  in_order : (c : ℕ) (row : Class) → slice_get (cs.rows ++ class_made cs loader file ∷ []) c ≡ Some row → (c ≡ length cs.rows) ⊎ (c < length cs.rows)
+      → AllByRecursion (λ p. p < c) (parents row)
+  in_order c row e (inr lt) = recursion_from_All (λ p. p < c) (parents row) (good.ordered c row (sym (before_end cs.rows (class_made cs loader file) c lt) ∙ e))
+  in_order c row e (inl same) =
+      let made : class_made cs loader file ≡ row =
+      same_Some (class_made cs loader file) row
+      (sym (at_end cs.rows (class_made cs loader file)) ∙ ap (slice_get (cs.rows ++ class_made cs loader file ∷ [])) (sym same) ∙ e)
+      in
       subst (λ k. AllByRecursion (λ p. p < k) (parents row)) (sym same) (subst (λ r. AllByRecursion (λ p. p < length cs.rows) (parents r)) made (parents_below cs good loader file))
 
   pub defined_good : IsGood (defined cs loader file)
@@ -110,7 +115,7 @@ module _ (cs : Classes) (good : IsGood cs) (loader : ℕ) (file : ClassFile) whe
     there = subst (λ n. AllByRecursion (AreBelow n) (with_record cs.loaders loader file.name (length cs.rows)))
         (sym (length-append cs.rows (class_made cs loader file ∷ [])))
         (recorded_below (length cs.rows + 1) cs.loaders loader file.name (length cs.rows) (all_wider (length cs.rows) cs.loaders good.there) (omega arith));
-    ordered = λ c row e. All-from_recursion (λ p. p < c) (parents row) (in_order c row e (less_or_same c (length cs.rows) (none_behind cs.rows (class_made cs loader file) row c e)));
+    ordered = λ c row e. All-from_recursion (λ p. p < c) (parents row) (in_order c row e (eq-or-lt_of_le (none_behind cs.rows (class_made cs loader file) row c e)));
   }
 
 delegated_good : (cs : Classes) (good : IsGood cs) (loader : ℕ) (name : List ℕ) (to : ℕ) → IsGood (delegated cs loader name to)

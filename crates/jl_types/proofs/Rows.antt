@@ -15,3 +15,4 @@ pub mod Searches
 pub mod Definitions
 pub mod Limits
 pub mod Targets
+pub mod Installs

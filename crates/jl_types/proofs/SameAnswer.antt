@@ -1,7 +1,8 @@
 -- The derived `==` of answers holds exactly of equal answers.
 use Rattle.std.proofs.Common.{◌≡◌, true, false, ap, refl, rules, Decides, sym}
-use denote.Enum.Bare.{same_true}
 use Rattle.std.specs.Prelude.{Bool, MatchBool}
+use Rattle.std.proofs.lemmas.Bool.{both_ways}
+use denote.Enum.Bare.{same_true}
 use Rattle.jl_types.specs.declared.answer.Missing.{Missing}
 use Rattle.jl_types.specs.declared.answer.Missing.TheVariants.{Named, CallerHost, MethodHost}
 use Rattle.jl_types.specs.declared.answer.Unlinked.{Unlinked}
@@ -13,7 +14,6 @@ use Rattle.jl_types.specs.contracts.answer.MissingPartialEq.TheImpl as missing
 use Rattle.jl_types.specs.contracts.answer.UnlinkedPartialEq.TheImpl as unlinked
 use Rattle.jl_types.specs.contracts.answer.AnswerPartialEq.TheImpl as same
 use Rattle.jl_types.specs.Means.Same.{throwable_decides, method_decides, decided}
-use Rattle.jl_types.proofs.Bools.{clash}
 
 missing_same : (x : Missing) → (missing.ghosts).eq x x ≡ true
 missing_same Named = refl
@@ -58,4 +58,4 @@ answer_decides = decided (same.ghosts).eq answer_sound answer_same
 -- a result that a test decides
 pub by_decision : {P : Type 0} (r b : Bool) → r ≡ b → Decides b P → MatchBool r P (¬ P)
 by_decision true b e d = d.0 (sym e)
-by_decision false b e d = λ p. clash b (d.1 p) (sym e)
+by_decision false b e d = λ p. both_ways b (sym e) (d.1 p)

@@ -2,6 +2,7 @@
 use Rattle.std.specs.Prelude.{◌≡◌, ℕ, zero, suc, ◌+◌, ◌<◌, ◌≤◌, ◌⊎◌, true, false, List, [], ◌∷◌, ◌++◌, take, length, slice_get, Option, Some, Ok}
 use Rattle.std.specs.Option.{option_map_or}
 use Rattle.std.proofs.Common.{ap, sym, ◌∙◌, arith, inl, inr, length-append}
+use Rattle.std.proofs.lemmas.Bool.{cases_lt}
 use Rattle.std.proofs.lemmas.List.{take-append-le}
 use Rattle.std.proofs.Math.Seq.{take-append-add}
 use Rattle.jl_types.specs.declared.link.Link.{Link}
@@ -9,14 +10,6 @@ use Rattle.jl_types.specs.declared.event.Event.{Event}
 use Rattle.jl_types.specs.Links.{scratch}
 use Rattle.jl_types.proofs.Lists.{before_end, at_end}
 use Rattle.jl_types.specs.History.{Settled, installs, installed_at, scratch_after, world_after}
-
-pub le_or_lt : (n m : ℕ) → (n ≤ m) ⊎ (m < n)
-le_or_lt zero m = inl (omega arith)
-le_or_lt (suc n) zero = inr (omega arith)
-le_or_lt (suc n) (suc m) = elim (le_or_lt n m) [ inl h ↦ inl (omega arith) | inr h ↦ inr (omega arith) ]
-
-lt_or_le : (n m : ℕ) → (n < m) ⊎ (m ≤ n)
-lt_or_le n m = elim (le_or_lt m n) [ inl h ↦ inr h | inr h ↦ inl h ]
 
 -- where an event installs, there is one
 pub within : (h : List Event) (s k : ℕ) → installed_at h k s ≡ true → k < length h
@@ -42,16 +35,17 @@ module _ (h : List Event) (e : Event) (s : ℕ) (l : Link) where
     stayed = λ n lt le. newest n lt le ∙ now;
   }
 
-  stayed_on : Settled h s l → scratch (world_after (h ++ e ∷ [])) s ≡ Ok l → (n : ℕ) → n ≤ length (h ++ e ∷ []) → (n ≤ length h) ⊎ (length h < n) → (since : ℕ) → ((n : ℕ) → since < n → n ≤ length h → scratch_after h n s ≡ Ok l) → since < n → scratch_after (h ++ e ∷ []) n s ≡ Ok l
-  stayed_on old now n le (inl small) since st lt = older n small ∙ st n lt small
-  stayed_on old now n le (inr large) since st lt = newest n large le ∙ now
+  stayed_on : Settled h s l → scratch (world_after (h ++ e ∷ [])) s ≡ Ok l → (n : ℕ) → n ≤ length (h ++ e ∷ []) → (length h < n) ⊎ (n ≤ length h)
+      → (since : ℕ) → ((n : ℕ) → since < n → n ≤ length h → scratch_after h n s ≡ Ok l) → since < n → scratch_after (h ++ e ∷ []) n s ≡ Ok l
+  stayed_on old now n le (inr small) since st lt = older n small ∙ st n lt small
+  stayed_on old now n le (inl large) since st lt = newest n large le ∙ now
 
   -- the site stays settled while its link stays
   pub stays : Settled h s l → scratch (world_after (h ++ e ∷ [])) s ≡ Ok l → Settled (h ++ e ∷ []) s l
   stays old now = record {
     since = old.since;
     installed = ap (λ (o : Option Event). option_map_or (installs s) o false) (before_end h e old.since (within h s old.since old.installed)) ∙ old.installed;
-    stayed = λ n lt le. stayed_on old now n le (le_or_lt n (length h)) old.since old.stayed lt;
+    stayed = λ n lt le. stayed_on old now n le (cases_lt (length h) n) old.since old.stayed lt;
   }
 
   split : (new : Settled (h ++ e ∷ []) s l) → (new.since < length h) ⊎ (length h ≤ new.since) → (installs s e ≡ true) ⊎ Settled h s l
@@ -70,4 +64,4 @@ module _ (h : List Event) (e : Event) (s : ℕ) (l : Link) where
   only_so new =
       let last = within (h ++ e ∷ []) s new.since new.installed in
       let long = length-append h (e ∷ []) in
-      (sym (newest (length h + 1) (omega arith) (omega arith)) ∙ new.stayed (length h + 1) (omega arith) (omega arith), split new (lt_or_le new.since (length h)))
+      (sym (newest (length h + 1) (omega arith) (omega arith)) ∙ new.stayed (length h + 1) (omega arith) (omega arith), split new (cases_lt new.since (length h)))

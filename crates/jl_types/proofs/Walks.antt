@@ -1,11 +1,13 @@
 -- Overriding is decided in one walk upward: methods without access flag between the two add nothing.
-use Rattle.std.specs.Prelude.{◌≡◌, ◌↔◌, ℕ, zero, suc, ◌+◌, ◌<◌, ◌==◌, Bool, true, false, not, ◌&&◌, ◌||◌, ◌⊎◌, List, ◌∷◌, [], slice_get, Option, Some, None}
+use Rattle.std.specs.Prelude.{◌≡◌, ◌↔◌, ℕ, zero, suc, ◌+◌, ◌<◌, ◌==◌, Bool, true, false, not, ◌&&◌, ◌||◌, ◌⊎◌, [], slice_get, Option, Some, None}
 use Rattle.std.specs.List.{list_any}
 use Rattle.std.specs.Option.{option_map_or}
 use Rattle.std.specs.Str.{bytes_eq}
 use Rattle.std.proofs.Common.{refl, ap, sym, ◌∙◌, arith, add-one, inl, inr}
 use Rattle.std.proofs.lemmas.Bool.Decides.{Decides-eqb}
 use Rattle.std.proofs.lemmas.Slice.Eq.{bytes_eq-Decides}
+use Rattle.std.proofs.lemmas.Bool.{or_right, or_left, or_cases, and_parts, and_from, both_ways, not-true}
+use Rattle.std.proofs.lemmas.Option.{same_Some}
 use Rattle.jl_names.specs.ClassNames.{package_of}
 use Rattle.jl_classfile.specs.Class.{Method}
 use Rattle.jl_types.specs.declared.ids.MethodId.{MethodId}
@@ -13,8 +15,6 @@ use Rattle.jl_types.specs.World.{Class, Classes}
 use Rattle.jl_types.specs.Members.{method_at, method_test, is_called, is_public, is_private, is_protected, is_static, is_package_private, share_package, same_package}
 use Rattle.jl_types.specs.Ancestry.{superclasses, is_subclass, is_proper_subclass, AreOrdered}
 use Rattle.jl_types.specs.Overriding.{are_alike, is_visible, CanOverride, directly, through, IsBridged}
-use Rattle.jl_types.proofs.Bools.{or_right, or_left, or_cases, and_both, both_and, clash, not_true}
-use Rattle.jl_types.proofs.Lists.{some_same}
 use Rattle.jl_types.proofs.Ancestors.{superclass_below, superclasses_is, subclass_above}
 use Rattle.jl_types.proofs.Overrides.{alike_of}
 
@@ -32,17 +32,25 @@ module _ (cs : Classes) where
   shares : (c d : ℕ) → same_package cs c d ≡ true → SharesPackage cs c d
   shares c d h = by_rows (slice_get cs.rows c) (slice_get cs.rows d) refl refl h
     where
-      by_rows : (r s : Option Class) → slice_get cs.rows c ≡ r → slice_get cs.rows d ≡ s → option_map_or (λ a. option_map_or (share_package a) s false) r false ≡ true → SharesPackage cs c d
+      by_rows : (r s : Option Class) → slice_get cs.rows c ≡ r → slice_get cs.rows d ≡ s
+          → option_map_or (λ a. option_map_or (share_package a) s false) r false ≡ true → SharesPackage cs c d
       by_rows None s e f h = cc
       by_rows (Some a) None e f h = cc
       by_rows (Some a) (Some b) e f h =
-          let both = and_both (a.loader == b.loader) (bytes_eq (package_of a.file.name) (package_of b.file.name)) h in
-          record { first = a; second = b; first_is = e; second_is = f; loader = (Decides-eqb a.loader b.loader).0 both.0; package_is = (bytes_eq-Decides (package_of a.file.name) (package_of b.file.name)).0 both.1 }
+          let both = and_parts (a.loader == b.loader) (bytes_eq (package_of a.file.name) (package_of b.file.name)) h in
+          record {
+            first = a;
+            second = b;
+            first_is = e;
+            second_is = f;
+            loader = (Decides-eqb a.loader b.loader).0 both.0;
+            package_is = (bytes_eq-Decides (package_of a.file.name) (package_of b.file.name)).0 both.1;
+          }
 
   shared : (c d : ℕ) → SharesPackage cs c d → same_package cs c d ≡ true
   shared c d h =
       (λ i. option_map_or (λ a. option_map_or (share_package a) (h.second_is i) false) (h.first_is i) false)
-      ∙ both_and (h.first.loader == h.second.loader) (bytes_eq (package_of h.first.file.name) (package_of h.second.file.name))
+      ∙ and_from (h.first.loader == h.second.loader) (bytes_eq (package_of h.first.file.name) (package_of h.second.file.name))
       ((Decides-eqb h.first.loader h.second.loader).1 h.loader)
       ((bytes_eq-Decides (package_of h.first.file.name) (package_of h.second.file.name)).1 h.package_is)
 
@@ -50,7 +58,7 @@ module _ (cs : Classes) where
   package_onward c d e h k =
       let p = shares c d h in
       let q = shares d e k in
-      let same : p.second ≡ q.first = some_same p.second q.first (sym p.second_is ∙ q.first_is) in
+      let same : p.second ≡ q.first = same_Some p.second q.first (sym p.second_is ∙ q.first_is) in
       shared c e (record {
         first = p.first;
         second = q.second;
@@ -74,31 +82,32 @@ module _ (cs : Classes) where
   named : (c a : MethodId) → method_test (λ m. method_test (is_called m.name m.ty) cs a) cs c ≡ true → HaveOneName cs c a
   named c a h = by_methods (method_at cs c) (method_at cs a) refl refl h
     where
-      by_methods : (m n : Option Method) → method_at cs c ≡ m → method_at cs a ≡ n → option_map_or (λ m. option_map_or (is_called m.name m.ty) n false) m false ≡ true → HaveOneName cs c a
+      by_methods : (m n : Option Method) → method_at cs c ≡ m → method_at cs a ≡ n
+          → option_map_or (λ m. option_map_or (is_called m.name m.ty) n false) m false ≡ true → HaveOneName cs c a
       by_methods None n e f h = cc
       by_methods (Some m) None e f h = cc
       by_methods (Some m) (Some n) e f h =
-          let both = and_both (bytes_eq n.name m.name) (bytes_eq n.ty m.ty) h in
+          let both = and_parts (bytes_eq n.name m.name) (bytes_eq n.ty m.ty) h in
           record { first = m; second = n; first_is = e; second_is = f; name = (bytes_eq-Decides n.name m.name).0 both.0; ty = (bytes_eq-Decides n.ty m.ty).0 both.1 }
 
   names : (c a : MethodId) → HaveOneName cs c a → method_test (λ m. method_test (is_called m.name m.ty) cs a) cs c ≡ true
   names c a h =
       (λ i. option_map_or (λ m. option_map_or (is_called m.name m.ty) (h.second_is i) false) (h.first_is i) false)
-      ∙ both_and (bytes_eq h.second.name h.first.name) (bytes_eq h.second.ty h.first.ty) ((bytes_eq-Decides h.second.name h.first.name).1 h.name) ((bytes_eq-Decides h.second.ty h.first.ty).1 h.ty)
+      ∙ and_from (bytes_eq h.second.name h.first.name) (bytes_eq h.second.ty h.first.ty) ((bytes_eq-Decides h.second.name h.first.name).1 h.name) ((bytes_eq-Decides h.second.ty h.first.ty).1 h.ty)
 
   -- c and b both like a
   alike_both : (c b a : MethodId) → are_alike cs c a ≡ true → are_alike cs b a ≡ true → are_alike cs c b ≡ true
   alike_both c b a h k =
-      let p = and_both (not (is_static cs c) && (not (is_static cs a) && not (is_private cs c))) _ h in
-      let q = and_both (not (is_static cs b) && (not (is_static cs a) && not (is_private cs b))) _ k in
-      let first = and_both (not (is_static cs c)) (not (is_static cs a) && not (is_private cs c)) p.0 in
-      let second = and_both (not (is_static cs b)) (not (is_static cs a) && not (is_private cs b)) q.0 in
-      let private = and_both (not (is_static cs a)) (not (is_private cs c)) first.1 in
+      let p = and_parts (not (is_static cs c) && (not (is_static cs a) && not (is_private cs c))) _ h in
+      let q = and_parts (not (is_static cs b) && (not (is_static cs a) && not (is_private cs b))) _ k in
+      let first = and_parts (not (is_static cs c)) (not (is_static cs a) && not (is_private cs c)) p.0 in
+      let second = and_parts (not (is_static cs b)) (not (is_static cs a) && not (is_private cs b)) q.0 in
+      let private = and_parts (not (is_static cs a)) (not (is_private cs c)) first.1 in
       let m = named c a p.1 in
       let n = named b a q.1 in
-      let same : m.second ≡ n.second = some_same m.second n.second (sym m.second_is ∙ n.second_is) in
-      both_and (not (is_static cs c) && (not (is_static cs b) && not (is_private cs c))) _
-      (both_and (not (is_static cs c)) _ first.0 (both_and (not (is_static cs b)) _ second.0 private.1))
+      let same : m.second ≡ n.second = same_Some m.second n.second (sym m.second_is ∙ n.second_is) in
+      and_from (not (is_static cs c) && (not (is_static cs b) && not (is_private cs c))) _
+      (and_from (not (is_static cs c)) _ first.0 (and_from (not (is_static cs b)) _ second.0 private.1))
       (names c b (record {
         first = m.first;
         second = n.first;
@@ -111,17 +120,17 @@ module _ (cs : Classes) where
   -- c like b, and b like a
   alike_onward : (c b a : MethodId) → are_alike cs c b ≡ true → are_alike cs b a ≡ true → are_alike cs c a ≡ true
   alike_onward c b a h k =
-      let p = and_both (not (is_static cs c) && (not (is_static cs b) && not (is_private cs c))) _ h in
-      let q = and_both (not (is_static cs b) && (not (is_static cs a) && not (is_private cs b))) _ k in
-      let first = and_both (not (is_static cs c)) (not (is_static cs b) && not (is_private cs c)) p.0 in
-      let second = and_both (not (is_static cs b)) (not (is_static cs a) && not (is_private cs b)) q.0 in
-      let private = and_both (not (is_static cs b)) (not (is_private cs c)) first.1 in
-      let instance = and_both (not (is_static cs a)) (not (is_private cs b)) second.1 in
+      let p = and_parts (not (is_static cs c) && (not (is_static cs b) && not (is_private cs c))) _ h in
+      let q = and_parts (not (is_static cs b) && (not (is_static cs a) && not (is_private cs b))) _ k in
+      let first = and_parts (not (is_static cs c)) (not (is_static cs b) && not (is_private cs c)) p.0 in
+      let second = and_parts (not (is_static cs b)) (not (is_static cs a) && not (is_private cs b)) q.0 in
+      let private = and_parts (not (is_static cs b)) (not (is_private cs c)) first.1 in
+      let instance = and_parts (not (is_static cs a)) (not (is_private cs b)) second.1 in
       let m = named c b p.1 in
       let n = named b a q.1 in
-      let same : m.second ≡ n.first = some_same m.second n.first (sym m.second_is ∙ n.first_is) in
-      both_and (not (is_static cs c) && (not (is_static cs a) && not (is_private cs c))) _
-      (both_and (not (is_static cs c)) _ first.0 (both_and (not (is_static cs a)) _ instance.0 private.1))
+      let same : m.second ≡ n.first = same_Some m.second n.first (sym m.second_is ∙ n.first_is) in
+      and_from (not (is_static cs c) && (not (is_static cs a) && not (is_private cs c))) _
+      (and_from (not (is_static cs c)) _ first.0 (and_from (not (is_static cs a)) _ instance.0 private.1))
       (names c a (record {
         first = m.first;
         second = n.second;
@@ -133,9 +142,9 @@ module _ (cs : Classes) where
 
   not_private : (b a : MethodId) → are_alike cs b a ≡ true → is_private cs b ≡ false
   not_private b a h =
-      let p = and_both (not (is_static cs b) && (not (is_static cs a) && not (is_private cs b))) _ h in
-      let q = and_both (not (is_static cs b)) (not (is_static cs a) && not (is_private cs b)) p.0 in
-      not_true (is_private cs b) (and_both (not (is_static cs a)) (not (is_private cs b)) q.1).1
+      let p = and_parts (not (is_static cs b) && (not (is_static cs a) && not (is_private cs b))) _ h in
+      let q = and_parts (not (is_static cs b)) (not (is_static cs a) && not (is_private cs b)) p.0 in
+      not-true (is_private cs b) (and_parts (not (is_static cs a)) (not (is_private cs b)) q.1).1
 
 -- ---- chains of superclasses
 
@@ -147,12 +156,16 @@ module _ (cs : Classes) (o : AreOrdered cs.rows) where
       none_there : slice_get cs.rows x ≡ None → is_subclass cs x y ≡ false
       none_there e = rw (add-one x, e) refl
 
-      by_superclass : (row : Class) → slice_get cs.rows x ≡ Some row → ((x y z : ℕ) → x < n → is_subclass cs x y ≡ true → is_subclass cs y z ≡ true → is_subclass cs x z ≡ true) → (s : Option ℕ) → row.superclass ≡ s → list_any (λ c. c == y) (option_map_or (superclasses cs) s []) ≡ true → list_any (λ c. c == z) (option_map_or (superclasses cs) s []) ≡ true
+      by_superclass : (row : Class) → slice_get cs.rows x ≡ Some row
+          → ((x y z : ℕ) → x < n → is_subclass cs x y ≡ true → is_subclass cs y z ≡ true → is_subclass cs x z ≡ true) → (s : Option ℕ)
+          → row.superclass ≡ s → list_any (λ c. c == y) (option_map_or (superclasses cs) s []) ≡ true
+          → list_any (λ c. c == z) (option_map_or (superclasses cs) s []) ≡ true
       by_superclass row e ih None is m = cc
       by_superclass row e ih (Some s) is m = let below = superclass_below cs.rows o x row e s is in ih s y z (omega arith) m k
 
-      by_row : (r : Option Class) → slice_get cs.rows x ≡ r → ((x y z : ℕ) → x < n → is_subclass cs x y ≡ true → is_subclass cs y z ≡ true → is_subclass cs x z ≡ true) → is_subclass cs x z ≡ true
-      by_row None e ih = absurd (clash (is_subclass cs x y) h (none_there e))
+      by_row : (r : Option Class) → slice_get cs.rows x ≡ r
+          → ((x y z : ℕ) → x < n → is_subclass cs x y ≡ true → is_subclass cs y z ≡ true → is_subclass cs x z ≡ true) → is_subclass cs x z ≡ true
+      by_row None e ih = absurd (both_ways (is_subclass cs x y) (none_there e) h)
       by_row (Some row) e ih =
           let chain = superclasses_is cs o x row e in
           elim (or_cases (x == y) (list_any (λ c. c == y) (option_map_or (superclasses cs) row.superclass [])) (sym (ap (list_any (λ c. c == y)) chain) ∙ h)) [
@@ -164,11 +177,11 @@ module _ (cs : Classes) (o : AreOrdered cs.rows) where
 
   proper_onward : (x y z : ℕ) → is_proper_subclass cs x y ≡ true → is_proper_subclass cs y z ≡ true → is_proper_subclass cs x z ≡ true
   proper_onward x y z h k =
-      let p = and_both (not (x == y)) (is_subclass cs x y) h in
-      let q = and_both (not (y == z)) (is_subclass cs y z) k in
+      let p = and_parts (not (x == y)) (is_subclass cs x y) h in
+      let q = and_parts (not (y == z)) (is_subclass cs y z) k in
       let upper = subclass_above cs o x y h in
       let lower = subclass_above cs o y z k in
-      both_and (not (x == z)) (is_subclass cs x z) (differ (x == z) refl (omega arith)) (onward_at (x + 1) x y z (omega arith) p.1 q.1)
+      and_from (not (x == z)) (is_subclass cs x z) (differ (x == z) refl (omega arith)) (onward_at (x + 1) x y z (omega arith) p.1 q.1)
     where
       differ : (b : Bool) → (x == z) ≡ b → z < x → not b ≡ true
       differ true e lt = absurd (let same : x ≡ z = (Decides-eqb x z).0 e in omega arith)
@@ -178,19 +191,19 @@ module _ (cs : Classes) (o : AreOrdered cs.rows) where
 
   seen_package : (c a : MethodId) → is_package_private cs a ≡ true → same_package cs a.class c.class ≡ true → is_visible cs c a ≡ true
   seen_package c a flagless p =
-      or_right (is_public cs a) _ (or_right (is_protected cs a) _ (both_and (is_package_private cs a) (same_package cs a.class c.class) flagless p))
+      or_right (is_public cs a) _ (or_right (is_protected cs a) _ (and_from (is_package_private cs a) (same_package cs a.class c.class) flagless p))
 
   -- the run-time package by which a method without access flag is visible
   package_of_visible : (c a : MethodId) → is_package_private cs a ≡ true → is_visible cs c a ≡ true → same_package cs a.class c.class ≡ true
   package_of_visible c a flagless v =
-      let p = and_both (not (is_public cs a)) (not (is_protected cs a) && not (is_private cs a)) flagless in
-      let q = and_both (not (is_protected cs a)) (not (is_private cs a)) p.1 in
+      let p = and_parts (not (is_public cs a)) (not (is_protected cs a) && not (is_private cs a)) flagless in
+      let q = and_parts (not (is_protected cs a)) (not (is_private cs a)) p.1 in
       elim (or_cases (is_public cs a) (is_protected cs a || (is_package_private cs a && same_package cs a.class c.class)) v) [
-        | inl public ↦ absurd (clash (is_public cs a) public (not_true (is_public cs a) p.0))
+        | inl public ↦ absurd (both_ways (is_public cs a) (not-true (is_public cs a) p.0) public)
         | inr more ↦ (
             elim (or_cases (is_protected cs a) (is_package_private cs a && same_package cs a.class c.class) more) [
-              | inl protected ↦ absurd (clash (is_protected cs a) protected (not_true (is_protected cs a) q.0))
-              | inr both ↦ (and_both (is_package_private cs a) (same_package cs a.class c.class) both).1
+              | inl protected ↦ absurd (both_ways (is_protected cs a) (not-true (is_protected cs a) q.0) protected)
+              | inr both ↦ (and_parts (is_package_private cs a) (same_package cs a.class c.class) both).1
             ])
       ]
 
@@ -203,7 +216,9 @@ module _ (cs : Classes) (o : AreOrdered cs.rows) where
       by_flags false false true h k = cc
       by_flags false false false h k = refl
 
-  module _ (c a b : MethodId) (flagless : is_package_private cs a ≡ true) (below : is_proper_subclass cs c.class b.class ≡ true) (above : is_proper_subclass cs b.class a.class ≡ true) (lower : are_alike cs c b ≡ true) (upper : are_alike cs b a ≡ true) (hidden : is_visible cs c a ≡ false) where
+  module _ (c a b : MethodId) (flagless : is_package_private cs a ≡ true) (below : is_proper_subclass cs c.class b.class ≡ true)
+      (above : is_proper_subclass cs b.class a.class ≡ true) (lower : are_alike cs c b ≡ true) (upper : are_alike cs b a ≡ true)
+      (hidden : is_visible cs c a ≡ false) where
     -- b's bridge to a is one of c, too
     from_upper : IsBridged cs b a → IsBridged cs c a
     from_upper m = record {
@@ -226,12 +241,13 @@ module _ (cs : Classes) (o : AreOrdered cs.rows) where
       visible = m.visible;
     }
 
-    in_package : same_package cs a.class b.class ≡ true → (is_visible cs c b ≡ false → IsBridged cs c b) → (w : Bool) → (is_public cs b || is_protected cs b) ≡ w → (v : Bool) → is_visible cs c b ≡ v → IsBridged cs c a
+    in_package : same_package cs a.class b.class ≡ true → (is_visible cs c b ≡ false → IsBridged cs c b) → (w : Bool)
+        → (is_public cs b || is_protected cs b) ≡ w → (v : Bool) → is_visible cs c b ≡ v → IsBridged cs c a
     in_package p rest true e v f = record { method = b; below = below; above = above; package_is = p; alike = upper; visible = e }
     in_package p rest false e false f = from_lower p (rest f)
     in_package p rest false e true f =
         let q = package_of_visible c b (flagless_of b a upper e) f in
-        absurd (clash (is_visible cs c a) (seen_package c a flagless (package_onward cs a.class b.class c.class p q)) hidden)
+        absurd (both_ways (is_visible cs c a) hidden (seen_package c a flagless (package_onward cs a.class b.class c.class p q)))
 
     bridge : (is_visible cs c b ≡ false → IsBridged cs c b) → (is_visible cs b a ≡ false → IsBridged cs b a) → (v : Bool) → is_visible cs b a ≡ v → IsBridged cs c a
     bridge lowest highest false e = from_upper (highest e)
@@ -239,12 +255,12 @@ module _ (cs : Classes) (o : AreOrdered cs.rows) where
         in_package (package_of_visible b a flagless e) lowest (is_public cs b || is_protected cs b) refl (is_visible cs c b) refl
 
   bridged : {c a : MethodId} → CanOverride cs c a → is_visible cs c a ≡ false → IsBridged cs c a
-  bridged {c = c} {a = a} (directly alike visible) hidden = absurd (clash (is_visible cs c a) visible hidden)
+  bridged {c = c} {a = a} (directly alike visible) hidden = absurd (both_ways (is_visible cs c a) hidden visible)
   bridged {c = c} {a = a} (through alike flagless b below above r s) hidden =
       bridge c a b flagless below above (alike_of cs r) (alike_of cs s) hidden (bridged r) (bridged s) (is_visible cs b a) refl
 
   flagless_through : {c a : MethodId} → CanOverride cs c a → is_visible cs c a ≡ false → is_package_private cs a ≡ true
-  flagless_through {c = c} {a = a} (directly alike visible) hidden = absurd (clash (is_visible cs c a) visible hidden)
+  flagless_through {c = c} {a = a} (directly alike visible) hidden = absurd (both_ways (is_visible cs c a) hidden visible)
   flagless_through (through alike flagless b below above r s) hidden = flagless
 
   over_bridge : (c a : MethodId) → are_alike cs c a ≡ true → is_package_private cs a ≡ true → IsBridged cs c a → CanOverride cs c a

@@ -148,6 +148,13 @@ pub shows : shown parts ≡ record {
   interfaces = [];
   nest_host = None;
   nest_members = [];
-  methods = record { flags = 9; name = codes "run"; ty = codes "()V"; sites = record { pc = 0; kind = Virtual; operand = Called (record { itf = false; owner = codes "A"; name = codes "f"; ty = codes "()V" }) } ∷ [] } ∷ [];
+  methods =
+      record {
+        flags = 9;
+        name = codes "run";
+        ty = codes "()V";
+        sites = record { pc = 0; kind = Virtual; operand = Called (record { itf = false; owner = codes "A"; name = codes "f"; ty = codes "()V" }) } ∷ [];
+      }
+      ∷ [];
 }
 shows = refl

@@ -1,8 +1,6 @@
 -- Who may name a method (JVMS 5.4.4): each sentence of the rule once.
 use Rattle.std.specs.Prelude.{◌≡◌, ℕ, List, [], ◌∷◌, Option, Some, None, Ok, Err, Result, codes, refl}
 use Rattle.jl_classfile.specs.Class.{Method}
-use Rattle.jl_pool.specs.declared.reference.Reference.{Reference}
-use Rattle.jl_types.specs.declared.ids.MethodId.{MethodId}
 use Rattle.jl_types.specs.declared.answer.ResolveAnswer.{ResolveAnswer}
 use Rattle.jl_types.specs.declared.answer.ResolveAnswer.TheVariants.{NotReady, Fault}
 use Rattle.jl_types.specs.declared.answer.Missing.TheVariants.{CallerHost, MethodHost}
@@ -84,7 +82,8 @@ no_caller_host = refl
 no_method_host : resolved (nested (codes "Out") None []) 2 (class_ref (codes "In") (codes "g")) ≡ Err (NotReady MethodHost)
 no_method_host = refl
 
-both_listed : resolved (nested (codes "Out") (Some (codes "Out")) (in_nest (codes "Out") None (codes "In" ∷ codes "X" ∷ []) [] ∷ [])) 2 (class_ref (codes "In") (codes "g")) ≡ Ok (naming 1 (first 1))
+both_listed : resolved (nested (codes "Out") (Some (codes "Out")) (in_nest (codes "Out") None (codes "In" ∷ codes "X" ∷ []) [] ∷ [])) 2
+    (class_ref (codes "In") (codes "g")) ≡ Ok (naming 1 (first 1))
 both_listed = refl
 
 one_listed : resolved (nested (codes "Out") (Some (codes "Out")) (in_nest (codes "Out") None (codes "X" ∷ []) [] ∷ [])) 2 (class_ref (codes "In") (codes "g")) ≡ Err (Fault IllegalAccessError)

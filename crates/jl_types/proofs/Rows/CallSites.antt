@@ -1,5 +1,5 @@
 -- Call sites and switch points, over the whole history.
-use Rattle.std.specs.Prelude.{◌≡◌, ℕ, zero, suc, List, [], ◌∷◌, ◌++◌, Some, None, Ok, Err, codes, refl}
+use Rattle.std.specs.Prelude.{◌≡◌, ℕ, zero, suc, List, [], ◌∷◌, ◌++◌, Some, Ok, Err, codes, refl}
 use Rattle.jl_classfile.specs.Class.{Method}
 use Rattle.jl_code.specs.declared.site.Kind.TheVariants.{Dynamic}
 use Rattle.jl_code.specs.declared.site.Operand.TheVariants as operand
@@ -23,7 +23,7 @@ use Rattle.jl_types.specs.History.{world_after, installed_links, dropped}
 use Rattle.jl_types.proofs.Rows.Sketch.{method, file}
 
 -- with an invokedynamic of ()V at pc 0
-abbrev bootstrapping : Method
+abbrev pub bootstrapping : Method
 bootstrapping = record {
   name = codes "r";
   ty = codes "()V";
@@ -34,7 +34,7 @@ bootstrapping = record {
 -- T 1 has static methods m, n and r; its invokedynamic is site 0
 abbrev begun : List Event
 begun = Define 0 (file (codes "java/lang/Object") 33 [])
-    ∷ Define 0 (record { name = codes "T"; flags = 33; superclass = Some (codes "java/lang/Object"); interfaces = []; nest_host = None; nest_members = []; methods = method 9 (codes "m") ∷ method 9 (codes "n") ∷ bootstrapping ∷ [] })
+    ∷ Define 0 (record (file (codes "T") 33 (method 9 (codes "m") ∷ method 9 (codes "n") ∷ bootstrapping ∷ [])) { superclass = Some (codes "java/lang/Object") })
     ∷ Request (record { class = 1; method = 2; pc = 0 })
     ∷ NewSwitch
     ∷ []

@@ -1,12 +1,14 @@
 -- What a loader refuses to define (JVMS 5.3.5), each fault once, and each pair of neighbours in their order.
-use Rattle.std.specs.Prelude.{◌≡◌, ℕ, List, [], ◌∷◌, ◌++◌, Option, Some, None, Ok, Err, Result, codes, refl}
+use Rattle.std.specs.Prelude.{◌≡◌, ℕ, List, [], ◌∷◌, ◌++◌, Some, None, Ok, Err, Result, length, codes, refl}
 use Rattle.jl_types.specs.declared.event.Event.{Event}
 use Rattle.jl_types.specs.declared.event.Event.TheVariants.{NewLoader, Define, Delegate}
 use Rattle.jl_types.specs.declared.event.Made.{Made}
 use Rattle.jl_types.specs.declared.event.Made.TheVariants as made
 use Rattle.jl_types.specs.declared.refusal.Refusal.{Refusal}
 use Rattle.jl_types.specs.declared.refusal.Refusal.TheVariants as refusal
-use Rattle.jl_types.specs.declared.refusal.DefineFault.TheVariants.{UnknownLoader, AlreadyRecorded, NamesItself, MissingParent, SuperIsInterface, FinalSuper, NotAnInterface, InaccessibleParent, SecondObject}
+use Rattle.jl_types.specs.declared.refusal.DefineFault.TheVariants.{UnknownLoader, AlreadyRecorded, NamesItself, MissingParent, SuperIsInterface, FinalSuper}
+use Rattle.jl_types.specs.declared.refusal.DefineFault.TheVariants.{NotAnInterface, InaccessibleParent, SecondObject, Full}
+use Rattle.jl_types.specs.World.{Class, World}
 use Rattle.jl_types.specs.Events.{verdict}
 use Rattle.jl_types.specs.History.{world_after}
 
@@ -85,3 +87,42 @@ final_before_no_interface = refl
 
 no_interface_before_closed : answers (defines 0 (codes "q/X") 33 (codes "p/A") (codes "p/A" ∷ [])) ≡ Err (refusal.Define (NotAnInterface (codes "p/A")))
 no_interface_before_closed = refl
+
+-- ---- of one fault, the superclass's first, then those of the superinterfaces as the file has them
+
+missing_superclass_first : answers (defines 0 (codes "X") 33 (codes "L") (codes "K" ∷ [])) ≡ Err (refusal.Define (MissingParent (codes "L")))
+missing_superclass_first = refl
+
+missing_in_file_order : answers (defines 0 (codes "X") 33 object (codes "L" ∷ codes "K" ∷ [])) ≡ Err (refusal.Define (MissingParent (codes "L")))
+missing_in_file_order = refl
+
+no_interfaces_in_file_order : answers (defines 0 (codes "X") 33 object (codes "F" ∷ object ∷ [])) ≡ Err (refusal.Define (NotAnInterface (codes "F")))
+no_interfaces_in_file_order = refl
+
+closed_superclass_first : answers (defines 0 (codes "q/X") 33 (codes "p/A") (codes "p/I" ∷ [])) ≡ Err (refusal.Define (InaccessibleParent (codes "p/A")))
+closed_superclass_first = refl
+
+closed_in_file_order : verdict 65536 (world_after (before ++ defines 0 (codes "r/I") 1536 object [] ∷ [])) (defines 0 (codes "q/X") 33 object (codes "r/I" ∷ codes "p/I" ∷ []))
+    ≡ Err (refusal.Define (InaccessibleParent (codes "r/I")))
+closed_in_file_order = refl
+
+interface_twice : answers (defines 0 (codes "X") 33 object (codes "I" ∷ codes "I" ∷ [])) ≡ Ok (made.Class 6)
+interface_twice = refl
+
+-- ---- at most 65,536 classes
+
+-- the classes before, and any more
+abbrev with_more : List Class → World
+with_more more =
+    let w = world_after before in
+    record w { classes = record w.classes { rows = w.classes.rows ++ more } }
+
+last_class : (more : List Class) → length (with_more more).classes.rows ≡ 65535 → verdict 65536 (with_more more) (defines 0 (codes "X") 33 object []) ≡ Ok (made.Class 65535)
+last_class more e = rw e refl
+
+too_many_classes : (more : List Class) → length (with_more more).classes.rows ≡ 65536 → verdict 65536 (with_more more) (defines 0 (codes "X") 33 object []) ≡ Err (refusal.Define Full)
+too_many_classes more e = rw e refl
+
+-- however many there are
+closed_before_too_many : (more : List Class) → verdict 65536 (with_more more) (defines 0 (codes "q/X") 33 (codes "p/A") []) ≡ Err (refusal.Define (InaccessibleParent (codes "p/A")))
+closed_before_too_many more = refl

@@ -1,7 +1,6 @@
 -- What there is room for, and places that are never linked.
-use Rattle.std.specs.Prelude.{◌≡◌, ℕ, zero, suc, List, [], ◌∷◌, Some, None, Ok, Err, length, replicate, codes, refl}
+use Rattle.std.specs.Prelude.{◌≡◌, ℕ, List, [], ◌∷◌, Some, Ok, Err, length, replicate, codes, refl}
 use Rattle.jl_code.specs.declared.site.Kind.TheVariants.{Virtual}
-use Rattle.jl_types.specs.declared.ids.MethodId.{MethodId}
 use Rattle.jl_types.specs.declared.ids.Place.{Place}
 use Rattle.jl_types.specs.declared.event.Event.TheVariants.{NewLoader, NewSwitch, NewCallSite, Request}
 use Rattle.jl_types.specs.declared.event.Made.TheVariants as made
@@ -25,7 +24,8 @@ too_many_loaders : (max_sites : ℕ) (w : World) → length w.classes.loaders �
 too_many_loaders max_sites w e = rw e refl
 
 -- whatever the target is
-too_many_call_sites : (max_sites : ℕ) (w : World) (ty : List ℕ) (t : Target) → length w.sites.call_sites ≡ 65536 → verdict max_sites w (NewCallSite Mutable ty t) ≡ Err (refusal.CallSite fault.Full)
+too_many_call_sites : (max_sites : ℕ) (w : World) (ty : List ℕ) (t : Target) → length w.sites.call_sites ≡ 65536
+    → verdict max_sites w (NewCallSite Mutable ty t) ≡ Err (refusal.CallSite fault.Full)
 too_many_call_sites max_sites w ty t e = rw e refl
 
 last_switch : (max_sites : ℕ) (w : World) → length w.sites.switches ≡ 65535 → verdict max_sites w NewSwitch ≡ Ok (made.Switch 65535)
@@ -38,7 +38,10 @@ too_many_switches max_sites w e = rw e refl
 
 -- M 1 calls f of this owner; its place is requested already as site 0, and so is no other
 abbrev calls : List ℕ → World
-calls owner = world (object ∷ class (codes "M") 33 (Some 0) [] (calling 9 (codes "run") Virtual (class_ref owner (codes "f")) ∷ calling 9 (codes "too") Virtual (class_ref owner (codes "f")) ∷ []) ∷ []) 1
+calls owner =
+    let ref = class_ref owner (codes "f") in
+    let methods = calling 9 (codes "run") Virtual ref ∷ calling 9 (codes "too") Virtual ref ∷ [] in
+    world (object ∷ class (codes "M") 33 (Some 0) [] methods ∷ []) 1
 
 abbrev other : Place
 other = record { class = 1; method = 1; pc = 0 }

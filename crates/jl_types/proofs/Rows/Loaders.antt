@@ -49,6 +49,29 @@ not_recorded = refl
 no_loader : verdict 65536 (world_after shared) (Delegate 2 object 0) ≡ Err (refusal.Delegate delegate.UnknownLoader)
 no_loader = refl
 
+-- ---- delegations, each pair of neighbours in their order
+
+unknown_before_not_recorded : verdict 65536 (world_after shared) (Delegate 2 (codes "X") 0) ≡ Err (refusal.Delegate delegate.UnknownLoader)
+unknown_before_not_recorded = refl
+
+to_unknown_before_not_recorded : verdict 65536 (world_after shared) (Delegate 0 (codes "X") 2) ≡ Err (refusal.Delegate delegate.UnknownLoader)
+to_unknown_before_not_recorded = refl
+
+-- loader 1 has an A of its own
+abbrev apart : List Event
+apart = shared ++ defines 1 (codes "A") 33 (Some object) ∷ []
+
+not_recorded_before_recorded : verdict 65536 (world_after apart) (Delegate 1 (codes "A") 0) ≡ Err (refusal.Delegate delegate.NotRecorded)
+not_recorded_before_recorded = refl
+
+another_is_recorded : verdict 65536 (world_after (apart ++ defines 0 (codes "A") 33 (Some object) ∷ [])) (Delegate 1 (codes "A") 0) ≡ Err (refusal.Delegate delegate.AlreadyRecorded)
+another_is_recorded = refl
+
+delegated_to_itself : verdict 65536 (world_after shared) (Delegate 0 object 0) ≡ Err (refusal.Delegate delegate.AlreadyRecorded)
+delegated_to_itself = refl
+
+-- ---- run-time packages
+
 -- p/A, which isn't public, is for its run-time package alone
 abbrev closed : List Event
 closed = shared ++ defines 0 (codes "p/A") 32 (Some object) ∷ Delegate 1 (codes "p/A") 0 ∷ []

@@ -12,7 +12,12 @@ use Rattle.jl_types.specs.Links.{scratch}
 use Rattle.jl_types.proofs.Rows.Sketch.{object, method, first, world, calling, class_ref}
 
 abbrev nested : List ℕ → Option (List ℕ) → List (List ℕ) → List Method → Class
-nested name host members methods = record { loader = 0; superclass = Some 0; interfaces = []; file = record { name = name; flags = 33; superclass = None; interfaces = []; nest_host = host; nest_members = members; methods = methods } }
+nested name host members methods = record {
+  loader = 0;
+  superclass = Some 0;
+  interfaces = [];
+  file = record { name = name; flags = 33; superclass = None; interfaces = []; nest_host = host; nest_members = members; methods = methods };
+}
 
 abbrev caller : Method
 caller = calling 9 (codes "run") Virtual (class_ref (codes "In") (codes "g"))

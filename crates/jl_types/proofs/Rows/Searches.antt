@@ -2,10 +2,8 @@
 use Rattle.std.specs.Prelude.{◌≡◌, ℕ, List, [], ◌∷◌, Some, None, Ok, Err, codes, refl}
 use Rattle.jl_classfile.specs.Class.{Method}
 use Rattle.jl_code.specs.declared.site.Kind.TheVariants.{Special, Interface}
-use Rattle.jl_pool.specs.declared.reference.Reference.{Reference}
-use Rattle.jl_types.specs.declared.ids.MethodId.{MethodId}
 use Rattle.jl_types.specs.declared.answer.Chosen.TheVariants.{Method as Picked, Nothing}
-use Rattle.jl_types.specs.declared.answer.Outcome.TheVariants.{Run, Throws}
+use Rattle.jl_types.specs.declared.answer.Outcome.TheVariants.{Run}
 use Rattle.jl_types.specs.declared.answer.Recv.TheVariants.{Of}
 use Rattle.jl_types.specs.declared.answer.Answer.TheVariants as answer
 use Rattle.jl_types.specs.declared.answer.Unlinked.TheVariants.{Gone}

@@ -1,9 +1,8 @@
 -- Why targets and bindings aren't taken (java.lang.invoke), each reason once, and in their order.
-use Rattle.std.specs.Prelude.{◌≡◌, ℕ, zero, suc, List, [], ◌∷◌, ◌++◌, Some, None, Ok, Err, Result, codes, refl}
+use Rattle.std.specs.Prelude.{◌≡◌, ℕ, zero, suc, List, [], ◌∷◌, ◌++◌, Some, Ok, Err, Result, codes, refl}
 use Rattle.jl_classfile.specs.Class.{Method}
 use Rattle.jl_code.specs.declared.site.Kind.TheVariants.{Dynamic, Static}
 use Rattle.jl_code.specs.declared.site.Operand.TheVariants as operand
-use Rattle.jl_types.specs.declared.ids.MethodId.{MethodId}
 use Rattle.jl_types.specs.declared.target.CallSiteKind.TheVariants.{Constant, Mutable}
 use Rattle.jl_types.specs.Target as target
 use Rattle.jl_types.specs.Target.{Target}
@@ -29,11 +28,20 @@ bootstrapping = record {
   sites = record { pc = 0; kind = Dynamic; operand = operand.CallSite (record { bootstrap = 0; name = codes "r"; ty = codes "()V" }) } ∷ [];
 }
 
+abbrev methods : List Method
+methods = method 9 (codes "m")
+    ∷ method 1 (codes "g")
+    ∷ typed 9 (codes "i") (codes "()I")
+    ∷ method 9 (codes "<clinit>")
+    ∷ bootstrapping
+    ∷ calling 9 (codes "s") Static (class_ref (codes "T") (codes "m"))
+    ∷ []
+
 -- T 1 has a static m, an instance g, a static i that gives a number, a class initializer, an invokedynamic (site 0) and an
 -- invokestatic (site 1); call site 0 of ()V is mutable, 1 of ()V constant, 2 of ()I mutable; point 0 is valid
 abbrev before : List Event
 before = Define 0 (file (codes "java/lang/Object") 33 [])
-    ∷ Define 0 (record { name = codes "T"; flags = 33; superclass = Some (codes "java/lang/Object"); interfaces = []; nest_host = None; nest_members = []; methods = method 9 (codes "m") ∷ method 1 (codes "g") ∷ typed 9 (codes "i") (codes "()I") ∷ method 9 (codes "<clinit>") ∷ bootstrapping ∷ calling 9 (codes "s") Static (class_ref (codes "T") (codes "m")) ∷ [] })
+    ∷ Define 0 (record (file (codes "T") 33 methods) { superclass = Some (codes "java/lang/Object") })
     ∷ Request (record { class = 1; method = 4; pc = 0 })
     ∷ Request (record { class = 1; method = 5; pc = 0 })
     ∷ NewSwitch

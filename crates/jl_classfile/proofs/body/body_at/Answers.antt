@@ -9,7 +9,8 @@ use Rattle.jl_pool.proofs.Fields.{IsBytes}
 use Rattle.jl_classfile.proofs.BodyLaws.{body-takes}
 use Rattle.jl_classfile.proofs.body.body_at.Goals as goal
 
-spelled : (bytes : List ℕ) (r : Result (Body × Bor (List ℕ)) Broken) → IsBytes bytes → Reads (λ x. (x.0, x.1.now)) r (body_at bytes) → IfOk r (λ x. BodySized x.0 × (bytes ≡ body_text x.0 ++ x.1.now))
+spelled : (bytes : List ℕ) (r : Result (Body × Bor (List ℕ)) Broken) → IsBytes bytes → Reads (λ x. (x.0, x.1.now)) r (body_at bytes)
+    → IfOk r (λ x. BodySized x.0 × (bytes ≡ body_text x.0 ++ x.1.now))
 spelled bytes (Ok x) fits e = let t = body-takes bytes (x.0, x.1.now) fits e in (t.1, t.0.parts)
 spelled bytes (Err e) fits read = tt
 

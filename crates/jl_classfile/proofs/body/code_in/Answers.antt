@@ -7,7 +7,8 @@ use Rattle.jl_classfile.specs.Reading.Bodies.{code_in}
 use Rattle.jl_classfile.proofs.CodeAttributeLaws.{held_decides}
 use Rattle.jl_classfile.proofs.body.code_in.Goals as goal
 
-decided : (info : List ℕ) (r : Option (Bor (List ℕ))) → IsBytes info → option_map (λ code. code.now) r ≡ code_in info → MatchOption r ((code : List ℕ) → ¬ HoldsCode info code) (λ code. HoldsCode info code.now)
+decided : (info : List ℕ) (r : Option (Bor (List ℕ))) → IsBytes info → option_map (λ code. code.now) r ≡ code_in info
+    → MatchOption r ((code : List ℕ) → ¬ HoldsCode info code) (λ code. HoldsCode info code.now)
 decided info None fits e = held_decides info None fits (sym e)
 decided info (Some code) fits e = held_decides info (Some code.now) fits (sym e)
 

@@ -12,7 +12,9 @@ pub returns-in_err-check_attribute_names-clause-fault : goal.returns-in_err-chec
 returns-in_err-check_attribute_names-clause-fault c =
     let p = err_from_is_err_and c.from_residual-in_err-check_attribute_names.result c.from_residual-in_err-check_attribute_names.ensures.1 in
     let f = rw c.as_slice.ensures at c.in_err-check_attribute_names.ensures.fault in
-    rw (p.1, p.2) (subst (λ (g : ClassFault). IsMethodFault c.args.pool.now c.args.interface c.args.place c.args.index c.args.twin c.args.method.now g) (sym f.1) (at_attribute c.args.method.now f.0 f.2, f.3))
+    rw (p.1, p.2)
+    (subst (λ (g : ClassFault). IsMethodFault c.args.pool.now c.args.interface c.args.place c.args.index c.args.twin c.args.method.now g) (sym f.1)
+    (at_attribute c.args.method.now f.0 f.2, f.3))
 
 pub returns-clause-ok : goal.returns-clause-ok
 returns-clause-ok c =

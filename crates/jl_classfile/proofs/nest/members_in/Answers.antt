@@ -9,10 +9,19 @@ pub returns-in-Err-Cut-clause-fault : goal.returns-in-Err-Cut-clause-fault
 returns-in-Err-Cut-clause-fault c = λ other. (refl, cut_members c.args.pool.now c.args.info.now (rw c.in-Err-Cut.field-0-is at c.in-Err-Cut.ensures))
 
 pub returns-then-not-is_empty-clause-fault : goal.returns-then-not-is_empty-clause-fault
-returns-then-not-is_empty-clause-fault c = λ other. (refl, more_than_members c.args.pool.now c.args.info.now c.in-Ok.read.0 c.in-Ok.read.1.now c.in-Ok.ensures (has_more c.in-Ok.read.1.now c.if-not-is_empty.ensures))
+returns-then-not-is_empty-clause-fault c =
+    λ other. (
+      refl,
+      more_than_members c.args.pool.now c.args.info.now c.in-Ok.read.0 c.in-Ok.read.1.now c.in-Ok.ensures (has_more c.in-Ok.read.1.now c.if-not-is_empty.ensures),
+    )
 
 pub returns-then-not-are_classes-clause-fault : goal.returns-then-not-are_classes-clause-fault
-returns-then-not-are_classes-clause-fault c = λ other. (refl, no_classes c.args.pool.now c.args.info.now c.in-Ok.read.0 c.in-Ok.read.1.now c.in-Ok.ensures (subst (λ (l : List ℕ). ¬ All (IsClassNumber c.args.pool.now) l) c.as_slice.ensures c.if-not-are_classes.ensures))
+returns-then-not-are_classes-clause-fault c =
+    λ other. (
+      refl,
+      no_classes c.args.pool.now c.args.info.now c.in-Ok.read.0 c.in-Ok.read.1.now c.in-Ok.ensures
+          (subst (λ (l : List ℕ). ¬ All (IsClassNumber c.args.pool.now) l) c.as_slice.ensures c.if-not-are_classes.ensures),
+    )
 
 pub returns-clause-ok : goal.returns-clause-ok
 returns-clause-ok c =

@@ -14,4 +14,5 @@ returns-then-not-is_empty-clause-fault c = λ other.
 
 pub returns-clause-ok : goal.returns-clause-ok
 returns-clause-ok c =
-    lies c.args.bytes.now c.in_ok-major.major c.in_ok-major.pool c.in_ok-major.behind.now c.in_ok-body.body c.in_ok-body.rest.now c.in_ok-major.ensures.ok c.in_ok-body.ensures.spelled (no_more c.in_ok-body.rest.now c.if-not-is_empty.ensures)
+    lies c.args.bytes.now c.in_ok-major.major c.in_ok-major.pool c.in_ok-major.behind.now c.in_ok-body.body c.in_ok-body.rest.now c.in_ok-major.ensures.ok
+    c.in_ok-body.ensures.spelled (no_more c.in_ok-body.rest.now c.if-not-is_empty.ensures)

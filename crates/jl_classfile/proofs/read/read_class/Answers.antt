@@ -5,7 +5,10 @@ use Rattle.jl_classfile.proofs.read.read_class.Goals as goal
 pub returns-in_err-check_links-clause-fault : goal.returns-in_err-check_links-clause-fault
 returns-in_err-check_links-clause-fault c =
     let p = err_from_is_err_and c.from_residual-in_err-check_links.result c.from_residual-in_err-check_links.ensures.1 in
-    rw (p.1, p.2) (λ other. links_first c.args.bytes.now c.in_ok-major.major c.in_ok-major.pool c.in_ok-major.body c.in_ok-major.ensures.ok c.in_err-check_links.field-0.0 c.in_err-check_links.ensures.fault)
+    rw (p.1, p.2)
+    (λ other.
+    links_first c.args.bytes.now c.in_ok-major.major c.in_ok-major.pool c.in_ok-major.body c.in_ok-major.ensures.ok c.in_err-check_links.field-0.0
+    c.in_err-check_links.ensures.fault)
 
 pub returns-in_err-check_members-clause-fault : goal.returns-in_err-check_members-clause-fault
 returns-in_err-check_members-clause-fault c =
@@ -18,9 +21,12 @@ pub returns-in_err-check_attribute_names-clause-fault : goal.returns-in_err-chec
 returns-in_err-check_attribute_names-clause-fault c =
     let p = err_from_is_err_and c.from_residual-in_err-check_attribute_names.result c.from_residual-in_err-check_attribute_names.ensures.1 in
     rw (p.1, p.2)
-    (λ other. attributes_first c.args.bytes.now c.in_ok-major.major c.in_ok-major.pool c.in_ok-major.body c.in_ok-major.ensures.ok c.in_err-check_attribute_names.field-0.0 c.in_ok-check_links.ensures.ok
+    (λ other.
+    attributes_first c.args.bytes.now c.in_ok-major.major c.in_ok-major.pool c.in_ok-major.body c.in_ok-major.ensures.ok c.in_err-check_attribute_names.field-0.0
+    c.in_ok-check_links.ensures.ok
     c.in_ok-check_members.ensures.ok
-    (attributes_fault c.in_ok-major.major c.in_ok-major.pool c.in_ok-major.body c.as_slice.result.now c.in_err-check_attribute_names.field-0.0 c.as_slice.ensures c.in_err-check_attribute_names.ensures.fault))
+    (attributes_fault c.in_ok-major.major c.in_ok-major.pool c.in_ok-major.body c.as_slice.result.now c.in_err-check_attribute_names.field-0.0 c.as_slice.ensures
+    c.in_err-check_attribute_names.ensures.fault))
 
 pub returns-in_err-nest-clause-fault : goal.returns-in_err-nest-clause-fault
 returns-in_err-nest-clause-fault c =

@@ -8,7 +8,9 @@ use Rattle.jl_code.proofs.CodeLaws.{Scanned, Scanned-more, Scanned-cut, Scanned-
 use Rattle.jl_code.proofs.code.scan.Goals as goal
 
 pub loop-rest-smaller-in_ok-push-in-Ok : goal.loop-rest-smaller-in_ok-push-in-Ok
-loop-rest-smaller-in_ok-push-in-Ok c = shorter c.args.pool.now c.args.code.now c.loop-rest.rest.now c.in-Ok.after.now c.loop-rest.sites.items (length c.args.code.now - length c.loop-rest.rest.now) c.in-Ok.instruction c.loop-rest.invariant c.in-Ok.ensures
+loop-rest-smaller-in_ok-push-in-Ok c =
+    shorter c.args.pool.now c.args.code.now c.loop-rest.rest.now c.in-Ok.after.now c.loop-rest.sites.items (length c.args.code.now - length c.loop-rest.rest.now)
+    c.in-Ok.instruction c.loop-rest.invariant c.in-Ok.ensures
 
 pub loop-rest-preserved-in_ok-push-in-Ok : goal.loop-rest-preserved-in_ok-push-in-Ok
 loop-rest-preserved-in_ok-push-in-Ok c =
@@ -19,7 +21,9 @@ loop-rest-preserved-in_ok-push-in-Ok c =
     rw c.in_ok-push-in-Ok.ensures.items (subst (λ (x : List Site). Scanned c.args.pool.now c.args.code.now c.in-Ok.after.now (c.loop-rest.sites.items ++ x)) one more)
 
 pub loop-rest-smaller : goal.loop-rest-smaller
-loop-rest-smaller c = shorter c.args.pool.now c.args.code.now c.loop-rest.rest.now c.in-Ok.after.now c.loop-rest.sites.items (length c.args.code.now - length c.loop-rest.rest.now) c.in-Ok.instruction c.loop-rest.invariant c.in-Ok.ensures
+loop-rest-smaller c =
+    shorter c.args.pool.now c.args.code.now c.loop-rest.rest.now c.in-Ok.after.now c.loop-rest.sites.items (length c.args.code.now - length c.loop-rest.rest.now)
+    c.in-Ok.instruction c.loop-rest.invariant c.in-Ok.ensures
 
 pub loop-rest-preserved : goal.loop-rest-preserved
 loop-rest-preserved c =
@@ -48,4 +52,5 @@ pub returns-in_err-site-in-Ok-clause-fault : goal.returns-in_err-site-in-Ok-clau
 returns-in_err-site-in-Ok-clause-fault c =
     let p = err_from_is_err_and c.from_residual.result c.from_residual.ensures.1 in
     rw (p.1, p.2)
-    (Scanned-operand c.args.pool.now c.args.code.now c.loop-rest.rest.now c.in-Ok.after.now c.loop-rest.sites.items (length c.args.code.now - length c.loop-rest.rest.now) c.in-Ok.instruction c.in_err-site-in-Ok.field-0.0 refl c.loop-rest.invariant c.in-Ok.ensures c.in_err-site-in-Ok.ensures.fault)
+    (Scanned-operand c.args.pool.now c.args.code.now c.loop-rest.rest.now c.in-Ok.after.now c.loop-rest.sites.items (length c.args.code.now - length c.loop-rest.rest.now)
+    c.in-Ok.instruction c.in_err-site-in-Ok.field-0.0 refl c.loop-rest.invariant c.in-Ok.ensures c.in_err-site-in-Ok.ensures.fault)

@@ -8,4 +8,5 @@ loop-number-preserved-in_default g c =
 
 pub loop-number-preserved : goal.loop-number-preserved
 loop-number-preserved g c =
-    gives_one g.F.Fn c.args.make c.loop-number.number c.loop-number.made.items c.loop-number.invariant c.in-Some.one c.push.new.self.items c.in_ok-push.ensures.items (says g.F.Fn c.make.ensures c.in-Some.is)
+    gives_one g.F.Fn c.args.make c.loop-number.number c.loop-number.made.items c.loop-number.invariant c.in-Some.one c.push.new.self.items c.in_ok-push.ensures.items
+    (says g.F.Fn c.make.ensures c.in-Some.is)

@@ -5,7 +5,8 @@ use Rattle.jl_types.specs.declared.answer.Unlinked.{Unlinked}
 use Rattle.jl_types.specs.Links.{scratch}
 use Rattle.jl_types.specs.History.{kept}
 use Rattle.jl_core.specs.State.{link_at}
-use Rattle.jl_core.proofs.MachineLaws.{kept_none, kept_if, not_some, gone, at_turn, turn_stays, turn_goes, gone_not, gone_one, all_passed, gone_is_lost}
+use Rattle.jl_core.proofs.KeptLaws.{kept_none, kept_if, not_some}
+use Rattle.jl_core.proofs.DropLaws.{gone, at_turn, turn_stays, turn_goes, gone_not, gone_one, all_passed, gone_is_lost}
 use Rattle.jl_core.proofs.machine.drop_changed.Goals.{In_default, After-stays, After-loop-number}
 use Rattle.jl_core.proofs.machine.drop_changed.Goals as goal
 

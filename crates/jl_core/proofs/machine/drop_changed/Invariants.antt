@@ -1,7 +1,7 @@
 use Rattle.std.proofs.Common.{◌≡◌, ◌≤◌, ◌+◌, ℕ, length}
 use Rattle.std.specs.Vec.{vec_len, vec_capacity}
 use Rattle.jl_core.specs.State.{link_at}
-use Rattle.jl_core.proofs.MachineLaws.{so_far, gone}
+use Rattle.jl_core.proofs.DropLaws.{so_far, gone}
 use Rattle.jl_core.proofs.machine.drop_changed.Given as goal
 
 -- the sites so far are done, and there is room for the others

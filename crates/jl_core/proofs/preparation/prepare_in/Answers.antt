@@ -13,12 +13,14 @@ use Rattle.jl_core.proofs.preparation.prepare_in.Goals as goal
 rows_are : (c : After-of) → ArePrepared c.args.world.now c.args.sites.now c.of.result
 rows_are c =
     subst (ArePrepared c.args.world.now c.args.sites.now) (sym c.of.ensures)
-    (zip_each _ (λ (s : ℕ) (row : ℕ × Link). (row.0 ≡ s) × (scratch c.args.world.now s ≡ Ok row.1)) (λ s row k. search (rules, of_calls)) c.args.sites.now c.fill.new.made.items c.in_ok-fill.ensures.made)
+    (zip_each _ (λ (s : ℕ) (row : ℕ × Link). (row.0 ≡ s) × (scratch c.args.world.now s ≡ Ok row.1)) (λ s row k. search (rules, of_calls)) c.args.sites.now
+    c.fill.new.made.items c.in_ok-fill.ensures.made)
 
 pub returns : goal.returns
 returns c = record {
   accepted =
-      size_and_sites c.args.world.now c.args.sites.now (sym c.is_bad_size.ensures ∙ c.if-is_bad_size.false) (sym (c.sites_fault.ensures ∙ ap (sites_fault c.args.world.now []) (map-id c.args.sites.now)) ∙ c.in_default.is)
+      size_and_sites c.args.world.now c.args.sites.now (sym c.is_bad_size.ensures ∙ c.if-is_bad_size.false)
+      (sym (c.sites_fault.ensures ∙ ap (sites_fault c.args.world.now []) (map-id c.args.sites.now)) ∙ c.in_default.is)
       ∙ all_ready c.args.world.now c.args.sites.now c.of.result (rows_are c);
   rows = rows_are c;
   serial = refl;
@@ -36,5 +38,8 @@ returns-in_err-fill c =
     let k = first.fails in
     search (rules, of_calls)
     in
-    rw (p.1, p.2) (inl (size_and_sites c.args.world.now sites (sym c.is_bad_size.ensures ∙ c.if-is_bad_size.false) (sym (c.sites_fault.ensures ∙ ap (sites_fault c.args.world.now []) (map-id c.args.sites.now)) ∙ c.in_default.is)
+    rw (p.1, p.2)
+    (inl
+    (size_and_sites c.args.world.now sites (sym c.is_bad_size.ensures ∙ c.if-is_bad_size.false)
+    (sym (c.sites_fault.ensures ∙ ap (sites_fault c.args.world.now []) (map-id c.args.sites.now)) ∙ c.in_default.is)
     ∙ first_unready c.args.world.now sites first.count first.item first.made c.in_err-fill.field-0.0 made first.next unready))

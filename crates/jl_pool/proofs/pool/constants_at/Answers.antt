@@ -13,7 +13,8 @@ loop-place-smaller c = omega (arith, c.in_ok-place-in-Ok.ensures.ok.0)
 pub loop-place-preserved : goal.loop-place-preserved
 loop-place-preserved c =
     rw (c.in_ok-place-in-Ok.ensures.ok.1, c.in_ok-place-in-Ok.ensures.ok.0)
-    (SoFar-more c.args.bytes.now c.loop-place.entries.items c.loop-place.rest.now c.args.count c.loop-place.place c.in-Ok.constant c.in-Ok.after.now c.loop-place.invariant c.loop-place-test.true c.in-Ok.ensures)
+    (SoFar-more c.args.bytes.now c.loop-place.entries.items c.loop-place.rest.now c.args.count c.loop-place.place c.in-Ok.constant c.in-Ok.after.now
+    c.loop-place.invariant c.loop-place-test.true c.in-Ok.ensures)
 
 pub returns-in-Err-Cut-clause-fault : goal.returns-in-Err-Cut-clause-fault
 returns-in-Err-Cut-clause-fault c =

@@ -20,6 +20,7 @@ returns c =
     (λ made g.
     g.some
     ∙ all_given (λ s. option_map (λ l. (s, l)) (link_at c.args.self.now s)) (range_with_len 0 c.args.sites) g.given
-    (zip_each _ (λ (s : ℕ) (one : Option (ℕ × Link)). one ≡ option_map (λ l. (s, l)) (link_at c.args.self.now s)) (λ s one k. search (rules, of_calls)) (range_with_len 0 c.args.sites) g.given g.each)
+    (zip_each _ (λ (s : ℕ) (one : Option (ℕ × Link)). one ≡ option_map (λ l. (s, l)) (link_at c.args.self.now s)) (λ s one k. search (rules, of_calls))
+    (range_with_len 0 c.args.sites) g.given g.each)
     ∙ rows_are c.args.self.now rising c.args.sites c.requires)
     c.gather.result c.gather.ensures

@@ -11,8 +11,14 @@ loop-number-preserved-then-not-is_receiver c =
 pub returns-in_err-joined : goal.returns-in_err-joined
 returns-in_err-joined c =
     c.from_residual.ensures
-    ∙ sym (turn_fails c.args.self.now c.args.named c.args.resolved.now c.loop-number.number c.new-class.result c.new-class.ensures (sym c.is_receiver.ensures ∙ c.if-not-is_receiver.false) c.loop-number.common (length c.args.self.now.rows) (subst (λ n. c.loop-number.number < n) (ap length c.rows-number-end.ensures.rows) c.loop-number-test.true) c.loop-number.invariant (ap (joined c.loop-number.common) (sym c.virtual_outcome.ensures) ∙ sym c.in_err-joined.ensures))
+    ∙ sym
+    (turn_fails c.args.self.now c.args.named c.args.resolved.now c.loop-number.number c.new-class.result c.new-class.ensures
+    (sym c.is_receiver.ensures ∙ c.if-not-is_receiver.false) c.loop-number.common (length c.args.self.now.rows)
+    (subst (λ n. c.loop-number.number < n) (ap length c.rows-number-end.ensures.rows) c.loop-number-test.true) c.loop-number.invariant
+    (ap (joined c.loop-number.common) (sym c.virtual_outcome.ensures) ∙ sym c.in_err-joined.ensures))
 
 pub loop-number-preserved : goal.loop-number-preserved
 loop-number-preserved c =
-    turn_joins c.args.self.now c.args.named c.args.resolved.now c.loop-number.number c.new-class.result c.new-class.ensures (sym c.is_receiver.ensures ∙ c.if-not-is_receiver.false) c.loop-number.common c.in_ok-joined.field-0 c.loop-number.invariant (ap (joined c.loop-number.common) (sym c.virtual_outcome.ensures) ∙ sym c.in_ok-joined.ensures)
+    turn_joins c.args.self.now c.args.named c.args.resolved.now c.loop-number.number c.new-class.result c.new-class.ensures
+    (sym c.is_receiver.ensures ∙ c.if-not-is_receiver.false) c.loop-number.common c.in_ok-joined.field-0 c.loop-number.invariant
+    (ap (joined c.loop-number.common) (sym c.virtual_outcome.ensures) ∙ sym c.in_ok-joined.ensures)

@@ -9,5 +9,7 @@ loop-method-smaller c =
 
 pub loop-method-preserved : goal.loop-method-preserved
 loop-method-preserved c =
-    sym (found_above c.args.self.now c.superclass_of.ensures.plain.ordered c.loop-method.at c.args.name.now c.args.ty.now c.in-Some-superclass_of.superclass (sym c.in_default.ensures) (sym c.in-Some-superclass_of.ensures.same))
+    sym
+    (found_above c.args.self.now c.superclass_of.ensures.plain.ordered c.loop-method.at c.args.name.now c.args.ty.now c.in-Some-superclass_of.superclass
+    (sym c.in_default.ensures) (sym c.in-Some-superclass_of.ensures.same))
     ∙ c.loop-method.invariant

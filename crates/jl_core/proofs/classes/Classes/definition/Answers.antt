@@ -1,5 +1,5 @@
 use Rattle.std.proofs.Common.{sym, ◌∙◌}
-use Rattle.jl_core.proofs.DefineLaws.{last_is}
+use Rattle.jl_core.proofs.FaultLaws.{last_is}
 use Rattle.jl_core.proofs.classes.Classes.definition.Goals as goal
 
 pub returns-in-Some-last_fault-clause-fault : goal.returns-in-Some-last_fault-clause-fault

@@ -14,5 +14,9 @@ loop-other-preserved c =
     let there = c.loop-other.invariant.there in
     record {
       there = omega arith;
-      same = sym (below_next c.args.self.now c.superclass_of.ensures.plain.ordered c.loop-other.at there c.args.other c.in-Some.superclass (sym c.eq.ensures ∙ c.if-eq.false) (sym c.in-Some.ensures.same)) ∙ c.loop-other.invariant.same;
+      same =
+          sym
+          (below_next c.args.self.now c.superclass_of.ensures.plain.ordered c.loop-other.at there c.args.other c.in-Some.superclass
+          (sym c.eq.ensures ∙ c.if-eq.false) (sym c.in-Some.ensures.same))
+          ∙ c.loop-other.invariant.same;
     }

@@ -22,4 +22,5 @@ returns-clause-found c =
 pub returns-clause-there : goal.returns-clause-there
 returns-clause-there c =
     subst (λ (s : Classes). IfSome c.copied.result (λ class. class < length s.rows)) c.self.view_is
-    (subst (λ (o : Option ℕ). IfSome o (λ class. class < length c.self.inside.rows.items)) (sym (c.copied.ensures ∙ c.get.ensures.value)) (there_of _ (length c.self.inside.rows.items) c.self.inside.records.entries c.self.invariant.1))
+    (subst (λ (o : Option ℕ). IfSome o (λ class. class < length c.self.inside.rows.items)) (sym (c.copied.ensures ∙ c.get.ensures.value))
+    (there_of _ (length c.self.inside.rows.items) c.self.inside.records.entries c.self.invariant.1))

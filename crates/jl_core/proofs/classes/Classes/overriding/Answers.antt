@@ -7,5 +7,7 @@ loop-found-smaller c = next_below c.args.self.now c.superclass_of.ensures.plain.
 
 pub loop-found-preserved : goal.loop-found-preserved
 loop-found-preserved c =
-    sym (over_above c.args.self.now c.superclass_of.ensures.plain.ordered c.args.resolved.now c.args.method.now c.loop-found.at c.in-Some-superclass_of.superclass (sym c.in_default.ensures) (sym c.in-Some-superclass_of.ensures.same))
+    sym
+    (over_above c.args.self.now c.superclass_of.ensures.plain.ordered c.args.resolved.now c.args.method.now c.loop-found.at c.in-Some-superclass_of.superclass
+    (sym c.in_default.ensures) (sym c.in-Some-superclass_of.ensures.same))
     ∙ c.loop-found.invariant

@@ -21,7 +21,8 @@ returns-in-Some c =
     let found = upward_is c.args.self.now c.as_slice.ensures c.as_slice-2.ensures c.args.named ∙ sym c.in-Some.ensures in
     sym (resolved_class c.args.self.now c.rows.ensures.plain c.args.caller ref c.args.named row.0 row.1 c.if-reference.false
     ∙ ap (if_accessible c.args.self.now c.args.caller c.args.named) found
-    ∙ upward_accessible c.args.self.now c.rows.ensures.plain c.args.caller c.args.named c.in-Some.method (upward_public c.args.self.now c.rows.ensures.plain ref.name ref.ty c.args.named c.in-Some.method found))
+    ∙ upward_accessible c.args.self.now c.rows.ensures.plain c.args.caller c.args.named c.in-Some.method
+    (upward_public c.args.self.now c.rows.ensures.plain ref.name ref.ty c.args.named c.in-Some.method found))
 
 pub returns-in-None : goal.returns-in-None
 returns-in-None c =

@@ -3,7 +3,7 @@ use Rattle.std.proofs.Common.{sym, ap, subst}
 use Rattle.jl_types.specs.World.{World}
 use Rattle.jl_types.proofs.InstalledLinks.{requested}
 use Rattle.jl_core.specs.State.{AreScratch, link_at}
-use Rattle.jl_core.proofs.MachineLaws.{are_scratch}
+use Rattle.jl_core.proofs.KeptLaws.{are_scratch}
 use Rattle.jl_core.proofs.machine.Core.define.Goals as goal
 
 pub invariant_of-self : goal.invariant_of-self

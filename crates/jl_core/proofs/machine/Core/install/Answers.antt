@@ -9,7 +9,8 @@ use Rattle.jl_types.specs.Links.{scratch}
 use Rattle.jl_types.specs.Events.{unless}
 use Rattle.jl_types.specs.History.{kept}
 use Rattle.jl_core.specs.State.{State, IsAccepted, counted, AreScratch, link_at}
-use Rattle.jl_core.proofs.MachineLaws.{are_scratch, install_keeps, kept_once, nothing_lost}
+use Rattle.jl_core.proofs.KeptLaws.{are_scratch, kept_once, nothing_lost}
+use Rattle.jl_core.proofs.InstallLaws.{install_keeps}
 use Rattle.jl_core.proofs.machine.Core.install.Goals.{After-of}
 use Rattle.jl_core.proofs.machine.Core.install.Goals as goal
 
@@ -37,7 +38,11 @@ returns-clause-ok c =
       dropped =
           c.of.ensures ∙ c.new.ensures.items
           ∙ sym (nothing_lost (length c.self.inside.world.places) c.self.inside.links c.install.new.self
-          (λ s l e. ap is_some (keeps c s ∙ kept_once (list_any (λ row. row.0 == s) c.args.rows.now) (link_at c.self.inside.links s) (scratch c.self.inside.world s) l e (c.self.invariant.0 s l e))));
+          (λ s l e.
+          ap is_some
+          (keeps c s
+          ∙ kept_once (list_any (λ row. row.0 == s) c.args.rows.now) (link_at c.self.inside.links s) (scratch c.self.inside.world s) l e
+          (c.self.invariant.0 s l e))));
       limit = refl;
       count = refl;
     }

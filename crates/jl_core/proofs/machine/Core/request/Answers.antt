@@ -7,7 +7,8 @@ use Rattle.jl_types.specs.World.{World}
 use Rattle.jl_types.specs.Links.{scratch}
 use Rattle.jl_types.specs.History.{kept}
 use Rattle.jl_core.specs.State.{State, IsAccepted, counted, AreScratch, link_at}
-use Rattle.jl_core.proofs.MachineLaws.{are_scratch, request_keeps, nothing_lost}
+use Rattle.jl_core.proofs.KeptLaws.{are_scratch, nothing_lost}
+use Rattle.jl_core.proofs.RequestLaws.{request_keeps}
 use Rattle.jl_core.proofs.machine.Core.request.Goals.{After-of}
 use Rattle.jl_core.proofs.machine.Core.request.Goals as goal
 

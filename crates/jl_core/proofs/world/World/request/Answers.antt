@@ -22,6 +22,7 @@ invariant_of-self-2 c =
     let few : length c.self.inside.places.keys < c.args.max_sites = subst (λ n. n < c.args.max_sites) (sym (ap (λ (w : World). length w.places) c.self.view_is)) room in
     let most = c.requires in (
       subst (AreSupported c.self.inside.classes) (sym c.in_ok-site.ensures.keys)
-          (place_supported c.self.inside.classes c.self.inside.places.keys c.args.place asked.0 (ap (λ (w : World). invocation_at w.classes c.args.place) c.self.view_is ∙ asked.1) asked.2 c.self.invariant.0 _),
+          (place_supported c.self.inside.classes c.self.inside.places.keys c.args.place asked.0
+          (ap (λ (w : World). invocation_at w.classes c.args.place) c.self.view_is ∙ asked.1) asked.2 c.self.invariant.0 _),
       subst (λ (keys : List Place). length keys ≤ 65536) (sym c.in_ok-site.ensures.keys) (place_few c.self.inside.places.keys c.args.place 65536 (omega arith) _),
     )

@@ -1,0 +1,76 @@
+-- Which installed links stay, and that none is lost where each stays.
+use Rattle.std.specs.Prelude.{◌≡◌, ℕ, ◌&&◌, ◌||◌, Bool, true, false, List, [], Option, Some, None, is_some, is_none, Result, Ok, Err, if◌then◌else◌}
+use Rattle.std.specs.List.{range_with_len}
+use Rattle.std.proofs.Common.{refl, ap, sym, ◌∙◌}
+use Rattle.std.proofs.lemmas.Option.{same_Some}
+use Rattle.jl_types.specs.declared.link.Link.{Link}
+use Rattle.jl_types.specs.declared.answer.Unlinked.{Unlinked}
+use Rattle.jl_types.specs.Means.SameLink.{same_link, link_decides}
+use Rattle.jl_types.specs.World.{World}
+use Rattle.jl_types.specs.Links.{scratch}
+use Rattle.jl_types.specs.History.{has_link, kept}
+use Rattle.jl_types.proofs.Accepting.{linked}
+use Rattle.jl_core.specs.State.{link_at, lost, AreScratch}
+use Rattle.jl_core.proofs.PlainLaws.{filter_none}
+
+same_itself : (l : Link) → same_link l l ≡ true
+same_itself l = (link_decides l l).1 refl
+
+-- what is kept is the link from scratch
+pub kept_scratch : (b : Bool) (before : Option Link) (r : Result Link Unlinked) (l : Link) → kept b before r ≡ Some l → r ≡ Ok l
+kept_scratch b before (Err reason) l e = cc
+kept_scratch b before (Ok now) l e = by_test (b || has_link before now) e
+  where
+    by_test : (d : Bool) → (if d then Some now else None) ≡ Some l → linked now ≡ linked l
+    by_test true e = ap linked (same_Some now l e)
+    by_test false e = cc
+
+pub are_scratch : (w : World) (links : List (ℕ × Link)) (b : ℕ → Bool) (before : ℕ → Option Link)
+    → ((s : ℕ) → link_at links s ≡ kept (b s) (before s) (scratch w s)) → AreScratch w links
+are_scratch w links b before h = λ s l e. kept_scratch (b s) (before s) (scratch w s) l (sym (h s) ∙ e)
+
+pub kept_none : (r : Result Link Unlinked) → kept false None r ≡ None
+kept_none (Err reason) = refl
+kept_none (Ok now) = refl
+
+-- where the link is still the one from scratch, it stays
+pub kept_same : (before : Option Link) (r : Result Link Unlinked) → ((l : Link) → before ≡ Some l → r ≡ Ok l) → kept false before r ≡ before
+kept_same None r h = kept_none r
+kept_same (Some l) r h = ap (kept false (Some l)) (h l refl) ∙ ap (λ (b : Bool). if b then Some l else None) (same_itself l)
+
+-- an installed link that is the one from scratch stays, whether it is installed again or not
+pub kept_once : (b : Bool) (before : Option Link) (r : Result Link Unlinked) (l : Link) → before ≡ Some l → r ≡ Ok l → kept b before r ≡ Some l
+kept_once b before r l e f = (λ i. kept b (e i) (f i)) ∙ by_flag b
+  where
+    by_flag : (b : Bool) → kept b (Some l) (Ok l) ≡ Some l
+    by_flag true = refl
+    by_flag false = ap (λ (d : Bool). if d then Some l else None) (same_itself l)
+
+pub kept_if : (l : Link) (r : Result Link Unlinked) → is_some (kept false (Some l) r) ≡ true → kept false (Some l) r ≡ Some l
+kept_if l (Err reason) e = cc
+kept_if l (Ok now) e = by_test (same_link l now) refl e
+  where
+    by_test : (b : Bool) → same_link l now ≡ b → is_some (if b then Some now else None) ≡ true → (if b then Some now else None) ≡ Some l
+    by_test true is e = ap Some (sym ((link_decides l now).0 is))
+    by_test false is e = cc
+
+pub not_some : {A : Type 0} (o : Option A) → is_some o ≡ false → o ≡ None
+not_some None e = refl
+not_some (Some x) e = cc
+
+-- ---- nothing is lost
+
+pub kept_none_lost : (before after : Option Link) → after ≡ before → (is_some before && is_none after) ≡ false
+kept_none_lost None after e = refl
+kept_none_lost (Some l) after e = ap is_none e
+
+pub nothing_lost : (n : ℕ) (before after : List (ℕ × Link)) → ((s : ℕ) (l : Link) → link_at before s ≡ Some l → is_some (link_at after s) ≡ true) → lost n before after ≡ []
+nothing_lost n before after h = filter_none (λ s. is_some (link_at before s) && is_none (link_at after s)) (range_with_len 0 n) (λ s. by_link s (link_at before s) refl)
+  where
+    still : (o : Option Link) → is_some o ≡ true → is_none o ≡ false
+    still None e = cc
+    still (Some l) e = refl
+
+    by_link : (s : ℕ) (o : Option Link) → link_at before s ≡ o → (is_some o && is_none (link_at after s)) ≡ false
+    by_link s None e = refl
+    by_link s (Some l) e = still (link_at after s) (h s l e)
