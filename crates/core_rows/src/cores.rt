@@ -1,6 +1,6 @@
 //! What lines of commands don't reach: a limit of places, rows made by hand, worlds of before, events that come later.
 
-use jl_classfile::{ClassFile, read_class};
+use jl_classfile::read_class;
 use jl_core::{Core, Prepared, Snapshot, World, prepare};
 use jl_names::Seq;
 use jl_types::{
@@ -31,22 +31,24 @@ const N: &str =
 const C: &str =
     "cafebabe0000003d0008010001430700010100014107000301000166010003282956010004436f6465002100020004000000000001000100050006000100070000000d0000000000000001b1000000000000";
 
-/// The class file of the hexadecimal text.
-fn read(alloc: Global, text: &str) -> Option<ClassFile> {
-    let bytes = hex::decode(alloc, text).ok()?;
-    read_class(alloc, &bytes).ok()
-}
-
 /// Whether the event is accepted.
 fn is_accepted(alloc: Global, core: &mut Core, event: Event) -> bool {
     core.apply(alloc, event).is_ok()
 }
 
+/// Whether loader 0 defines the class of the file.
+fn is_read(alloc: Global, core: &mut Core, file: &[u8]) -> bool {
+    match read_class(alloc, file) {
+        Ok(file) => is_accepted(alloc, core, Event::Define(LoaderId::new(0), file)),
+        Err(_) => false,
+    }
+}
+
 /// Whether loader 0 defines the class of the hexadecimal text.
 fn is_defined(alloc: Global, core: &mut Core, text: &str) -> bool {
-    match read(alloc, text) {
-        Some(file) => is_accepted(alloc, core, Event::Define(LoaderId::new(0), file)),
-        None => false,
+    match hex::decode(alloc, text) {
+        Ok(file) => is_read(alloc, core, &file),
+        Err(_) => false,
     }
 }
 
@@ -153,14 +155,22 @@ const INSTALLS: [(&[u32], &str); 8] = [
 
 const ZEROS: [u32; 257] = [0; 257];
 
+fn assert_install(
+    rt: &(impl Abort + AllocGlobal),
+    core: &mut Core,
+    sites: &[u32],
+    want: &str,
+) -> Result<(), AllocError> {
+    let event = install(rt.alloc(), sites)?;
+    assert_answer(rt, core, event, want)
+}
+
 fn assert_installs(rt: &(impl Abort + AllocGlobal), core: &mut Core) -> Result<(), AllocError> {
     for (sites, want) in &INSTALLS {
-        assert_answer(rt, core, install(rt.alloc(), sites)?, want)?;
+        assert_install(rt, core, sites, want)?;
     }
-    let most = install(rt.alloc(), &ZEROS[..256])?;
-    assert_answer(rt, core, most, "Err(Repeated { site: SiteNo(0) })")?;
-    let too_many = install(rt.alloc(), &ZEROS)?;
-    assert_answer(rt, core, too_many, "Err(BatchSize)")
+    assert_install(rt, core, &ZEROS[..256], "Err(Repeated { site: SiteNo(0) })")?;
+    assert_install(rt, core, &ZEROS, "Err(BatchSize)")
 }
 
 /// Asserts that events which come later are refused.
@@ -247,7 +257,7 @@ fn assert_stale(
     rt: &(impl Abort + AllocGlobal),
     core: &mut Core,
     site: SiteNo,
-) -> Result<(), Fail> {
+) -> Result<(), PrepareFault> {
     let Prepared { serial, rows } = prepared_before(rt, core, site)?;
     assert_eq!(rt; serial, 4);
     assert!(rt; rows.as_slice() == [(site, runs_a())].as_slice());
@@ -255,16 +265,24 @@ fn assert_stale(
     Ok(())
 }
 
-fn assert_linked(
+fn assert_prepared(
     rt: &(impl Abort + AllocGlobal),
     core: &mut Core,
     site: SiteNo,
-) -> Result<(), Fail> {
+) -> Result<(), PrepareFault> {
     let Prepared { serial, rows } = core.prepare(rt.alloc(), [site].as_slice())?;
     // Four events and the class C: a refused one doesn't count.
     assert_eq!(rt; serial, 5);
     assert!(rt; rows.as_slice() == [(site, runs_a_or_c())].as_slice());
     assert!(rt; is_accepted(rt.alloc(), core, Event::Install(rows)));
+    Ok(())
+}
+
+fn assert_installed(
+    rt: &(impl Abort + AllocGlobal),
+    core: &Core,
+    site: SiteNo,
+) -> Result<(), AllocError> {
     assert!(rt; core.links().get(site) == Some(runs_a_or_c()));
     assert!(rt; core.links().get(SiteNo::new(1)).is_none());
     assert!(rt; core.call(site, Recv::Of(ClassId::new(3))) == Answer::Run(first(3)));
@@ -276,7 +294,8 @@ fn assert_linked(
 fn assert_links(rt: &(impl Abort + AllocGlobal), core: &mut Core) -> Result<(), Fail> {
     let site = SiteNo::new(0);
     assert_stale(rt, core, site)?;
-    assert_linked(rt, core, site)
+    assert_prepared(rt, core, site)?;
+    Ok(assert_installed(rt, core, site)?)
 }
 
 #[test]
