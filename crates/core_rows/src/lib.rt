@@ -1,4 +1,4 @@
-//! Tests of the core with small classes: worked rows. Nothing here is called by other crates.
+//! Tests of the core where lines of commands do not reach: worked rows. Nothing here is called by other crates.
 #![tactic(auto)]
 
 #[cfg(test)]

@@ -2,6 +2,10 @@
 #![tactic(auto)]
 
 #[cfg(test)]
+mod batches;
+#[cfg(test)]
+mod classes;
+#[cfg(test)]
 mod devices;
 #[cfg(test)]
 mod faults;
@@ -15,6 +19,8 @@ mod runs;
 mod scans;
 #[cfg(test)]
 mod sketches;
+#[cfg(test)]
+mod tables;
 #[cfg(test)]
 mod two_faults;
 #[cfg(test)]

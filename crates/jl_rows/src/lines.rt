@@ -47,3 +47,23 @@ pub(crate) fn assert_answers(
 ) -> Result<(), Fail> {
     assert_each(rt, Mode::Scan, rows)
 }
+
+/// Asserts that a core in which nothing happened yet answers these lines so, one after another.
+pub(crate) fn assert_run(
+    rt: &(impl Abort + AllocGlobal),
+    rows: &[(&str, &str)],
+) -> Result<(), Fail> {
+    let mut input = String::new(rt.alloc());
+    let mut expected = String::new(rt.alloc());
+    for (line, answer) in rows {
+        input.push_str(line)?;
+        input.push('\n')?;
+        expected.push_str(answer)?;
+        expected.push('\n')?;
+    }
+    let (written, outcome) = answered(rt.alloc(), Mode::Run, input.as_bytes());
+    let text = String::from_utf8_lossy(rt.alloc(), &written)?;
+    assert_eq!(rt; outcome, Ok(()));
+    assert!(rt; text.as_str() == expected.as_str(), "{text}");
+    Ok(())
+}

@@ -1,47 +1,10 @@
 //! Runs of commands over one core.
 
-use crate::lines::answered;
-use jl_cli::Mode;
-use std::process::Abort;
+use crate::classes::{A, B, C, M, OBJECT};
+use crate::lines::assert_run;
 use std::test::Fail;
 
-// java/lang/Object
-const OBJECT: &str =
-    r#"{"do":"define","loader":0,"sketch":{"name":"java/lang/Object","flags":33}}"#;
-
-// class A { public void f() {} }
-const A: &str =
-    r#"{"do":"define","loader":0,"sketch":{"name":"A","super":"java/lang/Object","flags":33,"methods":[{"name":"f","type":"()V","flags":1}]}}"#;
-
-// class B extends A {}
-const B: &str = r#"{"do":"define","loader":0,"sketch":{"name":"B","super":"A","flags":33}}"#;
-
-// class M { public static void run() { virtual A.f } }
-const M: &str =
-    r#"{"do":"define","loader":0,"sketch":{"name":"M","super":"java/lang/Object","flags":33,"methods":[{"name":"run","type":"()V","flags":9,"calls":[{"kind":"invokevirtual","of":"A","name":"f","type":"()V"}]}]}}"#;
-
-// class C extends A { public void f() {} }
-const C: &str =
-    r#"{"do":"define","loader":0,"sketch":{"name":"C","super":"A","flags":33,"methods":[{"name":"f","type":"()V","flags":1}]}}"#;
-
 const BAD_COMMAND: &str = r#"{"error":"BadCommand"}"#;
-
-/// Asserts that a core in which nothing happened yet answers these lines so, one after another.
-fn assert_run(rt: &(impl Abort + AllocGlobal), rows: &[(&str, &str)]) -> Result<(), Fail> {
-    let mut input = String::new(rt.alloc());
-    let mut expected = String::new(rt.alloc());
-    for (line, answer) in rows {
-        input.push_str(line)?;
-        input.push('\n')?;
-        expected.push_str(answer)?;
-        expected.push('\n')?;
-    }
-    let (written, outcome) = answered(rt.alloc(), Mode::Run, input.as_bytes());
-    let text = String::from_utf8_lossy(rt.alloc(), &written)?;
-    assert_eq!(rt; outcome, Ok(()));
-    assert!(rt; text.as_str() == expected.as_str(), "{text}");
-    Ok(())
-}
 
 #[test]
 fn drops_the_link_of_a_new_receiver(rt: HostRuntime) -> Result<(), Fail> {
@@ -166,6 +129,40 @@ fn refuses_definitions(rt: HostRuntime) -> Result<(), Fail> {
             (
                 r#"{"do":"define","hex":"cafebabe0000003d000501000142070001010001410700030021000200040000000000000000","loader":0}"#,
                 r#"{"class":2,"dropped":[]}"#,
+            ),
+        ]
+        .as_slice(),
+    )
+}
+
+#[test]
+fn admits_plain_classes_alone(rt: HostRuntime) -> Result<(), Fail> {
+    // Before every refusal of a definition: there is no loader 1.
+    assert_run(
+        &rt,
+        [
+            // interface I {}
+            (
+                r#"{"do":"define","loader":1,"sketch":{"name":"I","super":"java/lang/Object","flags":1537}}"#,
+                r#"{"refused":"NotYet"}"#,
+            ),
+            // public class J implements I {}
+            (
+                r#"{"do":"define","loader":1,"sketch":{"name":"J","super":"java/lang/Object","flags":33,"interfaces":["I"]}}"#,
+                r#"{"refused":"NotYet"}"#,
+            ),
+            // class P {}, which isn't public, and a public one with a method that isn't.
+            (
+                r#"{"do":"define","loader":1,"sketch":{"name":"P","super":"java/lang/Object","flags":32}}"#,
+                r#"{"refused":"NotYet"}"#,
+            ),
+            (
+                r#"{"do":"define","loader":1,"sketch":{"name":"Q","super":"java/lang/Object","flags":33,"methods":[{"name":"f","type":"()V","flags":0}]}}"#,
+                r#"{"refused":"NotYet"}"#,
+            ),
+            (
+                r#"{"do":"define","loader":1,"sketch":{"name":"R","super":"java/lang/Object","flags":33}}"#,
+                r#"{"refused":"Define.UnknownLoader"}"#,
             ),
         ]
         .as_slice(),

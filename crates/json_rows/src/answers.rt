@@ -16,13 +16,13 @@ use jl_types::{
 use serde_json::Value;
 use std::alloc::AllocError;
 use std::process::Abort;
-use std::test::Fail;
 
+/// Asserts that the value's text is this.
 fn assert_text(
     rt: &(impl Abort + AllocGlobal),
     value: Result<Value, AllocError>,
     want: &str,
-) -> Result<(), Fail> {
+) -> Result<(), AllocError> {
     let text = value?.to_string(rt.alloc())?;
     assert_eq!(rt; text.as_str(), want);
     Ok(())
@@ -42,221 +42,184 @@ fn table() -> Link {
 }
 
 #[test]
-fn outcomes(rt: HostRuntime) -> Result<(), Fail> {
-    let rows = [
-        (Outcome::Run(method(2)), "{\"run\":[1,2]}"),
-        (
-            Outcome::Throws(Throwable::AbstractMethodError),
-            "{\"throws\":\"AbstractMethodError\"}",
-        ),
-    ];
-    for (outcome, want) in rows {
-        assert_text(&rt, outcome_value(rt.alloc(), outcome), want)?;
-    }
-    Ok(())
+fn outcomes(rt: HostRuntime) -> Result<(), AllocError> {
+    let run = Outcome::Run(method(2));
+    assert_text(&rt, outcome_value(rt.alloc(), run), r#"{"run":[1,2]}"#)?;
+    let throws = Outcome::Throws(Throwable::AbstractMethodError);
+    assert_text(
+        &rt,
+        outcome_value(rt.alloc(), throws),
+        r#"{"throws":"AbstractMethodError"}"#,
+    )
+}
+
+fn assert_link(rt: &(impl Abort + AllocGlobal), link: Link, want: &str) -> Result<(), AllocError> {
+    assert_text(rt, link_value(rt.alloc(), link), want)
 }
 
 #[test]
-fn links(rt: HostRuntime) -> Result<(), Fail> {
-    let rows = [
-        (
-            Link::Fault(Throwable::NoSuchMethodError),
-            "{\"fault\":\"NoSuchMethodError\"}",
-        ),
-        (Link::Plain(method(2)), "{\"plain\":[1,2]}"),
-        (
-            Link::Direct(Outcome::Run(method(2))),
-            "{\"direct\":{\"run\":[1,2]}}",
-        ),
-        (
-            table(),
-            "{\"kind\":\"virtual\",\"table\":[[1,{\"run\":[1,0]}]]}",
-        ),
-        (
-            Link::Table(TableKind::Interface, Table::new()),
-            "{\"kind\":\"interface\",\"table\":[]}",
-        ),
-        (Link::Mega, "{\"mega\":true}"),
-    ];
-    for (link, want) in rows {
-        assert_text(&rt, link_value(rt.alloc(), link), want)?;
-    }
-    Ok(())
+fn links(rt: HostRuntime) -> Result<(), AllocError> {
+    let fault = Link::Fault(Throwable::NoSuchMethodError);
+    assert_link(&rt, fault, r#"{"fault":"NoSuchMethodError"}"#)?;
+    assert_link(&rt, Link::Plain(method(2)), r#"{"plain":[1,2]}"#)?;
+    let direct = Link::Direct(Outcome::Run(method(2)));
+    assert_link(&rt, direct, r#"{"direct":{"run":[1,2]}}"#)?;
+    assert_link(
+        &rt,
+        table(),
+        r#"{"kind":"virtual","table":[[1,{"run":[1,0]}]]}"#,
+    )?;
+    let empty = Link::Table(TableKind::Interface, Table::new());
+    assert_link(&rt, empty, r#"{"kind":"interface","table":[]}"#)?;
+    assert_link(&rt, Link::Mega, r#"{"mega":true}"#)
 }
 
 #[test]
-fn lists_of_links(rt: HostRuntime) -> Result<(), Fail> {
+fn lists_of_links(rt: HostRuntime) -> Result<(), AllocError> {
     let rows = [(SiteNo::new(0), Link::Mega), (SiteNo::new(3), Link::Mega)];
     assert_text(
         &rt,
         links_value(rt.alloc(), &rows),
-        "{\"links\":[[0,{\"mega\":true}],[3,{\"mega\":true}]]}",
+        r#"{"links":[[0,{"mega":true}],[3,{"mega":true}]]}"#,
     )?;
     assert_text(
         &rt,
         prepared_value(rt.alloc(), 7, &rows[..1]),
-        "{\"prepared\":7,\"rows\":[[0,{\"mega\":true}]]}",
+        r#"{"prepared":7,"rows":[[0,{"mega":true}]]}"#,
+    )
+}
+
+fn assert_call(
+    rt: &(impl Abort + AllocGlobal),
+    answer: Answer,
+    want: &str,
+) -> Result<(), AllocError> {
+    assert_text(rt, answer_value(rt.alloc(), answer), want)
+}
+
+#[test]
+fn calls(rt: HostRuntime) -> Result<(), AllocError> {
+    assert_call(&rt, Answer::Run(method(2)), r#"{"run":[1,2]}"#)?;
+    let null = Answer::Throws(Throwable::NullPointerException);
+    assert_call(&rt, null, r#"{"throws":"NullPointerException"}"#)?;
+    assert_call(&rt, Answer::BadReceiver, r#"{"refused":"BadReceiver"}"#)?;
+    let nowhere = Answer::Unlinked(Unlinked::NoSite);
+    assert_call(&rt, nowhere, r#"{"unlinked":"NoSite"}"#)?;
+    let waits = Answer::Unlinked(Unlinked::NotReady(Missing::MethodHost));
+    assert_call(
+        &rt,
+        waits,
+        r#"{"unlinked":"NotReady","wants":"methodHost"}"#,
+    )
+}
+
+/// Asserts the text of a reply that drops the sites 1 and 4.
+fn assert_reply(rt: &(impl Abort + AllocGlobal), made: Made, want: &str) -> Result<(), AllocError> {
+    let dropped = Seq::of(vec![in rt.alloc(); SiteNo::new(1), SiteNo::new(4)]?);
+    let reply = Reply { made, dropped };
+    assert_text(rt, reply_value(rt.alloc(), &reply), want)
+}
+
+#[test]
+fn replies(rt: HostRuntime) -> Result<(), AllocError> {
+    assert_reply(&rt, Made::Nothing, r#"{"dropped":[1,4]}"#)?;
+    let loader = Made::Loader(LoaderId::new(7));
+    assert_reply(&rt, loader, r#"{"dropped":[1,4],"loader":7}"#)?;
+    let class = Made::Class(ClassId::new(7));
+    assert_reply(&rt, class, r#"{"class":7,"dropped":[1,4]}"#)?;
+    let site = Made::Site(SiteNo::new(7));
+    assert_reply(&rt, site, r#"{"dropped":[1,4],"site":7}"#)?;
+    let call_site = Made::CallSite(CallSiteId::new(7));
+    assert_reply(&rt, call_site, r#"{"callsite":7,"dropped":[1,4]}"#)?;
+    let switch = Made::Switch(SwitchId::new(7));
+    assert_reply(&rt, switch, r#"{"dropped":[1,4],"switch":7}"#)
+}
+
+fn assert_refusal(
+    rt: &(impl Abort + AllocGlobal),
+    refusal: EventRefusal,
+    want: &str,
+) -> Result<(), AllocError> {
+    assert_text(rt, event_refusal_value(rt.alloc(), &refusal), want)
+}
+
+#[test]
+fn refused_events(rt: HostRuntime) -> Result<(), AllocError> {
+    let site = SiteNo::new(0);
+    assert_refusal(&rt, EventRefusal::BatchSize, r#"{"refused":"BatchSize"}"#)?;
+    let bound = EventRefusal::AlreadyBound(CallSiteId::new(5));
+    assert_refusal(&rt, bound, r#"{"callsite":5,"refused":"AlreadyBound"}"#)?;
+    let waits = EventRefusal::NotReady { site };
+    assert_refusal(&rt, waits, r#"{"refused":"NotReady","site":0}"#)?;
+    let stale = EventRefusal::Stale {
+        site,
+        present: table(),
+    };
+    assert_refusal(
+        &rt,
+        stale,
+        r#"{"present":{"kind":"virtual","table":[[1,{"run":[1,0]}]]},"refused":"Stale","site":0}"#,
     )
 }
 
 #[test]
-fn calls(rt: HostRuntime) -> Result<(), Fail> {
-    let waits = |missing| Answer::Unlinked(Unlinked::NotReady(missing));
-    let rows = [
-        (Answer::Run(method(2)), "{\"run\":[1,2]}"),
-        (
-            Answer::Throws(Throwable::NullPointerException),
-            "{\"throws\":\"NullPointerException\"}",
-        ),
-        (Answer::BadReceiver, "{\"refused\":\"BadReceiver\"}"),
-        (
-            Answer::Unlinked(Unlinked::NoSite),
-            "{\"unlinked\":\"NoSite\"}",
-        ),
-        (
-            waits(Missing::MethodHost),
-            "{\"unlinked\":\"NotReady\",\"wants\":\"methodHost\"}",
-        ),
-    ];
-    for (answer, want) in rows {
-        assert_text(&rt, answer_value(rt.alloc(), answer), want)?;
-    }
-    Ok(())
+fn refused_within_events(rt: HostRuntime) -> Result<(), AllocError> {
+    let array = EventRefusal::NotLinkable(NotLinkable::ArrayReceiver);
+    assert_refusal(&rt, array, r#"{"refused":"NotLinkable.ArrayReceiver"}"#)?;
+    let memory = EventRefusal::CallSite(CallSiteFault::Memory);
+    assert_refusal(&rt, memory, r#"{"refused":"Memory"}"#)?;
+    let delegate = EventRefusal::Delegate(DelegateFault::NotRecorded);
+    assert_refusal(&rt, delegate, r#"{"refused":"Delegate.NotRecorded"}"#)?;
+    let full = EventRefusal::Define(DefineFault::Full);
+    assert_refusal(&rt, full, r#"{"refused":"Define.Full"}"#)?;
+    let memory = EventRefusal::Define(DefineFault::Memory);
+    assert_refusal(&rt, memory, r#"{"refused":"Memory"}"#)?;
+    let parent = DefineFault::MissingParent(Name::copied(rt.alloc(), b"p/A")?);
+    assert_refusal(
+        &rt,
+        EventRefusal::Define(parent),
+        r#"{"name":"p/A","refused":"Define.MissingParent"}"#,
+    )
+}
+
+fn assert_preparation(
+    rt: &(impl Abort + AllocGlobal),
+    fault: PrepareFault,
+    want: &str,
+) -> Result<(), AllocError> {
+    assert_text(rt, prepare_refusal_value(rt.alloc(), fault), want)
 }
 
 #[test]
-fn replies(rt: HostRuntime) -> Result<(), Fail> {
-    let rows = [
-        (Made::Nothing, "{\"dropped\":[1,4]}"),
-        (
-            Made::Loader(LoaderId::new(7)),
-            "{\"dropped\":[1,4],\"loader\":7}",
-        ),
-        (
-            Made::Class(ClassId::new(7)),
-            "{\"class\":7,\"dropped\":[1,4]}",
-        ),
-        (Made::Site(SiteNo::new(7)), "{\"dropped\":[1,4],\"site\":7}"),
-        (
-            Made::CallSite(CallSiteId::new(7)),
-            "{\"callsite\":7,\"dropped\":[1,4]}",
-        ),
-        (
-            Made::Switch(SwitchId::new(7)),
-            "{\"dropped\":[1,4],\"switch\":7}",
-        ),
-    ];
-    for (made, want) in rows {
-        let dropped = Seq::of(vec![in rt.alloc(); SiteNo::new(1), SiteNo::new(4)]?);
-        let reply = Reply { made, dropped };
-        assert_text(&rt, reply_value(rt.alloc(), &reply), want)?;
-    }
-    Ok(())
+fn refused_preparations(rt: HostRuntime) -> Result<(), AllocError> {
+    let waits = PrepareFault::NotReady(SiteNo::new(4));
+    assert_preparation(&rt, waits, r#"{"refused":"Prepare.NotReady","site":4}"#)?;
+    let size = PrepareFault::BatchSize;
+    assert_preparation(&rt, size, r#"{"refused":"Prepare.BatchSize"}"#)?;
+    assert_preparation(&rt, PrepareFault::Memory, r#"{"refused":"Memory"}"#)
+}
+
+fn assert_fault(
+    rt: &(impl Abort + AllocGlobal),
+    fault: SketchFault,
+    want: &str,
+) -> Result<(), AllocError> {
+    assert_text(rt, Refusal::from(fault).to_value(rt.alloc()), want)
 }
 
 #[test]
-fn refused_events(rt: HostRuntime) -> Result<(), Fail> {
-    let site = SiteNo::new(0);
-    let rows = [
-        (EventRefusal::BatchSize, "{\"refused\":\"BatchSize\"}"),
-        (
-            EventRefusal::AlreadyBound(CallSiteId::new(5)),
-            "{\"callsite\":5,\"refused\":\"AlreadyBound\"}",
-        ),
-        (
-            EventRefusal::NotReady { site },
-            "{\"refused\":\"NotReady\",\"site\":0}",
-        ),
-        (
-            EventRefusal::Stale {
-                site,
-                present: table(),
-            },
-            "{\"present\":{\"kind\":\"virtual\",\"table\":[[1,{\"run\":[1,0]}]]},\"refused\":\"Stale\",\"site\":0}",
-        ),
-    ];
-    for (refusal, want) in &rows {
-        assert_text(&rt, event_refusal_value(rt.alloc(), refusal), *want)?;
-    }
-    Ok(())
-}
-
-#[test]
-fn refused_within_events(rt: HostRuntime) -> Result<(), Fail> {
-    let rows = [
-        (
-            EventRefusal::NotLinkable(NotLinkable::ArrayReceiver),
-            "{\"refused\":\"NotLinkable.ArrayReceiver\"}",
-        ),
-        (
-            EventRefusal::CallSite(CallSiteFault::Memory),
-            "{\"refused\":\"Memory\"}",
-        ),
-        (
-            EventRefusal::Delegate(DelegateFault::NotRecorded),
-            "{\"refused\":\"Delegate.NotRecorded\"}",
-        ),
-    ];
-    for (refusal, want) in &rows {
-        assert_text(&rt, event_refusal_value(rt.alloc(), refusal), *want)?;
-    }
-    Ok(())
-}
-
-#[test]
-fn refused_definitions(rt: HostRuntime) -> Result<(), Fail> {
-    let name = Name::copied(rt.alloc(), b"p/A")?;
-    let rows = [
-        (
-            DefineFault::MissingParent(name),
-            "{\"name\":\"p/A\",\"refused\":\"Define.MissingParent\"}",
-        ),
-        (DefineFault::Full, "{\"refused\":\"Define.Full\"}"),
-        (DefineFault::Memory, "{\"refused\":\"Memory\"}"),
-    ];
-    for (fault, want) in rows {
-        let refusal = EventRefusal::Define(fault);
-        assert_text(&rt, event_refusal_value(rt.alloc(), &refusal), want)?;
-    }
-    Ok(())
-}
-
-#[test]
-fn refused_preparations(rt: HostRuntime) -> Result<(), Fail> {
-    let rows = [
-        (
-            PrepareFault::NotReady(SiteNo::new(4)),
-            "{\"refused\":\"Prepare.NotReady\",\"site\":4}",
-        ),
-        (
-            PrepareFault::BatchSize,
-            "{\"refused\":\"Prepare.BatchSize\"}",
-        ),
-        (PrepareFault::Memory, "{\"refused\":\"Memory\"}"),
-    ];
-    for (fault, want) in rows {
-        assert_text(&rt, prepare_refusal_value(rt.alloc(), fault), want)?;
-    }
-    Ok(())
-}
-
-#[test]
-fn refused_sketches(rt: HostRuntime) -> Result<(), Fail> {
+fn refused_sketches(rt: HostRuntime) -> Result<(), AllocError> {
+    assert_fault(&rt, SketchFault::TooBig, r#"{"refused":"TooBig"}"#)?;
+    assert_fault(
+        &rt,
+        SketchFault::CallsWithoutCode(3),
+        r#"{"method":3,"refused":"CallsWithoutCode"}"#,
+    )?;
     let cut = ClassFault::Code(2, CodeFault::CutShort(7));
-    let rows = [
-        (SketchFault::TooBig, "{\"refused\":\"TooBig\"}"),
-        (
-            SketchFault::CallsWithoutCode(3),
-            "{\"method\":3,\"refused\":\"CallsWithoutCode\"}",
-        ),
-        (
-            SketchFault::Refused(cut),
-            "{\"at\":7,\"method\":2,\"refused\":\"Code.CutShort\"}",
-        ),
-        (SketchFault::Memory, "{\"refused\":\"Memory\"}"),
-    ];
-    for (fault, want) in rows {
-        assert_text(&rt, Refusal::from(fault).to_value(rt.alloc()), want)?;
-    }
-    Ok(())
+    assert_fault(
+        &rt,
+        SketchFault::Refused(cut),
+        r#"{"at":7,"method":2,"refused":"Code.CutShort"}"#,
+    )?;
+    assert_fault(&rt, SketchFault::Memory, r#"{"refused":"Memory"}"#)
 }

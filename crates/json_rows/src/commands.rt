@@ -2,84 +2,90 @@
 
 use jl_json::{each_command_is_read, no_other_keys, read_command};
 use serde_json::Value;
+use std::alloc::Global;
+use std::process::Abort;
 use std::test::Fail;
 
-/// Commands, and how they print.
-const COMMANDS: [(&str, &str); 9] = [
+/// Values, and how the commands print that they are.
+const COMMANDS: [(&str, &str); 27] = [
     (
-        "{\"do\":\"define\",\"loader\":0,\"hex\":\"cAFe\"}",
-        "Define { loader: LoaderId(0), source: File(Seq { items: [202, 254] }) }",
+        r#"{"do":"define","loader":0,"hex":"cAFe"}"#,
+        "Some(Define { loader: LoaderId(0), source: File(Seq { items: [202, 254] }) })",
     ),
     (
-        "{\"do\":\"define\",\"loader\":1,\"sketch\":{\"name\":\"M\",\"flags\":33}}",
-        "Define { loader: LoaderId(1), source: Sketch(Sketch { name: Name { bytes: b\"M\" }, flags: 33, superclass: None, interfaces: Seq { items: [] }, methods: Seq { items: [] }, host: None, members: Seq { items: [] } }) }",
+        r#"{"do":"define","loader":1,"sketch":{"name":"M","flags":33}}"#,
+        r#"Some(Define { loader: LoaderId(1), source: Sketch(Sketch { name: Name { bytes: b"M" }, flags: 33, superclass: None, interfaces: Seq { items: [] }, methods: Seq { items: [] }, host: None, members: Seq { items: [] } }) })"#,
     ),
     (
-        "{\"do\":\"request\",\"class\":65536,\"method\":65535,\"pc\":65536}",
-        "Request(Place { class: ClassId(65536), method: 65535, pc: 65536 })",
+        r#"{"do":"request","class":65536,"method":65535,"pc":65536}"#,
+        "Some(Request(Place { class: ClassId(65536), method: 65535, pc: 65536 }))",
     ),
     (
-        "{\"do\":\"prepare\",\"sites\":[3,0]}",
-        "Prepare(Seq { items: [SiteNo(3), SiteNo(0)] })",
+        r#"{"do":"prepare","sites":[3,0]}"#,
+        "Some(Prepare(Seq { items: [SiteNo(3), SiteNo(0)] }))",
     ),
     (
-        "{\"do\":\"install\",\"prepared\":4294967295}",
-        "Install(4294967295)",
+        r#"{"do":"install","prepared":4294967295}"#,
+        "Some(Install(4294967295))",
     ),
-    ("{\"do\":\"call\",\"site\":2}", "Call(SiteNo(2), Null)"),
+    (r#"{"do":"call","site":2}"#, "Some(Call(SiteNo(2), Null))"),
     (
-        "{\"recv\":null,\"site\":2,\"do\":\"call\"}",
-        "Call(SiteNo(2), Null)",
+        r#"{"recv":null,"site":2,"do":"call"}"#,
+        "Some(Call(SiteNo(2), Null))",
     ),
     (
-        "{\"do\":\"call\",\"site\":2,\"recv\":1}",
-        "Call(SiteNo(2), Of(ClassId(1)))",
+        r#"{"do":"call","site":2,"recv":1}"#,
+        "Some(Call(SiteNo(2), Of(ClassId(1))))",
     ),
-    ("{\"do\":\"links\"}", "Links"),
+    (r#"{"do":"links"}"#, "Some(Links)"),
+    ("null", "None"),
+    ("{}", "None"),
+    (r#"["links"]"#, "None"),
+    (r#"{"do":"link"}"#, "None"),
+    (r#"{"do":1}"#, "None"),
+    (r#"{"do":"links","site":0}"#, "None"),
+    (r#"{"do":"define","loader":0}"#, "None"),
+    (r#"{"do":"define","loader":0,"hex":"caf"}"#, "None"),
+    (r#"{"do":"define","loader":0,"hex":"cg"}"#, "None"),
+    (
+        r#"{"do":"define","loader":0,"sketch":{"name":"M"}}"#,
+        "None",
+    ),
+    (
+        r#"{"do":"define","loader":0,"hex":"","sketch":{"name":"M","flags":33}}"#,
+        "None",
+    ),
+    (
+        r#"{"do":"request","class":0,"method":65536,"pc":4}"#,
+        "None",
+    ),
+    (r#"{"do":"request","class":0,"method":0,"at":4}"#, "None"),
+    (r#"{"do":"prepare","sites":[0,-1]}"#, "None"),
+    (r#"{"do":"install","prepared":4294967296}"#, "None"),
+    (r#"{"do":"install","prepared":1.0}"#, "None"),
+    (r#"{"do":"call","site":0,"recv":"A"}"#, "None"),
+    (r#"{"do":"call","site":0,"recv":1,"pc":0}"#, "None"),
 ];
 
-#[test]
-fn commands(rt: HostRuntime) -> Result<(), Fail> {
-    for (text, want) in COMMANDS {
-        let value = Value::from_str(rt.alloc(), text)?;
-        match read_command(rt.alloc(), &value)? {
-            Some(command) => {
-                let told = format!(in rt.alloc(); "{command:?}")?;
-                assert_eq!(rt; told.as_str(), want);
-            }
-            None => assert!(rt; false, "no command: {text}"),
-        }
+/// How the command prints that the text is, or none.
+fn printed(alloc: Global, text: &str) -> Result<String, Fail> {
+    let value = Value::from_str(alloc, text)?;
+    let command = read_command(alloc, &value)?;
+    Ok(format!(in alloc; "{command:?}")?)
+}
+
+/// Asserts that the texts are commands that print so, or none.
+fn assert_printed(rt: &(impl Abort + AllocGlobal), rows: &[(&str, &str)]) -> Result<(), Fail> {
+    for (text, want) in rows {
+        let told = printed(rt.alloc(), text)?;
+        assert!(rt; told.as_str() == *want, "{told} of {text}");
     }
-    each_command_is_read();
-    no_other_keys();
     Ok(())
 }
 
 #[test]
-fn no_commands(rt: HostRuntime) -> Result<(), Fail> {
-    let rows = [
-        "null",
-        "{}",
-        "[\"links\"]",
-        "{\"do\":\"link\"}",
-        "{\"do\":1}",
-        "{\"do\":\"links\",\"site\":0}",
-        "{\"do\":\"define\",\"loader\":0}",
-        "{\"do\":\"define\",\"loader\":0,\"hex\":\"caf\"}",
-        "{\"do\":\"define\",\"loader\":0,\"hex\":\"cg\"}",
-        "{\"do\":\"define\",\"loader\":0,\"sketch\":{\"name\":\"M\"}}",
-        "{\"do\":\"define\",\"loader\":0,\"hex\":\"\",\"sketch\":{\"name\":\"M\",\"flags\":33}}",
-        "{\"do\":\"request\",\"class\":0,\"method\":65536,\"pc\":4}",
-        "{\"do\":\"request\",\"class\":0,\"method\":0,\"at\":4}",
-        "{\"do\":\"prepare\",\"sites\":[0,-1]}",
-        "{\"do\":\"install\",\"prepared\":4294967296}",
-        "{\"do\":\"install\",\"prepared\":1.0}",
-        "{\"do\":\"call\",\"site\":0,\"recv\":\"A\"}",
-        "{\"do\":\"call\",\"site\":0,\"recv\":1,\"pc\":0}",
-    ];
-    for text in rows {
-        let value = Value::from_str(rt.alloc(), text)?;
-        assert!(rt; read_command(rt.alloc(), &value)?.is_none(), "{text}");
-    }
-    Ok(())
+fn commands(rt: HostRuntime) -> Result<(), Fail> {
+    each_command_is_read();
+    no_other_keys();
+    assert_printed(&rt, &COMMANDS)
 }
