@@ -1,6 +1,6 @@
 //! What a class file shows.
 
-ghost use Rattle.std.specs.Prelude.{◌≡◌, ◌<◌, ◌^◌, length, option_copied, Some, IsSome, IfOk};
+ghost use Rattle.std.specs.Prelude.{◌≡◌, ◌<◌, ◌^◌, ◌++◌, length, slice_get, option_copied, option_to_list, Some, IsSome, IfOk};
 
 use jl_code::Site;
 use jl_names::{Name, Seq};
@@ -149,6 +149,35 @@ impl ClassFile {
         ensures { result.now ≡ self.now.nest_members }
     {
         self.nest_members.as_slice()
+    }
+
+    /// The name of its direct superinterface at this place alone.
+    pub fn into_interface(self, place: usize) -> Name
+        requires { place < length self.interfaces }
+        ensures { Some result ≡ slice_get self.interfaces place }
+    {
+        self.interfaces.into_item(place)
+    }
+
+    /// The name of its parent at this place alone: its superclass, where it has one, is the first, and then come its direct
+    /// superinterfaces.
+    pub fn into_parent(self, place: usize) -> Name
+        requires { place < length (option_to_list self.superclass ++ self.interfaces) }
+        ensures { Some result ≡ slice_get (option_to_list self.superclass ++ self.interfaces) place }
+    {
+        let ClassFile {
+            superclass,
+            interfaces,
+            ..
+        } = self;
+        match superclass {
+            Some(name) => if place == 0 {
+                name
+            } else {
+                interfaces.into_item(place - 1)
+            },
+            None => interfaces.into_item(place),
+        }
     }
 
     /// Its methods, in the file's order: fewer than 65,536.

@@ -24,7 +24,7 @@ impl<T> Model for Seq<T> {
 }
 
 impl<T> Seq<T> {
-    ghost use Rattle.std.specs.Prelude.{Ok, IfOk};
+    ghost use Rattle.std.specs.Prelude.{◌<◌, length, slice_get, Some, Ok, IfOk};
     ghost use Rattle.std.specs.Fn.{FnReturnsAt};
     ghost use Rattle.std.specs.List.{AllZip};
 
@@ -40,6 +40,17 @@ impl<T> Seq<T> {
         ensures { result.now ≡ self.now }
     {
         self.items.as_slice()
+    }
+
+    /// The item at the place alone.
+    pub fn into_item(self, place: usize) -> T
+    where
+        T: Drop,
+        requires { place < length self }
+        ensures { Some result ≡ slice_get self place }
+    {
+        let mut items = self.items;
+        items.swap_remove(place)
     }
 
     /// What `make` gives for each item, in order. Want of memory is an error, and the first error of `make` ends it.

@@ -75,7 +75,7 @@ module _ (rows : List Class) (o : AreOrdered rows) (a : ℕ) where
   enough (suc n) (suc m) c h k = alike_at (is_ancestor_within n rows a) (is_ancestor_within m rows a) c (λ p lt. enough n m p (omega arith) (omega arith)) (slice_get rows c) refl
 
   -- a is an ancestor of c where it is c or one of a parent
-  above_is : (c : ℕ) (row : Class) → slice_get rows c ≡ Some row → is_ancestor_within (c + 1) rows a c ≡ ((a == c) || list_any (λ p. is_ancestor_within (p + 1) rows a p) (parents row))
+  pub above_is : (c : ℕ) (row : Class) → slice_get rows c ≡ Some row → is_ancestor_within (c + 1) rows a c ≡ ((a == c) || list_any (λ p. is_ancestor_within (p + 1) rows a p) (parents row))
   above_is c row e =
       rw (add-one c, e)
       (ap (λ (b : Bool). (a == c) || b)

@@ -28,7 +28,7 @@ parent_below n p (q ∷ ps) o h = elim (or_cases (p == q) (list_any (λ q. p == 
 ]
 
 -- no ancestor comes after its descendant
-above : (rows : List Class) (o : AreOrdered rows) (a : ℕ) {x : ℕ} → IsAncestor rows a x → a ≤ x
+pub above : (rows : List Class) (o : AreOrdered rows) (a : ℕ) {x : ℕ} → IsAncestor rows a x → a ≤ x
 above rows o a (itself e) = omega arith
 above rows o a (over {x = x} {p = p} {row = row} e m r) =
     let lt = parent_below x p (parents row) (recursion_from_All (λ q. q < x) (parents row) (o x row e)) m in

@@ -1,0 +1,144 @@
+-- The first fault of a definition, test by test.
+use Rattle.std.specs.Prelude.{◌≡◌, ℕ, ◌+◌, ◌<◌, Bool, true, false, cond, not, nat_le, is_none, List, [], ◌∷◌, ◌++◌, find, position, length, slice_get, Option, Some, None, option_map, option_and_then, option_to_list, nat_lt}
+use Rattle.std.specs.Bool.{then_some}
+use Rattle.std.specs.List.{position_or_len}
+use Rattle.std.proofs.Common.{refl, ap, ◌∙◌, arith}
+use Rattle.std.proofs.lemmas.Bool.{leb-false}
+use Rattle.jl_types.proofs.Firsts.{test_none}
+use Rattle.std.proofs.lemmas.Grind.{common_steps}
+use Rattle.std.proofs.lemmas.List.Folds.{find_at}
+use Rattle.std.proofs.lemmas.Option.{slice_get_past}
+use Rattle.jl_classfile.specs.Class.{ClassFile}
+use Rattle.jl_types.specs.declared.refusal.DefineFault.{DefineFault}
+use Rattle.jl_types.specs.declared.refusal.DefineFault.TheVariants.{MissingParent, NotAnInterface, InaccessibleParent, Full}
+use Rattle.jl_types.specs.World.{Classes}
+use Rattle.jl_types.specs.Members.{lookup, is_interface}
+use Rattle.jl_types.specs.Resolution.{first_of}
+use Rattle.jl_types.specs.Definitions.{parent_names, named_test, is_open_parent, define_fault}
+use Rattle.jl_hierarchy.specs.Faults.{first_faults, superclass_faults, first_place}
+
+first_here : {A : Type 0} (p : A → Bool) (x : A) (xs : List A) → p x ≡ true → position p (x ∷ xs) ≡ Some 0
+first_here p x xs e = grind (arith, common_steps)
+
+first_later : {A : Type 0} (p : A → Bool) (x : A) (xs : List A) → p x ≡ false → position p (x ∷ xs) ≡ option_map (λ n. n + 1) (position p xs)
+first_later p x xs e = grind (arith, common_steps)
+
+-- the first place among the parents
+pub place_is : (p : List ℕ → Bool) (o : Option (List ℕ)) (xs : List (List ℕ))
+    → position p (option_to_list o ++ xs) ≡ first_place (option_map p o) (position p xs)
+place_is p None xs = refl
+place_is p (Some name) xs = by_test (p name) refl
+  where
+    by_test : (b : Bool) → p name ≡ b → position p (name ∷ xs) ≡ first_place (Some b) (position p xs)
+    by_test true e = first_here p name xs e
+    by_test false e = first_later p name xs e
+
+-- the first element that passes is the one at the first place
+first_element : {A : Type 0} (p : A → Bool) (xs : List A) → find p xs ≡ option_and_then (slice_get xs) (position p xs)
+first_element p xs = find_at p xs ∙ by_test (nat_lt (position_or_len p xs) (length xs)) refl
+  where
+    by_test : (b : Bool) → nat_lt (position_or_len p xs) (length xs) ≡ b
+        → slice_get xs (position_or_len p xs) ≡ option_and_then (slice_get xs) (cond b (Some (position_or_len p xs)) None)
+    by_test true e = refl
+    by_test false e = slice_get_past xs (position_or_len p xs) (grind (arith, common_steps))
+
+found_at : {A : Type 0} (p : A → Bool) (xs : List A) (i : ℕ) (x : A) → position p xs ≡ Some i → slice_get xs i ≡ Some x → find p xs ≡ Some x
+found_at p xs i x e h = first_element p xs ∙ ap (option_and_then (slice_get xs)) e ∙ h
+
+none_at : {A : Type 0} (p : A → Bool) (xs : List A) → position p xs ≡ None → find p xs ≡ None
+none_at p xs e = first_element p xs ∙ ap (option_and_then (slice_get xs)) e
+
+-- faults that come after none
+after : {A : Type 0} (xs ys : List (Option A)) → first_of xs ≡ None → first_of (xs ++ ys) ≡ first_of ys
+after [] ys e = refl
+after (None ∷ xs) ys e = after xs ys e
+after (Some x ∷ xs) ys e = cc
+
+before : {A : Type 0} (xs ys : List (Option A)) (f : A) → first_of xs ≡ Some f → first_of (xs ++ ys) ≡ Some f
+before [] ys f e = cc
+before (None ∷ xs) ys f e = before xs ys f e
+before (Some x ∷ xs) ys f e = e
+
+module _ (cs : Classes) (loader : ℕ) (file : ClassFile) where
+  abbrev is_missing : List ℕ → Bool
+  is_missing name = is_none (lookup cs loader name)
+
+  abbrev is_none_such : List ℕ → Bool
+  is_none_such name = not (named_test (is_interface cs) cs loader name)
+
+  abbrev is_closed : List ℕ → Bool
+  is_closed name = not (is_open_parent cs loader file name)
+
+  abbrev from_full : List (Option DefineFault)
+  from_full = then_some (nat_le 65536 (length cs.rows)) Full ∷ []
+
+  abbrev from_closed : List (Option DefineFault)
+  from_closed = option_map InaccessibleParent (find is_closed (parent_names file)) ∷ from_full
+
+  abbrev from_interfaces : List (Option DefineFault)
+  from_interfaces = option_map NotAnInterface (find is_none_such file.interfaces) ∷ from_closed
+
+  abbrev from_missing : List (Option DefineFault)
+  from_missing = option_map MissingParent (find is_missing (parent_names file)) ∷ superclass_faults cs loader file ++ from_interfaces
+
+  -- what is tested before has no fault
+  module _ (first : first_of (first_faults cs loader file) ≡ None) where
+    missing_next : define_fault cs loader file ≡ first_of from_missing
+    missing_next = after (first_faults cs loader file) from_missing first
+
+    pub missing_is : (i : ℕ) (name : List ℕ) → position is_missing (parent_names file) ≡ Some i → slice_get (parent_names file) i ≡ Some name
+        → define_fault cs loader file ≡ Some (MissingParent name)
+    missing_is i name e h =
+        missing_next
+        ∙ ap (λ o. first_of (option_map MissingParent o ∷ superclass_faults cs loader file ++ from_interfaces)) (found_at is_missing (parent_names file) i name e h)
+
+    module _ (missing : position is_missing (parent_names file) ≡ None) where
+      superclass_next : define_fault cs loader file ≡ first_of (superclass_faults cs loader file ++ from_interfaces)
+      superclass_next =
+          missing_next
+          ∙ ap (λ o. first_of (option_map MissingParent o ∷ superclass_faults cs loader file ++ from_interfaces)) (none_at is_missing (parent_names file) missing)
+
+      pub superclass_is : (f : DefineFault) → first_of (superclass_faults cs loader file) ≡ Some f → define_fault cs loader file ≡ Some f
+      superclass_is f e = superclass_next ∙ before (superclass_faults cs loader file) from_interfaces f e
+
+      module _ (super : first_of (superclass_faults cs loader file) ≡ None) where
+        interfaces_next : define_fault cs loader file ≡ first_of from_interfaces
+        interfaces_next = superclass_next ∙ after (superclass_faults cs loader file) from_interfaces super
+
+        pub interface_is : (i : ℕ) (name : List ℕ) → position is_none_such file.interfaces ≡ Some i → slice_get file.interfaces i ≡ Some name
+            → define_fault cs loader file ≡ Some (NotAnInterface name)
+        interface_is i name e h = interfaces_next ∙ ap (λ o. first_of (option_map NotAnInterface o ∷ from_closed)) (found_at is_none_such file.interfaces i name e h)
+
+        module _ (interfaces : position is_none_such file.interfaces ≡ None) where
+          closed_next : define_fault cs loader file ≡ first_of from_closed
+          closed_next = interfaces_next ∙ ap (λ o. first_of (option_map NotAnInterface o ∷ from_closed)) (none_at is_none_such file.interfaces interfaces)
+
+          pub closed_is : (i : ℕ) (name : List ℕ) → position is_closed (parent_names file) ≡ Some i → slice_get (parent_names file) i ≡ Some name
+              → define_fault cs loader file ≡ Some (InaccessibleParent name)
+          closed_is i name e h = closed_next ∙ ap (λ o. first_of (option_map InaccessibleParent o ∷ from_full)) (found_at is_closed (parent_names file) i name e h)
+
+          module _ (closed : position is_closed (parent_names file) ≡ None) where
+            full_next : define_fault cs loader file ≡ first_of from_full
+            full_next = closed_next ∙ ap (λ o. first_of (option_map InaccessibleParent o ∷ from_full)) (none_at is_closed (parent_names file) closed)
+
+            pub full_is : nat_le 65536 (length cs.rows) ≡ true → define_fault cs loader file ≡ Some Full
+            full_is is = full_next ∙ ap (λ b. first_of (then_some b Full ∷ [])) is
+
+            pub accepted_is : nat_le 65536 (length cs.rows) ≡ false → define_fault cs loader file ≡ None
+            accepted_is is = full_next ∙ ap (λ b. first_of (then_some b Full ∷ [])) is
+
+last_none : {A : Type 0} (xs : List (Option A)) (o : Option A) → first_of (xs ++ o ∷ []) ≡ None → o ≡ None
+last_none [] None e = refl
+last_none [] (Some x) e = cc
+last_none (None ∷ xs) o e = last_none xs o e
+last_none (Some x ∷ xs) o e = cc
+
+-- there is room where the definition has no fault
+pub has_room : (cs : Classes) (loader : ℕ) (file : ClassFile) → define_fault cs loader file ≡ None → length cs.rows < 65536
+has_room cs loader file e =
+    leb-false 65536 (length cs.rows) (test_none (nat_le 65536 (length cs.rows)) Full (last_none (
+    first_faults cs loader file
+    ++ option_map MissingParent (find (is_missing cs loader file) (parent_names file)) ∷ superclass_faults cs loader file
+    ++ option_map NotAnInterface (find (is_none_such cs loader file) file.interfaces)
+    ∷ option_map InaccessibleParent (find (is_closed cs loader file) (parent_names file)) ∷ [])
+    (then_some (nat_le 65536 (length cs.rows)) Full) e))

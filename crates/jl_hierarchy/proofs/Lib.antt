@@ -1,0 +1,9 @@
+pub mod Records
+pub mod KeptLaws
+pub mod Rising
+pub mod Ancestors
+pub mod Appending
+pub mod Found
+pub mod Parents
+pub mod FaultLaws
+pub mod NewClass

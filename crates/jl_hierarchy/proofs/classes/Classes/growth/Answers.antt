@@ -1,0 +1,11 @@
+use Rattle.std.specs.Prelude.{◌++◌, ◌∷◌, []}
+use Rattle.std.proofs.Common.{sym, subst}
+use Rattle.jl_types.specs.Ancestry.{AreOrdered}
+use Rattle.jl_types.proofs.Orders.{defined_good}
+use Rattle.jl_hierarchy.proofs.KeptLaws.{good}
+use Rattle.jl_hierarchy.proofs.classes.Classes.growth.Goals as goal
+
+pub proper_ancestors-requires : goal.proper_ancestors-requires
+proper_ancestors-requires c =
+    subst (λ row. AreOrdered (c.args.self.now.rows ++ row ∷ [])) (sym c.in_ok-row.ensures)
+    ((defined_good c.args.self.now (good _ _ _ c.self.invariant c.args.self.now c.self.view_is) c.args.loader c.args.file).ordered)

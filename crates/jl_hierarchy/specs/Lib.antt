@@ -1,0 +1,3 @@
+-- What the classes keep beside their definition: a means of proof.
+pub mod Kept
+pub mod Faults

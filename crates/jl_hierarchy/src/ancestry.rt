@@ -1,0 +1,37 @@
+//! Ancestors and receivers, which are kept.
+
+ghost use Rattle.std.specs.Prelude.{◌≡◌, ◌<◌, length};
+ghost use Rattle.jl_types.specs.Ancestry as ancestry;
+ghost use Rattle.jl_types.specs.Ancestry.{AreOrdered};
+
+use crate::classes::Classes;
+use jl_types::ClassId;
+
+impl Classes {
+    /// The ancestors of the class, by rising number, itself the last: its superclasses and all superinterfaces.
+    pub fn ancestors(&self, class: ClassId) -> &[ClassId]
+        requires { class < length self.now.rows }
+        ensures ordered { AreOrdered self.now.rows }
+        ensures listed { result.now ≡ ancestry.ancestors self.now.rows class }
+    {
+        self.above.as_slice()[class.number() as usize].as_slice()
+    }
+
+    /// Whether the first class is among the ancestors of the second one, as that itself is. A search in the ancestors that
+    /// are kept.
+    pub fn is_ancestor(&self, ancestor: ClassId, class: ClassId) -> bool
+        requires { class < length self.now.rows }
+        ensures { result ≡ ancestry.is_ancestor self.now ancestor class }
+    {
+        self.ancestors(class).binary_search(&ancestor).is_ok()
+    }
+
+    /// The classes that objects may be of which are of the class: those that are neither an interface nor abstract and have
+    /// it among their ancestors.
+    pub fn receivers(&self, class: ClassId) -> &[ClassId]
+        requires { class < length self.now.rows }
+        ensures { result.now ≡ ancestry.receivers self.now class }
+    {
+        self.below.as_slice()[class.number() as usize].as_slice()
+    }
+}

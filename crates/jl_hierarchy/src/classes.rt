@@ -1,0 +1,85 @@
+//! The classes that are defined.
+
+ghost use Rattle.std.specs.Prelude.{◌≡◌, ◌<◌, ◌≤◌, length, slice_get, IfSome, IfOk};
+ghost use Rattle.std.specs.Option.{option_copied};
+ghost use Rattle.jl_types.specs.World.{nothing_yet};
+ghost use Rattle.jl_types.specs.Members as members;
+ghost use Rattle.jl_types.specs.Ancestry.{AreOrdered};
+
+use crate::loader::Loader;
+use jl_names::Seq;
+use jl_types::{Class, ClassId, LoaderId};
+use std::alloc::{AllocError, Global};
+use std::marker::Model;
+
+/// The defined classes and interfaces, in order of definition, and what each loader finds by name (JVMS SE 17 §5.3). A
+/// clause sees these alone.
+///
+/// Of each class its ancestors and its receivers are kept, so that a question about them walks no other class.
+#[derive(Drop)]
+pub struct Classes {
+    pub(crate) loaders: Vec<Loader>,
+    pub(crate) rows: Vec<Class>,
+    /// Of each class its ancestors, rising, itself the last. They never change.
+    pub(crate) above: Vec<Seq<ClassId>>,
+    /// Of each class its receivers, rising.
+    pub(crate) below: Vec<Vec<ClassId>>,
+}
+
+impl Model for Classes {
+    ghost use Rattle.jl_types.specs.World.{Classes};
+    ghost use Rattle.jl_hierarchy.specs.Kept.{IsKept, lists};
+
+    ghost Value = { Classes };
+
+    ghost view = { λ c. record { loaders = c.loaders.items; rows = c.rows.items } };
+
+    ghost invariant = { λ c. IsKept (record { loaders = c.loaders.items; rows = c.rows.items }) c.above.items (lists c.below.items) };
+}
+
+impl Classes {
+    /// No classes, and loader 0, which has found nothing. Want of memory is an error.
+    pub fn new(alloc: Global) -> Result<Self, AllocError>
+        ensures { IfOk result (λ classes. classes ≡ nothing_yet.classes) }
+    {
+        let mut loaders = Vec::new(alloc);
+        loaders.push(Loader::new(alloc))?;
+        Ok(Classes {
+            loaders,
+            rows: Vec::new(alloc),
+            above: Vec::new(alloc),
+            below: Vec::new(alloc),
+        })
+    }
+
+    /// The class of this number.
+    pub fn class_at(&self, class: ClassId) -> Option<&Class>
+        ensures found { option_copied result ≡ slice_get self.now.rows class }
+        ensures ordered { AreOrdered self.now.rows }
+    {
+        self.rows.get(class.number() as usize)
+    }
+
+    /// Whether there is a class of this number.
+    pub fn has_class(&self, class: ClassId) -> bool
+        ensures { result ≡ members.is_present self.now class }
+    {
+        self.class_at(class).is_some()
+    }
+
+    /// The class that the loader has recorded under the name (JVMS SE 17 §5.3).
+    pub fn lookup(&self, loader: LoaderId, name: &[u8]) -> Option<ClassId>
+        ensures found { result ≡ members.lookup self.now loader name.now }
+        ensures there { IfSome result (λ class. class < length self.now.rows) }
+    {
+        let _ = &self.rows;
+        self.found(loader, name)
+    }
+
+    /// The class that the loader has recorded under the name.
+    fn found(&self, loader: LoaderId, name: &[u8]) -> Option<ClassId>
+        ensures { result ≡ members.lookup self.now loader name.now }
+    {
+        self.loaders.get(loader.number() as usize)?.get(name)
+    }
+}

@@ -1,0 +1,184 @@
+//! The definition of a class (JVMS SE 17 §5.3.5).
+
+ghost use Rattle.std.specs.Prelude.{◌≡◌, ◌≢◌, ◌<◌, ◌++◌, ◌∷◌, [], Some, None, Err, length, List, ℕ, if◌then◌else◌, All, IfOk, IfErr, OnOk, OnErr};
+ghost use Rattle.std.specs.Vec.{vec_len, vec_capacity};
+ghost use Rattle.jl_types.specs.declared.refusal.DefineFault.TheVariants as fault;
+ghost use Rattle.jl_types.specs.Members as members;
+ghost use Rattle.jl_types.specs.Ancestry as ancestry;
+ghost use Rattle.jl_types.specs.Definitions as definitions;
+ghost use Rattle.jl_hierarchy.specs.Kept.{HasRoom, Rises, IsAppended, lists};
+
+use crate::classes::Classes;
+use crate::loader::record_in;
+use crate::receiving::{append_to_each, is_concrete, own_receivers, receiving, reserve_each};
+use jl_classfile::ClassFile;
+use jl_names::Seq;
+use jl_types::{Class, ClassId, DefineFault, LoaderId};
+use std::alloc::{AllocError, Global};
+
+/// What the definition of a class adds.
+#[derive(Drop)]
+pub(crate) struct Growth {
+    row: Class,
+    is_concrete: bool,
+    /// The ancestors but the class itself, by rising number, with room for that one.
+    ancestors: Vec<ClassId>,
+    /// The receivers of the class: itself or none.
+    own: Vec<ClassId>,
+}
+
+impl Classes {
+    /// The loader defines the class of the file, which gets the next number (JVMS SE 17 §5.3.5).
+    ///
+    /// # Errors
+    ///
+    /// The first fault of the definition; else want of memory. Nothing has changed then.
+    pub fn define(
+        &mut self,
+        alloc: Global,
+        loader: LoaderId,
+        file: ClassFile,
+    ) -> Result<ClassId, DefineFault>
+        ensures number { IfOk result (λ class. class ≡ length self.old.rows) }
+        ensures accepted { OnOk result (definitions.define_fault self.old loader file ≡ None) }
+        ensures ok { OnOk result (self.new ≡ definitions.defined self.old loader file) }
+        ensures fault { IfErr result (λ f. f ≢ fault.Memory → definitions.define_fault self.old loader file ≡ Some f) }
+        ensures memory { result ≡ Err fault.Memory → definitions.define_fault self.old loader file ≡ None }
+        ensures err { OnErr result (self.new ≡ self.old) }
+    {
+        let file = self.admitted(loader, file)?;
+        let class = self.add(alloc, loader, file)?;
+        Ok(class)
+    }
+
+    /// Adds the class behind the others, its record, and what is kept of it. Every growth comes before the first change, or is it.
+    ///
+    /// # Errors
+    ///
+    /// Want of memory. Nothing has changed then.
+    fn add(
+        &mut self,
+        alloc: Global,
+        loader: LoaderId,
+        file: ClassFile,
+    ) -> Result<ClassId, AllocError>
+        requires { definitions.define_fault self.old loader file ≡ None }
+        ensures number { IfOk result (λ class. class ≡ length self.old.rows) }
+        ensures ok { OnOk result (self.new ≡ definitions.defined self.old loader file) }
+        ensures err { OnErr result (self.new ≡ self.old) }
+    {
+        let name = name_of(alloc, &file)?;
+        let growth = self.growth(alloc, loader, file)?;
+        let class = ClassId::new(self.rows.as_slice().len() as u32);
+        reserve_all(
+            &mut self.rows,
+            &mut self.above,
+            &mut self.below,
+            receiving(growth.is_concrete, &growth.ancestors),
+        )?;
+        record_in(&mut self.loaders, loader, name, class)?;
+        push_all(
+            &mut self.rows,
+            &mut self.above,
+            &mut self.below,
+            growth,
+            class,
+        );
+        Ok(class)
+    }
+
+    /// What the definition of the class adds. Want of memory is an error.
+    fn growth(&self, alloc: Global, loader: LoaderId, file: ClassFile) -> Result<Growth, AllocError>
+        ensures row { IfOk result (λ growth. growth.row ≡ definitions.class_made self.now loader file) }
+        ensures concrete { IfOk result (λ growth. growth.is_concrete ≡ members.is_concrete_row (definitions.class_made self.now loader file)) }
+        ensures all { IfOk result (λ growth. growth.ancestors.items ++ length self.now.rows ∷ []
+            ≡ ancestry.ancestors (definitions.defined self.now loader file).rows (length self.now.rows)) }
+        ensures rising { IfOk result (λ growth. Rises growth.ancestors.items) }
+        ensures there { IfOk result (λ growth. All (λ a. a < length self.now.rows) growth.ancestors.items) }
+        ensures room { IfOk result (λ growth. vec_len growth.ancestors < vec_capacity growth.ancestors) }
+        ensures own { IfOk result (λ growth. growth.own.items
+            ≡ (if members.is_concrete_row (definitions.class_made self.now loader file) then length self.now.rows ∷ [] else [])) }
+    {
+        let class = ClassId::new(self.rows.as_slice().len() as u32);
+        let row = self.class_made(alloc, loader, file)?;
+        let is_concrete = is_concrete(&row);
+        let mut ancestors = self.proper_ancestors(alloc, &row)?;
+        ancestors.reserve(1)?;
+        let own = own_receivers(alloc, is_concrete, class)?;
+        Ok(Growth {
+            row,
+            is_concrete,
+            ancestors,
+            own,
+        })
+    }
+}
+
+/// The class's name, as a loader records it. Want of memory is an error.
+fn name_of(alloc: Global, file: &ClassFile) -> Result<Vec<u8>, AllocError>
+    ensures { IfOk result (λ name. name.items ≡ file.now.name) }
+{
+    file.name().as_slice().to_vec(alloc)
+}
+
+/// Makes room for one class more: for its row, its ancestors and its receivers, and in the list of each of these. Want of
+/// memory is an error.
+fn reserve_all(
+    rows: &mut Vec<Class>,
+    above: &mut Vec<Seq<ClassId>>,
+    below: &mut Vec<Vec<ClassId>>,
+    receiving: &[ClassId],
+) -> Result<(), AllocError>
+    requires { All (λ c. c < length below.old.items) receiving.now }
+    ensures rows { rows.new.items ≡ rows.old.items }
+    ensures above { above.new.items ≡ above.old.items }
+    ensures below { lists below.new.items ≡ lists below.old.items }
+    ensures row_room { OnOk result (vec_len rows.new < vec_capacity rows.new) }
+    ensures above_room { OnOk result (vec_len above.new < vec_capacity above.new) }
+    ensures below_room { OnOk result (vec_len below.new < vec_capacity below.new) }
+    ensures room { OnOk result (All (HasRoom below.new.items) receiving.now) }
+{
+    rows.reserve(1)?;
+    above.reserve(1)?;
+    below.reserve(1)?;
+    reserve_each(below.as_mut_slice(), receiving)?;
+    Ok(())
+}
+
+/// Adds a class behind the others, all of which have room for it.
+fn push_all(
+    rows: &mut Vec<Class>,
+    above: &mut Vec<Seq<ClassId>>,
+    below: &mut Vec<Vec<ClassId>>,
+    growth: Growth,
+    class: ClassId,
+)
+    requires row_room { vec_len rows.old < vec_capacity rows.old }
+    requires above_room { vec_len above.old < vec_capacity above.old }
+    requires below_room { vec_len below.old < vec_capacity below.old }
+    requires ancestors_room { vec_len growth.ancestors < vec_capacity growth.ancestors }
+    requires there { All (λ c. c < length below.old.items) (if growth.is_concrete then growth.ancestors.items else []) }
+    requires rising { Rises (if growth.is_concrete then growth.ancestors.items else []) }
+    requires room { All (HasRoom below.old.items) (if growth.is_concrete then growth.ancestors.items else []) }
+    ensures rows { rows.new.items ≡ rows.old.items ++ growth.row ∷ [] }
+    ensures above { above.new.items ≡ above.old.items ++ (growth.ancestors.items ++ class ∷ []) ∷ [] }
+    ensures below { (front : List (List ℕ))
+        × IsAppended (if growth.is_concrete then growth.ancestors.items else []) class (lists below.old.items) front
+        × (lists below.new.items ≡ front ++ growth.own.items ∷ []) }
+{
+    let Growth {
+        row,
+        is_concrete,
+        mut ancestors,
+        own,
+    } = growth;
+    append_to_each(
+        below.as_mut_slice(),
+        receiving(is_concrete, &ancestors),
+        class,
+    );
+    below.push_reserved(own);
+    ancestors.push_reserved(class);
+    above.push_reserved(Seq::of(ancestors));
+    rows.push_reserved(row);
+}

@@ -1,0 +1,127 @@
+//! New loaders, and delegation (JVMS SE 17 §5.3).
+
+ghost use Rattle.std.specs.Prelude.{◌≡◌, ◌≢◌, ◌↔◌, ◌<◌, ◌≤◌, ◌++◌, ◌∷◌, [], Some, None, Err, length, IfOk, IfErr, OnOk, OnErr};
+ghost use Rattle.jl_types.specs.declared.refusal.DelegateFault.TheVariants as fault;
+ghost use Rattle.jl_types.specs.Definitions as definitions;
+ghost use Rattle.jl_types.specs.Members as members;
+ghost use Rattle.jl_hierarchy.specs.declared.delegate.LoaderFault.TheVariants as loader_fault;
+
+use crate::classes::Classes;
+use crate::loader::{Loader, record_in};
+use jl_types::{ClassId, DelegateFault, LoaderId};
+use std::alloc::{AllocError, Global};
+
+/// Why a loader isn't made.
+#[derive(Clone, Copy, Debug, PartialEq, Eq)]
+pub enum LoaderFault {
+    /// There are 1,024 loaders.
+    Full,
+    /// Want of memory.
+    Memory,
+}
+
+/// The most loaders.
+const MOST_LOADERS: usize = 1_024;
+
+impl Classes {
+    /// A new loader, which has found nothing, by its number.
+    ///
+    /// # Errors
+    ///
+    /// `Full` where there are 1,024 loaders, else want of memory. Nothing has changed then.
+    pub fn new_loader(&mut self, alloc: Global) -> Result<LoaderId, LoaderFault>
+        ensures number { IfOk result (λ loader. loader ≡ length self.old.loaders) }
+        ensures ok { OnOk result (self.new ≡ record self.old { loaders = self.old.loaders ++ [] ∷ [] }) }
+        ensures full { (result ≡ Err loader_fault.Full) ↔ (1024 ≤ length self.old.loaders) }
+        ensures err { OnErr result (self.new ≡ self.old) }
+    {
+        let _ = &self.rows;
+        if self.loaders.len() >= MOST_LOADERS {
+            return Err(LoaderFault::Full);
+        }
+        let loader = LoaderId::new(self.loaders.len() as u32);
+        match self.loaders.push(Loader::new(alloc)) {
+            Ok(()) => Ok(loader),
+            Err(_) => Err(LoaderFault::Memory),
+        }
+    }
+
+    /// The loader finds the class that the other one has recorded under the name, from now on (JVMS SE 17 §5.3).
+    ///
+    /// # Errors
+    ///
+    /// The first fault of the delegation; else want of memory. Nothing has changed then.
+    pub fn delegate(
+        &mut self,
+        alloc: Global,
+        loader: LoaderId,
+        name: &[u8],
+        to: LoaderId,
+    ) -> Result<(), DelegateFault>
+        ensures accepted { OnOk result (definitions.delegate_fault self.old loader name.now to ≡ None) }
+        ensures ok { OnOk result (self.new ≡ definitions.delegated self.old loader name.now to) }
+        ensures fault { IfErr result (λ f. f ≢ fault.Memory → definitions.delegate_fault self.old loader name.now to ≡ Some f) }
+        ensures memory { result ≡ Err fault.Memory → definitions.delegate_fault self.old loader name.now to ≡ None }
+        ensures err { OnErr result (self.new ≡ self.old) }
+    {
+        let class = self.delegation(loader, name, to)?;
+        match self.record(alloc, loader, name, class) {
+            Ok(()) => Ok(()),
+            Err(_) => Err(DelegateFault::Memory),
+        }
+    }
+
+    /// The loader records the class under the name, which is new to it.
+    ///
+    /// # Errors
+    ///
+    /// Want of memory. Nothing has changed then.
+    fn record(
+        &mut self,
+        alloc: Global,
+        loader: LoaderId,
+        name: &[u8],
+        class: ClassId,
+    ) -> Result<(), AllocError>
+        requires loader { loader < length self.old.loaders }
+        requires fresh { members.lookup self.old loader name.now ≡ None }
+        requires there { class < length self.old.rows }
+        ensures ok { OnOk result (self.new ≡ record self.old { loaders = definitions.with_record self.old.loaders loader name.now class }) }
+        ensures err { OnErr result (self.new ≡ self.old) }
+    {
+        let name = name.to_vec(alloc)?;
+        record_in(&mut self.loaders, loader, name, class)?;
+        Ok(())
+    }
+
+    /// The class that the delegation records. Takes no memory.
+    ///
+    /// # Errors
+    ///
+    /// The first fault of the delegation.
+    fn delegation(
+        &self,
+        loader: LoaderId,
+        name: &[u8],
+        to: LoaderId,
+    ) -> Result<ClassId, DelegateFault>
+        ensures found { IfOk result (λ class. members.lookup self.now to name.now ≡ Some class) }
+        ensures fresh { OnOk result (members.lookup self.now loader name.now ≡ None) }
+        ensures loader { OnOk result (loader < length self.now.loaders) }
+        ensures there { IfOk result (λ class. class < length self.now.rows) }
+        ensures accepted { OnOk result (definitions.delegate_fault self.now loader name.now to ≡ None) }
+        ensures fault { IfErr result (λ f. (definitions.delegate_fault self.now loader name.now to ≡ Some f) × (f ≢ fault.Memory)) }
+    {
+        let count = self.loaders.len();
+        if loader.number() as usize >= count || to.number() as usize >= count {
+            return Err(DelegateFault::UnknownLoader);
+        }
+        let Some(class) = self.lookup(to, name) else {
+            return Err(DelegateFault::NotRecorded);
+        };
+        if self.lookup(loader, name).is_some() {
+            return Err(DelegateFault::AlreadyRecorded);
+        }
+        Ok(class)
+    }
+}

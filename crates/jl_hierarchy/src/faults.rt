@@ -1,0 +1,227 @@
+//! Why a class isn't defined (JVMS SE 17 §5.3.5).
+
+ghost use Rattle.std.specs.Prelude.{◌≡◌, ◌≢◌, ◌==◌, ◌&&◌, ◌||◌, not, nat_le, is_some, is_none, option_map, Some, None, length, position, ℕ, List, IfOk, IfErr, IfSome, OnOk, ◌+◌, ◌<◌, ◌^◌, ◌∷◌, []};
+ghost use Rattle.std.specs.Bool.{then_some};
+ghost use Rattle.std.specs.List.{list_any};
+ghost use Rattle.std.specs.Option.{option_copied};
+ghost use Rattle.jl_classfile.specs.Conditions.{object};
+ghost use Rattle.std.specs.Str.{bytes_eq};
+ghost use Rattle.jl_types.specs.declared.refusal.DefineFault.TheVariants as fault;
+ghost use Rattle.jl_types.specs.Members as members;
+ghost use Rattle.jl_types.specs.Definitions as definitions;
+ghost use Rattle.jl_types.specs.Resolution.{first_of};
+ghost use Rattle.jl_hierarchy.specs.Faults.{first_faults, superclass_faults, is_open_row, named_class, first_place};
+
+use crate::classes::Classes;
+use crate::nests::is_among;
+use jl_classfile::{ClassFile, FINAL, INTERFACE, PUBLIC, has_flag};
+use jl_names::{Name, package_of};
+use jl_types::{Class, DefineFault, LoaderId};
+
+/// The most classes.
+const MOST_CLASSES: usize = 65_536;
+
+impl Classes {
+    /// The file of a class that the loader may define. Takes no memory.
+    ///
+    /// # Errors
+    ///
+    /// The first fault of the definition.
+    pub(crate) fn admitted(
+        &self,
+        loader: LoaderId,
+        file: ClassFile,
+    ) -> Result<ClassFile, DefineFault>
+        ensures same { IfOk result (λ f. f ≡ file) }
+        ensures accepted { OnOk result (definitions.define_fault self.now loader file ≡ None) }
+        ensures fault { IfErr result (λ f. definitions.define_fault self.now loader file ≡ Some f) }
+        ensures named { IfErr result (λ f. f ≢ fault.Memory) }
+    {
+        if let Some(fault) = self.first_fault(loader, &file) {
+            return Err(fault);
+        }
+        if let Some(parent) = self.missing_parent(loader, &file) {
+            return Err(DefineFault::MissingParent(file.into_parent(parent)));
+        }
+        if let Some(fault) = self.superclass_fault(loader, &file) {
+            return Err(fault);
+        }
+        if let Some(interface) = self.no_interface(loader, &file) {
+            return Err(DefineFault::NotAnInterface(file.into_interface(interface)));
+        }
+        if let Some(parent) = self.inaccessible_parent(loader, &file) {
+            return Err(DefineFault::InaccessibleParent(file.into_parent(parent)));
+        }
+        if self.is_full() {
+            return Err(DefineFault::Full);
+        }
+        Ok(file)
+    }
+
+    /// Whether there are as many classes as there may be.
+    fn is_full(&self) -> bool
+        ensures { result ≡ nat_le 65536 (length self.now.rows) }
+    {
+        self.rows.as_slice().len() >= MOST_CLASSES
+    }
+
+    /// The first of the faults that are tested before the parents are looked up.
+    fn first_fault(&self, loader: LoaderId, file: &ClassFile) -> Option<DefineFault>
+        ensures first { result ≡ first_of (first_faults self.now loader file.now) }
+        ensures named { IfSome result (λ f. f ≢ fault.Memory) }
+    {
+        if loader.number() as usize >= self.loaders.len() {
+            return Some(DefineFault::UnknownLoader);
+        }
+        let name = file.name().as_slice();
+        if name == b"java/lang/Object".as_slice() && loader.number() != 0 {
+            return Some(DefineFault::SecondObject);
+        }
+        if self.lookup(loader, name).is_some() {
+            return Some(DefineFault::AlreadyRecorded);
+        }
+        if names_itself(file) {
+            return Some(DefineFault::NamesItself);
+        }
+        None
+    }
+
+    /// The place of the first parent that the loader hasn't recorded, the superclass before the superinterfaces.
+    fn missing_parent(&self, loader: LoaderId, file: &ClassFile) -> Option<usize>
+        ensures { result ≡ position (λ name. is_none (members.lookup self.now loader name)) (definitions.parent_names file.now) }
+    {
+        place_of_parent(
+            self.lacks_superclass(loader, file),
+            self.missing_interface(loader, file),
+        )
+    }
+
+    /// The place of the first superinterface that the loader hasn't recorded.
+    fn missing_interface(&self, loader: LoaderId, file: &ClassFile) -> Option<usize>
+        ensures first { result ≡ position (λ name. is_none (members.lookup self.now loader name)) file.now.interfaces }
+        ensures few { IfSome result (λ place. place + 1 < 2 ^ 64) }
+    {
+        file.interfaces()
+            .iter()
+            .position(|name| self.lookup(loader, name.as_slice()).is_none())
+    }
+
+    /// Whether the loader hasn't recorded the superclass, if there is one.
+    fn lacks_superclass(&self, loader: LoaderId, file: &ClassFile) -> Option<bool>
+        ensures { result ≡ option_map (λ name. is_none (members.lookup self.now loader name)) file.now.superclass }
+    {
+        Some(self.lookup(loader, file.superclass()?.as_slice()).is_none())
+    }
+
+    /// The first of the faults of the superclass alone.
+    fn superclass_fault(&self, loader: LoaderId, file: &ClassFile) -> Option<DefineFault>
+        ensures first { result ≡ first_of (superclass_faults self.now loader file.now) }
+        ensures named { IfSome result (λ f. f ≢ fault.Memory) }
+    {
+        let row = self.named(loader, file.superclass()?.as_slice())?;
+        if has_flag(row.file().flags(), INTERFACE) {
+            return Some(DefineFault::SuperIsInterface);
+        }
+        if has_flag(row.file().flags(), FINAL) {
+            return Some(DefineFault::FinalSuper);
+        }
+        None
+    }
+
+    /// The place of the first listed superinterface that is no interface.
+    fn no_interface(&self, loader: LoaderId, file: &ClassFile) -> Option<usize>
+        ensures { result ≡ position (λ name. not (definitions.named_test (members.is_interface self.now) self.now loader name)) file.now.interfaces }
+    {
+        file.interfaces()
+            .iter()
+            .position(|name| !self.names_interface(loader, name))
+    }
+
+    /// Whether the loader has recorded an interface under the name.
+    fn names_interface(&self, loader: LoaderId, name: &Name) -> bool
+        ensures { result ≡ definitions.named_test (members.is_interface self.now) self.now loader name.now }
+    {
+        match self.named(loader, name.as_slice()) {
+            Some(row) => has_flag(row.file().flags(), INTERFACE),
+            None => false,
+        }
+    }
+
+    /// The place of the first parent that isn't accessible to the class, the superclass before the superinterfaces.
+    fn inaccessible_parent(&self, loader: LoaderId, file: &ClassFile) -> Option<usize>
+        ensures { result ≡ position (λ name. not (definitions.is_open_parent self.now loader file.now name)) (definitions.parent_names file.now) }
+    {
+        place_of_parent(
+            self.has_closed_superclass(loader, file),
+            self.inaccessible_interface(loader, file),
+        )
+    }
+
+    /// The place of the first superinterface that isn't accessible to the class.
+    fn inaccessible_interface(&self, loader: LoaderId, file: &ClassFile) -> Option<usize>
+        ensures first { result ≡ position (λ name. not (definitions.is_open_parent self.now loader file.now name)) file.now.interfaces }
+        ensures few { IfSome result (λ place. place + 1 < 2 ^ 64) }
+    {
+        file.interfaces()
+            .iter()
+            .position(|name| !self.is_open_parent(loader, file, name))
+    }
+
+    /// Whether the superclass isn't accessible to the class, if there is one.
+    fn has_closed_superclass(&self, loader: LoaderId, file: &ClassFile) -> Option<bool>
+        ensures { result ≡ option_map (λ name. not (definitions.is_open_parent self.now loader file.now name)) file.now.superclass }
+    {
+        Some(!self.is_open_parent(loader, file, file.superclass()?))
+    }
+
+    /// Whether the parent of this name is accessible to the class that the loader makes of the file.
+    fn is_open_parent(&self, loader: LoaderId, file: &ClassFile, name: &Name) -> bool
+        ensures { result ≡ definitions.is_open_parent self.now loader file.now name.now }
+    {
+        match self.named(loader, name.as_slice()) {
+            Some(row) => is_open_to(row, loader, file),
+            None => false,
+        }
+    }
+
+    /// The class that the loader has recorded under the name.
+    fn named(&self, loader: LoaderId, name: &[u8]) -> Option<&Class>
+        ensures { option_copied result ≡ named_class self.now loader name.now }
+    {
+        self.class_at(self.lookup(loader, name)?)
+    }
+}
+
+/// Whether the class is public, or in the run-time package of the class that the loader makes of the file.
+fn is_open_to(row: &Class, loader: LoaderId, file: &ClassFile) -> bool
+    ensures { result ≡ is_open_row row.now loader file.now }
+{
+    has_flag(row.file().flags(), PUBLIC)
+        || (row.loader() == loader
+            && package_of(row.file().name().as_slice()) == package_of(file.name().as_slice()))
+}
+
+/// The first place among the parents, where the superclass, if there is one, is so or not, and this is the first place among
+/// the superinterfaces.
+fn place_of_parent(superclass: Option<bool>, interface: Option<usize>) -> Option<usize>
+    requires { IfSome interface (λ place. place + 1 < 2 ^ 64) }
+    ensures { result ≡ first_place superclass interface }
+{
+    match superclass {
+        Some(true) => Some(0),
+        Some(false) => Some(interface? + 1),
+        None => interface,
+    }
+}
+
+/// Whether the class is its own superclass or superinterface.
+fn names_itself(file: &ClassFile) -> bool
+    ensures { result ≡ list_any (bytes_eq file.now.name) (definitions.parent_names file.now) }
+{
+    let name = file.name().as_slice();
+    let by_superclass = match file.superclass() {
+        Some(superclass) => name == superclass.as_slice(),
+        None => false,
+    };
+    by_superclass || is_among(name, file.interfaces())
+}

@@ -1,0 +1,20 @@
+//! The classes that are defined, by their loaders (JVMS SE 17 §5.3): what a loader finds by name, packages, nests, ancestors,
+//! receivers and declarations.
+//!
+//! The contract of each question is its definition in jl_types (`specs/Members`, `Ancestry` and `Access`), and that of a
+//! definition or a delegation is its fault and its step there (`specs/Definitions`). `specs/Kept` is a means of proof.
+#![tactic(auto)]
+
+mod ancestry;
+mod classes;
+mod define;
+mod delegate;
+mod faults;
+mod growth;
+mod loader;
+mod members;
+mod nests;
+mod receiving;
+
+pub use classes::Classes;
+pub use delegate::LoaderFault;

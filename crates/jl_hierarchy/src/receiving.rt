@@ -1,0 +1,65 @@
+//! The lists of receivers, as a class is added to some of them.
+
+ghost use Rattle.std.specs.Prelude.{◌≡◌, ◌<◌, length, if◌then◌else◌, [], ◌∷◌, All, OnOk, IfOk};
+ghost use Rattle.jl_types.specs.Members as members;
+ghost use Rattle.jl_hierarchy.specs.Kept.{HasRoom, Rises, IsAppended, lists};
+
+use jl_classfile::{ABSTRACT, INTERFACE, has_flag};
+use jl_types::{Class, ClassId};
+use std::alloc::{AllocError, Global};
+
+/// Whether objects may be of the class: it is neither an interface nor abstract.
+pub(crate) fn is_concrete(row: &Class) -> bool
+    ensures { result ≡ members.is_concrete_row row.now }
+{
+    !has_flag(row.file().flags(), INTERFACE) && !has_flag(row.file().flags(), ABSTRACT)
+}
+
+/// Those of a class's ancestors that get it as a receiver: all of them or none.
+pub(crate) fn receiving<'a>(is_concrete: bool, ancestors: &'a [ClassId]) -> &'a [ClassId]
+    ensures { result.now ≡ (if is_concrete then ancestors.now else []) }
+{
+    if is_concrete { ancestors } else { &[] }
+}
+
+/// The receivers of a class that has none below it. Want of memory is an error.
+pub(crate) fn own_receivers(
+    alloc: Global,
+    is_concrete: bool,
+    class: ClassId,
+) -> Result<Vec<ClassId>, AllocError>
+    ensures { IfOk result (λ own. own.items ≡ (if is_concrete then class ∷ [] else [])) }
+{
+    let mut own = Vec::new(alloc);
+    if is_concrete {
+        own.push(class)?;
+    }
+    Ok(own)
+}
+
+/// Makes room for one class more in the list of each of these. Want of memory is an error.
+pub(crate) fn reserve_each(
+    below: &mut [Vec<ClassId>],
+    classes: &[ClassId],
+) -> Result<(), AllocError>
+    requires { All (λ c. c < length below.old) classes.now }
+    ensures lists { lists below.new ≡ lists below.old }
+    ensures room { OnOk result (All (HasRoom below.new) classes.now) }
+{
+    for class in classes {
+        below[class.number() as usize].reserve(1)?;
+    }
+    Ok(())
+}
+
+/// Appends the class to the list of each of these, which have room for it.
+pub(crate) fn append_to_each(below: &mut [Vec<ClassId>], classes: &[ClassId], class: ClassId)
+    requires there { All (λ c. c < length below.old) classes.now }
+    requires rising { Rises classes.now }
+    requires room { All (HasRoom below.old) classes.now }
+    ensures { IsAppended classes.now class (lists below.old) (lists below.new) }
+{
+    for to in classes {
+        below[to.number() as usize].push_reserved(class);
+    }
+}
