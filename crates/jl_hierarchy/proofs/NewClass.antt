@@ -43,10 +43,6 @@ has_chosen : (b : Bool) (i : ℕ) (xs : List ℕ) → has i (if b then xs else [
 has_chosen true i xs = refl
 has_chosen false i xs = refl
 
-either_end : (b : Bool) (xs : List ℕ) (n : ℕ) → xs ++ cond b (n ∷ []) [] ≡ (if b then xs ++ n ∷ [] else xs ++ [])
-either_end true xs n = refl
-either_end false xs n = refl
-
 module _ (cs : Classes) (over under : List (List ℕ)) (kept : IsKept cs over under) (loader : ℕ) (file : ClassFile) (room : length cs.rows < 65536) where
   abbrev n : ℕ
   n = length cs.rows

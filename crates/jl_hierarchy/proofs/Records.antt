@@ -46,16 +46,6 @@ new_entry m key v e =
     ap named (insert_entry-new (λ k j. bytes_eq k.items j.items) m key v (sym (recorded_is key.items m.entries) ∙ e))
     ∙ named_end m.entries (key, v)
 
--- each entry has the same name and class
-abbrev pub AreCopies : {A : Type 0} → List (Vec ℕ A × ℕ) → List (Vec ℕ A × ℕ) → Type 0
-AreCopies es fs = AllZip (λ e f. (AllZip (λ (x y : ℕ). y ≡ x) e.0.items f.0.items × (vec_len f.0 ≡ vec_len e.0)) × (f.1 ≡ e.1)) es fs
-
-pub named_same : {A : Type 0} (es fs : List (Vec ℕ A × ℕ)) → AreCopies es fs → named fs ≡ named es
-named_same [] [] h = refl
-named_same [] (f ∷ fs) h = absurd h
-named_same (e ∷ es) [] h = absurd h
-named_same {A = A} (e ∷ es) (f ∷ fs) h = λ i. (each_same e.0.items f.0.items h.0.0.0 i, h.0.1 i) ∷ named_same es fs h.1 i
-
 -- the loader's records with one more, in their place
 module _ (loaders : List (List (List ℕ × ℕ))) (loader : ℕ) (records d : List (List ℕ × ℕ)) (lt : loader < length loaders) (is : records ≡ get_or loaders loader d) where
   there : slice_get loaders loader ≡ Some records

@@ -1,6 +1,6 @@
 //! What one loader finds by name.
 
-ghost use Rattle.std.specs.Prelude.{◌≡◌, ◌<◌, ◌++◌, ◌∷◌, [], None, length, slice_get, option_and_then, IfOk, OnOk, OnErr};
+ghost use Rattle.std.specs.Prelude.{◌≡◌, ◌<◌, ◌++◌, ◌∷◌, [], None, length, slice_get, option_and_then, OnOk, OnErr};
 ghost use Rattle.jl_types.specs.Members.{recorded};
 ghost use Rattle.jl_types.specs.Definitions.{with_record};
 
@@ -54,15 +54,6 @@ impl Loader {
     {
         self.records.insert(name, class)?;
         Ok(())
-    }
-
-    /// The same records once more. Want of memory is an error.
-    pub(crate) fn copy(&self) -> Result<Loader, AllocError>
-        ensures { IfOk result (λ copy. copy ≡ self.now) }
-    {
-        Ok(Loader {
-            records: self.records.clone()?,
-        })
     }
 }
 
