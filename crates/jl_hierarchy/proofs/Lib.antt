@@ -7,3 +7,5 @@ pub mod Found
 pub mod Parents
 pub mod FaultLaws
 pub mod NewClass
+pub mod Chains
+pub mod DefaultLaws

@@ -1,7 +1,5 @@
 -- What a loader finds by name, as its map has it.
 use Rattle.std.specs.Prelude.{◌≡◌, ℕ, Bool, true, false, cond, List, [], ◌∷◌, ◌++◌, Vec, find, None, option_map, option_and_then, Some, length, get_or, slice_get, slice_set, ◌<◌}
-use Rattle.std.specs.List.{AllZip, each_same}
-use Rattle.std.specs.Vec.{vec_len}
 use Rattle.std.specs.Bool.{one_answer}
 use Rattle.std.specs.Map.{lookup}
 use Rattle.std.specs.Str.{bytes_eq}

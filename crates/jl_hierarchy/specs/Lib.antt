@@ -1,3 +1,4 @@
 -- What the classes keep beside their definition: a means of proof.
 pub mod Kept
 pub mod Faults
+pub mod Defaults

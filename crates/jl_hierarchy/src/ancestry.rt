@@ -18,12 +18,21 @@ impl Classes {
     }
 
     /// Whether the first class is among the ancestors of the second one, as that itself is. A search in the ancestors that
-    /// are kept.
+    /// are kept. A class that isn't there has none.
     pub fn is_ancestor(&self, ancestor: ClassId, class: ClassId) -> bool
-        requires { class < length self.now.rows }
         ensures { result ≡ ancestry.is_ancestor self.now ancestor class }
     {
+        if !self.has_class(class) {
+            return false;
+        }
         self.ancestors(class).binary_search(&ancestor).is_ok()
+    }
+
+    /// The same, but not of a class and itself.
+    pub fn is_proper_ancestor(&self, ancestor: ClassId, class: ClassId) -> bool
+        ensures { result ≡ ancestry.is_proper_ancestor self.now ancestor class }
+    {
+        ancestor != class && self.is_ancestor(ancestor, class)
     }
 
     /// The classes that objects may be of which are of the class: those that are neither an interface nor abstract and have

@@ -1,12 +1,13 @@
 //! The classes that are defined, by their loaders (JVMS SE 17 §5.3): what a loader finds by name, packages, nests, ancestors,
 //! receivers and declarations.
 //!
-//! The contract of each question is its definition in jl_types (`specs/Members`, `Ancestry` and `Access`), and that of a
-//! definition or a delegation is its fault and its step there (`specs/Definitions`). `specs/Kept` is a means of proof.
+//! The contract of each question is its definition in jl_types (`specs/Members`, `Ancestry`, `Access` and `Resolution`), and that of a
+//! definition or a delegation is its fault and its step there (`specs/Definitions`). `specs/Kept`, `Faults` and `Defaults` are means of proof.
 #![tactic(auto)]
 
 mod ancestry;
 mod classes;
+mod defaults;
 mod define;
 mod delegate;
 mod faults;
@@ -15,6 +16,7 @@ mod loader;
 mod members;
 mod nests;
 mod receiving;
+mod upward;
 
 pub use classes::Classes;
 pub use delegate::LoaderFault;

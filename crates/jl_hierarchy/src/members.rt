@@ -1,18 +1,24 @@
 //! Superclasses and methods of a class.
 
-ghost use Rattle.std.specs.Prelude.{◌≡◌, ◌<◌, ◌^◌, length, position};
+ghost use Rattle.std.specs.Prelude.{◌≡◌, ◌<◌, ◌^◌, ◌&&◌, not, length, position};
 ghost use Rattle.std.specs.Option.{option_copied};
+ghost use Rattle.jl_classfile.specs.Conditions as conditions;
 ghost use Rattle.jl_types.specs.Members as members;
 ghost use Rattle.jl_types.specs.Ancestry as ancestry;
+ghost use Rattle.jl_types.specs.Ancestry.{AreOrdered};
 
 use crate::classes::Classes;
-use jl_classfile::{INTERFACE, Method, has_flag};
+use jl_classfile::{ABSTRACT, INTERFACE, Method, PRIVATE, PUBLIC, STATIC, has_flag};
 use jl_types::{Class, ClassId, MethodId};
+
+/// ACC_PROTECTED (JVMS SE 17 §4.6).
+const PROTECTED: u16 = 0x0004;
 
 impl Classes {
     /// The direct superclass of the class.
     pub fn superclass(&self, class: ClassId) -> Option<ClassId>
-        ensures { result ≡ ancestry.superclass_of self.now class }
+        ensures same { result ≡ ancestry.superclass_of self.now class }
+        ensures ordered { AreOrdered self.now.rows }
     {
         self.class_at(class)?.superclass()
     }
@@ -27,9 +33,19 @@ impl Classes {
         }
     }
 
+    /// Whether the class is public.
+    pub fn is_public_class(&self, class: ClassId) -> bool
+        ensures { result ≡ members.is_public_class self.now class }
+    {
+        match self.class_at(class) {
+            Some(row) => has_flag(row.file().flags(), PUBLIC),
+            None => false,
+        }
+    }
+
     /// The method of this number.
-    pub fn method_at(&self, method: MethodId) -> Option<&Method>
-        ensures { option_copied result ≡ members.method_at self.now method }
+    pub fn method_at(&self, method: &MethodId) -> Option<&Method>
+        ensures { option_copied result ≡ members.method_at self.now method.now }
     {
         methods_of(self.class_at(method.class)?).get(method.index as usize)
     }
@@ -44,6 +60,61 @@ impl Classes {
             index: place as u16,
         })
     }
+
+    /// Whether the method is public.
+    pub fn is_public(&self, method: &MethodId) -> bool
+        ensures { result ≡ members.is_public self.now method.now }
+    {
+        self.has_method_flag(method, PUBLIC)
+    }
+
+    /// Whether the method is private.
+    pub fn is_private(&self, method: &MethodId) -> bool
+        ensures { result ≡ members.is_private self.now method.now }
+    {
+        self.has_method_flag(method, PRIVATE)
+    }
+
+    /// Whether the method is protected.
+    pub fn is_protected(&self, method: &MethodId) -> bool
+        ensures { result ≡ members.is_protected self.now method.now }
+    {
+        self.has_method_flag(method, PROTECTED)
+    }
+
+    /// Whether the method is static.
+    pub fn is_static(&self, method: &MethodId) -> bool
+        ensures { result ≡ members.is_static self.now method.now }
+    {
+        self.has_method_flag(method, STATIC)
+    }
+
+    /// Whether the method is abstract.
+    pub fn is_abstract(&self, method: &MethodId) -> bool
+        ensures { result ≡ members.is_abstract self.now method.now }
+    {
+        self.has_method_flag(method, ABSTRACT)
+    }
+
+    /// Whether the method has no access flag: it is neither public, protected nor private (JVMS SE 17 §4.6).
+    pub fn is_package_private(&self, method: &MethodId) -> bool
+        ensures { result ≡ members.is_package_private self.now method.now }
+    {
+        match self.method_at(method) {
+            Some(method) => is_without_access_flag(method.flags()),
+            None => true,
+        }
+    }
+
+    /// Whether the method has the flag. A method that isn't there has none.
+    fn has_method_flag(&self, method: &MethodId, flag: u16) -> bool
+        ensures { result ≡ members.method_test (λ m. conditions.has_flag m.flags flag) self.now method.now }
+    {
+        match self.method_at(method) {
+            Some(method) => has_flag(method.flags(), flag),
+            None => false,
+        }
+    }
 }
 
 /// The methods that the class declares, in its file's order.
@@ -52,6 +123,14 @@ fn methods_of(row: &Class) -> &[Method]
     ensures few { length result.now < 2 ^ 16 }
 {
     row.file().methods()
+}
+
+/// Whether none of the access flags is set.
+fn is_without_access_flag(flags: u16) -> bool
+    ensures { result ≡ (not (conditions.has_flag flags conditions.PUBLIC)
+        && (not (conditions.has_flag flags conditions.PROTECTED) && not (conditions.has_flag flags conditions.PRIVATE))) }
+{
+    !has_flag(flags, PUBLIC) && !has_flag(flags, PROTECTED) && !has_flag(flags, PRIVATE)
 }
 
 /// The place of the method of this name and descriptor.

@@ -1,0 +1,147 @@
+//! Superinterface methods (JVMS SE 17 §5.4.3.3).
+
+ghost use Rattle.std.specs.Prelude.{◌≡◌, ◌<◌, length};
+ghost use Rattle.jl_types.specs.Resolution as resolution;
+ghost use Rattle.jl_types.specs.Resolution.{candidates, defaults, first_element, pick};
+ghost use Rattle.jl_hierarchy.specs.Defaults as by_ancestor;
+
+use crate::classes::Classes;
+use jl_classfile::{PRIVATE, STATIC, has_flag};
+use jl_types::{Chosen, ClassId, MethodId};
+
+impl Classes {
+    /// The method of this name and descriptor of the superinterface of least number, among those that superinterfaces of the
+    /// class declare and that are neither private nor static.
+    pub fn first_candidate(&self, class: ClassId, name: &[u8], ty: &[u8]) -> Option<MethodId>
+        requires { class < length self.now.rows }
+        ensures { result ≡ first_element (candidates self.now name.now ty.now class) }
+    {
+        for ancestor in self.ancestors(class) {
+            if let Some(method) = self.candidate(class, *ancestor, name, ty) {
+                return Some(method);
+            }
+        }
+        None
+    }
+
+    /// The one maximally-specific superinterface method of this name and descriptor that isn't abstract, or that there are
+    /// several or none.
+    pub fn default_method(&self, class: ClassId, name: &[u8], ty: &[u8]) -> Chosen
+        requires { class < length self.now.rows }
+        ensures { result ≡ pick (defaults self.now name.now ty.now class) }
+    {
+        let mut found = None;
+        for ancestor in self.ancestors(class) {
+            let Some(method) = self.default_of(class, *ancestor, name, ty) else {
+                continue;
+            };
+            if found.is_some() {
+                return Chosen::Several;
+            }
+            found = Some(method);
+        }
+        one_of(found)
+    }
+
+    /// The method that the ancestor declares, where it is a superinterface of the class and the method is neither private nor
+    /// static.
+    fn candidate(
+        &self,
+        class: ClassId,
+        ancestor: ClassId,
+        name: &[u8],
+        ty: &[u8],
+    ) -> Option<MethodId>
+        ensures { result ≡ by_ancestor.candidate_at self.now name.now ty.now class ancestor }
+    {
+        if !self.is_other_interface(class, ancestor) {
+            return None;
+        }
+        let method = self.declared(ancestor, name, ty)?;
+        if self.is_inherited(&method) {
+            Some(method)
+        } else {
+            None
+        }
+    }
+
+    /// Whether the method is neither private nor static.
+    fn is_inherited(&self, method: &MethodId) -> bool
+        ensures { result ≡ by_ancestor.is_inherited self.now method.now }
+    {
+        match self.method_at(method) {
+            Some(method) => !has_flag(method.flags(), PRIVATE) && !has_flag(method.flags(), STATIC),
+            None => true,
+        }
+    }
+
+    /// Whether the ancestor is an interface other than the class.
+    fn is_other_interface(&self, class: ClassId, ancestor: ClassId) -> bool
+        ensures { result ≡ by_ancestor.is_other_interface self.now class ancestor }
+    {
+        self.is_interface(ancestor) && ancestor != class
+    }
+
+    /// The same, where the method isn't abstract and no subinterface of the ancestor declares such a method.
+    fn default_of(
+        &self,
+        class: ClassId,
+        ancestor: ClassId,
+        name: &[u8],
+        ty: &[u8],
+    ) -> Option<MethodId>
+        requires { class < length self.now.rows }
+        ensures { result ≡ by_ancestor.default_at self.now name.now ty.now class ancestor }
+    {
+        let method = self.candidate(class, ancestor, name, ty)?;
+        if self.is_default(class, &method, name, ty) {
+            Some(method)
+        } else {
+            None
+        }
+    }
+
+    /// Whether the candidate isn't abstract, and no subinterface of its class declares another one.
+    fn is_default(&self, class: ClassId, method: &MethodId, name: &[u8], ty: &[u8]) -> bool
+        requires { class < length self.now.rows }
+        ensures { result ≡ by_ancestor.is_default self.now name.now ty.now class method.now }
+    {
+        !self.is_abstract(method) && !self.is_redeclared(class, method.class, name, ty)
+    }
+
+    /// Whether a superinterface of the class that is a subinterface of this one declares a method of the name and descriptor
+    /// that is neither private nor static.
+    fn is_redeclared(&self, class: ClassId, interface: ClassId, name: &[u8], ty: &[u8]) -> bool
+        requires { class < length self.now.rows }
+        ensures { result ≡ by_ancestor.is_redeclared self.now name.now ty.now class interface }
+    {
+        self.ancestors(class).iter().any(|lower| self.redeclares(
+            class, interface, *lower, name, ty,
+        ))
+    }
+
+    /// Whether the ancestor is a subinterface of the interface, and declares such a method.
+    fn redeclares(
+        &self,
+        class: ClassId,
+        interface: ClassId,
+        ancestor: ClassId,
+        name: &[u8],
+        ty: &[u8],
+    ) -> bool
+        ensures { result ≡ by_ancestor.redeclares self.now name.now ty.now class interface ancestor }
+    {
+        self.is_proper_ancestor(interface, ancestor)
+            && self.candidate(class, ancestor, name, ty).is_some()
+    }
+}
+
+/// What was found, where there was no second one.
+fn one_of(found: Option<MethodId>) -> Chosen
+    ensures { result ≡ by_ancestor.one_found found }
+{
+    match found {
+        Some(method) => Chosen::Method(method),
+        None => Chosen::Nothing,
+    }
+}

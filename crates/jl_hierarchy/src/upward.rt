@@ -1,0 +1,43 @@
+//! Walks up the superclasses.
+
+ghost use Rattle.std.specs.Prelude.{◌≡◌, ◌<◌, length};
+ghost use Rattle.jl_types.specs.Ancestry as ancestry;
+ghost use Rattle.jl_types.specs.Resolution as resolution;
+
+use crate::classes::Classes;
+use jl_types::{ClassId, MethodId};
+
+impl Classes {
+    /// Whether the class is the other one or one of its subclasses.
+    pub fn is_subclass(&self, class: ClassId, other: ClassId) -> bool
+        requires { class < length self.now.rows }
+        ensures { result ≡ ancestry.is_subclass self.now class other }
+    {
+        let mut at = class;
+        loop {
+            if at == other {
+                return true;
+            }
+            match self.superclass(at) {
+                Some(superclass) => at = superclass,
+                None => return false,
+            }
+        }
+    }
+
+    /// The first declaration in the class and its superclasses upward.
+    pub fn declared_upward(&self, class: ClassId, name: &[u8], ty: &[u8]) -> Option<MethodId>
+        ensures { result ≡ resolution.declared_upward self.now name.now ty.now class }
+    {
+        let mut at = class;
+        loop {
+            if let Some(method) = self.declared(at, name, ty) {
+                return Some(method);
+            }
+            match self.superclass(at) {
+                Some(superclass) => at = superclass,
+                None => return None,
+            }
+        }
+    }
+}
