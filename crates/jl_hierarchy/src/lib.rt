@@ -15,6 +15,7 @@ mod growth;
 mod loader;
 mod members;
 mod nests;
+mod object;
 mod receiving;
 mod upward;
 

@@ -25,6 +25,14 @@ impl Classes {
         }
     }
 
+    /// Whether the class is one of the other one's subclasses, and not that itself.
+    pub fn is_proper_subclass(&self, class: ClassId, other: ClassId) -> bool
+        requires { class < length self.now.rows }
+        ensures { result ≡ ancestry.is_proper_subclass self.now class other }
+    {
+        class != other && self.is_subclass(class, other)
+    }
+
     /// The first declaration in the class and its superclasses upward.
     pub fn declared_upward(&self, class: ClassId, name: &[u8], ty: &[u8]) -> Option<MethodId>
         ensures { result ≡ resolution.declared_upward self.now name.now ty.now class }

@@ -175,7 +175,7 @@ module _ (cs : Classes) (o : AreOrdered cs.rows) where
                 ∙ or_right (x == z) (list_any (λ c. c == z) (option_map_or (superclasses cs) row.superclass [])) (by_superclass row e ih row.superclass refl more))
           ]
 
-  proper_onward : (x y z : ℕ) → is_proper_subclass cs x y ≡ true → is_proper_subclass cs y z ≡ true → is_proper_subclass cs x z ≡ true
+  pub proper_onward : (x y z : ℕ) → is_proper_subclass cs x y ≡ true → is_proper_subclass cs y z ≡ true → is_proper_subclass cs x z ≡ true
   proper_onward x y z h k =
       let p = and_parts (not (x == y)) (is_subclass cs x y) h in
       let q = and_parts (not (y == z)) (is_subclass cs y z) k in
