@@ -1,0 +1,3 @@
+pub mod Upward
+pub mod Bridges
+pub mod Overrides

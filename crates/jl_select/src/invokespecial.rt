@@ -1,0 +1,116 @@
+//! What an invokespecial comes to (JVMS SE 17 §6.5.invokespecial).
+
+ghost use Rattle.std.specs.Prelude.{◌≡◌, ◌<◌, not, length, IfSome};
+ghost use Rattle.jl_types.specs.Members as members;
+ghost use Rattle.jl_types.specs.Selection as selection;
+ghost use Rattle.jl_select.specs.Walks.{own_passing};
+
+use crate::selection::ending;
+use jl_hierarchy::Classes;
+use jl_names::Name;
+use jl_pool::Reference;
+use jl_types::{Chosen, ClassId, MethodId, Outcome};
+
+/// What an invokespecial in the caller's class comes to, where its reference names this class or interface. Takes no memory.
+///
+/// The search begins at the caller's direct superclass if a proper superclass of the caller is named and the method isn't
+/// `<init>`, and else at the named class.
+pub fn special(
+    classes: &Classes,
+    caller: ClassId,
+    named: ClassId,
+    reference: &Reference<Name>,
+) -> Outcome
+    requires caller { caller < length classes.now.rows }
+    requires named { named < length classes.now.rows }
+    ensures { result ≡ selection.special_outcome classes.now caller named reference.now }
+{
+    ending(
+        classes,
+        special_choice(
+            classes,
+            special_start(classes, caller, named, reference),
+            reference,
+        ),
+    )
+}
+
+/// Where the search begins.
+fn special_start(
+    classes: &Classes,
+    caller: ClassId,
+    named: ClassId,
+    reference: &Reference<Name>,
+) -> Option<ClassId>
+    requires caller { caller < length classes.now.rows }
+    requires named { named < length classes.now.rows }
+    ensures same { result ≡ selection.special_start classes.now caller named reference.now }
+    ensures there { IfSome result (λ class. class < length classes.now.rows) }
+{
+    if reference.name.as_slice() != b"<init>".as_slice()
+        && !classes.is_interface(named)
+        && classes.is_proper_subclass(caller, named)
+    {
+        classes.superclass(caller)
+    } else {
+        Some(named)
+    }
+}
+
+/// What the search gives from there.
+fn special_choice(classes: &Classes, start: Option<ClassId>, reference: &Reference<Name>) -> Chosen
+    requires { IfSome start (λ class. class < length classes.now.rows) }
+    ensures { result ≡ selection.special_choice classes.now reference.now start }
+{
+    let Some(class) = start else {
+        return Chosen::Nothing;
+    };
+    let name = reference.name.as_slice();
+    let ty = reference.ty.as_slice();
+    match special_found(classes, class, name, ty) {
+        Some(method) => Chosen::Method(method),
+        None => classes.default_method(class, name, ty),
+    }
+}
+
+/// The instance method that the search finds before the defaults.
+fn special_found(classes: &Classes, class: ClassId, name: &[u8], ty: &[u8]) -> Option<MethodId>
+    ensures { result ≡ selection.special_found classes.now name.now ty.now class }
+{
+    if classes.is_interface(class) {
+        match own_instance(classes, class, name, ty) {
+            Some(method) => Some(method),
+            None => classes.declared_in_object(name, ty),
+        }
+    } else {
+        special_in_class(classes, class, name, ty)
+    }
+}
+
+/// The first instance method of this name and descriptor, in the class and its superclasses upward.
+fn special_in_class(classes: &Classes, class: ClassId, name: &[u8], ty: &[u8]) -> Option<MethodId>
+    ensures { result ≡ selection.special_in_class classes.now name.now ty.now class }
+{
+    let mut at = class;
+    loop {
+        if let Some(method) = own_instance(classes, at, name, ty) {
+            return Some(method);
+        }
+        match classes.superclass(at) {
+            Some(superclass) => at = superclass,
+            None => return None,
+        }
+    }
+}
+
+/// The class's own instance method of this name and descriptor.
+fn own_instance(classes: &Classes, class: ClassId, name: &[u8], ty: &[u8]) -> Option<MethodId>
+    ensures { result ≡ own_passing (λ m. not (members.is_static classes.now m)) classes.now name.now ty.now class }
+{
+    let method = classes.declared(class, name, ty)?;
+    if !classes.is_static(&method) {
+        Some(method)
+    } else {
+        None
+    }
+}

@@ -1,0 +1,12 @@
+//! Overriding and selection (JVMS SE 17 §5.4.5, §5.4.6), and what the instructions make of them (§6.5).
+//!
+//! The contract of each is its definition in jl_types (`specs/Overriding` and `Selection`). `specs/Walks` is a means of proof.
+#![tactic(auto)]
+
+mod invokespecial;
+mod overriding;
+mod selection;
+
+pub use invokespecial::special;
+pub use overriding::can_override;
+pub use selection::{chosen, select, select_interface};

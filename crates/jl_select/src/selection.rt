@@ -1,0 +1,132 @@
+//! Selection (JVMS SE 17 §5.4.6), and what invokevirtual and invokeinterface make of it (§6.5).
+
+ghost use Rattle.std.specs.Prelude.{◌≡◌, ◌<◌, ◌||◌, length};
+ghost use Rattle.jl_types.specs.Members as members;
+ghost use Rattle.jl_types.specs.Overriding as overriding;
+ghost use Rattle.jl_types.specs.Selection as selection;
+ghost use Rattle.jl_select.specs.Walks.{own_passing};
+
+use crate::overriding::can_override;
+use jl_classfile::Method;
+use jl_hierarchy::Classes;
+use jl_types::{Chosen, ClassId, MethodId, Outcome, Throwable};
+
+/// The method that selection picks for a receiver's class and the resolved method (JVMS SE 17 §5.4.6). Takes no memory.
+pub fn chosen(classes: &Classes, receiver: ClassId, resolved: &MethodId) -> Chosen
+    requires { receiver < length classes.now.rows }
+    ensures { result ≡ selection.chosen classes.now receiver resolved.now }
+{
+    if classes.is_private(resolved) {
+        return Chosen::Method(*resolved);
+    }
+    let Some(method) = classes.method_at(resolved) else {
+        return Chosen::Nothing;
+    };
+    match overriding(classes, receiver, resolved, method) {
+        Some(found) => Chosen::Method(found),
+        None => classes.default_method(receiver, method.name().as_slice(), method.ty().as_slice()),
+    }
+}
+
+/// What an invokevirtual of the resolved method comes to for a receiver's class.
+pub fn select(classes: &Classes, receiver: ClassId, resolved: &MethodId) -> Outcome
+    requires { receiver < length classes.now.rows }
+    ensures { result ≡ selection.virtual_outcome classes.now receiver resolved.now }
+{
+    ending(classes, chosen(classes, receiver, resolved))
+}
+
+/// What an invokeinterface of the resolved method comes to for a receiver's class, where the reference names this interface.
+pub fn select_interface(
+    classes: &Classes,
+    receiver: ClassId,
+    named: ClassId,
+    resolved: &MethodId,
+) -> Outcome
+    requires { receiver < length classes.now.rows }
+    ensures { result ≡ selection.interface_outcome classes.now receiver named resolved.now }
+{
+    if !classes.is_ancestor(named, receiver) {
+        return Outcome::Throws(Throwable::IncompatibleClassChangeError);
+    }
+    interface_ending(classes, chosen(classes, receiver, resolved))
+}
+
+/// What a choice comes to.
+pub(crate) fn ending(classes: &Classes, choice: Chosen) -> Outcome
+    ensures { result ≡ selection.ending classes.now choice }
+{
+    match choice {
+        Chosen::Method(method) => {
+            if classes.is_abstract(&method) {
+                Outcome::Throws(Throwable::AbstractMethodError)
+            } else {
+                Outcome::Run(method)
+            }
+        }
+        Chosen::Several => Outcome::Throws(Throwable::IncompatibleClassChangeError),
+        Chosen::Nothing => Outcome::Throws(Throwable::AbstractMethodError),
+    }
+}
+
+/// What a choice comes to at invokeinterface: a method that is neither public nor private is not accessible.
+fn interface_ending(classes: &Classes, choice: Chosen) -> Outcome
+    ensures { result ≡ selection.interface_ending classes.now choice }
+{
+    match choice {
+        Chosen::Method(method) => {
+            if is_open(classes, &method) {
+                ending(classes, Chosen::Method(method))
+            } else {
+                Outcome::Throws(Throwable::IllegalAccessError)
+            }
+        }
+        Chosen::Several => ending(classes, Chosen::Several),
+        Chosen::Nothing => ending(classes, Chosen::Nothing),
+    }
+}
+
+/// Whether the method is public or private.
+fn is_open(classes: &Classes, method: &MethodId) -> bool
+    ensures { result ≡ members.is_public classes.now method.now || members.is_private classes.now method.now }
+{
+    classes.is_public(method) || classes.is_private(method)
+}
+
+/// The first declaration, in the class and its superclasses upward, that can override the resolved method.
+fn overriding(
+    classes: &Classes,
+    receiver: ClassId,
+    resolved: &MethodId,
+    method: &Method,
+) -> Option<MethodId>
+    ensures { result ≡ selection.overriding classes.now receiver resolved.now method.now }
+{
+    let mut at = receiver;
+    loop {
+        if let Some(found) = own_overriding(classes, at, resolved, method) {
+            return Some(found);
+        }
+        match classes.superclass(at) {
+            Some(superclass) => at = superclass,
+            None => return None,
+        }
+    }
+}
+
+/// The class's own declaration, where it can override the resolved method.
+fn own_overriding(
+    classes: &Classes,
+    class: ClassId,
+    resolved: &MethodId,
+    method: &Method,
+) -> Option<MethodId>
+    ensures { result ≡ own_passing (λ m. overriding.can_override classes.now m resolved.now) classes.now method.now.name method.now.ty class }
+{
+    let found = classes.declared(class, method.name().as_slice(), method.ty().as_slice())?;
+    if can_override(classes, &found, resolved) {
+        Some(found)
+    } else {
+        None
+    }
+}
