@@ -1,10 +1,12 @@
 //! Ancestors and receivers, which are kept.
 
 ghost use Rattle.std.specs.Prelude.{◌≡◌, ◌<◌, length};
+ghost use Rattle.jl_types.specs.Members as members;
 ghost use Rattle.jl_types.specs.Ancestry as ancestry;
 ghost use Rattle.jl_types.specs.Ancestry.{AreOrdered};
 
 use crate::classes::Classes;
+use crate::receiving::is_concrete;
 use jl_types::ClassId;
 
 impl Classes {
@@ -33,6 +35,16 @@ impl Classes {
         ensures { result ≡ ancestry.is_proper_ancestor self.now ancestor class }
     {
         ancestor != class && self.is_ancestor(ancestor, class)
+    }
+
+    /// Whether objects may be of the class: it is neither an interface nor abstract.
+    pub fn is_concrete(&self, class: ClassId) -> bool
+        ensures { result ≡ members.is_concrete self.now class }
+    {
+        match self.class_at(class) {
+            Some(row) => is_concrete(row),
+            None => false,
+        }
     }
 
     /// The classes that objects may be of which are of the class: those that are neither an interface nor abstract and have

@@ -1,0 +1,2 @@
+-- Means of proof: contracts that callers see cite jl_types alone.
+pub mod Rows

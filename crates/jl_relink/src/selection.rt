@@ -1,0 +1,30 @@
+//! What an invocation that selects by its receiver comes to.
+
+ghost use Rattle.std.specs.Prelude.{◌≡◌, ◌<◌, length};
+ghost use Rattle.jl_relink.specs.Rows.{outcome_of};
+
+use jl_hierarchy::Classes;
+use jl_select::{select, select_interface};
+use jl_types::{ClassId, MethodId, Outcome, TableKind};
+
+/// An invokevirtual or an invokeinterface whose method is resolved: the instruction, the class that the reference names, and
+/// the method.
+#[derive(Clone, Copy, Debug)]
+pub(crate) struct Selection {
+    pub(crate) kind: TableKind,
+    pub(crate) named: ClassId,
+    pub(crate) method: MethodId,
+}
+
+/// What the invocation comes to for a receiver of the class (JVMS SE 17 §6.5).
+pub(crate) fn outcome(classes: &Classes, selection: &Selection, receiver: ClassId) -> Outcome
+    requires { receiver < length classes.now.rows }
+    ensures { result ≡ outcome_of classes.now selection.now receiver }
+{
+    match selection.kind {
+        TableKind::Virtual => select(classes, receiver, &selection.method),
+        TableKind::Interface => {
+            select_interface(classes, receiver, selection.named, &selection.method)
+        }
+    }
+}
