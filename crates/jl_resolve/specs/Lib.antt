@@ -1,0 +1,2 @@
+-- What the code answers, beside the definitions of jl_types.
+pub mod Answers

@@ -1,0 +1,60 @@
+//! What a name and a descriptor find (JVMS SE 17 §5.4.3.3, §5.4.3.4), before access is looked at.
+
+ghost use Rattle.std.specs.Prelude.{◌≡◌, ◌<◌, [], ◌∷◌, length};
+ghost use Rattle.jl_types.specs.Resolution as resolution;
+ghost use Rattle.jl_types.specs.Resolution.{first_of, first_element, only, pick, defaults, candidates};
+
+use jl_hierarchy::Classes;
+use jl_types::{Chosen, ClassId, MethodId};
+
+/// What is found in a class: its own or its first superclass's declaration upward, else the one maximally-specific
+/// superinterface method that isn't abstract, else the superinterface method of the interface of least number that is neither
+/// private nor static (JVMS SE 17 §5.4.3.3).
+pub fn found_in_class(classes: &Classes, class: ClassId, name: &[u8], ty: &[u8]) -> Option<MethodId>
+    requires { class < length classes.now.rows }
+    ensures { result ≡ resolution.found_in_class classes.now name.now ty.now class }
+{
+    match classes.declared_upward(class, name, ty) {
+        Some(method) => Some(method),
+        None => found_in_superinterfaces(classes, class, name, ty),
+    }
+}
+
+/// What is found in an interface: its own declaration, else the public non-static one of java/lang/Object, else what its
+/// superinterfaces have, as of a class (JVMS SE 17 §5.4.3.4).
+pub fn found_in_interface(
+    classes: &Classes,
+    interface: ClassId,
+    name: &[u8],
+    ty: &[u8],
+) -> Option<MethodId>
+    requires { interface < length classes.now.rows }
+    ensures { result ≡ resolution.found_in_interface classes.now name.now ty.now interface }
+{
+    if let Some(method) = classes.declared(interface, name, ty) {
+        return Some(method);
+    }
+    match classes.declared_in_object(name, ty) {
+        Some(method) => Some(method),
+        None => found_in_superinterfaces(classes, interface, name, ty),
+    }
+}
+
+/// The one maximally-specific superinterface method that isn't abstract, else the superinterface method of the interface of
+/// least number that is neither private nor static.
+fn found_in_superinterfaces(
+    classes: &Classes,
+    class: ClassId,
+    name: &[u8],
+    ty: &[u8],
+) -> Option<MethodId>
+    requires { class < length classes.now.rows }
+    ensures { result ≡ first_of (only (pick (defaults classes.now name.now ty.now class))
+        ∷ first_element (candidates classes.now name.now ty.now class) ∷ []) }
+{
+    match classes.default_method(class, name, ty) {
+        Chosen::Method(method) => Some(method),
+        Chosen::Several => classes.first_candidate(class, name, ty),
+        Chosen::Nothing => classes.first_candidate(class, name, ty),
+    }
+}

@@ -1,0 +1,12 @@
+//! What a symbolic method reference resolves to (JVMS SE 17 §5.4.3.3 and §5.4.3.4), with access control (§5.4.4).
+//!
+//! The contract of each question is its definition in jl_types (`specs/Resolution` and `specs/Access`). No question takes memory.
+#![tactic(auto)]
+
+mod control;
+mod finding;
+mod resolution;
+
+pub use control::{Access, access_to_method, is_accessible_class};
+pub use finding::{found_in_class, found_in_interface};
+pub use resolution::{Resolved, named_class, resolve, resolve_in, resolve_reference};

@@ -1,0 +1,145 @@
+//! Method resolution and interface method resolution (JVMS SE 17 §5.4.3.3, §5.4.3.4).
+
+ghost use Rattle.std.specs.Prelude.{◌≡◌, ◌<◌, IfSome, Some, length, result_map};
+ghost use Rattle.jl_types.specs.Resolution as resolution;
+
+use crate::control::{Access, access_to_method, is_accessible_class};
+use crate::finding::{found_in_class, found_in_interface};
+use jl_hierarchy::Classes;
+use jl_names::Name;
+use jl_pool::Reference;
+use jl_types::{ClassId, MethodId, Missing, ResolveAnswer, Throwable};
+use std::marker::Model;
+
+/// The class that a reference names, and the method that it resolves to.
+#[derive(Clone, Copy, Debug, PartialEq, Eq)]
+pub struct Resolved {
+    pub named: ClassId,
+    pub method: MethodId,
+}
+
+impl Model for Resolved {
+    ghost use Rattle.jl_types.specs.Resolution.{Resolved as plain};
+
+    ghost Value = { plain };
+
+    ghost view = { λ r. record { named = r.named; method = r.method } };
+
+    ghost inverse = { λ r. record { named = r.named; method = r.method } };
+}
+
+/// The method that the reference resolves to, for the caller's class (JVMS SE 17 §5.4.3.3; for an InterfaceMethodref §5.4.3.4).
+///
+/// # Errors
+///
+/// As of [`resolve_reference`].
+pub fn resolve(
+    classes: &Classes,
+    caller: ClassId,
+    reference: &Reference<Name>,
+) -> Result<MethodId, ResolveAnswer>
+    ensures { result ≡ result_map (λ r. r.method) (resolution.resolved classes.now caller reference.now) }
+{
+    match resolve_reference(classes, caller, reference) {
+        Ok(resolved) => Ok(resolved.method),
+        Err(answer) => Err(answer),
+    }
+}
+
+/// The class that the reference names and the method that it resolves to, for the caller's class (JVMS SE 17 §5.4.3.3; for an
+/// InterfaceMethodref §5.4.3.4).
+///
+/// # Errors
+///
+/// `NotReady`: `Named` where the caller's loader hasn't recorded the class that the reference names; `CallerHost` and
+/// `MethodHost` where access to a private method depends on a nest host that isn't recorded.
+/// `Fault`: IllegalAccessError where the class or the method isn't accessible; IncompatibleClassChangeError where the class isn't of the
+/// reference's kind; NoSuchMethodError where no method is found.
+pub fn resolve_reference(
+    classes: &Classes,
+    caller: ClassId,
+    reference: &Reference<Name>,
+) -> Result<Resolved, ResolveAnswer>
+    ensures { result ≡ resolution.resolved classes.now caller reference.now }
+{
+    let Some(named) = named_class(classes, caller, reference) else {
+        return Err(ResolveAnswer::NotReady(Missing::Named));
+    };
+    match resolve_in(classes, caller, reference, named) {
+        Ok(method) => Ok(Resolved { named, method }),
+        Err(answer) => Err(answer),
+    }
+}
+
+/// The class that the reference names, found by the caller's loader (JVMS SE 17 §5.4.3.1).
+pub fn named_class(
+    classes: &Classes,
+    caller: ClassId,
+    reference: &Reference<Name>,
+) -> Option<ClassId>
+    ensures found { result ≡ resolution.named_class classes.now caller reference.now }
+    ensures there { IfSome result (λ class. class < length classes.now.rows) }
+    ensures caller { IfSome result (λ _. caller < length classes.now.rows) }
+{
+    let loader = classes.class_at(caller)?.loader();
+    classes.lookup(loader, reference.owner.as_slice())
+}
+
+/// The method that the reference resolves to, for the caller's class, where it names this class.
+///
+/// # Errors
+///
+/// Those of [`resolve_reference`] that come once the class is there.
+pub fn resolve_in(
+    classes: &Classes,
+    caller: ClassId,
+    reference: &Reference<Name>,
+    named: ClassId,
+) -> Result<MethodId, ResolveAnswer>
+    requires caller { caller < length classes.now.rows }
+    requires named { named < length classes.now.rows }
+    ensures { result ≡ resolution.resolved_in classes.now caller reference.now named }
+{
+    if !is_accessible_class(classes, caller, named) {
+        return Err(ResolveAnswer::Fault(Throwable::IllegalAccessError));
+    }
+    if reference.itf != classes.is_interface(named) {
+        return Err(ResolveAnswer::Fault(Throwable::IncompatibleClassChangeError));
+    }
+    match found(classes, reference, named) {
+        Some(method) => if_accessible(classes, caller, named, method),
+        None => Err(ResolveAnswer::Fault(Throwable::NoSuchMethodError)),
+    }
+}
+
+/// What the reference finds in the class that it names, which is of its kind.
+fn found(classes: &Classes, reference: &Reference<Name>, named: ClassId) -> Option<MethodId>
+    requires { named < length classes.now.rows }
+    ensures { result ≡ resolution.found classes.now reference.now named }
+{
+    let name = reference.name.as_slice();
+    let ty = reference.ty.as_slice();
+    if reference.itf {
+        found_in_interface(classes, named, name, ty)
+    } else {
+        found_in_class(classes, named, name, ty)
+    }
+}
+
+/// The method, if it is accessible to the caller.
+fn if_accessible(
+    classes: &Classes,
+    caller: ClassId,
+    named: ClassId,
+    method: MethodId,
+) -> Result<MethodId, ResolveAnswer>
+    requires caller { caller < length classes.now.rows }
+    requires named { named < length classes.now.rows }
+    ensures { result ≡ resolution.if_accessible classes.now caller named (Some method) }
+{
+    match access_to_method(classes, caller, named, &method) {
+        Access::Allowed => Ok(method),
+        Access::Denied => Err(ResolveAnswer::Fault(Throwable::IllegalAccessError)),
+        Access::NotKnown(missing) => Err(ResolveAnswer::NotReady(missing)),
+    }
+}
