@@ -1,7 +1,8 @@
 //! Method resolution and interface method resolution (JVMS SE 17 §5.4.3.3, §5.4.3.4).
 
-ghost use Rattle.std.specs.Prelude.{◌≡◌, ◌<◌, IfSome, Some, length, result_map};
+ghost use Rattle.std.specs.Prelude.{◌≡◌, ◌<◌, IfSome, Some, length};
 ghost use Rattle.jl_types.specs.Resolution as resolution;
+ghost use Rattle.jl_resolve.specs.Answers.{method_of};
 
 use crate::control::{Access, access_to_method, is_accessible_class};
 use crate::finding::{found_in_class, found_in_interface};
@@ -38,7 +39,7 @@ pub fn resolve(
     caller: ClassId,
     reference: &Reference<Name>,
 ) -> Result<MethodId, ResolveAnswer>
-    ensures { result ≡ result_map (λ r. r.method) (resolution.resolved classes.now caller reference.now) }
+    ensures { result ≡ method_of (resolution.resolved classes.now caller reference.now) }
 {
     match resolve_reference(classes, caller, reference) {
         Ok(resolved) => Ok(resolved.method),
