@@ -1,6 +1,8 @@
 -- What a loader finds by name, as its map has it.
 use Rattle.std.specs.Prelude.{◌≡◌, ℕ, Bool, true, false, cond, List, [], ◌∷◌, ◌++◌, Vec, find, None, option_map, option_and_then, Some, length, get_or, slice_get, slice_set, ◌<◌}
 use Rattle.std.specs.Bool.{one_answer}
+use Rattle.std.specs.List.{AllZip, each_same}
+use Rattle.std.specs.Vec.{vec_len}
 use Rattle.std.specs.Map.{lookup}
 use Rattle.std.specs.Str.{bytes_eq}
 use Rattle.indexmap.specs.IndexMap.{IndexMap, insert_entry}
@@ -54,3 +56,15 @@ module _ (loaders : List (List (List ℕ × ℕ))) (loader : ℕ) (records d : L
 
   pub none_there : (name : List ℕ) → option_and_then (recorded name) (slice_get loaders loader) ≡ None → recorded name records ≡ None
   none_there name e = sym (ap (option_and_then (recorded name)) there) ∙ e
+
+-- ---- the same records once more
+
+-- each entry has the same name and class
+abbrev pub AreCopies : {A : Type 0} → List (Vec ℕ A × ℕ) → List (Vec ℕ A × ℕ) → Type 0
+AreCopies es fs = AllZip (λ e f. (AllZip (λ (x y : ℕ). y ≡ x) e.0.items f.0.items × (vec_len f.0 ≡ vec_len e.0)) × (f.1 ≡ e.1)) es fs
+
+pub named_same : {A : Type 0} (es fs : List (Vec ℕ A × ℕ)) → AreCopies es fs → named fs ≡ named es
+named_same [] [] h = refl
+named_same [] (f ∷ fs) h = absurd h
+named_same (e ∷ es) [] h = absurd h
+named_same {A = A} (e ∷ es) (f ∷ fs) h = λ i. (each_same e.0.items f.0.items h.0.0.0 i, h.0.1 i) ∷ named_same es fs h.1 i

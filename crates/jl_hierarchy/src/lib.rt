@@ -1,12 +1,14 @@
 //! The classes that are defined, by their loaders (JVMS SE 17 §5.3): what a loader finds by name, packages, nests, ancestors,
 //! receivers and declarations.
 //!
-//! The contract of each question is its definition in jl_types (`specs/Members`, `Ancestry`, `Access` and `Resolution`), and that of a
-//! definition or a delegation is its fault and its step there (`specs/Definitions`). `specs/Kept`, `Faults` and `Defaults` are means of proof.
+//! The contract of each question is its definition in jl_types (`specs/Members`, `Ancestry`, `Access` and `Resolution`), and
+//! that of a definition or a delegation is its fault and its step there (`specs/Definitions`). `specs/Kept`, `Faults` and
+//! `Defaults` are means of proof.
 #![tactic(auto)]
 
 mod ancestry;
 mod classes;
+mod copy;
 mod defaults;
 mod define;
 mod delegate;

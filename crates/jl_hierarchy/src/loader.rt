@@ -1,6 +1,6 @@
 //! What one loader finds by name.
 
-ghost use Rattle.std.specs.Prelude.{◌≡◌, ◌<◌, ◌++◌, ◌∷◌, [], None, length, slice_get, option_and_then, OnOk, OnErr};
+ghost use Rattle.std.specs.Prelude.{◌≡◌, ◌<◌, ◌++◌, ◌∷◌, [], None, length, slice_get, option_and_then, IfOk, OnOk, OnErr};
 ghost use Rattle.jl_types.specs.Members.{recorded};
 ghost use Rattle.jl_types.specs.Definitions.{with_record};
 
@@ -40,6 +40,15 @@ impl Loader {
         ensures { result ≡ recorded name.now self.now }
     {
         self.records.get(name).copied()
+    }
+
+    /// The same records once more. Want of memory is an error.
+    pub(crate) fn copy(&self) -> Result<Loader, AllocError>
+        ensures { IfOk result (λ copy. copy ≡ self.now) }
+    {
+        Ok(Loader {
+            records: self.records.clone()?,
+        })
     }
 
     /// Records the class under the name, which is new.
