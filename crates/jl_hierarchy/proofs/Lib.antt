@@ -9,3 +9,4 @@ pub mod FaultLaws
 pub mod NewClass
 pub mod Chains
 pub mod DefaultLaws
+pub mod Constancy

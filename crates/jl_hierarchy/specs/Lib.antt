@@ -1,4 +1,5 @@
 -- What the classes keep beside their definition: a means of proof.
 pub mod Kept
+pub mod Constancy
 pub mod Faults
 pub mod Defaults

@@ -6,6 +6,7 @@ ghost use Rattle.jl_types.specs.declared.refusal.DefineFault.TheVariants as faul
 ghost use Rattle.jl_types.specs.Members as members;
 ghost use Rattle.jl_types.specs.Ancestry as ancestry;
 ghost use Rattle.jl_types.specs.Definitions as definitions;
+ghost use Rattle.jl_hierarchy.specs.Constancy.{Stays, AddsReceiver};
 ghost use Rattle.jl_hierarchy.specs.Kept.{HasRoom, Rises, IsAppended, lists};
 
 use crate::classes::Classes;
@@ -28,7 +29,8 @@ pub(crate) struct Growth {
 }
 
 impl Classes {
-    /// The loader defines the class of the file, which gets the next number (JVMS SE 17 §5.3.5).
+    /// The loader defines the class of the file, which gets the next number (JVMS SE 17 §5.3.5). The classes that are there
+    /// stay as they are, and what is known of them; the new one comes last among the receivers of its ancestors.
     ///
     /// # Errors
     ///
@@ -42,6 +44,8 @@ impl Classes {
         ensures number { IfOk result (λ class. class ≡ length self.old.rows) }
         ensures accepted { OnOk result (definitions.define_fault self.old loader file ≡ None) }
         ensures ok { OnOk result (self.new ≡ definitions.defined self.old loader file) }
+        ensures stays { OnOk result (Stays self.old self.new) }
+        ensures receivers { OnOk result (AddsReceiver self.old self.new) }
         ensures fault { IfErr result (λ f. f ≢ fault.Memory → definitions.define_fault self.old loader file ≡ Some f) }
         ensures memory { result ≡ Err fault.Memory → definitions.define_fault self.old loader file ≡ None }
         ensures err { OnErr result (self.new ≡ self.old) }
@@ -65,6 +69,8 @@ impl Classes {
         requires { definitions.define_fault self.old loader file ≡ None }
         ensures number { IfOk result (λ class. class ≡ length self.old.rows) }
         ensures ok { OnOk result (self.new ≡ definitions.defined self.old loader file) }
+        ensures stays { OnOk result (Stays self.old self.new) }
+        ensures receivers { OnOk result (AddsReceiver self.old self.new) }
         ensures err { OnErr result (self.new ≡ self.old) }
     {
         let name = name_of(alloc, &file)?;

@@ -4,6 +4,7 @@ ghost use Rattle.std.specs.Prelude.{◌≡◌, ◌≢◌, ◌↔◌, ◌<◌, �
 ghost use Rattle.jl_types.specs.declared.refusal.DelegateFault.TheVariants as fault;
 ghost use Rattle.jl_types.specs.Definitions as definitions;
 ghost use Rattle.jl_types.specs.Members as members;
+ghost use Rattle.jl_hierarchy.specs.Constancy.{Stays};
 ghost use Rattle.jl_hierarchy.specs.declared.delegate.LoaderFault.TheVariants as loader_fault;
 
 use crate::classes::Classes;
@@ -32,6 +33,7 @@ impl Classes {
     pub fn new_loader(&mut self, alloc: Global) -> Result<LoaderId, LoaderFault>
         ensures number { IfOk result (λ loader. loader ≡ length self.old.loaders) }
         ensures ok { OnOk result (self.new ≡ record self.old { loaders = self.old.loaders ++ [] ∷ [] }) }
+        ensures stays { OnOk result (Stays self.old self.new) }
         ensures full { (result ≡ Err loader_fault.Full) ↔ (1024 ≤ length self.old.loaders) }
         ensures err { OnErr result (self.new ≡ self.old) }
     {
@@ -40,10 +42,25 @@ impl Classes {
             return Err(LoaderFault::Full);
         }
         let loader = LoaderId::new(self.loaders.len() as u32);
-        match self.loaders.push(Loader::new(alloc)) {
+        match self.push_loader(alloc) {
             Ok(()) => Ok(loader),
             Err(_) => Err(LoaderFault::Memory),
         }
+    }
+
+    /// One loader more, which has found nothing.
+    ///
+    /// # Errors
+    ///
+    /// Want of memory. Nothing has changed then.
+    fn push_loader(&mut self, alloc: Global) -> Result<(), AllocError>
+        requires { length self.old.loaders < 1024 }
+        ensures ok { OnOk result (self.new ≡ record self.old { loaders = self.old.loaders ++ [] ∷ [] }) }
+        ensures stays { OnOk result (Stays self.old self.new) }
+        ensures err { OnErr result (self.new ≡ self.old) }
+    {
+        self.loaders.push(Loader::new(alloc))?;
+        Ok(())
     }
 
     /// The loader finds the class that the other one has recorded under the name, from now on (JVMS SE 17 §5.3).
@@ -60,6 +77,7 @@ impl Classes {
     ) -> Result<(), DelegateFault>
         ensures accepted { OnOk result (definitions.delegate_fault self.old loader name.now to ≡ None) }
         ensures ok { OnOk result (self.new ≡ definitions.delegated self.old loader name.now to) }
+        ensures stays { OnOk result (Stays self.old self.new) }
         ensures fault { IfErr result (λ f. f ≢ fault.Memory → definitions.delegate_fault self.old loader name.now to ≡ Some f) }
         ensures memory { result ≡ Err fault.Memory → definitions.delegate_fault self.old loader name.now to ≡ None }
         ensures err { OnErr result (self.new ≡ self.old) }
@@ -87,6 +105,7 @@ impl Classes {
         requires fresh { members.lookup self.old loader name.now ≡ None }
         requires there { class < length self.old.rows }
         ensures ok { OnOk result (self.new ≡ record self.old { loaders = definitions.with_record self.old.loaders loader name.now class }) }
+        ensures stays { OnOk result (Stays self.old self.new) }
         ensures err { OnErr result (self.new ≡ self.old) }
     {
         let name = name.to_vec(alloc)?;

@@ -1,9 +1,11 @@
-use Rattle.std.specs.Prelude.{ℕ, List, [], ◌∷◌, ◌++◌, length, if◌then◌else◌}
-use Rattle.std.proofs.Common.{refl, ap, subst, ◌∙◌}
+use Rattle.std.specs.Prelude.{◌≡◌, ℕ, List, [], ◌∷◌, ◌++◌, length, if◌then◌else◌}
+use Rattle.std.proofs.Common.{refl, ap, sym, subst, ◌∙◌, rules}
 use Rattle.jl_types.specs.World.{Class, Classes}
-use Rattle.jl_types.specs.Definitions.{with_record}
+use Rattle.jl_types.specs.Definitions.{with_record, defined}
+use Rattle.jl_hierarchy.specs.Constancy.{Stays, AddsReceiver}
 use Rattle.jl_hierarchy.specs.Kept.{IsKept, IsAppended, lists}
-use Rattle.jl_hierarchy.proofs.KeptLaws.{many_below}
+use Rattle.jl_hierarchy.proofs.KeptLaws.{many_below, good}
+use Rattle.jl_hierarchy.proofs.Constancy.{stays_defined, adds_receiver}
 use Rattle.jl_hierarchy.proofs.NewClass.{kept_all, there_chosen, kept_as}
 use Rattle.jl_hierarchy.proofs.classes.Classes.add.Goals as goal
 
@@ -47,3 +49,18 @@ invariant_of-self-2 c =
     (c.push_all.ensures.rows ∙ ap (λ (rs : List Class). rs ++ g.row ∷ []) (c.in_ok-reserve_all.ensures.rows ∙ ap (λ (k : Classes). k.rows) c.self.view_is))
     (c.push_all.ensures.above ∙ ap (λ (ls : List (List ℕ)). ls ++ (g.ancestors.items ++ class ∷ []) ∷ []) c.in_ok-reserve_all.ensures.above)
     c.push_all.ensures.below.2
+
+-- the classes afterwards
+made : (c : goal.After-push_all)
+    → ◌≡◌ {A = Classes} (record { loaders = c.record_in.new.loaders.items; rows = c.push_all.new.rows.items }) (defined c.args.self.now c.args.loader c.args.file)
+made c = search rules
+
+pub returns-clause-stays : goal.returns-clause-stays
+returns-clause-stays c =
+    subst (λ (new : Classes). Stays c.args.self.now new) (sym (made c))
+    (stays_defined c.args.self.now (good _ _ _ c.self.invariant c.args.self.now c.self.view_is) c.args.loader c.args.file)
+
+pub returns-clause-receivers : goal.returns-clause-receivers
+returns-clause-receivers c =
+    subst (λ (new : Classes). AddsReceiver c.args.self.now new) (sym (made c))
+    (adds_receiver c.args.self.now (good _ _ _ c.self.invariant c.args.self.now c.self.view_is).ordered c.args.loader c.args.file)

@@ -1,0 +1,123 @@
+-- Definitions, delegations and new loaders leave what was there as it was.
+use Rattle.std.specs.Prelude.{◌≡◌, ℕ, zero, suc, ◌<◌, ◌&&◌, Bool, true, false, cond, List, [], ◌∷◌, ◌++◌, length, find, slice_get, slice_set, Option, Some, None, option_map, option_and_then, if◌then◌else◌}
+use Rattle.std.specs.List.{list_any}
+use Rattle.std.specs.Option.{option_map_or}
+use Rattle.std.specs.Str.{bytes_eq}
+use Rattle.std.proofs.Common.{refl, ap, sym, ◌∙◌}
+use Rattle.std.proofs.lemmas.List.{append-nil}
+use Rattle.std.proofs.lemmas.Option.{same_Some, slice_get_within}
+use Rattle.jl_classfile.specs.Class.{ClassFile}
+use Rattle.jl_types.specs.World.{Class, Classes}
+use Rattle.jl_types.specs.Members.{recorded, lookup, share_package, is_concrete}
+use Rattle.jl_types.specs.Ancestry.{AreOrdered, is_ancestor, receivers}
+use Rattle.jl_types.specs.Access.{nest_host, host_by, host_if_recorded, host_if_listed}
+use Rattle.jl_types.specs.Definitions.{class_made, with_record, defined}
+use Rattle.jl_types.proofs.Grown.{old_ancestors, receivers_after}
+use Rattle.jl_types.proofs.Lists.{before_end}
+use Rattle.jl_types.proofs.Orders.{IsGood, looked_up}
+use Rattle.jl_hierarchy.specs.Constancy.{Stays, AddsReceiver}
+
+-- ---- records
+
+module _ (name : List ℕ) (c : ℕ) (e : List ℕ × ℕ) where
+  recorded_stays : (records : List (List ℕ × ℕ)) → recorded name records ≡ Some c → recorded name (records ++ e ∷ []) ≡ Some c
+  recorded_stays [] h = cc
+  recorded_stays (r ∷ records) h = by_test (bytes_eq r.0 name) (recorded_stays records) h
+    where
+      by_test : (b : Bool) → (recorded name records ≡ Some c → recorded name (records ++ e ∷ []) ≡ Some c)
+          → option_map (λ r. r.1) (cond b (Some r) (find (λ r. bytes_eq r.0 name) records)) ≡ Some c
+          → option_map (λ r. r.1) (cond b (Some r) (find (λ r. bytes_eq r.0 name) (records ++ e ∷ []))) ≡ Some c
+      by_test true rest h = h
+      by_test false rest h = rest h
+
+  set_stays : (records : List (List ℕ × ℕ)) (loaders : List (List (List ℕ × ℕ))) (l k : ℕ) → slice_get loaders l ≡ Some records
+      → option_and_then (recorded name) (slice_get loaders k) ≡ Some c → option_and_then (recorded name) (slice_get (slice_set loaders l (records ++ e ∷ [])) k) ≡ Some c
+  set_stays records [] l k is h = cc
+  set_stays records (x ∷ loaders) zero zero is h = recorded_stays records (sym (ap (recorded name) (same_Some x records is)) ∙ h)
+  set_stays records (x ∷ loaders) zero (suc k) is h = h
+  set_stays records (x ∷ loaders) (suc l) zero is h = h
+  set_stays records (x ∷ loaders) (suc l) (suc k) is h = set_stays records loaders l k is h
+
+with_record_stays : (loaders : List (List (List ℕ × ℕ))) (loader : ℕ) (recorded_name : List ℕ) (d k : ℕ) (name : List ℕ) (c : ℕ)
+    → option_and_then (recorded name) (slice_get loaders k) ≡ Some c → option_and_then (recorded name) (slice_get (with_record loaders loader recorded_name d) k) ≡ Some c
+with_record_stays loaders loader recorded_name d k name c h = by_loader (slice_get loaders loader) refl
+  where
+    by_loader : (o : Option (List (List ℕ × ℕ))) → slice_get loaders loader ≡ o
+        → option_and_then (recorded name) (slice_get (option_map_or (λ records. slice_set loaders loader (records ++ (recorded_name, d) ∷ [])) o loaders) k) ≡ Some c
+    by_loader None is = h
+    by_loader (Some records) is = set_stays name c (recorded_name, d) records loaders loader k is h
+
+loader_stays : (loaders : List (List (List ℕ × ℕ))) (k : ℕ) (name : List ℕ) (c : ℕ)
+    → option_and_then (recorded name) (slice_get loaders k) ≡ Some c → option_and_then (recorded name) (slice_get (loaders ++ [] ∷ []) k) ≡ Some c
+loader_stays [] k name c h = cc
+loader_stays (x ∷ loaders) zero name c h = h
+loader_stays (x ∷ loaders) (suc k) name c h = loader_stays loaders k name c h
+
+-- ---- nest hosts
+
+module _ (old new : Classes) (good : IsGood old) (rows : (c : ℕ) → c < length old.rows → slice_get new.rows c ≡ slice_get old.rows c)
+    (records : (loader : ℕ) (name : List ℕ) (c : ℕ) → lookup old loader name ≡ Some c → lookup new loader name ≡ Some c) where
+  listed_stays : (m k : ℕ) (row : Class) → m < length old.rows → k < length old.rows → host_if_listed new m row k ≡ host_if_listed old m row k
+  listed_stays m k row low lt =
+      λ i. if option_map_or (λ a. option_map_or (share_package a) (rows k lt i) false) (rows m low i) false
+      && option_map_or (λ host. list_any (bytes_eq row.file.name) host.file.nest_members) (rows k lt i) false then k else m
+
+  host_stays : (m h : ℕ) (row : Class) → m < length old.rows → (name : Option (List ℕ)) → host_by old m row name ≡ Some h → host_by new m row name ≡ Some h
+  host_stays m h row low None e = e
+  host_stays m h row low (Some name) e = by_record (lookup old row.loader name) refl e
+    where
+      by_record : (o : Option ℕ) → lookup old row.loader name ≡ o → host_if_recorded old m row o ≡ Some h → host_if_recorded new m row (lookup new row.loader name) ≡ Some h
+      by_record None is e = cc
+      by_record (Some k) is e =
+          ap (host_if_recorded new m row) (records row.loader name k is)
+          ∙ ap Some (listed_stays m k row low (looked_up old good row.loader name k is))
+          ∙ e
+
+  pub hosts_stay : (m h : ℕ) → nest_host old m ≡ Some h → nest_host new m ≡ Some h
+  hosts_stay m h e = by_row (slice_get old.rows m) refl e
+    where
+      by_row : (o : Option Class) → slice_get old.rows m ≡ o → option_and_then (λ row. host_by old m row row.file.nest_host) o ≡ Some h → nest_host new m ≡ Some h
+      by_row None is e = cc
+      by_row (Some row) is e =
+          let low = slice_get_within old.rows m row is in
+          ap (option_and_then (λ r. host_by new m r r.file.nest_host)) (rows m low ∙ is)
+          ∙ host_stays m h row low row.file.nest_host e
+
+-- ---- the changes
+
+pub stays_defined : (cs : Classes) → IsGood cs → (loader : ℕ) (file : ClassFile) → Stays cs (defined cs loader file)
+stays_defined cs good loader file = record {
+  rows = λ c row e. before_end cs.rows (class_made cs loader file) c (slice_get_within cs.rows c row e) ∙ e;
+  records = λ l name c h. with_record_stays cs.loaders loader file.name (length cs.rows) l name c h;
+  ancestors = λ c lt. old_ancestors cs.rows good.ordered (class_made cs loader file) c lt;
+  hosts =
+      hosts_stay cs (defined cs loader file) good (λ c lt. before_end cs.rows (class_made cs loader file) c lt)
+      (λ l name c h. with_record_stays cs.loaders loader file.name (length cs.rows) l name c h);
+}
+
+pub adds_receiver : (cs : Classes) → AreOrdered cs.rows → (loader : ℕ) (file : ClassFile) → AddsReceiver cs (defined cs loader file)
+adds_receiver cs o loader file c =
+    let new = defined cs loader file in
+    receivers_after cs o loader file c ∙ by_test (is_concrete new (length cs.rows) && is_ancestor new c (length cs.rows))
+  where
+    by_test : (b : Bool) → receivers cs c ++ cond b (length cs.rows ∷ []) [] ≡ (if b then receivers cs c ++ length cs.rows ∷ [] else receivers cs c)
+    by_test true = refl
+    by_test false = append-nil (receivers cs c)
+
+-- only records are added
+stays_recorded : (cs : Classes) → IsGood cs → (loaders : List (List (List ℕ × ℕ)))
+    → ((k : ℕ) (name : List ℕ) (c : ℕ) → lookup cs k name ≡ Some c → option_and_then (recorded name) (slice_get loaders k) ≡ Some c)
+    → Stays cs (record cs { loaders = loaders })
+stays_recorded cs good loaders h = record {
+  rows = λ c row e. e;
+  records = h;
+  ancestors = λ c lt. refl;
+  hosts = hosts_stay cs (record cs { loaders = loaders }) good (λ c lt. refl) h;
+}
+
+pub stays_with_record : (cs : Classes) → IsGood cs → (loader : ℕ) (name : List ℕ) (d : ℕ) → Stays cs (record cs { loaders = with_record cs.loaders loader name d })
+stays_with_record cs good loader name d =
+    stays_recorded cs good (with_record cs.loaders loader name d) (λ k other c h. with_record_stays cs.loaders loader name d k other c h)
+
+pub stays_with_loader : (cs : Classes) → IsGood cs → Stays cs (record cs { loaders = cs.loaders ++ [] ∷ [] })
+stays_with_loader cs good = stays_recorded cs good (cs.loaders ++ [] ∷ []) (λ k name c h. loader_stays cs.loaders k name c h)

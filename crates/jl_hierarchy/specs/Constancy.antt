@@ -1,0 +1,22 @@
+-- What definitions, delegations and new loaders leave as it was.
+use Rattle.std.specs.Prelude.{◌≡◌, ℕ, ◌<◌, ◌&&◌, List, [], ◌∷◌, ◌++◌, length, slice_get, Some, if◌then◌else◌}
+use Rattle.jl_types.specs.World.{Class, Classes}
+use Rattle.jl_types.specs.Members.{lookup, is_concrete}
+use Rattle.jl_types.specs.Ancestry.{is_ancestor}
+use Rattle.jl_types.specs.Ancestry as ancestry
+use Rattle.jl_types.specs.Access.{nest_host}
+
+-- each class stays, with its ancestors, what a loader has recorded stays, and a nest host that is known
+pub record Stays (old new : Classes) : Type 0 where
+  pub rows : (c : ℕ) (row : Class) → slice_get old.rows c ≡ Some row → slice_get new.rows c ≡ Some row
+  pub records : (loader : ℕ) (name : List ℕ) (c : ℕ) → lookup old loader name ≡ Some c → lookup new loader name ≡ Some c
+  pub ancestors : (c : ℕ) → c < length old.rows → ancestry.ancestors new.rows c ≡ ancestry.ancestors old.rows c
+  pub hosts : (c host : ℕ) → nest_host old c ≡ Some host → nest_host new c ≡ Some host
+
+-- the class that is added comes last among the receivers of those that are above it, where objects may be of it, and all
+-- other receivers stay
+abbrev pub AddsReceiver : Classes → Classes → Type 0
+AddsReceiver old new = (c : ℕ)
+    → ancestry.receivers new c
+    ≡ (if is_concrete new (length old.rows) && is_ancestor new c (length old.rows)
+    then ancestry.receivers old c ++ length old.rows ∷ [] else ancestry.receivers old c)
