@@ -1,4 +1,4 @@
-//! Superclasses and methods of a class.
+//! Superclasses and methods of a class. A class or a method that isn't there has no flag.
 
 ghost use Rattle.std.specs.Prelude.{◌≡◌, ◌<◌, ◌^◌, ◌&&◌, not, length, position};
 ghost use Rattle.std.specs.Option.{option_copied};
