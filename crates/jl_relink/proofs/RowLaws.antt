@@ -6,7 +6,6 @@ use Rattle.std.proofs.lemmas.List.Elements.{All-filter, All-from_recursion}
 use Rattle.jl_types.specs.declared.ids.MethodId.{MethodId}
 use Rattle.jl_types.specs.declared.answer.Outcome.{Outcome}
 use Rattle.jl_types.specs.declared.answer.Outcome.TheVariants.{Run, Throws}
-use Rattle.jl_types.specs.declared.link.Link.{Link}
 use Rattle.jl_types.specs.declared.link.Link.TheVariants.{Direct}
 use Rattle.jl_types.specs.declared.link.TableKind.TheVariants.{Virtual}
 use Rattle.jl_types.specs.World.{Classes}

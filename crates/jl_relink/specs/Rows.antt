@@ -70,3 +70,7 @@ fits cs s x = is_concrete cs x && fits_named cs s x
 abbrev pub selected_answer : Classes → Selection → Recv → Answer
 selected_answer cs s Null = answer.Throws NullPointerException
 selected_answer cs s (Of x) = if fits cs s x then answered (outcome_of cs s x) else answer.BadReceiver
+
+abbrev pub special_answer : Classes → Outcome → Recv → Answer
+special_answer cs o Null = answer.Throws NullPointerException
+special_answer cs o (Of x) = if is_concrete cs x then answered o else answer.BadReceiver

@@ -2,7 +2,7 @@
 
 ghost use Rattle.std.specs.Prelude.{◌≡◌};
 ghost use Rattle.jl_types.specs.Calls as calls;
-ghost use Rattle.jl_relink.specs.Rows.{selected_answer, fits, fits_named};
+ghost use Rattle.jl_relink.specs.Rows.{selected_answer, special_answer, fits, fits_named};
 
 use crate::selection::{Selection, outcome};
 use jl_hierarchy::Classes;
@@ -17,6 +17,22 @@ pub(crate) fn selected_answer(classes: &Classes, selection: &Selection, recv: Re
         Recv::Of(class) => {
             if fits(classes, selection, class) {
                 answered(outcome(classes, selection, class))
+            } else {
+                Answer::BadReceiver
+            }
+        }
+    }
+}
+
+/// The answer to a call of an invokespecial that comes to this outcome.
+pub(crate) fn special_answer(classes: &Classes, outcome: Outcome, recv: Recv) -> Answer
+    ensures { result ≡ special_answer classes.now outcome recv }
+{
+    match recv {
+        Recv::Null => Answer::Throws(Throwable::NullPointerException),
+        Recv::Of(class) => {
+            if classes.is_concrete(class) {
+                answered(outcome)
             } else {
                 Answer::BadReceiver
             }
@@ -42,7 +58,7 @@ fn fits_named(classes: &Classes, selection: &Selection, class: ClassId) -> bool
 }
 
 /// What a call with this outcome answers.
-pub(crate) fn answered(outcome: Outcome) -> Answer
+fn answered(outcome: Outcome) -> Answer
     ensures { result ≡ calls.answered outcome }
 {
     match outcome {

@@ -8,3 +8,7 @@ mod answer;
 mod link;
 mod receivers;
 mod selection;
+mod stage;
+mod world;
+
+pub use world::{World, dispatch, link_of};

@@ -22,7 +22,12 @@ pub(crate) fn selected_link(classes: &Classes, selection: &Selection) -> Link
     match selection.kind {
         TableKind::Virtual => virtual_link(classes, selection),
         TableKind::Interface => {
-            table_or_mega(classes, selection, TableKind::Interface, receivers_of(classes, selection.named))
+            table_or_mega(
+                classes,
+                selection,
+                TableKind::Interface,
+                receivers_of(classes, selection.named),
+            )
         }
     }
 }

@@ -1,6 +1,6 @@
 //! Method resolution and interface method resolution (JVMS SE 17 §5.4.3.3, §5.4.3.4).
 
-ghost use Rattle.std.specs.Prelude.{◌≡◌, ◌<◌, IfSome, Some, length};
+ghost use Rattle.std.specs.Prelude.{◌≡◌, ◌<◌, IfSome, IfOk, OnOk, Some, length};
 ghost use Rattle.jl_types.specs.Resolution as resolution;
 ghost use Rattle.jl_resolve.specs.Answers.{method_of};
 

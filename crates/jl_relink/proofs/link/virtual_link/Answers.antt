@@ -1,4 +1,4 @@
-use Rattle.std.specs.Prelude.{ℕ, Bool, List, None, if◌then◌else◌}
+use Rattle.std.specs.Prelude.{Bool, None, if◌then◌else◌}
 use Rattle.std.proofs.Common.{sym, ap, ◌∙◌}
 use Rattle.jl_types.specs.declared.link.Link.TheVariants.{Direct}
 use Rattle.jl_types.specs.declared.link.TableKind.TheVariants.{Virtual}

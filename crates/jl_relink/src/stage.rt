@@ -1,0 +1,148 @@
+//! What a site comes to before its receiver is looked at (JVMS SE 17 §6.5).
+
+ghost use Rattle.std.specs.Prelude.{◌≡◌, ◌<◌, ◌==◌, ◌&&◌, not, length, find};
+ghost use Rattle.std.specs.Option.{option_copied};
+ghost use Rattle.jl_types.specs.Sites as sites;
+ghost use Rattle.jl_types.specs.Selection as selection;
+ghost use Rattle.jl_types.specs.Resolution as resolution;
+ghost use Rattle.jl_code.specs.declared.site.Kind.TheVariants.{Special};
+ghost use Rattle.jl_relink.specs.Stages.{IsStage, selector_of};
+
+use crate::selection::Selection;
+use jl_code::{Kind, Operand, Site};
+use jl_hierarchy::Classes;
+use jl_names::Name;
+use jl_pool::Reference;
+use jl_resolve::{Resolved, resolve_reference};
+use jl_select::special;
+use jl_types::{ClassId, MethodId, Outcome, Place, ResolveAnswer, TableKind, Throwable, Unlinked};
+
+/// What a site comes to before its receiver is looked at.
+#[derive(Clone, Copy, Debug)]
+pub(crate) enum Stage {
+    /// It has no link yet.
+    Waits(Unlinked),
+    /// Linking fails.
+    Fails(Throwable),
+    /// It runs this method, without a receiver.
+    Calls(MethodId),
+    /// It selects by the receiver.
+    Selects(Selection),
+    /// An invokespecial: it comes to this for each receiver.
+    Special(Outcome),
+}
+
+/// The invocation at a place.
+pub(crate) fn invocation_at<'a>(classes: &'a Classes, place: &Place) -> Option<&'a Site>
+    ensures { option_copied result ≡ sites.invocation_at classes.now place.now }
+{
+    let method = classes.method_at(&MethodId {
+        class: place.class,
+        index: place.method,
+    })?;
+    site_at(method.sites(), place.pc)
+}
+
+/// The invocation at a pc.
+fn site_at(sites: &[Site], pc: u32) -> Option<&Site>
+    ensures { option_copied result ≡ find (λ site. site.pc == pc) sites.now }
+{
+    sites.iter().find(|site| u32::from(site.pc()) == pc)
+}
+
+/// What an invocation of the reference comes to, in the caller's class.
+pub(crate) fn stage_of_reference(
+    classes: &Classes,
+    kind: Kind,
+    caller: ClassId,
+    reference: &Reference<Name>,
+) -> Stage
+    ensures { IsStage classes.now result (sites.by_resolution classes.now kind caller reference.now
+        (resolution.resolved classes.now caller reference.now)) }
+{
+    match resolve_reference(classes, caller, reference) {
+        Ok(resolved) => by_kind(classes, kind, caller, reference, &resolved),
+        Err(ResolveAnswer::NotReady(missing)) => Stage::Waits(Unlinked::NotReady(missing)),
+        Err(ResolveAnswer::Fault(throwable)) => Stage::Fails(throwable),
+    }
+}
+
+/// The instruction's own checks.
+fn by_kind(
+    classes: &Classes,
+    kind: Kind,
+    caller: ClassId,
+    reference: &Reference<Name>,
+    resolved: &Resolved,
+) -> Stage
+    requires caller { caller < length classes.now.rows }
+    requires named { resolved.now.named < length classes.now.rows }
+    ensures { IsStage classes.now result (sites.by_kind classes.now kind caller reference.now resolved.now) }
+{
+    match kind {
+        Kind::Static => static_stage(classes, resolved),
+        Kind::Virtual => selecting(classes, TableKind::Virtual, caller, reference, resolved),
+        Kind::Interface => selecting(classes, TableKind::Interface, caller, reference, resolved),
+        Kind::Special => special_stage(classes, caller, reference, resolved),
+        Kind::Dynamic => Stage::Waits(Unlinked::Unbound),
+    }
+}
+
+/// A static method where one has to be.
+fn static_stage(classes: &Classes, resolved: &Resolved) -> Stage
+    ensures { IsStage classes.now result (sites.if_static classes.now resolved.now.method) }
+{
+    if classes.is_static(&resolved.method) {
+        Stage::Calls(resolved.method)
+    } else {
+        Stage::Fails(Throwable::IncompatibleClassChangeError)
+    }
+}
+
+/// No static method where none may be.
+fn selecting(
+    classes: &Classes,
+    kind: TableKind,
+    caller: ClassId,
+    reference: &Reference<Name>,
+    resolved: &Resolved,
+) -> Stage
+    requires { resolved.now.named < length classes.now.rows }
+    ensures { IsStage classes.now result (sites.selecting classes.now (selector_of kind) caller reference.now resolved.now) }
+{
+    if classes.is_static(&resolved.method) {
+        return Stage::Fails(Throwable::IncompatibleClassChangeError);
+    }
+    Stage::Selects(Selection {
+        kind,
+        named: resolved.named,
+        method: resolved.method,
+    })
+}
+
+/// The checks of invokespecial: `<init>` has to be of the class that is named.
+fn special_stage(
+    classes: &Classes,
+    caller: ClassId,
+    reference: &Reference<Name>,
+    resolved: &Resolved,
+) -> Stage
+    requires caller { caller < length classes.now.rows }
+    requires named { resolved.now.named < length classes.now.rows }
+    ensures { IsStage classes.now result (sites.by_kind classes.now Special caller reference.now resolved.now) }
+{
+    if is_inherited_init(reference, resolved) {
+        return Stage::Fails(Throwable::NoSuchMethodError);
+    }
+    if classes.is_static(&resolved.method) {
+        return Stage::Fails(Throwable::IncompatibleClassChangeError);
+    }
+    Stage::Special(special(classes, caller, resolved.named, reference))
+}
+
+/// Whether an `<init>` of another class than the one that is named was found.
+fn is_inherited_init(reference: &Reference<Name>, resolved: &Resolved) -> bool
+    ensures { result ≡ selection.is_init reference.now.name && not (resolved.now.method.class == resolved.now.named) }
+{
+    reference.name.as_slice() == b"<init>".as_slice() && resolved.method.class != resolved.named
+}

@@ -1,0 +1,98 @@
+//! What there is to link.
+
+ghost use Rattle.std.specs.Prelude.{◌≡◌, ℕ, []};
+ghost use Rattle.jl_types.specs.World.{World};
+ghost use Rattle.jl_types.specs.Sites as sites;
+ghost use Rattle.jl_types.specs.Links as links;
+ghost use Rattle.jl_types.specs.Calls as calls;
+ghost use Rattle.jl_relink.specs.Stages.{IsStage};
+
+use crate::answer::{selected_answer, special_answer};
+use crate::link::selected_link;
+use crate::stage::{Stage, invocation_at, stage_of_reference};
+use indexmap::IndexSet;
+use jl_code::{Operand, Site};
+use jl_hierarchy::Classes;
+use jl_types::{Answer, ClassId, Link, Place, Recv, SiteNo, Unlinked};
+use std::marker::Model;
+
+/// The classes, and the places that were requested, in order of request. There are no call sites, so each invokedynamic is
+/// unbound.
+#[derive(Drop)]
+pub struct World {
+    pub classes: Classes,
+    pub places: IndexSet<Place>,
+}
+
+impl Model for World {
+    ghost use Rattle.std.specs.Prelude.{[]};
+    ghost use Rattle.jl_types.specs.World.{World};
+    ghost use Rattle.std.specs.Coded.{codes};
+    ghost use Rattle.jl_types.specs.Means.TargetCode.{target_code};
+
+    ghost Value = { World };
+
+    ghost coded = { Prim.hlevel (codes, target_code) };
+
+    ghost view = { λ w. record {
+      classes = w.classes;
+      places = w.places.keys;
+      bindings = [];
+      sites = record { call_sites = []; switches = [] };
+    } };
+}
+
+/// The link of a site from scratch, or why it has none. Takes no memory.
+pub fn link_of(world: &World, site: SiteNo) -> Result<Link, Unlinked>
+    ensures { result ≡ links.scratch world.now site }
+{
+    match stage(world, site) {
+        Stage::Waits(reason) => Err(reason),
+        Stage::Fails(throwable) => Ok(Link::Fault(throwable)),
+        Stage::Calls(method) => Ok(Link::Plain(method)),
+        Stage::Selects(selection) => Ok(selected_link(&world.classes, &selection)),
+        Stage::Special(outcome) => Ok(Link::Direct(outcome)),
+    }
+}
+
+/// The answer to a call (JVMS SE 17 §6.5). It looks at no link. Takes no memory.
+pub fn dispatch(world: &World, site: SiteNo, recv: Recv) -> Answer
+    ensures { result ≡ calls.dispatch world.now site recv }
+{
+    match stage(world, site) {
+        Stage::Waits(reason) => Answer::Unlinked(reason),
+        Stage::Fails(throwable) => Answer::Throws(throwable),
+        Stage::Calls(method) => Answer::Run(method),
+        Stage::Selects(selection) => selected_answer(&world.classes, &selection, recv),
+        Stage::Special(outcome) => special_answer(&world.classes, outcome, recv),
+    }
+}
+
+/// What a site comes to before its receiver is looked at.
+fn stage(world: &World, site: SiteNo) -> Stage
+    ensures { IsStage world.now.classes result (sites.stage world.now site) }
+{
+    let Some(place) = world.places.get_index(site.number() as usize) else {
+        return Stage::Waits(Unlinked::NoSite);
+    };
+    if !world.classes.has_class(place.class) {
+        return Stage::Waits(Unlinked::Gone);
+    }
+    match invocation_at(&world.classes, place) {
+        Some(invocation) => stage_of(&world.classes, place.class, invocation),
+        None => Stage::Waits(Unlinked::NoSite),
+    }
+}
+
+/// What an invocation in the caller's class comes to.
+fn stage_of(classes: &Classes, caller: ClassId, invocation: &Site) -> Stage
+    ensures { (s : ℕ) (w : World) → w.classes ≡ classes.now → w.bindings ≡ []
+        → IsStage classes.now result (sites.by_operand w s caller invocation.now.kind invocation.now.operand) }
+{
+    match invocation.operand() {
+        Operand::Method(reference) => {
+            stage_of_reference(classes, invocation.kind(), caller, reference)
+        }
+        Operand::CallSite(_) => Stage::Waits(Unlinked::Unbound),
+    }
+}
