@@ -61,7 +61,9 @@ pub fn resolve_reference(
     caller: ClassId,
     reference: &Reference<Name>,
 ) -> Result<Resolved, ResolveAnswer>
-    ensures { result ≡ resolution.resolved classes.now caller reference.now }
+    ensures same { result ≡ resolution.resolved classes.now caller reference.now }
+    ensures there { IfOk result (λ resolved. resolved.named < length classes.now.rows) }
+    ensures caller { OnOk result (caller < length classes.now.rows) }
 {
     let Some(named) = named_class(classes, caller, reference) else {
         return Err(ResolveAnswer::NotReady(Missing::Named));
