@@ -1,0 +1,262 @@
+//! What is done with classes and asked of them, row by row, and what each row is answered.
+
+use crate::files::{class, declaring, nested, object};
+use jl_classfile::{ClassFile, Method};
+use jl_hierarchy::{Classes, LoaderFault};
+use jl_types::{Class, ClassId, DefineFault, DelegateFault, LoaderId, MethodId};
+use std::alloc::{AllocError, Global};
+use std::process::Abort;
+
+/// What is done or asked. A class stands by its number or its name, a loader by its number and before the rest.
+pub(crate) enum Command {
+    /// A new loader.
+    Loader,
+    /// The definition of java/lang/Object.
+    Object(u32),
+    /// The definition of a class: its name, flags, superclass and superinterfaces.
+    Define(u32, &'static str, u16, &'static str, &'static [&'static str]),
+    /// The definition of a public class below java/lang/Object: its name, nest host and nest members.
+    Nested(u32, &'static str, Option<&'static str>, &'static [&'static str]),
+    /// The definition of a public class: its name, superclass and public methods, by names and descriptors.
+    Declaring(u32, &'static str, &'static str, &'static [(&'static str, &'static str)]),
+    /// The delegation of the name to the other loader.
+    Delegate(u32, &'static str, u32),
+    /// The class that the loader has recorded.
+    Lookup(u32, &'static str),
+    /// Whether there is such a class.
+    HasClass(u32),
+    /// The name, the defining loader and the direct superinterfaces.
+    ClassAt(u32),
+    /// The direct superclass.
+    Superclass(u32),
+    /// Whether it is an interface.
+    IsInterface(u32),
+    /// The ancestors.
+    Ancestors(u32),
+    /// Whether the first is an ancestor of the second.
+    IsAncestor(u32, u32),
+    /// The receivers.
+    Receivers(u32),
+    /// Whether both are of one run-time package.
+    SamePackage(u32, u32),
+    /// The nest host.
+    NestHost(u32),
+    /// The method of this name and descriptor that the class declares.
+    Declared(u32, &'static str, &'static str),
+    /// The name and the descriptor of the method of this number.
+    MethodAt(u32, u16),
+}
+
+/// The number of the class, if there is one. An answer is told as its number, if it has one, and else as it prints.
+fn number(alloc: Global, class: Option<ClassId>) -> Result<String, AllocError> {
+    match class {
+        Some(class) => format!(in alloc; "{}", class.number()),
+        None => String::from_str(alloc, "None"),
+    }
+}
+
+fn yes_or_no(alloc: Global, answer: bool) -> Result<String, AllocError> {
+    format!(in alloc; "{answer}")
+}
+
+fn loader(alloc: Global, answer: Result<LoaderId, LoaderFault>) -> Result<String, AllocError> {
+    match answer {
+        Ok(loader) => format!(in alloc; "{}", loader.number()),
+        Err(fault) => format!(in alloc; "{fault:?}"),
+    }
+}
+
+fn definition(alloc: Global, answer: Result<ClassId, DefineFault>) -> Result<String, AllocError> {
+    match answer {
+        Ok(class) => format!(in alloc; "{}", class.number()),
+        Err(fault) => format!(in alloc; "{fault:?}"),
+    }
+}
+
+fn delegation(alloc: Global, answer: Result<(), DelegateFault>) -> Result<String, AllocError> {
+    match answer {
+        Ok(()) => String::from_str(alloc, "Ok"),
+        Err(fault) => format!(in alloc; "{fault:?}"),
+    }
+}
+
+fn numbers(alloc: Global, classes: &[ClassId]) -> Result<String, AllocError> {
+    let mut numbers = Vec::new(alloc);
+    for class in classes {
+        numbers.push(class.number())?;
+    }
+    format!(in alloc; "{numbers:?}")
+}
+
+fn method_id(alloc: Global, method: Option<MethodId>) -> Result<String, AllocError> {
+    match method {
+        Some(method) => format!(in alloc; "{} {}", method.class.number(), method.index),
+        None => String::from_str(alloc, "None"),
+    }
+}
+
+fn method(alloc: Global, method: Option<&Method>) -> Result<String, AllocError> {
+    match method {
+        Some(method) => format!(in alloc; "{:?} {:?}", method.name(), method.ty()),
+        None => String::from_str(alloc, "None"),
+    }
+}
+
+fn row(alloc: Global, row: Option<&Class>) -> Result<String, AllocError> {
+    match row {
+        Some(row) => format!(in alloc;
+            "{:?} {:?} {:?}",
+            row.file().name(),
+            row.loader(),
+            row.interfaces()
+        ),
+        None => String::from_str(alloc, "None"),
+    }
+}
+
+/// What the definition of the class by the loader is answered.
+fn defined(
+    alloc: Global,
+    classes: &mut Classes,
+    loader: u32,
+    file: Option<ClassFile>,
+) -> Result<String, AllocError> {
+    match file {
+        Some(file) => definition(alloc, classes.define(alloc, LoaderId::new(loader), file)),
+        None => String::from_str(alloc, "no class file"),
+    }
+}
+
+fn ancestors(alloc: Global, classes: &Classes, class: ClassId) -> Result<String, AllocError> {
+    if classes.has_class(class) {
+        numbers(alloc, classes.ancestors(class))
+    } else {
+        String::from_str(alloc, "no class")
+    }
+}
+
+fn is_ancestor(
+    alloc: Global,
+    classes: &Classes,
+    ancestor: ClassId,
+    class: ClassId,
+) -> Result<String, AllocError> {
+    if classes.has_class(class) {
+        yes_or_no(alloc, classes.is_ancestor(ancestor, class))
+    } else {
+        String::from_str(alloc, "no class")
+    }
+}
+
+fn receivers(alloc: Global, classes: &Classes, class: ClassId) -> Result<String, AllocError> {
+    if classes.has_class(class) {
+        numbers(alloc, classes.receivers(class))
+    } else {
+        String::from_str(alloc, "no class")
+    }
+}
+
+/// What the question is answered. What is no question is answered as one that there isn't.
+fn told(alloc: Global, classes: &Classes, command: &Command) -> Result<String, AllocError> {
+    match command {
+        Command::Lookup(from, name) => {
+            number(alloc, classes.lookup(LoaderId::new(*from), name.as_bytes()))
+        }
+        Command::HasClass(class) => yes_or_no(alloc, classes.has_class(ClassId::new(*class))),
+        Command::ClassAt(class) => row(alloc, classes.class_at(ClassId::new(*class))),
+        Command::Superclass(class) => number(alloc, classes.superclass(ClassId::new(*class))),
+        Command::IsInterface(class) => yes_or_no(alloc, classes.is_interface(ClassId::new(*class))),
+        Command::Ancestors(class) => ancestors(alloc, classes, ClassId::new(*class)),
+        Command::IsAncestor(ancestor, class) => is_ancestor(
+            alloc,
+            classes,
+            ClassId::new(*ancestor),
+            ClassId::new(*class),
+        ),
+        Command::Receivers(class) => receivers(alloc, classes, ClassId::new(*class)),
+        Command::SamePackage(class, other) => yes_or_no(
+            alloc,
+            classes.same_package(ClassId::new(*class), ClassId::new(*other)),
+        ),
+        Command::NestHost(class) => number(alloc, classes.nest_host(ClassId::new(*class))),
+        Command::Declared(class, name, ty) => method_id(
+            alloc,
+            classes.declared(ClassId::new(*class), name.as_bytes(), ty.as_bytes()),
+        ),
+        Command::MethodAt(class, index) => method(
+            alloc,
+            classes.method_at(MethodId {
+                class: ClassId::new(*class),
+                index: *index,
+            }),
+        ),
+        _ => String::from_str(alloc, "no question"),
+    }
+}
+
+/// What the command is answered.
+fn answer(alloc: Global, classes: &mut Classes, command: &Command) -> Result<String, AllocError> {
+    match command {
+        Command::Loader => loader(alloc, classes.new_loader(alloc)),
+        Command::Object(by) => defined(alloc, classes, *by, object(alloc)),
+        Command::Define(by, name, flags, superclass, interfaces) => defined(
+            alloc,
+            classes,
+            *by,
+            class(alloc, name, *flags, superclass, interfaces),
+        ),
+        Command::Nested(by, name, host, members) => {
+            defined(alloc, classes, *by, nested(alloc, name, *host, members))
+        }
+        Command::Declaring(by, name, superclass, methods) => defined(
+            alloc,
+            classes,
+            *by,
+            declaring(alloc, name, superclass, methods),
+        ),
+        Command::Delegate(from, name, to) => delegation(
+            alloc,
+            classes.delegate(
+                alloc,
+                LoaderId::new(*from),
+                name.as_bytes(),
+                LoaderId::new(*to),
+            ),
+        ),
+        _ => told(alloc, classes, command),
+    }
+}
+
+/// Asserts that the command of the row is answered so.
+fn assert_row(
+    rt: &(impl Abort + AllocGlobal),
+    classes: &mut Classes,
+    index: usize,
+    command: &Command,
+    want: &str,
+) -> Result<(), AllocError> {
+    let text = answer(rt.alloc(), classes, command)?;
+    assert_eq!(rt; text.as_str(), want, "in row {index}");
+    Ok(())
+}
+
+/// Asserts that these commands are answered so, one after another.
+pub(crate) fn assert_each(
+    rt: &(impl Abort + AllocGlobal),
+    classes: &mut Classes,
+    rows: &[(Command, &str)],
+) -> Result<(), AllocError> {
+    for (index, (command, want)) in rows.iter().enumerate() {
+        assert_row(rt, classes, index, command, want)?;
+    }
+    Ok(())
+}
+
+/// Asserts that these commands are answered so, one after another, where there was nothing before.
+pub(crate) fn assert_rows(
+    rt: &(impl Abort + AllocGlobal),
+    rows: &[(Command, &str)],
+) -> Result<(), AllocError> {
+    let mut classes = Classes::new(rt.alloc())?;
+    assert_each(rt, &mut classes, rows)
+}
