@@ -9,12 +9,13 @@ import java.util.List;
 import java.util.Map;
 
 /**
- * Class files of a hierarchy, for {@code hierarchy_bench}, and what a JVM takes for the same.
+ * Class files of a hierarchy, for the program hierarchy_bench, and what a JVM takes for the same.
  *
- * <p>{@code Hierarchy lines SHAPE COUNT} writes java/lang/Object and the classes as lines of hexadecimal. {@code Hierarchy jvm SHAPE
- * COUNT} has a loader of its own define them, 3,000 at a time, and then asks of each class 32 times what a hash map holds under its
- * name, and whether another class is above it. SHAPE is {@code tree}, 100 interfaces and classes that list 10 of them each, in a tree of
- * four below each, or {@code chain}, classes below one another.
+ * <p>{@code Hierarchy lines SHAPE COUNT} writes java/lang/Object and the classes as lines of hexadecimal. {@code
+ * Hierarchy jvm SHAPE COUNT} has a loader of its own define them, 3,000 at a time, and then asks of each class 32 times
+ * what a hash map holds under its name, and whether another class is above it. SHAPE is {@code tree}, for 100 interfaces
+ * and classes that list 10 of them each, with four classes below each class, or {@code chain}, for classes below one
+ * another.
  */
 final class Hierarchy extends ClassLoader {
     private static final int BATCH = 3000;
@@ -99,24 +100,26 @@ final class Hierarchy extends ClassLoader {
     }
 
     private void jvm(List<Row> rows) {
-        List<Class<?>> classes = new ArrayList<>();
-        Map<String, Class<?>> byName = new HashMap<>();
+        List<Class<?>> classes = new ArrayList<>(List.of(Object.class));
+        List<String> names = new ArrayList<>(List.of("java/lang/Object"));
+        Map<String, Class<?>> byName = new HashMap<>(Map.of("java/lang/Object", Object.class));
         for (int from = 0; from < rows.size(); from += BATCH) {
             int to = Math.min(from + BATCH, rows.size());
             long start = System.nanoTime();
             for (Row row : rows.subList(from, to)) {
                 Class<?> made = defineClass(row.name().replace('/', '.'), row.file(), 0, row.file().length);
                 classes.add(made);
+                names.add(row.name());
                 byName.put(row.name(), made);
             }
-            System.out.println("defined " + (to - from) + " in " + (System.nanoTime() - start) / 1000 + " us");
+            System.err.println("defined " + (to - from) + " in " + (System.nanoTime() - start) / 1000 + " us");
         }
         int found = 0;
         int related = 0;
         long start = System.nanoTime();
         for (int round = 0; round < ROUNDS; round++) {
-            for (Row row : rows) {
-                if (byName.get(row.name()) != null) {
+            for (String name : names) {
+                if (byName.get(name) != null) {
                     found++;
                 }
             }
@@ -132,7 +135,7 @@ final class Hierarchy extends ClassLoader {
         }
         long relating = (System.nanoTime() - start) / 1000;
         System.out.println("classes " + classes.size() + ", found " + found + ", related " + related);
-        System.out.println("look-ups in " + finding + " us, ancestors in " + relating + " us");
+        System.err.println("look-ups in " + finding + " us, ancestors in " + relating + " us");
     }
 
     public static void main(String[] words) throws IOException {

@@ -1,0 +1,31 @@
+#!/usr/bin/env bash
+# Times the definition of classes and the questions about them, beside a JVM that defines the same class files.
+#
+#     bench/hierarchy.sh PROGRAM [SHAPE COUNT]      PROGRAM is the built hierarchy_bench; the shapes are those of Hierarchy.java
+#
+# JAVA_HOME chooses the JDK (else java of the PATH). Without a shape it is `tree 30000`. MEMORY is how many kilobytes of address
+# space the program may have (no limit), JVM=0 leaves the JVM out. Ends with status 0 only where both find the same.
+set -eu
+here=$(cd "$(dirname "$0")" && pwd)
+. "$here/common.sh"
+
+if [ $# != 1 ] && [ $# != 3 ]; then
+    sed -n '2,/^set/{/^#/s/^# \{0,1\}//p;}' "$0" >&2
+    exit 2
+fi
+program=$1
+shape=${2:-tree}
+count=${3:-30000}
+[ -f "$program" ] && [ -x "$program" ] || { echo "$program is no program" >&2; exit 2; }
+program=$(cd "$(dirname "$program")" && pwd)/$(basename "$program")
+
+run_java Hierarchy lines "$shape" "$count" > "$work/lines"
+(
+    ulimit -v "${MEMORY:-unlimited}"
+    "$program" < "$work/lines" | tee "$work/ours"
+)
+if [ "${JVM:-1}" = 1 ]; then
+    java -version 2>&1 | sed -n 2p
+    run_java Hierarchy jvm "$shape" "$count" | tee "$work/theirs"
+    cmp "$work/ours" "$work/theirs"
+fi
