@@ -1,4 +1,5 @@
-//! What is done with classes and asked of them, row by row, and what each row is answered.
+//! What is done with classes and asked of them, row by row, and what each row is answered: a number where the answer has one, and
+//! else as it prints.
 
 use crate::files::{class, declaring, nested, object};
 use jl_classfile::{ClassFile, Method};
@@ -47,7 +48,7 @@ pub(crate) enum Command {
     MethodAt(u32, u16),
 }
 
-/// The number of the class, if there is one. An answer is told as its number, if it has one, and else as it prints.
+/// The class's number, if there is one.
 fn number(alloc: Global, class: Option<ClassId>) -> Result<String, AllocError> {
     match class {
         Some(class) => format!(in alloc; "{}", class.number()),
@@ -55,10 +56,12 @@ fn number(alloc: Global, class: Option<ClassId>) -> Result<String, AllocError> {
     }
 }
 
+/// A test's answer.
 fn yes_or_no(alloc: Global, answer: bool) -> Result<String, AllocError> {
     format!(in alloc; "{answer}")
 }
 
+/// The new loader's number, or why there is none.
 fn loader(alloc: Global, answer: Result<LoaderId, LoaderFault>) -> Result<String, AllocError> {
     match answer {
         Ok(loader) => format!(in alloc; "{}", loader.number()),
@@ -66,6 +69,7 @@ fn loader(alloc: Global, answer: Result<LoaderId, LoaderFault>) -> Result<String
     }
 }
 
+/// The defined class's number, or why there is none.
 fn definition(alloc: Global, answer: Result<ClassId, DefineFault>) -> Result<String, AllocError> {
     match answer {
         Ok(class) => format!(in alloc; "{}", class.number()),
@@ -73,6 +77,7 @@ fn definition(alloc: Global, answer: Result<ClassId, DefineFault>) -> Result<Str
     }
 }
 
+/// Whether a delegation was made, or why not.
 fn delegation(alloc: Global, answer: Result<(), DelegateFault>) -> Result<String, AllocError> {
     match answer {
         Ok(()) => String::from_str(alloc, "Ok"),
@@ -80,6 +85,7 @@ fn delegation(alloc: Global, answer: Result<(), DelegateFault>) -> Result<String
     }
 }
 
+/// The numbers of the classes.
 fn numbers(alloc: Global, classes: &[ClassId]) -> Result<String, AllocError> {
     let mut numbers = Vec::new(alloc);
     for class in classes {
@@ -88,6 +94,7 @@ fn numbers(alloc: Global, classes: &[ClassId]) -> Result<String, AllocError> {
     format!(in alloc; "{numbers:?}")
 }
 
+/// A method's class and its number there.
 fn method_id(alloc: Global, method: Option<MethodId>) -> Result<String, AllocError> {
     match method {
         Some(method) => format!(in alloc; "{} {}", method.class.number(), method.index),
@@ -95,6 +102,7 @@ fn method_id(alloc: Global, method: Option<MethodId>) -> Result<String, AllocErr
     }
 }
 
+/// A method's name and descriptor.
 fn method(alloc: Global, method: Option<&Method>) -> Result<String, AllocError> {
     match method {
         Some(method) => format!(in alloc; "{:?} {:?}", method.name(), method.ty()),
@@ -102,6 +110,7 @@ fn method(alloc: Global, method: Option<&Method>) -> Result<String, AllocError> 
     }
 }
 
+/// A class's name, defining loader and direct superinterfaces.
 fn row(alloc: Global, row: Option<&Class>) -> Result<String, AllocError> {
     match row {
         Some(row) => format!(in alloc;
@@ -127,6 +136,7 @@ fn defined(
     }
 }
 
+/// The ancestors, if there is such a class.
 fn ancestors(alloc: Global, classes: &Classes, class: ClassId) -> Result<String, AllocError> {
     if classes.has_class(class) {
         numbers(alloc, classes.ancestors(class))
@@ -135,6 +145,7 @@ fn ancestors(alloc: Global, classes: &Classes, class: ClassId) -> Result<String,
     }
 }
 
+/// Whether the first class is an ancestor of the second, if there is that.
 fn is_ancestor(
     alloc: Global,
     classes: &Classes,
@@ -148,6 +159,7 @@ fn is_ancestor(
     }
 }
 
+/// The receivers, if there is such a class.
 fn receivers(alloc: Global, classes: &Classes, class: ClassId) -> Result<String, AllocError> {
     if classes.has_class(class) {
         numbers(alloc, classes.receivers(class))
@@ -156,7 +168,7 @@ fn receivers(alloc: Global, classes: &Classes, class: ClassId) -> Result<String,
     }
 }
 
-/// What the question is answered. What is no question is answered as one that there isn't.
+/// What the question is answered.
 fn told(alloc: Global, classes: &Classes, command: &Command) -> Result<String, AllocError> {
     match command {
         Command::Lookup(from, name) => {

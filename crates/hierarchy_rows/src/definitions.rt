@@ -120,3 +120,48 @@ const FAULTS: &[(Command, &str)] = &[
 fn refuses_the_first_fault(rt: HostRuntime) -> Result<(), AllocError> {
     assert_rows(&rt, FAULTS)
 }
+
+/// Faults go by the classes that the defining loader finds. Of each name loader 0 has another class.
+const OWN_LOADER: &[(Command, &str)] = &[
+    (Object(0), "0"),
+    (Loader, "1"),
+    (Delegate(1, OBJECT, 0), "Ok"),
+    // F is final in loader 0 alone, G in loader 1 alone.
+    (Define(0, "F", 49, OBJECT, &[]), "1"),
+    (Define(1, "F", 33, OBJECT, &[]), "2"),
+    (Define(0, "G", 33, OBJECT, &[]), "3"),
+    (Define(1, "G", 49, OBJECT, &[]), "4"),
+    // I is an interface in loader 0 alone, K in loader 1 alone.
+    (Define(0, "I", 1537, OBJECT, &[]), "5"),
+    (Define(1, "I", 33, OBJECT, &[]), "6"),
+    (Define(0, "K", 33, OBJECT, &[]), "7"),
+    (Define(1, "K", 1537, OBJECT, &[]), "8"),
+    // p/A is public in loader 1 alone, p/B in loader 0 alone.
+    (Define(0, "p/A", 32, OBJECT, &[]), "9"),
+    (Define(1, "p/A", 33, OBJECT, &[]), "10"),
+    (Define(0, "p/B", 33, OBJECT, &[]), "11"),
+    (Define(1, "p/B", 32, OBJECT, &[]), "12"),
+    (Define(1, "X", 33, "G", &[]), "FinalSuper"),
+    (Define(1, "X", 33, "K", &[]), "SuperIsInterface"),
+    (
+        Define(1, "X", 33, OBJECT, &["I"]),
+        "NotAnInterface(Name { bytes: b\"I\" })",
+    ),
+    (
+        Define(1, "q/X", 33, "p/B", &[]),
+        "InaccessibleParent(Name { bytes: b\"p/B\" })",
+    ),
+    (Define(1, "X", 33, "F", &["K"]), "13"),
+    (Ancestors(13), "[0, 2, 8, 13]"),
+    (Define(1, "Y", 33, "I", &[]), "14"),
+    (Ancestors(14), "[0, 6, 14]"),
+    (Define(1, "q/X", 33, "p/A", &[]), "15"),
+    (Ancestors(15), "[0, 10, 15]"),
+    (Define(1, "p/X", 33, "p/B", &[]), "16"),
+    (Ancestors(16), "[0, 12, 16]"),
+];
+
+#[test]
+fn goes_by_the_defining_loader(rt: HostRuntime) -> Result<(), AllocError> {
+    assert_rows(&rt, OWN_LOADER)
+}

@@ -78,6 +78,7 @@ const ONE_NAME: &[(Command, &str)] = &[
     (ClassAt(3), "Name { bytes: b\"B\" } LoaderId(1) []"),
     // Names are compared byte for byte.
     (Lookup(0, "b"), "None"),
+    (Lookup(0, "AA"), "None"),
     (Lookup(0, ""), "None"),
 ];
 
