@@ -68,15 +68,20 @@ fn method(alloc: Global, answer: Result<MethodId, ResolveAnswer>) -> Result<Stri
     }
 }
 
+/// The class that is named and the method.
+fn named_and_method(alloc: Global, named: ClassId, method: MethodId) -> Result<String, AllocError> {
+    format!(in alloc;
+        "{} {}.{}",
+        named.number(),
+        method.class.number(),
+        method.index
+    )
+}
+
 /// The class that is named and the method, or why there is none.
 fn naming(alloc: Global, answer: Result<Resolved, ResolveAnswer>) -> Result<String, AllocError> {
     match answer {
-        Ok(found) => format!(in alloc;
-            "{} {}.{}",
-            found.named.number(),
-            found.method.class.number(),
-            found.method.index
-        ),
+        Ok(found) => named_and_method(alloc, found.named, found.method),
         Err(answer) => format!(in alloc; "{answer:?}"),
     }
 }
