@@ -2,7 +2,7 @@
 
 use crate::commands::Command::*;
 use crate::commands::{Command, assert_rows};
-use crate::files::OBJECT;
+use row_files::OBJECT;
 use std::alloc::AllocError;
 
 /// Classes and interfaces below one another, and who is above and below whom.

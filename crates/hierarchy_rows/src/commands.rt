@@ -1,7 +1,7 @@
 //! What is done with classes and asked of them, row by row, and what each row is answered: a number where the answer has one, and
 //! else as it prints.
 
-use crate::files::{class, declaring, nested, object};
+use row_files::{MethodRow, OBJECT, class, nested};
 use jl_classfile::{ClassFile, Method};
 use jl_hierarchy::{Classes, LoaderFault};
 use jl_types::{Class, ClassId, DefineFault, DelegateFault, LoaderId, MethodId};
@@ -18,8 +18,8 @@ pub(crate) enum Command {
     Define(u32, &'static str, u16, &'static str, &'static [&'static str]),
     /// The definition of a public class below java/lang/Object: its name, nest host and nest members.
     Nested(u32, &'static str, Option<&'static str>, &'static [&'static str]),
-    /// The definition of a public class: its name, superclass and public methods, by names and descriptors.
-    Declaring(u32, &'static str, &'static str, &'static [(&'static str, &'static str)]),
+    /// The definition of a public class: its name, superclass and methods, by names, descriptors and flags.
+    Declaring(u32, &'static str, &'static str, &'static [MethodRow]),
     /// The delegation of the name to the other loader.
     Delegate(u32, &'static str, u32),
     /// The class that the loader has recorded.
@@ -210,21 +210,21 @@ fn told(alloc: Global, classes: &Classes, command: &Command) -> Result<String, A
 fn answer(alloc: Global, classes: &mut Classes, command: &Command) -> Result<String, AllocError> {
     match command {
         Command::Loader => loader(alloc, classes.new_loader(alloc)),
-        Command::Object(by) => defined(alloc, classes, *by, object(alloc)),
+        Command::Object(by) => defined(alloc, classes, *by, class(alloc, OBJECT, 33, None, &[], &[])),
         Command::Define(by, name, flags, superclass, interfaces) => defined(
             alloc,
             classes,
             *by,
-            class(alloc, name, *flags, superclass, interfaces),
+            class(alloc, name, *flags, Some(superclass), interfaces, &[]),
         ),
         Command::Nested(by, name, host, members) => {
-            defined(alloc, classes, *by, nested(alloc, name, *host, members))
+            defined(alloc, classes, *by, nested(alloc, name, *host, members, &[]))
         }
         Command::Declaring(by, name, superclass, methods) => defined(
             alloc,
             classes,
             *by,
-            declaring(alloc, name, superclass, methods),
+            class(alloc, name, 33, Some(superclass), &[], methods),
         ),
         Command::Delegate(from, name, to) => delegation(
             alloc,

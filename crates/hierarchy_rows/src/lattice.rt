@@ -3,7 +3,7 @@
 
 use crate::commands::Command::*;
 use crate::commands::{Command, assert_each};
-use crate::files::{OBJECT, class, object};
+use row_files::{OBJECT, class};
 use jl_classfile::ClassFile;
 use jl_hierarchy::Classes;
 use jl_types::{ClassId, LoaderId};
@@ -21,7 +21,7 @@ fn name_of(alloc: Global, side: char, layer: u32) -> Result<String, AllocError> 
 fn below_both(alloc: Global, name: &str, layer: u32) -> Option<ClassFile> {
     match (name_of(alloc, 'I', layer), name_of(alloc, 'J', layer)) {
         (Ok(left), Ok(right)) => {
-            class(alloc, name, 1537, OBJECT, &[left.as_str(), right.as_str()])
+            class(alloc, name, 1537, Some(OBJECT), &[left.as_str(), right.as_str()], &[])
         }
         _ => None,
     }
@@ -31,7 +31,7 @@ fn below_both(alloc: Global, name: &str, layer: u32) -> Option<ClassFile> {
 fn interface(alloc: Global, name: &str, layer: u32) -> Option<ClassFile> {
     match layer.checked_sub(1) {
         Some(above) => below_both(alloc, name, above),
-        None => class(alloc, name, 1537, OBJECT, &[]),
+        None => class(alloc, name, 1537, Some(OBJECT), &[], &[]),
     }
 }
 
@@ -96,7 +96,7 @@ fn assert_lattice(
     rt: &(impl Abort + AllocGlobal),
     classes: &mut Classes,
 ) -> Result<(), AllocError> {
-    assert!(rt; is_defined(rt.alloc(), classes, object(rt.alloc()), 0));
+    assert!(rt; is_defined(rt.alloc(), classes, class(rt.alloc(), OBJECT, 33, None, &[], &[]), 0));
     assert!(rt; are_layers_defined(rt.alloc(), classes));
     assert_each(rt, classes, BOTTOM)?;
     // Itself, java/lang/Object and the 78 interfaces of the 39 layers above it.

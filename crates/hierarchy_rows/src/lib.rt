@@ -8,8 +8,6 @@ mod commands;
 #[cfg(test)]
 mod definitions;
 #[cfg(test)]
-mod files;
-#[cfg(test)]
 mod lattice;
 #[cfg(test)]
 mod loaders;

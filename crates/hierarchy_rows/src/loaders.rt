@@ -2,7 +2,7 @@
 
 use crate::commands::Command::*;
 use crate::commands::{Command, assert_rows};
-use crate::files::OBJECT;
+use row_files::OBJECT;
 use jl_hierarchy::{Classes, LoaderFault};
 use jl_types::LoaderId;
 use std::alloc::{AllocError, Global};

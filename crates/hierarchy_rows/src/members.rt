@@ -2,17 +2,17 @@
 
 use crate::commands::Command::*;
 use crate::commands::{Command, assert_rows};
-use crate::files::OBJECT;
+use row_files::OBJECT;
 use std::alloc::AllocError;
 
 /// Methods by name and descriptor, and by number.
 const METHODS: &[(Command, &str)] = &[
     (Object(0), "0"),
     (
-        Declaring(0, "A", OBJECT, &[("f", "()V"), ("f", "(I)V"), ("g", "()V")]),
+        Declaring(0, "A", OBJECT, &[("f", "()V", 1), ("f", "(I)V", 1), ("g", "()V", 1)]),
         "1",
     ),
-    (Declaring(0, "B", "A", &[("g", "(I)V")]), "2"),
+    (Declaring(0, "B", "A", &[("g", "(I)V", 1)]), "2"),
     (Declared(1, "f", "()V"), "1 0"),
     (Declared(1, "f", "(I)V"), "1 1"),
     (Declared(1, "g", "()V"), "1 2"),

@@ -2,7 +2,7 @@
 
 use crate::commands::Command::*;
 use crate::commands::{Command, assert_rows};
-use crate::files::OBJECT;
+use row_files::OBJECT;
 use std::alloc::AllocError;
 
 /// Classes with and without a NestHost, before and after what it names is there.

@@ -16,7 +16,7 @@ mod read;
 
 pub use class::{ClassFile, Method};
 pub use fault::ClassFault;
-pub use flags::{ABSTRACT, FINAL, INTERFACE, NATIVE, PRIVATE, PUBLIC, STATIC, has_flag};
+pub use flags::{ABSTRACT, FINAL, INTERFACE, NATIVE, PRIVATE, PROTECTED, PUBLIC, STATIC, has_flag};
 pub use member::CODE;
 pub use nest::{NEST_HOST, NEST_MEMBERS};
 pub use read::read_class;

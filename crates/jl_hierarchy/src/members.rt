@@ -8,11 +8,8 @@ ghost use Rattle.jl_types.specs.Ancestry as ancestry;
 ghost use Rattle.jl_types.specs.Ancestry.{AreOrdered};
 
 use crate::classes::Classes;
-use jl_classfile::{ABSTRACT, INTERFACE, Method, PRIVATE, PUBLIC, STATIC, has_flag};
+use jl_classfile::{ABSTRACT, INTERFACE, Method, PRIVATE, PROTECTED, PUBLIC, STATIC, has_flag};
 use jl_types::{Class, ClassId, MethodId};
-
-/// ACC_PROTECTED (JVMS SE 17 §4.6).
-const PROTECTED: u16 = 0x0004;
 
 impl Classes {
     /// The direct superclass of the class.

@@ -8,12 +8,9 @@ ghost use Rattle.jl_types.specs.Overriding as overriding;
 ghost use Rattle.jl_types.specs.Overriding.{CanOverride};
 ghost use Rattle.jl_select.specs.Walks.{are_alike_methods, is_bridge, has_bridge, bridged_before, above};
 
-use jl_classfile::{Method, PRIVATE, PUBLIC, STATIC, has_flag};
+use jl_classfile::{Method, PRIVATE, PROTECTED, PUBLIC, STATIC, has_flag};
 use jl_hierarchy::Classes;
 use jl_types::{ClassId, MethodId};
-
-/// ACC_PROTECTED (JVMS SE 17 §4.6).
-const PROTECTED: u16 = 0x0004;
 
 /// Whether the first method can override the second one (JVMS SE 17 §5.4.5): they are alike, and the second is visible in
 /// the first one's class, or a method between them makes it so. One walk up the superclasses; takes no memory.

@@ -2,7 +2,7 @@
 
 use crate::commands::Command::*;
 use crate::commands::{Command, assert_rows};
-use crate::files::OBJECT;
+use row_files::OBJECT;
 use std::alloc::AllocError;
 
 /// p/C has a method of each access. q/D and q/E are below it, q/F is below q/D, and p/N and q/O are below none of them.

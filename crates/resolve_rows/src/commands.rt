@@ -1,7 +1,7 @@
 //! What is done with classes and asked of them, row by row, and what each row is answered: a method by its class and its number
 //! there, and else as the answer prints.
 
-use crate::files::{Declared, OBJECT, class, named, nested};
+use row_files::{MethodRow, OBJECT, class, named, nested};
 use jl_classfile::ClassFile;
 use jl_hierarchy::{Classes, LoaderFault};
 use jl_names::Name;
@@ -17,11 +17,11 @@ pub(crate) enum Command {
     /// A new loader.
     Loader,
     /// The definition of java/lang/Object, with these methods.
-    Object(&'static [Declared]),
+    Object(&'static [MethodRow]),
     /// The definition of a class: its name, flags, superclass, superinterfaces and methods.
-    Class(u32, &'static str, u16, &'static str, &'static [&'static str], &'static [Declared]),
+    Class(u32, &'static str, u16, &'static str, &'static [&'static str], &'static [MethodRow]),
     /// The definition of a public class below java/lang/Object by loader 0: its name, nest host, nest members and methods.
-    Nested(&'static str, Option<&'static str>, &'static [&'static str], &'static [Declared]),
+    Nested(&'static str, Option<&'static str>, &'static [&'static str], &'static [MethodRow]),
     /// The delegation of the name to the other loader.
     Delegate(u32, &'static str, u32),
     /// What a Methodref of this class, name and descriptor resolves to.

@@ -2,7 +2,7 @@
 
 use crate::commands::Command::*;
 use crate::commands::{Command, assert_rows};
-use crate::files::OBJECT;
+use row_files::OBJECT;
 use std::alloc::AllocError;
 
 /// Each numbered case, and what comes before it.

@@ -6,8 +6,6 @@ mod access;
 #[cfg(test)]
 mod commands;
 #[cfg(test)]
-mod files;
-#[cfg(test)]
 mod interface_methods;
 #[cfg(test)]
 mod methods;

@@ -1,17 +1,20 @@
-//! Class files, made from sketches.
+//! Class files for tests, made from sketches. No clause says anything of them: that a sketch is written as a class file is
+//! jl_sketch's contract, and that it is read, jl_classfile's.
+#![tactic(auto)]
 
 use jl_classfile::{ClassFile, read_class};
 use jl_names::{Name, Seq};
 use jl_sketch::{Sketch, SketchMethod, write_class};
 use std::alloc::{AllocError, Global};
 
-pub(crate) const OBJECT: &str = "java/lang/Object";
+/// The name of the class that has no superclass.
+pub const OBJECT: &str = "java/lang/Object";
 
 /// A method by its name, descriptor and access flags.
-pub(crate) type Declared = (&'static str, &'static str, u16);
+pub type MethodRow = (&'static str, &'static str, u16);
 
 /// A name of this text.
-pub(crate) fn named(alloc: Global, text: &str) -> Result<Name, AllocError> {
+pub fn named(alloc: Global, text: &str) -> Result<Name, AllocError> {
     Name::copied(alloc, text.as_bytes())
 }
 
@@ -43,7 +46,7 @@ fn method(alloc: Global, name: &str, ty: &str, flags: u16) -> Result<SketchMetho
 }
 
 /// These methods, in order.
-fn all_methods(alloc: Global, methods: &[Declared]) -> Result<Seq<SketchMethod>, AllocError> {
+fn all_methods(alloc: Global, methods: &[MethodRow]) -> Result<Seq<SketchMethod>, AllocError> {
     let mut made = Vec::new(alloc);
     for (name, ty, flags) in methods {
         made.push(method(alloc, name, ty, *flags)?)?;
@@ -58,7 +61,7 @@ fn below(
     flags: u16,
     superclass: Option<&str>,
     interfaces: &[&str],
-    methods: &[Declared],
+    methods: &[MethodRow],
 ) -> Result<Sketch, AllocError> {
     Ok(Sketch {
         name: named(alloc, name)?,
@@ -77,7 +80,7 @@ fn of_nest(
     name: &str,
     host: Option<&str>,
     members: &[&str],
-    methods: &[Declared],
+    methods: &[MethodRow],
 ) -> Result<Sketch, AllocError> {
     Ok(Sketch {
         name: named(alloc, name)?,
@@ -115,13 +118,13 @@ fn file_of(alloc: Global, sketch: Result<Sketch, AllocError>) -> Option<ClassFil
 }
 
 /// The class file of a class below this superclass, if there is one, and these superinterfaces.
-pub(crate) fn class(
+pub fn class(
     alloc: Global,
     name: &str,
     flags: u16,
     superclass: Option<&str>,
     interfaces: &[&str],
-    methods: &[Declared],
+    methods: &[MethodRow],
 ) -> Option<ClassFile> {
     file_of(
         alloc,
@@ -130,12 +133,12 @@ pub(crate) fn class(
 }
 
 /// The class file of a public class that names this nest host and these nest members.
-pub(crate) fn nested(
+pub fn nested(
     alloc: Global,
     name: &str,
     host: Option<&str>,
     members: &[&str],
-    methods: &[Declared],
+    methods: &[MethodRow],
 ) -> Option<ClassFile> {
     file_of(alloc, of_nest(alloc, name, host, members, methods))
 }
