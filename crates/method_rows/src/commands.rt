@@ -1,13 +1,14 @@
 //! What is done with classes and asked of them, row by row, and what each row is answered: a method by its class and its number
 //! there, and else as the answer prints.
 
-use row_files::{MethodRow, OBJECT, class, named, nested};
+use crate::choices::choice;
 use jl_classfile::ClassFile;
 use jl_hierarchy::{Classes, LoaderFault};
 use jl_names::Name;
 use jl_pool::Reference;
 use jl_resolve::{Resolved, access_to_method, is_accessible_class, resolve, resolve_reference};
 use jl_types::{ClassId, DefineFault, DelegateFault, LoaderId, MethodId, ResolveAnswer};
+use row_files::{MethodRow, OBJECT, class, named, nested};
 use std::alloc::{AllocError, Global};
 use std::process::Abort;
 
@@ -34,6 +35,16 @@ pub(crate) enum Command {
     IsAccessible(u32, u32),
     /// Access to a method by its class and its number there, where the reference names the first class.
     Access(u32, u32, u32, u16),
+    /// Whether the first method can override the second one.
+    Overrides(u32, u16, u32, u16),
+    /// The method that selection picks for the first class and a method.
+    Chosen(u32, u32, u16),
+    /// What an invokevirtual of the method comes to for a receiver of the first class.
+    Virtual(u32, u32, u16),
+    /// What an invokeinterface comes to for a receiver of the first class, where the second one is named.
+    Interface(u32, u32, u32, u16),
+    /// What an invokespecial comes to, where the second class is named.
+    Special(u32, u32, &'static str, &'static str),
 }
 
 /// The new loader's number, or why there is none.
@@ -100,7 +111,7 @@ fn defined(
 }
 
 /// A reference to the method of this class, name and descriptor.
-fn reference(
+pub(crate) fn reference(
     alloc: Global,
     itf: bool,
     owner: &str,
@@ -203,7 +214,7 @@ fn told(alloc: Global, classes: &Classes, command: &Command) -> Result<String, A
                 index: *index,
             },
         ),
-        _ => String::from_str(alloc, "no question"),
+        _ => choice(alloc, classes, command),
     }
 }
 
