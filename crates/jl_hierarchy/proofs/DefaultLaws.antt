@@ -1,5 +1,6 @@
 -- Superinterface methods are those of the ancestors, one after another.
-use Rattle.std.specs.Prelude.{◌≡◌, ℕ, ◌+◌, ◌<◌, Bool, true, false, not, ◌&&◌, ◌||◌, List, [], ◌∷◌, filter, filter_map, drop, get_or, length, cond, Option, Some, None, option_map, option_and_then, is_some, position, if◌then◌else◌}
+use Rattle.std.specs.Prelude.{◌≡◌, ℕ, ◌+◌, ◌<◌, Bool, true, false, not, ◌&&◌, ◌||◌, List, [], ◌∷◌}
+use Rattle.std.specs.Prelude.{filter, filter_map, drop, get_or, length, cond, Option, Some, None, option_map, option_and_then, is_some, position, if◌then◌else◌}
 use Rattle.std.specs.List.{list_any, cons_option}
 use Rattle.std.proofs.Common.{refl, ap, sym, ◌∙◌}
 use Rattle.jl_types.specs.declared.ids.MethodId.{MethodId}
@@ -18,7 +19,8 @@ module _ {A B : Type 0} where
   found_passing p f [] = refl
   found_passing p f (x ∷ xs) = by_found _ (f x) (found_passing p f xs)
     where
-      by_test : (rest : List B) (y : B) (b : Bool) → filter p (filter_map f xs) ≡ rest → cond b (y ∷ filter p (filter_map f xs)) (filter p (filter_map f xs)) ≡ cons_option (if b then Some y else None) rest
+      by_test : (rest : List B) (y : B) (b : Bool) → filter p (filter_map f xs) ≡ rest
+          → cond b (y ∷ filter p (filter_map f xs)) (filter p (filter_map f xs)) ≡ cons_option (if b then Some y else None) rest
       by_test rest y true e = ap (λ (ys : List B). y ∷ ys) e
       by_test rest y false e = e
 

@@ -1,5 +1,6 @@
 -- The first fault of a definition, test by test.
-use Rattle.std.specs.Prelude.{◌≡◌, ℕ, ◌+◌, ◌<◌, Bool, true, false, cond, not, nat_le, is_none, List, [], ◌∷◌, ◌++◌, find, position, length, slice_get, Option, Some, None, option_map, option_and_then, option_to_list, nat_lt}
+use Rattle.std.specs.Prelude.{◌≡◌, ℕ, ◌+◌, ◌<◌, Bool, true, false, cond, not, nat_le, is_none, List, []}
+use Rattle.std.specs.Prelude.{◌∷◌, ◌++◌, find, position, length, slice_get, Option, Some, None, option_map, option_and_then, option_to_list, nat_lt}
 use Rattle.std.specs.Bool.{then_some}
 use Rattle.std.specs.List.{position_or_len}
 use Rattle.std.proofs.Common.{refl, ap, ◌∙◌, arith}

@@ -82,7 +82,8 @@ impl Classes {
         self.is_interface(ancestor) && ancestor != class
     }
 
-    /// The same, where the method isn't abstract and no subinterface of the ancestor declares such a method.
+    /// The candidate that the ancestor declares, where it isn't abstract and no subinterface of the ancestor declares another
+    /// one.
     fn default_of(
         &self,
         class: ClassId,

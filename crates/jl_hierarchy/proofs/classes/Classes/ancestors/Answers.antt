@@ -9,7 +9,8 @@ bounds-as_slice-number c =
 pub returns-clause-listed : goal.returns-clause-listed
 returns-clause-listed c =
     c.as_slice-2.ensures ∙ c.index-as_slice-number.is
-    ∙ ancestors_here _ _ _ c.self.invariant c.args.self.now c.self.view_is c.as_slice.result.now c.as_slice.ensures.value c.number.result c.args.class c.number.ensures c.requires c.index-as_slice-number.result
+    ∙ ancestors_here _ _ _ c.self.invariant c.args.self.now c.self.view_is c.as_slice.result.now c.as_slice.ensures.value c.number.result
+    c.args.class c.number.ensures c.requires c.index-as_slice-number.result
 
 pub returns-clause-ordered : goal.returns-clause-ordered
 returns-clause-ordered c = (good _ _ _ c.self.invariant c.args.self.now c.self.view_is).ordered

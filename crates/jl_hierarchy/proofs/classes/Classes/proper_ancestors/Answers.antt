@@ -15,7 +15,9 @@ ancestors_of_all-requires c =
     (All-from_recursion (λ p. p < length c.args.self.now.rows) (parents c.args.row.now) (low c.args.self.now c.args.row.now c.requires))
 
 rises : (c : goal.After-drop-parents-2) → Rises c.dedup.new.self.items
-rises c = subst Rises (sym (dedup_is eqb c.sort_unstable.new.self.items c.dedup.new.self.items c.dedup.ensures.filtered)) (each_once_rises c.sort_unstable.new.self.items c.sort_unstable.ensures.sorted)
+rises c =
+    subst Rises (sym (dedup_is eqb c.sort_unstable.new.self.items c.dedup.new.self.items c.dedup.ensures.filtered))
+    (each_once_rises c.sort_unstable.new.self.items c.sort_unstable.ensures.sorted)
 
 members : (c : goal.After-drop-parents-2) (a : ℕ) → has a c.dedup.new.self.items ≡ list_any (λ p. is_ancestor c.args.self.now a p) (parents c.args.row.now)
 members c a =

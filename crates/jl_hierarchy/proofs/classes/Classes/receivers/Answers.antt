@@ -11,4 +11,5 @@ bounds-as_slice-number c =
 pub returns : goal.returns
 returns c =
     c.as_slice-2.ensures.value ∙ ap (λ (v : Vec ℕ Global). v.items) c.index-as_slice-number.is
-    ∙ receivers_here _ _ _ c.self.invariant c.args.self.now c.self.view_is c.as_slice.result.now (ap lists c.as_slice.ensures.value) c.number.result c.args.class c.number.ensures c.requires c.index-as_slice-number.result
+    ∙ receivers_here _ _ _ c.self.invariant c.args.self.now c.self.view_is c.as_slice.result.now (ap lists c.as_slice.ensures.value) c.number.result
+    c.args.class c.number.ensures c.requires c.index-as_slice-number.result
