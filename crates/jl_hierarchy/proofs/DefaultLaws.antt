@@ -1,6 +1,6 @@
 -- Superinterface methods are those of the ancestors, one after another.
-use Rattle.std.specs.Prelude.{◌≡◌, ℕ, ◌+◌, ◌<◌, Bool, true, false, not, ◌&&◌, ◌||◌, List, [], ◌∷◌}
-use Rattle.std.specs.Prelude.{filter, filter_map, drop, get_or, length, cond, Option, Some, None, option_map, option_and_then, is_some, position, if◌then◌else◌}
+use Rattle.std.specs.Prelude.{◌≡◌, ℕ, Bool, true, false, not, ◌&&◌, ◌||◌, List, [], ◌∷◌}
+use Rattle.std.specs.Prelude.{filter, filter_map, cond, Option, Some, None, option_map, option_and_then, is_some, position, if◌then◌else◌}
 use Rattle.std.specs.List.{list_any, cons_option}
 use Rattle.std.proofs.Common.{refl, ap, sym, ◌∙◌}
 use Rattle.jl_types.specs.declared.ids.MethodId.{MethodId}
@@ -8,7 +8,6 @@ use Rattle.jl_types.specs.World.{Classes}
 use Rattle.jl_types.specs.Members.{declared, is_abstract, is_called, methods_of}
 use Rattle.jl_types.specs.Ancestry.{ancestors, is_proper_ancestor}
 use Rattle.jl_types.specs.Resolution.{candidates, defaults}
-use Rattle.jl_types.proofs.Lists.{rest_at}
 use Rattle.jl_hierarchy.specs.Defaults.{if_passes, is_inherited, is_other_interface, candidate_at, is_redeclared, redeclares, is_default, default_at}
 
 -- ---- filters, joined
@@ -36,14 +35,6 @@ module _ {A B : Type 0} where
       by_test : (rest : List B) (b : Bool) → filter_map f (filter q xs) ≡ rest → filter_map f (cond b (x ∷ filter q xs) (filter q xs)) ≡ cons_option (if b then f x else None) rest
       by_test rest true e = ap (λ (ys : List B). cons_option (f x) ys) e
       by_test rest false e = e
-
-  -- ---- a search, from the item at place i onward
-  module _ (f : A → Option B) (xs : List A) (i : ℕ) (x : A) (lt : i < length xs) (is : x ≡ get_or xs i x) where
-    pub goes_over : f x ≡ None → filter_map f (drop i xs) ≡ filter_map f (drop (i + 1) xs)
-    goes_over e = ap (filter_map f) (rest_at xs i x lt is) ∙ ap (λ (o : Option B). cons_option o (filter_map f (drop (i + 1) xs))) e
-
-    pub comes_to : (y : B) → f x ≡ Some y → filter_map f (drop i xs) ≡ y ∷ filter_map f (drop (i + 1) xs)
-    comes_to y e = ap (filter_map f) (rest_at xs i x lt is) ∙ ap (λ (o : Option B). cons_option o (filter_map f (drop (i + 1) xs))) e
 
 both_filters : {A : Type 0} (p q : A → Bool) (xs : List A) → filter p (filter q xs) ≡ filter (λ x. p x && q x) xs
 both_filters {A = A} p q [] = refl
