@@ -9,4 +9,4 @@ mod resolution;
 
 pub use control::{Access, access_to_method, is_accessible_class};
 pub use finding::{found_in_class, found_in_interface};
-pub use resolution::{Resolved, named_class, resolve, resolve_in, resolve_reference};
+pub use resolution::{Resolved, named_class, resolve, resolve_reference};

@@ -52,10 +52,12 @@ pub fn resolve(
 ///
 /// # Errors
 ///
-/// `NotReady`: `Named` where the caller's loader hasn't recorded the class that the reference names; `CallerHost` and
-/// `MethodHost` where access to a private method depends on a nest host that isn't recorded.
-/// `Fault`: IllegalAccessError where the class or the method isn't accessible; IncompatibleClassChangeError where the class isn't of the
-/// reference's kind; NoSuchMethodError where no method is found.
+/// - `NotReady(Named)`: the caller isn't there, or its loader hasn't recorded the class that the reference names.
+/// - `Fault(IllegalAccessError)`: that class isn't accessible to the caller, or the method that is found isn't.
+/// - `Fault(IncompatibleClassChangeError)`: a Methodref names an interface, or an InterfaceMethodref a class.
+/// - `Fault(NoSuchMethodError)`: no method is found.
+/// - `NotReady(CallerHost)`, `NotReady(MethodHost)`: access to a private method depends on the nest host of the caller or of the
+///   method's class, and that isn't recorded.
 pub fn resolve_reference(
     classes: &Classes,
     caller: ClassId,
@@ -74,7 +76,8 @@ pub fn resolve_reference(
     }
 }
 
-/// The class that the reference names, found by the caller's loader (JVMS SE 17 §5.4.3.1).
+/// The class that the reference names, found by the caller's loader (JVMS SE 17 §5.4.3.1). None where the caller isn't there or
+/// its loader hasn't recorded the class.
 pub fn named_class(
     classes: &Classes,
     caller: ClassId,
@@ -93,7 +96,7 @@ pub fn named_class(
 /// # Errors
 ///
 /// Those of [`resolve_reference`] that come once the class is there.
-pub fn resolve_in(
+fn resolve_in(
     classes: &Classes,
     caller: ClassId,
     reference: &Reference<Name>,
