@@ -1,10 +1,10 @@
 //! What is done with classes and asked of them, row by row, and what each row is answered: a number where the answer has one, and
 //! else as it prints.
 
-use row_files::{MethodRow, OBJECT, class, nested};
 use jl_classfile::{ClassFile, Method};
 use jl_hierarchy::{Classes, LoaderFault};
 use jl_types::{Class, ClassId, DefineFault, DelegateFault, LoaderId, MethodId};
+use row_files::{MethodRow, OBJECT, class, nested};
 use std::alloc::{AllocError, Global};
 use std::process::Abort;
 
@@ -197,7 +197,7 @@ fn told(alloc: Global, classes: &Classes, command: &Command) -> Result<String, A
         ),
         Command::MethodAt(class, index) => method(
             alloc,
-            classes.method_at(MethodId {
+            classes.method_at(&MethodId {
                 class: ClassId::new(*class),
                 index: *index,
             }),
@@ -210,7 +210,12 @@ fn told(alloc: Global, classes: &Classes, command: &Command) -> Result<String, A
 fn answer(alloc: Global, classes: &mut Classes, command: &Command) -> Result<String, AllocError> {
     match command {
         Command::Loader => loader(alloc, classes.new_loader(alloc)),
-        Command::Object(by) => defined(alloc, classes, *by, class(alloc, OBJECT, 33, None, &[], &[])),
+        Command::Object(by) => defined(
+            alloc,
+            classes,
+            *by,
+            class(alloc, OBJECT, 33, None, &[], &[]),
+        ),
         Command::Define(by, name, flags, superclass, interfaces) => defined(
             alloc,
             classes,
@@ -218,7 +223,12 @@ fn answer(alloc: Global, classes: &mut Classes, command: &Command) -> Result<Str
             class(alloc, name, *flags, Some(superclass), interfaces, &[]),
         ),
         Command::Nested(by, name, host, members) => {
-            defined(alloc, classes, *by, nested(alloc, name, *host, members, &[]))
+            defined(
+                alloc,
+                classes,
+                *by,
+                nested(alloc, name, *host, members, &[]),
+            )
         }
         Command::Declaring(by, name, superclass, methods) => defined(
             alloc,

@@ -3,10 +3,10 @@
 
 use crate::commands::Command::*;
 use crate::commands::{Command, assert_each};
-use row_files::{OBJECT, class};
 use jl_classfile::ClassFile;
 use jl_hierarchy::Classes;
 use jl_types::{ClassId, LoaderId};
+use row_files::{OBJECT, class};
 use std::alloc::{AllocError, Global};
 use std::process::Abort;
 
@@ -21,7 +21,14 @@ fn name_of(alloc: Global, side: char, layer: u32) -> Result<String, AllocError> 
 fn below_both(alloc: Global, name: &str, layer: u32) -> Option<ClassFile> {
     match (name_of(alloc, 'I', layer), name_of(alloc, 'J', layer)) {
         (Ok(left), Ok(right)) => {
-            class(alloc, name, 1537, Some(OBJECT), &[left.as_str(), right.as_str()], &[])
+            class(
+                alloc,
+                name,
+                1537,
+                Some(OBJECT),
+                &[left.as_str(), right.as_str()],
+                &[],
+            )
         }
         _ => None,
     }
@@ -96,7 +103,14 @@ fn assert_lattice(
     rt: &(impl Abort + AllocGlobal),
     classes: &mut Classes,
 ) -> Result<(), AllocError> {
-    assert!(rt; is_defined(rt.alloc(), classes, class(rt.alloc(), OBJECT, 33, None, &[], &[]), 0));
+    assert!(rt;
+        is_defined(
+            rt.alloc(),
+            classes,
+            class(rt.alloc(), OBJECT, 33, None, &[], &[]),
+            0
+        )
+    );
     assert!(rt; are_layers_defined(rt.alloc(), classes));
     assert_each(rt, classes, BOTTOM)?;
     // Itself, java/lang/Object and the 78 interfaces of the 39 layers above it.

@@ -2,9 +2,9 @@
 
 use crate::commands::Command::*;
 use crate::commands::{Command, assert_rows};
-use row_files::OBJECT;
 use jl_hierarchy::{Classes, LoaderFault};
 use jl_types::LoaderId;
+use row_files::OBJECT;
 use std::alloc::{AllocError, Global};
 use std::process::Abort;
 

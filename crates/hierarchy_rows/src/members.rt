@@ -9,7 +9,12 @@ use std::alloc::AllocError;
 const METHODS: &[(Command, &str)] = &[
     (Object(0), "0"),
     (
-        Declaring(0, "A", OBJECT, &[("f", "()V", 1), ("f", "(I)V", 1), ("g", "()V", 1)]),
+        Declaring(
+            0,
+            "A",
+            OBJECT,
+            &[("f", "()V", 1), ("f", "(I)V", 1), ("g", "()V", 1)],
+        ),
         "1",
     ),
     (Declaring(0, "B", "A", &[("g", "(I)V", 1)]), "2"),
