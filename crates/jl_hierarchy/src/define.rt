@@ -55,12 +55,13 @@ impl Classes {
         Ok(class)
     }
 
-    /// Adds the class behind the others, its record, and what is kept of it. Every growth comes before the first change, or is it.
+    /// The loader defines the class of a file that it may define, the second half of [`define`](Classes::define). Every
+    /// growth comes before the first change, or is it.
     ///
     /// # Errors
     ///
     /// Want of memory. Nothing has changed then.
-    fn add(
+    pub fn add(
         &mut self,
         alloc: Global,
         loader: LoaderId,

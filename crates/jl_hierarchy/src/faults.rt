@@ -22,12 +22,13 @@ use jl_types::{Class, DefineFault, LoaderId};
 const MOST_CLASSES: usize = 65_536;
 
 impl Classes {
-    /// The file of a class that the loader may define. Takes no memory.
+    /// The file of a class that the loader may define (JVMS SE 17 §5.3.5): the first half of [`define`](Classes::define),
+    /// for a caller that makes room of its own between the two. Takes no memory.
     ///
     /// # Errors
     ///
     /// The first fault of the definition.
-    pub(crate) fn admitted(
+    pub fn admitted(
         &self,
         loader: LoaderId,
         file: ClassFile,

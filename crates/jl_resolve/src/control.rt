@@ -1,6 +1,6 @@
 //! Access control (JVMS SE 17 §5.4.4).
 
-ghost use Rattle.std.specs.Prelude.{◌≡◌, ◌<◌, ◌&&◌, ◌||◌, length};
+ghost use Rattle.std.specs.Prelude.{◌≡◌, ◌<◌, ◌&&◌, ◌||◌, Some, length};
 ghost use Rattle.jl_types.specs.Members as members;
 ghost use Rattle.jl_types.specs.Ancestry as ancestry;
 ghost use Rattle.jl_types.specs.Access as access;
@@ -29,7 +29,7 @@ pub fn is_accessible_class(classes: &Classes, caller: ClassId, class: ClassId) -
 
 /// Whether the method is accessible to the caller, where the reference names this class (JVMS SE 17 §5.4.4).
 ///
-/// Of a private method of another class both nest hosts are asked for, the caller's first.
+/// Of a private method of another class the caller's nest host is asked for, and then the host of the method's class.
 pub fn access_to_method(
     classes: &Classes,
     caller: ClassId,
@@ -133,22 +133,18 @@ fn access_by_nest(classes: &Classes, caller: ClassId, method: &MethodId) -> Acce
     if method.class == caller {
         return Access::Allowed;
     }
-    access_of_nests(classes.nest_host(caller), classes.nest_host(method.class))
+    match classes.nest_host(caller) {
+        Some(host) => access_in_nest(host, classes.nest_host(method.class)),
+        None => Access::NotKnown(Missing::CallerHost),
+    }
 }
 
-/// Whether these are the hosts of one nest: the caller's, and that of the method's class.
-fn access_of_nests(caller_host: Option<ClassId>, method_host: Option<ClassId>) -> Access
-    ensures { IsAccess result (access.same_nest caller_host method_host) }
+/// Whether the host of the method's class is the host of the caller's nest.
+fn access_in_nest(caller_host: ClassId, method_host: Option<ClassId>) -> Access
+    ensures { IsAccess result (access.same_nest (Some caller_host) method_host) }
 {
-    match (caller_host, method_host) {
-        (None, _) => Access::NotKnown(Missing::CallerHost),
-        (Some(_), None) => Access::NotKnown(Missing::MethodHost),
-        (Some(host), Some(other)) => {
-            if host == other {
-                Access::Allowed
-            } else {
-                Access::Denied
-            }
-        }
+    match method_host {
+        None => Access::NotKnown(Missing::MethodHost),
+        Some(host) => { if host == caller_host { Access::Allowed } else { Access::Denied } }
     }
 }

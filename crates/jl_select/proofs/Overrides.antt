@@ -111,9 +111,3 @@ module _ (cs : Classes) (o : AreOrdered cs.rows) (c a : MethodId) (n : Method) (
         λ h. let both = and_parts (is_package_private cs a) test h in walk.1 (both.0, bridged_decides.0 both.1),
         λ r. let both = walk.0 r in and_from (is_package_private cs a) test both.0 (bridged_decides.1 both.1),
       )
-
-pub not_alike : (cs : Classes) (c a : MethodId) → are_alike cs c a ≡ false → can_override cs c a ≡ false
-not_alike cs c a e = rw (add-one c.class, e) refl
-
-pub visible_is : (cs : Classes) (c a : MethodId) → are_alike cs c a ≡ true → is_visible cs c a ≡ true → can_override cs c a ≡ true
-visible_is cs c a e v = rw (add-one c.class, e, v) refl
