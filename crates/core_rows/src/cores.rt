@@ -1,10 +1,11 @@
 //! What lines of commands don't reach: a limit of places, rows made by hand, worlds of before, events that come later.
 
 use jl_classfile::read_class;
-use jl_core::{Core, Prepared, Snapshot, World, prepare};
+use jl_core::Core;
 use jl_names::Seq;
+use jl_relink::{Prepared, Snapshot, World, dispatch, link_of, prepare};
 use jl_types::{
-    Answer, ClassId, Event, Link, LoaderId, MethodId, Outcome, Place, PrepareFault, Recv, Refusal,
+    Answer, CallSiteId, ClassId, Event, Link, LoaderId, MethodId, Outcome, Place, PrepareFault, Recv, Refusal,
     SiteNo, Table, TableKind, Unlinked,
 };
 use std::alloc::{AllocError, Global};
@@ -131,7 +132,7 @@ fn assert_requests(rt: &(impl Abort + AllocGlobal), core: &mut Core) -> Result<(
 
 #[test]
 fn keeps_the_number_of_a_place(rt: HostRuntime) -> Result<(), AllocError> {
-    let mut core = Core::new(rt.alloc(), 1);
+    let mut core = Core::new(rt.alloc(), 1)?;
     assert_defined(&rt, &mut core, [OBJECT, M, N].as_slice());
     assert_requests(&rt, &mut core)
 }
@@ -175,7 +176,8 @@ fn assert_installs(rt: &(impl Abort + AllocGlobal), core: &mut Core) -> Result<(
 
 /// Asserts that events which come later are refused.
 fn assert_not_yet(rt: &(impl Abort + AllocGlobal), core: &mut Core) -> Result<(), AllocError> {
-    assert_answer(rt, core, Event::NewLoader, "Err(NotYet)")?;
+    let bind = Event::Bind(SiteNo::new(0), CallSiteId::new(0));
+    assert_answer(rt, core, bind, "Err(NotYet)")?;
     assert_answer(rt, core, Event::NewSwitch, "Err(NotYet)")
 }
 
@@ -186,7 +188,7 @@ fn assert_refusals(rt: &(impl Abort + AllocGlobal), core: &mut Core) -> Result<(
 
 #[test]
 fn refuses_events(rt: HostRuntime) -> Result<(), AllocError> {
-    let mut core = Core::new(rt.alloc(), 2);
+    let mut core = Core::new(rt.alloc(), 2)?;
     assert_defined(&rt, &mut core, [OBJECT, M, N].as_slice());
     assert!(rt; is_accepted(rt.alloc(), &mut core, request(1, 0)));
     assert!(rt; is_accepted(rt.alloc(), &mut core, request(2, 0)));
@@ -223,7 +225,7 @@ fn prepared_in(
 ) -> Result<Prepared, PrepareFault> {
     assert!(rt; is_defined(rt.alloc(), core, C));
     assert_eq!(rt; snapshot.serial(), 4);
-    assert!(rt; snapshot.world().link_of(site) == Ok(runs_a()));
+    assert!(rt; link_of(snapshot.world(), site) == Ok(runs_a()));
     prepare(rt.alloc(), snapshot, [site].as_slice())
 }
 
@@ -300,7 +302,7 @@ fn assert_links(rt: &(impl Abort + AllocGlobal), core: &mut Core) -> Result<(), 
 
 #[test]
 fn prepares_in_the_world_of_a_snapshot(rt: HostRuntime) -> Result<(), Fail> {
-    let mut core = Core::new(rt.alloc(), 1);
+    let mut core = Core::new(rt.alloc(), 1)?;
     assert_defined(&rt, &mut core, [OBJECT, A, M].as_slice());
     assert!(rt; is_accepted(rt.alloc(), &mut core, request(2, 0)));
     assert_links(&rt, &mut core)
@@ -309,8 +311,8 @@ fn prepares_in_the_world_of_a_snapshot(rt: HostRuntime) -> Result<(), Fail> {
 fn assert_empty(rt: &impl Abort, snapshot: &Snapshot) {
     let nowhere = SiteNo::new(0);
     assert_eq!(rt; snapshot.serial(), 7);
-    assert!(rt; snapshot.world().link_of(nowhere) == Err(Unlinked::NoSite));
-    let answer = snapshot.world().dispatch(nowhere, Recv::Null);
+    assert!(rt; link_of(snapshot.world(), nowhere) == Err(Unlinked::NoSite));
+    let answer = dispatch(snapshot.world(), nowhere, Recv::Null);
     assert!(rt; answer == Answer::Unlinked(Unlinked::NoSite));
 }
 
@@ -322,6 +324,22 @@ fn assert_copied(rt: &(impl Abort + AllocGlobal), world: &World) -> Result<(), A
 
 #[test]
 fn copies_worlds(rt: HostRuntime) -> Result<(), AllocError> {
-    let world = World::new(rt.alloc());
+    let world = World::new(rt.alloc())?;
     assert_copied(&rt, &world)
+}
+
+/// Asserts that this many loaders more are made.
+fn assert_loaders(rt: &(impl Abort + AllocGlobal), core: &mut Core, count: u32) {
+    for _ in 0..count {
+        assert!(rt; is_accepted(rt.alloc(), core, Event::NewLoader));
+    }
+}
+
+#[test]
+fn makes_1024_loaders(rt: HostRuntime) -> Result<(), AllocError> {
+    let mut core = Core::new(rt.alloc(), 1)?;
+    assert_loaders(&rt, &mut core, 1_022);
+    let last = "Ok(Reply { made: Loader(LoaderId(1023)), dropped: Seq { items: [] } })";
+    assert_answer(&rt, &mut core, Event::NewLoader, last)?;
+    assert_answer(&rt, &mut core, Event::NewLoader, "Err(LoadersFull)")
 }

@@ -9,7 +9,7 @@ use Rattle.jl_types.specs.declared.event.Event.TheVariants as event
 use Rattle.jl_types.specs.declared.event.Reply.{Reply}
 use Rattle.jl_types.specs.declared.refusal.Refusal.{Refusal}
 use Rattle.jl_types.specs.declared.refusal.PrepareFault.{PrepareFault}
-use Rattle.jl_core.specs.declared.preparation.Prepared.{Prepared}
+use Rattle.jl_relink.specs.declared.preparation.Prepared.{Prepared}
 use Rattle.jl_json.specs.declared.command.Command.{Command}
 use Rattle.jl_json.specs.declared.command.Command.TheVariants as command
 use Rattle.jl_json.proofs.FloatLaws.{refusal_floats, reply_floats, event_refusal_floats, prepared_floats, prepare_refusal_floats, answer_floats, links_floats}

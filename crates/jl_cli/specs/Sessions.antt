@@ -12,9 +12,9 @@ use Rattle.jl_types.specs.declared.event.Reply.{Reply}
 use Rattle.jl_types.specs.declared.refusal.Refusal.{Refusal}
 use Rattle.jl_types.specs.declared.refusal.PrepareFault.{PrepareFault}
 use Rattle.jl_types.specs.Calls.{dispatch}
-use Rattle.jl_core.specs.declared.preparation.Prepared.{Prepared}
-use Rattle.jl_core.specs.State.{State, Snapshot, empty_core, IsApplied}
-use Rattle.jl_core.specs.Preparations.{IsPreparation}
+use Rattle.jl_relink.specs.declared.preparation.Prepared.{Prepared}
+use Rattle.jl_relink.specs.Preparations.{Snapshot, IsPreparation}
+use Rattle.jl_core.specs.State.{State, empty_core, IsApplied}
 use Rattle.jl_json.specs.declared.command.Command.{Command}
 use Rattle.jl_json.specs.declared.command.Command.TheVariants as command
 use Rattle.jl_json.specs.declared.command.ClassSource.{ClassSource}
@@ -86,7 +86,9 @@ pub record IsPrepareAnswer (old : Session) (sites : List ℕ) (answer : Data) (n
   pub said : IsPreparedData old outcome answer new
 
 abbrev pub IsCommandAnswer : Session → Command → Data → Session → Type 0
+IsCommandAnswer old command.NewLoader answer new = IsEventAnswer old event.NewLoader answer new
 IsCommandAnswer old (command.Define loader source) answer new = IsDefineAnswer old loader source answer new
+IsCommandAnswer old (command.Delegate loader name to) answer new = IsEventAnswer old (event.Delegate loader name to) answer new
 IsCommandAnswer old (command.Request place) answer new = IsEventAnswer old (event.Request place) answer new
 IsCommandAnswer old (command.Prepare sites) answer new = IsPrepareAnswer old sites answer new
 IsCommandAnswer old (command.Install batch) answer new =

@@ -129,7 +129,7 @@ fn answer_all<R: Source, W: Sink>(
 ///
 /// - [`LineFault::TooLong`]: the next line has over 2,100,000 bytes without its newline.
 /// - [`LineFault::Device`]: a read or a write failed, or there were 2^64 - 1 reads.
-/// - [`LineFault::Memory`]: want of memory for the buffers, or for the answer to the next line.
+/// - [`LineFault::Memory`]: want of memory for the session, the buffers, or the answer to the next line.
 ///
 /// But for a failed write the answers to all lines before were written whole.
 pub fn run_lines<R: Source, W: Sink>(
@@ -159,7 +159,7 @@ pub fn run_lines<R: Source, W: Sink>(
         ⊎ (HasRisen (W.failures writer.old) (W.failures writer.new)
         ⊎ (2 ^ 64 - 1 ≤ R.reads reader.new)) }
 {
-    let mut session = Session::new(alloc);
+    let mut session = Session::new(alloc)?;
     run_lines_with(alloc, mode, &mut session, reader, writer)
 }
 

@@ -69,14 +69,14 @@ fn event_value(alloc: Global, outcome: &Result<Reply, Refusal>) -> Result<Value,
 }
 
 impl Session {
-    /// A core in which nothing happened yet.
-    pub fn new(alloc: Global) -> Self
-        ensures { result ≡ new_session }
+    /// A core in which nothing happened yet. Want of memory is an error.
+    pub fn new(alloc: Global) -> Result<Self, AllocError>
+        ensures { IfOk result (λ session. session ≡ new_session) }
     {
-        Session {
-            core: Core::new(alloc, MOST_SITES),
+        Ok(Session {
+            core: Core::new(alloc, MOST_SITES)?,
             batches: Vec::new(alloc),
-        }
+        })
     }
 
     /// The answer to a line: a command in JSON, or none.
@@ -109,7 +109,11 @@ impl Session {
         ensures lacks { OnErr result (LacksAnswer self.old (λ answer. IsCommandAnswer self.old asked answer self.new) self.new) }
     {
         match asked {
+            Command::NewLoader => self.apply(alloc, Event::NewLoader),
             Command::Define { loader, source } => self.define(alloc, loader, source),
+            Command::Delegate { loader, name, to } => {
+                self.apply(alloc, Event::Delegate(loader, name, to))
+            }
             Command::Request(place) => self.apply(alloc, Event::Request(place)),
             Command::Prepare(sites) => self.prepare(alloc, sites.as_slice()),
             Command::Install(batch) => self.install(alloc, batch),

@@ -1,5 +1,5 @@
 -- Which installed links stay, and that none is lost where each stays.
-use Rattle.std.specs.Prelude.{◌≡◌, ℕ, ◌&&◌, ◌||◌, Bool, true, false, List, [], Option, Some, None, is_some, is_none, Result, Ok, Err, if◌then◌else◌}
+use Rattle.std.specs.Prelude.{◌≡◌, ℕ, ◌&&◌, ◌||◌, Bool, true, false, List, [], ◌∷◌, filter, Option, Some, None, is_some, is_none, Result, Ok, Err, if◌then◌else◌}
 use Rattle.std.specs.List.{range_with_len}
 use Rattle.std.proofs.Common.{refl, ap, sym, ◌∙◌}
 use Rattle.std.proofs.lemmas.Option.{same_Some}
@@ -11,7 +11,6 @@ use Rattle.jl_types.specs.Links.{scratch}
 use Rattle.jl_types.specs.History.{has_link, kept}
 use Rattle.jl_types.proofs.Accepting.{linked}
 use Rattle.jl_core.specs.State.{link_at, lost, AreScratch}
-use Rattle.jl_core.proofs.PlainLaws.{filter_none}
 
 same_itself : (l : Link) → same_link l l ≡ true
 same_itself l = (link_decides l l).1 refl
@@ -63,6 +62,10 @@ not_some (Some x) e = cc
 pub kept_none_lost : (before after : Option Link) → after ≡ before → (is_some before && is_none after) ≡ false
 kept_none_lost None after e = refl
 kept_none_lost (Some l) after e = ap is_none e
+
+filter_none : {A : Type 0} (p : A → Bool) (xs : List A) → ((x : A) → p x ≡ false) → filter p xs ≡ []
+filter_none p [] h = refl
+filter_none p (x ∷ xs) h = rw (h x) (filter_none p xs h)
 
 pub nothing_lost : (n : ℕ) (before after : List (ℕ × Link)) → ((s : ℕ) (l : Link) → link_at before s ≡ Some l → is_some (link_at after s) ≡ true) → lost n before after ≡ []
 nothing_lost n before after h = filter_none (λ s. is_some (link_at before s) && is_none (link_at after s)) (range_with_len 0 n) (λ s. by_link s (link_at before s) refl)

@@ -1,10 +1,3 @@
-pub mod Chains
-pub mod PlainLaws
-pub mod RowLaws
-pub mod StageLaws
-pub mod RecordLaws
-pub mod AddLaws
-pub mod FaultLaws
 pub mod PlaceLaws
 pub mod BatchLaws
 pub mod LinkLaws

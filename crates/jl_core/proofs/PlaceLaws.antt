@@ -1,12 +1,10 @@
--- A class more leaves the requested places as they are.
+-- The request of a place.
 use Rattle.std.specs.Prelude.{◌≡◌, ℕ, ◌<◌, ◌≤◌, ◌==◌, nat_le, Bool, true, false, if◌then◌else◌, position, List, [], ◌∷◌, ◌++◌}
 use Rattle.std.specs.Prelude.{length, slice_get, find, Option, Some, None, is_some, option_and_then, Result, Ok, Err, OnOk, OnErr}
 use Rattle.std.specs.Option.{option_map_or}
 use Rattle.std.proofs.Common.{refl, ap, sym, subst, ◌∙◌, arith, length-append}
 use Rattle.std.specs.Bool.{then_some}
 use Rattle.std.proofs.lemmas.Bool.{leb-false}
-use Rattle.std.proofs.lemmas.Option.{slice_get_within}
-use Rattle.jl_classfile.specs.Class.{ClassFile}
 use Rattle.jl_code.specs.Site.{Site}
 use Rattle.jl_types.specs.declared.ids.Place.{Place}
 use Rattle.jl_types.specs.declared.event.Made.TheVariants as made
@@ -17,34 +15,14 @@ use Rattle.jl_types.specs.declared.event.Event.TheVariants as event
 use Rattle.jl_types.specs.Members.{is_present}
 use Rattle.jl_types.specs.Events.{same_place, names_array, is_polymorphic, new_place_fault, request_place, if_invoked, request_at, unless}
 use Rattle.jl_types.proofs.Firsts.{first_none, test_none}
-use Rattle.jl_types.proofs.Lists.{before_end, each_and_last}
-use Rattle.jl_core.specs.Admitted.{admitted, is_supported}
+use Rattle.jl_core.specs.Admitted.{admitted, names_method}
 use Rattle.jl_types.specs.World.{Class, Classes, World}
-use Rattle.jl_types.specs.Definitions.{class_made, defined}
 use Rattle.jl_types.specs.Sites.{invocation_at}
-use Rattle.jl_core.specs.Plain.{AreSupported}
 
 -- the invocation at a place of a class
 abbrev in_row : Option Class → Place → Option Site
 in_row row place =
     option_and_then (λ method. find (λ site. site.pc == place.pc) method.sites) (slice_get (option_map_or (λ row. row.file.methods) row []) place.method)
-
-still_there : (cs : Classes) (loader : ℕ) (file : ClassFile) (place : Place) → option_map_or is_supported (invocation_at cs place) false ≡ true
-    → option_map_or is_supported (invocation_at (defined cs loader file) place) false ≡ true
-still_there cs loader file place h = by_row (slice_get cs.rows place.class) refl h
-  where
-    by_row : (row : Option Class) → slice_get cs.rows place.class ≡ row → option_map_or is_supported (in_row row place) false ≡ true
-        → option_map_or is_supported (invocation_at (defined cs loader file) place) false ≡ true
-    by_row None e k = cc
-    by_row (Some row) e k =
-        ap (λ (o : Option Class). option_map_or is_supported (in_row o place) false)
-        (before_end cs.rows (class_made cs loader file) place.class (slice_get_within cs.rows place.class row e) ∙ e)
-        ∙ k
-
-pub supported_after : {X E : Type 0} (r : Result X E) (cs new : Classes) (loader : ℕ) (file : ClassFile) (places : List Place)
-    → OnOk r (new ≡ defined cs loader file) → OnErr r (new ≡ cs) → AreSupported cs places → AreSupported new places
-supported_after (Ok x) cs new loader file places e f h = subst (λ k. AreSupported k places) (sym e) (λ s place is. still_there cs loader file place (h s place is))
-supported_after (Err x) cs new loader file places e f h = subst (λ k. AreSupported k places) (sym f) h
 
 -- where there is an invocation, there is the class
 pub invoked_present : (cs : Classes) (place : Place) (site : Site) → invocation_at cs place ≡ Some site → is_present cs place.class ≡ true
@@ -56,10 +34,10 @@ invoked_present cs place site e = by_row (slice_get cs.rows place.class) e
 
 -- ---- one place more
 
-pub refused_new : (max_sites : ℕ) (w : World) (place : Place) (site : Site) (r : Refusal) → invocation_at w.classes place ≡ Some site → is_supported site ≡ true
+pub refused_new : (max_sites : ℕ) (w : World) (place : Place) (site : Site) (r : Refusal) → invocation_at w.classes place ≡ Some site → names_method site.operand ≡ true
     → position (same_place place) w.places ≡ None → new_place_fault max_sites w site ≡ Some r → admitted max_sites w (event.Request place) ≡ Err r
 refused_new max_sites w place site r e s p f =
-    ap (λ (o : Option Site). if option_map_or is_supported o true then request_at max_sites w place else Err NotYet) e
+    ap (λ (o : Option Site). if option_map_or (λ site. names_method site.operand) o true then request_at max_sites w place else Err NotYet) e
     ∙ ap (λ (b : Bool). if b then request_at max_sites w place else Err NotYet) s
     ∙ ap (λ (b : Bool). if b then if_invoked max_sites w place (invocation_at w.classes place) else Err UnknownClass) (invoked_present w.classes place site e)
     ∙ ap (if_invoked max_sites w place) e
@@ -72,14 +50,6 @@ room_there max_sites w site e =
     let b = first_none (then_some (is_polymorphic site.operand) (NotLinkable PolymorphicSignature)) _ a.1 in
     let d = first_none (then_some (nat_le max_sites (length w.places)) SitesFull) _ b.1 in
     leb-false max_sites (length w.places) (test_none (nat_le max_sites (length w.places)) SitesFull d.0)
-
-pub place_supported : (cs : Classes) (keys : List Place) (place : Place) (site : Site) → invocation_at cs place ≡ Some site → is_supported site ≡ true
-    → AreSupported cs keys → (b : Bool) → AreSupported cs (if b then keys else keys ++ place ∷ [])
-place_supported cs keys place site e s h true = h
-place_supported cs keys place site e s h false =
-    λ n other is.
-    each_and_last (λ p. option_map_or is_supported (invocation_at cs p) false ≡ true) keys place other n h
-    (ap (λ (o : Option Site). option_map_or is_supported o false) e ∙ s) is
 
 pub place_few : (keys : List Place) (place : Place) (most : ℕ) → length keys < most → (b : Bool) → length (if b then keys else keys ++ place ∷ []) ≤ most
 place_few keys place most h true = omega arith

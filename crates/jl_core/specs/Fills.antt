@@ -1,18 +1,8 @@
--- What a function gives for items, one after another. A means of proof.
-use Rattle.std.specs.Prelude.{◌≡◌, ℕ, ◌+◌, List, ◌∷◌, drop, take, Option, filter_map, Result, Ok, Err}
+-- What a function gives for numbers, one after another. A means of proof.
+use Rattle.std.specs.Prelude.{◌≡◌, ℕ, List, Option, filter_map}
 use Rattle.std.specs.List.{AllZip, range_with_len}
-use Rattle.std.specs.Fn.{FnReturns, FnReturnsAt}
+use Rattle.std.specs.Fn.{FnReturns}
 use denote.Param.Members.{Shared}
-use denote.Ref.{Bor}
-
--- some first items are fine, and the next one fails with this error
-pub record FailsFirst {F T U E : Type 0} (g : Shared F (Bor T × Unit {0}) (Result U E)) (make : F) (items : List T) (e : E) : Type 0 where
-  pub count : ℕ
-  pub made : List U
-  pub fine : AllZip (λ item one. FnReturnsAt g make item (Ok one)) (take count items) made
-  pub item : T
-  pub next : drop count items ≡ item ∷ drop (count + 1) items
-  pub fails : FnReturnsAt g make item (Err e)
 
 -- the items are what it gives for the numbers below the end, where it gives something
 pub record Gathers {F U : Type 0} (g : Shared F (ℕ × Unit {0}) (Option U)) (make : F) (end : ℕ) (items : List U) : Type 0 where

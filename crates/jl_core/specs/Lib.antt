@@ -1,10 +1,6 @@
--- `Admitted`, `State` and `Preparations` are what contracts cite; the others are means of proof.
+-- `Admitted` and `State` are what contracts cite; the others are means of proof.
 pub mod Admitted
 pub mod State
-pub mod Preparations
 pub mod LinkMaps
 pub mod Fills
-pub mod Plain
-pub mod Rows
-pub mod Stages
 pub mod Batches

@@ -20,11 +20,6 @@ pub record State : Type 0 where
   pub links : List (ℕ × Link)  -- each site that has an installed link, with it, by rising number
   pub accepted : ℕ  -- how many events were accepted
 
--- a world as it was after so many accepted events
-pub record Snapshot : Type 0 where
-  pub world : World
-  pub serial : ℕ
-
 -- no classes, no requested places and no links
 abbrev pub empty_core : ℕ → State
 empty_core max_sites = record { max_sites = max_sites; world = nothing_yet; links = []; accepted = 0 }

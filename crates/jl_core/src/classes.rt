@@ -1,101 +1,118 @@
-//! The classes that are defined.
+//! Events that change the classes: loaders, definitions and delegations (JVMS SE 17 §5.3). Their verdict doesn't hang on how many
+//! places may be requested, so the clauses name 0.
 
-ghost use Rattle.std.specs.Prelude.{◌≡◌, ◌<◌, length, slice_get, Some, None, MatchOption, IfSome, IfOk};
-ghost use Rattle.jl_types.specs.Members as members;
-ghost use Rattle.jl_types.specs.World.{nothing_yet};
-ghost use Rattle.jl_core.specs.Plain.{IsPlain, IsPlainWorld};
+ghost use Rattle.std.specs.Prelude.{◌≡◌, ◌+◌, ◌≤◌, [], Ok, length, IfOk, IfErr, OnOk, OnErr};
+ghost use Rattle.std.specs.Vec.{vec_len, vec_capacity};
+ghost use Rattle.jl_types.specs.declared.event.Event.TheVariants as event;
+ghost use Rattle.jl_types.specs.Events.{step};
+ghost use Rattle.jl_core.specs.Admitted.{admitted};
+ghost use Rattle.jl_core.specs.State.{IsRefused};
 
-use indexmap::IndexMap;
-use jl_types::{Class, ClassId, LoaderId};
+use jl_classfile::ClassFile;
+use jl_names::Name;
+use jl_relink::World;
+use jl_types::{LoaderId, Made, Refusal, SiteNo};
 use std::alloc::{AllocError, Global};
-use std::marker::Model;
 
-/// The classes that are defined, and what the one loader, number 0, finds by name (JVMS SE 17 §5.3). Each is public, no
-/// interface and below none, with public methods alone.
+/// What such an event made, and an empty list with room for all sites.
 #[derive(Drop)]
-pub(crate) struct Classes {
-    pub(crate) rows: Vec<Class>,
-    pub(crate) records: IndexMap<Vec<u8>, ClassId>,
+pub(crate) struct Changed {
+    pub(crate) made: Made,
+    pub(crate) dropped: Vec<SiteNo>,
 }
 
-impl Model for Classes {
-    ghost use Rattle.std.specs.Prelude.{length, ◌∷◌, []};
-    ghost use Rattle.jl_types.specs.World.{Classes};
-    ghost use Rattle.jl_core.specs.Plain.{IsPlainWorld, AreThere, named};
-
-    ghost Value = { Classes };
-
-    ghost view = { λ c. record { loaders = named c.records.entries ∷ []; rows = c.rows.items } };
-
-    ghost invariant = { λ c. IsPlainWorld c.rows.items × AreThere (length c.rows.items) c.records.entries };
-}
-
-impl Classes {
-    /// No classes.
-    pub(crate) fn new(alloc: Global) -> Self
-        ensures { result ≡ nothing_yet.classes }
-    {
-        Classes {
-            rows: Vec::new(alloc),
-            records: IndexMap::new(alloc),
-        }
-    }
-
-    /// The same classes once more. Want of memory is an error.
-    pub(crate) fn copy(&self, alloc: Global) -> Result<Classes, AllocError>
-        ensures { IfOk result (λ copy. copy ≡ self.now) }
-    {
-        Ok(Classes {
-            rows: copy_rows(alloc, self.rows.as_slice())?,
-            records: self.records.clone()?,
-        })
-    }
-
-    /// The classes, by number.
-    pub(crate) fn rows(&self) -> &[Class]
-        ensures rows { result.now ≡ self.now.rows }
-        ensures plain { IsPlainWorld self.now.rows }
-        ensures loaders { length self.now.loaders ≡ 1 }
-    {
-        self.rows.as_slice()
-    }
-
-    /// The class of this number.
-    pub(crate) fn class_at(&self, class: ClassId) -> Option<&Class>
-        ensures found { MatchOption result (slice_get self.now.rows class ≡ None)
-            (λ row. (slice_get self.now.rows class ≡ Some row.now) × IsPlain row.now) }
-        ensures plain { IsPlainWorld self.now.rows }
-    {
-        self.rows().get(class.number() as usize)
-    }
-
-    /// The class that the loader has recorded under the name.
-    pub(crate) fn lookup(&self, loader: LoaderId, name: &[u8]) -> Option<ClassId>
-        ensures found { result ≡ members.lookup self.now loader name.now }
-        ensures there { IfSome result (λ class. class < length self.now.rows) }
-    {
-        let records = &self.records;
-        if loader.number() != 0 {
-            return None;
-        }
-        records.get(name).copied()
-    }
-
-    /// Whether there is a class of this number.
-    pub(crate) fn has_class(&self, class: ClassId) -> bool
-        ensures { result ≡ members.is_present self.now class }
-    {
-        self.class_at(class).is_some()
-    }
-}
-
-/// The same classes once more. Want of memory is an error.
-fn copy_rows(alloc: Global, rows: &[Class]) -> Result<Vec<Class>, AllocError>
-    ensures { IfOk result (λ made. made.items ≡ rows.now) }
+/// An empty list with room for all sites. Want of memory is an error.
+fn room_for_sites(world: &World, alloc: Global) -> Result<Vec<SiteNo>, AllocError>
+    ensures empty { IfOk result (λ dropped. dropped.items ≡ []) }
+    ensures room { IfOk result (λ dropped. vec_len dropped + length world.now.places ≤ vec_capacity dropped) }
 {
-    let mut made = Vec::with_capacity(alloc, rows.len())?;
-    for row in rows {
-        made.push(row.copy(alloc)?)?;
+    Vec::with_capacity(alloc, world.site_count())
+}
+
+/// One loader more.
+///
+/// # Errors
+///
+/// The refusal, or want of memory. Nothing has changed then.
+pub(crate) fn new_loader(world: &mut World, alloc: Global) -> Result<Changed, Refusal>
+    ensures made { IfOk result (λ changed. admitted 0 world.old event.NewLoader ≡ Ok changed.made) }
+    ensures step { OnOk result (world.new ≡ step world.old event.NewLoader) }
+    ensures empty { IfOk result (λ changed. changed.dropped.items ≡ []) }
+    ensures room { IfOk result (λ changed. vec_len changed.dropped + length world.old.places ≤ vec_capacity changed.dropped) }
+    ensures refused { IfErr result (IsRefused (admitted 0 world.old event.NewLoader)) }
+    ensures unchanged { OnErr result (world.new ≡ world.old) }
+{
+    if world.classes.has_all_loaders() {
+        return Err(Refusal::LoadersFull);
     }
-    Ok(made)
+    let dropped = room_for_sites(world, alloc)?;
+    match world.classes.new_loader(alloc) {
+        Ok(loader) => Ok(Changed {
+            made: Made::Loader(loader),
+            dropped,
+        }),
+        Err(_) => Err(Refusal::Memory),
+    }
+}
+
+/// The loader defines a class of the file.
+///
+/// # Errors
+///
+/// The refusal, or want of memory. Nothing has changed then.
+pub(crate) fn define(
+    world: &mut World,
+    alloc: Global,
+    loader: LoaderId,
+    file: ClassFile,
+) -> Result<Changed, Refusal>
+    ensures made { IfOk result (λ changed. admitted 0 world.old (event.Define loader file) ≡ Ok changed.made) }
+    ensures step { OnOk result (world.new ≡ step world.old (event.Define loader file)) }
+    ensures empty { IfOk result (λ changed. changed.dropped.items ≡ []) }
+    ensures room { IfOk result (λ changed. vec_len changed.dropped + length world.old.places ≤ vec_capacity changed.dropped) }
+    ensures refused { IfErr result (IsRefused (admitted 0 world.old (event.Define loader file))) }
+    ensures unchanged { OnErr result (world.new ≡ world.old) }
+{
+    let file = match world.classes.admitted(loader, file) {
+        Ok(file) => file,
+        Err(fault) => return Err(Refusal::Define(fault)),
+    };
+    let dropped = room_for_sites(world, alloc)?;
+    let class = world.classes.add(alloc, loader, file)?;
+    Ok(Changed {
+        made: Made::Class(class),
+        dropped,
+    })
+}
+
+/// The loader finds a class of the other one.
+///
+/// # Errors
+///
+/// The refusal, or want of memory. Nothing has changed then.
+pub(crate) fn delegate(
+    world: &mut World,
+    alloc: Global,
+    loader: LoaderId,
+    name: &Name,
+    to: LoaderId,
+) -> Result<Changed, Refusal>
+    ensures made { IfOk result (λ changed. admitted 0 world.old (event.Delegate loader name.now to) ≡ Ok changed.made) }
+    ensures step { OnOk result (world.new ≡ step world.old (event.Delegate loader name.now to)) }
+    ensures empty { IfOk result (λ changed. changed.dropped.items ≡ []) }
+    ensures room { IfOk result (λ changed. vec_len changed.dropped + length world.old.places ≤ vec_capacity changed.dropped) }
+    ensures refused { IfErr result (IsRefused (admitted 0 world.old (event.Delegate loader name.now to))) }
+    ensures unchanged { OnErr result (world.new ≡ world.old) }
+{
+    if let Err(fault) = world.classes.delegation(loader, name.as_slice(), to) {
+        return Err(Refusal::Delegate(fault));
+    }
+    let dropped = room_for_sites(world, alloc)?;
+    match world.classes.delegate(alloc, loader, name.as_slice(), to) {
+        Ok(()) => Ok(Changed {
+            made: Made::Nothing,
+            dropped,
+        }),
+        Err(_) => Err(Refusal::Memory),
+    }
 }

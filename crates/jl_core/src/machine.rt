@@ -9,16 +9,16 @@ ghost use Rattle.jl_types.specs.Calls as calls;
 ghost use Rattle.jl_types.specs.Events.{step};
 ghost use Rattle.jl_types.specs.History.{installs, kept};
 ghost use Rattle.jl_core.specs.Admitted.{admitted};
-ghost use Rattle.jl_core.specs.Preparations.{IsPreparation};
+ghost use Rattle.jl_relink.specs.Preparations.{IsPreparation};
 ghost use Rattle.jl_core.specs.State.{empty_core, counted, link_at, lost, AreScratch, IsAccepted, IsRefused};
 
 use crate::cache::Cache;
-use crate::define::is_plain_file;
-use crate::preparation::{Prepared, prepare_in};
-use crate::snapshot::Snapshot;
-use crate::world::World;
+use crate::classes::{Changed, define, delegate, new_loader};
+use crate::install::install_refusal;
+use crate::request::request;
 use jl_classfile::ClassFile;
-use jl_names::Seq;
+use jl_names::{Name, Seq};
+use jl_relink::{Prepared, Snapshot, World, dispatch, link_of, prepare_in};
 use jl_types::{
     Answer, Event, Link, LoaderId, Made, Place, PrepareFault, Recv, Refusal, Reply, SiteNo,
     Unlinked,
@@ -36,7 +36,7 @@ pub struct Core {
 }
 
 impl Model for Core {
-    ghost use Rattle.std.specs.Prelude.{◌≤◌};
+    ghost use Rattle.std.specs.Prelude.{◌≤◌, length};
     ghost use Rattle.std.specs.Coded.{codes};
     ghost use Rattle.jl_types.specs.Means.TargetCode.{target_code};
     ghost use Rattle.jl_core.specs.State.{State, AreScratch};
@@ -47,26 +47,27 @@ impl Model for Core {
 
     ghost view = { λ c. record { max_sites = c.max_sites; world = c.world; links = c.links; accepted = c.accepted } };
 
-    ghost invariant = { λ c. AreScratch c.world c.links × (c.max_sites ≤ 65536) };
+    ghost invariant = { λ c. AreScratch c.world c.links × (length c.world.places ≤ c.max_sites) × (c.max_sites ≤ 65536) };
 }
 
 impl Core {
-    /// A core with no classes, no requested places and no links, where so many places may be requested.
-    pub fn new(alloc: Global, max_sites: u32) -> Self
+    /// A core with no classes, no requested places and no links, where so many places may be requested. Want of memory is an
+    /// error.
+    pub fn new(alloc: Global, max_sites: u32) -> Result<Self, AllocError>
         requires some { 1 ≤ max_sites }
         requires most { max_sites ≤ 65536 }
-        ensures { result ≡ empty_core max_sites }
+        ensures { IfOk result (λ core. core ≡ empty_core max_sites) }
     {
-        Core {
+        Ok(Core {
             max_sites,
-            world: World::new(alloc),
+            world: World::new(alloc)?,
             links: Cache::new(alloc),
             accepted: 0,
-        }
+        })
     }
 
-    /// Applies the event: defines a class, requests a place, or installs links. The reply tells what it gave a number to,
-    /// and by rising number the sites whose links went, since they aren't those from scratch any more.
+    /// Applies the event. The reply tells what it gave a number to, and by rising number the sites whose links went, since they
+    /// aren't those from scratch any more.
     ///
     /// # Errors
     ///
@@ -76,12 +77,7 @@ impl Core {
         ensures refused { IfErr result (IsRefused (admitted self.old.max_sites self.old.world event)) }
         ensures unchanged { OnErr result (self.new ≡ self.old) }
     {
-        let reply = match event {
-            Event::Define(loader, file) => self.define(alloc, loader, file)?,
-            Event::Request(place) => self.request(alloc, place)?,
-            Event::Install(rows) => self.install(alloc, rows.as_slice())?,
-            _ => return Err(Refusal::NotYet),
-        };
+        let reply = self.done(alloc, event)?;
         self.accepted = self.accepted.saturating_add(1);
         Ok(reply)
     }
@@ -90,7 +86,7 @@ impl Core {
     pub fn call(&self, site: SiteNo, recv: Recv) -> Answer
         ensures { result ≡ calls.dispatch self.now.world site recv }
     {
-        self.world.dispatch(site, recv)
+        dispatch(&self.world, site, recv)
     }
 
     /// The installed links. Takes no memory.
@@ -127,26 +123,56 @@ impl Core {
         Ok(Snapshot::new(self.world.copy(alloc)?, self.accepted))
     }
 
-    /// The loader defines a class of the file, and the links that aren't those from scratch any more go.
+    /// What the event does but for its count.
+    fn done(&mut self, alloc: Global, event: Event) -> Result<Reply, Refusal>
+        ensures ok { IfOk result (IsAccepted self.old (counted self.new) event) }
+        ensures err { IfErr result (IsRefused (admitted self.old.max_sites self.old.world event)) }
+        ensures unchanged { OnErr result (self.new ≡ self.old) }
+    {
+        match event {
+            Event::NewLoader => self.new_loader(alloc),
+            Event::Define(loader, file) => self.define(alloc, loader, file),
+            Event::Delegate(loader, name, to) => self.delegate(alloc, loader, &name, to),
+            Event::Request(place) => self.request(alloc, place),
+            Event::Install(rows) => self.install(alloc, rows.as_slice()),
+            _ => Err(Refusal::NotYet),
+        }
+    }
+
+    /// One loader more.
+    fn new_loader(&mut self, alloc: Global) -> Result<Reply, Refusal>
+        ensures ok { IfOk result (IsAccepted self.old (counted self.new) event.NewLoader) }
+        ensures err { IfErr result (IsRefused (admitted self.old.max_sites self.old.world event.NewLoader)) }
+        ensures unchanged { OnErr result (self.new ≡ self.old) }
+    {
+        let changed = new_loader(&mut self.world, alloc)?;
+        Ok(settled(&self.world, &mut self.links, changed))
+    }
+
+    /// The loader defines a class of the file.
     fn define(&mut self, alloc: Global, loader: LoaderId, file: ClassFile) -> Result<Reply, Refusal>
         ensures ok { IfOk result (IsAccepted self.old (counted self.new) (event.Define loader file)) }
         ensures err { IfErr result (IsRefused (admitted self.old.max_sites self.old.world (event.Define loader file))) }
         ensures unchanged { OnErr result (self.new ≡ self.old) }
     {
-        if !is_plain_file(&file) {
-            return Err(Refusal::NotYet);
-        }
-        let linked = match self.world.definition(loader, file) {
-            Ok(linked) => linked,
-            Err(fault) => return Err(Refusal::Define(fault)),
-        };
-        let mut dropped = Vec::with_capacity(alloc, self.world.site_count())?;
-        let class = self.world.add(alloc, linked)?;
-        drop_changed(&self.world, &mut self.links, &mut dropped);
-        Ok(Reply {
-            made: Made::Class(class),
-            dropped: Seq::of(dropped),
-        })
+        let changed = define(&mut self.world, alloc, loader, file)?;
+        Ok(settled(&self.world, &mut self.links, changed))
+    }
+
+    /// The loader finds a class of the other one.
+    fn delegate(
+        &mut self,
+        alloc: Global,
+        loader: LoaderId,
+        name: &Name,
+        to: LoaderId,
+    ) -> Result<Reply, Refusal>
+        ensures ok { IfOk result (IsAccepted self.old (counted self.new) (event.Delegate loader name.now to)) }
+        ensures err { IfErr result (IsRefused (admitted self.old.max_sites self.old.world (event.Delegate loader name.now to))) }
+        ensures unchanged { OnErr result (self.new ≡ self.old) }
+    {
+        let changed = delegate(&mut self.world, alloc, loader, name, to)?;
+        Ok(settled(&self.world, &mut self.links, changed))
     }
 
     /// Gives the place a number, where it has none.
@@ -155,7 +181,7 @@ impl Core {
         ensures err { IfErr result (IsRefused (admitted self.old.max_sites self.old.world (event.Request place))) }
         ensures unchanged { OnErr result (self.new ≡ self.old) }
     {
-        let site = self.world.request(self.max_sites, place)?;
+        let site = request(&mut self.world, self.max_sites, place)?;
         Ok(Reply {
             made: Made::Site(site),
             dropped: Seq::of(Vec::new(alloc)),
@@ -168,7 +194,7 @@ impl Core {
         ensures err { IfErr result (IsRefused (admitted self.old.max_sites self.old.world (event.Install rows.now))) }
         ensures unchanged { OnErr result (self.new ≡ self.old) }
     {
-        if let Some(refusal) = self.world.install_refusal(rows) {
+        if let Some(refusal) = install_refusal(&self.world, rows) {
             return Err(refusal);
         }
         self.links.install(rows)?;
@@ -179,9 +205,28 @@ impl Core {
     }
 }
 
+/// Removes the links that aren't those from scratch any more. The reply tells their sites, and what the event made.
+fn settled(world: &World, links: &mut Cache, changed: Changed) -> Reply
+    requires requested { (s : ℕ) (l : Link) → link_at links.old s ≡ Some l → s < length world.now.places }
+    requires few { length world.now.places ≤ 65536 }
+    requires empty { changed.dropped.items ≡ [] }
+    requires room { vec_len changed.dropped + length world.now.places ≤ vec_capacity changed.dropped }
+    ensures made { result.made ≡ changed.made }
+    ensures links { (s : ℕ) → link_at links.new s ≡ kept false (link_at links.old s) (scratch world.now s) }
+    ensures dropped { result.dropped ≡ lost (length world.now.places) links.old links.new }
+{
+    let Changed { made, mut dropped } = changed;
+    drop_changed(world, links, &mut dropped);
+    Reply {
+        made,
+        dropped: Seq::of(dropped),
+    }
+}
+
 /// Removes the links that aren't those from scratch, and lists their sites by rising number.
 fn drop_changed(world: &World, links: &mut Cache, dropped: &mut Vec<SiteNo>)
     requires requested { (s : ℕ) (l : Link) → link_at links.old s ≡ Some l → s < length world.now.places }
+    requires few { length world.now.places ≤ 65536 }
     requires empty { dropped.old.items ≡ [] }
     requires room { vec_len dropped.old + length world.now.places ≤ vec_capacity dropped.old }
     ensures links { (s : ℕ) → link_at links.new s ≡ kept false (link_at links.old s) (scratch world.now s) }
@@ -192,7 +237,7 @@ fn drop_changed(world: &World, links: &mut Cache, dropped: &mut Vec<SiteNo>)
         let Some(link) = links.get(site) else {
             continue;
         };
-        if stays(link, world.link_of(site)) {
+        if stays(link, link_of(world, site)) {
             continue;
         }
         links.remove(site);

@@ -1,6 +1,6 @@
 //! New loaders, and delegation (JVMS SE 17 §5.3).
 
-ghost use Rattle.std.specs.Prelude.{◌≡◌, ◌≢◌, ◌↔◌, ◌<◌, ◌≤◌, ◌++◌, ◌∷◌, [], Some, None, Err, length, IfOk, IfErr, OnOk, OnErr};
+ghost use Rattle.std.specs.Prelude.{◌≡◌, ◌≢◌, ◌↔◌, nat_le, ◌<◌, ◌≤◌, ◌++◌, ◌∷◌, [], Some, None, Err, length, IfOk, IfErr, OnOk, OnErr};
 ghost use Rattle.jl_types.specs.declared.refusal.DelegateFault.TheVariants as fault;
 ghost use Rattle.jl_types.specs.Definitions as definitions;
 ghost use Rattle.jl_types.specs.Members as members;
@@ -37,8 +37,7 @@ impl Classes {
         ensures full { (result ≡ Err loader_fault.Full) ↔ (1024 ≤ length self.old.loaders) }
         ensures err { OnErr result (self.new ≡ self.old) }
     {
-        let _ = &self.rows;
-        if self.loaders.len() >= MOST_LOADERS {
+        if self.has_all_loaders() {
             return Err(LoaderFault::Full);
         }
         let loader = LoaderId::new(self.loaders.len() as u32);
@@ -46,6 +45,14 @@ impl Classes {
             Ok(()) => Ok(loader),
             Err(_) => Err(LoaderFault::Memory),
         }
+    }
+
+    /// Whether there are as many loaders as there may be: 1,024. Takes no memory.
+    pub fn has_all_loaders(&self) -> bool
+        ensures { result ≡ nat_le 1024 (length self.now.loaders) }
+    {
+        let _ = &self.rows;
+        self.loaders.len() >= MOST_LOADERS
     }
 
     /// One loader more, which has found nothing.
@@ -113,12 +120,12 @@ impl Classes {
         Ok(())
     }
 
-    /// The class that the delegation records. Takes no memory.
+    /// The class that a delegation would record, if nothing speaks against it. Takes no memory.
     ///
     /// # Errors
     ///
     /// The first fault of the delegation.
-    fn delegation(
+    pub fn delegation(
         &self,
         loader: LoaderId,
         name: &[u8],

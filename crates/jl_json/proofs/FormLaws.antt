@@ -12,12 +12,12 @@ use Rattle.serde_json.specs.View.{items_of}
 use Rattle.jl_types.specs.declared.answer.Recv.{Recv}
 use Rattle.jl_types.specs.declared.answer.Recv.TheVariants.{Null, Of}
 use Rattle.jl_json.specs.declared.command.Command.{Command}
-use Rattle.jl_json.specs.declared.command.Command.TheVariants.{Define, Request, Prepare, Install, Call, Links}
+use Rattle.jl_json.specs.declared.command.Command.TheVariants.{NewLoader, Define, Delegate, Request, Prepare, Install, Call, Links}
 use Rattle.jl_json.specs.declared.command.ClassSource.TheVariants.{File, Sketch}
 use Rattle.jl_sketch.specs.declared.sketch.Sketch.{Sketch as SketchOf}
 use Rattle.jl_json.specs.ClassAnswers.{number_data}
 use Rattle.jl_json.specs.Members.{below, ◌>>=◌}
-use Rattle.jl_json.specs.Sketches.{sketch_of}
+use Rattle.jl_json.specs.Sketches.{name_in, sketch_of}
 use Rattle.jl_json.specs.Commands.{numbers_in, recv_in, command_of}
 use Rattle.jl_json.specs.CommandForms.{recv_data, command_data, IsReceiver, IsCommand}
 
@@ -51,6 +51,15 @@ sketch_next loader s = option_map Sketch s >>= (λ source. Some (Define loader s
 abbrev sketched_next : Data → Option ℕ → Option Command
 sketched_next sketch loader = loader >>= (λ l. sketch_next l (sketch_of sketch))
 
+abbrev name_next : ℕ → ℕ → Option (List ℕ) → Option Command
+name_next loader to name = name >>= (λ n. Some (Delegate loader n to))
+
+abbrev to_next : Data → ℕ → Option ℕ → Option Command
+to_next written loader to = to >>= (λ t. name_next loader t (name_in written))
+
+abbrev loader_next : Data → ℕ → Option ℕ → Option Command
+loader_next written to loader = loader >>= (λ l. to_next written l (below (2 ^ 32) to))
+
 abbrev pc_next : ℕ → ℕ → Option ℕ → Option Command
 pc_next class method pc = pc >>= (λ p. Some (Request (record { class = class; method = method; pc = p })))
 
@@ -66,19 +75,24 @@ recv_next site recv = recv >>= (λ r. Some (Call site r))
 abbrev site_next : Recv → Option ℕ → Option Command
 site_next recv site = site >>= (λ s. recv_next s (recv_in (recv_data recv)))
 
-pub again : (sketch : Data) (c : Command) → IsCommand sketch c → command_of (command_data sketch c) ≡ Some c
+pub again : (written : Data) (c : Command) → IsCommand written c → command_of (command_data written c) ≡ Some c
 unfolding command_data
-again sketch (Define loader (File file)) h =
+again written NewLoader h = refl
+again written (Define loader (File file)) h =
     ap (file_next file) (within (2 ^ 32) loader h.0)
     ∙ ap (bytes_next loader) (decode_of-encode_lower file h.1)
-again sketch (Define loader (Sketch s)) h =
-    ap (sketched_next sketch) (within (2 ^ 32) loader h.0) ∙ ap (sketch_next loader) h.1
-again sketch (Request place) h =
+again written (Define loader (Sketch s)) h =
+    ap (sketched_next written) (within (2 ^ 32) loader h.0) ∙ ap (sketch_next loader) h.1
+again written (Delegate loader name to) h =
+    ap (loader_next written to) (within (2 ^ 32) loader h.0)
+    ∙ ap (to_next written loader) (within (2 ^ 32) to h.1)
+    ∙ ap (name_next loader to) h.2
+again written (Request place) h =
     ap (class_next place.method place.pc) (within (2 ^ 32) place.class h.0)
     ∙ ap (method_next place.pc place.class) (within (2 ^ 16) place.method h.1)
     ∙ ap (pc_next place.class place.method) (within (2 ^ 32) place.pc h.2)
-again sketch (Prepare sites) h = ap (option_map Prepare) (numbers_again sites h)
-again sketch (Install batch) h = ap (option_map Install) (within (2 ^ 32) batch h)
-again sketch (Call site recv) h =
+again written (Prepare sites) h = ap (option_map Prepare) (numbers_again sites h)
+again written (Install batch) h = ap (option_map Install) (within (2 ^ 32) batch h)
+again written (Call site recv) h =
     ap (site_next recv) (within (2 ^ 32) site h.0) ∙ ap (recv_next site) (recv_again recv h.1)
-again sketch Links h = refl
+again written Links h = refl

@@ -20,13 +20,13 @@ use Rattle.serde_json.specs.Data.{Data, null, boolean, number, string, array, ob
 use Rattle.serde_json.specs.Find.{get, get_member, as_str, as_array}
 use Rattle.jl_types.specs.declared.answer.Recv.TheVariants.{Null}
 use Rattle.jl_json.specs.declared.command.Command.{Command}
-use Rattle.jl_json.specs.declared.command.Command.TheVariants.{Define, Request, Prepare, Install, Call, Links}
+use Rattle.jl_json.specs.declared.command.Command.TheVariants.{NewLoader, Define, Delegate, Request, Prepare, Install, Call, Links}
 use Rattle.jl_json.specs.declared.command.ClassSource.{ClassSource}
 use Rattle.jl_json.specs.declared.command.ClassSource.TheVariants.{File, Sketch}
 use Rattle.jl_json.specs.Members.{number_in, number_at, text_at, member_keys, keys_of, has_key, AreAmong, ◌>>=◌}
-use Rattle.jl_json.specs.Sketches.{sketch_of}
+use Rattle.jl_json.specs.Sketches.{name_in, name_at, sketch_of}
 use Rattle.jl_json.specs.Commands.{numbers_in, sites_at, file_at, recv_in, source_of}
-use Rattle.jl_json.specs.Commands.{define_of, request_of, prepare_of, install_of, call_of, call_on_of}
+use Rattle.jl_json.specs.Commands.{define_of, delegate_of, request_of, prepare_of, install_of, call_of, call_on_of}
 use Rattle.jl_json.specs.Commands.{member_count, by_word, command_of}
 use Rattle.jl_json.specs.CommandForms.{command_data}
 
@@ -178,6 +178,25 @@ define_keys sketch ms c count asked e =
     (source_keys sketch ms loader source (get_member (codes "sketch") ms) count asked
     (number_found (2 ^ 32) (codes "loader") ms loader is) refl read)))
 
+delegate_keys : (sketch : Data) (ms : Members) (c : Command) → member_count ms ≡ 4 → Has (member_keys ms) (codes "do")
+    → delegate_of (object ms) ≡ Some c → IsForm sketch ms c
+unfolding command_data
+delegate_keys sketch ms c count asked e = option_and_then_some _ (number_at (2 ^ 32) (codes "loader") (object ms)) c e
+    (λ loader is next. option_and_then_some _ (number_at (2 ^ 32) (codes "to") (object ms)) c next
+    (λ to here last. option_and_then_some _ (name_at (codes "name") (object ms)) c last
+    (λ name there made. subst (IsForm sketch ms) (same_Some (Delegate loader name to) c made)
+    (named_alone (codes "do" ∷ codes "loader" ∷ codes "name" ∷ codes "to" ∷ []) ms
+    ((refl, (refl, (refl, tt))), ((refl, (refl, tt)), ((refl, tt), (tt, tt)))) count (
+      asked,
+      (
+        number_found (2 ^ 32) (codes "loader") ms loader is,
+        (
+          next_found name_in (codes "name") ms name there,
+          (number_found (2 ^ 32) (codes "to") ms to here, tt),
+        ),
+      ),
+    )))))
+
 request_keys : (sketch : Data) (ms : Members) (c : Command) → member_count ms ≡ 4 → Has (member_keys ms) (codes "do")
     → request_of (object ms) ≡ Some c → IsForm sketch ms c
 unfolding command_data
@@ -250,6 +269,12 @@ call_on_keys sketch ms c count asked e = option_and_then_some _ (number_at (2 ^ 
       ),
     )))))
 
+loader_keys : (sketch : Data) (ms : Members) (c : Command) → member_count ms ≡ 1 → Has (member_keys ms) (codes "do")
+    → NewLoader ≡ c → IsForm sketch ms c
+unfolding command_data
+loader_keys sketch ms c count asked made = subst (IsForm sketch ms) made
+    (named_alone (codes "do" ∷ []) ms (tt, tt) count (asked, tt))
+
 links_keys : (sketch : Data) (ms : Members) (c : Command) → member_count ms ≡ 1 → Has (member_keys ms) (codes "do")
     → Links ≡ c → IsForm sketch ms c
 unfolding command_data
@@ -267,21 +292,25 @@ here_or_on true count n o rest c e here on = by_test (count == n)
 word_keys : (sketch : Data) (word : List ℕ) (ms : Members) (c : Command) → Has (member_keys ms) (codes "do")
     → by_word word (member_count ms) (object ms) ≡ Some c → IsForm sketch ms c
 word_keys sketch word ms c asked e =
-    here_or_on (bytes_eq word (codes "define")) (member_count ms) 3 _ _ c e
-    (λ n is. define_keys sketch ms c n asked is) (λ e1.
-    here_or_on (bytes_eq word (codes "request")) (member_count ms) 4 _ _ c e1
-    (λ n is. request_keys sketch ms c n asked is) (λ e2.
-    here_or_on (bytes_eq word (codes "prepare")) (member_count ms) 2 _ _ c e2
-    (λ n is. prepare_keys sketch ms c n asked is) (λ e3.
-    here_or_on (bytes_eq word (codes "install")) (member_count ms) 2 _ _ c e3
-    (λ n is. install_keys sketch ms c n asked is) (λ e4.
-    here_or_on (bytes_eq word (codes "call")) (member_count ms) 2 _ _ c e4
-    (λ n is. call_keys sketch ms c n asked is) (λ e5.
-    here_or_on (bytes_eq word (codes "call")) (member_count ms) 3 _ _ c e5
-    (λ n is. call_on_keys sketch ms c n asked is) (λ e6.
-    here_or_on (bytes_eq word (codes "links")) (member_count ms) 1 _ _ c e6
-    (λ n is. links_keys sketch ms c n asked (same_Some Links c is)) (λ e7.
-    absurd (none-some c e7))))))))
+    here_or_on (bytes_eq word (codes "loader")) (member_count ms) 1 _ _ c e
+    (λ n is. loader_keys sketch ms c n asked (same_Some NewLoader c is)) (λ e1.
+    here_or_on (bytes_eq word (codes "define")) (member_count ms) 3 _ _ c e1
+    (λ n is. define_keys sketch ms c n asked is) (λ e2.
+    here_or_on (bytes_eq word (codes "delegate")) (member_count ms) 4 _ _ c e2
+    (λ n is. delegate_keys sketch ms c n asked is) (λ e3.
+    here_or_on (bytes_eq word (codes "request")) (member_count ms) 4 _ _ c e3
+    (λ n is. request_keys sketch ms c n asked is) (λ e4.
+    here_or_on (bytes_eq word (codes "prepare")) (member_count ms) 2 _ _ c e4
+    (λ n is. prepare_keys sketch ms c n asked is) (λ e5.
+    here_or_on (bytes_eq word (codes "install")) (member_count ms) 2 _ _ c e5
+    (λ n is. install_keys sketch ms c n asked is) (λ e6.
+    here_or_on (bytes_eq word (codes "call")) (member_count ms) 2 _ _ c e6
+    (λ n is. call_keys sketch ms c n asked is) (λ e7.
+    here_or_on (bytes_eq word (codes "call")) (member_count ms) 3 _ _ c e7
+    (λ n is. call_on_keys sketch ms c n asked is) (λ e8.
+    here_or_on (bytes_eq word (codes "links")) (member_count ms) 1 _ _ c e8
+    (λ n is. links_keys sketch ms c n asked (same_Some Links c is)) (λ e9.
+    absurd (none-some c e9))))))))))
 
 pub form_keys : (d : Data) (c : Command) (sketch : Data) → command_of d ≡ Some c
     → AreAmong (keys_of d) (keys_of (command_data sketch c))

@@ -10,11 +10,11 @@ use Rattle.serde_json.specs.Find.{get, as_null, as_array, as_object}
 use Rattle.jl_types.specs.declared.answer.Recv.{Recv}
 use Rattle.jl_types.specs.declared.answer.Recv.TheVariants.{Null, Of}
 use Rattle.jl_json.specs.declared.command.Command.{Command}
-use Rattle.jl_json.specs.declared.command.Command.TheVariants.{Define, Request, Prepare, Install, Call, Links}
+use Rattle.jl_json.specs.declared.command.Command.TheVariants.{NewLoader, Define, Delegate, Request, Prepare, Install, Call, Links}
 use Rattle.jl_json.specs.declared.command.ClassSource.{ClassSource}
 use Rattle.jl_json.specs.declared.command.ClassSource.TheVariants.{File, Sketch}
 use Rattle.jl_json.specs.Members.{◌>>=◌, number_in, number_at, text_at, each_in}
-use Rattle.jl_json.specs.Sketches.{sketch_of}
+use Rattle.jl_json.specs.Sketches.{name_at, sketch_of}
 
 -- ---- values of members
 
@@ -51,6 +51,13 @@ define_of d = do
   source ← source_of d
   Some (Define loader source)
 
+abbrev pub delegate_of : Data → Option Command
+delegate_of d = do
+  loader ← number_at (2 ^ 32) (codes "loader") d
+  to ← number_at (2 ^ 32) (codes "to") d
+  name ← name_at (codes "name") d
+  Some (Delegate loader name to)
+
 abbrev pub request_of : Data → Option Command
 request_of d = do
   class ← number_at (2 ^ 32) (codes "class") d
@@ -86,7 +93,9 @@ member_count (member key d members) = suc (member_count members)
 -- the command of this word, in an object of this many members
 abbrev pub by_word : List ℕ → ℕ → Data → Option Command
 by_word word count d =
-    if bytes_eq word (codes "define") && (count == 3) then define_of d
+    if bytes_eq word (codes "loader") && (count == 1) then Some NewLoader
+    else if bytes_eq word (codes "define") && (count == 3) then define_of d
+    else if bytes_eq word (codes "delegate") && (count == 4) then delegate_of d
     else if bytes_eq word (codes "request") && (count == 4) then request_of d
     else if bytes_eq word (codes "prepare") && (count == 2) then prepare_of d
     else if bytes_eq word (codes "install") && (count == 2) then install_of d

@@ -6,14 +6,14 @@ ghost use Rattle.serde_json.specs.Find.{as_object};
 ghost use Rattle.serde_json.specs.View.{view, items_view};
 ghost use Rattle.jl_json.specs.Members.{number_in, number_at, text_at, keys_of, AreAmong};
 ghost use Rattle.jl_json.specs.Commands.{numbers_in, sites_at, file_at, recv_in, source_of};
-ghost use Rattle.jl_json.specs.Commands.{define_of, request_of, prepare_of, install_of, call_of};
+ghost use Rattle.jl_json.specs.Commands.{define_of, delegate_of, request_of, prepare_of, install_of, call_of};
 ghost use Rattle.jl_json.specs.Commands.{call_on_of, member_count, command_of};
 ghost use Rattle.jl_json.specs.CommandForms.{IsCommand, command_data};
 ghost use Rattle.jl_json.specs.declared.command.Command.{Command};
 
-use crate::sketch::read_sketch;
+use crate::sketch::{name_at, read_sketch};
 use hex::FromHexError;
-use jl_names::Seq;
+use jl_names::{Name, Seq};
 use jl_sketch::Sketch;
 use jl_types::{ClassId, LoaderId, Place, Recv, SiteNo};
 use serde_json::Value;
@@ -22,10 +22,18 @@ use std::alloc::{AllocError, Global};
 /// What is asked of a linker.
 #[derive(Debug, Drop)]
 pub enum Command {
+    /// There is to be one loader more.
+    NewLoader,
     /// The loader is to define a class (JVMS SE 17 §5.3.5).
     Define {
         loader: LoaderId,
         source: ClassSource,
+    },
+    /// The loader is to find under the name what the other one finds (§5.3).
+    Delegate {
+        loader: LoaderId,
+        name: Name,
+        to: LoaderId,
     },
     /// The invocation at the place is to be linked.
     Request(Place),
@@ -153,6 +161,24 @@ fn define(alloc: Global, value: &Value) -> Result<Option<Command>, AllocError>
     Ok(Some(Command::Define { loader, source }))
 }
 
+/// The command to delegate.
+fn delegate(alloc: Global, value: &Value) -> Result<Option<Command>, AllocError>
+    ensures { IfOk result (λ command. command ≡ delegate_of (view value.now)) }
+{
+    let Some(loader) = number_at(value, "loader") else {
+        return Ok(None);
+    };
+    let Some(to) = number_at(value, "to") else {
+        return Ok(None);
+    };
+    let Some(name) = name_at(alloc, value, "name")? else {
+        return Ok(None);
+    };
+    let loader = LoaderId::new(loader);
+    let to = LoaderId::new(to);
+    Ok(Some(Command::Delegate { loader, name, to }))
+}
+
 /// The command to link an invocation.
 fn request(value: &Value) -> Option<Command>
     ensures { result ≡ request_of (view value.now) }
@@ -216,7 +242,9 @@ pub fn read_command(alloc: Global, value: &Value) -> Result<Option<Command>, All
         return Ok(None);
     };
     match (word, count) {
+        ("loader", 1) => Ok(Some(Command::NewLoader)),
         ("define", 3) => define(alloc, value),
+        ("delegate", 4) => delegate(alloc, value),
         ("request", 4) => Ok(request(value)),
         ("prepare", 2) => prepare(alloc, value),
         ("install", 2) => Ok(install(value)),
@@ -227,14 +255,15 @@ pub fn read_command(alloc: Global, value: &Value) -> Result<Option<Command>, All
     }
 }
 
-/// Each command is read from its form, a definition by a sketch from the JSON of the sketch.
+/// Each command is read from its form, where what may be written in several ways has the JSON that is given: the sketch of a
+/// definition, and the name of a delegation.
 pub fn each_command_is_read()
-    ensures { (sketch : Data) (c : Command) → IsCommand sketch c
-        → command_of (command_data sketch c) ≡ Some c }
+    ensures { (written : Data) (c : Command) → IsCommand written c
+        → command_of (command_data written c) ≡ Some c }
 {}
 
 /// What is read as a command has no keys but those of the command's form.
 pub fn no_other_keys()
-    ensures { (d : Data) (c : Command) (sketch : Data) → command_of d ≡ Some c
-        → AreAmong (keys_of d) (keys_of (command_data sketch c)) }
+    ensures { (d : Data) (c : Command) (written : Data) → command_of d ≡ Some c
+        → AreAmong (keys_of d) (keys_of (command_data written c)) }
 {}

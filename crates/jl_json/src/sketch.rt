@@ -96,7 +96,7 @@ fn name_in(alloc: Global, value: &Value) -> Result<Option<Name>, AllocError>
 }
 
 /// The name under the key.
-fn name_at(alloc: Global, value: &Value, key: &str) -> Result<Option<Name>, AllocError>
+pub(crate) fn name_at(alloc: Global, value: &Value, key: &str) -> Result<Option<Name>, AllocError>
     ensures { IfOk result (λ name. name ≡ name_at key.now (view value.now)) }
 {
     match value.get(key) {

@@ -1,3 +1,5 @@
--- Means of proof: contracts that callers see cite jl_types alone.
+-- `Preparations` is what contracts cite beside jl_types; the others are means of proof.
+pub mod Preparations
+pub mod Fills
 pub mod Rows
 pub mod Stages

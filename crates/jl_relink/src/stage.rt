@@ -32,8 +32,8 @@ pub(crate) enum Stage {
     Special(Outcome),
 }
 
-/// The invocation at a place.
-pub(crate) fn invocation_at<'a>(classes: &'a Classes, place: &Place) -> Option<&'a Site>
+/// The invocation at a place. Takes no memory.
+pub fn invocation_at<'a>(classes: &'a Classes, place: &Place) -> Option<&'a Site>
     ensures { option_copied result ≡ sites.invocation_at classes.now place.now }
 {
     let method = classes.method_at(&MethodId {

@@ -1,7 +1,7 @@
 //! What there is to link.
 
-ghost use Rattle.std.specs.Prelude.{◌≡◌, ℕ, []};
-ghost use Rattle.jl_types.specs.World.{World};
+ghost use Rattle.std.specs.Prelude.{◌≡◌, ℕ, [], length, IfOk};
+ghost use Rattle.jl_types.specs.World.{World, nothing_yet};
 ghost use Rattle.jl_types.specs.Sites as sites;
 ghost use Rattle.jl_types.specs.Links as links;
 ghost use Rattle.jl_types.specs.Calls as calls;
@@ -14,6 +14,7 @@ use indexmap::IndexSet;
 use jl_code::{Operand, Site};
 use jl_hierarchy::Classes;
 use jl_types::{Answer, ClassId, Link, Place, Recv, SiteNo, Unlinked};
+use std::alloc::{AllocError, Global};
 use std::marker::Model;
 
 /// The classes, and the places that were requested, in order of request. There are no call sites, so each invokedynamic is
@@ -40,6 +41,35 @@ impl Model for World {
       bindings = [];
       sites = record { call_sites = []; switches = [] };
     } };
+}
+
+impl World {
+    /// No classes, and no requested places: loader 0 has found nothing. Want of memory is an error.
+    pub fn new(alloc: Global) -> Result<Self, AllocError>
+        ensures { IfOk result (λ world. world ≡ nothing_yet) }
+    {
+        Ok(World {
+            classes: Classes::new(alloc)?,
+            places: IndexSet::new(alloc),
+        })
+    }
+
+    /// The same world once more. Want of memory is an error.
+    pub fn copy(&self, alloc: Global) -> Result<World, AllocError>
+        ensures { IfOk result (λ copy. copy ≡ self.now) }
+    {
+        Ok(World {
+            classes: self.classes.copy(alloc)?,
+            places: self.places.clone()?,
+        })
+    }
+
+    /// How many places are requested. Takes no memory.
+    pub fn site_count(&self) -> usize
+        ensures { result ≡ length self.now.places }
+    {
+        self.places.len()
+    }
 }
 
 /// The link of a site from scratch, or why it has none. Takes no memory.

@@ -145,6 +145,12 @@ fn access_in_nest(caller_host: ClassId, method_host: Option<ClassId>) -> Access
 {
     match method_host {
         None => Access::NotKnown(Missing::MethodHost),
-        Some(host) => { if host == caller_host { Access::Allowed } else { Access::Denied } }
+        Some(host) => {
+            if host == caller_host {
+                Access::Allowed
+            } else {
+                Access::Denied
+            }
+        }
     }
 }

@@ -102,7 +102,7 @@ fn refuses_definitions(rt: HostRuntime) -> Result<(), Fail> {
             // interface I {}
             (
                 r#"{"do":"define","hex":"cafebabe0000003d0005010001490700010100106a6176612f6c616e672f4f626a6563740700030601000200040000000000000000","loader":0}"#,
-                r#"{"refused":"NotYet"}"#,
+                r#"{"class":2,"dropped":[]}"#,
             ),
             // The fault of the cut pool comes before the event's: there is no loader 7. So does a sketch's.
             (
@@ -128,7 +128,7 @@ fn refuses_definitions(rt: HostRuntime) -> Result<(), Fail> {
             // By its bytes, as by its sketch.
             (
                 r#"{"do":"define","hex":"cafebabe0000003d000501000142070001010001410700030021000200040000000000000000","loader":0}"#,
-                r#"{"class":2,"dropped":[]}"#,
+                r#"{"class":3,"dropped":[]}"#,
             ),
         ]
         .as_slice(),
@@ -136,33 +136,65 @@ fn refuses_definitions(rt: HostRuntime) -> Result<(), Fail> {
 }
 
 #[test]
-fn admits_plain_classes_alone(rt: HostRuntime) -> Result<(), Fail> {
-    // Before every refusal of a definition: there is no loader 1.
+fn finds_classes_by_loader(rt: HostRuntime) -> Result<(), Fail> {
     assert_run(
         &rt,
         [
-            // interface I {}
+            (OBJECT, r#"{"class":0,"dropped":[]}"#),
+            (r#"{"do":"loader"}"#, r#"{"dropped":[],"loader":1}"#),
             (
-                r#"{"do":"define","loader":1,"sketch":{"name":"I","super":"java/lang/Object","flags":1537}}"#,
-                r#"{"refused":"NotYet"}"#,
-            ),
-            // public class J implements I {}
-            (
-                r#"{"do":"define","loader":1,"sketch":{"name":"J","super":"java/lang/Object","flags":33,"interfaces":["I"]}}"#,
-                r#"{"refused":"NotYet"}"#,
-            ),
-            // class P {}, which isn't public, and a public one with a method that isn't.
-            (
-                r#"{"do":"define","loader":1,"sketch":{"name":"P","super":"java/lang/Object","flags":32}}"#,
-                r#"{"refused":"NotYet"}"#,
+                r#"{"do":"define","loader":1,"sketch":{"name":"A","super":"java/lang/Object","flags":33}}"#,
+                r#"{"name":"java/lang/Object","refused":"Define.MissingParent"}"#,
             ),
             (
-                r#"{"do":"define","loader":1,"sketch":{"name":"Q","super":"java/lang/Object","flags":33,"methods":[{"name":"f","type":"()V","flags":0}]}}"#,
+                r#"{"do":"define","loader":1,"sketch":{"name":"java/lang/Object","flags":33}}"#,
+                r#"{"refused":"Define.SecondObject"}"#,
+            ),
+            (
+                r#"{"do":"delegate","loader":1,"name":"java/lang/Object","to":0}"#,
+                r#"{"dropped":[]}"#,
+            ),
+            (
+                r#"{"do":"delegate","loader":1,"name":"java/lang/Object","to":0}"#,
+                r#"{"refused":"Delegate.AlreadyRecorded"}"#,
+            ),
+            (
+                r#"{"do":"delegate","loader":1,"name":"X","to":0}"#,
+                r#"{"refused":"Delegate.NotRecorded"}"#,
+            ),
+            (
+                r#"{"do":"delegate","loader":2,"name":"java/lang/Object","to":0}"#,
+                r#"{"refused":"Delegate.UnknownLoader"}"#,
+            ),
+            // Another A than loader 0 will have.
+            (
+                r#"{"do":"define","loader":1,"sketch":{"name":"A","super":"java/lang/Object","flags":33}}"#,
+                r#"{"class":1,"dropped":[]}"#,
+            ),
+            (A, r#"{"class":2,"dropped":[]}"#),
+        ]
+        .as_slice(),
+    )
+}
+
+/// Object, a class with an invokedynamic, and the request of that.
+#[test]
+fn links_no_call_sites_yet(rt: HostRuntime) -> Result<(), Fail> {
+    assert_run(
+        &rt,
+        [
+            (OBJECT, r#"{"class":0,"dropped":[]}"#),
+            (
+                r#"{"do":"define","loader":0,"sketch":{"name":"T","super":"java/lang/Object","flags":33,"methods":[{"name":"r","type":"()V","flags":9,"calls":[{"kind":"invokedynamic","name":"d","type":"()V"}]}]}}"#,
+                r#"{"class":1,"dropped":[]}"#,
+            ),
+            (
+                r#"{"do":"request","class":1,"method":0,"pc":0}"#,
                 r#"{"refused":"NotYet"}"#,
             ),
             (
-                r#"{"do":"define","loader":1,"sketch":{"name":"R","super":"java/lang/Object","flags":33}}"#,
-                r#"{"refused":"Define.UnknownLoader"}"#,
+                r#"{"do":"request","class":1,"method":0,"pc":1}"#,
+                r#"{"refused":"NoSuchPlace"}"#,
             ),
         ]
         .as_slice(),
@@ -178,6 +210,11 @@ fn takes_commands_alone(rt: HostRuntime) -> Result<(), Fail> {
         "cafebabe",
         r#"{"do":"links","more":0}"#,
         r#"{"do":"switch"}"#,
+        r#"{"do":"loader","loader":1}"#,
+        r#"{"do":"delegate","loader":0,"name":"A"}"#,
+        r#"{"do":"delegate","loader":0,"name":null,"to":0}"#,
+        r#"{"do":"delegate","loader":0,"name":"A","to":-1}"#,
+        r#"{"do":"delegate","loader":0,"name":"A","to":0,"more":0}"#,
         r#"{"do":"install","prepared":0}"#,
         r#"{"do":"define","sketch":{},"loader":0}"#,
         r#"{"do":"define","sketch":null,"loader":0}"#,

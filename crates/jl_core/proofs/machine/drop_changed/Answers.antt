@@ -79,7 +79,7 @@ links_are : (c : After-loop-number) (s : ℕ) → link_at c.loop-number.links s 
 links_are c s =
     let low = c.loop-number-test.false in
     let high = c.loop-number.auto.number-end in
-    let count = c.site_count-number-end.ensures.count in
+    let count = c.site_count-number-end.ensures in
     let last : c.loop-number.number ≡ length c.args.world.now.places = omega arith in
     c.loop-number.invariant.links s
     ∙ all_passed c.args.world.now c.args.links.now c.loop-number.number (λ t l e. subst (λ n. t < n) (sym last) (c.requires.requested t l e)) s
@@ -91,7 +91,7 @@ pub returns-clause-dropped : goal.returns-clause-dropped
 returns-clause-dropped c =
     let low = c.loop-number-test.false in
     let high = c.loop-number.auto.number-end in
-    let count = c.site_count-number-end.ensures.count in
+    let count = c.site_count-number-end.ensures in
     let last : c.loop-number.number ≡ length c.args.world.now.places = omega arith in
     c.loop-number.invariant.dropped
     ∙ ap (gone c.args.world.now c.args.links.now) last

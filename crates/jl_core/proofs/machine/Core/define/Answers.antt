@@ -1,4 +1,4 @@
-use Rattle.std.specs.Prelude.{◌<◌, length, false}
+use Rattle.std.specs.Prelude.{◌<◌, ◌≤◌, length, false}
 use Rattle.std.proofs.Common.{sym, ap, subst}
 use Rattle.jl_types.specs.World.{World}
 use Rattle.jl_types.proofs.InstalledLinks.{requested}
@@ -7,11 +7,19 @@ use Rattle.jl_core.proofs.KeptLaws.{are_scratch}
 use Rattle.jl_core.proofs.machine.Core.define.Goals as goal
 
 pub invariant_of-self : goal.invariant_of-self
-invariant_of-self c = (subst (λ (w : World). AreScratch w c.self.inside.links) (sym c.in_err-class.ensures.err) c.self.invariant.0, c.self.invariant.1)
+invariant_of-self c = (
+  subst (λ (w : World). AreScratch w c.self.inside.links) (sym c.in_err-changed.ensures.unchanged) c.self.invariant.0,
+  subst (λ (w : World). length w.places ≤ c.self.inside.max_sites) (sym c.in_err-changed.ensures.unchanged) c.self.invariant.1,
+  c.self.invariant.2,
+)
 
-pub drop_changed-requires-clause-requested : goal.drop_changed-requires-clause-requested
-drop_changed-requires-clause-requested c = λ s l e.
-    subst (λ n. s < n) (ap (λ (w : World). length w.places) (sym c.in_ok-class.ensures.ok)) (requested c.self.inside.world s l (c.self.invariant.0 s l e))
+pub settled-requires-clause-requested : goal.settled-requires-clause-requested
+settled-requires-clause-requested c = λ s l e.
+    subst (λ n. s < n) (ap (λ (w : World). length w.places) (sym c.in_ok-changed.ensures.step)) (requested c.self.inside.world s l (c.self.invariant.0 s l e))
 
 pub invariant_of-self-2 : goal.invariant_of-self-2
-invariant_of-self-2 c = (are_scratch c.add.new.self c.drop_changed.new.links (λ s. false) (link_at c.self.inside.links) c.drop_changed.ensures.links, c.self.invariant.1)
+invariant_of-self-2 c = (
+  are_scratch c.define.new.world c.settled.new.links (λ s. false) (link_at c.self.inside.links) c.settled.ensures.links,
+  subst (λ (w : World). length w.places ≤ c.self.inside.max_sites) (sym c.in_ok-changed.ensures.step) c.self.invariant.1,
+  c.self.invariant.2,
+)

@@ -15,13 +15,13 @@ use Rattle.jl_core.proofs.machine.Core.install.Goals.{After-of}
 use Rattle.jl_core.proofs.machine.Core.install.Goals as goal
 
 pub invariant_of-self : goal.invariant_of-self
-invariant_of-self c = (subst (AreScratch c.self.inside.world) (sym c.in_err-install.ensures.err) c.self.invariant.0, c.self.invariant.1)
+invariant_of-self c = (subst (AreScratch c.self.inside.world) (sym c.in_err-install.ensures.err) c.self.invariant.0, c.self.invariant.1, c.self.invariant.2)
 
 keeps : (c : After-of) (s : ℕ) → link_at c.install.new.self s ≡ kept (list_any (λ row. row.0 == s) c.args.rows.now) (link_at c.self.inside.links s) (scratch c.self.inside.world s)
 keeps c s = c.in_ok-install.ensures.ok s ∙ install_keeps c.self.inside.world s c.self.inside.links c.args.rows.now (sym c.install_refusal.ensures ∙ c.in_default.is) c.self.invariant.0
 
 pub invariant_of-self-2 : goal.invariant_of-self-2
-invariant_of-self-2 c = (are_scratch c.self.inside.world c.install.new.self (λ s. list_any (λ row. row.0 == s) c.args.rows.now) (link_at c.self.inside.links) (keeps c), c.self.invariant.1)
+invariant_of-self-2 c = (are_scratch c.self.inside.world c.install.new.self (λ s. list_any (λ row. row.0 == s) c.args.rows.now) (link_at c.self.inside.links) (keeps c), c.self.invariant.1, c.self.invariant.2)
 
 abbrev after : After-of → State
 after c = record { max_sites = c.self.inside.max_sites; world = c.self.inside.world; links = c.install.new.self; accepted = c.self.inside.accepted }

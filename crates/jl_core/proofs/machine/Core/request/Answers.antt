@@ -13,18 +13,18 @@ use Rattle.jl_core.proofs.machine.Core.request.Goals.{After-of}
 use Rattle.jl_core.proofs.machine.Core.request.Goals as goal
 
 pub invariant_of-self : goal.invariant_of-self
-invariant_of-self c = (subst (λ (w : World). AreScratch w c.self.inside.links) (sym c.in_err-site.ensures.err) c.self.invariant.0, c.self.invariant.1)
+invariant_of-self c = (subst (λ (w : World). AreScratch w c.self.inside.links) (sym c.in_err-site.ensures.err) c.self.invariant.0, c.in_err-site.ensures.few, c.self.invariant.2)
 
-keeps : (c : After-of) (s : ℕ) → link_at c.self.inside.links s ≡ kept false (link_at c.self.inside.links s) (scratch c.request.new.self s)
+keeps : (c : After-of) (s : ℕ) → link_at c.self.inside.links s ≡ kept false (link_at c.self.inside.links s) (scratch c.request.new.world s)
 keeps c s =
     request_keeps c.self.inside.world c.args.place c.self.inside.links c.self.invariant.0 s
     ∙ ap (λ (w : World). kept false (link_at c.self.inside.links s) (scratch w s)) (sym c.in_ok-site.ensures.ok)
 
 pub invariant_of-self-2 : goal.invariant_of-self-2
-invariant_of-self-2 c = (are_scratch c.request.new.self c.self.inside.links (λ s. false) (link_at c.self.inside.links) (keeps c), c.self.invariant.1)
+invariant_of-self-2 c = (are_scratch c.request.new.world c.self.inside.links (λ s. false) (link_at c.self.inside.links) (keeps c), c.in_ok-site.ensures.few, c.self.invariant.2)
 
 abbrev after : After-of → State
-after c = record { max_sites = c.self.inside.max_sites; world = c.request.new.self; links = c.self.inside.links; accepted = c.self.inside.accepted }
+after c = record { max_sites = c.self.inside.max_sites; world = c.request.new.world; links = c.self.inside.links; accepted = c.self.inside.accepted }
 
 abbrev reply : After-of → Reply
 reply c = record { made = Site c.in_ok-site.site; dropped = c.of.result }

@@ -1,7 +1,0 @@
-use Rattle.std.proofs.Common.{◌≡◌, drop}
-use Rattle.jl_types.specs.Preparation.{ready_fault}
-use Rattle.jl_core.proofs.world.World.ready_fault.Given as goal
-
--- the sites so far have links
-abbrev pub invariant-loop-site : goal.invariant-loop-site
-invariant-loop-site l = ready_fault l.self (drop l.site-index l.sites) ≡ ready_fault l.self l.sites
