@@ -60,7 +60,9 @@ install_floats (Some rows) old answer new is = event_floats is.outcome answer is
 
 command_floats : (old : Session) (asked : Command) (answer : Data) (new : Session)
     → IsCommandAnswer old asked answer new → has_float answer ≡ false
+command_floats old command.NewLoader answer new is = event_floats is.outcome answer is.said
 command_floats old (command.Define loader source) answer new is = define_floats old loader source answer new is
+command_floats old (command.Delegate loader name to) answer new is = event_floats is.outcome answer is.said
 command_floats old (command.Request place) answer new is = event_floats is.outcome answer is.said
 command_floats old (command.Prepare sites) answer new is = prepare_floats old is.outcome answer new is.said
 command_floats old (command.Install batch) answer new is = install_floats (slice_get old.batches batch) old answer new is
