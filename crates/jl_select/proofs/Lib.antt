@@ -1,3 +1,4 @@
 pub mod Upward
 pub mod Bridges
 pub mod Overrides
+pub mod Constancy

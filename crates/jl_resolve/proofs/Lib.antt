@@ -1,0 +1,2 @@
+pub mod Unchanged
+pub mod Constancy
