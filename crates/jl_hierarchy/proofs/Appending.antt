@@ -1,10 +1,11 @@
 -- The lists of receivers, as one of them is changed.
-use Rattle.std.specs.Prelude.{◌≡◌, ℕ, zero, suc, ◌+◌, ◌<◌, ◌==◌, ◌||◌, Bool, true, false, if◌then◌else◌, List, [], ◌∷◌, ◌++◌, Vec, length, get_or, slice_set, take}
+use Rattle.std.specs.Prelude.{◌≡◌, ℕ, zero, suc, ◌+◌, ◌<◌, ◌==◌, ◌||◌, Bool, true, false, if◌then◌else◌, List, [], ◌∷◌, ◌++◌, Vec, length, get_or, slice_set, take, drop}
 use Rattle.std.specs.List.{list_any, AllByRecursion}
 use Rattle.std.specs.Vec.{vec_len, vec_capacity}
 use Rattle.std.proofs.Common.{refl, ap, sym, subst, ◌∙◌, arith}
+use Rattle.std.proofs.Math.Seq.{take-append_seam}
 use Rattle.std.proofs.lemmas.Bool.Decides.{Decides-eqb}
-use Rattle.std.proofs.lemmas.List.{take_more, get_or-set_same, get_or-set_other, map-set, length-set, length-map}
+use Rattle.std.proofs.lemmas.List.{take_more, get_or-set_same, get_or-set_other, map-set, length-set, length-map, map-append}
 use Rattle.std.proofs.lemmas.List.Folds.{list_any-append}
 use Rattle.std.proofs.lemmas.Bool.{both_ways}
 use Rattle.std.proofs.lemmas.Cmp.{nat_eq_equiv}
@@ -32,6 +33,14 @@ room_set {A = A} below i c v lt room old d = by_test (i == c) refl
         subst (λ k. vec_len (get_or (slice_set below i v) k d) < vec_capacity (get_or (slice_set below i v) k d)) ((Decides-eqb i c).0 e)
         (subst (λ (w : Vec ℕ A). vec_len w < vec_capacity w) (sym (get_or-set_same below i v d lt)) (room e))
     by_test false e = subst (λ (w : Vec ℕ A). vec_len w < vec_capacity w) (sym (get_or-set_other below i c v d (λ same. both_ways (i == c) e ((Decides-eqb i c).1 (sym same))))) (old e d)
+
+-- the lists that were written in place, and one behind them
+pub with_own : {A : Type 0} (n : ℕ) (old new : List (Vec ℕ A)) (own : Vec ℕ A) → length new ≡ n
+    → lists (take n (new ++ drop (length new) old) ++ own ∷ []) ≡ lists new ++ own.items ∷ []
+with_own {A = A} n old new own e =
+    ap (λ (vs : List (Vec ℕ A)). lists (vs ++ own ∷ []))
+    (ap (λ (k : ℕ). take k (new ++ drop (length new) old)) (sym e) ∙ take-append_seam new (drop (length new) old))
+    ∙ map-append (λ (v : Vec ℕ A). v.items) new (own ∷ [])
 
 -- ---- a class is appended to one list more
 

@@ -10,3 +10,4 @@ pub mod NewClass
 pub mod Chains
 pub mod DefaultLaws
 pub mod Constancy
+pub mod FirstPlaces

@@ -7,6 +7,7 @@ ghost use Rattle.jl_types.specs.Members as members;
 ghost use Rattle.jl_types.specs.Ancestry.{AreOrdered};
 
 use crate::loader::Loader;
+use crate::row::Row;
 use jl_names::Seq;
 use jl_types::{Class, ClassId, LoaderId};
 use std::alloc::{AllocError, Global};
@@ -19,7 +20,7 @@ use std::marker::Model;
 #[derive(Drop)]
 pub struct Classes {
     pub(crate) loaders: Vec<Loader>,
-    pub(crate) rows: Vec<Class>,
+    pub(crate) rows: Vec<Row>,
     /// Of each class its ancestors, rising, itself the last. They never change.
     pub(crate) above: Vec<Seq<ClassId>>,
     /// Of each class its receivers, rising.
@@ -54,6 +55,14 @@ impl Classes {
 
     /// The class of this number.
     pub fn class_at(&self, class: ClassId) -> Option<&Class>
+        ensures found { option_copied result ≡ slice_get self.now.rows class }
+        ensures ordered { AreOrdered self.now.rows }
+    {
+        Some(self.row_at(class)?.class())
+    }
+
+    /// The class of this number as it is kept.
+    pub(crate) fn row_at(&self, class: ClassId) -> Option<&Row>
         ensures found { option_copied result ≡ slice_get self.now.rows class }
         ensures ordered { AreOrdered self.now.rows }
     {

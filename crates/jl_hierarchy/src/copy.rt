@@ -5,8 +5,9 @@ ghost use Rattle.jl_hierarchy.specs.Kept.{lists};
 
 use crate::classes::Classes;
 use crate::loader::Loader;
+use crate::row::Row;
 use jl_names::Seq;
-use jl_types::{Class, ClassId};
+use jl_types::ClassId;
 use std::alloc::{AllocError, Global};
 
 impl Classes {
@@ -35,7 +36,7 @@ fn copy_loaders(alloc: Global, loaders: &[Loader]) -> Result<Vec<Loader>, AllocE
 }
 
 /// The same rows once more. Want of memory is an error.
-fn copy_rows(alloc: Global, rows: &[Class]) -> Result<Vec<Class>, AllocError>
+fn copy_rows(alloc: Global, rows: &[Row]) -> Result<Vec<Row>, AllocError>
     ensures { IfOk result (λ made. made.items ≡ rows.now) }
 {
     let mut made = Vec::with_capacity(alloc, rows.len())?;

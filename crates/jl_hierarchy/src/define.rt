@@ -12,15 +12,16 @@ ghost use Rattle.jl_hierarchy.specs.Kept.{HasRoom, Rises, IsAppended, lists};
 use crate::classes::Classes;
 use crate::loader::record_in;
 use crate::receiving::{append_to_each, is_concrete, own_receivers, receiving, reserve_each};
+use crate::row::Row;
 use jl_classfile::ClassFile;
 use jl_names::Seq;
-use jl_types::{Class, ClassId, DefineFault, LoaderId};
+use jl_types::{ClassId, DefineFault, LoaderId};
 use std::alloc::{AllocError, Global};
 
 /// What the definition of a class adds.
 #[derive(Drop)]
 pub(crate) struct Growth {
-    row: Class,
+    row: Row,
     is_concrete: bool,
     /// The ancestors but the class itself, by rising number, with room for that one.
     ancestors: Vec<ClassId>,
@@ -107,11 +108,12 @@ impl Classes {
             ≡ (if members.is_concrete_row (definitions.class_made self.now loader file) then length self.now.rows ∷ [] else [])) }
     {
         let class = ClassId::new(self.rows.as_slice().len() as u32);
-        let row = self.class_made(alloc, loader, file)?;
-        let is_concrete = is_concrete(&row);
-        let mut ancestors = self.proper_ancestors(alloc, &row)?;
+        let made = self.class_made(alloc, loader, file)?;
+        let is_concrete = is_concrete(&made);
+        let mut ancestors = self.proper_ancestors(alloc, &made)?;
         ancestors.reserve(1)?;
         let own = own_receivers(alloc, is_concrete, class)?;
+        let row = Row::new(alloc, made)?;
         Ok(Growth {
             row,
             is_concrete,
@@ -131,7 +133,7 @@ fn name_of(alloc: Global, file: &ClassFile) -> Result<Vec<u8>, AllocError>
 /// Makes room for one class more: for its row, its ancestors and its receivers, and in the list of each of these. Want of
 /// memory is an error.
 fn reserve_all(
-    rows: &mut Vec<Class>,
+    rows: &mut Vec<Row>,
     above: &mut Vec<Seq<ClassId>>,
     below: &mut Vec<Vec<ClassId>>,
     receiving: &[ClassId],
@@ -154,7 +156,7 @@ fn reserve_all(
 
 /// Adds a class behind the others, all of which have room for it.
 fn push_all(
-    rows: &mut Vec<Class>,
+    rows: &mut Vec<Row>,
     above: &mut Vec<Seq<ClassId>>,
     below: &mut Vec<Vec<ClassId>>,
     growth: Growth,

@@ -28,11 +28,7 @@ impl Classes {
     /// # Errors
     ///
     /// The first fault of the definition.
-    pub fn admitted(
-        &self,
-        loader: LoaderId,
-        file: ClassFile,
-    ) -> Result<ClassFile, DefineFault>
+    pub fn admitted(&self, loader: LoaderId, file: ClassFile) -> Result<ClassFile, DefineFault>
         ensures same { IfOk result (λ f. f ≡ file) }
         ensures accepted { OnOk result (definitions.define_fault self.now loader file ≡ None) }
         ensures fault { IfErr result (λ f. definitions.define_fault self.now loader file ≡ Some f) }

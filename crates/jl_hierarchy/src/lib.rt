@@ -19,6 +19,7 @@ mod members;
 mod nests;
 mod object;
 mod receiving;
+mod row;
 mod upward;
 
 pub use classes::Classes;

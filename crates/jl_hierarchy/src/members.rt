@@ -1,6 +1,6 @@
 //! Superclasses and methods of a class. A class or a method that isn't there has no flag.
 
-ghost use Rattle.std.specs.Prelude.{◌≡◌, ◌<◌, ◌^◌, ◌&&◌, not, length, position};
+ghost use Rattle.std.specs.Prelude.{◌≡◌, ◌<◌, ◌^◌, ◌&&◌, not, length};
 ghost use Rattle.std.specs.Option.{option_copied};
 ghost use Rattle.jl_classfile.specs.Conditions as conditions;
 ghost use Rattle.jl_types.specs.Members as members;
@@ -51,11 +51,8 @@ impl Classes {
     pub fn declared(&self, class: ClassId, name: &[u8], ty: &[u8]) -> Option<MethodId>
         ensures { result ≡ members.declared self.now name.now ty.now class }
     {
-        let place = place_of(methods_of(self.class_at(class)?), name, ty)?;
-        Some(MethodId {
-            class,
-            index: place as u16,
-        })
+        let index = self.row_at(class)?.place_of(name, ty)?;
+        Some(MethodId { class, index })
     }
 
     /// Whether the method is public.
@@ -128,12 +125,4 @@ fn is_without_access_flag(flags: u16) -> bool
         && (not (conditions.has_flag flags conditions.PROTECTED) && not (conditions.has_flag flags conditions.PRIVATE))) }
 {
     !has_flag(flags, PUBLIC) && !has_flag(flags, PROTECTED) && !has_flag(flags, PRIVATE)
-}
-
-/// The place of the method of this name and descriptor.
-fn place_of(methods: &[Method], name: &[u8], ty: &[u8]) -> Option<usize>
-    ensures { result ≡ position (members.is_called name.now ty.now) methods.now }
-{
-    methods.iter().position(|method| method.name().as_slice() == name
-        && method.ty().as_slice() == ty)
 }
