@@ -1,2 +1,3 @@
 pub mod Unchanged
 pub mod Constancy
+pub mod Later

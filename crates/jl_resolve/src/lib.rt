@@ -5,8 +5,10 @@
 
 mod control;
 mod finding;
+mod laws;
 mod resolution;
 
 pub use control::{Access, access_to_method, is_accessible_class};
 pub use finding::{found_in_class, found_in_interface};
+pub use laws::what_was_resolved_stays;
 pub use resolution::{Resolved, named_class, resolve, resolve_reference};

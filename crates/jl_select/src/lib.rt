@@ -4,9 +4,11 @@
 #![tactic(auto)]
 
 mod invokespecial;
+mod laws;
 mod overriding;
 mod selection;
 
 pub use invokespecial::special;
+pub use laws::{outcomes_stay, what_was_selected_stays};
 pub use overriding::can_override;
 pub use selection::{chosen, select, select_interface};

@@ -1,0 +1,7 @@
+use Rattle.jl_types.proofs.Orders.{world_good}
+use Rattle.jl_resolve.proofs.Constancy.{settled_stays}
+use Rattle.jl_resolve.proofs.Later.{later_stays}
+use Rattle.jl_resolve.proofs.laws.what_was_resolved_stays.Goals as goal
+
+pub returns : goal.returns
+returns c = λ h e recorded. settled_stays _ _ (later_stays h e) (world_good h) recorded

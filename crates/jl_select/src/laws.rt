@@ -1,0 +1,19 @@
+//! The laws of what is selected: each is the contract of a function that does nothing.
+
+ghost use Rattle.std.specs.Prelude.{◌++◌, ◌∷◌, [], List};
+ghost use Rattle.jl_types.specs.declared.event.Event.{Event};
+ghost use Rattle.jl_types.specs.History.{world_after};
+ghost use Rattle.jl_resolve.specs.Constancy.{RecordsObject};
+ghost use Rattle.jl_select.specs.Constancy.{ChosenStays, OutcomesStay};
+
+/// The method that selection picks for a receiver's class and a method that are there stays through every event.
+pub fn what_was_selected_stays()
+    ensures { (h : List Event) (e : Event) → ChosenStays (world_after h).classes (world_after (h ++ e ∷ [])).classes }
+{}
+
+/// So does what invokevirtual, invokeinterface and invokespecial make of it, where java/lang/Object was recorded by loader 0
+/// before there was an interface.
+pub fn outcomes_stay()
+    ensures { (h : List Event) (e : Event) → RecordsObject (world_after h).classes
+        → OutcomesStay (world_after h).classes (world_after (h ++ e ∷ [])).classes }
+{}
