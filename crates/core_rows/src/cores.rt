@@ -5,8 +5,8 @@ use jl_core::Core;
 use jl_names::Seq;
 use jl_relink::{Prepared, Snapshot, World, dispatch, link_of, prepare};
 use jl_types::{
-    Answer, CallSiteId, ClassId, Event, Link, LoaderId, MethodId, Outcome, Place, PrepareFault, Recv, Refusal,
-    SiteNo, Table, TableKind, Unlinked,
+    Answer, CallSiteId, ClassId, Event, Link, LoaderId, MethodId, Outcome, Place, PrepareFault,
+    Recv, Refusal, SiteNo, Table, TableKind, Unlinked,
 };
 use std::alloc::{AllocError, Global};
 use std::process::Abort;

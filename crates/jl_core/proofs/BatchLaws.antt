@@ -1,28 +1,16 @@
 -- The rows of an install, one at a time.
-use Rattle.std.specs.Prelude.{◌≡◌, ℕ, ◌<◌, ◌+◌, ◌==◌, nat_le, take, drop, get_or, Bool, true, false, ◌||◌, List, [], ◌∷◌, ◌++◌, fold}
-use Rattle.std.specs.Prelude.{map, length, Option, Some, None, option_map, Result, Ok, Err}
-use Rattle.std.specs.Bool.{then_some}
-use Rattle.std.specs.List.{list_any, AllZip}
-use Rattle.std.proofs.Common.{refl, ap, sym, ◌∙◌, append-nil}
-use Rattle.std.proofs.lemmas.List.{take-append-drop, take_more}
-use Rattle.std.proofs.lemmas.Bool.{lt-leb}
+use Rattle.std.specs.Prelude.{◌≡◌, ℕ, true, false, List, [], ◌∷◌}
+use Rattle.std.specs.Prelude.{Some, Result, Ok}
+use Rattle.std.specs.List.{AllZip}
+use Rattle.std.proofs.Common.{refl, ap, ◌∙◌}
 use Rattle.jl_types.specs.declared.link.Link.{Link}
 use Rattle.jl_types.specs.declared.answer.Unlinked.{Unlinked}
-use Rattle.jl_types.specs.declared.refusal.SitesFault.{SitesFault}
-use Rattle.jl_types.specs.declared.refusal.SitesFault.TheVariants.{Repeated}
 use Rattle.jl_types.specs.declared.refusal.Refusal.TheVariants.{Stale}
 use Rattle.jl_types.specs.Means.SameLink.{same_link}
-use Rattle.jl_types.specs.declared.refusal.PrepareFault.{PrepareFault}
-use Rattle.jl_types.specs.declared.refusal.PrepareFault.TheVariants as fault
-use Rattle.jl_types.specs.Batches.{is_bad_size, sites_fault}
-use Rattle.jl_types.specs.Preparation.{of_sites, link_fault, ready_fault, prepare_fault, ArePrepared}
 use Rattle.jl_types.specs.World.{World}
 use Rattle.jl_types.specs.Links.{scratch}
 use Rattle.jl_types.specs.Events.{row_fault}
 use Rattle.jl_types.specs.Resolution.{first_of}
-use Rattle.jl_types.proofs.Bools.{or_none}
-use Rattle.jl_types.proofs.Firsts.{first_alone}
-use Rattle.jl_types.proofs.Lists.{rest_at}
 use Rattle.jl_core.specs.Batches.{row_faults}
 
 -- ---- links that aren't those from scratch

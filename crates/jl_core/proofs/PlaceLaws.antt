@@ -1,6 +1,6 @@
 -- The request of a place.
 use Rattle.std.specs.Prelude.{◌≡◌, ℕ, ◌<◌, ◌≤◌, ◌==◌, nat_le, Bool, true, false, if◌then◌else◌, position, List, [], ◌∷◌, ◌++◌}
-use Rattle.std.specs.Prelude.{length, slice_get, find, Option, Some, None, is_some, option_and_then, Result, Ok, Err, OnOk, OnErr}
+use Rattle.std.specs.Prelude.{length, slice_get, find, Option, Some, None, is_some, option_and_then, Err}
 use Rattle.std.specs.Option.{option_map_or}
 use Rattle.std.proofs.Common.{refl, ap, sym, subst, ◌∙◌, arith, length-append}
 use Rattle.std.specs.Bool.{then_some}

@@ -10,15 +10,12 @@ use Rattle.jl_types.specs.declared.link.Link.{Link}
 use Rattle.jl_types.specs.declared.answer.Unlinked.{Unlinked}
 use Rattle.jl_types.specs.declared.refusal.SitesFault.{SitesFault}
 use Rattle.jl_types.specs.declared.refusal.SitesFault.TheVariants.{Repeated}
-use Rattle.jl_types.specs.declared.refusal.Refusal.TheVariants.{Stale}
-use Rattle.jl_types.specs.Means.SameLink.{same_link}
 use Rattle.jl_types.specs.declared.refusal.PrepareFault.{PrepareFault}
 use Rattle.jl_types.specs.declared.refusal.PrepareFault.TheVariants as fault
 use Rattle.jl_types.specs.Batches.{is_bad_size, sites_fault}
 use Rattle.jl_types.specs.Preparation.{of_sites, link_fault, ready_fault, prepare_fault, ArePrepared}
 use Rattle.jl_types.specs.World.{World}
 use Rattle.jl_types.specs.Links.{scratch}
-use Rattle.jl_types.specs.Events.{row_fault}
 use Rattle.jl_types.specs.Resolution.{first_of}
 use Rattle.jl_types.proofs.Bools.{or_none}
 use Rattle.jl_types.proofs.Firsts.{first_alone}

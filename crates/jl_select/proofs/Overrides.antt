@@ -3,7 +3,7 @@ use Rattle.std.specs.Prelude.{◌≡◌, ℕ, suc, Bool, true, false, not, ◌&&
 use Rattle.std.specs.List.{list_any}
 use Rattle.std.specs.Option.{option_map_or}
 use Rattle.std.specs.Str.{bytes_eq}
-use Rattle.std.proofs.Common.{refl, ap, sym, ◌∙◌, arith, add-one, inl, inr}
+use Rattle.std.proofs.Common.{refl, ap, sym, ◌∙◌, arith, inl, inr}
 use Rattle.std.proofs.lemmas.Bool.Decides.{same_from_decides}
 use Rattle.std.proofs.lemmas.Bool.{or_cases, and_parts, and_from}
 use Rattle.std.proofs.lemmas.Map.Keys.{any_passes_from_place}

@@ -7,7 +7,7 @@ use std::process::Abort;
 use std::test::Fail;
 
 /// Values, and how the commands print that they are.
-const COMMANDS: [(&str, &str); 27] = [
+const COMMANDS: [(&str, &str); 32] = [
     (
         r#"{"do":"define","loader":0,"hex":"cAFe"}"#,
         "Some(Define { loader: LoaderId(0), source: File(Seq { items: [202, 254] }) })",
@@ -15,6 +15,12 @@ const COMMANDS: [(&str, &str); 27] = [
     (
         r#"{"do":"define","loader":1,"sketch":{"name":"M","flags":33}}"#,
         r#"Some(Define { loader: LoaderId(1), source: Sketch(Sketch { name: Name { bytes: b"M" }, flags: 33, superclass: None, interfaces: Seq { items: [] }, methods: Seq { items: [] }, host: None, members: Seq { items: [] } }) })"#,
+    ),
+    (r#"{"do":"loader"}"#, "Some(NewLoader)"),
+    // A text becomes modified UTF-8: the two bytes of the zero.
+    (
+        r#"{"do":"delegate","loader":2,"name":"A\u0000","to":4294967295}"#,
+        r#"Some(Delegate { loader: LoaderId(2), name: Name { bytes: b"A\xc0\x80" }, to: LoaderId(4294967295) })"#,
     ),
     (
         r#"{"do":"request","class":65536,"method":65535,"pc":65536}"#,
@@ -44,6 +50,15 @@ const COMMANDS: [(&str, &str); 27] = [
     (r#"{"do":"link"}"#, "None"),
     (r#"{"do":1}"#, "None"),
     (r#"{"do":"links","site":0}"#, "None"),
+    (r#"{"do":"loader","loader":1}"#, "None"),
+    (
+        r#"{"do":"delegate","loader":2,"name":0,"to":0}"#,
+        "None",
+    ),
+    (
+        r#"{"do":"delegate","loader":2,"name":"A","from":0}"#,
+        "None",
+    ),
     (r#"{"do":"define","loader":0}"#, "None"),
     (r#"{"do":"define","loader":0,"hex":"caf"}"#, "None"),
     (r#"{"do":"define","loader":0,"hex":"cg"}"#, "None"),
