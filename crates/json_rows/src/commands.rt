@@ -51,10 +51,7 @@ const COMMANDS: [(&str, &str); 32] = [
     (r#"{"do":1}"#, "None"),
     (r#"{"do":"links","site":0}"#, "None"),
     (r#"{"do":"loader","loader":1}"#, "None"),
-    (
-        r#"{"do":"delegate","loader":2,"name":0,"to":0}"#,
-        "None",
-    ),
+    (r#"{"do":"delegate","loader":2,"name":0,"to":0}"#, "None"),
     (
         r#"{"do":"delegate","loader":2,"name":"A","from":0}"#,
         "None",
