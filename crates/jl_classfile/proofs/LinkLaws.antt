@@ -1,11 +1,11 @@
 -- The class, its superclass and its superinterfaces, tested one after another.
-use Rattle.std.proofs.Common.{◌≡◌, ℕ, Bool, true, false, List, [], ◌∷◌, ◌++◌, refl}
-use Rattle.std.specs.Prelude.{All, IsTrue, IsFalse}
+use Rattle.std.proofs.Common.{◌≡◌, ℕ, Bool, true, false, List, [], ◌∷◌, ◌++◌, refl, ap, ◌∙◌}
+use Rattle.std.specs.Prelude.{All, IsTrue, IsFalse, Option, not, ◌==◌, ◌&&◌, ◌||◌, if◌then◌else◌}
 use Rattle.std.specs.List.{AllByRecursion, Contains}
 use Rattle.std.proofs.lemmas.List.Elements.{Contains-append_left, Contains-append_right, recursion_from_All}
 use Rattle.jl_classfile.specs.declared.body.Body.{Body}
-use Rattle.jl_pool.specs.Pools.{Pool}
-use Rattle.jl_classfile.specs.Conditions.{superclass_numbers, class_numbers, IsClassNumber, is_module, super_fits, Links}
+use Rattle.jl_pool.specs.Pools.{Pool, class_at}
+use Rattle.jl_classfile.specs.Conditions.{superclass_numbers, class_numbers, IsClassNumber, is_object, is_interface, is_module, super_fits, extends_object, Links}
 
 pub All-both : {X : Type 0} (P : X → Type 0) (xs ys : List X) → AllByRecursion P xs → AllByRecursion P ys → AllByRecursion P (xs ++ ys)
 All-both P [] ys h k = k
@@ -35,3 +35,18 @@ tested major p b no_module this super interfaces fits = record {
   classes = (this, All-both (IsClassNumber p) (superclass_numbers b.super_class) b.interfaces super (recursion_from_All (IsClassNumber p) b.interfaces interfaces));
   super = is_true (super_fits p b) fits;
 }
+
+fits_object : (root this interface object : Bool) → IsTrue (if root then this && not interface else (not this && (not interface || object)))
+    → not interface || object ≡ true
+fits_object root this false object h = refl
+fits_object root this true true h = refl
+fits_object true true true false h = h
+fits_object true false true false h = h
+fits_object false true true false h = h
+fits_object false false true false h = h
+
+-- the superclass of an interface is java/lang/Object
+pub extends : (p : Pool) (b : Body) (superclass : Option (List ℕ)) → superclass ≡ class_at p b.super_class → IsTrue (super_fits p b)
+    → extends_object b.flags superclass ≡ true
+extends p b superclass is fits =
+    ap (extends_object b.flags) is ∙ fits_object (b.super_class == 0) (is_object p b.this_class) (is_interface b) (is_object p b.super_class) fits

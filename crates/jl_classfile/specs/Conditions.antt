@@ -81,6 +81,10 @@ super_fits pool b =
     if b.super_class == 0 then is_object pool b.this_class && not (is_interface b)
     else (not (is_object pool b.this_class) && (not (is_interface b) || is_object pool b.super_class))
 
+-- these are no interface's flags, or the superclass is java/lang/Object
+abbrev pub extends_object : ℕ → Option (List ℕ) → Bool
+extends_object flags superclass = not (has_flag flags INTERFACE) || option_map_or (λ text. bytes_eq text object) superclass false
+
 abbrev pub is_module : ℕ → Body → Bool
 is_module major b = has_flag b.flags MODULE && nat_le 53 major
 

@@ -1,6 +1,7 @@
 //! What a class file shows.
 
-ghost use Rattle.std.specs.Prelude.{◌≡◌, ◌<◌, ◌^◌, ◌++◌, length, slice_get, option_copied, option_to_list, Some, IsSome, IfOk};
+ghost use Rattle.std.specs.Prelude.{◌≡◌, ◌<◌, ◌^◌, ◌++◌, length, slice_get, option_copied, option_to_list, Some, IsSome, true, IfOk};
+ghost use Rattle.jl_classfile.specs.Conditions.{extends_object};
 
 use jl_code::Site;
 use jl_names::{Name, Seq};
@@ -82,8 +83,9 @@ pub struct ClassFile {
 }
 
 impl Model for ClassFile {
-    ghost use Rattle.std.specs.Prelude.{◌<◌, ◌^◌, length};
+    ghost use Rattle.std.specs.Prelude.{◌≡◌, ◌<◌, ◌^◌, true, length};
     ghost use Rattle.jl_classfile.specs.Class as plain;
+    ghost use Rattle.jl_classfile.specs.Conditions.{extends_object};
 
     ghost Value = { plain.ClassFile };
 
@@ -97,7 +99,7 @@ impl Model for ClassFile {
       methods = f.methods;
     } };
 
-    ghost invariant = { λ f. length f.methods < 2 ^ 16 };
+    ghost invariant = { λ f. (length f.methods < 2 ^ 16) × (extends_object f.flags f.superclass ≡ true) };
 }
 
 impl ClassFile {
@@ -115,9 +117,10 @@ impl ClassFile {
         self.flags
     }
 
-    /// The name of its superclass, which java/lang/Object alone has not.
+    /// The name of its superclass, which java/lang/Object alone has not; an interface's is java/lang/Object.
     pub fn superclass(&self) -> Option<&Name>
-        ensures { option_copied result ≡ self.now.superclass }
+        ensures name { option_copied result ≡ self.now.superclass }
+        ensures interface { extends_object self.now.flags self.now.superclass ≡ true }
     {
         self.superclass.as_ref()
     }

@@ -1,6 +1,6 @@
 //! Reads a class file, pass after pass.
 
-ghost use Rattle.std.specs.Prelude.{◌<◌, ◌≤◌, ◌^◌, ◌≡◌, ◌≢◌, length, map, [], slice_get, All, List, ℕ, Some, IfOk, IfErr, MatchBool};
+ghost use Rattle.std.specs.Prelude.{◌<◌, ◌≤◌, ◌^◌, ◌≡◌, ◌≢◌, length, map, [], slice_get, All, List, ℕ, Some, IsTrue, IfOk, IfErr, MatchBool};
 ghost use Rattle.std.specs.Option.{option_and_then, option_copied, unwrap_or};
 ghost use Rattle.jl_classfile.specs.declared.fault.ClassFault.{ClassFault};
 ghost use Rattle.jl_classfile.specs.Parts.{Parts};
@@ -10,7 +10,7 @@ ghost use Rattle.jl_classfile.specs.declared.body.Member.{Member};
 ghost use Rattle.jl_classfile.specs.Faults.{HeadFault, CodesFault, IsFault};
 ghost use Rattle.jl_pool.specs.Pools.{class_at};
 ghost use Rattle.jl_classfile.specs.Shown.{shown, text_or_nothing, name_or_nothing};
-ghost use Rattle.jl_classfile.specs.Conditions.{IsVersion, codes_of};
+ghost use Rattle.jl_classfile.specs.Conditions.{IsVersion, codes_of, super_fits};
 ghost use Rattle.jl_classfile.specs.Reading.Passes.{HasHead, fault_of_code, IsMethodFault, SitesShown, MethodShown, MethodsShown, BodyShown, HasPool, Lies};
 
 use crate::body::{Body, Member, body_at, code_in};
@@ -223,6 +223,7 @@ fn shown(
     body: &Body<'_>,
     nest: &NestNumbers,
 ) -> Result<ClassFile, ClassFault>
+    requires superclass { IsTrue (super_fits pool.now body.now) }
     requires few { length body.now.methods < 2 ^ 16 }
     requires one_code { All (λ m. length (codes_of pool.now m) ≤ 1) body.now.methods }
     ensures ok { IfOk result (BodyShown pool.now body.now nest.now.host nest.now.members) }

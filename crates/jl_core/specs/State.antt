@@ -12,6 +12,7 @@ use Rattle.jl_types.specs.World.{World, nothing_yet}
 use Rattle.jl_types.specs.Links.{scratch}
 use Rattle.jl_types.specs.Events.{step}
 use Rattle.jl_types.specs.History.{installs, kept}
+use Rattle.jl_select.specs.Constancy.{IsConstant}
 use Rattle.jl_core.specs.Admitted.{admitted}
 
 pub record State : Type 0 where
@@ -51,12 +52,14 @@ lost n before after = filter (λ s. is_some (link_at before s) && is_none (link_
 -- ---- one event
 
 -- What an accepted event does: the reply tells the number that it gave, the world is its step, and a site has a link
--- afterwards exactly where the event installs it or it had that link before, and the link is the one from scratch now.
+-- afterwards exactly where the event installs it or it had that link before, and the link is the one from scratch now. What was
+-- resolved and selected stays so.
 pub record IsAccepted (old new : State) (e : Event) (reply : Reply) : Type 0 where
   pub made : admitted old.max_sites old.world e ≡ Ok reply.made
   pub world : new.world ≡ step old.world e
   pub links : (s : ℕ) → link_at new.links s ≡ kept (installs s e) (link_at old.links s) (scratch new.world s)
   pub dropped : reply.dropped ≡ lost (length old.world.places) old.links new.links
+  pub constant : IsConstant old.world.classes new.world.classes
   pub limit : new.max_sites ≡ old.max_sites
   pub count : new.accepted ≡ min (old.accepted + 1) (2 ^ 64 - 1)
 

@@ -5,6 +5,7 @@ ghost use Rattle.std.specs.Prelude.{◌≡◌, ◌+◌, ◌≤◌, [], Ok, lengt
 ghost use Rattle.std.specs.Vec.{vec_len, vec_capacity};
 ghost use Rattle.jl_types.specs.declared.event.Event.TheVariants as event;
 ghost use Rattle.jl_types.specs.Events.{step};
+ghost use Rattle.jl_select.specs.Constancy.{IsConstant};
 ghost use Rattle.jl_core.specs.Admitted.{admitted};
 ghost use Rattle.jl_core.specs.State.{IsRefused};
 
@@ -37,6 +38,7 @@ fn room_for_sites(world: &World, alloc: Global) -> Result<Vec<SiteNo>, AllocErro
 pub(crate) fn new_loader(world: &mut World, alloc: Global) -> Result<Changed, Refusal>
     ensures made { IfOk result (λ changed. admitted 0 world.old event.NewLoader ≡ Ok changed.made) }
     ensures step { OnOk result (world.new ≡ step world.old event.NewLoader) }
+    ensures constant { OnOk result (IsConstant world.old.classes world.new.classes) }
     ensures empty { IfOk result (λ changed. changed.dropped.items ≡ []) }
     ensures room { IfOk result (λ changed. vec_len changed.dropped + length world.old.places ≤ vec_capacity changed.dropped) }
     ensures refused { IfErr result (IsRefused (admitted 0 world.old event.NewLoader)) }
@@ -68,6 +70,7 @@ pub(crate) fn define(
 ) -> Result<Changed, Refusal>
     ensures made { IfOk result (λ changed. admitted 0 world.old (event.Define loader file) ≡ Ok changed.made) }
     ensures step { OnOk result (world.new ≡ step world.old (event.Define loader file)) }
+    ensures constant { OnOk result (IsConstant world.old.classes world.new.classes) }
     ensures empty { IfOk result (λ changed. changed.dropped.items ≡ []) }
     ensures room { IfOk result (λ changed. vec_len changed.dropped + length world.old.places ≤ vec_capacity changed.dropped) }
     ensures refused { IfErr result (IsRefused (admitted 0 world.old (event.Define loader file))) }
@@ -99,6 +102,7 @@ pub(crate) fn delegate(
 ) -> Result<Changed, Refusal>
     ensures made { IfOk result (λ changed. admitted 0 world.old (event.Delegate loader name.now to) ≡ Ok changed.made) }
     ensures step { OnOk result (world.new ≡ step world.old (event.Delegate loader name.now to)) }
+    ensures constant { OnOk result (IsConstant world.old.classes world.new.classes) }
     ensures empty { IfOk result (λ changed. changed.dropped.items ≡ []) }
     ensures room { IfOk result (λ changed. vec_len changed.dropped + length world.old.places ≤ vec_capacity changed.dropped) }
     ensures refused { IfErr result (IsRefused (admitted 0 world.old (event.Delegate loader name.now to))) }

@@ -39,7 +39,7 @@ module _ (name : List ℕ) (c : ℕ) (e : List ℕ × ℕ) where
   set_stays records (x ∷ loaders) (suc l) zero is h = h
   set_stays records (x ∷ loaders) (suc l) (suc k) is h = set_stays records loaders l k is h
 
-with_record_stays : (loaders : List (List (List ℕ × ℕ))) (loader : ℕ) (recorded_name : List ℕ) (d k : ℕ) (name : List ℕ) (c : ℕ)
+pub with_record_stays : (loaders : List (List (List ℕ × ℕ))) (loader : ℕ) (recorded_name : List ℕ) (d k : ℕ) (name : List ℕ) (c : ℕ)
     → option_and_then (recorded name) (slice_get loaders k) ≡ Some c → option_and_then (recorded name) (slice_get (with_record loaders loader recorded_name d) k) ≡ Some c
 with_record_stays loaders loader recorded_name d k name c h = by_loader (slice_get loaders loader) refl
   where

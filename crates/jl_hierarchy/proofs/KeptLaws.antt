@@ -7,6 +7,7 @@ use Rattle.jl_types.specs.World.{Classes}
 use Rattle.jl_types.specs.Members.{lookup}
 use Rattle.jl_types.specs.Ancestry.{ancestors, receivers}
 use Rattle.jl_types.proofs.Orders.{IsGood, looked_up}
+use Rattle.jl_hierarchy.specs.Constancy.{AreInOrder}
 use Rattle.jl_hierarchy.specs.Kept.{IsKept, lists}
 
 found_there : (cs : Classes) → IsGood cs → (loader : ℕ) (name : List ℕ) (o : Option ℕ) → lookup cs loader name ≡ o → IfSome o (λ c. c < length cs.rows)
@@ -22,6 +23,9 @@ get_or-lists (v ∷ vectors) (suc c) d = get_or-lists vectors c d
 module _ (inside : Classes) (above below : List (List ℕ)) (kept : IsKept inside above below) (cs : Classes) (same : inside ≡ cs) where
   pub good : IsGood cs
   good = subst IsGood same (record { there = kept.there; ordered = kept.ordered })
+
+  pub in_order : AreInOrder cs
+  in_order = subst AreInOrder same (record { there = kept.there; ordered = kept.ordered; object = kept.object })
 
   pub there_here : (loader : ℕ) (name : List ℕ) (o : Option ℕ) → lookup cs loader name ≡ o → IfSome o (λ c. c < length cs.rows)
   there_here = found_there cs good

@@ -11,3 +11,5 @@ pub mod Chains
 pub mod DefaultLaws
 pub mod Constancy
 pub mod FirstPlaces
+pub mod Objects
+pub mod NewRecords

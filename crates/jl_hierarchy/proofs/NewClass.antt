@@ -10,6 +10,7 @@ use Rattle.std.proofs.lemmas.List.{ext_get_or, length-set, append-nil}
 use Rattle.std.proofs.lemmas.List.Folds.{list_any-append}
 use Rattle.std.proofs.lemmas.List.FromFn.{get_or-map-range_with_len, length-map-range_with_len, map-range_with_len_more}
 use Rattle.jl_classfile.specs.Class.{ClassFile}
+use Rattle.jl_classfile.specs.Conditions.{extends_object}
 use Rattle.jl_types.specs.World.{Class, Classes}
 use Rattle.jl_types.specs.Members.{numbers, is_concrete, is_concrete_row}
 use Rattle.jl_types.specs.Ancestry.{is_ancestor, ancestors, receivers}
@@ -18,8 +19,10 @@ use Rattle.jl_types.proofs.Ancestors.{ancestor_decides}
 use Rattle.jl_types.proofs.Grown.{above, among_ancestors, old_ancestors, receivers_after}
 use Rattle.jl_types.proofs.Lists.{at_end}
 use Rattle.jl_types.proofs.Orders.{IsGood, defined_good}
+use Rattle.jl_hierarchy.specs.Constancy.{ObjectComesFirst}
 use Rattle.jl_hierarchy.specs.Kept.{IsKept, IsAppended}
 use Rattle.jl_hierarchy.proofs.FaultLaws.{has_room}
+use Rattle.jl_hierarchy.proofs.Objects.{first_defined}
 use Rattle.jl_hierarchy.proofs.Rising.{has}
 
 map_range : {A : Type 0} (f g : ℕ → A) (a n : ℕ) → ((c : ℕ) → c < a + n → f c ≡ g c) → map f (range_with_len a n) ≡ map g (range_with_len a n)
@@ -32,7 +35,7 @@ none_pass p a (suc n) h =
     ap (λ (b : Bool). cond b (a ∷ filter p (range_with_len (a + 1) n)) (filter p (range_with_len (a + 1) n))) (h a (omega arith))
     ∙ none_pass p (a + 1) n (λ c lt. h c (omega arith))
 
-as_many_loaders : (loaders : List (List (List ℕ × ℕ))) (loader : ℕ) (name : List ℕ) (c : ℕ) → length (with_record loaders loader name c) ≡ length loaders
+pub as_many_loaders : (loaders : List (List (List ℕ × ℕ))) (loader : ℕ) (name : List ℕ) (c : ℕ) → length (with_record loaders loader name c) ≡ length loaders
 as_many_loaders loaders loader name c = by_loader (slice_get loaders loader)
   where
     by_loader : (o : Option (List (List ℕ × ℕ)))
@@ -157,10 +160,11 @@ module _ (cs : Classes) (over under : List (List ℕ)) (kept : IsKept cs over un
           ∙ sym (map-range_with_len_more (receivers new) 0 n n (omega arith))
           ∙ ap (map (receivers new)) (sym one_more)
 
-      pub kept_now : IsKept new (over ++ (proper ++ n ∷ []) ∷ []) (lists' ++ (if is_concrete_row row then n ∷ [] else []) ∷ [])
-      kept_now = record {
+      pub kept_now : ObjectComesFirst new → IsKept new (over ++ (proper ++ n ∷ []) ∷ []) (lists' ++ (if is_concrete_row row then n ∷ [] else []) ∷ [])
+      kept_now object = record {
         there = new_good.there;
         ordered = new_good.ordered;
+        object = object;
         few = let m = length-append cs.rows (row ∷ []) in omega arith;
         few_loaders = let m = as_many_loaders cs.loaders loader file.name n in let few = kept.few_loaders in omega arith;
         ancestors_kept = ancestors_now;
@@ -173,7 +177,7 @@ kept_as cs cs' over over' under under' e f g kept =
     subst (λ (k : Classes). IsKept k over under) (sym e) (subst (λ o. IsKept cs' o under) (sym f) (subst (λ u. IsKept cs' over' u) (sym g) kept))
 
 module _ (cs : Classes) (over under : List (List ℕ)) (kept : IsKept cs over under) (loader : ℕ) (file : ClassFile) (none : define_fault cs loader file ≡ None)
-    (row : Class) (concrete : Bool) (proper own name : List ℕ) (class : ℕ) (front : List (List ℕ))
+    (extends : extends_object file.flags file.superclass ≡ true) (row : Class) (concrete : Bool) (proper own name : List ℕ) (class : ℕ) (front : List (List ℕ))
     (row_is : row ≡ class_made cs loader file) (concrete_is : concrete ≡ is_concrete_row (class_made cs loader file))
     (listed : proper ++ length cs.rows ∷ [] ≡ ancestors (defined cs loader file).rows (length cs.rows))
     (own_is : own ≡ (if is_concrete_row (class_made cs loader file) then length cs.rows ∷ [] else []))
@@ -196,7 +200,8 @@ module _ (cs : Classes) (over under : List (List ℕ)) (kept : IsKept cs over un
       (classes_are loaders' rows' l r) (a ∙ (λ i. over ++ (proper ++ class_is i ∷ []) ∷ [])) (b ∙ (λ i. front ++ own_is i ∷ []))
       (kept_now cs over under kept loader file (has_room cs loader file none) proper listed front
       (subst (λ k. IsAppended (if k then proper else []) (length cs.rows) under front) concrete_is
-      (subst (λ k. IsAppended (if concrete then proper else []) k under front) class_is appended)))
+      (subst (λ k. IsAppended (if concrete then proper else []) k under front) class_is appended))
+      (first_defined cs kept.object loader file none extends))
 
 -- those that get the class as a receiver are there
 pub there_chosen : (concrete : Bool) (xs ys : List ℕ) (n m : ℕ) → ys ≡ (if concrete then xs else []) → n ≡ m → All (λ a. a < n) xs → All (λ a. a < m) ys

@@ -1,10 +1,28 @@
 -- What definitions, delegations and new loaders leave as it was.
-use Rattle.std.specs.Prelude.{◌≡◌, ℕ, ◌<◌, ◌&&◌, List, [], ◌∷◌, ◌++◌, length, slice_get, Some, if◌then◌else◌}
+use Rattle.std.specs.Prelude.{◌≡◌, ℕ, ◌<◌, ◌&&◌, Bool, true, List, [], ◌∷◌, ◌++◌, length, slice_get, Some, is_some, if◌then◌else◌}
+use Rattle.std.specs.List.{AllByRecursion}
+use Rattle.jl_classfile.specs.Conditions.{object}
 use Rattle.jl_types.specs.World.{Class, Classes}
-use Rattle.jl_types.specs.Members.{lookup, is_concrete}
-use Rattle.jl_types.specs.Ancestry.{is_ancestor}
+use Rattle.jl_types.specs.Members.{lookup, is_concrete, is_interface}
+use Rattle.jl_types.specs.Ancestry.{is_ancestor, AreOrdered}
 use Rattle.jl_types.specs.Ancestry as ancestry
 use Rattle.jl_types.specs.Access.{nest_host}
+
+-- the loader has recorded java/lang/Object
+abbrev pub has_object : Classes → ℕ → Bool
+has_object cs loader = is_some (lookup cs loader object)
+
+-- java/lang/Object comes first: loader 0 has recorded it where any loader has, and where there is an interface
+pub record ObjectComesFirst (cs : Classes) : Type 0 where
+  pub recorded : (loader : ℕ) → has_object cs loader ≡ true → has_object cs 0 ≡ true
+  pub interfaces : (c : ℕ) → is_interface cs c ≡ true → has_object cs 0 ≡ true
+
+-- The order in which there come to be classes: what loaders have recorded is there, each class's parents were defined before it,
+-- and java/lang/Object comes first.
+pub record AreInOrder (cs : Classes) : Type 0 where
+  pub there : AllByRecursion (AllByRecursion (λ r. r.1 < length cs.rows)) cs.loaders
+  pub ordered : AreOrdered cs.rows
+  pub object : ObjectComesFirst cs
 
 -- each class stays, with its ancestors, what a loader has recorded stays, and a nest host that is known
 pub record Stays (old new : Classes) : Type 0 where

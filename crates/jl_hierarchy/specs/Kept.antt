@@ -7,6 +7,7 @@ use Rattle.jl_classfile.specs.Class.{Method}
 use Rattle.jl_types.specs.World.{Classes}
 use Rattle.jl_types.specs.Members.{numbers, recorded}
 use Rattle.jl_types.specs.Ancestry.{AreOrdered, ancestors, receivers}
+use Rattle.jl_hierarchy.specs.Constancy.{ObjectComesFirst}
 
 -- the names of a map, each with its number
 abbrev pub named : {A : Type 0} → List (Vec ℕ A × ℕ) → List (List ℕ × ℕ)
@@ -29,10 +30,12 @@ firsts_of made n (m ∷ ms) = firsts_of (with_first made m.name n) (n + 1) ms
 abbrev pub lists : {A : Type 0} → List (Vec ℕ A) → List (List ℕ)
 lists vectors = map (λ v. v.items) vectors
 
--- Of each class its ancestors and its receivers are kept. What loaders have recorded is there, and parents come first.
+-- Of each class its ancestors and its receivers are kept. What loaders have recorded is there, and parents come first, as
+-- java/lang/Object does.
 pub record IsKept (cs : Classes) (above below : List (List ℕ)) : Type 0 where
   pub there : AllByRecursion (AllByRecursion (λ r. r.1 < length cs.rows)) cs.loaders
   pub ordered : AreOrdered cs.rows
+  pub object : ObjectComesFirst cs
   pub few : length cs.rows ≤ 65536
   pub few_loaders : length cs.loaders ≤ 1024
   pub ancestors_kept : above ≡ map (ancestors cs.rows) (numbers cs)

@@ -1,12 +1,13 @@
 //! The definition of a class (JVMS SE 17 §5.3.5).
 
-ghost use Rattle.std.specs.Prelude.{◌≡◌, ◌≢◌, ◌<◌, ◌++◌, ◌∷◌, [], Some, None, Err, length, List, ℕ, if◌then◌else◌, All, IfOk, IfErr, OnOk, OnErr};
+ghost use Rattle.std.specs.Prelude.{◌≡◌, ◌≢◌, ◌<◌, ◌++◌, ◌∷◌, [], Some, None, Err, length, List, ℕ, if◌then◌else◌, true, All, IfOk, IfErr, OnOk, OnErr};
 ghost use Rattle.std.specs.Vec.{vec_len, vec_capacity};
 ghost use Rattle.jl_types.specs.declared.refusal.DefineFault.TheVariants as fault;
 ghost use Rattle.jl_types.specs.Members as members;
 ghost use Rattle.jl_types.specs.Ancestry as ancestry;
 ghost use Rattle.jl_types.specs.Definitions as definitions;
-ghost use Rattle.jl_hierarchy.specs.Constancy.{Stays, AddsReceiver};
+ghost use Rattle.jl_classfile.specs.Conditions.{extends_object};
+ghost use Rattle.jl_hierarchy.specs.Constancy.{AreInOrder, Stays, AddsReceiver};
 ghost use Rattle.jl_hierarchy.specs.Kept.{HasRoom, Rises, IsAppended, lists};
 
 use crate::classes::Classes;
@@ -45,6 +46,7 @@ impl Classes {
         ensures number { IfOk result (λ class. class ≡ length self.old.rows) }
         ensures accepted { OnOk result (definitions.define_fault self.old loader file ≡ None) }
         ensures ok { OnOk result (self.new ≡ definitions.defined self.old loader file) }
+        ensures in_order { OnOk result (AreInOrder self.old) }
         ensures stays { OnOk result (Stays self.old self.new) }
         ensures receivers { OnOk result (AddsReceiver self.old self.new) }
         ensures fault { IfErr result (λ f. f ≢ fault.Memory → definitions.define_fault self.old loader file ≡ Some f) }
@@ -71,6 +73,7 @@ impl Classes {
         requires { definitions.define_fault self.old loader file ≡ None }
         ensures number { IfOk result (λ class. class ≡ length self.old.rows) }
         ensures ok { OnOk result (self.new ≡ definitions.defined self.old loader file) }
+        ensures in_order { OnOk result (AreInOrder self.old) }
         ensures stays { OnOk result (Stays self.old self.new) }
         ensures receivers { OnOk result (AddsReceiver self.old self.new) }
         ensures err { OnErr result (self.new ≡ self.old) }
@@ -104,6 +107,7 @@ impl Classes {
         ensures rising { IfOk result (λ growth. Rises growth.ancestors.items) }
         ensures there { IfOk result (λ growth. All (λ a. a < length self.now.rows) growth.ancestors.items) }
         ensures room { IfOk result (λ growth. vec_len growth.ancestors < vec_capacity growth.ancestors) }
+        ensures interface { OnOk result (extends_object file.flags file.superclass ≡ true) }
         ensures own { IfOk result (λ growth. growth.own.items
             ≡ (if members.is_concrete_row (definitions.class_made self.now loader file) then length self.now.rows ∷ [] else [])) }
     {

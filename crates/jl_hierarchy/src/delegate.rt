@@ -1,10 +1,10 @@
 //! New loaders, and delegation (JVMS SE 17 §5.3).
 
-ghost use Rattle.std.specs.Prelude.{◌≡◌, ◌≢◌, ◌↔◌, nat_le, ◌<◌, ◌≤◌, ◌++◌, ◌∷◌, [], Some, None, Err, length, IfOk, IfErr, OnOk, OnErr};
+ghost use Rattle.std.specs.Prelude.{◌≡◌, ◌≢◌, ◌↔◌, nat_le, ℕ, ◌<◌, ◌≤◌, ◌++◌, ◌∷◌, [], Some, None, Err, length, IfOk, IfErr, OnOk, OnErr};
 ghost use Rattle.jl_types.specs.declared.refusal.DelegateFault.TheVariants as fault;
 ghost use Rattle.jl_types.specs.Definitions as definitions;
 ghost use Rattle.jl_types.specs.Members as members;
-ghost use Rattle.jl_hierarchy.specs.Constancy.{Stays};
+ghost use Rattle.jl_hierarchy.specs.Constancy.{AreInOrder, Stays};
 ghost use Rattle.jl_hierarchy.specs.declared.delegate.LoaderFault.TheVariants as loader_fault;
 
 use crate::classes::Classes;
@@ -33,6 +33,7 @@ impl Classes {
     pub fn new_loader(&mut self, alloc: Global) -> Result<LoaderId, LoaderFault>
         ensures number { IfOk result (λ loader. loader ≡ length self.old.loaders) }
         ensures ok { OnOk result (self.new ≡ record self.old { loaders = self.old.loaders ++ [] ∷ [] }) }
+        ensures in_order { OnOk result (AreInOrder self.old) }
         ensures stays { OnOk result (Stays self.old self.new) }
         ensures full { (result ≡ Err loader_fault.Full) ↔ (1024 ≤ length self.old.loaders) }
         ensures err { OnErr result (self.new ≡ self.old) }
@@ -63,6 +64,7 @@ impl Classes {
     fn push_loader(&mut self, alloc: Global) -> Result<(), AllocError>
         requires { length self.old.loaders < 1024 }
         ensures ok { OnOk result (self.new ≡ record self.old { loaders = self.old.loaders ++ [] ∷ [] }) }
+        ensures in_order { OnOk result (AreInOrder self.old) }
         ensures stays { OnOk result (Stays self.old self.new) }
         ensures err { OnErr result (self.new ≡ self.old) }
     {
@@ -84,6 +86,7 @@ impl Classes {
     ) -> Result<(), DelegateFault>
         ensures accepted { OnOk result (definitions.delegate_fault self.old loader name.now to ≡ None) }
         ensures ok { OnOk result (self.new ≡ definitions.delegated self.old loader name.now to) }
+        ensures in_order { OnOk result (AreInOrder self.old) }
         ensures stays { OnOk result (Stays self.old self.new) }
         ensures fault { IfErr result (λ f. f ≢ fault.Memory → definitions.delegate_fault self.old loader name.now to ≡ Some f) }
         ensures memory { result ≡ Err fault.Memory → definitions.delegate_fault self.old loader name.now to ≡ None }
@@ -111,7 +114,9 @@ impl Classes {
         requires loader { loader < length self.old.loaders }
         requires fresh { members.lookup self.old loader name.now ≡ None }
         requires there { class < length self.old.rows }
+        requires recorded { (to : ℕ) × (members.lookup self.old to name.now ≡ Some class) }
         ensures ok { OnOk result (self.new ≡ record self.old { loaders = definitions.with_record self.old.loaders loader name.now class }) }
+        ensures in_order { OnOk result (AreInOrder self.old) }
         ensures stays { OnOk result (Stays self.old self.new) }
         ensures err { OnErr result (self.new ≡ self.old) }
     {

@@ -1,6 +1,7 @@
 //! What the definition of a class adds.
 
-ghost use Rattle.std.specs.Prelude.{◌≡◌, ◌<◌, ◌++◌, ◌∷◌, [], length, filter_map, option_and_then, All, IfOk};
+ghost use Rattle.std.specs.Prelude.{◌≡◌, ◌<◌, ◌++◌, ◌∷◌, [], length, filter_map, option_and_then, true, All, IfOk, OnOk};
+ghost use Rattle.jl_classfile.specs.Conditions.{extends_object};
 ghost use Rattle.jl_types.specs.Members as members;
 ghost use Rattle.std.specs.List.{flat_map};
 ghost use Rattle.jl_types.specs.Ancestry as ancestry;
@@ -22,7 +23,8 @@ impl Classes {
         loader: LoaderId,
         file: ClassFile,
     ) -> Result<Class, AllocError>
-        ensures { IfOk result (λ row. row ≡ definitions.class_made self.now loader file) }
+        ensures row { IfOk result (λ row. row ≡ definitions.class_made self.now loader file) }
+        ensures interface { OnOk result (extends_object file.flags file.superclass ≡ true) }
     {
         let superclass = self.found_superclass(loader, &file);
         let interfaces = self.found_all(alloc, loader, file.interfaces())?;
@@ -31,7 +33,8 @@ impl Classes {
 
     /// The class that the loader has recorded under the superclass's name.
     fn found_superclass(&self, loader: LoaderId, file: &ClassFile) -> Option<ClassId>
-        ensures { result ≡ option_and_then (members.lookup self.now loader) file.now.superclass }
+        ensures found { result ≡ option_and_then (members.lookup self.now loader) file.now.superclass }
+        ensures interface { extends_object file.now.flags file.now.superclass ≡ true }
     {
         self.lookup(loader, file.superclass()?.as_slice())
     }

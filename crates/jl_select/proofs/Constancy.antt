@@ -1,6 +1,6 @@
 -- What was selected stays so when classes are added.
 use Rattle.std.specs.Prelude.{◌≡◌, ℕ, zero, suc, ◌+◌, Bool, true, false, not, ◌&&◌, ◌||◌, List, [], ◌∷◌, map, filter, filter_map, length}
-use Rattle.std.specs.Prelude.{Option, Some, None, option_and_then, option_to_list, IfSome, if◌then◌else◌, ⊤}
+use Rattle.std.specs.Prelude.{Option, Some, None, option_and_then, option_to_list, IfSome, if◌then◌else◌, is_some, ⊤}
 use Rattle.std.specs.List.{AllByRecursion, list_any, range_with_len}
 use Rattle.std.specs.Option.{option_map_or}
 use Rattle.std.proofs.Common.{refl, ap, ◌∙◌}
@@ -20,14 +20,15 @@ use Rattle.jl_types.specs.Overriding.{are_alike, is_visible, classes_between, me
 use Rattle.jl_types.specs.Selection.{found_or, overriding, chosen_of, chosen, ending, virtual_outcome, interface_ending, interface_outcome}
 use Rattle.jl_types.specs.Selection.{is_init, special_start, instance_methods, special_in_class, special_in_interface, special_found, special_choice, special_outcome}
 use Rattle.jl_types.proofs.Orders.{IsGood}
-use Rattle.jl_hierarchy.specs.Constancy.{Stays}
+use Rattle.jl_hierarchy.specs.Constancy.{AreInOrder, Stays}
 use Rattle.jl_resolve.specs.Constancy.{RecordsObject}
+use Rattle.jl_resolve.proofs.Constancy.{settled_stays}
 use Rattle.jl_resolve.proofs.Unchanged.{IsThere, IsOfThere, filter_same, any_same, all_filter, all_option, first_there, first_of_there}
 use Rattle.jl_resolve.proofs.Unchanged.{row_stays, package_stays, methods_stay, method_stays, interface_stays, declared_stays, declared_there}
 use Rattle.jl_resolve.proofs.Unchanged.{public_stays, private_stays, protected_stays, static_stays, abstract_stays, package_private_stays}
 use Rattle.jl_resolve.proofs.Unchanged.{ancestor_stays, superclasses_stay, superclasses_there, proper_subclass_stays, defaults_stay, defaults_there}
 use Rattle.jl_resolve.proofs.Unchanged.{upward_stays, upward_there, declared_in_object_stays, declared_in_object_there}
-use Rattle.jl_select.specs.Constancy.{ChosenStays, OutcomesStay}
+use Rattle.jl_select.specs.Constancy.{ChosenStays, OutcomesStay, IsConstant}
 use Rattle.jl_select.proofs.Bridges.{superclass_there}
 
 -- c can override a by way of a method of the class k
@@ -258,4 +259,26 @@ outcomes_stay old new stays good recorded = record {
   virtual = λ x r there at. virtual_outcome_stays old new stays good x r there at;
   interface = λ x named r there at. interface_outcome_stays old new stays good x r there at named;
   special = λ d named ref caller there. special_outcome_stays old new stays good ref d named caller there recorded;
+}
+
+is_there : (o : Option ℕ) → is_some o ≡ true → (c : ℕ) × (o ≡ Some c)
+is_there None h = cc
+is_there (Some c) h = (c, refl)
+
+-- all of this, where java/lang/Object comes first
+pub constant : (old new : Classes) → AreInOrder old → Stays old new → IsConstant old new
+constant old new order stays =
+    let good : IsGood old = record { there = order.there; ordered = order.ordered } in
+    let recorded : RecordsObject old = λ c is. is_there (lookup old 0 object) (order.object.interfaces c is) in
+    record {
+      resolved = settled_stays old new stays good recorded;
+      chosen = selected_stays old new stays good;
+      outcomes = outcomes_stay old new stays good recorded;
+    }
+
+pub constant_itself : (cs : Classes) → IsConstant cs cs
+constant_itself cs = record {
+  resolved = record { resolved = λ d ref settled. refl };
+  chosen = record { chosen = λ x r there at. refl };
+  outcomes = record { virtual = λ x r there at. refl; interface = λ x named r there at. refl; special = λ d named ref there at. refl };
 }

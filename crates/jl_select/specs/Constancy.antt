@@ -1,8 +1,9 @@
--- What was selected stays so when classes are added.
+-- What was resolved and what was selected stays so when classes are added.
 use Rattle.std.specs.Prelude.{◌≡◌, ℕ, ◌<◌, List, length}
 use Rattle.jl_pool.specs.declared.reference.Reference.{Reference}
 use Rattle.jl_types.specs.declared.ids.MethodId.{MethodId}
 use Rattle.jl_types.specs.World.{Classes}
+use Rattle.jl_resolve.specs.Constancy.{SettledStays}
 use Rattle.jl_types.specs.Selection as selection
 use Rattle.jl_types.specs.Selection.{virtual_outcome, interface_outcome, special_outcome}
 
@@ -17,3 +18,9 @@ pub record OutcomesStay (old new : Classes) : Type 0 where
       → interface_outcome new x named r ≡ interface_outcome old x named r
   pub special : (d named : ℕ) (ref : Reference (List ℕ)) → d < length old.rows → named < length old.rows
       → special_outcome new d named ref ≡ special_outcome old d named ref
+
+-- all of this
+pub record IsConstant (old new : Classes) : Type 0 where
+  pub resolved : SettledStays old new
+  pub chosen : ChosenStays old new
+  pub outcomes : OutcomesStay old new

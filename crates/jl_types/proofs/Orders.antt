@@ -70,7 +70,7 @@ module _ (cs : Classes) (good : IsGood cs) (loader : ℕ) where
 
 -- ---- one class more, one record more
 
-none_behind : {A : Type 0} (xs : List A) (x y : A) (n : ℕ) → slice_get (xs ++ x ∷ []) n ≡ Some y → n ≤ length xs
+pub none_behind : {A : Type 0} (xs : List A) (x y : A) (n : ℕ) → slice_get (xs ++ x ∷ []) n ≡ Some y → n ≤ length xs
 none_behind [] x y zero e = omega arith
 none_behind [] x y (suc n) e = cc
 none_behind (z ∷ xs) x y zero e = omega arith
@@ -88,7 +88,7 @@ one_more : (n : ℕ) (records : List (List ℕ × ℕ)) (name : List ℕ) (c : �
 one_more n [] name c h lt = (lt, tt)
 one_more n (r ∷ records) name c h lt = (h.0, one_more n records name c h.1 lt)
 
-recorded_below : (n : ℕ) (loaders : List (List (List ℕ × ℕ))) (loader : ℕ) (name : List ℕ) (c : ℕ) → AllByRecursion (AreBelow n) loaders → c < n
+pub recorded_below : (n : ℕ) (loaders : List (List (List ℕ × ℕ))) (loader : ℕ) (name : List ℕ) (c : ℕ) → AllByRecursion (AreBelow n) loaders → c < n
     → AllByRecursion (AreBelow n) (with_record loaders loader name c)
 recorded_below n loaders loader name c h lt = by_loader (slice_get loaders loader) refl
   where
@@ -125,7 +125,7 @@ delegated_good cs good loader name to = record { there = by_class (lookup cs to 
     by_class None e = good.there
     by_class (Some c) e = recorded_below (length cs.rows) cs.loaders loader name c good.there (looked_up cs good to name c e)
 
-with_loader : (n : ℕ) (loaders : List (List (List ℕ × ℕ))) → AllByRecursion (AreBelow n) loaders → AllByRecursion (AreBelow n) (loaders ++ [] ∷ [])
+pub with_loader : (n : ℕ) (loaders : List (List (List ℕ × ℕ))) → AllByRecursion (AreBelow n) loaders → AllByRecursion (AreBelow n) (loaders ++ [] ∷ [])
 with_loader n [] h = (tt, tt)
 with_loader n (records ∷ loaders) h = (h.0, with_loader n loaders h.1)
 

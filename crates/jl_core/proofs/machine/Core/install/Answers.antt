@@ -9,6 +9,7 @@ use Rattle.jl_types.specs.Links.{scratch}
 use Rattle.jl_types.specs.Events.{unless}
 use Rattle.jl_types.specs.History.{kept}
 use Rattle.jl_core.specs.State.{State, IsAccepted, counted, AreScratch, link_at}
+use Rattle.jl_select.proofs.Constancy.{constant_itself}
 use Rattle.jl_core.proofs.KeptLaws.{are_scratch, kept_once, nothing_lost}
 use Rattle.jl_core.proofs.InstallLaws.{install_keeps}
 use Rattle.jl_core.proofs.machine.Core.install.Goals.{After-of}
@@ -43,6 +44,7 @@ returns-clause-ok c =
           (keeps c s
           ∙ kept_once (list_any (λ row. row.0 == s) c.args.rows.now) (link_at c.self.inside.links s) (scratch c.self.inside.world s) l e
           (c.self.invariant.0 s l e))));
+      constant = constant_itself c.self.inside.world.classes;
       limit = refl;
       count = refl;
     }

@@ -7,6 +7,8 @@ use Rattle.jl_types.specs.World.{World}
 use Rattle.jl_types.specs.Links.{scratch}
 use Rattle.jl_types.specs.History.{kept}
 use Rattle.jl_core.specs.State.{State, IsAccepted, counted, AreScratch, link_at}
+use Rattle.jl_select.specs.Constancy.{IsConstant}
+use Rattle.jl_select.proofs.Constancy.{constant_itself}
 use Rattle.jl_core.proofs.KeptLaws.{are_scratch, nothing_lost}
 use Rattle.jl_core.proofs.RequestLaws.{request_keeps}
 use Rattle.jl_core.proofs.machine.Core.request.Goals.{After-of}
@@ -36,6 +38,7 @@ returns-clause-ok c =
       world = c.in_ok-site.ensures.ok;
       links = keeps c;
       dropped = c.of.ensures ∙ c.new.ensures.items ∙ sym (nothing_lost (length c.self.inside.world.places) c.self.inside.links c.self.inside.links (λ s l e. ap is_some e));
+      constant = subst (λ (w : World). IsConstant c.self.inside.world.classes w.classes) (sym c.in_ok-site.ensures.ok) (constant_itself c.self.inside.world.classes);
       limit = refl;
       count = refl;
     }

@@ -4,7 +4,7 @@ use Rattle.jl_types.specs.World.{Class, Classes}
 use Rattle.jl_types.specs.Definitions.{with_record, defined}
 use Rattle.jl_hierarchy.specs.Constancy.{Stays, AddsReceiver}
 use Rattle.jl_hierarchy.specs.Kept.{IsKept, IsAppended, lists}
-use Rattle.jl_hierarchy.proofs.KeptLaws.{many_below, good}
+use Rattle.jl_hierarchy.proofs.KeptLaws.{many_below, good, in_order}
 use Rattle.jl_hierarchy.proofs.Constancy.{stays_defined, adds_receiver}
 use Rattle.jl_hierarchy.proofs.NewClass.{kept_all, there_chosen, kept_as}
 use Rattle.jl_hierarchy.proofs.classes.Classes.add.Goals as goal
@@ -39,7 +39,7 @@ invariant_of-self-2 c =
     let class = c.new-class.result in
     kept_all c.args.self.now c.self.inside.above.items (lists c.self.inside.below.items)
     (subst (λ (k : Classes). IsKept k c.self.inside.above.items (lists c.self.inside.below.items)) c.self.view_is c.self.invariant)
-    c.args.loader c.args.file c.requires g.row g.is_concrete g.ancestors.items g.own.items c.in_ok-name.name.items class c.push_all.ensures.below.0
+    c.args.loader c.args.file c.requires c.in_ok-growth.ensures.interface g.row g.is_concrete g.ancestors.items g.own.items c.in_ok-name.name.items class c.push_all.ensures.below.0
     c.in_ok-growth.ensures.row c.in_ok-growth.ensures.concrete c.in_ok-growth.ensures.all c.in_ok-growth.ensures.own
     c.in_ok-name.ensures
     (c.new-class.ensures ∙ ap length c.as_slice.ensures.value ∙ ap (λ (k : Classes). length k.rows) c.self.view_is)
@@ -64,3 +64,6 @@ pub returns-clause-receivers : goal.returns-clause-receivers
 returns-clause-receivers c =
     subst (λ (new : Classes). AddsReceiver c.args.self.now new) (sym (made c))
     (adds_receiver c.args.self.now (good _ _ _ c.self.invariant c.args.self.now c.self.view_is).ordered c.args.loader c.args.file)
+
+pub returns-clause-in_order : goal.returns-clause-in_order
+returns-clause-in_order c = in_order _ _ _ c.self.invariant c.args.self.now c.self.view_is

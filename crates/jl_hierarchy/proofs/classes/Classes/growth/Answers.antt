@@ -7,5 +7,5 @@ use Rattle.jl_hierarchy.proofs.classes.Classes.growth.Goals as goal
 
 pub proper_ancestors-requires : goal.proper_ancestors-requires
 proper_ancestors-requires c =
-    subst (λ row. AreOrdered (c.args.self.now.rows ++ row ∷ [])) (sym c.in_ok-made.ensures)
+    subst (λ row. AreOrdered (c.args.self.now.rows ++ row ∷ [])) (sym c.in_ok-made.ensures.row)
     ((defined_good c.args.self.now (good _ _ _ c.self.invariant c.args.self.now c.self.view_is) c.args.loader c.args.file).ordered)

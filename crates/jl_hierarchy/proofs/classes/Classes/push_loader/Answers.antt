@@ -1,10 +1,21 @@
-use Rattle.std.specs.Prelude.{ℕ, List, [], ◌∷◌, ◌++◌}
+use Rattle.std.specs.Prelude.{ℕ, ◌<◌, List, [], ◌∷◌, ◌++◌, length}
 use Rattle.std.proofs.Common.{refl, ap, sym, subst, ◌∙◌}
 use Rattle.jl_types.specs.World.{Classes}
 use Rattle.jl_hierarchy.specs.Constancy.{Stays}
-use Rattle.jl_hierarchy.proofs.KeptLaws.{good}
+use Rattle.jl_hierarchy.specs.Kept.{IsKept, lists}
+use Rattle.jl_hierarchy.proofs.NewRecords.{kept_with_loader}
+use Rattle.jl_hierarchy.proofs.KeptLaws.{good, in_order}
 use Rattle.jl_hierarchy.proofs.Constancy.{stays_with_loader}
 use Rattle.jl_hierarchy.proofs.classes.Classes.push_loader.Goals as goal
+
+pub invariant_of-self-2 : goal.invariant_of-self-2
+invariant_of-self-2 c =
+    let loaders = c.self.inside.loaders.items in
+    let inside : Classes = record { loaders = loaders; rows = c.self.inside.rows.items } in
+    subst (λ (ls : List (List (List ℕ × ℕ))). IsKept (record { loaders = ls; rows = c.self.inside.rows.items }) c.self.inside.above.items (lists c.self.inside.below.items))
+    (sym (c.in_ok-push.ensures.items ∙ ap (λ (records : List (List ℕ × ℕ)). loaders ++ records ∷ []) c.new.ensures))
+    (kept_with_loader inside c.self.inside.above.items (lists c.self.inside.below.items) c.self.invariant
+    (subst (λ (k : Classes). length k.loaders < 1024) (sym c.self.view_is) c.requires))
 
 pub returns-clause-stays : goal.returns-clause-stays
 returns-clause-stays c =
@@ -14,3 +25,6 @@ returns-clause-stays c =
     (subst (λ (ls : List (List (List ℕ × ℕ))). Stays inside (record { loaders = ls; rows = c.self.inside.rows.items }))
     (sym (c.in_ok-push.ensures.items ∙ ap (λ (records : List (List ℕ × ℕ)). loaders ++ records ∷ []) c.new.ensures))
     (stays_with_loader inside (good _ _ _ c.self.invariant inside refl)))
+
+pub returns-clause-in_order : goal.returns-clause-in_order
+returns-clause-in_order c = in_order _ _ _ c.self.invariant c.args.self.now c.self.view_is
