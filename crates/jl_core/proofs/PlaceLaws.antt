@@ -1,20 +1,16 @@
 -- The request of a place.
-use Rattle.std.specs.Prelude.{◌≡◌, ℕ, ◌<◌, ◌≤◌, ◌==◌, nat_le, Bool, true, false, if◌then◌else◌, position, List, [], ◌∷◌, ◌++◌}
+use Rattle.std.specs.Prelude.{◌≡◌, ℕ, ◌==◌, Bool, true, if◌then◌else◌, position, []}
 use Rattle.std.specs.Prelude.{length, slice_get, find, Option, Some, None, is_some, option_and_then, Err}
 use Rattle.std.specs.Option.{option_map_or}
-use Rattle.std.proofs.Common.{refl, ap, sym, subst, ◌∙◌, arith, length-append}
-use Rattle.std.specs.Bool.{then_some}
-use Rattle.std.proofs.lemmas.Bool.{leb-false}
+use Rattle.std.proofs.Common.{refl, ap, ◌∙◌}
 use Rattle.jl_code.specs.Site.{Site}
 use Rattle.jl_types.specs.declared.ids.Place.{Place}
 use Rattle.jl_types.specs.declared.event.Made.TheVariants as made
-use Rattle.jl_types.specs.declared.refusal.NotLinkable.TheVariants.{ArrayReceiver, PolymorphicSignature}
 use Rattle.jl_types.specs.declared.refusal.Refusal.{Refusal}
-use Rattle.jl_types.specs.declared.refusal.Refusal.TheVariants.{NotLinkable, SitesFull, UnknownClass, NotYet}
+use Rattle.jl_types.specs.declared.refusal.Refusal.TheVariants.{UnknownClass, NotYet}
 use Rattle.jl_types.specs.declared.event.Event.TheVariants as event
 use Rattle.jl_types.specs.Members.{is_present}
-use Rattle.jl_types.specs.Events.{same_place, names_array, is_polymorphic, new_place_fault, request_place, if_invoked, request_at, unless}
-use Rattle.jl_types.proofs.Firsts.{first_none, test_none}
+use Rattle.jl_types.specs.Events.{same_place, new_place_fault, request_place, if_invoked, request_at, unless}
 use Rattle.jl_core.specs.Admitted.{admitted, names_method}
 use Rattle.jl_types.specs.World.{Class, Classes, World}
 use Rattle.jl_types.specs.Sites.{invocation_at}
@@ -43,14 +39,3 @@ refused_new max_sites w place site r e s p f =
     ∙ ap (if_invoked max_sites w place) e
     ∙ ap (λ (o : Option ℕ). request_place max_sites w o site) p
     ∙ ap (λ (o : Option Refusal). unless o (made.Site (length w.places))) f
-
-pub room_there : (max_sites : ℕ) (w : World) (site : Site) → new_place_fault max_sites w site ≡ None → length w.places < max_sites
-room_there max_sites w site e =
-    let a = first_none (then_some (names_array site.operand) (NotLinkable ArrayReceiver)) _ e in
-    let b = first_none (then_some (is_polymorphic site.operand) (NotLinkable PolymorphicSignature)) _ a.1 in
-    let d = first_none (then_some (nat_le max_sites (length w.places)) SitesFull) _ b.1 in
-    leb-false max_sites (length w.places) (test_none (nat_le max_sites (length w.places)) SitesFull d.0)
-
-pub place_few : (keys : List Place) (place : Place) (most : ℕ) → length keys < most → (b : Bool) → length (if b then keys else keys ++ place ∷ []) ≤ most
-place_few keys place most h true = omega arith
-place_few keys place most h false = subst (λ n. n ≤ most) (sym (length-append keys (place ∷ []))) (omega arith)

@@ -48,13 +48,13 @@ pub(crate) fn new_loader(world: &mut World, alloc: Global) -> Result<Changed, Re
         return Err(Refusal::LoadersFull);
     }
     let dropped = room_for_sites(world, alloc)?;
-    match world.classes.new_loader(alloc) {
-        Ok(loader) => Ok(Changed {
-            made: Made::Loader(loader),
-            dropped,
-        }),
-        Err(_) => Err(Refusal::Memory),
-    }
+    let Ok(loader) = world.classes.new_loader(alloc) else {
+        return Err(Refusal::Memory);
+    };
+    Ok(Changed {
+        made: Made::Loader(loader),
+        dropped,
+    })
 }
 
 /// The loader defines a class of the file.
@@ -112,11 +112,11 @@ pub(crate) fn delegate(
         return Err(Refusal::Delegate(fault));
     }
     let dropped = room_for_sites(world, alloc)?;
-    match world.classes.delegate(alloc, loader, name.as_slice(), to) {
-        Ok(()) => Ok(Changed {
-            made: Made::Nothing,
-            dropped,
-        }),
-        Err(_) => Err(Refusal::Memory),
-    }
+    let Ok(()) = world.classes.delegate(alloc, loader, name.as_slice(), to) else {
+        return Err(Refusal::Memory);
+    };
+    Ok(Changed {
+        made: Made::Nothing,
+        dropped,
+    })
 }

@@ -78,10 +78,6 @@ none_yet (Some k) e = cc
 
 -- ---- a search that begins where another one ended
 
-pub place_within : {X : Type 0} (p : X → Bool) (xs : List X) (i : ℕ) → position p xs ≡ Some i → i < length xs
-place_within p [] i e = cc
-place_within p (x ∷ xs) i e = (position-Some p (x ∷ xs) i x e).0
-
 module _ {X : Type 0} (p q : X → Bool) (only : (x : X) → p x ≡ false → q x ≡ false) where
   no_test : (x : X) (xs : List X) (n : ℕ) (b : Bool) → p x ≡ b → position_from p n (x ∷ xs) ≡ None
       → (position_from p (n + 1) xs ≡ None → position_from q (n + 1) xs ≡ None) → position_from q n (x ∷ xs) ≡ None
