@@ -2,5 +2,6 @@
 -- means of proof.
 pub mod Faults
 pub mod Runs
+pub mod Known
 pub mod Laws
 pub mod Means

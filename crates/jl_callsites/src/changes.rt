@@ -1,10 +1,13 @@
 //! New call sites and switch points, new targets, and switch points that become invalid (java.lang.invoke).
 
-ghost use Rattle.std.specs.Prelude.{◌≡◌, ◌≢◌, ◌<◌, ◌++◌, ◌∷◌, [], nat_le, false, None, Some, Err, length, IfOk, IfErr, OnOk, OnErr};
+ghost use Rattle.std.specs.Prelude.{◌≡◌, ◌≢◌, ◌<◌, ◌++◌, ◌∷◌, [], nat_le, true, false, None, Some, Err, length, IfOk, IfErr, OnOk, OnErr};
 ghost use Rattle.std.specs.List.{list_any};
 ghost use Rattle.jl_types.specs.declared.refusal.CallSiteFault.TheVariants as fault;
 ghost use Rattle.jl_types.specs.Events as events;
+ghost use Rattle.jl_types.specs.Targets as targets;
 ghost use Rattle.jl_callsites.specs.Faults as faults;
+ghost use Rattle.jl_callsites.specs.Runs.{method_of};
+ghost use Rattle.jl_callsites.specs.Known.{has_points, RunAsBefore, OthersRunAsBefore};
 
 use crate::call_site::CallSite;
 use crate::discard::discard;
@@ -34,6 +37,7 @@ impl Sites {
         ensures accepted { OnOk result (faults.new_site_fault classes.now self.old ty target ≡ None) }
         ensures number { IfOk result (λ site. site ≡ length self.old.call_sites) }
         ensures ok { OnOk result (self.new ≡ faults.with_site self.old kind ty target) }
+        ensures runs { OnOk result (RunAsBefore self.old self.new) }
         ensures fault { IfErr result (λ f. f ≢ fault.Memory → faults.new_site_fault classes.now self.old ty target ≡ Some f) }
         ensures memory { result ≡ Err fault.Memory → faults.new_site_fault classes.now self.old ty target ≡ None }
         ensures err { OnErr result (self.new ≡ self.old) }
@@ -63,6 +67,8 @@ impl Sites {
     ) -> Result<(), CallSiteFault>
         ensures accepted { OnOk result (faults.set_target_fault classes.now self.old site target ≡ None) }
         ensures ok { OnOk result (self.new ≡ faults.with_target self.old site target) }
+        ensures runs { OnOk result (method_of self.new site ≡ Some (targets.evaluated self.old target)) }
+        ensures others { OnOk result (OthersRunAsBefore self.old self.new site) }
         ensures fault { IfErr result (λ f. faults.set_target_fault classes.now self.old site target ≡ Some f) }
         ensures named { IfErr result (λ f. f ≢ fault.Memory) }
         ensures err { OnErr result (self.new ≡ self.old) }
@@ -71,7 +77,7 @@ impl Sites {
             discard(target);
             return Err(fault);
         }
-        retarget(self.call_sites.as_mut_slice(), site, target);
+        self.put_target(site, target);
         Ok(())
     }
 
@@ -84,6 +90,7 @@ impl Sites {
         ensures accepted { OnOk result (faults.new_switch_fault self.old ≡ None) }
         ensures number { IfOk result (λ point. point ≡ length self.old.switches) }
         ensures ok { OnOk result (self.new ≡ faults.with_switch self.old) }
+        ensures runs { OnOk result (RunAsBefore self.old self.new) }
         ensures fault { IfErr result (λ f. f ≢ fault.Memory → faults.new_switch_fault self.old ≡ Some f) }
         ensures memory { result ≡ Err fault.Memory → faults.new_switch_fault self.old ≡ None }
         ensures err { OnErr result (self.new ≡ self.old) }
@@ -118,13 +125,26 @@ impl Sites {
         Ok(())
     }
 
+    /// The call site, which is there, runs this target from now on.
+    fn put_target(&mut self, site: CallSiteId, target: Target)
+        requires there { site < length self.old.call_sites }
+        requires known { has_points (length self.old.switches) target ≡ true }
+        ensures put { self.new ≡ faults.with_target self.old site target }
+        ensures runs { method_of self.new site ≡ Some (targets.evaluated self.old target) }
+        ensures others { OthersRunAsBefore self.old self.new site }
+    {
+        retarget_in(&mut self.call_sites, site, target);
+    }
+
     /// One call site more.
     ///
     /// # Errors
     ///
     /// Want of memory. Nothing has changed then.
     fn push_site(&mut self, site: CallSite) -> Result<(), AllocError>
+        requires { has_points (length self.old.switches) site.target ≡ true }
         ensures ok { OnOk result (self.new ≡ record self.old { call_sites = self.old.call_sites ++ site ∷ [] }) }
+        ensures runs { OnOk result (RunAsBefore self.old self.new) }
         ensures err { OnErr result (self.new ≡ self.old) }
     {
         self.call_sites.push(site)?;
@@ -138,6 +158,7 @@ impl Sites {
     /// Want of memory. Nothing has changed then.
     fn push_switch(&mut self) -> Result<(), AllocError>
         ensures ok { OnOk result (self.new ≡ faults.with_switch self.old) }
+        ensures runs { OnOk result (RunAsBefore self.old self.new) }
         ensures err { OnErr result (self.new ≡ self.old) }
     {
         self.switches.push(true)?;
@@ -145,7 +166,15 @@ impl Sites {
     }
 }
 
-/// The call site, which is there, runs this target from now on.
+/// The call site of this number, which is there, runs this target from now on.
+fn retarget_in(call_sites: &mut Vec<CallSite>, site: CallSiteId, target: Target)
+    requires { site < length call_sites.old.items }
+    ensures { call_sites.new.items ≡ events.retargeted call_sites.old.items site target }
+{
+    retarget(call_sites.as_mut_slice(), site, target);
+}
+
+/// The same in a slice.
 fn retarget(call_sites: &mut [CallSite], site: CallSiteId, target: Target)
     requires { site < length call_sites.old }
     ensures { call_sites.new ≡ events.retargeted call_sites.old site target }

@@ -1,12 +1,13 @@
 //! Why a call site or a switch point isn't made or changed (java.lang.invoke).
 
-ghost use Rattle.std.specs.Prelude.{◌≡◌, ◌≢◌, ◌<◌, not, nat_le, false, None, Some, length, IfSome};
+ghost use Rattle.std.specs.Prelude.{◌≡◌, ◌≢◌, ◌<◌, not, nat_le, true, false, None, Some, length, IfSome};
 ghost use Rattle.std.specs.List.{list_any};
 ghost use Rattle.jl_types.specs.declared.refusal.CallSiteFault.TheVariants as fault;
 ghost use Rattle.jl_types.specs.Targets as targets;
 ghost use Rattle.jl_code.specs.Codes as codes;
 ghost use Rattle.jl_callsites.specs.Faults as faults;
 ghost use Rattle.jl_callsites.specs.Faults.{world_of};
+ghost use Rattle.jl_callsites.specs.Known.{has_points};
 
 use crate::sites::Sites;
 use crate::size::is_too_large;
@@ -27,6 +28,7 @@ impl Sites {
         ensures first { result ≡ faults.new_site_fault classes.now self.now ty.now target.now }
         ensures named { IfSome result (λ f. f ≢ fault.Memory) }
         ensures room { result ≡ None → length self.now.call_sites < 65536 }
+        ensures known { result ≡ None → has_points (length self.now.switches) target.now ≡ true }
     {
         if self.call_site_count() >= MOST_OF_A_KIND {
             return Some(CallSiteFault::Full);
@@ -44,6 +46,7 @@ impl Sites {
         ensures first { result ≡ faults.set_target_fault classes.now self.now site target.now }
         ensures named { IfSome result (λ f. f ≢ fault.Memory) }
         ensures there { result ≡ None → site < length self.now.call_sites }
+        ensures known { result ≡ None → has_points (length self.now.switches) target.now ≡ true }
     {
         let Some(row) = self.call_site_at(site) else {
             return Some(CallSiteFault::UnknownCallSite);
@@ -91,6 +94,7 @@ impl Sites {
     /// Why a call site of this type doesn't get this target: its size, and then its parts.
     fn target_fault(&self, classes: &Classes, ty: &[u8], target: &Target) -> Option<CallSiteFault>
         ensures first { result ≡ targets.target_fault (world_of classes.now self.now) 0 ty.now target.now }
+        ensures known { result ≡ None → has_points (length self.now.switches) target.now ≡ true }
         ensures named { IfSome result (λ f. f ≢ fault.Memory) }
     {
         if is_too_large(target) {
@@ -102,6 +106,7 @@ impl Sites {
     /// Why a part of a call site's target isn't taken: a guard before its parts, and the first part before the fallback.
     fn part_fault(&self, classes: &Classes, ty: &[u8], target: &Target) -> Option<CallSiteFault>
         ensures first { result ≡ targets.part_fault (world_of classes.now self.now) 0 ty.now target.now }
+        ensures known { result ≡ None → has_points (length self.now.switches) target.now ≡ true }
         ensures named { IfSome result (λ f. f ≢ fault.Memory) }
     {
         match &target.part {

@@ -27,6 +27,11 @@ impl Model for Sites {
     ghost coded = { sites_code };
 
     ghost view = { λ s. record { call_sites = s.call_sites.items; switches = s.switches.items } };
+
+    ghost use Rattle.std.specs.Prelude.{◌≡◌, true};
+    ghost use Rattle.jl_callsites.specs.Known.{are_known};
+
+    ghost invariant = { λ s. are_known (record { call_sites = s.call_sites.items; switches = s.switches.items }) ≡ true };
 }
 
 impl Sites {
