@@ -1,0 +1,3 @@
+pub mod Worlds
+pub mod Sizes
+pub mod Known

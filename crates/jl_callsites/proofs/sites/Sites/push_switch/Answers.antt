@@ -1,0 +1,19 @@
+use Rattle.std.specs.Prelude.{◌≡◌, true, Bool, List}
+use Rattle.std.proofs.Common.{sym, subst}
+use Rattle.jl_types.specs.World.{Sites}
+use Rattle.jl_callsites.specs.Known.{are_known, RunAsBefore}
+use Rattle.jl_callsites.proofs.Known.{one_switch_more, switch_runs}
+use Rattle.jl_callsites.proofs.sites.Sites.push_switch.Goals as goal
+
+pub invariant_of-self-2 : goal.invariant_of-self-2
+invariant_of-self-2 c =
+    let inside : Sites = record { call_sites = c.self.inside.call_sites.items; switches = c.self.inside.switches.items } in
+    subst (λ (switches : List Bool). are_known (record { call_sites = c.self.inside.call_sites.items; switches = switches }) ≡ true)
+    (sym c.in_ok-push.ensures.items) (one_switch_more inside c.self.invariant)
+
+pub returns-clause-runs : goal.returns-clause-runs
+returns-clause-runs c =
+    let inside : Sites = record { call_sites = c.self.inside.call_sites.items; switches = c.self.inside.switches.items } in
+    subst (λ (old : Sites). RunAsBefore old (record { call_sites = c.self.inside.call_sites.items; switches = c.push.new.self.items })) c.self.view_is
+    (subst (λ (switches : List Bool). RunAsBefore inside (record { call_sites = c.self.inside.call_sites.items; switches = switches }))
+    (sym c.in_ok-push.ensures.items) (switch_runs inside c.self.invariant))

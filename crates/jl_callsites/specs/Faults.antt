@@ -1,0 +1,64 @@
+-- Why call sites and switch points aren't made or changed, and what they are afterwards. No fault looks at requested places or
+-- at bindings, so a world of these classes and sites stands for each that has them.
+use Rattle.std.specs.Prelude.{ℕ, Bool, true, not, nat_le, List, [], ◌∷◌, ◌++◌, length, slice_get, Option}
+use Rattle.std.specs.Bool.{then_some}
+use Rattle.jl_code.specs.Codes.{begins_special}
+use Rattle.jl_types.specs.declared.ids.MethodId.{MethodId}
+use Rattle.jl_types.specs.declared.target.CallSiteKind.{CallSiteKind}
+use Rattle.jl_types.specs.declared.refusal.CallSiteFault.{CallSiteFault}
+use Rattle.jl_types.specs.declared.refusal.CallSiteFault.TheVariants.{Full, UnknownMethod, NotStatic, WrongType}
+use Rattle.jl_types.specs.Target.{Target}
+use Rattle.jl_types.specs.World.{World, Classes, Sites}
+use Rattle.jl_types.specs.Members.{method_test, is_static}
+use Rattle.jl_types.specs.Resolution.{first_of}
+use Rattle.jl_types.specs.Targets.{may_be_named, is_of_type}
+use Rattle.jl_types.specs.Events.{most_of_a_kind, new_call_site_fault, retargeted, invalidated}
+use Rattle.jl_types.specs.Events as events
+
+-- a world of these classes and sites, with no requested place and no binding
+abbrev pub world_of : Classes → Sites → World
+world_of cs sites = record { classes = cs; places = []; bindings = []; sites = sites }
+
+-- ---- faults
+
+abbrev pub new_site_fault : Classes → Sites → List ℕ → Target → Option CallSiteFault
+new_site_fault cs sites ty t = new_call_site_fault (world_of cs sites) ty t
+
+abbrev pub set_target_fault : Classes → Sites → ℕ → Target → Option CallSiteFault
+set_target_fault cs sites c t = events.set_target_fault (world_of cs sites) c (slice_get sites.call_sites c) t
+
+abbrev pub new_switch_fault : Sites → Option CallSiteFault
+new_switch_fault sites = then_some (nat_le most_of_a_kind (length sites.switches)) Full
+
+abbrev pub invalidate_fault : Sites → List ℕ → Option CallSiteFault
+invalidate_fault sites points = events.invalidate_fault (world_of (record { loaders = []; rows = [] }) sites) points
+
+-- of a method alone
+abbrev pub method_fault : Classes → List ℕ → MethodId → Option CallSiteFault
+method_fault cs ty m = first_of (
+    then_some (not (may_be_named cs m)) UnknownMethod
+    ∷ then_some (not (is_static cs m)) NotStatic
+    ∷ then_some (not (is_of_type cs ty m)) WrongType
+    ∷ [])
+
+abbrev pub has_plain_name : Classes → MethodId → Bool
+has_plain_name cs m = method_test (λ method. not (begins_special method.name)) cs m
+
+-- ---- the call sites and switch points afterwards
+
+-- one call site more
+abbrev pub with_site : Sites → CallSiteKind → List ℕ → Target → Sites
+with_site sites kind ty t =
+    record sites { call_sites = sites.call_sites ++ record { kind = kind; ty = ty; target = t } ∷ [] }
+
+-- another target
+abbrev pub with_target : Sites → ℕ → Target → Sites
+with_target sites c t = record sites { call_sites = retargeted sites.call_sites c t }
+
+-- one switch point more, which is valid
+abbrev pub with_switch : Sites → Sites
+with_switch sites = record sites { switches = sites.switches ++ true ∷ [] }
+
+-- none of these is valid
+abbrev pub with_invalid : Sites → List ℕ → Sites
+with_invalid sites points = record sites { switches = invalidated sites.switches points }

@@ -1,0 +1,46 @@
+//! A copy of the call sites and switch points.
+
+ghost use Rattle.std.specs.Prelude.{◌≡◌, IfOk};
+
+use crate::call_site::CallSite;
+use crate::sites::Sites;
+use jl_types::{Part, Target};
+use std::alloc::{AllocError, Global};
+
+impl Sites {
+    /// The same call sites and switch points once more. Want of memory is an error.
+    pub fn copy(&self, alloc: Global) -> Result<Sites, AllocError>
+        ensures { IfOk result (λ copy. copy ≡ self.now) }
+    {
+        Ok(Sites {
+            call_sites: copy_call_sites(alloc, self.call_sites.as_slice())?,
+            switches: self.switches.as_slice().to_vec(alloc)?,
+        })
+    }
+}
+
+/// The same call sites once more. Want of memory is an error.
+fn copy_call_sites(alloc: Global, call_sites: &[CallSite]) -> Result<Vec<CallSite>, AllocError>
+    ensures { IfOk result (λ made. made.items ≡ call_sites.now) }
+{
+    let mut made = Vec::with_capacity(alloc, call_sites.len())?;
+    for site in call_sites {
+        made.push(site.copy(alloc)?)?;
+    }
+    Ok(made)
+}
+
+/// The same target once more. Want of memory is an error. It goes as deep as the target, and no call site has one that is
+/// deeper than 64.
+pub(crate) fn copy_target(alloc: Global, target: &Target) -> Result<Target, AllocError>
+    ensures { IfOk result (λ copy. copy ≡ target.now) }
+{
+    match &target.part {
+        Part::Method(method) => Ok(Target::method(*method)),
+        Part::Guard(point, first, fallback) => {
+            let first = Box::new(alloc, copy_target(alloc, first)?)?;
+            let fallback = Box::new(alloc, copy_target(alloc, fallback)?)?;
+            Ok(Target::guard(*point, first, fallback))
+        }
+    }
+}

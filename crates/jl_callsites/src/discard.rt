@@ -1,0 +1,44 @@
+//! A target that is let go.
+
+ghost use Rattle.std.specs.Prelude.{◌<◌, ◌+◌, ◌*◌};
+ghost use Rattle.jl_callsites.specs.Means.{turns_left};
+
+use jl_types::{ClassId, MethodId, Part, SwitchId, Target};
+use std::mem;
+
+/// Lets the target go. It may be of any depth, so its guards are turned until the first part of the one at the top is a
+/// method, and no call is as deep as the target. Takes no memory.
+pub(crate) fn discard(target: Target) {
+    let mut rest = target;
+    loop {
+        let Target { part } = rest;
+        match part {
+            Part::Method(_) => return,
+            Part::Guard(point, first, fallback) => rest = turned(point, first, fallback),
+        }
+    }
+}
+
+/// What is left of a guard of these parts: the fallback where the first part is a method; else the first part's own first one
+/// before all that comes behind it.
+fn turned(point: SwitchId, first: Box<Target>, fallback: Box<Target>) -> Target
+    ensures { turns_left result < 2 * turns_left first.value + turns_left fallback.value + 1 }
+{
+    let mut room = first;
+    let Target { part } = mem::replace(&mut *room, any_method());
+    match part {
+        Part::Method(_) => Box::into_inner(fallback),
+        Part::Guard(inner, first, second) => {
+            *room = Target::guard(point, second, fallback);
+            Target::guard(inner, first, room)
+        }
+    }
+}
+
+/// A target that stands where another one is to come.
+fn any_method() -> Target {
+    Target::method(MethodId {
+        class: ClassId::new(0),
+        index: 0,
+    })
+}

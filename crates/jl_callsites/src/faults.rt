@@ -1,0 +1,179 @@
+//! Why a call site or a switch point isn't made or changed (java.lang.invoke).
+
+ghost use Rattle.std.specs.Prelude.{◌≡◌, ◌≢◌, ◌<◌, not, nat_le, true, false, None, Some, length, IfSome};
+ghost use Rattle.std.specs.List.{list_any};
+ghost use Rattle.jl_types.specs.declared.refusal.CallSiteFault.TheVariants as fault;
+ghost use Rattle.jl_types.specs.Targets as targets;
+ghost use Rattle.jl_code.specs.Codes as codes;
+ghost use Rattle.jl_callsites.specs.Faults as faults;
+ghost use Rattle.jl_callsites.specs.Faults.{world_of};
+ghost use Rattle.jl_callsites.specs.Known.{has_points};
+
+use crate::sites::Sites;
+use crate::size::is_too_large;
+use jl_hierarchy::Classes;
+use jl_types::{CallSiteFault, CallSiteId, MethodId, Part, SwitchId, Target};
+
+/// The most call sites, and the most switch points.
+const MOST_OF_A_KIND: usize = 65_536;
+
+impl Sites {
+    /// Why a call site of this type isn't made with this target. Takes no memory.
+    pub fn new_site_fault(
+        &self,
+        classes: &Classes,
+        ty: &[u8],
+        target: &Target,
+    ) -> Option<CallSiteFault>
+        ensures first { result ≡ faults.new_site_fault classes.now self.now ty.now target.now }
+        ensures named { IfSome result (λ f. f ≢ fault.Memory) }
+        ensures room { result ≡ None → length self.now.call_sites < 65536 }
+        ensures known { result ≡ None → has_points (length self.now.switches) target.now ≡ true }
+    {
+        if self.call_site_count() >= MOST_OF_A_KIND {
+            return Some(CallSiteFault::Full);
+        }
+        self.target_fault(classes, ty, target)
+    }
+
+    /// Why the call site doesn't get this target. Takes no memory.
+    pub fn set_target_fault(
+        &self,
+        classes: &Classes,
+        site: CallSiteId,
+        target: &Target,
+    ) -> Option<CallSiteFault>
+        ensures first { result ≡ faults.set_target_fault classes.now self.now site target.now }
+        ensures named { IfSome result (λ f. f ≢ fault.Memory) }
+        ensures there { result ≡ None → site < length self.now.call_sites }
+        ensures known { result ≡ None → has_points (length self.now.switches) target.now ≡ true }
+    {
+        let Some(row) = self.call_site_at(site) else {
+            return Some(CallSiteFault::UnknownCallSite);
+        };
+        if row.is_constant() {
+            return Some(CallSiteFault::Constant);
+        }
+        self.target_fault(classes, row.ty().as_slice(), target)
+    }
+
+    /// Why no switch point is made. Takes no memory.
+    pub fn new_switch_fault(&self) -> Option<CallSiteFault>
+        ensures first { result ≡ faults.new_switch_fault self.now }
+        ensures named { IfSome result (λ f. f ≢ fault.Memory) }
+        ensures room { result ≡ None → length self.now.switches < 65536 }
+    {
+        if self.switch_count() >= MOST_OF_A_KIND {
+            Some(CallSiteFault::Full)
+        } else {
+            None
+        }
+    }
+
+    /// Why the switch points don't become invalid. Takes no memory.
+    pub fn invalidate_fault(&self, points: &[SwitchId]) -> Option<CallSiteFault>
+        ensures first { result ≡ faults.invalidate_fault self.now points.now }
+        ensures named { IfSome result (λ f. f ≢ fault.Memory) }
+        ensures there { result ≡ None → list_any (nat_le (length self.now.switches)) points.now ≡ false }
+    {
+        if self.lacks_one_of(points) {
+            Some(CallSiteFault::UnknownSwitch)
+        } else {
+            None
+        }
+    }
+
+    /// Whether one of the switch points isn't there.
+    fn lacks_one_of(&self, points: &[SwitchId]) -> bool
+        ensures { result ≡ list_any (nat_le (length self.now.switches)) points.now }
+    {
+        let count = self.switch_count();
+        points.iter().any(|point| point.number() as usize >= count)
+    }
+
+    /// Why a call site of this type doesn't get this target: its size, and then its parts.
+    fn target_fault(&self, classes: &Classes, ty: &[u8], target: &Target) -> Option<CallSiteFault>
+        ensures first { result ≡ targets.target_fault (world_of classes.now self.now) 0 ty.now target.now }
+        ensures known { result ≡ None → has_points (length self.now.switches) target.now ≡ true }
+        ensures named { IfSome result (λ f. f ≢ fault.Memory) }
+    {
+        if is_too_large(target) {
+            return Some(CallSiteFault::TooDeep);
+        }
+        self.part_fault(classes, ty, target)
+    }
+
+    /// Why a part of a call site's target isn't taken: a guard before its parts, and the first part before the fallback.
+    fn part_fault(&self, classes: &Classes, ty: &[u8], target: &Target) -> Option<CallSiteFault>
+        ensures first { result ≡ targets.part_fault (world_of classes.now self.now) 0 ty.now target.now }
+        ensures known { result ≡ None → has_points (length self.now.switches) target.now ≡ true }
+        ensures named { IfSome result (λ f. f ≢ fault.Memory) }
+    {
+        match &target.part {
+            Part::Method(method) => method_fault(classes, ty, method),
+            Part::Guard(point, first, fallback) => {
+                if !self.has_switch(*point) {
+                    return Some(CallSiteFault::UnknownSwitch);
+                }
+                match self.part_fault(classes, ty, first) {
+                    Some(fault) => Some(fault),
+                    None => self.part_fault(classes, ty, fallback),
+                }
+            }
+        }
+    }
+}
+
+/// Why a call site of this type doesn't run the method.
+fn method_fault(classes: &Classes, ty: &[u8], method: &MethodId) -> Option<CallSiteFault>
+    ensures first { result ≡ faults.method_fault classes.now ty.now method.now }
+    ensures named { IfSome result (λ f. f ≢ fault.Memory) }
+{
+    if !may_be_named(classes, method) {
+        return Some(CallSiteFault::UnknownMethod);
+    }
+    if !classes.is_static(method) {
+        return Some(CallSiteFault::NotStatic);
+    }
+    if !is_of_type(classes, ty, method) {
+        return Some(CallSiteFault::WrongType);
+    }
+    None
+}
+
+/// Whether there is such a method, and its name doesn't begin with `<`.
+fn may_be_named(classes: &Classes, method: &MethodId) -> bool
+    ensures { result ≡ targets.may_be_named classes.now method.now }
+{
+    classes.has_class(method.class) && has_plain_name(classes, method)
+}
+
+/// Whether the class has such a method, and its name doesn't begin with `<`.
+fn has_plain_name(classes: &Classes, method: &MethodId) -> bool
+    ensures { result ≡ faults.has_plain_name classes.now method.now }
+{
+    match classes.method_at(method) {
+        Some(method) => !begins_special(method.name().as_slice()),
+        None => false,
+    }
+}
+
+/// Whether the name is that of a class or an object initializer, which no call names (JVMS SE 17 §2.9): it begins with `<`.
+fn begins_special(name: &[u8]) -> bool
+    ensures { result ≡ codes.begins_special name.now }
+{
+    match name {
+        [first, ..] => *first == b'<',
+        [] => false,
+    }
+}
+
+/// Whether there is such a method, and it has this descriptor.
+fn is_of_type(classes: &Classes, ty: &[u8], method: &MethodId) -> bool
+    ensures { result ≡ targets.is_of_type classes.now ty.now method.now }
+{
+    match classes.method_at(method) {
+        Some(method) => method.ty().as_slice() == ty,
+        None => false,
+    }
+}

@@ -1,0 +1,92 @@
+//! The call sites and switch points.
+
+ghost use Rattle.std.specs.Prelude.{◌≡◌, length, slice_get, is_some, nat_lt};
+ghost use Rattle.std.specs.Option.{option_copied};
+ghost use Rattle.jl_types.specs.World.{nothing_yet};
+ghost use Rattle.jl_types.specs.Targets as targets;
+
+use crate::call_site::CallSite;
+use jl_types::{CallSiteId, SwitchId};
+use std::alloc::Global;
+use std::marker::Model;
+
+/// The call sites and switch points, in the order in which they were made (java.lang.invoke). A clause sees the call sites,
+/// and of each switch point whether it is valid.
+#[derive(Drop)]
+pub struct Sites {
+    pub(crate) call_sites: Vec<CallSite>,
+    pub(crate) switches: Vec<bool>,
+}
+
+impl Model for Sites {
+    ghost use Rattle.jl_types.specs.World.{Sites};
+    ghost use Rattle.jl_callsites.specs.Means.{sites_code};
+
+    ghost Value = { Sites };
+
+    ghost coded = { sites_code };
+
+    ghost view = { λ s. record { call_sites = s.call_sites.items; switches = s.switches.items } };
+
+    ghost use Rattle.std.specs.Prelude.{◌≡◌, true};
+    ghost use Rattle.jl_callsites.specs.Known.{are_known};
+
+    ghost invariant = { λ s. are_known (record { call_sites = s.call_sites.items; switches = s.switches.items }) ≡ true };
+}
+
+impl Sites {
+    /// No call sites and no switch points. Takes no memory.
+    pub fn new(alloc: Global) -> Self
+        ensures { result ≡ nothing_yet.sites }
+    {
+        Sites {
+            call_sites: Vec::new(alloc),
+            switches: Vec::new(alloc),
+        }
+    }
+
+    /// How many call sites there are: the number of the next one.
+    pub fn call_site_count(&self) -> usize
+        ensures { result ≡ length self.now.call_sites }
+    {
+        self.call_sites.as_slice().len()
+    }
+
+    /// How many switch points there are: the number of the next one.
+    pub fn switch_count(&self) -> usize
+        ensures { result ≡ length self.now.switches }
+    {
+        self.switches.as_slice().len()
+    }
+
+    /// The call site of this number.
+    pub fn call_site_at(&self, site: CallSiteId) -> Option<&CallSite>
+        ensures { option_copied result ≡ slice_get self.now.call_sites site }
+    {
+        self.call_sites.get(site.number() as usize)
+    }
+
+    /// Whether there is a call site of this number.
+    pub fn has_call_site(&self, site: CallSiteId) -> bool
+        ensures { result ≡ is_some (slice_get self.now.call_sites site) }
+    {
+        self.call_site_at(site).is_some()
+    }
+
+    /// Whether there is a switch point of this number.
+    pub fn has_switch(&self, point: SwitchId) -> bool
+        ensures { result ≡ nat_lt point (length self.now.switches) }
+    {
+        (point.number() as usize) < self.switch_count()
+    }
+
+    /// Whether the switch point is valid (java.lang.invoke.SwitchPoint). One that isn't there is not.
+    pub fn is_valid(&self, point: SwitchId) -> bool
+        ensures { result ≡ targets.is_valid self.now point }
+    {
+        match self.switches.get(point.number() as usize) {
+            Some(valid) => *valid,
+            None => false,
+        }
+    }
+}
