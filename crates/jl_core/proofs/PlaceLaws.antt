@@ -7,11 +7,10 @@ use Rattle.jl_code.specs.Site.{Site}
 use Rattle.jl_types.specs.declared.ids.Place.{Place}
 use Rattle.jl_types.specs.declared.event.Made.TheVariants as made
 use Rattle.jl_types.specs.declared.refusal.Refusal.{Refusal}
-use Rattle.jl_types.specs.declared.refusal.Refusal.TheVariants.{UnknownClass, NotYet}
+use Rattle.jl_types.specs.declared.refusal.Refusal.TheVariants.{UnknownClass}
 use Rattle.jl_types.specs.declared.event.Event.TheVariants as event
 use Rattle.jl_types.specs.Members.{is_present}
-use Rattle.jl_types.specs.Events.{same_place, new_place_fault, request_place, if_invoked, request_at, unless}
-use Rattle.jl_core.specs.Admitted.{admitted, names_method}
+use Rattle.jl_types.specs.Events.{same_place, new_place_fault, request_place, if_invoked, unless, verdict}
 use Rattle.jl_types.specs.World.{Class, Classes, World}
 use Rattle.jl_types.specs.Sites.{invocation_at}
 
@@ -30,12 +29,10 @@ invoked_present cs place site e = by_row (slice_get cs.rows place.class) e
 
 -- ---- one place more
 
-pub refused_new : (max_sites : ℕ) (w : World) (place : Place) (site : Site) (r : Refusal) → invocation_at w.classes place ≡ Some site → names_method site.operand ≡ true
-    → position (same_place place) w.places ≡ None → new_place_fault max_sites w site ≡ Some r → admitted max_sites w (event.Request place) ≡ Err r
-refused_new max_sites w place site r e s p f =
-    ap (λ (o : Option Site). if option_map_or (λ site. names_method site.operand) o true then request_at max_sites w place else Err NotYet) e
-    ∙ ap (λ (b : Bool). if b then request_at max_sites w place else Err NotYet) s
-    ∙ ap (λ (b : Bool). if b then if_invoked max_sites w place (invocation_at w.classes place) else Err UnknownClass) (invoked_present w.classes place site e)
+pub refused_new : (max_sites : ℕ) (w : World) (place : Place) (site : Site) (r : Refusal) → invocation_at w.classes place ≡ Some site
+    → position (same_place place) w.places ≡ None → new_place_fault max_sites w site ≡ Some r → verdict max_sites w (event.Request place) ≡ Err r
+refused_new max_sites w place site r e p f =
+    ap (λ (b : Bool). if b then if_invoked max_sites w place (invocation_at w.classes place) else Err UnknownClass) (invoked_present w.classes place site e)
     ∙ ap (if_invoked max_sites w place) e
     ∙ ap (λ (o : Option ℕ). request_place max_sites w o site) p
     ∙ ap (λ (o : Option Refusal). unless o (made.Site (length w.places))) f

@@ -1,5 +1,4 @@
--- `Admitted` and `State` are what contracts cite; the others are means of proof.
-pub mod Admitted
+-- `State` is what contracts cite; the others are means of proof.
 pub mod State
 pub mod LinkMaps
 pub mod Fills

@@ -10,10 +10,9 @@ use Rattle.jl_types.specs.declared.refusal.Refusal.{Refusal}
 use Rattle.jl_types.specs.declared.refusal.Refusal.TheVariants.{Memory}
 use Rattle.jl_types.specs.World.{World, nothing_yet}
 use Rattle.jl_types.specs.Links.{scratch}
-use Rattle.jl_types.specs.Events.{step}
+use Rattle.jl_types.specs.Events.{verdict, step}
 use Rattle.jl_types.specs.History.{installs, kept}
 use Rattle.jl_select.specs.Constancy.{IsConstant}
-use Rattle.jl_core.specs.Admitted.{admitted}
 
 pub record State : Type 0 where
   pub max_sites : ℕ  -- how many places may be requested
@@ -31,7 +30,7 @@ counted core = record core { accepted = min (core.accepted + 1) (2 ^ 64 - 1) }
 
 -- why an event is refused: for the verdict's refusal, or, where it accepts, for want of memory
 abbrev pub IsRefused : Result Made Refusal → Refusal → Type 0
-IsRefused verdict r = (verdict ≡ Err r) ⊎ ((r ≡ Memory) × IsOk verdict)
+IsRefused made r = (made ≡ Err r) ⊎ ((r ≡ Memory) × IsOk made)
 
 -- the site's installed link
 abbrev pub link_at : List (ℕ × Link) → ℕ → Option Link
@@ -55,7 +54,7 @@ lost n before after = filter (λ s. is_some (link_at before s) && is_none (link_
 -- afterwards exactly where the event installs it or it had that link before, and the link is the one from scratch now. What was
 -- resolved and selected stays so.
 pub record IsAccepted (old new : State) (e : Event) (reply : Reply) : Type 0 where
-  pub made : admitted old.max_sites old.world e ≡ Ok reply.made
+  pub made : verdict old.max_sites old.world e ≡ Ok reply.made
   pub world : new.world ≡ step old.world e
   pub links : (s : ℕ) → link_at new.links s ≡ kept (installs s e) (link_at old.links s) (scratch new.world s)
   pub dropped : reply.dropped ≡ lost (length old.world.places) old.links new.links
@@ -66,4 +65,4 @@ pub record IsAccepted (old new : State) (e : Event) (reply : Reply) : Type 0 whe
 -- What an event does, by its answer: where it is refused, the core is as before.
 abbrev pub IsApplied : State → Event → Result Reply Refusal → State → Type 0
 IsApplied old e (Ok reply) new = IsAccepted old new e reply
-IsApplied old e (Err r) new = IsRefused (admitted old.max_sites old.world e) r × (new ≡ old)
+IsApplied old e (Err r) new = IsRefused (verdict old.max_sites old.world e) r × (new ≡ old)

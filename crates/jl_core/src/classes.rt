@@ -4,31 +4,16 @@
 ghost use Rattle.std.specs.Prelude.{◌≡◌, ◌+◌, ◌≤◌, [], Ok, length, IfOk, IfErr, OnOk, OnErr};
 ghost use Rattle.std.specs.Vec.{vec_len, vec_capacity};
 ghost use Rattle.jl_types.specs.declared.event.Event.TheVariants as event;
-ghost use Rattle.jl_types.specs.Events.{step};
+ghost use Rattle.jl_types.specs.Events.{verdict, step};
 ghost use Rattle.jl_select.specs.Constancy.{IsConstant};
-ghost use Rattle.jl_core.specs.Admitted.{admitted};
 ghost use Rattle.jl_core.specs.State.{IsRefused};
 
+use crate::changed::{Changed, room_for_sites};
 use jl_classfile::ClassFile;
 use jl_names::Name;
 use jl_relink::World;
-use jl_types::{LoaderId, Made, Refusal, SiteNo};
-use std::alloc::{AllocError, Global};
-
-/// What such an event made, and an empty list with room for all sites.
-#[derive(Drop)]
-pub(crate) struct Changed {
-    pub(crate) made: Made,
-    pub(crate) dropped: Vec<SiteNo>,
-}
-
-/// An empty list with room for all sites. Want of memory is an error.
-fn room_for_sites(world: &World, alloc: Global) -> Result<Vec<SiteNo>, AllocError>
-    ensures empty { IfOk result (λ dropped. dropped.items ≡ []) }
-    ensures room { IfOk result (λ dropped. vec_len dropped + length world.now.places ≤ vec_capacity dropped) }
-{
-    Vec::with_capacity(alloc, world.site_count())
-}
+use jl_types::{LoaderId, Made, Refusal};
+use std::alloc::Global;
 
 /// One loader more.
 ///
@@ -36,12 +21,12 @@ fn room_for_sites(world: &World, alloc: Global) -> Result<Vec<SiteNo>, AllocErro
 ///
 /// The refusal, or want of memory. Nothing has changed then.
 pub(crate) fn new_loader(world: &mut World, alloc: Global) -> Result<Changed, Refusal>
-    ensures made { IfOk result (λ changed. admitted 0 world.old event.NewLoader ≡ Ok changed.made) }
+    ensures made { IfOk result (λ changed. verdict 0 world.old event.NewLoader ≡ Ok changed.made) }
     ensures step { OnOk result (world.new ≡ step world.old event.NewLoader) }
     ensures constant { OnOk result (IsConstant world.old.classes world.new.classes) }
     ensures empty { IfOk result (λ changed. changed.dropped.items ≡ []) }
     ensures room { IfOk result (λ changed. vec_len changed.dropped + length world.old.places ≤ vec_capacity changed.dropped) }
-    ensures refused { IfErr result (IsRefused (admitted 0 world.old event.NewLoader)) }
+    ensures refused { IfErr result (IsRefused (verdict 0 world.old event.NewLoader)) }
     ensures unchanged { OnErr result (world.new ≡ world.old) }
 {
     if world.classes.has_all_loaders() {
@@ -68,12 +53,12 @@ pub(crate) fn define(
     loader: LoaderId,
     file: ClassFile,
 ) -> Result<Changed, Refusal>
-    ensures made { IfOk result (λ changed. admitted 0 world.old (event.Define loader file) ≡ Ok changed.made) }
+    ensures made { IfOk result (λ changed. verdict 0 world.old (event.Define loader file) ≡ Ok changed.made) }
     ensures step { OnOk result (world.new ≡ step world.old (event.Define loader file)) }
     ensures constant { OnOk result (IsConstant world.old.classes world.new.classes) }
     ensures empty { IfOk result (λ changed. changed.dropped.items ≡ []) }
     ensures room { IfOk result (λ changed. vec_len changed.dropped + length world.old.places ≤ vec_capacity changed.dropped) }
-    ensures refused { IfErr result (IsRefused (admitted 0 world.old (event.Define loader file))) }
+    ensures refused { IfErr result (IsRefused (verdict 0 world.old (event.Define loader file))) }
     ensures unchanged { OnErr result (world.new ≡ world.old) }
 {
     let file = match world.classes.admitted(loader, file) {
@@ -100,12 +85,12 @@ pub(crate) fn delegate(
     name: &Name,
     to: LoaderId,
 ) -> Result<Changed, Refusal>
-    ensures made { IfOk result (λ changed. admitted 0 world.old (event.Delegate loader name.now to) ≡ Ok changed.made) }
+    ensures made { IfOk result (λ changed. verdict 0 world.old (event.Delegate loader name.now to) ≡ Ok changed.made) }
     ensures step { OnOk result (world.new ≡ step world.old (event.Delegate loader name.now to)) }
     ensures constant { OnOk result (IsConstant world.old.classes world.new.classes) }
     ensures empty { IfOk result (λ changed. changed.dropped.items ≡ []) }
     ensures room { IfOk result (λ changed. vec_len changed.dropped + length world.old.places ≤ vec_capacity changed.dropped) }
-    ensures refused { IfErr result (IsRefused (admitted 0 world.old (event.Delegate loader name.now to))) }
+    ensures refused { IfErr result (IsRefused (verdict 0 world.old (event.Delegate loader name.now to))) }
     ensures unchanged { OnErr result (world.new ≡ world.old) }
 {
     if let Err(fault) = world.classes.delegation(loader, name.as_slice(), to) {

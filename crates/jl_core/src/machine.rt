@@ -6,27 +6,28 @@ ghost use Rattle.jl_types.specs.declared.link.Link.{Link};
 ghost use Rattle.jl_types.specs.declared.event.Event.TheVariants as event;
 ghost use Rattle.jl_types.specs.Links.{scratch};
 ghost use Rattle.jl_types.specs.Calls as calls;
-ghost use Rattle.jl_types.specs.Events.{step};
+ghost use Rattle.jl_types.specs.Events.{verdict, step};
 ghost use Rattle.jl_types.specs.History.{installs, kept};
-ghost use Rattle.jl_core.specs.Admitted.{admitted};
 ghost use Rattle.jl_relink.specs.Preparations.{IsPreparation};
 ghost use Rattle.jl_core.specs.State.{empty_core, counted, link_at, lost, AreScratch, IsAccepted, IsRefused};
 
 use crate::cache::Cache;
-use crate::classes::{Changed, define, delegate, new_loader};
+use crate::call_sites::{bind, invalidate, new_call_site, new_switch, set_target};
+use crate::changed::Changed;
+use crate::classes::{define, delegate, new_loader};
 use crate::install::install_refusal;
 use crate::request::request;
 use jl_classfile::ClassFile;
 use jl_names::{Name, Seq};
 use jl_relink::{Prepared, Snapshot, World, dispatch, link_of, prepare_in};
 use jl_types::{
-    Answer, Event, Link, LoaderId, Made, Place, PrepareFault, Recv, Refusal, Reply, SiteNo,
-    Unlinked,
+    Answer, CallSiteId, CallSiteKind, Event, Link, LoaderId, Made, Place, PrepareFault, Recv,
+    Refusal, Reply, SiteNo, SwitchId, Target, Unlinked,
 };
 use std::alloc::{AllocError, Global};
 use std::marker::Model;
 
-/// Classes, requested places and the links that are installed. Each installed link is its site's link from scratch.
+/// What there is to link, and the links that are installed. Each installed link is its site's link from scratch.
 #[derive(Drop)]
 pub struct Core {
     max_sites: u32,
@@ -74,7 +75,7 @@ impl Core {
     /// The first refusal; want of memory where there is none. Nothing has changed then.
     pub fn apply(&mut self, alloc: Global, event: Event) -> Result<Reply, Refusal>
         ensures accepted { IfOk result (IsAccepted self.old self.new event) }
-        ensures refused { IfErr result (IsRefused (admitted self.old.max_sites self.old.world event)) }
+        ensures refused { IfErr result (IsRefused (verdict self.old.max_sites self.old.world event)) }
         ensures unchanged { OnErr result (self.new ≡ self.old) }
     {
         let reply = self.done(alloc, event)?;
@@ -126,7 +127,7 @@ impl Core {
     /// What the event does but for its count.
     fn done(&mut self, alloc: Global, event: Event) -> Result<Reply, Refusal>
         ensures ok { IfOk result (IsAccepted self.old (counted self.new) event) }
-        ensures err { IfErr result (IsRefused (admitted self.old.max_sites self.old.world event)) }
+        ensures err { IfErr result (IsRefused (verdict self.old.max_sites self.old.world event)) }
         ensures unchanged { OnErr result (self.new ≡ self.old) }
     {
         match event {
@@ -134,15 +135,19 @@ impl Core {
             Event::Define(loader, file) => self.define(alloc, loader, file),
             Event::Delegate(loader, name, to) => self.delegate(alloc, loader, &name, to),
             Event::Request(place) => self.request(alloc, place),
+            Event::NewCallSite(kind, ty, target) => self.new_call_site(alloc, kind, ty, target),
+            Event::SetTarget(call_site, target) => self.set_target(alloc, call_site, target),
+            Event::NewSwitch => self.new_switch(alloc),
+            Event::Invalidate(points) => self.invalidate(alloc, points.as_slice()),
+            Event::Bind(site, call_site) => self.bind(alloc, site, call_site),
             Event::Install(rows) => self.install(alloc, rows.as_slice()),
-            _ => Err(Refusal::NotYet),
         }
     }
 
     /// One loader more.
     fn new_loader(&mut self, alloc: Global) -> Result<Reply, Refusal>
         ensures ok { IfOk result (IsAccepted self.old (counted self.new) event.NewLoader) }
-        ensures err { IfErr result (IsRefused (admitted self.old.max_sites self.old.world event.NewLoader)) }
+        ensures err { IfErr result (IsRefused (verdict self.old.max_sites self.old.world event.NewLoader)) }
         ensures unchanged { OnErr result (self.new ≡ self.old) }
     {
         let changed = new_loader(&mut self.world, alloc)?;
@@ -152,7 +157,7 @@ impl Core {
     /// The loader defines a class of the file.
     fn define(&mut self, alloc: Global, loader: LoaderId, file: ClassFile) -> Result<Reply, Refusal>
         ensures ok { IfOk result (IsAccepted self.old (counted self.new) (event.Define loader file)) }
-        ensures err { IfErr result (IsRefused (admitted self.old.max_sites self.old.world (event.Define loader file))) }
+        ensures err { IfErr result (IsRefused (verdict self.old.max_sites self.old.world (event.Define loader file))) }
         ensures unchanged { OnErr result (self.new ≡ self.old) }
     {
         let changed = define(&mut self.world, alloc, loader, file)?;
@@ -168,17 +173,78 @@ impl Core {
         to: LoaderId,
     ) -> Result<Reply, Refusal>
         ensures ok { IfOk result (IsAccepted self.old (counted self.new) (event.Delegate loader name.now to)) }
-        ensures err { IfErr result (IsRefused (admitted self.old.max_sites self.old.world (event.Delegate loader name.now to))) }
+        ensures err { IfErr result (IsRefused (verdict self.old.max_sites self.old.world (event.Delegate loader name.now to))) }
         ensures unchanged { OnErr result (self.new ≡ self.old) }
     {
         let changed = delegate(&mut self.world, alloc, loader, name, to)?;
         Ok(settled(&self.world, &mut self.links, changed))
     }
 
+    /// One call site more.
+    fn new_call_site(
+        &mut self,
+        alloc: Global,
+        kind: CallSiteKind,
+        ty: Name,
+        target: Target,
+    ) -> Result<Reply, Refusal>
+        ensures ok { IfOk result (IsAccepted self.old (counted self.new) (event.NewCallSite kind ty target)) }
+        ensures err { IfErr result (IsRefused (verdict self.old.max_sites self.old.world (event.NewCallSite kind ty target))) }
+        ensures unchanged { OnErr result (self.new ≡ self.old) }
+    {
+        let changed = new_call_site(&mut self.world, alloc, kind, ty, target)?;
+        Ok(settled(&self.world, &mut self.links, changed))
+    }
+
+    /// The call site gets another target.
+    fn set_target(
+        &mut self,
+        alloc: Global,
+        call_site: CallSiteId,
+        target: Target,
+    ) -> Result<Reply, Refusal>
+        ensures ok { IfOk result (IsAccepted self.old (counted self.new) (event.SetTarget call_site target)) }
+        ensures err { IfErr result (IsRefused (verdict self.old.max_sites self.old.world (event.SetTarget call_site target))) }
+        ensures unchanged { OnErr result (self.new ≡ self.old) }
+    {
+        let changed = set_target(&mut self.world, alloc, call_site, target)?;
+        Ok(settled(&self.world, &mut self.links, changed))
+    }
+
+    /// One switch point more.
+    fn new_switch(&mut self, alloc: Global) -> Result<Reply, Refusal>
+        ensures ok { IfOk result (IsAccepted self.old (counted self.new) event.NewSwitch) }
+        ensures err { IfErr result (IsRefused (verdict self.old.max_sites self.old.world event.NewSwitch)) }
+        ensures unchanged { OnErr result (self.new ≡ self.old) }
+    {
+        let changed = new_switch(&mut self.world, alloc)?;
+        Ok(settled(&self.world, &mut self.links, changed))
+    }
+
+    /// The switch points become invalid for good.
+    fn invalidate(&mut self, alloc: Global, points: &[SwitchId]) -> Result<Reply, Refusal>
+        ensures ok { IfOk result (IsAccepted self.old (counted self.new) (event.Invalidate points.now)) }
+        ensures err { IfErr result (IsRefused (verdict self.old.max_sites self.old.world (event.Invalidate points.now))) }
+        ensures unchanged { OnErr result (self.new ≡ self.old) }
+    {
+        let changed = invalidate(&mut self.world, alloc, points)?;
+        Ok(settled(&self.world, &mut self.links, changed))
+    }
+
+    /// The invokedynamic is bound to the call site.
+    fn bind(&mut self, alloc: Global, site: SiteNo, call_site: CallSiteId) -> Result<Reply, Refusal>
+        ensures ok { IfOk result (IsAccepted self.old (counted self.new) (event.Bind site call_site)) }
+        ensures err { IfErr result (IsRefused (verdict self.old.max_sites self.old.world (event.Bind site call_site))) }
+        ensures unchanged { OnErr result (self.new ≡ self.old) }
+    {
+        let changed = bind(&mut self.world, alloc, site, call_site)?;
+        Ok(settled(&self.world, &mut self.links, changed))
+    }
+
     /// Gives the place a number, where it has none.
     fn request(&mut self, alloc: Global, place: Place) -> Result<Reply, Refusal>
         ensures ok { IfOk result (IsAccepted self.old (counted self.new) (event.Request place)) }
-        ensures err { IfErr result (IsRefused (admitted self.old.max_sites self.old.world (event.Request place))) }
+        ensures err { IfErr result (IsRefused (verdict self.old.max_sites self.old.world (event.Request place))) }
         ensures unchanged { OnErr result (self.new ≡ self.old) }
     {
         let site = request(&mut self.world, self.max_sites, place)?;
@@ -191,7 +257,7 @@ impl Core {
     /// Installs all of the links, or none.
     fn install(&mut self, alloc: Global, rows: &[(SiteNo, Link)]) -> Result<Reply, Refusal>
         ensures ok { IfOk result (IsAccepted self.old (counted self.new) (event.Install rows.now)) }
-        ensures err { IfErr result (IsRefused (admitted self.old.max_sites self.old.world (event.Install rows.now))) }
+        ensures err { IfErr result (IsRefused (verdict self.old.max_sites self.old.world (event.Install rows.now))) }
         ensures unchanged { OnErr result (self.new ≡ self.old) }
     {
         if let Some(refusal) = install_refusal(&self.world, rows) {

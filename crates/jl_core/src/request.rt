@@ -1,13 +1,13 @@
 //! The request of a place.
 
-ghost use Rattle.std.specs.Prelude.{◌≡◌, ◌≢◌, ◌≤◌, true, Some, Ok, Err, length, IfOk, IfErr, OnOk, OnErr};
+ghost use Rattle.std.specs.Prelude.{◌≡◌, ◌≢◌, ◌≤◌, Some, Ok, Err, length, IfOk, IfErr, OnOk, OnErr};
 ghost use Rattle.jl_code.specs.Site as site;
 ghost use Rattle.jl_types.specs.Sites.{invocation_at};
 ghost use Rattle.jl_types.specs.Events as events;
+ghost use Rattle.jl_types.specs.Events.{verdict};
 ghost use Rattle.jl_types.specs.declared.event.Event.TheVariants as event;
 ghost use Rattle.jl_types.specs.declared.event.Made.TheVariants as made;
 ghost use Rattle.jl_types.specs.declared.refusal.Refusal.TheVariants as refusal;
-ghost use Rattle.jl_core.specs.Admitted.{admitted, names_method};
 ghost use Rattle.jl_core.specs.State.{IsRefused};
 
 use jl_code::Operand;
@@ -23,9 +23,9 @@ use jl_types::{NotLinkable, Place, Refusal, SiteNo};
 pub(crate) fn request(world: &mut World, max_sites: u32, place: Place) -> Result<SiteNo, Refusal>
     requires few { length world.old.places ≤ max_sites }
     requires most { max_sites ≤ 65536 }
-    ensures number { IfOk result (λ site. admitted max_sites world.old (event.Request place) ≡ Ok (made.Site site)) }
+    ensures number { IfOk result (λ site. verdict max_sites world.old (event.Request place) ≡ Ok (made.Site site)) }
     ensures ok { OnOk result (world.new ≡ events.step world.old (event.Request place)) }
-    ensures fault { IfErr result (IsRefused (admitted max_sites world.old (event.Request place))) }
+    ensures fault { IfErr result (IsRefused (verdict max_sites world.old (event.Request place))) }
     ensures few { length world.new.places ≤ max_sites }
     ensures err { OnErr result (world.new ≡ world.old) }
 {
@@ -44,8 +44,8 @@ pub(crate) fn request(world: &mut World, max_sites: u32, place: Place) -> Result
 fn refusal_if_new(world: &World, max_sites: u32, place: &Place) -> Result<Option<Refusal>, Refusal>
     ensures ok { IfOk result (λ refusal. (invocation : site.Site)
         × (invocation_at world.now.classes place.now ≡ Some invocation)
-        × (names_method invocation.operand ≡ true) × (refusal ≡ events.new_place_fault max_sites world.now invocation)) }
-    ensures err { IfErr result (λ r. admitted max_sites world.now (event.Request place.now) ≡ Err r) }
+        × (refusal ≡ events.new_place_fault max_sites world.now invocation)) }
+    ensures err { IfErr result (λ r. verdict max_sites world.now (event.Request place.now) ≡ Err r) }
 {
     let Some(invocation) = invocation_at(&world.classes, place) else {
         return Err(if world.classes.has_class(place.class) {
@@ -54,9 +54,6 @@ fn refusal_if_new(world: &World, max_sites: u32, place: &Place) -> Result<Option
             Refusal::UnknownClass
         });
     };
-    if !names_method(invocation.operand()) {
-        return Err(Refusal::NotYet);
-    }
     if names_array(invocation.operand()) {
         return Ok(Some(Refusal::NotLinkable(NotLinkable::ArrayReceiver)));
     }
@@ -67,16 +64,6 @@ fn refusal_if_new(world: &World, max_sites: u32, place: &Place) -> Result<Option
         return Ok(Some(Refusal::SitesFull));
     }
     Ok(None)
-}
-
-/// Whether it names a method.
-fn names_method(operand: &Operand<Name>) -> bool
-    ensures { result ≡ names_method operand.now }
-{
-    match operand {
-        Operand::Method(_) => true,
-        Operand::CallSite(_) => false,
-    }
 }
 
 /// Whether it names a method of an array type.

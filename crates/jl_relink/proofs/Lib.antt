@@ -1,3 +1,4 @@
 pub mod RowLaws
 pub mod StageLaws
 pub mod BatchLaws
+pub mod Bindings

@@ -1,32 +1,35 @@
 //! What there is to link.
 
-ghost use Rattle.std.specs.Prelude.{◌≡◌, ℕ, [], length, IfOk};
+ghost use Rattle.std.specs.Prelude.{◌≡◌, length, IfOk};
 ghost use Rattle.jl_types.specs.World.{World, nothing_yet};
 ghost use Rattle.jl_types.specs.Sites as sites;
 ghost use Rattle.jl_types.specs.Links as links;
 ghost use Rattle.jl_types.specs.Calls as calls;
+ghost use Rattle.jl_callsites.specs.Runs.{by_method};
 ghost use Rattle.jl_relink.specs.Stages.{IsStage};
 
 use crate::answer::{selected_answer, special_answer};
 use crate::link::selected_link;
 use crate::stage::{Stage, invocation_at, stage_of_reference};
-use indexmap::IndexSet;
+use indexmap::{IndexMap, IndexSet};
+use jl_callsites::Sites;
 use jl_code::{Operand, Site};
 use jl_hierarchy::Classes;
-use jl_types::{Answer, ClassId, Link, Place, Recv, SiteNo, Unlinked};
+use jl_types::{Answer, CallSiteId, ClassId, Link, MethodId, Place, Recv, SiteNo, Unlinked};
 use std::alloc::{AllocError, Global};
 use std::marker::Model;
 
-/// The classes, and the places that were requested, in order of request. There are no call sites, so each invokedynamic is
-/// unbound.
+/// The classes; the places that were requested, in order of request; the call site to which each invokedynamic is bound that is
+/// bound to one; and the call sites and switch points.
 #[derive(Drop)]
 pub struct World {
     pub classes: Classes,
     pub places: IndexSet<Place>,
+    pub bindings: IndexMap<SiteNo, CallSiteId>,
+    pub sites: Sites,
 }
 
 impl Model for World {
-    ghost use Rattle.std.specs.Prelude.{[]};
     ghost use Rattle.jl_types.specs.World.{World};
     ghost use Rattle.std.specs.Coded.{codes};
     ghost use Rattle.jl_types.specs.Means.TargetCode.{target_code};
@@ -38,19 +41,21 @@ impl Model for World {
     ghost view = { λ w. record {
       classes = w.classes;
       places = w.places.keys;
-      bindings = [];
-      sites = record { call_sites = []; switches = [] };
+      bindings = w.bindings.entries;
+      sites = w.sites;
     } };
 }
 
 impl World {
-    /// No classes, and no requested places: loader 0 has found nothing. Want of memory is an error.
+    /// No classes, requested places, call sites and switch points: loader 0 has found nothing. Want of memory is an error.
     pub fn new(alloc: Global) -> Result<Self, AllocError>
         ensures { IfOk result (λ world. world ≡ nothing_yet) }
     {
         Ok(World {
             classes: Classes::new(alloc)?,
             places: IndexSet::new(alloc),
+            bindings: IndexMap::new(alloc),
+            sites: Sites::new(alloc),
         })
     }
 
@@ -61,6 +66,8 @@ impl World {
         Ok(World {
             classes: self.classes.copy(alloc)?,
             places: self.places.clone()?,
+            bindings: self.bindings.clone()?,
+            sites: self.sites.copy(alloc)?,
         })
     }
 
@@ -69,6 +76,20 @@ impl World {
         ensures { result ≡ length self.now.places }
     {
         self.places.len()
+    }
+
+    /// The call site to which the invokedynamic is bound. Takes no memory.
+    pub fn bound_to(&self, site: SiteNo) -> Option<CallSiteId>
+        ensures { result ≡ sites.bound_to self.now site }
+    {
+        self.bindings.get(&site).copied()
+    }
+
+    /// The method that the invokedynamic runs now, where it is bound. Takes no memory.
+    fn bound_method(&self, site: SiteNo) -> Option<MethodId>
+        ensures { sites.by_call_site self.now (sites.call_site_of self.now site) ≡ by_method result }
+    {
+        self.sites.method_of(self.bound_to(site)?)
     }
 }
 
@@ -109,20 +130,30 @@ fn stage(world: &World, site: SiteNo) -> Stage
         return Stage::Waits(Unlinked::Gone);
     }
     match invocation_at(&world.classes, place) {
-        Some(invocation) => stage_of(&world.classes, place.class, invocation),
+        Some(invocation) => stage_of(world, site, place.class, invocation),
         None => Stage::Waits(Unlinked::NoSite),
     }
 }
 
-/// What an invocation in the caller's class comes to.
-fn stage_of(classes: &Classes, caller: ClassId, invocation: &Site) -> Stage
-    ensures { (s : ℕ) (w : World) → w.classes ≡ classes.now → w.bindings ≡ []
-        → IsStage classes.now result (sites.by_operand w s caller invocation.now.kind invocation.now.operand) }
+/// What the site's invocation in the caller's class comes to.
+fn stage_of(world: &World, site: SiteNo, caller: ClassId, invocation: &Site) -> Stage
+    ensures { IsStage world.now.classes result
+        (sites.by_operand world.now site caller invocation.now.kind invocation.now.operand) }
 {
     match invocation.operand() {
         Operand::Method(reference) => {
-            stage_of_reference(classes, invocation.kind(), caller, reference)
+            stage_of_reference(&world.classes, invocation.kind(), caller, reference)
         }
-        Operand::CallSite(_) => Stage::Waits(Unlinked::Unbound),
+        Operand::CallSite(_) => dynamic_stage(world, site),
+    }
+}
+
+/// What an invokedynamic comes to: it runs what the call site runs to which it is bound.
+fn dynamic_stage(world: &World, site: SiteNo) -> Stage
+    ensures { IsStage world.now.classes result (sites.by_call_site world.now (sites.call_site_of world.now site)) }
+{
+    match world.bound_method(site) {
+        Some(method) => Stage::Calls(method),
+        None => Stage::Waits(Unlinked::Unbound),
     }
 }

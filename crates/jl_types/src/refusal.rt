@@ -119,8 +119,6 @@ pub enum Refusal {
     Delegate(DelegateFault),
     /// There are 1,024 loaders.
     LoadersFull,
-    /// The linker doesn't handle this yet.
-    NotYet,
 }
 
 /// Why the sites of a batch aren't taken, be they prepared or installed.

@@ -8,6 +8,6 @@ use Rattle.jl_core.proofs.request.request.Goals as goal
 pub returns-in-Some-refusal-clause-fault : goal.returns-in-Some-refusal-clause-fault
 returns-in-Some-refusal-clause-fault c =
     let asked = c.in_ok-refusal.ensures.ok in
-    inl (refused_new c.args.max_sites c.args.world.now c.args.place asked.0 c.in-Some-refusal.refusal asked.1 asked.2
+    inl (refused_new c.args.max_sites c.args.world.now c.args.place asked.0 c.in-Some-refusal.refusal asked.1
     (sym (ap (λ (w : World). position (same_place c.args.place) w.places) c.world.view_is) ∙ sym c.in_default.ensures.index)
-    (sym asked.3 ∙ c.in-Some-refusal.is))
+    (sym asked.2 ∙ c.in-Some-refusal.is))

@@ -1,6 +1,6 @@
-use Rattle.std.specs.Prelude.{[]}
 use Rattle.std.specs.List.{each_same}
 use Rattle.std.proofs.Common.{◌∙◌}
+use Rattle.jl_relink.proofs.Bindings.{pairs_same}
 use Rattle.jl_relink.proofs.world.World.copy.Goals as goal
 
 pub returns : goal.returns
@@ -8,7 +8,7 @@ returns c =
     (λ i. record {
       classes = c.in_ok-copy.ensures i;
       places = each_same c.self.inside.places.keys c.in_ok-clone.field-0.keys c.in_ok-clone.ensures.cases i;
-      bindings = [];
-      sites = record { call_sites = []; switches = [] };
+      bindings = pairs_same c.self.inside.bindings.entries c.in_ok-clone-2.field-0.entries c.in_ok-clone-2.ensures.cases i;
+      sites = c.in_ok-copy-2.ensures i;
     })
     ∙ c.self.view_is
