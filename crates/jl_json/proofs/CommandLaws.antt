@@ -1,13 +1,14 @@
--- How far a list is read, and how many members an object has.
-use Rattle.std.proofs.Common.{◌≡◌, ◌∙◌, sym, ap, refl, ℕ, suc, zero, ◌+◌, ◌<◌, List, [], ◌∷◌, ◌++◌, length, take}
+-- How far a list is read, how many members an object has, and what its count and its word tell.
+use Rattle.std.proofs.Common.{◌≡◌, ◌∙◌, sym, ap, subst, refl, ℕ, suc, zero, ◌+◌, ◌<◌, List, [], ◌∷◌, ◌++◌, length, take}
 use Rattle.std.proofs.Common.{Option, Some, None, option_map, option_and_then, Global, String, arith}
 use Rattle.std.proofs.Math.ListN.{get_or}
 use Rattle.std.proofs.lemmas.List.{take_more}
-use Rattle.serde_json.specs.Data.{Data}
+use Rattle.std.proofs.lemmas.Option.{none-some, same_Some}
+use Rattle.serde_json.specs.Data.{Data, Members}
 use Rattle.serde_json.specs.View.{view, items_view, members_view}
 use Rattle.serde_json.specs.declared.value.Value.{Value}
-use Rattle.jl_json.specs.Members.{each_in}
-use Rattle.jl_json.specs.Commands.{member_count}
+use Rattle.jl_json.specs.Members.{each_in, member_count, ◌>>=◌}
+use Rattle.jl_json.specs.Commands.{by_word}
 
 -- one value behind the others
 abbrev with_last : {A : Type 0} → Option (List A) → Option A → Option (List A)
@@ -60,3 +61,11 @@ module _ {A : Type 0} (read : Data → Option A) where
 pub members_counted : (entries : List (String Global × Value)) → length entries ≡ member_count (members_view entries)
 members_counted [] = refl
 members_counted (e ∷ entries) = ap suc (members_counted entries)
+
+pub by_parts : (d : Data) (members : Option Members) (said : Option (List ℕ)) (count : ℕ) (word : List ℕ)
+    → Some count ≡ option_map member_count members → Some word ≡ said
+    → by_word word count d ≡ (members >>= (λ ms. said >>= (λ w. by_word w (member_count ms) d)))
+by_parts d None said count word counted is = absurd (none-some count (sym counted))
+by_parts d (Some ms) said count word counted is =
+    subst (λ (o : Option (List ℕ)). by_word word count d ≡ (o >>= (λ w. by_word w (member_count ms) d))) is
+    (ap (λ n. by_word word n d) (same_Some count (member_count ms) counted))

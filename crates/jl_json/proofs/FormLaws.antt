@@ -1,6 +1,7 @@
 -- The form of a command reads as that command.
-use Rattle.std.proofs.Common.{◌≡◌, ◌∙◌, ap, refl, ℕ, ◌<◌, ◌^◌, List, [], ◌∷◌, Some, map, arith}
-use Rattle.std.proofs.Common.{Option, option_map, Result}
+use Rattle.std.proofs.Common.{◌≡◌, ◌∙◌, ap, refl, ℕ, ◌<◌, ◌^◌, List, [], ◌∷◌, Some, None, map, arith}
+use Rattle.std.proofs.Common.{Option, option_map, Result, Bool, true, if◌then◌else◌}
+use Rattle.std.specs.Prelude.{is_some}
 use Rattle.std.specs.List.{AllByRecursion}
 use Rattle.std.specs.Result.{result_ok}
 use Rattle.std.proofs.lemmas.Bool.Decides.{nat_tests}
@@ -11,15 +12,24 @@ use Rattle.serde_json.specs.Data.{Data}
 use Rattle.serde_json.specs.View.{items_of}
 use Rattle.jl_types.specs.declared.answer.Recv.{Recv}
 use Rattle.jl_types.specs.declared.answer.Recv.TheVariants.{Null, Of}
+use Rattle.jl_types.specs.declared.target.CallSiteKind.{CallSiteKind}
+use Rattle.jl_types.specs.declared.target.CallSiteKind.TheVariants.{Constant, Mutable, Volatile}
+use Rattle.jl_types.specs.Target.{Target, Method, Guard}
+use Rattle.jl_names.specs.MethodTypes.{IsMethodDescriptor}
+use Rattle.jl_pool.specs.Reading.Forms.{method_slots}
+use Rattle.jl_pool.proofs.FormLaws.{SlotsAre, method_slots-is}
 use Rattle.jl_json.specs.declared.command.Command.{Command}
 use Rattle.jl_json.specs.declared.command.Command.TheVariants.{NewLoader, Define, Delegate, Request, Prepare, Install, Call, Links}
+use Rattle.jl_json.specs.declared.command.Command.TheVariants.{NewCallSite, SetTarget, NewSwitch, Invalidate, Bind}
 use Rattle.jl_json.specs.declared.command.ClassSource.TheVariants.{File, Sketch}
 use Rattle.jl_sketch.specs.declared.sketch.Sketch.{Sketch as SketchOf}
 use Rattle.jl_json.specs.ClassAnswers.{number_data}
 use Rattle.jl_json.specs.Members.{below, ◌>>=◌}
 use Rattle.jl_json.specs.Sketches.{name_in, sketch_of}
-use Rattle.jl_json.specs.Commands.{numbers_in, recv_in, command_of}
-use Rattle.jl_json.specs.CommandForms.{recv_data, command_data, IsReceiver, IsCommand}
+use Rattle.jl_json.specs.Targets.{guard, target_in, target_under}
+use Rattle.jl_json.specs.Commands.{numbers_in, recv_in, kind_in, is_method_descriptor, method_type, command_of}
+use Rattle.jl_json.specs.CommandForms.{recv_data, kind_name, target_data, command_data}
+use Rattle.jl_json.specs.CommandForms.{IsReceiver, IsTarget, IsCommand}
 
 pub within : (bound n : ℕ) → n < bound → below bound n ≡ Some n
 within bound n lt = grind (arith, nat_tests)
@@ -35,6 +45,44 @@ numbers_again (s ∷ sites) h =
 recv_again : (recv : Recv) → IsReceiver recv → recv_in (recv_data recv) ≡ Some recv
 recv_again Null h = refl
 recv_again (Of class) h = ap (option_map Of) (within (2 ^ 32) class h)
+
+kind_again : (kind : CallSiteKind) → kind_in (kind_name kind) ≡ Some kind
+kind_again Constant = refl
+kind_again Mutable = refl
+kind_again Volatile = refl
+
+some_slots : (ty : List ℕ) (found : Option ℕ) → SlotsAre ty found → IsMethodDescriptor ty → is_some found ≡ true
+some_slots ty None h is = absurd (h is)
+some_slots ty (Some n) h is = refl
+
+type_again : (ty : List ℕ) → IsMethodDescriptor ty → is_method_descriptor ty ≡ true
+type_again ty is = some_slots ty (method_slots ty) (method_slots-is ty) is
+
+-- ---- targets
+
+abbrev class_of_next : ℕ → Option ℕ → Option Target
+class_of_next index class =
+    option_map Method (class >>= (λ c. below (2 ^ 16) index >>= (λ i. Some (record { class = c; index = i }))))
+
+abbrev index_next : ℕ → Option ℕ → Option Target
+index_next class index = option_map Method (index >>= (λ i. Some (record { class = class; index = i })))
+
+abbrev guard_next : Target → Target → Option ℕ → Option Target
+guard_next first fallback switch = guard switch (target_in (target_data first)) (target_in (target_data fallback))
+
+abbrev first_next : ℕ → Target → Option Target → Option Target
+first_next p fallback first = guard (Some p) first (target_in (target_data fallback))
+
+pub target_again : (t : Target) → IsTarget t → target_in (target_data t) ≡ Some t
+unfolding target_in target_under
+target_again (Method m) h =
+    ap (class_of_next m.index) (within (2 ^ 32) m.class h.0) ∙ ap (index_next m.class) (within (2 ^ 16) m.index h.1)
+target_again (Guard p first fallback) h =
+    ap (guard_next first fallback) (within (2 ^ 32) p h.0)
+    ∙ ap (first_next p fallback) (target_again first h.1)
+    ∙ ap (guard (Some p) (Some first)) (target_again fallback h.2)
+
+-- ---- commands
 
 -- what follows a number of the form
 
@@ -75,6 +123,35 @@ recv_next site recv = recv >>= (λ r. Some (Call site r))
 abbrev site_next : Recv → Option ℕ → Option Command
 site_next recv site = site >>= (λ s. recv_next s (recv_in (recv_data recv)))
 
+abbrev kind_next : Data → Target → Option CallSiteKind → Option Command
+kind_next written target kind = kind >>= (λ k. (name_in written >>= method_type)
+    >>= (λ ty. target_in (target_data target) >>= (λ t. Some (NewCallSite k ty t))))
+
+abbrev type_next : CallSiteKind → Target → Option (List ℕ) → Option Command
+type_next kind target ty =
+    (ty >>= method_type) >>= (λ ty. target_in (target_data target) >>= (λ t. Some (NewCallSite kind ty t)))
+
+abbrev typed_next : CallSiteKind → List ℕ → Target → Bool → Option Command
+typed_next kind ty target is =
+    (if is then Some ty else None)
+    >>= (λ ty. target_in (target_data target) >>= (λ t. Some (NewCallSite kind ty t)))
+
+abbrev target_next : CallSiteKind → List ℕ → Option Target → Option Command
+target_next kind ty target = target >>= (λ t. Some (NewCallSite kind ty t))
+
+abbrev changed_next : Target → Option ℕ → Option Command
+changed_next target call_site =
+    call_site >>= (λ c. target_in (target_data target) >>= (λ t. Some (SetTarget c t)))
+
+abbrev new_target_next : ℕ → Option Target → Option Command
+new_target_next call_site target = target >>= (λ t. Some (SetTarget call_site t))
+
+abbrev bound_next : ℕ → Option ℕ → Option Command
+bound_next call_site site = site >>= (λ s. below (2 ^ 32) call_site >>= (λ c. Some (Bind s c)))
+
+abbrev call_site_next : ℕ → Option ℕ → Option Command
+call_site_next site call_site = call_site >>= (λ c. Some (Bind site c))
+
 pub again : (written : Data) (c : Command) → IsCommand written c → command_of (command_data written c) ≡ Some c
 unfolding command_data
 again written NewLoader h = refl
@@ -96,3 +173,14 @@ again written (Install batch) h = ap (option_map Install) (within (2 ^ 32) batch
 again written (Call site recv) h =
     ap (site_next recv) (within (2 ^ 32) site h.0) ∙ ap (recv_next site) (recv_again recv h.1)
 again written Links h = refl
+again written (NewCallSite kind ty target) h =
+    ap (kind_next written target) (kind_again kind)
+    ∙ ap (type_next kind target) h.0
+    ∙ ap (typed_next kind ty target) (type_again ty h.1)
+    ∙ ap (target_next kind ty) (target_again target h.2)
+again written (SetTarget call_site target) h =
+    ap (changed_next target) (within (2 ^ 32) call_site h.0) ∙ ap (new_target_next call_site) (target_again target h.1)
+again written NewSwitch h = refl
+again written (Invalidate switches) h = ap (option_map Invalidate) (numbers_again switches h)
+again written (Bind site call_site) h =
+    ap (bound_next call_site) (within (2 ^ 32) site h.0) ∙ ap (call_site_next site) (within (2 ^ 32) call_site h.1)

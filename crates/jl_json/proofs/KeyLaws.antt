@@ -21,20 +21,22 @@ use Rattle.serde_json.specs.Find.{get, get_member, as_str, as_array}
 use Rattle.jl_types.specs.declared.answer.Recv.TheVariants.{Null}
 use Rattle.jl_json.specs.declared.command.Command.{Command}
 use Rattle.jl_json.specs.declared.command.Command.TheVariants.{NewLoader, Define, Delegate, Request, Prepare, Install, Call, Links}
+use Rattle.jl_json.specs.declared.command.Command.TheVariants.{NewCallSite, SetTarget, NewSwitch, Invalidate, Bind}
 use Rattle.jl_json.specs.declared.command.ClassSource.{ClassSource}
 use Rattle.jl_json.specs.declared.command.ClassSource.TheVariants.{File, Sketch}
-use Rattle.jl_json.specs.Members.{number_in, number_at, text_at, member_keys, keys_of, has_key, AreAmong, ◌>>=◌}
+use Rattle.jl_json.specs.Members.{number_in, number_at, text_at, member_count, member_keys, keys_of, has_key, AreAmong, ◌>>=◌}
 use Rattle.jl_json.specs.Sketches.{name_in, name_at, sketch_of}
-use Rattle.jl_json.specs.Commands.{numbers_in, sites_at, file_at, recv_in, source_of}
+use Rattle.jl_json.specs.Targets.{target_in, target_at}
+use Rattle.jl_json.specs.Commands.{numbers_in, numbers_at, file_at, recv_in, kind_in, kind_at, method_type, method_type_at, source_of}
 use Rattle.jl_json.specs.Commands.{define_of, delegate_of, request_of, prepare_of, install_of, call_of, call_on_of}
-use Rattle.jl_json.specs.Commands.{member_count, by_word, command_of}
+use Rattle.jl_json.specs.Commands.{new_call_site_of, set_target_of, invalidate_of, bind_of, by_word, command_of}
 use Rattle.jl_json.specs.CommandForms.{command_data}
 
-by_test : {P : Type 0} (b : Bool) → (b ≡ true → P) → (b ≡ false → P) → P
+pub by_test : {P : Type 0} (b : Bool) → (b ≡ true → P) → (b ≡ false → P) → P
 by_test true on_true on_false = on_true refl
 by_test false on_true on_false = on_false refl
 
-abbrev Keys : Type 0
+abbrev pub Keys : Type 0
 Keys = List (List ℕ)
 
 -- ---- lists without repeats
@@ -44,11 +46,11 @@ abbrev less : List ℕ → Keys → Keys
 less k [] = []
 less k (x ∷ xs) = if bytes_eq k x then xs else x ∷ less k xs
 
-abbrev Differ : Keys → Type 0
+abbrev pub Differ : Keys → Type 0
 Differ [] = Unit
 Differ (k ∷ ks) = AllByRecursion (λ j. bytes_eq j k ≡ false) ks × Differ ks
 
-abbrev Has : Keys → List ℕ → Type 0
+abbrev pub Has : Keys → List ℕ → Type 0
 Has xs k = has_key xs k ≡ true
 
 in_rest : (b c : Bool) → (b || c) ≡ true → b ≡ false → c ≡ true
@@ -118,7 +120,7 @@ counted : (ms : Members) → length (member_keys ms) ≡ member_count ms
 counted no_members = refl
 counted (member k d ms) = ap suc (counted ms)
 
-next_found : {A : Type 0} (f : Data → Option A) (k : List ℕ) (ms : Members) (a : A)
+pub next_found : {A : Type 0} (f : Data → Option A) (k : List ℕ) (ms : Members) (a : A)
     → (get_member k ms >>= f) ≡ Some a → Has (member_keys ms) k
 next_found f k ms a e = option_and_then_some f (get_member k ms) a e (λ d is _. found k ms d is)
 
@@ -127,7 +129,7 @@ file_found : (k : List ℕ) (ms : Members) (file : List ℕ) → file_at k (obje
 file_found k ms file e = option_and_then_some (λ text. result_ok (decode_of text)) (text_at k (object ms)) file e
     (λ text is _. next_found as_str k ms text is)
 
-named_alone : (named : Keys) (ms : Members) → Differ named → member_count ms ≡ length named
+pub named_alone : (named : Keys) (ms : Members) → Differ named → member_count ms ≡ length named
     → AllByRecursion (Has (member_keys ms)) named → AreAmong (member_keys ms) named
 named_alone named ms differ same has =
     each (Has named) (member_keys ms) (among named (member_keys ms) differ (counted ms ∙ same) has)
@@ -138,11 +140,11 @@ named_alone named ms differ same has =
 abbrev IsForm : Data → Members → Command → Type 0
 IsForm sketch ms c = AreAmong (member_keys ms) (keys_of (command_data sketch c))
 
-number_found : (bound : ℕ) (k : List ℕ) (ms : Members) (n : ℕ) → number_at bound k (object ms) ≡ Some n
+pub number_found : (bound : ℕ) (k : List ℕ) (ms : Members) (n : ℕ) → number_at bound k (object ms) ≡ Some n
     → Has (member_keys ms) k
 number_found bound k ms n e = next_found (number_in bound) k ms n e
 
-mapped : {A B P : Type 0} (f : A → B) (o : Option A) (b : B) → option_map f o ≡ Some b
+pub mapped : {A B P : Type 0} (f : A → B) (o : Option A) (b : B) → option_map f o ≡ Some b
     → ((a : A) → o ≡ Some a → f a ≡ b → P) → P
 mapped f None b e k = absurd (none-some b e)
 mapped f (Some a) b e k = k a refl (same_Some (f a) b e)
@@ -220,7 +222,7 @@ request_keys sketch ms c count asked e = option_and_then_some _ (number_at (2 ^ 
 prepare_keys : (sketch : Data) (ms : Members) (c : Command) → member_count ms ≡ 2 → Has (member_keys ms) (codes "do")
     → prepare_of (object ms) ≡ Some c → IsForm sketch ms c
 unfolding command_data
-prepare_keys sketch ms c count asked e = mapped Prepare (sites_at (codes "sites") (object ms)) c e
+prepare_keys sketch ms c count asked e = mapped Prepare (numbers_at (codes "sites") (object ms)) c e
     (λ sites is made. subst (IsForm sketch ms) made
     (named_alone (codes "do" ∷ codes "sites" ∷ []) ms ((refl, tt), (tt, tt)) count
     (asked, (next_found (λ d. as_array d >>= numbers_in) (codes "sites") ms sites is, tt))))
@@ -281,6 +283,68 @@ unfolding command_data
 links_keys sketch ms c count asked made = subst (IsForm sketch ms) made
     (named_alone (codes "do" ∷ []) ms (tt, tt) count (asked, tt))
 
+new_call_site_keys : (sketch : Data) (ms : Members) (c : Command) → member_count ms ≡ 4 → Has (member_keys ms) (codes "do")
+    → new_call_site_of (object ms) ≡ Some c → IsForm sketch ms c
+unfolding command_data
+new_call_site_keys sketch ms c count asked e = option_and_then_some _ (kind_at (codes "kind") (object ms)) c e
+    (λ kind is next. option_and_then_some _ (method_type_at (codes "type") (object ms)) c next
+    (λ ty here last. option_and_then_some _ (target_at (codes "target") (object ms)) c last
+    (λ target there made. subst (IsForm sketch ms) (same_Some (NewCallSite kind ty target) c made)
+    (named_alone (codes "do" ∷ codes "kind" ∷ codes "target" ∷ codes "type" ∷ []) ms
+    ((refl, (refl, (refl, tt))), ((refl, (refl, tt)), ((refl, tt), (tt, tt)))) count (
+      asked,
+      (
+        option_and_then_some kind_in (text_at (codes "kind") (object ms)) kind is
+            (λ word read _. next_found as_str (codes "kind") ms word read),
+        (
+          next_found target_in (codes "target") ms target there,
+          (
+            option_and_then_some method_type (name_at (codes "type") (object ms)) ty here
+                (λ name read _. next_found name_in (codes "type") ms name read),
+            tt,
+          ),
+        ),
+      ),
+    )))))
+
+set_target_keys : (sketch : Data) (ms : Members) (c : Command) → member_count ms ≡ 3 → Has (member_keys ms) (codes "do")
+    → set_target_of (object ms) ≡ Some c → IsForm sketch ms c
+unfolding command_data
+set_target_keys sketch ms c count asked e = option_and_then_some _ (number_at (2 ^ 32) (codes "callsite") (object ms)) c e
+    (λ call_site is next. option_and_then_some _ (target_at (codes "target") (object ms)) c next
+    (λ target here made. subst (IsForm sketch ms) (same_Some (SetTarget call_site target) c made)
+    (named_alone (codes "callsite" ∷ codes "do" ∷ codes "target" ∷ []) ms
+    ((refl, (refl, tt)), ((refl, tt), (tt, tt))) count (
+      number_found (2 ^ 32) (codes "callsite") ms call_site is,
+      (asked, (next_found target_in (codes "target") ms target here, tt)),
+    ))))
+
+switch_keys : (sketch : Data) (ms : Members) (c : Command) → member_count ms ≡ 1 → Has (member_keys ms) (codes "do")
+    → NewSwitch ≡ c → IsForm sketch ms c
+unfolding command_data
+switch_keys sketch ms c count asked made = subst (IsForm sketch ms) made
+    (named_alone (codes "do" ∷ []) ms (tt, tt) count (asked, tt))
+
+invalidate_keys : (sketch : Data) (ms : Members) (c : Command) → member_count ms ≡ 2 → Has (member_keys ms) (codes "do")
+    → invalidate_of (object ms) ≡ Some c → IsForm sketch ms c
+unfolding command_data
+invalidate_keys sketch ms c count asked e = mapped Invalidate (numbers_at (codes "switches") (object ms)) c e
+    (λ switches is made. subst (IsForm sketch ms) made
+    (named_alone (codes "do" ∷ codes "switches" ∷ []) ms ((refl, tt), (tt, tt)) count
+    (asked, (next_found (λ d. as_array d >>= numbers_in) (codes "switches") ms switches is, tt))))
+
+bind_keys : (sketch : Data) (ms : Members) (c : Command) → member_count ms ≡ 3 → Has (member_keys ms) (codes "do")
+    → bind_of (object ms) ≡ Some c → IsForm sketch ms c
+unfolding command_data
+bind_keys sketch ms c count asked e = option_and_then_some _ (number_at (2 ^ 32) (codes "site") (object ms)) c e
+    (λ site is next. option_and_then_some _ (number_at (2 ^ 32) (codes "callsite") (object ms)) c next
+    (λ call_site here made. subst (IsForm sketch ms) (same_Some (Bind site call_site) c made)
+    (named_alone (codes "callsite" ∷ codes "do" ∷ codes "site" ∷ []) ms
+    ((refl, (refl, tt)), ((refl, tt), (tt, tt))) count (
+      number_found (2 ^ 32) (codes "callsite") ms call_site here,
+      (asked, (number_found (2 ^ 32) (codes "site") ms site is, tt)),
+    ))))
+
 -- the word and the count fit here, or further on
 here_or_on : {P : Type 0} (b : Bool) (count n : ℕ) (o rest : Option Command) (c : Command)
     → (if b && (count == n) then o else rest) ≡ Some c → (count ≡ n → o ≡ Some c → P) → (rest ≡ Some c → P) → P
@@ -310,7 +374,17 @@ word_keys sketch word ms c asked e =
     (λ n is. call_on_keys sketch ms c n asked is) (λ e8.
     here_or_on (bytes_eq word (codes "links")) (member_count ms) 1 _ _ c e8
     (λ n is. links_keys sketch ms c n asked (same_Some Links c is)) (λ e9.
-    absurd (none-some c e9))))))))))
+    here_or_on (bytes_eq word (codes "callsite")) (member_count ms) 4 _ _ c e9
+    (λ n is. new_call_site_keys sketch ms c n asked is) (λ e10.
+    here_or_on (bytes_eq word (codes "target")) (member_count ms) 3 _ _ c e10
+    (λ n is. set_target_keys sketch ms c n asked is) (λ e11.
+    here_or_on (bytes_eq word (codes "switch")) (member_count ms) 1 _ _ c e11
+    (λ n is. switch_keys sketch ms c n asked (same_Some NewSwitch c is)) (λ e12.
+    here_or_on (bytes_eq word (codes "invalidate")) (member_count ms) 2 _ _ c e12
+    (λ n is. invalidate_keys sketch ms c n asked is) (λ e13.
+    here_or_on (bytes_eq word (codes "bind")) (member_count ms) 3 _ _ c e13
+    (λ n is. bind_keys sketch ms c n asked is) (λ e14.
+    absurd (none-some c e14)))))))))))))))
 
 pub form_keys : (d : Data) (c : Command) (sketch : Data) → command_of d ≡ Some c
     → AreAmong (keys_of d) (keys_of (command_data sketch c))

@@ -2,6 +2,8 @@ pub mod NameLaws
 pub mod CommandLaws
 pub mod FormLaws
 pub mod KeyLaws
+pub mod TargetLaws
+pub mod TypeLaws
 pub mod SketchLaws
 pub mod FloatLaws
 pub mod SendLaws

@@ -1,24 +1,42 @@
 -- The JSON of each command, in one form: keys in byte order, digits in lower case, the receiver named. A value that
 -- is a command has no keys but those of its form. A sketch may be written in several ways, and so may a name: the form of a
--- definition by a sketch, and that of a delegation, has the JSON that is given for it.
-use Rattle.std.specs.Prelude.{◌≡◌, ◌^◌, ◌<◌, codes, Some, ⊤}
+-- definition by a sketch, that of a delegation and that of a call site with its type has the JSON that is given for it.
+use Rattle.std.specs.Prelude.{◌≡◌, ◌^◌, ◌<◌, ℕ, List, codes, Some, ⊤}
 use Rattle.std.specs.List.{AllByRecursion}
 use Rattle.hex.specs.Hex.{encode_lower, IsBytes}
 use Rattle.serde_json.specs.Data.{Data, null, string, object, no_members, member}
 use Rattle.jl_types.specs.declared.answer.Recv.{Recv}
 use Rattle.jl_types.specs.declared.answer.Recv.TheVariants.{Null, Of}
+use Rattle.jl_types.specs.declared.ids.MethodId.{MethodId}
 use Rattle.jl_types.specs.declared.ids.Place.{Place}
+use Rattle.jl_types.specs.declared.target.CallSiteKind.{CallSiteKind}
+use Rattle.jl_types.specs.declared.target.CallSiteKind.TheVariants.{Constant, Mutable, Volatile}
+use Rattle.jl_types.specs.Target.{Target, Method, Guard}
+use Rattle.jl_names.specs.MethodTypes.{IsMethodDescriptor}
 use Rattle.jl_json.specs.declared.command.Command.{Command}
 use Rattle.jl_json.specs.declared.command.Command.TheVariants.{NewLoader, Define, Delegate, Request, Prepare, Install, Call, Links}
+use Rattle.jl_json.specs.declared.command.Command.TheVariants.{NewCallSite, SetTarget, NewSwitch, Invalidate, Bind}
 use Rattle.jl_json.specs.declared.command.ClassSource.TheVariants.{File, Sketch}
 use Rattle.jl_json.specs.ClassAnswers.{number_data}
-use Rattle.jl_json.specs.LinkAnswers.{single}
+use Rattle.jl_json.specs.LinkAnswers.{single, method_id_data}
 use Rattle.jl_json.specs.Replies.{numbers_data}
 use Rattle.jl_json.specs.Sketches.{name_in, sketch_of}
 
 abbrev pub recv_data : Recv → Data
 recv_data Null = null
 recv_data (Of class) = number_data class
+
+abbrev pub kind_name : CallSiteKind → List ℕ
+kind_name Constant = codes "constant"
+kind_name Mutable = codes "mutable"
+kind_name Volatile = codes "volatile"
+
+abbrev pub target_data : Target → Data
+target_data (Method m) = single (codes "method") (method_id_data m)
+target_data (Guard p first fallback) =
+    object (member (codes "fallback") (target_data fallback)
+    (member (codes "guard") (number_data p)
+    (member (codes "target") (target_data first) no_members)))
 
 unfoldable pub command_data : Data → Command → Data
 command_data written NewLoader = single (codes "do") (string (codes "loader"))
@@ -51,8 +69,26 @@ command_data written (Call site recv) =
     (member (codes "recv") (recv_data recv)
     (member (codes "site") (number_data site) no_members)))
 command_data written Links = single (codes "do") (string (codes "links"))
+command_data written (NewCallSite kind ty target) =
+    object (member (codes "do") (string (codes "callsite"))
+    (member (codes "kind") (string (kind_name kind))
+    (member (codes "target") (target_data target)
+    (member (codes "type") written no_members))))
+command_data written (SetTarget call_site target) =
+    object (member (codes "callsite") (number_data call_site)
+    (member (codes "do") (string (codes "target"))
+    (member (codes "target") (target_data target) no_members)))
+command_data written NewSwitch = single (codes "do") (string (codes "switch"))
+command_data written (Invalidate switches) =
+    object (member (codes "do") (string (codes "invalidate"))
+    (member (codes "switches") (numbers_data switches) no_members))
+command_data written (Bind site call_site) =
+    object (member (codes "callsite") (number_data call_site)
+    (member (codes "do") (string (codes "bind"))
+    (member (codes "site") (number_data site) no_members)))
 
--- ---- commands that there are: each number in the range of its type, and a sketch or a name that this JSON is
+-- ---- commands that there are: each number in the range of its type, a sketch or a name that this JSON is, and the type
+-- of a call site a method descriptor
 
 abbrev pub IsReceiver : Recv → Type 0
 IsReceiver Null = ⊤
@@ -60,6 +96,13 @@ IsReceiver (Of class) = class < 2 ^ 32
 
 abbrev pub IsPlace : Place → Type 0
 IsPlace place = (place.class < 2 ^ 32) × (place.method < 2 ^ 16) × (place.pc < 2 ^ 32)
+
+abbrev pub IsMethodId : MethodId → Type 0
+IsMethodId m = (m.class < 2 ^ 32) × (m.index < 2 ^ 16)
+
+abbrev pub IsTarget : Target → Type 0
+IsTarget (Method m) = IsMethodId m
+IsTarget (Guard p first fallback) = (p < 2 ^ 32) × IsTarget first × IsTarget fallback
 
 abbrev pub IsCommand : Data → Command → Type 0
 IsCommand written NewLoader = ⊤
@@ -71,3 +114,9 @@ IsCommand written (Prepare sites) = AllByRecursion (λ s. s < 2 ^ 32) sites
 IsCommand written (Install batch) = batch < 2 ^ 32
 IsCommand written (Call site recv) = (site < 2 ^ 32) × IsReceiver recv
 IsCommand written Links = ⊤
+IsCommand written (NewCallSite kind ty target) =
+    (name_in written ≡ Some ty) × IsMethodDescriptor ty × IsTarget target
+IsCommand written (SetTarget call_site target) = (call_site < 2 ^ 32) × IsTarget target
+IsCommand written NewSwitch = ⊤
+IsCommand written (Invalidate switches) = AllByRecursion (λ p. p < 2 ^ 32) switches
+IsCommand written (Bind site call_site) = (site < 2 ^ 32) × (call_site < 2 ^ 32)

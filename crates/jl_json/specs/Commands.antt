@@ -1,20 +1,25 @@
 -- Which JSON is a command, and which command: an object of the members that are named here, and of no others.
-use Rattle.std.specs.Prelude.{ℕ, suc, ◌^◌, ◌==◌, ◌&&◌, if◌then◌else◌, List, codes}
+use Rattle.std.specs.Prelude.{ℕ, ◌^◌, ◌==◌, ◌&&◌, if◌then◌else◌, Bool, List, codes}
 use Rattle.std.specs.Prelude.{Option, Some, None, is_some, option_map}
 use Rattle.std.specs.Option.{option_map_or}
 use Rattle.std.specs.Result.{result_ok}
 use Rattle.std.specs.Str.{bytes_eq}
 use Rattle.hex.specs.Hex.{decode_of}
-use Rattle.serde_json.specs.Data.{Data, Items, Members, no_members, member}
+use Rattle.serde_json.specs.Data.{Data, Items}
 use Rattle.serde_json.specs.Find.{get, as_null, as_array, as_object}
 use Rattle.jl_types.specs.declared.answer.Recv.{Recv}
 use Rattle.jl_types.specs.declared.answer.Recv.TheVariants.{Null, Of}
+use Rattle.jl_types.specs.declared.target.CallSiteKind.{CallSiteKind}
+use Rattle.jl_types.specs.declared.target.CallSiteKind.TheVariants.{Constant, Mutable, Volatile}
+use Rattle.jl_pool.specs.Reading.Forms.{method_slots}
 use Rattle.jl_json.specs.declared.command.Command.{Command}
 use Rattle.jl_json.specs.declared.command.Command.TheVariants.{NewLoader, Define, Delegate, Request, Prepare, Install, Call, Links}
+use Rattle.jl_json.specs.declared.command.Command.TheVariants.{NewCallSite, SetTarget, NewSwitch, Invalidate, Bind}
 use Rattle.jl_json.specs.declared.command.ClassSource.{ClassSource}
 use Rattle.jl_json.specs.declared.command.ClassSource.TheVariants.{File, Sketch}
-use Rattle.jl_json.specs.Members.{◌>>=◌, number_in, number_at, text_at, each_in}
+use Rattle.jl_json.specs.Members.{◌>>=◌, number_in, number_at, text_at, each_in, member_count}
 use Rattle.jl_json.specs.Sketches.{name_at, sketch_of}
+use Rattle.jl_json.specs.Targets.{target_at}
 
 -- ---- values of members
 
@@ -22,10 +27,10 @@ use Rattle.jl_json.specs.Sketches.{name_at, sketch_of}
 abbrev pub numbers_in : Items → Option (List ℕ)
 numbers_in = each_in (number_in (2 ^ 32))
 
-abbrev pub sites_at : List ℕ → Data → Option (List ℕ)
-sites_at key d = do
-  sites ← get key d
-  items ← as_array sites
+abbrev pub numbers_at : List ℕ → Data → Option (List ℕ)
+numbers_at key d = do
+  numbers ← get key d
+  items ← as_array numbers
   numbers_in items
 
 -- the bytes that a text is the hexadecimal of, in either case
@@ -37,6 +42,27 @@ file_at key d = do
 -- null, or a class
 abbrev pub recv_in : Data → Option Recv
 recv_in d = if is_some (as_null d) then Some Null else option_map Of (number_in (2 ^ 32) d)
+
+-- the kind of call site of this word
+abbrev pub kind_in : List ℕ → Option CallSiteKind
+kind_in word =
+    if bytes_eq word (codes "constant") then Some Constant
+    else if bytes_eq word (codes "mutable") then Some Mutable
+    else if bytes_eq word (codes "volatile") then Some Volatile
+    else None
+
+abbrev pub kind_at : List ℕ → Data → Option CallSiteKind
+kind_at key d = text_at key d >>= kind_in
+
+-- a method descriptor, of 255 slots at most (JVMS SE 17 §4.3.3)
+abbrev pub is_method_descriptor : List ℕ → Bool
+is_method_descriptor text = is_some (method_slots text)
+
+abbrev pub method_type : List ℕ → Option (List ℕ)
+method_type name = if is_method_descriptor name then Some name else None
+
+abbrev pub method_type_at : List ℕ → Data → Option (List ℕ)
+method_type_at key d = name_at key d >>= method_type
 
 -- ---- commands, by their members
 
@@ -66,7 +92,7 @@ request_of d = do
   Some (Request (record { class = class; method = method; pc = pc }))
 
 abbrev pub prepare_of : Data → Option Command
-prepare_of d = option_map Prepare (sites_at (codes "sites") d)
+prepare_of d = option_map Prepare (numbers_at (codes "sites") d)
 
 abbrev pub install_of : Data → Option Command
 install_of d = option_map Install (number_at (2 ^ 32) (codes "prepared") d)
@@ -84,13 +110,41 @@ call_on_of d = do
   recv ← recv_in value
   Some (Call site recv)
 
+abbrev pub new_call_site_of : Data → Option Command
+new_call_site_of d = do
+  kind ← kind_at (codes "kind") d
+  ty ← method_type_at (codes "type") d
+  target ← target_at (codes "target") d
+  Some (NewCallSite kind ty target)
+
+abbrev pub set_target_of : Data → Option Command
+set_target_of d = do
+  call_site ← number_at (2 ^ 32) (codes "callsite") d
+  target ← target_at (codes "target") d
+  Some (SetTarget call_site target)
+
+abbrev pub invalidate_of : Data → Option Command
+invalidate_of d = option_map Invalidate (numbers_at (codes "switches") d)
+
+abbrev pub bind_of : Data → Option Command
+bind_of d = do
+  site ← number_at (2 ^ 32) (codes "site") d
+  call_site ← number_at (2 ^ 32) (codes "callsite") d
+  Some (Bind site call_site)
+
 -- ---- all commands
 
-abbrev pub member_count : Members → ℕ
-member_count no_members = 0
-member_count (member key d members) = suc (member_count members)
+-- the command of this word, in an object of this many members: of call sites and switch points, and of all
 
--- the command of this word, in an object of this many members
+abbrev pub by_call_site_word : List ℕ → ℕ → Data → Option Command
+by_call_site_word word count d =
+    if bytes_eq word (codes "callsite") && (count == 4) then new_call_site_of d
+    else if bytes_eq word (codes "target") && (count == 3) then set_target_of d
+    else if bytes_eq word (codes "switch") && (count == 1) then Some NewSwitch
+    else if bytes_eq word (codes "invalidate") && (count == 2) then invalidate_of d
+    else if bytes_eq word (codes "bind") && (count == 3) then bind_of d
+    else None
+
 abbrev pub by_word : List ℕ → ℕ → Data → Option Command
 by_word word count d =
     if bytes_eq word (codes "loader") && (count == 1) then Some NewLoader
@@ -102,7 +156,7 @@ by_word word count d =
     else if bytes_eq word (codes "call") && (count == 2) then call_of d
     else if bytes_eq word (codes "call") && (count == 3) then call_on_of d
     else if bytes_eq word (codes "links") && (count == 1) then Some Links
-    else None
+    else by_call_site_word word count d
 
 abbrev pub command_of : Data → Option Command
 command_of d = do

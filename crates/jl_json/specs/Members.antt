@@ -1,5 +1,5 @@
 -- What stands under the keys of a JSON object, and which keys it has.
-use Rattle.std.specs.Prelude.{◌≡◌, ℕ, nat_lt, if◌then◌else◌, List, [], ◌∷◌, true, Bool}
+use Rattle.std.specs.Prelude.{◌≡◌, ℕ, suc, nat_lt, if◌then◌else◌, List, [], ◌∷◌, true, Bool}
 use Rattle.std.specs.Prelude.{Option, Some, None, option_map, option_and_then}
 use Rattle.std.specs.List.{AllByRecursion, list_all, list_any}
 use Rattle.std.specs.Option.{option_map_or}
@@ -48,6 +48,10 @@ abbrev pub or_absent : {A : Type 0} → A → (Data → Option A) → List ℕ �
 or_absent absent read key d = option_map_or read (get key d) (Some absent)
 
 -- ---- keys
+
+abbrev pub member_count : Members → ℕ
+member_count no_members = 0
+member_count (member key d members) = suc (member_count members)
 
 abbrev pub member_keys : Members → List (List ℕ)
 member_keys no_members = []

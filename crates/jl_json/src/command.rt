@@ -4,18 +4,21 @@ ghost use Rattle.std.specs.Prelude.{◌≡◌, ◌^◌, codes, Some, option_map,
 ghost use Rattle.serde_json.specs.Data.{Data};
 ghost use Rattle.serde_json.specs.Find.{as_object};
 ghost use Rattle.serde_json.specs.View.{view, items_view};
-ghost use Rattle.jl_json.specs.Members.{number_in, number_at, text_at, keys_of, AreAmong};
-ghost use Rattle.jl_json.specs.Commands.{numbers_in, sites_at, file_at, recv_in, source_of};
+ghost use Rattle.jl_json.specs.Members.{number_in, number_at, text_at, member_count, keys_of, AreAmong};
+ghost use Rattle.jl_json.specs.Commands.{numbers_in, numbers_at, file_at, recv_in, source_of};
 ghost use Rattle.jl_json.specs.Commands.{define_of, delegate_of, request_of, prepare_of, install_of, call_of};
-ghost use Rattle.jl_json.specs.Commands.{call_on_of, member_count, command_of};
+ghost use Rattle.jl_json.specs.Commands.{call_on_of, by_word, command_of};
 ghost use Rattle.jl_json.specs.CommandForms.{IsCommand, command_data};
 ghost use Rattle.jl_json.specs.declared.command.Command.{Command};
 
+use crate::call_site::call_site_command;
 use crate::sketch::{name_at, read_sketch};
 use hex::FromHexError;
 use jl_names::{Name, Seq};
 use jl_sketch::Sketch;
-use jl_types::{ClassId, LoaderId, Place, Recv, SiteNo};
+use jl_types::{
+    CallSiteId, CallSiteKind, ClassId, LoaderId, Place, Recv, SiteNo, SwitchId, Target,
+};
 use serde_json::Value;
 use std::alloc::{AllocError, Global};
 
@@ -45,6 +48,27 @@ pub enum Command {
     Call(SiteNo, Recv),
     /// The installed links are to be listed.
     Links,
+    /// There is to be one call site more, of this type, a method descriptor, and with this target at
+    /// first (java.lang.invoke.CallSite).
+    NewCallSite {
+        kind: CallSiteKind,
+        ty: Name,
+        target: Target,
+    },
+    /// The call site is to have this target from now on.
+    SetTarget {
+        call_site: CallSiteId,
+        target: Target,
+    },
+    /// There is to be one switch point more, valid (java.lang.invoke.SwitchPoint).
+    NewSwitch,
+    /// The switch points are to become invalid for good.
+    Invalidate(Seq<SwitchId>),
+    /// The site, an invokedynamic, is to run what the call site runs (JVMS SE 17 §6.5).
+    Bind {
+        site: SiteNo,
+        call_site: CallSiteId,
+    },
 }
 
 /// What a class is defined by.
@@ -57,15 +81,23 @@ pub enum ClassSource {
 }
 
 /// A number below 2^32.
-fn number_in(value: &Value) -> Option<u32>
+pub(crate) fn number_in(value: &Value) -> Option<u32>
     ensures { result ≡ number_in (2 ^ 32) (view value.now) }
 {
     let number = value.as_u64()?;
     u32::try_from(number).ok()
 }
 
+/// A number below 2^16.
+pub(crate) fn index_in(value: &Value) -> Option<u16>
+    ensures { result ≡ number_in (2 ^ 16) (view value.now) }
+{
+    let number = value.as_u64()?;
+    u16::try_from(number).ok()
+}
+
 /// The number below 2^32 under the key.
-fn number_at(value: &Value, key: &str) -> Option<u32>
+pub(crate) fn number_at(value: &Value, key: &str) -> Option<u32>
     ensures { result ≡ number_at (2 ^ 32) key.now (view value.now) }
 {
     number_in(value.get(key)?)
@@ -75,8 +107,7 @@ fn number_at(value: &Value, key: &str) -> Option<u32>
 pub(crate) fn index_at(value: &Value, key: &str) -> Option<u16>
     ensures { result ≡ number_at (2 ^ 16) key.now (view value.now) }
 {
-    let number = value.get(key)?.as_u64()?;
-    u16::try_from(number).ok()
+    index_in(value.get(key)?)
 }
 
 /// The text under the key.
@@ -118,7 +149,7 @@ fn sites_in(alloc: Global, items: &[Value]) -> Result<Option<Seq<SiteNo>>, Alloc
 
 /// The sites under the key, an array of their numbers.
 fn sites_at(alloc: Global, value: &Value, key: &str) -> Result<Option<Seq<SiteNo>>, AllocError>
-    ensures { IfOk result (λ sites. sites ≡ sites_at key.now (view value.now)) }
+    ensures { IfOk result (λ sites. sites ≡ numbers_at key.now (view value.now)) }
 {
     match value.get(key).and_then(Value::as_array) {
         Some(items) => sites_in(alloc, items),
@@ -226,21 +257,22 @@ fn call_on(value: &Value) -> Option<Command>
 }
 
 /// How many members an object has.
-fn member_count(value: &Value) -> Option<usize>
+pub(crate) fn member_count(value: &Value) -> Option<usize>
     ensures { result ≡ option_map member_count (as_object (view value.now)) }
 {
     let members = value.as_object()?;
     Some(members.len())
 }
 
-/// The command that the JSON is, or `None` where it is none: an object of the members that the
-/// command has, and of no others. Want of memory is an error.
-pub fn read_command(alloc: Global, value: &Value) -> Result<Option<Command>, AllocError>
-    ensures { IfOk result (λ command. command ≡ command_of (view value.now)) }
+/// The command of this word, in an object of this many members.
+fn command_of_word(
+    alloc: Global,
+    value: &Value,
+    word: &str,
+    count: usize,
+) -> Result<Option<Command>, AllocError>
+    ensures { IfOk result (λ command. command ≡ by_word word.now count (view value.now)) }
 {
-    let (Some(count), Some(word)) = (member_count(value), text_at(value, "do")) else {
-        return Ok(None);
-    };
     match (word, count) {
         ("loader", 1) => Ok(Some(Command::NewLoader)),
         ("define", 3) => define(alloc, value),
@@ -251,12 +283,23 @@ pub fn read_command(alloc: Global, value: &Value) -> Result<Option<Command>, All
         ("call", 2) => Ok(call(value)),
         ("call", 3) => Ok(call_on(value)),
         ("links", 1) => Ok(Some(Command::Links)),
-        _ => Ok(None),
+        _ => call_site_command(alloc, value, word, count),
     }
 }
 
+/// The command that the JSON is, or `None` where it is none: an object of the members that the
+/// command has, and of no others. Want of memory is an error.
+pub fn read_command(alloc: Global, value: &Value) -> Result<Option<Command>, AllocError>
+    ensures { IfOk result (λ command. command ≡ command_of (view value.now)) }
+{
+    let (Some(count), Some(word)) = (member_count(value), text_at(value, "do")) else {
+        return Ok(None);
+    };
+    command_of_word(alloc, value, word, count)
+}
+
 /// Each command is read from its form, where what may be written in several ways has the JSON that is given: the sketch of a
-/// definition, and the name of a delegation.
+/// definition, the name of a delegation, and the type of a call site.
 pub fn each_command_is_read()
     ensures { (written : Data) (c : Command) → IsCommand written c
         → command_of (command_data written c) ≡ Some c }

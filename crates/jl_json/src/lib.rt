@@ -2,7 +2,7 @@
 //!
 //! The value of each answer stands in `specs/`, in reading order: `Names`, `ClassAnswers` and
 //! `Refusals` for class files; `LinkAnswers`, `CallAnswers`, `Replies` and `EventRefusals` for what
-//! is linked. Which JSON asks for something stands in `Members`, `Sketches` and `Commands`, and
+//! is linked. Which JSON asks for something stands in `Members`, `Sketches`, `Targets` and `Commands`, and
 //! a form of each command in `CommandForms`.
 #![tactic(auto)]
 
@@ -18,10 +18,13 @@ mod link_answer;
 mod reply;
 
 // What is asked.
+mod call_site;
 mod command;
 mod sketch;
+mod target;
 
 pub use call_answer::answer_value;
+pub use call_site::types_are_descriptors;
 pub use class_answer::class_text;
 pub use command::{ClassSource, Command, each_command_is_read, no_other_keys, read_command};
 pub use event_refusal::{event_refusal_value, prepare_refusal_value};
@@ -29,4 +32,5 @@ pub use link_answer::{link_value, links_value, outcome_value, prepared_value};
 pub use refusal::Refusal;
 pub use reply::reply_value;
 pub use sketch::{least_sketch, no_other_sketch_keys, read_sketch};
+pub use target::{each_target_is_read, no_other_target_keys};
 pub use text::{names_are_spelled, text_of};

@@ -1,5 +1,5 @@
 use Rattle.std.proofs.Common.{◌∙◌, ap, Some, option_map}
-use Rattle.jl_json.specs.Commands.{member_count}
+use Rattle.jl_json.specs.Members.{member_count}
 use Rattle.jl_json.proofs.CommandLaws.{members_counted}
 use Rattle.jl_json.proofs.command.member_count.Goals as goal
 

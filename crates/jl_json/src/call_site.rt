@@ -1,0 +1,161 @@
+//! Commands of call sites and switch points, read from JSON.
+
+ghost use Rattle.std.specs.Prelude.{◌≡◌, ◌^◌, ℕ, List, Some, IfOk};
+ghost use Rattle.serde_json.specs.Data.{Data};
+ghost use Rattle.serde_json.specs.View.{view, items_view};
+ghost use Rattle.jl_json.specs.Commands.{numbers_in, numbers_at, kind_in, kind_at};
+ghost use Rattle.jl_json.specs.Commands.{is_method_descriptor, method_type_at};
+ghost use Rattle.jl_json.specs.Commands.{new_call_site_of, set_target_of, invalidate_of, bind_of};
+ghost use Rattle.jl_json.specs.Commands.{by_call_site_word, command_of};
+ghost use Rattle.jl_json.specs.declared.command.Command.TheVariants.{NewCallSite};
+ghost use Rattle.jl_names.specs.MethodTypes.{IsMethodDescriptor};
+ghost use Rattle.jl_types.specs.declared.target.CallSiteKind.{CallSiteKind};
+ghost use Rattle.jl_types.specs.Target.{Target};
+
+use crate::command::{Command, number_at, number_in, text_at};
+use crate::sketch::name_at;
+use crate::target::target_at;
+use jl_names::{Name, Seq, method_slots};
+use jl_types::{CallSiteId, CallSiteKind, SiteNo, SwitchId};
+use serde_json::Value;
+use std::alloc::{AllocError, Global};
+
+/// The kind of call site of this word.
+fn kind_in(word: &str) -> Option<CallSiteKind>
+    ensures { result ≡ kind_in word.now }
+{
+    match word {
+        "constant" => Some(CallSiteKind::Constant),
+        "mutable" => Some(CallSiteKind::Mutable),
+        "volatile" => Some(CallSiteKind::Volatile),
+        _ => None,
+    }
+}
+
+/// The kind under the key.
+fn kind_at(value: &Value, key: &str) -> Option<CallSiteKind>
+    ensures { result ≡ kind_at key.now (view value.now) }
+{
+    kind_in(text_at(value, key)?)
+}
+
+/// Whether the text is a method descriptor (JVMS SE 17 §4.3.3).
+fn is_method_descriptor(text: &[u8]) -> bool
+    ensures { result ≡ is_method_descriptor text.now }
+{
+    method_slots(text).is_some()
+}
+
+/// The method descriptor under the key.
+fn method_type_at(alloc: Global, value: &Value, key: &str) -> Result<Option<Name>, AllocError>
+    ensures { IfOk result (λ ty. ty ≡ method_type_at key.now (view value.now)) }
+{
+    let Some(name) = name_at(alloc, value, key)? else {
+        return Ok(None);
+    };
+    if is_method_descriptor(name.as_slice()) {
+        Ok(Some(name))
+    } else {
+        Ok(None)
+    }
+}
+
+/// The switch points of these numbers.
+fn switches_in(alloc: Global, items: &[Value]) -> Result<Option<Seq<SwitchId>>, AllocError>
+    ensures { IfOk result (λ switches. switches ≡ numbers_in (items_view items.now)) }
+{
+    let mut switches = Vec::new(alloc);
+    for item in items {
+        match number_in(item) {
+            Some(number) => switches.push(SwitchId::new(number))?,
+            None => return Ok(None),
+        }
+    }
+    Ok(Some(Seq::of(switches)))
+}
+
+/// The switch points under the key, an array of their numbers.
+fn switches_at(alloc: Global, value: &Value, key: &str) -> Result<Option<Seq<SwitchId>>, AllocError>
+    ensures { IfOk result (λ switches. switches ≡ numbers_at key.now (view value.now)) }
+{
+    match value.get(key).and_then(Value::as_array) {
+        Some(items) => switches_in(alloc, items),
+        None => Ok(None),
+    }
+}
+
+/// The command to make a call site.
+fn new_call_site(alloc: Global, value: &Value) -> Result<Option<Command>, AllocError>
+    ensures { IfOk result (λ command. command ≡ new_call_site_of (view value.now)) }
+{
+    let Some(kind) = kind_at(value, "kind") else {
+        return Ok(None);
+    };
+    let Some(ty) = method_type_at(alloc, value, "type")? else {
+        return Ok(None);
+    };
+    match target_at(alloc, value, "target")? {
+        Some(target) => Ok(Some(Command::NewCallSite { kind, ty, target })),
+        None => Ok(None),
+    }
+}
+
+/// The command to give a call site another target.
+fn set_target(alloc: Global, value: &Value) -> Result<Option<Command>, AllocError>
+    ensures { IfOk result (λ command. command ≡ set_target_of (view value.now)) }
+{
+    let Some(call_site) = number_at(value, "callsite") else {
+        return Ok(None);
+    };
+    let Some(target) = target_at(alloc, value, "target")? else {
+        return Ok(None);
+    };
+    let call_site = CallSiteId::new(call_site);
+    Ok(Some(Command::SetTarget { call_site, target }))
+}
+
+/// The command to invalidate switch points.
+fn invalidate(alloc: Global, value: &Value) -> Result<Option<Command>, AllocError>
+    ensures { IfOk result (λ command. command ≡ invalidate_of (view value.now)) }
+{
+    match switches_at(alloc, value, "switches")? {
+        Some(switches) => Ok(Some(Command::Invalidate(switches))),
+        None => Ok(None),
+    }
+}
+
+/// The command to bind a site to a call site.
+fn bind(value: &Value) -> Option<Command>
+    ensures { result ≡ bind_of (view value.now) }
+{
+    let site = number_at(value, "site")?;
+    let call_site = number_at(value, "callsite")?;
+    let site = SiteNo::new(site);
+    let call_site = CallSiteId::new(call_site);
+    Some(Command::Bind { site, call_site })
+}
+
+/// The command of call sites or switch points that has this word, in an object of this many members.
+pub(crate) fn call_site_command(
+    alloc: Global,
+    value: &Value,
+    word: &str,
+    count: usize,
+) -> Result<Option<Command>, AllocError>
+    ensures { IfOk result (λ command. command ≡ by_call_site_word word.now count (view value.now)) }
+{
+    match (word, count) {
+        ("callsite", 4) => new_call_site(alloc, value),
+        ("target", 3) => set_target(alloc, value),
+        ("switch", 1) => Ok(Some(Command::NewSwitch)),
+        ("invalidate", 2) => invalidate(alloc, value),
+        ("bind", 3) => Ok(bind(value)),
+        _ => Ok(None),
+    }
+}
+
+/// The type of each new call site that is read is a method descriptor (JVMS SE 17 §4.3.3).
+pub fn types_are_descriptors()
+    ensures { (d : Data) (kind : CallSiteKind) (ty : List ℕ) (target : Target)
+        → command_of d ≡ Some (NewCallSite kind ty target) → IsMethodDescriptor ty }
+{}
