@@ -172,7 +172,6 @@ module _ (text_of : List ℕ → List ℕ) where
   event_refusal_floats refusal.Memory = refl
   event_refusal_floats (refusal.Delegate fault) = refl
   event_refusal_floats refusal.LoadersFull = refl
-  event_refusal_floats refusal.NotYet = refl
 
 pub prepare_refusal_floats : (fault : PrepareFault) → has_float (prepare_refusal_data fault) ≡ false
 unfolding prepare_refusal_data

@@ -103,7 +103,6 @@ module _ (text_of : List ℕ → List ℕ) where
   event_refusal_data refusal.Memory = refused (codes "Memory")
   event_refusal_data (refusal.Delegate fault) = refused (delegate_name fault)
   event_refusal_data refusal.LoadersFull = refused (codes "LoadersFull")
-  event_refusal_data refusal.NotYet = refused (codes "NotYet")
 
 -- ---- preparations
 

@@ -153,7 +153,6 @@ pub fn event_refusal_value(alloc: Global, refusal: &Refusal) -> Result<Value, Al
         Refusal::Memory => refused_value(alloc, "Memory"),
         Refusal::Delegate(fault) => refused_value(alloc, delegate_fault(*fault)),
         Refusal::LoadersFull => refused_value(alloc, "LoadersFull"),
-        Refusal::NotYet => refused_value(alloc, "NotYet"),
     }
 }
 
