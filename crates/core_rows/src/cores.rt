@@ -174,16 +174,17 @@ fn assert_installs(rt: &(impl Abort + AllocGlobal), core: &mut Core) -> Result<(
     assert_install(rt, core, &ZEROS, "Err(BatchSize)")
 }
 
-/// Asserts that events which come later are refused.
-fn assert_not_yet(rt: &(impl Abort + AllocGlobal), core: &mut Core) -> Result<(), AllocError> {
+/// Asserts that an invokevirtual isn't bound to a call site, and that there is a first switch point.
+fn assert_call_sites(rt: &(impl Abort + AllocGlobal), core: &mut Core) -> Result<(), AllocError> {
     let bind = Event::Bind(SiteNo::new(0), CallSiteId::new(0));
-    assert_answer(rt, core, bind, "Err(NotYet)")?;
-    assert_answer(rt, core, Event::NewSwitch, "Err(NotYet)")
+    assert_answer(rt, core, bind, "Err(NotDynamic)")?;
+    let made = "Ok(Reply { made: Switch(SwitchId(0)), dropped: Seq { items: [] } })";
+    assert_answer(rt, core, Event::NewSwitch, made)
 }
 
 fn assert_refusals(rt: &(impl Abort + AllocGlobal), core: &mut Core) -> Result<(), AllocError> {
     assert_installs(rt, core)?;
-    assert_not_yet(rt, core)
+    assert_call_sites(rt, core)
 }
 
 #[test]

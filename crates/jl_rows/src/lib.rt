@@ -4,6 +4,8 @@
 #[cfg(test)]
 mod batches;
 #[cfg(test)]
+mod call_sites;
+#[cfg(test)]
 mod classes;
 #[cfg(test)]
 mod devices;

@@ -177,30 +177,6 @@ fn finds_classes_by_loader(rt: HostRuntime) -> Result<(), Fail> {
     )
 }
 
-/// Object, a class with an invokedynamic, and the request of that.
-#[test]
-fn links_no_call_sites_yet(rt: HostRuntime) -> Result<(), Fail> {
-    assert_run(
-        &rt,
-        [
-            (OBJECT, r#"{"class":0,"dropped":[]}"#),
-            (
-                r#"{"do":"define","loader":0,"sketch":{"name":"T","super":"java/lang/Object","flags":33,"methods":[{"name":"r","type":"()V","flags":9,"calls":[{"kind":"invokedynamic","name":"d","type":"()V"}]}]}}"#,
-                r#"{"class":1,"dropped":[]}"#,
-            ),
-            (
-                r#"{"do":"request","class":1,"method":0,"pc":0}"#,
-                r#"{"refused":"NotYet"}"#,
-            ),
-            (
-                r#"{"do":"request","class":1,"method":0,"pc":1}"#,
-                r#"{"refused":"NoSuchPlace"}"#,
-            ),
-        ]
-        .as_slice(),
-    )
-}
-
 #[test]
 fn takes_commands_alone(rt: HostRuntime) -> Result<(), Fail> {
     let lines = [
@@ -209,7 +185,7 @@ fn takes_commands_alone(rt: HostRuntime) -> Result<(), Fail> {
         "[]",
         "cafebabe",
         r#"{"do":"links","more":0}"#,
-        r#"{"do":"switch"}"#,
+        r#"{"do":"retire","loader":0}"#,
         r#"{"do":"loader","loader":1}"#,
         r#"{"do":"delegate","loader":0,"name":"A"}"#,
         r#"{"do":"delegate","loader":0,"name":null,"to":0}"#,
