@@ -1,5 +1,16 @@
-# What both scripts need: a JDK, the built Java programs beside this file, and a folder that goes away at the end.
+# What the scripts need: a JDK, the built Java programs beside this file, and a folder that goes away at the end.
 # Sourced, with $here the folder of this file.
+
+# Prints what stands at the head of the script, and ends it.
+usage() {
+    sed -n '2,/^set/{/^#/s/^# \{0,1\}//p;}' "$0" >&2
+    exit 2
+}
+# Lets $program be the whole path of a program.
+take_program() {
+    [ -f "$1" ] && [ -x "$1" ] || { echo "$1 is no program" >&2; exit 2; }
+    program=$(cd "$(dirname "$1")" && pwd)/$(basename "$1")
+}
 
 export LC_ALL=C
 if [ -n "${JAVA_HOME:-}" ]; then

@@ -10,14 +10,9 @@ set -eu
 here=$(cd "$(dirname "$0")" && pwd)
 . "$here/common.sh"
 
-if [ $# = 0 ]; then
-    sed -n '2,/^set/{/^#/s/^# \{0,1\}//p;}' "$0" >&2
-    exit 2
-fi
-program=$1
+if [ $# = 0 ]; then usage; fi
+take_program "$1"
 shift
-[ -f "$program" ] && [ -x "$program" ] || { echo "$program is no program" >&2; exit 2; }
-program=$(cd "$(dirname "$program")" && pwd)/$(basename "$program")
 
 # The limit holds for linkd alone, not for the JVM that starts it.
 cat > "$work/limited" <<SH

@@ -9,15 +9,10 @@ set -eu
 here=$(cd "$(dirname "$0")" && pwd)
 . "$here/common.sh"
 
-if [ $# != 1 ] && [ $# != 3 ]; then
-    sed -n '2,/^set/{/^#/s/^# \{0,1\}//p;}' "$0" >&2
-    exit 2
-fi
-program=$1
+if [ $# != 1 ] && [ $# != 3 ]; then usage; fi
+take_program "$1"
 shape=${2:-tree}
 count=${3:-30000}
-[ -f "$program" ] && [ -x "$program" ] || { echo "$program is no program" >&2; exit 2; }
-program=$(cd "$(dirname "$program")" && pwd)/$(basename "$program")
 
 run_java Hierarchy lines "$shape" "$count" > "$work/lines"
 (

@@ -21,21 +21,13 @@ speed() {
     run_java AsmSpeed 0 10
 }
 
-if [ $# != 1 ]; then
-    sed -n '2,/^set/{/^#/s/^# \{0,1\}//p;}' "$0" >&2
-    exit 2
-fi
+if [ $# != 1 ]; then usage; fi
 java -version 2>&1 | sed -n 2p
 if [ "$1" = --speed ]; then
     speed
     exit 0
 fi
-program=$1
-[ -f "$program" ] && [ -x "$program" ] || { echo "$program is no program" >&2; exit 2; }
-case "$program" in
-    */*) ;;
-    *) program=./$program ;;
-esac
+take_program "$1"
 data=${KEEP:-$work}
 mkdir -p "$data"
 

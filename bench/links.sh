@@ -10,13 +10,8 @@ set -eu
 here=$(cd "$(dirname "$0")" && pwd)
 . "$here/common.sh"
 
-if [ $# != 1 ]; then
-    sed -n '2,/^set/{/^#/s/^# \{0,1\}//p;}' "$0" >&2
-    exit 2
-fi
-program=$1
-[ -f "$program" ] && [ -x "$program" ] || { echo "$program is no program" >&2; exit 2; }
-program=$(cd "$(dirname "$program")" && pwd)/$(basename "$program")
+if [ $# != 1 ]; then usage; fi
+take_program "$1"
 data=${KEEP:-$work}
 mkdir -p "$data"
 java -version 2>&1 | sed -n 2p
