@@ -7,3 +7,4 @@ pub mod InstallLaws
 pub mod DropLaws
 pub mod ListLaws
 pub mod FillLaws
+pub mod CallSiteLaws

@@ -10,7 +10,7 @@ ghost use Rattle.jl_types.specs.declared.event.Made.TheVariants as made;
 ghost use Rattle.jl_types.specs.declared.refusal.Refusal.TheVariants as refusal;
 ghost use Rattle.jl_core.specs.State.{IsRefused};
 
-use jl_code::Operand;
+use jl_code::{Operand, Site};
 use jl_names::Name;
 use jl_relink::{World, invocation_at};
 use jl_types::{NotLinkable, Place, Refusal, SiteNo};
@@ -47,23 +47,30 @@ fn refusal_if_new(world: &World, max_sites: u32, place: &Place) -> Result<Option
         × (refusal ≡ events.new_place_fault max_sites world.now invocation)) }
     ensures err { IfErr result (λ r. verdict max_sites world.now (event.Request place.now) ≡ Err r) }
 {
-    let Some(invocation) = invocation_at(&world.classes, place) else {
-        return Err(if world.classes.has_class(place.class) {
+    match invocation_at(&world.classes, place) {
+        Some(invocation) => Ok(new_place_refusal(world, max_sites, invocation)),
+        None => Err(if world.classes.has_class(place.class) {
             Refusal::NoSuchPlace
         } else {
             Refusal::UnknownClass
-        });
-    };
+        }),
+    }
+}
+
+/// The refusal of a place that isn't requested yet, by its invocation.
+fn new_place_refusal(world: &World, max_sites: u32, invocation: &Site) -> Option<Refusal>
+    ensures { result ≡ events.new_place_fault max_sites world.now invocation.now }
+{
     if names_array(invocation.operand()) {
-        return Ok(Some(Refusal::NotLinkable(NotLinkable::ArrayReceiver)));
+        return Some(Refusal::NotLinkable(NotLinkable::ArrayReceiver));
     }
     if is_polymorphic(invocation.operand()) {
-        return Ok(Some(Refusal::NotLinkable(NotLinkable::PolymorphicSignature)));
+        return Some(Refusal::NotLinkable(NotLinkable::PolymorphicSignature));
     }
     if world.site_count() >= max_sites as usize {
-        return Ok(Some(Refusal::SitesFull));
+        return Some(Refusal::SitesFull);
     }
-    Ok(None)
+    None
 }
 
 /// Whether it names a method of an array type.
