@@ -2,7 +2,7 @@
 
 use jl_json::{
     Command, each_command_is_read, each_target_is_read, no_other_keys, no_other_target_keys,
-    read_command,
+    read_command, types_are_descriptors,
 };
 use serde_json::Value;
 use std::alloc::{AllocError, Global};
@@ -210,11 +210,16 @@ const NO_CALL_SITES: &[&str] = &[
     r#"{"do":"bind","site":0,"callsite":0,"recv":null}"#,
 ];
 
+/// How it prints.
+fn shown(alloc: Global, command: &Option<Command>) -> Result<String, AllocError> {
+    format!(in alloc; "{command:?}")
+}
+
 /// How the command prints that the text is, or none.
 fn printed(alloc: Global, text: &str) -> Result<String, Fail> {
     let value = Value::from_str(alloc, text)?;
     let command = read_command(alloc, &value)?;
-    Ok(format!(in alloc; "{command:?}")?)
+    Ok(shown(alloc, &command)?)
 }
 
 /// Asserts that the texts are commands that print so, or none.
@@ -237,6 +242,7 @@ fn commands(rt: HostRuntime) -> Result<(), Fail> {
 fn call_sites(rt: HostRuntime) -> Result<(), Fail> {
     each_target_is_read();
     no_other_target_keys();
+    types_are_descriptors();
     assert_printed(&rt, CALL_SITES)
 }
 
