@@ -68,6 +68,11 @@ command_floats old (command.Prepare sites) answer new is = prepare_floats old is
 command_floats old (command.Install batch) answer new is = install_floats (slice_get old.batches batch) old answer new is
 command_floats old (command.Call site recv) answer new is = ap has_float is.0 ∙ answer_floats _
 command_floats old command.Links answer new is = ap has_float is.0 ∙ links_floats _
+command_floats old (command.NewCallSite kind ty target) answer new is = event_floats is.outcome answer is.said
+command_floats old (command.SetTarget call_site target) answer new is = event_floats is.outcome answer is.said
+command_floats old command.NewSwitch answer new is = event_floats is.outcome answer is.said
+command_floats old (command.Invalidate switches) answer new is = event_floats is.outcome answer is.said
+command_floats old (command.Bind site call_site) answer new is = event_floats is.outcome answer is.said
 
 asked_floats : (old : Session) (asked : Option Command) (answer : Data) (new : Session)
     → IsAskedAnswer old asked answer new → has_float answer ≡ false

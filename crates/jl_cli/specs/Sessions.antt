@@ -97,6 +97,11 @@ IsCommandAnswer old (command.Install batch) answer new =
 IsCommandAnswer old (command.Call site recv) answer new =
     (answer ≡ answer_data (dispatch old.core.world site recv)) × (new ≡ old)
 IsCommandAnswer old command.Links answer new = (answer ≡ links_data old.core.links) × (new ≡ old)
+IsCommandAnswer old (command.NewCallSite kind ty target) answer new = IsEventAnswer old (event.NewCallSite kind ty target) answer new
+IsCommandAnswer old (command.SetTarget call_site target) answer new = IsEventAnswer old (event.SetTarget call_site target) answer new
+IsCommandAnswer old command.NewSwitch answer new = IsEventAnswer old event.NewSwitch answer new
+IsCommandAnswer old (command.Invalidate switches) answer new = IsEventAnswer old (event.Invalidate switches) answer new
+IsCommandAnswer old (command.Bind site call_site) answer new = IsEventAnswer old (event.Bind site call_site) answer new
 
 -- ---- what a line is answered
 

@@ -122,6 +122,15 @@ impl Session {
                 let links = self.core.list_links(alloc)?;
                 links_value(alloc, links.as_slice())
             }
+            Command::NewCallSite { kind, ty, target } => {
+                self.apply(alloc, Event::NewCallSite(kind, ty, target))
+            }
+            Command::SetTarget { call_site, target } => {
+                self.apply(alloc, Event::SetTarget(call_site, target))
+            }
+            Command::NewSwitch => self.apply(alloc, Event::NewSwitch),
+            Command::Invalidate(switches) => self.apply(alloc, Event::Invalidate(switches)),
+            Command::Bind { site, call_site } => self.apply(alloc, Event::Bind(site, call_site)),
         }
     }
 

@@ -134,8 +134,7 @@ bind_of d = do
 
 -- ---- all commands
 
--- the command of this word, in an object of this many members: of call sites and switch points, and of all
-
+-- the command of this word, in an object of this many members, if it is of call sites or switch points
 abbrev pub by_call_site_word : List ℕ → ℕ → Data → Option Command
 by_call_site_word word count d =
     if bytes_eq word (codes "callsite") && (count == 4) then new_call_site_of d
@@ -145,6 +144,7 @@ by_call_site_word word count d =
     else if bytes_eq word (codes "bind") && (count == 3) then bind_of d
     else None
 
+-- the same, of any kind
 abbrev pub by_word : List ℕ → ℕ → Data → Option Command
 by_word word count d =
     if bytes_eq word (codes "loader") && (count == 1) then Some NewLoader

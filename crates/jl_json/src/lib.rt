@@ -2,8 +2,8 @@
 //!
 //! The value of each answer stands in `specs/`, in reading order: `Names`, `ClassAnswers` and
 //! `Refusals` for class files; `LinkAnswers`, `CallAnswers`, `Replies` and `EventRefusals` for what
-//! is linked. Which JSON asks for something stands in `Members`, `Sketches`, `Targets` and `Commands`, and
-//! a form of each command in `CommandForms`.
+//! is linked. Which JSON asks for something stands in `Members`, `Sketches`, `Targets` and
+//! `Commands`, and a form of each command and target in `CommandForms`.
 #![tactic(auto)]
 
 // Class files.

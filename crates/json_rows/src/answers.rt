@@ -166,8 +166,6 @@ fn refused_events(rt: HostRuntime) -> Result<(), AllocError> {
 fn refused_within_events(rt: HostRuntime) -> Result<(), AllocError> {
     let array = EventRefusal::NotLinkable(NotLinkable::ArrayReceiver);
     assert_refusal(&rt, array, r#"{"refused":"NotLinkable.ArrayReceiver"}"#)?;
-    let memory = EventRefusal::CallSite(CallSiteFault::Memory);
-    assert_refusal(&rt, memory, r#"{"refused":"Memory"}"#)?;
     let delegate = EventRefusal::Delegate(DelegateFault::NotRecorded);
     assert_refusal(&rt, delegate, r#"{"refused":"Delegate.NotRecorded"}"#)?;
     let full = EventRefusal::Define(DefineFault::Full);
@@ -179,6 +177,60 @@ fn refused_within_events(rt: HostRuntime) -> Result<(), AllocError> {
         &rt,
         EventRefusal::Define(parent),
         r#"{"name":"p/A","refused":"Define.MissingParent"}"#,
+    )
+}
+
+/// Faults of call sites, and how they are answered.
+const CALL_SITE_FAULTS: &[(CallSiteFault, &str)] = &[
+    (
+        CallSiteFault::UnknownCallSite,
+        r#"{"refused":"CallSite.UnknownCallSite"}"#,
+    ),
+    (
+        CallSiteFault::Constant,
+        r#"{"refused":"CallSite.Constant"}"#,
+    ),
+    (
+        CallSiteFault::WrongType,
+        r#"{"refused":"CallSite.WrongType"}"#,
+    ),
+    (
+        CallSiteFault::UnknownMethod,
+        r#"{"refused":"CallSite.UnknownMethod"}"#,
+    ),
+    (
+        CallSiteFault::NotStatic,
+        r#"{"refused":"CallSite.NotStatic"}"#,
+    ),
+    (
+        CallSiteFault::UnknownSwitch,
+        r#"{"refused":"CallSite.UnknownSwitch"}"#,
+    ),
+    (CallSiteFault::TooDeep, r#"{"refused":"CallSite.TooDeep"}"#),
+    (CallSiteFault::Full, r#"{"refused":"CallSite.Full"}"#),
+    (CallSiteFault::Memory, r#"{"refused":"Memory"}"#),
+];
+
+#[test]
+fn refused_call_sites(rt: HostRuntime) -> Result<(), AllocError> {
+    for (fault, want) in CALL_SITE_FAULTS {
+        assert_refusal(&rt, EventRefusal::CallSite(*fault), want)?;
+    }
+    Ok(())
+}
+
+#[test]
+fn refused_bindings(rt: HostRuntime) -> Result<(), AllocError> {
+    let bound = EventRefusal::AlreadyBound(CallSiteId::new(0));
+    assert_refusal(&rt, bound, r#"{"callsite":0,"refused":"AlreadyBound"}"#)?;
+    assert_refusal(&rt, EventRefusal::NotDynamic, r#"{"refused":"NotDynamic"}"#)?;
+    let other = EventRefusal::TypeMismatch;
+    assert_refusal(&rt, other, r#"{"refused":"TypeMismatch"}"#)?;
+    let site = SiteNo::new(7);
+    assert_refusal(
+        &rt,
+        EventRefusal::UnknownSite { site },
+        r#"{"refused":"UnknownSite","site":7}"#,
     )
 }
 

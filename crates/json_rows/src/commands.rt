@@ -1,8 +1,11 @@
 //! Commands as JSON: each form once, and values that are none.
 
-use jl_json::{each_command_is_read, no_other_keys, read_command};
+use jl_json::{
+    Command, each_command_is_read, each_target_is_read, no_other_keys, no_other_target_keys,
+    read_command, types_are_descriptors,
+};
 use serde_json::Value;
-use std::alloc::Global;
+use std::alloc::{AllocError, Global};
 use std::process::Abort;
 use std::test::Fail;
 
@@ -79,11 +82,144 @@ const COMMANDS: [(&str, &str); 32] = [
     (r#"{"do":"call","site":0,"recv":1,"pc":0}"#, "None"),
 ];
 
+/// Commands of call sites and switch points, and how they print.
+const CALL_SITES: &[(&str, &str)] = &[
+    (
+        r#"{"do":"callsite","kind":"mutable","type":"()V","target":{"method":[0,1]}}"#,
+        r#"Some(NewCallSite { kind: Mutable, ty: Name { bytes: b"()V" }, target: Target { part: Method(MethodId { class: ClassId(0), index: 1 }) } })"#,
+    ),
+    (
+        r#"{"type":"(J[DLA;I)D","target":{"method":[4294967295,65535]},"kind":"constant","do":"callsite"}"#,
+        r#"Some(NewCallSite { kind: Constant, ty: Name { bytes: b"(J[DLA;I)D" }, target: Target { part: Method(MethodId { class: ClassId(4294967295), index: 65535 }) } })"#,
+    ),
+    (
+        r#"{"do":"callsite","kind":"volatile","type":"()I","target":{"guard":4294967295,"target":{"method":[1,2]},"fallback":{"fallback":{"method":[3,4]},"guard":0,"target":{"method":[5,6]}}}}"#,
+        r#"Some(NewCallSite { kind: Volatile, ty: Name { bytes: b"()I" }, target: Target { part: Guard(SwitchId(4294967295), Target { part: Method(MethodId { class: ClassId(1), index: 2 }) }, Target { part: Guard(SwitchId(0), Target { part: Method(MethodId { class: ClassId(5), index: 6 }) }, Target { part: Method(MethodId { class: ClassId(3), index: 4 }) }) }) } })"#,
+    ),
+    // Two bytes for the zero; and 255 slots.
+    (
+        r#"{"do":"callsite","kind":"mutable","type":"(L\u0000;)V","target":{"method":[0,1]}}"#,
+        r#"Some(NewCallSite { kind: Mutable, ty: Name { bytes: b"(L\xc0\x80;)V" }, target: Target { part: Method(MethodId { class: ClassId(0), index: 1 }) } })"#,
+    ),
+    (
+        r#"{"do":"callsite","kind":"mutable","type":"(JJJJJJJJJJJJJJJJJJJJJJJJJJJJJJJJJJJJJJJJJJJJJJJJJJJJJJJJJJJJJJJJJJJJJJJJJJJJJJJJJJJJJJJJJJJJJJJJJJJJJJJJJJJJJJJJJJJJJJJJJJJJJJJI)V","target":{"method":[0,1]}}"#,
+        r#"Some(NewCallSite { kind: Mutable, ty: Name { bytes: b"(JJJJJJJJJJJJJJJJJJJJJJJJJJJJJJJJJJJJJJJJJJJJJJJJJJJJJJJJJJJJJJJJJJJJJJJJJJJJJJJJJJJJJJJJJJJJJJJJJJJJJJJJJJJJJJJJJJJJJJJJJJJJJJJI)V" }, target: Target { part: Method(MethodId { class: ClassId(0), index: 1 }) } })"#,
+    ),
+    (
+        r#"{"do":"target","callsite":4294967295,"target":{"method":[0,0]}}"#,
+        r#"Some(SetTarget { call_site: CallSiteId(4294967295), target: Target { part: Method(MethodId { class: ClassId(0), index: 0 }) } })"#,
+    ),
+    (
+        r#"{"target":{"guard":1,"target":{"guard":2,"target":{"method":[0,0]},"fallback":{"method":[0,1]}},"fallback":{"method":[0,2]}},"callsite":0,"do":"target"}"#,
+        r#"Some(SetTarget { call_site: CallSiteId(0), target: Target { part: Guard(SwitchId(1), Target { part: Guard(SwitchId(2), Target { part: Method(MethodId { class: ClassId(0), index: 0 }) }, Target { part: Method(MethodId { class: ClassId(0), index: 1 }) }) }, Target { part: Method(MethodId { class: ClassId(0), index: 2 }) }) } })"#,
+    ),
+    // Of equal keys the last one.
+    (
+        r#"{"do":"target","callsite":0,"target":{"method":0,"method":[0,1]}}"#,
+        r#"Some(SetTarget { call_site: CallSiteId(0), target: Target { part: Method(MethodId { class: ClassId(0), index: 1 }) } })"#,
+    ),
+    (r#"{"do":"switch"}"#, r#"Some(NewSwitch)"#),
+    (
+        r#"{"do":"invalidate","switches":[]}"#,
+        r#"Some(Invalidate(Seq { items: [] }))"#,
+    ),
+    (
+        r#"{"do":"invalidate","switches":[3,0,3,4294967295]}"#,
+        r#"Some(Invalidate(Seq { items: [SwitchId(3), SwitchId(0), SwitchId(3), SwitchId(4294967295)] }))"#,
+    ),
+    (
+        r#"{"do":"bind","site":2,"callsite":3}"#,
+        r#"Some(Bind { site: SiteNo(2), call_site: CallSiteId(3) })"#,
+    ),
+    (
+        r#"{"site":1,"callsite":4294967295,"do":"bind","site":4294967295}"#,
+        r#"Some(Bind { site: SiteNo(4294967295), call_site: CallSiteId(4294967295) })"#,
+    ),
+];
+
+/// Values that are none of these commands.
+const NO_CALL_SITES: &[&str] = &[
+    r#"{"do":"callsite","kind":"mutable","type":"()V"}"#,
+    r#"{"do":"callsite","kind":"mutable","type":"()V","target":{"method":[0,1]},"site":0}"#,
+    r#"{"do":"callsite","kind":"mutable","type":"()V","to":{"method":[0,1]}}"#,
+    r#"{"do":"callSite","kind":"mutable","type":"()V","target":{"method":[0,1]}}"#,
+    // Kinds.
+    r#"{"do":"callsite","kind":"Mutable","type":"()V","target":{"method":[0,1]}}"#,
+    r#"{"do":"callsite","kind":"const","type":"()V","target":{"method":[0,1]}}"#,
+    r#"{"do":"callsite","kind":"constant ","type":"()V","target":{"method":[0,1]}}"#,
+    r#"{"do":"callsite","kind":"","type":"()V","target":{"method":[0,1]}}"#,
+    r#"{"do":"callsite","kind":null,"type":"()V","target":{"method":[0,1]}}"#,
+    r#"{"do":"callsite","kind":0,"type":"()V","target":{"method":[0,1]}}"#,
+    // Types: fields' descriptors, and texts that are none; 256 slots.
+    r#"{"do":"callsite","kind":"mutable","type":"I","target":{"method":[0,1]}}"#,
+    r#"{"do":"callsite","kind":"mutable","type":"Ljava/lang/Object;","target":{"method":[0,1]}}"#,
+    r#"{"do":"callsite","kind":"mutable","type":"V","target":{"method":[0,1]}}"#,
+    r#"{"do":"callsite","kind":"mutable","type":"","target":{"method":[0,1]}}"#,
+    r#"{"do":"callsite","kind":"mutable","type":"()","target":{"method":[0,1]}}"#,
+    r#"{"do":"callsite","kind":"mutable","type":"(V)V","target":{"method":[0,1]}}"#,
+    r#"{"do":"callsite","kind":"mutable","type":"()VV","target":{"method":[0,1]}}"#,
+    r#"{"do":"callsite","kind":"mutable","type":null,"target":{"method":[0,1]}}"#,
+    r#"{"do":"callsite","kind":"mutable","type":"(JJJJJJJJJJJJJJJJJJJJJJJJJJJJJJJJJJJJJJJJJJJJJJJJJJJJJJJJJJJJJJJJJJJJJJJJJJJJJJJJJJJJJJJJJJJJJJJJJJJJJJJJJJJJJJJJJJJJJJJJJJJJJJJJ)V","target":{"method":[0,1]}}"#,
+    // Targets: a part is missing, or of another kind, or one too many.
+    r#"{"do":"target","callsite":0,"target":null}"#,
+    r#"{"do":"target","callsite":0,"target":{}}"#,
+    r#"{"do":"target","callsite":0,"target":[0,1]}"#,
+    r#"{"do":"target","callsite":0,"target":{"methods":[0,1]}}"#,
+    r#"{"do":"target","callsite":0,"target":{"method":[]}}"#,
+    r#"{"do":"target","callsite":0,"target":{"method":[0]}}"#,
+    r#"{"do":"target","callsite":0,"target":{"method":[0,1,2]}}"#,
+    r#"{"do":"target","callsite":0,"target":{"method":0}}"#,
+    r#"{"do":"target","callsite":0,"target":{"method":{"class":0,"index":1}}}"#,
+    r#"{"do":"target","callsite":0,"target":{"method":[4294967296,0]}}"#,
+    r#"{"do":"target","callsite":0,"target":{"method":[0,65536]}}"#,
+    r#"{"do":"target","callsite":0,"target":{"method":[-1,0]}}"#,
+    r#"{"do":"target","callsite":0,"target":{"method":[0,1.0]}}"#,
+    r#"{"do":"target","callsite":0,"target":{"method":[0,"1"]}}"#,
+    r#"{"do":"target","callsite":0,"target":{"method":[0,1],"guard":0}}"#,
+    r#"{"do":"target","callsite":0,"target":{"method":[0,1],"target":{"method":[0,1]},"fallback":{"method":[0,1]}}}"#,
+    r#"{"do":"target","callsite":0,"target":{"guard":0}}"#,
+    r#"{"do":"target","callsite":0,"target":{"guard":0,"target":{"method":[0,1]}}}"#,
+    r#"{"do":"target","callsite":0,"target":{"guard":0,"fallback":{"method":[0,1]}}}"#,
+    r#"{"do":"target","callsite":0,"target":{"target":{"method":[0,1]},"fallback":{"method":[0,1]}}}"#,
+    r#"{"do":"target","callsite":0,"target":{"guard":0,"target":{"method":[0,1]},"else":{"method":[0,1]}}}"#,
+    r#"{"do":"target","callsite":0,"target":{"guard":0,"target":{"method":[0,1]},"fallback":{"method":[0,1]},"method":[0,1]}}"#,
+    r#"{"do":"target","callsite":0,"target":{"guard":4294967296,"target":{"method":[0,1]},"fallback":{"method":[0,1]}}}"#,
+    r#"{"do":"target","callsite":0,"target":{"guard":null,"target":{"method":[0,1]},"fallback":{"method":[0,1]}}}"#,
+    r#"{"do":"target","callsite":0,"target":{"guard":0,"target":null,"fallback":{"method":[0,1]}}}"#,
+    r#"{"do":"target","callsite":0,"target":{"guard":0,"target":{"method":[0,1]},"fallback":{"guard":0,"target":{"method":[0,1]},"fallback":{"method":[0]}}}}"#,
+    r#"{"do":"target","target":{"method":[0,1]}}"#,
+    r#"{"do":"target","callsite":4294967296,"target":{"method":[0,1]}}"#,
+    r#"{"do":"target","callsite":0,"type":"()V","target":{"method":[0,1]}}"#,
+    // Switch points.
+    r#"{"do":"switch","switch":0}"#,
+    r#"{"do":"invalidate"}"#,
+    r#"{"do":"invalidate","switches":0}"#,
+    r#"{"do":"invalidate","switches":null}"#,
+    r#"{"do":"invalidate","switches":{"0":1}}"#,
+    r#"{"do":"invalidate","switches":[0,"1"]}"#,
+    r#"{"do":"invalidate","switches":[0,4294967296]}"#,
+    r#"{"do":"invalidate","switches":[0],"switch":0}"#,
+    r#"{"do":"invalidate","switch":[0]}"#,
+    // Binding.
+    r#"{"do":"bind","site":0}"#,
+    r#"{"do":"bind","callsite":0}"#,
+    r#"{"do":"bind","site":0,"callsite":null}"#,
+    r#"{"do":"bind","site":0,"callSite":1}"#,
+    r#"{"do":"bind","site":4294967296,"callsite":0}"#,
+    r#"{"do":"bind","site":0,"callsite":-1}"#,
+    r#"{"do":"bind","site":0,"callsite":0,"recv":null}"#,
+];
+
+/// How it prints.
+fn shown(alloc: Global, command: &Option<Command>) -> Result<String, AllocError> {
+    format!(in alloc; "{command:?}")
+}
+
 /// How the command prints that the text is, or none.
 fn printed(alloc: Global, text: &str) -> Result<String, Fail> {
     let value = Value::from_str(alloc, text)?;
     let command = read_command(alloc, &value)?;
-    Ok(format!(in alloc; "{command:?}")?)
+    Ok(shown(alloc, &command)?)
 }
 
 /// Asserts that the texts are commands that print so, or none.
@@ -100,4 +236,60 @@ fn commands(rt: HostRuntime) -> Result<(), Fail> {
     each_command_is_read();
     no_other_keys();
     assert_printed(&rt, &COMMANDS)
+}
+
+#[test]
+fn call_sites(rt: HostRuntime) -> Result<(), Fail> {
+    each_target_is_read();
+    no_other_target_keys();
+    types_are_descriptors();
+    assert_printed(&rt, CALL_SITES)
+}
+
+#[test]
+fn no_call_sites(rt: HostRuntime) -> Result<(), Fail> {
+    for text in NO_CALL_SITES {
+        let told = printed(rt.alloc(), text)?;
+        assert!(rt; told.as_str() == "None", "{told} of {text}");
+    }
+    Ok(())
+}
+
+/// A command with a target of so many guards, one within another.
+fn nested(alloc: Global, guards: usize) -> Result<String, AllocError> {
+    let mut text = String::new(alloc);
+    text.push_str(r#"{"do":"target","callsite":0,"target":"#)?;
+    for _ in 0..guards {
+        text.push_str(r#"{"guard":0,"fallback":{"method":[0,0]},"target":"#)?;
+    }
+    text.push_str(r#"{"method":[0,0]}"#)?;
+    for _ in 0..guards {
+        text.push_str("}")?;
+    }
+    text.push_str("}")?;
+    Ok(text)
+}
+
+/// Whether it is read.
+fn is_read(alloc: Global, guards: usize) -> Result<bool, Fail> {
+    let text = nested(alloc, guards)?;
+    let value = Value::from_str(alloc, &text)?;
+    Ok(matches!(
+        &read_command(alloc, &value)?,
+        Some(Command::SetTarget { .. })
+    ))
+}
+
+/// Whether its text is no JSON that is read.
+fn is_too_deep(alloc: Global, guards: usize) -> Result<bool, AllocError> {
+    let text = nested(alloc, guards)?;
+    Ok(Value::from_str(alloc, &text).is_err())
+}
+
+/// 127 levels: the command, the guards, the method and its pair.
+#[test]
+fn deep_targets(rt: HostRuntime) -> Result<(), Fail> {
+    assert!(rt; is_read(rt.alloc(), 124)?);
+    assert!(rt; is_too_deep(rt.alloc(), 125)?);
+    Ok(())
 }
