@@ -10,7 +10,7 @@ ghost use Rattle.jl_callsites.specs.Runs.{method_of};
 ghost use Rattle.jl_callsites.specs.Known.{has_points, RunAsBefore, OthersRunAsBefore};
 
 use crate::call_site::CallSite;
-use crate::release::discard;
+use crate::discard::discard;
 use crate::sites::Sites;
 use jl_hierarchy::Classes;
 use jl_names::Name;

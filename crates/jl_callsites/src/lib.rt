@@ -9,14 +9,13 @@
 mod call_site;
 mod changes;
 mod copy;
+mod discard;
 mod evaluation;
 mod faults;
 mod laws;
-mod release;
 mod sites;
 mod size;
 
 pub use call_site::CallSite;
 pub use laws::{bound_sites_run, events_of_call_sites};
-pub use release::discard;
 pub use sites::Sites;

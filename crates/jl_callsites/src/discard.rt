@@ -8,7 +8,7 @@ use std::mem;
 
 /// Lets the target go. It may be of any depth, so its guards are turned until the first part of the one at the top is a
 /// method, and no call is as deep as the target. Takes no memory.
-pub fn discard(target: Target) {
+pub(crate) fn discard(target: Target) {
     let mut rest = target;
     loop {
         let Target { part } = rest;
