@@ -10,7 +10,7 @@ ghost use Rattle.jl_callsites.specs.Runs.{method_of};
 ghost use Rattle.jl_callsites.specs.Known.{has_points, RunAsBefore, OthersRunAsBefore};
 
 use crate::call_site::CallSite;
-use crate::discard::discard;
+use crate::discard::discard_target;
 use crate::sites::Sites;
 use jl_hierarchy::Classes;
 use jl_names::Name;
@@ -43,7 +43,7 @@ impl Sites {
         ensures err { OnErr result (self.new ≡ self.old) }
     {
         if let Some(fault) = self.new_site_fault(classes, ty.as_slice(), &target) {
-            discard(target);
+            discard_target(target);
             return Err(fault);
         }
         let site = CallSiteId::new(self.call_site_count() as u32);
@@ -74,7 +74,7 @@ impl Sites {
         ensures err { OnErr result (self.new ≡ self.old) }
     {
         if let Some(fault) = self.set_target_fault(classes, site, &target) {
-            discard(target);
+            discard_target(target);
             return Err(fault);
         }
         self.put_target(site, target);

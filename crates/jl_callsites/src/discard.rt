@@ -6,9 +6,10 @@ ghost use Rattle.jl_callsites.specs.Means.{turns_left};
 use jl_types::{ClassId, MethodId, Part, SwitchId, Target};
 use std::mem;
 
-/// Lets the target go. It may be of any depth, so its guards are turned until the first part of the one at the top is a
-/// method, and no call is as deep as the target. Takes no memory.
-pub(crate) fn discard(target: Target) {
+/// Lets the target go, however deep it is: its guards are turned until the first part of the one at the top is a method, so no
+/// call is as deep as the target, as it would be where a target is simply dropped. A refused target goes this way. Takes no
+/// memory.
+pub fn discard_target(target: Target) {
     let mut rest = target;
     loop {
         let Target { part } = rest;

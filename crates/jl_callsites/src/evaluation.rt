@@ -1,4 +1,4 @@
-//! What a call site runs now (java.lang.invoke.SwitchPoint.guardWithTest).
+//! What a call site runs now (java.lang.invoke: CallSite, SwitchPoint.guardWithTest; JVMS SE 17 §6.5, invokedynamic).
 
 ghost use Rattle.std.specs.Prelude.{◌≡◌, ◌<◌, Some, length};
 ghost use Rattle.jl_types.specs.Targets as targets;

@@ -28,7 +28,7 @@ pub fn events_of_call_sites()
         made.Nothing (faults.with_invalid w.sites points) }
 {}
 
-/// An invokedynamic runs what the call site runs to which it is bound.
+/// An invokedynamic runs what the call site runs to which it is bound (JVMS SE 17 §6.5).
 pub fn bound_sites_run()
     ensures { (w : World) (s : ℕ) → by_call_site w (call_site_of w s)
         ≡ by_method (option_and_then (method_of w.sites) (bound_to w s)) }

@@ -17,5 +17,6 @@ mod sites;
 mod size;
 
 pub use call_site::CallSite;
+pub use discard::discard_target;
 pub use laws::{bound_sites_run, events_of_call_sites};
 pub use sites::Sites;
