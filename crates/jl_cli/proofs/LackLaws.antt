@@ -11,7 +11,7 @@ use Rattle.jl_types.specs.declared.event.Event.{Event}
 use Rattle.jl_types.specs.declared.event.Event.TheVariants as event
 use Rattle.jl_types.specs.declared.event.Reply.{Reply}
 use Rattle.jl_types.specs.declared.refusal.Refusal.{Refusal}
-use Rattle.jl_core.specs.Admitted.{admitted}
+use Rattle.jl_types.specs.Events.{verdict}
 use Rattle.jl_core.specs.State.{State, IsAccepted, IsApplied, IsRefused}
 use Rattle.jl_json.specs.declared.command.ClassSource.TheVariants as source
 use Rattle.jl_json.specs.NameReading.{name_text}
@@ -48,7 +48,7 @@ some_data (Ok reply) = (reply_data reply, refl)
 some_data (Err r) = (event_refusal_data name_text r, (name_text, spells, refl))
 
 applied_by : (old new : State) (e : Event) (outcome : Result Reply Refusal) → IfOk outcome (IsAccepted old new e)
-    → IfErr outcome (IsRefused (admitted old.max_sites old.world e)) → OnErr outcome (new ≡ old)
+    → IfErr outcome (IsRefused (verdict old.max_sites old.world e)) → OnErr outcome (new ≡ old)
     → IsApplied old e outcome new
 applied_by old new e (Ok reply) accepted refused unchanged = accepted
 applied_by old new e (Err r) accepted refused unchanged = (refused, unchanged)
@@ -56,7 +56,7 @@ applied_by old new e (Err r) accepted refused unchanged = (refused, unchanged)
 -- the event came to its outcome, whatever is said of it
 pub event_lacks : (old new : Session) (e : Event) (outcome : Result Reply Refusal)
     → IfOk outcome (IsAccepted old.core new.core e)
-    → IfErr outcome (IsRefused (admitted old.core.max_sites old.core.world e))
+    → IfErr outcome (IsRefused (verdict old.core.max_sites old.core.world e))
     → OnErr outcome (new.core ≡ old.core) → new.batches ≡ old.batches
     → LacksAnswer old (λ answer. IsEventAnswer old e answer new) new
 event_lacks old new e outcome accepted refused unchanged same = inr (

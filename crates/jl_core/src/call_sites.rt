@@ -11,7 +11,7 @@ ghost use Rattle.jl_select.specs.Constancy.{IsConstant};
 ghost use Rattle.jl_core.specs.State.{IsRefused};
 
 use crate::changed::{Changed, room_for_sites};
-use jl_callsites::discard;
+use jl_callsites::discard_target;
 use jl_code::Operand;
 use jl_names::Name;
 use jl_pool::CallSiteSpecifier;
@@ -42,7 +42,7 @@ pub(crate) fn new_call_site(
     ensures unchanged { OnErr result (world.new ≡ world.old) }
 {
     if let Some(fault) = world.sites.new_site_fault(&world.classes, ty.as_slice(), &target) {
-        discard(target);
+        discard_target(target);
         return Err(Refusal::CallSite(fault));
     }
     let dropped = room_for_sites(world, alloc)?;
@@ -75,7 +75,7 @@ pub(crate) fn set_target(
     ensures unchanged { OnErr result (world.new ≡ world.old) }
 {
     if let Some(fault) = world.sites.set_target_fault(&world.classes, call_site, &target) {
-        discard(target);
+        discard_target(target);
         return Err(Refusal::CallSite(fault));
     }
     let dropped = room_for_sites(world, alloc)?;
