@@ -1,11 +1,11 @@
 //! Codes and their invocations.
 
 use crate::codes::CodeRow::*;
-use crate::rows::{Row, assert_rows};
+use crate::rows::{A_F, Row, assert_rows};
 use jl_code::{CodeFault, Kind, Operand, Site, no_fault_in_a_code, one_code, scan};
 use jl_names::Name;
-use jl_pool::Pool;
-use std::alloc::Global;
+use jl_pool::{Pool, PoolFault};
+use std::alloc::{AllocError, Global};
 
 /// A pool with the Methodref of A.f:()V at 2, from its count on.
 const POOL: &[u8] = &[
@@ -18,9 +18,11 @@ fn is_f(operand: &Operand<Name>) -> bool {
     match operand {
         Operand::Method(reference) => {
             !reference.itf
-                && reference.owner.as_slice() == b"A".as_slice()
-                && reference.name.as_slice() == b"f".as_slice()
-                && reference.ty.as_slice() == b"()V".as_slice()
+                && [
+                    reference.owner.as_slice(),
+                    reference.name.as_slice(),
+                    reference.ty.as_slice(),
+                ] == A_F
         }
         Operand::CallSite(_) => false,
     }
@@ -31,10 +33,10 @@ fn is_site(site: &Site, pc: u16, kind: Kind) -> bool {
     site.pc() == pc && site.kind() == kind && is_f(site.operand())
 }
 
-/// Whether the copy of this invocation is one of A.f:()V at this place.
-fn is_copied(alloc: Global, site: &Site, pc: u16, kind: Kind) -> bool {
-    match site.copy(alloc) {
-        Ok(copy) => is_site(&copy, pc, kind),
+/// Whether this, which was copied, is an invocation of A.f:()V at this place.
+fn is_copy(copy: &Result<Site, AllocError>, pc: u16, kind: Kind) -> bool {
+    match copy {
+        Ok(site) => is_site(site, pc, kind),
         Err(_) => false,
     }
 }
@@ -42,7 +44,7 @@ fn is_copied(alloc: Global, site: &Site, pc: u16, kind: Kind) -> bool {
 /// Whether these are invocations of A.f:()V at these places, and so are their copies.
 fn are_sites(alloc: Global, sites: &[Site], expected: &[(u16, Kind)]) -> bool {
     for (site, (pc, kind)) in sites.iter().zip(expected) {
-        if !is_site(site, *pc, *kind) || !is_copied(alloc, site, *pc, *kind) {
+        if !is_site(site, *pc, *kind) || !is_copy(&site.copy(alloc), *pc, *kind) {
             return false;
         }
     }
@@ -73,20 +75,18 @@ fn has_fault(alloc: Global, code: &[u8], pool: &Pool<'_>, fault: CodeFault) -> b
     code.len() < 65_536 && scan(alloc, code, pool).err() == Some(fault)
 }
 
-/// Whether the row is so over this pool.
-fn is_so_over(alloc: Global, row: &CodeRow, pool: &Pool<'_>) -> bool {
-    match row {
-        CodeRow::Sites(code, expected) => has_sites(alloc, code, pool, expected),
-        CodeRow::Fault(code, fault) => has_fault(alloc, code, pool, *fault),
+/// Whether the row is so over this pool, of so many bytes.
+fn is_so_over(alloc: Global, row: &CodeRow, read: &Result<(Pool<'_>, usize), PoolFault>) -> bool {
+    match (row, read) {
+        (CodeRow::Sites(code, expected), Ok((pool, _))) => has_sites(alloc, code, pool, expected),
+        (CodeRow::Fault(code, fault), Ok((pool, _))) => has_fault(alloc, code, pool, *fault),
+        _ => false,
     }
 }
 
 impl Row for CodeRow {
     fn is_so(&self, alloc: Global) -> bool {
-        match Pool::read(alloc, POOL) {
-            Ok((pool, _)) => is_so_over(alloc, self, &pool),
-            Err(_) => false,
-        }
+        is_so_over(alloc, self, &Pool::read(alloc, POOL))
     }
 }
 

@@ -49,12 +49,8 @@ fn dimensions(alloc: Global, count: usize) -> Result<u8, NameFault> {
 
 /// A method descriptor with this many parameters of one letter.
 fn with_parameters(alloc: Global, letter: u8, count: usize) -> Result<Vec<u8>, AllocError> {
-    let mut text = vec![in alloc; b'(']?;
-    for _ in 0..count {
-        text.push(letter)?;
-    }
-    text.extend_from_slice(b")V")?;
-    Ok(text)
+    let letters = vec![in alloc; letter; count]?;
+    [b"(".as_slice(), letters.as_slice(), b")V"].concat(alloc)
 }
 
 /// The slots of the method descriptor.

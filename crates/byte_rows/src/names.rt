@@ -1,7 +1,7 @@
 //! Names and modified UTF-8.
 
 use crate::names::NameRow::*;
-use crate::rows::{Row, assert_rows};
+use crate::rows::{A_F, Row, assert_rows};
 use jl_names::{
     Name, NameFault, Seq, Text, decode_mutf8, encode_mutf8, is_class_name, is_text, is_unqualified,
     no_fault_in_units, one_list_of_units, package_of,
@@ -42,18 +42,10 @@ fn is_bad_text(alloc: Global, text: &[u8], fault: NameFault) -> bool {
     !is_text(text) && decode_mutf8(alloc, text).err() == Some(fault)
 }
 
-/// Whether the units are written as the text.
-fn encodes(alloc: Global, units: &[u16], text: &[u8]) -> bool {
-    match encode_mutf8(alloc, units) {
-        Ok(written) => written.as_slice() == text,
-        Err(_) => false,
-    }
-}
-
-/// Whether the text is read as the units.
-fn decodes(alloc: Global, text: &[u8], units: &[u16]) -> bool {
-    match decode_mutf8(alloc, text) {
-        Ok(read) => read.as_slice() == units,
+/// Whether these are the items that were made.
+fn are_made<T: PartialEq>(made: &Result<Vec<T>, NameFault>, items: &[T]) -> bool {
+    match made {
+        Ok(made) => made.as_slice() == items,
         Err(_) => false,
     }
 }
@@ -109,18 +101,26 @@ fn mapped_to_u(alloc: Global, bytes: &[u8]) -> Result<Seq<u8>, AllocError> {
     })
 }
 
-/// Whether a name of the bytes is another than this one.
-fn is_other(alloc: Global, name: &Name, bytes: &[u8]) -> bool {
-    match Name::copied(alloc, bytes) {
-        Ok(other) => *name != other,
+/// Whether the name, which was made, has these bytes.
+fn has(made: &Result<Name, AllocError>, bytes: &[u8]) -> bool {
+    match made {
+        Ok(name) => name.as_slice() == bytes,
         Err(_) => false,
     }
 }
 
-/// Whether the copy of this name, which has these bytes, is equal to it.
-fn is_copied(alloc: Global, name: &Name, bytes: &[u8]) -> bool {
-    match name.copy(alloc) {
-        Ok(copy) => copy == *name && copy.as_slice() == bytes,
+/// Whether a name that was made and another one differ.
+fn differ(made: &Result<Name, AllocError>, other: &Result<Name, AllocError>) -> bool {
+    match (made, other) {
+        (Ok(name), Ok(other)) => name != other,
+        _ => false,
+    }
+}
+
+/// Whether the copy of this name, once it was made, is equal to it and has these bytes.
+fn is_copy(copy: &Result<Name, AllocError>, name: &Name, bytes: &[u8]) -> bool {
+    match copy {
+        Ok(copy) => copy == name && copy.as_slice() == bytes,
         Err(_) => false,
     }
 }
@@ -136,9 +136,7 @@ fn cut_byte(block: &mut Name) -> Option<Name> {
 
 /// Whether the first byte of the block, its second and what it keeps are these names.
 fn are_cut(first: &Name, second: &Name, block: &Name) -> bool {
-    first.as_slice() == b"A".as_slice()
-        && second.as_slice() == b"f".as_slice()
-        && block.as_slice() == b"()V".as_slice()
+    [first.as_slice(), second.as_slice(), block.as_slice()] == A_F
 }
 
 /// Whether the first name was cut from the block, and the second name and the rest are cut then.
@@ -175,26 +173,10 @@ fn is_name(name: &Name, bytes: &[u8]) -> bool {
     name.as_slice() == bytes && hash_of(name) == hash_of(&bytes)
 }
 
-/// Whether a name of these bytes is kept, and so is its copy.
-fn is_kept(alloc: Global, bytes: &[u8]) -> bool {
-    match Name::copied(alloc, bytes) {
-        Ok(name) => is_name(&name, bytes) && is_copied(alloc, &name, bytes),
-        Err(_) => false,
-    }
-}
-
-/// Whether names of these bytes and of those differ.
-fn differ(alloc: Global, bytes: &[u8], others: &[u8]) -> bool {
-    match Name::copied(alloc, bytes) {
-        Ok(name) => is_other(alloc, &name, others),
-        Err(_) => false,
-    }
-}
-
-/// Whether the copy of a name of these bytes has them once the name is let go.
-fn outlives(alloc: Global, bytes: &[u8]) -> bool {
-    match copy_alone(alloc, bytes) {
-        Ok(copy) => copy.as_slice() == bytes,
+/// Whether the name, which was made of these bytes, is kept, and so is its copy.
+fn is_kept(alloc: Global, made: &Result<Name, AllocError>, bytes: &[u8]) -> bool {
+    match made {
+        Ok(name) => is_name(name, bytes) && is_copy(&name.copy(alloc), name, bytes),
         Err(_) => false,
     }
 }
@@ -204,7 +186,9 @@ impl Row for NameRow {
         match self {
             BadText(text, fault) => is_bad_text(alloc, text, *fault),
             Units(units, text) => {
-                is_text(text) && encodes(alloc, units, text) && decodes(alloc, text, units)
+                is_text(text)
+                    && are_made(&encode_mutf8(alloc, units), text)
+                    && are_made(&decode_mutf8(alloc, text), units)
             }
             Named(name, class, unqualified) => is_named(name, *class, *unqualified),
             Package(name, package) => package_of(name) == *package,
@@ -212,9 +196,11 @@ impl Row for NameRow {
             List(bytes) => is_list(alloc, bytes),
             OtherList(bytes, others) => lists_differ(alloc, bytes, others),
             Mapped(bytes, good) => mapped_to_u(alloc, bytes).is_ok() == *good,
-            Kept(bytes) => is_kept(alloc, bytes),
-            Outlives(bytes) => outlives(alloc, bytes),
-            OtherName(bytes, others) => differ(alloc, bytes, others),
+            Kept(bytes) => is_kept(alloc, &Name::copied(alloc, bytes), bytes),
+            Outlives(bytes) => has(&copy_alone(alloc, bytes), bytes),
+            OtherName(bytes, others) => {
+                differ(&Name::copied(alloc, bytes), &Name::copied(alloc, others))
+            },
             Cut => can_be_cut(alloc),
         }
     }

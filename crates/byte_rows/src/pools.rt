@@ -2,7 +2,7 @@
 
 use crate::pools::EntryRow::*;
 use crate::pools::PoolRow::*;
-use crate::rows::{Row, assert_rows};
+use crate::rows::{A_F, Row, assert_rows};
 use jl_names::Name;
 use jl_pool::{
     CallSiteSpecifier, Constant, Pool, PoolFault, Reference, bytes_at, no_fault_in_a_pool,
@@ -17,12 +17,8 @@ fn bytes_with(
     entries: &[&[u8]],
     last: &[u8],
 ) -> Result<Vec<u8>, AllocError> {
-    let mut bytes = vec![in alloc; 0, count]?;
-    for entry in entries {
-        bytes.extend_from_slice(entry)?;
-    }
-    bytes.extend_from_slice(last)?;
-    Ok(bytes)
+    let inner = entries.concat(alloc)?;
+    [&[0, count], inner.as_slice(), last].concat(alloc)
 }
 
 /// Each tag at least once: 26 numbers, 110 bytes with the count.
@@ -117,9 +113,11 @@ fn has_method(pool: &Pool<'_>, number: u16, interface: bool) -> bool {
     match pool.method_ref(number) {
         Some(method) => {
             method.itf == interface
-                && method.owner.as_slice() == b"A".as_slice()
-                && method.name.as_slice() == b"f".as_slice()
-                && method.ty.as_slice() == b"()V".as_slice()
+                && [
+                    method.owner.as_slice(),
+                    method.name.as_slice(),
+                    method.ty.as_slice(),
+                ] == A_F
                 && pool.slots(number) == Some(0)
         }
         None => false,
@@ -131,8 +129,7 @@ fn has_call_site(pool: &Pool<'_>, number: u16) -> bool {
     match pool.dynamic(number) {
         Some(site) => {
             site.bootstrap == 7
-                && site.name.as_slice() == b"f".as_slice()
-                && site.ty.as_slice() == b"()V".as_slice()
+                && [site.name.as_slice(), site.ty.as_slice()] == [b"f", b"()V".as_slice()]
         }
         None => false,
     }
@@ -175,20 +172,25 @@ fn is_so_of(row: &EntryRow, pool: &Pool<'_>) -> bool {
     }
 }
 
+/// Whether the row is so of what was read, which is the pool.
+fn is_so_read(row: &EntryRow, read: &Result<(Pool<'_>, usize), PoolFault>) -> bool {
+    match read {
+        Ok((pool, used)) => *used == 110 && is_so_of(row, pool),
+        Err(_) => false,
+    }
+}
+
 /// Whether the row is so of the pool in these bytes, of which the last one is not the pool's.
-fn is_so_in(alloc: Global, row: &EntryRow, bytes: &[u8]) -> bool {
-    match Pool::read(alloc, bytes) {
-        Ok((pool, used)) => used == 110 && is_so_of(row, &pool),
+fn is_so_in(alloc: Global, row: &EntryRow, bytes: &Result<Vec<u8>, AllocError>) -> bool {
+    match bytes {
+        Ok(bytes) => bytes.len() == 111 && is_so_read(row, &Pool::read(alloc, bytes)),
         Err(_) => false,
     }
 }
 
 impl Row for EntryRow {
     fn is_so(&self, alloc: Global) -> bool {
-        match bytes_with(alloc, 26, EACH_TAG, &[0x01]) {
-            Ok(bytes) => bytes.len() == 111 && is_so_in(alloc, self, &bytes),
-            Err(_) => false,
-        }
+        is_so_in(alloc, self, &bytes_with(alloc, 26, EACH_TAG, &[0x01]))
     }
 }
 
@@ -376,33 +378,28 @@ fn copied_call_site(alloc: Global) -> Result<CallSiteSpecifier<Name>, AllocError
     call_site(alloc)?.copy(alloc)
 }
 
-/// Whether this is the InterfaceMethodref of A.f:()V.
-fn is_interface_method(method: &Reference<Name>) -> bool {
-    method.itf
-        && method.owner.as_slice() == b"A".as_slice()
-        && method.name.as_slice() == b"f".as_slice()
-        && method.ty.as_slice() == b"()V".as_slice()
-}
-
-/// Whether this is the call site g:()I of bootstrap method 7.
-fn is_call_site(site: &CallSiteSpecifier<Name>) -> bool {
-    site.bootstrap == 7
-        && site.name.as_slice() == b"g".as_slice()
-        && site.ty.as_slice() == b"()I".as_slice()
-}
-
-/// Whether the copy of the InterfaceMethodref is it.
-fn is_method_copied(alloc: Global) -> bool {
-    match copied_method(alloc) {
-        Ok(copy) => is_interface_method(&copy),
+/// Whether what was made is the InterfaceMethodref of A.f:()V.
+fn is_interface_method(made: &Result<Reference<Name>, AllocError>) -> bool {
+    match made {
+        Ok(method) => {
+            method.itf
+                && [
+                    method.owner.as_slice(),
+                    method.name.as_slice(),
+                    method.ty.as_slice(),
+                ] == A_F
+        }
         Err(_) => false,
     }
 }
 
-/// Whether the copy of the call site is it.
-fn is_call_site_copied(alloc: Global) -> bool {
-    match copied_call_site(alloc) {
-        Ok(copy) => is_call_site(&copy),
+/// Whether what was made is the call site g:()I of bootstrap method 7.
+fn is_call_site(made: &Result<CallSiteSpecifier<Name>, AllocError>) -> bool {
+    match made {
+        Ok(site) => {
+            site.bootstrap == 7
+                && [site.name.as_slice(), site.ty.as_slice()] == [b"g", b"()I".as_slice()]
+        }
         Err(_) => false,
     }
 }
@@ -417,8 +414,8 @@ impl Row for PoolRow {
             TwoBytes(bytes, found) => u2_at(bytes) == *found,
             FourBytes(bytes, found) => u4_at(bytes) == *found,
             Front(count, bytes, found) => bytes_at(*count, bytes) == *found,
-            CopiedMethod => is_method_copied(alloc),
-            CopiedCallSite => is_call_site_copied(alloc),
+            CopiedMethod => is_interface_method(&copied_method(alloc)),
+            CopiedCallSite => is_call_site(&copied_call_site(alloc)),
         }
     }
 }

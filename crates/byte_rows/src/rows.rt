@@ -3,6 +3,9 @@
 use std::alloc::Global;
 use std::process::Abort;
 
+/// The class, the name and the descriptor of the method A.f:()V.
+pub(crate) const A_F: [&[u8]; 3] = [b"A", b"f", b"()V"];
+
 /// What a row of a table says.
 pub(crate) trait Row {
     /// Whether it is so.

@@ -29,8 +29,8 @@ enum Part {
     Method(&'static [u8], u16),
     /// A method run of these flags that calls A.f.
     Calls(u16),
-    /// A method run that calls A.f of an interface, which has so many long parameters, and int ones behind them.
-    CallsWith(usize, usize),
+    /// A method run that calls A.f of an interface, with the descriptor in these parts.
+    CallsWith(&'static [&'static [u8]]),
 }
 
 /// What comes of a sketch.
@@ -92,22 +92,9 @@ fn f_of_a(alloc: Global, ty: &[u8]) -> Result<MethodName, AllocError> {
     })
 }
 
-/// A type of a method with so many long parameters, and int ones behind them.
-fn with_parameters(alloc: Global, longs: usize, ints: usize) -> Result<Vec<u8>, AllocError> {
-    let mut ty = vec![in alloc; b'(']?;
-    for _ in 0..longs {
-        ty.push(b'J')?;
-    }
-    for _ in 0..ints {
-        ty.push(b'I')?;
-    }
-    ty.extend_from_slice(b")V")?;
-    Ok(ty)
-}
-
-/// An invokeinterface of A.f with so many long parameters, and int ones behind them.
-fn interface_call(alloc: Global, longs: usize, ints: usize) -> Result<Call, AllocError> {
-    let ty = with_parameters(alloc, longs, ints)?;
+/// An invokeinterface of A.f, with the descriptor in these parts.
+fn interface_call(alloc: Global, ty: &[&[u8]]) -> Result<Call, AllocError> {
+    let ty = ty.concat(alloc)?;
     Ok(Call::Interface(f_of_a(alloc, &ty)?))
 }
 
@@ -150,9 +137,7 @@ fn give(alloc: Global, sketch: &mut Sketch, part: &Part) -> Result<(), AllocErro
         Calls(flags) => {
             return give_call(alloc, sketch, *flags, Call::Virtual(f_of_a(alloc, b"()V")?));
         }
-        CallsWith(longs, ints) => {
-            return give_call(alloc, sketch, 9, interface_call(alloc, *longs, *ints)?);
-        }
+        CallsWith(ty) => return give_call(alloc, sketch, 9, interface_call(alloc, ty)?),
         _ => return give_names(alloc, sketch, part),
     }
     Ok(())
@@ -196,17 +181,22 @@ fn has_outcome(alloc: Global, sketch: &Sketch, outcome: &Outcome) -> bool {
     }
 }
 
-/// Whether the outcome is that of the sketch once it is given the part.
-fn leads_to(alloc: Global, sketch: &mut Sketch, part: &Part, outcome: &Outcome) -> bool {
-    give(alloc, sketch, part).is_ok() && has_outcome(alloc, sketch, outcome)
+/// Whether the outcome is that of the sketch, which was made, once it is given the part.
+fn leads_to(
+    alloc: Global,
+    made: &mut Result<Sketch, AllocError>,
+    part: &Part,
+    outcome: &Outcome,
+) -> bool {
+    match made {
+        Ok(sketch) => give(alloc, sketch, part).is_ok() && has_outcome(alloc, sketch, outcome),
+        Err(_) => false,
+    }
 }
 
 impl Row for SketchRow {
     fn is_so(&self, alloc: Global) -> bool {
-        match empty(alloc, self.0, self.1) {
-            Ok(mut sketch) => leads_to(alloc, &mut sketch, &self.2, &self.3),
-            Err(_) => false,
-        }
+        leads_to(alloc, &mut empty(alloc, self.0, self.1), &self.2, &self.3)
     }
 }
 
@@ -320,6 +310,9 @@ fn class_files(rt: HostRuntime) {
 /// A fault in the constant at 2, which is the class.
 const BAD_NAME: SketchFault = SketchFault::Refused(ClassFault::Pool(PoolFault::BadDescriptor(2)));
 
+/// 127 long parameters.
+const LONGS: &[u8] = &[b'J'; 127];
+
 /// Sketches with faults, and two that are just small enough.
 const FAULTS: &[SketchRow] = &[
     SketchRow(
@@ -348,9 +341,14 @@ const FAULTS: &[SketchRow] = &[
         Flags(0x8021),
         Has(SketchFault::Refused(ClassFault::ModuleFile)),
     ),
-    SketchRow(b"M", OBJECT, CallsWith(127, 1), HasCodeFault),
+    SketchRow(
+        b"M",
+        OBJECT,
+        CallsWith(&[b"(", LONGS, b"I)V"]),
+        HasCodeFault,
+    ),
     SketchRow(b"", OBJECT, Long(65_536), Has(SketchFault::TooBig)),
-    SketchRow(b"M", OBJECT, CallsWith(127, 0), IsWritten),
+    SketchRow(b"M", OBJECT, CallsWith(&[b"(", LONGS, b")V"]), IsWritten),
     SketchRow(b"", OBJECT, Long(65_535), IsWritten),
 ];
 
