@@ -5,8 +5,12 @@
 #[cfg(test)]
 mod codes;
 #[cfg(test)]
+mod descriptors;
+#[cfg(test)]
 mod names;
 #[cfg(test)]
 mod pools;
+#[cfg(test)]
+mod rows;
 #[cfg(test)]
 mod sketches;

@@ -1,24 +1,14 @@
 //! Constant pools.
 
+use crate::pools::EntryRow::*;
+use crate::pools::PoolRow::*;
+use crate::rows::{A_F, Row, assert_rows};
 use jl_names::Name;
 use jl_pool::{
     CallSiteSpecifier, Constant, Pool, PoolFault, Reference, bytes_at, no_fault_in_a_pool,
     one_pool, u2_at, u4_at,
 };
 use std::alloc::{AllocError, Global};
-use std::process::Abort;
-use std::test::Fail;
-
-/// A pool of this count, and what stands behind the count.
-fn bytes_of(alloc: Global, count: u8, entries: &[&[u8]]) -> Result<Vec<u8>, AllocError> {
-    let mut bytes = Vec::new(alloc);
-    bytes.push(0)?;
-    bytes.push(count)?;
-    for entry in entries {
-        bytes.extend_from_slice(entry)?;
-    }
-    Ok(bytes)
-}
 
 /// A pool of this count, of these entries and then this one.
 fn bytes_with(
@@ -27,9 +17,8 @@ fn bytes_with(
     entries: &[&[u8]],
     last: &[u8],
 ) -> Result<Vec<u8>, AllocError> {
-    let mut bytes = bytes_of(alloc, count, entries)?;
-    bytes.extend_from_slice(last)?;
-    Ok(bytes)
+    let inner = entries.concat(alloc)?;
+    [&[0, count], inner.as_slice(), last].concat(alloc)
 }
 
 /// Each tag at least once: 26 numbers, 110 bytes with the count.
@@ -74,46 +63,36 @@ fn tag_of(entry: &Option<Constant<'_>>) -> u8 {
     }
 }
 
-/// Whether the entries of these numbers hold the bits that stand in the bytes.
-fn have_bits(entries: &[Option<Constant<'_>>]) -> bool {
-    have_numbers(entries)
-        && matches!(entries.get(18), Some(Some(Constant::MethodHandle(6, 6))))
-        && matches!(entries.get(20), Some(Some(Constant::Dynamic(5, 9))))
-}
-
-/// Whether the numbers among the entries have the bits that stand in the bytes.
-fn have_numbers(entries: &[Option<Constant<'_>>]) -> bool {
-    matches!(entries.get(12), Some(Some(Constant::Integer(42))))
-        && matches!(entries.get(13), Some(Some(Constant::Float(0x3f80_0000))))
-        && matches!(entries.get(14), Some(Some(Constant::Long(0x1_0000_0002))))
-        && matches!(
-            entries.get(16),
-            Some(Some(Constant::Double(0x3ff0_0000_0000_0000)))
-        )
-}
-
-/// Asserts that the entries have these tags, and their bits.
-fn assert_entries(rt: &impl Abort, entries: &[Option<Constant<'_>>]) {
-    assert!(rt; entries.len() == TAGS.len());
-    for (number, (entry, tag)) in entries.iter().zip(TAGS).enumerate() {
-        assert!(rt; tag_of(entry) == *tag, "{number}");
+/// Whether these are the tags of the entries.
+fn have_tags(entries: &[Option<Constant<'_>>], tags: &[u8]) -> bool {
+    for (entry, tag) in entries.iter().zip(tags) {
+        if tag_of(entry) != *tag {
+            return false;
+        }
     }
-    assert!(rt; have_bits(entries));
+    entries.len() == tags.len()
 }
 
-/// Numbers of these entries, and the Utf8, the text of the Class and the class name that each is.
-const TEXTS: &[(u16, Option<&[u8]>, Option<&[u8]>, Option<&[u8]>)] = &[
-    (1, Some(b"A"), None, None),
-    (2, None, Some(b"A"), Some(b"A")),
-    (24, Some(b"[I"), None, None),
-    // The class of an array has a text, and no class name.
-    (25, None, Some(b"[I"), None),
-    (11, None, None, None),
-    // Number 0, the second of a Long, and one past the end.
-    (0, None, None, None),
-    (15, None, None, None),
-    (26, None, None, None),
-];
+/// The bits of a value, or the two numbers of a method handle or of a dynamic constant.
+fn bits_of(constant: &Constant<'_>) -> (u64, u64) {
+    match constant {
+        Constant::Integer(bits) => (u64::from(*bits), 0),
+        Constant::Float(bits) => (u64::from(*bits), 0),
+        Constant::Long(bits) => (*bits, 0),
+        Constant::Double(bits) => (*bits, 0),
+        Constant::MethodHandle(kind, number) => (u64::from(*kind), u64::from(*number)),
+        Constant::Dynamic(bootstrap, number) => (u64::from(*bootstrap), u64::from(*number)),
+        _ => (0, 0),
+    }
+}
+
+/// Whether the constant at this place has these bits.
+fn has_bits(entries: &[Option<Constant<'_>>], place: usize, bits: (u64, u64)) -> bool {
+    match entries.get(place) {
+        Some(Some(constant)) => bits_of(constant) == bits,
+        _ => false,
+    }
+}
 
 /// Whether the number is a Utf8 of this text, and of no other kind.
 fn has_utf8(pool: &Pool<'_>, number: u16, text: Option<&[u8]>) -> bool {
@@ -134,9 +113,11 @@ fn has_method(pool: &Pool<'_>, number: u16, interface: bool) -> bool {
     match pool.method_ref(number) {
         Some(method) => {
             method.itf == interface
-                && method.owner.as_slice() == b"A".as_slice()
-                && method.name.as_slice() == b"f".as_slice()
-                && method.ty.as_slice() == b"()V".as_slice()
+                && [
+                    method.owner.as_slice(),
+                    method.name.as_slice(),
+                    method.ty.as_slice(),
+                ] == A_F
                 && pool.slots(number) == Some(0)
         }
         None => false,
@@ -148,8 +129,7 @@ fn has_call_site(pool: &Pool<'_>, number: u16) -> bool {
     match pool.dynamic(number) {
         Some(site) => {
             site.bootstrap == 7
-                && site.name.as_slice() == b"f".as_slice()
-                && site.ty.as_slice() == b"()V".as_slice()
+                && [site.name.as_slice(), site.ty.as_slice()] == [b"f", b"()V".as_slice()]
         }
         None => false,
     }
@@ -162,35 +142,115 @@ fn has_none(pool: &Pool<'_>, number: u16) -> bool {
         && pool.slots(number).is_none()
 }
 
-/// Asserts what the numbers name.
-fn assert_names(rt: &impl Abort, pool: &Pool<'_>) {
-    for (number, utf8, class_text, class_name) in TEXTS {
-        assert!(rt; has_utf8(pool, *number, *utf8), "{number}");
-        assert!(rt;
-            has_class(pool, *number, *class_text, *class_name),
-            "{number}"
-        );
-    }
-    assert!(rt; has_method(pool, 6, false));
-    assert!(rt; has_method(pool, 7, true));
-    assert!(rt; has_call_site(pool, 21));
-    for number in [0, 5, 10, 15, 20, 26] {
-        assert!(rt; has_none(pool, number), "{number}");
+/// What is so of the pool that has each tag.
+enum EntryRow {
+    /// Its entries have these tags.
+    Tags(&'static [u8]),
+    /// The entry at this place has these bits, or these two numbers.
+    Bits(usize, (u64, u64)),
+    /// The number is a Utf8 of this text, and a Class of this text and this class name.
+    Texts(u16, Option<&'static [u8]>, Option<&'static [u8]>, Option<&'static [u8]>),
+    /// The number is the method A.f:()V of a class, or of an interface.
+    Method(u16, bool),
+    /// The number is the call site f:()V of bootstrap method 7.
+    CallSite(u16),
+    /// The number is no method and no call site.
+    Neither(u16),
+}
+
+/// Whether the row is so of the pool.
+fn is_so_of(row: &EntryRow, pool: &Pool<'_>) -> bool {
+    match row {
+        Tags(tags) => have_tags(pool.entries(), tags),
+        Bits(place, bits) => has_bits(pool.entries(), *place, *bits),
+        Texts(number, utf8, text, name) => {
+            has_utf8(pool, *number, *utf8) && has_class(pool, *number, *text, *name)
+        }
+        Method(number, interface) => has_method(pool, *number, *interface),
+        CallSite(number) => has_call_site(pool, *number),
+        Neither(number) => has_none(pool, *number),
     }
 }
 
+/// Whether the row is so of what was read, which is the pool.
+fn is_so_read(row: &EntryRow, read: &Result<(Pool<'_>, usize), PoolFault>) -> bool {
+    match read {
+        Ok((pool, used)) => *used == 110 && is_so_of(row, pool),
+        Err(_) => false,
+    }
+}
+
+/// Whether the row is so of the pool in these bytes, of which the last one is not the pool's.
+fn is_so_in(alloc: Global, row: &EntryRow, bytes: &Result<Vec<u8>, AllocError>) -> bool {
+    match bytes {
+        Ok(bytes) => bytes.len() == 111 && is_so_read(row, &Pool::read(alloc, bytes)),
+        Err(_) => false,
+    }
+}
+
+impl Row for EntryRow {
+    fn is_so(&self, alloc: Global) -> bool {
+        is_so_in(alloc, self, &bytes_with(alloc, 26, EACH_TAG, &[0x01]))
+    }
+}
+
+/// What the entries hold, and what the numbers name.
+const ENTRIES: &[EntryRow] = &[
+    Tags(TAGS),
+    Bits(12, (42, 0)),
+    Bits(13, (0x3f80_0000, 0)),
+    Bits(14, (0x1_0000_0002, 0)),
+    Bits(16, (0x3ff0_0000_0000_0000, 0)),
+    Bits(18, (6, 6)),
+    Bits(20, (5, 9)),
+    Texts(1, Some(b"A"), None, None),
+    Texts(2, None, Some(b"A"), Some(b"A")),
+    Texts(24, Some(b"[I"), None, None),
+    // The class of an array has a text, and no class name.
+    Texts(25, None, Some(b"[I"), None),
+    Texts(11, None, None, None),
+    // Number 0, the second of a Long, and one past the end.
+    Texts(0, None, None, None),
+    Texts(15, None, None, None),
+    Texts(26, None, None, None),
+    Method(6, false),
+    Method(7, true),
+    CallSite(21),
+    Neither(0),
+    Neither(5),
+    Neither(10),
+    Neither(15),
+    Neither(20),
+    Neither(26),
+];
+
 #[test]
-fn each_tag(rt: HostRuntime) -> Result<(), Fail> {
-    // The byte behind isn't the pool's.
-    let bytes = bytes_with(rt.alloc(), 26, EACH_TAG, &[0x01])?;
-    assert!(rt; bytes.len() == 111);
-    let (pool, used) = Pool::read(rt.alloc(), &bytes)?;
-    assert!(rt; used == 110);
-    assert_entries(&rt, pool.entries());
-    assert_names(&rt, &pool);
+fn each_tag(rt: HostRuntime) {
+    assert_rows(&rt, ENTRIES);
     one_pool();
     no_fault_in_a_pool();
-    Ok(())
+}
+
+/// What is so of bytes.
+enum PoolRow {
+    /// The pool of this count and these entries has this fault, or none.
+    Fault(u8, &'static [&'static [u8]], Option<PoolFault>),
+    /// A method handle of this kind may refer to these, and to none of the other numbers from 0 on.
+    Handle(u8, &'static [u8]),
+    /// Whether this constant may have its descriptor.
+    Described(&'static [u8], bool),
+    /// The pool that has each tag has none, wherever its bytes are cut.
+    CutShort,
+    /// This is the number of two bytes at their front, with what is behind it.
+    TwoBytes(&'static [u8], Option<(u16, &'static [u8])>),
+    /// This is the number of four bytes at their front, with what is behind it.
+    FourBytes(&'static [u8], Option<(u32, &'static [u8])>),
+    /// These are the first ones of this count, with what is behind them.
+    Front(usize, &'static [u8], Option<(&'static [u8], &'static [u8])>),
+    /// The copy of an InterfaceMethodref is equal to it.
+    CopiedMethod,
+    /// The copy of a call site is equal to it.
+    CopiedCallSite,
 }
 
 /// Whether the pool of this count, of these entries and then this one, has this fault, or none.
@@ -204,104 +264,6 @@ fn has_fault(
     match bytes_with(alloc, count, entries, last) {
         Ok(bytes) => Pool::read(alloc, &bytes).err() == fault,
         Err(_) => false,
-    }
-}
-
-/// The count of a pool, the entries, and the fault.
-const POOLS: &[(u8, &[&[u8]], Option<PoolFault>)] = &[
-    // Bytes that are no tag.
-    (
-        2,
-        &[b"\x00\x00\x00\x00\x00\x00\x00\x00\x00"],
-        Some(PoolFault::BadTag(1)),
-    ),
-    (
-        2,
-        &[b"\x02\x00\x00\x00\x00\x00\x00\x00\x00"],
-        Some(PoolFault::BadTag(1)),
-    ),
-    (
-        2,
-        &[b"\x0d\x00\x00\x00\x00\x00\x00\x00\x00"],
-        Some(PoolFault::BadTag(1)),
-    ),
-    (
-        2,
-        &[b"\x0e\x00\x00\x00\x00\x00\x00\x00\x00"],
-        Some(PoolFault::BadTag(1)),
-    ),
-    (
-        2,
-        &[b"\x15\x00\x00\x00\x00\x00\x00\x00\x00"],
-        Some(PoolFault::BadTag(1)),
-    ),
-    (
-        2,
-        &[b"\xff\x00\x00\x00\x00\x00\x00\x00\x00"],
-        Some(PoolFault::BadTag(1)),
-    ),
-    // No room for number 0.
-    (0, &[], Some(PoolFault::BadTag(0))),
-    // A Long and a Double with room for two numbers, and in the last place, there with their bytes and without.
-    (3, &[b"\x05\x00\x00\x00\x00\x00\x00\x00\x00"], None),
-    (3, &[b"\x06\x00\x00\x00\x00\x00\x00\x00\x00"], None),
-    (
-        3,
-        &[b"\x01\x00\x01A", b"\x05\x00\x00\x00\x00\x00\x00\x00\x00"],
-        Some(PoolFault::BadTag(2)),
-    ),
-    (
-        3,
-        &[b"\x01\x00\x01A", b"\x06\x00\x00\x00\x00\x00\x00\x00\x00"],
-        Some(PoolFault::BadTag(2)),
-    ),
-    (3, &[b"\x01\x00\x01A", b"\x05"], Some(PoolFault::BadTag(2))),
-    (3, &[b"\x01\x00\x01A", b"\x06"], Some(PoolFault::BadTag(2))),
-    (4, &[b"\x01\x00\x01A", b"\x05"], Some(PoolFault::Truncated)),
-    (4, &[b"\x01\x00\x01A", b"\x06"], Some(PoolFault::Truncated)),
-    // Entry 6 names the second number of the Long at 4.
-    (
-        7,
-        &[
-            b"\x01\x00\x01A",
-            b"\x07\x00\x01",
-            b"\x01\x00\x03()V",
-            b"\x05\x00\x00\x00\x00\x00\x00\x00\x00",
-            b"\x0a\x00\x02\x00\x05",
-        ],
-        Some(PoolFault::BadIndex(6)),
-    ),
-    (2, &[b"\x01\x00\x01\x00"], Some(PoolFault::BadUtf8(1))),
-    // The text at 2 comes before the number at 1, and that before the descriptor at 3.
-    (
-        5,
-        &[
-            b"\x07\x00\x05",
-            b"\x01\x00\x01\x00",
-            b"\x10\x00\x04",
-            b"\x01\x00\x01I",
-        ],
-        Some(PoolFault::BadUtf8(2)),
-    ),
-    (
-        5,
-        &[
-            b"\x10\x00\x04",
-            b"\x01\x00\x01A",
-            b"\x07\x00\x05",
-            b"\x01\x00\x01I",
-        ],
-        Some(PoolFault::BadIndex(3)),
-    ),
-];
-
-#[test]
-fn faults(rt: HostRuntime) {
-    for (count, entries, fault) in POOLS {
-        assert!(rt;
-            has_fault(rt.alloc(), *count, entries, &[], *fault),
-            "{entries:?}"
-        );
     }
 }
 
@@ -320,21 +282,6 @@ const REFERENCES: &[&[u8]] = &[
     b"\x0b\x00\x02\x00\x05",
 ];
 
-/// By its kind, what a method handle may refer to.
-const REFERRED: &[&[u8]] = &[
-    &[],
-    &[9],
-    &[9],
-    &[9],
-    &[9],
-    &[10],
-    &[10, 11],
-    &[10, 11],
-    &[10],
-    &[11],
-    &[],
-];
-
 /// Whether a method handle of this kind may refer to this entry, or to no other place.
 fn is_handle(alloc: Global, kind: u8, reference: u8, good: bool) -> bool {
     let fault = if good {
@@ -345,32 +292,40 @@ fn is_handle(alloc: Global, kind: u8, reference: u8, good: bool) -> bool {
     has_fault(alloc, 13, REFERENCES, &[0x0f, kind, 0x00, reference], fault)
 }
 
-#[test]
-fn method_handles(rt: HostRuntime) {
-    let mut kind = 0;
-    for good in REFERRED {
-        for reference in [0, 2, 8, 9, 10, 11, 12, 13] {
-            assert!(rt;
-                is_handle(rt.alloc(), kind, reference, good.contains(&reference)),
-                "{kind} {reference}"
-            );
+/// Whether a method handle of this kind may refer to these, and to none of the other numbers from 0 on.
+fn are_handles(alloc: Global, kind: u8, good: &[u8]) -> bool {
+    for reference in REFERENCE_NUMBERS {
+        if !is_handle(alloc, kind, *reference, good.contains(reference)) {
+            return false;
         }
-        kind = kind.saturating_add(1);
     }
+    true
 }
+
+/// The numbers that handles below refer to.
+const REFERENCE_NUMBERS: &[u8] = &[0, 2, 8, 9, 10, 11, 12, 13];
 
 /// Whether the bytes end too early for a pool.
 fn is_cut(alloc: Global, bytes: &[u8]) -> bool {
     Pool::read(alloc, bytes).err() == Some(PoolFault::Truncated)
 }
 
-#[test]
-fn cut(rt: HostRuntime) -> Result<(), Fail> {
-    let bytes = bytes_of(rt.alloc(), 26, EACH_TAG)?;
+/// Whether the bytes end too early for a pool wherever they are cut.
+fn are_cut(alloc: Global, bytes: &[u8]) -> bool {
     for len in 0..bytes.len() {
-        assert!(rt; is_cut(rt.alloc(), &bytes[..len]), "{len}");
+        if !is_cut(alloc, &bytes[..len]) {
+            return false;
+        }
     }
-    Ok(())
+    true
+}
+
+/// Whether the pool that has each tag ends too early wherever it is cut.
+fn is_each_cut(alloc: Global) -> bool {
+    match bytes_with(alloc, 26, EACH_TAG, &[]) {
+        Ok(bytes) => are_cut(alloc, &bytes),
+        Err(_) => false,
+    }
 }
 
 /// What comes before the constants below: 5 has a method's descriptor, and 7 a field's.
@@ -384,25 +339,6 @@ const DESCRIPTORS: &[&[u8]] = &[
     b"\x0c\x00\x03\x00\x06",
 ];
 
-/// Constants with a method's descriptor, at 5, and with a field's, at 7 or 6, and whether they may have it.
-const DESCRIBED: &[(&[u8], bool)] = &[
-    (b"\x10\x00\x04", true),
-    (b"\x10\x00\x06", false),
-    (b"\x11\x00\x00\x00\x05", false),
-    (b"\x11\x00\x00\x00\x07", true),
-    (b"\x12\x00\x00\x00\x05", true),
-    (b"\x12\x00\x00\x00\x07", false),
-    (b"\x09\x00\x02\x00\x05", false),
-    (b"\x09\x00\x02\x00\x07", true),
-    (b"\x0a\x00\x02\x00\x05", true),
-    (b"\x0a\x00\x02\x00\x07", false),
-    (b"\x0b\x00\x02\x00\x05", true),
-    (b"\x0b\x00\x02\x00\x07", false),
-    (b"\x0c\x00\x03\x00\x01", false),
-    // A class name may have any byte but four.
-    (b"\x07\x00\x04", true),
-];
-
 /// Whether the constant may have its descriptor or not, as is said.
 fn is_described(alloc: Global, entry: &[u8], good: bool) -> bool {
     let fault = if good {
@@ -411,13 +347,6 @@ fn is_described(alloc: Global, entry: &[u8], good: bool) -> bool {
         Some(PoolFault::BadDescriptor(8))
     };
     has_fault(alloc, 9, DESCRIPTORS, entry, fault)
-}
-
-#[test]
-fn descriptors(rt: HostRuntime) {
-    for (entry, good) in DESCRIBED {
-        assert!(rt; is_described(rt.alloc(), entry, *good), "{entry:?}");
-    }
 }
 
 /// The InterfaceMethodref of A.f:()V.
@@ -449,53 +378,199 @@ fn copied_call_site(alloc: Global) -> Result<CallSiteSpecifier<Name>, AllocError
     call_site(alloc)?.copy(alloc)
 }
 
-/// Whether this is the InterfaceMethodref of A.f:()V.
-fn is_interface_method(method: &Reference<Name>) -> bool {
-    method.itf
-        && method.owner.as_slice() == b"A".as_slice()
-        && method.name.as_slice() == b"f".as_slice()
-        && method.ty.as_slice() == b"()V".as_slice()
+/// Whether what was made is the InterfaceMethodref of A.f:()V.
+fn is_interface_method(made: &Result<Reference<Name>, AllocError>) -> bool {
+    match made {
+        Ok(method) => {
+            method.itf
+                && [
+                    method.owner.as_slice(),
+                    method.name.as_slice(),
+                    method.ty.as_slice(),
+                ] == A_F
+        }
+        Err(_) => false,
+    }
 }
 
-/// Whether this is the call site g:()I of bootstrap method 7.
-fn is_call_site(site: &CallSiteSpecifier<Name>) -> bool {
-    site.bootstrap == 7
-        && site.name.as_slice() == b"g".as_slice()
-        && site.ty.as_slice() == b"()I".as_slice()
+/// Whether what was made is the call site g:()I of bootstrap method 7.
+fn is_call_site(made: &Result<CallSiteSpecifier<Name>, AllocError>) -> bool {
+    match made {
+        Ok(site) => {
+            site.bootstrap == 7
+                && [site.name.as_slice(), site.ty.as_slice()] == [b"g", b"()I".as_slice()]
+        }
+        Err(_) => false,
+    }
 }
 
-#[test]
-fn copies(rt: HostRuntime) {
-    let method = copied_method(rt.alloc());
-    assert!(rt; matches!(&method, Ok(method) if is_interface_method(method)));
-    let site = copied_call_site(rt.alloc());
-    assert!(rt; matches!(&site, Ok(site) if is_call_site(site)));
+impl Row for PoolRow {
+    fn is_so(&self, alloc: Global) -> bool {
+        match self {
+            Fault(count, entries, fault) => has_fault(alloc, *count, entries, &[], *fault),
+            Handle(kind, good) => are_handles(alloc, *kind, good),
+            Described(entry, good) => is_described(alloc, entry, *good),
+            CutShort => is_each_cut(alloc),
+            TwoBytes(bytes, found) => u2_at(bytes) == *found,
+            FourBytes(bytes, found) => u4_at(bytes) == *found,
+            Front(count, bytes, found) => bytes_at(*count, bytes) == *found,
+            CopiedMethod => is_interface_method(&copied_method(alloc)),
+            CopiedCallSite => is_call_site(&copied_call_site(alloc)),
+        }
+    }
 }
 
-/// Bytes, and the number of two bytes at their front with what is behind it.
-const TWO_BYTES: &[(&[u8], Option<(u16, &[u8])>)] = &[
-    (&[1, 2, 3], Some((0x0102, &[3]))),
-    (&[1], None),
+/// Pools, and their faults.
+const POOLS: &[PoolRow] = &[
+    // Bytes that are no tag.
+    Fault(
+        2,
+        &[b"\x00\x00\x00\x00\x00\x00\x00\x00\x00"],
+        Some(PoolFault::BadTag(1)),
+    ),
+    Fault(
+        2,
+        &[b"\x02\x00\x00\x00\x00\x00\x00\x00\x00"],
+        Some(PoolFault::BadTag(1)),
+    ),
+    Fault(
+        2,
+        &[b"\x0d\x00\x00\x00\x00\x00\x00\x00\x00"],
+        Some(PoolFault::BadTag(1)),
+    ),
+    Fault(
+        2,
+        &[b"\x0e\x00\x00\x00\x00\x00\x00\x00\x00"],
+        Some(PoolFault::BadTag(1)),
+    ),
+    Fault(
+        2,
+        &[b"\x15\x00\x00\x00\x00\x00\x00\x00\x00"],
+        Some(PoolFault::BadTag(1)),
+    ),
+    Fault(
+        2,
+        &[b"\xff\x00\x00\x00\x00\x00\x00\x00\x00"],
+        Some(PoolFault::BadTag(1)),
+    ),
+    // No room for number 0.
+    Fault(0, &[], Some(PoolFault::BadTag(0))),
+    // A Long and a Double with room for two numbers, and in the last place, there with their bytes and without.
+    Fault(3, &[b"\x05\x00\x00\x00\x00\x00\x00\x00\x00"], None),
+    Fault(3, &[b"\x06\x00\x00\x00\x00\x00\x00\x00\x00"], None),
+    Fault(
+        3,
+        &[b"\x01\x00\x01A", b"\x05\x00\x00\x00\x00\x00\x00\x00\x00"],
+        Some(PoolFault::BadTag(2)),
+    ),
+    Fault(
+        3,
+        &[b"\x01\x00\x01A", b"\x06\x00\x00\x00\x00\x00\x00\x00\x00"],
+        Some(PoolFault::BadTag(2)),
+    ),
+    Fault(3, &[b"\x01\x00\x01A", b"\x05"], Some(PoolFault::BadTag(2))),
+    Fault(3, &[b"\x01\x00\x01A", b"\x06"], Some(PoolFault::BadTag(2))),
+    Fault(4, &[b"\x01\x00\x01A", b"\x05"], Some(PoolFault::Truncated)),
+    Fault(4, &[b"\x01\x00\x01A", b"\x06"], Some(PoolFault::Truncated)),
+    // Entry 6 names the second number of the Long at 4.
+    Fault(
+        7,
+        &[
+            b"\x01\x00\x01A",
+            b"\x07\x00\x01",
+            b"\x01\x00\x03()V",
+            b"\x05\x00\x00\x00\x00\x00\x00\x00\x00",
+            b"\x0a\x00\x02\x00\x05",
+        ],
+        Some(PoolFault::BadIndex(6)),
+    ),
+    Fault(2, &[b"\x01\x00\x01\x00"], Some(PoolFault::BadUtf8(1))),
+    // The text at 2 comes before the number at 1, and that before the descriptor at 3.
+    Fault(
+        5,
+        &[
+            b"\x07\x00\x05",
+            b"\x01\x00\x01\x00",
+            b"\x10\x00\x04",
+            b"\x01\x00\x01I",
+        ],
+        Some(PoolFault::BadUtf8(2)),
+    ),
+    Fault(
+        5,
+        &[
+            b"\x10\x00\x04",
+            b"\x01\x00\x01A",
+            b"\x07\x00\x05",
+            b"\x01\x00\x01I",
+        ],
+        Some(PoolFault::BadIndex(3)),
+    ),
+    CutShort,
 ];
 
-/// Bytes, and the number of four bytes at their front with what is behind it.
-const FOUR_BYTES: &[(&[u8], Option<(u32, &[u8])>)] = &[
-    (&[1, 2, 3, 4], Some((0x0102_0304, &[]))),
-    (&[1, 2, 3], None),
+#[test]
+fn faults(rt: HostRuntime) {
+    assert_rows(&rt, POOLS);
+}
+
+/// What method handles may refer to, by their kinds.
+const HANDLES: &[PoolRow] = &[
+    Handle(0, &[]),
+    Handle(1, &[9]),
+    Handle(2, &[9]),
+    Handle(3, &[9]),
+    Handle(4, &[9]),
+    Handle(5, &[10]),
+    Handle(6, &[10, 11]),
+    Handle(7, &[10, 11]),
+    Handle(8, &[10]),
+    Handle(9, &[11]),
+    Handle(10, &[]),
 ];
 
-/// Counts, and so many of the bytes 1, 2, 3 with what is behind them.
-const FRONTS: &[(usize, Option<(&[u8], &[u8])>)] = &[(2, Some((&[1, 2], &[3]))), (4, None)];
+#[test]
+fn method_handles(rt: HostRuntime) {
+    assert_rows(&rt, HANDLES);
+}
+
+/// Constants with a method's descriptor, at 5, and with a field's, at 7 or 6, and whether they may have it.
+const DESCRIBED: &[PoolRow] = &[
+    Described(b"\x10\x00\x04", true),
+    Described(b"\x10\x00\x06", false),
+    Described(b"\x11\x00\x00\x00\x05", false),
+    Described(b"\x11\x00\x00\x00\x07", true),
+    Described(b"\x12\x00\x00\x00\x05", true),
+    Described(b"\x12\x00\x00\x00\x07", false),
+    Described(b"\x09\x00\x02\x00\x05", false),
+    Described(b"\x09\x00\x02\x00\x07", true),
+    Described(b"\x0a\x00\x02\x00\x05", true),
+    Described(b"\x0a\x00\x02\x00\x07", false),
+    Described(b"\x0b\x00\x02\x00\x05", true),
+    Described(b"\x0b\x00\x02\x00\x07", false),
+    Described(b"\x0c\x00\x03\x00\x01", false),
+    // A class name may have any byte but four.
+    Described(b"\x07\x00\x04", true),
+];
 
 #[test]
-fn numbers(rt: HostRuntime) {
-    for (bytes, found) in TWO_BYTES {
-        assert!(rt; u2_at(bytes) == *found, "{bytes:?}");
-    }
-    for (bytes, found) in FOUR_BYTES {
-        assert!(rt; u4_at(bytes) == *found, "{bytes:?}");
-    }
-    for (count, found) in FRONTS {
-        assert!(rt; bytes_at(*count, &[1, 2, 3]) == *found, "{count}");
-    }
+fn descriptors(rt: HostRuntime) {
+    assert_rows(&rt, DESCRIBED);
+}
+
+/// What is read at the front of bytes, and copies.
+const PARTS: &[PoolRow] = &[
+    TwoBytes(&[1, 2, 3], Some((0x0102, &[3]))),
+    TwoBytes(&[1], None),
+    FourBytes(&[1, 2, 3, 4], Some((0x0102_0304, &[]))),
+    FourBytes(&[1, 2, 3], None),
+    Front(2, &[1, 2, 3], Some((&[1, 2], &[3]))),
+    Front(4, &[1, 2, 3], None),
+    CopiedMethod,
+    CopiedCallSite,
+];
+
+#[test]
+fn parts(rt: HostRuntime) {
+    assert_rows(&rt, PARTS);
 }

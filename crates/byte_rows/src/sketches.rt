@@ -1,5 +1,8 @@
 //! Sketches and their bytes.
 
+use crate::rows::{Row, assert_rows};
+use crate::sketches::Outcome::*;
+use crate::sketches::Part::*;
 use jl_classfile::ClassFault;
 use jl_names::{Name, Seq};
 use jl_pool::PoolFault;
@@ -8,10 +11,42 @@ use std::alloc::{AllocError, Global};
 
 const OBJECT: &[u8] = b"java/lang/Object";
 
-/// No names.
-fn none(alloc: Global) -> Seq<Name> {
-    Seq::of(Vec::new(alloc))
+/// What a sketch has beside its name and its superclass. Its methods have no parameters and no result.
+enum Part {
+    /// Nothing else.
+    Empty,
+    /// No superclass, after all.
+    Root,
+    /// A name of so many bytes in place of its own.
+    Long(usize),
+    /// These flags in place of those of a public class.
+    Flags(u16),
+    /// A nest host.
+    Host(&'static [u8]),
+    /// A nest member.
+    Member(&'static [u8]),
+    /// A method of this name and these flags that calls nothing.
+    Method(&'static [u8], u16),
+    /// A method run of these flags that calls A.f.
+    Calls(u16),
+    /// A method run that calls A.f of an interface, with the descriptor in these parts.
+    CallsWith(&'static [&'static [u8]]),
 }
+
+/// What comes of a sketch.
+enum Outcome {
+    /// The class file of these parts.
+    Gives(&'static [&'static [u8]]),
+    /// A class file.
+    IsWritten,
+    /// This fault.
+    Has(SketchFault),
+    /// A fault in the code of its first method.
+    HasCodeFault,
+}
+
+/// A sketch of a public class: its name, its superclass, what else it has, and what comes of it.
+struct SketchRow(&'static [u8], &'static [u8], Part, Outcome);
 
 /// One item.
 fn one<T: Drop>(alloc: Global, item: T) -> Result<Seq<T>, AllocError> {
@@ -20,27 +55,17 @@ fn one<T: Drop>(alloc: Global, item: T) -> Result<Seq<T>, AllocError> {
     Ok(Seq::of(items))
 }
 
-/// A public class.
-fn class(
-    alloc: Global,
-    name: &[u8],
-    superclass: &[u8],
-    methods: Seq<SketchMethod>,
-) -> Result<Sketch, AllocError> {
+/// A public class without methods.
+fn empty(alloc: Global, name: &[u8], superclass: &[u8]) -> Result<Sketch, AllocError> {
     Ok(Sketch {
         name: Name::copied(alloc, name)?,
         flags: 33,
         superclass: Some(Name::copied(alloc, superclass)?),
-        interfaces: none(alloc),
-        methods,
+        interfaces: Seq::of(Vec::new(alloc)),
+        methods: Seq::of(Vec::new(alloc)),
         host: None,
-        members: none(alloc),
+        members: Seq::of(Vec::new(alloc)),
     })
-}
-
-/// A public class without methods.
-fn empty(alloc: Global, name: &[u8], superclass: &[u8]) -> Result<Sketch, AllocError> {
-    class(alloc, name, superclass, Seq::of(Vec::new(alloc)))
 }
 
 /// A method of no parameters and no result.
@@ -58,57 +83,125 @@ fn method(
     })
 }
 
-/// A public class with a public method f.
-fn with_f(alloc: Global, name: &[u8], superclass: &[u8]) -> Result<Sketch, AllocError> {
-    let f = method(alloc, b"f", 1, Seq::of(Vec::new(alloc)))?;
-    class(alloc, name, superclass, one(alloc, f)?)
-}
-
-/// A method of A.
-fn of_a(alloc: Global, name: &[u8], ty: &[u8]) -> Result<MethodName, AllocError> {
+/// The method f of A.
+fn f_of_a(alloc: Global, ty: &[u8]) -> Result<MethodName, AllocError> {
     Ok(MethodName {
         owner: Name::copied(alloc, b"A")?,
-        name: Name::copied(alloc, name)?,
+        name: Name::copied(alloc, b"f")?,
         ty: Name::copied(alloc, ty)?,
     })
 }
 
-/// A class whose method run, of these flags, makes these calls.
-fn runs(alloc: Global, flags: u16, calls: Seq<Call>) -> Result<Sketch, AllocError> {
-    let run = method(alloc, b"run", flags, calls)?;
-    class(alloc, b"M", OBJECT, one(alloc, run)?)
+/// An invokeinterface of A.f, with the descriptor in these parts.
+fn interface_call(alloc: Global, ty: &[&[u8]]) -> Result<Call, AllocError> {
+    let ty = ty.concat(alloc)?;
+    Ok(Call::Interface(f_of_a(alloc, &ty)?))
 }
 
-/// A class whose method run, of these flags, calls A.f.
-fn calls_f(alloc: Global, flags: u16) -> Result<Sketch, AllocError> {
-    let f = of_a(alloc, b"f", b"()V")?;
-    runs(alloc, flags, one(alloc, Call::Virtual(f))?)
+/// Gives the sketch the method.
+fn give_method(
+    alloc: Global,
+    sketch: &mut Sketch,
+    name: &[u8],
+    flags: u16,
+    calls: Seq<Call>,
+) -> Result<(), AllocError> {
+    sketch.methods = one(alloc, method(alloc, name, flags, calls)?)?;
+    Ok(())
 }
 
-/// java/lang/Object.
-fn root(alloc: Global) -> Result<Sketch, AllocError> {
-    let mut sketch = empty(alloc, OBJECT, OBJECT)?;
-    sketch.superclass = None;
-    Ok(sketch)
+/// Gives the sketch a method run that makes the call.
+fn give_call(alloc: Global, sketch: &mut Sketch, flags: u16, call: Call) -> Result<(), AllocError> {
+    give_method(alloc, sketch, b"run", flags, one(alloc, call)?)
 }
 
-/// A class of the nest of Out.
-fn hosted(alloc: Global) -> Result<Sketch, AllocError> {
-    let mut sketch = empty(alloc, b"In", OBJECT)?;
-    sketch.host = Some(Name::copied(alloc, b"Out")?);
-    Ok(sketch)
+/// Gives the sketch names in place of what it has.
+fn give_names(alloc: Global, sketch: &mut Sketch, part: &Part) -> Result<(), AllocError> {
+    match part {
+        Long(length) => sketch.name = Name::of(vec![in alloc; b'a'; *length]?)?,
+        Host(name) => sketch.host = Some(Name::copied(alloc, name)?),
+        Member(name) => sketch.members = one(alloc, Name::copied(alloc, name)?)?,
+        _ => {}
+    }
+    Ok(())
 }
 
-/// A class whose nest has itself for a member.
-fn nest(alloc: Global) -> Result<Sketch, AllocError> {
-    let members = one(alloc, Name::copied(alloc, b"A")?)?;
-    let mut sketch = empty(alloc, b"A", OBJECT)?;
-    sketch.members = members;
-    Ok(sketch)
+/// Gives the sketch what it has beside its name and its superclass.
+fn give(alloc: Global, sketch: &mut Sketch, part: &Part) -> Result<(), AllocError> {
+    match part {
+        Root => sketch.superclass = None,
+        Flags(flags) => sketch.flags = *flags,
+        Method(name, flags) => {
+            return give_method(alloc, sketch, name, *flags, Seq::of(Vec::new(alloc)));
+        }
+        Calls(flags) => {
+            return give_call(alloc, sketch, *flags, Call::Virtual(f_of_a(alloc, b"()V")?));
+        }
+        CallsWith(ty) => return give_call(alloc, sketch, 9, interface_call(alloc, ty)?),
+        _ => return give_names(alloc, sketch, part),
+    }
+    Ok(())
+}
+
+/// Whether the bytes are these parts, in order.
+fn are_parts(bytes: &[u8], parts: &[&[u8]]) -> bool {
+    let mut rest = bytes;
+    for part in parts {
+        match rest.strip_prefix(*part) {
+            Some(behind) => rest = behind,
+            None => return false,
+        }
+    }
+    rest.is_empty()
+}
+
+/// Whether this comes of a sketch that is written as these bytes.
+fn is_written(bytes: &[u8], outcome: &Outcome) -> bool {
+    match outcome {
+        Gives(parts) => are_parts(bytes, parts),
+        IsWritten => true,
+        _ => false,
+    }
+}
+
+/// Whether this comes of a sketch that has this fault.
+fn is_fault(fault: SketchFault, outcome: &Outcome) -> bool {
+    match outcome {
+        Has(expected) => fault == *expected,
+        HasCodeFault => matches!(fault, SketchFault::Refused(ClassFault::Code(0, _))),
+        _ => false,
+    }
+}
+
+/// Whether this comes of the sketch.
+fn has_outcome(alloc: Global, sketch: &Sketch, outcome: &Outcome) -> bool {
+    match write_class(alloc, sketch) {
+        Ok(bytes) => is_written(&bytes, outcome),
+        Err(fault) => is_fault(fault, outcome),
+    }
+}
+
+/// Whether the outcome is that of the sketch, which was made, once it is given the part.
+fn leads_to(
+    alloc: Global,
+    made: &mut Result<Sketch, AllocError>,
+    part: &Part,
+    outcome: &Outcome,
+) -> bool {
+    match made {
+        Ok(sketch) => give(alloc, sketch, part).is_ok() && has_outcome(alloc, sketch, outcome),
+        Err(_) => false,
+    }
+}
+
+impl Row for SketchRow {
+    fn is_so(&self, alloc: Global) -> bool {
+        leads_to(alloc, &mut empty(alloc, self.0, self.1), &self.2, &self.3)
+    }
 }
 
 /// The class file of java/lang/Object.
-const ROOT: &[&[u8]] = &[
+const ROOT_FILE: &[&[u8]] = &[
     &[0xca, 0xfe, 0xba, 0xbe, 0, 0, 0, 0x3d, 0, 3, 1, 0, 16],
     OBJECT,
     &[7, 0, 1, 0, 0x21, 0, 2, 0, 0, 0, 0],
@@ -116,7 +209,7 @@ const ROOT: &[&[u8]] = &[
 ];
 
 /// The class file of A, with a method f.
-const A: &[&[u8]] = &[
+const A_FILE: &[&[u8]] = &[
     &[
         0xca, 0xfe, 0xba, 0xbe, 0, 0, 0, 0x3d, 0, 8, 1, 0, 1, b'A', 7, 0, 1, 1, 0, 16,
     ],
@@ -132,7 +225,7 @@ const A: &[&[u8]] = &[
 ];
 
 /// The class file of M, whose method run calls A.f.
-const M: &[&[u8]] = &[
+const M_FILE: &[&[u8]] = &[
     &[
         0xca, 0xfe, 0xba, 0xbe, 0, 0, 0, 0x3d, 0, 13, 1, 0, 1, b'M', 7, 0, 1, 1, 0, 16,
     ],
@@ -151,7 +244,7 @@ const M: &[&[u8]] = &[
 ];
 
 /// The class file of B below A.
-const B: &[&[u8]] = &[
+const B_FILE: &[&[u8]] = &[
     &[
         0xca, 0xfe, 0xba, 0xbe, 0, 0, 0, 0x3d, 0, 5, 1, 0, 1, b'B', 7, 0, 1, 1, 0, 1, b'A', 7,
     ],
@@ -159,7 +252,7 @@ const B: &[&[u8]] = &[
 ];
 
 /// The class file of C below A, with a method f.
-const C: &[&[u8]] = &[
+const C_FILE: &[&[u8]] = &[
     &[
         0xca, 0xfe, 0xba, 0xbe, 0, 0, 0, 0x3d, 0, 8, 1, 0, 1, b'C', 7, 0, 1, 1, 0, 1, b'A', 7,
     ],
@@ -172,7 +265,7 @@ const C: &[&[u8]] = &[
 ];
 
 /// The class file of In, of the nest of Out.
-const IN: &[&[u8]] = &[
+const IN_FILE: &[&[u8]] = &[
     &[
         0xca, 0xfe, 0xba, 0xbe, 0, 0, 0, 0x3d, 0, 8, 1, 0, 2, b'I', b'n', 7, 0, 1, 1, 0, 16,
     ],
@@ -186,7 +279,7 @@ const IN: &[&[u8]] = &[
 ];
 
 /// The class file of A, a nest of itself.
-const NEST: &[&[u8]] = &[
+const NEST_FILE: &[&[u8]] = &[
     &[
         0xca, 0xfe, 0xba, 0xbe, 0, 0, 0, 0x3d, 0, 6, 1, 0, 1, b'A', 7, 0, 1, 1, 0, 16,
     ],
@@ -198,114 +291,68 @@ const NEST: &[&[u8]] = &[
     ],
 ];
 
-/// Whether the bytes are these parts, in order.
-fn are_parts(bytes: &[u8], parts: &[&[u8]]) -> bool {
-    let mut rest = bytes;
-    for part in parts {
-        match rest.strip_prefix(*part) {
-            Some(behind) => rest = behind,
-            None => return false,
-        }
-    }
-    rest.is_empty()
-}
-
-/// Whether the sketch is written as these parts.
-fn gives(alloc: Global, sketch: Result<Sketch, AllocError>, parts: &[&[u8]]) -> bool {
-    match sketch {
-        Ok(sketch) => is_written(alloc, &sketch, parts),
-        Err(_) => false,
-    }
-}
-
-/// Whether the sketch, once made, is written as these parts.
-fn is_written(alloc: Global, sketch: &Sketch, parts: &[&[u8]]) -> bool {
-    match write_class(alloc, sketch) {
-        Ok(bytes) => are_parts(&bytes, parts),
-        Err(_) => false,
-    }
-}
+/// Sketches, and the class files that they are written as.
+const FILES: &[SketchRow] = &[
+    SketchRow(OBJECT, OBJECT, Root, Gives(ROOT_FILE)),
+    SketchRow(b"A", OBJECT, Method(b"f", 1), Gives(A_FILE)),
+    SketchRow(b"M", OBJECT, Calls(9), Gives(M_FILE)),
+    SketchRow(b"B", b"A", Empty, Gives(B_FILE)),
+    SketchRow(b"C", b"A", Method(b"f", 1), Gives(C_FILE)),
+    SketchRow(b"In", OBJECT, Host(b"Out"), Gives(IN_FILE)),
+    SketchRow(b"A", OBJECT, Member(b"A"), Gives(NEST_FILE)),
+];
 
 #[test]
 fn class_files(rt: HostRuntime) {
-    let alloc = rt.alloc();
-    assert!(rt; gives(alloc, root(alloc), ROOT));
-    assert!(rt; gives(alloc, with_f(alloc, b"A", OBJECT), A));
-    assert!(rt; gives(alloc, calls_f(alloc, 9), M));
-    assert!(rt; gives(alloc, empty(alloc, b"B", b"A"), B));
-    assert!(rt; gives(alloc, with_f(alloc, b"C", b"A"), C));
-    assert!(rt; gives(alloc, hosted(alloc), IN));
-    assert!(rt; gives(alloc, nest(alloc), NEST));
+    assert_rows(&rt, FILES);
 }
 
-/// A class whose method run, of these flags, makes no calls.
-fn calls_none(alloc: Global, flags: u16) -> Result<Sketch, AllocError> {
-    runs(alloc, flags, Seq::of(Vec::new(alloc)))
-}
+/// A fault in the constant at 2, which is the class.
+const BAD_NAME: SketchFault = SketchFault::Refused(ClassFault::Pool(PoolFault::BadDescriptor(2)));
 
-/// A class with the flag MODULE.
-fn module(alloc: Global) -> Result<Sketch, AllocError> {
-    let mut sketch = empty(alloc, b"A", OBJECT)?;
-    sketch.flags = 0x8021;
-    Ok(sketch)
-}
+/// 127 long parameters.
+const LONGS: &[u8] = &[b'J'; 127];
 
-/// A class with a name of so many bytes.
-fn named(alloc: Global, length: usize) -> Result<Sketch, AllocError> {
-    empty(alloc, &vec![in alloc; b'a'; length]?, OBJECT)
-}
-
-/// A type of a method with so many long parameters, and int ones behind them.
-fn with_parameters(alloc: Global, longs: usize, ints: usize) -> Result<Vec<u8>, AllocError> {
-    let mut ty = vec![in alloc; b'(']?;
-    for _ in 0..longs {
-        ty.push(b'J')?;
-    }
-    for _ in 0..ints {
-        ty.push(b'I')?;
-    }
-    ty.extend_from_slice(b")V")?;
-    Ok(ty)
-}
-
-/// A class with an invokeinterface of a method with so many long parameters, and int ones behind them.
-fn calls_with(alloc: Global, longs: usize, ints: usize) -> Result<Sketch, AllocError> {
-    let ty = with_parameters(alloc, longs, ints)?;
-    let f = of_a(alloc, b"f", &ty)?;
-    runs(alloc, 9, one(alloc, Call::Interface(f))?)
-}
-
-/// The fault of the sketch, None too where it could not be made.
-fn fault_of(alloc: Global, sketch: Result<Sketch, AllocError>) -> Option<SketchFault> {
-    match sketch {
-        Ok(sketch) => write_class(alloc, &sketch).err(),
-        Err(_) => None,
-    }
-}
-
-/// Whether the sketch is written.
-fn is_accepted(alloc: Global, sketch: Result<Sketch, AllocError>) -> bool {
-    match sketch {
-        Ok(sketch) => write_class(alloc, &sketch).is_ok(),
-        Err(_) => false,
-    }
-}
+/// Sketches with faults, and two that are just small enough.
+const FAULTS: &[SketchRow] = &[
+    SketchRow(
+        b"M",
+        OBJECT,
+        Calls(1033),
+        Has(SketchFault::CallsWithoutCode(0)),
+    ),
+    SketchRow(
+        b"M",
+        OBJECT,
+        Calls(0x0109),
+        Has(SketchFault::CallsWithoutCode(0)),
+    ),
+    SketchRow(
+        b"M",
+        OBJECT,
+        Method(b"run", 1033),
+        Has(SketchFault::Refused(ClassFault::BadMember(0))),
+    ),
+    SketchRow(b"a.b", OBJECT, Empty, Has(BAD_NAME)),
+    // The flag MODULE.
+    SketchRow(
+        b"A",
+        OBJECT,
+        Flags(0x8021),
+        Has(SketchFault::Refused(ClassFault::ModuleFile)),
+    ),
+    SketchRow(
+        b"M",
+        OBJECT,
+        CallsWith(&[b"(", LONGS, b"I)V"]),
+        HasCodeFault,
+    ),
+    SketchRow(b"", OBJECT, Long(65_536), Has(SketchFault::TooBig)),
+    SketchRow(b"M", OBJECT, CallsWith(&[b"(", LONGS, b")V"]), IsWritten),
+    SketchRow(b"", OBJECT, Long(65_535), IsWritten),
+];
 
 #[test]
 fn faults(rt: HostRuntime) {
-    let alloc = rt.alloc();
-    let calls = SketchFault::CallsWithoutCode(0);
-    let member = SketchFault::Refused(ClassFault::BadMember(0));
-    let name = SketchFault::Refused(ClassFault::Pool(PoolFault::BadDescriptor(2)));
-    let file = SketchFault::Refused(ClassFault::ModuleFile);
-    assert!(rt; fault_of(alloc, calls_f(alloc, 1033)) == Some(calls));
-    assert!(rt; fault_of(alloc, calls_f(alloc, 0x0109)) == Some(calls));
-    assert!(rt; fault_of(alloc, calls_none(alloc, 1033)) == Some(member));
-    assert!(rt; fault_of(alloc, empty(alloc, b"a.b", OBJECT)) == Some(name));
-    assert!(rt; fault_of(alloc, module(alloc)) == Some(file));
-    let over = fault_of(alloc, calls_with(alloc, 127, 1));
-    assert!(rt; matches!(over, Some(SketchFault::Refused(ClassFault::Code(0, _)))));
-    assert!(rt; fault_of(alloc, named(alloc, 65_536)) == Some(SketchFault::TooBig));
-    assert!(rt; is_accepted(alloc, calls_with(alloc, 127, 0)));
-    assert!(rt; is_accepted(alloc, named(alloc, 65_535)));
+    assert_rows(&rt, FAULTS);
 }

@@ -1,6 +1,8 @@
 //! What is done with classes and asked of them, row by row, and what each row is answered: a number where the answer has one, and
 //! else as it prints.
 
+use crate::lattice::are_layers_defined;
+use crate::loaders::are_made;
 use jl_classfile::{ClassFile, Method};
 use jl_hierarchy::{Classes, LoaderFault};
 use jl_types::{Class, ClassId, DefineFault, DelegateFault, LoaderId, MethodId};
@@ -12,6 +14,8 @@ use std::process::Abort;
 pub(crate) enum Command {
     /// A new loader.
     Loader,
+    /// New loaders, and whether they get the numbers from the first to the one before the second.
+    Loaders(u32, u32),
     /// The definition of java/lang/Object.
     Object(u32),
     /// The definition of a class: its name, flags, superclass and superinterfaces.
@@ -20,6 +24,8 @@ pub(crate) enum Command {
     Nested(u32, &'static str, Option<&'static str>, &'static [&'static str]),
     /// The definition of a public class: its name, superclass and methods, by names, descriptors and flags.
     Declaring(u32, &'static str, &'static str, &'static [MethodRow]),
+    /// The definitions of all interfaces of the lattice, and whether they get the numbers from 1 on.
+    Layers,
     /// The delegation of the name to the other loader.
     Delegate(u32, &'static str, u32),
     /// The class that the loader has recorded.
@@ -34,6 +40,8 @@ pub(crate) enum Command {
     IsInterface(u32),
     /// The ancestors.
     Ancestors(u32),
+    /// How many ancestors there are.
+    AncestorCount(u32),
     /// Whether the first is an ancestor of the second.
     IsAncestor(u32, u32),
     /// The receivers.
@@ -123,14 +131,29 @@ fn row(alloc: Global, row: Option<&Class>) -> Result<String, AllocError> {
     }
 }
 
-/// What the definition of the class by the loader is answered.
+/// The class file that the command defines a class of. None where it defines none.
+fn file(alloc: Global, command: &Command) -> Option<ClassFile> {
+    match command {
+        Command::Object(_) => class(alloc, OBJECT, 33, None, &[], &[]),
+        Command::Define(_, name, flags, superclass, interfaces) => {
+            class(alloc, name, *flags, Some(superclass), interfaces, &[])
+        }
+        Command::Nested(_, name, host, members) => nested(alloc, name, *host, members, &[]),
+        Command::Declaring(_, name, superclass, methods) => {
+            class(alloc, name, 33, Some(superclass), &[], methods)
+        }
+        _ => None,
+    }
+}
+
+/// What the definition by the loader is answered.
 fn defined(
     alloc: Global,
     classes: &mut Classes,
     loader: u32,
-    file: Option<ClassFile>,
+    command: &Command,
 ) -> Result<String, AllocError> {
-    match file {
+    match file(alloc, command) {
         Some(file) => definition(alloc, classes.define(alloc, LoaderId::new(loader), file)),
         None => String::from_str(alloc, "no class file"),
     }
@@ -140,6 +163,15 @@ fn defined(
 fn ancestors(alloc: Global, classes: &Classes, class: ClassId) -> Result<String, AllocError> {
     if classes.has_class(class) {
         numbers(alloc, classes.ancestors(class))
+    } else {
+        String::from_str(alloc, "no class")
+    }
+}
+
+/// How many ancestors there are, if there is such a class.
+fn ancestor_count(alloc: Global, classes: &Classes, class: ClassId) -> Result<String, AllocError> {
+    if classes.has_class(class) {
+        format!(in alloc; "{}", classes.ancestors(class).len())
     } else {
         String::from_str(alloc, "no class")
     }
@@ -179,6 +211,7 @@ fn told(alloc: Global, classes: &Classes, command: &Command) -> Result<String, A
         Command::Superclass(class) => number(alloc, classes.superclass(ClassId::new(*class))),
         Command::IsInterface(class) => yes_or_no(alloc, classes.is_interface(ClassId::new(*class))),
         Command::Ancestors(class) => ancestors(alloc, classes, ClassId::new(*class)),
+        Command::AncestorCount(class) => ancestor_count(alloc, classes, ClassId::new(*class)),
         Command::IsAncestor(ancestor, class) => is_ancestor(
             alloc,
             classes,
@@ -210,32 +243,12 @@ fn told(alloc: Global, classes: &Classes, command: &Command) -> Result<String, A
 fn answer(alloc: Global, classes: &mut Classes, command: &Command) -> Result<String, AllocError> {
     match command {
         Command::Loader => loader(alloc, classes.new_loader(alloc)),
-        Command::Object(by) => defined(
-            alloc,
-            classes,
-            *by,
-            class(alloc, OBJECT, 33, None, &[], &[]),
-        ),
-        Command::Define(by, name, flags, superclass, interfaces) => defined(
-            alloc,
-            classes,
-            *by,
-            class(alloc, name, *flags, Some(superclass), interfaces, &[]),
-        ),
-        Command::Nested(by, name, host, members) => {
-            defined(
-                alloc,
-                classes,
-                *by,
-                nested(alloc, name, *host, members, &[]),
-            )
-        }
-        Command::Declaring(by, name, superclass, methods) => defined(
-            alloc,
-            classes,
-            *by,
-            class(alloc, name, 33, Some(superclass), &[], methods),
-        ),
+        Command::Loaders(from, to) => yes_or_no(alloc, are_made(alloc, classes, *from, *to)),
+        Command::Object(by) => defined(alloc, classes, *by, command),
+        Command::Define(by, _, _, _, _) => defined(alloc, classes, *by, command),
+        Command::Nested(by, _, _, _) => defined(alloc, classes, *by, command),
+        Command::Declaring(by, _, _, _) => defined(alloc, classes, *by, command),
+        Command::Layers => yes_or_no(alloc, are_layers_defined(alloc, classes)),
         Command::Delegate(from, name, to) => delegation(
             alloc,
             classes.delegate(
@@ -249,6 +262,11 @@ fn answer(alloc: Global, classes: &mut Classes, command: &Command) -> Result<Str
     }
 }
 
+/// Asserts that the answer of the row is the one that is wanted.
+fn assert_answer(rt: &impl Abort, index: usize, answer: &str, want: &str) {
+    assert_eq!(rt; answer, want, "in row {index}");
+}
+
 /// Asserts that the command of the row is answered so.
 fn assert_row(
     rt: &(impl Abort + AllocGlobal),
@@ -258,12 +276,12 @@ fn assert_row(
     want: &str,
 ) -> Result<(), AllocError> {
     let text = answer(rt.alloc(), classes, command)?;
-    assert_eq!(rt; text.as_str(), want, "in row {index}");
+    assert_answer(rt, index, text.as_str(), want);
     Ok(())
 }
 
 /// Asserts that these commands are answered so, one after another.
-pub(crate) fn assert_each(
+fn assert_each(
     rt: &(impl Abort + AllocGlobal),
     classes: &mut Classes,
     rows: &[(Command, &str)],

@@ -2,13 +2,12 @@
 //! what goes along each path doesn't end.
 
 use crate::commands::Command::*;
-use crate::commands::{Command, assert_each};
+use crate::commands::{Command, assert_rows};
 use jl_classfile::ClassFile;
 use jl_hierarchy::Classes;
 use jl_types::{ClassId, LoaderId};
 use row_files::{OBJECT, class};
 use std::alloc::{AllocError, Global};
-use std::process::Abort;
 
 const LAYERS: u32 = 40;
 
@@ -66,8 +65,8 @@ fn is_side_defined(
     }
 }
 
-/// Whether all layers are defined, from the top to the bottom.
-fn are_layers_defined(alloc: Global, classes: &mut Classes) -> bool {
+/// Whether all layers are defined, from the top to the bottom, as the classes of the numbers from 1 on.
+pub(crate) fn are_layers_defined(alloc: Global, classes: &mut Classes) -> bool {
     for layer in 0..LAYERS {
         if !is_side_defined(alloc, classes, 'I', layer, 2 * layer + 1) {
             return false;
@@ -79,14 +78,10 @@ fn are_layers_defined(alloc: Global, classes: &mut Classes) -> bool {
     true
 }
 
-/// Whether the class has so many ancestors.
-fn has_ancestors(classes: &Classes, class: u32, count: usize) -> bool {
-    let class = ClassId::new(class);
-    classes.has_class(class) && classes.ancestors(class).len() == count
-}
-
-/// The bottom: Z is below both interfaces of the last layer, which are 79 and 80.
-const BOTTOM: &[(Command, &str)] = &[
+/// Z is below both interfaces of the last layer, which are 79 and 80.
+const LATTICE: &[(Command, &str)] = &[
+    (Object(0), "0"),
+    (Layers, "true"),
     (Define(0, "Z", 33, OBJECT, &["I39", "J39"]), "81"),
     (IsAncestor(0, 81), "true"),
     (IsAncestor(1, 81), "true"),
@@ -97,31 +92,13 @@ const BOTTOM: &[(Command, &str)] = &[
     (Receivers(0), "[0, 81]"),
     (Receivers(1), "[81]"),
     (Receivers(80), "[81]"),
-];
-
-fn assert_lattice(
-    rt: &(impl Abort + AllocGlobal),
-    classes: &mut Classes,
-) -> Result<(), AllocError> {
-    assert!(rt;
-        is_defined(
-            rt.alloc(),
-            classes,
-            class(rt.alloc(), OBJECT, 33, None, &[], &[]),
-            0
-        )
-    );
-    assert!(rt; are_layers_defined(rt.alloc(), classes));
-    assert_each(rt, classes, BOTTOM)?;
     // Itself, java/lang/Object and the 78 interfaces of the 39 layers above it.
-    assert!(rt; has_ancestors(classes, 79, 80));
+    (AncestorCount(79), "80"),
     // Itself, java/lang/Object and all 80 interfaces.
-    assert!(rt; has_ancestors(classes, 81, 82));
-    Ok(())
-}
+    (AncestorCount(81), "82"),
+];
 
 #[test]
 fn ends_where_paths_are_many(rt: HostRuntime) -> Result<(), AllocError> {
-    let mut classes = Classes::new(rt.alloc())?;
-    assert_lattice(&rt, &mut classes)
+    assert_rows(&rt, LATTICE)
 }

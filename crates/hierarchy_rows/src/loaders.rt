@@ -2,11 +2,10 @@
 
 use crate::commands::Command::*;
 use crate::commands::{Command, assert_rows};
-use jl_hierarchy::{Classes, LoaderFault};
+use jl_hierarchy::Classes;
 use jl_types::LoaderId;
 use row_files::OBJECT;
 use std::alloc::{AllocError, Global};
-use std::process::Abort;
 
 /// What a second loader defines and delegates.
 const SECOND_LOADER: &[(Command, &str)] = &[
@@ -135,7 +134,7 @@ fn knows_packages_by_loader(rt: HostRuntime) -> Result<(), AllocError> {
 }
 
 /// Whether a loader is made for each of these numbers, in order.
-fn are_made(alloc: Global, classes: &mut Classes, from: u32, to: u32) -> bool {
+pub(crate) fn are_made(alloc: Global, classes: &mut Classes, from: u32, to: u32) -> bool {
     for number in from..to {
         if classes.new_loader(alloc) != Ok(LoaderId::new(number)) {
             return false;
@@ -144,18 +143,15 @@ fn are_made(alloc: Global, classes: &mut Classes, from: u32, to: u32) -> bool {
     true
 }
 
-fn assert_limit(rt: &(impl Abort + AllocGlobal), classes: &mut Classes) {
-    let alloc = rt.alloc();
-    // Loader 0 is there, so these are 1,023 loaders, and the next one is the last.
-    assert!(rt; are_made(alloc, classes, 1, 1_023));
-    assert!(rt; classes.new_loader(alloc) == Ok(LoaderId::new(1_023)));
-    assert!(rt; classes.new_loader(alloc) == Err(LoaderFault::Full));
-    assert!(rt; classes.new_loader(alloc) == Err(LoaderFault::Full));
-}
+/// Loader 0 is there, so the first ones are 1,022, and the next one is the last.
+const LIMIT: &[(Command, &str)] = &[
+    (Loaders(1, 1_023), "true"),
+    (Loader, "1023"),
+    (Loader, "Full"),
+    (Loader, "Full"),
+];
 
 #[test]
 fn makes_1024_loaders(rt: HostRuntime) -> Result<(), AllocError> {
-    let mut classes = Classes::new(rt.alloc())?;
-    assert_limit(&rt, &mut classes);
-    Ok(())
+    assert_rows(&rt, LIMIT)
 }

@@ -13,15 +13,15 @@ pub const OBJECT: &str = "java/lang/Object";
 /// A method by its name, descriptor and access flags.
 pub type MethodRow = (&'static str, &'static str, u16);
 
-/// The name of the static method that makes the calls of a class. It stands before the other methods.
-const CALLER: &str = "m";
+/// The static method that makes the calls of a class. It stands before the other methods.
+const CALLER: MethodRow = ("m", NOTHING, 9);
 
 /// The descriptor of each method that is called, and of the one that calls.
 const NOTHING: &str = "()V";
 
 /// A call of a method of the type ()V, by the class and the method's name that it names. In the code it takes 3 bytes, and 5 at
 /// invokeinterface and invokedynamic.
-#[derive(Clone, Copy, Debug)]
+#[derive(Clone, Copy)]
 pub enum CallRow {
     /// invokevirtual.
     Virtual(&'static str, &'static str),
@@ -37,6 +37,19 @@ pub enum CallRow {
     Interface(&'static str, &'static str),
     /// invokedynamic, of a call site of this name.
     Dynamic(&'static str),
+}
+
+/// What the class file of a class has. Its first method makes the calls, if there are any.
+#[derive(Clone, Copy)]
+struct ClassRow<'a> {
+    name: &'a str,
+    flags: u16,
+    superclass: Option<&'a str>,
+    interfaces: &'a [&'a str],
+    host: Option<&'a str>,
+    members: &'a [&'a str],
+    calls: &'a [CallRow],
+    methods: &'a [MethodRow],
 }
 
 /// A name of this text.
@@ -61,6 +74,32 @@ fn all_named(alloc: Global, texts: &[&str]) -> Result<Seq<Name>, AllocError> {
     Ok(Seq::of(names))
 }
 
+/// The class and the method's name that a row names. A call site has no class.
+fn named_by(row: &CallRow) -> (&'static str, &'static str) {
+    match row {
+        CallRow::Virtual(owner, name) => (*owner, *name),
+        CallRow::Special(owner, name) => (*owner, *name),
+        CallRow::SpecialOfInterface(owner, name) => (*owner, *name),
+        CallRow::Static(owner, name) => (*owner, *name),
+        CallRow::StaticOfInterface(owner, name) => (*owner, *name),
+        CallRow::Interface(owner, name) => (*owner, *name),
+        CallRow::Dynamic(name) => ("", *name),
+    }
+}
+
+/// The call of a row, whose class and method's name these are.
+fn call_of(row: &CallRow, method: MethodName) -> Call {
+    match row {
+        CallRow::Virtual(..) => Call::Virtual(method),
+        CallRow::Special(..) => Call::Special(false, method),
+        CallRow::SpecialOfInterface(..) => Call::Special(true, method),
+        CallRow::Static(..) => Call::Static(false, method),
+        CallRow::StaticOfInterface(..) => Call::Static(true, method),
+        CallRow::Interface(..) => Call::Interface(method),
+        CallRow::Dynamic(..) => Call::Dynamic(method.name, method.ty),
+    }
+}
+
 /// The method of this name in this class.
 fn method_name(alloc: Global, owner: &str, name: &str) -> Result<MethodName, AllocError> {
     Ok(MethodName {
@@ -72,19 +111,8 @@ fn method_name(alloc: Global, owner: &str, name: &str) -> Result<MethodName, All
 
 /// The call of a row.
 fn call(alloc: Global, row: &CallRow) -> Result<Call, AllocError> {
-    match row {
-        CallRow::Virtual(owner, name) => Ok(Call::Virtual(method_name(alloc, owner, name)?)),
-        CallRow::Special(owner, name) => Ok(Call::Special(false, method_name(alloc, owner, name)?)),
-        CallRow::SpecialOfInterface(owner, name) => {
-            Ok(Call::Special(true, method_name(alloc, owner, name)?))
-        }
-        CallRow::Static(owner, name) => Ok(Call::Static(false, method_name(alloc, owner, name)?)),
-        CallRow::StaticOfInterface(owner, name) => {
-            Ok(Call::Static(true, method_name(alloc, owner, name)?))
-        }
-        CallRow::Interface(owner, name) => Ok(Call::Interface(method_name(alloc, owner, name)?)),
-        CallRow::Dynamic(name) => Ok(Call::Dynamic(named(alloc, name)?, named(alloc, NOTHING)?)),
-    }
+    let (owner, name) = named_by(row);
+    Ok(call_of(row, method_name(alloc, owner, name)?))
 }
 
 /// These calls, in order.
@@ -96,23 +124,14 @@ fn all_calls(alloc: Global, rows: &[CallRow]) -> Result<Seq<Call>, AllocError> {
     Ok(Seq::of(calls))
 }
 
-/// The static method that makes these calls.
-fn caller_method(alloc: Global, calls: &[CallRow]) -> Result<SketchMethod, AllocError> {
-    Ok(SketchMethod {
-        name: named(alloc, CALLER)?,
-        ty: named(alloc, NOTHING)?,
-        flags: 9,
-        calls: all_calls(alloc, calls)?,
-    })
-}
-
-/// A method that calls nothing.
-fn method(alloc: Global, name: &str, ty: &str, flags: u16) -> Result<SketchMethod, AllocError> {
+/// A method that makes these calls.
+fn method(alloc: Global, row: &MethodRow, calls: &[CallRow]) -> Result<SketchMethod, AllocError> {
+    let (name, ty, flags) = *row;
     Ok(SketchMethod {
         name: named(alloc, name)?,
         ty: named(alloc, ty)?,
         flags,
-        calls: Seq::of(Vec::new(alloc)),
+        calls: all_calls(alloc, calls)?,
     })
 }
 
@@ -124,76 +143,48 @@ fn all_methods(
 ) -> Result<Seq<SketchMethod>, AllocError> {
     let mut made = Vec::new(alloc);
     if !calls.is_empty() {
-        made.push(caller_method(alloc, calls)?)?;
+        made.push(method(alloc, &CALLER, calls)?)?;
     }
-    for (name, ty, flags) in methods {
-        made.push(method(alloc, name, ty, *flags)?)?;
+    for row in methods {
+        made.push(method(alloc, row, &[])?)?;
     }
     Ok(Seq::of(made))
 }
 
-/// A class below these, with these calls and methods.
-fn below(
-    alloc: Global,
-    name: &str,
-    flags: u16,
-    superclass: Option<&str>,
-    interfaces: &[&str],
-    calls: &[CallRow],
-    methods: &[MethodRow],
-) -> Result<Sketch, AllocError> {
+/// A class of this name and these flags, without a superclass, and with nothing else.
+fn bare(alloc: Global, name: &str, flags: u16) -> Result<Sketch, AllocError> {
     Ok(Sketch {
         name: named(alloc, name)?,
         flags,
-        superclass: named_if_any(alloc, superclass)?,
-        interfaces: all_named(alloc, interfaces)?,
-        methods: all_methods(alloc, calls, methods)?,
+        superclass: None,
+        interfaces: Seq::of(Vec::new(alloc)),
+        methods: Seq::of(Vec::new(alloc)),
         host: None,
         members: Seq::of(Vec::new(alloc)),
     })
 }
 
-/// A class of a nest, with these calls and methods.
-fn of_nest(
-    alloc: Global,
-    name: &str,
-    flags: u16,
-    superclass: &str,
-    nest: (Option<&str>, &[&str]),
-    calls: &[CallRow],
-    methods: &[MethodRow],
-) -> Result<Sketch, AllocError> {
-    Ok(Sketch {
-        name: named(alloc, name)?,
-        flags,
-        superclass: named_if_any(alloc, Some(superclass))?,
-        interfaces: Seq::of(Vec::new(alloc)),
-        methods: all_methods(alloc, calls, methods)?,
-        host: named_if_any(alloc, nest.0)?,
-        members: all_named(alloc, nest.1)?,
-    })
+/// Gives the sketch what else the row has.
+fn fill(alloc: Global, sketch: &mut Sketch, row: &ClassRow<'_>) -> Result<(), AllocError> {
+    sketch.superclass = named_if_any(alloc, row.superclass)?;
+    sketch.interfaces = all_named(alloc, row.interfaces)?;
+    sketch.methods = all_methods(alloc, row.calls, row.methods)?;
+    sketch.host = named_if_any(alloc, row.host)?;
+    sketch.members = all_named(alloc, row.members)?;
+    Ok(())
 }
 
-/// What is read of the bytes. None where they are no class file.
-fn read(alloc: Global, bytes: &[u8]) -> Option<ClassFile> {
-    match read_class(alloc, bytes) {
-        Ok(file) => Some(file),
-        Err(_) => None,
-    }
+/// What is read of the sketch's class file, once it is filled. None where it is no class file.
+fn filled_file(alloc: Global, sketch: &mut Sketch, row: &ClassRow<'_>) -> Option<ClassFile> {
+    fill(alloc, sketch, row).ok()?;
+    let bytes = write_class(alloc, sketch).ok()?;
+    read_class(alloc, &bytes).ok()
 }
 
-/// What is read of the sketch's class file.
-fn written(alloc: Global, sketch: &Sketch) -> Option<ClassFile> {
-    match write_class(alloc, sketch) {
-        Ok(bytes) => read(alloc, &bytes),
-        Err(_) => None,
-    }
-}
-
-/// What is read of the sketch's class file, if the sketch could be made.
-fn file_of(alloc: Global, sketch: Result<Sketch, AllocError>) -> Option<ClassFile> {
-    match sketch {
-        Ok(sketch) => written(alloc, &sketch),
+/// What is read of the row's class file.
+fn file_of(alloc: Global, row: &ClassRow<'_>) -> Option<ClassFile> {
+    match bare(alloc, row.name, row.flags) {
+        Ok(mut sketch) => filled_file(alloc, &mut sketch, row),
         Err(_) => None,
     }
 }
@@ -209,7 +200,16 @@ pub fn class(
 ) -> Option<ClassFile> {
     file_of(
         alloc,
-        below(alloc, name, flags, superclass, interfaces, &[], methods),
+        &ClassRow {
+            name,
+            flags,
+            superclass,
+            interfaces,
+            host: None,
+            members: &[],
+            calls: &[],
+            methods,
+        },
     )
 }
 
@@ -225,15 +225,16 @@ pub fn calling(
 ) -> Option<ClassFile> {
     file_of(
         alloc,
-        below(
-            alloc,
+        &ClassRow {
             name,
             flags,
-            Some(superclass),
+            superclass: Some(superclass),
             interfaces,
+            host: None,
+            members: &[],
             calls,
             methods,
-        ),
+        },
     )
 }
 
@@ -245,10 +246,7 @@ pub fn nested(
     members: &[&str],
     methods: &[MethodRow],
 ) -> Option<ClassFile> {
-    file_of(
-        alloc,
-        of_nest(alloc, name, 33, OBJECT, (host, members), &[], methods),
-    )
+    nested_calling(alloc, name, 33, OBJECT, (host, members), &[], methods)
 }
 
 /// The class file of a class below this superclass that names this nest host and these nest members. Its first method makes
@@ -262,8 +260,18 @@ pub fn nested_calling(
     calls: &[CallRow],
     methods: &[MethodRow],
 ) -> Option<ClassFile> {
+    let (host, members) = nest;
     file_of(
         alloc,
-        of_nest(alloc, name, flags, superclass, nest, calls, methods),
+        &ClassRow {
+            name,
+            flags,
+            superclass: Some(superclass),
+            interfaces: &[],
+            host,
+            members,
+            calls,
+            methods,
+        },
     )
 }
