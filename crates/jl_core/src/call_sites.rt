@@ -16,9 +16,7 @@ use jl_code::Operand;
 use jl_names::Name;
 use jl_pool::CallSiteSpecifier;
 use jl_relink::{World, invocation_at};
-use jl_types::{
-    CallSiteFault, CallSiteId, CallSiteKind, Made, Refusal, SiteNo, SwitchId, Target,
-};
+use jl_types::{CallSiteFault, CallSiteId, CallSiteKind, Made, Refusal, SiteNo, SwitchId, Target};
 use std::alloc::Global;
 
 /// One call site more.
@@ -41,7 +39,10 @@ pub(crate) fn new_call_site(
     ensures refused { IfErr result (IsRefused (verdict 0 world.old (event.NewCallSite kind ty target))) }
     ensures unchanged { OnErr result (world.new ≡ world.old) }
 {
-    if let Some(fault) = world.sites.new_site_fault(&world.classes, ty.as_slice(), &target) {
+    if let Some(fault) = world
+        .sites
+        .new_site_fault(&world.classes, ty.as_slice(), &target)
+    {
         discard_target(target);
         return Err(Refusal::CallSite(fault));
     }
@@ -74,7 +75,10 @@ pub(crate) fn set_target(
     ensures refused { IfErr result (IsRefused (verdict 0 world.old (event.SetTarget call_site target))) }
     ensures unchanged { OnErr result (world.new ≡ world.old) }
 {
-    if let Some(fault) = world.sites.set_target_fault(&world.classes, call_site, &target) {
+    if let Some(fault) = world
+        .sites
+        .set_target_fault(&world.classes, call_site, &target)
+    {
         discard_target(target);
         return Err(Refusal::CallSite(fault));
     }

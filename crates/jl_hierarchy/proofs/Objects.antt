@@ -179,8 +179,8 @@ module _ (cs : Classes) (first : ObjectComesFirst cs) (loader : ℕ) (file : Cla
       by_name true e =
           let zeroth : loader ≡ 0 = (Decides-eqb loader 0).0 (not_not (loader == 0) (sym (ap (λ (b : Bool). b && not (loader == 0)) e) ∙ no_second)) in
           first_by new (
-            ap (λ l. is_some (option_and_then (recorded object) (slice_get (with_record cs.loaders l file.name (length cs.rows)) 0))) zeroth
-            ∙ first_set object (file.name, length cs.rows) cs.loaders (let lt = loader_there in omega arith) e
+          ap (λ l. is_some (option_and_then (recorded object) (slice_get (with_record cs.loaders l file.name (length cs.rows)) 0))) zeroth
+          ∙ first_set object (file.name, length cs.rows) cs.loaders (let lt = loader_there in omega arith) e
           )
       by_name false e =
           let same : (l : ℕ) → has_object new l ≡ has_object cs l = λ l. ap is_some (record_apart object file.name cs.loaders loader (length cs.rows) l e) in

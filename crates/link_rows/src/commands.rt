@@ -223,9 +223,6 @@ pub(crate) fn assert_rows(
     rt: &(impl Abort + AllocGlobal),
     rows: &[(Command, &str)],
 ) -> Result<(), AllocError> {
-    let mut world = World {
-        classes: Classes::new(rt.alloc())?,
-        places: IndexSet::new(rt.alloc()),
-    };
+    let mut world = World::new(rt.alloc())?;
     assert_each(rt, &mut world, rows)
 }
