@@ -22,7 +22,7 @@ use Rattle.jl_types.proofs.Orders.{none_behind}
 use Rattle.jl_hierarchy.specs.Constancy.{has_object, ObjectComesFirst}
 use Rattle.jl_hierarchy.proofs.Constancy.{with_record_stays}
 
-is_there : (o : Option ℕ) → is_some o ≡ true → (c : ℕ) × (o ≡ Some c)
+pub is_there : (o : Option ℕ) → is_some o ≡ true → (c : ℕ) × (o ≡ Some c)
 is_there None h = cc
 is_there (Some c) h = (c, refl)
 

@@ -1,6 +1,6 @@
 -- What was selected stays so when classes are added.
 use Rattle.std.specs.Prelude.{◌≡◌, ℕ, zero, suc, ◌+◌, Bool, true, false, not, ◌&&◌, ◌||◌, List, [], ◌∷◌, map, filter, filter_map, length}
-use Rattle.std.specs.Prelude.{Option, Some, None, option_and_then, option_to_list, IfSome, if◌then◌else◌, is_some, ⊤}
+use Rattle.std.specs.Prelude.{Option, Some, None, option_and_then, option_to_list, IfSome, if◌then◌else◌, ⊤}
 use Rattle.std.specs.List.{AllByRecursion, list_any, range_with_len}
 use Rattle.std.specs.Option.{option_map_or}
 use Rattle.std.proofs.Common.{refl, ap, ◌∙◌}
@@ -21,6 +21,7 @@ use Rattle.jl_types.specs.Selection.{found_or, overriding, chosen_of, chosen, en
 use Rattle.jl_types.specs.Selection.{is_init, special_start, instance_methods, special_in_class, special_in_interface, special_found, special_choice, special_outcome}
 use Rattle.jl_types.proofs.Orders.{IsGood}
 use Rattle.jl_hierarchy.specs.Constancy.{AreInOrder, Stays}
+use Rattle.jl_hierarchy.proofs.Objects.{is_there}
 use Rattle.jl_resolve.specs.Constancy.{RecordsObject}
 use Rattle.jl_resolve.proofs.Constancy.{settled_stays}
 use Rattle.jl_resolve.proofs.Unchanged.{IsThere, IsOfThere, filter_same, any_same, all_filter, all_option, first_there, first_of_there}
@@ -260,10 +261,6 @@ outcomes_stay old new stays good recorded = record {
   interface = λ x named r there at. interface_outcome_stays old new stays good x r there at named;
   special = λ d named ref caller there. special_outcome_stays old new stays good ref d named caller there recorded;
 }
-
-is_there : (o : Option ℕ) → is_some o ≡ true → (c : ℕ) × (o ≡ Some c)
-is_there None h = cc
-is_there (Some c) h = (c, refl)
 
 -- all of this, where java/lang/Object comes first
 pub constant : (old new : Classes) → AreInOrder old → Stays old new → IsConstant old new
