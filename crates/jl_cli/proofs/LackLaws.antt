@@ -2,13 +2,9 @@
 use Rattle.std.proofs.Common.{◌≡◌, refl, sym, subst, inl, inr, ℕ, List, Result, Ok, Err, IfOk, IfErr, OnErr, MatchResult}
 use Rattle.std.specs.Result.{IsErrAnd}
 use Rattle.serde_json.specs.Data.{Data}
-use Rattle.jl_classfile.specs.Parts.{Parts}
-use Rattle.jl_classfile.specs.ClassFiles.{IsClass}
-use Rattle.jl_classfile.specs.Shown.{shown}
 use Rattle.jl_sketch.specs.Faults.{IsWritten}
 use Rattle.jl_sketch.specs.declared.sketch.Sketch.{Sketch}
 use Rattle.jl_types.specs.declared.event.Event.{Event}
-use Rattle.jl_types.specs.declared.event.Event.TheVariants as event
 use Rattle.jl_types.specs.declared.event.Reply.{Reply}
 use Rattle.jl_types.specs.declared.refusal.Refusal.{Refusal}
 use Rattle.jl_types.specs.Events.{verdict}
@@ -68,13 +64,6 @@ event_lacks old new e outcome accepted refused unchanged same = inr (
     said = (some_data outcome).1;
   },
 )
-
-pub file_lacks : (old new : Session) (loader : ℕ) (bytes : List ℕ) (p : Parts) → IsClass bytes p
-    → LacksAnswer old (λ answer. IsEventAnswer old (event.Define loader (shown p)) answer new) new
-    → LacksAnswer old (λ answer. IsFileDefined old loader bytes answer new) new
-file_lacks old new loader bytes p class lacks =
-    lacks_as old new (λ answer. IsEventAnswer old (event.Define loader (shown p)) answer new)
-    (λ answer. IsFileDefined old loader bytes answer new) (λ answer said. (answer, inl (p, class, said))) lacks
 
 pub sketch_lacks : (old new : Session) (loader : ℕ) (sketch : Sketch) (bytes : List ℕ) → IsWritten sketch bytes
     → LacksAnswer old (λ answer. IsFileDefined old loader bytes answer new) new
