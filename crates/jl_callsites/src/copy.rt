@@ -32,7 +32,7 @@ fn copy_call_sites(alloc: Global, call_sites: &[CallSite]) -> Result<Vec<CallSit
 
 /// The same target once more. Want of memory is an error. It goes as deep as the target, and no call site has one that is
 /// deeper than 64.
-pub(crate) fn copy_target(alloc: Global, target: &Target) -> Result<Target, AllocError>
+pub fn copy_target(alloc: Global, target: &Target) -> Result<Target, AllocError>
     ensures { IfOk result (λ copy. copy ≡ target.now) }
 {
     match &target.part {

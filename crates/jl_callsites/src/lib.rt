@@ -17,6 +17,7 @@ mod sites;
 mod size;
 
 pub use call_site::CallSite;
+pub use copy::copy_target;
 pub use discard::discard_target;
 pub use laws::{bound_sites_run, events_of_call_sites};
 pub use sites::Sites;
