@@ -1,5 +1,6 @@
--- `Preparations` is what contracts cite beside jl_types; the others are means of proof.
+-- `Preparations` and `Laws` are what contracts cite beside jl_types; the others are means of proof.
 pub mod Preparations
+pub mod Laws
 pub mod Fills
 pub mod Rows
 pub mod Stages

@@ -2,12 +2,13 @@
 //! are looked up apart from the events and installed later.
 //!
 //! The contract of each is its definition in jl_types (`specs/Links`, `Calls`, `Batches` and `Preparation`);
-//! `specs/Preparations` says what a preparation is answered. The other definitions here are means of proof.
+//! `specs/Preparations` says what a preparation is answered, and `specs/Laws` that a link stays. The other definitions here are means of proof.
 #![tactic(auto)]
 
 mod answer;
 mod batch;
 mod fill;
+mod laws;
 mod link;
 mod preparation;
 mod receivers;
@@ -17,6 +18,7 @@ mod stage;
 mod world;
 
 pub use batch::{Row, is_bad_size, sites_fault};
+pub use laws::links_stay;
 pub use preparation::{Prepared, prepare, prepare_in};
 pub use snapshot::Snapshot;
 pub use stage::invocation_at;
