@@ -1,0 +1,4 @@
+pub mod Rows
+pub mod LinkLaws
+pub mod ListLaws
+pub mod SortedLaws

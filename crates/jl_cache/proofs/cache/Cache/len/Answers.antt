@@ -1,0 +1,7 @@
+use Rattle.std.specs.Prelude.{length}
+use Rattle.std.proofs.Common.{sym, ap, ◌∙◌}
+use Rattle.jl_cache.proofs.SortedLaws.{as_many}
+use Rattle.jl_cache.proofs.cache.Cache.len.Goals as goal
+
+pub returns : goal.returns
+returns c = c.len.ensures.len ∙ sym (as_many c.self.inside.links.entries c.len.ensures.unique) ∙ ap length c.self.view_is

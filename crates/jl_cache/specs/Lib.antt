@@ -1,0 +1,3 @@
+-- `Links` is what contracts cite; `LinkMaps` is a means of proof.
+pub mod Links
+pub mod LinkMaps

@@ -1,0 +1,15 @@
+-- The installed links as a list of sites and their links.
+use Rattle.std.specs.Prelude.{ℕ, ◌<◌, ◌==◌, List, find, fold, Option, Some, option_map, if◌then◌else◌, AllPairs}
+use Rattle.jl_types.specs.declared.link.Link.{Link}
+
+-- the site's installed link
+abbrev pub link_at : List (ℕ × Link) → ℕ → Option Link
+link_at links s = option_map (λ row. row.1) (find (λ row. row.0 == s) links)
+
+-- each site stands once, by rising number
+abbrev pub AreRising : List (ℕ × Link) → Type 0
+AreRising links = AllPairs (λ a b. a.0 < b.0) links
+
+-- the link of site s once the rows are installed, one after another
+abbrev pub link_with : List (ℕ × Link) → Option Link → ℕ → Option Link
+link_with rows before s = fold (λ link row. if row.0 == s then Some row.1 else link) before rows

@@ -1,0 +1,9 @@
+//! The map of installed links: a site's link is found, installed and dropped by the site's number, and all are listed by rising
+//! number.
+//!
+//! What a clause says of the links stands in `specs/Links`. The other definitions are means of proof.
+#![tactic(auto)]
+
+mod cache;
+
+pub use cache::Cache;
