@@ -8,7 +8,7 @@ use Rattle.jl_types.specs.declared.event.Event.{Event}
 use Rattle.jl_types.specs.declared.event.Reply.{Reply}
 use Rattle.jl_types.specs.declared.refusal.Refusal.{Refusal}
 use Rattle.jl_types.specs.Events.{verdict}
-use Rattle.jl_core.specs.State.{State, IsAccepted, IsApplied, IsRefused}
+use Rattle.jl_core.specs.State.{State, world_of, IsAccepted, IsApplied, IsRefused}
 use Rattle.jl_json.specs.declared.command.ClassSource.TheVariants as source
 use Rattle.jl_json.specs.NameReading.{name_text}
 use Rattle.jl_json.proofs.NameLaws.{spells}
@@ -44,7 +44,7 @@ some_data (Ok reply) = (reply_data reply, refl)
 some_data (Err r) = (event_refusal_data name_text r, (name_text, spells, refl))
 
 applied_by : (old new : State) (e : Event) (outcome : Result Reply Refusal) → IfOk outcome (IsAccepted old new e)
-    → IfErr outcome (IsRefused (verdict old.max_sites old.world e)) → OnErr outcome (new ≡ old)
+    → IfErr outcome (IsRefused (verdict old.max_sites (world_of old) e)) → OnErr outcome (new ≡ old)
     → IsApplied old e outcome new
 applied_by old new e (Ok reply) accepted refused unchanged = accepted
 applied_by old new e (Err r) accepted refused unchanged = (refused, unchanged)
@@ -52,7 +52,7 @@ applied_by old new e (Err r) accepted refused unchanged = (refused, unchanged)
 -- the event came to its outcome, whatever is said of it
 pub event_lacks : (old new : Session) (e : Event) (outcome : Result Reply Refusal)
     → IfOk outcome (IsAccepted old.core new.core e)
-    → IfErr outcome (IsRefused (verdict old.core.max_sites old.core.world e))
+    → IfErr outcome (IsRefused (verdict old.core.max_sites (world_of old.core) e))
     → OnErr outcome (new.core ≡ old.core) → new.batches ≡ old.batches
     → LacksAnswer old (λ answer. IsEventAnswer old e answer new) new
 event_lacks old new e outcome accepted refused unchanged same = inr (

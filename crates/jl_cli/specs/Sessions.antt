@@ -14,7 +14,7 @@ use Rattle.jl_types.specs.declared.refusal.PrepareFault.{PrepareFault}
 use Rattle.jl_types.specs.Calls.{dispatch}
 use Rattle.jl_relink.specs.declared.preparation.Prepared.{Prepared}
 use Rattle.jl_relink.specs.Preparations.{Snapshot, IsPreparation}
-use Rattle.jl_core.specs.State.{State, empty_core, IsApplied}
+use Rattle.jl_core.specs.State.{State, empty_core, world_of, links_of, IsApplied}
 use Rattle.jl_json.specs.declared.command.Command.{Command}
 use Rattle.jl_json.specs.declared.command.Command.TheVariants as command
 use Rattle.jl_json.specs.declared.command.ClassSource.{ClassSource}
@@ -71,7 +71,7 @@ IsDefineAnswer old loader (source.Sketch sketch) answer new =
 
 -- the core as it is, with the count of its events
 abbrev pub snapshot_of : Session → Snapshot
-snapshot_of session = record { world = session.core.world; serial = session.core.accepted }
+snapshot_of session = record { world = world_of session.core; serial = length session.core.log }
 
 -- the batch is kept under the next number
 abbrev pub IsPreparedData : Session → Result Prepared PrepareFault → Data → Session → Type 0
@@ -95,8 +95,8 @@ IsCommandAnswer old (command.Install batch) answer new =
     MatchOption (slice_get old.batches batch) ((answer ≡ bad_command) × (new ≡ old))
     (λ rows. IsEventAnswer old (event.Install rows) answer new)
 IsCommandAnswer old (command.Call site recv) answer new =
-    (answer ≡ answer_data (dispatch old.core.world site recv)) × (new ≡ old)
-IsCommandAnswer old command.Links answer new = (answer ≡ links_data old.core.links) × (new ≡ old)
+    (answer ≡ answer_data (dispatch (world_of old.core) site recv)) × (new ≡ old)
+IsCommandAnswer old command.Links answer new = (answer ≡ links_data (links_of old.core)) × (new ≡ old)
 IsCommandAnswer old (command.NewCallSite kind ty target) answer new = IsEventAnswer old (event.NewCallSite kind ty target) answer new
 IsCommandAnswer old (command.SetTarget call_site target) answer new = IsEventAnswer old (event.SetTarget call_site target) answer new
 IsCommandAnswer old command.NewSwitch answer new = IsEventAnswer old event.NewSwitch answer new

@@ -16,8 +16,8 @@ use Rattle.jl_types.specs.History.{kept}
 use Rattle.jl_types.proofs.Firsts.{first_none}
 use Rattle.jl_types.proofs.Accepting.{linked, good_link}
 use Rattle.jl_core.specs.Batches.{row_faults}
-use Rattle.jl_core.specs.State.{link_at, AreScratch}
-use Rattle.jl_core.specs.LinkMaps.{link_with}
+use Rattle.jl_cache.specs.Links.{link_at, link_with}
+use Rattle.jl_core.specs.Changes.{AreScratch}
 use Rattle.jl_core.proofs.KeptLaws.{kept_same, kept_once}
 
 module _ (w : World) (s : ℕ) where

@@ -1,32 +1,16 @@
 -- Which installed links stay, and that none is lost where each stays.
-use Rattle.std.specs.Prelude.{◌≡◌, ℕ, ◌&&◌, ◌||◌, Bool, true, false, List, [], ◌∷◌, filter, Option, Some, None, is_some, is_none, Result, Ok, Err, if◌then◌else◌}
+use Rattle.std.specs.Prelude.{◌≡◌, ℕ, ◌&&◌, Bool, true, false, List, [], ◌∷◌, filter, Option, Some, None, is_some, is_none, Result, Ok, Err, if◌then◌else◌}
 use Rattle.std.specs.List.{range_with_len}
 use Rattle.std.proofs.Common.{refl, ap, sym, ◌∙◌}
-use Rattle.std.proofs.lemmas.Option.{same_Some}
 use Rattle.jl_types.specs.declared.link.Link.{Link}
 use Rattle.jl_types.specs.declared.answer.Unlinked.{Unlinked}
 use Rattle.jl_types.specs.Means.SameLink.{same_link, link_decides}
-use Rattle.jl_types.specs.World.{World}
-use Rattle.jl_types.specs.Links.{scratch}
-use Rattle.jl_types.specs.History.{has_link, kept}
-use Rattle.jl_types.proofs.Accepting.{linked}
-use Rattle.jl_core.specs.State.{link_at, lost, AreScratch}
+use Rattle.jl_types.specs.History.{kept}
+use Rattle.jl_cache.specs.Links.{link_at}
+use Rattle.jl_core.specs.Changes.{lost}
 
 same_itself : (l : Link) → same_link l l ≡ true
 same_itself l = (link_decides l l).1 refl
-
--- what is kept is the link from scratch
-pub kept_scratch : (b : Bool) (before : Option Link) (r : Result Link Unlinked) (l : Link) → kept b before r ≡ Some l → r ≡ Ok l
-kept_scratch b before (Err reason) l e = cc
-kept_scratch b before (Ok now) l e = by_test (b || has_link before now) e
-  where
-    by_test : (d : Bool) → (if d then Some now else None) ≡ Some l → linked now ≡ linked l
-    by_test true e = ap linked (same_Some now l e)
-    by_test false e = cc
-
-pub are_scratch : (w : World) (links : List (ℕ × Link)) (b : ℕ → Bool) (before : ℕ → Option Link)
-    → ((s : ℕ) → link_at links s ≡ kept (b s) (before s) (scratch w s)) → AreScratch w links
-are_scratch w links b before h = λ s l e. kept_scratch (b s) (before s) (scratch w s) l (sym (h s) ∙ e)
 
 pub kept_none : (r : Result Link Unlinked) → kept false None r ≡ None
 kept_none (Err reason) = refl

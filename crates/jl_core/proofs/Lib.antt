@@ -1,10 +1,11 @@
 pub mod PlaceLaws
 pub mod BatchLaws
-pub mod LinkLaws
 pub mod KeptLaws
-pub mod RequestLaws
 pub mod InstallLaws
 pub mod DropLaws
-pub mod ListLaws
-pub mod FillLaws
+pub mod LogLaws
+pub mod HistoryLaws
+pub mod QuietLaws
+pub mod HeadlineLaws
+pub mod Rows
 pub mod CallSiteLaws

@@ -1,6 +1,6 @@
 -- The request of a place.
 use Rattle.std.specs.Prelude.{◌≡◌, ℕ, ◌==◌, Bool, true, if◌then◌else◌, position, []}
-use Rattle.std.specs.Prelude.{length, slice_get, find, Option, Some, None, is_some, option_and_then, Err}
+use Rattle.std.specs.Prelude.{length, slice_get, find, Option, Some, None, is_some, option_and_then, Ok, Err}
 use Rattle.std.specs.Option.{option_map_or}
 use Rattle.std.proofs.Common.{refl, ap, ◌∙◌}
 use Rattle.jl_code.specs.Site.{Site}
@@ -28,6 +28,14 @@ invoked_present cs place site e = by_row (slice_get cs.rows place.class) e
     by_row (Some row) h = refl
 
 -- ---- one place more
+
+pub accepted_new : (max_sites : ℕ) (w : World) (place : Place) (site : Site) → invocation_at w.classes place ≡ Some site
+    → position (same_place place) w.places ≡ None → new_place_fault max_sites w site ≡ None → verdict max_sites w (event.Request place) ≡ Ok (made.Site (length w.places))
+accepted_new max_sites w place site e p f =
+    ap (λ (b : Bool). if b then if_invoked max_sites w place (invocation_at w.classes place) else Err UnknownClass) (invoked_present w.classes place site e)
+    ∙ ap (if_invoked max_sites w place) e
+    ∙ ap (λ (o : Option ℕ). request_place max_sites w o site) p
+    ∙ ap (λ (o : Option Refusal). unless o (made.Site (length w.places))) f
 
 pub refused_new : (max_sites : ℕ) (w : World) (place : Place) (site : Site) (r : Refusal) → invocation_at w.classes place ≡ Some site
     → position (same_place place) w.places ≡ None → new_place_fault max_sites w site ≡ Some r → verdict max_sites w (event.Request place) ≡ Err r

@@ -1,5 +1,7 @@
--- `State` is what contracts cite; the others are means of proof.
+-- `State`, `Logs` and `Headline` are what contracts cite; the others are means of proof.
 pub mod State
-pub mod LinkMaps
-pub mod Fills
+pub mod Logs
+pub mod Headline
+pub mod Changes
+pub mod Rooms
 pub mod Batches

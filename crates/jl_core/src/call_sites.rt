@@ -1,23 +1,27 @@
 //! Events of call sites and switch points (java.lang.invoke). Their verdict doesn't hang on how many places may be requested, so
 //! the clauses name 0.
 
-ghost use Rattle.std.specs.Prelude.{◌≡◌, ◌+◌, ◌≤◌, [], Ok, length, slice_get, IfOk, IfErr, OnOk, OnErr};
-ghost use Rattle.std.specs.Vec.{vec_len, vec_capacity};
+ghost use Rattle.std.specs.Prelude.{◌≡◌, ◌≤◌, Some, length, slice_get, IfOk, IfErr, OnErr};
 ghost use Rattle.jl_code.specs.declared.site.Operand.TheVariants as operand;
 ghost use Rattle.jl_types.specs.declared.event.Event.TheVariants as event;
 ghost use Rattle.jl_types.specs.Events as events;
-ghost use Rattle.jl_types.specs.Events.{verdict, step};
-ghost use Rattle.jl_select.specs.Constancy.{IsConstant};
+ghost use Rattle.jl_types.specs.Events.{verdict};
 ghost use Rattle.jl_core.specs.State.{IsRefused};
+ghost use Rattle.jl_core.specs.declared.log.Accepted.TheVariants as entry;
+ghost use Rattle.jl_core.specs.Changes.{AreRequested, IsQuiet, IsDone};
 
-use crate::changed::{Changed, room_for_sites};
-use jl_callsites::discard_target;
+use crate::log::{Accepted, Entry};
+use crate::settled::{make_room, quiet, settled};
+use jl_cache::Cache;
+use jl_callsites::{copy_target, discard_target};
 use jl_code::Operand;
-use jl_names::Name;
+use jl_names::{Name, Seq};
 use jl_pool::CallSiteSpecifier;
 use jl_relink::{World, invocation_at};
-use jl_types::{CallSiteFault, CallSiteId, CallSiteKind, Made, Refusal, SiteNo, SwitchId, Target};
-use std::alloc::Global;
+use jl_types::{
+    CallSiteFault, CallSiteId, CallSiteKind, Made, Refusal, Reply, SiteNo, SwitchId, Target,
+};
+use std::alloc::{AllocError, Global};
 
 /// One call site more.
 ///
@@ -26,18 +30,16 @@ use std::alloc::Global;
 /// The refusal, or want of memory. Nothing has changed then.
 pub(crate) fn new_call_site(
     world: &mut World,
+    log: &mut Vec<Entry>,
     alloc: Global,
     kind: CallSiteKind,
     ty: Name,
     target: Target,
-) -> Result<Changed, Refusal>
-    ensures made { IfOk result (λ changed. verdict 0 world.old (event.NewCallSite kind ty target) ≡ Ok changed.made) }
-    ensures step { OnOk result (world.new ≡ step world.old (event.NewCallSite kind ty target)) }
-    ensures constant { OnOk result (IsConstant world.old.classes world.new.classes) }
-    ensures empty { IfOk result (λ changed. changed.dropped.items ≡ []) }
-    ensures room { IfOk result (λ changed. vec_len changed.dropped + length world.old.places ≤ vec_capacity changed.dropped) }
+) -> Result<Reply, Refusal>
+    ensures ok { IfOk result (IsQuiet (verdict 0 world.old (event.NewCallSite kind ty target)) world.old world.new log.old.items log.new.items (event.NewCallSite kind ty target)) }
     ensures refused { IfErr result (IsRefused (verdict 0 world.old (event.NewCallSite kind ty target))) }
     ensures unchanged { OnErr result (world.new ≡ world.old) }
+    ensures log { OnErr result (log.new.items ≡ log.old.items) }
 {
     if let Some(fault) = world
         .sites
@@ -46,14 +48,26 @@ pub(crate) fn new_call_site(
         discard_target(target);
         return Err(Refusal::CallSite(fault));
     }
-    let dropped = room_for_sites(world, alloc)?;
+    log.reserve(1)?;
+    let event = call_site_event(alloc, kind, &ty, &target)?;
     let Ok(call_site) = world.sites.new_site(&world.classes, kind, ty, target) else {
         return Err(Refusal::Memory);
     };
-    Ok(Changed {
-        made: Made::CallSite(call_site),
-        dropped,
-    })
+    Ok(quiet(log, alloc, Made::CallSite(call_site), event))
+}
+
+/// The event for the log. Want of memory is an error.
+fn call_site_event(
+    alloc: Global,
+    kind: CallSiteKind,
+    ty: &Name,
+    target: &Target,
+) -> Result<Accepted, AllocError>
+    ensures { IfOk result (λ accepted. accepted ≡ entry.NewCallSite kind ty.now target.now) }
+{
+    let ty = ty.copy(alloc)?;
+    let target = copy_target(alloc, target)?;
+    Ok(Accepted::NewCallSite(kind, ty, target))
 }
 
 /// The call site gets another target.
@@ -63,17 +77,19 @@ pub(crate) fn new_call_site(
 /// The refusal, or want of memory. Nothing has changed then.
 pub(crate) fn set_target(
     world: &mut World,
+    links: &mut Cache,
+    log: &mut Vec<Entry>,
     alloc: Global,
     call_site: CallSiteId,
     target: Target,
-) -> Result<Changed, Refusal>
-    ensures made { IfOk result (λ changed. verdict 0 world.old (event.SetTarget call_site target) ≡ Ok changed.made) }
-    ensures step { OnOk result (world.new ≡ step world.old (event.SetTarget call_site target)) }
-    ensures constant { OnOk result (IsConstant world.old.classes world.new.classes) }
-    ensures empty { IfOk result (λ changed. changed.dropped.items ≡ []) }
-    ensures room { IfOk result (λ changed. vec_len changed.dropped + length world.old.places ≤ vec_capacity changed.dropped) }
+) -> Result<Reply, Refusal>
+    requires requested { AreRequested world.old links.old }
+    requires few { length world.old.places ≤ 65536 }
+    ensures ok { IfOk result (IsDone (verdict 0 world.old (event.SetTarget call_site target)) world.old world.new links.old links.new log.old.items log.new.items (event.SetTarget call_site target)) }
     ensures refused { IfErr result (IsRefused (verdict 0 world.old (event.SetTarget call_site target))) }
     ensures unchanged { OnErr result (world.new ≡ world.old) }
+    ensures links { OnErr result (links.new ≡ links.old) }
+    ensures log { OnErr result (log.new.items ≡ log.old.items) }
 {
     if let Some(fault) = world
         .sites
@@ -82,14 +98,19 @@ pub(crate) fn set_target(
         discard_target(target);
         return Err(Refusal::CallSite(fault));
     }
-    let dropped = room_for_sites(world, alloc)?;
+    let room = make_room(world, log, alloc)?;
+    let logged = copy_target(alloc, &target)?;
     let Ok(()) = world.sites.set_target(&world.classes, call_site, target) else {
         return Err(Refusal::Memory);
     };
-    Ok(Changed {
-        made: Made::Nothing,
-        dropped,
-    })
+    Ok(settled(
+        world,
+        links,
+        log,
+        room,
+        Made::Nothing,
+        Accepted::SetTarget(call_site, logged),
+    ))
 }
 
 /// One switch point more, which is valid.
@@ -97,26 +118,24 @@ pub(crate) fn set_target(
 /// # Errors
 ///
 /// The refusal, or want of memory. Nothing has changed then.
-pub(crate) fn new_switch(world: &mut World, alloc: Global) -> Result<Changed, Refusal>
-    ensures made { IfOk result (λ changed. verdict 0 world.old event.NewSwitch ≡ Ok changed.made) }
-    ensures step { OnOk result (world.new ≡ step world.old event.NewSwitch) }
-    ensures constant { OnOk result (IsConstant world.old.classes world.new.classes) }
-    ensures empty { IfOk result (λ changed. changed.dropped.items ≡ []) }
-    ensures room { IfOk result (λ changed. vec_len changed.dropped + length world.old.places ≤ vec_capacity changed.dropped) }
+pub(crate) fn new_switch(
+    world: &mut World,
+    log: &mut Vec<Entry>,
+    alloc: Global,
+) -> Result<Reply, Refusal>
+    ensures ok { IfOk result (IsQuiet (verdict 0 world.old event.NewSwitch) world.old world.new log.old.items log.new.items event.NewSwitch) }
     ensures refused { IfErr result (IsRefused (verdict 0 world.old event.NewSwitch)) }
     ensures unchanged { OnErr result (world.new ≡ world.old) }
+    ensures log { OnErr result (log.new.items ≡ log.old.items) }
 {
     if let Some(fault) = world.sites.new_switch_fault() {
         return Err(Refusal::CallSite(fault));
     }
-    let dropped = room_for_sites(world, alloc)?;
+    log.reserve(1)?;
     let Ok(point) = world.sites.new_switch() else {
         return Err(Refusal::Memory);
     };
-    Ok(Changed {
-        made: Made::Switch(point),
-        dropped,
-    })
+    Ok(quiet(log, alloc, Made::Switch(point), Accepted::NewSwitch))
 }
 
 /// The switch points become invalid for good.
@@ -126,28 +145,34 @@ pub(crate) fn new_switch(world: &mut World, alloc: Global) -> Result<Changed, Re
 /// The refusal, or want of memory. Nothing has changed then.
 pub(crate) fn invalidate(
     world: &mut World,
+    links: &mut Cache,
+    log: &mut Vec<Entry>,
     alloc: Global,
-    points: &[SwitchId],
-) -> Result<Changed, Refusal>
-    ensures made { IfOk result (λ changed. verdict 0 world.old (event.Invalidate points.now) ≡ Ok changed.made) }
-    ensures step { OnOk result (world.new ≡ step world.old (event.Invalidate points.now)) }
-    ensures constant { OnOk result (IsConstant world.old.classes world.new.classes) }
-    ensures empty { IfOk result (λ changed. changed.dropped.items ≡ []) }
-    ensures room { IfOk result (λ changed. vec_len changed.dropped + length world.old.places ≤ vec_capacity changed.dropped) }
-    ensures refused { IfErr result (IsRefused (verdict 0 world.old (event.Invalidate points.now))) }
+    points: Seq<SwitchId>,
+) -> Result<Reply, Refusal>
+    requires requested { AreRequested world.old links.old }
+    requires few { length world.old.places ≤ 65536 }
+    ensures ok { IfOk result (IsDone (verdict 0 world.old (event.Invalidate points)) world.old world.new links.old links.new log.old.items log.new.items (event.Invalidate points)) }
+    ensures refused { IfErr result (IsRefused (verdict 0 world.old (event.Invalidate points))) }
     ensures unchanged { OnErr result (world.new ≡ world.old) }
+    ensures links { OnErr result (links.new ≡ links.old) }
+    ensures log { OnErr result (log.new.items ≡ log.old.items) }
 {
-    if let Some(fault) = world.sites.invalidate_fault(points) {
+    if let Some(fault) = world.sites.invalidate_fault(points.as_slice()) {
         return Err(Refusal::CallSite(fault));
     }
-    let dropped = room_for_sites(world, alloc)?;
-    let Ok(()) = world.sites.invalidate_all(points) else {
+    let room = make_room(world, log, alloc)?;
+    let Ok(()) = world.sites.invalidate_all(points.as_slice()) else {
         return Err(Refusal::Memory);
     };
-    Ok(Changed {
-        made: Made::Nothing,
-        dropped,
-    })
+    Ok(settled(
+        world,
+        links,
+        log,
+        room,
+        Made::Nothing,
+        Accepted::Invalidate(points),
+    ))
 }
 
 /// The invokedynamic is bound to the call site.
@@ -157,27 +182,22 @@ pub(crate) fn invalidate(
 /// The refusal, or want of memory. Nothing has changed then.
 pub(crate) fn bind(
     world: &mut World,
+    log: &mut Vec<Entry>,
     alloc: Global,
     site: SiteNo,
     call_site: CallSiteId,
-) -> Result<Changed, Refusal>
-    ensures made { IfOk result (λ changed. verdict 0 world.old (event.Bind site call_site) ≡ Ok changed.made) }
-    ensures step { OnOk result (world.new ≡ step world.old (event.Bind site call_site)) }
-    ensures constant { OnOk result (IsConstant world.old.classes world.new.classes) }
-    ensures empty { IfOk result (λ changed. changed.dropped.items ≡ []) }
-    ensures room { IfOk result (λ changed. vec_len changed.dropped + length world.old.places ≤ vec_capacity changed.dropped) }
+) -> Result<Reply, Refusal>
+    ensures ok { IfOk result (IsQuiet (verdict 0 world.old (event.Bind site call_site)) world.old world.new log.old.items log.new.items (event.Bind site call_site)) }
     ensures refused { IfErr result (IsRefused (verdict 0 world.old (event.Bind site call_site))) }
     ensures unchanged { OnErr result (world.new ≡ world.old) }
+    ensures log { OnErr result (log.new.items ≡ log.old.items) }
 {
     if let Some(refusal) = bind_refusal(world, site, call_site) {
         return Err(refusal);
     }
-    let dropped = room_for_sites(world, alloc)?;
+    log.reserve(1)?;
     world.bindings.insert(site, call_site)?;
-    Ok(Changed {
-        made: Made::Nothing,
-        dropped,
-    })
+    Ok(quiet(log, alloc, Made::Nothing, Accepted::Bind(site, call_site)))
 }
 
 /// Why the site isn't bound to the call site.

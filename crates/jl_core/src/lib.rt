@@ -1,18 +1,20 @@
-//! The event machine: classes by loader, the sites that were requested, and the links that are installed, each of which is its
-//! site's link from scratch.
+//! The event machine: the accepted events with their replies, what they leave to link, and the links that they leave installed.
 //!
-//! What a link is, what a call comes to and what an event is answered is defined in jl_types, and `specs/State` says what a core
-//! is and what an event does to it. The other definitions here are means of proof.
+//! What an event is answered, what the world is after a list of events, and which links such a list leaves installed is defined
+//! in jl_types (`specs/Events`, `specs/History`). `specs/State` says what a core is and what an event does to it, and
+//! `specs/Logs` how its log tells the events. The other definitions here are means of proof.
 #![tactic(auto)]
 
-mod cache;
 mod call_sites;
-mod changed;
+mod change;
 mod classes;
-mod fill;
 mod install;
+mod laws;
+mod log;
 mod machine;
 mod request;
+mod settled;
 
-pub use cache::Cache;
+pub use laws::links_are_exact;
+pub use log::{Accepted, Entry};
 pub use machine::Core;

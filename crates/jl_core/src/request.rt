@@ -9,35 +9,73 @@ ghost use Rattle.jl_types.specs.declared.event.Event.TheVariants as event;
 ghost use Rattle.jl_types.specs.declared.event.Made.TheVariants as made;
 ghost use Rattle.jl_types.specs.declared.refusal.Refusal.TheVariants as refusal;
 ghost use Rattle.jl_core.specs.State.{IsRefused};
+ghost use Rattle.jl_core.specs.Changes.{IsQuiet};
 
+use crate::log::{Accepted, Entry};
+use crate::settled::quiet;
 use jl_code::{Operand, Site};
 use jl_names::Name;
 use jl_relink::{World, invocation_at};
-use jl_types::{NotLinkable, Place, Refusal, SiteNo};
+use jl_types::{Made, NotLinkable, Place, Refusal, Reply, SiteNo};
+use std::alloc::{AllocError, Global};
 
-/// The number of a place's site. A place that is requested already keeps it.
+/// Gives the place a number. A place that is requested already keeps it.
 ///
 /// # Errors
 ///
 /// The first refusal, or want of memory. Nothing has changed then.
-pub(crate) fn request(world: &mut World, max_sites: u32, place: Place) -> Result<SiteNo, Refusal>
+pub(crate) fn request(
+    world: &mut World,
+    log: &mut Vec<Entry>,
+    max_sites: u32,
+    alloc: Global,
+    place: Place,
+) -> Result<Reply, Refusal>
     requires few { length world.old.places ≤ max_sites }
     requires most { max_sites ≤ 65536 }
-    ensures number { IfOk result (λ site. verdict max_sites world.old (event.Request place) ≡ Ok (made.Site site)) }
-    ensures ok { OnOk result (world.new ≡ events.step world.old (event.Request place)) }
-    ensures fault { IfErr result (IsRefused (verdict max_sites world.old (event.Request place))) }
+    ensures ok { IfOk result (IsQuiet (verdict max_sites world.old (event.Request place)) world.old world.new log.old.items log.new.items (event.Request place)) }
+    ensures refused { IfErr result (IsRefused (verdict max_sites world.old (event.Request place))) }
     ensures few { length world.new.places ≤ max_sites }
-    ensures err { OnErr result (world.new ≡ world.old) }
+    ensures unchanged { OnErr result (world.new ≡ world.old) }
+    ensures log { OnErr result (log.new.items ≡ log.old.items) }
 {
-    let refusal = refusal_if_new(world, max_sites, &place)?;
-    if let Some(site) = world.places.get_index_of(&place) {
+    let site = site_of(world, max_sites, &place)?;
+    log.reserve(1)?;
+    add_place(world, place)?;
+    Ok(quiet(log, alloc, Made::Site(site), Accepted::Request(place)))
+}
+
+/// The number of the place's site, also where the request is still to give it one.
+///
+/// # Errors
+///
+/// The first refusal.
+fn site_of(world: &World, max_sites: u32, place: &Place) -> Result<SiteNo, Refusal>
+    requires few { length world.now.places ≤ max_sites }
+    requires most { max_sites ≤ 65536 }
+    ensures number { IfOk result (λ site. verdict max_sites world.now (event.Request place.now) ≡ Ok (made.Site site)) }
+    ensures fault { IfErr result (λ r. verdict max_sites world.now (event.Request place.now) ≡ Err r) }
+    ensures few { OnOk result (length (events.requested world.now.places place.now) ≤ max_sites) }
+{
+    let refusal = refusal_if_new(world, max_sites, place)?;
+    if let Some(site) = world.places.get_index_of(place) {
         return Ok(SiteNo::new(site as u32));
     }
     if let Some(refusal) = refusal {
         return Err(refusal);
     }
-    let (site, _) = world.places.insert_full(place)?;
-    Ok(SiteNo::new(site as u32))
+    Ok(SiteNo::new(world.site_count() as u32))
+}
+
+/// The place is requested. Want of memory is an error; nothing has changed then.
+fn add_place(world: &mut World, place: Place) -> Result<(), AllocError>
+    ensures ok { OnOk result (world.new ≡ events.step world.old (event.Request place)) }
+    ensures err { OnErr result (world.new ≡ world.old) }
+{
+    if world.places.get_index_of(&place).is_none() {
+        world.places.insert_full(place)?;
+    }
+    Ok(())
 }
 
 /// The refusal of the place if it isn't requested yet, where it isn't refused anyway.

@@ -1,0 +1,116 @@
+-- What a core is after any events.
+use Rattle.std.specs.Prelude.{◌≡◌, ◌↔◌, ℕ, ◌<◌, ◌≤◌, ◌⊎◌, List, [], ◌∷◌, ◌++◌, take, length, slice_get, Option, Some, None, Result, Ok, Err, Contains}
+use Rattle.std.proofs.Common.{ap, sym, subst, ◌∙◌, arith, inl, inr, length-append}
+use Rattle.std.proofs.lemmas.Bool.{cases_lt}
+use Rattle.std.proofs.lemmas.List.{map-append, take-append-le, length-map}
+use Rattle.std.proofs.lemmas.Option.{same_Some, slice_get_within}
+use Rattle.std.proofs.Math.Seq.{take-length}
+use Rattle.jl_types.specs.declared.event.Event.{Event}
+use Rattle.jl_types.specs.declared.event.Reply.{Reply}
+use Rattle.jl_types.specs.declared.link.Link.{Link}
+use Rattle.jl_types.specs.declared.answer.Unlinked.{Unlinked}
+use Rattle.jl_types.specs.declared.refusal.Refusal.{Refusal}
+use Rattle.jl_types.specs.Links.{scratch}
+use Rattle.jl_types.specs.History as history
+use Rattle.jl_types.specs.History.{Settled, installed}
+use Rattle.jl_types.proofs.Accepting.{linked}
+use Rattle.jl_types.proofs.Installed.{installed_to, installed_from, settled_now}
+use Rattle.jl_types.proofs.InstalledLinks.{links_are, installed_requested}
+use Rattle.jl_types.proofs.Lists.{before_end, at_end}
+use Rattle.jl_core.specs.State.{State, empty_core, events, world_of, links_of, IsApplied}
+use Rattle.jl_core.specs.Headline.{AreApplied}
+
+-- ---- the links
+
+same_link : (l m : Link) → linked l ≡ linked m → l ≡ m
+same_link l m e = same_Some l m (ap as_option e)
+  where
+    as_option : Result Link Unlinked → Option Link
+    as_option (Ok k) = Some k
+    as_option (Err reason) = None
+
+pub links_exact : (core : State) (s : ℕ) (l : Link) → Contains (links_of core) (s, l)
+    ↔ ((s < length (world_of core).places) × ((m : Link) × Settled (events core) s m) × (scratch (world_of core) s ≡ Ok l))
+links_exact core s l = (to, from)
+  where
+    h : List Event
+    h = events core
+
+    to : Contains (links_of core) (s, l) → (s < length (world_of core).places) × ((m : Link) × Settled (events core) s m) × (scratch (world_of core) s ≡ Ok l)
+    to c =
+        let found = (links_are h s l).1 c in
+        let settled = installed_to h s l found in
+        (installed_requested h s l found, (l, settled), settled_now h s l settled)
+
+    from : (s < length (world_of core).places) × ((m : Link) × Settled (events core) s m) × (scratch (world_of core) s ≡ Ok l) → Contains (links_of core) (s, l)
+    from p =
+        let same = same_link p.1.0 l (sym (settled_now h s p.1.0 p.1.1) ∙ p.2) in
+        (links_are h s l).0 (installed_from h s l (subst (λ (m : Link). Settled h s m) same p.1.1))
+
+-- ---- the log
+
+abbrev AreAnswered : State → Type 0
+AreAnswered core = (n : ℕ) (e : Event) (reply : Reply) → slice_get core.log n ≡ Some (e, reply) → history.reply core.max_sites (take n (events core)) e ≡ Ok reply
+
+module _ (m : ℕ) (log : List (Event × Reply)) (e : Event) (reply : Reply) where
+  abbrev before : State
+  before = record { max_sites = m; log = log }
+
+  abbrev after : State
+  after = record { max_sites = m; log = log ++ (e, reply) ∷ [] }
+
+  events_after : events after ≡ events before ++ e ∷ []
+  events_after = map-append (λ (entry : Event × Reply). entry.0) log ((e, reply) ∷ [])
+
+  first_events : (n : ℕ) → n ≤ length log → take n (events after) ≡ take n (events before)
+  first_events n le =
+      ap (take n) events_after
+      ∙ take-append-le n (events before) (e ∷ []) (subst (λ k. n ≤ k) (sym (length-map log (λ (entry : Event × Reply). entry.0))) le)
+
+  all_events : take (length log) (events before) ≡ events before
+  all_events = ap (λ k. take k (events before)) (sym (length-map log (λ (entry : Event × Reply). entry.0))) ∙ take-length (events before)
+
+  answered_more : AreAnswered before → history.reply m (events before) e ≡ Ok reply → AreAnswered after
+  answered_more h now n x r is = by_place (cases_lt n (length log))
+    where
+      last : n ≡ length log → history.reply m (take n (events after)) x ≡ Ok r
+      last same =
+          let pair : (e, reply) ≡ (x, r) = same_Some (e, reply) (x, r) (sym (at_end log (e, reply)) ∙ ap (slice_get after.log) (sym same) ∙ is) in
+          ap (λ (es : List Event). history.reply m es x) (first_events n (omega arith) ∙ ap (λ k. take k (events before)) same ∙ all_events)
+          ∙ subst (λ (p : Event × Reply). history.reply m (events before) p.0 ≡ Ok p.1) pair now
+
+      by_place : ((n < length log) ⊎ (length log ≤ n)) → history.reply m (take n (events after)) x ≡ Ok r
+      by_place (inl lt) =
+          ap (λ (es : List Event). history.reply m es x) (first_events n (omega arith))
+          ∙ h n x r (sym (before_end log (e, reply) n lt) ∙ is)
+      by_place (inr le) =
+          let within = slice_get_within after.log n (x, r) is in
+          last (omega (arith, length-append log ((e, reply) ∷ [])))
+
+applied_answered : (old : State) (e : Event) (answer : Result Reply Refusal) (new : State) → AreAnswered old → IsApplied old e answer new
+    → AreAnswered new × (new.max_sites ≡ old.max_sites)
+applied_answered old e (Ok reply) new h is = (
+  subst AreAnswered (sym is.logged) (answered_more old.max_sites old.log e reply h is.answered),
+  ap (λ (core : State). core.max_sites) is.logged,
+)
+applied_answered old e (Err r) new h is = (subst AreAnswered (sym is.1) h, ap (λ (core : State). core.max_sites) is.1)
+
+all_answered : (old : State) (es : List Event) (new : State) → AreAnswered old → AreApplied old es new → AreAnswered new × (new.max_sites ≡ old.max_sites)
+all_answered old [] new h is = (subst AreAnswered (sym is) h, ap (λ (core : State). core.max_sites) is)
+all_answered old (e ∷ es) new h is =
+    let next = is.0 in
+    let one = applied_answered old e is.1 next h is.2 in
+    let rest = all_answered next es new one.0 is.3 in
+    (rest.0, rest.1 ∙ one.1)
+
+none_answered : (m : ℕ) → AreAnswered (empty_core m)
+none_answered m n e reply is = absurd (nothing n (e, reply) is)
+  where
+    nothing : (n : ℕ) (x : Event × Reply) → slice_get [] n ≡ Some x → ⊥
+    nothing n x e = cc
+
+pub log_answered : (m : ℕ) (es : List Event) (core : State) → AreApplied (empty_core m) es core → (n : ℕ) (e : Event) (reply : Reply) → slice_get core.log n ≡ Some (e, reply)
+    → history.reply m (take n (events core)) e ≡ Ok reply
+log_answered m es core is n e reply at =
+    let all = all_answered (empty_core m) es core (none_answered m) is in
+    ap (λ k. history.reply k (take n (events core)) e) (sym all.1) ∙ all.0 n e reply at

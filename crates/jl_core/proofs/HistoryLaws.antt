@@ -1,0 +1,116 @@
+-- One event more, as the whole history says it.
+use Rattle.std.specs.Prelude.{◌≡◌, ℕ, ◌&&◌, true, List, [], ◌∷◌, ◌++◌, map, filter, length, slice_get, Some, Result, Ok, Err, IfOk, OnErr, is_some, is_none}
+use Rattle.std.specs.List.{range_with_len}
+use Rattle.std.proofs.Common.{ap, sym, subst, ◌∙◌}
+use Rattle.std.proofs.lemmas.List.{map-append}
+use Rattle.std.proofs.lemmas.List.Sums.{fold-append}
+use Rattle.jl_types.specs.declared.link.Link.{Link}
+use Rattle.jl_types.specs.declared.event.Event.{Event}
+use Rattle.jl_types.specs.declared.event.Reply.{Reply}
+use Rattle.jl_types.specs.declared.refusal.Refusal.{Refusal}
+use Rattle.jl_types.specs.World.{Class, World, nothing_yet}
+use Rattle.jl_types.specs.Links.{scratch}
+use Rattle.jl_types.specs.Events.{verdict, step}
+use Rattle.jl_types.specs.History.{world_after, installed, installs, kept, dropped, replied}
+use Rattle.jl_types.specs.History as history
+use Rattle.jl_types.proofs.Installed.{installed_to, settled_now}
+use Rattle.jl_types.proofs.OneMore.{installed_step}
+use Rattle.jl_select.specs.Constancy.{IsConstant}
+use Rattle.jl_cache.specs.Links.{link_at}
+use Rattle.jl_core.specs.declared.log.Entry.{Entry}
+use Rattle.jl_core.specs.State.{State, events, world_of, IsAccepted}
+use Rattle.jl_core.specs.Logs.{are_told, shown}
+use Rattle.jl_core.specs.Changes.{AreScratch, IsDone}
+use Rattle.jl_core.proofs.LogLaws.{rows_stay, all_still, told_more, shown_more}
+
+-- the core of a log
+abbrev pub core_of : ℕ → World → List Entry → State
+core_of m w log = record { max_sites = m; log = shown w.classes.rows log }
+
+-- the world and the links are what the log says
+pub record IsExact (m : ℕ) (w : World) (cached : List (ℕ × Link)) (log : List Entry) : Type 0 where
+  pub world : w ≡ world_of (core_of m w log)
+  pub links : (s : ℕ) → link_at cached s ≡ installed (events (core_of m w log)) s
+  pub told : are_told w.classes.rows log ≡ true
+
+-- so each link is the one from scratch
+pub exact_links : (m : ℕ) (w : World) (links : List (ℕ × Link)) (log : List Entry) → IsExact m w links log → AreScratch w links
+exact_links m w links log is = λ s l e.
+    let h = events (core_of m w log) in
+    ap (λ (v : World). scratch v s) is.world ∙ settled_now h s l (installed_to h s l (sym (is.links s) ∙ e))
+
+module _ (m : ℕ) (old new : World) (before after : List (ℕ × Link)) (log more : List Entry) (e : Event) (reply : Reply)
+    (exact : IsExact m old before log) (done : IsDone (verdict m old e) old new before after log more e reply) where
+  abbrev h : List Event
+  h = events (core_of m old log)
+
+  stay : (c : ℕ) (row : Class) → slice_get old.classes.rows c ≡ Some row → slice_get new.classes.rows c ≡ Some row
+  stay c row is = ap (λ (w : World). slice_get w.classes.rows c) done.world ∙ rows_stay old e c row is
+
+  still : (are_told new.classes.rows log ≡ true) × (shown new.classes.rows log ≡ shown old.classes.rows log)
+  still = all_still old.classes.rows new.classes.rows stay log exact.told
+
+  shown_after : shown new.classes.rows more ≡ shown old.classes.rows log ++ (e, reply) ∷ []
+  shown_after =
+      ap (shown new.classes.rows) done.logged.last
+      ∙ shown_more new.classes.rows done.logged.accepted reply e done.logged.is log
+      ∙ ap (λ (xs : List (Event × Reply)). xs ++ (e, reply) ∷ []) still.1
+
+  events_after : events (core_of m new more) ≡ h ++ e ∷ []
+  events_after =
+      ap (map (λ (entry : Event × Reply). entry.0)) shown_after
+      ∙ map-append (λ (entry : Event × Reply). entry.0) (shown old.classes.rows log) ((e, reply) ∷ [])
+
+  world_more : new ≡ world_after (h ++ e ∷ [])
+  world_more = done.world ∙ ap (λ (w : World). step w e) exact.world ∙ sym (fold-append step nothing_yet h (e ∷ []))
+
+  links_more : (s : ℕ) → link_at after s ≡ installed (h ++ e ∷ []) s
+  links_more s = done.links s ∙ (λ i. kept (installs s e) (exact.links s i) (scratch (world_more i) s)) ∙ sym (installed_step h e s)
+
+  pub exact_after : IsExact m new after more
+  exact_after = record {
+    world = world_more ∙ ap world_after (sym events_after);
+    links = λ s. links_more s ∙ ap (λ (es : List Event). installed es s) (sym events_after);
+    told =
+        ap (are_told new.classes.rows) done.logged.last
+        ∙ told_more new.classes.rows done.logged.accepted reply e done.logged.is log still.0;
+  }
+
+  same_dropped : dropped h e ≡ reply.dropped
+  same_dropped =
+      (λ i. filter (λ s. is_some (sym (exact.links s) i) && is_none (sym (links_more s) i)) (range_with_len 0 (length (sym exact.world i).places)))
+      ∙ sym done.dropped
+
+  answered : history.reply m h e ≡ Ok reply
+  answered =
+      (λ i. replied (same_dropped i) (verdict m (sym exact.world i) e))
+      ∙ ap (replied reply.dropped) done.made
+
+  pub accepted_after : IsAccepted (core_of m old log) (core_of m new more) e reply
+  accepted_after = record {
+    answered = answered;
+    logged = λ i. record { max_sites = m; log = shown_after i };
+    constant = subst (λ (w : World). IsConstant w.classes (world_of (core_of m new more)).classes) exact.world
+        (subst (λ (w : World). IsConstant old.classes w.classes) (world_more ∙ ap world_after (sym events_after)) done.constant);
+  }
+
+-- ---- by the answer
+
+module _ (m : ℕ) (old new : World) (before after : List (ℕ × Link)) (log more : List Entry) (e : Event)
+    (exact : IsExact m old before log) where
+  pub accepted_if : (r : Result Reply Refusal) → IfOk r (IsDone (verdict m old e) old new before after log more e)
+      → IfOk r (IsAccepted (core_of m old log) (core_of m new more) e)
+  accepted_if (Ok reply) done = accepted_after m old new before after log more e reply exact done
+  accepted_if (Err r) done = tt
+
+  pub exact_if : (r : Result Reply Refusal) → IfOk r (IsDone (verdict m old e) old new before after log more e)
+      → OnErr r (new ≡ old) → OnErr r (after ≡ before) → OnErr r (more ≡ log) → IsExact m new after more
+  exact_if (Ok reply) done w l g = exact_after m old new before after log more e reply exact done
+  exact_if (Err r) done w l g =
+      subst (λ (w : World). IsExact m w after more) (sym w)
+      (subst (λ (links : List (ℕ × Link)). IsExact m old links more) (sym l) (subst (IsExact m old before) (sym g) exact))
+
+pub unchanged_if : (m : ℕ) (old new : World) (log more : List Entry) (r : Result Reply Refusal) → OnErr r (new ≡ old) → OnErr r (more ≡ log)
+    → OnErr r (core_of m new more ≡ core_of m old log)
+unchanged_if m old new log more (Ok reply) w g = tt
+unchanged_if m old new log more (Err r) w g = λ i. core_of m (w i) (g i)

@@ -1,0 +1,106 @@
+-- A log tells the same as classes are added, and one entry more tells one event more.
+use Rattle.std.specs.Prelude.{◌≡◌, ℕ, suc, ◌&&◌, Bool, true, false, List, [], ◌∷◌, ◌++◌, length, slice_get, Option, Some, None, option_map, is_some}
+use Rattle.std.specs.List.{cons_option}
+use Rattle.std.proofs.Common.{refl, ap, ◌∙◌}
+use Rattle.std.proofs.lemmas.Option.{slice_get_within}
+use Rattle.std.proofs.lemmas.List.Elements.{filter_map-append}
+use Rattle.std.proofs.lemmas.List.Folds.{list_all-append}
+use Rattle.jl_classfile.specs.Class.{ClassFile}
+use Rattle.jl_types.specs.declared.event.Event.{Event}
+use Rattle.jl_types.specs.declared.event.Event.TheVariants as event
+use Rattle.jl_types.specs.declared.event.Reply.{Reply}
+use Rattle.jl_types.specs.World.{Class, Classes, World}
+use Rattle.jl_types.specs.Events.{step}
+use Rattle.jl_types.specs.Definitions.{class_made, defined}
+use Rattle.jl_types.proofs.Lists.{before_end, at_end}
+use Rattle.jl_core.specs.declared.log.Accepted.{Accepted}
+use Rattle.jl_core.specs.declared.log.Accepted.TheVariants as accepted
+use Rattle.jl_core.specs.declared.log.Entry.{Entry}
+use Rattle.jl_core.specs.Logs.{event_of, told, are_told, shown}
+
+-- a class stays where it is
+pub rows_stay : (w : World) (e : Event) (c : ℕ) (row : Class) → slice_get w.classes.rows c ≡ Some row → slice_get (step w e).classes.rows c ≡ Some row
+rows_stay w event.NewLoader c row is = is
+rows_stay w (event.Define loader file) c row is = before_end w.classes.rows (class_made w.classes loader file) c (slice_get_within w.classes.rows c row is) ∙ is
+rows_stay w (event.Delegate loader name to) c row is = is
+rows_stay w (event.Request place) c row is = is
+rows_stay w (event.NewCallSite kind ty target) c row is = is
+rows_stay w (event.SetTarget site target) c row is = is
+rows_stay w event.NewSwitch c row is = is
+rows_stay w (event.Invalidate points) c row is = is
+rows_stay w (event.Bind site call_site) c row is = is
+rows_stay w (event.Install links) c row is = is
+
+-- ---- where the classes stay
+
+module _ (rows more : List Class) (stay : (c : ℕ) (row : Class) → slice_get rows c ≡ Some row → slice_get more c ≡ Some row) where
+  abbrev defined_by : Option Class → Option Event
+  defined_by row = option_map (λ (r : Class). event.Define r.loader r.file) row
+
+  define_still : (c : ℕ) (o : Option Class) → slice_get rows c ≡ o → is_some (defined_by o) ≡ true → defined_by (slice_get more c) ≡ defined_by o
+  define_still c None is e = cc
+  define_still c (Some row) is e = ap defined_by (stay c row is)
+
+  event_still : (a : Accepted) → is_some (event_of rows a) ≡ true → event_of more a ≡ event_of rows a
+  event_still accepted.NewLoader e = refl
+  event_still (accepted.Define c) e = define_still c (slice_get rows c) refl e
+  event_still (accepted.Delegate loader name to) e = refl
+  event_still (accepted.Request place) e = refl
+  event_still (accepted.NewCallSite kind ty target) e = refl
+  event_still (accepted.SetTarget site target) e = refl
+  event_still accepted.NewSwitch e = refl
+  event_still (accepted.Invalidate points) e = refl
+  event_still (accepted.Bind site call_site) e = refl
+  event_still (accepted.Install links) e = refl
+
+  some_event : (o : Option Event) (reply : Reply) → is_some {T = Event × Reply} (option_map (λ (e : Event). (e, reply)) o) ≡ true → is_some o ≡ true
+  some_event None reply e = cc
+  some_event (Some x) reply e = refl
+
+  told_still : (entry : Entry) → is_some (told rows entry) ≡ true → told more entry ≡ told rows entry
+  told_still entry e =
+      ap (λ (o : Option Event). option_map (λ (x : Event). (x, entry.reply)) o) (event_still entry.event (some_event (event_of rows entry.event) entry.reply e))
+
+  both : (a b : Bool) → (a && b) ≡ true → (a ≡ true) × (b ≡ true)
+  both true b e = (refl, e)
+  both false b e = cc
+
+  pub all_still : (entries : List Entry) → are_told rows entries ≡ true → (are_told more entries ≡ true) × (shown more entries ≡ shown rows entries)
+  all_still [] e = (refl, refl)
+  all_still (entry ∷ entries) e =
+      let parts = both (is_some (told rows entry)) (are_told rows entries) e in
+      let here = told_still entry parts.0 in
+      let rest = all_still entries parts.1 in (
+        (λ i. is_some (here i) && rest.0 i) ∙ ap (λ (b : Bool). b && true) parts.0,
+        λ i. cons_option (here i) (rest.1 i),
+      )
+
+-- ---- one entry more
+
+module _ (rows : List Class) (a : Accepted) (reply : Reply) (e : Event) (is : event_of rows a ≡ Some e) where
+  abbrev newest : Entry
+  newest = record { event = a; reply = reply }
+
+  tells : told rows newest ≡ Some (e, reply)
+  tells = ap (λ (o : Option Event). option_map (λ (x : Event). (x, reply)) o) is
+
+  pub told_more : (entries : List Entry) → are_told rows entries ≡ true → are_told rows (entries ++ newest ∷ []) ≡ true
+  told_more entries k = list_all-append (λ (one : Entry). is_some (told rows one)) entries (newest ∷ []) ∙ (λ i. k i && (is_some (tells i) && true))
+
+  pub shown_more : (entries : List Entry) → shown rows (entries ++ newest ∷ []) ≡ shown rows entries ++ (e, reply) ∷ []
+  shown_more entries = filter_map-append (told rows) entries (newest ∷ []) ∙ (λ i. shown rows entries ++ cons_option (tells i) [])
+
+-- a definition names the class that it made
+pub defines : (cs : Classes) (loader : ℕ) (file : ClassFile) → event_of (defined cs loader file).rows (accepted.Define (length cs.rows)) ≡ Some (event.Define loader file)
+defines cs loader file = ap (option_map (λ (row : Class). event.Define row.loader row.file)) (at_end cs.rows (class_made cs loader file))
+
+-- ---- lengths
+
+pub length_told : (rows : List Class) (entries : List Entry) → are_told rows entries ≡ true → length (shown rows entries) ≡ length entries
+length_told rows [] e = refl
+length_told rows (entry ∷ entries) e = by_one (told rows entry) e (length_told rows entries)
+  where
+    by_one : (o : Option (Event × Reply)) → (is_some o && are_told rows entries) ≡ true → (are_told rows entries ≡ true → length (shown rows entries) ≡ length entries)
+        → length (cons_option o (shown rows entries)) ≡ suc (length entries)
+    by_one None k rest = cc
+    by_one (Some x) k rest = ap suc (rest k)

@@ -1,0 +1,24 @@
+//! The laws of a core: each is the contract of a function that does nothing.
+
+ghost use Rattle.std.specs.Prelude.{◌≡◌, ◌↔◌, ◌<◌, ℕ, List, Some, Ok, length, slice_get, take, Contains};
+ghost use Rattle.jl_types.specs.declared.event.Event.{Event};
+ghost use Rattle.jl_types.specs.declared.event.Reply.{Reply};
+ghost use Rattle.jl_types.specs.declared.link.Link.{Link};
+ghost use Rattle.jl_types.specs.Links.{scratch};
+ghost use Rattle.jl_types.specs.History as history;
+ghost use Rattle.jl_types.specs.History.{Settled};
+ghost use Rattle.jl_core.specs.State.{State, empty_core, events, world_of, links_of};
+ghost use Rattle.jl_core.specs.Headline.{AreApplied};
+
+/// The installed links are exactly those that linking every requested site that isn't pending gives from scratch in the present
+/// world, where a site is pending until it is settled. After any events, each accepted one was answered as those before it say.
+pub fn links_are_exact()
+    ensures links { (core : State) (s : ℕ) (l : Link)
+        → Contains (links_of core) (s, l)
+        ↔ ((s < length (world_of core).places)
+        × ((m : Link) × Settled (events core) s m)
+        × (scratch (world_of core) s ≡ Ok l)) }
+    ensures log { (max_sites : ℕ) (es : List Event) (core : State) → AreApplied (empty_core max_sites) es core
+        → (n : ℕ) (e : Event) (reply : Reply) → slice_get core.log n ≡ Some (e, reply)
+        → history.reply max_sites (take n (events core)) e ≡ Ok reply }
+{}
