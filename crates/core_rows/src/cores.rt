@@ -1,109 +1,19 @@
 //! What lines of commands don't reach: a limit of places, rows made by hand, worlds of before, events that come later.
 
-use jl_classfile::read_class;
+use crate::events::{
+    A, C, M, N, OBJECT, assert_answer, assert_defined, first, install, is_accepted, is_defined,
+    request, with_each,
+};
 use jl_core::Core;
 use jl_names::Seq;
 use jl_relink::{Prepared, Snapshot, World, dispatch, link_of, prepare};
 use jl_types::{
-    Answer, CallSiteId, ClassId, Event, Link, LoaderId, MethodId, Outcome, Place, PrepareFault,
-    Recv, Refusal, SiteNo, Table, TableKind, Unlinked,
+    Answer, CallSiteId, ClassId, Event, Link, Outcome, PrepareFault, Recv, Refusal, SiteNo, Table,
+    TableKind, Unlinked,
 };
 use std::alloc::{AllocError, Global};
 use std::process::Abort;
 use std::test::Fail;
-
-// java/lang/Object
-const OBJECT: &str =
-    "cafebabe0000003d00030100106a6176612f6c616e672f4f626a6563740700010021000200000000000000000000";
-
-// class A { public void f() {} }
-const A: &str =
-    "cafebabe0000003d0008010001410700010100106a6176612f6c616e672f4f626a65637407000301000166010003282956010004436f6465002100020004000000000001000100050006000100070000000d0000000000000001b1000000000000";
-
-// class M { public static void run() { virtual A.f } }
-const M: &str =
-    "cafebabe0000003d000d0100014d0700010100106a6176612f6c616e672f4f626a65637407000301000372756e010003282956010004436f646501000141070008010001660c000a00060a0009000b00210002000400000000000100090005000600010007000000100000000000000004b6000cb1000000000000";
-
-// class N { public static void run() { static N.run } }
-const N: &str =
-    "cafebabe0000003d000a0100014e0700010100106a6176612f6c616e672f4f626a65637407000301000372756e010003282956010004436f64650c000500060a0002000800210002000400000000000100090005000600010007000000100000000000000004b80009b1000000000000";
-
-// class C extends A { public void f() {} }
-const C: &str =
-    "cafebabe0000003d0008010001430700010100014107000301000166010003282956010004436f6465002100020004000000000001000100050006000100070000000d0000000000000001b1000000000000";
-
-/// Whether the event is accepted.
-fn is_accepted(alloc: Global, core: &mut Core, event: Event) -> bool {
-    core.apply(alloc, event).is_ok()
-}
-
-/// Whether loader 0 defines the class of the file.
-fn is_read(alloc: Global, core: &mut Core, file: &[u8]) -> bool {
-    match read_class(alloc, file) {
-        Ok(file) => is_accepted(alloc, core, Event::Define(LoaderId::new(0), file)),
-        Err(_) => false,
-    }
-}
-
-/// Whether loader 0 defines the class of the hexadecimal text.
-fn is_defined(alloc: Global, core: &mut Core, text: &str) -> bool {
-    match hex::decode(alloc, text) {
-        Ok(file) => is_read(alloc, core, &file),
-        Err(_) => false,
-    }
-}
-
-/// Asserts that the classes of the hexadecimal texts are defined, one after another.
-fn assert_defined(rt: &(impl Abort + AllocGlobal), core: &mut Core, texts: &[&str]) {
-    for text in texts {
-        assert!(rt; is_defined(rt.alloc(), core, text), "{text}");
-    }
-}
-
-/// How the event's answer prints.
-fn printed(alloc: Global, core: &mut Core, event: Event) -> Result<String, AllocError> {
-    let answer = core.apply(alloc, event);
-    format!(in alloc; "{answer:?}")
-}
-
-/// Asserts that the event's answer prints so.
-fn assert_answer(
-    rt: &(impl Abort + AllocGlobal),
-    core: &mut Core,
-    event: Event,
-    want: &str,
-) -> Result<(), AllocError> {
-    let text = printed(rt.alloc(), core, event)?;
-    assert_eq!(rt; text.as_str(), want);
-    Ok(())
-}
-
-/// The request of the invocation in the class's first method.
-fn request(class: u32, pc: u32) -> Event {
-    Event::Request(Place {
-        class: ClassId::new(class),
-        method: 0,
-        pc,
-    })
-}
-
-/// The sites, each with this value.
-fn with_each<T: Copy + Drop>(
-    alloc: Global,
-    sites: &[u32],
-    value: T,
-) -> Result<Vec<(SiteNo, T)>, AllocError> {
-    let mut rows = Vec::new(alloc);
-    for site in sites {
-        rows.push((SiteNo::new(*site), value))?;
-    }
-    Ok(rows)
-}
-
-/// The install of megamorphic links at these sites.
-fn install(alloc: Global, sites: &[u32]) -> Result<Event, AllocError> {
-    Ok(Event::Install(Seq::of(with_each(alloc, sites, Link::Mega)?)))
-}
 
 /// Requests by class and instruction, one after another, with their answers.
 const REQUESTS: [(u32, u32, &str); 5] = [
@@ -162,7 +72,7 @@ fn assert_install(
     sites: &[u32],
     want: &str,
 ) -> Result<(), AllocError> {
-    let event = install(rt.alloc(), sites)?;
+    let event = install(rt.alloc(), sites, Link::Mega)?;
     assert_answer(rt, core, event, want)
 }
 
@@ -194,14 +104,6 @@ fn refuses_events(rt: HostRuntime) -> Result<(), AllocError> {
     assert!(rt; is_accepted(rt.alloc(), &mut core, request(1, 0)));
     assert!(rt; is_accepted(rt.alloc(), &mut core, request(2, 0)));
     assert_refusals(&rt, &mut core)
-}
-
-/// The first method of the class.
-fn first(class: u32) -> MethodId {
-    MethodId {
-        class: ClassId::new(class),
-        index: 0,
-    }
 }
 
 /// The link that runs A's f on each object.
@@ -307,6 +209,29 @@ fn prepares_in_the_world_of_a_snapshot(rt: HostRuntime) -> Result<(), Fail> {
     assert_defined(&rt, &mut core, [OBJECT, A, M].as_slice());
     assert!(rt; is_accepted(rt.alloc(), &mut core, request(2, 0)));
     assert_links(&rt, &mut core)
+}
+
+/// Installs a link that no preparation gave, which is the one from scratch, and then another one, which isn't.
+fn assert_by_hand(
+    rt: &(impl Abort + AllocGlobal),
+    core: &mut Core,
+    site: SiteNo,
+) -> Result<(), AllocError> {
+    let event = install(rt.alloc(), &[0], runs_a())?;
+    assert!(rt; is_accepted(rt.alloc(), core, event));
+    assert!(rt; core.links().get(site) == Some(runs_a()));
+    let rows = Seq::of(with_each(rt.alloc(), &[0], Link::Mega)?);
+    assert!(rt; is_stale(rt.alloc(), core, rows, site, runs_a()));
+    assert!(rt; core.links().get(site) == Some(runs_a()));
+    Ok(())
+}
+
+#[test]
+fn installs_links_made_by_hand(rt: HostRuntime) -> Result<(), AllocError> {
+    let mut core = Core::new(rt.alloc(), 1)?;
+    assert_defined(&rt, &mut core, [OBJECT, A, M].as_slice());
+    assert!(rt; is_accepted(rt.alloc(), &mut core, request(2, 0)));
+    assert_by_hand(&rt, &mut core, SiteNo::new(0))
 }
 
 fn assert_empty(rt: &impl Abort, snapshot: &Snapshot) {

@@ -2,4 +2,10 @@
 #![tactic(auto)]
 
 #[cfg(test)]
+mod caches;
+#[cfg(test)]
 mod cores;
+#[cfg(test)]
+mod events;
+#[cfg(test)]
+mod logs;

@@ -1,7 +1,7 @@
 //! Runs about batches: what is prepared, and what is installed of it.
 
-use crate::classes::{A, M, N, OBJECT};
-use crate::lines::assert_run;
+use crate::classes::{A, C, M, N, OBJECT};
+use crate::lines::{LINKS, NO_LINKS, assert_run};
 use std::alloc::{AllocError, Global};
 use std::test::Fail;
 
@@ -30,20 +30,65 @@ fn installs_all_or_none(rt: HostRuntime) -> Result<(), Fail> {
                 r#"{"do":"define","loader":0,"sketch":{"name":"B","super":"A","flags":33,"methods":[{"name":"f","type":"()V","flags":1}]}}"#,
                 r#"{"class":3,"dropped":[]}"#,
             ),
+            (LINKS, NO_LINKS),
             (
                 r#"{"do":"install","prepared":0}"#,
                 r#"{"present":{"kind":"virtual","table":[[1,{"run":[1,0]}],[3,{"run":[3,0]}]]},"refused":"Stale","site":0}"#,
             ),
-            (r#"{"do":"links"}"#, r#"{"links":[]}"#),
+            (LINKS, NO_LINKS),
             (
                 r#"{"do":"prepare","sites":[1,0]}"#,
                 r#"{"prepared":1,"rows":[[1,{"plain":[2,0]}],[0,{"kind":"virtual","table":[[1,{"run":[1,0]}],[3,{"run":[3,0]}]]}]]}"#,
             ),
             (r#"{"do":"install","prepared":1}"#, r#"{"dropped":[]}"#),
             (
-                r#"{"do":"links"}"#,
+                LINKS,
                 r#"{"links":[[0,{"kind":"virtual","table":[[1,{"run":[1,0]}],[3,{"run":[3,0]}]]}],[1,{"plain":[2,0]}]]}"#,
             ),
+        ]
+        .as_slice(),
+    )
+}
+
+#[test]
+fn installs_a_batch_again(rt: HostRuntime) -> Result<(), Fail> {
+    assert_run(
+        &rt,
+        [
+            (OBJECT, r#"{"class":0,"dropped":[]}"#),
+            (A, r#"{"class":1,"dropped":[]}"#),
+            (N, r#"{"class":2,"dropped":[]}"#),
+            (
+                r#"{"do":"request","class":2,"method":0,"pc":0}"#,
+                r#"{"dropped":[],"site":0}"#,
+            ),
+            (
+                r#"{"do":"request","class":2,"method":0,"pc":3}"#,
+                r#"{"dropped":[],"site":1}"#,
+            ),
+            (
+                r#"{"do":"prepare","sites":[0,1]}"#,
+                r#"{"prepared":0,"rows":[[0,{"direct":{"run":[1,0]}}],[1,{"plain":[2,0]}]]}"#,
+            ),
+            (LINKS, NO_LINKS),
+            (r#"{"do":"install","prepared":0}"#, r#"{"dropped":[]}"#),
+            (
+                LINKS,
+                r#"{"links":[[0,{"direct":{"run":[1,0]}}],[1,{"plain":[2,0]}]]}"#,
+            ),
+            (r#"{"do":"install","prepared":0}"#, r#"{"dropped":[]}"#),
+            (
+                LINKS,
+                r#"{"links":[[0,{"direct":{"run":[1,0]}}],[1,{"plain":[2,0]}]]}"#,
+            ),
+            (C, r#"{"class":3,"dropped":[0]}"#),
+            (LINKS, r#"{"links":[[1,{"plain":[2,0]}]]}"#),
+            // The other site's link is there before and after.
+            (
+                r#"{"do":"install","prepared":0}"#,
+                r#"{"present":{"kind":"virtual","table":[[1,{"run":[1,0]}],[3,{"run":[3,0]}]]},"refused":"Stale","site":0}"#,
+            ),
+            (LINKS, r#"{"links":[[1,{"plain":[2,0]}]]}"#),
         ]
         .as_slice(),
     )

@@ -1,7 +1,7 @@
 //! Call sites and switch points: what invokedynamics run.
 
-use crate::classes::OBJECT;
-use crate::lines::assert_run;
+use crate::classes::{A, OBJECT};
+use crate::lines::{LINKS, NO_LINKS, assert_run};
 use std::test::Fail;
 
 /// A class with m and n, which are static, and r with an invokedynamic.
@@ -51,19 +51,22 @@ fn drops_the_link_of_another_target(rt: HostRuntime) -> Result<(), Fail> {
                 r#"{"do":"target","callsite":0,"target":{"method":[1,0]}}"#,
                 r#"{"dropped":[]}"#,
             ),
+            (LINKS, NO_LINKS),
             (r#"{"do":"install","prepared":0}"#, r#"{"dropped":[]}"#),
+            (LINKS, r#"{"links":[[0,{"plain":[1,0]}]]}"#),
             (
                 r#"{"do":"target","callsite":0,"target":{"method":[1,1]}}"#,
                 r#"{"dropped":[0]}"#,
             ),
+            (LINKS, NO_LINKS),
             (r#"{"do":"call","site":0}"#, r#"{"run":[1,1]}"#),
             (
                 r#"{"do":"target","callsite":0,"target":{"method":[1,0]}}"#,
                 r#"{"dropped":[]}"#,
             ),
-            (r#"{"do":"links"}"#, r#"{"links":[]}"#),
+            (LINKS, NO_LINKS),
             (r#"{"do":"install","prepared":0}"#, r#"{"dropped":[]}"#),
-            (r#"{"do":"links"}"#, r#"{"links":[[0,{"plain":[1,0]}]]}"#),
+            (LINKS, r#"{"links":[[0,{"plain":[1,0]}]]}"#),
             (r#"{"do":"call","site":0,"recv":9}"#, r#"{"run":[1,0]}"#),
         ]
         .as_slice(),
@@ -95,20 +98,23 @@ fn drops_the_link_of_an_invalid_point(rt: HostRuntime) -> Result<(), Fail> {
                 r#"{"prepared":0,"rows":[[0,{"plain":[1,0]}]]}"#,
             ),
             (r#"{"do":"install","prepared":0}"#, r#"{"dropped":[]}"#),
+            (LINKS, r#"{"links":[[0,{"plain":[1,0]}]]}"#),
             (r#"{"do":"invalidate","switches":[0]}"#, r#"{"dropped":[]}"#),
-            (r#"{"do":"links"}"#, r#"{"links":[[0,{"plain":[1,0]}]]}"#),
+            (LINKS, r#"{"links":[[0,{"plain":[1,0]}]]}"#),
             (r#"{"do":"switch"}"#, r#"{"dropped":[],"switch":1}"#),
             (
                 r#"{"do":"target","callsite":0,"target":{"guard":1,"target":{"method":[1,0]},"fallback":{"method":[1,1]}}}"#,
                 r#"{"dropped":[]}"#,
             ),
-            (r#"{"do":"links"}"#, r#"{"links":[[0,{"plain":[1,0]}]]}"#),
+            (LINKS, r#"{"links":[[0,{"plain":[1,0]}]]}"#),
             (
                 r#"{"do":"invalidate","switches":[1]}"#,
                 r#"{"dropped":[0]}"#,
             ),
+            (LINKS, NO_LINKS),
             (r#"{"do":"call","site":0}"#, r#"{"run":[1,1]}"#),
             (r#"{"do":"invalidate","switches":[1]}"#, r#"{"dropped":[]}"#),
+            (LINKS, NO_LINKS),
             (r#"{"do":"invalidate","switches":[]}"#, r#"{"dropped":[]}"#),
             (
                 r#"{"do":"invalidate","switches":[0,0,1]}"#,
@@ -134,6 +140,59 @@ fn drops_the_link_of_an_invalid_point(rt: HostRuntime) -> Result<(), Fail> {
                 r#"{"dropped":[0]}"#,
             ),
             (r#"{"do":"call","site":0}"#, r#"{"run":[1,0]}"#),
+        ]
+        .as_slice(),
+    )
+}
+
+#[test]
+fn keeps_a_dropped_link_pending(rt: HostRuntime) -> Result<(), Fail> {
+    assert_run(
+        &rt,
+        [
+            (OBJECT, r#"{"class":0,"dropped":[]}"#),
+            (T, r#"{"class":1,"dropped":[]}"#),
+            (
+                r#"{"do":"request","class":1,"method":2,"pc":0}"#,
+                r#"{"dropped":[],"site":0}"#,
+            ),
+            (r#"{"do":"switch"}"#, r#"{"dropped":[],"switch":0}"#),
+            (
+                r#"{"do":"callsite","kind":"mutable","type":"()V","target":{"guard":0,"target":{"method":[1,0]},"fallback":{"method":[1,1]}}}"#,
+                r#"{"callsite":0,"dropped":[]}"#,
+            ),
+            (
+                r#"{"do":"bind","site":0,"callsite":0}"#,
+                r#"{"dropped":[]}"#,
+            ),
+            (LINKS, NO_LINKS),
+            (
+                r#"{"do":"prepare","sites":[0]}"#,
+                r#"{"prepared":0,"rows":[[0,{"plain":[1,0]}]]}"#,
+            ),
+            (r#"{"do":"install","prepared":0}"#, r#"{"dropped":[]}"#),
+            (LINKS, r#"{"links":[[0,{"plain":[1,0]}]]}"#),
+            (
+                r#"{"do":"invalidate","switches":[0]}"#,
+                r#"{"dropped":[0]}"#,
+            ),
+            (LINKS, NO_LINKS),
+            (
+                r#"{"do":"install","prepared":0}"#,
+                r#"{"present":{"plain":[1,1]},"refused":"Stale","site":0}"#,
+            ),
+            (LINKS, NO_LINKS),
+            // What was installed is right again, but it isn't installed.
+            (
+                r#"{"do":"target","callsite":0,"target":{"method":[1,0]}}"#,
+                r#"{"dropped":[]}"#,
+            ),
+            (LINKS, NO_LINKS),
+            (r#"{"do":"call","site":0}"#, r#"{"run":[1,0]}"#),
+            (A, r#"{"class":2,"dropped":[]}"#),
+            (LINKS, NO_LINKS),
+            (r#"{"do":"install","prepared":0}"#, r#"{"dropped":[]}"#),
+            (LINKS, r#"{"links":[[0,{"plain":[1,0]}]]}"#),
         ]
         .as_slice(),
     )

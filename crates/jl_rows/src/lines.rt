@@ -5,6 +5,12 @@ use std::alloc::Global;
 use std::process::Abort;
 use std::test::Fail;
 
+/// The command that lists the installed links.
+pub(crate) const LINKS: &str = r#"{"do":"links"}"#;
+
+/// Its answer where there are none.
+pub(crate) const NO_LINKS: &str = r#"{"links":[]}"#;
+
 /// What a run over the input writes, and how it ends.
 pub(crate) fn answered(
     alloc: Global,

@@ -1,7 +1,7 @@
 //! Runs of commands over one core.
 
 use crate::classes::{A, B, C, M, OBJECT};
-use crate::lines::assert_run;
+use crate::lines::{LINKS, NO_LINKS, assert_run};
 use std::test::Fail;
 
 const BAD_COMMAND: &str = r#"{"error":"BadCommand"}"#;
@@ -23,17 +23,35 @@ fn drops_the_link_of_a_new_receiver(rt: HostRuntime) -> Result<(), Fail> {
                 r#"{"do":"prepare","sites":[0]}"#,
                 r#"{"prepared":0,"rows":[[0,{"direct":{"run":[1,0]}}]]}"#,
             ),
+            (LINKS, NO_LINKS),
             (r#"{"do":"install","prepared":0}"#, r#"{"dropped":[]}"#),
-            (
-                r#"{"do":"links"}"#,
-                r#"{"links":[[0,{"direct":{"run":[1,0]}}]]}"#,
-            ),
+            (LINKS, r#"{"links":[[0,{"direct":{"run":[1,0]}}]]}"#),
             (C, r#"{"class":4,"dropped":[0]}"#),
-            (r#"{"do":"links"}"#, r#"{"links":[]}"#),
+            (LINKS, NO_LINKS),
             (r#"{"do":"call","site":0,"recv":4}"#, r#"{"run":[4,0]}"#),
+            (r#"{"do":"call","site":0,"recv":2}"#, r#"{"run":[1,0]}"#),
             (
                 r#"{"do":"install","prepared":0}"#,
                 r#"{"present":{"kind":"virtual","table":[[1,{"run":[1,0]}],[2,{"run":[1,0]}],[4,{"run":[4,0]}]]},"refused":"Stale","site":0}"#,
+            ),
+            (LINKS, NO_LINKS),
+            (
+                r#"{"do":"prepare","sites":[0]}"#,
+                r#"{"prepared":1,"rows":[[0,{"kind":"virtual","table":[[1,{"run":[1,0]}],[2,{"run":[1,0]}],[4,{"run":[4,0]}]]}]]}"#,
+            ),
+            (LINKS, NO_LINKS),
+            (r#"{"do":"install","prepared":1}"#, r#"{"dropped":[]}"#),
+            (
+                LINKS,
+                r#"{"links":[[0,{"kind":"virtual","table":[[1,{"run":[1,0]}],[2,{"run":[1,0]}],[4,{"run":[4,0]}]]}]]}"#,
+            ),
+            (
+                r#"{"do":"install","prepared":0}"#,
+                r#"{"present":{"kind":"virtual","table":[[1,{"run":[1,0]}],[2,{"run":[1,0]}],[4,{"run":[4,0]}]]},"refused":"Stale","site":0}"#,
+            ),
+            (
+                LINKS,
+                r#"{"links":[[0,{"kind":"virtual","table":[[1,{"run":[1,0]}],[2,{"run":[1,0]}],[4,{"run":[4,0]}]]}]]}"#,
             ),
         ]
         .as_slice(),
@@ -208,14 +226,7 @@ fn takes_commands_alone(rt: HostRuntime) -> Result<(), Fail> {
         r#"{"do":"request","class":"1","method":0,"pc":0}"#,
     ];
     for line in lines {
-        assert_run(
-            &rt,
-            [
-                (line, BAD_COMMAND),
-                (r#"{"do":"links"}"#, r#"{"links":[]}"#),
-            ]
-            .as_slice(),
-        )?;
+        assert_run(&rt, [(line, BAD_COMMAND), (LINKS, NO_LINKS)].as_slice())?;
     }
     Ok(())
 }

@@ -1,7 +1,7 @@
 //! Runs about receivers: the answers to calls, and the links of a site as classes come.
 
 use crate::classes::{A, B, C, M, OBJECT};
-use crate::lines::assert_run;
+use crate::lines::{LINKS, NO_LINKS, assert_run};
 use std::test::Fail;
 
 #[test]
@@ -58,23 +58,33 @@ fn leaves_abstract_classes_out(rt: HostRuntime) -> Result<(), Fail> {
                 r#"{"prepared":0,"rows":[[0,{"direct":{"run":[1,0]}}]]}"#,
             ),
             (r#"{"do":"install","prepared":0}"#, r#"{"dropped":[]}"#),
+            (LINKS, r#"{"links":[[0,{"direct":{"run":[1,0]}}]]}"#),
             // public abstract class C extends A { public void f() {} }
             (
                 r#"{"do":"define","loader":0,"sketch":{"name":"C","super":"A","flags":1057,"methods":[{"name":"f","type":"()V","flags":1}]}}"#,
                 r#"{"class":4,"dropped":[]}"#,
             ),
+            (LINKS, r#"{"links":[[0,{"direct":{"run":[1,0]}}]]}"#),
             // class D extends C {}
             (
                 r#"{"do":"define","loader":0,"sketch":{"name":"D","super":"C","flags":33}}"#,
                 r#"{"class":5,"dropped":[0]}"#,
             ),
+            (LINKS, NO_LINKS),
+            (r#"{"do":"call","site":0,"recv":2}"#, r#"{"run":[1,0]}"#),
+            (r#"{"do":"call","site":0,"recv":5}"#, r#"{"run":[4,0]}"#),
+            (
+                r#"{"do":"install","prepared":0}"#,
+                r#"{"present":{"kind":"virtual","table":[[1,{"run":[1,0]}],[2,{"run":[1,0]}],[5,{"run":[4,0]}]]},"refused":"Stale","site":0}"#,
+            ),
+            (LINKS, NO_LINKS),
             (
                 r#"{"do":"prepare","sites":[0]}"#,
                 r#"{"prepared":1,"rows":[[0,{"kind":"virtual","table":[[1,{"run":[1,0]}],[2,{"run":[1,0]}],[5,{"run":[4,0]}]]}]]}"#,
             ),
             (r#"{"do":"install","prepared":1}"#, r#"{"dropped":[]}"#),
             (
-                r#"{"do":"links"}"#,
+                LINKS,
                 r#"{"links":[[0,{"kind":"virtual","table":[[1,{"run":[1,0]}],[2,{"run":[1,0]}],[5,{"run":[4,0]}]]}]]}"#,
             ),
         ]
@@ -103,15 +113,13 @@ fn fills_tables_up_to_eight(rt: HostRuntime) -> Result<(), Fail> {
                 r#"{"prepared":0,"rows":[[0,{"kind":"virtual","table":[]}]]}"#,
             ),
             (r#"{"do":"install","prepared":0}"#, r#"{"dropped":[]}"#),
-            (
-                r#"{"do":"links"}"#,
-                r#"{"links":[[0,{"kind":"virtual","table":[]}]]}"#,
-            ),
+            (LINKS, r#"{"links":[[0,{"kind":"virtual","table":[]}]]}"#),
             // Eight classes below A, each with its own f.
             (
                 r#"{"do":"define","loader":0,"sketch":{"name":"C0","super":"A","flags":33,"methods":[{"name":"f","type":"()V","flags":1}]}}"#,
                 r#"{"class":3,"dropped":[0]}"#,
             ),
+            (LINKS, NO_LINKS),
             (
                 r#"{"do":"define","loader":0,"sketch":{"name":"C1","super":"A","flags":33,"methods":[{"name":"f","type":"()V","flags":1}]}}"#,
                 r#"{"class":4,"dropped":[]}"#,
@@ -146,7 +154,7 @@ fn fills_tables_up_to_eight(rt: HostRuntime) -> Result<(), Fail> {
             ),
             (r#"{"do":"install","prepared":1}"#, r#"{"dropped":[]}"#),
             (
-                r#"{"do":"links"}"#,
+                LINKS,
                 r#"{"links":[[0,{"kind":"virtual","table":[[3,{"run":[3,0]}],[4,{"run":[4,0]}],[5,{"run":[5,0]}],[6,{"run":[6,0]}],[7,{"run":[7,0]}],[8,{"run":[8,0]}],[9,{"run":[9,0]}],[10,{"run":[10,0]}]]}]]}"#,
             ),
             // The ninth.
@@ -154,17 +162,21 @@ fn fills_tables_up_to_eight(rt: HostRuntime) -> Result<(), Fail> {
                 r#"{"do":"define","loader":0,"sketch":{"name":"C8","super":"A","flags":33,"methods":[{"name":"f","type":"()V","flags":1}]}}"#,
                 r#"{"class":11,"dropped":[0]}"#,
             ),
+            (LINKS, NO_LINKS),
+            (r#"{"do":"call","site":0,"recv":3}"#, r#"{"run":[3,0]}"#),
+            (r#"{"do":"call","site":0,"recv":11}"#, r#"{"run":[11,0]}"#),
             (
                 r#"{"do":"prepare","sites":[0]}"#,
                 r#"{"prepared":2,"rows":[[0,{"mega":true}]]}"#,
             ),
             (r#"{"do":"install","prepared":2}"#, r#"{"dropped":[]}"#),
-            (r#"{"do":"links"}"#, r#"{"links":[[0,{"mega":true}]]}"#),
+            (LINKS, r#"{"links":[[0,{"mega":true}]]}"#),
             (
                 r#"{"do":"define","loader":0,"sketch":{"name":"C9","super":"A","flags":33,"methods":[{"name":"f","type":"()V","flags":1}]}}"#,
                 r#"{"class":12,"dropped":[]}"#,
             ),
-            (r#"{"do":"links"}"#, r#"{"links":[[0,{"mega":true}]]}"#),
+            (LINKS, r#"{"links":[[0,{"mega":true}]]}"#),
+            (r#"{"do":"call","site":0,"recv":12}"#, r#"{"run":[12,0]}"#),
         ]
         .as_slice(),
     )
