@@ -2,7 +2,8 @@
 //! are looked up apart from the events and installed later.
 //!
 //! The contract of each is its definition in jl_types (`specs/Links`, `Calls`, `Batches` and `Preparation`);
-//! `specs/Preparations` says what a preparation is answered, and `specs/Laws` that a link stays. The other definitions here are means of proof.
+//! `specs/Preparations` says what a preparation is answered, and `specs/Laws` that an event changes no link. The other
+//! definitions here are means of proof.
 #![tactic(auto)]
 
 mod answer;
