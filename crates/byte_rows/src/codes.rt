@@ -2,7 +2,7 @@
 
 use crate::codes::CodeRow::*;
 use crate::rows::{A_F, Row, assert_rows};
-use jl_code::{CodeFault, Kind, Operand, Site, no_fault_in_a_code, one_code, scan};
+use jl_code::{CodeFault, Kind, Operand, Site, begins_special, no_fault_in_a_code, one_code, scan};
 use jl_names::Name;
 use jl_pool::{Pool, PoolFault};
 use std::alloc::{AllocError, Global};
@@ -165,6 +165,30 @@ const INVOCATIONS: &[CodeRow] = &[
         &[(20, Kind::Static)],
     ),
 ];
+
+/// A name, and whether it is an initializer's.
+struct NameRow(&'static [u8], bool);
+
+impl Row for NameRow {
+    fn is_so(&self, _alloc: Global) -> bool {
+        begins_special(self.0) == self.1
+    }
+}
+
+/// By the first byte alone.
+const NAMES: &[NameRow] = &[
+    NameRow(b"<init>", true),
+    NameRow(b"<clinit>", true),
+    NameRow(b"<", true),
+    NameRow(b"f", false),
+    NameRow(b"f<", false),
+    NameRow(b"", false),
+];
+
+#[test]
+fn names_of_initializers(rt: HostRuntime) {
+    assert_rows(&rt, NAMES);
+}
 
 #[test]
 fn invocations(rt: HostRuntime) {

@@ -4,13 +4,13 @@ ghost use Rattle.std.specs.Prelude.{◌≡◌, ◌≢◌, ◌<◌, not, nat_le, 
 ghost use Rattle.std.specs.List.{list_any};
 ghost use Rattle.jl_types.specs.declared.refusal.CallSiteFault.TheVariants as fault;
 ghost use Rattle.jl_types.specs.Targets as targets;
-ghost use Rattle.jl_code.specs.Codes as codes;
 ghost use Rattle.jl_callsites.specs.Faults as faults;
 ghost use Rattle.jl_callsites.specs.Faults.{world_of};
 ghost use Rattle.jl_callsites.specs.Known.{has_points};
 
 use crate::sites::Sites;
 use crate::size::is_too_large;
+use jl_code::begins_special;
 use jl_hierarchy::Classes;
 use jl_types::{CallSiteFault, CallSiteId, MethodId, Part, SwitchId, Target};
 
@@ -155,16 +155,6 @@ fn has_plain_name(classes: &Classes, method: &MethodId) -> bool
     match classes.method_at(method) {
         Some(method) => !begins_special(method.name().as_slice()),
         None => false,
-    }
-}
-
-/// Whether the name is that of a class or an object initializer, which no call names (JVMS SE 17 §2.9): it begins with `<`.
-fn begins_special(name: &[u8]) -> bool
-    ensures { result ≡ codes.begins_special name.now }
-{
-    match name {
-        [first, ..] => *first == b'<',
-        [] => false,
     }
 }
 

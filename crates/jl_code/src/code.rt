@@ -70,8 +70,8 @@ fn is_tagged(pool: &Pool<'_>, opcode: u8, number: u16) -> bool
     }
 }
 
-/// Whether a name begins with `<`.
-fn begins_special(name: &[u8]) -> bool
+/// Whether the name is that of a class or an object initializer (JVMS SE 17 §2.9): it begins with `<`. Takes no memory.
+pub fn begins_special(name: &[u8]) -> bool
     ensures { result ≡ begins_special name.now }
 {
     match name {

@@ -9,6 +9,6 @@ mod code_fault;
 mod instruction;
 mod site;
 
-pub use code::{no_fault_in_a_code, one_code, scan};
+pub use code::{begins_special, no_fault_in_a_code, one_code, scan};
 pub use code_fault::CodeFault;
 pub use site::{Kind, Operand, Site};
