@@ -141,6 +141,7 @@ fn assert_log(rt: &(impl Abort + AllocGlobal), core: &Core) -> Result<(), AllocE
     assert_entries(rt, core.log())?;
     assert!(rt; defined_name(core, 1) == Some(b"java/lang/Object".as_slice()));
     assert!(rt; defined_name(core, 2) == Some(b"T".as_slice()));
+    assert_eq!(rt; core.class_count(), 2);
     assert_eq!(rt; serial(rt.alloc(), core)?, core.log().len() as u64);
     Ok(())
 }

@@ -1,6 +1,10 @@
 -- The installed links as a list of sites and their links.
-use Rattle.std.specs.Prelude.{ℕ, ◌<◌, ◌==◌, List, find, fold, Option, Some, option_map, if◌then◌else◌, AllPairs}
+use Rattle.std.specs.Prelude.{ℕ, ◌<◌, ◌==◌, List, find, fold, Option, Some, None, option_map, if◌then◌else◌, AllPairs}
 use Rattle.jl_types.specs.declared.link.Link.{Link}
+use Rattle.jl_types.specs.declared.answer.Recv.{Recv}
+use Rattle.jl_types.specs.declared.answer.Fast.{Fast}
+use Rattle.jl_types.specs.declared.answer.Fast.TheVariants.{Miss}
+use Rattle.jl_types.specs.Fast.{link_answer}
 
 -- the site's installed link
 abbrev pub link_at : List (ℕ × Link) → ℕ → Option Link
@@ -13,3 +17,8 @@ AreRising links = AllPairs (λ a b. a.0 < b.0) links
 -- the link of site s once the rows are installed, one after another
 abbrev pub link_with : List (ℕ × Link) → Option Link → ℕ → Option Link
 link_with rows before s = fold (λ link row. if row.0 == s then Some row.1 else link) before rows
+
+-- what a call is answered by the site's installed link alone, without a count of classes
+abbrev pub fast_link : Option Link → Recv → Fast
+fast_link None recv = Miss
+fast_link (Some link) recv = link_answer link recv

@@ -4,6 +4,8 @@
 //! What a clause says of the links stands in `specs/Links`. The other definitions are means of proof.
 #![tactic(auto)]
 
+mod answers;
 mod cache;
 
+pub use answers::fast;
 pub use cache::Cache;

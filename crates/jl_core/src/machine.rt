@@ -108,6 +108,13 @@ impl Core {
         &self.world
     }
 
+    /// How many classes and interfaces there are. Takes no memory.
+    pub fn class_count(&self) -> usize
+        ensures { result ≡ length (world_of self.now).classes.rows }
+    {
+        self.world.classes.class_count()
+    }
+
     /// The accepted events in order, each with its reply. An entry of a definition names its class, which has the loader and the
     /// file. Takes no memory.
     pub fn log(&self) -> &[Entry]

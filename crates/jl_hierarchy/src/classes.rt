@@ -69,6 +69,14 @@ impl Classes {
         self.rows.get(class.number() as usize)
     }
 
+    /// How many classes and interfaces there are. Takes no memory.
+    pub fn class_count(&self) -> usize
+        ensures { result ≡ length self.now.rows }
+    {
+        let _ = &self.loaders;
+        self.rows.len()
+    }
+
     /// Whether there is a class of this number.
     pub fn has_class(&self, class: ClassId) -> bool
         ensures { result ≡ members.is_present self.now class }

@@ -1,7 +1,6 @@
 //! The answer to a call of an invocation that selects by its receiver. It looks at no link.
 
 ghost use Rattle.std.specs.Prelude.{◌≡◌};
-ghost use Rattle.jl_types.specs.Calls as calls;
 ghost use Rattle.jl_relink.specs.Rows.{selected_answer, special_answer, fits, fits_named};
 
 use crate::selection::{Selection, outcome};
@@ -16,7 +15,7 @@ pub(crate) fn selected_answer(classes: &Classes, selection: &Selection, recv: Re
         Recv::Null => Answer::Throws(Throwable::NullPointerException),
         Recv::Of(class) => {
             if fits(classes, selection, class) {
-                answered(outcome(classes, selection, class))
+                Answer::from(outcome(classes, selection, class))
             } else {
                 Answer::BadReceiver
             }
@@ -32,7 +31,7 @@ pub(crate) fn special_answer(classes: &Classes, outcome: Outcome, recv: Recv) ->
         Recv::Null => Answer::Throws(Throwable::NullPointerException),
         Recv::Of(class) => {
             if classes.is_concrete(class) {
-                answered(outcome)
+                Answer::from(outcome)
             } else {
                 Answer::BadReceiver
             }
@@ -54,15 +53,5 @@ fn fits_named(classes: &Classes, selection: &Selection, class: ClassId) -> bool
     match selection.kind {
         TableKind::Virtual => classes.is_ancestor(selection.named, class),
         TableKind::Interface => true,
-    }
-}
-
-/// What a call with this outcome answers.
-fn answered(outcome: Outcome) -> Answer
-    ensures { result ≡ calls.answered outcome }
-{
-    match outcome {
-        Outcome::Run(method) => Answer::Run(method),
-        Outcome::Throws(throwable) => Answer::Throws(throwable),
     }
 }

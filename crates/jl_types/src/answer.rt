@@ -108,3 +108,17 @@ pub enum Chosen {
     /// None, since there is none.
     Nothing,
 }
+
+/// What a call with this outcome answers.
+impl From<Outcome> for Answer {
+    ghost use Rattle.jl_types.specs.Calls.{answered};
+
+    ghost from_gives = { λ outcome answer. answer ≡ answered outcome };
+
+    fn from(outcome: Outcome) -> Answer {
+        match outcome {
+            Outcome::Run(method) => Answer::Run(method),
+            Outcome::Throws(throwable) => Answer::Throws(throwable),
+        }
+    }
+}

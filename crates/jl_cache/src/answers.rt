@@ -1,0 +1,74 @@
+//! What an installed link answers without a look at the classes.
+
+ghost use Rattle.std.specs.Prelude.{◌≡◌, ◌==◌, find};
+ghost use Rattle.std.specs.Option.{option_copied};
+ghost use Rattle.jl_types.specs.declared.answer.Fast.TheVariants.{Now};
+ghost use Rattle.jl_types.specs.declared.link.Link.TheVariants as variant;
+ghost use Rattle.jl_types.specs.Fast as fast;
+ghost use Rattle.jl_cache.specs.Links.{fast_link};
+
+use jl_types::{Answer, ClassId, Fast, Link, Outcome, Recv, Table, TableKind, Throwable};
+
+/// What a call is answered by the site's installed link alone: nothing where there is none, and where it is megamorphic. Takes no
+/// memory.
+pub fn fast(link: Option<Link>, recv: Recv) -> Fast
+    ensures { result ≡ fast_link link recv }
+{
+    match link {
+        None => Fast::Miss,
+        Some(link) => link_answer(&link, recv),
+    }
+}
+
+/// The link's answer for a receiver.
+fn link_answer(link: &Link, recv: Recv) -> Fast
+    ensures { result ≡ fast.link_answer link.now recv }
+{
+    match link {
+        Link::Fault(throwable) => Fast::Now(Answer::Throws(*throwable)),
+        Link::Plain(method) => Fast::Now(Answer::Run(*method)),
+        Link::Direct(outcome) => Fast::Now(direct_answer(*outcome, recv)),
+        Link::Table(kind, table) => Fast::Now(table_answer(*kind, table, recv)),
+        Link::Mega => Fast::Miss,
+    }
+}
+
+/// The answer of a link with one outcome.
+fn direct_answer(outcome: Outcome, recv: Recv) -> Answer
+    ensures { Now result ≡ fast.link_answer (variant.Direct outcome) recv }
+{
+    match recv {
+        Recv::Null => Answer::Throws(Throwable::NullPointerException),
+        Recv::Of(_) => Answer::from(outcome),
+    }
+}
+
+/// The answer of a table.
+fn table_answer(kind: TableKind, table: &Table, recv: Recv) -> Answer
+    ensures { Now result ≡ fast.link_answer (variant.Table kind table.now) recv }
+{
+    match recv {
+        Recv::Null => Answer::Throws(Throwable::NullPointerException),
+        Recv::Of(class) => entry_answer(kind, row_of(table.as_slice(), class)),
+    }
+}
+
+/// The row of the receiver's class.
+fn row_of(rows: &[(ClassId, Outcome)], class: ClassId) -> Option<&(ClassId, Outcome)>
+    ensures { option_copied result ≡ find (λ row. row.0 == class) rows.now }
+{
+    rows.iter().find(|row| row.0 == class)
+}
+
+/// The answer of the row of the receiver's class, or of there being none.
+fn entry_answer(kind: TableKind, row: Option<&(ClassId, Outcome)>) -> Answer
+    ensures { result ≡ fast.entry_answer kind (option_copied row.entry) }
+{
+    match row {
+        Some(row) => Answer::from(row.1),
+        None => match kind {
+            TableKind::Virtual => Answer::BadReceiver,
+            TableKind::Interface => Answer::Throws(Throwable::IncompatibleClassChangeError),
+        },
+    }
+}
