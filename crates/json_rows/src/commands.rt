@@ -215,11 +215,16 @@ fn shown(alloc: Global, command: &Option<Command>) -> Result<String, AllocError>
     format!(in alloc; "{command:?}")
 }
 
+/// How the command prints that the value is, or none.
+fn shown_value(alloc: Global, value: &Value) -> Result<String, AllocError> {
+    let command = read_command(alloc, value)?;
+    shown(alloc, &command)
+}
+
 /// How the command prints that the text is, or none.
 fn printed(alloc: Global, text: &str) -> Result<String, Fail> {
     let value = Value::from_str(alloc, text)?;
-    let command = read_command(alloc, &value)?;
-    Ok(shown(alloc, &command)?)
+    Ok(shown_value(alloc, &value)?)
 }
 
 /// Asserts that the texts are commands that print so, or none.
@@ -273,11 +278,8 @@ fn nested(alloc: Global, guards: usize) -> Result<String, AllocError> {
 /// Whether it is read.
 fn is_read(alloc: Global, guards: usize) -> Result<bool, Fail> {
     let text = nested(alloc, guards)?;
-    let value = Value::from_str(alloc, &text)?;
-    Ok(matches!(
-        &read_command(alloc, &value)?,
-        Some(Command::SetTarget { .. })
-    ))
+    let told = printed(alloc, &text)?;
+    Ok(told.as_str().starts_with("Some(SetTarget"))
 }
 
 /// Whether its text is no JSON that is read.

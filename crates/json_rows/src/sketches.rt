@@ -6,11 +6,16 @@ use std::alloc::{AllocError, Global};
 use std::process::Abort;
 use std::test::Fail;
 
+/// How the sketch prints that the value is, or none.
+fn shown(alloc: Global, value: &Value) -> Result<String, AllocError> {
+    let sketch = read_sketch(alloc, value)?;
+    format!(in alloc; "{sketch:?}")
+}
+
 /// How the sketch prints that the text is, or none.
 fn printed(alloc: Global, text: &str) -> Result<String, Fail> {
     let value = Value::from_str(alloc, text)?;
-    let sketch = read_sketch(alloc, &value)?;
-    Ok(format!(in alloc; "{sketch:?}")?)
+    Ok(shown(alloc, &value)?)
 }
 
 /// Asserts that the text is a sketch that prints so, or none.
