@@ -14,3 +14,8 @@ pub mod Accepting
 pub mod InstalledLinks
 pub mod Agreement
 pub mod SameAnswer
+pub mod Legal
+pub mod Places
+pub mod Written
+pub mod Emptied
+pub mod ClassCounts

@@ -16,3 +16,4 @@ pub mod Definitions
 pub mod Limits
 pub mod Targets
 pub mod Installs
+pub mod Entries

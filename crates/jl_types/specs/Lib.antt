@@ -17,4 +17,5 @@ pub mod Batches
 pub mod Events
 pub mod Preparation
 pub mod History
+pub mod Entries
 pub mod Fast

@@ -1,6 +1,6 @@
 //! The laws of the definitions: each is the contract of a function that does nothing.
 
-ghost use Rattle.std.specs.Prelude.{◌≡◌, ◌↔◌, ◌<◌, ◌≤◌, ◌++◌, ◌∷◌, [], ℕ, List, Some, Ok, Err, true, false, length, slice_get, find, filter, ◌==◌, ◌&&◌, Decides, AllPairs, Contains};
+ghost use Rattle.std.specs.Prelude.{◌≡◌, ◌↔◌, ◌<◌, ◌≤◌, ◌++◌, ◌∷◌, [], ℕ, List, Some, None, Ok, Err, true, false, take, length, slice_get, find, filter, ◌==◌, ◌&&◌, Decides, AllPairs, Contains};
 ghost use Rattle.std.specs.List.{list_any};
 ghost use Rattle.std.specs.Option.{option_map_or};
 ghost use Rattle.jl_types.specs.declared.ids.MethodId.{MethodId};
@@ -29,6 +29,7 @@ ghost use Rattle.jl_types.specs.Links.{scratch};
 ghost use Rattle.jl_types.specs.Calls.{answered, is_receiver, dispatch};
 ghost use Rattle.jl_types.specs.Fast.{entry_answer};
 ghost use Rattle.jl_types.specs.History.{world_after, scratch_after, installs, installed_at, Settled, installed, installed_links, kept};
+ghost use Rattle.jl_types.specs.Entries.{Entry, IsEntry, IsLegal, events_of, table_of, emptied, defines, classes_of};
 
 /// After any events, the parents of a class were defined before it.
 pub fn parents_come_first()
@@ -133,4 +134,32 @@ pub fn each_site_once()
 pub fn one_event_more()
     ensures { (h : List Event) (e : Event) (s : ℕ)
         → installed (h ++ e ∷ []) s ≡ kept (installs s e) (installed h s) (scratch (world_after (h ++ e ∷ [])) s) }
+{}
+
+/// A beginning of a legal list is legal.
+pub fn beginnings_are_legal()
+    ensures { (max_sites : ℕ) (entries : List Entry) → IsLegal max_sites entries → (n : ℕ) → IsLegal max_sites (take n entries) }
+{}
+
+/// The table of a legal list has a slot for each site that may be requested, with what is installed there after the list's
+/// events. No site past the table was requested, so none has a link.
+pub fn slots_are_the_links()
+    ensures size { (max_sites : ℕ) (entries : List Entry) → length (table_of max_sites entries) ≡ max_sites }
+    ensures links { (max_sites : ℕ) (entries : List Entry) → IsLegal max_sites entries → (s : ℕ) → s < max_sites
+        → slice_get (table_of max_sites entries) s ≡ Some (installed (events_of entries) s) }
+    ensures requested { (max_sites : ℕ) (entries : List Entry) → IsLegal max_sites entries
+        → length (world_after (events_of entries)).places ≤ max_sites }
+    ensures beyond { (max_sites : ℕ) (entries : List Entry) → IsLegal max_sites entries → (s : ℕ) → max_sites ≤ s
+        → installed (events_of entries) s ≡ None }
+{}
+
+/// What the reply of an entry drops are the sites of its slots without a link, in order.
+pub fn dropped_are_the_empty_slots()
+    ensures { (max_sites : ℕ) (h : List Event) (entry : Entry) → IsEntry max_sites h entry
+        → entry.reply.dropped ≡ emptied entry.slots }
+{}
+
+/// There are as many classes after a list as events of it define one.
+pub fn definitions_are_the_classes()
+    ensures { (entries : List Entry) → classes_of entries ≡ length (filter defines (events_of entries)) }
 {}

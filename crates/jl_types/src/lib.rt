@@ -2,7 +2,8 @@
 //!
 //! What a link is, and what a call comes to, stands in `specs/`, in reading order: `Target`, `World`, `Members`,
 //! `Ancestry`, `Access`, `Resolution`, `Overriding`, `Selection`, `Targets`, `Sites`, `Links`, `Calls`, `Definitions`,
-//! `Batches`, `Events`, `Preparation`, `History`, `Fast`. The laws about them are the contracts of the functions of `laws`.
+//! `Batches`, `Events`, `Preparation`, `History`, `Entries`, `Fast`. The laws about them are the contracts of the functions
+//! of `laws`.
 #![tactic(auto)]
 
 // Numbers.
@@ -36,9 +37,11 @@ pub use class_id::ClassId;
 pub use event::{Event, Made, Reply};
 pub use ids::{MethodId, Place};
 pub use laws::{
-    accepted_installs, ancestors_are_listed, ancestors_of_ancestors, each_site_once,
+    accepted_installs, ancestors_are_listed, ancestors_of_ancestors, beginnings_are_legal,
+    definitions_are_the_classes, dropped_are_the_empty_slots, each_site_once,
     links_give_the_answers, one_class_more, one_event_more, overriding_in_one_walk,
-    overriding_is_decided, parents_come_first, settled_links, superclasses_upward, unlinked_calls,
+    overriding_is_decided, parents_come_first, settled_links, slots_are_the_links,
+    superclasses_upward, unlinked_calls,
 };
 pub use link::{Link, TableKind, same_link};
 pub use loader_id::LoaderId;

@@ -23,10 +23,10 @@ use Rattle.jl_types.specs.History.{world_after, installed, dropped}
 use Rattle.jl_types.specs.Fast.{fast_answer}
 use Rattle.jl_types.proofs.Rows.Sketch.{method, first, calling, class_ref}
 
-abbrev below : List ℕ → List ℕ → ℕ → List Method → Event
+abbrev pub below : List ℕ → List ℕ → ℕ → List Method → Event
 below parent name flags methods = Define 0 (record { name = name; flags = flags; superclass = Some parent; interfaces = []; nest_host = None; nest_members = []; methods = methods })
 
-abbrev object : Event
+abbrev pub object : Event
 object = Define 0 (record { name = codes "java/lang/Object"; flags = 33; superclass = None; interfaces = []; nest_host = None; nest_members = []; methods = [] })
 
 -- Object 0, A 1 with f, B 2 below A, M 3 that calls A.f, and the request
