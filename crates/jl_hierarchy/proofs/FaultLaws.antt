@@ -1,22 +1,25 @@
 -- The first fault of a definition, test by test.
-use Rattle.std.specs.Prelude.{◌≡◌, ℕ, ◌+◌, ◌<◌, Bool, true, false, cond, not, nat_le, is_none, List, []}
+use Rattle.std.specs.Prelude.{◌≡◌, ℕ, ◌+◌, ◌<◌, ◌==◌, ◌&&◌, Bool, true, false, cond, not, nat_le, is_none, is_some, List, []}
 use Rattle.std.specs.Prelude.{◌∷◌, ◌++◌, find, position, length, slice_get, Option, Some, None, option_map, option_and_then, option_to_list, nat_lt}
 use Rattle.std.specs.Bool.{then_some}
-use Rattle.std.specs.List.{position_or_len}
+use Rattle.std.specs.List.{position_or_len, list_any}
+use Rattle.std.specs.Str.{bytes_eq}
 use Rattle.std.proofs.Common.{refl, ap, ◌∙◌, arith}
 use Rattle.std.proofs.lemmas.Bool.{leb-false}
-use Rattle.jl_types.proofs.Firsts.{test_none}
+use Rattle.jl_types.proofs.Firsts.{test_none, first_none}
 use Rattle.std.proofs.lemmas.Grind.{common_steps}
 use Rattle.std.proofs.lemmas.List.Folds.{find_at}
 use Rattle.std.proofs.lemmas.Option.{slice_get_past}
 use Rattle.jl_classfile.specs.Class.{ClassFile}
+use Rattle.jl_classfile.specs.Conditions.{object}
 use Rattle.jl_types.specs.declared.refusal.DefineFault.{DefineFault}
-use Rattle.jl_types.specs.declared.refusal.DefineFault.TheVariants.{MissingParent, NotAnInterface, InaccessibleParent, Full}
+use Rattle.jl_types.specs.declared.refusal.DefineFault.TheVariants.{UnknownLoader, SecondObject, AlreadyRecorded, NamesItself, MissingParent, NotAnInterface, InaccessibleParent, Full}
 use Rattle.jl_types.specs.World.{Classes}
 use Rattle.jl_types.specs.Members.{lookup, is_interface}
 use Rattle.jl_types.specs.Resolution.{first_of}
 use Rattle.jl_types.specs.Definitions.{parent_names, named_test, is_open_parent, define_fault}
 use Rattle.jl_hierarchy.specs.Faults.{first_faults, superclass_faults, first_place}
+use Rattle.jl_hierarchy.proofs.FirstPlaces.{none_yet}
 
 first_here : {A : Type 0} (p : A → Bool) (x : A) (xs : List A) → p x ≡ true → position p (x ∷ xs) ≡ Some 0
 first_here p x xs e = grind (arith, common_steps)
@@ -143,3 +146,17 @@ has_room cs loader file e =
     ++ option_map NotAnInterface (find (is_none_such cs loader file) file.interfaces)
     ∷ option_map InaccessibleParent (find (is_closed cs loader file) (parent_names file)) ∷ [])
     (then_some (nat_le 65536 (length cs.rows)) Full) e))
+
+third_none : {A : Type 0} (a b c : Option A) (rest : List (Option A)) → first_of (a ∷ b ∷ c ∷ rest) ≡ None → c ≡ None
+third_none None None c rest e = (first_none c rest e).0
+third_none None (Some x) c rest e = cc
+third_none (Some x) b c rest e = cc
+
+-- the name is new to the loader where the definition has no fault
+pub is_new : (cs : Classes) (loader : ℕ) (file : ClassFile) → define_fault cs loader file ≡ None → lookup cs loader file.name ≡ None
+is_new cs loader file e =
+    none_yet (lookup cs loader file.name) (test_none (is_some (lookup cs loader file.name)) AlreadyRecorded (third_none
+    (then_some (nat_le (length cs.loaders) loader) UnknownLoader)
+    (then_some (bytes_eq file.name object && not (loader == 0)) SecondObject)
+    (then_some (is_some (lookup cs loader file.name)) AlreadyRecorded)
+    (then_some (list_any (bytes_eq file.name) (parent_names file)) NamesItself ∷ from_missing cs loader file) e))

@@ -176,32 +176,38 @@ pub kept_as : (cs cs' : Classes) (over over' under under' : List (List ℕ)) →
 kept_as cs cs' over over' under under' e f g kept =
     subst (λ (k : Classes). IsKept k over under) (sym e) (subst (λ o. IsKept cs' o under) (sym f) (subst (λ u. IsKept cs' over' u) (sym g) kept))
 
-module _ (cs : Classes) (over under : List (List ℕ)) (kept : IsKept cs over under) (loader : ℕ) (file : ClassFile) (none : define_fault cs loader file ≡ None)
-    (extends : extends_object file.flags file.superclass ≡ true) (row : Class) (concrete : Bool) (proper own name : List ℕ) (class : ℕ) (front : List (List ℕ))
-    (row_is : row ≡ class_made cs loader file) (concrete_is : concrete ≡ is_concrete_row (class_made cs loader file))
-    (listed : proper ++ length cs.rows ∷ [] ≡ ancestors (defined cs loader file).rows (length cs.rows))
-    (own_is : own ≡ (if is_concrete_row (class_made cs loader file) then length cs.rows ∷ [] else []))
-    (name_is : name ≡ file.name) (class_is : class ≡ length cs.rows)
+-- the class that is added, as its loader makes it of its file
+module _ (cs : Classes) (over under : List (List ℕ)) (kept : IsKept cs over under) (row : Class) (made : row ≡ class_made cs row.loader row.file)
+    (none : define_fault cs row.loader row.file ≡ None) (extends : extends_object row.file.flags row.file.superclass ≡ true)
+    (concrete : Bool) (proper own name : List ℕ) (class : ℕ) (front : List (List ℕ)) (concrete_is : concrete ≡ is_concrete_row row)
+    (listed : proper ++ length cs.rows ∷ [] ≡ ancestors (cs.rows ++ row ∷ []) (length cs.rows))
+    (own_is : own ≡ (if is_concrete_row row then length cs.rows ∷ [] else []))
+    (name_is : name ≡ row.file.name) (class_is : class ≡ length cs.rows)
     (appended : IsAppended (if concrete then proper else []) class under front) where
-  pub classes_are : (loaders' : List (List (List ℕ × ℕ))) (rows' : List Class) → loaders' ≡ with_record cs.loaders loader name class → rows' ≡ cs.rows ++ row ∷ []
-      → ◌≡◌ {A = Classes} (record { loaders = loaders'; rows = rows' }) (defined cs loader file)
+  abbrev with_row : Classes
+  with_row = defined cs row.loader row.file
+
+  pub classes_are : (loaders' : List (List (List ℕ × ℕ))) (rows' : List Class) → loaders' ≡ with_record cs.loaders row.loader name class → rows' ≡ cs.rows ++ row ∷ []
+      → ◌≡◌ {A = Classes} (record { loaders = loaders'; rows = rows' }) with_row
   classes_are loaders' rows' l r = λ i. record {
-    loaders = (l ∙ (λ j. with_record cs.loaders loader (name_is j) (class_is j))) i;
-    rows = (r ∙ (λ j. cs.rows ++ row_is j ∷ [])) i;
+    loaders = (l ∙ (λ j. with_record cs.loaders row.loader (name_is j) (class_is j))) i;
+    rows = (r ∙ (λ j. cs.rows ++ made j ∷ [])) i;
   }
 
   pub kept_all : (loaders' : List (List (List ℕ × ℕ))) (rows' : List Class) (above' below' : List (List ℕ))
-      → loaders' ≡ with_record cs.loaders loader name class → rows' ≡ cs.rows ++ row ∷ []
+      → loaders' ≡ with_record cs.loaders row.loader name class → rows' ≡ cs.rows ++ row ∷ []
       → above' ≡ over ++ (proper ++ class ∷ []) ∷ [] → below' ≡ front ++ own ∷ []
       → IsKept (record { loaders = loaders'; rows = rows' }) above' below'
   kept_all loaders' rows' above' below' l r a b =
-      kept_as (record { loaders = loaders'; rows = rows' }) (defined cs loader file) above' (over ++ (proper ++ length cs.rows ∷ []) ∷ [])
-      below' (front ++ (if is_concrete_row (class_made cs loader file) then length cs.rows ∷ [] else []) ∷ [])
-      (classes_are loaders' rows' l r) (a ∙ (λ i. over ++ (proper ++ class_is i ∷ []) ∷ [])) (b ∙ (λ i. front ++ own_is i ∷ []))
-      (kept_now cs over under kept loader file (has_room cs loader file none) proper listed front
-      (subst (λ k. IsAppended (if k then proper else []) (length cs.rows) under front) concrete_is
+      kept_as (record { loaders = loaders'; rows = rows' }) with_row above' (over ++ (proper ++ length cs.rows ∷ []) ∷ [])
+      below' (front ++ (if is_concrete_row (class_made cs row.loader row.file) then length cs.rows ∷ [] else []) ∷ [])
+      (classes_are loaders' rows' l r) (a ∙ (λ i. over ++ (proper ++ class_is i ∷ []) ∷ []))
+      (b ∙ (λ i. front ++ (own_is ∙ (λ j. if is_concrete_row (made j) then length cs.rows ∷ [] else [])) i ∷ []))
+      (kept_now cs over under kept row.loader row.file (has_room cs row.loader row.file none) proper
+      (listed ∙ (λ i. ancestors (cs.rows ++ made i ∷ []) (length cs.rows))) front
+      (subst (λ k. IsAppended (if k then proper else []) (length cs.rows) under front) (concrete_is ∙ ap is_concrete_row made)
       (subst (λ k. IsAppended (if concrete then proper else []) k under front) class_is appended))
-      (first_defined cs kept.object loader file none extends))
+      (first_defined cs kept.object row.loader row.file none extends))
 
 -- those that get the class as a receiver are there
 pub there_chosen : (concrete : Bool) (xs ys : List ℕ) (n m : ℕ) → ys ≡ (if concrete then xs else []) → n ≡ m → All (λ a. a < n) xs → All (λ a. a < m) ys

@@ -1,12 +1,14 @@
 -- What definitions, delegations and new loaders leave as it was.
-use Rattle.std.specs.Prelude.{◌≡◌, ℕ, ◌<◌, ◌&&◌, Bool, true, List, [], ◌∷◌, ◌++◌, length, slice_get, Some, is_some, if◌then◌else◌}
+use Rattle.std.specs.Prelude.{◌≡◌, ℕ, ◌<◌, ◌&&◌, Bool, true, List, [], ◌∷◌, ◌++◌, length, slice_get, Some, None, is_some, if◌then◌else◌}
 use Rattle.std.specs.List.{AllByRecursion}
+use Rattle.jl_classfile.specs.Class.{ClassFile}
 use Rattle.jl_classfile.specs.Conditions.{object}
 use Rattle.jl_types.specs.World.{Class, Classes}
 use Rattle.jl_types.specs.Members.{lookup, is_concrete, is_interface}
 use Rattle.jl_types.specs.Ancestry.{is_ancestor, AreOrdered}
 use Rattle.jl_types.specs.Ancestry as ancestry
 use Rattle.jl_types.specs.Access.{nest_host}
+use Rattle.jl_types.specs.Definitions.{define_fault, defined}
 
 -- the loader has recorded java/lang/Object
 abbrev pub has_object : Classes → ℕ → Bool
@@ -38,3 +40,7 @@ AddsReceiver old new = (c : ℕ)
     → ancestry.receivers new c
     ≡ (if is_concrete new (length old.rows) && is_ancestor new c (length old.rows)
     then ancestry.receivers old c ++ length old.rows ∷ [] else ancestry.receivers old c)
+
+-- the others have one class more, which a loader defined that was free to
+abbrev pub IsNext : Classes → Classes → Type 0
+IsNext old ahead = (loader : ℕ) × (file : ClassFile) × (define_fault old loader file ≡ None) × (ahead ≡ defined old loader file)

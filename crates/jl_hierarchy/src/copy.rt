@@ -41,7 +41,7 @@ fn copy_rows(alloc: Global, rows: &[Row]) -> Result<Vec<Row>, AllocError>
 {
     let mut made = Vec::with_capacity(alloc, rows.len())?;
     for row in rows {
-        made.push(row.copy(alloc)?)?;
+        made.push(row.copy()?)?;
     }
     Ok(made)
 }

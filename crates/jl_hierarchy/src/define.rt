@@ -78,8 +78,39 @@ impl Classes {
         ensures receivers { OnOk result (AddsReceiver self.old self.new) }
         ensures err { OnErr result (self.new ≡ self.old) }
     {
-        let name = name_of(alloc, &file)?;
-        let growth = self.growth(alloc, loader, file)?;
+        let row = self.row_made(alloc, loader, file)?;
+        let class = self.add_row(alloc, row)?;
+        Ok(class)
+    }
+
+    /// The class that the loader makes of the file, as it is kept. Want of memory is an error.
+    fn row_made(&self, alloc: Global, loader: LoaderId, file: ClassFile) -> Result<Row, AllocError>
+        ensures row { IfOk result (λ row. row ≡ definitions.class_made self.now loader file) }
+        ensures interface { OnOk result (extends_object file.flags file.superclass ≡ true) }
+    {
+        let made = self.class_made(alloc, loader, file)?;
+        Row::new(alloc, made)
+    }
+
+    /// Adds the class of the row, which its loader may define. Every growth comes before the first change, or is it.
+    ///
+    /// # Errors
+    ///
+    /// Want of memory. Nothing has changed then.
+    pub(crate) fn add_row(&mut self, alloc: Global, row: Row) -> Result<ClassId, AllocError>
+        requires made { row ≡ definitions.class_made self.old row.loader row.file }
+        requires accepted { definitions.define_fault self.old row.loader row.file ≡ None }
+        requires interface { extends_object row.file.flags row.file.superclass ≡ true }
+        ensures number { IfOk result (λ class. class ≡ length self.old.rows) }
+        ensures ok { OnOk result (self.new ≡ definitions.defined self.old row.loader row.file) }
+        ensures in_order { OnOk result (AreInOrder self.old) }
+        ensures stays { OnOk result (Stays self.old self.new) }
+        ensures receivers { OnOk result (AddsReceiver self.old self.new) }
+        ensures err { OnErr result (self.new ≡ self.old) }
+    {
+        let loader = row.class().loader();
+        let name = name_of(alloc, &row)?;
+        let growth = self.growth(alloc, row)?;
         let class = ClassId::new(self.rows.as_slice().len() as u32);
         reserve_all(
             &mut self.rows,
@@ -98,26 +129,24 @@ impl Classes {
         Ok(class)
     }
 
-    /// What the definition of the class adds. Want of memory is an error.
-    fn growth(&self, alloc: Global, loader: LoaderId, file: ClassFile) -> Result<Growth, AllocError>
-        ensures row { IfOk result (λ growth. growth.row ≡ definitions.class_made self.now loader file) }
-        ensures concrete { IfOk result (λ growth. growth.is_concrete ≡ members.is_concrete_row (definitions.class_made self.now loader file)) }
+    /// What a class adds, which its loader makes of its file. Want of memory is an error.
+    fn growth(&self, alloc: Global, row: Row) -> Result<Growth, AllocError>
+        requires { row ≡ definitions.class_made self.now row.loader row.file }
+        ensures row { IfOk result (λ growth. growth.row ≡ row) }
+        ensures concrete { IfOk result (λ growth. growth.is_concrete ≡ members.is_concrete_row row) }
         ensures all { IfOk result (λ growth. growth.ancestors.items ++ length self.now.rows ∷ []
-            ≡ ancestry.ancestors (definitions.defined self.now loader file).rows (length self.now.rows)) }
+            ≡ ancestry.ancestors (self.now.rows ++ row ∷ []) (length self.now.rows)) }
         ensures rising { IfOk result (λ growth. Rises growth.ancestors.items) }
         ensures there { IfOk result (λ growth. All (λ a. a < length self.now.rows) growth.ancestors.items) }
         ensures room { IfOk result (λ growth. vec_len growth.ancestors < vec_capacity growth.ancestors) }
-        ensures interface { OnOk result (extends_object file.flags file.superclass ≡ true) }
         ensures own { IfOk result (λ growth. growth.own.items
-            ≡ (if members.is_concrete_row (definitions.class_made self.now loader file) then length self.now.rows ∷ [] else [])) }
+            ≡ (if members.is_concrete_row row then length self.now.rows ∷ [] else [])) }
     {
         let class = ClassId::new(self.rows.as_slice().len() as u32);
-        let made = self.class_made(alloc, loader, file)?;
-        let is_concrete = is_concrete(&made);
-        let mut ancestors = self.proper_ancestors(alloc, &made)?;
+        let is_concrete = is_concrete(row.class());
+        let mut ancestors = self.proper_ancestors(alloc, row.class())?;
         ancestors.reserve(1)?;
         let own = own_receivers(alloc, is_concrete, class)?;
-        let row = Row::new(alloc, made)?;
         Ok(Growth {
             row,
             is_concrete,
@@ -128,10 +157,10 @@ impl Classes {
 }
 
 /// The class's name, as a loader records it. Want of memory is an error.
-fn name_of(alloc: Global, file: &ClassFile) -> Result<Vec<u8>, AllocError>
-    ensures { IfOk result (λ name. name.items ≡ file.now.name) }
+fn name_of(alloc: Global, row: &Row) -> Result<Vec<u8>, AllocError>
+    ensures { IfOk result (λ name. name.items ≡ row.now.file.name) }
 {
-    file.name().as_slice().to_vec(alloc)
+    row.class().file().name().as_slice().to_vec(alloc)
 }
 
 /// Makes room for one class more: for its row, its ancestors and its receivers, and in the list of each of these. Want of

@@ -13,6 +13,7 @@ mod defaults;
 mod define;
 mod delegate;
 mod faults;
+mod follow;
 mod growth;
 mod loader;
 mod members;

@@ -9,15 +9,71 @@ use jl_classfile::Method;
 use jl_types::Class;
 use std::alloc::{AllocError, Global};
 use std::marker::Model;
+use std::sync::Arc;
+
+/// A class as it is kept, which copies of the classes share. A clause sees the class alone.
+pub(crate) struct Row {
+    kept: Arc<Indexed>,
+}
+
+impl Model for Row {
+    ghost use Rattle.jl_types.specs.World.{Class};
+
+    ghost Value = { Class };
+
+    ghost view = { λ r. r.kept.value };
+}
+
+/// Written out, so that what drops a row makes one call of it and doesn't take apart what the row holds.
+impl Drop for Row {
+    fn drop(self) {
+        let Row { kept: _kept } = self;
+    }
+}
+
+impl Row {
+    /// The class as it is kept. Want of memory is an error.
+    pub(crate) fn new(alloc: Global, class: Class) -> Result<Row, AllocError>
+        ensures { IfOk result (λ row. row ≡ class) }
+    {
+        let kept = Indexed::new(alloc, class)?;
+        Ok(Row {
+            kept: Arc::new(alloc, kept)?,
+        })
+    }
+
+    /// The class.
+    pub(crate) fn class(&self) -> &Class
+        ensures { result.now ≡ self.now }
+    {
+        self.kept.class()
+    }
+
+    /// The same class once more, which both share. Too many copies are an error.
+    pub(crate) fn copy(&self) -> Result<Row, AllocError>
+        ensures { IfOk result (λ copy. copy ≡ self.now) }
+    {
+        Ok(Row {
+            kept: Arc::try_clone(&self.kept)?,
+        })
+    }
+
+    /// The place of the method of this name and descriptor.
+    pub(crate) fn place_of(&self, name: &[u8], ty: &[u8]) -> Option<u16>
+        ensures { result ≡ position (members.is_called name.now ty.now) self.now.file.methods }
+    {
+        self.kept.place_of(name, ty)
+    }
+}
 
 /// A class, with the place of its first method of each name, so that one look-up tells that it declares none of a name. A
 /// clause sees the class alone.
-pub(crate) struct Row {
+struct Indexed {
     class: Class,
     firsts: IndexMap<Vec<u8>, u16>,
 }
 
-impl Model for Row {
+impl Model for Indexed {
     ghost use Rattle.std.specs.Prelude.{◌≡◌, []};
     ghost use Rattle.jl_types.specs.World.{Class};
     ghost use Rattle.jl_hierarchy.specs.Kept.{named, firsts_of};
@@ -29,44 +85,34 @@ impl Model for Row {
     ghost invariant = { λ r. named r.firsts.entries ≡ firsts_of [] 0 r.class.file.methods };
 }
 
-/// Written out, so that what drops a row makes one call of it and doesn't take apart what the row holds.
-impl Drop for Row {
+/// Written out, as a row's is.
+impl Drop for Indexed {
     fn drop(self) {
-        let Row {
+        let Indexed {
             class: _class,
             firsts: _firsts,
         } = self;
     }
 }
 
-impl Row {
-    /// The class as it is kept. Want of memory is an error.
-    pub(crate) fn new(alloc: Global, class: Class) -> Result<Row, AllocError>
-        ensures { IfOk result (λ row. row ≡ class) }
+impl Indexed {
+    /// The class with the places of its methods. Want of memory is an error.
+    fn new(alloc: Global, class: Class) -> Result<Indexed, AllocError>
+        ensures { IfOk result (λ indexed. indexed ≡ class) }
     {
         let firsts = first_places(alloc, &class)?;
-        Ok(Row { class, firsts })
+        Ok(Indexed { class, firsts })
     }
 
     /// The class.
-    pub(crate) fn class(&self) -> &Class
+    fn class(&self) -> &Class
         ensures { result.now ≡ self.now }
     {
         &self.class
     }
 
-    /// The same class once more. Want of memory is an error.
-    pub(crate) fn copy(&self, alloc: Global) -> Result<Row, AllocError>
-        ensures { IfOk result (λ copy. copy ≡ self.now) }
-    {
-        Ok(Row {
-            class: self.class.copy(alloc)?,
-            firsts: self.firsts.clone()?,
-        })
-    }
-
     /// The place of the method of this name and descriptor.
-    pub(crate) fn place_of(&self, name: &[u8], ty: &[u8]) -> Option<u16>
+    fn place_of(&self, name: &[u8], ty: &[u8]) -> Option<u16>
         ensures { result ≡ position (members.is_called name.now ty.now) self.now.file.methods }
     {
         let first = self.first_named(name)?;

@@ -1,6 +1,6 @@
 use Rattle.std.proofs.Common.{◌∙◌}
 use Rattle.jl_hierarchy.proofs.FirstPlaces.{called_nowhere}
-use Rattle.jl_hierarchy.proofs.row.Row.place_of.Goals as goal
+use Rattle.jl_hierarchy.proofs.row.Indexed.place_of.Goals as goal
 
 pub returns-in_err-first : goal.returns-in_err-first
 returns-in_err-first c =

@@ -5,7 +5,7 @@ use Rattle.jl_types.specs.Members.{recorded}
 use Rattle.jl_hierarchy.specs.Kept.{is_named}
 use Rattle.jl_hierarchy.proofs.FirstPlaces.{first_place}
 use Rattle.jl_hierarchy.proofs.Records.{recorded_is}
-use Rattle.jl_hierarchy.proofs.row.Row.first_named.Goals as goal
+use Rattle.jl_hierarchy.proofs.row.Indexed.first_named.Goals as goal
 
 pub returns : goal.returns
 returns c =

@@ -1,13 +1,15 @@
 use Rattle.std.specs.Prelude.{◌≡◌, ℕ, List, [], ◌∷◌, ◌++◌, length, if◌then◌else◌}
-use Rattle.std.proofs.Common.{refl, ap, sym, subst, ◌∙◌, rules}
+use Rattle.std.proofs.Common.{refl, ap, sym, subst, ◌∙◌}
 use Rattle.jl_types.specs.World.{Class, Classes}
+use Rattle.jl_types.specs.Members.{lookup}
 use Rattle.jl_types.specs.Definitions.{with_record, defined}
 use Rattle.jl_hierarchy.specs.Constancy.{Stays, AddsReceiver}
 use Rattle.jl_hierarchy.specs.Kept.{IsKept, IsAppended, lists}
 use Rattle.jl_hierarchy.proofs.KeptLaws.{many_below, good, in_order}
+use Rattle.jl_hierarchy.proofs.FaultLaws.{is_new}
 use Rattle.jl_hierarchy.proofs.Constancy.{stays_defined, adds_receiver}
 use Rattle.jl_hierarchy.proofs.NewClass.{kept_all, there_chosen, kept_as}
-use Rattle.jl_hierarchy.proofs.classes.Classes.add.Goals as goal
+use Rattle.jl_hierarchy.proofs.classes.Classes.add_row.Goals as goal
 
 pub reserve_all-requires : goal.reserve_all-requires
 reserve_all-requires c =
@@ -16,6 +18,11 @@ reserve_all-requires c =
     (c.receiving.ensures ∙ ap (λ (xs : List ℕ). if g.is_concrete then xs else []) c.deref.ensures.value)
     (many_below _ _ _ c.self.invariant c.args.self.now c.self.view_is c.self.inside.below.items refl)
     c.in_ok-growth.ensures.there
+
+pub record_in-requires-clause-fresh : goal.record_in-requires-clause-fresh
+record_in-requires-clause-fresh c =
+    (λ i. lookup (c.self.view_is i) ((c.loader-loader.ensures ∙ ap (λ (k : Class). k.loader) c.class.ensures) i) (c.in_ok-name.ensures i))
+    ∙ is_new c.args.self.now c.args.row.loader c.args.row.file c.requires.accepted
 
 pub invariant_of-self-in_err-record_in : goal.invariant_of-self-in_err-record_in
 invariant_of-self-in_err-record_in c =
@@ -33,37 +40,53 @@ push_all-requires-clause-there c =
     (many_below _ _ _ c.self.invariant c.args.self.now c.self.view_is c.reserve_all.new.below.items c.in_ok-reserve_all.ensures.below)
     c.in_ok-growth.ensures.there
 
+numbered : (c : goal.After-push_all) → c.new-class.result ≡ length c.args.self.now.rows
+numbered c = c.new-class.ensures ∙ ap length c.as_slice.ensures.value ∙ ap (λ (k : Classes). length k.rows) c.self.view_is
+
+-- the parts afterwards, by those before
+loaders_are : (c : goal.After-push_all)
+    → c.record_in.new.loaders.items ≡ with_record c.args.self.now.loaders c.args.row.loader c.in_ok-name.name.items c.new-class.result
+loaders_are c =
+    c.in_ok-record_in.ensures.ok
+    ∙ (λ i. with_record (c.self.view_is i).loaders ((c.loader-loader.ensures ∙ ap (λ (k : Class). k.loader) c.class.ensures) i) c.in_ok-name.name.items c.new-class.result)
+
+rows_are : (c : goal.After-push_all) → c.push_all.new.rows.items ≡ c.args.self.now.rows ++ c.args.row ∷ []
+rows_are c =
+    c.push_all.ensures.rows
+    ∙ (λ i. (c.in_ok-reserve_all.ensures.rows ∙ ap (λ (k : Classes). k.rows) c.self.view_is) i ++ c.in_ok-growth.ensures.row i ∷ [])
+
 pub invariant_of-self-2 : goal.invariant_of-self-2
 invariant_of-self-2 c =
     let g = c.in_ok-growth.growth in
     let class = c.new-class.result in
     kept_all c.args.self.now c.self.inside.above.items (lists c.self.inside.below.items)
     (subst (λ (k : Classes). IsKept k c.self.inside.above.items (lists c.self.inside.below.items)) c.self.view_is c.self.invariant)
-    c.args.loader c.args.file c.requires c.in_ok-growth.ensures.interface g.row g.is_concrete g.ancestors.items g.own.items c.in_ok-name.name.items class c.push_all.ensures.below.0
-    c.in_ok-growth.ensures.row c.in_ok-growth.ensures.concrete c.in_ok-growth.ensures.all c.in_ok-growth.ensures.own
-    c.in_ok-name.ensures
-    (c.new-class.ensures ∙ ap length c.as_slice.ensures.value ∙ ap (λ (k : Classes). length k.rows) c.self.view_is)
+    c.args.row c.requires.made c.requires.accepted c.requires.interface
+    g.is_concrete g.ancestors.items g.own.items c.in_ok-name.name.items class c.push_all.ensures.below.0
+    c.in_ok-growth.ensures.concrete c.in_ok-growth.ensures.all c.in_ok-growth.ensures.own c.in_ok-name.ensures (numbered c)
     (subst (λ ls. IsAppended (if g.is_concrete then g.ancestors.items else []) class ls c.push_all.ensures.below.0) c.in_ok-reserve_all.ensures.below c.push_all.ensures.below.1)
     c.record_in.new.loaders.items c.push_all.new.rows.items c.push_all.new.above.items (lists c.push_all.new.below.items)
-    (c.in_ok-record_in.ensures.ok ∙ ap (λ (k : Classes). with_record k.loaders c.args.loader c.in_ok-name.name.items class) c.self.view_is)
-    (c.push_all.ensures.rows ∙ ap (λ (rs : List Class). rs ++ g.row ∷ []) (c.in_ok-reserve_all.ensures.rows ∙ ap (λ (k : Classes). k.rows) c.self.view_is))
+    (loaders_are c) (rows_are c)
     (c.push_all.ensures.above ∙ ap (λ (ls : List (List ℕ)). ls ++ (g.ancestors.items ++ class ∷ []) ∷ []) c.in_ok-reserve_all.ensures.above)
     c.push_all.ensures.below.2
 
 -- the classes afterwards
 made : (c : goal.After-push_all)
-    → ◌≡◌ {A = Classes} (record { loaders = c.record_in.new.loaders.items; rows = c.push_all.new.rows.items }) (defined c.args.self.now c.args.loader c.args.file)
-made c = search rules
+    → ◌≡◌ {A = Classes} (record { loaders = c.record_in.new.loaders.items; rows = c.push_all.new.rows.items }) (defined c.args.self.now c.args.row.loader c.args.row.file)
+made c = λ i. record {
+  loaders = (loaders_are c ∙ (λ j. with_record c.args.self.now.loaders c.args.row.loader (c.in_ok-name.ensures j) (numbered c j))) i;
+  rows = (rows_are c ∙ (λ j. c.args.self.now.rows ++ c.requires.made j ∷ [])) i;
+}
 
 pub returns-clause-stays : goal.returns-clause-stays
 returns-clause-stays c =
     subst (λ (new : Classes). Stays c.args.self.now new) (sym (made c))
-    (stays_defined c.args.self.now (good _ _ _ c.self.invariant c.args.self.now c.self.view_is) c.args.loader c.args.file)
+    (stays_defined c.args.self.now (good _ _ _ c.self.invariant c.args.self.now c.self.view_is) c.args.row.loader c.args.row.file)
 
 pub returns-clause-receivers : goal.returns-clause-receivers
 returns-clause-receivers c =
     subst (λ (new : Classes). AddsReceiver c.args.self.now new) (sym (made c))
-    (adds_receiver c.args.self.now (good _ _ _ c.self.invariant c.args.self.now c.self.view_is).ordered c.args.loader c.args.file)
+    (adds_receiver c.args.self.now (good _ _ _ c.self.invariant c.args.self.now c.self.view_is).ordered c.args.row.loader c.args.row.file)
 
 pub returns-clause-in_order : goal.returns-clause-in_order
 returns-clause-in_order c = in_order _ _ _ c.self.invariant c.args.self.now c.self.view_is
