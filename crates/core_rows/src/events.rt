@@ -32,6 +32,17 @@ pub(crate) fn is_accepted(alloc: Global, core: &mut Core, event: Event) -> bool 
     core.apply(alloc, event).is_ok()
 }
 
+/// Whether the event is planned; it is committed then.
+pub(crate) fn is_committed(alloc: Global, core: &mut Core, event: Event) -> bool {
+    match core.plan(alloc, event) {
+        Ok(planned) => {
+            let _reply = core.commit(planned);
+            true
+        }
+        Err(_) => false,
+    }
+}
+
 /// Whether loader 0 defines the class of the file.
 fn is_read(alloc: Global, core: &mut Core, file: &[u8]) -> bool {
     match read_class(alloc, file) {

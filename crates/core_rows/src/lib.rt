@@ -9,3 +9,5 @@ mod cores;
 mod events;
 #[cfg(test)]
 mod logs;
+#[cfg(test)]
+mod plans;

@@ -1,6 +1,6 @@
 //! The events that a core accepted, as it keeps them.
 
-use crate::events::{OBJECT, first, install, is_accepted, is_defined};
+use crate::events::{OBJECT, first, install, is_accepted, is_committed, is_defined};
 use jl_core::{Accepted, Core, Entry};
 use jl_names::{Name, Seq};
 use jl_types::{
@@ -14,7 +14,7 @@ use std::process::Abort;
 const T: &str =
     "cafebabe0000003d000c010001540700010100106a6176612f6c616e672f4f626a6563740700030100016d010003282956010004436f646501000172010001640c00090006120000000a002100020004000000000002000900050006000100070000000d0000000000000001b10000000000090008000600010007000000120000000000000006ba000b0000b1000000000000";
 
-/// The entries of the events of `assert_events`, as they print.
+/// The entries of a first loader and the events of `assert_events`, as they print.
 const LOG: &[&str] = &[
     "Entry { event: NewLoader, reply: Reply { made: Loader(LoaderId(1)), dropped: Seq { items: [] } } }",
     "Entry { event: Define(ClassId(0)), reply: Reply { made: Class(ClassId(0)), dropped: Seq { items: [] } } }",
@@ -74,7 +74,6 @@ fn request() -> Event {
 
 fn assert_classes(rt: &(impl Abort + AllocGlobal), core: &mut Core) -> Result<(), AllocError> {
     let alloc = rt.alloc();
-    assert!(rt; is_accepted(alloc, core, Event::NewLoader));
     assert!(rt; is_defined(alloc, core, OBJECT));
     // Loader 0 has one, so this has no entry.
     assert!(rt; !is_defined(alloc, core, OBJECT));
@@ -156,5 +155,14 @@ fn assert_events(rt: &(impl Abort + AllocGlobal), core: &mut Core) -> Result<(),
 #[test]
 fn keeps_the_accepted_events(rt: HostRuntime) -> Result<(), AllocError> {
     let mut core = Core::new(rt.alloc(), 1)?;
+    assert!(rt; is_accepted(rt.alloc(), &mut core, Event::NewLoader));
+    assert_events(&rt, &mut core)
+}
+
+// The first event is planned and committed, so each further one is: the second instance comes after every kind of event.
+#[test]
+fn keeps_planned_events(rt: HostRuntime) -> Result<(), AllocError> {
+    let mut core = Core::new(rt.alloc(), 1)?;
+    assert!(rt; is_committed(rt.alloc(), &mut core, Event::NewLoader));
     assert_events(&rt, &mut core)
 }

@@ -17,7 +17,7 @@ use Rattle.jl_types.proofs.Accepting.{linked}
 use Rattle.jl_types.proofs.Installed.{installed_to, installed_from, settled_now}
 use Rattle.jl_types.proofs.InstalledLinks.{links_are, installed_requested}
 use Rattle.jl_types.proofs.Lists.{before_end, at_end}
-use Rattle.jl_core.specs.State.{State, empty_core, events, world_of, links_of, IsApplied}
+use Rattle.jl_core.specs.State.{State, empty_core, events, world_of, links_of, AreAnswered, IsApplied}
 use Rattle.jl_core.specs.Headline.{AreApplied}
 
 -- ---- the links
@@ -49,9 +49,6 @@ links_exact core s l = (to, from)
 
 -- ---- the log
 
-abbrev AreAnswered : State → Type 0
-AreAnswered core = (n : ℕ) (e : Event) (reply : Reply) → slice_get core.log n ≡ Some (e, reply) → history.reply core.max_sites (take n (events core)) e ≡ Ok reply
-
 module _ (m : ℕ) (log : List (Event × Reply)) (e : Event) (reply : Reply) where
   abbrev before : State
   before = record { max_sites = m; log = log }
@@ -70,7 +67,7 @@ module _ (m : ℕ) (log : List (Event × Reply)) (e : Event) (reply : Reply) whe
   all_events : take (length log) (events before) ≡ events before
   all_events = ap (λ k. take k (events before)) (sym (length-map log (λ (entry : Event × Reply). entry.0))) ∙ take-length (events before)
 
-  answered_more : AreAnswered before → history.reply m (events before) e ≡ Ok reply → AreAnswered after
+  pub answered_more : AreAnswered before → history.reply m (events before) e ≡ Ok reply → AreAnswered after
   answered_more h now n x r is = by_place (cases_lt n (length log))
     where
       last : n ≡ length log → history.reply m (take n (events after)) x ≡ Ok r
@@ -103,7 +100,7 @@ all_answered old (e ∷ es) new h is =
     let rest = all_answered next es new one.0 is.3 in
     (rest.0, rest.1 ∙ one.1)
 
-none_answered : (m : ℕ) → AreAnswered (empty_core m)
+pub none_answered : (m : ℕ) → AreAnswered (empty_core m)
 none_answered m n e reply is = absurd (nothing n (e, reply) is)
   where
     nothing : (n : ℕ) (x : Event × Reply) → slice_get [] n ≡ Some x → ⊥

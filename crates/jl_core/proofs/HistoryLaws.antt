@@ -18,10 +18,11 @@ use Rattle.jl_types.proofs.OneMore.{installed_step}
 use Rattle.jl_select.specs.Constancy.{IsConstant}
 use Rattle.jl_cache.specs.Links.{link_at}
 use Rattle.jl_core.specs.declared.log.Entry.{Entry}
-use Rattle.jl_core.specs.State.{State, events, world_of, IsAccepted}
-use Rattle.jl_core.specs.Logs.{are_told, shown}
+use Rattle.jl_core.specs.State.{State, events, world_of, AreAnswered, IsAccepted}
+use Rattle.jl_core.specs.Logs.{are_told, shown, IsLogged}
 use Rattle.jl_core.specs.Changes.{AreScratch, IsDone}
 use Rattle.jl_core.proofs.LogLaws.{rows_stay, all_still, told_more, shown_more}
+use Rattle.jl_core.proofs.HeadlineLaws.{answered_more}
 
 -- the core of a log
 abbrev pub core_of : ℕ → World → List Entry → State
@@ -32,6 +33,7 @@ pub record IsExact (m : ℕ) (w : World) (cached : List (ℕ × Link)) (log : Li
   pub world : w ≡ world_of (core_of m w log)
   pub links : (s : ℕ) → link_at cached s ≡ installed (events (core_of m w log)) s
   pub told : are_told w.classes.rows log ≡ true
+  pub answered : AreAnswered (core_of m w log)
 
 -- so each link is the one from scratch
 pub exact_links : (m : ℕ) (w : World) (links : List (ℕ × Link)) (log : List Entry) → IsExact m w links log → AreScratch w links
@@ -39,22 +41,34 @@ exact_links m w links log is = λ s l e.
     let h = events (core_of m w log) in
     ap (λ (v : World). scratch v s) is.world ∙ settled_now h s l (installed_to h s l (sym (is.links s) ∙ e))
 
+-- ---- a world and a log that come one event further
+
+module _ (old new : World) (log more : List Entry) (e : Event) (reply : Reply)
+    (told : are_told old.classes.rows log ≡ true) (moved : new ≡ step old e) (logged : IsLogged new.classes.rows e reply log more) where
+  stay : (c : ℕ) (row : Class) → slice_get old.classes.rows c ≡ Some row → slice_get new.classes.rows c ≡ Some row
+  stay c row is = ap (λ (w : World). slice_get w.classes.rows c) moved ∙ rows_stay old e c row is
+
+  still : (are_told new.classes.rows log ≡ true) × (shown new.classes.rows log ≡ shown old.classes.rows log)
+  still = all_still old.classes.rows new.classes.rows stay log told
+
+  pub shown_further : shown new.classes.rows more ≡ shown old.classes.rows log ++ (e, reply) ∷ []
+  shown_further =
+      ap (shown new.classes.rows) logged.last
+      ∙ shown_more new.classes.rows logged.accepted reply e logged.is log
+      ∙ ap (λ (xs : List (Event × Reply)). xs ++ (e, reply) ∷ []) still.1
+
+  pub told_further : are_told new.classes.rows more ≡ true
+  told_further = ap (are_told new.classes.rows) logged.last ∙ told_more new.classes.rows logged.accepted reply e logged.is log still.0
+
+-- ---- one event more
+
 module _ (m : ℕ) (old new : World) (before after : List (ℕ × Link)) (log more : List Entry) (e : Event) (reply : Reply)
     (exact : IsExact m old before log) (done : IsDone (verdict m old e) old new before after log more e reply) where
   abbrev h : List Event
   h = events (core_of m old log)
 
-  stay : (c : ℕ) (row : Class) → slice_get old.classes.rows c ≡ Some row → slice_get new.classes.rows c ≡ Some row
-  stay c row is = ap (λ (w : World). slice_get w.classes.rows c) done.world ∙ rows_stay old e c row is
-
-  still : (are_told new.classes.rows log ≡ true) × (shown new.classes.rows log ≡ shown old.classes.rows log)
-  still = all_still old.classes.rows new.classes.rows stay log exact.told
-
   shown_after : shown new.classes.rows more ≡ shown old.classes.rows log ++ (e, reply) ∷ []
-  shown_after =
-      ap (shown new.classes.rows) done.logged.last
-      ∙ shown_more new.classes.rows done.logged.accepted reply e done.logged.is log
-      ∙ ap (λ (xs : List (Event × Reply)). xs ++ (e, reply) ∷ []) still.1
+  shown_after = shown_further old new log more e reply exact.told done.world done.logged
 
   events_after : events (core_of m new more) ≡ h ++ e ∷ []
   events_after =
@@ -67,15 +81,6 @@ module _ (m : ℕ) (old new : World) (before after : List (ℕ × Link)) (log mo
   links_more : (s : ℕ) → link_at after s ≡ installed (h ++ e ∷ []) s
   links_more s = done.links s ∙ (λ i. kept (installs s e) (exact.links s i) (scratch (world_more i) s)) ∙ sym (installed_step h e s)
 
-  pub exact_after : IsExact m new after more
-  exact_after = record {
-    world = world_more ∙ ap world_after (sym events_after);
-    links = λ s. links_more s ∙ ap (λ (es : List Event). installed es s) (sym events_after);
-    told =
-        ap (are_told new.classes.rows) done.logged.last
-        ∙ told_more new.classes.rows done.logged.accepted reply e done.logged.is log still.0;
-  }
-
   same_dropped : dropped h e ≡ reply.dropped
   same_dropped =
       (λ i. filter (λ s. is_some (sym (exact.links s) i) && is_none (sym (links_more s) i)) (range_with_len 0 (length (sym exact.world i).places)))
@@ -85,6 +90,16 @@ module _ (m : ℕ) (old new : World) (before after : List (ℕ × Link)) (log mo
   answered =
       (λ i. replied (same_dropped i) (verdict m (sym exact.world i) e))
       ∙ ap (replied reply.dropped) done.made
+
+  pub exact_after : IsExact m new after more
+  exact_after = record {
+    world = world_more ∙ ap world_after (sym events_after);
+    links = λ s. links_more s ∙ ap (λ (es : List Event). installed es s) (sym events_after);
+    told = told_further old new log more e reply exact.told done.world done.logged;
+    answered =
+        subst (λ (entries : List (Event × Reply)). AreAnswered (record { max_sites = m; log = entries })) (sym shown_after)
+        (answered_more m (shown old.classes.rows log) e reply exact.answered answered);
+  }
 
   pub accepted_after : IsAccepted (core_of m old log) (core_of m new more) e reply
   accepted_after = record {
@@ -114,3 +129,8 @@ pub unchanged_if : (m : ℕ) (old new : World) (log more : List Entry) (r : Resu
     → OnErr r (core_of m new more ≡ core_of m old log)
 unchanged_if m old new log more (Ok reply) w g = tt
 unchanged_if m old new log more (Err r) w g = λ i. core_of m (w i) (g i)
+
+-- the same world, links and log
+pub exact_same : (m : ℕ) (w v : World) (links same : List (ℕ × Link)) (log more : List Entry) → v ≡ w → same ≡ links → more ≡ log → IsExact m w links log → IsExact m v same more
+exact_same m w v links same log more e f g exact = subst (λ (x : World). IsExact m x same more) (sym e)
+    (subst (λ (ls : List (ℕ × Link)). IsExact m w ls more) (sym f) (subst (IsExact m w links) (sym g) exact))

@@ -9,3 +9,7 @@ pub mod QuietLaws
 pub mod HeadlineLaws
 pub mod Rows
 pub mod CallSiteLaws
+pub mod ReplayLaws
+pub mod SlotLaws
+pub mod FollowLaws
+pub mod PlanLaws

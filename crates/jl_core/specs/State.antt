@@ -1,6 +1,6 @@
 -- A core as its callers see it: the events that it accepted, each with its reply. What there is to link and which links are
 -- installed (polymorphic inline caches: Hölzle, Chambers and Ungar 1991) is what these events come to.
-use Rattle.std.specs.Prelude.{◌≡◌, ◌⊎◌, ℕ, List, [], ◌∷◌, ◌++◌, map, Result, Ok, Err, IsOk}
+use Rattle.std.specs.Prelude.{◌≡◌, ◌⊎◌, ℕ, List, [], ◌∷◌, ◌++◌, map, take, slice_get, Some, Result, Ok, Err, IsOk}
 use Rattle.jl_types.specs.declared.link.Link.{Link}
 use Rattle.jl_types.specs.declared.event.Event.{Event}
 use Rattle.jl_types.specs.declared.event.Made.{Made}
@@ -31,6 +31,10 @@ world_of core = world_after (events core)
 -- the links that the events leave installed, by rising number of their sites
 abbrev pub links_of : State → List (ℕ × Link)
 links_of core = installed_links (events core)
+
+-- each event was answered as those before it say
+abbrev pub AreAnswered : State → Type 0
+AreAnswered core = (n : ℕ) (e : Event) (reply : Reply) → slice_get core.log n ≡ Some (e, reply) → history.reply core.max_sites (take n (events core)) e ≡ Ok reply
 
 -- ---- one event
 

@@ -201,7 +201,7 @@ pub(crate) fn bind(
 }
 
 /// Why the site isn't bound to the call site.
-fn bind_refusal(world: &World, site: SiteNo, call_site: CallSiteId) -> Option<Refusal>
+pub(crate) fn bind_refusal(world: &World, site: SiteNo, call_site: CallSiteId) -> Option<Refusal>
     ensures { result ≡ events.bind_fault world.now site call_site (slice_get world.now.places site) }
 {
     let Some(place) = world.places.get_index(site.number() as usize) else {

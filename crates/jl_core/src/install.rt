@@ -45,7 +45,7 @@ pub(crate) fn install(
 }
 
 /// The refusal of an install of these rows, if there is one. Takes no memory.
-fn install_refusal(world: &World, rows: &[(SiteNo, Link)]) -> Option<Refusal>
+pub(crate) fn install_refusal(world: &World, rows: &[(SiteNo, Link)]) -> Option<Refusal>
     ensures { result ≡ events.install_fault world.now rows.now }
 {
     if is_bad_size(rows.len()) {

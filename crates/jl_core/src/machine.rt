@@ -7,47 +7,44 @@ ghost use Rattle.jl_types.specs.History.{installed};
 ghost use Rattle.jl_relink.specs.Preparations.{IsPreparation};
 ghost use Rattle.jl_cache.specs.Links.{link_at};
 ghost use Rattle.jl_core.specs.State.{State, empty_core, events, world_of, links_of, IsAccepted, IsRefused};
+ghost use Rattle.jl_core.specs.Plans.{IsPlanned, IsAsPlanned};
 ghost use Rattle.jl_core.specs.Logs.{shown, are_told};
 
-use crate::change::change;
+use crate::instance::Instance;
 use crate::log::Entry;
+use crate::plan::Planned;
 use jl_cache::Cache;
 use jl_relink::{Prepared, Snapshot, World, dispatch, prepare_in};
 use jl_types::{Answer, Event, Link, PrepareFault, Recv, Refusal, Reply, SiteNo};
 use std::alloc::{AllocError, Global};
 use std::marker::Model;
+use std::mem;
 
-/// What there is to link, the links that are installed, and the accepted events. A clause sees the events with their replies,
-/// and how many sites there may be; the others are what the events come to.
+/// The accepted events, each with its reply. A clause sees these, and how many sites there may be; what there is to link and which
+/// links are installed is what the events come to.
+///
+/// Once an event was planned there is a second instance of all that is kept, at most one event behind, so that the next plan has
+/// where to make the event without a change of the core.
 #[derive(Drop)]
 pub struct Core {
-    max_sites: u32,
-    world: World,
-    links: Cache,
-    log: Vec<Entry>,
+    present: Instance,
+    next: Option<Instance>,
 }
 
 impl Model for Core {
-    ghost use Rattle.std.specs.Prelude.{◌≡◌, ◌≤◌, ℕ, true, length};
+    ghost use Rattle.std.specs.Prelude.{IfSome};
     ghost use Rattle.std.specs.Coded.{codes};
     ghost use Rattle.jl_types.specs.Means.TargetCode.{target_code};
-    ghost use Rattle.jl_types.specs.History.{installed};
-    ghost use Rattle.jl_cache.specs.Links.{link_at};
-    ghost use Rattle.jl_core.specs.State.{State, events, world_of};
-    ghost use Rattle.jl_core.specs.Logs.{shown, are_told};
+    ghost use Rattle.jl_core.specs.State.{State};
+    ghost use Rattle.jl_core.specs.Replays.{IsBehind};
 
     ghost Value = { State };
 
     ghost coded = { Prim.hlevel (codes, target_code) };
 
-    ghost view = { λ c. record { max_sites = c.max_sites; log = shown c.world.classes.rows c.log.items } };
+    ghost view = { λ c. c.present };
 
-    ghost invariant = { λ c.
-        (c.world ≡ world_of (record { max_sites = c.max_sites; log = shown c.world.classes.rows c.log.items }))
-        × ((s : ℕ) → link_at c.links s ≡ installed (events (record { max_sites = c.max_sites; log = shown c.world.classes.rows c.log.items })) s)
-        × (are_told c.world.classes.rows c.log.items ≡ true)
-        × (length c.world.places ≤ c.max_sites)
-        × (c.max_sites ≤ 65536) };
+    ghost invariant = { λ c. IfSome c.next (λ next. IsBehind next c.present) };
 }
 
 impl Core {
@@ -59,10 +56,8 @@ impl Core {
         ensures { IfOk result (λ core. core ≡ empty_core max_sites) }
     {
         Ok(Core {
-            max_sites,
-            world: World::new(alloc)?,
-            links: Cache::new(alloc),
-            log: Vec::new(alloc),
+            present: Instance::new(alloc, max_sites)?,
+            next: None,
         })
     }
 
@@ -77,42 +72,93 @@ impl Core {
         ensures refused { IfErr result (IsRefused (verdict self.old.max_sites (world_of self.old) event)) }
         ensures unchanged { OnErr result (self.new ≡ self.old) }
     {
-        change(
-            &mut self.world,
-            &mut self.links,
-            &mut self.log,
-            self.max_sites,
-            alloc,
-            event,
-        )
+        if self.next.is_none() {
+            return self.present.apply(alloc, event);
+        }
+        let planned = self.plan(alloc, event)?;
+        Ok(self.commit(planned))
+    }
+
+    /// The first half of [`apply`](Core::apply): every refusal and every growth, and no change. The plan tells what the event is
+    /// answered and which sites it changes. A first plan copies what the core keeps, and so does one after a plan that was
+    /// dropped.
+    ///
+    /// # Errors
+    ///
+    /// The first refusal; want of memory where there is none.
+    pub fn plan(&mut self, alloc: Global, event: Event) -> Result<Planned, Refusal>
+        ensures planned { IfOk result (IsPlanned self.old event) }
+        ensures refused { IfErr result (IsRefused (verdict self.old.max_sites (world_of self.old) event)) }
+        ensures unchanged { self.new ≡ self.old }
+    {
+        let Ok(mut next) = self.take_next(alloc) else {
+            return Err(self.present.refusal_of(event));
+        };
+        match next.apply(alloc, event) {
+            Ok(reply) => Ok(Planned::new(alloc, &self.present, next, reply)?),
+            Err(refusal) => {
+                self.next = Some(next);
+                Err(refusal)
+            }
+        }
+    }
+
+    /// The second half of [`apply`](Core::apply): the core is as the plan left it, and comes to be what it was planned to be.
+    /// Takes no memory.
+    pub fn commit(&mut self, planned: Planned) -> Reply
+        requires { IsAsPlanned self.old planned }
+        ensures core { self.new ≡ planned.after }
+        ensures reply { result ≡ planned.reply }
+    {
+        let (after, reply) = planned.into_parts();
+        let before = mem::replace(&mut self.present, after);
+        self.next = Some(before);
+        reply
+    }
+
+    /// The second instance, which is as the core is. Want of memory is an error.
+    fn take_next(&mut self, alloc: Global) -> Result<Instance, AllocError>
+        ensures next { IfOk result (λ next. next ≡ self.old) }
+        ensures unchanged { self.new ≡ self.old }
+    {
+        let Some(mut next) = self.next.take() else {
+            return self.present.copy(alloc);
+        };
+        match next.follow(alloc, &self.present) {
+            Ok(()) => Ok(next),
+            Err(error) => {
+                self.next = Some(next);
+                Err(error)
+            }
+        }
     }
 
     /// The answer to a call. Takes no memory.
     pub fn call(&self, site: SiteNo, recv: Recv) -> Answer
         ensures { result ≡ calls.dispatch (world_of self.now) site recv }
     {
-        dispatch(&self.world, site, recv)
+        dispatch(self.present.world(), site, recv)
     }
 
     /// The installed links. Takes no memory.
     pub fn links(&self) -> &Cache
         ensures { (s : ℕ) → link_at result.now s ≡ installed (events self.now) s }
     {
-        &self.links
+        self.present.links()
     }
 
     /// What there is to link. Takes no memory.
     pub fn world(&self) -> &World
         ensures { result.now ≡ world_of self.now }
     {
-        &self.world
+        self.present.world()
     }
 
     /// How many classes and interfaces there are. Takes no memory.
     pub fn class_count(&self) -> usize
         ensures { result ≡ length (world_of self.now).classes.rows }
     {
-        self.world.classes.class_count()
+        self.world().classes.class_count()
     }
 
     /// The accepted events in order, each with its reply. An entry of a definition names its class, which has the loader and the
@@ -121,7 +167,7 @@ impl Core {
         ensures told { are_told (world_of self.now).classes.rows result.now ≡ true }
         ensures events { shown (world_of self.now).classes.rows result.now ≡ self.now.log }
     {
-        self.log.as_slice()
+        self.present.log()
     }
 
     /// Looks up the links of these sites from scratch, as a preparation in a snapshot does that is taken now, but without
@@ -133,28 +179,27 @@ impl Core {
     pub fn prepare(&self, alloc: Global, sites: &[SiteNo]) -> Result<Prepared, PrepareFault>
         ensures { IsPreparation (record { world = world_of self.now; serial = length self.now.log }) sites.now result }
     {
-        prepare_in(alloc, &self.world, self.serial(), sites)
+        prepare_in(alloc, self.world(), self.serial(), sites)
     }
 
     /// Each site that has an installed link, with it, by rising number. Want of memory is an error.
     pub fn list_links(&self, alloc: Global) -> Result<Vec<(SiteNo, Link)>, AllocError>
         ensures { IfOk result (λ rows. rows.items ≡ links_of self.now) }
     {
-        self.links.list(alloc)
+        self.links().list(alloc)
     }
 
     /// The world as it is, with the count of the events that were accepted. Want of memory is an error.
     pub fn snapshot(&self, alloc: Global) -> Result<Snapshot, AllocError>
         ensures { IfOk result (λ snapshot. snapshot ≡ record { world = world_of self.now; serial = length self.now.log }) }
     {
-        Ok(Snapshot::new(self.world.copy(alloc)?, self.serial()))
+        Ok(Snapshot::new(self.world().copy(alloc)?, self.serial()))
     }
 
     /// How many events were accepted.
     fn serial(&self) -> u64
         ensures { result ≡ length self.now.log }
     {
-        let entries = self.log.as_slice();
-        entries.len() as u64
+        self.log().len() as u64
     }
 }

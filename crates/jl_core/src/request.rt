@@ -50,7 +50,7 @@ pub(crate) fn request(
 /// # Errors
 ///
 /// The first refusal.
-fn site_of(world: &World, max_sites: u32, place: &Place) -> Result<SiteNo, Refusal>
+pub(crate) fn site_of(world: &World, max_sites: u32, place: &Place) -> Result<SiteNo, Refusal>
     requires few { length world.now.places ≤ max_sites }
     requires most { max_sites ≤ 65536 }
     ensures number { IfOk result (λ site. verdict max_sites world.now (event.Request place.now) ≡ Ok (made.Site site)) }
@@ -68,7 +68,7 @@ fn site_of(world: &World, max_sites: u32, place: &Place) -> Result<SiteNo, Refus
 }
 
 /// The place is requested. Want of memory is an error; nothing has changed then.
-fn add_place(world: &mut World, place: Place) -> Result<(), AllocError>
+pub(crate) fn add_place(world: &mut World, place: Place) -> Result<(), AllocError>
     ensures ok { OnOk result (world.new ≡ events.step world.old (event.Request place)) }
     ensures err { OnErr result (world.new ≡ world.old) }
 {

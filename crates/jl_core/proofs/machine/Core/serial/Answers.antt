@@ -1,10 +1,9 @@
-use Rattle.std.specs.Prelude.{◌≡◌, length}
-use Rattle.std.proofs.Common.{sym, ap, subst, ◌∙◌}
-use Rattle.jl_core.specs.State.{State}
+use Rattle.std.proofs.Common.{sym, ap, ◌∙◌}
+use Rattle.std.specs.Prelude.{length}
+use Rattle.jl_core.specs.State.{world_of}
 use Rattle.jl_core.proofs.LogLaws.{length_told}
 use Rattle.jl_core.proofs.machine.Core.serial.Goals as goal
 
 pub returns : goal.returns
 returns c =
-    subst (λ (core : State). length c.as_slice-entries.result.now ≡ length core.log) c.self.view_is
-    (ap length c.as_slice-entries.ensures.value ∙ sym (length_told c.self.inside.world.classes.rows c.self.inside.log.items c.self.invariant.2))
+    sym (length_told (world_of c.args.self.now).classes.rows c.log.result.now c.log.ensures.told) ∙ ap length c.log.ensures.events

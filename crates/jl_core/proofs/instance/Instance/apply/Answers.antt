@@ -4,16 +4,16 @@ use Rattle.jl_types.specs.Events.{verdict}
 use Rattle.jl_types.specs.World.{World}
 use Rattle.jl_core.specs.State.{State, world_of, IsAccepted, IsRefused}
 use Rattle.jl_core.proofs.HistoryLaws.{core_of, IsExact, exact_links, exact_if, accepted_if}
-use Rattle.jl_core.proofs.machine.Core.apply.Goals.{After-change}
-use Rattle.jl_core.proofs.machine.Core.apply.Goals as goal
+use Rattle.jl_core.proofs.instance.Instance.apply.Goals.{After-change}
+use Rattle.jl_core.proofs.instance.Instance.apply.Goals as goal
 
 pub change-requires-clause-scratch : goal.change-requires-clause-scratch
 change-requires-clause-scratch c =
     exact_links c.self.inside.max_sites c.self.inside.world c.self.inside.links c.self.inside.log.items
-    (record { world = c.self.invariant.0; links = c.self.invariant.1; told = c.self.invariant.2 })
+    (record { world = c.self.invariant.0; links = c.self.invariant.1; told = c.self.invariant.2; answered = c.self.invariant.5 })
 
 exact : (c : After-change) → IsExact c.self.inside.max_sites c.self.inside.world c.self.inside.links c.self.inside.log.items
-exact c = record { world = c.self.invariant.0; links = c.self.invariant.1; told = c.self.invariant.2 }
+exact c = record { world = c.self.invariant.0; links = c.self.invariant.1; told = c.self.invariant.2; answered = c.self.invariant.5 }
 
 pub invariant_of-self : goal.invariant_of-self
 invariant_of-self c =
@@ -21,7 +21,7 @@ invariant_of-self c =
     exact_if c.self.inside.max_sites c.self.inside.world c.change.new.world c.self.inside.links c.change.new.links c.self.inside.log.items c.change.new.log.items
     c.args.event (exact c) c.change.result c.change.ensures.ok c.change.ensures.unchanged c.change.ensures.links c.change.ensures.log
     in
-    (now.world, now.links, now.told, c.change.ensures.few, c.self.invariant.4)
+    (now.world, now.links, now.told, c.change.ensures.few, c.self.invariant.4, now.answered)
 
 pub returns-clause-accepted : goal.returns-clause-accepted
 returns-clause-accepted c =

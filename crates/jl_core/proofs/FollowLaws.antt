@@ -1,0 +1,251 @@
+-- An instance that is one event behind another one, and what it is once the event was replayed.
+use Rattle.std.specs.Prelude.{◌≡◌, ℕ, zero, suc, ◌+◌, ◌≤◌, ◌==◌, ◌&&◌, Bool, true, false, List, [], ◌∷◌, ◌++◌, map, take, length, slice_get, Option, Some, None, option_map, is_some, IsOk, Ok, Err, Result, OnOk, OnErr, if◌then◌else◌}
+use Rattle.std.specs.List.{list_any, cons_option}
+use Rattle.std.proofs.Common.{refl, ap, sym, subst, ◌∙◌, arith}
+use Rattle.std.proofs.lemmas.List.{map-append}
+use Rattle.std.proofs.lemmas.Option.{same_Some}
+use Rattle.jl_types.specs.declared.link.Link.{Link}
+use Rattle.jl_types.specs.declared.event.Event.{Event}
+use Rattle.jl_types.specs.declared.event.Event.TheVariants as event
+use Rattle.jl_types.specs.declared.event.Made.TheVariants as made
+use Rattle.jl_types.specs.declared.event.Reply.{Reply}
+use Rattle.jl_types.specs.World.{Class, World}
+use Rattle.jl_types.specs.Links.{scratch}
+use Rattle.jl_types.specs.Events.{verdict, step, install_fault}
+use Rattle.jl_types.specs.History.{world_after, installed, installs, kept, dropped}
+use Rattle.jl_types.specs.History as history
+use Rattle.jl_types.proofs.OneMore.{installed_step}
+use Rattle.jl_types.proofs.Places.{accepted_of, world_more}
+use Rattle.jl_cache.specs.Links.{link_at, link_with}
+use Rattle.jl_core.specs.declared.log.Accepted.{Accepted}
+use Rattle.jl_core.specs.declared.log.Accepted.TheVariants as accepted
+use Rattle.jl_core.specs.declared.log.Entry.{Entry}
+use Rattle.jl_core.specs.State.{State, events, world_of, AreAnswered}
+use Rattle.jl_core.specs.Logs.{event_of, told, are_told, shown, IsLogged}
+use Rattle.jl_core.specs.Replays.{IsBehind, IsNext, replayed}
+use Rattle.jl_core.specs.Touched.{has}
+use Rattle.jl_core.proofs.LogLaws.{length_told}
+use Rattle.jl_core.proofs.HistoryLaws.{core_of, IsExact, exact_links, exact_same, shown_further, told_further}
+use Rattle.jl_core.proofs.InstallLaws.{install_keeps}
+use Rattle.jl_core.proofs.CallSiteLaws.{no_fault}
+use Rattle.jl_core.proofs.SlotLaws.{left_after}
+
+-- ---- what an entry tells
+
+both : (a b : Bool) → (a && b) ≡ true → (a ≡ true) × (b ≡ true)
+both true b e = (refl, e)
+both false b e = cc
+
+pub told_at : (rows : List Class) (log : List Entry) (n : ℕ) (entry : Entry) → are_told rows log ≡ true → slice_get log n ≡ Some entry
+    → (p : Event × Reply) × (told rows entry ≡ Some p) × (slice_get (shown rows log) n ≡ Some p)
+told_at rows [] n entry all at = absurd (cc at)
+told_at rows (one ∷ log) n entry all at =
+    let parts = both (is_some (told rows one)) (are_told rows log) all in
+    by_first n (told rows one) refl parts.0 (λ k. told_at rows log k entry parts.1) at
+  where
+    by_first : (n : ℕ) (o : Option (Event × Reply)) → told rows one ≡ o → is_some o ≡ true
+        → ((k : ℕ) → slice_get log k ≡ Some entry → (p : Event × Reply) × (told rows entry ≡ Some p) × (slice_get (shown rows log) k ≡ Some p))
+        → slice_get (one ∷ log) n ≡ Some entry
+        → (p : Event × Reply) × (told rows entry ≡ Some p) × (slice_get (cons_option o (shown rows log)) n ≡ Some p)
+    by_first n None is some rest at = cc
+    by_first zero (Some p) is some rest at = (p, ap (told rows) (sym (same_Some one entry at)) ∙ is, refl)
+    by_first (suc n) (Some p) is some rest at = rest n at
+
+pub event_told : (e : Event) (reply : Reply) (o : Option Event) (r : Reply) → option_map {U = Event × Reply} (λ (x : Event). (x, r)) o ≡ Some (e, reply) → (o ≡ Some e) × (r ≡ reply)
+event_told e reply None r is = absurd (cc is)
+event_told e reply (Some x) r is =
+    let pair : (x, r) ≡ (e, reply) = same_Some (x, r) (e, reply) is in
+    (ap (λ (p : Event × Reply). Some p.0) pair, ap (λ (p : Event × Reply). p.1) pair)
+
+-- ---- a list with one element more
+
+pub last_is : {A : Type 0} (xs : List A) (n : ℕ) (x : A) → slice_get xs n ≡ Some x → length xs ≤ n + 1 → xs ≡ take n xs ++ x ∷ []
+last_is [] n x at le = absurd (cc at)
+last_is (y ∷ []) zero x at le = ap (λ z. z ∷ []) (same_Some y x at)
+last_is (y ∷ z ∷ xs) zero x at le = absurd (omega arith)
+last_is (y ∷ xs) (suc n) x at le = ap (λ ys. y ∷ ys) (last_is xs n x at (omega arith))
+
+map_take : {A B : Type 0} (f : A → B) (n : ℕ) (xs : List A) → take n (map f xs) ≡ map f (take n xs)
+map_take f zero xs = refl
+map_take f (suc n) [] = refl
+map_take f (suc n) (x ∷ xs) = ap (λ ys. f x ∷ ys) (map_take f n xs)
+
+pub no_more : {A : Type 0} (xs : List A) (n : ℕ) → slice_get xs n ≡ None → length xs ≤ n
+no_more [] n e = omega arith
+no_more (x ∷ xs) zero e = cc
+no_more (x ∷ xs) (suc n) e = let le = no_more xs n e in omega arith
+
+take_whole : {A : Type 0} (xs : List A) (n : ℕ) → length xs ≤ n → take n xs ≡ xs
+take_whole [] zero le = refl
+take_whole [] (suc n) le = refl
+take_whole (x ∷ xs) zero le = absurd (omega arith)
+take_whole (x ∷ xs) (suc n) le = ap (λ ys. x ∷ ys) (take_whole xs n (omega arith))
+
+-- ---- no event behind
+
+pub not_behind : (core ahead : State) → IsBehind core ahead → length ahead.log ≤ length core.log → core ≡ ahead
+not_behind core ahead behind le = behind.0 ∙ ap (λ (log : List (Event × Reply)). record ahead { log = log }) (take_whole ahead.log (length core.log) le)
+
+pub none_behind : (m k : ℕ) (old ahead : World) (log entries : List Entry) → are_told old.classes.rows log ≡ true → are_told ahead.classes.rows entries ≡ true
+    → IsBehind (core_of m old log) (core_of k ahead entries) → slice_get entries (length log) ≡ None → core_of m old log ≡ core_of k ahead entries
+none_behind m k old ahead log entries told_old told_ahead behind none =
+    let le = no_more entries (length log) none in
+    let here = length_told old.classes.rows log told_old in
+    let there = length_told ahead.classes.rows entries told_ahead in
+    not_behind (core_of m old log) (core_of k ahead entries) behind (omega arith)
+
+-- ---- one event behind
+
+pub record HasNext (core ahead : State) (e : Event) (reply : Reply) : Type 0 where
+  pub limit : core.max_sites ≡ ahead.max_sites
+  pub more : ahead.log ≡ core.log ++ (e, reply) ∷ []
+  pub answered : history.reply core.max_sites (events core) e ≡ Ok reply
+
+pub has_next : (core ahead : State) (e : Event) (reply : Reply) → IsBehind core ahead → AreAnswered ahead → slice_get ahead.log (length core.log) ≡ Some (e, reply)
+    → HasNext core ahead e reply
+has_next core ahead e reply behind answered at =
+    let start : core.log ≡ take (length core.log) ahead.log = ap (λ (s : State). s.log) behind.0 in
+    record {
+      limit = ap (λ (s : State). s.max_sites) behind.0;
+      more = last_is ahead.log (length core.log) (e, reply) at behind.1 ∙ ap (λ (xs : List (Event × Reply)). xs ++ (e, reply) ∷ []) (sym start);
+      answered =
+          (λ i. history.reply (behind.0 i).max_sites
+          ((ap (map (λ (p : Event × Reply). p.0)) start ∙ sym (map_take (λ (p : Event × Reply). p.0) (length core.log) ahead.log)) i) e)
+          ∙ answered (length core.log) e reply at;
+    }
+
+module _ (m : ℕ) (old : World) (links : List (ℕ × Link)) (log : List Entry) (k : ℕ) (ahead : World) (entries : List Entry) (entry : Entry)
+    (exact : IsExact m old links log)
+    (is_world : ahead ≡ world_of (core_of k ahead entries))
+    (all_told : are_told ahead.classes.rows entries ≡ true)
+    (answered : AreAnswered (core_of k ahead entries))
+    (behind : IsBehind (core_of m old log) (core_of k ahead entries))
+    (at : slice_get entries (length log) ≡ Some entry) where
+  abbrev core : State
+  core = core_of m old log
+
+  abbrev further : State
+  further = core_of k ahead entries
+
+  abbrev h : List Event
+  h = events core
+
+  one : (p : Event × Reply) × (told ahead.classes.rows entry ≡ Some p) × (slice_get (shown ahead.classes.rows entries) (length log) ≡ Some p)
+  one = told_at ahead.classes.rows entries (length log) entry all_told at
+
+  abbrev e : Event
+  e = one.0.0
+
+  abbrev reply : Reply
+  reply = one.0.1
+
+  tells : (event_of ahead.classes.rows entry.event ≡ Some e) × (entry.reply ≡ reply)
+  tells = event_told e reply (event_of ahead.classes.rows entry.event) entry.reply one.1
+
+  next : HasNext core further e reply
+  next = has_next core further e reply behind answered
+      (ap (slice_get further.log) (length_told old.classes.rows log exact.told) ∙ one.2)
+
+  events_further : events further ≡ h ++ e ∷ []
+  events_further = ap (map (λ (p : Event × Reply). p.0)) next.more ∙ map-append (λ (p : Event × Reply). p.0) core.log ((e, reply) ∷ [])
+
+  moved : ahead ≡ step old e
+  moved = is_world ∙ ap world_after events_further ∙ world_more h e ∙ ap (λ (w : World). step w e) (sym exact.world)
+
+  judged : (verdict m old e ≡ Ok reply.made) × (dropped h e ≡ reply.dropped)
+  judged =
+      let parts = accepted_of (dropped h e) (verdict m (world_of core) e) reply next.answered in
+      (ap (λ (w : World). verdict m w e) exact.world ∙ parts.0, parts.1)
+
+  pub is_next : IsNext old ahead entry.event
+  is_next = record { max_sites = m; event = e; is = tells.0; accepted = subst IsOk (sym judged.0) refl; step = moved }
+
+  -- ---- the links
+
+  module _ (s : ℕ) where
+    quiet : installs s e ≡ false → (if list_any (λ n. n == s) entry.reply.dropped then None else link_at links s) ≡ installed (h ++ e ∷ []) s
+    quiet none =
+        (λ i. if has s ((ap (λ (r : Reply). r.dropped) tells.1 ∙ sym judged.1) i) then None else exact.links s i)
+        ∙ left_after h e s none
+
+    of_install : (rows : List (ℕ × Link)) → event.Install rows ≡ e → link_with rows (link_at links s) s ≡ installed (h ++ e ∷ []) s
+    of_install rows is =
+        let free : install_fault old rows ≡ None =
+        no_fault (install_fault old rows) made.Nothing (subst IsOk (sym (ap (verdict m old) is ∙ judged.0)) refl) in
+        let same : old ≡ world_after (h ++ e ∷ []) = ap (step old) is ∙ sym moved ∙ is_world ∙ ap world_after events_further in
+        install_keeps old s links rows free (exact_links m old links log exact)
+        ∙ (λ i. kept (installs s (is i)) (exact.links s i) (scratch (same i) s))
+        ∙ sym (installed_step h e s)
+
+    as_event : (x : Event) → Some x ≡ Some e → installs s x ≡ false → installs s e ≡ false
+    as_event x is none = ap (installs s) (sym (same_Some x e is)) ∙ none
+
+    of_class : (o : Option Class) → option_map (λ (row : Class). event.Define row.loader row.file) o ≡ Some e → installs s e ≡ false
+    of_class None is = absurd (cc is)
+    of_class (Some row) is = as_event (event.Define row.loader row.file) is refl
+
+    by_kind : (a : Accepted) → event_of ahead.classes.rows a ≡ Some e → replayed a entry.reply.dropped (link_at links s) s ≡ installed (h ++ e ∷ []) s
+    by_kind accepted.NewLoader is = quiet (as_event event.NewLoader is refl)
+    by_kind (accepted.Define c) is = quiet (of_class (slice_get ahead.classes.rows c) is)
+    by_kind (accepted.Delegate loader name to) is = quiet (as_event (event.Delegate loader name to) is refl)
+    by_kind (accepted.Request place) is = quiet (as_event (event.Request place) is refl)
+    by_kind (accepted.NewCallSite kind ty target) is = quiet (as_event (event.NewCallSite kind ty target) is refl)
+    by_kind (accepted.SetTarget c target) is = quiet (as_event (event.SetTarget c target) is refl)
+    by_kind accepted.NewSwitch is = quiet (as_event event.NewSwitch is refl)
+    by_kind (accepted.Invalidate points) is = quiet (as_event (event.Invalidate points) is refl)
+    by_kind (accepted.Bind site c) is = quiet (as_event (event.Bind site c) is refl)
+    by_kind (accepted.Install rows) is = of_install rows (same_Some (event.Install rows) e is)
+
+  -- ---- once it was replayed
+
+  module _ (new : World) (after : List (ℕ × Link)) (more : List Entry) (came : new ≡ ahead)
+      (linked : (s : ℕ) → link_at after s ≡ replayed entry.event entry.reply.dropped (link_at links s) s)
+      (logged : more ≡ log ++ entry ∷ []) where
+    is_logged : IsLogged new.classes.rows e reply log more
+    is_logged = record {
+      accepted = entry.event;
+      is = ap (λ (w : World). event_of w.classes.rows entry.event) came ∙ tells.0;
+      last = logged ∙ ap (λ (r : Reply). log ++ record { event = entry.event; reply = r } ∷ []) tells.1;
+    }
+
+    pub same_core : core_of m new more ≡ further
+    same_core = λ i. record {
+      max_sites = next.limit i;
+      log = (shown_further old new log more e reply exact.told (came ∙ moved) is_logged ∙ sym next.more) i;
+    }
+
+    pub exact_so : IsExact m new after more
+    exact_so = record {
+      world = came ∙ is_world ∙ ap world_of (sym same_core);
+      links = λ s. linked s ∙ by_kind s entry.event tells.0 ∙ ap (λ (es : List Event). installed es s) (sym events_further ∙ ap events (sym same_core));
+      told = told_further old new log more e reply exact.told (came ∙ moved) is_logged;
+      answered = subst AreAnswered (sym same_core) answered;
+    }
+
+  -- ---- by the answer
+
+  module _ (new : World) (after : List (ℕ × Link)) (more : List Entry) {U E : Type 0} (r : Result U E)
+      (came : OnOk r (new ≡ ahead))
+      (linked : OnOk r ((s : ℕ) → link_at after s ≡ replayed entry.event entry.reply.dropped (link_at links s) s))
+      (logged : OnOk r (more ≡ log ++ entry ∷ [])) where
+    pub same_if_ok : OnOk r (core_of m new more ≡ further)
+    same_if_ok = by_answer r came linked logged
+      where
+        by_answer : (r : Result U E) → OnOk r (new ≡ ahead) → OnOk r ((s : ℕ) → link_at after s ≡ replayed entry.event entry.reply.dropped (link_at links s) s)
+            → OnOk r (more ≡ log ++ entry ∷ []) → OnOk r (core_of m new more ≡ further)
+        by_answer (Ok u) w l g = same_core new after more w l g
+        by_answer (Err x) w l g = tt
+
+    pub exact_if_ok : OnErr r (new ≡ old) → OnErr r (after ≡ links) → OnErr r (more ≡ log) → length old.places ≤ m → length ahead.places ≤ k
+        → IsExact m new after more × (length new.places ≤ m)
+    exact_if_ok = by_answer r came linked logged
+      where
+        by_answer : (r : Result U E) → OnOk r (new ≡ ahead) → OnOk r ((s : ℕ) → link_at after s ≡ replayed entry.event entry.reply.dropped (link_at links s) s)
+            → OnOk r (more ≡ log ++ entry ∷ []) → OnErr r (new ≡ old) → OnErr r (after ≡ links) → OnErr r (more ≡ log)
+            → length old.places ≤ m → length ahead.places ≤ k → IsExact m new after more × (length new.places ≤ m)
+        by_answer (Ok u) w l g x y z few few_ahead =
+            (exact_so new after more w l g, subst (λ n. length new.places ≤ n) (sym next.limit) (subst (λ (v : World). length v.places ≤ k) (sym w) few_ahead))
+        by_answer (Err e) w l g x y z few few_ahead = (
+          exact_same m old new links after log more x y z exact,
+          subst (λ (v : World). length v.places ≤ m) (sym x) few,
+        )

@@ -1,0 +1,123 @@
+//! The sites that an event changes.
+
+ghost use Rattle.std.specs.Prelude.{◌≡◌, ◌++◌, ◌∷◌, [], map, filter_map, option_map, IfOk, OnOk};
+ghost use Rattle.std.specs.List.{cons_option};
+ghost use Rattle.jl_types.specs.declared.event.Event.{Event};
+ghost use Rattle.jl_types.specs.declared.event.Reply.{Reply};
+ghost use Rattle.jl_types.specs.History as history;
+ghost use Rattle.jl_types.specs.Entries.{change, same_slot, slots_changed};
+ghost use Rattle.jl_core.specs.State.{events, IsAccepted};
+ghost use Rattle.jl_core.specs.Touched.{touched_by, AreTouched, slot_at};
+
+use crate::instance::{Instance, entry_at};
+use crate::log::{Accepted, Entry};
+use jl_cache::Cache;
+use jl_types::{Link, SiteNo};
+use std::alloc::{AllocError, Global};
+
+/// The sites at which the one instance's last event changed the links of the other, by rising number, each with its new link or
+/// none. Want of memory is an error.
+pub(crate) fn changed(
+    alloc: Global,
+    before: &Instance,
+    after: &Instance,
+) -> Result<Vec<(SiteNo, Option<Link>)>, AllocError>
+    ensures { IfOk result (λ slots. (e : Event) (reply : Reply) → IsAccepted before.now after.now e reply → slots.items ≡ slots_changed (events before.now) e) }
+{
+    let Some(last) = entry_at(after.log(), before.log().len()) else {
+        return Ok(Vec::new(alloc));
+    };
+    let sites = touched(alloc, last)?;
+    slots_among(alloc, before.links(), after.links(), &sites)
+}
+
+/// The sites that the entry's event may change, by rising number. Want of memory is an error.
+fn touched(alloc: Global, entry: &Entry) -> Result<Vec<SiteNo>, AllocError>
+    ensures { IfOk result (λ sites. AreTouched (touched_by entry.now.event entry.now.reply.dropped) sites.items) }
+{
+    let mut sites = listed(alloc, entry)?;
+    sites.sort_unstable();
+    sites.dedup();
+    Ok(sites)
+}
+
+/// The sites that the entry's event drops, and those that it installs. Want of memory is an error.
+fn listed(alloc: Global, entry: &Entry) -> Result<Vec<SiteNo>, AllocError>
+    ensures { IfOk result (λ sites. sites.items ≡ touched_by entry.now.event entry.now.reply.dropped) }
+{
+    let sites = entry.reply.dropped.as_slice().to_vec(alloc)?;
+    match &entry.event {
+        Accepted::Install(rows) => with_sites(sites, rows.as_slice()),
+        _ => Ok(sites),
+    }
+}
+
+/// These sites, and behind them those of the links. Want of memory is an error.
+fn with_sites(sites: Vec<SiteNo>, rows: &[(SiteNo, Link)]) -> Result<Vec<SiteNo>, AllocError>
+    ensures { IfOk result (λ all. all.items ≡ sites.items ++ map (λ row. row.0) rows.now) }
+{
+    let mut all = sites;
+    for row in rows {
+        all.push(row.0)?;
+    }
+    Ok(all)
+}
+
+/// Of these sites those whose links differ, each with its new link or none. Want of memory is an error.
+fn slots_among(
+    alloc: Global,
+    before: &Cache,
+    after: &Cache,
+    sites: &[SiteNo],
+) -> Result<Vec<(SiteNo, Option<Link>)>, AllocError>
+    ensures { IfOk result (λ slots. slots.items ≡ filter_map (slot_at before.now after.now) sites.now) }
+{
+    let mut slots = Vec::new(alloc);
+    for site in sites {
+        add_slot(&mut slots, *site, before.get(*site), after.get(*site))?;
+    }
+    Ok(slots)
+}
+
+/// Adds the site with what stands there afterwards, where that differs. Want of memory is an error.
+fn add_slot(
+    slots: &mut Vec<(SiteNo, Option<Link>)>,
+    site: SiteNo,
+    before: Option<Link>,
+    after: Option<Link>,
+) -> Result<(), AllocError>
+    ensures { OnOk result (slots.new.items ≡ slots.old.items ++ cons_option (option_map (λ slot. (site, slot)) (change before after)) []) }
+{
+    if is_same(&before, &after) {
+        return Ok(());
+    }
+    push_slot(slots, site, after)
+}
+
+/// Adds the site with what stands there. Want of memory is an error.
+fn push_slot<T: Copy>(slots: &mut Vec<(SiteNo, T)>, site: SiteNo, slot: T) -> Result<(), AllocError>
+    ensures { OnOk result (slots.new.items ≡ slots.old.items ++ (site, slot) ∷ []) }
+{
+    slots.push((site, slot))?;
+    Ok(())
+}
+
+/// Whether the same stands there.
+fn is_same(before: &Option<Link>, after: &Option<Link>) -> bool
+    ensures { result ≡ same_slot before.now after.now }
+{
+    match before {
+        Some(before) => has_link(after, before),
+        None => after.is_none(),
+    }
+}
+
+/// Whether this link stands there.
+fn has_link(slot: &Option<Link>, link: &Link) -> bool
+    ensures { result ≡ history.has_link slot.now link.now }
+{
+    match slot {
+        Some(there) => *there == *link,
+        None => false,
+    }
+}
