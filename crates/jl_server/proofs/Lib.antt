@@ -1,0 +1,9 @@
+pub mod Beginnings
+pub mod Adding
+pub mod Rules
+pub mod Logs
+pub mod Next
+pub mod Ends
+pub mod Opens
+pub mod FastLaws
+pub mod Rows

@@ -1,0 +1,11 @@
+use Rattle.std.proofs.Common.{◌∙◌, ap}
+use Rattle.jl_server.specs.History.{core_of}
+use Rattle.jl_server.proofs.Logs.{world_logged, serial_logged}
+use Rattle.jl_server.proofs.book.Book.snapshot.Goals as goal
+
+pub returns-in-Ok-clause-world : goal.returns-in-Ok-clause-world
+returns-in-Ok-clause-world g c =
+    let n = g.K.Name.max_sites in
+    let core = c.self.inside.core in
+    let is = c.self.invariant.0 ∙ ap (core_of n) c.self.view_is in
+    c.in-Ok.ensures ∙ (λ i. record { world = world_logged n c.args.self.now core is i; serial = serial_logged n c.args.self.now core is i })

@@ -1,0 +1,6 @@
+use Rattle.std.proofs.Common.{◌≡◌, take}
+use Rattle.jl_types.specs.Entries.{written}
+use Rattle.jl_server.proofs.table.write.Given as goal
+
+abbrev pub invariant-loop-slot : goal.invariant-loop-slot
+invariant-loop-slot l = l.links.items ≡ written l.fn.links.items (take l.slot-index l.slots)

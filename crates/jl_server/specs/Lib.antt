@@ -1,0 +1,4 @@
+-- `History` and `Receivers` are what contracts cite; `Shown` is the rule of the published table, a means of proof.
+pub mod History
+pub mod Receivers
+pub mod Shown

@@ -1,0 +1,256 @@
+//! What lies under the lock: a core, and the one writer of the published table.
+
+ghost use Rattle.std.specs.Prelude.{◌≡◌, [], ◌∷◌, ◌++◌, length, drop, IfOk, IfErr, IfSome};
+ghost use Rattle.jl_types.specs.declared.refusal.Refusal.TheVariants.{Memory};
+ghost use Rattle.jl_types.specs.Events.{verdict};
+ghost use Rattle.jl_types.specs.History.{world_after};
+ghost use Rattle.jl_types.specs.Entries.{IsLegal, events_of};
+ghost use Rattle.jl_core.specs.State.{IsAccepted, IsRefused, empty_core};
+ghost use Rattle.jl_core.specs.Plans.{IsAsPlanned};
+ghost use Rattle.jl_server.specs.History.{core_of, entry_after, planned_entry};
+
+use crate::history::{Head, Name};
+use crate::publish::{TableWriter, publish_in};
+use crate::seen::Seen;
+use crate::table::Change;
+use jl_core::{Core, Planned};
+use jl_relink::Snapshot;
+use jl_types::{Event, Link, Refusal, Reply, SiteNo};
+use std::alloc::{AllocError, Global};
+use std::marker::Model;
+use std::sync::Wait;
+
+/// An accepted event's reply, the count of the accepted events up to it, and the list that it ends.
+#[derive(Drop)]
+pub struct Receipt<K: Name> {
+    pub serial: u64,
+    pub reply: Reply,
+    pub seen: Seen<K>,
+}
+
+/// Why an event is refused, and the list after which it is.
+#[derive(Drop)]
+pub struct Denied<K: Name> {
+    pub refusal: Refusal,
+    pub seen: Seen<K>,
+}
+
+/// What is to be published: the slots of an entry, and the list that it ends.
+struct Next<K: Name> {
+    slots: Vec<(SiteNo, Option<Link>)>,
+    list: Seen<K>,
+}
+
+/// A core and the one writer of the published table. The published list is the entries of the core's log. A clause sees that list.
+pub struct Book<K: Name, R: Wait + Drop> {
+    core: Core,
+    head: Head<K>,
+    list: Seen<K>,
+    writer: TableWriter,
+    rt: R,
+}
+
+impl<K: Name, R: Wait + Drop> Model for Book<K, R> {
+    ghost use Rattle.std.specs.Prelude.{◌≡◌, List, [], length, drop};
+    ghost use Rattle.std.specs.Coded.{codes};
+    ghost use Rattle.jl_types.specs.Means.TargetCode.{target_code};
+    ghost use Rattle.jl_types.specs.Entries as plain;
+    ghost use Rattle.jl_server.specs.History.{core_of};
+
+    ghost Value = { List plain.Entry };
+
+    ghost coded = { Prim.hlevel (codes, target_code) };
+
+    ghost view = { λ b. b.list };
+
+    ghost invariant = { λ b.
+        (b.core ≡ core_of K.max_sites b.list)
+        × (b.writer.desk.shown.value.list.reached.log ≡ b.list)
+        × (b.writer.desk.shown.value.list.reached.book ≡ K.book)
+        × (length b.writer.desk.shown.value.links.items ≡ K.max_sites)
+        × (length (drop b.writer.behind b.writer.log.items) ≡ 0) };
+}
+
+/// The writer waits for its readers at its end.
+impl<K: Name, R: Wait + Drop> Drop for Book<K, R> {
+    fn drop(self) {
+        let Book {
+            core: _core,
+            head: _head,
+            list: _list,
+            writer,
+            rt,
+        } = self;
+        drop(writer.take(&rt));
+    }
+}
+
+impl<K: Name, R: Wait + Drop> Book<K, R> {
+    /// The book of a core with an empty log, whose table shows the empty list.
+    pub(crate) fn new(
+        core: Core,
+        head: Head<K>,
+        list: Seen<K>,
+        writer: TableWriter,
+        rt: R,
+    ) -> Book<K, R>
+        requires core { core ≡ empty_core K.max_sites }
+        requires list { list ≡ [] }
+        requires shown { (writer.desk.shown.value.list.reached.log ≡ []) × (writer.desk.shown.value.list.reached.book ≡ K.book) × (length writer.desk.shown.value.links.items ≡ K.max_sites) }
+        requires settled { length (drop writer.behind writer.log.items) ≡ 0 }
+        ensures { result ≡ [] }
+    {
+        Book {
+            core,
+            head,
+            list,
+            writer,
+            rt,
+        }
+    }
+
+    /// The published list. Takes no memory.
+    pub fn list(&self) -> &Seen<K>
+        ensures { result.now ≡ self.now }
+    {
+        &self.list
+    }
+
+    /// The world after the published list, and that list. Want of memory is an error.
+    pub fn snapshot(&self, alloc: Global) -> Result<(Snapshot, Seen<K>), AllocError>
+        ensures world { IfOk result (λ r. r.0 ≡ record { world = world_after (events_of self.now); serial = length self.now }) }
+        ensures seen { IfOk result (λ r. r.1 ≡ self.now) }
+    {
+        match self.core.snapshot(alloc) {
+            Ok(snapshot) => Ok((snapshot, self.list.again())),
+            Err(error) => Err(error),
+        }
+    }
+
+    /// One event, in one hold of the lock: it is planned, the sites that it changes are copied, and then, with all its room made,
+    /// it is added to the history, committed and published.
+    ///
+    /// # Errors
+    ///
+    /// The first refusal; want of memory where there is none. Nothing has changed then.
+    pub fn step<H: Wait>(
+        &mut self,
+        rt: &H,
+        alloc: Global,
+        event: Event,
+    ) -> Result<Receipt<K>, Denied<K>>
+        ensures accepted { IfOk result (λ r. IsAccepted (core_of K.max_sites self.old) (core_of K.max_sites self.new) event r.reply) }
+        ensures entry { IfOk result (λ r. self.new ≡ self.old ++ entry_after self.old event r.reply ∷ []) }
+        ensures receipt { IfOk result (λ r. (r.seen ≡ self.new) × (r.serial ≡ length self.new)) }
+        ensures legal { IsLegal K.max_sites self.new }
+        ensures refused { IfErr result (λ d. IsRefused (verdict K.max_sites (world_after (events_of self.old)) event) d.refusal) }
+        ensures denied { IfErr result (λ d. (d.seen ≡ self.old) × (self.new ≡ self.old)) }
+    {
+        match self.core.plan(alloc, event) {
+            Ok(planned) => self.perform(rt, alloc, planned),
+            Err(refusal) => Err(self.denied(refusal)),
+        }
+    }
+
+    /// What was planned, with all its room made first. Want of memory is the only refusal.
+    fn perform<H: Wait>(
+        &mut self,
+        rt: &H,
+        alloc: Global,
+        planned: Planned,
+    ) -> Result<Receipt<K>, Denied<K>>
+        requires { IsAsPlanned (core_of K.max_sites self.old) planned }
+        ensures list { IfOk result (λ r. (self.new ≡ self.old ++ planned_entry planned ∷ []) × (r.reply ≡ planned.reply)) }
+        ensures receipt { IfOk result (λ r. (r.seen ≡ self.new) × (r.serial ≡ length self.new)) }
+        ensures legal { IsLegal K.max_sites self.new }
+        ensures refused { IfErr result (λ d. (d.refusal ≡ Memory) × (d.seen ≡ self.old) × (self.new ≡ self.old)) }
+    {
+        match self.next(alloc, &planned) {
+            Some(next) => Ok(self.publish(rt, planned, next)),
+            None => Err(self.unmade(planned)),
+        }
+    }
+
+    /// The slots of what was planned, and the published list with its entry, which is added to the history. There is nothing where
+    /// there is no memory.
+    fn next(&self, alloc: Global, planned: &Planned) -> Option<Next<K>>
+        requires { IsAsPlanned (core_of K.max_sites self.now) planned.now }
+        ensures { IfSome result (λ next. (next.slots.items ≡ planned.now.slots) × (next.list ≡ self.now ++ planned_entry planned.now ∷ [])) }
+    {
+        let Ok(slots) = copy(alloc, planned.slots()) else {
+            return None;
+        };
+        let mut list = self.list.again();
+        if !list.add(&self.head, planned) {
+            return None;
+        }
+        Some(Next { slots, list })
+    }
+
+    /// Commits what was planned, and publishes it.
+    fn publish<H: Wait>(&mut self, rt: &H, planned: Planned, next: Next<K>) -> Receipt<K>
+        requires planned { IsAsPlanned (core_of K.max_sites self.old) planned }
+        requires slots { next.slots.items ≡ planned.slots }
+        requires list { next.list ≡ self.old ++ planned_entry planned ∷ [] }
+        ensures list { self.new ≡ self.old ++ planned_entry planned ∷ [] }
+        ensures reply { result.reply ≡ planned.reply }
+        ensures receipt { (result.seen ≡ self.new) × (result.serial ≡ length self.new) }
+        ensures legal { IsLegal K.max_sites self.new }
+    {
+        let Next { slots, list } = next;
+        let reply = self.core.commit(planned);
+        let change = Change {
+            slots,
+            classes: self.core.class_count(),
+            list: list.mark(),
+        };
+        publish_in(rt, &mut self.writer, change);
+        self.list = list;
+        self.receipt(reply)
+    }
+
+    /// The receipt of the event that is the last of the published list.
+    fn receipt(&self, reply: Reply) -> Receipt<K>
+        ensures reply { result.reply ≡ reply }
+        ensures seen { (result.seen ≡ self.now) × (result.serial ≡ length self.now) }
+        ensures legal { IsLegal K.max_sites self.now }
+    {
+        Receipt {
+            serial: self.list.serial(),
+            reply,
+            seen: self.list.again(),
+        }
+    }
+
+    /// The refusal of an event after the published list.
+    fn denied(&self, refusal: Refusal) -> Denied<K>
+        ensures denied { (result.refusal ≡ refusal) × (result.seen ≡ self.now) }
+        ensures legal { IsLegal K.max_sites self.now }
+    {
+        let _serial = self.list.serial();
+        Denied {
+            refusal,
+            seen: self.list.again(),
+        }
+    }
+
+    /// The refusal of what was planned, for want of memory.
+    fn unmade(&self, _planned: Planned) -> Denied<K>
+        ensures denied { (result.refusal ≡ Memory) × (result.seen ≡ self.now) }
+        ensures legal { IsLegal K.max_sites self.now }
+    {
+        self.denied(Refusal::Memory)
+    }
+}
+
+/// The slots once more. Want of memory is an error.
+fn copy(
+    alloc: Global,
+    slots: &[(SiteNo, Option<Link>)],
+) -> Result<Vec<(SiteNo, Option<Link>)>, AllocError>
+    ensures { IfOk result (λ v. v.items ≡ slots.now) }
+{
+    let mut copied = Vec::with_capacity(alloc, slots.len())?;
+    copied.extend_from_slice(slots)?;
+    Ok(copied)
+}

@@ -1,0 +1,33 @@
+//! A list of entries that some history has reached, with no word on whose history it is.
+
+ghost use Rattle.std.specs.Prelude.{◌≡◌, length};
+
+use crate::entry::Entry;
+use crate::history::Law;
+use logbook::Seen as Reached;
+
+/// A list that a history has reached, and its length.
+#[derive(Drop)]
+pub struct Mark {
+    pub serial: u64,
+    pub reached: Reached<Entry, u64, Law>,
+    pub ghost counted: { serial ≡ length reached.log },
+}
+
+impl Mark {
+    /// A copy.
+    pub fn again(&self) -> Mark
+        ensures { result ≡ self.now }
+    {
+        Mark {
+            serial: self.serial,
+            reached: self.reached.again(),
+        }
+    }
+}
+
+/// What a seat at the published table knows of it: whose history its list is of, and how many sites it has. No value is made.
+pub struct Tag {
+    pub reached: Reached<Entry, u64, Law>,
+    pub sites: u64,
+}

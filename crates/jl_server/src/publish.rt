@@ -1,0 +1,121 @@
+//! The published table under its rule: what its writer does, and one caller's place at it.
+
+ghost use Rattle.std.specs.Prelude.{◌≡◌, [], ◌∷◌, ◌++◌, Some, drop, length, IfOk, IfErr};
+ghost use Rattle.left_right.specs.Sides.{view};
+ghost use Rattle.jl_server.specs.Shown.{content, changed, tag_of, IsShown, Knows};
+
+use crate::mark::Tag;
+use crate::table::{Change, Table};
+use atomic_table::{Join, Split};
+use core::mem::replace_with;
+use crossbeam_utils::rule::{Outcome, Protocol};
+use left_right::reader::{Reader, Reading};
+use left_right::writer::Writer;
+use std::sync::Wait;
+
+/// The rule of the published table.
+pub struct Rule;
+
+impl Protocol<Table, Option<Tag>> for Rule {
+    ghost use Rattle.std.specs.Prelude.{None};
+    ghost use Rattle.jl_server.specs.Shown.{Ruled};
+
+    ghost holds = { Ruled };
+
+    ghost first = { None };
+}
+
+/// The writer publishes.
+pub struct Publishing;
+
+impl Outcome<Table, Option<Tag>> for Publishing {
+    ghost use Rattle.jl_server.specs.Shown.{Publishes};
+
+    ghost then = { Publishes };
+}
+
+/// A caller enters.
+pub struct Entering;
+
+impl Outcome<Table, Option<Tag>> for Entering {
+    ghost use Rattle.jl_server.specs.Shown.{Enters};
+
+    ghost then = { Enters };
+}
+
+/// The writer tells what it knows, and a caller learns it.
+pub struct Tell;
+
+impl Split<Option<Tag>> for Tell {
+    ghost left = { λ v. v };
+
+    ghost right = { λ v. v };
+}
+
+impl Join<Option<Tag>> for Tell {
+    ghost use Rattle.std.specs.Prelude.{None};
+    ghost use Rattle.jl_server.specs.Shown.{told};
+
+    ghost both = { told };
+
+    ghost spent = { None };
+}
+
+pub type TableWriter = Writer<Table, Change, Option<Tag>, Rule>;
+
+pub type TableReader = Reader<Table, Option<Tag>, Rule>;
+
+pub type TableReading = Reading<Table, Option<Tag>, Rule>;
+
+/// Publishes the change, which has the next list. It waits for those that still look at the table from before the last call.
+pub fn publish<R: Wait>(rt: &R, writer: TableWriter, change: Change) -> TableWriter
+    requires settled { length (drop writer.behind writer.log.items) ≡ 0 }
+    requires same { change.list.reached.book ≡ writer.desk.shown.value.list.reached.book }
+    requires shown { IsShown (content writer.desk.shown.value) → IsShown (changed (content writer.desk.shown.value) change) }
+    ensures shown { content result.desk.shown.value ≡ changed (content writer.desk.shown.value) change }
+    ensures settled { length (drop result.behind result.log.items) ≡ 0 }
+    ensures known { view result.desk.place ≡ Some (tag_of (content result.desk.shown.value)) }
+{
+    let mut writer = writer;
+    append(rt, &mut writer, change);
+    let (writer, published) = writer.publish_as::<Publishing, R>(rt);
+    published.unwrap();
+    writer
+}
+
+/// The same, of a writer that is lent.
+pub fn publish_in<R: Wait>(rt: &R, writer: &mut TableWriter, change: Change)
+    requires settled { length (drop writer.old.behind writer.old.log.items) ≡ 0 }
+    requires same { change.list.reached.book ≡ writer.old.desk.shown.value.list.reached.book }
+    requires shown { IsShown (content writer.old.desk.shown.value) → IsShown (changed (content writer.old.desk.shown.value) change) }
+    ensures shown { content writer.new.desk.shown.value ≡ changed (content writer.old.desk.shown.value) change }
+    ensures settled { length (drop writer.new.behind writer.new.log.items) ≡ 0 }
+    ensures known { view writer.new.desk.place ≡ Some (tag_of (content writer.new.desk.shown.value)) }
+{
+    replace_with(writer, change, |writer, change| {
+        (publish(rt, writer, change), ())
+    });
+}
+
+/// Appends the change. It tries until there is memory; the changes that were published when the writer was made left room.
+fn append<R: Wait>(rt: &R, writer: &mut TableWriter, change: Change)
+    ensures desk { writer.new.desk ≡ writer.old.desk }
+    ensures pending { drop writer.new.behind writer.new.log.items ≡ drop writer.old.behind writer.old.log.items ++ change ∷ [] }
+{
+    let mut change = change;
+    for _ in rt.forever() {
+        match writer.append(change) {
+            Ok(()) => return,
+            Err(back) => change = back,
+        }
+    }
+    unreachable!()
+}
+
+/// Enters the table: what is found there is as it should be.
+pub fn enter(reader: TableReader) -> Result<TableReading, TableReader>
+    ensures refused { IfErr result (λ r. view r.place ≡ view reader.place) }
+    ensures found { IfOk result (λ r. (view r.place ≡ view reader.place) × IsShown (content r.part.value) × Knows (content r.part.value) (view reader.place)) }
+{
+    reader.enter_as::<Entering>()
+}

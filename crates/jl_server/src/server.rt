@@ -1,0 +1,146 @@
+//! A link server: its book under one lock.
+
+ghost use Rattle.std.specs.Prelude.{◌≡◌, ◌<◌, ◌≤◌, length, IfOk, IfErr, OnErr};
+ghost use mathlib.Core.List.{IsPrefix};
+ghost use Rattle.jl_types.specs.Events.{verdict};
+ghost use Rattle.jl_types.specs.History.{world_after};
+ghost use Rattle.jl_types.specs.Entries.{IsLegal, events_of};
+ghost use Rattle.jl_core.specs.State.{IsRefused};
+ghost use Rattle.jl_server.specs.History.{EndsWith};
+
+use crate::book::{Book, Denied, Receipt};
+use crate::caller::Caller;
+use crate::history::Name;
+use crate::seen::Seen;
+use jl_relink::Snapshot;
+use jl_types::Event;
+use std::alloc::{AllocError, Global};
+use std::sync::{Mutex, Wait};
+
+/// One book under one lock. Its drop waits for the callers that are inside the table; from then on calls are Closed.
+#[derive(Drop)]
+pub struct LinkServer<K: Name, R: Wait + Drop> {
+    book: Mutex<Book<K, R>>,
+}
+
+impl<K: Name, R: Wait + Drop> LinkServer<K, R> {
+    pub(crate) fn new(book: Book<K, R>) -> LinkServer<K, R> {
+        LinkServer {
+            book: Mutex::new(book),
+        }
+    }
+}
+
+impl<K: Name> Caller<K> {
+    /// Applies the event after all that the caller has seen. It waits for the lock.
+    ///
+    /// # Errors
+    ///
+    /// The first refusal after the list that the error names; want of memory where there is none.
+    pub fn apply<H: Wait, R: Wait + Drop>(
+        &mut self,
+        rt: &H,
+        alloc: Global,
+        server: &LinkServer<K, R>,
+        event: Event,
+    ) -> Result<Receipt<K>, Denied<K>>
+        ensures own { IsPrefix self.old self.new }
+        ensures legal { IsLegal K.max_sites self.new }
+        ensures receipt { IfOk result (λ r. (r.seen ≡ self.new) × (r.serial ≡ length self.new)) }
+        ensures entry { IfOk result (λ r. EndsWith self.new event r.reply) }
+        ensures longer { IfOk result (λ r. length self.old < length self.new) }
+        ensures denied { IfErr result (λ d. d.seen ≡ self.new) }
+        ensures refused { IfErr result (λ d. IsRefused (verdict K.max_sites (world_after (events_of self.new)) event) d.refusal) }
+    {
+        let answer = apply_after(rt, alloc, server, self.seen(), event);
+        match &answer {
+            Ok(receipt) => self.see(&receipt.seen),
+            Err(denied) => self.see(&denied.seen),
+        }
+        answer
+    }
+
+    /// A snapshot of the world after all that the caller has seen. It waits for the lock. Want of memory is an error; the caller
+    /// has then seen what it had.
+    pub fn snapshot<H: Wait, R: Wait + Drop>(
+        &mut self,
+        rt: &H,
+        alloc: Global,
+        server: &LinkServer<K, R>,
+    ) -> Result<(Snapshot, Seen<K>), AllocError>
+        ensures own { IsPrefix self.old self.new }
+        ensures legal { IsLegal K.max_sites self.new }
+        ensures seen { IfOk result (λ r. r.1 ≡ self.new) }
+        ensures world { IfOk result (λ r. r.0 ≡ record { world = world_after (events_of self.new); serial = length self.new }) }
+        ensures unchanged { OnErr result (self.new ≡ self.old) }
+    {
+        let _serial = self.seen().serial();
+        self.seen().begins(self.seen());
+        let (snapshot, seen) = snapshot_after(rt, alloc, server, self.seen())?;
+        self.see(&seen);
+        Ok((snapshot, seen))
+    }
+}
+
+/// One step of the book after this list. While the book is behind it, which never happens, the lock is let go and taken again.
+fn apply_after<K: Name, H: Wait, R: Wait + Drop>(
+    rt: &H,
+    alloc: Global,
+    server: &LinkServer<K, R>,
+    seen: &Seen<K>,
+    event: Event,
+) -> Result<Receipt<K>, Denied<K>>
+    ensures receipt { IfOk result (λ r. IsPrefix seen.now r.seen × IsLegal K.max_sites r.seen × (r.serial ≡ length r.seen)) }
+    ensures entry { IfOk result (λ r. EndsWith r.seen event r.reply) }
+    ensures longer { IfOk result (λ r. length seen.now < length r.seen) }
+    ensures denied { IfErr result (λ d. IsPrefix seen.now d.seen × IsLegal K.max_sites d.seen) }
+    ensures refused { IfErr result (λ d. IsRefused (verdict K.max_sites (world_after (events_of d.seen)) event) d.refusal) }
+{
+    for _ in rt.forever() {
+        let mut book = server.book.lock(rt);
+        if book.list().serial() >= seen.serial() {
+            return step_after(rt, alloc, &mut book, seen, event);
+        }
+    }
+    unreachable!()
+}
+
+/// One step of the book, which isn't behind this list.
+#[tactic(auto, using(crate::proofs::Beginnings::prefix_trans, crate::proofs::Ends::prefix_more, crate::proofs::Ends::longer_more))]
+fn step_after<K: Name, H: Wait, R: Wait + Drop>(
+    rt: &H,
+    alloc: Global,
+    book: &mut Book<K, R>,
+    seen: &Seen<K>,
+    event: Event,
+) -> Result<Receipt<K>, Denied<K>>
+    requires { length seen.now ≤ length book.old }
+    ensures receipt { IfOk result (λ r. IsPrefix seen.now r.seen × IsLegal K.max_sites r.seen × (r.serial ≡ length r.seen)) }
+    ensures entry { IfOk result (λ r. EndsWith r.seen event r.reply) }
+    ensures longer { IfOk result (λ r. length seen.now < length r.seen) }
+    ensures denied { IfErr result (λ d. IsPrefix seen.now d.seen × IsLegal K.max_sites d.seen) }
+    ensures refused { IfErr result (λ d. IsRefused (verdict K.max_sites (world_after (events_of d.seen)) event) d.refusal) }
+{
+    seen.begins(book.list());
+    book.step(rt, alloc, event)
+}
+
+/// A snapshot of the book after this list.
+fn snapshot_after<K: Name, H: Wait, R: Wait + Drop>(
+    rt: &H,
+    alloc: Global,
+    server: &LinkServer<K, R>,
+    seen: &Seen<K>,
+) -> Result<(Snapshot, Seen<K>), AllocError>
+    ensures seen { IfOk result (λ r. IsPrefix seen.now r.1 × IsLegal K.max_sites r.1) }
+    ensures world { IfOk result (λ r. r.0 ≡ record { world = world_after (events_of r.1); serial = length r.1 }) }
+{
+    for _ in rt.forever() {
+        let book = server.book.lock(rt);
+        if book.list().serial() >= seen.serial() {
+            seen.begins(book.list());
+            return book.snapshot(alloc);
+        }
+    }
+    unreachable!()
+}

@@ -1,0 +1,139 @@
+//! The table that callers read without waiting, and the change that makes it the table of one entry more.
+
+ghost use Rattle.std.specs.Prelude.{◌≡◌, None, IfOk, length, replicate, get_or};
+ghost use Rattle.jl_types.specs.Fast as fast_of;
+ghost use Rattle.jl_types.specs.Entries.{written};
+
+use crate::mark::Mark;
+use jl_cache::fast;
+use jl_types::{Fast, Link, Recv, SiteNo};
+use left_right::Absorb;
+use std::alloc::{AllocError, Global};
+
+/// The links of a list by site, its number of classes, and the list.
+#[derive(Drop)]
+pub struct Table {
+    pub links: Vec<Option<Link>>,
+    pub classes: usize,
+    pub list: Mark,
+}
+
+/// What the last entry of a list changes: its slots, and the number of classes after it.
+#[derive(Drop)]
+pub struct Change {
+    pub slots: Vec<(SiteNo, Option<Link>)>,
+    pub classes: usize,
+    pub list: Mark,
+}
+
+/// What two copies of a table have in common. No value of it is made.
+pub struct Content {
+    pub links: [Option<Link>; 0],
+    pub classes: usize,
+    pub list: Mark,
+}
+
+impl Absorb<Change> for Table {
+    ghost use Rattle.jl_server.specs.Shown.{content, changed};
+
+    type State = Content;
+
+    ghost state = { content };
+
+    ghost applied = { changed };
+
+    ghost never_fails = { Unit {0} };
+
+    fn absorb_first(&mut self, change: &Change, _other: &Table) -> Result<(), AllocError> {
+        write(&mut self.links, change.slots.as_slice());
+        self.classes = change.classes;
+        self.list = change.list.again();
+        Ok(())
+    }
+}
+
+impl Table {
+    /// A table with no links. Want of memory is an error.
+    pub fn new(alloc: Global, sites: u32, list: Mark) -> Result<Table, AllocError>
+        ensures { IfOk result (λ t. (t.links.items ≡ replicate sites None) × (t.classes ≡ 0) × (t.list ≡ list)) }
+    {
+        Ok(Table {
+            links: filled(alloc, None, sites as usize)?,
+            classes: 0,
+            list,
+        })
+    }
+
+    /// What a call at the site is answered at once. Takes no memory.
+    pub fn answer(&self, site: SiteNo, recv: Recv) -> Fast
+        ensures { result ≡ fast_of.fast_answer (get_or self.now.links.items site None) self.now.classes recv }
+    {
+        answer_by(self.link(site), self.classes, recv)
+    }
+
+    /// The link of the site.
+    fn link(&self, site: SiteNo) -> Option<Link>
+        ensures { result ≡ get_or self.now.links.items site None }
+    {
+        match self.links.get(site.number() as usize) {
+            Some(link) => *link,
+            None => None,
+        }
+    }
+}
+
+/// What the link answers where there are so many classes.
+fn answer_by(link: Option<Link>, classes: usize, recv: Recv) -> Fast
+    ensures { result ≡ fast_of.fast_answer link classes recv }
+{
+    let Some(present) = link else {
+        return Fast::Miss;
+    };
+    if looks_at_receiver(&present) && is_newer(classes, &recv) {
+        return Fast::Miss;
+    }
+    fast(Some(present), recv)
+}
+
+/// Whether the link's answer hangs on the receiver.
+fn looks_at_receiver(link: &Link) -> bool
+    ensures { result ≡ fast_of.looks_at_receiver link.now }
+{
+    match link {
+        Link::Fault(_) | Link::Plain(_) | Link::Mega => false,
+        Link::Direct(_) | Link::Table(_, _) => true,
+    }
+}
+
+/// Whether the receiver's class came after so many classes.
+fn is_newer(classes: usize, recv: &Recv) -> bool
+    ensures { result ≡ fast_of.is_newer classes recv.now }
+{
+    match recv {
+        Recv::Null => false,
+        Recv::Of(class) => classes <= class.number() as usize,
+    }
+}
+
+/// So many copies of a value. Want of memory is an error.
+fn filled<T: Copy + Drop>(alloc: Global, value: T, count: usize) -> Result<Vec<T>, AllocError>
+    ensures { IfOk result (λ made. made.items ≡ replicate count value) }
+{
+    let mut made = Vec::with_capacity(alloc, count)?;
+    for _ in 0..count {
+        made.push(value)?;
+    }
+    Ok(made)
+}
+
+/// Writes the slots one after another; a site past the end has none.
+fn write(links: &mut Vec<Option<Link>>, slots: &[(SiteNo, Option<Link>)])
+    ensures { links.new.items ≡ written links.old.items slots.now }
+{
+    for slot in slots {
+        let place = slot.0.number() as usize;
+        if place < links.len() {
+            links[place] = slot.1;
+        }
+    }
+}
