@@ -7,3 +7,4 @@ pub mod Ends
 pub mod Opens
 pub mod FastLaws
 pub mod Rows
+pub mod EntryRows
