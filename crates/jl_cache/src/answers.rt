@@ -20,8 +20,8 @@ pub fn fast(link: Option<Link>, recv: Recv) -> Fast
     }
 }
 
-/// The link's answer for a receiver.
-fn link_answer(link: &Link, recv: Recv) -> Fast
+/// The link's answer for a receiver, of a link that is lent: what `fast` answers for it. It takes no memory.
+pub fn link_answer(link: &Link, recv: Recv) -> Fast
     ensures { result ≡ fast.link_answer link.now recv }
 {
     match link {

@@ -12,9 +12,15 @@ use std::hash::Hash;
 use std::marker::Model;
 
 /// The installed links, by site. A clause sees each site that has one, with it, by rising number.
-#[derive(Drop)]
 pub struct Cache {
     links: IndexMap<SiteNo, Link>,
+}
+
+// Written out, since a derived drop is proved anew in each crate that lets one go.
+impl Drop for Cache {
+    fn drop(self) {
+        let Cache { links: _links } = self;
+    }
 }
 
 impl Model for Cache {

@@ -1,3 +1,4 @@
 pub mod Worlds
 pub mod Sizes
 pub mod Known
+pub mod Crossing

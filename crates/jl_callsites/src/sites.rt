@@ -12,10 +12,19 @@ use std::marker::Model;
 
 /// The call sites and switch points, in the order in which they were made (java.lang.invoke). A clause sees the call sites,
 /// and of each switch point whether it is valid.
-#[derive(Drop)]
 pub struct Sites {
     pub(crate) call_sites: Vec<CallSite>,
     pub(crate) switches: Vec<bool>,
+}
+
+// Written out, since a derived drop is proved anew in each crate that lets one go.
+impl Drop for Sites {
+    fn drop(self) {
+        let Sites {
+            call_sites: _call_sites,
+            switches: _switches,
+        } = self;
+    }
 }
 
 impl Model for Sites {

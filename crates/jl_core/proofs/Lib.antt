@@ -13,3 +13,4 @@ pub mod ReplayLaws
 pub mod SlotLaws
 pub mod FollowLaws
 pub mod PlanLaws
+pub mod Crossing

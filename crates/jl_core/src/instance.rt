@@ -21,12 +21,23 @@ use std::marker::Model;
 
 /// The accepted events, with what they leave to link and the links that they leave installed. A clause sees the events with
 /// their replies, and how many sites there may be.
-#[derive(Drop)]
 pub(crate) struct Instance {
     max_sites: u32,
     world: World,
     links: Cache,
     log: Vec<Entry>,
+}
+
+// Written out, since a derived drop is proved anew in each crate that lets one go.
+impl Drop for Instance {
+    fn drop(self) {
+        let Instance {
+            max_sites: _max_sites,
+            world: _world,
+            links: _links,
+            log: _log,
+        } = self;
+    }
 }
 
 impl Model for Instance {

@@ -25,10 +25,19 @@ use std::mem;
 ///
 /// Once an event was planned there is a second instance of all that is kept, at most one event behind, so that the next plan has
 /// where to make the event without a change of the core.
-#[derive(Drop)]
 pub struct Core {
     present: Instance,
     next: Option<Instance>,
+}
+
+// Written out, since a derived drop is proved anew in each crate that lets one go.
+impl Drop for Core {
+    fn drop(self) {
+        let Core {
+            present: _present,
+            next: _next,
+        } = self;
+    }
 }
 
 impl Model for Core {

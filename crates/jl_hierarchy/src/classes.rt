@@ -17,7 +17,6 @@ use std::marker::Model;
 /// clause sees these alone.
 ///
 /// Of each class its ancestors and its receivers are kept, so that a question about them walks no other class.
-#[derive(Drop)]
 pub struct Classes {
     pub(crate) loaders: Vec<Loader>,
     pub(crate) rows: Vec<Row>,
@@ -25,6 +24,18 @@ pub struct Classes {
     pub(crate) above: Vec<Seq<ClassId>>,
     /// Of each class its receivers, rising.
     pub(crate) below: Vec<Vec<ClassId>>,
+}
+
+// Written out, since a derived drop is proved anew in each crate that lets one go.
+impl Drop for Classes {
+    fn drop(self) {
+        let Classes {
+            loaders: _loaders,
+            rows: _rows,
+            above: _above,
+            below: _below,
+        } = self;
+    }
 }
 
 impl Model for Classes {

@@ -4,3 +4,4 @@ pub mod BatchLaws
 pub mod Bindings
 pub mod Loaders
 pub mod Staying
+pub mod Crossing

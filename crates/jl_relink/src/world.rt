@@ -21,12 +21,23 @@ use std::marker::Model;
 
 /// The classes; the places that were requested, in order of request; the call site to which each invokedynamic is bound that is
 /// bound to one; and the call sites and switch points.
-#[derive(Drop)]
 pub struct World {
     pub classes: Classes,
     pub places: IndexSet<Place>,
     pub bindings: IndexMap<SiteNo, CallSiteId>,
     pub sites: Sites,
+}
+
+// Written out, since a derived drop is proved anew in each crate that lets one go.
+impl Drop for World {
+    fn drop(self) {
+        let World {
+            classes: _classes,
+            places: _places,
+            bindings: _bindings,
+            sites: _sites,
+        } = self;
+    }
 }
 
 impl Model for World {

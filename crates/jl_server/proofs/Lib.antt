@@ -8,3 +8,4 @@ pub mod Opens
 pub mod FastLaws
 pub mod Rows
 pub mod EntryRows
+pub mod Crossing

@@ -3,7 +3,7 @@
 ghost use Rattle.std.specs.Prelude.{◌≡◌, [], ◌∷◌, ◌++◌, length, drop, IfOk, IfErr, IfSome};
 ghost use Rattle.jl_types.specs.declared.refusal.Refusal.TheVariants.{Memory};
 ghost use Rattle.jl_types.specs.Events.{verdict};
-ghost use Rattle.jl_types.specs.History.{world_after};
+ghost use Rattle.jl_types.specs.History.{world_after, installed_links};
 ghost use Rattle.jl_types.specs.Entries.{IsLegal, events_of};
 ghost use Rattle.jl_core.specs.State.{IsAccepted, IsRefused, empty_core};
 ghost use Rattle.jl_core.specs.Plans.{IsAsPlanned};
@@ -123,6 +123,16 @@ impl<K: Name, R: Wait + Drop> Book<K, R> {
     {
         match self.core.snapshot(alloc) {
             Ok(snapshot) => Ok((snapshot, self.list.again())),
+            Err(error) => Err(error),
+        }
+    }
+
+    /// Each site that has an installed link after the published list, with it, by rising number. Want of memory is an error.
+    pub fn links(&self, alloc: Global) -> Result<Vec<(SiteNo, Link)>, AllocError>
+        ensures { IfOk result (λ rows. rows.items ≡ installed_links (events_of self.now)) }
+    {
+        match self.core.list_links(alloc) {
+            Ok(rows) => Ok(rows),
             Err(error) => Err(error),
         }
     }

@@ -24,4 +24,4 @@ pub use history::Name;
 pub use laws::fast_answers_are_the_calls;
 pub use parts::{Parts, Unmade};
 pub use seen::Seen;
-pub use server::LinkServer;
+pub use server::{LinkList, LinkServer};

@@ -3,7 +3,7 @@
 ghost use Rattle.std.specs.Prelude.{◌≡◌, ◌<◌, ◌≤◌, length, IfOk, IfErr, OnErr};
 ghost use mathlib.Core.List.{IsPrefix};
 ghost use Rattle.jl_types.specs.Events.{verdict};
-ghost use Rattle.jl_types.specs.History.{world_after};
+ghost use Rattle.jl_types.specs.History.{world_after, installed_links};
 ghost use Rattle.jl_types.specs.Entries.{IsLegal, events_of};
 ghost use Rattle.jl_core.specs.State.{IsRefused};
 ghost use Rattle.jl_server.specs.History.{EndsWith};
@@ -12,15 +12,22 @@ use crate::book::{Book, Denied, Receipt};
 use crate::caller::Caller;
 use crate::history::Name;
 use crate::seen::Seen;
+use jl_names::Seq;
 use jl_relink::Snapshot;
-use jl_types::Event;
+use jl_types::{Event, Link, SiteNo};
 use std::alloc::{AllocError, Global};
 use std::sync::{Mutex, Wait};
 
 /// One book under one lock. Its drop waits for the callers that are inside the table; from then on calls are Closed.
-#[derive(Drop)]
 pub struct LinkServer<K: Name, R: Wait + Drop> {
     book: Mutex<Book<K, R>>,
+}
+
+// Written out, since a derived drop is proved anew in each crate that lets one go.
+impl<K: Name, R: Wait + Drop> Drop for LinkServer<K, R> {
+    fn drop(self) {
+        let LinkServer { book: _book } = self;
+    }
 }
 
 impl<K: Name, R: Wait + Drop> LinkServer<K, R> {
@@ -28,6 +35,40 @@ impl<K: Name, R: Wait + Drop> LinkServer<K, R> {
         LinkServer {
             book: Mutex::new(book),
         }
+    }
+}
+
+/// The installed links after a list of so many entries.
+#[derive(Debug, Drop)]
+pub struct LinkList {
+    pub serial: u64,
+    /// Each site that has an installed link, with it, by rising number.
+    pub rows: Seq<(SiteNo, Link)>,
+}
+
+impl<K: Name, R: Wait + Drop> LinkServer<K, R> {
+    /// The installed links after all that the caller has seen. It waits for the lock. Want of memory is an error; the caller has then
+    /// seen what it had.
+    pub fn links<H: Wait>(
+        &self,
+        rt: &H,
+        alloc: Global,
+        caller: &mut Caller<K>,
+    ) -> Result<LinkList, AllocError>
+        ensures own { IsPrefix caller.old caller.new }
+        ensures legal { IsLegal K.max_sites caller.new }
+        ensures serial { IfOk result (λ list. list.serial ≡ length caller.new) }
+        ensures rows { IfOk result (λ list. list.rows ≡ installed_links (events_of caller.new)) }
+        ensures unchanged { OnErr result (caller.new ≡ caller.old) }
+    {
+        let _serial = caller.seen().serial();
+        caller.seen().begins(caller.seen());
+        let (rows, seen) = links_after(rt, alloc, self, caller.seen())?;
+        caller.see(&seen);
+        Ok(LinkList {
+            serial: seen.serial(),
+            rows: Seq::of(rows),
+        })
     }
 }
 
@@ -143,4 +184,36 @@ fn snapshot_after<K: Name, H: Wait, R: Wait + Drop>(
         }
     }
     unreachable!()
+}
+
+/// The installed links of the book after this list.
+fn links_after<K: Name, H: Wait, R: Wait + Drop>(
+    rt: &H,
+    alloc: Global,
+    server: &LinkServer<K, R>,
+    seen: &Seen<K>,
+) -> Result<(Vec<(SiteNo, Link)>, Seen<K>), AllocError>
+    ensures seen { IfOk result (λ r. IsPrefix seen.now r.1 × IsLegal K.max_sites r.1) }
+    ensures rows { IfOk result (λ r. r.0.items ≡ installed_links (events_of r.1)) }
+{
+    for _ in rt.forever() {
+        let book = server.book.lock(rt);
+        if book.list().serial() >= seen.serial() {
+            seen.begins(book.list());
+            return listed(alloc, &book);
+        }
+    }
+    unreachable!()
+}
+
+/// The installed links of the book, and its list.
+fn listed<K: Name, R: Wait + Drop>(
+    alloc: Global,
+    book: &Book<K, R>,
+) -> Result<(Vec<(SiteNo, Link)>, Seen<K>), AllocError>
+    ensures seen { IfOk result (λ r. r.1 ≡ book.now) }
+    ensures rows { IfOk result (λ r. r.0.items ≡ installed_links (events_of book.now)) }
+{
+    let rows = book.links(alloc)?;
+    Ok((rows, book.list().again()))
 }

@@ -1,11 +1,11 @@
 //! The table that callers read without waiting, and the change that makes it the table of one entry more.
 
-ghost use Rattle.std.specs.Prelude.{◌≡◌, None, IfOk, length, replicate, get_or};
+ghost use Rattle.std.specs.Prelude.{◌≡◌, Some, None, IfOk, length, replicate, get_or};
 ghost use Rattle.jl_types.specs.Fast as fast_of;
 ghost use Rattle.jl_types.specs.Entries.{written};
 
 use crate::mark::Mark;
-use jl_cache::fast;
+use jl_cache::link_answer;
 use jl_types::{Fast, Link, Recv, SiteNo};
 use left_right::Absorb;
 use std::alloc::{AllocError, Global};
@@ -68,31 +68,21 @@ impl Table {
     pub fn answer(&self, site: SiteNo, recv: Recv) -> Fast
         ensures { result ≡ fast_of.fast_answer (get_or self.now.links.items site None) self.now.classes recv }
     {
-        answer_by(self.link(site), self.classes, recv)
-    }
-
-    /// The link of the site.
-    fn link(&self, site: SiteNo) -> Option<Link>
-        ensures { result ≡ get_or self.now.links.items site None }
-    {
         match self.links.get(site.number() as usize) {
-            Some(link) => *link,
-            None => None,
+            Some(Some(link)) => answer_by(link, self.classes, recv),
+            _ => Fast::Miss,
         }
     }
 }
 
 /// What the link answers where there are so many classes.
-fn answer_by(link: Option<Link>, classes: usize, recv: Recv) -> Fast
-    ensures { result ≡ fast_of.fast_answer link classes recv }
+fn answer_by(link: &Link, classes: usize, recv: Recv) -> Fast
+    ensures { result ≡ fast_of.fast_answer (Some link.now) classes recv }
 {
-    let Some(present) = link else {
-        return Fast::Miss;
-    };
-    if looks_at_receiver(&present) && is_newer(classes, &recv) {
+    if looks_at_receiver(link) && is_newer(classes, &recv) {
         return Fast::Miss;
     }
-    fast(Some(present), recv)
+    link_answer(link, recv)
 }
 
 /// Whether the link's answer hangs on the receiver.

@@ -19,3 +19,4 @@ pub mod Places
 pub mod Written
 pub mod Emptied
 pub mod ClassCounts
+pub mod Crossing

@@ -1,0 +1,357 @@
+//! Does calls and events in threads, to be timed from outside. The words are the server's sites, the threads that call, the calls of
+//! each, and the events that one caller applies before; with a fifth word of 1, one thread more applies events until the calls are
+//! done. It prints how many events that thread applied, and how many calls were answered at once.
+#![tactic(auto)]
+
+ghost use Rattle.std.specs.Prelude.{◌≡◌};
+
+use jl_classfile::ClassFile;
+use jl_names::{Name, Seq};
+use jl_server::{Caller, LinkServer, Name as Server, Parts};
+use jl_types::{
+    CallSiteId, CallSiteKind, ClassId, Event, Fast, Link, LoaderId, MethodId, Place, Recv, SiteNo,
+    Target,
+};
+use rounds::{Round, at_once};
+use row_files::{CallRow, MethodRow, OBJECT, calling, class};
+use std::alloc::{AllocError, Global};
+use std::marker::Brand;
+use std::sync::Wait;
+use std::sync::atomic::{AtomicU64, Ordering};
+use std::thread::Threads;
+use std::{env, io};
+
+/// How many sites are installed before: static calls, at sites 0 to 999.
+const INSTALLED: u32 = 1000;
+
+/// The site of an invokedynamic, which the events drop and install.
+const DYNAMIC: u32 = INSTALLED;
+
+const STATIC_CALLS: [CallRow; 1000] = [CallRow::Static("W", "a"); 1000];
+
+const DYNAMIC_CALLS: [CallRow; 1] = [CallRow::Dynamic("x")];
+
+const METHODS: [MethodRow; 2] = [("a", "()V", 9), ("b", "()V", 9)];
+
+/// What is to be done.
+#[derive(Clone, Copy)]
+struct Work {
+    sites: u32,
+    threads: u32,
+    calls: u32,
+    events: u32,
+    writes: bool,
+}
+
+/// The site after this one, of those that are installed.
+fn next(site: u32) -> u32 {
+    if site < 935 { site + 65 } else { site % 65 }
+}
+
+/// So many calls. Counts the answers.
+fn calls<K: Server>(caller: &mut Caller<K>, calls: u32) -> u64 {
+    let mut answers = 0u64;
+    let mut site = 0;
+    for _ in 0..calls {
+        if let Fast::Now(_) = caller.call(SiteNo::new(site), Recv::Null) {
+            answers = answers.saturating_add(1);
+        }
+        site = next(site);
+    }
+    answers
+}
+
+/// Applies the event.
+fn apply<K: Server, R: Wait, S: Wait + Drop>(
+    rt: &R,
+    alloc: Global,
+    server: &LinkServer<K, S>,
+    caller: &mut Caller<K>,
+    event: Event,
+) {
+    let _ = caller.apply(rt, alloc, server, event);
+}
+
+fn method(class: u32, index: u16) -> MethodId {
+    MethodId {
+        class: ClassId::new(class),
+        index,
+    }
+}
+
+/// Installs this link at the site.
+fn install<K: Server, R: Wait, S: Wait + Drop>(
+    rt: &R,
+    alloc: Global,
+    server: &LinkServer<K, S>,
+    caller: &mut Caller<K>,
+    site: u32,
+    runs: MethodId,
+) {
+    let mut rows = Vec::new(alloc);
+    if rows.push((SiteNo::new(site), Link::Plain(runs))).is_ok() {
+        apply(rt, alloc, server, caller, Event::Install(Seq::of(rows)));
+    }
+}
+
+/// Defines the class of the file.
+fn define<K: Server, R: Wait, S: Wait + Drop>(
+    rt: &R,
+    alloc: Global,
+    server: &LinkServer<K, S>,
+    caller: &mut Caller<K>,
+    file: Option<ClassFile>,
+) {
+    if let Some(file) = file {
+        apply(
+            rt,
+            alloc,
+            server,
+            caller,
+            Event::Define(LoaderId::new(0), file),
+        );
+    }
+}
+
+/// Requests the invocation in the class's first method.
+fn request<K: Server, R: Wait, S: Wait + Drop>(
+    rt: &R,
+    alloc: Global,
+    server: &LinkServer<K, S>,
+    caller: &mut Caller<K>,
+    class: u32,
+    pc: u32,
+) {
+    let place = Place {
+        class: ClassId::new(class),
+        method: 0,
+        pc,
+    };
+    apply(rt, alloc, server, caller, Event::Request(place));
+}
+
+/// The classes.
+fn set_up_classes<K: Server, R: Wait, S: Wait + Drop>(
+    rt: &R,
+    alloc: Global,
+    server: &LinkServer<K, S>,
+    caller: &mut Caller<K>,
+) {
+    define(
+        rt,
+        alloc,
+        server,
+        caller,
+        class(alloc, OBJECT, 33, None, &[], &[]),
+    );
+    let statics = calling(alloc, "W", 33, OBJECT, &[], &STATIC_CALLS, &METHODS);
+    define(rt, alloc, server, caller, statics);
+    let dynamics = calling(alloc, "T", 33, OBJECT, &[], &DYNAMIC_CALLS, &METHODS);
+    define(rt, alloc, server, caller, dynamics);
+}
+
+/// The sites, installed, and the call site of the last one.
+fn set_up_sites<K: Server, R: Wait, S: Wait + Drop>(
+    rt: &R,
+    alloc: Global,
+    server: &LinkServer<K, S>,
+    caller: &mut Caller<K>,
+) {
+    for site in 0..INSTALLED {
+        request(rt, alloc, server, caller, 1, site.wrapping_mul(3));
+        install(rt, alloc, server, caller, site, method(1, 1));
+    }
+    request(rt, alloc, server, caller, 2, 0);
+    if let Ok(ty) = Name::copied(alloc, b"()V") {
+        let made = Event::NewCallSite(CallSiteKind::Mutable, ty, Target::method(method(2, 1)));
+        apply(rt, alloc, server, caller, made);
+    }
+    let bound = Event::Bind(SiteNo::new(DYNAMIC), CallSiteId::new(0));
+    apply(rt, alloc, server, caller, bound);
+}
+
+/// The event of this number: an install of the invokedynamic, or a target that drops it. Each changes one slot.
+fn event<K: Server, R: Wait, S: Wait + Drop>(
+    rt: &R,
+    alloc: Global,
+    server: &LinkServer<K, S>,
+    caller: &mut Caller<K>,
+    number: u32,
+) {
+    let (now, next) = if number / 2 % 2 == 0 { (1, 2) } else { (2, 1) };
+    if number % 2 == 0 {
+        install(rt, alloc, server, caller, DYNAMIC, method(2, now));
+    } else {
+        let target = Event::SetTarget(CallSiteId::new(0), Target::method(method(2, next)));
+        apply(rt, alloc, server, caller, target);
+    }
+}
+
+/// So many events.
+fn events<K: Server, R: Wait, S: Wait + Drop>(
+    rt: &R,
+    alloc: Global,
+    server: &LinkServer<K, S>,
+    caller: &mut Caller<K>,
+    events: u32,
+) {
+    for number in 0..events {
+        event(rt, alloc, server, caller, number);
+    }
+}
+
+/// Events until no thread calls. Counts them.
+fn write_on<K: Server, R: Wait, S: Wait + Drop>(
+    rt: &R,
+    alloc: Global,
+    server: &LinkServer<K, S>,
+    caller: &mut Caller<K>,
+    busy: &AtomicU64,
+) -> u64 {
+    let mut number = 0u32;
+    for _ in rt.forever() {
+        if busy.load(Ordering::SeqCst) == 0 {
+            break;
+        }
+        event(rt, alloc, server, caller, number);
+        number = number.wrapping_add(1);
+    }
+    number as u64
+}
+
+/// One thread's caller, and whether it applies events.
+#[derive(Drop)]
+struct Job<K: Server> {
+    writes: bool,
+    caller: Caller<K>,
+}
+
+/// What all threads share; of the numbers, how many still call, how many events there were, and how many answers.
+#[derive(Drop)]
+struct Common<'a, K: Server, R: Wait, S: Wait + Drop> {
+    rt: &'a R,
+    alloc: Global,
+    server: &'a LinkServer<K, S>,
+    calls: u32,
+    busy: AtomicU64,
+    written: AtomicU64,
+    answers: AtomicU64,
+}
+
+impl<'a, K: Server, R: Wait, S: Wait + Drop> Round<Job<K>> for Common<'a, K, R, S> {
+    /// It applies events, or it calls.
+    fn turn(&self, _index: usize, job: &mut Job<K>) {
+        if job.writes {
+            let written = write_on(
+                self.rt,
+                self.alloc,
+                self.server,
+                &mut job.caller,
+                &self.busy,
+            );
+            self.written.store(written, Ordering::SeqCst);
+        } else {
+            let answers = calls(&mut job.caller, self.calls);
+            self.answers.fetch_add(answers, Ordering::SeqCst);
+            self.busy.fetch_sub(1, Ordering::SeqCst);
+        }
+    }
+}
+
+/// The first caller writes, where there is a writer.
+fn jobs<K: Server>(
+    alloc: Global,
+    callers: Vec<Caller<K>>,
+    work: Work,
+) -> Result<Vec<Job<K>>, AllocError> {
+    let mut jobs = Vec::with_capacity(alloc, callers.len())?;
+    let mut writes = work.writes;
+    for caller in callers {
+        jobs.push(Job { writes, caller })?;
+        writes = false;
+    }
+    Ok(jobs)
+}
+
+/// Starts the threads, whose callers lie side by side. Gives how many events there were, and how many answers.
+fn all<K: Server + Send + Sync, R: Threads + Wait + Sync, S: Wait + Drop + Send + Sync>(
+    rt: &R,
+    alloc: Global,
+    server: &LinkServer<K, S>,
+    work: Work,
+    jobs: &mut [Job<K>],
+) -> (u64, u64) {
+    let common = Common {
+        rt,
+        alloc,
+        server,
+        calls: work.calls,
+        busy: AtomicU64::new(work.threads as u64),
+        written: AtomicU64::new(0),
+        answers: AtomicU64::new(0),
+    };
+    at_once(rt, &common, jobs);
+    (
+        common.written.load(Ordering::SeqCst),
+        common.answers.load(Ordering::SeqCst),
+    )
+}
+
+fn run<K: Server + Send + Sync, R: Threads + Wait + Sync>(
+    rt: &R,
+    alloc: Global,
+    parts: Parts,
+    work: Work,
+) -> (u64, u64)
+    requires book { parts.book ≡ K.book }
+    requires sites { parts.max_sites ≡ K.max_sites }
+{
+    let Ok((server, mut callers)) = parts.start::<K, &R>(alloc, rt) else {
+        return (0, 0);
+    };
+    let Some(mut first) = callers.pop() else {
+        return (0, 0);
+    };
+    set_up_classes(rt, alloc, &server, &mut first);
+    set_up_sites(rt, alloc, &server, &mut first);
+    events(rt, alloc, &server, &mut first, work.events);
+    let Ok(mut jobs) = jobs(alloc, callers, work) else {
+        return (0, 0);
+    };
+    all(rt, alloc, &server, work, jobs.as_mut_slice())
+}
+
+fn number(words: &[String], at: usize) -> u32 {
+    match words.get(at) {
+        Some(word) => word.parse::<u32>().unwrap_or(0),
+        None => 0,
+    }
+}
+
+fn read_words(words: &[String]) -> Work {
+    Work {
+        sites: number(words, 1),
+        threads: number(words, 2),
+        calls: number(words, 3),
+        events: number(words, 4),
+        writes: number(words, 5) > 0,
+    }
+}
+
+fn main(rt: HostRuntime) -> io::Result<()> {
+    let words: Vec<String> = env::args(&rt)?.collect(rt.alloc())?;
+    let work = read_words(&words);
+    let seats = if work.writes {
+        work.threads.saturating_add(2)
+    } else {
+        work.threads.saturating_add(1)
+    };
+    if work.sites < 1 || work.sites > 65536 || seats > 64 {
+        return Ok(());
+    }
+    let Ok(parts) = Parts::new(rt.alloc(), work.sites, seats as usize) else {
+        return Ok(());
+    };
+    let (written, answers) = run::<Brand, _>(&rt, rt.alloc(), parts, work);
+    println!(rt; "{written} {answers}")
+}

@@ -1,0 +1,12 @@
+//! What the clauses of jl_server don't say: that its calls come back, and what they are answered, in real threads. It has no public
+//! item.
+#![tactic(auto)]
+
+#[cfg(test)]
+mod races;
+#[cfg(test)]
+mod rows;
+#[cfg(test)]
+mod servers;
+#[cfg(test)]
+mod storm;
