@@ -1,0 +1,35 @@
+-- What the workers of a farm share may be shared by threads. `search` would unfold the server's row at each comparison, so most steps
+-- are named.
+use denote.RattleType.{RattleType}
+use denote.Ref.{NamedLft}
+use denote.Struct.Declared as declared
+use denote.Param.Send.{IsSend, IsSync, AllSync, recorded_sync, struct_sync, shr_sync, sendable}
+use Rattle.std.proofs.Crossing.{crosses as of_std}
+use Rattle.crossbeam_queue.proofs.array_queue.Slotted.TheSendSync as of_queues
+use Rattle.jl_names.proofs.seq.Seq.TheSendSync as of_lists
+use Rattle.jl_server.specs.declared.history.Name as name
+use Rattle.jl_server.specs.contracts.server.LinkServer as LinkServer
+use Rattle.jl_server.proofs.Crossing.{server_sync}
+use Rattle.jl_farm.specs.contracts.floor.Floor as Floor
+
+module _ (ℓ : NamedLft) (K G R S : RattleType) (g : name.Ghosts K.Denot) where
+  pub floor_sync : IsSync G → IsSync R → IsSend S → IsSync (Floor.the_row ℓ K G R S g)
+  floor_sync gate r s =
+      let O = Floor.the_type ℓ K G R S g in
+      let all : AllSync (declared.fields O) = (
+        search shr_sync depth 5,
+        (
+          search sendable depth 9,
+          (
+            shr_sync ℓ.mir ℓ.lft (LinkServer.the_row K S g) (server_sync K S g s),
+            (
+              search (of_lists.the_sync, sendable, of_std) depth 12,
+              (
+                shr_sync ℓ.mir ℓ.lft G gate,
+                (search (of_queues.the_sync, sendable, of_std) depth 12, tt),
+              ),
+            ),
+          ),
+        ),
+      ) in
+      recorded_sync _ O.D O.to O.to_one (struct_sync (declared.shape O) all)

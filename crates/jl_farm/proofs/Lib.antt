@@ -1,0 +1,6 @@
+pub mod Queue
+pub mod EachOnce
+pub mod Causes
+pub mod Outcomes
+pub mod Shifts
+pub mod Crossing

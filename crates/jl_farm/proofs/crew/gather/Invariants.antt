@@ -1,0 +1,17 @@
+use Rattle.std.proofs.Common.{◌≡◌, ◌+◌, All, vec_len}
+use Rattle.crossbeam_queue.specs.Passes.{view, IsPassOf}
+use Rattle.jl_farm.specs.Work.{HasReported, HasOne}
+use Rattle.jl_farm.proofs.crew.gather.Given as goal
+
+-- the workers so far were taken in
+abbrev pub invariant-loop-other : goal.invariant-loop-other
+invariant-loop-other g l = record {
+  turn : IsPassOf l.line l.lead.turn;
+  lead : HasReported g.K.Name.max_sites l.callers.value.items l.jobs l.lead;
+  crew : All (λ worker. IsPassOf l.line worker.turn × HasOne worker × HasReported g.K.Name.max_sites l.callers.value.items l.jobs worker) l.crew.items;
+  put : (view l.lead.turn).put ≡ (view l.fn.lead.turn).put;
+  parts : (view l.lead.turn).parts + vec_len l.crew ≡ (view l.fn.lead.turn).parts + vec_len l.fn.crew;
+}
+
+abbrev pub decreases-loop-other : goal.decreases-loop-other
+decreases-loop-other g l = vec_len l.crew

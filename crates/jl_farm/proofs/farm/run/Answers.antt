@@ -1,0 +1,32 @@
+use Rattle.std.proofs.Common.{◌≡◌, ◌∙◌, List, ℕ, All, ap, sym, subst}
+use Rattle.std.specs.List.{range_with_len}
+use Rattle.std.proofs.lemmas.List.Sorted.{All-permutation}
+use Rattle.crossbeam_queue.specs.Passes.{IsPassOf}
+use Rattle.jl_types.specs.Entries.{Entry}
+use Rattle.jl_farm.specs.declared.line.Hand.{Hand}
+use Rattle.jl_farm.specs.declared.worker.Worker.{Worker}
+use Rattle.jl_farm.specs.Reports.{IsReport}
+use Rattle.jl_farm.specs.Work.{IsHired}
+use Rattle.jl_farm.proofs.Shifts.{crew_reported, in_order}
+use Rattle.jl_farm.proofs.farm.run.Goals as goal
+
+pub finish-requires-clause-crew : goal.finish-requires-clause-crew
+finish-requires-clause-crew g c =
+    let Pass : Worker g.row.K.Denot → Type 0 = λ worker. IsPassOf c.in_ok-line.line worker.turn in
+    let callers : c.of-callers.result.value.items ≡ c.args.workers.items = ap (λ v. v.items) c.of-callers.ensures in
+    let hired = subst (λ (cs : List (List Entry)). All (λ (worker : Worker g.row.K.Denot). IsHired cs worker × Pass worker) c.in_ok-crew.crew.items) (sym callers) c.in_ok-crew.ensures.crew in
+    crew_reported g.K.Name.max_sites c.as_slice.result.now c.of-callers.result.value.items Pass c.in_ok-crew.crew.items c.serve_all.new.crew.items hired c.serve_all.ensures
+
+pub returns-clause-jobs : goal.returns-clause-jobs
+returns-clause-jobs g c =
+    in_order _ _ _ _ c.in_ok-reports.ensures.weighs
+    (ap (λ (v : Hand). v.put) c.in_ok-crew.ensures.left ∙ ap (λ (v : Hand). v.put) c.in_ok-line.ensures.1 ∙ ap (range_with_len 0) c.len.ensures)
+    c.in_order.ensures.all c.in_order.ensures.rising
+
+pub returns-clause-shown : goal.returns-clause-shown
+returns-clause-shown g c =
+    let n = g.K.Name.max_sites in
+    let callers : c.of-callers.result.value.items ≡ c.args.workers.items = ap (λ v. v.items) c.of-callers.ensures in
+    let by_callers = subst (λ (cs : List (List Entry)). All (IsReport {K = g.row.K.Denot} n cs c.as_slice.result.now) c.in_ok-reports.reports.items) callers c.in_ok-reports.ensures.shown in
+    let by_jobs = subst (λ (js : List (List ℕ)). All (IsReport {K = g.row.K.Denot} n c.args.workers.items js) c.in_ok-reports.reports.items) c.as_slice.ensures.value by_callers in
+    All-permutation (IsReport n c.args.workers.items c.args.jobs.items) c.in_ok-reports.reports.items c.in_order.result.items c.in_order.ensures.all by_jobs

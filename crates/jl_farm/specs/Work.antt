@@ -1,0 +1,51 @@
+-- What workers do with their turns at the queue. A means of proof.
+use Rattle.std.specs.Prelude.{◌≡◌, ◌<◌, ◌++◌, ℕ, List, [], All, Contains}
+use mathlib.Core.List.{IsPrefix}
+use Rattle.crossbeam_queue.specs.Passes.{view}
+use Rattle.jl_types.specs.declared.refusal.Refusal.{Refusal}
+use Rattle.jl_types.specs.declared.refusal.Refusal.TheVariants as refusal
+use Rattle.jl_types.specs.Entries.{Entry}
+use Rattle.jl_farm.specs.declared.report.Report.{Report}
+use Rattle.jl_farm.specs.declared.report.JobOutcome.{JobOutcome}
+use Rattle.jl_farm.specs.declared.report.JobOutcome.TheVariants as outcome
+use Rattle.jl_farm.specs.declared.worker.Worker.{Worker}
+use Rattle.jl_farm.specs.Queued.{hand}
+use Rattle.jl_farm.specs.Reports.{IsShown, sites_of, IsReport, jobs_of}
+
+-- what a job came to whose links were prepared after the first list, and refused after the second
+abbrev pub refused_as : {K : Type 0} → List Entry → List Entry → Refusal → JobOutcome K
+refused_as first second (refusal.Stale s l) = outcome.Stale first second
+refused_as first second (refusal.NotReady s) = outcome.Stale first second
+refused_as first second (refusal.UnknownSite s) = outcome.Bad second
+refused_as first second (refusal.Repeated s) = outcome.Bad second
+refused_as first second refusal.BatchSize = outcome.Bad second
+refused_as first second _ = outcome.Memory
+
+-- The worker took jobs and reported them, in the order in which it took them.
+pub record Works {K : Type 0} (max_sites : ℕ) (jobs : List (List ℕ)) (old new : Worker K) : Type 0 where
+  pub more : List (Report K)
+  pub reports : new.reports.items ≡ old.reports.items ++ more
+  pub turn : view new.turn ≡ hand (view old.turn).parts (view old.turn).put ((view old.turn).taken ++ jobs_of more)
+  pub own : IsPrefix old.caller new.caller
+  pub shown : All (λ report. IsShown max_sites old.caller (sites_of jobs report.job) report.outcome) more
+
+-- A worker that has just begun, of one of these callers.
+pub record IsHired {K : Type 0} (callers : List (List Entry)) (worker : Worker K) : Type 0 where
+  pub own : Contains callers worker.caller
+  pub turn : view worker.turn ≡ hand 1 [] []
+  pub none : worker.reports.items ≡ []
+
+-- A worker took just the jobs that it reported, and its reports are shown; it had seen what one of the callers had.
+pub record HasReported {K : Type 0} (max_sites : ℕ) (callers : List (List Entry)) (jobs : List (List ℕ)) (worker : Worker K) : Type 0 where
+  pub taken : (view worker.turn).taken ≡ jobs_of worker.reports.items
+  pub shown : All (IsReport max_sites callers jobs) worker.reports.items
+  pub before : List Entry
+  pub of_caller : Contains callers before
+  pub own : IsPrefix before worker.caller
+
+-- A worker's turn is one part, and has put nothing.
+abbrev pub HasOne : {K : Type 0} → Worker K → Type 0
+HasOne worker = ((view worker.turn).parts ≡ 1) × ((view worker.turn).put ≡ [])
+
+abbrev pub HasPart : {K : Type 0} → Worker K → Type 0
+HasPart worker = 0 < (view worker.turn).parts

@@ -1,0 +1,119 @@
+//! The workers of a farm, together.
+
+ghost use Rattle.std.specs.Prelude.{◌≡◌, ◌<◌, ◌≤◌, ◌+◌, ◌-◌, ℕ, length, slice_index_or, All, IfOk, OnOk, vec_len};
+ghost use Rattle.crossbeam_queue.specs.Passes.{view, IsPassOf};
+ghost use Rattle.jl_farm.specs.Queued.{hand};
+ghost use Rattle.jl_farm.specs.Work.{IsHired, HasReported, HasOne};
+
+use crate::line::{Line, Turn, one_more, take_over};
+use crate::worker::Worker;
+use jl_names::Seq;
+use jl_server::{Caller, Name};
+use jl_types::SiteNo;
+use std::alloc::{AllocError, Global};
+use std::snapshot::Snapshot;
+use std::thread::{Threads, for_each_mut};
+
+/// A worker of each caller. Want of memory is an error.
+pub(crate) fn hire<K: Name>(
+    alloc: Global,
+    line: &Line,
+    turn: &mut Turn,
+    callers: Vec<Caller<K>>,
+) -> Result<Vec<Worker<K>>, AllocError>
+    requires turn { IsPassOf line.now turn.old }
+    requires parts { vec_len callers < (view turn.old).parts }
+    ensures turn { OnOk result (IsPassOf line.now turn.new) }
+    ensures left { OnOk result (view turn.new ≡ hand ((view turn.old).parts - vec_len callers) (view turn.old).put (view turn.old).taken) }
+    ensures crew { IfOk result (λ crew. All (λ worker. IsHired callers.items worker × IsPassOf line.now worker.turn) crew.items) }
+    ensures count { IfOk result (λ crew. vec_len crew ≡ vec_len callers) }
+{
+    let mut callers = callers;
+    let mut crew = Vec::with_capacity(alloc, callers.len())?;
+    while let Some(caller) = callers.pop() {
+        let worker = Worker {
+            caller,
+            turn: one_more(line, turn),
+            reports: Vec::new(alloc),
+        };
+        crew.push(worker)?;
+    }
+    Ok(crew)
+}
+
+/// What each of several threads does with what is its own.
+pub(crate) trait Shift<W> {
+    ghost accepts: { Self → W → Type 0 };
+
+    ghost leaves: { Self → W → W → Type 0 };
+
+    fn serve(&self, worker: &mut W)
+        requires { accepts self.now worker.old }
+        ensures { leaves self.now worker.old worker.new };
+}
+
+/// Does it in a thread for each worker, and comes back once all have. Where no thread can be made, what it would have done is done
+/// here.
+pub(crate) fn at_once<T: Shift<W> + Sync, W: Send, R: Threads + Sync>(
+    rt: &R,
+    shift: &T,
+    workers: &mut [W],
+)
+    requires { All (T.accepts shift.now) workers.old }
+    ensures { (k : ℕ) (d : W) → k < length workers.old → T.leaves shift.now (slice_index_or workers.old k d) (slice_index_or workers.new k d) }
+{
+    let count = workers.len();
+    if count > 0 {
+        for_each_mut(rt, workers, count, &|_index, worker| shift.serve(worker));
+    }
+}
+
+/// The first worker takes over the turns and the reports of the others. Want of memory is an error.
+pub(crate) fn gather<K: Name>(
+    callers: &Snapshot<Vec<Caller<K>>>,
+    jobs: &[Seq<SiteNo>],
+    line: &Line,
+    lead: &mut Worker<K>,
+    crew: Vec<Worker<K>>,
+) -> Result<(), AllocError>
+    requires turn { IsPassOf line.now lead.old.turn }
+    requires lead { HasReported K.max_sites callers.now.value.items jobs.now lead.old }
+    requires crew { All (λ worker. IsPassOf line.now worker.turn × HasOne worker × HasReported K.max_sites callers.now.value.items jobs.now worker) crew.items }
+    ensures turn { OnOk result (IsPassOf line.now lead.new.turn) }
+    ensures lead { OnOk result (HasReported K.max_sites callers.now.value.items jobs.now lead.new) }
+    ensures put { OnOk result ((view lead.new.turn).put ≡ (view lead.old.turn).put) }
+    ensures parts { OnOk result ((view lead.new.turn).parts ≡ (view lead.old.turn).parts + vec_len crew) }
+{
+    let mut crew = crew;
+    while let Some(other) = crew.pop() {
+        take_in(callers, jobs, line, lead, other)?;
+    }
+    Ok(())
+}
+
+/// The first worker takes over the turn and the reports of another one. Want of memory is an error.
+fn take_in<K: Name>(
+    callers: &Snapshot<Vec<Caller<K>>>,
+    jobs: &[Seq<SiteNo>],
+    line: &Line,
+    lead: &mut Worker<K>,
+    other: Worker<K>,
+) -> Result<(), AllocError>
+    requires turns { IsPassOf line.now lead.old.turn × IsPassOf line.now other.turn }
+    requires lead { HasReported K.max_sites callers.now.value.items jobs.now lead.old }
+    requires one { HasOne other }
+    requires other { HasReported K.max_sites callers.now.value.items jobs.now other }
+    ensures turn { OnOk result (IsPassOf line.now lead.new.turn) }
+    ensures lead { OnOk result (HasReported K.max_sites callers.now.value.items jobs.now lead.new) }
+    ensures put { OnOk result ((view lead.new.turn).put ≡ (view lead.old.turn).put) }
+    ensures parts { OnOk result ((view lead.new.turn).parts ≡ (view lead.old.turn).parts + 1) }
+{
+    let Worker {
+        caller: _caller,
+        turn,
+        mut reports,
+    } = other;
+    lead.reports.append(&mut reports)?;
+    take_over(line, &mut lead.turn, turn);
+    Ok(())
+}

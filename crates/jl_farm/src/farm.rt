@@ -1,0 +1,131 @@
+//! The farm.
+
+ghost use Rattle.std.specs.Prelude.{◌≡◌, ◌≤◌, ◌+◌, [], ℕ, All, IfOk, vec_len};
+ghost use Rattle.std.specs.List.{AllZip, sum_by, range_with_len};
+ghost use Rattle.std.specs.List.Sorted.{IsPermutation, IsNonDecreasingBy};
+ghost use Rattle.crossbeam_queue.specs.Passes.{view, IsPassOf};
+ghost use Rattle.jl_farm.specs.Reports.{IsReport, jobs_of};
+ghost use Rattle.jl_farm.specs.Work.{Works, HasReported, HasOne, HasPart};
+
+use crate::crew::{at_once, gather, hire};
+use crate::fault::FarmFault;
+use crate::floor::Floor;
+use crate::gate::Gate;
+use crate::line::{Turn, line_of, take_over};
+use crate::report::Report;
+use crate::worker::Worker;
+use jl_names::Seq;
+use jl_server::{Caller, LinkServer, Name};
+use jl_types::SiteNo;
+use std::alloc::{AllocError, Global};
+use std::snapshot::Snapshot;
+use std::sync::Wait;
+use std::thread;
+use std::thread::Threads;
+
+/// Runs the jobs, each once, by one worker for each caller: the job's sites are prepared in a snapshot of the server, and their links
+/// installed as one batch. There are 1 to 16 callers, and at most 65,536 jobs. Gives a report of each job, in the order of the jobs.
+///
+/// # Errors
+///
+/// - [`FarmFault::NoThread`]: no thread could be made, and no job has run.
+/// - [`FarmFault::Memory`]: want of memory. What was installed by then stays so.
+pub fn run<
+    K: Name + Send + Sync,
+    G: Gate + Sync,
+    R: Threads + Wait + Sync,
+    S: Wait + Drop + Send + Sync,
+>(
+    rt: &R,
+    alloc: Global,
+    server: &LinkServer<K, S>,
+    jobs: Vec<Seq<SiteNo>>,
+    workers: Vec<Caller<K>>,
+    gate: &G,
+) -> Result<Vec<Report<K>>, FarmFault>
+    requires workers { (1 ≤ vec_len workers) × (vec_len workers ≤ 16) }
+    requires jobs { vec_len jobs ≤ 65536 }
+    ensures jobs { IfOk result (λ reports. jobs_of reports.items ≡ range_with_len 0 (vec_len jobs)) }
+    ensures shown { IfOk result (λ reports. All (IsReport K.max_sites workers.items jobs.items) reports.items) }
+{
+    if !has_thread(rt) {
+        return Err(FarmFault::NoThread);
+    }
+    let callers = Snapshot::of(&workers);
+    let (line, mut turn) = line_of(rt, alloc, jobs.len())?;
+    let mut crew = hire(alloc, &line, &mut turn, workers)?;
+    let floor = Floor {
+        rt,
+        alloc,
+        server,
+        jobs: jobs.as_slice(),
+        gate,
+        line: &line,
+    };
+    serve_all(rt, &floor, &mut crew);
+    let reports = finish(&floor, &callers, turn, crew)?;
+    Ok(in_order(reports))
+}
+
+/// Whether a thread can be made. Of those that are made later, each that can't be has its work done by another one.
+fn has_thread<R: Threads>(rt: &R) -> bool {
+    match thread::spawn(rt, || ()) {
+        Ok(child) => {
+            child.join(rt);
+            true
+        }
+        Err(_) => false,
+    }
+}
+
+/// All workers take jobs and report them, each in a thread of its own.
+fn serve_all<
+    K: Name + Send + Sync,
+    G: Gate + Sync,
+    R: Threads + Wait + Sync,
+    S: Wait + Drop + Send + Sync,
+>(rt: &R, floor: &Floor<'_, K, G, R, S>, crew: &mut Vec<Worker<K>>)
+    requires { All (λ worker. IsPassOf floor.now.line.now worker.turn × HasPart worker) crew.old.items }
+    ensures { AllZip (λ old new. IsPassOf floor.now.line.now new.turn × Works K.max_sites floor.now.jobs.now old new) crew.old.items crew.new.items }
+{
+    at_once(rt, floor, crew.as_mut_slice());
+}
+
+/// All reports, once nothing is queued. The last worker takes over what the others took, and runs what they may have left for want of
+/// memory.
+fn finish<K: Name, G: Gate, R: Wait, S: Wait + Drop>(
+    floor: &Floor<'_, K, G, R, S>,
+    callers: &Snapshot<Vec<Caller<K>>>,
+    turn: Turn,
+    crew: Vec<Worker<K>>,
+) -> Result<Vec<Report<K>>, AllocError>
+    requires turn { IsPassOf floor.now.line.now turn × ((view turn).taken ≡ []) }
+    requires parts { ((view turn).parts + vec_len crew ≡ 1024) × (1 ≤ vec_len crew) }
+    requires crew { All (λ worker. IsPassOf floor.now.line.now worker.turn × HasOne worker × HasReported K.max_sites callers.now.value.items floor.now.jobs.now worker) crew.items }
+    ensures weighs { IfOk result (λ reports. (weight : ℕ → ℕ) → sum_by weight (view turn).put ≡ sum_by weight (jobs_of reports.items)) }
+    ensures shown { IfOk result (λ reports. All (IsReport K.max_sites callers.now.value.items floor.now.jobs.now) reports.items) }
+{
+    let mut crew = crew;
+    let Some(mut lead) = crew.pop() else {
+        unreachable!()
+    };
+    take_over(floor.line, &mut lead.turn, turn);
+    gather(callers, floor.jobs, floor.line, &mut lead, crew)?;
+    floor.work(&mut lead)?;
+    let Worker {
+        caller: _caller,
+        turn: _turn,
+        reports,
+    } = lead;
+    Ok(reports)
+}
+
+/// The reports by rising job.
+fn in_order<K: Name>(reports: Vec<Report<K>>) -> Vec<Report<K>>
+    ensures all { IsPermutation reports.items result.items }
+    ensures rising { IsNonDecreasingBy (λ report. report.job) result.items }
+{
+    let mut reports = reports;
+    reports.sort_unstable_by_key(|report| report.job);
+    reports
+}

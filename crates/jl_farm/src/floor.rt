@@ -1,0 +1,148 @@
+//! What all workers of a farm share, and what one of them does.
+
+ghost use Rattle.std.specs.Prelude.{◌≡◌, ◌<◌, false, [], IfOk, OnOk};
+ghost use mathlib.Core.List.{IsPrefix};
+ghost use Rattle.crossbeam_queue.specs.Passes.{view, IsPassOf};
+ghost use Rattle.jl_types.specs.Entries.{IsLegal};
+ghost use Rattle.jl_types.specs.Preparation.{ArePrepared};
+ghost use Rattle.jl_farm.specs.Queued.{KnowsAll};
+ghost use Rattle.jl_farm.specs.Reports.{IsShown, sites_of, world_of};
+ghost use Rattle.jl_farm.specs.Work.{Works, HasPart, refused_as};
+
+use crate::crew::Shift;
+use crate::gate::Gate;
+use crate::line::{Line, next_job};
+use crate::report::{JobOutcome, Report};
+use crate::worker::Worker;
+use jl_names::Seq;
+use jl_relink::prepare;
+use jl_server::{Caller, Denied, LinkServer, Name, Seen};
+use jl_types::{Event, Link, PrepareFault, Refusal, SiteNo};
+use std::alloc::{AllocError, Global};
+use std::sync::Wait;
+
+/// What all workers share.
+#[derive(Drop)]
+pub(crate) struct Floor<'a, K: Name, G: Gate, R: Wait, S: Wait + Drop> {
+    pub(crate) rt: &'a R,
+    pub(crate) alloc: Global,
+    pub(crate) server: &'a LinkServer<K, S>,
+    pub(crate) jobs: &'a [Seq<SiteNo>],
+    pub(crate) gate: &'a G,
+    pub(crate) line: &'a Line,
+}
+
+impl<'a, K: Name, G: Gate, R: Wait, S: Wait + Drop> Shift<Worker<K>> for Floor<'a, K, G, R, S> {
+    ghost accepts = { λ floor worker. IsPassOf floor.line.now worker.turn × HasPart worker };
+
+    ghost leaves = { λ floor old new. IsPassOf floor.line.now new.turn × Works K.max_sites floor.jobs.now old new };
+
+    // A worker that lacks memory leaves the jobs to the others.
+    fn serve(&self, worker: &mut Worker<K>) {
+        let _done = self.work(worker);
+    }
+}
+
+impl<'a, K: Name, G: Gate, R: Wait, S: Wait + Drop> Floor<'a, K, G, R, S> {
+    /// Takes jobs and reports them, until there is none left. Want of memory for a report is an error; no job was taken for it then.
+    pub(crate) fn work(&self, worker: &mut Worker<K>) -> Result<(), AllocError>
+        requires turn { IsPassOf self.now.line.now worker.old.turn }
+        requires part { 0 < (view worker.old.turn).parts }
+        ensures turn { IsPassOf self.now.line.now worker.new.turn }
+        ensures works { Works K.max_sites self.now.jobs.now worker.old worker.new }
+        ensures done { OnOk result (KnowsAll (view worker.new.turn) []) }
+    {
+        for _ in self.rt.forever() {
+            if !self.one(worker)? {
+                return Ok(());
+            }
+        }
+        unreachable!()
+    }
+
+    /// Takes one job and reports it, and tells whether there was one.
+    fn one(&self, worker: &mut Worker<K>) -> Result<bool, AllocError>
+        requires turn { IsPassOf self.now.line.now worker.old.turn }
+        requires part { 0 < (view worker.old.turn).parts }
+        ensures turn { IsPassOf self.now.line.now worker.new.turn }
+        ensures works { Works K.max_sites self.now.jobs.now worker.old worker.new }
+        ensures done { IfOk result (λ one. one ≡ false → KnowsAll (view worker.new.turn) []) }
+    {
+        worker.reports.reserve(1)?;
+        let Some(job) = next_job(self.rt, self.line, &mut worker.turn) else {
+            return Ok(false);
+        };
+        let report = self.report(&mut worker.caller, job);
+        worker.reports.push_reserved(report);
+        Ok(true)
+    }
+
+    /// Runs the job, and reports it.
+    fn report(&self, caller: &mut Caller<K>, job: usize) -> Report<K>
+        ensures own { IsPrefix caller.old caller.new }
+        ensures job { result.job ≡ job }
+        ensures shown { IsShown K.max_sites caller.old (sites_of self.now.jobs.now job) result.outcome }
+    {
+        self.gate.before_prepare(job);
+        let outcome = match self.jobs.get(job) {
+            Some(sites) => self.outcome(caller, sites.as_slice()),
+            None => self.outcome(caller, &[]),
+        };
+        self.gate.after_install(job);
+        Report { job, outcome }
+    }
+
+    /// Prepares the sites in a snapshot, and installs their links.
+    fn outcome(&self, caller: &mut Caller<K>, sites: &[SiteNo]) -> JobOutcome<K>
+        ensures own { IsPrefix caller.old caller.new }
+        ensures shown { IsShown K.max_sites caller.old sites.now result }
+    {
+        let Ok((snapshot, seen)) = caller.snapshot(self.rt, self.alloc, self.server) else {
+            return JobOutcome::Memory;
+        };
+        match prepare(self.alloc, &snapshot, sites) {
+            Ok(prepared) => self.install(caller, sites, seen, prepared.rows),
+            Err(fault) => match fault {
+                PrepareFault::NotReady(_) => JobOutcome::NotReady(seen),
+                PrepareFault::UnknownSite(_) => JobOutcome::Bad(seen),
+                PrepareFault::Repeated(_) => JobOutcome::Bad(seen),
+                PrepareFault::BatchSize => JobOutcome::Bad(seen),
+                PrepareFault::Memory => JobOutcome::Memory,
+            },
+        }
+    }
+
+    /// Installs the rows, which were prepared of these sites after this list.
+    fn install(
+        &self,
+        caller: &mut Caller<K>,
+        sites: &[SiteNo],
+        prepared: Seen<K>,
+        rows: Seq<(SiteNo, Link)>,
+    ) -> JobOutcome<K>
+        requires prepared { (prepared ≡ caller.old) × IsLegal K.max_sites caller.old }
+        requires rows { ArePrepared (world_of caller.old) sites.now rows }
+        ensures own { IsPrefix caller.old caller.new }
+        ensures shown { IsShown K.max_sites caller.old sites.now result }
+    {
+        match caller.apply(self.rt, self.alloc, self.server, Event::Install(rows)) {
+            Ok(receipt) => JobOutcome::Installed(receipt),
+            Err(denied) => refused(prepared, denied),
+        }
+    }
+}
+
+/// What a job came to whose install was refused.
+fn refused<K: Name>(prepared: Seen<K>, denied: Denied<K>) -> JobOutcome<K>
+    ensures { result ≡ refused_as prepared denied.seen denied.refusal }
+{
+    let Denied { refusal, seen } = denied;
+    match refusal {
+        Refusal::Stale { .. } => JobOutcome::Stale(prepared, seen),
+        Refusal::NotReady { .. } => JobOutcome::Stale(prepared, seen),
+        Refusal::UnknownSite { .. } => JobOutcome::Bad(seen),
+        Refusal::Repeated { .. } => JobOutcome::Bad(seen),
+        Refusal::BatchSize => JobOutcome::Bad(seen),
+        _ => JobOutcome::Memory,
+    }
+}

@@ -1,0 +1,13 @@
+//! Workers.
+
+use crate::line::Turn;
+use crate::report::Report;
+use jl_server::{Caller, Name};
+
+/// A caller of the server with a turn at the queue, and the reports of the jobs that it took, in that order.
+#[derive(Drop)]
+pub(crate) struct Worker<K: Name> {
+    pub(crate) caller: Caller<K>,
+    pub(crate) turn: Turn,
+    pub(crate) reports: Vec<Report<K>>,
+}
