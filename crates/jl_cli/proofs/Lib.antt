@@ -6,5 +6,6 @@ pub mod FloatLaws
 pub mod LineLaws
 pub mod FaultLaws
 pub mod NewlineLaws
+pub mod FarmLaws
 pub mod WordsLaws
 pub mod Rows

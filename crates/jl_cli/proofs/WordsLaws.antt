@@ -1,6 +1,6 @@
 -- What clap makes of the words.
 use Rattle.std.proofs.Common.{◌≡◌, ◌∙◌, ◌⊎◌, inl, inr, sym, ap, refl, subst, ℕ, zero, suc}
-use Rattle.std.proofs.Common.{List, [], ◌∷◌, Bool, true, false, Option, Some, None}
+use Rattle.std.proofs.Common.{List, [], ◌∷◌, ◌++◌, Bool, true, false, Option, Some, None}
 use Rattle.std.proofs.Common.{option_map, is_some, true≢false, codes, fold, length, Global}
 use Rattle.std.specs.Prelude.{slice_get, Box, ⊤}
 use Rattle.std.specs.Box.{box_value}
@@ -14,7 +14,7 @@ use Rattle.clap.specs.Matches.{subcommand_name_of}
 use Rattle.clap.specs.declared.parser.matches.ArgMatches.{ArgMatches}
 use Rattle.clap.specs.declared.parser.matches.SubCommand.{SubCommand}
 use Rattle.clap.specs.declared.parser.matches.ArgMatches.TheViews.{out-ArgMatches, out-SubCommand}
-use Rattle.clap.specs.Walk.{Names, Text, Walk, Step, value, idle, plain, after_flag}
+use Rattle.clap.specs.Walk.{Names, Row, Text, Walk, Step, value, idle, plain, after_flag}
 use Rattle.clap.specs.Walk.{after_step, bundle_met, bundle_step, long_or_other, short_or_plain}
 use Rattle.clap.specs.Walk.{subcommand_or_other, subcommand_met, nothing_held, walk_from, walked}
 use Rattle.clap.specs.Walk.{settled, finished}
@@ -27,28 +27,15 @@ use Rattle.clap.proofs.FaultLemmas.{past, stopped_fault}
 use Rattle.clap.proofs.WalkLemmas.{walk_stopped}
 use Rattle.jl_cli.specs.declared.words.WordsFault.{WordsFault}
 use Rattle.jl_cli.specs.declared.words.WordsFault.TheVariants.{BadWords, Memory}
-use Rattle.jl_cli.specs.declared.words.Words.TheVariants.{Lines}
+use Rattle.jl_cli.specs.declared.words.Words.{Words}
+use Rattle.jl_cli.specs.declared.words.Words.TheVariants.{Lines, Farm}
 use Rattle.jl_cli.specs.declared.words.Mode.{Mode}
 use Rattle.jl_cli.specs.declared.words.Mode.TheVariants.{Scan, Sketch, Run}
 use Rattle.jl_cli.specs.Words.{IsEnd, AskFor, AskForNothing, word_of}
-use Rattle.jl_cli.specs.CommandLine.{bare_command, linkd, mode_of}
-
--- some kind of error comes
-abbrev Comes : Kinds → Type 0
-Comes [] = ⊥
-Comes (kind ∷ kinds) = ⊤
-
-first_comes : (a b : Kinds) → Comes a → Comes (or_else a b)
-first_comes [] b h = absurd h
-first_comes (kind ∷ a) b h = tt
-
-next_comes : (a b : Kinds) → Comes b → Comes (or_else a b)
-next_comes [] b h = h
-next_comes (kind ∷ a) b h = tt
-
-by_test : {P : Type 0} (b : Bool) → (b ≡ true → P) → (b ≡ false → P) → P
-by_test true on_true on_false = on_true refl
-by_test false on_true on_false = on_false refl
+use Rattle.jl_cli.specs.CommandLine.{asked_by, bare_command, linkd}
+use Rattle.jl_cli.proofs.FarmLaws.{Comes, IsCount, IsFarm, IsPassed, IsSaid, by_test, count_passes}
+use Rattle.jl_cli.proofs.FarmLaws.{count_read, dashes, end_or_not, farm_decided, farm_fault}
+use Rattle.jl_cli.proofs.FarmLaws.{first_comes, next_comes, number, passed_count, said_passes, said_rows}
 
 -- ---- a command that takes no argument
 
@@ -57,9 +44,6 @@ bare s = record s { rules = [] }
 
 abbrev first : Walk
 first = walk_from nothing_held
-
-abbrev dashes : Text
-dashes = codes "--"
 
 strays : (s : Shape) → Comes (stray_fault s)
 strays s = elim s.is_leaf as (λ leaf. Comes (stray_fault (record s { is_leaf = leaf }))) [ true ↦ tt | false ↦ tt ]
@@ -129,31 +113,16 @@ stray_words s names word (x ∷ rest) none h = by_test (bytes_eq word dashes)
     (first_comes _ _ (behind_end s names trailing x))))
     (λ e. first_comes _ _ (no_place s names word none e))
 
-not_end : (word : Text) → bytes_eq word dashes ≡ false → ¬ IsEnd (word ∷ [])
-not_end word e (inl h) = absurd cc
-not_end word e (inr h) =
-    let same : word ≡ dashes = cc in absurd (true≢false (sym ((bytes_eq-Decides word dashes).1 same) ∙ e))
-
-end_or_not : (words : List Text) → IsEnd words ⊎ ¬ IsEnd words
-end_or_not [] = inl (inl refl)
-end_or_not (word ∷ []) = by_test (bytes_eq word dashes)
-    (λ e. inl (inr (ap (λ (x : Text). x ∷ []) ((bytes_eq-Decides word dashes).0 e))))
-    (λ e. inr (not_end word e))
-end_or_not (word ∷ x ∷ rest) = inr (elim [ inl h ↦ absurd cc | inr h ↦ absurd cc ])
-
 -- ---- a subcommand
-
-abbrev shape_of : Mode → Shape
-shape_of mode = bare_command (word_of mode)
 
 abbrev top : Shape
 top = (built linkd).top
 
-abbrev below : Mode → Shape
-below mode = record (shape_of mode) { disable_help_subcommand = true; is_built = true }
+abbrev below_mode : Mode → Shape
+below_mode mode = record (bare_command (word_of mode)).top { disable_help_subcommand = true; is_built = true }
 
 abbrev mode_fault : Mode → List Text → Kinds
-mode_fault mode rest = level_fault (below mode) [] nothing_held rest false []
+mode_fault mode rest = level_fault (below_mode mode) [] nothing_held rest false []
 
 takes_nothing : (mode : Mode) → mode_fault mode [] ≡ []
 unfolding walked walk_fault defaults_fault
@@ -173,17 +142,20 @@ mode_takes mode rest (inr e) = ap (mode_fault mode) e ∙ takes_dashes mode
 
 mode_refuses : (mode : Mode) (rest : List Text) → ¬ IsEnd rest → Comes (mode_fault mode rest)
 mode_refuses mode [] h = absurd (h (inl refl))
-mode_refuses Scan (word ∷ rest) h = first_comes _ _ (stray_words (below Scan) [] word rest refl h)
-mode_refuses Sketch (word ∷ rest) h = first_comes _ _ (stray_words (below Sketch) [] word rest refl h)
-mode_refuses Run (word ∷ rest) h = first_comes _ _ (stray_words (below Run) [] word rest refl h)
+mode_refuses Scan (word ∷ rest) h = first_comes _ _ (stray_words (below_mode Scan) [] word rest refl h)
+mode_refuses Sketch (word ∷ rest) h = first_comes _ _ (stray_words (below_mode Sketch) [] word rest refl h)
+mode_refuses Run (word ∷ rest) h = first_comes _ _ (stray_words (below_mode Run) [] word rest refl h)
 
 -- ---- the program's command
 
-abbrev names : Names
-names = (word_of Scan, []) ∷ (word_of Sketch, []) ∷ (word_of Run, []) ∷ []
+abbrev farm_word : Text
+farm_word = codes "farm"
 
-abbrev met : Mode → List Text → Walk
-met mode rest = record first { stopped = Some (word_of mode, rest) }
+abbrev names : Names
+names = (word_of Scan, []) ∷ (word_of Sketch, []) ∷ (word_of Run, []) ∷ (farm_word, []) ∷ []
+
+abbrev met : Text → List Text → Walk
+met word rest = record first { stopped = Some (word, rest) }
 
 -- what follows the walk
 abbrev over : Walk → Kinds
@@ -191,11 +163,16 @@ over w = or_else (entered_fault (built linkd) w.stopped) (or_else (settle_fault 
     (or_else (defaults_fault (settled [] w.held).rows [])
     (check_fault top (finished [] w.held) (is_some (entered (built linkd) w.stopped)))))
 
-walked_mode : (mode : Mode) (rest : List Text) → fold (walked [] names) first (word_of mode ∷ rest) ≡ met mode rest
+walked_mode : (mode : Mode) (rest : List Text)
+    → fold (walked [] names) first (word_of mode ∷ rest) ≡ met (word_of mode) rest
 unfolding walked
 walked_mode Scan rest = sym (walk_stopped [] names first (word_of Scan) [] rest)
 walked_mode Sketch rest = sym (walk_stopped [] names first (word_of Sketch) [] rest)
 walked_mode Run rest = sym (walk_stopped [] names first (word_of Run) [] rest)
+
+walked_farm : (rest : List Text) → fold (walked [] names) first (farm_word ∷ rest) ≡ met farm_word rest
+unfolding walked
+walked_farm rest = sym (walk_stopped [] names first farm_word [] rest)
 
 mode_faults : (mode : Mode) (name : Text) (rest : List Text)
     → fault_of linkd (name ∷ word_of mode ∷ rest) ≡ or_else (mode_fault mode rest) []
@@ -207,107 +184,121 @@ mode_faults Sketch name rest =
 mode_faults Run name rest =
     past _ _ (stopped_fault top names first (word_of Run, []) rest) ∙ ap over (walked_mode Run rest)
 
+farm_faults : (name : Text) (rest : List Text)
+    → fault_of linkd (name ∷ farm_word ∷ rest) ≡ or_else (farm_fault rest) []
+unfolding walked walk_fault defaults_fault
+farm_faults name rest =
+    past _ _ (stopped_fault top names first (farm_word, []) rest) ∙ ap over (walked_farm rest)
+
+-- what the walk's end asks for
+abbrev asked_at : Walk → Option Words
+asked_at w = asked_by (entered (built linkd) w.stopped)
+
 mode_met : (mode : Mode) (name : Text) (rest : List Text)
-    → option_map (λ p. p.0) (subcommand_of linkd (name ∷ word_of mode ∷ rest)) ≡ Some (word_of mode)
-mode_met Scan name rest =
-    ap (λ (w : Walk). option_map (λ p. p.0) (entered (built linkd) w.stopped)) (walked_mode Scan rest)
-mode_met Sketch name rest =
-    ap (λ (w : Walk). option_map (λ p. p.0) (entered (built linkd) w.stopped)) (walked_mode Sketch rest)
-mode_met Run name rest =
-    ap (λ (w : Walk). option_map (λ p. p.0) (entered (built linkd) w.stopped)) (walked_mode Run rest)
+    → asked_by (subcommand_of linkd (name ∷ word_of mode ∷ rest)) ≡ Some (Lines mode)
+mode_met Scan name rest = ap asked_at (walked_mode Scan rest)
+mode_met Sketch name rest = ap asked_at (walked_mode Sketch rest)
+mode_met Run name rest = ap asked_at (walked_mode Run rest)
+
+farm_met : (name text : Text) (said end : List Text) → IsPassed text → IsSaid text said → IsEnd end
+    → asked_by (subcommand_of linkd (name ∷ farm_word ∷ said ++ end)) ≡ Some (Farm (number text))
+farm_met name text said end e is h = ap asked_at (walked_farm (said ++ end))
+    ∙ ap (λ (rows : List Row). asked_by (Some (farm_word, rows))) (said_rows text said end e is h)
+    ∙ ap (option_map Farm) (count_read text e)
 
 -- ---- the words
 
-second : (a b c d : Text) (x y : List Text) → a ∷ b ∷ x ≡ c ∷ d ∷ y → (b ≡ d) × (x ≡ y)
-second a b c d x y e = let tails : b ∷ x ≡ d ∷ y = cc in (cc, cc)
+-- what the words ask for is taken
+passes : (asked : Words) (words : List Text) → AskFor asked words → fault_of linkd words ≡ []
+passes (Lines mode) words p =
+    ap (fault_of linkd) (p.3 ∙ ap (λ (option : List Text). p.0 ∷ word_of mode ∷ option ++ p.2) p.4)
+    ∙ mode_faults mode p.0 p.2 ∙ ap (λ (kinds : Kinds). or_else kinds []) (mode_takes mode p.2 p.5)
+passes (Farm count) words p =
+    let text = p.4.0 in
+    let same : number text ≡ count = sym p.4.1.1 in
+    let is_count : IsCount text = (p.4.1.0, rw same p.4.2, rw same p.4.3) in
+    ap (fault_of linkd) p.3 ∙ farm_faults p.0 (p.1 ++ p.2)
+    ∙ ap (λ (kinds : Kinds). or_else kinds []) (said_passes text p.1 p.2 (count_passes text is_count) p.4.4 p.5)
+
+-- the words are taken for what they ask for, or refused
+abbrev IsDecided : List Text → Type 0
+IsDecided words =
+    ((asked : Words) × AskFor asked words × (asked_by (subcommand_of linkd words) ≡ Some asked))
+    ⊎ Comes (fault_of linkd words)
+
+mode_decided : (mode : Mode) (name : Text) (rest : List Text) → IsDecided (name ∷ word_of mode ∷ rest)
+mode_decided mode name rest = elim (end_or_not rest) [
+  | inl e ↦ inl (Lines mode, (name, [], rest, refl, refl, e), mode_met mode name rest)
+  | inr h ↦ inr (subst Comes (sym (mode_faults mode name rest)) (first_comes _ _ (mode_refuses mode rest h)))
+]
+
+farm_said : (name : Text) (rest : List Text) → IsFarm rest → IsDecided (name ∷ farm_word ∷ rest)
+farm_said name rest p =
+    let text = p.0 in
+    let count = passed_count text p.4 in
+    inl (
+      Farm (number text),
+      (
+        name,
+        p.1,
+        p.2,
+        ap (λ (words : List Text). name ∷ farm_word ∷ words) p.3,
+        (text, (count.0, refl), count.1, count.2, p.5),
+        p.6,
+      ),
+      ap (λ (words : List Text). asked_by (subcommand_of linkd (name ∷ farm_word ∷ words))) p.3
+          ∙ farm_met name text p.1 p.2 p.4 p.5 p.6,
+    )
+
+farm_asked : (name : Text) (rest : List Text) → IsDecided (name ∷ farm_word ∷ rest)
+farm_asked name rest = elim (farm_decided rest) [
+  | inl p ↦ farm_said name rest p
+  | inr h ↦ inr (subst Comes (sym (farm_faults name rest)) (first_comes _ _ h))
+]
 
 -- the word is no subcommand
 abbrev IsOther : Text → Type 0
 IsOther word =
     (bytes_eq (word_of Scan) word ≡ false) × (bytes_eq (word_of Sketch) word ≡ false)
-    × (bytes_eq (word_of Run) word ≡ false)
-
-no_mode : (word : Text) → IsOther word → (mode : Mode) → ¬ (word ≡ word_of mode)
-no_mode word h Scan e = true≢false (sym ((bytes_eq-Decides (word_of Scan) word).1 (sym e)) ∙ h.0)
-no_mode word h Sketch e = true≢false (sym ((bytes_eq-Decides (word_of Sketch) word).1 (sym e)) ∙ h.1)
-no_mode word h Run e = true≢false (sym ((bytes_eq-Decides (word_of Run) word).1 (sym e)) ∙ h.2)
-
-other_word : (name word : Text) (rest : List Text) → IsOther word → AskForNothing (name ∷ word ∷ rest)
-other_word name word rest h (Lines mode) = λ p. no_mode word h mode (second name word p.0 (word_of mode) rest p.1 p.2).0
+    × (bytes_eq (word_of Run) word ≡ false) × (bytes_eq farm_word word ≡ false)
 
 other_faults : (name word : Text) (rest : List Text) → IsOther word → Comes (fault_of linkd (name ∷ word ∷ rest))
 unfolding walked walk_fault defaults_fault
 other_faults name word rest e = elim (end_or_not (word ∷ rest)) [
   | inl (inl h) ↦ absurd cc
   | inl (inr h) ↦ subst (λ (l : List Text). Comes (fault_of linkd (name ∷ l))) (sym h) tt
-  | inr h ↦ first_comes _ _ (stray_words top names word rest (rw (e.0, e.1, e.2) refl) h)
+  | inr h ↦ first_comes _ _ (stray_words top names word rest (rw (e.0, e.1, e.2, e.3) refl) h)
 ]
 
--- the words are taken for this mode
-abbrev IsTaken : Mode → List Text → Type 0
-IsTaken mode words =
-    AskFor (Lines mode) words × (fault_of linkd words ≡ [])
-    × (option_map (λ p. p.0) (subcommand_of linkd words) ≡ Some (word_of mode))
-
-abbrev IsRefused : List Text → Type 0
-IsRefused words = AskForNothing words × Comes (fault_of linkd words)
-
-not_mode : (mode : Mode) (name : Text) (rest : List Text) → ¬ IsEnd rest → AskForNothing (name ∷ word_of mode ∷ rest)
-not_mode mode name rest h (Lines asked) =
-    λ p. h (subst IsEnd (sym (second name (word_of mode) p.0 (word_of asked) rest p.1 p.2).1) p.3)
-
-none_asked : AskForNothing []
-none_asked (Lines mode) = λ p. absurd cc
-
-name_asked : (name : Text) → AskForNothing (name ∷ [])
-name_asked name (Lines mode) = λ p. absurd cc
-
-mode_decided : (mode : Mode) (name : Text) (rest : List Text)
-    → IsTaken mode (name ∷ word_of mode ∷ rest) ⊎ IsRefused (name ∷ word_of mode ∷ rest)
-mode_decided mode name rest = elim (end_or_not rest) [
-  | inl e ↦ inl (
-    (name, rest, refl, e),
-    mode_faults mode name rest
-        ∙ ap (λ (k : Kinds). or_else k []) (mode_takes mode rest e),
-    mode_met mode name rest,
-  )
-  | inr h ↦ inr (
-    not_mode mode name rest h,
-    subst Comes (sym (mode_faults mode name rest))
-        (first_comes _ _ (mode_refuses mode rest h)),
-  )
-]
-
--- the words are taken for some mode, or refused
-abbrev IsDecided : List Text → Type 0
-IsDecided words = ((mode : Mode) × IsTaken mode words) ⊎ IsRefused words
-
-by_mode : (mode : Mode) (name word : Text) (rest : List Text) → bytes_eq (word_of mode) word ≡ true → IsDecided (name ∷ word ∷ rest)
-by_mode mode name word rest e =
-    subst (λ (x : Text). IsDecided (name ∷ x ∷ rest)) ((bytes_eq-Decides (word_of mode) word).0 e)
-    (elim (mode_decided mode name rest) [ inl p ↦ inl (mode, p) | inr p ↦ inr p ])
+-- a subcommand's word
+named : (name known word : Text) (rest : List Text) → bytes_eq known word ≡ true
+    → IsDecided (name ∷ known ∷ rest) → IsDecided (name ∷ word ∷ rest)
+named name known word rest e h =
+    subst (λ (x : Text). IsDecided (name ∷ x ∷ rest)) ((bytes_eq-Decides known word).0 e) h
 
 decided : (words : List Text) → IsDecided words
 unfolding walked walk_fault defaults_fault
-decided [] = inr (none_asked, tt)
-decided (name ∷ []) = inr (name_asked name, tt)
+decided [] = inr tt
+decided (name ∷ []) = inr tt
 decided (name ∷ word ∷ rest) = by_test (bytes_eq (word_of Scan) word)
-    (by_mode Scan name word rest)
-    (λ e. by_test (bytes_eq (word_of Sketch) word)
-    (by_mode Sketch name word rest)
-    (λ f. by_test (bytes_eq (word_of Run) word)
-    (by_mode Run name word rest)
-    (λ g. inr (other_word name word rest (e, f, g), other_faults name word rest (e, f, g)))))
+    (λ e. named name (word_of Scan) word rest e (mode_decided Scan name rest))
+    (λ a. by_test (bytes_eq (word_of Sketch) word)
+    (λ e. named name (word_of Sketch) word rest e (mode_decided Sketch name rest))
+    (λ b. by_test (bytes_eq (word_of Run) word)
+    (λ e. named name (word_of Run) word rest e (mode_decided Run name rest))
+    (λ c. by_test (bytes_eq farm_word word)
+    (λ e. named name farm_word word rest e (farm_asked name rest))
+    (λ d. inr (other_faults name word rest (a, b, c, d))))))
 
--- the words ask for a mode, and name its subcommand
-abbrev IsMet : List Text → Option Text → Type 0
-IsMet words name = (mode : Mode) × AskFor (Lines mode) words × (name ≡ Some (word_of mode))
+-- the words ask for what was met
+abbrev IsMet : List Text → Option Words → Type 0
+IsMet words met = (asked : Words) × AskFor asked words × (met ≡ Some asked)
 
-taken : (words : List Text) → fault_of linkd words ≡ [] → IsMet words (option_map (λ p. p.0) (subcommand_of linkd words))
-taken words e = elim (decided words) [ inl p ↦ (p.0, p.1.0, p.1.2) | inr p ↦ absurd (subst Comes e p.1) ]
+taken : (words : List Text) → fault_of linkd words ≡ [] → IsMet words (asked_by (subcommand_of linkd words))
+taken words e = elim (decided words) [ inl p ↦ p | inr p ↦ absurd (subst Comes e p) ]
 
 refused : (words : List Text) (kind : ErrorKind) → IsAmong kind (fault_of linkd words) → AskForNothing words
-refused words kind h = elim (decided words) [ inl p ↦ absurd (subst (IsAmong kind) p.1.1 h) | inr p ↦ p.0 ]
+refused words kind h asked = λ p. subst (IsAmong kind) (passes asked words p) h
 
 -- ---- the outcomes
 
@@ -320,30 +311,14 @@ NoFault a words = is_simple_and_free a ≡ true → fault_of a words ≡ []
 none_of : (a : App) (words : List Text) → a ≡ linkd → NoFault a words → fault_of linkd words ≡ []
 none_of a words is h = ap (λ (x : App). fault_of x words) (sym is) ∙ h (ap is_simple_and_free is ∙ linkd_free)
 
-name_of_rows : (o : Option (Box SubCommand Global))
-    → option_map (λ b. (out-SubCommand (box_value b)).name.now) o ≡ option_map (λ p. p.0) (subcommand_rows o)
-name_of_rows None = refl
-name_of_rows (Some b) = refl
-
-meets : (a : App) (words : List Text) (m : ArgMatches) → a ≡ linkd → NoFault a words
-    → HasMatchesOf a words m → IsMet words (subcommand_name_of m)
-meets a words m is h matches =
-    let met_rows : subcommand_rows_of m ≡ subcommand_of linkd words =
-    (matches (ap is_simple is)).1 ∙ ap (λ (x : App). subcommand_of x words) is in
-    subst (IsMet words) (sym (name_of_rows (out-ArgMatches m).subcommand ∙ ap (option_map (λ p. p.0)) met_rows))
-    (taken words (none_of a words is h))
-
-mode_of_word : (mode : Mode) → mode_of (Some (word_of mode)) ≡ Some mode
-mode_of_word Scan = refl
-mode_of_word Sketch = refl
-mode_of_word Run = refl
-
--- the mode that is read is the one that the words ask for
-pub asks : (a : App) (words : List Text) (m : ArgMatches) (o : Option Mode) → a ≡ linkd → NoFault a words
-    → HasMatchesOf a words m → o ≡ mode_of (subcommand_name_of m) → (mode : Mode) × AskFor (Lines mode) words × (o ≡ Some mode)
+-- what is read of the matches is what the words ask for
+pub asks : (a : App) (words : List Text) (m : ArgMatches) (o : Option Words) → a ≡ linkd → NoFault a words
+    → HasMatchesOf a words m → o ≡ asked_by (subcommand_rows_of m) → IsMet words o
 asks a words m o is h matches read =
-    let p = meets a words m is h matches in
-    (p.0, p.1, read ∙ ap mode_of p.2 ∙ mode_of_word p.0)
+    let rows : subcommand_rows_of m ≡ subcommand_of linkd words =
+    (matches (ap is_simple is)).1 ∙ ap (λ (x : App). subcommand_of x words) is in
+    let p = taken words (none_of a words is h) in
+    (p.0, p.1, read ∙ ap asked_by rows ∙ p.2)
 
 pub asks_nothing : (a : App) (words : List Text) (kind : ErrorKind) (fault : WordsFault) → a ≡ linkd
     → (is_simple_and_free a ≡ true → (kind ≡ OutOfMemory) ⊎ IsAmong kind (fault_of a words))

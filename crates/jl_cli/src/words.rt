@@ -1,14 +1,16 @@
 //! The words that the program was called with.
 
-ghost use Rattle.std.specs.Prelude.{◌≡◌, ◌≢◌, IfOk, IfErr, map, option_map, string_bytes};
-ghost use Rattle.clap.specs.Words.{app_of, kind_of};
+ghost use Rattle.std.specs.Prelude.{◌≡◌, ◌≢◌, false, IfOk, IfErr, codes, map, option_and_then};
+ghost use Rattle.std.specs.Prelude.{string_bytes};
+ghost use Rattle.clap.specs.Words.{app_of, found_of, kind_of, one_text, rule_of, subcommand_rows_of};
 ghost use Rattle.clap.specs.declared.error.kind.ErrorKind.TheVariants.{OutOfMemory};
 ghost use Rattle.jl_cli.specs.declared.words.WordsFault.TheVariants.{BadWords, Memory};
 ghost use Rattle.jl_cli.specs.Words.{AskFor, AskForNothing};
-ghost use Rattle.jl_cli.specs.CommandLine.{with_scan, with_sketch, linkd, mode_of};
+ghost use Rattle.jl_cli.specs.CommandLine.{with_scan, with_sketch, with_run, linkd, workers, farm};
+ghost use Rattle.jl_cli.specs.CommandLine.{mode_of, count_of, asked_by};
 
 use clap::error::ErrorKind;
-use clap::{Command, Error as ClapError};
+use clap::{Arg, ArgAction, ArgMatches, Command, Error as ClapError, value_parser};
 use std::alloc::{AllocError, Global};
 use thiserror::Error;
 
@@ -28,12 +30,14 @@ pub enum Mode {
 pub enum Words {
     /// Answers to lines.
     Lines(Mode),
+    /// A farm of so many workers, 1 to 16.
+    Farm(u8),
 }
 
 /// Why words ask for nothing.
 #[derive(Clone, Copy, Debug, PartialEq, Eq, Error)]
 pub enum WordsFault {
-    /// No subcommand, an unknown one, or more words than it takes; a call for help is so too.
+    /// No subcommand, an unknown one, or other words than it takes; a call for help is so too.
     #[error("bad words")]
     BadWords,
     /// Want of memory.
@@ -92,22 +96,66 @@ fn with_sketch<'a>(alloc: Global) -> Result<Command<'a>, AllocError>
     with_scan(alloc)?.subcommand(Command::new(alloc, "sketch").disable_help_flag(true))
 }
 
-/// The words of the program, as clap takes them.
-fn command<'a>(alloc: Global) -> Result<Command<'a>, AllocError>
-    ensures { IfOk result (λ command. app_of command ≡ linkd) }
+/// The program with its subcommands that answer lines.
+fn with_run<'a>(alloc: Global) -> Result<Command<'a>, AllocError>
+    ensures { IfOk result (λ command. app_of command ≡ with_run) }
 {
     with_sketch(alloc)?.subcommand(Command::new(alloc, "run").disable_help_flag(true))
 }
 
-/// The mode of the subcommand.
-fn mode_of(name: Option<&str>) -> Option<Mode>
-    ensures { result ≡ mode_of (option_map (λ word. word.now) name.entry) }
+/// The option that says how many workers a farm has.
+fn workers<'a>(alloc: Global) -> Arg<'a>
+    ensures rule { rule_of result ≡ workers }
+    ensures local { result.global ≡ false }
 {
-    match name? {
+    Arg::new(alloc, "workers")
+        .long("workers")
+        .required(true)
+        .action(ArgAction::Set)
+        .value_parser(value_parser!(u8).range(1..=16))
+}
+
+/// The subcommand that asks for a farm.
+fn farm<'a>(alloc: Global) -> Result<Command<'a>, AllocError>
+    ensures { IfOk result (λ command. app_of command ≡ farm) }
+{
+    Command::new(alloc, "farm").disable_help_flag(true).arg(workers(alloc))
+}
+
+/// The words of the program, as clap takes them.
+fn command<'a>(alloc: Global) -> Result<Command<'a>, AllocError>
+    ensures { IfOk result (λ command. app_of command ≡ linkd) }
+{
+    with_run(alloc)?.subcommand(farm(alloc)?)
+}
+
+/// The mode of the subcommand.
+fn mode_of(name: &str) -> Option<Mode>
+    ensures { result ≡ mode_of name.now }
+{
+    match name {
         "scan" => Some(Mode::Scan),
         "sketch" => Some(Mode::Sketch),
         "run" => Some(Mode::Run),
         _ => None,
+    }
+}
+
+/// The count of workers among the options of a farm.
+fn count_of(options: &ArgMatches) -> Option<u8>
+    ensures { result ≡ option_and_then count_of (one_text (found_of options.now) (codes "workers")) }
+{
+    options.get_one::<u8>("workers")
+}
+
+/// What the subcommand that was met asks for.
+fn asked_by(matches: &ArgMatches) -> Option<Words>
+    ensures { result ≡ asked_by (subcommand_rows_of matches.now) }
+{
+    let (name, options) = matches.subcommand()?;
+    match name {
+        "farm" => Some(Words::Farm(count_of(options)?)),
+        _ => Some(Words::Lines(mode_of(name)?)),
     }
 }
 
@@ -122,8 +170,8 @@ pub fn read_words(alloc: Global, words: &[String]) -> Result<Words, WordsFault>
         → AskForNothing (map string_bytes words.now)) }
 {
     match command(alloc)?.try_get_matches_from(words) {
-        Ok(matches) => match mode_of(matches.subcommand_name()) {
-            Some(mode) => Ok(Words::Lines(mode)),
+        Ok(matches) => match asked_by(&matches) {
+            Some(asked) => Ok(asked),
             None => Err(WordsFault::BadWords),
         },
         Err(error) => Err(fault_of(&error)),

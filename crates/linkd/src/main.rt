@@ -32,6 +32,7 @@ fn stopped(rt: &HostRuntime, fault: impl fmt::Display + Drop, status: u8) -> Exi
 fn main(rt: HostRuntime) -> ExitCode {
     let mode = match own_words(&rt) {
         Ok(Words::Lines(mode)) => mode,
+        Ok(Words::Farm(_)) => return stopped(&rt, WordsFault::BadWords, 1),
         Err(fault) => return stopped(&rt, fault, fault.status()),
     };
     let mut input = Counted::new(rt.stdin());
