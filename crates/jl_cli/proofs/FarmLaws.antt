@@ -1,49 +1,29 @@
 -- What clap makes of the words behind `farm`.
-use Rattle.std.proofs.Common.{◌≡◌, ◌∙◌, ◌⊎◌, ◌==◌, ◌≤◌, ◌+◌, take, drop, inl, inr, sym, ap, ap₂, refl, subst, ℕ}
-use Rattle.std.proofs.Common.{zero, suc, List, [], ◌∷◌, ◌++◌, Bool, true, false, cond, Option, Some}
-use Rattle.std.proofs.Common.{None, true≢false, codes, fold, length, arith, eqb-true, lt-ltb}
-use Rattle.std.proofs.lemmas.Bool.{le-leb}
-use Rattle.std.proofs.lemmas.Int.{ints}
-use Rattle.std.proofs.lemmas.Str.Parse.{digit_from_value}
-use Rattle.std.specs.List.{after_first, before_first, list_all, position_or_len}
-use Rattle.std.specs.Prelude.{slice_get, ⊤, nat_le, nat_lt, pos}
-use Rattle.std.specs.Str.Parse.{AllDigits, IsNumeral, ParsesUnsigned, digits_value, starts_with_minus}
-use Rattle.std.specs.Str.Parse.{without_leading_plus}
-use Rattle.std.specs.Char.{digit_value}
-use Rattle.std.specs.Box.{box_value}
-use Rattle.std.specs.Prelude.{Box, Result, Ok, Err, option_and_then, option_map}
-use Rattle.std.proofs.Common.{Global, ltb-true}
-use Rattle.clap.specs.Matches.{ReadsOne, found_of, one_text, subcommand_name_of}
-use Rattle.clap.specs.Simple.{subcommand_rows, subcommand_rows_of}
-use Rattle.clap.specs.Walk.{rows_of as clap_rows}
-use Rattle.clap.specs.declared.parser.matches.Found.{Found}
-use Rattle.clap.specs.declared.parser.matches.ArgMatches.{ArgMatches}
-use Rattle.clap.specs.declared.parser.matches.SubCommand.{SubCommand}
-use Rattle.clap.specs.declared.parser.matches.ArgMatches.TheViews.{out-ArgMatches, out-SubCommand}
-use Rattle.clap.proofs.WalkLemmas.{one_text-rows}
-use Rattle.jl_cli.specs.declared.words.Words.TheVariants.{Farm}
+use Rattle.std.proofs.Common.{◌≡◌, ◌∙◌, ◌⊎◌, ◌==◌, ◌+◌, inl, inr, sym, ap, ap₂, refl, subst, ℕ, zero}
+use Rattle.std.proofs.Common.{suc, List, [], ◌∷◌, ◌++◌, Bool, true, false, cond, Option, Some, None}
+use Rattle.std.proofs.Common.{true≢false, codes, fold, length, take, drop, arith, eqb-true}
+use Rattle.std.proofs.lemmas.Slice.Eq.{bytes_eq-Decides}
+use Rattle.std.specs.Prelude.{⊤, nat_lt, pos, slice_get}
+use Rattle.std.specs.List.{after_first, before_first, position_or_len}
 use Rattle.std.specs.Option.{option_map_or}
 use Rattle.std.specs.Str.{bytes_eq, chars}
-use Rattle.std.proofs.lemmas.Slice.Eq.{bytes_eq-Decides}
-use Rattle.clap.specs.Lexer.{has_byte, long_of, long_of_rest, name_and_value, short_of, without_minus}
+use Rattle.clap.specs.Lexer.{has_byte, long_of, long_of_rest, name_and_value, short_of}
 use Rattle.clap.specs.Kinds.{Kinds, or_else, range_kinds}
 use Rattle.clap.specs.Simple.{Shape, filled, with_index}
-use Rattle.clap.specs.Values.{IsSignedIn}
-use Rattle.clap.specs.ValueTests.{accepts, is_numeral}
+use Rattle.clap.specs.ValueTests.{accepts}
 use Rattle.clap.specs.Walk.{Held, Row, Rule, Step, Text, Waiting, Walk, idle, option, plain}
 use Rattle.clap.specs.Walk.{after_flag, after_step, bundle_met, bundle_step, finished, has_row}
 use Rattle.clap.specs.Walk.{long_or_other, nothing_held, plain_word, rows_after, settled}
 use Rattle.clap.specs.Walk.{short_or_plain, walked}
 use Rattle.clap.specs.Faults.{bundle_fault, bundle_step_fault, check_fault, defaults_fault}
-use Rattle.clap.specs.Faults.{flag_word_fault, flags_fault, level_fault, repeat_fault, settle_fault}
-use Rattle.clap.specs.Faults.{react_fault, step_fault, turn_fault, values_fault, walk_fault}
+use Rattle.clap.specs.Faults.{flag_word_fault, flags_fault, level_fault, react_fault, repeat_fault}
+use Rattle.clap.specs.Faults.{settle_fault, step_fault, turn_fault, values_fault, walk_fault}
 use Rattle.clap.specs.declared.builder.value_parser.Reading.TheVariants.{WithoutMinus}
-use Rattle.clap.specs.declared.builder.value_parser.ValueParser.TheVariants.{Signed, Unsigned}
+use Rattle.clap.specs.declared.builder.value_parser.ValueParser.TheVariants.{Signed}
 use Rattle.clap.specs.declared.parser.matches.ValueSource.TheVariants.{CommandLine}
-use Rattle.clap.proofs.ValueTestLemmas.{accepts-Accepts, Accepts-accepts}
-use Rattle.clap.proofs.WalkLemmas.{both}
 use Rattle.jl_cli.specs.Words.{IsEnd}
-use Rattle.jl_cli.specs.CommandLine.{asked_by, count_of, farm, workers}
+use Rattle.jl_cli.specs.CommandLine.{farm, workers}
+use Rattle.jl_cli.proofs.CountLaws.{IsPassed, by_test, read_number}
 
 -- some kind of error comes
 abbrev pub Comes : Kinds → Type 0
@@ -57,10 +37,6 @@ first_comes (kind ∷ a) b h = tt
 pub next_comes : (a b : Kinds) → Comes b → Comes (or_else a b)
 next_comes [] b h = h
 next_comes (kind ∷ a) b h = tt
-
-pub by_test : {P : Type 0} (b : Bool) → (b ≡ true → P) → (b ≡ false → P) → P
-by_test true on_true on_false = on_true refl
-by_test false on_true on_false = on_false refl
 
 through : (a b c : Kinds) → Comes (or_else b c) → Comes (or_else (or_else a b) c)
 through [] b c h = h
@@ -257,13 +233,19 @@ sorted rows p b word rest e = go (long_form (long_of word) word)
 
     go : IsNamed (long_of word) ⊎ (IsUnknown (long_of word) word ⊎ IsPlain (long_of word) word)
         → IsSorted rows p b word rest
-    go (inl named) = inl (named.0, named.1, goes_on (held rows p) b word rest e
-        ∙ ap (by_long (held rows p) (waits b) word rest) named.1)
+    go (inl named) = inl (
+      named.0,
+      named.1,
+      goes_on (held rows p) b word rest e
+          ∙ ap (by_long (held rows p) (waits b) word rest) named.1,
+    )
     go (inr (inl unknown)) = inr (λ h. back (first_comes _ _ (first_comes _ _ (unknown rows p))))
-    go (inr (inr is_plain)) = inr (λ h. back (subst (λ (met : Held × Step). Comes (of_met (held rows p) (waits b) word rest met))
+    go (inr (inr is_plain)) =
+        let met = plain_word rules (waits b) word (held rows p) in
+        inr (λ h. back (subst (λ (m : Held × Step). Comes (of_met (held rows p) (waits b) word rest m))
         (sym (is_plain rows p (waits b)))
-        (through (flag_word_fault rules false (long_of word) word (held rows p)) (stepped (plain_word rules (waits b) word (held rows p)))
-        (behind (held rows p) (waits b) word rest (plain_word rules (waits b) word (held rows p))) h)))
+        (through (flag_word_fault rules false (long_of word) word (held rows p)) (stepped met)
+        (behind (held rows p) (waits b) word rest met) h)))
 
 -- a word is refused where that holds of the option and of a word that is no option
 other_word : (rows : List Row) (p : Option (Text × List Text)) (b : Bool) (word : Text) (rest : List Text)
@@ -361,67 +343,6 @@ no_end rows p (word ∷ rest) used h = by_test (bytes_eq word dashes)
     behind [] some = absurd (some refl)
     behind (x ∷ xs) some = trailing_word (held rows p) idle x xs
 
--- ---- the value
-
--- the value passes
-abbrev pub IsPassed : Text → Type 0
-IsPassed text = accepts false (Signed (pos 1) (pos 16)) text ≡ true
-
-abbrev pub number : Text → ℕ
-number text = digits_value 10 (without_leading_plus text)
-
--- the text writes a number from 1 to 16
-abbrev pub IsCount : Text → Type 0
-IsCount text = IsNumeral 10 (without_leading_plus text) × (1 ≤ number text) × (number text ≤ 16)
-
-by_sign : (text : Text) (b : Bool) → starts_with_minus text ≡ b → IsSignedIn (pos 1) (pos 16) text
-    → (b ≡ false) × IsCount text
-by_sign text true minus passed =
-    let low = rw minus at passed.2 in
-    absurd (omega (arith, ints))
-by_sign text false minus passed =
-    let numeral = rw minus at passed.0 in
-    let low = rw minus at passed.2 in
-    let high = rw minus at passed.3 in
-    (refl, (numeral, omega (arith, ints), omega (arith, ints)))
-
-read_number : (text : Text) → IsPassed text → (starts_with_minus text ≡ false) × IsCount text
-read_number text e = by_sign text (starts_with_minus text) refl (accepts-Accepts false (Signed (pos 1) (pos 16)) text e)
-
-pub passed_count : (text : Text) → IsPassed text → IsCount text
-passed_count text e = (read_number text e).1
-
-in_unsigned : (text : Text) → IsCount text → accepts false (Unsigned 1 16) text ≡ true
-in_unsigned text h = Accepts-accepts false (Unsigned 1 16) text (h.0, omega (arith, h.2), h.1, h.2)
-
-numeral_test : (text : Text) → IsCount text → is_numeral (without_leading_plus text) ≡ true
-numeral_test text h = (both _ _ (in_unsigned text h)).0
-
--- the number that is read back
-pub count_read : (text : Text) → IsPassed text → count_of (without_minus text) ≡ Some (number text)
-count_read [] e = absurd (true≢false (sym e))
-count_read (x ∷ xs) e =
-    let read = read_number (x ∷ xs) e in
-    let same : without_minus (x ∷ xs) ≡ x ∷ xs = rw read.0 refl in
-    let small : nat_lt (number (x ∷ xs)) 256 ≡ true = lt-ltb _ _ (omega (arith, read.1.2)) in
-    ap count_of same ∙ rw (numeral_test (x ∷ xs) read.1, small) refl
-
-no_minus : (text : Text) → IsCount text → starts_with_minus text ≡ true → ⊥
-no_minus [] h e = absurd (omega (arith, h.0.0))
-no_minus (x ∷ xs) h e =
-    let minus : x ≡ 45 = eqb-true _ _ e in
-    let digits : IsCount (45 ∷ xs) = subst (λ (y : ℕ). IsCount (y ∷ xs)) minus h in
-    absurd (omega (arith, digit_from_value 45 digits.0.1.0))
-
-pub count_passes : (text : Text) → IsCount text → IsPassed text
-count_passes text h = by_test (starts_with_minus text)
-    (λ e. absurd (no_minus text h e))
-    (λ e.
-    let low : nat_le 1 (number text) ≡ true = le-leb _ _ h.1 in
-    let high : nat_le (number text) 16 ≡ true = le-leb _ _ h.2 in
-    let fits : nat_lt (number text) 9223372036854775808 ≡ true = lt-ltb _ _ (omega (arith, h.2)) in
-    rw e (rw (numeral_test text h, low, high, fits) refl))
-
 value_refused : (text : Text) → accepts false (Signed (pos 1) (pos 16)) text ≡ false
     → Comes (values_fault rule (text ∷ []))
 value_refused text e = rw e tt
@@ -429,8 +350,8 @@ value_refused text e = rw e tt
 -- ---- the words that are taken
 
 -- the row of the option
-abbrev pub rows_of : Text → List Row
-rows_of text = record {
+abbrev pub option_rows : Text → List Row
+option_rows text = record {
   id = id;
   values = text ∷ [];
   count = None;
@@ -449,7 +370,7 @@ one_word text end e (inl h) = rw h (rw e refl)
 one_word text end e (inr h) = rw h (rw e refl)
 
 one_word_rows : (text : Text) (end : List Text) → IsEnd end
-    → rows_after rules [] ((codes "--workers=" ++ text) ∷ end) ≡ rows_of text
+    → rows_after rules [] ((codes "--workers=" ++ text) ∷ end) ≡ option_rows text
 unfolding walked
 one_word_rows text end (inl h) = rw h refl
 one_word_rows text end (inr h) = rw h refl
@@ -511,21 +432,22 @@ value_walked x xs e =
     let apart : bytes_eq (x ∷ xs) dashes ≡ false = rw e refl in
     let long : long_of (x ∷ xs) ≡ None = rw e refl in
     let short : short_of (x ∷ xs) ≡ None = rw e refl in
+    let h = held [] (pending []) in
     walked_on (x ∷ xs) apart
-    ∙ ap (λ (o : Long). walk_behind (x ∷ xs) (long_or_other rules (waits true) (x ∷ xs) o (held [] (pending [])))) long
-    ∙ ap (λ (o : Option Text). walk_behind (x ∷ xs) (short_or_plain rules (waits true) (x ∷ xs) o (held [] (pending [])))) short
+    ∙ ap (λ (o : Long). walk_behind (x ∷ xs) (long_or_other rules (waits true) (x ∷ xs) o h)) long
+    ∙ ap (λ (o : Option Text). walk_behind (x ∷ xs) (short_or_plain rules (waits true) (x ∷ xs) o h)) short
 
 abbrev rows_from : Walk → List Text → List Row
 rows_from w words = finished rules (fold (walked rules []) w words).held
 
 end_rows : (text : Text) (end : List Text) → IsEnd end
-    → rows_from (walk_at (held [] (pending (text ∷ []))) idle false) end ≡ rows_of text
+    → rows_from (walk_at (held [] (pending (text ∷ []))) idle false) end ≡ option_rows text
 unfolding walked
 end_rows text end (inl h) = ap (rows_from (walk_at (held [] (pending (text ∷ []))) idle false)) h
 end_rows text end (inr h) = ap (rows_from (walk_at (held [] (pending (text ∷ []))) idle false)) h
 
 two_words_rows : (text : Text) (end : List Text) → IsPassed text → IsEnd end
-    → rows_after rules [] (codes "--workers" ∷ text ∷ end) ≡ rows_of text
+    → rows_after rules [] (codes "--workers" ∷ text ∷ end) ≡ option_rows text
 unfolding walked
 two_words_rows [] end e h = absurd (true≢false (sym e))
 two_words_rows (x ∷ xs) end e h =
@@ -538,7 +460,7 @@ said_passes text said end e (inl is) h = ap (λ (o : List Text). farm_fault (o +
 said_passes text said end e (inr is) h = ap (λ (o : List Text). farm_fault (o ++ end)) is ∙ one_word text end e h
 
 pub said_rows : (text : Text) (said end : List Text) → IsPassed text → IsSaid text said → IsEnd end
-    → rows_after rules [] (said ++ end) ≡ rows_of text
+    → rows_after rules [] (said ++ end) ≡ option_rows text
 said_rows text said end e (inl is) h =
     ap (λ (o : List Text). rows_after rules [] (o ++ end)) is ∙ two_words_rows text end e h
 said_rows text said end e (inr is) h =
@@ -554,13 +476,17 @@ long_is (x ∷ []) p e = by_test (x == 45)
     (λ t. let none : None ≡ Some p = rw t at e in absurd cc)
 long_is (x ∷ y ∷ rest) p e = by_test (x == 45)
     (λ t. by_test (y == 45)
-    (λ u. (rest, ap₂ (λ (a b : ℕ). a ∷ b ∷ rest) (eqb-true x 45 t) (eqb-true y 45 u), behind rest (rw (t, u) at e)))
+    (λ u. (
+      rest,
+      ap₂ (λ (a b : ℕ). a ∷ b ∷ rest) (eqb-true x 45 t) (eqb-true y 45 u),
+      named rest (rw (t, u) at e),
+    ))
     (λ u. let none : None ≡ Some p = rw (t, u) at e in absurd cc))
     (λ t. let none : None ≡ Some p = rw t at e in absurd cc)
   where
-    behind : (z : Text) → long_of_rest z ≡ Some p → name_and_value z ≡ p
-    behind [] f = absurd cc
-    behind (z ∷ zs) f = cc
+    named : (z : Text) → long_of_rest z ≡ Some p → name_and_value z ≡ p
+    named [] f = absurd cc
+    named (z ∷ zs) f = cc
 
 abbrev is_equals : ℕ → Bool
 is_equals x = x == 61
@@ -634,7 +560,7 @@ attached word text rest named = by_test (accepts false (Signed (pos 1) (pos 16))
         inr (ap (λ (x : Text). x ∷ []) (with_value word text named)),
         h,
       )
-      | inr h ↦ inr (next_comes _ _ (no_end (rows_of text) None rest refl h))
+      | inr h ↦ inr (next_comes _ _ (no_end (option_rows text) None rest refl h))
     ])
     (λ e. inr (first_comes _ _ (first_comes _ _ (value_refused text e))))
 
@@ -683,58 +609,3 @@ farm_decided (word ∷ rest) = by_test (bytes_eq word dashes)
       ]
       | inr other ↦ inr (other tt)
     ])
-
--- ---- what is read of the matches
-
-digits_pass : (ds : List ℕ) → AllDigits 10 ds → list_all (λ d. nat_lt (digit_value d) 10) ds ≡ true
-digits_pass [] h = refl
-digits_pass (d ∷ ds) h = rw (lt-ltb (digit_value d) 10 h.0) (digits_pass ds h.1)
-
-digits_from : (ds : List ℕ) → list_all (λ d. nat_lt (digit_value d) 10) ds ≡ true → AllDigits 10 ds
-digits_from [] e = tt
-digits_from (d ∷ ds) e =
-    let parts = both _ _ e in
-    (ltb-true _ _ parts.0, digits_from ds parts.1)
-
-is_number : (ds : List ℕ) → IsNumeral 10 ds → is_numeral ds ≡ true
-is_number ds h = rw (lt-ltb 0 (length ds) h.0) (digits_pass ds h.1)
-
-number_is : (ds : List ℕ) → is_numeral ds ≡ true → IsNumeral 10 ds
-number_is ds e = let parts = both _ _ e in (ltb-true _ _ parts.0, digits_from ds parts.1)
-
-module _ (E : Type 0) (G : Text → Result ℕ E → Type 0) (reads : (text : Text) (x : Result ℕ E) → G text x → ParsesUnsigned 8 10 text x) where
-  number_back : (text : Text) (r : Option ℕ) → ReadsOne G text r → r ≡ count_of text
-  number_back text (Some n) h =
-      let p = reads text (Ok n) h in
-      let small : nat_lt (number text) 256 ≡ true = lt-ltb _ _ p.0.1 in
-      ap Some p.1 ∙ sym (rw (is_number (without_leading_plus text) p.0.0, small) refl)
-  number_back text None h = by_test (is_numeral (without_leading_plus text))
-      (λ t. by_test (nat_lt (number text) 256)
-      (λ u. absurd (reads text (Err h.0) h.1 (number_is (without_leading_plus text) t, ltb-true _ _ u)))
-      (λ u. rw (t, u) refl))
-      (λ t. rw t refl)
-
-  -- what `get_one` gives is the number that the text writes
-  pub number_read : (o : Option Text) (r : Option ℕ) → (o ≡ None → r ≡ None)
-      → ((text : Text) → o ≡ Some text → ReadsOne G text r) → r ≡ option_and_then count_of o
-  number_read None r none some = none refl
-  number_read (Some text) r none some = number_back text r (some text refl)
-
-joined : (o : Option (Box SubCommand Global)) (name : Text) (rows : List Row)
-    → Some name ≡ option_map (λ b. (out-SubCommand (box_value b)).name.now) o
-    → Some rows ≡ option_map (λ p. p.1) (subcommand_rows o) → subcommand_rows o ≡ Some (name, rows)
-joined None name rows e f = absurd cc
-joined (Some b) name rows e f =
-    let names : (out-SubCommand (box_value b)).name.now ≡ name = cc in
-    let same : clap_rows (found_of (out-SubCommand (box_value b)).matches) ≡ rows = cc in
-    ap₂ (λ (x : Text) (y : List Row). Some (x, y)) names same
-
--- what the matches of a farm ask for
-pub asks_farm : (m : ArgMatches) (name : Text) (f : Found) (o : Option ℕ)
-    → Some name ≡ subcommand_name_of m
-    → Some (clap_rows f) ≡ option_map (λ p. p.1) (subcommand_rows (out-ArgMatches m).subcommand)
-    → name ≡ codes "farm" → o ≡ option_and_then count_of (one_text f id) → option_map Farm o ≡ asked_by (subcommand_rows_of m)
-asks_farm m name f o is_name is_rows farm is =
-    ap (option_map Farm) (is ∙ ap (option_and_then count_of) (one_text-rows f id))
-    ∙ sym (ap asked_by (joined (out-ArgMatches m).subcommand name (clap_rows f) is_name is_rows
-    ∙ ap (λ (x : Text). Some (x, clap_rows f)) farm))

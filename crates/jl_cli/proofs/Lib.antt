@@ -6,6 +6,7 @@ pub mod FloatLaws
 pub mod LineLaws
 pub mod FaultLaws
 pub mod NewlineLaws
+pub mod CountLaws
 pub mod FarmLaws
 pub mod WordsLaws
 pub mod Rows

@@ -1,24 +1,20 @@
 -- What clap makes of the words.
 use Rattle.std.proofs.Common.{◌≡◌, ◌∙◌, ◌⊎◌, inl, inr, sym, ap, refl, subst, ℕ, zero, suc}
-use Rattle.std.proofs.Common.{List, [], ◌∷◌, ◌++◌, Bool, true, false, Option, Some, None}
-use Rattle.std.proofs.Common.{option_map, is_some, true≢false, codes, fold, length, Global}
-use Rattle.std.specs.Prelude.{slice_get, Box, ⊤}
-use Rattle.std.specs.Box.{box_value}
+use Rattle.std.proofs.Common.{List, [], ◌∷◌, ◌++◌, true, false, Option, Some, None}
+use Rattle.std.proofs.Common.{option_map, is_some, codes, fold, length}
+use Rattle.std.specs.Prelude.{slice_get}
 use Rattle.std.specs.Str.{bytes_eq, chars}
 use Rattle.std.proofs.lemmas.Slice.Eq.{bytes_eq-Decides}
 use Rattle.clap.specs.Lexer.{long_of, short_of}
 use Rattle.clap.specs.Kinds.{Kinds, IsAmong, or_else}
 use Rattle.clap.specs.declared.error.kind.ErrorKind.{ErrorKind}
 use Rattle.clap.specs.declared.error.kind.ErrorKind.TheVariants.{OutOfMemory}
-use Rattle.clap.specs.Matches.{subcommand_name_of}
 use Rattle.clap.specs.declared.parser.matches.ArgMatches.{ArgMatches}
-use Rattle.clap.specs.declared.parser.matches.SubCommand.{SubCommand}
-use Rattle.clap.specs.declared.parser.matches.ArgMatches.TheViews.{out-ArgMatches, out-SubCommand}
 use Rattle.clap.specs.Walk.{Names, Row, Text, Walk, Step, value, idle, plain, after_flag}
 use Rattle.clap.specs.Walk.{after_step, bundle_met, bundle_step, long_or_other, short_or_plain}
 use Rattle.clap.specs.Walk.{subcommand_or_other, subcommand_met, nothing_held, walk_from, walked}
 use Rattle.clap.specs.Walk.{settled, finished}
-use Rattle.clap.specs.Simple.{App, Shape, HasMatchesOf, is_simple, subcommand_rows}
+use Rattle.clap.specs.Simple.{App, Shape, HasMatchesOf, is_simple}
 use Rattle.clap.specs.Simple.{subcommand_rows_of, built, entered, subcommand_of}
 use Rattle.clap.specs.Faults.{fault_of, is_simple_and_free, check_fault, defaults_fault}
 use Rattle.clap.specs.Faults.{entered_fault, level_fault, settle_fault, step_fault, stray_fault}
@@ -33,9 +29,10 @@ use Rattle.jl_cli.specs.declared.words.Mode.{Mode}
 use Rattle.jl_cli.specs.declared.words.Mode.TheVariants.{Scan, Sketch, Run}
 use Rattle.jl_cli.specs.Words.{IsEnd, AskFor, AskForNothing, word_of}
 use Rattle.jl_cli.specs.CommandLine.{asked_by, bare_command, linkd}
-use Rattle.jl_cli.proofs.FarmLaws.{Comes, IsCount, IsFarm, IsPassed, IsSaid, by_test, count_passes}
-use Rattle.jl_cli.proofs.FarmLaws.{count_read, dashes, end_or_not, farm_decided, farm_fault}
-use Rattle.jl_cli.proofs.FarmLaws.{first_comes, next_comes, number, passed_count, said_passes, said_rows}
+use Rattle.jl_cli.proofs.CountLaws.{IsCount, IsPassed, by_test, count_passes, count_read, number}
+use Rattle.jl_cli.proofs.CountLaws.{passed_count}
+use Rattle.jl_cli.proofs.FarmLaws.{Comes, IsFarm, IsSaid, dashes, end_or_not, farm_decided}
+use Rattle.jl_cli.proofs.FarmLaws.{farm_fault, first_comes, next_comes, said_passes, said_rows}
 
 -- ---- a command that takes no argument
 

@@ -1,5 +1,5 @@
 -- The program's command, as clap reads it. Only private clauses cite this.
-use Rattle.std.specs.Prelude.{◌&&◌, ◌^◌, ℕ, List, [], ◌∷◌, codes, pos, true, Option, Some, None}
+use Rattle.std.specs.Prelude.{◌&&◌, ◌^◌, ℕ, List, codes, pos, true, Option, Some, None}
 use Rattle.std.specs.Prelude.{if◌then◌else◌, nat_lt, option_and_then, option_map}
 use Rattle.std.specs.Str.{bytes_eq}
 use Rattle.std.specs.Str.Parse.{digits_value, without_leading_plus}
@@ -8,7 +8,7 @@ use Rattle.jl_cli.specs.declared.words.Mode.TheVariants.{Scan, Sketch, Run}
 use Rattle.jl_cli.specs.declared.words.Words.{Words}
 use Rattle.jl_cli.specs.declared.words.Words.TheVariants.{Lines, Farm}
 use Rattle.jl_cli.specs.Words.{word_of}
-use Rattle.clap.specs.Words.{App, Row, Rule, Shape, new_app, new_rule, one_of, with_rule}
+use Rattle.clap.specs.Words.{App, Row, Rule, new_app, new_rule, one_of, with_rule}
 use Rattle.clap.specs.Words.{with_subcommand}
 use Rattle.clap.specs.ValueTests.{is_numeral}
 use Rattle.clap.specs.declared.builder.action.ArgAction.TheVariants.{Set}
@@ -58,7 +58,7 @@ mode_of word =
     else if bytes_eq word (word_of Run) then Some Run
     else None
 
--- the number that a byte's text writes
+-- the number that `u8` reads from the text
 abbrev pub count_of : List ℕ → Option ℕ
 count_of text =
     let digits = without_leading_plus text in

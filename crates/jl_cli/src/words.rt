@@ -119,7 +119,9 @@ fn workers<'a>(alloc: Global) -> Arg<'a>
 fn farm<'a>(alloc: Global) -> Result<Command<'a>, AllocError>
     ensures { IfOk result (λ command. app_of command ≡ farm) }
 {
-    Command::new(alloc, "farm").disable_help_flag(true).arg(workers(alloc))
+    Command::new(alloc, "farm")
+        .disable_help_flag(true)
+        .arg(workers(alloc))
 }
 
 /// The words of the program, as clap takes them.

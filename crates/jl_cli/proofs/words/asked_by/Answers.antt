@@ -1,7 +1,7 @@
-use Rattle.std.proofs.Common.{◌≡◌, ◌∙◌, sym, ap, rules, codes, option_map}
+use Rattle.std.proofs.Common.{◌∙◌, sym, ap, rules, option_map}
 use Rattle.clap.specs.Words.{found_of}
 use Rattle.jl_cli.specs.declared.words.Words.TheVariants.{Farm}
-use Rattle.jl_cli.proofs.FarmLaws.{asks_farm}
+use Rattle.jl_cli.proofs.CountLaws.{asks_farm}
 use Rattle.jl_cli.proofs.words.asked_by.Goals as goal
 
 pub returns-in_err-count_of-in-farm : goal.returns-in_err-count_of-in-farm

@@ -1,7 +1,7 @@
 use Rattle.std.proofs.Common.{codes}
 use Rattle.std.specs.Str.Parse.{ParsesUnsigned, ExplainsUnsignedError, HasUnsignedDigitsIfOk}
 use Rattle.clap.specs.Words.{found_of, one_text}
-use Rattle.jl_cli.proofs.FarmLaws.{number_read}
+use Rattle.jl_cli.proofs.CountLaws.{number_read}
 use Rattle.jl_cli.proofs.words.count_of.Goals as goal
 
 pub returns : goal.returns
