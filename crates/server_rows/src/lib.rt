@@ -3,6 +3,8 @@
 #![tactic(auto)]
 
 #[cfg(test)]
+mod farms;
+#[cfg(test)]
 mod races;
 #[cfg(test)]
 mod rows;
