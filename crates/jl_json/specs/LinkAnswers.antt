@@ -77,6 +77,10 @@ site_links_data rows = array (items_of (map site_link_data rows))
 abbrev pub links_data : List (ℕ × Link) → Data
 links_data rows = single (codes "links") (site_links_data rows)
 
+-- the links that a farm leaves, and its reports, which are JSON of their own
+abbrev pub farm_data : List (ℕ × Link) → Data → Data
+farm_data rows reports = object (member (codes "links") (site_links_data rows) (member (codes "reports") reports no_members))
+
 -- the batch of this number, which may be installed later
 abbrev pub prepared_data : ℕ → List (ℕ × Link) → Data
 prepared_data batch rows =

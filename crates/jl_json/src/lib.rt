@@ -28,7 +28,7 @@ pub use call_site::types_are_descriptors;
 pub use class_answer::class_text;
 pub use command::{ClassSource, Command, each_command_is_read, no_other_keys, read_command};
 pub use event_refusal::{event_refusal_value, prepare_refusal_value};
-pub use link_answer::{link_value, links_value, outcome_value, prepared_value};
+pub use link_answer::{farm_value, link_value, links_value, outcome_value, prepared_value};
 pub use refusal::Refusal;
 pub use reply::reply_value;
 pub use sketch::{least_sketch, no_other_sketch_keys, read_sketch};

@@ -6,7 +6,7 @@ ghost use Rattle.serde_json.specs.View.{view, items_of};
 ghost use Rattle.jl_json.specs.LinkAnswers.{throwable_name, method_id_data, outcome_data};
 ghost use Rattle.jl_json.specs.LinkAnswers.{table_kind_name, table_row_data, link_data};
 ghost use Rattle.jl_json.specs.LinkAnswers.{site_link_data, site_links_data};
-ghost use Rattle.jl_json.specs.LinkAnswers.{links_data, prepared_data};
+ghost use Rattle.jl_json.specs.LinkAnswers.{links_data, farm_data, prepared_data};
 
 use jl_types::{ClassId, Link, MethodId, Outcome, SiteNo, TableKind, Throwable};
 use serde_json::{Value, json};
@@ -138,6 +138,18 @@ pub fn links_value(alloc: Global, links: &[(SiteNo, Link)]) -> Result<Value, All
 {
     let links = site_links_value(alloc, links)?;
     json!(in alloc; {"links": links})
+}
+
+/// The last answer of a farm: the links that it leaves, in the order given, and its reports. Want of memory is an error.
+pub fn farm_value(
+    alloc: Global,
+    links: &[(SiteNo, Link)],
+    reports: Value,
+) -> Result<Value, AllocError>
+    ensures { IfOk result (λ v. view v ≡ farm_data links.now (view reports)) }
+{
+    let links = site_links_value(alloc, links)?;
+    json!(in alloc; {"links": links, "reports": reports})
 }
 
 /// The answer to a preparation: the number of the batch, and its sites with their links, in the order
