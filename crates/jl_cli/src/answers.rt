@@ -134,7 +134,7 @@ impl Answers {
 }
 
 /// The first whole line, and what stands behind its newline. No newline stands before `searched`.
-fn first_line(text: &[u8], searched: usize) -> Option<(&[u8], &[u8])>
+pub(crate) fn first_line(text: &[u8], searched: usize) -> Option<(&[u8], &[u8])>
     requires within { searched ≤ length text.now }
     requires none { NoNewline (take searched text.now) }
     ensures { MatchOption result (NoNewline text.now)
@@ -155,7 +155,7 @@ fn newline_from(text: &[u8], searched: usize) -> Option<usize>
 }
 
 /// Writes all of the bytes.
-fn write_all<W: Sink>(writer: &mut W, bytes: &[u8]) -> Result<(), Failed>
+pub(crate) fn write_all<W: Sink>(writer: &mut W, bytes: &[u8]) -> Result<(), Failed>
     ensures written { OnOk result
         (Appends (W.contents writer.old) (W.contents writer.new) bytes.now) }
     ensures failures { CountsFailure (W.failures writer.old) (W.failures writer.new) result }

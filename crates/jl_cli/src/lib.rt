@@ -28,9 +28,16 @@ mod line_buffer;
 mod line_fault;
 mod lines;
 
+// The farm.
+mod farm;
+mod farm_fault;
+mod farm_lines;
+
 pub use counted::Counted;
 pub use fail_at::FailAt;
 pub use failed::Failed;
+pub use farm_fault::FarmLineFault;
+pub use farm_lines::run_farm;
 pub use line_fault::LineFault;
 pub use lines::{run_lines, run_lines_with};
 pub use session::Session;

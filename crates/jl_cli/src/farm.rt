@@ -1,0 +1,173 @@
+//! Commands, a line each, on a link server, and then a farm for the sites that they requested.
+
+ghost use Rattle.std.specs.Prelude.{◌≤◌, vec_len};
+
+use crate::farm_fault::FarmLineFault;
+use crate::json_line::{bad_command, json_in};
+use crate::line_fault::LineFault;
+use crate::scan::fault_value;
+use crate::sketch::sketch_fault_value;
+use jl_classfile::read_class;
+use jl_farm::{Gate, JobOutcome, Report, run};
+use jl_json::{
+    ClassSource, Command, event_refusal_value, farm_value, read_command, reply_value,
+};
+use jl_names::Seq;
+use jl_server::{Caller, LinkServer, Name};
+use jl_sketch::write_class;
+use jl_types::{Event, LoaderId, SiteNo};
+use serde_json::{Value, json};
+use std::alloc::{AllocError, Global};
+use std::sync::Wait;
+use std::thread::Threads;
+
+/// A link server, and the caller by which commands are applied to it.
+#[derive(Drop)]
+pub(crate) struct Foreman<'a, K: Name, H: Wait, S: Wait + Drop> {
+    pub(crate) rt: &'a H,
+    pub(crate) alloc: Global,
+    pub(crate) server: &'a LinkServer<K, S>,
+    pub(crate) caller: Caller<K>,
+}
+
+impl<'a, K: Name, H: Wait, S: Wait + Drop> Foreman<'a, K, H, S> {
+    /// The text of the answer to a line: a command in JSON, or none. Preparations, installs, calls and lists of links are none here.
+    pub(crate) fn answer_text(&mut self, line: &[u8]) -> Result<Vec<u8>, AllocError> {
+        let answer = self.answer(line)?;
+        answer.to_vec(self.alloc)
+    }
+
+    fn answer(&mut self, line: &[u8]) -> Result<Value, AllocError> {
+        let Some(value) = json_in(self.alloc, line)? else {
+            return bad_command(self.alloc);
+        };
+        match read_command(self.alloc, &value)? {
+            Some(asked) => self.obey(asked),
+            None => bad_command(self.alloc),
+        }
+    }
+
+    fn obey(&mut self, asked: Command) -> Result<Value, AllocError> {
+        match asked {
+            Command::NewLoader => self.apply(Event::NewLoader),
+            Command::Define { loader, source } => self.define(loader, source),
+            Command::Delegate { loader, name, to } => self.apply(Event::Delegate(loader, name, to)),
+            Command::Request(place) => self.apply(Event::Request(place)),
+            Command::NewCallSite { kind, ty, target } => {
+                self.apply(Event::NewCallSite(kind, ty, target))
+            }
+            Command::SetTarget { call_site, target } => {
+                self.apply(Event::SetTarget(call_site, target))
+            }
+            Command::NewSwitch => self.apply(Event::NewSwitch),
+            Command::Invalidate(switches) => self.apply(Event::Invalidate(switches)),
+            Command::Bind { site, call_site } => self.apply(Event::Bind(site, call_site)),
+            Command::Prepare(_) => bad_command(self.alloc),
+            Command::Install(_) => bad_command(self.alloc),
+            Command::Call(_, _) => bad_command(self.alloc),
+            Command::Links => bad_command(self.alloc),
+        }
+    }
+
+    fn apply(&mut self, event: Event) -> Result<Value, AllocError> {
+        match self.caller.apply(self.rt, self.alloc, self.server, event) {
+            Ok(receipt) => reply_value(self.alloc, &receipt.reply),
+            Err(denied) => event_refusal_value(self.alloc, &denied.refusal),
+        }
+    }
+
+    fn define(&mut self, loader: LoaderId, source: ClassSource) -> Result<Value, AllocError> {
+        match source {
+            ClassSource::File(bytes) => self.define_file(loader, bytes.as_slice()),
+            ClassSource::Sketch(sketch) => match write_class(self.alloc, &sketch) {
+                Ok(bytes) => self.define_file(loader, &bytes),
+                Err(fault) => sketch_fault_value(self.alloc, fault),
+            },
+        }
+    }
+
+    fn define_file(&mut self, loader: LoaderId, bytes: &[u8]) -> Result<Value, AllocError> {
+        match read_class(self.alloc, bytes) {
+            Ok(file) => self.apply(Event::Define(loader, file)),
+            Err(fault) => fault_value(self.alloc, fault),
+        }
+    }
+
+    /// One job for each requested site, in order. Requests number their sites from 0 on.
+    fn jobs(&mut self) -> Result<Vec<Seq<SiteNo>>, AllocError> {
+        let (snapshot, _seen) = self.caller.snapshot(self.rt, self.alloc, self.server)?;
+        let mut jobs = Vec::new(self.alloc);
+        for number in 0..snapshot.world().site_count() {
+            let mut sites = Vec::new(self.alloc);
+            let number = u32::try_from(number).map_err(|_| AllocError)?;
+            sites.push(SiteNo::new(number))?;
+            jobs.push(Seq::of(sites))?;
+        }
+        Ok(jobs)
+    }
+
+    /// The links that are installed, and these reports.
+    fn last_value(&mut self, reports: &[Report<K>]) -> Result<Value, AllocError> {
+        let reports = reports_value(self.alloc, reports)?;
+        let list = self.server.links(self.rt, self.alloc, &mut self.caller)?;
+        farm_value(self.alloc, list.rows.as_slice(), reports)
+    }
+}
+
+/// A gate that lets each job pass.
+#[derive(Drop)]
+struct Open;
+
+impl Gate for Open {
+    fn before_prepare(&self, _job: usize) {}
+
+    fn after_install(&self, _job: usize) {}
+}
+
+/// The text of the farm's answer: the links that the workers leave installed, and what each job came to.
+pub(crate) fn farm_text<
+    K: Name + Send + Sync,
+    H: Threads + Wait + Sync,
+    S: Wait + Drop + Send + Sync,
+>(
+    foreman: &mut Foreman<'_, K, H, S>,
+    workers: Vec<Caller<K>>,
+) -> Result<Vec<u8>, FarmLineFault>
+    requires { (1 ≤ vec_len workers) × (vec_len workers ≤ 16) }
+{
+    let mut workers = workers;
+    for worker in &mut workers {
+        worker.learn(foreman.caller.seen());
+    }
+    let jobs = foreman.jobs()?;
+    if jobs.len() > 65_536 {
+        return Err(FarmLineFault::Line(LineFault::Memory));
+    }
+    let reports = match run(foreman.rt, foreman.alloc, foreman.server, jobs, workers, &Open) {
+        Ok(reports) => reports,
+        Err(fault) => return Err(FarmLineFault::Farm(fault)),
+    };
+    let answer = foreman.last_value(reports.as_slice())?;
+    Ok(answer.to_vec(foreman.alloc)?)
+}
+
+/// The name of what a job came to.
+fn name_of<K: Name>(outcome: &JobOutcome<K>) -> &'static str {
+    match outcome {
+        JobOutcome::Installed(_) => "Installed",
+        JobOutcome::Stale(_, _) => "Stale",
+        JobOutcome::NotReady(_) => "NotReady",
+        JobOutcome::Bad(_) => "Bad",
+        JobOutcome::Memory => "Memory",
+    }
+}
+
+/// The names of what jobs came to, in order.
+fn reports_value<K: Name>(alloc: Global, reports: &[Report<K>]) -> Result<Value, AllocError> {
+    let mut names = Vec::new(alloc);
+    for report in reports {
+        let name = name_of(&report.outcome);
+        names.push(json!(in alloc; name)?)?;
+    }
+    Ok(Value::Array(names))
+}

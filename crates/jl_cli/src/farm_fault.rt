@@ -1,0 +1,68 @@
+//! Why a farm over lines ends before its reports are written.
+
+ghost use Rattle.std.specs.Prelude.{◌≡◌};
+ghost use Rattle.jl_cli.specs.declared.line_fault.LineFault.TheVariants as line_fault;
+ghost use Rattle.jl_cli.specs.declared.farm_fault.FarmLineFault.TheVariants.{Line, Farm};
+
+use crate::failed::Failed;
+use crate::line_fault::LineFault;
+use jl_farm::FarmFault;
+use std::alloc::{AllocError, AllocFailed};
+use thiserror::Error;
+
+/// Why a farm over lines ends before its reports are written.
+#[derive(Clone, Copy, Debug, PartialEq, Eq, Error)]
+pub enum FarmLineFault {
+    /// The lines ended before the input did.
+    #[error("{0}")]
+    Line(LineFault),
+    /// There are no reports.
+    #[error("farm failed")]
+    Farm(FarmFault),
+}
+
+impl FarmLineFault {
+    ghost use Rattle.jl_cli.specs.Statuses.{farm_status};
+
+    /// The exit status of the program.
+    pub fn status(self) -> u8
+        ensures { result ≡ farm_status self }
+    {
+        match self {
+            FarmLineFault::Line(fault) => fault.status(),
+            FarmLineFault::Farm(_) => 1,
+        }
+    }
+}
+
+impl From<LineFault> for FarmLineFault {
+    ghost from_gives = { λ fault f. f ≡ Line fault };
+
+    fn from(fault: LineFault) -> FarmLineFault {
+        FarmLineFault::Line(fault)
+    }
+}
+
+impl From<Failed> for FarmLineFault {
+    ghost from_gives = { λ _ f. f ≡ Line line_fault.Device };
+
+    fn from(_failed: Failed) -> FarmLineFault {
+        FarmLineFault::Line(LineFault::Device)
+    }
+}
+
+impl From<AllocError> for FarmLineFault {
+    ghost from_gives = { λ _ f. f ≡ Line line_fault.Memory };
+
+    fn from(_e: AllocError) -> FarmLineFault {
+        FarmLineFault::Line(LineFault::Memory)
+    }
+}
+
+impl<T: Drop> From<AllocFailed<T>> for FarmLineFault {
+    ghost from_gives = { λ _ f. f ≡ Line line_fault.Memory };
+
+    fn from(_e: AllocFailed<T>) -> FarmLineFault {
+        FarmLineFault::Line(LineFault::Memory)
+    }
+}
