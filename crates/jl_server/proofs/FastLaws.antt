@@ -1,5 +1,6 @@
 -- An answer at once is the call's answer.
-use Rattle.std.specs.Prelude.{◌≡◌, ℕ, Bool, true, false, nat_le, find, ◌==◌, List, Option, Some, None, Ok, if◌then◌else◌}
+use Rattle.std.specs.Prelude.{◌≡◌, ℕ, Bool, true, false, nat_le, find, ◌==◌, List, [], ◌∷◌, map, Option, Some, None, Ok, if◌then◌else◌}
+use Rattle.std.specs.List.{AllZip}
 use Rattle.std.proofs.Common.{refl, sym, ◌∙◌}
 use Rattle.std.proofs.lemmas.Bool.{and_from}
 use Rattle.jl_types.specs.declared.answer.Outcome.{Outcome}
@@ -24,6 +25,7 @@ use Rattle.jl_types.specs.History.{world_after, installed}
 use Rattle.jl_types.proofs.Agreement.{fault_is_thrown, plain_is_run, null_is_thrown, direct_answers, table_answers}
 use Rattle.jl_types.proofs.Installed.{installed_to, settled_now}
 use Rattle.jl_server.specs.Receivers.{FitsLink, FitsInstalled}
+use Rattle.jl_server.specs.Calls.{all_closed, AnswersCall}
 
 -- ---- a site with a link that looks at the receiver selects by it
 
@@ -91,3 +93,15 @@ now_is_dispatch h s n recv f a is now fits = by_installed (installed h s) refl (
     by_installed : (o : Option Link) → installed h s ≡ o → fast_answer o n recv ≡ Now a → dispatch (world_after h) s recv ≡ a
     by_installed None there at_once = cc
     by_installed (Some link) there at_once = installed_is_dispatch h s n recv a link there (fits link there) at_once
+
+-- ---- of several calls
+
+pub each_answered : (h : List Event) (n : ℕ) (calls : List (ℕ × Recv))
+    → AllZip (AnswersCall h) calls (map (λ call. fast_answer (installed h call.0) n call.1) calls)
+each_answered h n [] = tt
+each_answered h n (call ∷ calls) =
+    (λ a now fits. now_is_dispatch h call.0 n call.1 (fast_answer (installed h call.0) n call.1) a refl now fits, each_answered h n calls)
+
+pub each_closed : (h : List Event) (calls : List (ℕ × Recv)) → AllZip (AnswersCall h) calls (all_closed calls)
+each_closed h [] = tt
+each_closed h (call ∷ calls) = (λ a now fits. cc, each_closed h calls)

@@ -1,5 +1,5 @@
 -- The table with the slots of the next entry is shown as it should be; and what a caller finds there.
-use Rattle.std.proofs.Common.{◌≡◌, ℕ, List, [], ◌∷◌, ◌++◌, length, replicate, get_or, Option, Some, None, ap, sym, ◌∙◌, subst}
+use Rattle.std.proofs.Common.{◌≡◌, ℕ, List, [], ◌∷◌, ◌++◌, length, map, replicate, get_or, refl, Option, Some, None, ap, sym, ◌∙◌, subst}
 use Rattle.std.proofs.lemmas.List.Sums.{fold-append}
 use Rattle.logbook.specs.Pages.{Book}
 use Rattle.jl_types.specs.declared.link.Link.{Link}
@@ -16,6 +16,7 @@ use Rattle.jl_server.specs.declared.table.Table.{Table}
 use Rattle.jl_server.specs.declared.table.Change.{Change}
 use Rattle.jl_server.specs.declared.table.Content.{Content}
 use Rattle.jl_server.specs.Shown.{content, changed, IsShown, Knows, server_of}
+use Rattle.jl_server.specs.Calls.{answers_at}
 
 module _ (n : ℕ) (t : Content) (c : Change) (xs : List Entry) (e : Entry) (wide : length t.links ≡ n) (before : t.list.reached.log ≡ xs) (after : c.list.reached.log ≡ xs ++ e ∷ []) (slots : c.slots.items ≡ e.slots) (classes : c.classes ≡ classes_of (xs ++ e ∷ [])) (legal : IsLegal n (xs ++ e ∷ [])) where
   width : length (written t.links c.slots.items) ≡ n
@@ -58,3 +59,9 @@ module _ (y : Table) where
       is ∙ (ap (λ (l : Option Link). fast_answer l y.classes recv) (ap (λ (ls : List (Option Link)). get_or ls s None) shown.links ∙ legal_shows (length y.links.items) y.list.reached.log shown.legal s)
       ∙ (ap (λ (k : ℕ). fast_answer (installed (events_of y.list.reached.log) s) k recv) shown.classes
       ∙ ap (λ (ws : List Entry). fast_answer (installed (events_of ws) s) (classes_of ws) recv) (sym same)))
+
+  -- so do several
+  pub answers_shown : (calls : List (ℕ × Recv)) (zs : List Entry) (fs : List Fast) → IsShown (content y) → zs ≡ y.list.reached.log
+      → fs ≡ map (λ call. fast_answer (get_or y.links.items call.0 None) y.classes call.1) calls → fs ≡ answers_at zs calls
+  answers_shown calls zs fs shown same is =
+      is ∙ (λ i. map (λ call. answer_shown call.0 call.1 zs (fast_answer (get_or y.links.items call.0 None) y.classes call.1) shown same refl i) calls)

@@ -1,4 +1,5 @@
--- `History` and `Receivers` are what contracts cite; `Shown` is the rule of the published table, a means of proof.
+-- `History`, `Receivers` and `Calls` are what contracts cite; `Shown` is the rule of the published table, a means of proof.
 pub mod History
 pub mod Receivers
+pub mod Calls
 pub mod Shown

@@ -1,6 +1,7 @@
 //! Callers: each has seen a legal list, and looks at the published table without waiting for anybody.
 
-ghost use Rattle.std.specs.Prelude.{◌≡◌, ◌⊎◌, Some};
+ghost use Rattle.std.specs.Prelude.{◌≡◌, ◌⊎◌, Some, length, IfOk, IfErr};
+ghost use Rattle.std.specs.List.{AllZip};
 ghost use mathlib.Core.List.{IsPrefix};
 ghost use Rattle.left_right.specs.Sides.{view as seat_view};
 ghost use Rattle.jl_types.specs.declared.answer.Answer.{Answer};
@@ -10,10 +11,11 @@ ghost use Rattle.jl_types.specs.Fast.{fast_answer};
 ghost use Rattle.jl_types.specs.History.{world_after, installed};
 ghost use Rattle.jl_types.specs.Entries.{IsLegal, events_of, classes_of};
 ghost use Rattle.jl_server.specs.Receivers.{FitsInstalled};
-ghost use Rattle.jl_server.specs.Shown.{server_of};
+ghost use Rattle.jl_server.specs.Calls.{answers_at, all_closed, AnswersCall};
+ghost use Rattle.jl_server.specs.Shown.{server_of, content, IsShown};
 
 use crate::history::Name;
-use crate::publish::{TableReader, enter};
+use crate::publish::{TableReader, TableReading, enter};
 use crate::seen::Seen;
 use core::mem::replace_with;
 use crossbeam_utils::CachePadded;
@@ -101,6 +103,18 @@ impl<K: Name> Caller<K> {
     {
         self.seat.call(site, recv)
     }
+
+    /// What each call, a site and a receiver, is answered at once, all in one entry into the published table and so after one list.
+    /// It takes no memory and waits for nobody. All are Closed where `call` would be.
+    pub fn call_all(&mut self, calls: &[(SiteNo, Recv)], answers: &mut [Fast])
+        requires { length calls.now ≡ length answers.old }
+        ensures own { IsPrefix self.old self.new }
+        ensures legal { IsLegal K.max_sites self.new }
+        ensures answers { (answers.new ≡ answers_at self.new calls.now) ⊎ ((answers.new ≡ all_closed calls.now) × (self.new ≡ self.old)) }
+        ensures now { AllZip (AnswersCall (events_of self.new)) calls.now answers.new }
+    {
+        self.seat.call_all(calls, answers);
+    }
 }
 
 impl<K: Name> Seat<K> {
@@ -117,10 +131,25 @@ impl<K: Name> Seat<K> {
         self.seen = seen;
         answer
     }
+
+    /// Several calls.
+    fn call_all(&mut self, calls: &[(SiteNo, Recv)], answers: &mut [Fast])
+        requires { length calls.now ≡ length answers.old }
+        ensures own { IsPrefix self.old.seen self.new.seen }
+        ensures legal { IsLegal K.max_sites self.new.seen }
+        ensures answers { (answers.new ≡ answers_at self.new.seen calls.now) ⊎ ((answers.new ≡ all_closed calls.now) × (self.new.seen ≡ self.old.seen)) }
+    {
+        let seen = self.seen.again();
+        let (seen, _answers) = replace_with(
+            &mut self.looking,
+            answers,
+            |looking, answers: &mut [Fast]| look_all(looking, seen, calls, answers),
+        );
+        self.seen = seen;
+    }
 }
 
-/// One entry into the published table.
-#[tactic(auto, using(crate::proofs::Next::same_book))]
+/// One entry into the published table, for one call.
 fn look<K: Name>(
     looking: TableReader,
     seen: Seen<K>,
@@ -133,21 +162,71 @@ fn look<K: Name>(
     ensures legal { IsLegal K.max_sites result.1.0 }
     ensures answer { (result.1.1 ≡ fast_answer (installed (events_of result.1.0) site) (classes_of result.1.0) recv) ⊎ ((result.1.1 ≡ Closed) × (result.1.0 ≡ seen)) }
 {
+    match entered(looking, seen) {
+        Ok((reading, list)) => {
+            let answer = reading.get().answer(site, recv);
+            (reading.leave(), (list, answer))
+        }
+        Err((looking, seen)) => (looking, (seen, Fast::Closed)),
+    }
+}
+
+/// One entry, for several calls. It gives the answers back, since of what is handed to a closure the result alone is known.
+fn look_all<'a, K: Name>(
+    looking: TableReader,
+    seen: Seen<K>,
+    calls: &[(SiteNo, Recv)],
+    answers: &'a mut [Fast],
+) -> (TableReader, (Seen<K>, &'a mut [Fast]))
+    requires place { server_of (seat_view looking.place) ≡ Some (K.book, K.max_sites) }
+    requires length { length calls.now ≡ length answers.now }
+    ensures place { seat_view result.0.place ≡ seat_view looking.place }
+    ensures same { result.1.1.ghost_name ≡ answers.entry.ghost_name }
+    ensures own { IsPrefix seen result.1.0 }
+    ensures legal { IsLegal K.max_sites result.1.0 }
+    ensures answers { (result.1.1.now ≡ answers_at result.1.0 calls.now) ⊎ ((result.1.1.now ≡ all_closed calls.now) × (result.1.0 ≡ seen)) }
+{
+    match entered(looking, seen) {
+        Ok((reading, list)) => {
+            reading.get().answer_all(calls, answers);
+            (reading.leave(), (list, answers))
+        }
+        Err((looking, seen)) => {
+            answers.fill(Fast::Closed);
+            (looking, (seen, answers))
+        }
+    }
+}
+
+/// The published table and its list, which what was seen begins; what was given, where the table isn't entered or is older.
+#[tactic(auto, using(crate::proofs::Next::same_book))]
+fn entered<K: Name>(
+    looking: TableReader,
+    seen: Seen<K>,
+) -> Result<(TableReading, Seen<K>), (TableReader, Seen<K>)>
+    requires { server_of (seat_view looking.place) ≡ Some (K.book, K.max_sites) }
+    ensures place { IfOk result (λ r. seat_view r.0.place ≡ seat_view looking.place) }
+    ensures shown { IfOk result (λ r. IsShown (content r.0.part.value)) }
+    ensures list { IfOk result (λ r. r.1 ≡ r.0.part.value.list.reached.log) }
+    ensures own { IfOk result (λ r. IsPrefix seen r.1) }
+    ensures legal { IfOk result (λ r. IsLegal K.max_sites r.1) }
+    ensures given { IfErr result (λ r. (seat_view r.0.place ≡ seat_view looking.place) × (r.1 ≡ seen)) }
+    ensures same { IfErr result (λ r. IsPrefix seen r.1 × IsLegal K.max_sites r.1) }
+{
     let _serial = seen.serial();
     let reading = match enter(looking) {
         Ok(reading) => reading,
         Err(looking) => {
             seen.begins(&seen);
-            return (looking, (seen, Fast::Closed));
+            return Err((looking, seen));
         }
     };
     let table = reading.get();
     let list = Seen::<K>::of(&table.list);
     if list.serial() < seen.serial() {
         seen.begins(&seen);
-        return (reading.leave(), (seen, Fast::Closed));
+        return Err((reading.leave(), seen));
     }
     seen.begins(&list);
-    let answer = table.answer(site, recv);
-    (reading.leave(), (list, answer))
+    Ok((reading, list))
 }

@@ -1,6 +1,6 @@
 //! The table that callers read without waiting, and the change that makes it the table of one entry more.
 
-ghost use Rattle.std.specs.Prelude.{◌≡◌, Some, None, IfOk, length, replicate, get_or};
+ghost use Rattle.std.specs.Prelude.{◌≡◌, Some, None, IfOk, length, map, replicate, get_or};
 ghost use Rattle.jl_types.specs.Fast as fast_of;
 ghost use Rattle.jl_types.specs.Entries.{written};
 
@@ -71,6 +71,16 @@ impl Table {
         match self.links.get(site.number() as usize) {
             Some(Some(link)) => answer_by(link, self.classes, recv),
             _ => Fast::Miss,
+        }
+    }
+
+    /// What each call is answered at once. Takes no memory.
+    pub fn answer_all(&self, calls: &[(SiteNo, Recv)], answers: &mut [Fast])
+        requires { length calls.now ≡ length answers.old }
+        ensures { answers.new ≡ map (λ call. fast_of.fast_answer (get_or self.now.links.items call.0 None) self.now.classes call.1) calls.now }
+    {
+        for (place, call) in calls.iter().enumerate() {
+            answers[place] = self.answer(call.0, call.1);
         }
     }
 }

@@ -1,0 +1,24 @@
+-- Several calls in one entry into the published table.
+use Rattle.std.specs.Prelude.{◌≡◌, ℕ, List, map, length, replicate}
+use Rattle.jl_types.specs.declared.answer.Recv.{Recv}
+use Rattle.jl_types.specs.declared.answer.Answer.{Answer}
+use Rattle.jl_types.specs.declared.answer.Fast.{Fast}
+use Rattle.jl_types.specs.declared.answer.Fast.TheVariants.{Now, Closed}
+use Rattle.jl_types.specs.declared.event.Event.{Event}
+use Rattle.jl_types.specs.Calls.{dispatch}
+use Rattle.jl_types.specs.Fast.{fast_answer}
+use Rattle.jl_types.specs.History.{world_after, installed}
+use Rattle.jl_types.specs.Entries.{Entry, events_of, classes_of}
+use Rattle.jl_server.specs.Receivers.{FitsInstalled}
+
+-- what each call, a site and a receiver, is answered at once after the list
+abbrev pub answers_at : List Entry → List (ℕ × Recv) → List Fast
+answers_at entries calls = map (λ call. fast_answer (installed (events_of entries) call.0) (classes_of entries) call.1) calls
+
+-- each call is Closed
+abbrev pub all_closed : List (ℕ × Recv) → List Fast
+all_closed calls = replicate (length calls) Closed
+
+-- what the call is answered at once, if anything, is the call's answer where the receiver fits the installed link
+abbrev pub AnswersCall : List Event → ℕ × Recv → Fast → Type 0
+AnswersCall h call f = (a : Answer) → f ≡ Now a → FitsInstalled h call.0 call.1 → dispatch (world_after h) call.0 call.1 ≡ a
