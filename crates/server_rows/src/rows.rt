@@ -7,7 +7,7 @@ use crate::servers::{
     runs,
 };
 use jl_server::{Caller, Denied, LinkServer, Name, Parts, Receipt};
-use jl_types::{Event, Fast, Link, Made, Outcome, Recv, Refusal, SiteNo, SwitchId};
+use jl_types::{Answer, Event, Fast, Link, Made, Outcome, Recv, Refusal, SiteNo, SwitchId};
 use std::alloc::Global;
 use std::marker::Brand;
 use std::process::Abort;
@@ -22,6 +22,8 @@ enum Row {
     ByTwo,
     /// They call sites that nobody requested, and that can't be.
     Unknown,
+    /// They call an installed site and one that nobody requested, both in one entry.
+    Together,
     /// A caller learns a newer receipt, and then an older one.
     Older,
     /// A snapshot of a caller that learnt a receipt, and of one that has seen nothing.
@@ -34,10 +36,11 @@ enum Row {
     Gone,
 }
 
-const ROWS: [Row; 8] = [
+const ROWS: [Row; 9] = [
     Row::ByOne,
     Row::ByTwo,
     Row::Unknown,
+    Row::Together,
     Row::Older,
     Row::Snapshot,
     Row::Refused,
@@ -93,6 +96,36 @@ fn misses<K: Name>(caller: &mut Caller<K>) -> bool {
         && caller.call(SiteNo::new(1), object_of(0)) == Fast::Miss
         && caller.call(SiteNo::new(2), Recv::Null) == Fast::Miss
         && caller.call(SiteNo::new(65_536), Recv::Null) == Fast::Miss
+}
+
+/// Whether one entry answers an object of B at site 0, and null at site 1, with these.
+fn are_answered<K: Name>(caller: &mut Caller<K>, want: [Fast; 2]) -> bool {
+    let calls = [(SiteNo::new(0), object_of(2)), (SiteNo::new(1), Recv::Null)];
+    let mut answers = [
+        Fast::Now(Answer::BadReceiver),
+        Fast::Now(Answer::BadReceiver),
+    ];
+    caller.call_all(calls.as_slice(), answers.as_mut_slice());
+    answers == want
+}
+
+/// The first caller sets up site 0, where both are then answered, the second one after a list that nobody told it of. Nothing is
+/// answered there before, nor after the definition of C, which drops the link.
+fn answers_together<K: Name, R: Wait, S: Wait + Drop>(
+    rt: &R,
+    alloc: Global,
+    server: &LinkServer<K, S>,
+    first: &mut Caller<K>,
+    second: &mut Caller<K>,
+) -> bool {
+    are_answered(first, [Fast::Miss, Fast::Miss])
+        && is_set_up(rt, alloc, server, first)
+        && are_answered(first, [runs(1, 0), Fast::Miss])
+        && are_answered(second, [runs(1, 0), Fast::Miss])
+        && second.seen().serial() == 6
+        && is_defined(rt, alloc, server, first, C)
+        && are_answered(second, [Fast::Miss, Fast::Miss])
+        && second.seen().serial() == 7
 }
 
 /// The first caller sets up site 0 and defines C, so that its link goes; the second one learns of the definition, then of the
@@ -212,6 +245,7 @@ fn is_so<K: Name, R: Wait, S: Wait + Drop>(
         Row::ByOne => numbers_of_one(rt, alloc, server, first),
         Row::ByTwo => numbers(rt, alloc, server, first, second),
         Row::Unknown => misses(first),
+        Row::Together => answers_together(rt, alloc, server, first, second),
         Row::Older => learns_an_older(rt, alloc, server, first, second),
         Row::Snapshot => snapshots(rt, alloc, server, first, second),
         Row::Refused => refuses(rt, alloc, server, first, second),
@@ -233,7 +267,9 @@ fn holds<K: Name, R: Wait>(rt: &R, alloc: Global, parts: Parts, row: Row) -> boo
     };
     let so = is_so(rt, alloc, &server, &mut first, &mut second, row);
     drop(server);
-    so && callers.is_empty() && second.call(SiteNo::new(0), Recv::Null) == Fast::Closed
+    so && callers.is_empty()
+        && second.call(SiteNo::new(0), Recv::Null) == Fast::Closed
+        && are_answered(&mut second, [Fast::Closed, Fast::Closed])
 }
 
 fn is_row(rt: &impl Wait, alloc: Global, row: Row) -> bool {
