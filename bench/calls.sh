@@ -1,5 +1,6 @@
 #!/usr/bin/env bash
-# Calls a second through `Caller::call`, beside the same look-ups over other tables, and the time of an event that changes one slot.
+# Calls a second through `Caller::call`, and through `Caller::call_all` with 64 calls an entry, beside the same look-ups over other
+# tables, and the time of an event that changes one slot.
 #
 #     bench/calls.sh [CALLS]     calls of each thread (4,000,000, if unset)
 #
@@ -35,6 +36,8 @@ for threads in 1 2 4; do
         none=$(least "$bench" 65536 "$threads" 0 0 "$writes")
         some=$(least "$bench" 65536 "$threads" "$calls" 0 "$writes")
         echo "$threads threads, call, $writes writing: $(each "$some" "$none" "$calls")"
+        some=$(least "$bench" 65536 "$threads" "$calls" 0 "$writes" 1)
+        echo "$threads threads, call_all, $writes writing: $(each "$some" "$none" "$calls")"
     done
     for table in atomic mutex-array mutex-map rwlock-map; do
         none=$(least "$work/tables" "$table" 65536 "$threads" 0)

@@ -22,10 +22,13 @@ module _ (ℓ : NamedLft) (K R S : RattleType) (g : name.Ghosts K.Denot) where
             (
               search sendable depth 9,
               (
-                search (sendable, of_std) depth 12,
+                search sendable depth 9,
                 (
                   search (sendable, of_std) depth 12,
-                  (search (sendable, of_std) depth 12, tt),
+                  (
+                    search (sendable, of_std) depth 12,
+                    (search (sendable, of_std) depth 12, tt),
+                  ),
                 ),
               ),
             ),

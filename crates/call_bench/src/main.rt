@@ -1,6 +1,6 @@
 //! Does calls and events in threads, to be timed from outside. The words are the server's sites, the threads that call, the calls of
 //! each, and the events that one caller applies before; with a fifth word of 1, one thread more applies events until the calls are
-//! done. It prints how many events that thread applied, and how many calls were answered at once.
+//! done, and with a sixth word of 1 each entry is of 64 calls. It prints how many events that thread applied, and how many calls were answered at once.
 #![tactic(auto)]
 
 ghost use Rattle.std.specs.Prelude.{◌≡◌};
@@ -27,6 +27,9 @@ const INSTALLED: u32 = 1000;
 /// The site of an invokedynamic, which the events drop and install.
 const DYNAMIC: u32 = INSTALLED;
 
+/// How many calls an entry has, where it has several.
+const TOGETHER: usize = 64;
+
 const STATIC_CALLS: [CallRow; 1000] = [CallRow::Static("W", "a"); 1000];
 
 const DYNAMIC_CALLS: [CallRow; 1] = [CallRow::Dynamic("x")];
@@ -41,6 +44,7 @@ struct Work {
     calls: u32,
     events: u32,
     writes: bool,
+    together: bool,
 }
 
 /// The site after this one, of those that are installed.
@@ -57,6 +61,41 @@ fn calls<K: Server>(caller: &mut Caller<K>, calls: u32) -> u64 {
             answers = answers.saturating_add(1);
         }
         site = next(site);
+    }
+    answers
+}
+
+/// The next calls, of which the first is at this site. Gives the site after them.
+fn fill(calls: &mut [(SiteNo, Recv)], site: u32) -> u32 {
+    let mut site = site;
+    for call in calls.iter_mut() {
+        *call = (SiteNo::new(site), Recv::Null);
+        site = next(site);
+    }
+    site
+}
+
+/// How many were answered.
+fn count(answers: &[Fast]) -> u64 {
+    let mut count = 0u64;
+    for answer in answers {
+        if let Fast::Now(_) = answer {
+            count = count.saturating_add(1);
+        }
+    }
+    count
+}
+
+/// So many calls, in entries of several. Counts the answers.
+fn calls_together<K: Server>(caller: &mut Caller<K>, calls: u32) -> u64 {
+    let mut rows = [(SiteNo::new(0), Recv::Null); TOGETHER];
+    let mut found = [Fast::Miss; TOGETHER];
+    let mut answers = 0u64;
+    let mut site = 0;
+    for _ in 0..calls as usize / TOGETHER {
+        site = fill(rows.as_mut_slice(), site);
+        caller.call_all(rows.as_slice(), found.as_mut_slice());
+        answers = answers.saturating_add(count(found.as_slice()));
     }
     answers
 }
@@ -233,6 +272,7 @@ struct Common<'a, K: Server, R: Wait, S: Wait + Drop> {
     alloc: Global,
     server: &'a LinkServer<K, S>,
     calls: u32,
+    together: bool,
     busy: AtomicU64,
     written: AtomicU64,
     answers: AtomicU64,
@@ -251,7 +291,11 @@ impl<'a, K: Server, R: Wait, S: Wait + Drop> Round<Job<K>> for Common<'a, K, R, 
             );
             self.written.store(written, Ordering::SeqCst);
         } else {
-            let answers = calls(&mut job.caller, self.calls);
+            let answers = if self.together {
+                calls_together(&mut job.caller, self.calls)
+            } else {
+                calls(&mut job.caller, self.calls)
+            };
             self.answers.fetch_add(answers, Ordering::SeqCst);
             self.busy.fetch_sub(1, Ordering::SeqCst);
         }
@@ -286,6 +330,7 @@ fn all<K: Server + Send + Sync, R: Threads + Wait + Sync, S: Wait + Drop + Send 
         alloc,
         server,
         calls: work.calls,
+        together: work.together,
         busy: AtomicU64::new(work.threads as u64),
         written: AtomicU64::new(0),
         answers: AtomicU64::new(0),
@@ -335,6 +380,7 @@ fn read_words(words: &[String]) -> Work {
         calls: number(words, 3),
         events: number(words, 4),
         writes: number(words, 5) > 0,
+        together: number(words, 6) > 0,
     }
 }
 
