@@ -11,7 +11,6 @@ use Rattle.jl_types.specs.declared.event.Reply.{Reply}
 use Rattle.jl_types.specs.Entries.{Entry}
 use Rattle.jl_types.proofs.Rows.Sketch.{method, first, calling, class_ref}
 use Rattle.jl_types.proofs.Rows.Histories.{object, below}
-use Rattle.jl_core.specs.State.{State}
 use Rattle.jl_server.specs.History.{core_of, entry_after, EndsWith}
 
 abbrev numbered : ℕ → Reply
