@@ -4,3 +4,4 @@ pub mod Causes
 pub mod Outcomes
 pub mod Shifts
 pub mod Crossing
+pub mod Rows
