@@ -1,5 +1,5 @@
 -- What a job came to is shown by the lists that its report names.
-use Rattle.std.proofs.Common.{◌≡◌, ◌⊎◌, ◌<◌, ℕ, Bool, true, false, List, [], ◌∷◌, map, length, Option, Some, None, Result, Ok, Err, Any, refl, ap, sym, ◌∙◌, subst, inl, inr}
+use Rattle.std.proofs.Common.{◌≡◌, ◌⊎◌, ◌<◌, ℕ, Bool, true, false, List, [], ◌∷◌, map, length, Option, Some, None, Result, Ok, Err, Any, refl, ap, sym, ◌∙◌, subst, inl, inr, arith}
 use Rattle.std.specs.Prelude.{IsErr}
 use Rattle.std.proofs.lemmas.List.{length-map}
 use mathlib.Core.List.{IsPrefix}
@@ -26,7 +26,7 @@ use Rattle.jl_types.specs.Events as events
 use Rattle.jl_types.specs.Entries.{Entry, IsLegal}
 use Rattle.jl_relink.specs.Preparations.{Snapshot, IsPreparation}
 use Rattle.jl_core.specs.State.{IsRefused}
-use Rattle.jl_server.proofs.Beginnings.{prefix_self, prefix_trans}
+use Rattle.jl_server.proofs.Beginnings.{prefix_self, prefix_trans, prefix_length}
 use Rattle.jl_server.specs.declared.book.Receipt.{Receipt}
 use Rattle.jl_server.specs.History.{EndsWith}
 use Rattle.jl_farm.specs.declared.report.JobOutcome.{JobOutcome}
@@ -44,6 +44,7 @@ comes_after n start later list p h = (prefix_trans start later list p h.0, h.1)
 pub shown_before : {K : Type 0} (n : ℕ) (start later : List Entry) (of : List ℕ) (o : JobOutcome K) → IsPrefix start later → IsShown n later of o → IsShown n start of o
 shown_before n start later of (outcome.Installed receipt) p h = record {
   after = comes_after n start later receipt.seen p h.after;
+  longer = omega (arith, prefix_length start later p, h.longer);
   serial = h.serial;
   rows = h.rows;
   of_sites = h.of_sites;
@@ -188,10 +189,11 @@ prepared_why n before after list snapshot of f g own legal is shot answer same =
     subst (λ (xs : List Entry). ComesAfter n before xs × IsWhy (world_of xs) of g) (sym is) ((own, legal), cause)
 
 pub installed : {K : Type 0} (n : ℕ) (before after : List Entry) (of : List ℕ) (rows : List (ℕ × Link)) (receipt : Receipt K)
-    → ArePrepared (world_of before) of rows → (receipt.seen ≡ after) × (receipt.serial ≡ length after) → IsPrefix before after → IsLegal n after
+    → ArePrepared (world_of before) of rows → (receipt.seen ≡ after) × (receipt.serial ≡ length after) → IsPrefix before after → IsLegal n after → length before < length after
     → EndsWith after (Install rows) receipt.reply → IsInstalled n before of receipt
-installed n before after of rows receipt prepared is own legal last = record {
+installed n before after of rows receipt prepared is own legal longer last = record {
   after = (subst (IsPrefix before) (sym is.0) own, subst (IsLegal n) (sym is.0) legal);
+  longer = subst (λ (xs : List Entry). length before < length xs) (sym is.0) longer;
   serial = is.1 ∙ ap length (sym is.0);
   rows = rows;
   of_sites = prepared_sites (world_of before) of rows prepared;

@@ -30,9 +30,10 @@ has_twice (s ∷ sites) = list_any (λ t. t == s) sites || has_twice sites
 abbrev pub IsNoBatch : World → List ℕ → Type 0
 IsNoBatch w sites = ((length sites ≡ 0) ⊎ (256 < length sites)) ⊎ (Any (λ s. length w.places ≤ s) sites ⊎ (has_twice sites ≡ true))
 
--- the receipt's list ends with an install of the job's sites, in order
+-- the receipt's list is longer than what was seen before, and ends with an install of the job's sites, in order
 pub record IsInstalled {K : Type 0} (max_sites : ℕ) (before : List Entry) (sites : List ℕ) (receipt : Receipt K) : Type 0 where
   pub after : ComesAfter max_sites before receipt.seen
+  pub longer : length before < length receipt.seen
   pub serial : receipt.serial ≡ length receipt.seen
   pub rows : List (ℕ × Link)
   pub of_sites : map (λ row. row.0) rows ≡ sites

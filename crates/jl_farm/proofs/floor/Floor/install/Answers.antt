@@ -2,7 +2,7 @@ use Rattle.jl_farm.proofs.Outcomes.{installed, not_installed}
 use Rattle.jl_farm.proofs.floor.Floor.install.Goals as goal
 
 pub returns-in-Ok-clause-shown : goal.returns-in-Ok-clause-shown
-returns-in-Ok-clause-shown g c = installed _ _ _ _ _ _ c.requires.rows c.in-Ok.ensures.receipt c.in-Ok.ensures.own c.in-Ok.ensures.legal c.in-Ok.ensures.entry
+returns-in-Ok-clause-shown g c = installed _ _ _ _ _ _ c.requires.rows c.in-Ok.ensures.receipt c.in-Ok.ensures.own c.in-Ok.ensures.legal c.in-Ok.ensures.longer c.in-Ok.ensures.entry
 
 pub returns-in-Err-clause-shown : goal.returns-in-Err-clause-shown
 returns-in-Err-clause-shown g c =
