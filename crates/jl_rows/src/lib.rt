@@ -10,6 +10,8 @@ mod classes;
 #[cfg(test)]
 mod devices;
 #[cfg(test)]
+mod farms;
+#[cfg(test)]
 mod faults;
 #[cfg(test)]
 mod input;
