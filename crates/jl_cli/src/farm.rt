@@ -9,9 +9,7 @@ use crate::scan::fault_value;
 use crate::sketch::sketch_fault_value;
 use jl_classfile::read_class;
 use jl_farm::{Gate, JobOutcome, Report, run};
-use jl_json::{
-    ClassSource, Command, event_refusal_value, farm_value, read_command, reply_value,
-};
+use jl_json::{ClassSource, Command, event_refusal_value, farm_value, read_command, reply_value};
 use jl_names::Seq;
 use jl_server::{Caller, LinkServer, Name};
 use jl_sketch::write_class;
@@ -129,10 +127,7 @@ pub(crate) fn farm_text<
     K: Name + Send + Sync,
     H: Threads + Wait + Sync,
     S: Wait + Drop + Send + Sync,
->(
-    foreman: &mut Foreman<'_, K, H, S>,
-    workers: Vec<Caller<K>>,
-) -> Result<Vec<u8>, FarmLineFault>
+>(foreman: &mut Foreman<'_, K, H, S>, workers: Vec<Caller<K>>) -> Result<Vec<u8>, FarmLineFault>
     requires { (1 ≤ vec_len workers) × (vec_len workers ≤ 16) }
 {
     let mut workers = workers;
@@ -143,7 +138,14 @@ pub(crate) fn farm_text<
     if jobs.len() > 65_536 {
         return Err(FarmLineFault::Line(LineFault::Memory));
     }
-    let reports = match run(foreman.rt, foreman.alloc, foreman.server, jobs, workers, &Open) {
+    let reports = match run(
+        foreman.rt,
+        foreman.alloc,
+        foreman.server,
+        jobs,
+        workers,
+        &Open,
+    ) {
         Ok(reports) => reports,
         Err(fault) => return Err(FarmLineFault::Farm(fault)),
     };

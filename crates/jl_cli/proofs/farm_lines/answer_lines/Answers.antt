@@ -1,4 +1,4 @@
-use Rattle.std.proofs.Common.{◌≡◌, ◌∙◌, sym, ap, subst, refl, ◌+◌, ◌-◌, [], ◌∷◌, ◌++◌, length, length-append, append_assoc, arith}
+use Rattle.std.proofs.Common.{◌∙◌, sym, ap, subst, refl, [], ◌∷◌, ◌++◌, length, length-append, append_assoc, arith}
 use Rattle.jl_cli.specs.Lines.{NoNewline}
 use Rattle.jl_cli.proofs.LineLaws.{left_behind}
 use Rattle.jl_cli.proofs.farm_lines.answer_lines.Goals as goal
