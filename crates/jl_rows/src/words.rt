@@ -52,9 +52,18 @@ const LINES: &[(&str, Result<Words, WordsFault>)] = &[
     ("linkd farm --workers four", Err(WordsFault::BadWords)),
     ("linkd farm --workers 4.0", Err(WordsFault::BadWords)),
     ("linkd farm --workers=4=4", Err(WordsFault::BadWords)),
-    ("linkd farm --workers 4 --workers 4", Err(WordsFault::BadWords)),
-    ("linkd farm --workers=4 --workers=4", Err(WordsFault::BadWords)),
-    ("linkd farm --workers --workers 4", Err(WordsFault::BadWords)),
+    (
+        "linkd farm --workers 4 --workers 4",
+        Err(WordsFault::BadWords),
+    ),
+    (
+        "linkd farm --workers=4 --workers=4",
+        Err(WordsFault::BadWords),
+    ),
+    (
+        "linkd farm --workers --workers 4",
+        Err(WordsFault::BadWords),
+    ),
     ("linkd farm --workers 4 5", Err(WordsFault::BadWords)),
     ("linkd farm --workers 4 scan", Err(WordsFault::BadWords)),
     ("linkd farm --workers 4 -- 5", Err(WordsFault::BadWords)),

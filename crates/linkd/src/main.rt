@@ -48,11 +48,7 @@ fn answer_lines(rt: &HostRuntime, mode: Mode) -> ExitCode {
 }
 
 /// Answers them on a link server, and runs a farm.
-fn farm(
-    rt: &HostRuntime,
-    threads: &(impl Threads + Wait + Sync),
-    workers: u8,
-) -> ExitCode
+fn farm(rt: &HostRuntime, threads: &(impl Threads + Wait + Sync), workers: u8) -> ExitCode
     requires { (1 ≤ workers) × (workers ≤ 16) }
 {
     let mut input = Counted::new(rt.stdin());

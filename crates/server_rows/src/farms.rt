@@ -160,12 +160,25 @@ fn is_set_up<K: Name, R: Wait, S: Wait + Drop>(
     server: &LinkServer<K, S>,
     caller: &mut Caller<K>,
 ) -> bool {
-    let Some(file) = calling(alloc, "W", 33, row_files::OBJECT, &[], &CALLS, &[("a", "()V", 9)])
-    else {
+    let Some(file) = calling(
+        alloc,
+        "W",
+        33,
+        row_files::OBJECT,
+        &[],
+        &CALLS,
+        &[("a", "()V", 9)],
+    ) else {
         return false;
     };
     let mut all = is_defined(rt, alloc, server, caller, OBJECT)
-        && is_accepted(rt, alloc, server, caller, Event::Define(LoaderId::new(0), file));
+        && is_accepted(
+            rt,
+            alloc,
+            server,
+            caller,
+            Event::Define(LoaderId::new(0), file),
+        );
     for pc in [0, 3, 6, 9] {
         all = all && is_accepted(rt, alloc, server, caller, request(1, pc));
     }
