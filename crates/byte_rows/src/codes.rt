@@ -7,33 +7,37 @@ use jl_names::Name;
 use jl_pool::{Pool, PoolFault};
 use std::alloc::{AllocError, Global};
 
-/// A pool with the Methodref of A.f:()V at 2, from its count on.
+/// A pool, from its count on, with a Methodref of A.f:()V at 2, an InterfaceMethodref of the same at 7, and an
+/// InvokeDynamic of f:()V at 8.
 const POOL: &[u8] = &[
-    0, 7, 1, 0, 1, b'A', 10, 0, 3, 0, 4, 7, 0, 1, 12, 0, 5, 0, 6, 1, 0, 1, b'f', 1, 0, 3, b'(',
-    b')', b'V',
+    0, 9, 1, 0, 1, b'A', 10, 0, 3, 0, 4, 7, 0, 1, 12, 0, 5, 0, 6, 1, 0, 1, b'f', 1, 0, 3, b'(',
+    b')', b'V', 11, 0, 3, 0, 4, 18, 0, 0, 0, 4,
 ];
 
-/// Whether this is A.f:()V.
-fn is_f(operand: &Operand<Name>) -> bool {
+/// Whether this is what an invocation of this kind names: A.f:()V, or f:()V of a call site.
+fn is_f(operand: &Operand<Name>, kind: Kind) -> bool {
     match operand {
         Operand::Method(reference) => {
-            !reference.itf
+            reference.itf == (kind == Kind::Interface)
                 && [
                     reference.owner.as_slice(),
                     reference.name.as_slice(),
                     reference.ty.as_slice(),
                 ] == A_F
         }
-        Operand::CallSite(_) => false,
+        Operand::CallSite(specifier) => {
+            kind == Kind::Dynamic
+                && [specifier.name.as_slice(), specifier.ty.as_slice()] == [A_F[1], A_F[2]]
+        }
     }
 }
 
-/// Whether this is an invocation of A.f:()V at this place.
+/// Whether this is an invocation at this place.
 fn is_site(site: &Site, pc: u16, kind: Kind) -> bool {
-    site.pc() == pc && site.kind() == kind && is_f(site.operand())
+    site.pc() == pc && site.kind() == kind && is_f(site.operand(), kind)
 }
 
-/// Whether this, which was copied, is an invocation of A.f:()V at this place.
+/// Whether this, which was copied, is an invocation at this place.
 fn is_copy(copy: &Result<Site, AllocError>, pc: u16, kind: Kind) -> bool {
     match copy {
         Ok(site) => is_site(site, pc, kind),
@@ -41,7 +45,7 @@ fn is_copy(copy: &Result<Site, AllocError>, pc: u16, kind: Kind) -> bool {
     }
 }
 
-/// Whether these are invocations of A.f:()V at these places, and so are their copies.
+/// Whether these are invocations at these places, and so are their copies.
 fn are_sites(alloc: Global, sites: &[Site], expected: &[(u16, Kind)]) -> bool {
     for (site, (pc, kind)) in sites.iter().zip(expected) {
         if !is_site(site, *pc, *kind) || !is_copy(&site.copy(alloc), *pc, *kind) {
@@ -52,14 +56,21 @@ fn are_sites(alloc: Global, sites: &[Site], expected: &[(u16, Kind)]) -> bool {
 }
 
 /// A code, and what is found in it over the pool.
+#[derive(Clone, Copy)]
 enum CodeRow {
-    /// Invocations of A.f:()V at these places, and nothing else.
+    /// Invocations at these places, and nothing else.
     Sites(&'static [u8], &'static [(u16, Kind)]),
     /// This fault.
     Fault(&'static [u8], CodeFault),
+    /// A code in parts with an invokestatic of A.f:()V at this place, and nothing else.
+    Parts(&'static [&'static [u8]], u16),
+    /// As many operand bytes behind this opcode as the table says, or no instruction.
+    Length(u8),
+    /// The same behind a wide.
+    Widened(u8),
 }
 
-/// Whether the code, which is not too long, invokes A.f:()V at these places.
+/// Whether the code, which is not too long, has these invocations.
 fn has_sites(alloc: Global, code: &[u8], pool: &Pool<'_>, expected: &[(u16, Kind)]) -> bool {
     if code.len() >= 65_536 {
         return false;
@@ -75,12 +86,149 @@ fn has_fault(alloc: Global, code: &[u8], pool: &Pool<'_>, fault: CodeFault) -> b
     code.len() < 65_536 && scan(alloc, code, pool).err() == Some(fault)
 }
 
+/// Stands in the table for an instruction that is a switch, an invocation or a wide.
+const APART: u8 = 0xff;
+
+/// How many operand bytes an instruction has (JVMS SE 17 §6.5), by its opcode, ten a line from 0 to 201.
+const OPERANDS: &[&[u8]] = &[
+    // nop, aconst_null, iconst_m1 to iconst_5, lconst_0.
+    &[0, 0, 0, 0, 0, 0, 0, 0, 0, 0],
+    // lconst_1, fconst_0 to dconst_1, bipush, sipush, ldc, ldc_w.
+    &[0, 0, 0, 0, 0, 0, 1, 2, 1, 2],
+    // ldc2_w, iload to aload, iload_0 to iload_3.
+    &[2, 1, 1, 1, 1, 1, 0, 0, 0, 0],
+    // lload_0 to dload_1.
+    &[0, 0, 0, 0, 0, 0, 0, 0, 0, 0],
+    // dload_2 to daload.
+    &[0, 0, 0, 0, 0, 0, 0, 0, 0, 0],
+    // aaload to saload, istore to astore, istore_0.
+    &[0, 0, 0, 0, 1, 1, 1, 1, 1, 0],
+    // istore_1 to fstore_2.
+    &[0, 0, 0, 0, 0, 0, 0, 0, 0, 0],
+    // fstore_3 to iastore.
+    &[0, 0, 0, 0, 0, 0, 0, 0, 0, 0],
+    // lastore to dup.
+    &[0, 0, 0, 0, 0, 0, 0, 0, 0, 0],
+    // dup_x1 to dadd.
+    &[0, 0, 0, 0, 0, 0, 0, 0, 0, 0],
+    // isub to ldiv.
+    &[0, 0, 0, 0, 0, 0, 0, 0, 0, 0],
+    // fdiv to dneg.
+    &[0, 0, 0, 0, 0, 0, 0, 0, 0, 0],
+    // ishl to lor.
+    &[0, 0, 0, 0, 0, 0, 0, 0, 0, 0],
+    // ixor, lxor, iinc, i2l to f2i.
+    &[0, 0, 2, 0, 0, 0, 0, 0, 0, 0],
+    // f2l to fcmpl.
+    &[0, 0, 0, 0, 0, 0, 0, 0, 0, 0],
+    // fcmpg, dcmpl, dcmpg, ifeq to if_icmpeq.
+    &[0, 0, 0, 2, 2, 2, 2, 2, 2, 2],
+    // if_icmpne to if_acmpne, goto, jsr, ret.
+    &[2, 2, 2, 2, 2, 2, 2, 2, 2, 1],
+    // tableswitch, lookupswitch, ireturn to return, getstatic, putstatic.
+    &[APART, APART, 0, 0, 0, 0, 0, 0, 2, 2],
+    // getfield, putfield, the invocations, new, newarray, anewarray.
+    &[2, 2, APART, APART, APART, APART, APART, 2, 1, 2],
+    // arraylength, athrow, checkcast, instanceof, monitorenter, monitorexit, wide, multianewarray, ifnull, ifnonnull.
+    &[0, 0, 2, 2, 0, 0, APART, 3, 2, 2],
+    // goto_w, jsr_w.
+    &[4, 4],
+];
+
+/// How many operand bytes an instruction has behind a wide (JVMS SE 17 §6.5): iload to aload, istore to astore, iinc, ret.
+const WIDE_OPERANDS: &[(u8, u8)] = &[
+    (21, 2),
+    (22, 2),
+    (23, 2),
+    (24, 2),
+    (25, 2),
+    (54, 2),
+    (55, 2),
+    (56, 2),
+    (57, 2),
+    (58, 2),
+    (132, 4),
+    (169, 2),
+];
+
+/// What the table says of the opcode.
+fn operands_of(opcode: u8) -> Option<u8> {
+    let line = OPERANDS.get(usize::from(opcode / 10))?;
+    line.get(usize::from(opcode % 10)).copied()
+}
+
+/// What the table says of the opcode behind a wide.
+fn wide_operands_of(opcode: u8) -> Option<u8> {
+    for (widened, operands) in WIDE_OPERANDS {
+        if *widened == opcode {
+            return Some(*operands);
+        }
+    }
+    None
+}
+
+/// An invokestatic of A.f:()V.
+const CALL: &[u8] = &[0xb8, 0, 2];
+
+/// Whether the code in these parts has an invokestatic of A.f:()V at this place, and nothing else.
+fn has_call(alloc: Global, pool: &Pool<'_>, parts: &[&[u8]], pc: u16) -> bool {
+    match parts.concat(alloc) {
+        Ok(code) => has_sites(alloc, &code, pool, &[(pc, Kind::Static)]),
+        Err(_) => false,
+    }
+}
+
+/// Whether a call is found behind an instruction that begins so and has so many operand bytes, of which none is an opcode.
+fn has_operands(alloc: Global, pool: &Pool<'_>, front: &[u8], operands: u8, pc: u16) -> bool {
+    match vec![in alloc; 0xca; usize::from(operands)] {
+        Ok(bytes) => has_call(alloc, pool, &[front, &bytes, CALL], pc),
+        Err(_) => false,
+    }
+}
+
+/// Whether the opcode has the operand bytes that the table says.
+fn has_length(alloc: Global, pool: &Pool<'_>, opcode: u8) -> bool {
+    match operands_of(opcode) {
+        Some(APART) => true,
+        Some(count) => has_operands(alloc, pool, &[opcode], count, u16::from(count) + 1),
+        None => has_fault(
+            alloc,
+            &[opcode, 0, 0, 0, 0, 0],
+            pool,
+            CodeFault::BadOpcode(0),
+        ),
+    }
+}
+
+/// Whether the opcode behind a wide has the operand bytes that the table says.
+fn has_wide_length(alloc: Global, pool: &Pool<'_>, opcode: u8) -> bool {
+    match wide_operands_of(opcode) {
+        Some(count) => has_operands(alloc, pool, &[0xc4, opcode], count, u16::from(count) + 2),
+        None => has_fault(
+            alloc,
+            &[0xc4, opcode, 0, 0, 0, 0, 0],
+            pool,
+            CodeFault::BadOpcode(0),
+        ),
+    }
+}
+
+/// Whether the row is so over this pool.
+fn is_so_in(alloc: Global, row: &CodeRow, pool: &Pool<'_>) -> bool {
+    match row {
+        Sites(code, expected) => has_sites(alloc, code, pool, expected),
+        Fault(code, fault) => has_fault(alloc, code, pool, *fault),
+        Parts(parts, pc) => has_call(alloc, pool, parts, *pc),
+        Length(opcode) => has_length(alloc, pool, *opcode),
+        Widened(opcode) => has_wide_length(alloc, pool, *opcode),
+    }
+}
+
 /// Whether the row is so over this pool, of so many bytes.
 fn is_so_over(alloc: Global, row: &CodeRow, read: &Result<(Pool<'_>, usize), PoolFault>) -> bool {
-    match (row, read) {
-        (CodeRow::Sites(code, expected), Ok((pool, _))) => has_sites(alloc, code, pool, expected),
-        (CodeRow::Fault(code, fault), Ok((pool, _))) => has_fault(alloc, code, pool, *fault),
-        _ => false,
+    match read {
+        Ok((pool, _)) => is_so_in(alloc, row, pool),
+        Err(_) => false,
     }
 }
 
@@ -90,21 +238,20 @@ impl Row for CodeRow {
     }
 }
 
-/// Codes, and the places where they invoke A.f:()V.
+/// A tableswitch behind its padding: its default, from -1 to 1, and three offsets.
+const TABLE: &[u8] = &[
+    0xca, 0xca, 0xca, 0xca, 0xff, 0xff, 0xff, 0xff, 0, 0, 0, 1, 0xca, 0xca, 0xca, 0xca, 0xca, 0xca,
+    0xca, 0xca, 0xca, 0xca, 0xca, 0xca,
+];
+
+/// A lookupswitch behind its padding: its default, two pairs, and these.
+const LOOK_UP: &[u8] = &[
+    0xca, 0xca, 0xca, 0xca, 0, 0, 0, 2, 0xca, 0xca, 0xca, 0xca, 0xca, 0xca, 0xca, 0xca, 0xca, 0xca,
+    0xca, 0xca, 0xca, 0xca, 0xca, 0xca,
+];
+
+/// Codes, and their invocations.
 const INVOCATIONS: &[CodeRow] = &[
-    // The length of each instruction.
-    Sites(&[16, 0xca, 0xb1], &[]),
-    Sites(&[17, 0xca, 0xca, 0xb1], &[]),
-    Sites(&[18, 0xca, 0xb1], &[]),
-    Sites(&[132, 0xca, 0xca, 0xb1], &[]),
-    Sites(&[153, 0xca, 0xca, 0xb1], &[]),
-    Sites(&[169, 0xca, 0xb1], &[]),
-    Sites(&[187, 0xca, 0xca, 0xb1], &[]),
-    Sites(&[188, 0xca, 0xb1], &[]),
-    Sites(&[189, 0xca, 0xca, 0xb1], &[]),
-    Sites(&[192, 0xca, 0xca, 0xb1], &[]),
-    Sites(&[197, 0xca, 0xca, 0xca, 0xb1], &[]),
-    Sites(&[200, 0xca, 0xca, 0xca, 0xca, 0xb1], &[]),
     Sites(&[], &[]),
     Sites(&[0xb8, 0, 2], &[(0, Kind::Static)]),
     Sites(
@@ -119,51 +266,27 @@ const INVOCATIONS: &[CodeRow] = &[
         ],
         &[(15, Kind::Static)],
     ),
-    // Behind iinc with wide, and behind iload.
+    // invokeinterface and invokedynamic have two bytes behind the number.
     Sites(
-        &[0xc4, 0x84, 0, 1, 0xff, 0xff, 0xb8, 0, 2, 0xb1],
-        &[(6, Kind::Static)],
+        &[0xb9, 0, 7, 1, 0, 0xba, 0, 8, 0, 0, 0xb8, 0, 2, 0xb1],
+        &[(0, Kind::Interface), (5, Kind::Dynamic), (10, Kind::Static)],
     ),
-    Sites(&[0xc4, 0x15, 0, 1, 0xb8, 0, 2, 0xb1], &[(4, Kind::Static)]),
-    // tableswitch at 1 with two bytes of padding, at 3 with none, and from -1 to 1 with three that aren't 0.
-    Sites(
-        &[
-            0, 0xaa, 0, 0, 0, 0, 0, 0x13, 0, 0, 0, 0, 0, 0, 0, 0, 0, 0, 0, 0x13, 0xb8, 0, 2, 0xb1,
-        ],
-        &[(20, Kind::Static)],
-    ),
-    Sites(
-        &[
-            0, 0, 0, 0xaa, 0, 0, 0, 0x11, 0, 0, 0, 0, 0, 0, 0, 0, 0, 0, 0, 0x11, 0xb8, 0, 2, 0xb1,
-        ],
-        &[(20, Kind::Static)],
-    ),
-    Sites(
-        &[
-            0xaa, 1, 2, 3, 0, 0, 0, 0, 0xff, 0xff, 0xff, 0xff, 0, 0, 0, 1, 0xca, 0, 0, 0, 0xca, 0,
-            0, 0, 0xca, 0, 0, 0, 0xb8, 0, 2, 0xb1,
-        ],
-        &[(28, Kind::Static)],
-    ),
-    // lookupswitch of no pair and of one at 0, and of one at 2 with one byte of padding.
+    // A lookupswitch of no pair.
     Sites(
         &[0xab, 0, 0, 0, 0, 0, 0, 0xc, 0, 0, 0, 0, 0xb8, 0, 2, 0xb1],
         &[(12, Kind::Static)],
     ),
-    Sites(
-        &[
-            0xab, 0, 0, 0, 0, 0, 0, 0x14, 0, 0, 0, 1, 0xca, 0, 0, 7, 0, 0, 0, 0x14, 0xb8, 0, 2,
-            0xb1,
-        ],
-        &[(20, Kind::Static)],
-    ),
-    Sites(
-        &[
-            0, 0, 0xab, 0xff, 0, 0, 0, 0x12, 0, 0, 0, 1, 0xca, 0, 0, 7, 0, 0, 0, 0x12, 0xb8, 0, 2,
-            0xb1,
-        ],
-        &[(20, Kind::Static)],
-    ),
+    // Both switches at 0 to 3 with three bytes to none of padding, none of them 0, and at 4 with three.
+    Parts(&[&[0xaa, 1, 0xca, 3], TABLE, CALL], 28),
+    Parts(&[&[0, 0xaa, 0xca, 2], TABLE, CALL], 28),
+    Parts(&[&[0, 0, 0xaa, 0xca], TABLE, CALL], 28),
+    Parts(&[&[0, 0, 0, 0xaa], TABLE, CALL], 28),
+    Parts(&[&[0, 0, 0, 0, 0xaa, 1, 0xca, 3], TABLE, CALL], 32),
+    Parts(&[&[0xab, 1, 0xca, 3], LOOK_UP, CALL], 28),
+    Parts(&[&[0, 0xab, 0xca, 2], LOOK_UP, CALL], 28),
+    Parts(&[&[0, 0, 0xab, 0xca], LOOK_UP, CALL], 28),
+    Parts(&[&[0, 0, 0, 0xab], LOOK_UP, CALL], 28),
+    Parts(&[&[0, 0, 0, 0, 0xab, 1, 0xca, 3], LOOK_UP, CALL], 32),
 ];
 
 /// A name, and whether it is an initializer's.
@@ -194,6 +317,20 @@ fn names_of_initializers(rt: HostRuntime) {
 fn invocations(rt: HostRuntime) {
     assert_rows(&rt, INVOCATIONS);
     one_code();
+}
+
+#[test]
+fn lengths(rt: HostRuntime) {
+    for opcode in 0..=255 {
+        assert!(rt; Length(opcode).is_so(rt.alloc()), "opcode {opcode}");
+    }
+}
+
+#[test]
+fn wide_lengths(rt: HostRuntime) {
+    for opcode in 0..=255 {
+        assert!(rt; Widened(opcode).is_so(rt.alloc()), "opcode {opcode}");
+    }
 }
 
 /// Codes, and their faults.

@@ -3,7 +3,7 @@
 use crate::rows::{Row, assert_rows};
 use crate::sketches::Outcome::*;
 use crate::sketches::Part::*;
-use jl_classfile::ClassFault;
+use jl_classfile::{ClassFault, no_fault_in_a_class, one_class};
 use jl_names::{Name, Seq};
 use jl_pool::PoolFault;
 use jl_sketch::{Call, MethodName, Sketch, SketchFault, SketchMethod, write_class};
@@ -13,8 +13,6 @@ const OBJECT: &[u8] = b"java/lang/Object";
 
 /// What a sketch has beside its name and its superclass. Its methods have no parameters and no result.
 enum Part {
-    /// Nothing else.
-    Empty,
     /// No superclass, after all.
     Root,
     /// A name of so many bytes in place of its own.
@@ -25,10 +23,18 @@ enum Part {
     Host(&'static [u8]),
     /// A nest member.
     Member(&'static [u8]),
+    /// A nest member so many times.
+    Members(usize),
+    /// Interfaces of so many names.
+    Interfaces(usize),
+    /// An interface so many times.
+    Again(usize),
     /// A method of this name and these flags that calls nothing.
     Method(&'static [u8], u16),
-    /// A method run of these flags that calls A.f.
-    Calls(u16),
+    /// A method f so many times.
+    Methods(usize),
+    /// A method run of these flags that calls A.f so many times.
+    Calls(usize, u16),
     /// A method run that calls A.f of an interface, with the descriptor in these parts.
     CallsWith(&'static [&'static [u8]]),
 }
@@ -46,7 +52,7 @@ enum Outcome {
 }
 
 /// A sketch of a public class: its name, its superclass, what else it has, and what comes of it.
-struct SketchRow(&'static [u8], &'static [u8], Part, Outcome);
+struct SketchRow(&'static [u8], &'static [u8], &'static [Part], Outcome);
 
 /// One item.
 fn one<T: Drop>(alloc: Global, item: T) -> Result<Seq<T>, AllocError> {
@@ -110,9 +116,46 @@ fn give_method(
     Ok(())
 }
 
-/// Gives the sketch a method run that makes the call.
-fn give_call(alloc: Global, sketch: &mut Sketch, flags: u16, call: Call) -> Result<(), AllocError> {
-    give_method(alloc, sketch, b"run", flags, one(alloc, call)?)
+/// Calls of A.f, so many.
+fn calls(alloc: Global, count: usize) -> Result<Seq<Call>, AllocError> {
+    let mut calls = Vec::new(alloc);
+    for _ in 0..count {
+        calls.push(Call::Virtual(f_of_a(alloc, b"()V")?))?;
+    }
+    Ok(Seq::of(calls))
+}
+
+/// Methods f, so many.
+fn methods(alloc: Global, count: usize) -> Result<Seq<SketchMethod>, AllocError> {
+    let mut methods = Vec::new(alloc);
+    for _ in 0..count {
+        methods.push(method(alloc, b"f", 1, Seq::of(Vec::new(alloc)))?)?;
+    }
+    Ok(Seq::of(methods))
+}
+
+/// The name I, so many times.
+fn names_again(alloc: Global, count: usize) -> Result<Seq<Name>, AllocError> {
+    let mut names = Vec::new(alloc);
+    for _ in 0..count {
+        names.push(Name::copied(alloc, b"I")?)?;
+    }
+    Ok(Seq::of(names))
+}
+
+/// The number as a name.
+fn number_name(alloc: Global, number: usize) -> Result<Name, AllocError> {
+    let text = format!(in alloc; "{number}")?;
+    Name::copied(alloc, text.as_bytes())
+}
+
+/// Names that differ, so many.
+fn names(alloc: Global, count: usize) -> Result<Seq<Name>, AllocError> {
+    let mut names = Vec::new(alloc);
+    for number in 0..count {
+        names.push(number_name(alloc, number)?)?;
+    }
+    Ok(Seq::of(names))
 }
 
 /// Gives the sketch names in place of what it has.
@@ -121,6 +164,9 @@ fn give_names(alloc: Global, sketch: &mut Sketch, part: &Part) -> Result<(), All
         Long(length) => sketch.name = Name::of(vec![in alloc; b'a'; *length]?)?,
         Host(name) => sketch.host = Some(Name::copied(alloc, name)?),
         Member(name) => sketch.members = one(alloc, Name::copied(alloc, name)?)?,
+        Members(count) => sketch.members = names_again(alloc, *count)?,
+        Interfaces(count) => sketch.interfaces = names(alloc, *count)?,
+        Again(count) => sketch.interfaces = names_again(alloc, *count)?,
         _ => {}
     }
     Ok(())
@@ -134,11 +180,23 @@ fn give(alloc: Global, sketch: &mut Sketch, part: &Part) -> Result<(), AllocErro
         Method(name, flags) => {
             return give_method(alloc, sketch, name, *flags, Seq::of(Vec::new(alloc)));
         }
-        Calls(flags) => {
-            return give_call(alloc, sketch, *flags, Call::Virtual(f_of_a(alloc, b"()V")?));
+        Methods(count) => sketch.methods = methods(alloc, *count)?,
+        Calls(count, flags) => {
+            return give_method(alloc, sketch, b"run", *flags, calls(alloc, *count)?);
         }
-        CallsWith(ty) => return give_call(alloc, sketch, 9, interface_call(alloc, ty)?),
+        CallsWith(ty) => {
+            let call = interface_call(alloc, ty)?;
+            return give_method(alloc, sketch, b"run", 9, one(alloc, call)?);
+        }
         _ => return give_names(alloc, sketch, part),
+    }
+    Ok(())
+}
+
+/// Gives the sketch these parts.
+fn give_all(alloc: Global, sketch: &mut Sketch, parts: &[Part]) -> Result<(), AllocError> {
+    for part in parts {
+        give(alloc, sketch, part)?;
     }
     Ok(())
 }
@@ -181,22 +239,22 @@ fn has_outcome(alloc: Global, sketch: &Sketch, outcome: &Outcome) -> bool {
     }
 }
 
-/// Whether the outcome is that of the sketch, which was made, once it is given the part.
+/// Whether the outcome is that of the sketch, which was made, once it is given the parts.
 fn leads_to(
     alloc: Global,
     made: &mut Result<Sketch, AllocError>,
-    part: &Part,
+    parts: &[Part],
     outcome: &Outcome,
 ) -> bool {
     match made {
-        Ok(sketch) => give(alloc, sketch, part).is_ok() && has_outcome(alloc, sketch, outcome),
+        Ok(sketch) => give_all(alloc, sketch, parts).is_ok() && has_outcome(alloc, sketch, outcome),
         Err(_) => false,
     }
 }
 
 impl Row for SketchRow {
     fn is_so(&self, alloc: Global) -> bool {
-        leads_to(alloc, &mut empty(alloc, self.0, self.1), &self.2, &self.3)
+        leads_to(alloc, &mut empty(alloc, self.0, self.1), self.2, &self.3)
     }
 }
 
@@ -293,18 +351,19 @@ const NEST_FILE: &[&[u8]] = &[
 
 /// Sketches, and the class files that they are written as.
 const FILES: &[SketchRow] = &[
-    SketchRow(OBJECT, OBJECT, Root, Gives(ROOT_FILE)),
-    SketchRow(b"A", OBJECT, Method(b"f", 1), Gives(A_FILE)),
-    SketchRow(b"M", OBJECT, Calls(9), Gives(M_FILE)),
-    SketchRow(b"B", b"A", Empty, Gives(B_FILE)),
-    SketchRow(b"C", b"A", Method(b"f", 1), Gives(C_FILE)),
-    SketchRow(b"In", OBJECT, Host(b"Out"), Gives(IN_FILE)),
-    SketchRow(b"A", OBJECT, Member(b"A"), Gives(NEST_FILE)),
+    SketchRow(OBJECT, OBJECT, &[Root], Gives(ROOT_FILE)),
+    SketchRow(b"A", OBJECT, &[Method(b"f", 1)], Gives(A_FILE)),
+    SketchRow(b"M", OBJECT, &[Calls(1, 9)], Gives(M_FILE)),
+    SketchRow(b"B", b"A", &[], Gives(B_FILE)),
+    SketchRow(b"C", b"A", &[Method(b"f", 1)], Gives(C_FILE)),
+    SketchRow(b"In", OBJECT, &[Host(b"Out")], Gives(IN_FILE)),
+    SketchRow(b"A", OBJECT, &[Member(b"A")], Gives(NEST_FILE)),
 ];
 
 #[test]
 fn class_files(rt: HostRuntime) {
     assert_rows(&rt, FILES);
+    one_class();
 }
 
 /// A fault in the constant at 2, which is the class.
@@ -313,46 +372,116 @@ const BAD_NAME: SketchFault = SketchFault::Refused(ClassFault::Pool(PoolFault::B
 /// 127 long parameters.
 const LONGS: &[u8] = &[b'J'; 127];
 
-/// Sketches with faults, and two that are just small enough.
+/// Sketches with faults, and one that is just right.
 const FAULTS: &[SketchRow] = &[
     SketchRow(
         b"M",
         OBJECT,
-        Calls(1033),
+        &[Calls(1, 1033)],
         Has(SketchFault::CallsWithoutCode(0)),
     ),
     SketchRow(
         b"M",
         OBJECT,
-        Calls(0x0109),
+        &[Calls(1, 0x0109)],
         Has(SketchFault::CallsWithoutCode(0)),
     ),
     SketchRow(
         b"M",
         OBJECT,
-        Method(b"run", 1033),
+        &[Method(b"run", 1033)],
         Has(SketchFault::Refused(ClassFault::BadMember(0))),
     ),
-    SketchRow(b"a.b", OBJECT, Empty, Has(BAD_NAME)),
+    SketchRow(b"a.b", OBJECT, &[], Has(BAD_NAME)),
+    // Calls without code come before what is wrong with the class file.
+    SketchRow(
+        b"a.b",
+        OBJECT,
+        &[Calls(1, 1033)],
+        Has(SketchFault::CallsWithoutCode(0)),
+    ),
     // The flag MODULE.
     SketchRow(
         b"A",
         OBJECT,
-        Flags(0x8021),
+        &[Flags(0x8021)],
         Has(SketchFault::Refused(ClassFault::ModuleFile)),
     ),
     SketchRow(
         b"M",
         OBJECT,
-        CallsWith(&[b"(", LONGS, b"I)V"]),
+        &[CallsWith(&[b"(", LONGS, b"I)V"])],
         HasCodeFault,
     ),
-    SketchRow(b"", OBJECT, Long(65_536), Has(SketchFault::TooBig)),
-    SketchRow(b"M", OBJECT, CallsWith(&[b"(", LONGS, b")V"]), IsWritten),
-    SketchRow(b"", OBJECT, Long(65_535), IsWritten),
+    SketchRow(b"M", OBJECT, &[CallsWith(&[b"(", LONGS, b")V"])], IsWritten),
 ];
 
 #[test]
 fn faults(rt: HostRuntime) {
     assert_rows(&rt, FAULTS);
+    no_fault_in_a_class();
+}
+
+/// Sketches with a text or a list that is too long, and two that are just short enough.
+const LENGTHS: &[SketchRow] = &[
+    SketchRow(b"", OBJECT, &[Long(65_535)], IsWritten),
+    SketchRow(b"", OBJECT, &[Long(65_536)], Has(SketchFault::TooBig)),
+    SketchRow(b"A", OBJECT, &[Again(65_535)], IsWritten),
+    SketchRow(b"A", OBJECT, &[Again(65_536)], Has(SketchFault::TooBig)),
+    SketchRow(b"A", OBJECT, &[Members(65_536)], Has(SketchFault::TooBig)),
+    SketchRow(b"A", OBJECT, &[Methods(65_536)], Has(SketchFault::TooBig)),
+];
+
+#[test]
+fn lengths(rt: HostRuntime) {
+    assert_rows(&rt, LENGTHS);
+}
+
+/// Codes of 3 bytes a call and one of the return: 65,533 bytes are few enough, and 65,536 are too many.
+const LONG_CODES: &[SketchRow] = &[
+    SketchRow(b"A", OBJECT, &[Calls(21_844, 9)], IsWritten),
+    SketchRow(b"A", OBJECT, &[Calls(21_845, 9)], HasCodeFault),
+];
+
+#[test]
+fn long_codes(rt: HostRuntime) {
+    assert_rows(&rt, LONG_CODES);
+}
+
+/// Too many calls come before calls without code.
+const MANY_CALLS: &[SketchRow] = &[
+    SketchRow(
+        b"A",
+        OBJECT,
+        &[Calls(65_535, 1025)],
+        Has(SketchFault::CallsWithoutCode(0)),
+    ),
+    SketchRow(
+        b"A",
+        OBJECT,
+        &[Calls(65_536, 1025)],
+        Has(SketchFault::TooBig),
+    ),
+];
+
+#[test]
+fn many_calls(rt: HostRuntime) {
+    assert_rows(&rt, MANY_CALLS);
+}
+
+/// Sketches of many constants. A, java/lang/Object and each interface have two, and 4 + 2 * 32,765 are 65,534. As a member of its own
+/// nest A has one more, the text NestMembers. The count of a pool is one more than its constants, and at most 65,535.
+const MANY_CONSTANTS: &[SketchRow] = &[
+    SketchRow(b"A", OBJECT, &[Interfaces(32_765)], IsWritten),
+    SketchRow(
+        b"A",
+        OBJECT,
+        &[Interfaces(32_765), Member(b"A")],
+        Has(SketchFault::TooBig),
+    ),
+];
+
+#[test]
+fn many_constants(rt: HostRuntime) {
+    assert_rows(&rt, MANY_CONSTANTS);
 }

@@ -15,7 +15,7 @@ use Rattle.jl_pool.specs.Reading.Fields.{number_at}
 use Rattle.jl_classfile.specs.Reading.Bodies.{counted_at}
 use Rattle.jl_pool.proofs.Fields.{some_is, u2_again}
 use Rattle.jl_pool.proofs.PoolLaws.{u2_one}
-use Rattle.jl_classfile.proofs.BodyLaws.{counted-again}
+use Rattle.jl_classfile.proofs.ListLaws.{counted-again}
 use Rattle.jl_classfile.proofs.LayoutLaws.{one_layout}
 use Rattle.jl_code.proofs.CodeFaultLaws.{one_code}
 use Rattle.jl_classfile.proofs.CodeAttributeLaws.{one_held}

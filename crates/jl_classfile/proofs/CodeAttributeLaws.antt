@@ -12,7 +12,8 @@ use Rattle.jl_classfile.specs.CodeAttributes.{HoldsCode}
 use Rattle.jl_pool.specs.Reading.Fields.{◌>>=◌, number_at, bytes_at}
 use Rattle.jl_classfile.specs.Reading.Bodies.{counted_at, attribute_at, if_filled, behind_code, code_in}
 use Rattle.jl_pool.proofs.Fields.{IsBytes, bind_some, some_is, u2_takes, u2_again, u4_takes, u4_again, bytes_takes, bytes_again}
-use Rattle.jl_classfile.proofs.BodyLaws.{attribute-takes, attribute-again, counted-takes, counted-again}
+use Rattle.jl_classfile.proofs.PartLaws.{attribute-takes, attribute-again}
+use Rattle.jl_classfile.proofs.ListLaws.{counted-takes, counted-again}
 
 -- ---- what an attribute holds is read
 

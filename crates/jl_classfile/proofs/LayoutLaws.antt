@@ -6,16 +6,10 @@ use Rattle.jl_classfile.specs.declared.body.Body.{Body}
 use Rattle.jl_pool.specs.Numbers.{u2, u4}
 use Rattle.jl_pool.specs.Pools.{pool_text}
 use Rattle.jl_classfile.specs.Layouts.{Layout, body_text, head_text, file_text, IsLayout, BodySized}
-use Rattle.jl_pool.specs.Reading.Fields.{number_at}
 use Rattle.jl_classfile.specs.Reading.Bodies.{body_at}
-use Rattle.jl_pool.proofs.Fields.{some_is, u4_again}
-use Rattle.jl_pool.proofs.PoolLaws.{u2_one, one_pool}
+use Rattle.jl_pool.proofs.Fields.{some_is}
+use Rattle.jl_pool.proofs.PoolLaws.{u2_one, u4_one, one_pool}
 use Rattle.jl_classfile.proofs.BodyLaws.{body-again}
-
-u4_one : (m n : ℕ) (x y : List ℕ) → m < 2 ^ 32 → n < 2 ^ 32 → u4 m ++ x ≡ u4 n ++ y → (m ≡ n) × (x ≡ y)
-u4_one m n x y hm hn e =
-    let pairs : (m, x) ≡ (n, y) = some_is (m, x) (n, y) (sym (u4_again m x hm) ∙ ap (number_at 4) e ∙ u4_again n y hn) in
-    (ap (λ (p : ℕ × List ℕ). p.0) pairs, ap (λ (p : ℕ × List ℕ). p.1) pairs)
 
 body_one : (a b : Body) (x y : List ℕ) → BodySized a → BodySized b → body_text a ++ x ≡ body_text b ++ y → (a ≡ b) × (x ≡ y)
 body_one a b x y ha hb e =

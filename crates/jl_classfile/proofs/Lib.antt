@@ -1,7 +1,12 @@
 pub mod ItemLaws
+pub mod ListLaws
+pub mod PartLaws
 pub mod BodyLaws
 pub mod LayoutLaws
 pub mod LinkLaws
+pub mod MemberTests
+pub mod MemberNumbers
+pub mod TwinLaws
 pub mod MemberLaws
 pub mod HeadLaws
 pub mod CodeAttributeLaws

@@ -1,15 +1,12 @@
 -- The class, its superclass and its superinterfaces, tested one after another.
 use Rattle.std.proofs.Common.{◌≡◌, ℕ, Bool, true, false, List, [], ◌∷◌, ◌++◌, refl, ap, ◌∙◌}
-use Rattle.std.specs.Prelude.{All, IsTrue, IsFalse, Option, not, ◌==◌, ◌&&◌, ◌||◌, if◌then◌else◌}
+use Rattle.std.specs.Prelude.{All, IsTrue, Option, not, ◌==◌, ◌&&◌, ◌||◌, if◌then◌else◌}
 use Rattle.std.specs.List.{AllByRecursion, Contains}
 use Rattle.std.proofs.lemmas.List.Elements.{Contains-append_left, Contains-append_right, recursion_from_All}
+use Rattle.jl_names.proofs.Tests.{All-both}
 use Rattle.jl_classfile.specs.declared.body.Body.{Body}
 use Rattle.jl_pool.specs.Pools.{Pool, class_at}
 use Rattle.jl_classfile.specs.Conditions.{superclass_numbers, class_numbers, IsClassNumber, is_object, is_interface, is_module, super_fits, extends_object, Links}
-
-pub All-both : {X : Type 0} (P : X → Type 0) (xs ys : List X) → AllByRecursion P xs → AllByRecursion P ys → AllByRecursion P (xs ++ ys)
-All-both P [] ys h k = k
-All-both P (x ∷ xs) ys h k = (h.0, All-both P xs ys h.1 k)
 
 pub at_superclass : (b : Body) (n : ℕ) → Contains (superclass_numbers b.super_class) n → Contains (class_numbers b) n
 at_superclass b n c =
@@ -19,21 +16,13 @@ pub at_interface : (b : Body) (n : ℕ) → Contains b.interfaces n → Contains
 at_interface b n c =
     Contains-append_right (b.this_class ∷ []) (superclass_numbers b.super_class ++ b.interfaces) n (Contains-append_right (superclass_numbers b.super_class) b.interfaces n c)
 
-is_false : (b : Bool) → b ≡ false → IsFalse b
-is_false true e = absurd cc
-is_false false e = refl
-
-is_true : (b : Bool) → b ≡ true → IsTrue b
-is_true true e = refl
-is_true false e = absurd cc
-
 pub tested : (major : ℕ) (p : Pool) (b : Body) → is_module major b ≡ false → IsClassNumber p b.this_class
     → AllByRecursion (IsClassNumber p) (superclass_numbers b.super_class) → All (IsClassNumber p) b.interfaces
     → super_fits p b ≡ true → Links major p b
 tested major p b no_module this super interfaces fits = record {
-  no_module = is_false (is_module major b) no_module;
+  no_module = no_module;
   classes = (this, All-both (IsClassNumber p) (superclass_numbers b.super_class) b.interfaces super (recursion_from_All (IsClassNumber p) b.interfaces interfaces));
-  super = is_true (super_fits p b) fits;
+  super = fits;
 }
 
 fits_object : (root this interface object : Bool) → IsTrue (if root then this && not interface else (not this && (not interface || object)))

@@ -10,7 +10,7 @@ use Rattle.jl_pool.specs.Reading.Fields.{number_at}
 use Rattle.jl_pool.proofs.Fields.{IsBytes, some_is, u2_takes, u2_again}
 use Rattle.jl_classfile.specs.Conditions.{IsClassNumber, AreMembers}
 use Rattle.jl_classfile.specs.Reading.Bodies.{counted_at}
-use Rattle.jl_classfile.proofs.BodyLaws.{counted-takes, counted-again}
+use Rattle.jl_classfile.proofs.ListLaws.{counted-takes, counted-again}
 
 both : (P Q : ℕ → Type 0) (ns : List ℕ) → AllByRecursion P ns → AllByRecursion Q ns → AllByRecursion (λ n. P n × Q n) ns
 both P Q [] h k = tt

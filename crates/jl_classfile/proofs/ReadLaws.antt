@@ -29,7 +29,7 @@ use Rattle.jl_classfile.specs.Faults.{Sizing, Heading, Pooling, Laying, Linking,
 use Rattle.jl_classfile.specs.Reading.Bodies.{body_at, Stops}
 use Rattle.jl_classfile.specs.Reading.Passes.{fault_of_pool, fault_of_broken, HasHead, HasPool, Lies, BodyShown}
 use Rattle.jl_classfile.proofs.FaultLaws.{no_size, no_head, no_pool, no_layout, laid_here, no_links, no_members, no_attributes}
-use Rattle.jl_classfile.proofs.MemberLaws.{contains_name}
+use Rattle.jl_classfile.proofs.MemberNumbers.{contains_name}
 use Rattle.jl_pool.proofs.PoolLaws.{one_pool}
 use Rattle.jl_classfile.proofs.BodyLaws.{body-again}
 use Rattle.jl_classfile.proofs.LayoutLaws.{head_one, file_apart}

@@ -1,5 +1,5 @@
 -- What the parts of a class file have to meet beyond their layout (JVMS 4.1, 4.5 to 4.9).
-use Rattle.std.specs.Prelude.{◌≡◌, ℕ, ◌+◌, ◌<◌, ◌≤◌, ◌^◌, Bool, true, false, not, ◌==◌, ◌&&◌, ◌||◌, nat_le, if◌then◌else◌, IsTrue, IsFalse, IsSome, List, [], ◌∷◌, ◌++◌, length, filter, map, codes, Option, Some, None, ⊤, bit_and, MatchOption}
+use Rattle.std.specs.Prelude.{◌≡◌, ℕ, ◌+◌, ◌<◌, ◌≤◌, ◌^◌, Bool, true, false, not, ◌==◌, ◌&&◌, ◌||◌, nat_le, if◌then◌else◌, IsTrue, IsFalse, IsSome, List, [], ◌∷◌, ◌++◌, length, filter, map, codes, Option, Some, None, ⊤, bit_and, MatchOption, IfSome}
 use Rattle.std.specs.Option.{option_map_or}
 use Rattle.std.specs.List.{list_any, AllByRecursion}
 use Rattle.std.specs.Str.{bytes_eq}
@@ -10,7 +10,6 @@ use Rattle.jl_classfile.specs.declared.body.Attribute.{Attribute}
 use Rattle.jl_classfile.specs.declared.body.Member.{Member}
 use Rattle.jl_classfile.specs.declared.body.Body.{Body}
 use Rattle.jl_code.specs.declared.instruction.Instruction.{Instruction}
-use Rattle.jl_classfile.specs.Known.{class_attributes}
 use Rattle.jl_pool.specs.Numbers.{u2, counted}
 use Rattle.jl_pool.specs.Pools.{Pool, text_at, class_at, has_angle}
 use Rattle.jl_classfile.specs.CodeAttributes.{IsCodeOf}
@@ -105,11 +104,6 @@ member_numbers m = m.name ∷ m.descriptor ∷ map (λ a. a.name) m.attributes
 abbrev pub MemberLinks : Pool → Member → Type 0
 MemberLinks pool m = AllByRecursion (IsTextNumber pool) (member_numbers m)
 
--- the text, where one stands there, is of this kind
-abbrev pub OnText : Option (List ℕ) → (List ℕ → Type 0) → Type 0
-OnText None IsKind = ⊤
-OnText (Some text) IsKind = IsKind text
-
 abbrev pub one_if : Bool → ℕ
 one_if b = if b then 1 else 0
 
@@ -135,14 +129,15 @@ flags_fit interface flags name = bytes_eq name (codes "<clinit>") || are_method_
 abbrev pub TakesFew : ℕ → List ℕ → Type 0
 TakesFew flags text = (n : ℕ) × (n + one_if (not (has_flag flags STATIC)) ≤ 255) × TakesSlots text n
 
+-- its texts, where they stand there, are so
 pub record FieldFits (pool : Pool) (m : Member) : Type 0 where
-  pub name : OnText (text_at pool m.name) (λ name. IsTrue (is_unqualified name))
-  pub descriptor : OnText (text_at pool m.descriptor) IsFieldDescriptor
+  pub name : IfSome (text_at pool m.name) (λ name. IsTrue (is_unqualified name))
+  pub descriptor : IfSome (text_at pool m.descriptor) IsFieldDescriptor
 
 pub record MethodFits (pool : Pool) (interface : Bool) (m : Member) : Type 0 where
-  pub name : OnText (text_at pool m.name) (λ name. IsTrue (is_method_name name))
-  pub descriptor : OnText (text_at pool m.descriptor) (TakesFew m.flags)
-  pub flags : OnText (text_at pool m.name) (λ name. IsTrue (flags_fit interface m.flags name))
+  pub name : IfSome (text_at pool m.name) (λ name. IsTrue (is_method_name name))
+  pub descriptor : IfSome (text_at pool m.descriptor) (TakesFew m.flags)
+  pub flags : IfSome (text_at pool m.name) (λ name. IsTrue (flags_fit interface m.flags name))
 
 abbrev pub is_text : Pool → ℕ → List ℕ → Bool
 is_text pool n text = option_map_or (λ t. bytes_eq t text) (text_at pool n) false
@@ -174,10 +169,9 @@ pub record Members (pool : Pool) (b : Body) : Type 0 where
 
 -- ---- class attributes (JVMS 4.7.28, 4.7.29)
 
--- those of a name that is read, from version 55 on
+-- those of this name, which are read from version 55 on
 abbrev pub attributes_called : List ℕ → ℕ → Pool → Body → List Attribute
-attributes_called name major pool b =
-    if nat_le 55 major && list_any (bytes_eq name) class_attributes then attributes_of pool name b.attributes else []
+attributes_called name major pool b = if nat_le 55 major then attributes_of pool name b.attributes else []
 
 -- the bytes are the number of a class
 abbrev pub IsHost : Pool → List ℕ → ℕ → Type 0

@@ -1,4 +1,3 @@
-pub mod Known
 pub mod Layouts
 pub mod CodeAttributes
 pub mod Parts

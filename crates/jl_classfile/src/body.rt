@@ -4,7 +4,7 @@ ghost use Rattle.std.specs.Prelude.{◌≡◌, ◌++◌, List, ℕ, IfOk, MatchO
 ghost use Rattle.jl_classfile.specs.Layouts.{body_text, BodySized};
 ghost use Rattle.jl_classfile.specs.CodeAttributes.{HoldsCode};
 ghost use Rattle.jl_pool.specs.Reading.Fields.{Finds, number_at};
-ghost use Rattle.jl_classfile.specs.Reading.Bodies.{Reads, items_at, counted_at, attribute_at, member_at, body_at, code_in};
+ghost use Rattle.jl_classfile.specs.Reading.Bodies.{Reads, items_at, counted_at, attribute_at, body_at, code_in};
 
 use crate::fault::ClassFault;
 use jl_names::{Seq, Text};
@@ -93,103 +93,86 @@ pub fn attribute_at(bytes: &[u8]) -> Option<(Attribute<'_>, &[u8])>
     Some((Attribute { name, info }, rest))
 }
 
-/// So many numbers, and what comes after them.
-fn numbers_of(alloc: Global, count: u16, bytes: &[u8]) -> Result<(Seq<u16>, &[u8]), Broken>
-    ensures { Reads (λ x. (x.0, x.1.now)) result (items_at (number_at 2) count bytes.now) }
-{
-    let mut numbers = Vec::new(alloc);
-    let mut rest = bytes;
-    'numbers: for _ in 0..count {
-        let Some((number, after)) = u2_at(rest) else {
-            return Err(Broken::Cut);
-        };
-        numbers.push(number)?;
-        rest = after;
+/// What is read one after another, behind a count.
+trait Item<'a> {
+    ghost use Rattle.std.specs.Prelude.{List, ℕ, Option};
+    ghost use Rattle.jl_classfile.specs.Reading.Bodies.{Reads};
+
+    ghost reader: { List ℕ → Option (Self × List ℕ) };
+
+    /// The item at the front, and what comes after it.
+    fn at(alloc: Global, bytes: &'a [u8]) -> Result<(Self, &'a [u8]), Broken>
+        ensures { Reads (λ x. (x.0, x.1.now)) result (reader bytes.now) };
+}
+
+impl<'a> Item<'a> for u16 {
+    ghost use Rattle.jl_pool.specs.Reading.Fields.{number_at};
+
+    ghost reader = { number_at 2 };
+
+    fn at(_alloc: Global, bytes: &'a [u8]) -> Result<(u16, &'a [u8]), Broken> {
+        whole(u2_at(bytes))
     }
-    Ok((Seq::of(numbers), rest))
 }
 
-/// Numbers behind their count, and what comes after them.
-pub fn numbers_at(alloc: Global, bytes: &[u8]) -> Result<(Seq<u16>, &[u8]), Broken>
-    ensures { Reads (λ x. (x.0, x.1.now)) result (counted_at (number_at 2) bytes.now) }
-{
-    let (count, rest) = whole(u2_at(bytes))?;
-    numbers_of(alloc, count, rest)
+impl<'a> Item<'a> for Attribute<'a> {
+    ghost use Rattle.jl_classfile.specs.Reading.Bodies.{attribute_at};
+
+    ghost reader = { attribute_at };
+
+    fn at(_alloc: Global, bytes: &'a [u8]) -> Result<(Attribute<'a>, &'a [u8]), Broken> {
+        whole(attribute_at(bytes))
+    }
 }
 
-/// So many attributes, and what comes after them.
-fn attributes_of<'a>(
+impl<'a> Item<'a> for Member<'a> {
+    ghost use Rattle.jl_classfile.specs.Reading.Bodies.{member_at};
+
+    ghost reader = { member_at };
+
+    #[tactic(auto, unfolding(crate::specs::Reading::Bodies::member_at))]
+    fn at(alloc: Global, bytes: &'a [u8]) -> Result<(Member<'a>, &'a [u8]), Broken> {
+        let (flags, rest) = whole(u2_at(bytes))?;
+        let (name, rest) = whole(u2_at(rest))?;
+        let (descriptor, rest) = whole(u2_at(rest))?;
+        let (attributes, rest) = counted_at(alloc, rest)?;
+        let member = Member {
+            flags,
+            name,
+            descriptor,
+            attributes,
+        };
+        Ok((member, rest))
+    }
+}
+
+/// So many items, and what comes after them.
+fn items_at<'a, T: Item<'a> + Drop>(
     alloc: Global,
     count: u16,
     bytes: &'a [u8],
-) -> Result<(Seq<Attribute<'a>>, &'a [u8]), Broken>
-    ensures { Reads (λ x. (x.0, x.1.now)) result (items_at attribute_at count bytes.now) }
+) -> Result<(Seq<T>, &'a [u8]), Broken>
+    ensures { Reads (λ x. (x.0, x.1.now)) result (items_at T.reader count bytes.now) }
 {
-    let mut attributes = Vec::new(alloc);
+    let mut items = Vec::new(alloc);
     let mut rest = bytes;
-    'attributes: for _ in 0..count {
-        let Some((attribute, after)) = attribute_at(rest) else {
-            return Err(Broken::Cut);
-        };
-        attributes.push(attribute)?;
+    'items: for _ in 0..count {
+        let (item, after) = T::at(alloc, rest)?;
+        items.push(item)?;
         rest = after;
     }
-    Ok((Seq::of(attributes), rest))
+    Ok((Seq::of(items), rest))
 }
 
-/// Attributes behind their count, and what comes after them.
-fn attributes_at<'a>(
+/// Items behind their count, and what comes after them.
+pub fn counted_at<'a, T: Item<'a> + Drop>(
     alloc: Global,
     bytes: &'a [u8],
-) -> Result<(Seq<Attribute<'a>>, &'a [u8]), Broken>
-    ensures { Reads (λ x. (x.0, x.1.now)) result (counted_at attribute_at bytes.now) }
+) -> Result<(Seq<T>, &'a [u8]), Broken>
+    ensures { Reads (λ x. (x.0, x.1.now)) result (counted_at T.reader bytes.now) }
 {
     let (count, rest) = whole(u2_at(bytes))?;
-    attributes_of(alloc, count, rest)
-}
-
-/// A member, and what comes after it.
-#[tactic(auto, unfolding(crate::specs::Reading::Bodies::member_at))]
-fn member_at<'a>(alloc: Global, bytes: &'a [u8]) -> Result<(Member<'a>, &'a [u8]), Broken>
-    ensures { Reads (λ x. (x.0, x.1.now)) result (member_at bytes.now) }
-{
-    let (flags, rest) = whole(u2_at(bytes))?;
-    let (name, rest) = whole(u2_at(rest))?;
-    let (descriptor, rest) = whole(u2_at(rest))?;
-    let (attributes, rest) = attributes_at(alloc, rest)?;
-    let member = Member {
-        flags,
-        name,
-        descriptor,
-        attributes,
-    };
-    Ok((member, rest))
-}
-
-/// So many members, and what comes after them.
-fn members_of<'a>(
-    alloc: Global,
-    count: u16,
-    bytes: &'a [u8],
-) -> Result<(Seq<Member<'a>>, &'a [u8]), Broken>
-    ensures { Reads (λ x. (x.0, x.1.now)) result (items_at member_at count bytes.now) }
-{
-    let mut members = Vec::new(alloc);
-    let mut rest = bytes;
-    'members: for _ in 0..count {
-        let (member, after) = member_at(alloc, rest)?;
-        members.push(member)?;
-        rest = after;
-    }
-    Ok((Seq::of(members), rest))
-}
-
-/// Members behind their count, and what comes after them.
-fn members_at<'a>(alloc: Global, bytes: &'a [u8]) -> Result<(Seq<Member<'a>>, &'a [u8]), Broken>
-    ensures { Reads (λ x. (x.0, x.1.now)) result (counted_at member_at bytes.now) }
-{
-    let (count, rest) = whole(u2_at(bytes))?;
-    members_of(alloc, count, rest)
+    items_at(alloc, count, rest)
 }
 
 /// What stands behind the pool, and what comes after it.
@@ -208,10 +191,10 @@ fn read_body<'a>(alloc: Global, bytes: &'a [u8]) -> Result<(Body<'a>, &'a [u8]),
     let (flags, rest) = whole(u2_at(bytes))?;
     let (this_class, rest) = whole(u2_at(rest))?;
     let (super_class, rest) = whole(u2_at(rest))?;
-    let (interfaces, rest) = numbers_at(alloc, rest)?;
-    let (fields, rest) = members_at(alloc, rest)?;
-    let (methods, rest) = members_at(alloc, rest)?;
-    let (attributes, rest) = attributes_at(alloc, rest)?;
+    let (interfaces, rest) = counted_at(alloc, rest)?;
+    let (fields, rest) = counted_at(alloc, rest)?;
+    let (methods, rest) = counted_at(alloc, rest)?;
+    let (attributes, rest) = counted_at(alloc, rest)?;
     let body = Body {
         flags,
         this_class,

@@ -5,7 +5,7 @@ ghost use Rattle.jl_classfile.specs.declared.fault.ClassFault.TheVariants.{BadNe
 ghost use Rattle.jl_classfile.specs.Conditions.{IsClassNumber, IsHost, AreMembers, attributes_of, Nest};
 ghost use Rattle.jl_classfile.specs.Reading.Nests.{IsOnly, Holds};
 
-use crate::body::{Attribute, Body, Broken, numbers_at};
+use crate::body::{Attribute, Body, Broken, counted_at};
 use crate::fault::ClassFault;
 use crate::links::check_classes;
 use crate::member::{count_called, first_called};
@@ -68,7 +68,7 @@ fn members_in(alloc: Global, pool: &Pool<'_>, info: &[u8]) -> Result<Seq<u16>, C
     ensures ok { IfOk result (AreMembers pool.now info.now) }
     ensures fault { IfErr result (λ f. f ≢ Memory → (f ≡ BadNest) × ((ns : List ℕ) → ¬ AreMembers pool.now info.now ns)) }
 {
-    let (numbers, rest) = match numbers_at(alloc, info) {
+    let (numbers, rest) = match counted_at(alloc, info) {
         Ok(read) => read,
         Err(Broken::Cut) => return Err(ClassFault::BadNest),
         Err(Broken::Memory) => return Err(ClassFault::Memory),

@@ -267,6 +267,11 @@ fn laid_at<'a>(alloc: Global, bytes: &'a [u8]) -> Result<(u16, Pool<'a>, Body<'a
 }
 
 /// The class file that the bytes are (JVMS SE 17 §4), all of them.
+///
+/// An error is that of the first pass that fails: `TooLarge`; `Truncated`, `BadMagic` or `BadVersion` for the first eight bytes (§4.1);
+/// `Pool` (§4.4); `Truncated` or `TrailingBytes` for the rest; `ModuleFile`, `BadLink` or `BadSuper` for the class and its superclasses
+/// (§4.1); `BadLink`, `BadMember`, `DuplicateMethod` or `TwoCodes` for fields and methods (§4.5, §4.6); `BadLink` or `BadNest` for the
+/// class's attributes (§4.7.28, §4.7.29); `Code` for the codes (§4.7.3). Or it is `Memory`.
 pub fn read_class(alloc: Global, bytes: &[u8]) -> Result<ClassFile, ClassFault>
     ensures ok { IfOk result (λ file. (p : Parts) × IsClass bytes.now p × (file ≡ shown p)) }
     ensures fault { IfErr result (λ f. f ≢ Memory → IsFault bytes.now f) }

@@ -4,6 +4,7 @@ use Rattle.std.proofs.Common.{◌∙◌, append_assoc, length-append, arith}
 use Rattle.std.specs.Prelude.{IsFalse}
 use Rattle.std.specs.List.{AllByRecursion}
 use Rattle.jl_names.proofs.Bytes.{ok_is}
+use Rattle.jl_names.proofs.Tests.{All-back}
 use Rattle.jl_code.specs.declared.instruction.Instruction.{Instruction}
 use Rattle.jl_code.specs.declared.instruction.Instruction.TheVariants.{Plain, Wide, Invoke, TableSwitch, LookupSwitch}
 use Rattle.jl_code.specs.declared.instruction.Stop.{Stop}
@@ -66,10 +67,6 @@ front pc (i ∷ is) (j ∷ js) left hi hj e =
           same)
           rest.stand;
     }
-
-All-back : {X : Type 0} (P : X → Type 0) (xs ys : List X) → AllByRecursion P (xs ++ ys) → AllByRecursion P ys
-All-back P [] ys h = h
-All-back P (x ∷ xs) ys h = All-back P xs ys h.1
 
 runs_front : (p : Pool) (bytes : List ℕ) (is js : List Instruction) (pc : ℕ) (left : List ℕ) → IsCode p bytes is → Runs bytes js pc left → Front 0 is js left
 runs_front p bytes is js pc left h r = front 0 is js left h.places r.places (sym h.bytes_are ∙ r.bytes_are)
@@ -138,7 +135,7 @@ no_scan p bytes is code.Memory h m = λ x. m refl
 
 -- ---- bytes are one code at most
 
-one_list : (pc : ℕ) (is js : List Instruction) → MayStandFrom pc is → MayStandFrom pc js → code_bytes is ≡ code_bytes js → is ≡ js
+pub one_list : (pc : ℕ) (is js : List Instruction) → MayStandFrom pc is → MayStandFrom pc js → code_bytes is ≡ code_bytes js → is ≡ js
 one_list pc [] [] hi hj e = refl
 one_list pc [] (j ∷ js) hi hj e = absurd (omega (arith, ap length e, length-append (instruction_text j) (code_bytes js), text-some j))
 one_list pc (i ∷ is) [] hi hj e = absurd (omega (arith, ap length e, length-append (instruction_text i) (code_bytes is), text-some i))

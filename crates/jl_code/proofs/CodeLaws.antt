@@ -5,6 +5,7 @@ use Rattle.std.specs.List.{AllByRecursion}
 use Rattle.std.proofs.lemmas.Grind.{flat_map-append}
 use Rattle.std.proofs.lemmas.List.{append-nil, nil_from_length}
 use Rattle.std.proofs.lemmas.Bool.{eqb-true}
+use Rattle.jl_names.proofs.Tests.{All-push}
 use Rattle.jl_code.specs.declared.code_fault.CodeFault.{CodeFault}
 use Rattle.jl_code.specs.declared.code_fault.CodeFault.TheVariants.{BadOpcode, CutShort, BadSwitch, BadOperand, BadLayout, Memory}
 use Rattle.jl_code.specs.declared.instruction.Instruction.{Instruction}
@@ -40,10 +41,6 @@ places-push pc at [] i e h m = (subst (λ (n : ℕ). MayStand n i) (let same : a
 places-push pc at (j ∷ is) i e h m =
     (h.0, places-push (pc + length (instruction_text j)) at is i (omega (arith, e, length-append (instruction_text j) (code_bytes is))) h.1 m)
 
-operands-push : (pool : Pool) (is : List Instruction) (i : Instruction) → AllByRecursion (OperandFits pool) is → OperandFits pool i → AllByRecursion (OperandFits pool) (is ++ i ∷ [])
-operands-push pool [] i h f = (f, tt)
-operands-push pool (j ∷ is) i h f = (h.0, operands-push pool is i h.1 f)
-
 sites-push : (pool : Pool) (pc at : ℕ) (is : List Instruction) (i : Instruction) → at ≡ pc + length (code_bytes is)
     → sites_from pool pc (is ++ i ∷ []) ≡ sites_from pool pc is ++ site_at pool at i
 sites-push pool pc at [] i e = append-nil (site_at pool pc i) ∙ ap (λ (n : ℕ). site_at pool n i) (let same : pc ≡ at = omega (arith, e) in same)
@@ -67,7 +64,7 @@ Scanned-more pool code rest after sites at i place s e fits =
           ∙ ap (λ (x : List ℕ). code_bytes s.is ++ x) t.taken.parts
           ∙ sym (ap (λ (x : List ℕ). x ++ after) (bytes-push s.is i) ∙ append_assoc (code_bytes s.is) (instruction_text i) after);
       places = places-push 0 at s.is i here s.places t.stands;
-      operands = operands-push pool s.is i s.operands fits;
+      operands = All-push (OperandFits pool) s.is i s.operands fits;
       sites_are = ap (λ (x : List Site). x ++ site_at pool at i) s.sites_are ∙ sym (sites-push pool 0 at s.is i here);
       bytes_left = t.taken.bytes_left;
     }

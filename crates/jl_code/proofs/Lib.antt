@@ -6,3 +6,4 @@ pub mod SwitchLaws
 pub mod InstructionLaws
 pub mod CodeLaws
 pub mod CodeFaultLaws
+pub mod Rows

@@ -1,7 +1,7 @@
 -- The opcodes by the tables. A table is looked into here, and nowhere else.
 use Rattle.std.proofs.Common.{◌≡◌, ℕ, Bool, true, false, eqb, List, [], ◌∷◌, Option, Some, None, refl, sym, ap, subst, ◌∙◌}
 use Rattle.std.specs.Prelude.{is_some}
-use Rattle.std.proofs.lemmas.Bool.{or_right, eqb-true, eqb-false, ne_eqb}
+use Rattle.std.proofs.lemmas.Bool.{or_right, eqb-true, ne_eqb}
 use Rattle.jl_code.specs.Known.{plain_opcodes, wide_opcodes, invocations}
 use Rattle.jl_code.specs.Instructions.{operands_in, tail_in}
 use Rattle.jl_code.specs.Faults.{is_opcode, begins_opcode}
@@ -56,9 +56,7 @@ known-invocation : (opcode k : ℕ) → tail_in invocations opcode ≡ Some k �
 known-invocation opcode k e = rw e (or_right (is_some (operands_in plain_opcodes opcode)) true refl)
 
 pub unknown : (opcode : ℕ) → IsFixed opcode → operands_in plain_opcodes opcode ≡ None → tail_in invocations opcode ≡ None → is_opcode opcode ≡ false
-unknown opcode fixed operands tail = rw (operands, tail, turned opcode 170 fixed.no_table, turned opcode 171 fixed.no_look_up, fixed.no_wide) refl where
-  turned : (a b : ℕ) → eqb a b ≡ false → eqb b a ≡ false
-  turned a b e = ne_eqb b a (λ same. eqb-false a b e (sym same))
+unknown opcode fixed operands tail = rw (operands, tail, fixed.no_table, fixed.no_look_up, fixed.no_wide) refl
 
 -- an opcode that is known, and is no wide
 begins_known : (opcode : ℕ) → is_opcode opcode ≡ true → eqb opcode 196 ≡ false → (more : List ℕ) → begins_opcode (opcode ∷ more) ≡ true

@@ -1,11 +1,12 @@
 -- The tests of an invocation say what the definition says.
 use Rattle.std.proofs.Common.{◌≡◌, ℕ, ◌≤◌, Bool, true, false, ◌&&◌, List, Option, Some, None, refl, sym, ap, subst, ◌∙◌, arith}
-use Rattle.std.specs.Prelude.{IsTrue, nat_le, if◌then◌else◌, option_map}
+use Rattle.std.specs.Prelude.{nat_le, if◌then◌else◌}
 use Rattle.std.specs.Option.{option_and_then, option_map_or}
 use Rattle.std.specs.Str.{bytes_eq}
 use Rattle.std.proofs.lemmas.Bool.Decides.{nat_tests}
 use Rattle.std.proofs.lemmas.Slice.Eq.{bytes_eq-Decides}
 use Rattle.jl_names.specs.MethodTypes.{TakesSlots}
+use Rattle.jl_names.proofs.Tests.{map-some}
 use Rattle.jl_pool.specs.declared.constant.Constant.{Constant}
 use Rattle.jl_pool.specs.declared.constant.Constant.TheVariants.{Methodref, InterfaceMethodref, NameAndType, InvokeDynamic}
 use Rattle.jl_pool.specs.declared.reference.Reference.{Reference}
@@ -14,10 +15,10 @@ use Rattle.jl_code.specs.declared.site.Operand.{Operand}
 use Rattle.jl_code.specs.declared.site.Operand.TheVariants.{Method, CallSite}
 use Rattle.jl_code.specs.Known.{Invocation, invocations}
 use Rattle.jl_pool.specs.Pools.{Pool, constant_at, has_tag, text_at, Signed, both, reference, signed_of, signed_at, descriptor_of, descriptor_at, class_text_at}
-use Rattle.jl_pool.specs.Pools.{reference_of, reference_at, call_site_of, call_site_at}
+use Rattle.jl_pool.specs.Pools.{reference_of, reference_at, call_site_of, call_site_at, named_descriptor_of, named_descriptor}
 use Rattle.jl_code.specs.Instructions.{invocation_in}
 use Rattle.jl_code.specs.Codes.{either_operand, operand_at, operand_name, operand_type, may_name, most_slots, tail_of, Invokes}
-use Rattle.jl_pool.specs.Reading.Forms.{method_slots, slots_of_constant, slots_at}
+use Rattle.jl_pool.specs.Reading.Forms.{method_slots, slots_at}
 use Rattle.jl_code.specs.Reading.Sites.{is_tagged, if_fits, invoked}
 use Rattle.jl_pool.proofs.FormLaws.{and_true, SlotsAre, method_slots-is, one_slots}
 
@@ -41,49 +42,40 @@ descriptor_at-signed pool n s e =
     let c = and_then-some (signed_of pool) (constant_at pool n) s e in
     ap (λ (o : Option Constant). option_and_then (descriptor_of pool) o) c.1 ∙ descriptor_of-signed pool c.0 s c.2
 
-signed_slots : (pool : Pool) (n : ℕ) (s : Signed) → signed_at pool n ≡ Some s → option_and_then method_slots (descriptor_at pool n) ≡ method_slots s.ty
-signed_slots pool n s e = ap (λ (o : Option (List ℕ)). option_and_then method_slots o) (descriptor_at-signed pool n s e)
+reference_named : (pool : Pool) (c : Constant) (r : Reference (List ℕ)) → reference_of pool c ≡ Some r → named_descriptor_of pool c ≡ Some r.ty
+reference_named pool (Methodref owner nt) r e =
+    let b = both-some (reference false) (class_text_at pool owner) (signed_at pool nt) r e in descriptor_at-signed pool nt b.1 b.3 ∙ ap (λ (q : Reference (List ℕ)). Some q.ty) b.4
+reference_named pool (InterfaceMethodref owner nt) r e =
+    let b = both-some (reference true) (class_text_at pool owner) (signed_at pool nt) r e in descriptor_at-signed pool nt b.1 b.3 ∙ ap (λ (q : Reference (List ℕ)). Some q.ty) b.4
+reference_named pool _ r e = absurd cc
 
-reference_slots : (pool : Pool) (c : Constant) (r : Reference (List ℕ)) → reference_of pool c ≡ Some r → slots_of_constant pool c ≡ method_slots r.ty
-reference_slots pool (Methodref owner nt) r e =
-    let b = both-some (reference false) (class_text_at pool owner) (signed_at pool nt) r e in signed_slots pool nt b.1 b.3 ∙ ap (λ (q : Reference (List ℕ)). method_slots q.ty) b.4
-reference_slots pool (InterfaceMethodref owner nt) r e =
-    let b = both-some (reference true) (class_text_at pool owner) (signed_at pool nt) r e in signed_slots pool nt b.1 b.3 ∙ ap (λ (q : Reference (List ℕ)). method_slots q.ty) b.4
-reference_slots pool _ r e = absurd cc
-
-map-some : {X Y : Type 0} (f : X → Y) (o : Option X) (y : Y) → option_map f o ≡ Some y → (x : X) × (o ≡ Some x) × (f x ≡ y)
-map-some f None y e = absurd cc
-map-some f (Some x) y e = (x, refl, cc)
-
-call_site_slots : (pool : Pool) (c : Constant) (k : CallSiteSpecifier (List ℕ)) → call_site_of pool c ≡ Some k → slots_of_constant pool c ≡ method_slots k.ty
-call_site_slots pool (InvokeDynamic bootstrap nt) k e =
+call_site_named : (pool : Pool) (c : Constant) (k : CallSiteSpecifier (List ℕ)) → call_site_of pool c ≡ Some k → named_descriptor_of pool c ≡ Some k.ty
+call_site_named pool (InvokeDynamic bootstrap nt) k e =
     let m = map-some (λ s. record { bootstrap = bootstrap; name = s.name; ty = s.ty }) (signed_at pool nt) k e in
-    signed_slots pool nt m.0 m.1 ∙ ap (λ (q : CallSiteSpecifier (List ℕ)). method_slots q.ty) m.2
-call_site_slots pool _ k e = absurd cc
+    descriptor_at-signed pool nt m.0 m.1 ∙ ap (λ (q : CallSiteSpecifier (List ℕ)). Some q.ty) m.2
+call_site_named pool _ k e = absurd cc
 
-slots_at-reference : (pool : Pool) (n : ℕ) (r : Reference (List ℕ)) → reference_at pool n ≡ Some r → slots_at pool n ≡ method_slots r.ty
-slots_at-reference pool n r e =
-    let c = and_then-some (reference_of pool) (constant_at pool n) r e in ap (λ (o : Option Constant). option_and_then (slots_of_constant pool) o) c.1 ∙ reference_slots pool c.0 r c.2
+-- what the constant at a number names
+named_by : {X : Type 0} (pool : Pool) (n : ℕ) (found : Constant → Option X) (type_of : X → List ℕ)
+    → ((c : Constant) (x : X) → found c ≡ Some x → named_descriptor_of pool c ≡ Some (type_of x)) → (x : X)
+    → option_and_then found (constant_at pool n) ≡ Some x → named_descriptor pool n ≡ Some (type_of x)
+named_by pool n found type_of names x e =
+    let c = and_then-some found (constant_at pool n) x e in ap (λ (o : Option Constant). option_and_then (named_descriptor_of pool) o) c.1 ∙ names c.0 x c.2
 
-slots_at-call_site : (pool : Pool) (n : ℕ) (k : CallSiteSpecifier (List ℕ)) → call_site_at pool n ≡ Some k → slots_at pool n ≡ method_slots k.ty
-slots_at-call_site pool n k e =
-    let c = and_then-some (call_site_of pool) (constant_at pool n) k e in ap (λ (o : Option Constant). option_and_then (slots_of_constant pool) o) c.1 ∙ call_site_slots pool c.0 k c.2
+operand_named : (pool : Pool) (n : ℕ) (o : Operand (List ℕ)) → operand_at pool n ≡ Some o → named_descriptor pool n ≡ Some (operand_type o)
+operand_named pool n o e = by_reference (reference_at pool n) refl e where
+  by_reference : (r : Option (Reference (List ℕ))) → reference_at pool n ≡ r → either_operand r (call_site_at pool n) ≡ Some o → named_descriptor pool n ≡ Some (operand_type o)
+  by_reference (Some r) is e =
+      named_by pool n (reference_of pool) (λ r. r.ty) (reference_named pool) r is
+      ∙ ap (λ (q : Operand (List ℕ)). Some (operand_type q)) (let same : Method r ≡ o = cc in same)
+  by_reference None is e =
+      let m = map-some CallSite (call_site_at pool n) o e in
+      named_by pool n (call_site_of pool) (λ k. k.ty) (call_site_named pool) m.0 m.1 ∙ ap (λ (q : Operand (List ℕ)). Some (operand_type q)) m.2
 
 slots_at-operand : (pool : Pool) (n : ℕ) (o : Operand (List ℕ)) → operand_at pool n ≡ Some o → slots_at pool n ≡ method_slots (operand_type o)
-slots_at-operand pool n o e = by_reference (reference_at pool n) refl e where
-  by_reference : (r : Option (Reference (List ℕ))) → reference_at pool n ≡ r → either_operand r (call_site_at pool n) ≡ Some o → slots_at pool n ≡ method_slots (operand_type o)
-  by_reference (Some r) is e = slots_at-reference pool n r is ∙ ap (λ (q : Operand (List ℕ)). method_slots (operand_type q)) (let same : Method r ≡ o = cc in same)
-  by_reference None is e = let m = map-some CallSite (call_site_at pool n) o e in slots_at-call_site pool n m.0 m.1 ∙ ap (λ (q : Operand (List ℕ)). method_slots (operand_type q)) m.2
+slots_at-operand pool n o e = ap (λ (ty : Option (List ℕ)). option_and_then method_slots ty) (operand_named pool n o e)
 
 -- ---- an invocation
-
-true_is : (b : Bool) → IsTrue b → b ≡ true
-true_is true h = refl
-true_is false h = absurd cc
-
-is_true : (b : Bool) → b ≡ true → IsTrue b
-is_true true e = refl
-is_true false e = absurd cc
 
 tagged_row : (pool : Pool) (number : ℕ) (row : Option Invocation) → option_map_or (λ r. has_tag pool r.tags number) row false ≡ true
     → (r : Invocation) × (row ≡ Some r) × (has_tag pool r.tags number ≡ true)
@@ -122,10 +114,10 @@ invoked-some pool opcode number tail o e =
       record {
         row = row.0;
         found = row.1;
-        tagged = is_true (has_tag pool row.0.tags number) row.2;
+        tagged = row.2;
         operand = named.0;
         there = named.1;
-        named = is_true (may_name opcode (operand_name named.0)) may.0;
+        named = may.0;
         slots = counted.0;
         counted =
             takes_found (operand_type named.0) (method_slots (operand_type named.0)) counted.0 (method_slots-is (operand_type named.0))
@@ -149,11 +141,11 @@ invoked-all pool opcode number tail h =
     (let most = few_most opcode in omega (arith, most, h.few)) h.counted
     in
     let tagged : is_tagged pool opcode number ≡ true =
-    ap (λ (r : Option Invocation). option_map_or (λ q. has_tag pool q.tags number) r false) h.found ∙ true_is (has_tag pool h.row.tags number) h.tagged
+    ap (λ (r : Option Invocation). option_map_or (λ q. has_tag pool q.tags number) r false) h.found ∙ h.tagged
     in
     let tail_same : bytes_eq tail (tail_of opcode h.slots) ≡ true = (bytes_eq-Decides tail (tail_of opcode h.slots)).1 h.behind in
     let few : nat_le h.slots (most_slots opcode) ≡ true = above h.slots (most_slots opcode) h.few in
-    let may : may_name opcode (operand_name h.operand) ≡ true = true_is (may_name opcode (operand_name h.operand)) h.named in
+    let may : may_name opcode (operand_name h.operand) ≡ true = h.named in
     rw (tagged, h.there, slots, may, few, tail_same) refl
   where
     above : (a b : ℕ) → a ≤ b → nat_le a b ≡ true

@@ -172,7 +172,6 @@ spelled_table pc bytes x h =
         bytes_left = o.0.bytes_left;
       };
       stands = record {
-        known = refl;
         pads = h.pads;
         default_size = h.default_size;
         low_size = h.low_size;
@@ -255,7 +254,7 @@ spelled_look_up pc bytes x h =
             ∙ sym (look_up_text h.padding h.default h.count b.0.0 b.0.1);
         bytes_left = p.0.bytes_left;
       };
-      stands = record { known = refl; pads = h.head.pads; default_size = h.head.default_size; not_negative = leb-false (2 ^ 31) h.count g.0; sizes = p.1 };
+      stands = record { pads = h.head.pads; default_size = h.head.default_size; not_negative = leb-false (2 ^ 31) h.count g.0; sizes = p.1 };
     })
 
 pub look_up_takes : (pc : ℕ) (bytes : List ℕ) (x : Read) → IsBytes bytes → lookup_switch_at pc bytes ≡ found x → Spelled pc (171 ∷ bytes) x.0 x.1

@@ -1,13 +1,12 @@
 -- Why bytes are no code (JVMS 4.9.1).
 use Rattle.std.specs.Prelude.{◌≡◌, ◌≢◌, ℕ, ◌<◌, ◌≤◌, ◌^◌, Bool, true, not, ◌==◌, ◌&&◌, ◌||◌, IsTrue, IsFalse, List, [], ◌∷◌, ◌++◌, length, ⊤, ◌⊎◌}
 use Rattle.std.specs.Prelude.{is_some}
-use Rattle.std.specs.List.{list_any}
 use Rattle.jl_pool.specs.Numbers.{u4}
 use Rattle.jl_pool.specs.Pools.{Pool}
 use Rattle.jl_code.specs.declared.code_fault.CodeFault.{CodeFault}
 use Rattle.jl_code.specs.declared.code_fault.CodeFault.TheVariants as code
 use Rattle.jl_code.specs.declared.instruction.Instruction.{Instruction}
-use Rattle.jl_code.specs.Known.{plain_opcodes, wide_opcodes, switch_opcodes, invocations}
+use Rattle.jl_code.specs.Known.{plain_opcodes, wide_opcodes, invocations}
 use Rattle.jl_code.specs.Instructions.{instruction_text, MayStand, Pads, operands_in, tail_in, from_least}
 use Rattle.jl_code.specs.Codes.{code_bytes, MayStandFrom, OperandFits}
 
@@ -17,9 +16,9 @@ pub record Runs (bytes : List ℕ) (instructions : List Instruction) (pc : ℕ) 
   pub places : MayStandFrom 0 instructions
   pub place : pc ≡ length (code_bytes instructions)
 
--- an instruction begins so
+-- an instruction begins so: of a fixed length, an invocation, tableswitch, lookupswitch, or wide
 abbrev pub is_opcode : ℕ → Bool
-is_opcode b = is_some (operands_in plain_opcodes b) || (is_some (tail_in invocations b) || (list_any (λ s. s == b) switch_opcodes || ((b == 196) && not (length wide_opcodes == 0))))
+is_opcode b = is_some (operands_in plain_opcodes b) || (is_some (tail_in invocations b) || ((b == 170) || ((b == 171) || (b == 196))))
 
 abbrev pub begins_opcode : List ℕ → Bool
 begins_opcode [] = true

@@ -1,11 +1,10 @@
 -- Instructions and their texts (JVMS 6.5).
-use Rattle.std.specs.Prelude.{◌≡◌, ℕ, ◌+◌, ◌*◌, ◌-◌, ◌<◌, ◌≤◌, ◌^◌, ◌%◌, Bool, ◌==◌, ◌&&◌, nat_le, nat_lt, if◌then◌else◌, IsTrue, List, [], ◌∷◌, ◌++◌, length, Option, Some, None}
+use Rattle.std.specs.Prelude.{◌≡◌, ℕ, ◌+◌, ◌*◌, ◌-◌, ◌<◌, ◌≤◌, ◌^◌, ◌%◌, Bool, ◌==◌, ◌&&◌, nat_le, nat_lt, if◌then◌else◌, List, [], ◌∷◌, ◌++◌, length, Option, Some, None}
 use Rattle.std.specs.Option.{option_map_or}
-use Rattle.std.specs.List.{list_any}
 use Rattle.jl_code.specs.declared.instruction.Instruction.{Instruction}
 use Rattle.jl_code.specs.declared.instruction.Instruction.TheVariants.{Plain, Wide, Invoke, TableSwitch, LookupSwitch}
 use Rattle.jl_pool.specs.Numbers.{u1, u2, u4}
-use Rattle.jl_code.specs.Known.{Opcodes, plain_opcodes, wide_opcodes, switch_opcodes, Invocation, invocations}
+use Rattle.jl_code.specs.Known.{Opcodes, plain_opcodes, wide_opcodes, Invocation, invocations}
 
 abbrev pub instruction_text : Instruction → List ℕ
 instruction_text (Plain opcode operands) = u1 opcode ++ operands
@@ -42,7 +41,6 @@ pub record Pads (padding : List ℕ) (pc : ℕ) : Type 0 where
   pub aligned : (pc + 1 + length padding) % 4 ≡ 0
 
 pub record IsTableSwitch (pc : ℕ) (padding : List ℕ) (default low high : ℕ) (offsets : List ℕ) : Type 0 where
-  pub known : IsTrue (list_any (λ n. n == 170) switch_opcodes)
   pub pads : Pads padding pc
   pub default_size : default < 2 ^ 32
   pub low_size : low < 2 ^ 32
@@ -52,7 +50,6 @@ pub record IsTableSwitch (pc : ℕ) (padding : List ℕ) (default low high : ℕ
   pub count : length offsets + 4 * from_least low ≡ 4 * (from_least high + 1)
 
 pub record IsLookupSwitch (pc : ℕ) (padding : List ℕ) (default count : ℕ) (pairs : List ℕ) : Type 0 where
-  pub known : IsTrue (list_any (λ n. n == 171) switch_opcodes)
   pub pads : Pads padding pc
   pub default_size : default < 2 ^ 32
   pub not_negative : count < 2 ^ 31

@@ -43,10 +43,6 @@ plain_opcodes =
 abbrev pub wide_opcodes : List Opcodes
 wide_opcodes = opcodes 21 25 2 ∷ opcodes 54 58 2 ∷ opcodes 169 169 2 ∷ opcodes 132 132 4 ∷ []
 
--- of 170, tableswitch, and 171, lookupswitch
-abbrev pub switch_opcodes : List ℕ
-switch_opcodes = 170 ∷ 171 ∷ []
-
 -- invocations: the opcode, the tags of what it may name, and how many bytes come behind the number
 pub record Invocation : Type 0 where
   pub opcode : ℕ

@@ -8,6 +8,7 @@ ghost use Rattle.jl_code.specs.declared.instruction.Instruction.{Instruction};
 ghost use Rattle.jl_code.specs.Known.{invocations};
 ghost use Rattle.jl_code.specs.Instructions.{invocation_in};
 ghost use Rattle.jl_pool.specs.Pools.{Pool, has_tag};
+ghost use Rattle.jl_pool.specs.Reading.Forms.{slots_at};
 ghost use Rattle.jl_code.specs.declared.code_fault.CodeFault.{CodeFault};
 ghost use Rattle.jl_code.specs.declared.code_fault.CodeFault.TheVariants.{Memory};
 ghost use Rattle.jl_code.specs.Codes.{kind_of, operand_at, operand_name, begins_special, may_name, most_slots, tail_of, site_at, sites_from, OperandFits, IsCode};
@@ -18,7 +19,7 @@ use crate::code_fault::CodeFault;
 use crate::instruction::{Instruction, Stop, instruction_at};
 use crate::site::{Kind, Operand, Site};
 use jl_names::{LentName, Name};
-use jl_pool::{CallSiteSpecifier, Pool, Reference};
+use jl_pool::Pool;
 use std::alloc::{AllocError, Global};
 
 /// The kind of an invocation.
@@ -113,6 +114,13 @@ fn tail_fits(opcode: u8, slots: u8, tail: &[u8]) -> bool
     }
 }
 
+/// The slots of the parameters of what the entry at a number names.
+fn slots_at(pool: &Pool<'_>, number: u16) -> Option<u8>
+    ensures { result ≡ slots_at pool.now number }
+{
+    pool.slots(number)
+}
+
 /// What an invocation names, where it may name that.
 #[tactic(auto, unfolding(crate::specs::Reading::Sites::invoked))]
 fn invoked<'a>(
@@ -127,7 +135,7 @@ fn invoked<'a>(
         return None;
     }
     let operand = operand_at(pool, number)?;
-    let slots = pool.slots(number)?;
+    let slots = slots_at(pool, number)?;
     let named = may_name(opcode, operand_name(&operand));
     if named && slots <= most_slots(opcode) && tail_fits(opcode, slots, tail) {
         Some(operand)
@@ -136,42 +144,13 @@ fn invoked<'a>(
     }
 }
 
-/// A method's names, kept.
-fn kept_reference(
-    alloc: Global,
-    reference: &Reference<LentName<'_>>,
-) -> Result<Reference<Name>, AllocError>
-    ensures { IfOk result (λ kept. kept ≡ reference.now) }
-{
-    Ok(Reference {
-        itf: reference.itf,
-        owner: reference.owner.copy(alloc)?,
-        name: reference.name.copy(alloc)?,
-        ty: reference.ty.copy(alloc)?,
-    })
-}
-
-/// A call site's names, kept.
-fn kept_specifier(
-    alloc: Global,
-    specifier: &CallSiteSpecifier<LentName<'_>>,
-) -> Result<CallSiteSpecifier<Name>, AllocError>
-    ensures { IfOk result (λ kept. kept ≡ specifier.now) }
-{
-    Ok(CallSiteSpecifier {
-        bootstrap: specifier.bootstrap,
-        name: specifier.name.copy(alloc)?,
-        ty: specifier.ty.copy(alloc)?,
-    })
-}
-
 /// An operand, kept.
 fn kept(alloc: Global, operand: &Operand<LentName<'_>>) -> Result<Operand<Name>, AllocError>
     ensures { IfOk result (λ kept. kept ≡ operand.now) }
 {
     match operand {
-        Operand::Method(reference) => Ok(Operand::Method(kept_reference(alloc, reference)?)),
-        Operand::CallSite(specifier) => Ok(Operand::CallSite(kept_specifier(alloc, specifier)?)),
+        Operand::Method(reference) => Ok(Operand::Method(reference.kept(alloc)?)),
+        Operand::CallSite(specifier) => Ok(Operand::CallSite(specifier.kept(alloc)?)),
     }
 }
 
@@ -200,7 +179,10 @@ fn site_of(
     }
 }
 
-/// The invocations of a code, in order, each at its place in bytes from the code's start.
+/// The invocations of a code (JVMS SE 17 §4.7.3, §4.9), in order, each at its place in bytes from the code's start. It takes fewer than
+/// 65,536 bytes, as a Code attribute has. Where instructions end before the place that it names, an error is `BadOpcode` where no
+/// instruction begins so, `BadSwitch` where a switch's bounds or number of pairs can't be, `CutShort` where the bytes end within the
+/// instruction, and `BadOperand` where an invocation may not name what it names; or want of memory. `BadLayout` is none of them.
 pub fn scan(alloc: Global, code: &[u8], pool: &Pool<'_>) -> Result<Vec<Site>, CodeFault>
     requires { length code.now < 2 ^ 16 }
     ensures ok { IfOk result (λ sites. (is : List Instruction) × IsCode pool.now code.now is × (sites.items ≡ sites_from pool.now 0 is)) }

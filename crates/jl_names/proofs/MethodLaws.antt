@@ -5,7 +5,6 @@ use Rattle.std.specs.Prelude.{IfSome, codes, replicate}
 use Rattle.jl_names.specs.declared.descriptor.Element.{Element}
 use Rattle.jl_names.specs.declared.descriptor.Element.TheVariants.{Byte, Char, Double, Float, Int, Long, Short, Boolean, Class}
 use Rattle.std.specs.List.{flat_map, AllByRecursion}
-use Rattle.std.proofs.lemmas.Grind.{flat_map-append}
 use Rattle.std.proofs.lemmas.List.{append-nil, nil_from_length}
 use Rattle.std.proofs.lemmas.Bool.{eqb-true}
 use Rattle.jl_names.specs.declared.descriptor.FieldType.{FieldType}
@@ -19,28 +18,17 @@ use Rattle.jl_names.specs.declared.method_type.Broken.TheVariants as broken
 use Rattle.jl_names.specs.declared.fault.NameFault.{NameFault}
 use Rattle.jl_names.specs.declared.fault.NameFault.TheVariants.{BadByte, Truncated, BadDescriptor, TooManySlots, Memory}
 use Rattle.jl_names.proofs.Bytes.{opening, closing, bracket, letter_v, chosen, bind_ok, ok_is}
+use Rattle.jl_names.proofs.Tests.{All-push, texts-push}
 use Rattle.jl_names.proofs.DescriptorLaws.{field_again, field_takes, field_stops, field_left, stops_at, not_empty}
-
-All-push : (ts : List FieldType) (t : FieldType) → AllByRecursion IsFieldType ts → IsFieldType t
-    → AllByRecursion IsFieldType (ts ++ t ∷ [])
-All-push [] t h w = (w, tt)
-All-push (s ∷ ts) t h w = (h.0, All-push ts t h.1 w)
-
-texts-push : (ts : List FieldType) (t : FieldType) (rest : List ℕ)
-    → flat_map field_text (ts ++ t ∷ []) ++ rest ≡ flat_map field_text ts ++ (field_text t ++ rest)
-texts-push ts t rest =
-    ap (λ (x : List ℕ). x ++ rest) (flat_map-append field_text ts (t ∷ [])
-    ∙ ap (λ (x : List ℕ). flat_map field_text ts ++ x) (append-nil (field_text t)))
-    ∙ append_assoc (flat_map field_text ts) (field_text t) rest
 
 pub Stand-more : (text : List ℕ) (ts : List FieldType) (rest : List ℕ) (t : FieldType) (after : List ℕ)
     → Stand text ts rest → field_at rest ≡ Ok (t, after) → Stand text (ts ++ t ∷ []) after
 Stand-more text ts rest t after s e =
     let r = field_takes rest (t, after) e in
     record {
-      each = All-push ts t s.each r.1;
+      each = All-push IsFieldType ts t s.each r.1;
       bytes = s.bytes ∙ ap (λ (x : List ℕ). flat_map field_text ts ++ x) r.0
-          ∙ sym (texts-push ts t after);
+          ∙ sym (texts-push field_text ts t after);
     }
 
 -- ---- two lists of types at the front of one text
@@ -269,12 +257,12 @@ parameter_stops text inner left e s =
       f.alive.0 ++ codes ")V",
       (
         record { parameters = ts ++ ty ∷ []; returns = None },
-        record { parameters = All-push ts ty s.stand.each f.alive.1.1; returns = tt },
+        record { parameters = All-push IsFieldType ts ty s.stand.each f.alive.1.1; returns = tt },
         ap (λ (x : List ℕ). opening ∷ x)
             (append_assoc before f.front (f.alive.0 ++ codes ")V")
             ∙ ap (λ (x : List ℕ). before ++ x)
             (sym (append_assoc f.front f.alive.0 (codes ")V")) ∙ ap (λ (x : List ℕ). x ++ codes ")V") f.alive.1.2)
-            ∙ sym (texts-push ts ty (codes ")V"))),
+            ∙ sym (texts-push field_text ts ty (codes ")V"))),
       ),
     )
     (λ b old more h m.

@@ -13,39 +13,58 @@ use Rattle.jl_pool.specs.declared.pool.Stop.TheVariants.{Tag}
 use Rattle.jl_pool.specs.Numbers.{u1, u2, u4, u8}
 use Rattle.jl_pool.specs.Constants.{tag, payload, constant_text, IsSized}
 use Rattle.jl_pool.specs.Known.{known_tags}
-use Rattle.jl_pool.specs.Pools.{IsWritten}
 use Rattle.jl_pool.specs.Reading.Fields.{number_at, pair_at, handle_at, text_at}
 use Rattle.jl_pool.specs.Reading.Constants.{is_known, is_wide, is_bad_tag, within, of_bits, of_wide_bits, of_number, of_pair, payload_at, or_cut, constant_at}
 use Rattle.jl_pool.proofs.Fields.{IsBytes, IsBytes-rest, Takes, bind_some, some_is, u2_takes, u2_again, u4_takes, u4_again, u8_takes, u8_again, pair_takes, pair_again}
 use Rattle.jl_pool.proofs.Fields.{handle_takes, handle_again, text_takes, text_again}
 
-payload_again : (c : Constant) (rest : List ℕ) → IsWritten c → payload_at (tag c) (payload c ++ rest) ≡ Some (c, rest)
+payload_again : (c : Constant) (rest : List ℕ) → IsSized c → payload_at (tag c) (payload c ++ rest) ≡ Some (c, rest)
 unfolding payload_at
-payload_again (Utf8 bytes) rest w = ap (within Utf8) (text_again bytes rest w.sized)
-payload_again (Integer bits) rest w = ap (within (of_bits 3)) (u4_again bits rest w.sized)
-payload_again (Float bits) rest w = ap (within (of_bits 4)) (u4_again bits rest w.sized)
-payload_again (Long bits) rest w = ap (within (of_wide_bits 5)) (u8_again bits rest w.sized)
-payload_again (Double bits) rest w = ap (within (of_wide_bits 6)) (u8_again bits rest w.sized)
-payload_again (Class name) rest w = ap (within (of_number 7)) (u2_again name rest w.sized)
-payload_again (String text) rest w = ap (within (of_number 8)) (u2_again text rest w.sized)
-payload_again (Fieldref owner nt) rest w = ap (within (of_pair 9)) (pair_again owner nt rest w.sized.0 w.sized.1)
-payload_again (Methodref owner nt) rest w = ap (within (of_pair 10)) (pair_again owner nt rest w.sized.0 w.sized.1)
-payload_again (InterfaceMethodref owner nt) rest w = ap (within (of_pair 11)) (pair_again owner nt rest w.sized.0 w.sized.1)
-payload_again (NameAndType name ty) rest w = ap (within (of_pair 12)) (pair_again name ty rest w.sized.0 w.sized.1)
-payload_again (MethodHandle kind reference) rest w = ap (within (λ x. MethodHandle x.0 x.1)) (handle_again kind reference rest w.sized.1)
-payload_again (MethodType ty) rest w = ap (within (of_number 16)) (u2_again ty rest w.sized)
-payload_again (Dynamic bootstrap nt) rest w = ap (within (of_pair 17)) (pair_again bootstrap nt rest w.sized.0 w.sized.1)
-payload_again (InvokeDynamic bootstrap nt) rest w = ap (within (of_pair 18)) (pair_again bootstrap nt rest w.sized.0 w.sized.1)
-payload_again (Module name) rest w = ap (within (of_number 19)) (u2_again name rest w.sized)
-payload_again (Package name) rest w = ap (within (of_number 20)) (u2_again name rest w.sized)
+payload_again (Utf8 bytes) rest w = ap (within Utf8) (text_again bytes rest w)
+payload_again (Integer bits) rest w = ap (within (of_bits 3)) (u4_again bits rest w)
+payload_again (Float bits) rest w = ap (within (of_bits 4)) (u4_again bits rest w)
+payload_again (Long bits) rest w = ap (within (of_wide_bits 5)) (u8_again bits rest w)
+payload_again (Double bits) rest w = ap (within (of_wide_bits 6)) (u8_again bits rest w)
+payload_again (Class name) rest w = ap (within (of_number 7)) (u2_again name rest w)
+payload_again (String text) rest w = ap (within (of_number 8)) (u2_again text rest w)
+payload_again (Fieldref owner nt) rest w = ap (within (of_pair 9)) (pair_again owner nt rest w.0 w.1)
+payload_again (Methodref owner nt) rest w = ap (within (of_pair 10)) (pair_again owner nt rest w.0 w.1)
+payload_again (InterfaceMethodref owner nt) rest w = ap (within (of_pair 11)) (pair_again owner nt rest w.0 w.1)
+payload_again (NameAndType name ty) rest w = ap (within (of_pair 12)) (pair_again name ty rest w.0 w.1)
+payload_again (MethodHandle kind reference) rest w = ap (within (λ x. MethodHandle x.0 x.1)) (handle_again kind reference rest w.1)
+payload_again (MethodType ty) rest w = ap (within (of_number 16)) (u2_again ty rest w)
+payload_again (Dynamic bootstrap nt) rest w = ap (within (of_pair 17)) (pair_again bootstrap nt rest w.0 w.1)
+payload_again (InvokeDynamic bootstrap nt) rest w = ap (within (of_pair 18)) (pair_again bootstrap nt rest w.0 w.1)
+payload_again (Module name) rest w = ap (within (of_number 19)) (u2_again name rest w)
+payload_again (Package name) rest w = ap (within (of_number 20)) (u2_again name rest w)
+
+-- each constant has a known tag
+pub tag_known : (c : Constant) → is_known (tag c) ≡ true
+tag_known (Utf8 bytes) = refl
+tag_known (Integer bits) = refl
+tag_known (Float bits) = refl
+tag_known (Long bits) = refl
+tag_known (Double bits) = refl
+tag_known (Class name) = refl
+tag_known (String text) = refl
+tag_known (Fieldref owner nt) = refl
+tag_known (Methodref owner nt) = refl
+tag_known (InterfaceMethodref owner nt) = refl
+tag_known (NameAndType name ty) = refl
+tag_known (MethodHandle kind reference) = refl
+tag_known (MethodType ty) = refl
+tag_known (Dynamic bootstrap nt) = refl
+tag_known (InvokeDynamic bootstrap nt) = refl
+tag_known (Module name) = refl
+tag_known (Package name) = refl
 
 good_tag : (known more : Bool) → known ≡ true → more ≡ false → not known || more ≡ false
 good_tag known more h k = rw (h, k) refl
 
-pub constant_again : (last : Bool) (c : Constant) (rest : List ℕ) → IsWritten c → last && is_wide (tag c) ≡ false → constant_at last (constant_text c ++ rest) ≡ Ok (c, rest)
+pub constant_again : (last : Bool) (c : Constant) (rest : List ℕ) → IsSized c → last && is_wide (tag c) ≡ false → constant_at last (constant_text c ++ rest) ≡ Ok (c, rest)
 unfolding constant_at
 constant_again last c rest w room =
-    let good : is_bad_tag last (tag c) ≡ false = good_tag (is_known (tag c)) (last && is_wide (tag c)) w.known room in
+    let good : is_bad_tag last (tag c) ≡ false = good_tag (is_known (tag c)) (last && is_wide (tag c)) (tag_known c) room in
     rw (good, payload_again c rest w) refl
 
 -- what a payload that is read tells
@@ -134,7 +153,7 @@ no_tag (Some x) = λ e. absurd cc
 -- what a constant that is read tells
 pub record Read (last : Bool) (bytes : List ℕ) (x : Constant × List ℕ) : Type 0 where
   pub taken : Takes bytes (constant_text x.0) x.1
-  pub written : IsWritten x.0
+  pub sized : IsSized x.0
   pub room : last && is_wide (tag x.0) ≡ false
 
 ok_some : (o : Option (Constant × List ℕ)) (x : Constant × List ℕ) → or_cut o ≡ Ok x → o ≡ Some x
@@ -152,7 +171,7 @@ constant_takes last (t ∷ bytes) x fits e =
           let r = payload_takes bytes x (IsBytes-rest t bytes fits) t good.0 (ok_some (payload_at t bytes) x p.1) in
           record {
             taken = record { parts = cc (r.tagged, r.taken.parts); bytes_left = r.taken.bytes_left };
-            written = record { known = rw r.tagged good.0; sized = r.sized };
+            sized = r.sized;
             room = rw r.tagged good.1;
           }
     ]
@@ -175,7 +194,7 @@ constant_bad last t rest e = rw e refl
 abbrev reading : Constant × List ℕ → Result (Constant × List ℕ) Stop
 reading x = Ok x
 
-pub constant_one : (c d : Constant) (x y : List ℕ) → IsWritten c → IsWritten d → constant_text c ++ x ≡ constant_text d ++ y → (c ≡ d) × (x ≡ y)
+pub constant_one : (c d : Constant) (x y : List ℕ) → IsSized c → IsSized d → constant_text c ++ x ≡ constant_text d ++ y → (c ≡ d) × (x ≡ y)
 constant_one c d x y hc hd e =
     let both : reading (c, x) ≡ reading (d, y) = sym (constant_again false c x hc refl) ∙ ap (constant_at false) e ∙ constant_again false d y hd refl in
     let pairs : (c, x) ≡ (d, y) = cc in

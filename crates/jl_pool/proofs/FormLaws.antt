@@ -3,18 +3,20 @@ use Rattle.std.proofs.Common.{◌≡◌, ℕ, ◌+◌, ◌<◌, ◌≤◌, Bool,
 use Rattle.std.proofs.Common.{Ok, Err, refl, sym, ap, ◌∙◌, arith}
 use Rattle.jl_names.specs.declared.fault.NameFault.{NameFault}
 use Rattle.jl_names.specs.declared.fault.NameFault.TheVariants.{BadByte, Truncated, BadDescriptor, TooManySlots, Memory}
-use Rattle.std.specs.Prelude.{IfOk, IfErr, is_ok, MatchBool, MatchOption, nat_le, if◌then◌else◌}
+use Rattle.std.specs.Prelude.{IfOk, IfErr, is_ok, MatchBool, MatchOption, Decides, nat_le, if◌then◌else◌}
 use Rattle.std.specs.Option.{option_and_then}
 use Rattle.std.specs.List.{AllByRecursion, list_all}
 use Rattle.std.proofs.lemmas.List.Elements.{All-from_recursion}
 use Rattle.std.proofs.lemmas.List.Splits.{slice_split_none}
 use Rattle.jl_names.specs.ClassNames.{is_reserved, is_unqualified, is_class_name}
+use Rattle.std.proofs.lemmas.Bool.{false_from_ne_true}
 use Rattle.std.proofs.lemmas.Bool.Decides.{nat_tests}
 use Rattle.jl_names.specs.declared.descriptor.FieldType.{FieldType}
 use Rattle.jl_names.specs.Descriptors.{field_text, IsFieldType, IsFieldDescriptor, IsFieldFault}
 use Rattle.jl_names.specs.MethodTypes.{IsMethodDescriptor, TakesSlots, slots_of}
 use Rattle.jl_names.specs.Reading.Descriptors.{field_at}
 use Rattle.jl_names.specs.Reading.MethodTypes.{behind, return_at, SlotsStand, FewSlots}
+use Rattle.jl_names.proofs.Tests.{told-decides}
 use Rattle.jl_names.proofs.DescriptorLaws.{field_whole, field_fault, field_trailing, field_less}
 use Rattle.jl_names.proofs.MethodLaws.{method_one}
 use Rattle.jl_names.proofs.SlotLaws.{SlotsStand-more, SlotsStand-closed, stopped_none, over_none, unopened_none, many_none, result_none, trailing_none, whole_slots}
@@ -29,9 +31,9 @@ whole_is text (Ok x) e = by_rest (eqb (length x.1) 0) refl where
   by_rest true none = let w = field_whole text x.1 x.0 e none in (x.0, w.0, w.1)
   by_rest false some = (field_trailing text x.1 x.0 e some).none
 
-pub is_field-is : (text : List ℕ) → MatchBool (is_field text) (IsFieldDescriptor text) (¬ IsFieldDescriptor text)
+pub is_field-is : (text : List ℕ) → Decides (is_field text) (IsFieldDescriptor text)
 unfolding is_field
-is_field-is text = whole_is text (field_at text) refl
+is_field-is text = told-decides (is_whole (field_at text)) (whole_is text (field_at text) refl)
 
 -- ---- slots
 
@@ -101,17 +103,9 @@ one_slots text m n a b = let same = method_one a.0 b.0 a.1 b.1 (sym a.2 ∙ b.2)
 
 -- ---- what the functions found
 
-holds_true : (P : Type 0) (b : Bool) → MatchBool b P (¬ P) → P → true ≡ b
-holds_true P true h p = refl
-holds_true P false h p = absurd (h p)
-
-fails_false : (P : Type 0) (b : Bool) → MatchBool b P (¬ P) → ¬ P → false ≡ b
-fails_false P true h n = absurd (n h)
-fails_false P false h n = refl
-
 pub parsed : (text : List ℕ) (r : Result FieldType NameFault) → IfOk r (λ ty. IsFieldType ty × (text ≡ field_text ty)) → IfErr r (IsFieldFault text) → is_ok r ≡ is_field text
-parsed text (Ok ty) ok fault = holds_true (IsFieldDescriptor text) (is_field text) (is_field-is text) (ty, ok.0, ok.1)
-parsed text (Err (BadDescriptor at)) ok fault = fails_false (IsFieldDescriptor text) (is_field text) (is_field-is text) fault.none
+parsed text (Ok ty) ok fault = sym ((is_field-is text).1 (ty, ok.0, ok.1))
+parsed text (Err (BadDescriptor at)) ok fault = sym (false_from_ne_true (is_field text) (λ e. fault.none ((is_field-is text).0 e)))
 parsed text (Err (BadByte at)) ok fault = absurd fault
 parsed text (Err Truncated) ok fault = absurd fault
 parsed text (Err TooManySlots) ok fault = absurd fault

@@ -1,26 +1,39 @@
--- What stands at a number of a pool, and what its text may stand for.
-use Rattle.std.proofs.Common.{◌≡◌, ℕ, List, Option, Some, None, refl, ap, ◌∙◌}
-use Rattle.std.specs.Prelude.{slice_get, option_map}
-use Rattle.std.specs.Option.{option_and_then}
-use Rattle.std.proofs.lemmas.Option.{slice_get-map}
-use Rattle.jl_pool.specs.declared.constant.Constant.{Constant}
+-- The slots of what a constant names.
+use Rattle.std.proofs.Common.{◌≡◌, ℕ, ◌≤◌, List, Option, Some, None, refl, sym, subst}
+use Rattle.std.specs.Prelude.{option_map, MatchOption, IfSome}
+use Rattle.std.specs.Option.{option_and_then, IsSomeAnd}
+use Rattle.jl_names.specs.MethodTypes.{IsMethodDescriptor, TakesSlots}
 use Rattle.jl_pool.specs.declared.form.Form.{Form}
-use Rattle.jl_pool.specs.Pools.{Pool, text_of, text_at}
-use Rattle.jl_pool.specs.Reading.Forms.{form_of, forms_of, form_at, method_slots}
+use Rattle.jl_pool.specs.Pools.{Pool, named_descriptor}
+use Rattle.jl_pool.specs.Reading.Forms.{form_of, method_slots, slots_at}
+use Rattle.jl_pool.proofs.FormLaws.{SlotsAre, method_slots-is, counted}
 
-by_place : (o : Option (Option Constant)) → option_and_then (λ (place : Option Form). place) (option_map (λ place. option_map form_of (option_and_then text_of place)) o)
-    ≡ option_map form_of (option_and_then text_of (option_and_then (λ place. place) o))
-by_place None = refl
-by_place (Some None) = refl
-by_place (Some (Some c)) = refl
+-- what the slots are to a descriptor that may be there
+abbrev pub AreSlotsOf : Option (List ℕ) → Option ℕ → Type 0
+AreSlotsOf ty found = MatchOption found (IfSome ty (λ text. ¬ IsMethodDescriptor text)) (λ n. (n ≤ 255) × IsSomeAnd ty (λ text. TakesSlots text n))
 
-pub form_at-forms : (pool : Pool) (n : ℕ) → form_at (forms_of pool) n ≡ option_map form_of (text_at pool n)
-form_at-forms pool n =
-    ap (λ (o : Option (Option Form)). option_and_then (λ place. place) o)
-    (slice_get-map (λ (place : Option Constant). option_map form_of (option_and_then text_of place)) pool n)
-    ∙ by_place (slice_get pool n)
-
-pub form_slots : (text : Option (List ℕ)) → option_and_then (λ (f : Form). f.slots) (option_map form_of text) ≡ option_and_then method_slots text
+form_slots : (ty : Option (List ℕ)) → option_and_then (λ (f : Form). f.slots) (option_map form_of ty) ≡ option_and_then method_slots ty
 unfolding form_of
 form_slots None = refl
-form_slots (Some t) = refl
+form_slots (Some text) = refl
+
+told : (ty : Option (List ℕ)) → AreSlotsOf ty (option_and_then method_slots ty)
+told None = tt
+told (Some text) = by_found (method_slots text) (method_slots-is text) where
+  by_found : (found : Option ℕ) → SlotsAre text found → AreSlotsOf (Some text) found
+  by_found None h = h
+  by_found (Some n) h = (h.few, h.takes)
+
+-- the form of the descriptor tells them
+pub slots_told : (ty : Option (List ℕ)) → AreSlotsOf ty (option_and_then (λ (f : Form). f.slots) (option_map form_of ty))
+slots_told ty = subst (λ (found : Option ℕ). AreSlotsOf ty found) (sym (form_slots ty)) (told ty)
+
+found_is : (ty : Option (List ℕ)) (found : Option ℕ) → AreSlotsOf ty found → found ≡ option_and_then method_slots ty
+found_is None None h = refl
+found_is None (Some n) h = absurd h.1
+found_is (Some text) None h = counted text None h
+found_is (Some text) (Some n) h = counted text (Some n) h
+
+-- what `Pool::slots` answers is what reading gives
+pub slots_found : (pool : Pool) (n : ℕ) (found : Option ℕ) → AreSlotsOf (named_descriptor pool n) found → found ≡ slots_at pool n
+slots_found pool n found h = found_is (named_descriptor pool n) found h

@@ -5,7 +5,7 @@ use Rattle.jl_pool.specs.declared.constant.Constant.{Constant}
 use Rattle.jl_pool.specs.Pools.{Pool, places, places_of, constant_at}
 use Rattle.jl_pool.specs.Faults.{AllAt}
 
-at_place : (front rest : Pool) (c : Constant) → constant_at (front ++ Some c ∷ rest) (length front) ≡ Some c
+pub at_place : (front rest : Pool) (c : Constant) → constant_at (front ++ Some c ∷ rest) (length front) ≡ Some c
 at_place [] rest c = refl
 at_place (p ∷ front) rest c = at_place front rest c
 

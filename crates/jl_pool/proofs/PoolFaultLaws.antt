@@ -8,7 +8,7 @@ use Rattle.jl_pool.specs.declared.pool_fault.PoolFault.{PoolFault}
 use Rattle.jl_pool.specs.declared.pool_fault.PoolFault.TheVariants as pool
 use Rattle.jl_pool.specs.Numbers.{u2}
 use Rattle.jl_pool.specs.Constants.{constant_text, is_double}
-use Rattle.jl_pool.specs.Pools.{Pool, places, places_of, constant_at, HasText, is_linked, IsTyped, IsWritten, IsSoundPool}
+use Rattle.jl_pool.specs.Pools.{Pool, places, places_of, constant_at, HasText, is_linked, IsTyped, IsSoundPool}
 use Rattle.jl_pool.specs.Faults.{TagFault, PoolStands, IsFirstNot, IsPoolFault, IsBadTag}
 use Rattle.jl_pool.proofs.PoolLaws.{u2_one, either, places-append, met, one_pool}
 
@@ -41,12 +41,11 @@ no_first : (P : Constant → Type 0) (cs : List Constant) (n : ℕ) → AllByRec
 no_first P cs n h = λ f. f.isn't (All-numbers P cs n f.constant h f.there)
 
 -- a bad tag isn't that of a constant that stands there
-none_met : (count i t : ℕ) (after : List ℕ) (more : List Constant) (left : List ℕ) → IsBadTag count i t → AllByRecursion IsWritten more
-    → t ∷ after ≡ flat_map constant_text more ++ left
+none_met : (count i t : ℕ) (after : List ℕ) (more : List Constant) (left : List ℕ) → IsBadTag count i t → t ∷ after ≡ flat_map constant_text more ++ left
     → i < count → count ≡ i + length (flat_map places_of more) → ⊥
-none_met count i t after [] left bad written text less all = absurd (omega (arith, less, all))
-none_met count i t after (c ∷ more) left bad written text less all =
-    met count i t c written.0 (cc) (omega (arith, all, length-append (places_of c) (flat_map places_of more))) bad
+none_met count i t after [] left bad text less all = absurd (omega (arith, less, all))
+none_met count i t after (c ∷ more) left bad text less all =
+    met count i t c (cc) (omega (arith, all, length-append (places_of c) (flat_map places_of more))) bad
 
 -- a whole pool begins with no bad tag
 no_bad_tag : (text : List ℕ) (cs : List Constant) (left : List ℕ) (i : ℕ) → PoolStands text cs left → ¬ TagFault text i
@@ -65,7 +64,7 @@ no_bad_tag text cs left i h = λ fault.
             | inl g ↦ absurd (omega (arith, counts.0, b.begins.more, ap (λ (m : List Constant). length (places m)) g.all, places-append cs g.more))
             | inr g ↦
                 let all = ap (λ (m : List Constant). length (places m)) g.all ∙ places-append b.before g.more in
-                none_met b.count i b.tag b.left g.more left b.bad g.written g.text (omega (arith, b.place, b.begins.more)) (omega (arith, b.place, counts.0, all))
+                none_met b.count i b.tag b.left g.more left b.bad g.text (omega (arith, b.place, b.begins.more)) (omega (arith, b.place, counts.0, all))
           ]
     ]
 
@@ -73,11 +72,11 @@ pub no_pool_fault : (text : List ℕ) (cs : List Constant) (left : List ℕ) (f 
 no_pool_fault text cs left pool.Truncated h sound m = λ p. p.0 cs left h
 no_pool_fault text cs left (pool.BadTag i) h sound m = λ p. no_bad_tag text cs left i h p
 no_pool_fault text cs left (pool.BadUtf8 i) h sound m =
-    λ p. let same = one_pool text p.0 cs p.1 left p.2 h in no_first _ p.0 i (subst (λ (c : List Constant). AllByRecursion HasText c) (sym same.0) sound.texts) p.3
+    λ p. let same = one_pool text p.0 cs p.1 left p.2 h in no_first _ p.0 i (subst (λ (c : List Constant). AllByRecursion HasText c) (sym same.0) sound.texts) p.4
 no_pool_fault text cs left (pool.BadIndex i) h sound m = λ p.
-    let same = one_pool text p.0 cs p.1 left p.2 h in no_first _ p.0 i (subst (λ (c : List Constant). AllByRecursion (λ d. IsTrue (is_linked (places c) d)) c) (sym same.0) sound.links) p.3
+    let same = one_pool text p.0 cs p.1 left p.2 h in no_first _ p.0 i (subst (λ (c : List Constant). AllByRecursion (λ d. IsTrue (is_linked (places c) d)) c) (sym same.0) sound.links) p.4
 no_pool_fault text cs left (pool.BadDescriptor i) h sound m =
     λ p.
     let same = one_pool text p.0 cs p.1 left p.2 h in
-    no_first _ p.0 i (subst (λ (c : List Constant). AllByRecursion (IsTyped (places c)) c) (sym same.0) sound.types) p.3
+    no_first _ p.0 i (subst (λ (c : List Constant). AllByRecursion (IsTyped (places c)) c) (sym same.0) sound.types) p.4
 no_pool_fault text cs left pool.Memory h sound m = λ p. m refl

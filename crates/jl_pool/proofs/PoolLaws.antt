@@ -5,22 +5,24 @@ use Rattle.std.specs.Prelude.{◌⊎◌, IsTrue}
 use Rattle.std.specs.List.{flat_map, AllByRecursion}
 use Rattle.std.proofs.lemmas.Bool.Decides.{nat_tests}
 use Rattle.std.proofs.lemmas.Grind.{flat_map-append}
-use Rattle.std.proofs.lemmas.List.{append-nil}
+use Rattle.std.proofs.lemmas.List.{append-nil, flat_map_more}
+use Rattle.jl_names.proofs.Tests.{All-push, texts-push}
 use Rattle.jl_pool.specs.declared.constant.Constant.{Constant}
 use Rattle.jl_pool.specs.declared.constant.Constant.TheVariants.{Utf8, Integer, Float, Long, Double, Class, String, Fieldref, Methodref, InterfaceMethodref, NameAndType}
 use Rattle.jl_pool.specs.declared.constant.Constant.TheVariants.{MethodHandle, MethodType, Dynamic, InvokeDynamic, Module, Package}
 use Rattle.jl_pool.specs.declared.pool.Stop.TheVariants.{Cut, Tag}
 use Rattle.jl_pool.specs.declared.pool_fault.PoolFault.{PoolFault}
-use Rattle.jl_pool.specs.declared.pool_fault.PoolFault.TheVariants.{Truncated, BadTag, BadUtf8, BadIndex, BadDescriptor}
-use Rattle.jl_pool.specs.Numbers.{u2}
-use Rattle.jl_pool.specs.Constants.{tag, constant_text}
-use Rattle.jl_pool.specs.Pools.{places, places_of, IsWritten, HasText, is_linked, IsTyped, IsSoundPool}
+use Rattle.jl_pool.specs.declared.pool_fault.PoolFault.TheVariants.{Truncated, BadTag, BadDescriptor}
+use Rattle.jl_pool.specs.Numbers.{u2, u4}
+use Rattle.jl_pool.specs.Constants.{tag, constant_text, IsSized}
+use Rattle.jl_pool.specs.Pools.{places, places_of, HasText, is_linked, IsTyped, IsSoundPool}
 use Rattle.jl_pool.specs.Faults.{IsFirstNot, Opens, IsBadTag, TagFault, PoolStands, IsPoolFault, AllAt}
+use Rattle.jl_pool.specs.Reading.Entries.{IsEntryFault}
 use Rattle.jl_pool.specs.Reading.Fields.{number_at}
 use Rattle.jl_pool.specs.Reading.Constants.{is_known, is_wide, is_bad_tag, constant_at}
-use Rattle.jl_pool.proofs.Fields.{IsBytes, u2_again, u2_takes, some_is}
+use Rattle.jl_pool.proofs.Fields.{IsBytes, u2_again, u2_takes, u4_again, some_is}
 use Rattle.jl_pool.proofs.PlaceLaws.{All-places}
-use Rattle.jl_pool.proofs.ConstantLaws.{constant_again, constant_takes, constant_tag, constant_bad, constant_one}
+use Rattle.jl_pool.proofs.ConstantLaws.{tag_known, constant_again, constant_takes, constant_tag, constant_bad, constant_one}
 
 -- ---- how many numbers a constant takes
 
@@ -77,9 +79,9 @@ bad_tag count i t left lt (inr two) =
     constant_bad (eqb (i + 1) count) t left (bad_at (is_known t) (eqb (i + 1) count) (is_wide t) (inr (two.0, last)))
 
 -- a bad tag isn't that of a constant that ends below the count
-pub met : (count i t : ℕ) (c : Constant) → IsWritten c → t ≡ tag c → i + length (places_of c) ≤ count → IsBadTag count i t → ⊥
-met count i t c w same fits (inl unknown) = let known : is_known (tag c) ≡ true = w.known in absurd cc
-met count i t c w same fits (inr two) =
+pub met : (count i t : ℕ) (c : Constant) → t ≡ tag c → i + length (places_of c) ≤ count → IsBadTag count i t → ⊥
+met count i t c same fits (inl unknown) = let known : is_known (tag c) ≡ true = tag_known c in absurd cc
+met count i t c same fits (inr two) =
     let wide : is_wide (tag c) ≡ true = ap is_wide (sym same) ∙ two.0 in
     let places : length (places_of c) ≡ 2 = rw wide at (places_by_tag c) in
     absurd (omega (arith, two.1))
@@ -90,26 +92,16 @@ pub record SoFar (bytes : List ℕ) (entries : List (Option Constant)) (rest : L
   pub cs : List Constant
   pub by_number : entries ≡ places cs
   pub spelled : bytes ≡ flat_map constant_text cs ++ rest
-  pub written : AllByRecursion IsWritten cs
+  pub sized : AllByRecursion IsSized cs
   pub bytes_left : IsBytes rest
   pub next : place ≡ length (places cs)
   pub within : place ≤ count
 
 pub SoFar-none : (bytes : List ℕ) (count : ℕ) → IsBytes bytes → 1 ≤ count → SoFar bytes (None ∷ []) bytes count 1
-SoFar-none bytes count fits le = record { cs = []; by_number = refl; spelled = refl; written = tt; bytes_left = fits; next = refl; within = le }
-
-All-push : (cs : List Constant) (c : Constant) → AllByRecursion IsWritten cs → IsWritten c → AllByRecursion IsWritten (cs ++ c ∷ [])
-All-push [] c h w = (w, tt)
-All-push (d ∷ cs) c h w = (h.0, All-push cs c h.1 w)
+SoFar-none bytes count fits le = record { cs = []; by_number = refl; spelled = refl; sized = tt; bytes_left = fits; next = refl; within = le }
 
 places-push : (cs : List Constant) (c : Constant) → places (cs ++ c ∷ []) ≡ places cs ++ places_of c
-places-push cs c =
-    ap (λ (x : List (Option Constant)). None ∷ x) (flat_map-append places_of cs (c ∷ []) ∙ ap (λ (x : List (Option Constant)). flat_map places_of cs ++ x) (append-nil (places_of c)))
-
-texts-push : (cs : List Constant) (c : Constant) (rest : List ℕ) → flat_map constant_text (cs ++ c ∷ []) ++ rest ≡ flat_map constant_text cs ++ (constant_text c ++ rest)
-texts-push cs c rest =
-    ap (λ (x : List ℕ). x ++ rest) (flat_map-append constant_text cs (c ∷ []) ∙ ap (λ (x : List ℕ). flat_map constant_text cs ++ x) (append-nil (constant_text c)))
-    ∙ append_assoc (flat_map constant_text cs) (constant_text c) rest
+places-push cs c = sym (flat_map_more places_of (None ∷ []) cs c)
 
 -- a constant that was read ends below the count
 pub ends_below : (count place : ℕ) (rest : List ℕ) (c : Constant) (after : List ℕ) → IsBytes rest → place < count
@@ -127,8 +119,8 @@ SoFar-more bytes entries rest count place c after s lt e =
     record {
       cs = s.cs ++ c ∷ [];
       by_number = ap (λ (x : List (Option Constant)). x ++ places_of c) s.by_number ∙ sym (places-push s.cs c);
-      spelled = s.spelled ∙ ap (λ (x : List ℕ). flat_map constant_text s.cs ++ x) r.taken.parts ∙ sym (texts-push s.cs c after);
-      written = All-push s.cs c s.written r.written;
+      spelled = s.spelled ∙ ap (λ (x : List ℕ). flat_map constant_text s.cs ++ x) r.taken.parts ∙ sym (texts-push constant_text s.cs c after);
+      sized = All-push IsSized s.cs c s.sized r.sized;
       bytes_left = r.taken.bytes_left;
       next = omega (arith, s.next, ap length (places-push s.cs c), length-append (places s.cs) (places_of c));
       within = ends_below count place rest c after s.bytes_left lt e;
@@ -141,7 +133,7 @@ SoFar-done bytes entries rest count place size le s =
       s.cs,
       record {
         bytes = ap (λ (x : List ℕ). u2 count ++ x) s.spelled ∙ ap (λ (n : ℕ). u2 n ++ (flat_map constant_text s.cs ++ rest)) (is ∙ s.next);
-        written = record { each = s.written; count = omega (arith, s.next) };
+        written = record { each = s.sized; count = omega (arith, s.next) };
       },
       s.by_number,
     )
@@ -151,7 +143,7 @@ opens : (bytes : List ℕ) (entries : List (Option Constant)) (rest : List ℕ) 
 opens bytes entries rest count place s size lt = record {
   count_size = size;
   bytes = ap (λ (x : List ℕ). u2 count ++ x) s.spelled;
-  each = s.written;
+  each = s.sized;
   more = omega (arith, s.next);
 }
 
@@ -176,22 +168,27 @@ u2_one m n x y hm hn e =
     let pairs : (m, x) ≡ (n, y) = some_is (m, x) (n, y) (sym (u2_again m x hm) ∙ ap (number_at 2) e ∙ u2_again n y hn) in
     (ap (λ (p : ℕ × List ℕ). p.0) pairs, ap (λ (p : ℕ × List ℕ). p.1) pairs)
 
+pub u4_one : (m n : ℕ) (x y : List ℕ) → m < 2 ^ 32 → n < 2 ^ 32 → u4 m ++ x ≡ u4 n ++ y → (m ≡ n) × (x ≡ y)
+u4_one m n x y hm hn e =
+    let pairs : (m, x) ≡ (n, y) = some_is (m, x) (n, y) (sym (u4_again m x hm) ∙ ap (number_at 4) e ∙ u4_again n y hn) in
+    (ap (λ (p : ℕ × List ℕ). p.0) pairs, ap (λ (p : ℕ × List ℕ). p.1) pairs)
+
 pub record GoesOn (cs ds : List Constant) (x y : List ℕ) : Type 0 where
   pub more : List Constant
-  pub written : AllByRecursion IsWritten more
+  pub sized : AllByRecursion IsSized more
   pub all : ds ≡ cs ++ more
   pub text : x ≡ flat_map constant_text more ++ y
 
-pub either : (cs ds : List Constant) (x y : List ℕ) → AllByRecursion IsWritten cs → AllByRecursion IsWritten ds
+pub either : (cs ds : List Constant) (x y : List ℕ) → AllByRecursion IsSized cs → AllByRecursion IsSized ds
     → flat_map constant_text cs ++ x ≡ flat_map constant_text ds ++ y → GoesOn cs ds x y ⊎ GoesOn ds cs y x
-either [] ds x y hc hd e = inl (record { more = ds; written = hd; all = refl; text = e })
-either (c ∷ cs) [] x y hc hd e = inr (record { more = c ∷ cs; written = hc; all = refl; text = sym e })
+either [] ds x y hc hd e = inl (record { more = ds; sized = hd; all = refl; text = e })
+either (c ∷ cs) [] x y hc hd e = inr (record { more = c ∷ cs; sized = hc; all = refl; text = sym e })
 either (c ∷ cs) (d ∷ ds) x y hc hd e =
     let one = constant_one c d (flat_map constant_text cs ++ x) (flat_map constant_text ds ++ y) hc.0 hd.0
     (sym (append_assoc (constant_text c) (flat_map constant_text cs) x) ∙ e ∙ append_assoc (constant_text d) (flat_map constant_text ds) y) in
     elim (either cs ds x y hc.1 hd.1 one.1) [
-      | inl g ↦ inl (record { more = g.more; written = g.written; all = cc (one.0, g.all); text = g.text })
-      | inr g ↦ inr (record { more = g.more; written = g.written; all = cc (one.0, g.all); text = g.text })
+      | inl g ↦ inl (record { more = g.more; sized = g.sized; all = cc (one.0, g.all); text = g.text })
+      | inr g ↦ inr (record { more = g.more; sized = g.sized; all = cc (one.0, g.all); text = g.text })
     ]
 
 pub places-append : (cs more : List Constant) → length (places (cs ++ more)) ≡ length (places cs) + length (flat_map places_of more)
@@ -199,7 +196,7 @@ places-append cs more = omega (arith, ap length (flat_map-append places_of cs mo
 
 -- where bytes end before a constant does none stands
 cut_none : (count place : ℕ) (left : List ℕ) (more : List Constant) (y : List ℕ) → constant_at (eqb (place + 1) count) left ≡ Err Cut → place + length (flat_map places_of more) ≤ count
-    → AllByRecursion IsWritten more → left ≡ flat_map constant_text more ++ y → more ≡ []
+    → AllByRecursion IsSized more → left ≡ flat_map constant_text more ++ y → more ≡ []
 cut_none count place left [] y e le h text = refl
 cut_none count place left (c ∷ more) y e le h text =
     let regrouped = text ∙ append_assoc (constant_text c) (flat_map constant_text more) y in
@@ -209,14 +206,14 @@ cut_none count place left (c ∷ more) y e le h text =
 -- nor is its tag bad
 tag_none : (count place i t : ℕ) (left rest : List ℕ) (more : List Constant) → constant_at (eqb (place + 1) count) rest ≡ Err Cut → place < count
     → place ≡ i + length (flat_map places_of more)
-    → AllByRecursion IsWritten more → t ∷ left ≡ flat_map constant_text more ++ rest → ¬ IsBadTag count i t
-tag_none count place i t left rest [] e lt is h text = λ bad.
+    → t ∷ left ≡ flat_map constant_text more ++ rest → ¬ IsBadTag count i t
+tag_none count place i t left rest [] e lt is text = λ bad.
     let here : place ≡ i = omega arith in
     let tagged : constant_at (eqb (place + 1) count) (t ∷ left) ≡ Err Tag = rw here (bad_tag count i t left (omega arith) bad) in
     let cut : constant_at (eqb (place + 1) count) (t ∷ left) ≡ Err Cut = ap (constant_at (eqb (place + 1) count)) text ∙ e in
     absurd cc
-tag_none count place i t left rest (c ∷ more) e lt is h text = λ bad.
-    met count i t c h.0 (cc) (omega (arith, length-append (places_of c) (flat_map places_of more))) bad
+tag_none count place i t left rest (c ∷ more) e lt is text = λ bad.
+    met count i t c (cc) (omega (arith, length-append (places_of c) (flat_map places_of more))) bad
 
 module _ (bytes : List ℕ) (entries : List (Option Constant)) (rest : List ℕ) (count place : ℕ) (s : SoFar bytes entries rest count place) (size : count < 2 ^ 16)
     (lt : place < count) (e : constant_at (eqb (place + 1) count) rest ≡ Err Cut) where
@@ -226,10 +223,10 @@ module _ (bytes : List ℕ) (entries : List (Option Constant)) (rest : List ℕ)
       u2_one count (length (places cs)) bytes (flat_map constant_text cs ++ left) size h.written.count
       (h.bytes ∙ append_assoc (u2 (length (places cs))) (flat_map constant_text cs) left)
       in
-      elim (either s.cs cs rest left s.written h.written.each (sym s.spelled ∙ one.1)) [
+      elim (either s.cs cs rest left s.sized h.written.each (sym s.spelled ∙ one.1)) [
         | inl g ↦
             let all : count ≡ place + length (flat_map places_of g.more) = omega (arith, one.0, s.next, ap (λ (m : List Constant). length (places m)) g.all, places-append s.cs g.more) in
-            let none : length (flat_map places_of g.more) ≡ 0 = ap (λ (m : List Constant). length (flat_map places_of m)) (cut_none count place rest g.more left e (omega arith) g.written g.text) in
+            let none : length (flat_map places_of g.more) ≡ 0 = ap (λ (m : List Constant). length (flat_map places_of m)) (cut_none count place rest g.more left e (omega arith) g.sized g.text) in
             absurd (omega arith)
         | inr g ↦ absurd (omega (arith, one.0, s.next, ap (λ (m : List Constant). length (places m)) g.all, places-append cs g.more))
       ]
@@ -241,16 +238,16 @@ module _ (bytes : List ℕ) (entries : List (Option Constant)) (rest : List ℕ)
         | inl b ↦
             let one = u2_one count b.count bytes (flat_map constant_text b.before ++ b.tag ∷ b.left) size b.begins.count_size b.begins.bytes in
             let bad : IsBadTag count i b.tag = subst (λ (n : ℕ). IsBadTag n i b.tag) (sym one.0) b.bad in
-            elim (either s.cs b.before rest (b.tag ∷ b.left) s.written b.begins.each (sym s.spelled ∙ one.1)) [
+            elim (either s.cs b.before rest (b.tag ∷ b.left) s.sized b.begins.each (sym s.spelled ∙ one.1)) [
               | inl g ↦
                   let all : i ≡ place + length (flat_map places_of g.more) = omega (arith, b.place, s.next, ap (λ (m : List Constant). length (places m)) g.all, places-append s.cs g.more) in
-                  let none = cut_none count place rest g.more (b.tag ∷ b.left) e (omega (arith, b.place, b.begins.more, one.0)) g.written g.text in
+                  let none = cut_none count place rest g.more (b.tag ∷ b.left) e (omega (arith, b.place, b.begins.more, one.0)) g.sized g.text in
                   let text : b.tag ∷ b.left ≡ rest = sym (g.text ∙ ap (λ (m : List Constant). flat_map constant_text m ++ (b.tag ∷ b.left)) none) in
                   let last : length (flat_map places_of g.more) ≡ 0 = ap (λ (m : List Constant). length (flat_map places_of m)) none in
-                  tag_none count place i b.tag b.left rest [] e lt (omega arith) tt text bad
+                  tag_none count place i b.tag b.left rest [] e lt (omega arith) text bad
               | inr g ↦
                   let all : place ≡ i + length (flat_map places_of g.more) = omega (arith, b.place, s.next, ap (λ (m : List Constant). length (places m)) g.all, places-append b.before g.more) in
-                  tag_none count place i b.tag b.left rest g.more e lt all g.written g.text bad
+                  tag_none count place i b.tag b.left rest g.more e lt all g.text bad
             ]
       ]
 
@@ -259,20 +256,19 @@ module _ (bytes : List ℕ) (entries : List (Option Constant)) (rest : List ℕ)
 
 -- ---- what a whole pool has to meet
 
-pub texts_fault : (bytes : List ℕ) (cs : List Constant) (left : List ℕ) (entries : List (Option Constant)) (f : PoolFault) → PoolStands bytes cs left → entries ≡ places cs
-    → (i : ℕ) × (f ≡ BadUtf8 i) × IsFirstNot HasText entries i → IsPoolFault bytes f
-texts_fault bytes cs left entries f stands by_number h =
-    subst (λ (g : PoolFault). IsPoolFault bytes g) (sym h.1) (cs, left, stands, subst (λ (p : List (Option Constant)). IsFirstNot HasText p h.0) by_number h.2)
-
-pub links_fault : (bytes : List ℕ) (cs : List Constant) (left : List ℕ) (entries : List (Option Constant)) (f : PoolFault) → PoolStands bytes cs left → entries ≡ places cs
-    → (i : ℕ) × (f ≡ BadIndex i) × IsFirstNot (λ c. IsTrue (is_linked entries c)) entries i → IsPoolFault bytes f
-links_fault bytes cs left entries f stands by_number h =
-    subst (λ (g : PoolFault). IsPoolFault bytes g) (sym h.1) (cs, left, stands, subst (λ (p : List (Option Constant)). IsFirstNot (λ c. IsTrue (is_linked p c)) p h.0) by_number h.2)
+pub entries_fault : (bytes : List ℕ) (cs : List Constant) (left : List ℕ) (entries : List (Option Constant)) (f : PoolFault) → PoolStands bytes cs left → entries ≡ places cs
+    → IsEntryFault entries f → IsPoolFault bytes f
+entries_fault bytes cs left entries f stands by_number h = by_places f (subst (λ (p : List (Option Constant)). IsEntryFault p f) by_number h) where
+  by_places : (f : PoolFault) → IsEntryFault (places cs) f → IsPoolFault bytes f
+  by_places f (inl text) = subst (λ (g : PoolFault). IsPoolFault bytes g) (sym text.1) (cs, left, stands, tt, text.2)
+  by_places f (inr link) = subst (λ (g : PoolFault). IsPoolFault bytes g) (sym link.1.1) (cs, left, stands, All-places HasText cs link.0, link.1.2)
 
 pub types_fault : (bytes : List ℕ) (cs : List Constant) (left : List ℕ) (entries : List (Option Constant)) (f : PoolFault) → PoolStands bytes cs left → entries ≡ places cs
+    → AllAt HasText (places cs) → AllAt (λ c. IsTrue (is_linked (places cs) c)) (places cs)
     → (i : ℕ) × (f ≡ BadDescriptor i) × IsFirstNot (IsTyped entries) entries i → IsPoolFault bytes f
-types_fault bytes cs left entries f stands by_number h =
-    subst (λ (g : PoolFault). IsPoolFault bytes g) (sym h.1) (cs, left, stands, subst (λ (p : List (Option Constant)). IsFirstNot (IsTyped p) p h.0) by_number h.2)
+types_fault bytes cs left entries f stands by_number texts links h =
+    subst (λ (g : PoolFault). IsPoolFault bytes g) (sym h.1)
+    (cs, left, stands, (All-places HasText cs texts, All-places (λ c. IsTrue (is_linked (places cs) c)) cs links), subst (λ (p : List (Option Constant)). IsFirstNot (IsTyped p) p h.0) by_number h.2)
 
 pub sound : (cs : List Constant) (entries : List (Option Constant)) → entries ≡ places cs → AllAt HasText (places cs) → AllAt (λ c. IsTrue (is_linked (places cs) c)) (places cs)
     → AllAt (IsTyped entries) entries → IsSoundPool cs

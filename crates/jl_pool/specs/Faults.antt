@@ -5,15 +5,15 @@ use Rattle.jl_pool.specs.declared.constant.Constant.{Constant}
 use Rattle.jl_pool.specs.declared.pool_fault.PoolFault.{PoolFault}
 use Rattle.jl_pool.specs.declared.pool_fault.PoolFault.TheVariants as pool
 use Rattle.jl_pool.specs.Numbers.{u2}
-use Rattle.jl_pool.specs.Constants.{constant_text}
+use Rattle.jl_pool.specs.Constants.{constant_text, IsSized}
 use Rattle.jl_pool.specs.Known.{known_tags}
-use Rattle.jl_pool.specs.Pools.{Pool, places, pool_text, constant_at, IsWritten, IsPool, HasText, is_linked, IsTyped}
+use Rattle.jl_pool.specs.Pools.{Pool, places, pool_text, constant_at, IsPool, HasText, HaveTexts, is_linked, AreLinked, IsTyped}
 
 -- a count, whole constants, and what is left; more is to come
 pub record Opens (text : List ℕ) (count : ℕ) (cs : List Constant) (left : List ℕ) : Type 0 where
   pub count_size : count < 2 ^ 16
   pub bytes : text ≡ u2 count ++ (flat_map constant_text cs ++ left)
-  pub each : AllByRecursion IsWritten cs
+  pub each : AllByRecursion IsSized cs
   pub more : length (places cs) < count
 
 -- the tag is unknown, or one of a constant of two numbers of which the second isn't below the count
@@ -52,14 +52,15 @@ pub record IsFirstNot (IsSo : Constant → Type 0) (p : Pool) (i : ℕ) : Type 0
   pub isn't : ¬ IsSo constant
   pub before : (j : ℕ) (c : Constant) → j < i → constant_at p j ≡ Some c → IsSo c
 
-abbrev pub WholePoolFault : (List Constant → Constant → Type 0) → List ℕ → ℕ → Type 0
-WholePoolFault IsSo text i = (cs : List Constant) × (left : List ℕ) × PoolStands text cs left × IsFirstNot (IsSo cs) (places cs) i
+-- a whole pool stands at the front that is good so far, and this constant is the first that isn't so
+abbrev pub WholePoolFault : (List Constant → Type 0) → (List Constant → Constant → Type 0) → List ℕ → ℕ → Type 0
+WholePoolFault IsGood IsSo text i = (cs : List Constant) × (left : List ℕ) × PoolStands text cs left × IsGood cs × IsFirstNot (IsSo cs) (places cs) i
 
 -- the text is what stands from the pool's count on
 abbrev pub IsPoolFault : List ℕ → PoolFault → Type 0
 IsPoolFault text pool.Truncated = ((cs : List Constant) (left : List ℕ) → ¬ PoolStands text cs left) × ((i : ℕ) → ¬ TagFault text i)
 IsPoolFault text (pool.BadTag i) = TagFault text i
-IsPoolFault text (pool.BadUtf8 i) = WholePoolFault (λ cs. HasText) text i
-IsPoolFault text (pool.BadIndex i) = WholePoolFault (λ cs c. IsTrue (is_linked (places cs) c)) text i
-IsPoolFault text (pool.BadDescriptor i) = WholePoolFault (λ cs. IsTyped (places cs)) text i
+IsPoolFault text (pool.BadUtf8 i) = WholePoolFault (λ cs. ⊤) (λ cs. HasText) text i
+IsPoolFault text (pool.BadIndex i) = WholePoolFault HaveTexts (λ cs c. IsTrue (is_linked (places cs) c)) text i
+IsPoolFault text (pool.BadDescriptor i) = WholePoolFault (λ cs. HaveTexts cs × AreLinked cs) (λ cs. IsTyped (places cs)) text i
 IsPoolFault text pool.Memory = ⊤

@@ -1,6 +1,6 @@
 -- The constant pool (JVMS 4.4): constants by number, and what a pool has to meet.
 use Rattle.std.specs.Prelude.{ℕ, ◌<◌, ◌^◌, Bool, false, ◌==◌, ◌||◌, IsTrue, List, [], ◌∷◌, ◌++◌, length, slice_get, Option, Some, None, ⊤, ◌⊎◌, if◌then◌else◌, true, option_map}
-use Rattle.std.specs.Option.{option_and_then, option_map_or}
+use Rattle.std.specs.Option.{option_and_then, option_map_or, IsSomeAnd}
 use Rattle.std.specs.List.{flat_map, list_all, list_any, AllByRecursion}
 use Rattle.std.specs.Str.{byte}
 use Rattle.jl_names.specs.Mutf8.{IsMutf8}
@@ -13,7 +13,6 @@ use Rattle.jl_pool.specs.declared.reference.Reference.{Reference}
 use Rattle.jl_pool.specs.declared.reference.CallSiteSpecifier.{CallSiteSpecifier}
 use Rattle.jl_pool.specs.Numbers.{u2}
 use Rattle.jl_pool.specs.Constants.{tag, constant_text, IsSized, is_double, names}
-use Rattle.jl_pool.specs.Known.{known_tags}
 
 -- A pool by number. Number 0 and the second number of a long or a double hold nothing.
 abbrev pub Pool : Type 0
@@ -71,6 +70,16 @@ descriptor_of pool _ = None
 abbrev pub descriptor_at : Pool → ℕ → Option (List ℕ)
 descriptor_at pool n = option_and_then (descriptor_of pool) (constant_at pool n)
 
+abbrev pub named_descriptor_of : Pool → Constant → Option (List ℕ)
+named_descriptor_of pool (Methodref owner name_and_type) = descriptor_at pool name_and_type
+named_descriptor_of pool (InterfaceMethodref owner name_and_type) = descriptor_at pool name_and_type
+named_descriptor_of pool (InvokeDynamic bootstrap name_and_type) = descriptor_at pool name_and_type
+named_descriptor_of pool _ = None
+
+-- the descriptor of the method or the call site that the constant at a number names
+abbrev pub named_descriptor : Pool → ℕ → Option (List ℕ)
+named_descriptor pool n = option_and_then (named_descriptor_of pool) (constant_at pool n)
+
 -- both, where both are there
 abbrev pub both : {X Y Z : Type 0} → (X → Y → Z) → Option X → Option Y → Option Z
 both f None y = None
@@ -112,14 +121,9 @@ call_site_at pool n = option_and_then (call_site_of pool) (constant_at pool n)
 
 -- ---- conditions
 
--- its tag is known, and its numbers have their sizes
-pub record IsWritten (c : Constant) : Type 0 where
-  pub known : IsTrue (list_any (λ t. t == tag c) known_tags)
-  pub sized : IsSized c
-
 -- a list of constants that a pool can hold
 pub record IsPool (cs : List Constant) : Type 0 where
-  pub each : AllByRecursion IsWritten cs
+  pub each : AllByRecursion IsSized cs
   pub count : length (places cs) < 2 ^ 16
 
 -- a Utf8 is modified UTF-8
@@ -131,11 +135,6 @@ HasText _ = ⊤
 abbrev pub is_linked : Pool → Constant → Bool
 is_linked pool c = list_all (λ n. has_tag pool n.tags n.number) (names c)
 
--- the text that may stand there is of this kind
-abbrev pub IfText : Option (List ℕ) → (List ℕ → Type 0) → Type 0
-IfText None IsKind = ⊥
-IfText (Some text) IsKind = IsKind text
-
 abbrev pub begins_array : List ℕ → Bool
 begins_array [] = false
 begins_array (b ∷ bs) = b == byte "["
@@ -145,18 +144,26 @@ IsClassText text = IsTrue (is_class_name text) ⊎ (IsTrue (begins_array text) �
 
 -- the descriptors that it names are of the right kind
 abbrev pub IsTyped : Pool → Constant → Type 0
-IsTyped pool (Class name) = IfText (text_at pool name) IsClassText
-IsTyped pool (NameAndType name ty) = IfText (text_at pool ty) (λ text. IsFieldDescriptor text ⊎ IsMethodDescriptor text)
-IsTyped pool (Fieldref owner name_and_type) = IfText (descriptor_at pool name_and_type) IsFieldDescriptor
-IsTyped pool (Dynamic bootstrap name_and_type) = IfText (descriptor_at pool name_and_type) IsFieldDescriptor
-IsTyped pool (Methodref owner name_and_type) = IfText (descriptor_at pool name_and_type) IsMethodDescriptor
-IsTyped pool (InterfaceMethodref owner name_and_type) = IfText (descriptor_at pool name_and_type) IsMethodDescriptor
-IsTyped pool (InvokeDynamic bootstrap name_and_type) = IfText (descriptor_at pool name_and_type) IsMethodDescriptor
-IsTyped pool (MethodType ty) = IfText (text_at pool ty) IsMethodDescriptor
+IsTyped pool (Class name) = IsSomeAnd (text_at pool name) IsClassText
+IsTyped pool (NameAndType name ty) = IsSomeAnd (text_at pool ty) (λ text. IsFieldDescriptor text ⊎ IsMethodDescriptor text)
+IsTyped pool (Fieldref owner name_and_type) = IsSomeAnd (descriptor_at pool name_and_type) IsFieldDescriptor
+IsTyped pool (Dynamic bootstrap name_and_type) = IsSomeAnd (descriptor_at pool name_and_type) IsFieldDescriptor
+IsTyped pool (Methodref owner name_and_type) = IsSomeAnd (descriptor_at pool name_and_type) IsMethodDescriptor
+IsTyped pool (InterfaceMethodref owner name_and_type) = IsSomeAnd (descriptor_at pool name_and_type) IsMethodDescriptor
+IsTyped pool (InvokeDynamic bootstrap name_and_type) = IsSomeAnd (descriptor_at pool name_and_type) IsMethodDescriptor
+IsTyped pool (MethodType ty) = IsSomeAnd (text_at pool ty) IsMethodDescriptor
 IsTyped pool _ = ⊤
+
+-- each text is one
+abbrev pub HaveTexts : List Constant → Type 0
+HaveTexts cs = AllByRecursion HasText cs
+
+-- each constant names the right kinds
+abbrev pub AreLinked : List Constant → Type 0
+AreLinked cs = AllByRecursion (λ c. IsTrue (is_linked (places cs) c)) cs
 
 -- what a pool has to meet beyond its layout
 pub record IsSoundPool (cs : List Constant) : Type 0 where
-  pub texts : AllByRecursion HasText cs
-  pub links : AllByRecursion (λ c. IsTrue (is_linked (places cs) c)) cs
+  pub texts : HaveTexts cs
+  pub links : AreLinked cs
   pub types : AllByRecursion (IsTyped (places cs)) cs

@@ -34,6 +34,7 @@ pub enum Constant<'a> {
 impl<'a> Constant<'a> {
     ghost use Rattle.jl_pool.specs.Constants.{tag};
 
+    /// The byte that tells its kind (JVMS SE 17 §4.4, table 4.4-A).
     pub fn tag(&self) -> u8
         ensures { result ≡ tag self.now }
     {

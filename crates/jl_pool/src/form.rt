@@ -23,7 +23,8 @@ pub struct Form {
 }
 
 impl Form {
-    pub fn of(text: &[u8]) -> Form
+    /// What this text may stand for.
+    pub(crate) fn of(text: &[u8]) -> Form
         ensures { result ≡ form_of text.now }
     {
         let unqualified = is_unqualified(text);

@@ -7,6 +7,7 @@
 mod bytes;
 mod constant;
 mod form;
+mod lookup;
 mod names;
 mod pool;
 mod pool_fault;

@@ -1,9 +1,9 @@
 //! The texts of a pool as names, all in one block.
 
-ghost use Rattle.std.specs.Prelude.{◌≡◌, length, take, drop, option_map, IfOk, OnOk};
+ghost use Rattle.std.specs.Prelude.{◌≡◌, length, take, drop, IfOk, OnOk};
 ghost use Rattle.std.specs.Option.{option_and_then};
 ghost use Rattle.jl_pool.specs.Pools.{text_of};
-ghost use Rattle.jl_pool.specs.Reading.Names.{names_of, name_at, text_or_nothing, texts_of};
+ghost use Rattle.jl_pool.specs.Reading.Names.{names_of, text_or_nothing, texts_of};
 
 use crate::constant::Constant;
 use jl_names::Name;
@@ -47,7 +47,7 @@ fn cut_name(block: &mut Name, entry: &Option<Constant<'_>>) -> Result<Option<Nam
 }
 
 /// By number, the texts as names. They share one block, so a name takes no memory beside its place in the list.
-pub fn names_of(
+pub(crate) fn names_of(
     alloc: Global,
     entries: &[Option<Constant<'_>>],
 ) -> Result<Vec<Option<Name>>, AllocError>
@@ -59,14 +59,4 @@ pub fn names_of(
         names.push(cut_name(&mut block, entry)?)?;
     }
     Ok(names)
-}
-
-/// The name at a number.
-pub fn name_at(names: &[Option<Name>], number: u16) -> Option<&Name>
-    ensures { option_map (λ name. name.now) result ≡ name_at names.now number }
-{
-    match names.get(usize::from(number)) {
-        Some(Some(name)) => Some(name),
-        _ => None,
-    }
 }

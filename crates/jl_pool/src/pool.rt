@@ -4,19 +4,21 @@ ghost use Rattle.std.specs.Prelude.{◌≡◌, ◌≢◌, ◌<◌, ◌≤◌, �
 ghost use Rattle.jl_pool.specs.declared.constant.Constant.{Constant};
 ghost use Rattle.std.specs.Option.{option_copied, option_and_then, option_map_or};
 ghost use Rattle.jl_pool.specs.Numbers.{u2};
-ghost use Rattle.jl_pool.specs.Pools.{places, places_of, IsSoundPool, constant_at as place_at, text_of, text_at, descriptor_at, begins_array, has_tag, is_linked, HasText, IsTyped};
+ghost use Rattle.jl_pool.specs.Pools.{places, places_of, IsSoundPool, text_of, text_at, descriptor_at, begins_array, has_tag, is_linked, HasText, IsTyped};
 ghost use Rattle.jl_pool.specs.Constants.{handle_tags};
 ghost use Rattle.jl_pool.specs.declared.pool_fault.PoolFault.{PoolFault};
 ghost use Rattle.jl_pool.specs.declared.pool_fault.PoolFault.TheVariants.{Memory};
 ghost use Rattle.jl_pool.specs.Faults.{PoolStands, IsFirstNot, AllAt, IsPoolFault};
+ghost use Rattle.jl_pool.specs.Reading.Entries.{IsTextFault, IsLinkFault, IsEntryFault};
 ghost use Rattle.jl_pool.specs.Reading.Constants.{Gives, is_known, is_wide, of_bits, of_wide_bits, of_number, of_pair, payload_at, constant_at};
 ghost use Rattle.jl_pool.specs.Reading.Fields.{Finds};
-ghost use Rattle.jl_pool.specs.Reading.Forms.{form_of, forms_of, form_at, method_slots, takes_slots, is_class_text, is_typed};
+ghost use Rattle.jl_pool.specs.Reading.Forms.{form_of, forms_of, takes_slots, is_class_text, is_typed};
 
 use crate::bytes::{handle_at, pair_at, text_at, u2_at, u4_at, u8_at};
 use crate::constant::Constant;
 use crate::form::Form;
-use crate::names::{name_at, names_of};
+use crate::lookup::value_at;
+use crate::names::names_of;
 use crate::pool_fault::PoolFault;
 use crate::reference::{CallSiteSpecifier, Reference};
 use jl_names::{LentName, Name, Text, is_text};
@@ -49,13 +51,28 @@ impl<'a> Model for Pool<'a> {
 }
 
 impl<'a> Pool<'a> {
-    ghost use Rattle.std.specs.Prelude.{if◌then◌else◌};
+    ghost use Rattle.std.specs.Prelude.{if◌then◌else◌, MatchOption, IfSome};
+    ghost use Rattle.std.specs.Option.{IsSomeAnd};
     ghost use Rattle.jl_names.specs.ClassNames.{is_class_name};
-    ghost use Rattle.jl_pool.specs.Pools.{places, pool_text, IsSoundPool, class_text_at, class_at, both, signed_at, reference, reference_at, call_site_at};
-    ghost use Rattle.jl_pool.specs.Reading.Forms.{signed_texts, slots_at};
+    ghost use Rattle.jl_names.specs.MethodTypes.{IsMethodDescriptor, TakesSlots};
+    ghost use Rattle.jl_pool.specs.Pools.{places, pool_text, IsSoundPool, named_descriptor, class_text_at, class_at, both, signed_at, reference, reference_at, call_site_at};
+    ghost use Rattle.jl_pool.specs.Reading.Forms.{signed_texts};
     ghost use Rattle.jl_pool.specs.Faults.{PoolStands, IsPoolFault};
 
-    /// The pool at the front, from its count on, and how many bytes it takes.
+    /// The pool at the front, from its count on, and how many bytes it takes. More bytes may follow.
+    ///
+    /// # Errors
+    ///
+    /// In the order in which they are looked for (JVMS SE 17 §4.4). A number is that of the first such entry.
+    ///
+    /// - `BadTag`: the tag is unknown, or a Long's or a Double's whose second number isn't below the count (§4.4.5);
+    ///   number 0 where the count is 0.
+    /// - `Truncated`: the bytes end before the pool does. This and `BadTag` are looked for entry by entry.
+    /// - `BadUtf8`: a Utf8 is no modified UTF-8 (§4.4.7).
+    /// - `BadIndex`: the entry names a number at which nothing of the right kind stands. Each text is good.
+    /// - `BadDescriptor`: the entry names a text that is no class name or descriptor of the right kind (§4.2.1, §4.3).
+    ///   Each text and each number is good.
+    /// - `Memory`: want of memory, at any time.
     pub fn read(alloc: Global, bytes: &'a [u8]) -> Result<(Pool<'a>, usize), PoolFault>
         ensures ok { IfOk result (λ x. (cs : List Constant) × (left : List ℕ) × PoolStands bytes.now cs left
             × IsSoundPool cs × (x.0 ≡ places cs) × (x.1 ≡ length (pool_text cs))) }
@@ -76,7 +93,7 @@ impl<'a> Pool<'a> {
         ))
     }
 
-    /// The entries by number.
+    /// The entries by number. Nothing stands at number 0, nor at the second number of a Long or a Double (§4.4.5).
     pub fn entries(&self) -> &[Option<Constant<'a>>]
         ensures { result.now ≡ self.now }
     {
@@ -87,21 +104,21 @@ impl<'a> Pool<'a> {
     pub fn utf8(&self, number: u16) -> Option<&Name>
         ensures { option_map (λ text. text.now) result ≡ text_at self.now number }
     {
-        name_at(&self.names, number)
+        value_at(&self.names, number)
     }
 
     /// What the text of the Utf8 at a number may stand for.
     pub fn form(&self, number: u16) -> Option<Form>
         ensures { result ≡ option_map form_of (text_at self.now number) }
     {
-        form_at(&self.forms, number)
+        value_at(&self.forms, number).copied()
     }
 
     /// The text of the Class at a number: a class name, or an array's descriptor.
     pub fn class_text(&self, number: u16) -> Option<&Name>
         ensures { option_map (λ text. text.now) result ≡ class_text_at self.now number }
     {
-        match constant_of(&self.entries, number) {
+        match value_at(&self.entries, number) {
             Some(Constant::Class(name)) => self.utf8(*name),
             _ => None,
         }
@@ -111,7 +128,7 @@ impl<'a> Pool<'a> {
     pub fn class_name(&self, number: u16) -> Option<&Name>
         ensures { option_map (λ text. text.now) result ≡ class_at self.now number }
     {
-        match constant_of(&self.entries, number) {
+        match value_at(&self.entries, number) {
             Some(Constant::Class(name)) => self.text_if_class_name(*name),
             _ => None,
         }
@@ -132,7 +149,7 @@ impl<'a> Pool<'a> {
     fn signed(&self, number: u16) -> Option<(&Name, &Name)>
         ensures { option_map signed_texts result ≡ signed_at self.now number }
     {
-        match constant_of(&self.entries, number) {
+        match value_at(&self.entries, number) {
             Some(Constant::NameAndType(name, ty)) => Some((self.utf8(*name)?, self.utf8(*ty)?)),
             _ => None,
         }
@@ -156,7 +173,7 @@ impl<'a> Pool<'a> {
     pub fn method_ref(&self, number: u16) -> Option<Reference<LentName<'_>>>
         ensures { result ≡ reference_at self.now number }
     {
-        match constant_of(&self.entries, number) {
+        match value_at(&self.entries, number) {
             Some(Constant::Methodref(owner, signed)) => self.reference(false, *owner, *signed),
             Some(Constant::InterfaceMethodref(owner, signed)) => {
                 self.reference(true, *owner, *signed)
@@ -169,7 +186,7 @@ impl<'a> Pool<'a> {
     pub fn dynamic(&self, number: u16) -> Option<CallSiteSpecifier<LentName<'_>>>
         ensures { result ≡ call_site_at self.now number }
     {
-        match constant_of(&self.entries, number) {
+        match value_at(&self.entries, number) {
             Some(Constant::InvokeDynamic(bootstrap, signed)) => {
                 let (name, ty) = self.signed(*signed)?;
                 Some(CallSiteSpecifier {
@@ -189,24 +206,32 @@ impl<'a> Pool<'a> {
         has_tag(&self.entries, tag, number)
     }
 
-    /// The slots of the parameters of what the entry at a number names.
+    /// The slots of the parameters of the method or the call site that the entry at a number names. None where it names
+    /// none, or where no method has that descriptor (§4.3.3).
     pub fn slots(&self, number: u16) -> Option<u8>
-        ensures { result ≡ slots_at self.now number }
+        ensures { MatchOption result (IfSome (named_descriptor self.now number) (λ ty. ¬ IsMethodDescriptor ty))
+            (λ n. (n ≤ 255) × IsSomeAnd (named_descriptor self.now number) (λ ty. TakesSlots ty n)) }
     {
-        match constant_of(&self.entries, number) {
-            Some(Constant::Methodref(_, signed)) => self.signed_slots(*signed),
-            Some(Constant::InterfaceMethodref(_, signed)) => self.signed_slots(*signed),
-            Some(Constant::InvokeDynamic(_, signed)) => self.signed_slots(*signed),
+        slots_of(self.named_form(number))
+    }
+
+    /// The form of the descriptor of the method or the call site that the entry at a number names.
+    fn named_form(&self, number: u16) -> Option<Form>
+        ensures { result ≡ option_map form_of (named_descriptor self.now number) }
+    {
+        match value_at(&self.entries, number) {
+            Some(Constant::Methodref(_, signed)) => self.descriptor_form(*signed),
+            Some(Constant::InterfaceMethodref(_, signed)) => self.descriptor_form(*signed),
+            Some(Constant::InvokeDynamic(_, signed)) => self.descriptor_form(*signed),
             _ => None,
         }
     }
 
-    /// The slots of the parameters of the NameAndType at a number.
-    #[tactic(auto, using(crate::proofs::LookUpLaws::form_slots))]
-    fn signed_slots(&self, number: u16) -> Option<u8>
-        ensures { result ≡ option_and_then method_slots (descriptor_at self.now number) }
+    /// The form of the descriptor of the NameAndType at a number.
+    fn descriptor_form(&self, number: u16) -> Option<Form>
+        ensures { result ≡ option_map form_of (descriptor_at self.now number) }
     {
-        slots_of(descriptor_form(&self.entries, &self.forms, number))
+        descriptor_form(&self.entries, &self.forms, number)
     }
 }
 
@@ -402,7 +427,7 @@ fn has_text(constant: &Constant<'_>) -> bool
 fn check_texts(entries: &[Option<Constant<'_>>]) -> Result<(), PoolFault>
     requires { length entries.now < 2 ^ 16 }
     ensures ok { OnOk result (AllAt HasText entries.now) }
-    ensures fault { IfErr result (λ f. (i : ℕ) × (f ≡ PoolFault.BadUtf8 i) × IsFirstNot HasText entries.now i) }
+    ensures fault { IfErr result (IsTextFault entries.now) }
 {
     for (i, entry) in entries.iter().enumerate() {
         if let Some(constant) = entry {
@@ -414,21 +439,11 @@ fn check_texts(entries: &[Option<Constant<'_>>]) -> Result<(), PoolFault>
     Ok(())
 }
 
-/// The constant at a number.
-fn constant_of<'a, 'b>(entries: &'a [Option<Constant<'b>>], number: u16) -> Option<&'a Constant<'b>>
-    ensures { option_copied result ≡ place_at entries.now number }
-{
-    match entries.get(usize::from(number)) {
-        Some(Some(constant)) => Some(constant),
-        _ => None,
-    }
-}
-
 /// Whether a constant of this tag stands at the number.
 fn has_tag(entries: &[Option<Constant<'_>>], tag: u8, number: u16) -> bool
     ensures { result ≡ has_tag entries.now (tag ∷ []) number }
 {
-    match constant_of(entries, number) {
+    match value_at(entries, number) {
         Some(constant) => tag == constant.tag(),
         None => false,
     }
@@ -479,7 +494,7 @@ fn refers(entries: &[Option<Constant<'_>>], kind: u8, number: u16) -> bool
 fn check_links(entries: &[Option<Constant<'_>>]) -> Result<(), PoolFault>
     requires { length entries.now < 2 ^ 16 }
     ensures ok { OnOk result (AllAt (λ c. IsTrue (is_linked entries.now c)) entries.now) }
-    ensures fault { IfErr result (λ f. (i : ℕ) × (f ≡ PoolFault.BadIndex i) × IsFirstNot (λ c. IsTrue (is_linked entries.now c)) entries.now i) }
+    ensures fault { IfErr result (IsLinkFault entries.now) }
 {
     for (i, entry) in entries.iter().enumerate() {
         if let Some(constant) = entry {
@@ -489,6 +504,19 @@ fn check_links(entries: &[Option<Constant<'_>>]) -> Result<(), PoolFault>
         }
     }
     Ok(())
+}
+
+/// Looks for the first Utf8 that is no modified UTF-8, and then for the first constant that names a wrong one.
+fn check_entries(entries: &[Option<Constant<'_>>]) -> Result<(), PoolFault>
+    requires { length entries.now < 2 ^ 16 }
+    ensures texts { OnOk result (AllAt HasText entries.now) }
+    ensures links { OnOk result (AllAt (λ c. IsTrue (is_linked entries.now c)) entries.now) }
+    ensures fault { IfErr result (IsEntryFault entries.now) }
+{
+    match check_texts(entries) {
+        Ok(()) => check_links(entries),
+        fault => fault,
+    }
 }
 
 /// By number, what the text of a Utf8 may stand for.
@@ -509,16 +537,6 @@ fn form_of(entry: &Option<Constant<'_>>) -> Option<Form>
     }
 }
 
-/// What the text of the Utf8 at a number may stand for.
-fn form_at(forms: &[Option<Form>], number: u16) -> Option<Form>
-    ensures { result ≡ form_at forms.now number }
-{
-    match forms.get(usize::from(number)) {
-        Some(form) => *form,
-        None => None,
-    }
-}
-
 /// The form of the descriptor of the NameAndType at a number.
 fn descriptor_form(
     entries: &[Option<Constant<'_>>],
@@ -528,8 +546,8 @@ fn descriptor_form(
     requires { forms.now ≡ forms_of entries.now }
     ensures { result ≡ option_map form_of (descriptor_at entries.now number) }
 {
-    match constant_of(entries, number) {
-        Some(Constant::NameAndType(_, ty)) => form_at(forms, *ty),
+    match value_at(entries, number) {
+        Some(Constant::NameAndType(_, ty)) => value_at(forms, *ty).copied(),
         _ => None,
     }
 }
@@ -576,7 +594,7 @@ fn is_typed(
     match constant {
         Constant::Class(name) => is_class_text(entries, forms, *name),
         Constant::NameAndType(_, ty) => {
-            let form = form_at(forms, *ty);
+            let form = value_at(forms, *ty).copied();
             is_field(form) || is_method(form)
         }
         Constant::Fieldref(_, name_and_type) | Constant::Dynamic(_, name_and_type) => {
@@ -587,7 +605,7 @@ fn is_typed(
         | Constant::InvokeDynamic(_, name_and_type) => {
             is_method(descriptor_form(entries, forms, *name_and_type))
         }
-        Constant::MethodType(ty) => is_method(form_at(forms, *ty)),
+        Constant::MethodType(ty) => is_method(value_at(forms, *ty).copied()),
         _ => true,
     }
 }
@@ -597,8 +615,11 @@ fn is_class_text(entries: &[Option<Constant<'_>>], forms: &[Option<Form>], numbe
     requires { forms.now ≡ forms_of entries.now }
     ensures { result ≡ option_map_or is_class_text (text_at entries.now number) false }
 {
-    match constant_of(entries, number) {
-        Some(Constant::Utf8(text)) => names_class(text.as_bytes(), form_at(forms, number)),
+    match value_at(entries, number) {
+        Some(Constant::Utf8(text)) => names_class(
+            text.as_bytes(),
+            value_at(forms, number).copied(),
+        ),
         _ => false,
     }
 }
@@ -667,7 +688,6 @@ fn linked_at(alloc: Global, bytes: &[u8]) -> Result<(Vec<Option<Constant<'_>>>, 
         return Err(PoolFault::BadTag(0));
     }
     let (entries, rest) = constants_at(alloc, count, rest)?;
-    check_texts(&entries)?;
-    check_links(&entries)?;
+    check_entries(&entries)?;
     Ok((entries, rest))
 }

@@ -9,6 +9,7 @@ use Rattle.std.proofs.lemmas.List.Concat.{flat_map-append}
 use Rattle.jl_pool.specs.declared.constant.Constant.{Constant}
 use Rattle.jl_pool.specs.Constants.{is_double}
 use Rattle.jl_pool.specs.Pools.{Pool, places, places_of, constant_at}
+use Rattle.jl_pool.proofs.PlaceLaws.{at_place}
 use Rattle.jl_sketch.specs.Constants.{same_constant, enter, number}
 use Rattle.jl_sketch.proofs.SameConstants.{one_constant}
 
@@ -120,10 +121,6 @@ number_is cs c h =
 pub number_stays : (cs ds : List Constant) (c : Constant) → Grows cs ds → Holds cs c → number ds c ≡ number cs c
 unfolding holds_on number
 number_stays cs ds c g h = number_is ds c (holds_on cs ds c g h) ∙ sym (number_is cs c h)
-
-at_place : (front rest : Pool) (c : Constant) → constant_at (front ++ Some c ∷ rest) (length front) ≡ Some c
-at_place [] rest c = refl
-at_place (p ∷ front) rest c = at_place front rest c
 
 pub one_place : (cs : List Constant) → ArePlain cs → length (flat_map places_of cs) ≡ length cs
 one_place [] h = refl

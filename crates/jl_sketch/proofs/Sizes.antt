@@ -8,7 +8,7 @@ use Rattle.std.proofs.lemmas.Bool.{or_parts, ltb-true, ltb-false}
 use Rattle.std.proofs.lemmas.List.{length-append}
 use Rattle.jl_pool.specs.declared.constant.Constant.{Constant}
 use Rattle.jl_pool.specs.declared.constant.Constant.TheVariants.{Utf8}
-use Rattle.jl_pool.specs.Pools.{IsWritten}
+use Rattle.jl_pool.specs.Constants.{IsSized}
 use Rattle.jl_sketch.specs.declared.sketch.Sketch.{Sketch}
 use Rattle.jl_sketch.specs.declared.sketch.SketchMethod.{SketchMethod}
 use Rattle.jl_sketch.specs.declared.sketch.MethodName.{MethodName}
@@ -21,12 +21,12 @@ use Rattle.jl_sketch.proofs.Holding.{Grows, grows_enter}
 use Rattle.jl_sketch.proofs.Naming.{text_grows, class_grows, signed_grows, method_plain}
 use Rattle.jl_sketch.proofs.SketchNames.{fold_grows, classes_grow, if_any_grows, call_grows, coded, coded_grows, declared_is, declared_grows, host_grows, members_grow}
 
-abbrev pub AreWritten : List Constant → Type 0
-AreWritten cs = AllByRecursion IsWritten cs
+abbrev pub AreSized : List Constant → Type 0
+AreSized cs = AllByRecursion IsSized cs
 
 -- where the later ones are few enough and the earlier ones are of their sizes, so are the later ones
 abbrev pub Fits : List Constant → List Constant → Type 0
-Fits cs ds = length ds ≤ 65534 → AreWritten cs → AreWritten ds
+Fits cs ds = length ds ≤ 65534 → AreSized cs → AreSized ds
 
 few_before : (cs ds : List Constant) → Grows cs ds → length ds ≤ 65534 → length cs ≤ 65534
 few_before cs ds g few =
@@ -36,17 +36,17 @@ few_before cs ds g few =
 fits_on : (a b c : List Constant) → Grows b c → Fits a b → Fits b c → Fits a c
 fits_on a b c g f h = λ few w. h few (f (few_before b c g few) w)
 
-written_push : (cs : List Constant) (c : Constant) → AreWritten cs → IsWritten c → AreWritten (cs ++ c ∷ [])
-written_push [] c w h = (h, tt)
-written_push (x ∷ xs) c w h = (w.0, written_push xs c w.1 h)
+sized_push : (cs : List Constant) (c : Constant) → AreSized cs → IsSized c → AreSized (cs ++ c ∷ [])
+sized_push [] c w h = (h, tt)
+sized_push (x ∷ xs) c w h = (w.0, sized_push xs c w.1 h)
 
-fits_enter : (cs : List Constant) (c : Constant) → Grows cs (enter cs c) → (length cs ≤ 65534 → IsWritten c) → Fits cs (enter cs c)
+fits_enter : (cs : List Constant) (c : Constant) → Grows cs (enter cs c) → (length cs ≤ 65534 → IsSized c) → Fits cs (enter cs c)
 unfolding enter
 fits_enter cs c g h = λ few w. either (list_any (same_constant c) cs) refl w (h (few_before cs (enter cs c) g few))
   where
-    either : (b : Bool) → list_any (same_constant c) cs ≡ b → AreWritten cs → IsWritten c → AreWritten (enter cs c)
-    either true e w k = subst (λ (b : Bool). AreWritten (if b then cs else cs ++ c ∷ [])) (sym e) w
-    either false e w k = subst (λ (b : Bool). AreWritten (if b then cs else cs ++ c ∷ [])) (sym e) (written_push cs c w k)
+    either : (b : Bool) → list_any (same_constant c) cs ≡ b → AreSized cs → IsSized c → AreSized (enter cs c)
+    either true e w k = subst (λ (b : Bool). AreSized (if b then cs else cs ++ c ∷ [])) (sym e) w
+    either false e w k = subst (λ (b : Bool). AreSized (if b then cs else cs ++ c ∷ [])) (sym e) (sized_push cs c w k)
 
 pub number_few : (cs : List Constant) (c : Constant) → number cs c ≤ length cs
 unfolding number
@@ -58,11 +58,11 @@ number_few cs c = by_test (position_or_len (same_constant c) cs) (nat_lt (positi
 
 -- ---- constants
 
-written_text : (text : List ℕ) → is_long text ≡ false → IsWritten (Utf8 text)
-written_text text h = let few = ltb-false 65535 (length text) h in record { known = refl; sized = omega (arith, few) }
+sized_text : (text : List ℕ) → is_long text ≡ false → IsSized (Utf8 text)
+sized_text text h = let few = ltb-false 65535 (length text) h in omega (arith, few)
 
 fits_text : (cs : List Constant) (text : List ℕ) → is_long text ≡ false → Fits cs (with_text cs text)
-fits_text cs text h = fits_enter cs (Utf8 text) (text_grows cs text) (λ _. written_text text h)
+fits_text cs text h = fits_enter cs (Utf8 text) (text_grows cs text) (λ _. sized_text text h)
 
 below : (n m : ℕ) → n ≤ m → m ≤ 65534 → n < 2 ^ 16
 below n m h k = omega (arith, h, k)
@@ -75,7 +75,7 @@ fits_class cs name h =
     let named : List Constant = with_text cs name in
     let g : Grows named (with_class cs name) = grows_enter named (class_constant named name) refl in
     fits_on cs named (with_class cs name) g (fits_text cs name h)
-    (fits_enter named (class_constant named name) g (λ few. record { known = refl; sized = number_below named (Utf8 name) few }))
+    (fits_enter named (class_constant named name) g (λ few. number_below named (Utf8 name) few))
 
 fits_signed : (cs : List Constant) (name ty : List ℕ) → is_long name ≡ false → is_long ty ≡ false → Fits cs (with_signed cs name ty)
 fits_signed cs name ty h k =
@@ -85,11 +85,11 @@ fits_signed cs name ty h k =
     let g : Grows parts all = grows_enter parts (signed_constant parts name ty) refl in
     let texts : Fits cs parts = fits_on cs named parts (text_grows named ty) (fits_text cs name h) (fits_text named ty k) in
     fits_on cs parts all g texts
-    (fits_enter parts (signed_constant parts name ty) g (λ few. record { known = refl; sized = (number_below parts (Utf8 name) few, number_below parts (Utf8 ty) few) }))
+    (fits_enter parts (signed_constant parts name ty) g (λ few. (number_below parts (Utf8 name) few, number_below parts (Utf8 ty) few)))
 
-written_method : (cs : List Constant) (itf : Bool) (m : MethodName) → length cs ≤ 65534 → IsWritten (method_constant cs itf m)
-written_method cs false m few = record { known = refl; sized = (number_below cs (class_constant cs m.owner) few, number_below cs (signed_constant cs m.name m.ty) few) }
-written_method cs true m few = record { known = refl; sized = (number_below cs (class_constant cs m.owner) few, number_below cs (signed_constant cs m.name m.ty) few) }
+sized_method : (cs : List Constant) (itf : Bool) (m : MethodName) → length cs ≤ 65534 → IsSized (method_constant cs itf m)
+sized_method cs false m few = (number_below cs (class_constant cs m.owner) few, number_below cs (signed_constant cs m.name m.ty) few)
+sized_method cs true m few = (number_below cs (class_constant cs m.owner) few, number_below cs (signed_constant cs m.name m.ty) few)
 
 fits_method : (cs : List Constant) (itf : Bool) (m : MethodName) → is_long_method_name m ≡ false → Fits cs (with_method itf cs m)
 fits_method cs itf m h =
@@ -100,7 +100,7 @@ fits_method cs itf m h =
     let long = or_parts (is_long m.owner) (is_long m.name || is_long m.ty) h in
     let rest = or_parts (is_long m.name) (is_long m.ty) long.1 in
     let before : Fits cs parts = fits_on cs owned parts (signed_grows owned m.name m.ty) (fits_class cs m.owner long.0) (fits_signed owned m.name m.ty rest.0 rest.1) in
-    fits_on cs parts all g before (fits_enter parts (method_constant parts itf m) g (λ few. written_method parts itf m few))
+    fits_on cs parts all g before (fits_enter parts (method_constant parts itf m) g (λ few. sized_method parts itf m few))
 
 fits_call_site : (cs : List Constant) (name ty : List ℕ) → (is_long name || is_long ty) ≡ false → Fits cs (with_call_site cs name ty)
 fits_call_site cs name ty h =
@@ -110,7 +110,7 @@ fits_call_site cs name ty h =
     let long = or_parts (is_long name) (is_long ty) h in
     let none : 0 < 2 ^ 16 = omega arith in
     fits_on cs parts all g (fits_signed cs name ty long.0 long.1)
-    (fits_enter parts (call_site_constant parts name ty) g (λ few. record { known = refl; sized = (none, number_below parts (signed_constant parts name ty) few) }))
+    (fits_enter parts (call_site_constant parts name ty) g (λ few. (none, number_below parts (signed_constant parts name ty) few)))
 
 fits_call : (cs : List Constant) (call : Call) → is_long_call call ≡ false → Fits cs (with_call cs call)
 fits_call cs (Virtual m) h = fits_method cs false m h
@@ -186,8 +186,8 @@ short s h =
     let f = or_parts (is_long_if_any s.host) (are_long s.members) d.1 in
     record { name = a.0; superclass = b.0; interfaces = c.0; methods = e.0; each_method = e.1; host = f.0; members = f.1 }
 
-pub constants_written : (s : Sketch) → IsShort s → length (sketch_constants s) ≤ 65534 → AreWritten (sketch_constants s)
-constants_written s h few =
+pub constants_sized : (s : Sketch) → IsShort s → length (sketch_constants s) ≤ 65534 → AreSized (sketch_constants s)
+constants_sized s h few =
     let this : List Constant = with_class [] s.name in
     let super : List Constant = with_class_if_any this s.superclass in
     let interfaces : List Constant = fold with_class super s.interfaces in

@@ -1,27 +1,21 @@
 -- The Code attribute of a method holds the calls of the sketch, and nothing else can be read of it.
 use Rattle.std.proofs.Common.{◌≡◌, ℕ, ◌+◌, ◌<◌, ◌≤◌, ◌^◌, ◌&&◌, not, Bool, true, false, List, [], ◌∷◌, ◌++◌, length, Option, Some}
-use Rattle.std.proofs.Common.{None, Result, Ok, refl, sym, ap, ◌∙◌, subst, arith, length-append, if◌then◌else◌, ◌==◌}
+use Rattle.std.proofs.Common.{None, refl, sym, ap, ◌∙◌, subst, arith, if◌then◌else◌, ◌==◌}
 use Rattle.std.specs.Prelude.{codes}
 use Rattle.std.specs.Option.{option_map_or}
 use Rattle.std.specs.List.{AllByRecursion}
 use Rattle.std.specs.Str.{bytes_eq}
 use Rattle.std.proofs.lemmas.Bool.{false≢true, ltb-false, eqb-true}
 use Rattle.std.proofs.lemmas.List.{nil_from_length}
-use Rattle.jl_names.proofs.Bytes.{ok_is}
 use Rattle.jl_pool.specs.declared.constant.Constant.{Constant}
 use Rattle.jl_pool.specs.Numbers.{u2, u4, counted}
 use Rattle.jl_pool.specs.Pools.{Pool, places, text_at}
-use Rattle.jl_pool.specs.Reading.Fields.{number_at}
-use Rattle.jl_pool.proofs.Fields.{some_is, u4_again}
-use Rattle.jl_pool.proofs.PoolLaws.{u2_one}
+use Rattle.jl_pool.proofs.PoolLaws.{u2_one, u4_one}
 use Rattle.jl_code.specs.declared.instruction.Instruction.{Instruction}
-use Rattle.jl_code.specs.declared.instruction.Stop.{Stop}
 use Rattle.jl_code.specs.Site.{Site}
 use Rattle.jl_code.specs.Instructions.{instruction_text, MayStand}
 use Rattle.jl_code.specs.Codes.{code_bytes, MayStandFrom, site_list, site_at, sites_from}
-use Rattle.jl_code.specs.Reading.Instructions.{instruction_at}
-use Rattle.jl_code.proofs.InstructionLaws.{instruction_again}
-use Rattle.jl_code.proofs.CodeLaws.{text-some}
+use Rattle.jl_code.proofs.CodeFaultLaws.{one_list}
 use Rattle.jl_classfile.specs.declared.body.Attribute.{Attribute}
 use Rattle.jl_classfile.specs.Layouts.{attribute_text}
 use Rattle.jl_classfile.specs.CodeAttributes.{HoldsCode}
@@ -50,31 +44,7 @@ stand : (cs : List Constant) (calls : List Call) (pc : ℕ) → length cs ≤ 65
 stand cs [] pc few = (refl, tt)
 stand cs (call ∷ calls) pc few = (call_stands cs pc call few, stand cs calls (pc + length (instruction_text (call_instruction cs call))) few)
 
--- ---- instructions of the same bytes are the same
-
-abbrev found : Instruction × List ℕ → Result (Instruction × List ℕ) Stop
-found x = Ok x
-
-one_list : (pc : ℕ) (is js : List Instruction) → MayStandFrom pc is → MayStandFrom pc js → code_bytes is ≡ code_bytes js → is ≡ js
-one_list pc [] [] hi hj e = refl
-one_list pc [] (j ∷ js) hi hj e = absurd (omega (arith, ap length e, length-append (instruction_text j) (code_bytes js), text-some j))
-one_list pc (i ∷ is) [] hi hj e = absurd (omega (arith, ap length e, length-append (instruction_text i) (code_bytes is), text-some i))
-one_list pc (i ∷ is) (j ∷ js) hi hj e =
-    let both : found (i, code_bytes is) ≡ found (j, code_bytes js) = sym (instruction_again pc i (code_bytes is) hi.0) ∙ ap (instruction_at pc) e ∙ instruction_again pc j (code_bytes js) hj.0 in
-    let pairs = ok_is {E = Stop} (i, code_bytes is) (j, code_bytes js) both in
-    let first : i ≡ j = ap (λ (p : Instruction × List ℕ). p.0) pairs in
-    let more =
-    one_list (pc + length (instruction_text i)) is js hi.1 (subst (λ (k : Instruction). MayStandFrom (pc + length (instruction_text k)) js) (sym first) hj.1)
-    (ap (λ (p : Instruction × List ℕ). p.1) pairs)
-    in
-    cc (first, more)
-
 -- ---- what the attribute holds
-
-u4_one : (m n : ℕ) (x y : List ℕ) → m < 2 ^ 32 → n < 2 ^ 32 → u4 m ++ x ≡ u4 n ++ y → (m ≡ n) × (x ≡ y)
-u4_one m n x y hm hn e =
-    let pairs : (m, x) ≡ (n, y) = some_is (m, x) (n, y) (sym (u4_again m x hm) ∙ ap (number_at 4) e ∙ u4_again n y hn) in
-    (ap (λ (p : ℕ × List ℕ). p.0) pairs, ap (λ (p : ℕ × List ℕ). p.1) pairs)
 
 fronts_are : (a b x y : List ℕ) → length a ≡ length b → a ++ x ≡ b ++ y → a ≡ b
 fronts_are [] [] x y same e = refl

@@ -27,7 +27,7 @@ use Rattle.jl_sketch.specs.Faults.{is_long, is_long_call, is_long_method, is_lon
 use Rattle.jl_sketch.specs.Names.{AreFlags}
 use Rattle.jl_sketch.proofs.Holding.{one_place}
 use Rattle.jl_sketch.proofs.SketchNames.{sketch_plain}
-use Rattle.jl_sketch.proofs.Sizes.{number_below, IsShort, short, constants_written}
+use Rattle.jl_sketch.proofs.Sizes.{number_below, IsShort, short, constants_sized}
 
 -- ---- codes
 
@@ -146,7 +146,7 @@ lies s f h =
     record {
       minor = omega arith;
       major = omega arith;
-      pool = record { each = constants_written s is_short few; count = rw places_are (omega (arith, few)) };
+      pool = record { each = constants_sized s is_short few; count = rw places_are (omega (arith, few)) };
       body = body_sized s cs f is_short few;
     }
 

@@ -16,7 +16,7 @@ use Rattle.jl_classfile.specs.declared.body.Attribute.{Attribute}
 use Rattle.jl_classfile.specs.Conditions.{is_text, attributes_of, IsClassNumber, HoldsHost, HoldsMembers}
 use Rattle.jl_classfile.specs.Shown.{name_or_nothing}
 use Rattle.jl_classfile.specs.Reading.Bodies.{counted_at}
-use Rattle.jl_classfile.proofs.BodyLaws.{counted-again}
+use Rattle.jl_classfile.proofs.ListLaws.{counted-again}
 use Rattle.jl_sketch.specs.Constants.{text_number, class_constant, class_number}
 use Rattle.jl_sketch.specs.Layouts.{host_attributes, member_attributes}
 use Rattle.jl_sketch.specs.Faults.{is_long}

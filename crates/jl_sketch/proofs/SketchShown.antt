@@ -6,6 +6,7 @@ use Rattle.std.specs.Option.{option_map_or, option_and_then, unwrap_or}
 use Rattle.std.specs.List.{list_any, prefix_len, position, AllByRecursion}
 use Rattle.std.proofs.lemmas.Bool.{or_parts, ltb-false}
 use Rattle.std.proofs.lemmas.Bool.Decides.{nat_tests}
+use Rattle.jl_names.proofs.Tests.{All-front, All-back}
 use Rattle.jl_pool.specs.declared.constant.Constant.{Constant}
 use Rattle.jl_pool.specs.Pools.{Pool, places, class_at}
 use Rattle.jl_code.specs.declared.instruction.Instruction.{Instruction}
@@ -25,7 +26,7 @@ use Rattle.jl_sketch.specs.Names.{AreFlags, NamesMethod, NamesParts, sites_of_ca
 use Rattle.jl_sketch.proofs.Sizes.{IsShort, short}
 use Rattle.jl_sketch.proofs.SketchNames.{parts_named}
 use Rattle.jl_sketch.proofs.SketchLies.{layout_is}
-use Rattle.jl_sketch.proofs.SketchTexts.{name_is, names_are, super_is, all_front, all_back}
+use Rattle.jl_sketch.proofs.SketchTexts.{name_is, names_are, super_is}
 use Rattle.jl_sketch.proofs.SketchCodes.{method_sites}
 use Rattle.jl_sketch.proofs.SketchNest.{host_is, members_are}
 
@@ -136,9 +137,9 @@ sketch_shown s p f h without k =
     (ap (λ (l : Layout). name_or_nothing (pool_of l) l.body.this_class) e ∙ name_is pool (class_number cs s.name) s.name named.this_class links.0)
     (ap (λ (l : Layout). l.body.flags) e)
     (ap (λ (l : Layout). class_at (pool_of l) l.body.super_class) e
-    ∙ super_is pool super s.superclass named.super_class (all_front (IsClassNumber pool) (superclass_numbers super) interfaces links.1) refl)
+    ∙ super_is pool super s.superclass named.super_class (All-front (IsClassNumber pool) (superclass_numbers super) interfaces links.1) refl)
     (ap (λ (l : Layout). map (name_or_nothing (pool_of l)) l.body.interfaces) e
-    ∙ names_are pool interfaces s.interfaces named.interfaces (all_back (IsClassNumber pool) (superclass_numbers super) interfaces links.1))
+    ∙ names_are pool interfaces s.interfaces named.interfaces (All-back (IsClassNumber pool) (superclass_numbers super) interfaces links.1))
     (ap (λ (l : Layout). option_and_then (class_at (pool_of l)) p.nest_host) e ∙ host_is cs s.host s.members p.nest_host few named.host named.members nest.host_holds)
     (ap (λ (l : Layout). map (name_or_nothing (pool_of l)) (unwrap_or p.nest_members [])) e
     ∙ members_are cs s.host s.members p.nest_members few short_members.0 named.host named.members nest.members_hold)

@@ -1,5 +1,5 @@
 -- What the numbers of a class file show, where they name what a sketch says.
-use Rattle.std.proofs.Common.{◌≡◌, ℕ, Bool, true, false, List, [], ◌∷◌, ◌++◌, map, Some, None, refl, sym, ap, ◌∙◌, subst, if◌then◌else◌, ◌==◌}
+use Rattle.std.proofs.Common.{◌≡◌, ℕ, Bool, true, false, List, [], ◌∷◌, map, Some, None, refl, sym, ap, ◌∙◌, subst, if◌then◌else◌, ◌==◌}
 use Rattle.std.specs.Prelude.{Option, IsSome, is_some}
 use Rattle.std.specs.Option.{option_and_then, unwrap_or}
 use Rattle.std.specs.List.{AllByRecursion}
@@ -23,14 +23,6 @@ class_is pool n name h some = by_test (is_class_name name) refl
 
 pub name_is : (pool : Pool) (n : ℕ) (name : List ℕ) → class_text_at pool n ≡ Some name → IsSome (class_at pool n) → name_or_nothing pool n ≡ name
 name_is pool n name h some = ap (λ (o : Option (List ℕ)). unwrap_or o []) (class_is pool n name h some)
-
-pub all_front : {X : Type 0} (P : X → Type 0) (xs ys : List X) → AllByRecursion P (xs ++ ys) → AllByRecursion P xs
-all_front P [] ys h = tt
-all_front P (x ∷ xs) ys h = (h.0, all_front P xs ys h.1)
-
-pub all_back : {X : Type 0} (P : X → Type 0) (xs ys : List X) → AllByRecursion P (xs ++ ys) → AllByRecursion P ys
-all_back P [] ys h = h
-all_back P (x ∷ xs) ys h = all_back P xs ys h.1
 
 -- the superclass, none at number 0
 pub super_is : (pool : Pool) (n : ℕ) (name : Option (List ℕ)) → class_text_at pool n ≡ name → AllByRecursion (IsClassNumber pool) (superclass_numbers n)

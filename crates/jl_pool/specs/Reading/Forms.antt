@@ -1,5 +1,5 @@
 -- What a text of a pool may stand for, as functions on lists.
-use Rattle.std.specs.Prelude.{ℕ, ◌+◌, ◌==◌, nat_le, Bool, true, false, not, ◌&&◌, ◌||◌, is_some, slice_get, if◌then◌else◌, List, [], ◌∷◌, length, map, Option, Some, None, Result, Ok, Err, option_map}
+use Rattle.std.specs.Prelude.{ℕ, ◌+◌, ◌==◌, nat_le, Bool, true, false, not, ◌&&◌, ◌||◌, is_some, if◌then◌else◌, List, [], ◌∷◌, length, map, Option, Some, None, Result, Ok, Err, option_map}
 use Rattle.std.specs.Option.{option_and_then, option_map_or}
 use Rattle.std.specs.Str.{byte}
 use Rattle.std.specs.Borrow.{Bor}
@@ -11,7 +11,7 @@ use Rattle.jl_names.specs.Reading.MethodTypes.{behind, return_at}
 use Rattle.jl_pool.specs.declared.constant.Constant.{Constant}
 use Rattle.jl_pool.specs.declared.constant.Constant.TheVariants.{Class, Fieldref, Methodref, InterfaceMethodref, NameAndType, MethodType, Dynamic, InvokeDynamic}
 use Rattle.jl_pool.specs.declared.form.Form.{Form}
-use Rattle.jl_pool.specs.Pools.{Pool, Signed, constant_at, text_of, text_at, descriptor_at, begins_array, has_angle}
+use Rattle.jl_pool.specs.Pools.{Pool, Signed, text_of, text_at, descriptor_at, named_descriptor, begins_array, has_angle}
 
 -- something was read, and nothing is left
 abbrev pub is_whole : {X : Type 0} → Result (X × List ℕ) (List ℕ) → Bool
@@ -51,9 +51,6 @@ form_of text = record { class_name = is_class_name text; unqualified = is_unqual
 abbrev pub forms_of : Pool → List (Option Form)
 forms_of pool = map (λ place. option_map form_of (option_and_then text_of place)) pool
 
-abbrev pub form_at : List (Option Form) → ℕ → Option Form
-form_at forms n = option_and_then (λ place. place) (slice_get forms n)
-
 -- ---- what the texts that a constant names may stand for, as a test
 
 abbrev pub is_descriptor : Option (List ℕ) → (Form → Bool) → Bool
@@ -76,15 +73,9 @@ is_typed pool (InvokeDynamic bootstrap name_and_type) = is_descriptor (descripto
 is_typed pool (MethodType ty) = is_descriptor (text_at pool ty) takes_slots
 is_typed pool _ = true
 
-abbrev pub slots_of_constant : Pool → Constant → Option ℕ
-slots_of_constant pool (Methodref owner name_and_type) = option_and_then method_slots (descriptor_at pool name_and_type)
-slots_of_constant pool (InterfaceMethodref owner name_and_type) = option_and_then method_slots (descriptor_at pool name_and_type)
-slots_of_constant pool (InvokeDynamic bootstrap name_and_type) = option_and_then method_slots (descriptor_at pool name_and_type)
-slots_of_constant pool _ = None
-
 -- the slots of the method or call site that the constant at a number names
 abbrev pub slots_at : Pool → ℕ → Option ℕ
-slots_at pool n = option_and_then (slots_of_constant pool) (constant_at pool n)
+slots_at pool n = option_and_then method_slots (named_descriptor pool n)
 
 -- two texts that were lent, as a name with its descriptor
 abbrev pub signed_texts : Bor (List ℕ) × Bor (List ℕ) → Signed

@@ -1,5 +1,5 @@
 -- The texts of a pool, as functions on lists.
-use Rattle.std.specs.Prelude.{ℕ, slice_get, List, [], map, Option}
+use Rattle.std.specs.Prelude.{ℕ, List, [], map, Option}
 use Rattle.std.specs.Option.{option_and_then, unwrap_or}
 use Rattle.std.specs.List.{flat_map}
 use Rattle.jl_pool.specs.declared.constant.Constant.{Constant}
@@ -8,9 +8,6 @@ use Rattle.jl_pool.specs.Pools.{Pool, text_of}
 -- by number, the texts
 abbrev pub names_of : Pool → List (Option (List ℕ))
 names_of pool = map (λ place. option_and_then text_of place) pool
-
-abbrev pub name_at : List (Option (List ℕ)) → ℕ → Option (List ℕ)
-name_at names n = option_and_then (λ place. place) (slice_get names n)
 
 -- the text that stands there, nothing where there is none
 abbrev pub text_or_nothing : Option Constant → List ℕ

@@ -2,7 +2,8 @@ use Rattle.std.proofs.Common.{◌∙◌, refl, sym, subst, arith}
 use Rattle.std.proofs.lemmas.Result.{err_from_is_err_and}
 use Rattle.jl_classfile.specs.declared.fault.ClassFault.{ClassFault}
 use Rattle.jl_classfile.specs.Reading.Members.{IsMethodFault}
-use Rattle.jl_classfile.proofs.MemberLaws.{method_fits-is, yes_when, not_when, member_links, at_attribute}
+use Rattle.jl_classfile.proofs.MemberTests.{method_fits-is, yes_when, not_when}
+use Rattle.jl_classfile.proofs.MemberNumbers.{member_links, at_attribute}
 use Rattle.jl_classfile.proofs.member.check_method.Goals as goal
 
 pub returns-then-not-method_fits-clause-fault : goal.returns-then-not-method_fits-clause-fault

@@ -12,7 +12,7 @@ returns-in_err-check_types-clause-fault c =
     let p = err_from_is_err_and c.from_residual-in_err-check_types.result c.from_residual-in_err-check_types.ensures.1 in
     let o = c.in_ok-entries.ensures.ok in
     rw (p.1, p.2)
-    (types_fault c.args.bytes.now o.0 c.in_ok-entries.rest.now c.deref-2.result.now c.in_err-check_types.field-0.0 o.1 (c.deref-2.ensures.value ∙ o.2)
+    (types_fault c.args.bytes.now o.0 c.in_ok-entries.rest.now c.deref-2.result.now c.in_err-check_types.field-0.0 o.1 (c.deref-2.ensures.value ∙ o.2) o.3 o.4
     c.in_err-check_types.ensures.fault)
 
 pub returns-clause-ok : goal.returns-clause-ok

@@ -1,5 +1,5 @@
-use Rattle.jl_classfile.proofs.MemberLaws.{twins_of}
-use Rattle.jl_classfile.proofs.member.first_twin.Goals as goal
+use Rattle.jl_classfile.proofs.TwinLaws.{twins_of}
+use Rattle.jl_classfile.proofs.twin.first_twin.Goals as goal
 
 pub returns-clause-ok : goal.returns-clause-ok
 returns-clause-ok c =

@@ -1,5 +1,5 @@
-use Rattle.jl_classfile.proofs.MemberLaws.{keep_more, keep_all}
-use Rattle.jl_classfile.proofs.member.keep_texts.Goals as goal
+use Rattle.jl_classfile.proofs.TwinLaws.{keep_more, keep_all}
+use Rattle.jl_classfile.proofs.twin.keep_texts.Goals as goal
 
 pub loop-method-preserved : goal.loop-method-preserved
 loop-method-preserved c =

@@ -1,6 +1,6 @@
 use Rattle.std.proofs.Common.{◌≡◌, length, arith}
-use Rattle.jl_classfile.proofs.MemberLaws.{filled}
-use Rattle.jl_classfile.proofs.member.texts_of.Goals as goal
+use Rattle.jl_classfile.proofs.TwinLaws.{filled}
+use Rattle.jl_classfile.proofs.twin.texts_of.Goals as goal
 
 pub returns-clause-ok : goal.returns-clause-ok
 returns-clause-ok c =

@@ -1,0 +1,98 @@
+//! Methods of one name and one descriptor (JVMS SE 17 §4.6).
+
+ghost use Rattle.std.specs.Prelude.{◌≡◌, ℕ, Some, map, length, slice_get, option_map, IfOk, IfErr, MatchOption};
+ghost use Rattle.jl_classfile.specs.declared.body.Member.{Member};
+ghost use Rattle.jl_classfile.specs.declared.fault.ClassFault.TheVariants.{Memory};
+ghost use Rattle.jl_pool.specs.Pools.{text_at};
+ghost use Rattle.jl_classfile.specs.Reading.Members.{is_at, IsTwin, IsFirstTwin, IsTextAt, AreTexts};
+
+use crate::body::Member;
+use crate::fault::ClassFault;
+use jl_names::first_repeat;
+use jl_pool::Pool;
+use std::alloc::Global;
+
+/// By number, the texts of a pool that are the names and the descriptors of methods.
+fn texts_of<'a>(
+    alloc: Global,
+    pool: &'a Pool<'_>,
+    methods: &[Member<'_>],
+) -> Result<Vec<Option<&'a [u8]>>, ClassFault>
+    ensures ok { IfOk result (λ texts. (k : ℕ) (m : Member) → slice_get methods.now k ≡ Some m → AreTexts texts.items pool.now m) }
+    ensures fault { IfErr result (λ f. f ≡ Memory) }
+{
+    let mut texts = vec![in alloc; None; pool.entries().len()]?;
+    keep_texts(&mut texts, pool, methods);
+    Ok(texts)
+}
+
+/// Keeps the texts of a pool that are the names and the descriptors of methods.
+fn keep_texts<'a>(texts: &mut [Option<&'a [u8]>], pool: &'a Pool<'_>, methods: &[Member<'_>])
+    requires { length texts.old ≡ length pool.now }
+    ensures length { length texts.new ≡ length texts.old }
+    ensures kept { (k : ℕ) (m : Member) → slice_get methods.now k ≡ Some m → AreTexts texts.new pool.now m }
+{
+    for method in methods {
+        keep_text(texts, pool, method.name);
+        keep_text(texts, pool, method.descriptor);
+    }
+}
+
+/// The text that stands at a number of a pool, if one does.
+fn text_at<'a>(pool: &'a Pool<'_>, number: u16) -> Option<&'a [u8]>
+    ensures { option_map (λ text. text.now) result ≡ text_at pool.now number }
+{
+    match pool.utf8(number) {
+        Some(name) => Some(name.as_slice()),
+        None => None,
+    }
+}
+
+/// Keeps the text that stands at a number of a pool, if one does.
+fn keep_text<'a>(texts: &mut [Option<&'a [u8]>], pool: &'a Pool<'_>, number: u16)
+    requires { length texts.old ≡ length pool.now }
+    ensures length { length texts.new ≡ length texts.old }
+    ensures here { IsTextAt texts.new pool.now number }
+    ensures kept { (n : ℕ) → IsTextAt texts.old pool.now n → IsTextAt texts.new pool.now n }
+{
+    if usize::from(number) < texts.len() {
+        texts[usize::from(number)] = text_at(pool, number);
+    }
+}
+
+/// The numbers of the names and the descriptors of methods.
+fn signatures_of(alloc: Global, methods: &[Member<'_>]) -> Result<Vec<(u16, u16)>, ClassFault>
+    ensures ok { IfOk result (λ pairs. pairs.items ≡ map (λ m. (m.name, m.descriptor)) methods.now) }
+    ensures fault { IfErr result (λ f. f ≡ Memory) }
+{
+    Ok(
+        methods
+            .iter()
+            .map(|m| (m.name, m.descriptor))
+            .collect(alloc)?,
+    )
+}
+
+/// The first method, by its index, that has the name and the descriptor of an earlier one.
+pub fn first_twin(
+    alloc: Global,
+    pool: &Pool<'_>,
+    methods: &[Member<'_>],
+) -> Result<Option<usize>, ClassFault>
+    ensures ok { IfOk result (λ twin. MatchOption twin ((i : ℕ) → ¬ IsTwin pool.now methods.now i) (IsFirstTwin pool.now methods.now)) }
+    ensures fault { IfErr result (λ f. f ≡ Memory) }
+{
+    let texts = texts_of(alloc, pool, methods)?;
+    let signatures = signatures_of(alloc, methods)?;
+    Ok(first_repeat(alloc, &texts, &signatures)?)
+}
+
+/// Whether this place was found.
+pub fn is_at(found: Option<usize>, place: usize) -> bool
+    ensures { result ≡ is_at found place }
+{
+    match found {
+        Some(found) => found == place,
+        None => false,
+    }
+}
