@@ -24,12 +24,9 @@ use Rattle.clap.specs.declared.parser.matches.Found.{Found}
 use Rattle.clap.specs.declared.parser.matches.SubCommand.{SubCommand}
 use Rattle.clap.proofs.ValueTestLemmas.{accepts-Accepts, Accepts-accepts}
 use Rattle.clap.proofs.WalkLemmas.{both, one_text-rows}
+use Rattle.jl_names.proofs.Tests.{by_test}
 use Rattle.jl_cli.specs.declared.words.Words.TheVariants.{Farm}
 use Rattle.jl_cli.specs.CommandLine.{asked_by, count_of}
-
-pub by_test : {P : Type 0} (b : Bool) → (b ≡ true → P) → (b ≡ false → P) → P
-by_test true on_true on_false = on_true refl
-by_test false on_true on_false = on_false refl
 
 -- the value passes
 abbrev pub IsPassed : Text → Type 0

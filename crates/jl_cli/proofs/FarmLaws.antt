@@ -23,7 +23,8 @@ use Rattle.clap.specs.declared.builder.value_parser.ValueParser.TheVariants.{Sig
 use Rattle.clap.specs.declared.parser.matches.ValueSource.TheVariants.{CommandLine}
 use Rattle.jl_cli.specs.Words.{IsEnd}
 use Rattle.jl_cli.specs.CommandLine.{farm, workers}
-use Rattle.jl_cli.proofs.CountLaws.{IsPassed, by_test, read_number}
+use Rattle.jl_names.proofs.Tests.{by_test}
+use Rattle.jl_cli.proofs.CountLaws.{IsPassed, read_number}
 
 -- some kind of error comes
 abbrev pub Comes : Kinds → Type 0

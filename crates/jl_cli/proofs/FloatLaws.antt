@@ -23,18 +23,18 @@ use Rattle.jl_cli.specs.Jsons.{bad_command}
 use Rattle.jl_cli.specs.Scans.{IsFaultAnswer}
 
 fault_floats : (bytes : List ℕ) (answer : Data) → IsFaultAnswer bytes answer → has_float answer ≡ false
-fault_floats bytes answer (inl p) = ap has_float p.2 ∙ refusal_floats _ _ _
-fault_floats bytes answer (inr p) = ap has_float p ∙ refusal_floats _ _ _
+fault_floats bytes answer (inl p) = ap has_float p.2 ∙ refusal_floats _
+fault_floats bytes answer (inr p) = ap has_float p ∙ refusal_floats _
 
 event_floats : (outcome : Result Reply Refusal) (answer : Data) → IsEventData outcome answer → has_float answer ≡ false
 event_floats (Ok reply) answer is = ap has_float is ∙ reply_floats reply
 event_floats (Err r) answer is = ap has_float is.2 ∙ event_refusal_floats is.0 r
 
 pub sketch_floats : (f : SketchFault) → has_float (sketch_refusal_data f) ≡ false
-sketch_floats sketch.TooBig = refusal_floats _ _ _
-sketch_floats (sketch.CallsWithoutCode i) = refusal_floats _ _ _
-sketch_floats (sketch.Refused f) = refusal_floats _ _ _
-sketch_floats sketch.Memory = refusal_floats _ _ _
+sketch_floats sketch.TooBig = refusal_floats _
+sketch_floats (sketch.CallsWithoutCode i) = refusal_floats _
+sketch_floats (sketch.Refused f) = refusal_floats _
+sketch_floats sketch.Memory = refusal_floats _
 
 file_floats : (old : Session) (loader : ℕ) (bytes : List ℕ) (answer : Data) (new : Session)
     → IsFileDefined old loader bytes answer new → has_float answer ≡ false

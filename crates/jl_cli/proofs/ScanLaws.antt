@@ -16,9 +16,7 @@ use Rattle.jl_classfile.specs.Parts.{Parts}
 use Rattle.jl_classfile.specs.ClassFiles.{IsClass}
 use Rattle.jl_classfile.specs.Shown.{shown}
 use Rattle.jl_classfile.specs.Faults.{IsFault}
-use Rattle.jl_json.specs.NameReading.{name_text}
-use Rattle.jl_json.specs.ClassAnswers.{class_data}
-use Rattle.jl_json.proofs.NameLaws.{spells}
+use Rattle.jl_json.specs.ClassAnswers.{class_data, IsClassText}
 use Rattle.jl_json.specs.Refusals.{refusal_data}
 use Rattle.serde_json.specs.Written.{compact_text}
 use Rattle.jl_cli.specs.Jsons.{bad_command, IsTextOf}
@@ -59,9 +57,9 @@ pub refused_text : (bytes : List ℕ) (f : ClassFault) (answer : Data) (text : L
 refused_text bytes f answer text fault is said = (answer, inr (refused bytes f answer fault is), said)
 
 pub shown_text : (bytes : List ℕ) (p : Parts) (file : ClassFile) (text : List ℕ) → IsClass bytes p → file ≡ shown p
-    → text ≡ compact_text (class_data name_text file) → IsTextOf (IsFileAnswer bytes) text
+    → IsClassText file text → IsTextOf (IsFileAnswer bytes) text
 shown_text bytes p file text class is said =
-    (class_data name_text file, inl (p, name_text, class, spells, ap (class_data name_text) is), said)
+    (class_data said.0 file, inl (p, said.0, class, said.1, ap (class_data said.0) is), said.2)
 
 -- an answer to the bytes of a line is one to the line
 of_file : (o : Option (List ℕ)) (hit : Bool) (bytes : List ℕ) (answer : Data)

@@ -29,7 +29,8 @@ use Rattle.jl_cli.specs.declared.words.Mode.{Mode}
 use Rattle.jl_cli.specs.declared.words.Mode.TheVariants.{Scan, Sketch, Run}
 use Rattle.jl_cli.specs.Words.{IsEnd, AskFor, AskForNothing, word_of}
 use Rattle.jl_cli.specs.CommandLine.{asked_by, bare_command, linkd}
-use Rattle.jl_cli.proofs.CountLaws.{IsCount, IsPassed, by_test, count_passes, count_read, number}
+use Rattle.jl_names.proofs.Tests.{by_test}
+use Rattle.jl_cli.proofs.CountLaws.{IsCount, IsPassed, count_passes, count_read, number}
 use Rattle.jl_cli.proofs.CountLaws.{passed_count}
 use Rattle.jl_cli.proofs.FarmLaws.{Comes, IsFarm, IsSaid, dashes, end_or_not, farm_decided}
 use Rattle.jl_cli.proofs.FarmLaws.{farm_fault, first_comes, next_comes, said_passes, said_rows}

@@ -19,9 +19,8 @@ use Rattle.jl_json.specs.declared.command.Command.{Command}
 use Rattle.jl_json.specs.declared.command.Command.TheVariants as command
 use Rattle.jl_json.specs.declared.command.ClassSource.{ClassSource}
 use Rattle.jl_json.specs.declared.command.ClassSource.TheVariants as source
-use Rattle.jl_json.specs.Names.{SpellsNames}
 use Rattle.jl_json.specs.Replies.{reply_data}
-use Rattle.jl_json.specs.EventRefusals.{event_refusal_data, prepare_refusal_data}
+use Rattle.jl_json.specs.EventRefusals.{IsRefusalData, prepare_refusal_data}
 use Rattle.jl_json.specs.LinkAnswers.{links_data, prepared_data}
 use Rattle.jl_json.specs.CallAnswers.{answer_data}
 use Rattle.jl_json.specs.Commands.{command_of}
@@ -46,8 +45,7 @@ LacksAnswer {A = A} old IsSaid new = (new ≡ old) ⊎ ((answer : A) × IsSaid a
 -- the JSON of the reply, or of the refusal
 abbrev pub IsEventData : Result Reply Refusal → Data → Type 0
 IsEventData (Ok reply) answer = answer ≡ reply_data reply
-IsEventData (Err r) answer =
-    (text_of : List ℕ → List ℕ) × SpellsNames text_of × (answer ≡ event_refusal_data text_of r)
+IsEventData (Err r) answer = IsRefusalData r answer
 
 -- the core takes the event or refuses it, and the answer says which
 pub record IsEventAnswer (old : Session) (e : Event) (answer : Data) (new : Session) : Type 0 where

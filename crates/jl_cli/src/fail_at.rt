@@ -1,6 +1,11 @@
 //! A reader or writer for tests, which fails once.
 
-ghost use Rattle.std.specs.Prelude.{◌≡◌};
+ghost use Rattle.std.specs.Prelude.{◌≡◌, ◌<◌, length, IfOk};
+ghost use Rattle.std.specs.Io.{ReadsAtMost, WritesAtMost};
+ghost use Rattle.std.specs.Io.KnownBytes.{ReadConsumes, WriteAppends};
+ghost use Rattle.jl_cli.specs.Devices.{one_more, CountsFailure};
+ghost use Rattle.jl_cli.specs.FailAt.{inner_of, failing_of, calls_of, failures_of};
+ghost use Rattle.jl_cli.specs.FailAt.{IsFailing, CountsCall, FailsThere, FailsAsWithin};
 
 use crate::failed::Failed;
 use crate::sink::Sink;
@@ -17,8 +22,6 @@ pub struct FailAt<T> {
 }
 
 impl<T> FailAt<T> {
-    ghost use Rattle.jl_cli.specs.FailAt.{inner_of, failing_of, calls_of, failures_of};
-
     /// Fails at this call, counted from 1; with 0 at none.
     pub fn new(inner: T, failing: u64) -> Self
         ensures inner { inner_of result ≡ inner }
@@ -48,15 +51,29 @@ impl<T: Source> Source for FailAt<T> {
 
     ghost failures = { λ f. f.failures };
 
-    fn read_some(&mut self, buffer: &mut [u8]) -> Result<usize, Failed> {
+    fn read_some(&mut self, buffer: &mut [u8]) -> Result<usize, Failed>
+        ensures room { ReadsAtMost result buffer.new }
+        ensures bytes { ReadConsumes (T.remaining (inner_of self.old)) (T.remaining (inner_of self.new)) result buffer.new }
+        ensures reads { calls_of self.new ≡ one_more (calls_of self.old) }
+        ensures failures { CountsFailure (failures_of self.old) (failures_of self.new) result }
+        ensures call { CountsCall self.old self.new }
+        ensures there { FailsThere self.old self.new result }
+        ensures unread { IsFailing self.old → buffer.new ≡ buffer.old }
+        ensures within { FailsAsWithin T.failures self.old self.new result }
+        ensures read { ¬ IsFailing self.old → T.reads (inner_of self.new) ≡ one_more (T.reads (inner_of self.old)) }
+    {
         self.calls = self.calls.saturating_add(1);
-        if self.calls != self.failing {
-            if let Ok(count) = self.inner.read_some(buffer) {
-                return Ok(count);
+        if self.calls == self.failing {
+            self.failures = self.failures.saturating_add(1);
+            return Err(Failed);
+        }
+        match self.inner.read_some(buffer) {
+            Ok(count) => Ok(count),
+            Err(_) => {
+                self.failures = self.failures.saturating_add(1);
+                Err(Failed)
             }
         }
-        self.failures = self.failures.saturating_add(1);
-        Err(Failed)
     }
 }
 
@@ -65,14 +82,26 @@ impl<T: Sink> Sink for FailAt<T> {
 
     ghost failures = { λ f. f.failures };
 
-    fn write_some(&mut self, bytes: &[u8]) -> Result<usize, Failed> {
+    fn write_some(&mut self, bytes: &[u8]) -> Result<usize, Failed>
+        ensures some { IfOk result (λ n. 0 < length bytes.now → 0 < n) }
+        ensures bound { WritesAtMost result bytes.now }
+        ensures bytes { WriteAppends (T.contents (inner_of self.old)) (T.contents (inner_of self.new)) result bytes.now }
+        ensures failures { CountsFailure (failures_of self.old) (failures_of self.new) result }
+        ensures call { CountsCall self.old self.new }
+        ensures there { FailsThere self.old self.new result }
+        ensures within { FailsAsWithin T.failures self.old self.new result }
+    {
         self.calls = self.calls.saturating_add(1);
-        if self.calls != self.failing {
-            if let Ok(count) = self.inner.write_some(bytes) {
-                return Ok(count);
+        if self.calls == self.failing {
+            self.failures = self.failures.saturating_add(1);
+            return Err(Failed);
+        }
+        match self.inner.write_some(bytes) {
+            Ok(count) => Ok(count),
+            Err(_) => {
+                self.failures = self.failures.saturating_add(1);
+                Err(Failed)
             }
         }
-        self.failures = self.failures.saturating_add(1);
-        Err(Failed)
     }
 }

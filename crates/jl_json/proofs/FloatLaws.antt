@@ -30,6 +30,7 @@ use Rattle.jl_json.specs.ClassAnswers.{number_data, operand_data, site_data, met
 use Rattle.jl_json.specs.EventRefusals.{define_refusal_data, event_refusal_data, prepare_refusal_data}
 use Rattle.jl_json.specs.LinkAnswers.{outcome_data, table_row_data, link_data}
 use Rattle.jl_json.specs.LinkAnswers.{site_link_data, site_links_data, links_data, prepared_data}
+use Rattle.jl_json.specs.Refusals as plain
 use Rattle.jl_json.specs.Refusals.{refusal_of}
 use Rattle.jl_json.specs.Replies.{made_data, reply_data}
 
@@ -58,12 +59,16 @@ module _ (text_of : List ℕ → List ℕ) where
   unfolding class_data
   class_floats file = rw (methods_floats file.methods) refl
 
-pub refusal_floats : (name : List ℕ) (at method : Option ℕ) → has_float (refusal_of name at method) ≡ false
+parts_floats : (reason : List ℕ) (place method : Option ℕ)
+    → has_float (refusal_of (record { reason = reason; place = place; method = method })) ≡ false
 unfolding refusal_of
-refusal_floats name None None = refl
-refusal_floats name None (Some i) = refl
-refusal_floats name (Some n) None = refl
-refusal_floats name (Some n) (Some i) = refl
+parts_floats reason None None = refl
+parts_floats reason None (Some i) = refl
+parts_floats reason (Some n) None = refl
+parts_floats reason (Some n) (Some i) = refl
+
+pub refusal_floats : (r : plain.Refusal) → has_float (refusal_of r) ≡ false
+refusal_floats r = parts_floats r.reason r.place r.method
 
 -- ---- outcomes and links
 

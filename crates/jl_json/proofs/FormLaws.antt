@@ -24,23 +24,27 @@ use Rattle.jl_json.specs.declared.command.Command.TheVariants.{NewCallSite, SetT
 use Rattle.jl_json.specs.declared.command.ClassSource.TheVariants.{File, Sketch}
 use Rattle.jl_sketch.specs.declared.sketch.Sketch.{Sketch as SketchOf}
 use Rattle.jl_json.specs.ClassAnswers.{number_data}
-use Rattle.jl_json.specs.Members.{below, ◌>>=◌}
+use Rattle.jl_json.specs.Members.{below, number_in, each_in, ◌>>=◌}
 use Rattle.jl_json.specs.Sketches.{name_in, sketch_of}
 use Rattle.jl_json.specs.Targets.{guard, target_in, target_under}
-use Rattle.jl_json.specs.Commands.{numbers_in, recv_in, kind_in, is_method_descriptor, method_type, command_of}
+use Rattle.jl_json.specs.Commands.{recv_in, kind_in, is_method_descriptor, method_type, command_of}
 use Rattle.jl_json.specs.CommandForms.{recv_data, kind_name, target_data, command_data}
 use Rattle.jl_json.specs.CommandForms.{IsReceiver, IsTarget, IsCommand}
 
 pub within : (bound n : ℕ) → n < bound → below bound n ≡ Some n
 within bound n lt = grind (arith, nat_tests)
 
+-- where each form is read, so is the list of them
+pub each_again : {A : Type 0} (read : Data → Option A) (form : A → Data) (HasForm : A → Type 0)
+    → ((a : A) → HasForm a → read (form a) ≡ Some a) → (xs : List A) → AllByRecursion HasForm xs
+    → each_in read (items_of (map form xs)) ≡ Some xs
+each_again read form HasForm again [] h = refl
+each_again read form HasForm again (x ∷ xs) h =
+    λ i. again x h.0 i >>= (λ y. option_map (λ ys. y ∷ ys) (each_again read form HasForm again xs h.1 i))
+
 numbers_again : (sites : List ℕ) → AllByRecursion (λ s. s < 2 ^ 32) sites
-    → numbers_in (items_of (map number_data sites)) ≡ Some sites
-numbers_again [] h = refl
-numbers_again (s ∷ sites) h =
-    ap (λ (o : Option ℕ). o >>= (λ n. option_map (λ ns. n ∷ ns) (numbers_in (items_of (map number_data sites)))))
-    (within (2 ^ 32) s h.0)
-    ∙ ap (option_map (λ ns. s ∷ ns)) (numbers_again sites h.1)
+    → each_in (number_in (2 ^ 32)) (items_of (map number_data sites)) ≡ Some sites
+numbers_again sites h = each_again (number_in (2 ^ 32)) number_data (λ s. s < 2 ^ 32) (within (2 ^ 32)) sites h
 
 recv_again : (recv : Recv) → IsReceiver recv → recv_in (recv_data recv) ≡ Some recv
 recv_again Null h = refl

@@ -17,24 +17,21 @@ use Rattle.std.proofs.lemmas.Option.{option_and_then_some, none-some, same_Some}
 use Rattle.std.proofs.lemmas.Slice.Eq.{bytes_eq-Decides}
 use Rattle.hex.specs.Hex.{decode_of}
 use Rattle.serde_json.specs.Data.{Data, null, boolean, number, string, array, object, Members, no_members, member}
-use Rattle.serde_json.specs.Find.{get, get_member, as_str, as_array}
+use Rattle.serde_json.specs.Find.{get, get_member, as_str}
+use Rattle.jl_names.proofs.Tests.{by_test}
 use Rattle.jl_types.specs.declared.answer.Recv.TheVariants.{Null}
 use Rattle.jl_json.specs.declared.command.Command.{Command}
 use Rattle.jl_json.specs.declared.command.Command.TheVariants.{NewLoader, Define, Delegate, Request, Prepare, Install, Call, Links}
 use Rattle.jl_json.specs.declared.command.Command.TheVariants.{NewCallSite, SetTarget, NewSwitch, Invalidate, Bind}
 use Rattle.jl_json.specs.declared.command.ClassSource.{ClassSource}
 use Rattle.jl_json.specs.declared.command.ClassSource.TheVariants.{File, Sketch}
-use Rattle.jl_json.specs.Members.{number_in, number_at, text_at, member_count, member_keys, keys_of, has_key, AreAmong, ◌>>=◌}
+use Rattle.jl_json.specs.Members.{number_in, number_at, text_at, list_in, member_count, member_keys, keys_of, has_key, AreAmong, ◌>>=◌}
 use Rattle.jl_json.specs.Sketches.{name_in, name_at, sketch_of}
 use Rattle.jl_json.specs.Targets.{target_in, target_at}
-use Rattle.jl_json.specs.Commands.{numbers_in, numbers_at, file_at, recv_in, kind_in, kind_at, method_type, method_type_at, source_of}
+use Rattle.jl_json.specs.Commands.{numbers_at, file_at, recv_in, kind_in, kind_at, method_type, method_type_at, source_of}
 use Rattle.jl_json.specs.Commands.{define_of, delegate_of, request_of, prepare_of, install_of, call_of, call_on_of}
 use Rattle.jl_json.specs.Commands.{new_call_site_of, set_target_of, invalidate_of, bind_of, by_word, command_of}
 use Rattle.jl_json.specs.CommandForms.{command_data}
-
-pub by_test : {P : Type 0} (b : Bool) → (b ≡ true → P) → (b ≡ false → P) → P
-by_test true on_true on_false = on_true refl
-by_test false on_true on_false = on_false refl
 
 abbrev pub Keys : Type 0
 Keys = List (List ℕ)
@@ -225,7 +222,7 @@ unfolding command_data
 prepare_keys sketch ms c count asked e = mapped Prepare (numbers_at (codes "sites") (object ms)) c e
     (λ sites is made. subst (IsForm sketch ms) made
     (named_alone (codes "do" ∷ codes "sites" ∷ []) ms ((refl, tt), (tt, tt)) count
-    (asked, (next_found (λ d. as_array d >>= numbers_in) (codes "sites") ms sites is, tt))))
+    (asked, (next_found (list_in (number_in (2 ^ 32))) (codes "sites") ms sites is, tt))))
 
 install_keys : (sketch : Data) (ms : Members) (c : Command) → member_count ms ≡ 2 → Has (member_keys ms) (codes "do")
     → install_of (object ms) ≡ Some c → IsForm sketch ms c
@@ -331,7 +328,7 @@ unfolding command_data
 invalidate_keys sketch ms c count asked e = mapped Invalidate (numbers_at (codes "switches") (object ms)) c e
     (λ switches is made. subst (IsForm sketch ms) made
     (named_alone (codes "do" ∷ codes "switches" ∷ []) ms ((refl, tt), (tt, tt)) count
-    (asked, (next_found (λ d. as_array d >>= numbers_in) (codes "switches") ms switches is, tt))))
+    (asked, (next_found (list_in (number_in (2 ^ 32))) (codes "switches") ms switches is, tt))))
 
 bind_keys : (sketch : Data) (ms : Members) (c : Command) → member_count ms ≡ 3 → Has (member_keys ms) (codes "do")
     → bind_of (object ms) ≡ Some c → IsForm sketch ms c

@@ -5,6 +5,7 @@ pub mod KeyLaws
 pub mod TargetLaws
 pub mod TypeLaws
 pub mod SketchLaws
+pub mod SketchFormLaws
 pub mod FloatLaws
 pub mod SendLaws
 pub mod Rows

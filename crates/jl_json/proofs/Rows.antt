@@ -1,5 +1,5 @@
 -- Worked rows, by computation.
-use Rattle.std.proofs.Common.{◌≡◌, [], ◌∷◌, refl}
+use Rattle.std.proofs.Common.{◌≡◌, [], ◌∷◌, refl, true, Some, None}
 use Rattle.std.specs.Prelude.{codes}
 use Rattle.std.specs.Char.Utf16.{utf16_chars}
 use Rattle.std.specs.Fmt.{digits}
@@ -10,6 +10,8 @@ use Rattle.jl_code.specs.declared.code_fault.CodeFault.TheVariants as code
 use Rattle.jl_classfile.specs.declared.fault.ClassFault.TheVariants.{Code}
 use Rattle.jl_classfile.specs.Shown.{shown}
 use Rattle.jl_classfile.proofs.Rows.Object as object
+use Rattle.jl_sketch.specs.declared.sketch.Call.TheVariants.{Static}
+use Rattle.jl_sketch.specs.declared.sketch.Sketch.{Sketch}
 use Rattle.jl_types.specs.declared.answer.Answer.TheVariants.{Unlinked}
 use Rattle.jl_types.specs.declared.answer.Missing.TheVariants.{CallerHost}
 use Rattle.jl_types.specs.declared.answer.Outcome.TheVariants.{Run}
@@ -29,6 +31,7 @@ use Rattle.jl_json.specs.LinkAnswers.{prepared_data}
 use Rattle.jl_json.specs.NameReading.{name_text}
 use Rattle.jl_json.specs.Refusals.{refusal_of, refusal_data}
 use Rattle.jl_json.specs.Replies.{reply_data}
+use Rattle.jl_json.specs.SketchForms.{sketch_data}
 
 refused_code : compact_text (refusal_data (Code 0 (code.CutShort 1)))
     ≡ codes "{\"at\":1,\"method\":0,\"refused\":\"Code.CutShort\"}"
@@ -80,3 +83,25 @@ prepared_text : compact_text (prepared_data 4 ((1, Mega) ∷ (2, Fault NoSuchMet
     ≡ codes "{\"prepared\":4,\"rows\":[[1,{\"mega\":true}],[2,{\"fault\":\"NoSuchMethodError\"}]]}"
 unfolding site_links_data site_link_data link_data digits serde_json_on_literals
 prepared_text = refl
+
+-- a static method of the class M, which calls one of the interface A
+abbrev worked_sketch : Sketch
+worked_sketch = record {
+  name = codes "M";
+  flags = 1;
+  superclass = Some (codes "N");
+  interfaces = [];
+  methods = record {
+    name = codes "m";
+    ty = codes "()V";
+    flags = 9;
+    calls = Static true (record { owner = codes "A"; name = codes "f"; ty = codes "()V" }) ∷ [];
+  } ∷ [];
+  host = None;
+  members = codes "B" ∷ [];
+}
+
+sketch_text : compact_text (sketch_data name_text worked_sketch)
+    ≡ codes "{\"flags\":1,\"interfaces\":[],\"members\":[\"B\"],\"methods\":[{\"calls\":[{\"itf\":true,\"kind\":\"invokestatic\",\"name\":\"f\",\"of\":\"A\",\"type\":\"()V\"}],\"flags\":9,\"name\":\"m\",\"type\":\"()V\"}],\"name\":\"M\",\"super\":\"N\"}"
+unfolding name_text utf16_chars encode digits serde_json_on_literals
+sketch_text = refl

@@ -1,5 +1,5 @@
--- Sketches: their keys, and the least of them.
-use Rattle.std.proofs.Common.{◌≡◌, ap, refl, ℕ, ◌^◌, ◌<◌, List, [], ◌∷◌}
+-- The keys of sketches.
+use Rattle.std.proofs.Common.{◌≡◌, ap, refl, ℕ, List, [], ◌∷◌}
 use Rattle.std.proofs.Common.{Bool, true, false, ◌||◌, if◌then◌else◌, map}
 use Rattle.std.proofs.Common.{Option, Some, None, Global, String, string_bytes}
 use Rattle.std.specs.List.{list_all, list_any, AllByRecursion}
@@ -11,9 +11,8 @@ use Rattle.serde_json.specs.View.{members_view}
 use Rattle.serde_json.specs.declared.value.Value.{Value}
 use Rattle.jl_pool.proofs.FormLaws.{and_true}
 use Rattle.jl_sketch.specs.declared.sketch.Sketch.{Sketch}
-use Rattle.jl_json.specs.Members.{has_key, has_only, keys_of, member_keys, AreAmong, ◌>>=◌}
-use Rattle.jl_json.proofs.FormLaws.{within}
-use Rattle.jl_json.specs.Sketches.{sketch_keys, sketch_of, least, least_data}
+use Rattle.jl_json.specs.Members.{has_key, has_only, keys_of, member_keys, AreAmong}
+use Rattle.jl_json.specs.Sketches.{sketch_keys, sketch_of}
 
 all_hold : {A : Type 0} (test : A → Bool) (xs : List A) → list_all test xs ≡ true
     → AllByRecursion (λ x. test x ≡ true) xs
@@ -28,13 +27,6 @@ taken false o a e = absurd (none-some a e)
 
 pub no_other_keys : (d : Data) (s : Sketch) → sketch_of d ≡ Some s → AreAmong (keys_of d) sketch_keys
 no_other_keys d s e = all_hold (has_key sketch_keys) (keys_of d) (taken (has_only sketch_keys d) _ s e)
-
-abbrev flags_next : List ℕ → Option ℕ → Option Sketch
-flags_next name flags = flags >>= (λ f. Some (least name f))
-
-pub least_read : (name : List ℕ) (flags : ℕ) → flags < 2 ^ 16
-    → sketch_of (least_data name flags) ≡ Some (least name flags)
-least_read name flags lt = ap (flags_next name) (within (2 ^ 16) flags lt)
 
 -- ---- keys of an object, and keys that are named
 

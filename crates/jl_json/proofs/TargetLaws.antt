@@ -20,7 +20,8 @@ use Rattle.jl_types.specs.Target.{Target, Method, Guard}
 use Rattle.jl_json.specs.Members.{number_at, member_count, member_keys, keys_of, AreAmong, ◌>>=◌}
 use Rattle.jl_json.specs.Targets.{method_pair, method_at, guard, object_target, target_in, target_under, target_at}
 use Rattle.jl_json.specs.CommandForms.{target_data}
-use Rattle.jl_json.proofs.KeyLaws.{by_test, next_found, number_found, named_alone, mapped}
+use Rattle.jl_names.proofs.Tests.{by_test}
+use Rattle.jl_json.proofs.KeyLaws.{next_found, number_found, named_alone, mapped}
 
 -- ---- one level
 

@@ -1,7 +1,8 @@
 -- What is answered to a class file, as JSON.
-use Rattle.std.specs.Prelude.{ℕ, List, map, codes}
+use Rattle.std.specs.Prelude.{◌≡◌, ℕ, List, map, codes}
 use Rattle.serde_json.specs.Data.{Data, number, unsigned, string, array, object, no_members, member}
 use Rattle.serde_json.specs.View.{items_of}
+use Rattle.serde_json.specs.Written.{compact_text}
 use Rattle.jl_classfile.specs.Class.{ClassFile, Method}
 use Rattle.jl_pool.specs.declared.reference.Reference.{Reference}
 use Rattle.jl_pool.specs.declared.reference.CallSiteSpecifier.{CallSiteSpecifier}
@@ -11,6 +12,7 @@ use Rattle.jl_code.specs.declared.site.Kind.TheVariants.{Interface, Dynamic}
 use Rattle.jl_code.specs.declared.site.Operand.{Operand}
 use Rattle.jl_code.specs.declared.site.Operand.TheVariants as operand
 use Rattle.jl_code.specs.Site.{Site}
+use Rattle.jl_json.specs.Names.{SpellsNames}
 
 abbrev pub number_data : ℕ → Data
 number_data n = number (unsigned n)
@@ -65,3 +67,8 @@ module _ (text_of : List ℕ → List ℕ) where
   class_data file =
       object (member (codes "class") (name_data file.name)
       (member (codes "methods") (array (items_of (map method_data file.methods))) no_members))
+
+-- the text of that, with each name spelled
+abbrev pub IsClassText : ClassFile → List ℕ → Type 0
+IsClassText file text =
+    (text_of : List ℕ → List ℕ) × SpellsNames text_of × (text ≡ compact_text (class_data text_of file))

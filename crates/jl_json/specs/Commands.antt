@@ -5,8 +5,8 @@ use Rattle.std.specs.Option.{option_map_or}
 use Rattle.std.specs.Result.{result_ok}
 use Rattle.std.specs.Str.{bytes_eq}
 use Rattle.hex.specs.Hex.{decode_of}
-use Rattle.serde_json.specs.Data.{Data, Items}
-use Rattle.serde_json.specs.Find.{get, as_null, as_array, as_object}
+use Rattle.serde_json.specs.Data.{Data}
+use Rattle.serde_json.specs.Find.{get, as_null, as_object}
 use Rattle.jl_types.specs.declared.answer.Recv.{Recv}
 use Rattle.jl_types.specs.declared.answer.Recv.TheVariants.{Null, Of}
 use Rattle.jl_types.specs.declared.target.CallSiteKind.{CallSiteKind}
@@ -17,21 +17,15 @@ use Rattle.jl_json.specs.declared.command.Command.TheVariants.{NewLoader, Define
 use Rattle.jl_json.specs.declared.command.Command.TheVariants.{NewCallSite, SetTarget, NewSwitch, Invalidate, Bind}
 use Rattle.jl_json.specs.declared.command.ClassSource.{ClassSource}
 use Rattle.jl_json.specs.declared.command.ClassSource.TheVariants.{File, Sketch}
-use Rattle.jl_json.specs.Members.{◌>>=◌, number_in, number_at, text_at, each_in, member_count}
+use Rattle.jl_json.specs.Members.{◌>>=◌, number_in, number_at, text_at, list_at, member_count}
 use Rattle.jl_json.specs.Sketches.{name_at, sketch_of}
 use Rattle.jl_json.specs.Targets.{target_at}
 
 -- ---- values of members
 
 -- numbers below 2 ^ 32
-abbrev pub numbers_in : Items → Option (List ℕ)
-numbers_in = each_in (number_in (2 ^ 32))
-
 abbrev pub numbers_at : List ℕ → Data → Option (List ℕ)
-numbers_at key d = do
-  numbers ← get key d
-  items ← as_array numbers
-  numbers_in items
+numbers_at key d = list_at (number_in (2 ^ 32)) key d
 
 -- the bytes that a text is the hexadecimal of, in either case
 abbrev pub file_at : List ℕ → Data → Option (List ℕ)

@@ -1,5 +1,5 @@
 -- What an event or a preparation is answered that is refused, as JSON: the name of the fault, and what it is about.
-use Rattle.std.specs.Prelude.{ℕ, List, codes}
+use Rattle.std.specs.Prelude.{◌≡◌, ℕ, List, codes}
 use Rattle.serde_json.specs.Data.{Data, string, object, no_members, member}
 use Rattle.jl_types.specs.declared.link.Link.{Link}
 use Rattle.jl_types.specs.declared.refusal.CallSiteFault.{CallSiteFault}
@@ -16,6 +16,7 @@ use Rattle.jl_types.specs.declared.refusal.Refusal.{Refusal}
 use Rattle.jl_types.specs.declared.refusal.Refusal.TheVariants as refusal
 use Rattle.jl_json.specs.ClassAnswers.{number_data, name_data}
 use Rattle.jl_json.specs.LinkAnswers.{single, link_data}
+use Rattle.jl_json.specs.Names.{SpellsNames}
 
 -- ---- a fault with what it is about
 
@@ -103,6 +104,11 @@ module _ (text_of : List ℕ → List ℕ) where
   event_refusal_data refusal.Memory = refused (codes "Memory")
   event_refusal_data (refusal.Delegate fault) = refused (delegate_name fault)
   event_refusal_data refusal.LoadersFull = refused (codes "LoadersFull")
+
+-- the answer, with each name spelled
+abbrev pub IsRefusalData : Refusal → Data → Type 0
+IsRefusalData r answer =
+    (text_of : List ℕ → List ℕ) × SpellsNames text_of × (answer ≡ event_refusal_data text_of r)
 
 -- ---- preparations
 

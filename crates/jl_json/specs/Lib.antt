@@ -7,6 +7,7 @@ pub mod Replies
 pub mod EventRefusals
 pub mod Members
 pub mod Sketches
+pub mod SketchForms
 pub mod Targets
 pub mod Commands
 pub mod CommandForms

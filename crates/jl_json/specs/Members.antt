@@ -43,6 +43,10 @@ number_at bound key d = get key d >>= number_in bound
 abbrev pub text_at : List ℕ → Data → Option (List ℕ)
 text_at key d = get key d >>= as_str
 
+-- an array under a key
+abbrev pub list_at : {A : Type 0} → (Data → Option A) → List ℕ → Data → Option (List A)
+list_at read key d = get key d >>= list_in read
+
 -- what may be absent, and what is meant then
 abbrev pub or_absent : {A : Type 0} → A → (Data → Option A) → List ℕ → Data → Option A
 or_absent absent read key d = option_map_or read (get key d) (Some absent)

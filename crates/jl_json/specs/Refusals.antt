@@ -35,27 +35,27 @@ code_reason (code.BadOperand pc) = codes "Code.BadOperand"
 code_reason code.BadLayout = codes "Code.BadLayout"
 code_reason code.Memory = codes "Memory"
 
-abbrev pub reason : ClassFault → List ℕ
-reason TooLarge = codes "TooLarge"
-reason BadMagic = codes "BadMagic"
-reason BadVersion = codes "BadVersion"
-reason Truncated = codes "Truncated"
-reason (Pool f) = pool_reason f
-reason ModuleFile = codes "ModuleFile"
-reason BadSuper = codes "BadSuper"
-reason (DuplicateMethod i) = codes "DuplicateMethod"
-reason (TwoCodes i) = codes "TwoCodes"
-reason (Code i f) = code_reason f
-reason TrailingBytes = codes "TrailingBytes"
-reason (BadMember k) = codes "BadMember"
-reason (BadLink n) = codes "BadLink"
-reason BadNest = codes "BadNest"
-reason Memory = codes "Memory"
+abbrev pub class_reason : ClassFault → List ℕ
+class_reason TooLarge = codes "TooLarge"
+class_reason BadMagic = codes "BadMagic"
+class_reason BadVersion = codes "BadVersion"
+class_reason Truncated = codes "Truncated"
+class_reason (Pool f) = pool_reason f
+class_reason ModuleFile = codes "ModuleFile"
+class_reason BadSuper = codes "BadSuper"
+class_reason (DuplicateMethod i) = codes "DuplicateMethod"
+class_reason (TwoCodes i) = codes "TwoCodes"
+class_reason (Code i f) = code_reason f
+class_reason TrailingBytes = codes "TrailingBytes"
+class_reason (BadMember k) = codes "BadMember"
+class_reason (BadLink n) = codes "BadLink"
+class_reason BadNest = codes "BadNest"
+class_reason Memory = codes "Memory"
 
 abbrev pub sketch_reason : SketchFault → List ℕ
 sketch_reason sketch.TooBig = codes "TooBig"
 sketch_reason (sketch.CallsWithoutCode i) = codes "CallsWithoutCode"
-sketch_reason (sketch.Refused f) = reason f
+sketch_reason (sketch.Refused f) = class_reason f
 sketch_reason sketch.Memory = codes "Memory"
 
 -- ---- its place: a number of an entry or a member, or a pc
@@ -74,30 +74,50 @@ code_place (code.BadSwitch pc) = Some pc
 code_place (code.BadOperand pc) = Some pc
 code_place _ = None
 
-abbrev pub place : ClassFault → Option ℕ
-place (Pool f) = pool_place f
-place (Code i f) = code_place f
-place (BadMember k) = Some k
-place (BadLink n) = Some n
-place _ = None
+abbrev pub class_place : ClassFault → Option ℕ
+class_place (Pool f) = pool_place f
+class_place (Code i f) = code_place f
+class_place (BadMember k) = Some k
+class_place (BadLink n) = Some n
+class_place _ = None
 
 abbrev pub sketch_place : SketchFault → Option ℕ
-sketch_place (sketch.Refused f) = place f
+sketch_place (sketch.Refused f) = class_place f
 sketch_place _ = None
 
 -- ---- the index of the method
 
-abbrev pub method : ClassFault → Option ℕ
-method (DuplicateMethod i) = Some i
-method (TwoCodes i) = Some i
-method (Code i code.Memory) = None
-method (Code i f) = Some i
-method _ = None
+abbrev pub class_method : ClassFault → Option ℕ
+class_method (DuplicateMethod i) = Some i
+class_method (TwoCodes i) = Some i
+class_method (Code i code.Memory) = None
+class_method (Code i f) = Some i
+class_method _ = None
 
 abbrev pub sketch_method : SketchFault → Option ℕ
 sketch_method (sketch.CallsWithoutCode i) = Some i
-sketch_method (sketch.Refused f) = method f
+sketch_method (sketch.Refused f) = class_method f
 sketch_method _ = None
+
+-- ---- refusals
+
+pub record Refusal : Type 0 where
+  pub reason : List ℕ
+  pub place : Option ℕ
+  pub method : Option ℕ
+
+abbrev pub pool_refusal : PoolFault → Refusal
+pool_refusal f = record { reason = pool_reason f; place = pool_place f; method = None }
+
+abbrev pub code_refusal : CodeFault → Refusal
+code_refusal f = record { reason = code_reason f; place = code_place f; method = None }
+
+abbrev pub class_refusal : ClassFault → Refusal
+class_refusal f = record { reason = class_reason f; place = class_place f; method = class_method f }
+
+-- that of a sketch whose bytes would be refused is theirs
+abbrev pub sketch_refusal : SketchFault → Refusal
+sketch_refusal f = record { reason = sketch_reason f; place = sketch_place f; method = sketch_method f }
 
 -- ---- the answer
 
@@ -106,14 +126,13 @@ abbrev pub with_number : List ℕ → Option ℕ → Members → Members
 with_number key None members = members
 with_number key (Some n) members = put key (number (unsigned n)) members
 
-unfoldable pub refusal_of : List ℕ → Option ℕ → Option ℕ → Data
-refusal_of name at method =
-    object (with_number (codes "at") at (with_number (codes "method") method
-    (member (codes "refused") (string name) no_members)))
+unfoldable pub refusal_of : Refusal → Data
+refusal_of r =
+    object (with_number (codes "at") r.place (with_number (codes "method") r.method
+    (member (codes "refused") (string r.reason) no_members)))
 
 abbrev pub refusal_data : ClassFault → Data
-refusal_data f = refusal_of (reason f) (place f) (method f)
+refusal_data f = refusal_of (class_refusal f)
 
--- that of a sketch whose bytes would be refused is theirs
 abbrev pub sketch_refusal_data : SketchFault → Data
-sketch_refusal_data f = refusal_of (sketch_reason f) (sketch_place f) (sketch_method f)
+sketch_refusal_data f = refusal_of (sketch_refusal f)

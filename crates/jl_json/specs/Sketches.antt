@@ -5,7 +5,7 @@ use Rattle.std.specs.Prelude.{Option, Some, None, option_map}
 use Rattle.std.specs.Char.Escape.{encode_utf16}
 use Rattle.std.specs.List.{flat_map}
 use Rattle.std.specs.Str.{bytes_eq, chars}
-use Rattle.serde_json.specs.Data.{Data, string, object, no_members, member}
+use Rattle.serde_json.specs.Data.{Data}
 use Rattle.serde_json.specs.Find.{get, as_bool, as_str}
 use Rattle.jl_names.specs.Mutf8.{mutf8}
 use Rattle.jl_sketch.specs.declared.sketch.Sketch.{Sketch}
@@ -13,7 +13,6 @@ use Rattle.jl_sketch.specs.declared.sketch.SketchMethod.{SketchMethod}
 use Rattle.jl_sketch.specs.declared.sketch.MethodName.{MethodName}
 use Rattle.jl_sketch.specs.declared.sketch.Call.{Call}
 use Rattle.jl_sketch.specs.declared.sketch.Call.TheVariants.{Virtual, Special, Static, Interface, Dynamic}
-use Rattle.jl_json.specs.ClassAnswers.{number_data}
 use Rattle.jl_json.specs.Members.{◌>>=◌, number_at, list_in, text_at, or_absent, with_only}
 
 -- ---- names
@@ -129,19 +128,3 @@ sketch_of d = with_only sketch_keys d (do
     host = host;
     members = members;
   }))
-
--- the least sketch, a name and flags, and its JSON
-abbrev pub least : List ℕ → ℕ → Sketch
-least name flags = record {
-  name = text_name name;
-  flags = flags;
-  superclass = None;
-  interfaces = [];
-  methods = [];
-  host = None;
-  members = [];
-}
-
-abbrev pub least_data : List ℕ → ℕ → Data
-least_data name flags =
-    object (member (codes "flags") (number_data flags) (member (codes "name") (string name) no_members))

@@ -35,8 +35,11 @@ fn unlinked_value(alloc: Global, reason: Unlinked) -> Result<Value, AllocError>
     }
 }
 
-/// The answer to a call (JVMS SE 17 §6.5): its outcome, or why there is none. Want of memory is an
-/// error.
+/// The answer to a call (JVMS SE 17 §6.5): its outcome, or why there is none.
+///
+/// # Errors
+///
+/// Want of memory.
 #[tactic(auto, unfolding(crate::specs::CallAnswers::answer_data))]
 pub fn answer_value(alloc: Global, answer: Answer) -> Result<Value, AllocError>
     ensures { IfOk result (λ v. view v ≡ answer_data answer) }

@@ -2,8 +2,9 @@
 
 ghost use Rattle.std.specs.Prelude.{◌≡◌, ◌^◌, ℕ, List, Some, IfOk};
 ghost use Rattle.serde_json.specs.Data.{Data};
-ghost use Rattle.serde_json.specs.View.{view, items_view};
-ghost use Rattle.jl_json.specs.Commands.{numbers_in, numbers_at, kind_in, kind_at};
+ghost use Rattle.serde_json.specs.View.{view};
+ghost use Rattle.jl_json.specs.Members.{number_in};
+ghost use Rattle.jl_json.specs.Commands.{kind_in, kind_at};
 ghost use Rattle.jl_json.specs.Commands.{is_method_descriptor, method_type_at};
 ghost use Rattle.jl_json.specs.Commands.{new_call_site_of, set_target_of, invalidate_of, bind_of};
 ghost use Rattle.jl_json.specs.Commands.{by_call_site_word, command_of};
@@ -13,9 +14,10 @@ ghost use Rattle.jl_types.specs.declared.target.CallSiteKind.{CallSiteKind};
 ghost use Rattle.jl_types.specs.Target.{Target};
 
 use crate::command::{Command, number_at, number_in, text_at};
+use crate::from_json::{FromJson, list_at};
 use crate::sketch::name_at;
 use crate::target::target_at;
-use jl_names::{Name, Seq, method_slots};
+use jl_names::{Name, method_slots};
 use jl_types::{CallSiteId, CallSiteKind, SiteNo, SwitchId};
 use serde_json::Value;
 use std::alloc::{AllocError, Global};
@@ -60,27 +62,14 @@ fn method_type_at(alloc: Global, value: &Value, key: &str) -> Result<Option<Name
     }
 }
 
-/// The switch points of these numbers.
-fn switches_in(alloc: Global, items: &[Value]) -> Result<Option<Seq<SwitchId>>, AllocError>
-    ensures { IfOk result (λ switches. switches ≡ numbers_in (items_view items.now)) }
-{
-    let mut switches = Vec::new(alloc);
-    for item in items {
-        match number_in(item) {
-            Some(number) => switches.push(SwitchId::new(number))?,
-            None => return Ok(None),
-        }
-    }
-    Ok(Some(Seq::of(switches)))
-}
+impl FromJson for SwitchId {
+    ghost read = { number_in (2 ^ 32) };
 
-/// The switch points under the key, an array of their numbers.
-fn switches_at(alloc: Global, value: &Value, key: &str) -> Result<Option<Seq<SwitchId>>, AllocError>
-    ensures { IfOk result (λ switches. switches ≡ numbers_at key.now (view value.now)) }
-{
-    match value.get(key).and_then(Value::as_array) {
-        Some(items) => switches_in(alloc, items),
-        None => Ok(None),
+    fn from_json(_alloc: Global, value: &Value) -> Result<Option<Self>, AllocError> {
+        match number_in(value) {
+            Some(number) => Ok(Some(SwitchId::new(number))),
+            None => Ok(None),
+        }
     }
 }
 
@@ -118,7 +107,7 @@ fn set_target(alloc: Global, value: &Value) -> Result<Option<Command>, AllocErro
 fn invalidate(alloc: Global, value: &Value) -> Result<Option<Command>, AllocError>
     ensures { IfOk result (λ command. command ≡ invalidate_of (view value.now)) }
 {
-    match switches_at(alloc, value, "switches")? {
+    match list_at(alloc, value, "switches")? {
         Some(switches) => Ok(Some(Command::Invalidate(switches))),
         None => Ok(None),
     }

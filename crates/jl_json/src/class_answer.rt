@@ -4,10 +4,10 @@ ghost use Rattle.std.specs.Prelude.{◌≡◌, map, IfOk, OnOk};
 ghost use Rattle.serde_json.specs.Data.{array};
 ghost use Rattle.serde_json.specs.Events.{SendsValue};
 ghost use Rattle.serde_json.specs.View.{items_of};
-ghost use Rattle.serde_json.specs.Written.{compact_text};
 ghost use Rattle.jl_json.specs.NameReading.{name_text};
 ghost use Rattle.jl_json.specs.ClassAnswers.{instruction_name, call_data, call_site_data};
 ghost use Rattle.jl_json.specs.ClassAnswers.{name_data, number_data, site_data, method_data, class_data};
+ghost use Rattle.jl_json.specs.ClassAnswers.{IsClassText};
 
 use crate::text::{plain_text, text_of};
 use jl_classfile::{ClassFile, Method};
@@ -189,9 +189,13 @@ fn send_class<S: Serializer>(alloc: Global, file: &ClassFile, out: &mut S) -> Re
 }
 
 /// The answer to a class file, as JSON: its name, and its methods with their invocations (JVMS SE 17 §4.1, §4.6,
-/// §6.5). Want of memory is an error.
+/// §6.5).
+///
+/// # Errors
+///
+/// Want of memory.
 pub fn class_text(alloc: Global, file: &ClassFile) -> Result<Vec<u8>, AllocError>
-    ensures { IfOk result (λ text. text.items ≡ compact_text (class_data name_text file.now)) }
+    ensures { IfOk result (λ text. IsClassText file.now text.items) }
 {
     match serde_json::to_vec(alloc, &Shown { alloc, file }) {
         Ok(text) => Ok(text),

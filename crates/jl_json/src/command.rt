@@ -3,15 +3,16 @@
 ghost use Rattle.std.specs.Prelude.{◌≡◌, ◌^◌, codes, Some, option_map, option_and_then, IfOk};
 ghost use Rattle.serde_json.specs.Data.{Data};
 ghost use Rattle.serde_json.specs.Find.{as_object};
-ghost use Rattle.serde_json.specs.View.{view, items_view};
+ghost use Rattle.serde_json.specs.View.{view};
 ghost use Rattle.jl_json.specs.Members.{number_in, number_at, text_at, member_count, keys_of, AreAmong};
-ghost use Rattle.jl_json.specs.Commands.{numbers_in, numbers_at, file_at, recv_in, source_of};
+ghost use Rattle.jl_json.specs.Commands.{file_at, recv_in, source_of};
 ghost use Rattle.jl_json.specs.Commands.{define_of, delegate_of, request_of, prepare_of, install_of, call_of};
 ghost use Rattle.jl_json.specs.Commands.{call_on_of, by_word, command_of};
 ghost use Rattle.jl_json.specs.CommandForms.{IsCommand, command_data};
 ghost use Rattle.jl_json.specs.declared.command.Command.{Command};
 
 use crate::call_site::call_site_command;
+use crate::from_json::{FromJson, list_at};
 use crate::sketch::{name_at, read_sketch};
 use hex::FromHexError;
 use jl_names::{Name, Seq};
@@ -133,27 +134,14 @@ fn file_at(alloc: Global, value: &Value, key: &str) -> Result<Option<Seq<u8>>, A
     }
 }
 
-/// The sites of these numbers.
-fn sites_in(alloc: Global, items: &[Value]) -> Result<Option<Seq<SiteNo>>, AllocError>
-    ensures { IfOk result (λ sites. sites ≡ numbers_in (items_view items.now)) }
-{
-    let mut sites = Vec::new(alloc);
-    for item in items {
-        match number_in(item) {
-            Some(number) => sites.push(SiteNo::new(number))?,
-            None => return Ok(None),
-        }
-    }
-    Ok(Some(Seq::of(sites)))
-}
+impl FromJson for SiteNo {
+    ghost read = { number_in (2 ^ 32) };
 
-/// The sites under the key, an array of their numbers.
-fn sites_at(alloc: Global, value: &Value, key: &str) -> Result<Option<Seq<SiteNo>>, AllocError>
-    ensures { IfOk result (λ sites. sites ≡ numbers_at key.now (view value.now)) }
-{
-    match value.get(key).and_then(Value::as_array) {
-        Some(items) => sites_in(alloc, items),
-        None => Ok(None),
+    fn from_json(_alloc: Global, value: &Value) -> Result<Option<Self>, AllocError> {
+        match number_in(value) {
+            Some(number) => Ok(Some(SiteNo::new(number))),
+            None => Ok(None),
+        }
     }
 }
 
@@ -225,7 +213,7 @@ fn request(value: &Value) -> Option<Command>
 fn prepare(alloc: Global, value: &Value) -> Result<Option<Command>, AllocError>
     ensures { IfOk result (λ command. command ≡ prepare_of (view value.now)) }
 {
-    match sites_at(alloc, value, "sites")? {
+    match list_at(alloc, value, "sites")? {
         Some(sites) => Ok(Some(Command::Prepare(sites))),
         None => Ok(None),
     }
@@ -288,7 +276,11 @@ fn command_of_word(
 }
 
 /// The command that the JSON is, or `None` where it is none: an object of the members that the
-/// command has, and of no others. Want of memory is an error.
+/// command has, and of no others.
+///
+/// # Errors
+///
+/// Want of memory.
 pub fn read_command(alloc: Global, value: &Value) -> Result<Option<Command>, AllocError>
     ensures { IfOk result (λ command. command ≡ command_of (view value.now)) }
 {

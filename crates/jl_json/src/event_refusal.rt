@@ -6,7 +6,8 @@ ghost use Rattle.jl_json.specs.NameReading.{name_text};
 ghost use Rattle.jl_json.specs.EventRefusals.{refused, refused_at, refused_bound, refused_for};
 ghost use Rattle.jl_json.specs.EventRefusals.{refused_name, delegate_name, call_site_name};
 ghost use Rattle.jl_json.specs.EventRefusals.{not_linkable_name, define_refusal_data};
-ghost use Rattle.jl_json.specs.EventRefusals.{event_refusal_data, prepare_refusal_data};
+ghost use Rattle.jl_json.specs.EventRefusals.{event_refusal_data, IsRefusalData};
+ghost use Rattle.jl_json.specs.EventRefusals.{prepare_refusal_data};
 
 use crate::link_answer::link_value;
 use crate::text::text_of;
@@ -130,9 +131,20 @@ fn define_refusal_value(alloc: Global, fault: &DefineFault) -> Result<Value, All
 
 /// The answer that an event is refused: the name of the fault, behind the name of the fault that it
 /// is within, and the name, call site, site or link that it is about. A want of memory is `Memory`
-/// wherever it is within. Want of memory for the answer is an error.
-#[tactic(auto, unfolding(crate::specs::EventRefusals::event_refusal_data))]
+/// wherever it is within.
+///
+/// # Errors
+///
+/// Want of memory for the answer.
 pub fn event_refusal_value(alloc: Global, refusal: &Refusal) -> Result<Value, AllocError>
+    ensures { IfOk result (λ v. IsRefusalData refusal.now (view v)) }
+{
+    refusal_value(alloc, refusal)
+}
+
+/// The answer that an event is refused.
+#[tactic(auto, unfolding(crate::specs::EventRefusals::event_refusal_data))]
+fn refusal_value(alloc: Global, refusal: &Refusal) -> Result<Value, AllocError>
     ensures { IfOk result (λ v. view v ≡ event_refusal_data name_text refusal.now) }
 {
     match refusal {
@@ -157,7 +169,11 @@ pub fn event_refusal_value(alloc: Global, refusal: &Refusal) -> Result<Value, Al
 }
 
 /// The answer that links aren't prepared: the name of the fault, behind `Prepare`, and the site that
-/// it is about. Want of memory for the answer is an error.
+/// it is about.
+///
+/// # Errors
+///
+/// Want of memory for the answer.
 #[tactic(auto, unfolding(crate::specs::EventRefusals::prepare_refusal_data))]
 pub fn prepare_refusal_value(alloc: Global, fault: PrepareFault) -> Result<Value, AllocError>
     ensures { IfOk result (λ v. view v ≡ prepare_refusal_data fault) }

@@ -3,7 +3,8 @@
 //! The value of each answer stands in `specs/`, in reading order: `Names`, `ClassAnswers` and
 //! `Refusals` for class files; `LinkAnswers`, `CallAnswers`, `Replies` and `EventRefusals` for what
 //! is linked. Which JSON asks for something stands in `Members`, `Sketches`, `Targets` and
-//! `Commands`, and a form of each command and target in `CommandForms`.
+//! `Commands`, a form of each sketch in `SketchForms`, and one of each command and target in
+//! `CommandForms`.
 #![tactic(auto)]
 
 // Class files.
@@ -20,6 +21,7 @@ mod reply;
 // What is asked.
 mod call_site;
 mod command;
+mod from_json;
 mod sketch;
 mod target;
 
@@ -31,6 +33,5 @@ pub use event_refusal::{event_refusal_value, prepare_refusal_value};
 pub use link_answer::{farm_value, link_value, links_value, outcome_value, prepared_value};
 pub use refusal::Refusal;
 pub use reply::reply_value;
-pub use sketch::{least_sketch, no_other_sketch_keys, read_sketch};
+pub use sketch::{each_sketch_is_read, no_other_sketch_keys, read_sketch};
 pub use target::{each_target_is_read, no_other_target_keys};
-pub use text::{names_are_spelled, text_of};

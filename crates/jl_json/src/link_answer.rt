@@ -45,7 +45,11 @@ fn method_id_value(alloc: Global, method: MethodId) -> Result<Value, AllocError>
 }
 
 /// An outcome: the method that runs, by its class and its place there, or the name of what is
-/// thrown (JVMS SE 17 §6.5). Want of memory is an error.
+/// thrown (JVMS SE 17 §6.5).
+///
+/// # Errors
+///
+/// Want of memory.
 pub fn outcome_value(alloc: Global, outcome: Outcome) -> Result<Value, AllocError>
     ensures { IfOk result (λ v. view v ≡ outcome_data outcome) }
 {
@@ -83,7 +87,10 @@ fn table_rows_value(alloc: Global, rows: &[(ClassId, Outcome)]) -> Result<Value,
 }
 
 /// A link: what the calls of its site come to, by the class of the receiver where that matters.
-/// Want of memory is an error.
+///
+/// # Errors
+///
+/// Want of memory.
 #[tactic(auto, unfolding(crate::specs::LinkAnswers::link_data))]
 pub fn link_value(alloc: Global, link: Link) -> Result<Value, AllocError>
     ensures { IfOk result (λ v. view v ≡ link_data link) }
@@ -132,7 +139,11 @@ fn site_links_value(alloc: Global, rows: &[(SiteNo, Link)]) -> Result<Value, All
     Ok(Value::Array(values))
 }
 
-/// The answer that lists sites with their links, in the order given. Want of memory is an error.
+/// The answer that lists sites with their links, in the order given.
+///
+/// # Errors
+///
+/// Want of memory.
 pub fn links_value(alloc: Global, links: &[(SiteNo, Link)]) -> Result<Value, AllocError>
     ensures { IfOk result (λ v. view v ≡ links_data links.now) }
 {
@@ -140,7 +151,11 @@ pub fn links_value(alloc: Global, links: &[(SiteNo, Link)]) -> Result<Value, All
     json!(in alloc; {"links": links})
 }
 
-/// The last answer of a farm: the links that it leaves, in the order given, and its reports. Want of memory is an error.
+/// The last answer of a farm: the links that it leaves, in the order given, and its reports.
+///
+/// # Errors
+///
+/// Want of memory.
 pub fn farm_value(
     alloc: Global,
     links: &[(SiteNo, Link)],
@@ -153,7 +168,11 @@ pub fn farm_value(
 }
 
 /// The answer to a preparation: the number of the batch, and its sites with their links, in the order
-/// given. Want of memory is an error.
+/// given.
+///
+/// # Errors
+///
+/// Want of memory.
 pub fn prepared_value(
     alloc: Global,
     batch: u32,

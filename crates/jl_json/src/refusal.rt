@@ -2,9 +2,8 @@
 
 ghost use Rattle.std.specs.Prelude.{◌≡◌, None, Some, IfOk, OnOk};
 ghost use Rattle.serde_json.specs.View.{view, members_view};
-ghost use Rattle.jl_json.specs.Refusals.{refusal_of, with_number, reason, place, method};
-ghost use Rattle.jl_json.specs.Refusals.{pool_reason, pool_place, code_reason, code_place};
-ghost use Rattle.jl_json.specs.Refusals.{sketch_reason, sketch_place, sketch_method};
+ghost use Rattle.jl_json.specs.Refusals.{refusal_of, with_number};
+ghost use Rattle.jl_json.specs.Refusals.{pool_refusal, code_refusal, class_refusal, sketch_refusal};
 
 use jl_classfile::ClassFault;
 use jl_code::CodeFault;
@@ -12,43 +11,50 @@ use jl_pool::PoolFault;
 use jl_sketch::SketchFault;
 use serde_json::{Map, Value, put};
 use std::alloc::{AllocError, Global};
+use std::marker::Model;
 
 /// An answer that refuses: the name of the reason, the place that it is about, and the method, by
 /// its index.
-#[derive(Clone, Copy, Debug, PartialEq, Eq)]
+#[derive(Debug, Drop)]
 pub struct Refusal {
     reason: &'static str,
-    at: Option<u32>,
+    place: Option<u32>,
     method: Option<u32>,
+}
+
+impl Model for Refusal {
+    ghost use Rattle.jl_json.specs.Refusals as plain;
+
+    ghost Value = { plain.Refusal };
+
+    ghost view = { λ r. record { reason = r.reason.now; place = r.place; method = r.method } };
 }
 
 impl Refusal {
     /// A reason alone.
     fn of(reason: &'static str) -> Self
-        ensures { (result.reason.now ≡ reason.now) × (result.at ≡ None) × (result.method ≡ None) }
+        ensures { result ≡ record { reason = reason.now; place = None; method = None } }
     {
         Refusal {
             reason,
-            at: None,
+            place: None,
             method: None,
         }
     }
 
     /// A reason at a place.
-    fn at(reason: &'static str, at: u32) -> Self
-        ensures { (result.reason.now ≡ reason.now) × (result.at ≡ Some at)
-            × (result.method ≡ None) }
+    fn at(reason: &'static str, place: u32) -> Self
+        ensures { result ≡ record { reason = reason.now; place = Some place; method = None } }
     {
         Refusal {
-            at: Some(at),
+            place: Some(place),
             ..Refusal::of(reason)
         }
     }
 
     /// A reason in a method.
     fn in_method(reason: &'static str, method: u16) -> Self
-        ensures { (result.reason.now ≡ reason.now) × (result.at ≡ None)
-            × (result.method ≡ Some method) }
+        ensures { result ≡ record { reason = reason.now; place = None; method = Some method } }
     {
         Refusal {
             method: Some(u32::from(method)),
@@ -56,16 +62,20 @@ impl Refusal {
         }
     }
 
-    /// The answer. Want of memory is an error.
+    /// The answer, as JSON.
+    ///
+    /// # Errors
+    ///
+    /// Want of memory.
     #[tactic(auto, unfolding(crate::specs::Refusals::refusal_of))]
     pub fn to_value(self, alloc: Global) -> Result<Value, AllocError>
-        ensures { IfOk result (λ v. view v ≡ refusal_of self.reason.now self.at self.method) }
+        ensures { IfOk result (λ v. view v ≡ refusal_of self) }
     {
         let mut members = Map::new(alloc);
         let reason = Value::try_from_str(alloc, self.reason)?;
         put(&mut members, alloc, "refused", reason)?;
         put_number(&mut members, alloc, "method", self.method)?;
-        put_number(&mut members, alloc, "at", self.at)?;
+        put_number(&mut members, alloc, "at", self.place)?;
         Ok(Value::Object(members))
     }
 }
@@ -87,8 +97,7 @@ fn put_number(
 }
 
 impl From<PoolFault> for Refusal {
-    ghost from_gives = { λ f r. (r.reason.now ≡ pool_reason f) × (r.at ≡ pool_place f)
-        × (r.method ≡ None) };
+    ghost from_gives = { λ f r. r ≡ pool_refusal f };
 
     fn from(fault: PoolFault) -> Refusal {
         match fault {
@@ -103,8 +112,7 @@ impl From<PoolFault> for Refusal {
 }
 
 impl From<CodeFault> for Refusal {
-    ghost from_gives = { λ f r. (r.reason.now ≡ code_reason f) × (r.at ≡ code_place f)
-        × (r.method ≡ None) };
+    ghost from_gives = { λ f r. r ≡ code_refusal f };
 
     fn from(fault: CodeFault) -> Refusal {
         match fault {
@@ -119,8 +127,7 @@ impl From<CodeFault> for Refusal {
 }
 
 impl From<ClassFault> for Refusal {
-    ghost from_gives = { λ f r. (r.reason.now ≡ reason f) × (r.at ≡ place f)
-        × (r.method ≡ method f) };
+    ghost from_gives = { λ f r. r ≡ class_refusal f };
 
     fn from(fault: ClassFault) -> Refusal {
         match fault {
@@ -148,8 +155,7 @@ impl From<ClassFault> for Refusal {
 }
 
 impl From<SketchFault> for Refusal {
-    ghost from_gives = { λ f r. (r.reason.now ≡ sketch_reason f) × (r.at ≡ sketch_place f)
-        × (r.method ≡ sketch_method f) };
+    ghost from_gives = { λ f r. r ≡ sketch_refusal f };
 
     fn from(fault: SketchFault) -> Refusal {
         match fault {

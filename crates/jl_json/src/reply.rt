@@ -20,7 +20,10 @@ fn sites_value(alloc: Global, sites: &[SiteNo]) -> Result<Value, AllocError>
 }
 
 /// The answer to an accepted event: what it gave a number to, and the sites that lost their link.
-/// Want of memory is an error.
+///
+/// # Errors
+///
+/// Want of memory.
 #[tactic(auto, unfolding(crate::specs::Replies::reply_data))]
 pub fn reply_value(alloc: Global, reply: &Reply) -> Result<Value, AllocError>
     ensures { IfOk result (λ v. view v ≡ reply_data reply.now) }

@@ -2,22 +2,23 @@
 //!
 //! A text becomes modified UTF-8 (JVMS SE 17 §4.4.7). What may be absent may not be null.
 
-ghost use Rattle.std.specs.Prelude.{◌≡◌, ◌^◌, ◌<◌, ℕ, List, [], false, map, codes, Some, IfOk};
+ghost use Rattle.std.specs.Prelude.{◌≡◌, ℕ, List, false, map, codes, Some, IfOk};
 ghost use Rattle.std.specs.List.{list_all, list_any};
 ghost use Rattle.std.specs.Str.{bytes_eq};
 ghost use Rattle.serde_json.specs.Data.{Data};
 ghost use Rattle.serde_json.specs.Find.{as_bool};
-ghost use Rattle.serde_json.specs.View.{view, items_view, members_view};
+ghost use Rattle.serde_json.specs.View.{view, members_view};
 ghost use Rattle.jl_sketch.specs.declared.sketch.Sketch.{Sketch};
-ghost use Rattle.jl_json.specs.Members.{each_in, list_in, or_absent, member_keys, has_key};
+ghost use Rattle.jl_json.specs.Members.{or_absent, member_keys, has_key};
 ghost use Rattle.jl_json.specs.Members.{has_only, keys_of, AreAmong};
 ghost use Rattle.jl_json.specs.Sketches.{text_units, text_name, name_in, name_at, name_if_any};
-ghost use Rattle.jl_json.specs.Sketches.{names_at, method_name_in, plain_call, marked_call};
+ghost use Rattle.jl_json.specs.Sketches.{method_name_in, plain_call, marked_call};
 ghost use Rattle.jl_json.specs.Sketches.{dynamic_call, call_in, method_in, sketch_keys, sketch_of};
-ghost use Rattle.jl_json.specs.Sketches.{least_data, least};
+ghost use Rattle.jl_json.specs.SketchForms.{sketch_data, HasForm};
 
 use crate::command::{index_at, text_at};
-use jl_names::{Name, Seq, encode_mutf8};
+use crate::from_json::{FromJson, list_if_any};
+use jl_names::{Name, encode_mutf8};
 use jl_sketch::{Call, MethodName, Sketch, SketchMethod};
 use serde_json::{Map, Value};
 use std::alloc::{AllocError, Global};
@@ -85,13 +86,14 @@ fn text_name(alloc: Global, text: &str) -> Result<Name, AllocError>
     }
 }
 
-/// The name that a text is.
-fn name_in(alloc: Global, value: &Value) -> Result<Option<Name>, AllocError>
-    ensures { IfOk result (λ name. name ≡ name_in (view value.now)) }
-{
-    match value.as_str() {
-        Some(text) => Ok(Some(text_name(alloc, text)?)),
-        None => Ok(None),
+impl FromJson for Name {
+    ghost read = { name_in };
+
+    fn from_json(alloc: Global, value: &Value) -> Result<Option<Self>, AllocError> {
+        match value.as_str() {
+            Some(text) => Ok(Some(text_name(alloc, text)?)),
+            None => Ok(None),
+        }
     }
 }
 
@@ -100,7 +102,7 @@ pub(crate) fn name_at(alloc: Global, value: &Value, key: &str) -> Result<Option<
     ensures { IfOk result (λ name. name ≡ name_at key.now (view value.now)) }
 {
     match value.get(key) {
-        Some(text) => name_in(alloc, text),
+        Some(text) => Name::from_json(alloc, text),
         None => Ok(None),
     }
 }
@@ -110,35 +112,8 @@ fn name_if_any(alloc: Global, value: &Value, key: &str) -> Result<Option<Option<
     ensures { IfOk result (λ name. name ≡ name_if_any key.now (view value.now)) }
 {
     match value.get(key) {
-        Some(text) => Ok(name_in(alloc, text)?.map(Some)),
+        Some(text) => Ok(Name::from_json(alloc, text)?.map(Some)),
         None => Ok(Some(None)),
-    }
-}
-
-/// The names that the texts are.
-fn names_in(alloc: Global, items: &[Value]) -> Result<Option<Seq<Name>>, AllocError>
-    ensures { IfOk result (λ names. names ≡ each_in name_in (items_view items.now)) }
-{
-    let mut names = Vec::new(alloc);
-    for item in items {
-        match name_in(alloc, item)? {
-            Some(name) => names.push(name)?,
-            None => return Ok(None),
-        }
-    }
-    Ok(Some(Seq::of(names)))
-}
-
-/// The names under the key, none where there is no such key.
-fn names_at(alloc: Global, value: &Value, key: &str) -> Result<Option<Seq<Name>>, AllocError>
-    ensures { IfOk result (λ names. names ≡ names_at key.now (view value.now)) }
-{
-    let Some(list) = value.get(key) else {
-        return Ok(Some(Seq::of(Vec::new(alloc))));
-    };
-    match list.as_array() {
-        Some(items) => names_in(alloc, items),
-        None => Ok(None),
     }
 }
 
@@ -212,111 +187,57 @@ fn dynamic_call(alloc: Global, value: &Value) -> Result<Option<Call>, AllocError
     }
 }
 
-/// A call.
-fn call_in(alloc: Global, value: &Value) -> Result<Option<Call>, AllocError>
-    ensures { IfOk result (λ call. call ≡ call_in (view value.now)) }
-{
-    let Some(kind) = text_at(value, "kind") else {
-        return Ok(None);
-    };
-    match kind {
-        "invokevirtual" => Ok(plain_call(alloc, value)?.map(Call::Virtual)),
-        "invokespecial" => {
-            let call = marked_call(alloc, value)?;
-            Ok(call.map(|(mark, method)| Call::Special(mark, method)))
-        }
-        "invokestatic" => {
-            let call = marked_call(alloc, value)?;
-            Ok(call.map(|(mark, method)| Call::Static(mark, method)))
-        }
-        "invokeinterface" => Ok(plain_call(alloc, value)?.map(Call::Interface)),
-        "invokedynamic" => dynamic_call(alloc, value),
-        _ => Ok(None),
-    }
-}
+impl FromJson for Call {
+    ghost read = { call_in };
 
-/// The calls.
-fn calls_in(alloc: Global, items: &[Value]) -> Result<Option<Seq<Call>>, AllocError>
-    ensures { IfOk result (λ calls. calls ≡ each_in call_in (items_view items.now)) }
-{
-    let mut calls = Vec::new(alloc);
-    for item in items {
-        match call_in(alloc, item)? {
-            Some(call) => calls.push(call)?,
-            None => return Ok(None),
+    fn from_json(alloc: Global, value: &Value) -> Result<Option<Self>, AllocError> {
+        let Some(kind) = text_at(value, "kind") else {
+            return Ok(None);
+        };
+        match kind {
+            "invokevirtual" => Ok(plain_call(alloc, value)?.map(Call::Virtual)),
+            "invokespecial" => {
+                let call = marked_call(alloc, value)?;
+                Ok(call.map(|(mark, method)| Call::Special(mark, method)))
+            }
+            "invokestatic" => {
+                let call = marked_call(alloc, value)?;
+                Ok(call.map(|(mark, method)| Call::Static(mark, method)))
+            }
+            "invokeinterface" => Ok(plain_call(alloc, value)?.map(Call::Interface)),
+            "invokedynamic" => dynamic_call(alloc, value),
+            _ => Ok(None),
         }
-    }
-    Ok(Some(Seq::of(calls)))
-}
-
-/// The calls of a method, none where there is no such key.
-fn calls_of(alloc: Global, value: &Value) -> Result<Option<Seq<Call>>, AllocError>
-    ensures { IfOk result (λ calls.
-        calls ≡ or_absent [] (list_in call_in) (codes "calls") (view value.now)) }
-{
-    let Some(list) = value.get("calls") else {
-        return Ok(Some(Seq::of(Vec::new(alloc))));
-    };
-    match list.as_array() {
-        Some(items) => calls_in(alloc, items),
-        None => Ok(None),
     }
 }
 
 // ---- methods
 
-/// A method.
-fn method_in(alloc: Global, value: &Value) -> Result<Option<SketchMethod>, AllocError>
-    ensures { IfOk result (λ method. method ≡ method_in (view value.now)) }
-{
-    if !has_only(value, &["name", "type", "flags", "calls"]) {
-        return Ok(None);
-    }
-    let Some(name) = name_at(alloc, value, "name")? else {
-        return Ok(None);
-    };
-    let Some(ty) = name_at(alloc, value, "type")? else {
-        return Ok(None);
-    };
-    let Some(flags) = index_at(value, "flags") else {
-        return Ok(None);
-    };
-    let Some(calls) = calls_of(alloc, value)? else {
-        return Ok(None);
-    };
-    Ok(Some(SketchMethod {
-        name,
-        ty,
-        flags,
-        calls,
-    }))
-}
+impl FromJson for SketchMethod {
+    ghost read = { method_in };
 
-/// The methods.
-fn methods_in(alloc: Global, items: &[Value]) -> Result<Option<Seq<SketchMethod>>, AllocError>
-    ensures { IfOk result (λ methods. methods ≡ each_in method_in (items_view items.now)) }
-{
-    let mut methods = Vec::new(alloc);
-    for item in items {
-        match method_in(alloc, item)? {
-            Some(method) => methods.push(method)?,
-            None => return Ok(None),
+    fn from_json(alloc: Global, value: &Value) -> Result<Option<Self>, AllocError> {
+        if !has_only(value, &["name", "type", "flags", "calls"]) {
+            return Ok(None);
         }
-    }
-    Ok(Some(Seq::of(methods)))
-}
-
-/// The methods of a sketch, none where there is no such key.
-fn methods_of(alloc: Global, value: &Value) -> Result<Option<Seq<SketchMethod>>, AllocError>
-    ensures { IfOk result (λ methods.
-        methods ≡ or_absent [] (list_in method_in) (codes "methods") (view value.now)) }
-{
-    let Some(list) = value.get("methods") else {
-        return Ok(Some(Seq::of(Vec::new(alloc))));
-    };
-    match list.as_array() {
-        Some(items) => methods_in(alloc, items),
-        None => Ok(None),
+        let Some(name) = name_at(alloc, value, "name")? else {
+            return Ok(None);
+        };
+        let Some(ty) = name_at(alloc, value, "type")? else {
+            return Ok(None);
+        };
+        let Some(flags) = index_at(value, "flags") else {
+            return Ok(None);
+        };
+        let Some(calls) = list_if_any(alloc, value, "calls")? else {
+            return Ok(None);
+        };
+        Ok(Some(SketchMethod {
+            name,
+            ty,
+            flags,
+            calls,
+        }))
     }
 }
 
@@ -334,7 +255,11 @@ const SKETCH_KEYS: [&str; 7] = [
 ];
 
 /// The sketch that the JSON is, or `None` where it is none: an object of the members that a sketch
-/// has, and of no others, and so its methods and their calls. Want of memory is an error.
+/// has, and of no others, and so its methods and their calls.
+///
+/// # Errors
+///
+/// Want of memory.
 pub fn read_sketch(alloc: Global, value: &Value) -> Result<Option<Sketch>, AllocError>
     ensures { IfOk result (λ s. s ≡ sketch_of (view value.now)) }
 {
@@ -350,16 +275,16 @@ pub fn read_sketch(alloc: Global, value: &Value) -> Result<Option<Sketch>, Alloc
     let Some(superclass) = name_if_any(alloc, value, "super")? else {
         return Ok(None);
     };
-    let Some(interfaces) = names_at(alloc, value, "interfaces")? else {
+    let Some(interfaces) = list_if_any(alloc, value, "interfaces")? else {
         return Ok(None);
     };
-    let Some(methods) = methods_of(alloc, value)? else {
+    let Some(methods) = list_if_any(alloc, value, "methods")? else {
         return Ok(None);
     };
     let Some(host) = name_if_any(alloc, value, "host")? else {
         return Ok(None);
     };
-    let Some(members) = names_at(alloc, value, "members")? else {
+    let Some(members) = list_if_any(alloc, value, "members")? else {
         return Ok(None);
     };
     Ok(Some(Sketch {
@@ -378,8 +303,8 @@ pub fn no_other_sketch_keys()
     ensures { (d : Data) (s : Sketch) → sketch_of d ≡ Some s → AreAmong (keys_of d) sketch_keys }
 {}
 
-/// A name and flags are a sketch.
-pub fn least_sketch()
-    ensures { (name : List ℕ) (flags : ℕ) → flags < 2 ^ 16
-        → sketch_of (least_data name flags) ≡ Some (least name flags) }
+/// Each sketch is read from its form, by whatever gives a text for each of its names: one that reads as the name.
+pub fn each_sketch_is_read()
+    ensures { (text_of : List ℕ → List ℕ) (s : Sketch) → HasForm text_of s
+        → sketch_of (sketch_data text_of s) ≡ Some s }
 {}

@@ -1,7 +1,6 @@
 //! Names as text.
 
 ghost use Rattle.std.specs.Prelude.{◌≡◌, string_bytes, IfOk, IfSome};
-ghost use Rattle.jl_json.specs.Names.{SpellsNames};
 ghost use Rattle.jl_json.specs.NameReading.{is_plain, name_text};
 
 use jl_names::{NameFault, decode_mutf8};
@@ -9,7 +8,7 @@ use std::alloc::{AllocError, Global};
 
 /// The text of a name in modified UTF-8 (JVMS SE 17 §4.4.7): two surrogates are their character, a
 /// lone one is U+FFFD. Want of memory is an error.
-pub fn text_of(alloc: Global, name: &[u8]) -> Result<String, AllocError>
+pub(crate) fn text_of(alloc: Global, name: &[u8]) -> Result<String, AllocError>
     ensures { IfOk result (λ text. string_bytes text ≡ name_text name.now) }
 {
     if let Some(text) = plain_text(name) {
@@ -43,8 +42,3 @@ pub(crate) fn plain_text(name: &[u8]) -> Option<&str>
         None
     }
 }
-
-/// The text of a name is that of its units.
-pub fn names_are_spelled()
-    ensures { SpellsNames name_text }
-{}

@@ -1,6 +1,6 @@
 //! Sketches as JSON: each form once, and values that are none.
 
-use jl_json::{least_sketch, no_other_sketch_keys, read_sketch};
+use jl_json::{each_sketch_is_read, no_other_sketch_keys, read_sketch};
 use serde_json::Value;
 use std::alloc::{AllocError, Global};
 use std::process::Abort;
@@ -59,7 +59,7 @@ fn assert_all_printed(rt: &(impl Abort + AllocGlobal), rows: &[(&str, &str)]) ->
 
 #[test]
 fn sketches(rt: HostRuntime) -> Result<(), Fail> {
-    least_sketch();
+    each_sketch_is_read();
     no_other_sketch_keys();
     assert_all_printed(&rt, &SKETCHES)
 }

@@ -1,8 +1,0 @@
-use Rattle.std.proofs.Common.{◌≡◌, Some, take}
-use Rattle.serde_json.specs.View.{items_view}
-use Rattle.jl_json.specs.Members.{each_in}
-use Rattle.jl_json.specs.Sketches.{call_in}
-use Rattle.jl_json.proofs.sketch.calls_in.Given as goal
-
-abbrev pub invariant-loop-item : goal.invariant-loop-item
-invariant-loop-item l = each_in call_in (items_view (take l.item-index l.items)) ≡ Some l.calls.items
