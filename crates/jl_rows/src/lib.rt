@@ -24,6 +24,8 @@ mod scans;
 #[cfg(test)]
 mod sketches;
 #[cfg(test)]
+mod standard;
+#[cfg(test)]
 mod tables;
 #[cfg(test)]
 mod two_faults;
