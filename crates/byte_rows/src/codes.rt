@@ -2,8 +2,10 @@
 
 use crate::codes::CodeRow::*;
 use crate::rows::{A_F, Row, assert_rows};
-use jl_code::{CodeFault, Kind, Operand, Site, begins_special, no_fault_in_a_code, one_code, scan};
-use jl_names::Name;
+use jl_code::{
+    CodeFault, KeptSite, Kind, Operand, Site, begins_special, no_fault_in_a_code, one_code, scan,
+};
+use jl_names::LentName;
 use jl_pool::{Pool, PoolFault};
 use std::alloc::{AllocError, Global};
 
@@ -15,7 +17,7 @@ const POOL: &[u8] = &[
 ];
 
 /// Whether this is what an invocation of this kind names: A.f:()V, or f:()V of a call site.
-fn is_f(operand: &Operand<Name>, kind: Kind) -> bool {
+fn is_f(operand: &Operand<LentName<'_>>, kind: Kind) -> bool {
     match operand {
         Operand::Method(reference) => {
             reference.itf == (kind == Kind::Interface)
@@ -33,22 +35,22 @@ fn is_f(operand: &Operand<Name>, kind: Kind) -> bool {
 }
 
 /// Whether this is an invocation at this place.
-fn is_site(site: &Site, pc: u16, kind: Kind) -> bool {
+fn is_site(site: &Site<'_>, pc: u16, kind: Kind) -> bool {
     site.pc() == pc && site.kind() == kind && is_f(site.operand(), kind)
 }
 
 /// Whether this, which was copied, is an invocation at this place.
-fn is_copy(copy: &Result<Site, AllocError>, pc: u16, kind: Kind) -> bool {
+fn is_copy(copy: &Result<KeptSite, AllocError>, pc: u16, kind: Kind) -> bool {
     match copy {
-        Ok(site) => is_site(site, pc, kind),
+        Ok(site) => is_site(&site.lent(), pc, kind),
         Err(_) => false,
     }
 }
 
 /// Whether these are invocations at these places, and so are their copies.
-fn are_sites(alloc: Global, sites: &[Site], expected: &[(u16, Kind)]) -> bool {
+fn are_sites(alloc: Global, sites: &[KeptSite], expected: &[(u16, Kind)]) -> bool {
     for (site, (pc, kind)) in sites.iter().zip(expected) {
-        if !is_site(site, *pc, *kind) || !is_copy(&site.copy(alloc), *pc, *kind) {
+        if !is_site(&site.lent(), *pc, *kind) || !is_copy(&site.copy(alloc), *pc, *kind) {
             return false;
         }
     }
@@ -71,7 +73,7 @@ enum CodeRow {
 }
 
 /// Whether the code, which is not too long, has these invocations.
-fn has_sites(alloc: Global, code: &[u8], pool: &Pool<'_>, expected: &[(u16, Kind)]) -> bool {
+fn has_sites(alloc: Global, code: &[u8], pool: &Pool, expected: &[(u16, Kind)]) -> bool {
     if code.len() >= 65_536 {
         return false;
     }
@@ -82,7 +84,7 @@ fn has_sites(alloc: Global, code: &[u8], pool: &Pool<'_>, expected: &[(u16, Kind
 }
 
 /// Whether the code, which is not too long, has the fault.
-fn has_fault(alloc: Global, code: &[u8], pool: &Pool<'_>, fault: CodeFault) -> bool {
+fn has_fault(alloc: Global, code: &[u8], pool: &Pool, fault: CodeFault) -> bool {
     code.len() < 65_536 && scan(alloc, code, pool).err() == Some(fault)
 }
 
@@ -171,7 +173,7 @@ fn wide_operands_of(opcode: u8) -> Option<u8> {
 const CALL: &[u8] = &[0xb8, 0, 2];
 
 /// Whether the code in these parts has an invokestatic of A.f:()V at this place, and nothing else.
-fn has_call(alloc: Global, pool: &Pool<'_>, parts: &[&[u8]], pc: u16) -> bool {
+fn has_call(alloc: Global, pool: &Pool, parts: &[&[u8]], pc: u16) -> bool {
     match parts.concat(alloc) {
         Ok(code) => has_sites(alloc, &code, pool, &[(pc, Kind::Static)]),
         Err(_) => false,
@@ -179,7 +181,7 @@ fn has_call(alloc: Global, pool: &Pool<'_>, parts: &[&[u8]], pc: u16) -> bool {
 }
 
 /// Whether a call is found behind an instruction that begins so and has so many operand bytes, of which none is an opcode.
-fn has_operands(alloc: Global, pool: &Pool<'_>, front: &[u8], operands: u8, pc: u16) -> bool {
+fn has_operands(alloc: Global, pool: &Pool, front: &[u8], operands: u8, pc: u16) -> bool {
     match vec![in alloc; 0xca; usize::from(operands)] {
         Ok(bytes) => has_call(alloc, pool, &[front, &bytes, CALL], pc),
         Err(_) => false,
@@ -187,7 +189,7 @@ fn has_operands(alloc: Global, pool: &Pool<'_>, front: &[u8], operands: u8, pc: 
 }
 
 /// Whether the opcode has the operand bytes that the table says.
-fn has_length(alloc: Global, pool: &Pool<'_>, opcode: u8) -> bool {
+fn has_length(alloc: Global, pool: &Pool, opcode: u8) -> bool {
     match operands_of(opcode) {
         Some(APART) => true,
         Some(count) => has_operands(alloc, pool, &[opcode], count, u16::from(count) + 1),
@@ -201,7 +203,7 @@ fn has_length(alloc: Global, pool: &Pool<'_>, opcode: u8) -> bool {
 }
 
 /// Whether the opcode behind a wide has the operand bytes that the table says.
-fn has_wide_length(alloc: Global, pool: &Pool<'_>, opcode: u8) -> bool {
+fn has_wide_length(alloc: Global, pool: &Pool, opcode: u8) -> bool {
     match wide_operands_of(opcode) {
         Some(count) => has_operands(alloc, pool, &[0xc4, opcode], count, u16::from(count) + 2),
         None => has_fault(
@@ -214,7 +216,7 @@ fn has_wide_length(alloc: Global, pool: &Pool<'_>, opcode: u8) -> bool {
 }
 
 /// Whether the row is so over this pool.
-fn is_so_in(alloc: Global, row: &CodeRow, pool: &Pool<'_>) -> bool {
+fn is_so_in(alloc: Global, row: &CodeRow, pool: &Pool) -> bool {
     match row {
         Sites(code, expected) => has_sites(alloc, code, pool, expected),
         Fault(code, fault) => has_fault(alloc, code, pool, *fault),
@@ -225,7 +227,7 @@ fn is_so_in(alloc: Global, row: &CodeRow, pool: &Pool<'_>) -> bool {
 }
 
 /// Whether the row is so over this pool, of so many bytes.
-fn is_so_over(alloc: Global, row: &CodeRow, read: &Result<(Pool<'_>, usize), PoolFault>) -> bool {
+fn is_so_over(alloc: Global, row: &CodeRow, read: &Result<(Pool, usize), PoolFault>) -> bool {
     match read {
         Ok((pool, _)) => is_so_in(alloc, row, pool),
         Err(_) => false,

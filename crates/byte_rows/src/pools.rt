@@ -55,22 +55,22 @@ const TAGS: &[u8] = &[
     0, 1, 7, 1, 1, 12, 10, 11, 1, 12, 9, 8, 3, 4, 5, 0, 6, 0, 15, 16, 17, 18, 19, 20, 1, 7,
 ];
 
-/// The tag of the entry, and 0 for none.
-fn tag_of(entry: &Option<Constant<'_>>) -> u8 {
-    match entry {
+/// The tag of the entry at a number, and 0 for none.
+fn tag_at(pool: &Pool, number: u16) -> u8 {
+    match pool.constant(number) {
         Some(constant) => constant.tag(),
         None => 0,
     }
 }
 
 /// Whether these are the tags of the entries.
-fn have_tags(entries: &[Option<Constant<'_>>], tags: &[u8]) -> bool {
-    for (entry, tag) in entries.iter().zip(tags) {
-        if tag_of(entry) != *tag {
+fn have_tags(pool: &Pool, tags: &[u8]) -> bool {
+    for (number, tag) in (0..u16::MAX).zip(tags) {
+        if tag_at(pool, number) != *tag {
             return false;
         }
     }
-    entries.len() == tags.len()
+    pool.len() == tags.len()
 }
 
 /// The bits of a value, or the two numbers of a method handle or of a dynamic constant.
@@ -86,30 +86,30 @@ fn bits_of(constant: &Constant<'_>) -> (u64, u64) {
     }
 }
 
-/// Whether the constant at this place has these bits.
-fn has_bits(entries: &[Option<Constant<'_>>], place: usize, bits: (u64, u64)) -> bool {
-    match entries.get(place) {
-        Some(Some(constant)) => bits_of(constant) == bits,
-        _ => false,
+/// Whether the constant at this number has these bits.
+fn has_bits(pool: &Pool, number: u16, bits: (u64, u64)) -> bool {
+    match pool.constant(number) {
+        Some(constant) => bits_of(&constant) == bits,
+        None => false,
     }
 }
 
 /// Whether the number is a Utf8 of this text, and of no other kind.
-fn has_utf8(pool: &Pool<'_>, number: u16, text: Option<&[u8]>) -> bool {
+fn has_utf8(pool: &Pool, number: u16, text: Option<&[u8]>) -> bool {
     pool.utf8(number).map(|name| name.as_slice()) == text
         && pool.form(number).is_some() == text.is_some()
         && pool.has_tag(1, number) == text.is_some()
 }
 
 /// Whether the number is a Class of this text and this class name.
-fn has_class(pool: &Pool<'_>, number: u16, text: Option<&[u8]>, name: Option<&[u8]>) -> bool {
+fn has_class(pool: &Pool, number: u16, text: Option<&[u8]>, name: Option<&[u8]>) -> bool {
     pool.class_text(number).map(|name| name.as_slice()) == text
         && pool.class_name(number).map(|name| name.as_slice()) == name
         && pool.has_tag(7, number) == text.is_some()
 }
 
 /// Whether the number is a method A.f:()V of a class, or of an interface.
-fn has_method(pool: &Pool<'_>, number: u16, interface: bool) -> bool {
+fn has_method(pool: &Pool, number: u16, interface: bool) -> bool {
     match pool.method_ref(number) {
         Some(method) => {
             method.itf == interface
@@ -125,7 +125,7 @@ fn has_method(pool: &Pool<'_>, number: u16, interface: bool) -> bool {
 }
 
 /// Whether the number is the call site f:()V of bootstrap method 7.
-fn has_call_site(pool: &Pool<'_>, number: u16) -> bool {
+fn has_call_site(pool: &Pool, number: u16) -> bool {
     match pool.dynamic(number) {
         Some(site) => {
             site.bootstrap == 7
@@ -136,7 +136,7 @@ fn has_call_site(pool: &Pool<'_>, number: u16) -> bool {
 }
 
 /// Whether the number is no method and no call site.
-fn has_none(pool: &Pool<'_>, number: u16) -> bool {
+fn has_none(pool: &Pool, number: u16) -> bool {
     pool.method_ref(number).is_none()
         && pool.dynamic(number).is_none()
         && pool.slots(number).is_none()
@@ -146,8 +146,8 @@ fn has_none(pool: &Pool<'_>, number: u16) -> bool {
 enum EntryRow {
     /// Its entries have these tags.
     Tags(&'static [u8]),
-    /// The entry at this place has these bits, or these two numbers.
-    Bits(usize, (u64, u64)),
+    /// The entry at this number has these bits, or these two numbers.
+    Bits(u16, (u64, u64)),
     /// The number is a Utf8 of this text, and a Class of this text and this class name.
     Texts(u16, Option<&'static [u8]>, Option<&'static [u8]>, Option<&'static [u8]>),
     /// The number is the method A.f:()V of a class, or of an interface.
@@ -159,10 +159,10 @@ enum EntryRow {
 }
 
 /// Whether the row is so of the pool.
-fn is_so_of(row: &EntryRow, pool: &Pool<'_>) -> bool {
+fn is_so_of(row: &EntryRow, pool: &Pool) -> bool {
     match row {
-        Tags(tags) => have_tags(pool.entries(), tags),
-        Bits(place, bits) => has_bits(pool.entries(), *place, *bits),
+        Tags(tags) => have_tags(pool, tags),
+        Bits(number, bits) => has_bits(pool, *number, *bits),
         Texts(number, utf8, text, name) => {
             has_utf8(pool, *number, *utf8) && has_class(pool, *number, *text, *name)
         }
@@ -173,7 +173,7 @@ fn is_so_of(row: &EntryRow, pool: &Pool<'_>) -> bool {
 }
 
 /// Whether the row is so of what was read, which is the pool.
-fn is_so_read(row: &EntryRow, read: &Result<(Pool<'_>, usize), PoolFault>) -> bool {
+fn is_so_read(row: &EntryRow, read: &Result<(Pool, usize), PoolFault>) -> bool {
     match read {
         Ok((pool, used)) => *used == 110 && is_so_of(row, pool),
         Err(_) => false,

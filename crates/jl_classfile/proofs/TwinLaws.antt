@@ -1,13 +1,17 @@
 -- Methods of one name and one descriptor.
 use Rattle.std.proofs.Common.{◌≡◌, ℕ, zero, suc, ◌+◌, ◌<◌, ◌≤◌, Bool, true, false, not, ◌&&◌, List, [], ◌∷◌, ◌++◌, length, get_or}
-use Rattle.std.proofs.Common.{take, drop, Option, Some, None, refl, sym, ap, subst, ◌∙◌, arith, inl, inr}
-use Rattle.std.specs.Prelude.{◌==◌, ◌||◌, MatchOption, IfSome, IsTrue, map, slice_get, option_map}
+use Rattle.std.proofs.Common.{take, drop, Option, Some, None, refl, sym, ap, ap₂, subst, ◌∙◌, arith, inl, inr}
+use Rattle.std.specs.Prelude.{◌==◌, ◌||◌, nat_eq, nat_lt, MatchOption, IfSome, IsTrue, Decides, map, slice_get, option_map}
 use Rattle.std.specs.Option.{option_map_or}
-use Rattle.std.specs.List.{list_any}
+use Rattle.std.specs.List.{list_any, AllAdjacentBelow, IsAllAdjacentAnswer, IsDistinct}
+use Rattle.std.specs.List.Sorted.{IsPermutation, IsSorted, IsStrictlyIncreasing}
+use Rattle.std.specs.Ordering.{nat_cmp}
 use Rattle.std.specs.Borrow.{Bor}
 use Rattle.std.specs.Str.{bytes_eq}
-use Rattle.std.proofs.lemmas.Option.{slice_get-map, slice_get-get_or, slice_get_within}
-use Rattle.std.proofs.lemmas.Bool.{cases_lt}
+use Rattle.std.proofs.lemmas.Option.{slice_get-map, slice_get-get_or, slice_get_within, get_or_from_slice_get}
+use Rattle.std.proofs.lemmas.List.Sorted.{IsPermutation-sym, IsNonDecreasingBy-from_sort}
+use Rattle.std.proofs.lemmas.Map.Keys.{IsDistinct-IsPermutation, IsDistinct-from_apart, apart_from_distinct, sorted_from_strictly_increasing, below_from_sorted, IsStrictlyIncreasing-from_distinct}
+use Rattle.std.proofs.lemmas.Bool.{cases_lt, eqb-false}
 use Rattle.std.proofs.Math.Seq.{take-append_seam}
 use Rattle.std.proofs.lemmas.Bool.Decides.{nat_tests}
 use Rattle.std.proofs.lemmas.Slice.Eq.{bytes_eq-Decides}
@@ -15,7 +19,7 @@ use Rattle.jl_names.specs.Repeats.{NameOneText, SameTexts, IsRepeat, NoRepeat, I
 use Rattle.jl_classfile.specs.declared.body.Member.{Member}
 use Rattle.jl_pool.specs.Pools.{Pool, text_at}
 use Rattle.jl_classfile.specs.Conditions.{is_text, same_place_text, same_method, no_twins}
-use Rattle.jl_classfile.specs.Reading.Members.{is_at, IsTwin, IsFirstTwin, IsTextAt, AreTexts}
+use Rattle.jl_classfile.specs.Reading.Members.{is_at, IsTwin, IsFirstTwin, IsTextAt, AreTexts, print_onto, print_of}
 use Rattle.jl_pool.proofs.FormLaws.{and_true}
 
 -- ---- the texts of a pool, kept for the methods so far
@@ -134,6 +138,55 @@ module _ (texts : List (Option (Bor (List ℕ)))) (pool : Pool) (ms : List Membe
   pub twins_of : (found : Option ℕ) → MatchOption found (NoRepeat texts pairs) (IsFirstRepeat texts pairs) → MatchOption found ((i : ℕ) → ¬ IsTwin pool ms i) (IsFirstTwin pool ms)
   twins_of None none = λ i t. none i (twin_repeats i t)
   twins_of (Some i) f = record { twin = repeat_twins i f.repeat; first = λ k lt t. f.first k lt (twin_repeats k t) }
+
+-- ---- prints
+
+flips : (a b : ℕ) → nat_eq a b ≡ nat_eq b a
+flips a b = grind (arith, nat_tests)
+
+apart : (a b : ℕ) → a < b → nat_eq a b ≡ false
+apart a b lt = grind (arith, nat_tests)
+
+rises : (xs : List ℕ) → AllAdjacentBelow (λ x y. true ≡ nat_lt x y) xs (length xs) → IsStrictlyIncreasing xs
+rises xs h k within = let test = h k 0 within in grind (arith, nat_tests)
+
+-- numbers are distinct where they rise once they are sorted, and only there
+pub distinct_if_rising : (xs ys : List ℕ) (answer : Bool) → IsPermutation xs ys → IsSorted nat_cmp ys → IsAllAdjacentAnswer (λ x y b. b ≡ nat_lt x y) ys answer
+    → Decides answer (IsDistinct nat_eq xs)
+distinct_if_rising xs ys true moved sorted h =
+    let strict = sorted_from_strictly_increasing ys (rises ys h) in
+    let there = IsDistinct-from_apart nat_eq ys (λ i j d lt within. apart (get_or ys i d) (get_or ys j d) (below_from_sorted ys i j d strict lt within)) in
+    (λ e. IsDistinct-IsPermutation nat_eq flips ys xs (IsPermutation-sym xs ys moved) there, λ distinct. refl)
+distinct_if_rising xs ys false moved sorted h = (
+  λ e. absurd cc,
+  λ distinct.
+      let up = IsStrictlyIncreasing-from_distinct ys (IsNonDecreasingBy-from_sort (λ x. x) ys sorted) (IsDistinct-IsPermutation nat_eq flips xs ys moved distinct) in
+      let below = up h.0 h.1 in
+      let test = h.2 0 in
+      absurd grind (arith, nat_tests),
+)
+
+same_print : (pool : Pool) (a b : Member) → same_method pool a b ≡ true → print_of pool a ≡ print_of pool b
+same_print pool a b e =
+    let both = and_true (same_place_text pool a.name b.name) (same_place_text pool a.descriptor b.descriptor) e in
+    let name = one_text pool a.name b.name both.0 in
+    let descriptor = one_text pool a.descriptor b.descriptor both.1 in
+    ap₂ (λ (n d : Option (List ℕ)). print_onto (print_onto 0 n) d) (name.one ∙ sym name.other) (descriptor.one ∙ sym descriptor.other)
+
+-- methods of distinct prints have no twins
+pub no_twins_if_distinct : (pool : Pool) (ms : List Member) (prints : List ℕ) → prints ≡ map (print_of pool) ms → IsDistinct nat_eq prints → (i : ℕ) → ¬ IsTwin pool ms i
+no_twins_if_distinct pool ms prints are distinct i t =
+    let print_at : (k : ℕ) (m : Member) → slice_get ms k ≡ Some m → slice_get prints k ≡ Some (print_of pool m) =
+    λ k m e.
+    ap (λ (l : List ℕ). slice_get l k) are ∙ slice_get-map (print_of pool) ms k ∙ ap (λ (o : Option Member). option_map (print_of pool) o) e
+    in
+    let one = print_at t.earlier t.one t.one_stands in
+    let other = print_at i t.other t.other_stands in
+    let differ = apart_from_distinct nat_eq prints t.earlier i 0 distinct t.before (slice_get_within prints i (print_of pool t.other) other) in
+    let there = get_or_from_slice_get prints t.earlier (print_of pool t.one) 0 one in
+    let here = get_or_from_slice_get prints i (print_of pool t.other) 0 other in
+    let same = there ∙ sym (same_print pool t.other t.one t.same) ∙ sym here in
+    eqb-false (get_or prints t.earlier 0) (get_or prints i 0) differ same
 
 -- ---- no two of them
 

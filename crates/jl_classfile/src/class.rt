@@ -3,22 +3,21 @@
 ghost use Rattle.std.specs.Prelude.{◌≡◌, ◌<◌, ◌^◌, ◌++◌, length, slice_get, option_copied, option_to_list, Some, IsSome, true, IfOk};
 ghost use Rattle.jl_classfile.specs.Conditions.{extends_object};
 
-use jl_code::Site;
-use jl_names::{Name, Seq};
+use jl_code::{KeptSite, Sites};
+use jl_names::{LentName, Name, Seq};
 use std::alloc::{AllocError, Global};
 use std::marker::Model;
 
-/// A method of a class file (JVMS SE 17 §4.6): its access flags, name and descriptor, and the invocations in its
-/// code, by rising pc. What it answers is lent, and takes no memory.
+/// A method of a class file that is kept. A clause sees its flags, name and descriptor, and the invocations in its code.
 #[derive(Debug, Drop)]
-pub struct Method {
+pub(crate) struct KeptMethod {
     pub(crate) flags: u16,
     pub(crate) name: Name,
     pub(crate) ty: Name,
-    pub(crate) sites: Seq<Site>,
+    pub(crate) sites: Seq<KeptSite>,
 }
 
-impl Model for Method {
+impl Model for KeptMethod {
     ghost use Rattle.jl_classfile.specs.Class as plain;
 
     ghost Value = { plain.Method };
@@ -26,45 +25,100 @@ impl Model for Method {
     ghost view = { λ m. record { flags = m.flags; name = m.name; ty = m.ty; sites = m.sites } };
 }
 
-impl Method {
-    /// Its access flags.
-    pub fn flags(&self) -> u16
-        ensures { result ≡ self.now.flags }
-    {
-        self.flags
-    }
-
-    /// Its name.
-    pub fn name(&self) -> &Name
-        ensures { result.now ≡ self.now.name }
-    {
-        &self.name
-    }
-
-    /// Its descriptor.
-    pub fn ty(&self) -> &Name
-        ensures { result.now ≡ self.now.ty }
-    {
-        &self.ty
-    }
-
-    /// The invocations in its code, by rising pc.
-    pub fn sites(&self) -> &[Site]
-        ensures { result.now ≡ self.now.sites }
-    {
-        self.sites.as_slice()
-    }
-
+impl KeptMethod {
     /// The same method once more. Want of memory is an error.
-    fn copy(&self, alloc: Global) -> Result<Method, AllocError>
+    fn copy(&self, alloc: Global) -> Result<KeptMethod, AllocError>
         ensures { IfOk result (λ copy. copy ≡ self.now) }
     {
-        Ok(Method {
+        Ok(KeptMethod {
             flags: self.flags,
             name: self.name.copy(alloc)?,
             ty: self.ty.copy(alloc)?,
             sites: self.sites.try_map(alloc, |site| site.copy(alloc))?,
         })
+    }
+}
+
+/// A method of a class file (JVMS SE 17 §4.6), which is lent: its access flags, name and descriptor, and the invocations
+/// in its code, by rising pc. No question takes memory.
+#[derive(Debug, Drop)]
+pub struct Method<'a> {
+    kept: &'a KeptMethod,
+}
+
+impl<'a> Model for Method<'a> {
+    ghost use Rattle.jl_classfile.specs.Class as plain;
+
+    ghost Value = { plain.Method };
+
+    ghost view = { λ m. m.kept.now };
+}
+
+impl<'a> Method<'a> {
+    /// Its access flags.
+    pub fn flags(&self) -> u16
+        ensures { result ≡ self.now.flags }
+    {
+        let kept = self.kept;
+        kept.flags
+    }
+
+    /// Its name.
+    pub fn name(&self) -> LentName<'a>
+        ensures { result ≡ self.now.name }
+    {
+        let kept = self.kept;
+        LentName::of(&kept.name)
+    }
+
+    /// Its descriptor.
+    pub fn ty(&self) -> LentName<'a>
+        ensures { result ≡ self.now.ty }
+    {
+        let kept = self.kept;
+        LentName::of(&kept.ty)
+    }
+
+    /// The invocations in its code, by rising pc.
+    pub fn sites(&self) -> Sites<'a>
+        ensures { result ≡ self.now.sites }
+    {
+        let kept = self.kept;
+        Sites::of(kept.sites.as_slice())
+    }
+}
+
+/// Methods of a class file, which are lent. A clause sees the list of them. No question takes memory.
+#[derive(Debug, Drop)]
+pub struct Methods<'a> {
+    kept: &'a [KeptMethod],
+}
+
+impl<'a> Model for Methods<'a> {
+    ghost use Rattle.std.specs.Prelude.{List};
+    ghost use Rattle.jl_classfile.specs.Class as plain;
+
+    ghost Value = { List plain.Method };
+
+    ghost view = { λ m. m.kept.now };
+}
+
+impl<'a> Methods<'a> {
+    /// How many there are.
+    pub fn len(&self) -> usize
+        ensures { result ≡ length self.now }
+    {
+        self.kept.len()
+    }
+
+    /// The one at this place of the list.
+    pub fn at(&self, place: usize) -> Option<Method<'a>>
+        ensures { result ≡ slice_get self.now place }
+    {
+        match self.kept.get(place) {
+            Some(kept) => Some(Method { kept }),
+            None => None,
+        }
     }
 }
 
@@ -79,7 +133,7 @@ pub struct ClassFile {
     pub(crate) interfaces: Seq<Name>,
     pub(crate) nest_host: Option<Name>,
     pub(crate) nest_members: Seq<Name>,
-    pub(crate) methods: Seq<Method>,
+    pub(crate) methods: Seq<KeptMethod>,
 }
 
 impl Model for ClassFile {
@@ -184,11 +238,13 @@ impl ClassFile {
     }
 
     /// Its methods, in the file's order: fewer than 65,536.
-    pub fn methods(&self) -> &[Method]
-        ensures methods { result.now ≡ self.now.methods }
-        ensures few { length result.now < 2 ^ 16 }
+    pub fn methods(&self) -> Methods<'_>
+        ensures methods { result ≡ self.now.methods }
+        ensures few { length result < 2 ^ 16 }
     {
-        self.methods.as_slice()
+        Methods {
+            kept: self.methods.as_slice(),
+        }
     }
 
     /// The same class file once more. Want of memory is an error.

@@ -15,7 +15,7 @@ mod nest;
 mod read;
 mod twin;
 
-pub use class::{ClassFile, Method};
+pub use class::{ClassFile, Method, Methods};
 pub use fault::ClassFault;
 pub use flags::{ABSTRACT, FINAL, INTERFACE, NATIVE, PRIVATE, PROTECTED, PUBLIC, STATIC, has_flag};
 pub use member::CODE;

@@ -15,7 +15,7 @@ use jl_pool::Pool;
 const OBJECT: &[u8] = b"java/lang/Object";
 
 /// Tests that there is a class name at a number.
-fn check_class(pool: &Pool<'_>, number: u16) -> Result<(), ClassFault>
+fn check_class(pool: &Pool, number: u16) -> Result<(), ClassFault>
     ensures ok { OnOk result (IsClassNumber pool.now number) }
     ensures fault { IfErr result (λ f. (f ≡ BadLink number) × ¬ IsClassNumber pool.now number) }
 {
@@ -26,7 +26,7 @@ fn check_class(pool: &Pool<'_>, number: u16) -> Result<(), ClassFault>
 }
 
 /// Tests that there is a class name at the number of a superclass, unless it is 0.
-fn check_superclass(pool: &Pool<'_>, number: u16) -> Result<(), ClassFault>
+fn check_superclass(pool: &Pool, number: u16) -> Result<(), ClassFault>
     ensures ok { OnOk result (AllByRecursion (IsClassNumber pool.now) (superclass_numbers number)) }
     ensures fault { IfErr result (IsBadLink (IsClassNumber pool.now) (superclass_numbers number)) }
 {
@@ -40,7 +40,7 @@ fn check_superclass(pool: &Pool<'_>, number: u16) -> Result<(), ClassFault>
 }
 
 /// Tests that there is a class name at each of the numbers.
-pub fn check_classes(pool: &Pool<'_>, numbers: &[u16]) -> Result<(), ClassFault>
+pub fn check_classes(pool: &Pool, numbers: &[u16]) -> Result<(), ClassFault>
     ensures ok { OnOk result (All (IsClassNumber pool.now) numbers.now) }
     ensures fault { IfErr result (IsBadLink (IsClassNumber pool.now) numbers.now) }
 {
@@ -51,7 +51,7 @@ pub fn check_classes(pool: &Pool<'_>, numbers: &[u16]) -> Result<(), ClassFault>
 }
 
 /// Whether java/lang/Object is the class at a number.
-fn is_object(pool: &Pool<'_>, number: u16) -> bool
+fn is_object(pool: &Pool, number: u16) -> bool
     ensures { result ≡ is_object pool.now number }
 {
     match pool.class_name(number) {
@@ -76,7 +76,7 @@ fn is_module(major: u16, body: &Body<'_>) -> bool
 
 /// Whether the superclass may be: java/lang/Object alone has none, and is no interface; an interface's is
 /// java/lang/Object.
-fn super_fits(pool: &Pool<'_>, body: &Body<'_>) -> bool
+fn super_fits(pool: &Pool, body: &Body<'_>) -> bool
     ensures { result ≡ super_fits pool.now body.now }
 {
     if body.super_class == 0 {
@@ -88,7 +88,7 @@ fn super_fits(pool: &Pool<'_>, body: &Body<'_>) -> bool
 }
 
 /// Tests that it is no module's file, that each number is a class's, and the superclass (JVMS SE 17 §4.1).
-pub fn check_links(major: u16, pool: &Pool<'_>, body: &Body<'_>) -> Result<(), ClassFault>
+pub fn check_links(major: u16, pool: &Pool, body: &Body<'_>) -> Result<(), ClassFault>
     ensures ok { OnOk result (Links major pool.now body.now) }
     ensures fault { IfErr result (LinksFault major pool.now body.now) }
 {

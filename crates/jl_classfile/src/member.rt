@@ -27,7 +27,7 @@ use std::alloc::Global;
 pub const CODE: &[u8] = b"Code";
 
 /// Tests that a text stands at a number.
-fn check_text(pool: &Pool<'_>, number: u16) -> Result<(), ClassFault>
+fn check_text(pool: &Pool, number: u16) -> Result<(), ClassFault>
     ensures ok { OnOk result (IsTextNumber pool.now number) }
     ensures fault { IfErr result (λ f. (f ≡ BadLink number) × ¬ IsTextNumber pool.now number) }
 {
@@ -38,10 +38,7 @@ fn check_text(pool: &Pool<'_>, number: u16) -> Result<(), ClassFault>
 }
 
 /// Tests that each attribute's name is a text.
-pub fn check_attribute_names(
-    pool: &Pool<'_>,
-    attributes: &[Attribute<'_>],
-) -> Result<(), ClassFault>
+pub fn check_attribute_names(pool: &Pool, attributes: &[Attribute<'_>]) -> Result<(), ClassFault>
     ensures ok { OnOk result (All (λ a. IsTextNumber pool.now a.name) attributes.now) }
     ensures fault { IfErr result (λ f. (a : Attribute) × (f ≡ BadLink a.name) × Contains attributes.now a × ¬ IsTextNumber pool.now a.name) }
 {
@@ -53,7 +50,7 @@ pub fn check_attribute_names(
 
 /// Whether a name without a reserved byte stands at a number, or no text.
 #[tactic(auto, unfolding(crate::specs::Reading::Members::form_of))]
-fn is_unqualified_at(pool: &Pool<'_>, number: u16) -> bool
+fn is_unqualified_at(pool: &Pool, number: u16) -> bool
     ensures { result ≡ on_text is_unqualified (text_at pool.now number) }
 {
     match pool.form(number) {
@@ -64,7 +61,7 @@ fn is_unqualified_at(pool: &Pool<'_>, number: u16) -> bool
 
 /// Whether a field's descriptor stands at a number, or no text.
 #[tactic(auto, unfolding(crate::specs::Reading::Members::form_of))]
-fn is_field_at(pool: &Pool<'_>, number: u16) -> bool
+fn is_field_at(pool: &Pool, number: u16) -> bool
     ensures { result ≡ on_text is_field (text_at pool.now number) }
 {
     match pool.form(number) {
@@ -74,7 +71,7 @@ fn is_field_at(pool: &Pool<'_>, number: u16) -> bool
 }
 
 /// Whether the name and descriptor of a field may be so (JVMS SE 17 §4.5).
-fn field_fits(pool: &Pool<'_>, field: &Member<'_>) -> bool
+fn field_fits(pool: &Pool, field: &Member<'_>) -> bool
     ensures { result ≡ field_fits pool.now field.now }
 {
     is_unqualified_at(pool, field.name) && is_field_at(pool, field.descriptor)
@@ -121,7 +118,7 @@ fn slots_fit(flags: u16, form: Form) -> bool
 
 /// Whether the name and flags of a method may be so. `<clinit>` may have any flags.
 #[tactic(auto, unfolding(crate::specs::Reading::Members::form_of))]
-fn name_fits(pool: &Pool<'_>, interface: bool, method: &Member<'_>) -> bool
+fn name_fits(pool: &Pool, interface: bool, method: &Member<'_>) -> bool
     ensures { result ≡ (on_text is_method_name (text_at pool.now method.now.name) && on_text (flags_fit interface method.now.flags) (text_at pool.now method.now.name)) }
 {
     match (pool.utf8(method.name), pool.form(method.name)) {
@@ -136,7 +133,7 @@ fn name_fits(pool: &Pool<'_>, interface: bool, method: &Member<'_>) -> bool
 
 /// Whether the descriptor of a method may be so.
 #[tactic(auto, unfolding(crate::specs::Reading::Members::form_of))]
-fn descriptor_fits(pool: &Pool<'_>, method: &Member<'_>) -> bool
+fn descriptor_fits(pool: &Pool, method: &Member<'_>) -> bool
     ensures { result ≡ on_text (takes_few method.now.flags) (text_at pool.now method.now.descriptor) }
 {
     match pool.form(method.descriptor) {
@@ -146,14 +143,14 @@ fn descriptor_fits(pool: &Pool<'_>, method: &Member<'_>) -> bool
 }
 
 /// Whether a method may be so (JVMS SE 17 §4.6).
-fn method_fits(pool: &Pool<'_>, interface: bool, method: &Member<'_>) -> bool
+fn method_fits(pool: &Pool, interface: bool, method: &Member<'_>) -> bool
     ensures { result ≡ method_fits pool.now interface method.now }
 {
     name_fits(pool, interface, method) && descriptor_fits(pool, method)
 }
 
 /// Whether the attribute is called so.
-fn is_called(pool: &Pool<'_>, name: &[u8], attribute: &Attribute<'_>) -> bool
+fn is_called(pool: &Pool, name: &[u8], attribute: &Attribute<'_>) -> bool
     ensures { result ≡ is_text pool.now attribute.now.name name.now }
 {
     match pool.utf8(attribute.name) {
@@ -163,7 +160,7 @@ fn is_called(pool: &Pool<'_>, name: &[u8], attribute: &Attribute<'_>) -> bool
 }
 
 /// How many attributes are called so.
-pub fn count_called(pool: &Pool<'_>, name: &[u8], attributes: &[Attribute<'_>]) -> usize
+pub fn count_called(pool: &Pool, name: &[u8], attributes: &[Attribute<'_>]) -> usize
     ensures { result ≡ length (attributes_of pool.now name.now attributes.now) }
 {
     attributes
@@ -173,11 +170,7 @@ pub fn count_called(pool: &Pool<'_>, name: &[u8], attributes: &[Attribute<'_>]) 
 }
 
 /// The bytes of the first attribute that is called so.
-pub fn first_called<'a>(
-    pool: &Pool<'_>,
-    name: &[u8],
-    attributes: &[Attribute<'a>],
-) -> Option<&'a [u8]>
+pub fn first_called<'a>(pool: &Pool, name: &[u8], attributes: &[Attribute<'a>]) -> Option<&'a [u8]>
     ensures { MatchOption result (attributes_of pool.now name.now attributes.now ≡ [])
         (λ info. (a : Attribute) × (more : List Attribute) × (attributes_of pool.now name.now attributes.now ≡ a ∷ more) × (a.info ≡ info.now)) }
 {
@@ -190,7 +183,7 @@ pub fn first_called<'a>(
 }
 
 /// Tests a field, behind so many others.
-fn check_field(pool: &Pool<'_>, place: u32, field: &Member<'_>) -> Result<(), ClassFault>
+fn check_field(pool: &Pool, place: u32, field: &Member<'_>) -> Result<(), ClassFault>
     ensures ok { OnOk result (FieldTested pool.now field.now) }
     ensures fault { IfErr result (IsFieldFault pool.now place field.now) }
 {
@@ -205,7 +198,7 @@ fn check_field(pool: &Pool<'_>, place: u32, field: &Member<'_>) -> Result<(), Cl
 
 /// Tests a method, behind so many members and methods; `twin` tells whether it is an earlier one again.
 fn check_method(
-    pool: &Pool<'_>,
+    pool: &Pool,
     interface: bool,
     place: u32,
     index: u16,
@@ -231,7 +224,7 @@ fn check_method(
 }
 
 /// Tests the fields, one after another.
-fn check_fields(pool: &Pool<'_>, fields: &[Member<'_>]) -> Result<(), ClassFault>
+fn check_fields(pool: &Pool, fields: &[Member<'_>]) -> Result<(), ClassFault>
     requires { length fields.now < 2 ^ 16 }
     ensures ok { OnOk result (All (FieldTested pool.now) fields.now) }
     ensures fault { IfErr result (λ f. (i : ℕ) × (m : Member) × (slice_get fields.now i ≡ Some m) × IsFieldFault pool.now i m f) }
@@ -244,7 +237,7 @@ fn check_fields(pool: &Pool<'_>, fields: &[Member<'_>]) -> Result<(), ClassFault
 
 /// Tests the methods behind so many fields, one after another; the first that is an earlier one again is known.
 fn check_methods(
-    pool: &Pool<'_>,
+    pool: &Pool,
     interface: bool,
     fields: usize,
     twin: Option<usize>,
@@ -271,7 +264,7 @@ fn check_methods(
 }
 
 /// Tests the fields, and then the methods (JVMS SE 17 §4.5, §4.6).
-pub fn check_members(alloc: Global, pool: &Pool<'_>, body: &Body<'_>) -> Result<(), ClassFault>
+pub fn check_members(alloc: Global, pool: &Pool, body: &Body<'_>) -> Result<(), ClassFault>
     requires few_fields { length body.now.fields < 2 ^ 16 }
     requires few_methods { length body.now.methods < 2 ^ 16 }
     ensures ok { OnOk result (Members pool.now body.now) }

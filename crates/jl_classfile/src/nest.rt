@@ -29,7 +29,7 @@ pub struct NestNumbers {
 
 /// The bytes of the one attribute that is called so, if there is one.
 fn only_called<'a>(
-    pool: &Pool<'_>,
+    pool: &Pool,
     name: &[u8],
     attributes: &[Attribute<'a>],
 ) -> Result<Option<&'a [u8]>, ClassFault>
@@ -43,7 +43,7 @@ fn only_called<'a>(
 }
 
 /// The number that a NestHost holds, where it is a class's.
-fn host_in(pool: &Pool<'_>, info: &[u8]) -> Option<u16>
+fn host_in(pool: &Pool, info: &[u8]) -> Option<u16>
     ensures { MatchOption result ((n : ℕ) → ¬ IsHost pool.now info.now n) (IsHost pool.now info.now) }
 {
     let (number, rest) = u2_at(info)?;
@@ -57,14 +57,14 @@ fn host_in(pool: &Pool<'_>, info: &[u8]) -> Option<u16>
 }
 
 /// Whether each of the numbers is a class's.
-fn are_classes(pool: &Pool<'_>, numbers: &[u16]) -> bool
+fn are_classes(pool: &Pool, numbers: &[u16]) -> bool
     ensures { MatchBool result (All (IsClassNumber pool.now) numbers.now) (¬ All (IsClassNumber pool.now) numbers.now) }
 {
     check_classes(pool, numbers).is_ok()
 }
 
 /// The numbers that a NestMembers holds, each a class's.
-fn members_in(alloc: Global, pool: &Pool<'_>, info: &[u8]) -> Result<Seq<u16>, ClassFault>
+fn members_in(alloc: Global, pool: &Pool, info: &[u8]) -> Result<Seq<u16>, ClassFault>
     ensures ok { IfOk result (AreMembers pool.now info.now) }
     ensures fault { IfErr result (λ f. f ≢ Memory → (f ≡ BadNest) × ((ns : List ℕ) → ¬ AreMembers pool.now info.now ns)) }
 {
@@ -85,7 +85,7 @@ fn members_in(alloc: Global, pool: &Pool<'_>, info: &[u8]) -> Result<Seq<u16>, C
 /// What the nest attributes among these hold: one of them at most.
 fn held_by(
     alloc: Global,
-    pool: &Pool<'_>,
+    pool: &Pool,
     attributes: &[Attribute<'_>],
 ) -> Result<NestNumbers, ClassFault>
     ensures ok { IfOk result (λ n. Holds pool.now attributes.now n.host n.members) }
@@ -117,7 +117,7 @@ fn held_by(
 pub fn nest_of(
     alloc: Global,
     major: u16,
-    pool: &Pool<'_>,
+    pool: &Pool,
     body: &Body<'_>,
 ) -> Result<NestNumbers, ClassFault>
     ensures ok { IfOk result (λ n. Nest major pool.now body.now n.host n.members) }

@@ -1,7 +1,7 @@
 //! Reads a class file, pass after pass.
 
 ghost use Rattle.std.specs.Prelude.{◌<◌, ◌≤◌, ◌^◌, ◌≡◌, ◌≢◌, length, map, [], slice_get, All, List, ℕ, Some, IsTrue, IfOk, IfErr, MatchBool};
-ghost use Rattle.std.specs.Option.{option_and_then, option_copied, unwrap_or};
+ghost use Rattle.std.specs.Option.{option_and_then, unwrap_or};
 ghost use Rattle.jl_classfile.specs.declared.fault.ClassFault.{ClassFault};
 ghost use Rattle.jl_classfile.specs.Parts.{Parts};
 ghost use Rattle.jl_classfile.specs.ClassFiles.{IsClass};
@@ -14,13 +14,13 @@ ghost use Rattle.jl_classfile.specs.Conditions.{IsVersion, codes_of, super_fits}
 ghost use Rattle.jl_classfile.specs.Reading.Passes.{HasHead, fault_of_code, IsMethodFault, SitesShown, MethodShown, MethodsShown, BodyShown, HasPool, Lies};
 
 use crate::body::{Body, Member, body_at, code_in};
-use crate::class::{ClassFile, Method};
+use crate::class::{ClassFile, KeptMethod};
 use crate::fault::ClassFault;
 use crate::links::check_links;
 use crate::member::{CODE, check_attribute_names, check_members, first_called};
 use crate::nest::{NestNumbers, nest_of};
-use jl_code::{CodeFault, Site, scan};
-use jl_names::{Name, Seq};
+use jl_code::{CodeFault, KeptSite, scan};
+use jl_names::{LentName, Name, Seq};
 use jl_pool::{Pool, PoolFault, u2_at, u4_at};
 use std::alloc::{AllocError, Global};
 
@@ -86,10 +86,10 @@ fn code_fault(method: u16, fault: CodeFault) -> ClassFault
 /// The invocations of a method, none where it has no code.
 fn sites_of(
     alloc: Global,
-    pool: &Pool<'_>,
+    pool: &Pool,
     index: u16,
     method: &Member<'_>,
-) -> Result<Seq<Site>, ClassFault>
+) -> Result<Seq<KeptSite>, ClassFault>
     requires { length (codes_of pool.now method.now) ≤ 1 }
     ensures ok { IfOk result (SitesShown pool.now method.now) }
     ensures fault { IfErr result (IsMethodFault pool.now index method.now) }
@@ -107,8 +107,8 @@ fn sites_of(
 }
 
 /// The name once more, and nothing where there is none.
-fn copy_or_nothing(alloc: Global, name: Option<&Name>) -> Result<Name, AllocError>
-    ensures { IfOk result (λ copy. copy ≡ unwrap_or (option_copied name.entry) []) }
+fn copy_or_nothing(alloc: Global, name: Option<LentName<'_>>) -> Result<Name, AllocError>
+    ensures { IfOk result (λ copy. copy ≡ unwrap_or name.entry []) }
 {
     match name {
         Some(name) => name.copy(alloc),
@@ -117,21 +117,21 @@ fn copy_or_nothing(alloc: Global, name: Option<&Name>) -> Result<Name, AllocErro
 }
 
 /// The text at a number, kept, and nothing where there is none.
-fn kept_text(alloc: Global, pool: &Pool<'_>, number: u16) -> Result<Name, AllocError>
+fn kept_text(alloc: Global, pool: &Pool, number: u16) -> Result<Name, AllocError>
     ensures { IfOk result (λ name. name ≡ text_or_nothing pool.now number) }
 {
     copy_or_nothing(alloc, pool.utf8(number))
 }
 
 /// The class name at a number, kept, and nothing where there is none.
-fn kept_class(alloc: Global, pool: &Pool<'_>, number: u16) -> Result<Name, AllocError>
+fn kept_class(alloc: Global, pool: &Pool, number: u16) -> Result<Name, AllocError>
     ensures { IfOk result (λ name. name ≡ name_or_nothing pool.now number) }
 {
     copy_or_nothing(alloc, pool.class_name(number))
 }
 
 /// The class names at the numbers, kept.
-fn kept_classes(alloc: Global, pool: &Pool<'_>, numbers: &[u16]) -> Result<Seq<Name>, AllocError>
+fn kept_classes(alloc: Global, pool: &Pool, numbers: &[u16]) -> Result<Seq<Name>, AllocError>
     ensures { IfOk result (λ names. names ≡ map (name_or_nothing pool.now) numbers.now) }
 {
     let mut names = Vec::new(alloc);
@@ -142,11 +142,7 @@ fn kept_classes(alloc: Global, pool: &Pool<'_>, numbers: &[u16]) -> Result<Seq<N
 }
 
 /// The class name at a number, kept, if there is one.
-fn kept_class_if_any(
-    alloc: Global,
-    pool: &Pool<'_>,
-    number: u16,
-) -> Result<Option<Name>, AllocError>
+fn kept_class_if_any(alloc: Global, pool: &Pool, number: u16) -> Result<Option<Name>, AllocError>
     ensures { IfOk result (λ name. name ≡ class_at pool.now number) }
 {
     match pool.class_name(number) {
@@ -156,7 +152,7 @@ fn kept_class_if_any(
 }
 
 /// The name of the nest host, kept, if the class has one.
-fn kept_host(alloc: Global, pool: &Pool<'_>, host: Option<u16>) -> Result<Option<Name>, AllocError>
+fn kept_host(alloc: Global, pool: &Pool, host: Option<u16>) -> Result<Option<Name>, AllocError>
     ensures { IfOk result (λ name. name ≡ option_and_then (class_at pool.now) host) }
 {
     match host {
@@ -168,7 +164,7 @@ fn kept_host(alloc: Global, pool: &Pool<'_>, host: Option<u16>) -> Result<Option
 /// The names of the nest members, kept, none where the class lists none.
 fn kept_members(
     alloc: Global,
-    pool: &Pool<'_>,
+    pool: &Pool,
     members: &Option<Seq<u16>>,
 ) -> Result<Seq<Name>, AllocError>
     ensures { IfOk result (λ names. names ≡ map (name_or_nothing pool.now) (unwrap_or members.now [])) }
@@ -182,15 +178,15 @@ fn kept_members(
 /// A method with its invocations.
 fn method_of(
     alloc: Global,
-    pool: &Pool<'_>,
+    pool: &Pool,
     index: u16,
     member: &Member<'_>,
-) -> Result<Method, ClassFault>
+) -> Result<KeptMethod, ClassFault>
     requires { length (codes_of pool.now member.now) ≤ 1 }
     ensures ok { IfOk result (MethodShown pool.now member.now) }
     ensures fault { IfErr result (IsMethodFault pool.now index member.now) }
 {
-    Ok(Method {
+    Ok(KeptMethod {
         flags: member.flags,
         name: kept_text(alloc, pool, member.name)?,
         ty: kept_text(alloc, pool, member.descriptor)?,
@@ -201,9 +197,9 @@ fn method_of(
 /// The methods with their invocations.
 fn methods_of(
     alloc: Global,
-    pool: &Pool<'_>,
+    pool: &Pool,
     members: &[Member<'_>],
-) -> Result<Seq<Method>, ClassFault>
+) -> Result<Seq<KeptMethod>, ClassFault>
     requires few { length members.now < 2 ^ 16 }
     requires one_code { All (λ m. length (codes_of pool.now m) ≤ 1) members.now }
     ensures ok { IfOk result (MethodsShown pool.now members.now) }
@@ -219,7 +215,7 @@ fn methods_of(
 /// What a class file shows whose parts have no fault outside its codes.
 fn shown(
     alloc: Global,
-    pool: &Pool<'_>,
+    pool: &Pool,
     body: &Body<'_>,
     nest: &NestNumbers,
 ) -> Result<ClassFile, ClassFault>
@@ -241,7 +237,7 @@ fn shown(
 }
 
 /// The pool, and what comes after it (JVMS SE 17 §4.4).
-fn pool_at<'a>(alloc: Global, bytes: &'a [u8]) -> Result<(u16, Pool<'a>, &'a [u8]), ClassFault>
+fn pool_at<'a>(alloc: Global, bytes: &'a [u8]) -> Result<(u16, Pool, &'a [u8]), ClassFault>
     ensures ok { IfOk result (λ x. HasPool bytes.now x.0 x.1 x.2.now) }
     ensures fault { IfErr result (λ f. f ≢ Memory → IsFault bytes.now f) }
 {
@@ -254,7 +250,7 @@ fn pool_at<'a>(alloc: Global, bytes: &'a [u8]) -> Result<(u16, Pool<'a>, &'a [u8
 }
 
 /// The major version, the pool and what stands behind it, where nothing comes after.
-fn laid_at<'a>(alloc: Global, bytes: &'a [u8]) -> Result<(u16, Pool<'a>, Body<'a>), ClassFault>
+fn laid_at<'a>(alloc: Global, bytes: &'a [u8]) -> Result<(u16, Pool, Body<'a>), ClassFault>
     ensures ok { IfOk result (λ x. Lies bytes.now x.0 x.1 x.2) }
     ensures fault { IfErr result (λ f. f ≢ Memory → IsFault bytes.now f) }
 {

@@ -17,7 +17,7 @@ ghost use Rattle.jl_code.specs.Reading.Sites.{invoked, IsSiteFault};
 
 use crate::code_fault::CodeFault;
 use crate::instruction::{Instruction, Stop, instruction_at};
-use crate::site::{Kind, Operand, Site};
+use crate::site::{KeptSite, Kind, Operand};
 use jl_names::{LentName, Name};
 use jl_pool::Pool;
 use std::alloc::{AllocError, Global};
@@ -36,7 +36,7 @@ fn kind_of(opcode: u8) -> Kind
 }
 
 /// The method or call site that the entry at a number names.
-fn operand_at<'a>(pool: &'a Pool<'_>, number: u16) -> Option<Operand<LentName<'a>>>
+fn operand_at<'a>(pool: &'a Pool, number: u16) -> Option<Operand<LentName<'a>>>
     ensures { result ≡ operand_at pool.now number }
 {
     match pool.method_ref(number) {
@@ -59,7 +59,7 @@ fn operand_name<'a>(operand: &Operand<LentName<'a>>) -> &'a [u8]
 }
 
 /// Whether an entry of the right kind stands at the number that an invocation names.
-fn is_tagged(pool: &Pool<'_>, opcode: u8, number: u16) -> bool
+fn is_tagged(pool: &Pool, opcode: u8, number: u16) -> bool
     ensures { result ≡ option_map_or (λ row. has_tag pool.now row.tags number) (invocation_in invocations opcode) false }
 {
     match opcode {
@@ -115,7 +115,7 @@ fn tail_fits(opcode: u8, slots: u8, tail: &[u8]) -> bool
 }
 
 /// The slots of the parameters of what the entry at a number names.
-fn slots_at(pool: &Pool<'_>, number: u16) -> Option<u8>
+fn slots_at(pool: &Pool, number: u16) -> Option<u8>
     ensures { result ≡ slots_at pool.now number }
 {
     pool.slots(number)
@@ -124,7 +124,7 @@ fn slots_at(pool: &Pool<'_>, number: u16) -> Option<u8>
 /// What an invocation names, where it may name that.
 #[tactic(auto, unfolding(crate::specs::Reading::Sites::invoked))]
 fn invoked<'a>(
-    pool: &'a Pool<'_>,
+    pool: &'a Pool,
     opcode: u8,
     number: u16,
     tail: &[u8],
@@ -157,10 +157,10 @@ fn kept(alloc: Global, operand: &Operand<LentName<'_>>) -> Result<Operand<Name>,
 /// The site of an instruction, where it is an invocation.
 fn site_of(
     alloc: Global,
-    pool: &Pool<'_>,
+    pool: &Pool,
     pc: u16,
     instruction: &Instruction<'_>,
-) -> Result<Option<Site>, CodeFault>
+) -> Result<Option<KeptSite>, CodeFault>
     ensures ok { IfOk result (λ site. OperandFits pool.now instruction.now × (option_to_list site ≡ site_at pool.now pc instruction.now)) }
     ensures fault { IfErr result (IsSiteFault pool.now pc instruction.now) }
 {
@@ -170,7 +170,7 @@ fn site_of(
                 Some(operand) => {
                     let operand = kept(alloc, &operand)?;
                     let kind = kind_of(*opcode);
-                    Ok(Some(Site { pc, kind, operand }))
+                    Ok(Some(KeptSite { pc, kind, operand }))
                 }
                 None => Err(CodeFault::BadOperand(pc)),
             }
@@ -183,7 +183,7 @@ fn site_of(
 /// 65,536 bytes, as a Code attribute has. Where instructions end before the place that it names, an error is `BadOpcode` where no
 /// instruction begins so, `BadSwitch` where a switch's bounds or number of pairs can't be, `CutShort` where the bytes end within the
 /// instruction, and `BadOperand` where an invocation may not name what it names; or want of memory. `BadLayout` is none of them.
-pub fn scan(alloc: Global, code: &[u8], pool: &Pool<'_>) -> Result<Vec<Site>, CodeFault>
+pub fn scan(alloc: Global, code: &[u8], pool: &Pool) -> Result<Vec<KeptSite>, CodeFault>
     requires { length code.now < 2 ^ 16 }
     ensures ok { IfOk result (λ sites. (is : List Instruction) × IsCode pool.now code.now is × (sites.items ≡ sites_from pool.now 0 is)) }
     ensures fault { IfErr result (IsScanFault pool.now code.now) }

@@ -11,4 +11,4 @@ mod site;
 
 pub use code::{begins_special, no_fault_in_a_code, one_code, scan};
 pub use code_fault::CodeFault;
-pub use site::{Kind, Operand, Site};
+pub use site::{KeptSite, Kind, Operand, Site, Sites};

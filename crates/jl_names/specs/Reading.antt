@@ -5,3 +5,4 @@ pub mod Units
 pub mod Descriptors
 pub mod MethodTypes
 pub mod Repeats
+pub mod Prints

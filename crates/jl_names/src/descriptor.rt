@@ -69,10 +69,11 @@ impl<'a> FieldType<'a> {
 
 /// Whether a class name ends before this byte, or can't go on with it. `fresh`: a part of the name
 /// begins here.
-fn is_stop(fresh: bool, byte: u8) -> bool
+pub(crate) fn is_stop(fresh: bool, byte: u8) -> bool
     ensures { result ≡ is_stop fresh byte }
 {
-    byte == b'.' || byte == b';' || byte == b'[' || (byte == b'/' && fresh)
+    // Small letters, of which names mostly consist, are greater than all of these.
+    byte <= b'[' && (byte == b'.' || byte == b';' || byte == b'[' || (byte == b'/' && fresh))
 }
 
 /// Whether a class name ends before this byte.

@@ -30,7 +30,7 @@ impl Model for Name {
 }
 
 impl Name {
-    ghost use Rattle.std.specs.Prelude.{◌≤◌, length, take, drop, IfOk, OnOk, OnErr};
+    ghost use Rattle.std.specs.Prelude.{◌+◌, ◌≤◌, length, take, drop, IfOk, OnOk, OnErr};
 
     /// A name of these bytes, which are not copied.
     pub fn of(bytes: Vec<u8>) -> Result<Name, AllocError>
@@ -64,6 +64,19 @@ impl Name {
         })
     }
 
+    /// The part of so many bytes from here on, as a name in the same block. It is an error where the block can count no
+    /// more owners.
+    pub fn part(&self, at: usize, len: usize) -> Result<Name, AllocError>
+        requires { at + len ≤ length self.now }
+        ensures { IfOk result (λ part. part ≡ take len (drop at self.now)) }
+    {
+        // A block is shorter than a number can say, so the sum is in range.
+        let _len = self.bytes.len();
+        Ok(Name {
+            bytes: self.bytes.slice(at..at + len)?,
+        })
+    }
+
     /// The first so many bytes as a name in the same block; this one keeps the rest. It is an error where the block can
     /// count no more owners.
     pub fn split_to(&mut self, count: usize) -> Result<Name, AllocError>
@@ -78,42 +91,58 @@ impl Name {
     }
 }
 
-/// A name that is lent. A clause sees its bytes.
-#[derive(Debug, Drop)]
+/// A name that is lent: a part of the bytes of a kept name. A clause sees the bytes of the part.
+#[derive(Debug, Clone, Drop)]
 pub struct LentName<'a> {
-    name: &'a Name,
+    block: &'a Name,
+    at: usize,
+    len: usize,
 }
 
 impl<'a> Model for LentName<'a> {
-    ghost use Rattle.std.specs.Prelude.{List, ℕ};
+    ghost use Rattle.std.specs.Prelude.{List, ℕ, ◌+◌, ◌≤◌, length, take, drop};
 
     ghost Value = { List ℕ };
 
-    ghost view = { λ l. l.name.now };
+    ghost view = { λ l. take l.len (drop l.at l.block.now) };
+
+    ghost invariant = { λ l. l.at + l.len ≤ length l.block.now };
 }
 
 impl<'a> LentName<'a> {
-    ghost use Rattle.std.specs.Prelude.{IfOk};
+    ghost use Rattle.std.specs.Prelude.{◌+◌, ◌≤◌, length, take, drop, IfOk};
 
-    /// This name.
+    /// The whole of this name.
     pub fn of(name: &'a Name) -> Self
         ensures { result ≡ name.now }
     {
-        LentName { name }
+        LentName {
+            block: name,
+            at: 0,
+            len: name.as_slice().len(),
+        }
+    }
+
+    /// The part of this name that has so many bytes, from here on.
+    pub fn within(block: &'a Name, at: usize, len: usize) -> Self
+        requires { at + len ≤ length block.now }
+        ensures { result ≡ take len (drop at block.now) }
+    {
+        LentName { block, at, len }
     }
 
     /// The bytes, in order.
     pub fn as_slice(&self) -> &'a [u8]
         ensures { result.now ≡ self.now }
     {
-        self.name.as_slice()
+        &self.block.as_slice()[self.at..self.at + self.len]
     }
 
-    /// The same name once more, as `Name::copy` gives it.
-    pub fn copy(&self, alloc: Global) -> Result<Name, AllocError>
+    /// The same name once more, in the same block, as `Name::part` gives it.
+    pub fn copy(&self, _alloc: Global) -> Result<Name, AllocError>
         ensures { IfOk result (λ copy. copy ≡ self.now) }
     {
-        self.name.copy(alloc)
+        self.block.part(self.at, self.len)
     }
 }
 

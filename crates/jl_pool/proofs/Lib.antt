@@ -1,8 +1,10 @@
 pub mod Fields
 pub mod ConstantLaws
 pub mod FormLaws
+pub mod MarkLaws
 pub mod LookUpLaws
 pub mod TypedLaws
 pub mod PlaceLaws
+pub mod TableLaws
 pub mod PoolLaws
 pub mod PoolFaultLaws

@@ -1,27 +1,31 @@
 -- One constant after another.
-use Rattle.std.proofs.Common.{◌≡◌, ℕ, ◌+◌, ◌^◌, ◌<◌, ◌≤◌, Bool, true, false, cond, eqb, not, ◌&&◌, ◌||◌, List, [], ◌∷◌, ◌++◌}
-use Rattle.std.proofs.Common.{length, Option, Some, None, Ok, Err, refl, sym, ap, subst, ◌∙◌, append_assoc, length-append, get_or, arith, inl, inr}
+use Rattle.std.proofs.Common.{◌≡◌, ℕ, ◌+◌, ◌-◌, ◌^◌, ◌<◌, ◌≤◌, Bool, true, false, cond, eqb, not, ◌&&◌, ◌||◌, List, [], ◌∷◌, ◌++◌}
+use Rattle.std.proofs.Common.{length, take, Option, Some, None, Ok, Err, refl, sym, ap, subst, ◌∙◌, append_assoc, length-append, get_or, arith, inl, inr}
 use Rattle.std.specs.Prelude.{◌⊎◌, IsTrue}
 use Rattle.std.specs.List.{flat_map, AllByRecursion}
 use Rattle.std.proofs.lemmas.Bool.Decides.{nat_tests}
 use Rattle.std.proofs.lemmas.Grind.{flat_map-append}
-use Rattle.std.proofs.lemmas.List.{append-nil, flat_map_more}
+use Rattle.std.proofs.lemmas.List.{append-nil, flat_map_more, take_at}
 use Rattle.jl_names.proofs.Tests.{All-push, texts-push}
 use Rattle.jl_pool.specs.declared.constant.Constant.{Constant}
 use Rattle.jl_pool.specs.declared.constant.Constant.TheVariants.{Utf8, Integer, Float, Long, Double, Class, String, Fieldref, Methodref, InterfaceMethodref, NameAndType}
 use Rattle.jl_pool.specs.declared.constant.Constant.TheVariants.{MethodHandle, MethodType, Dynamic, InvokeDynamic, Module, Package}
 use Rattle.jl_pool.specs.declared.pool.Stop.TheVariants.{Cut, Tag}
 use Rattle.jl_pool.specs.declared.pool_fault.PoolFault.{PoolFault}
-use Rattle.jl_pool.specs.declared.pool_fault.PoolFault.TheVariants.{Truncated, BadTag, BadDescriptor}
+use Rattle.jl_pool.specs.declared.pool_fault.PoolFault.TheVariants.{Truncated, BadTag}
 use Rattle.jl_pool.specs.Numbers.{u2, u4}
-use Rattle.jl_pool.specs.Constants.{tag, constant_text, IsSized}
+use Rattle.jl_pool.specs.Constants.{tag, constant_text, IsSized, is_double}
 use Rattle.jl_pool.specs.Pools.{places, places_of, HasText, is_linked, IsTyped, IsSoundPool}
-use Rattle.jl_pool.specs.Faults.{IsFirstNot, Opens, IsBadTag, TagFault, PoolStands, IsPoolFault, AllAt}
-use Rattle.jl_pool.specs.Reading.Entries.{IsEntryFault}
+use Rattle.jl_pool.specs.Faults.{Opens, IsBadTag, TagFault, PoolStands, IsPoolFault, AllAt}
+use Rattle.jl_pool.specs.Reading.Entries.{IsCheckFault}
+use Rattle.jl_pool.specs.Reading.Table.{IsTable, entries_of}
+use Rattle.jl_pool.specs.declared.entry.Entry.{Entry}
+use Rattle.jl_pool.specs.declared.entry.Entry.TheVariants as kept
 use Rattle.jl_pool.specs.Reading.Fields.{number_at}
 use Rattle.jl_pool.specs.Reading.Constants.{is_known, is_wide, is_bad_tag, constant_at}
 use Rattle.jl_pool.proofs.Fields.{IsBytes, u2_again, u2_takes, u4_again, some_is}
 use Rattle.jl_pool.proofs.PlaceLaws.{All-places}
+use Rattle.jl_pool.proofs.TableLaws.{table_none, table_more, texts_short, text_short}
 use Rattle.jl_pool.proofs.ConstantLaws.{tag_known, constant_again, constant_takes, constant_tag, constant_bad, constant_one}
 
 -- ---- how many numbers a constant takes
@@ -44,6 +48,25 @@ places_by_tag (Dynamic bootstrap nt) = refl
 places_by_tag (InvokeDynamic bootstrap nt) = refl
 places_by_tag (Module name) = refl
 places_by_tag (Package name) = refl
+
+pub wide_double : (c : Constant) → is_wide (tag c) ≡ is_double c
+wide_double (Utf8 bytes) = refl
+wide_double (Integer bits) = refl
+wide_double (Float bits) = refl
+wide_double (Long bits) = refl
+wide_double (Double bits) = refl
+wide_double (Class name) = refl
+wide_double (String text) = refl
+wide_double (Fieldref owner nt) = refl
+wide_double (Methodref owner nt) = refl
+wide_double (InterfaceMethodref owner nt) = refl
+wide_double (NameAndType name ty) = refl
+wide_double (MethodHandle kind reference) = refl
+wide_double (MethodType ty) = refl
+wide_double (Dynamic bootstrap nt) = refl
+wide_double (InvokeDynamic bootstrap nt) = refl
+wide_double (Module name) = refl
+wide_double (Package name) = refl
 
 wide_fits : (count place : ℕ) (wide : Bool) → place < count → eqb (place + 1) count && wide ≡ false → place + cond wide 2 1 ≤ count
 wide_fits count place false lt e = omega arith
@@ -88,17 +111,18 @@ met count i t c same fits (inr two) =
 
 -- ---- constants that were read, by number, and what is left
 
-pub record SoFar (bytes : List ℕ) (entries : List (Option Constant)) (rest : List ℕ) (count place : ℕ) : Type 0 where
+pub record SoFar (bytes : List ℕ) (entries : List Entry) (rest : List ℕ) (count place : ℕ) : Type 0 where
   pub cs : List Constant
-  pub by_number : entries ≡ places cs
+  -- whatever comes after them
+  pub table : (more : List ℕ) → IsTable (flat_map constant_text cs ++ more) entries cs
   pub spelled : bytes ≡ flat_map constant_text cs ++ rest
   pub sized : AllByRecursion IsSized cs
   pub bytes_left : IsBytes rest
   pub next : place ≡ length (places cs)
   pub within : place ≤ count
 
-pub SoFar-none : (bytes : List ℕ) (count : ℕ) → IsBytes bytes → 1 ≤ count → SoFar bytes (None ∷ []) bytes count 1
-SoFar-none bytes count fits le = record { cs = []; by_number = refl; spelled = refl; sized = tt; bytes_left = fits; next = refl; within = le }
+pub SoFar-none : (bytes : List ℕ) (count : ℕ) → IsBytes bytes → 1 ≤ count → SoFar bytes (kept.Nothing ∷ []) bytes count 1
+SoFar-none bytes count fits le = record { cs = []; table = table_none; spelled = refl; sized = tt; bytes_left = fits; next = refl; within = le }
 
 places-push : (cs : List Constant) (c : Constant) → places (cs ++ c ∷ []) ≡ places cs ++ places_of c
 places-push cs c = sym (flat_map_more places_of (None ∷ []) cs c)
@@ -111,14 +135,40 @@ ends_below count place rest c after fits lt e =
     let le = wide_fits count place (is_wide (tag c)) lt r.room in
     omega (arith, places_by_tag c, le)
 
-pub SoFar-more : (bytes : List ℕ) (entries : List (Option Constant)) (rest : List ℕ) (count place : ℕ) (c : Constant) (after : List ℕ)
+end_is : (bytes : List ℕ) (cs : List Constant) (c : Constant) (rest after : List ℕ) → bytes ≡ flat_map constant_text cs ++ rest → rest ≡ constant_text c ++ after
+    → length bytes - length after ≡ length (flat_map constant_text cs) + length (constant_text c)
+end_is bytes cs c rest after e f =
+    omega (arith, ap length e, ap length f, length-append (flat_map constant_text cs) rest, length-append (constant_text c) after)
+
+-- where a constant that was read ends
+pub record Ended (bytes : List ℕ) (c : Constant) (after : List ℕ) : Type 0 where
+  pub sized : IsSized c
+  pub within : length after ≤ length bytes
+  pub ends : length (constant_text c) ≤ length bytes - length after
+  pub few : length bytes - length after < 2 ^ 32
+
+pub ended : (bytes : List ℕ) (entries : List Entry) (rest : List ℕ) (count place : ℕ) (c : Constant) (after : List ℕ)
+    → SoFar bytes entries rest count place → count < 2 ^ 16 → place < count → constant_at (eqb (place + 1) count) rest ≡ Ok (c, after) → Ended bytes c after
+ended bytes entries rest count place c after s size lt e =
+    let r = constant_takes (eqb (place + 1) count) rest (c, after) s.bytes_left e in
+    let end = end_is bytes s.cs c rest after s.spelled r.taken.parts in
+    let front = texts_short s.cs s.sized in
+    let one = text_short c r.sized in
+    record {
+      sized = r.sized;
+      within = omega (arith, ap length s.spelled, ap length r.taken.parts, length-append (flat_map constant_text s.cs) rest, length-append (constant_text c) after);
+      ends = omega (arith, end);
+      few = omega (arith, end, front, one, s.next);
+    }
+
+pub SoFar-more : (bytes : List ℕ) (entries : List Entry) (rest : List ℕ) (count place : ℕ) (c : Constant) (after : List ℕ)
     → SoFar bytes entries rest count place → place < count → constant_at (eqb (place + 1) count) rest ≡ Ok (c, after)
-    → SoFar bytes (entries ++ places_of c) after count (place + length (places_of c))
+    → SoFar bytes (entries ++ entries_of c (length bytes - length after)) after count (place + length (places_of c))
 SoFar-more bytes entries rest count place c after s lt e =
     let r = constant_takes (eqb (place + 1) count) rest (c, after) s.bytes_left e in
     record {
       cs = s.cs ++ c ∷ [];
-      by_number = ap (λ (x : List (Option Constant)). x ++ places_of c) s.by_number ∙ sym (places-push s.cs c);
+      table = λ more. table_more s.cs c entries more (length bytes - length after) r.sized (end_is bytes s.cs c rest after s.spelled r.taken.parts) (s.table (constant_text c ++ more));
       spelled = s.spelled ∙ ap (λ (x : List ℕ). flat_map constant_text s.cs ++ x) r.taken.parts ∙ sym (texts-push constant_text s.cs c after);
       sized = All-push IsSized s.cs c s.sized r.sized;
       bytes_left = r.taken.bytes_left;
@@ -126,8 +176,8 @@ SoFar-more bytes entries rest count place c after s lt e =
       within = ends_below count place rest c after s.bytes_left lt e;
     }
 
-pub SoFar-done : (bytes : List ℕ) (entries : List (Option Constant)) (rest : List ℕ) (count place : ℕ) → count < 2 ^ 16 → count ≤ place
-    → SoFar bytes entries rest count place → (cs : List Constant) × PoolStands (u2 count ++ bytes) cs rest × (entries ≡ places cs)
+pub SoFar-done : (bytes : List ℕ) (entries : List Entry) (rest : List ℕ) (count place : ℕ) → count < 2 ^ 16 → count ≤ place
+    → SoFar bytes entries rest count place → (cs : List Constant) × PoolStands (u2 count ++ bytes) cs rest × (bytes ≡ flat_map constant_text cs ++ rest) × IsTable (flat_map constant_text cs) entries cs
 SoFar-done bytes entries rest count place size le s =
     let is : count ≡ place = omega (arith, s.within) in (
       s.cs,
@@ -135,10 +185,11 @@ SoFar-done bytes entries rest count place size le s =
         bytes = ap (λ (x : List ℕ). u2 count ++ x) s.spelled ∙ ap (λ (n : ℕ). u2 n ++ (flat_map constant_text s.cs ++ rest)) (is ∙ s.next);
         written = record { each = s.sized; count = omega (arith, s.next) };
       },
-      s.by_number,
+      s.spelled,
+      subst (λ (b : List ℕ). IsTable b entries s.cs) (append-nil (flat_map constant_text s.cs)) (s.table []),
     )
 
-opens : (bytes : List ℕ) (entries : List (Option Constant)) (rest : List ℕ) (count place : ℕ) (s : SoFar bytes entries rest count place) → count < 2 ^ 16
+opens : (bytes : List ℕ) (entries : List Entry) (rest : List ℕ) (count place : ℕ) (s : SoFar bytes entries rest count place) → count < 2 ^ 16
     → place < count → Opens (u2 count ++ bytes) count s.cs rest
 opens bytes entries rest count place s size lt = record {
   count_size = size;
@@ -147,7 +198,7 @@ opens bytes entries rest count place s size lt = record {
   more = omega (arith, s.next);
 }
 
-pub SoFar-tag : (bytes : List ℕ) (entries : List (Option Constant)) (rest : List ℕ) (count place : ℕ) → SoFar bytes entries rest count place → count < 2 ^ 16 → place < count
+pub SoFar-tag : (bytes : List ℕ) (entries : List Entry) (rest : List ℕ) (count place : ℕ) → SoFar bytes entries rest count place → count < 2 ^ 16 → place < count
     → constant_at (eqb (place + 1) count) rest ≡ Err Tag → IsPoolFault (u2 count ++ bytes) (BadTag place)
 SoFar-tag bytes entries rest count place s size lt e =
     let t = constant_tag (eqb (place + 1) count) rest e in
@@ -215,7 +266,7 @@ tag_none count place i t left rest [] e lt is text = λ bad.
 tag_none count place i t left rest (c ∷ more) e lt is text = λ bad.
     met count i t c (cc) (omega (arith, length-append (places_of c) (flat_map places_of more))) bad
 
-module _ (bytes : List ℕ) (entries : List (Option Constant)) (rest : List ℕ) (count place : ℕ) (s : SoFar bytes entries rest count place) (size : count < 2 ^ 16)
+module _ (bytes : List ℕ) (entries : List Entry) (rest : List ℕ) (count place : ℕ) (s : SoFar bytes entries rest count place) (size : count < 2 ^ 16)
     (lt : place < count) (e : constant_at (eqb (place + 1) count) rest ≡ Err Cut) where
   no_pool : (cs : List Constant) (left : List ℕ) → ¬ PoolStands (u2 count ++ bytes) cs left
   no_pool cs left = λ h.
@@ -256,27 +307,26 @@ module _ (bytes : List ℕ) (entries : List (Option Constant)) (rest : List ℕ)
 
 -- ---- what a whole pool has to meet
 
-pub entries_fault : (bytes : List ℕ) (cs : List Constant) (left : List ℕ) (entries : List (Option Constant)) (f : PoolFault) → PoolStands bytes cs left → entries ≡ places cs
-    → IsEntryFault entries f → IsPoolFault bytes f
-entries_fault bytes cs left entries f stands by_number h = by_places f (subst (λ (p : List (Option Constant)). IsEntryFault p f) by_number h) where
-  by_places : (f : PoolFault) → IsEntryFault (places cs) f → IsPoolFault bytes f
+-- why the constants that stand there are refused is a fault of the pool
+pub check_fault : (bytes : List ℕ) (cs : List Constant) (left : List ℕ) (p : List (Option Constant)) (f : PoolFault) → PoolStands bytes cs left → p ≡ places cs → IsCheckFault p f → IsPoolFault bytes f
+check_fault bytes cs left p f stands by_number h = by_places f (subst (λ (q : List (Option Constant)). IsCheckFault q f) by_number h) where
+  by_places : (f : PoolFault) → IsCheckFault (places cs) f → IsPoolFault bytes f
   by_places f (inl text) = subst (λ (g : PoolFault). IsPoolFault bytes g) (sym text.1) (cs, left, stands, tt, text.2)
-  by_places f (inr link) = subst (λ (g : PoolFault). IsPoolFault bytes g) (sym link.1.1) (cs, left, stands, All-places HasText cs link.0, link.1.2)
+  by_places f (inr (texts, inl link)) = subst (λ (g : PoolFault). IsPoolFault bytes g) (sym link.1) (cs, left, stands, All-places HasText cs texts, link.2)
+  by_places f (inr (texts, inr (links, ty))) =
+      subst (λ (g : PoolFault). IsPoolFault bytes g) (sym ty.1)
+      (cs, left, stands, (All-places HasText cs texts, All-places (λ c. IsTrue (is_linked (places cs) c)) cs links), ty.2)
 
-pub types_fault : (bytes : List ℕ) (cs : List Constant) (left : List ℕ) (entries : List (Option Constant)) (f : PoolFault) → PoolStands bytes cs left → entries ≡ places cs
-    → AllAt HasText (places cs) → AllAt (λ c. IsTrue (is_linked (places cs) c)) (places cs)
-    → (i : ℕ) × (f ≡ BadDescriptor i) × IsFirstNot (IsTyped entries) entries i → IsPoolFault bytes f
-types_fault bytes cs left entries f stands by_number texts links h =
-    subst (λ (g : PoolFault). IsPoolFault bytes g) (sym h.1)
-    (cs, left, stands, (All-places HasText cs texts, All-places (λ c. IsTrue (is_linked (places cs) c)) cs links), subst (λ (p : List (Option Constant)). IsFirstNot (IsTyped p) p h.0) by_number h.2)
-
-pub sound : (cs : List Constant) (entries : List (Option Constant)) → entries ≡ places cs → AllAt HasText (places cs) → AllAt (λ c. IsTrue (is_linked (places cs) c)) (places cs)
-    → AllAt (IsTyped entries) entries → IsSoundPool cs
-sound cs entries by_number texts links types = record {
-  texts = All-places HasText cs texts;
-  links = All-places (λ c. IsTrue (is_linked (places cs) c)) cs links;
-  types = All-places (IsTyped (places cs)) cs (subst (λ (p : List (Option Constant)). AllAt (IsTyped p) p) by_number types);
+pub sound : (cs : List Constant) (p : List (Option Constant)) → p ≡ places cs → AllAt HasText p → AllAt (λ c. IsTrue (is_linked p c)) p → AllAt (IsTyped p) p → IsSoundPool cs
+sound cs p by_number texts links types = record {
+  texts = All-places HasText cs (subst (λ (q : List (Option Constant)). AllAt HasText q) by_number texts);
+  links = All-places (λ c. IsTrue (is_linked (places cs) c)) cs (subst (λ (q : List (Option Constant)). AllAt (λ c. IsTrue (is_linked q c)) q) by_number links);
+  types = All-places (IsTyped (places cs)) cs (subst (λ (q : List (Option Constant)). AllAt (IsTyped q) q) by_number types);
 }
+
+-- what stands before the rest, by the lengths alone
+pub cut_block : (bytes front after : List ℕ) → bytes ≡ front ++ after → take (length bytes - length after) bytes ≡ front
+cut_block bytes front after e = subst (λ (t : List ℕ). take (length t - length after) t ≡ front) (sym e) (take_at front after (length (front ++ after) - length after) (omega (arith, length-append front after)))
 
 pub counted_front : (bytes : List ℕ) (count : ℕ) (rest : List ℕ) → ((i : ℕ) → get_or bytes i 0 < 256) → number_at 2 bytes ≡ Some (count, rest) → bytes ≡ u2 count ++ rest
 counted_front bytes count rest fits e = (u2_takes bytes (count, rest) fits e).0.parts

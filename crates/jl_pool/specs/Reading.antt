@@ -1,8 +1,8 @@
 -- Reading functions on lists: what the private readers compute. Of public clauses those of
 -- `Pool::form` and the readers of numbers cite them, for the crates above that read on.
-pub mod LookUp
 pub mod Fields
 pub mod Constants
 pub mod Entries
 pub mod Forms
-pub mod Names
+pub mod Table
+pub mod Marks

@@ -5,10 +5,10 @@
 #![tactic(auto)]
 
 mod bytes;
+mod check;
 mod constant;
+mod entry;
 mod form;
-mod lookup;
-mod names;
 mod pool;
 mod pool_fault;
 mod reference;

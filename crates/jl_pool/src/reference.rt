@@ -31,7 +31,7 @@ impl<'a> Reference<LentName<'a>> {
 
 impl Reference<Name> {
     /// The same reference with names that are lent.
-    fn lent(&self) -> Reference<LentName<'_>>
+    pub fn lent(&self) -> Reference<LentName<'_>>
         ensures { result ≡ self.now }
     {
         Reference {
@@ -73,7 +73,7 @@ impl<'a> CallSiteSpecifier<LentName<'a>> {
 
 impl CallSiteSpecifier<Name> {
     /// The same specifier with names that are lent.
-    fn lent(&self) -> CallSiteSpecifier<LentName<'_>>
+    pub fn lent(&self) -> CallSiteSpecifier<LentName<'_>>
         ensures { result ≡ self.now }
     {
         CallSiteSpecifier {

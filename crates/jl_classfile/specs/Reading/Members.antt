@@ -5,6 +5,7 @@ use Rattle.std.specs.List.{Contains}
 use Rattle.std.specs.Borrow.{Bor}
 use Rattle.jl_names.specs.ClassNames.{is_unqualified}
 use Rattle.jl_names.specs.Repeats.{text_at as text_of_number}
+use Rattle.jl_names.specs.Reading.Prints.{print_from}
 use Rattle.jl_classfile.specs.declared.body.Member.{Member}
 use Rattle.jl_classfile.specs.declared.fault.ClassFault.{ClassFault}
 use Rattle.jl_classfile.specs.declared.fault.ClassFault.TheVariants.{BadLink, BadMember, DuplicateMethod, TwoCodes}
@@ -72,3 +73,11 @@ IsTextAt texts pool n = text_of_number texts n ≡ text_at pool n
 
 abbrev pub AreTexts : List (Option (Bor (List ℕ))) → Pool → Member → Type 0
 AreTexts texts pool m = IsTextAt texts pool m.name × IsTextAt texts pool m.descriptor
+
+-- what a text makes of a print, if there is one
+abbrev pub print_onto : ℕ → Option (List ℕ) → ℕ
+print_onto before text = option_map_or (print_from before) text before
+
+-- the print of a method's name and descriptor
+abbrev pub print_of : Pool → Member → ℕ
+print_of pool m = print_onto (print_onto 0 (text_at pool m.name)) (text_at pool m.descriptor)

@@ -2,7 +2,6 @@
 use Rattle.std.specs.Prelude.{ℕ, ◌+◌, ◌==◌, nat_le, Bool, true, false, not, ◌&&◌, ◌||◌, is_some, if◌then◌else◌, List, [], ◌∷◌, length, map, Option, Some, None, Result, Ok, Err, option_map}
 use Rattle.std.specs.Option.{option_and_then, option_map_or}
 use Rattle.std.specs.Str.{byte}
-use Rattle.std.specs.Borrow.{Bor}
 use Rattle.jl_names.specs.declared.descriptor.FieldType.{FieldType}
 use Rattle.jl_names.specs.ClassNames.{is_class_name, is_unqualified}
 use Rattle.jl_names.specs.MethodTypes.{slots_of}
@@ -77,6 +76,6 @@ is_typed pool _ = true
 abbrev pub slots_at : Pool → ℕ → Option ℕ
 slots_at pool n = option_and_then method_slots (named_descriptor pool n)
 
--- two texts that were lent, as a name with its descriptor
-abbrev pub signed_texts : Bor (List ℕ) × Bor (List ℕ) → Signed
-signed_texts x = record { name = x.0.now; ty = x.1.now }
+-- two texts, as a name with its descriptor
+abbrev pub signed_names : List ℕ × List ℕ → Signed
+signed_names x = record { name = x.0; ty = x.1 }

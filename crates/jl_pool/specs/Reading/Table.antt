@@ -1,0 +1,91 @@
+-- What a pool keeps of its constants, over a block of their bytes.
+use Rattle.std.specs.Prelude.{◌≡◌, ℕ, ◌+◌, ◌-◌, ◌<◌, ◌^◌, nat_le, Bool, true, if◌then◌else◌, List, [], ◌∷◌, length, map, take, drop, slice_get, Option, Some, None}
+use Rattle.std.specs.Option.{unwrap_or}
+use Rattle.std.specs.List.{list_all}
+use Rattle.byteorder.specs.Endian.{big_number}
+use Rattle.jl_pool.specs.declared.constant.Constant.{Constant}
+use Rattle.jl_pool.specs.declared.constant.Constant.TheVariants.{Utf8, Integer, Float, Long, Double, Class, String, Fieldref, Methodref, InterfaceMethodref, NameAndType, MethodHandle, MethodType, Dynamic, InvokeDynamic, Module, Package}
+use Rattle.jl_pool.specs.declared.entry.Entry.{Entry}
+use Rattle.jl_pool.specs.declared.entry.Entry.TheVariants as kept
+use Rattle.jl_pool.specs.declared.form.Form.{Form}
+use Rattle.jl_pool.specs.Pools.{Pool, places}
+use Rattle.jl_pool.specs.Constants.{is_double}
+use Rattle.jl_pool.specs.Reading.Forms.{form_of, forms_of}
+
+-- the constant of an entry
+abbrev pub shown : List ℕ → Entry → Option Constant
+shown block kept.Nothing = None
+shown block (kept.Utf8 at len form) = Some (Utf8 (take len (drop at block)))
+shown block (kept.Integer bits) = Some (Integer bits)
+shown block (kept.Float bits) = Some (Float bits)
+shown block (kept.Long at) = Some (Long (big_number 8 (drop at block)))
+shown block (kept.Double at) = Some (Double (big_number 8 (drop at block)))
+shown block (kept.Class name) = Some (Class name)
+shown block (kept.String text) = Some (String text)
+shown block (kept.Fieldref owner signed) = Some (Fieldref owner signed)
+shown block (kept.Methodref owner signed) = Some (Methodref owner signed)
+shown block (kept.InterfaceMethodref owner signed) = Some (InterfaceMethodref owner signed)
+shown block (kept.NameAndType name ty) = Some (NameAndType name ty)
+shown block (kept.MethodHandle kind reference) = Some (MethodHandle kind reference)
+shown block (kept.MethodType ty) = Some (MethodType ty)
+shown block (kept.Dynamic bootstrap signed) = Some (Dynamic bootstrap signed)
+shown block (kept.InvokeDynamic bootstrap signed) = Some (InvokeDynamic bootstrap signed)
+shown block (kept.Module name) = Some (Module name)
+shown block (kept.Package name) = Some (Package name)
+
+abbrev pub pool_of : List ℕ → List Entry → Pool
+pool_of block entries = map (shown block) entries
+
+-- what it names stands within so many bytes
+abbrev pub is_within : ℕ → Entry → Bool
+is_within size (kept.Utf8 at len form) = nat_le (at + len) size
+is_within size (kept.Long at) = nat_le (at + 8) size
+is_within size (kept.Double at) = nat_le (at + 8) size
+is_within size _ = true
+
+-- what its text may stand for
+abbrev pub form_in : Entry → Option Form
+form_in (kept.Utf8 at len form) = Some form
+form_in _ = None
+
+-- what a pool keeps is right
+abbrev pub IsKept : List ℕ → List Entry → Type 0
+IsKept block entries = (length entries < 2 ^ 16) × (list_all (is_within (length block)) entries ≡ true) × (map form_in entries ≡ forms_of (pool_of block entries))
+
+-- these are the entries of the constants
+pub record IsTable (block : List ℕ) (entries : List Entry) (cs : List Constant) : Type 0 where
+  pub by_number : pool_of block entries ≡ places cs
+  pub within : list_all (is_within (length block)) entries ≡ true
+  pub formed : map form_in entries ≡ forms_of (places cs)
+
+-- what stands at a number
+abbrev pub entry_at : List Entry → ℕ → Entry
+entry_at entries n = unwrap_or (slice_get entries n) kept.Nothing
+
+-- ---- the entry of a constant that ends at a place
+
+abbrev pub text_entry : List ℕ → ℕ → Entry
+text_entry text end = kept.Utf8 (end - length text) (length text) (form_of text)
+
+abbrev pub entry_of : Constant → ℕ → Entry
+entry_of (Utf8 text) end = text_entry text end
+entry_of (Integer bits) end = kept.Integer bits
+entry_of (Float bits) end = kept.Float bits
+entry_of (Long bits) end = kept.Long (end - 8)
+entry_of (Double bits) end = kept.Double (end - 8)
+entry_of (Class name) end = kept.Class name
+entry_of (String text) end = kept.String text
+entry_of (Fieldref owner signed) end = kept.Fieldref owner signed
+entry_of (Methodref owner signed) end = kept.Methodref owner signed
+entry_of (InterfaceMethodref owner signed) end = kept.InterfaceMethodref owner signed
+entry_of (NameAndType name ty) end = kept.NameAndType name ty
+entry_of (MethodHandle kind reference) end = kept.MethodHandle kind reference
+entry_of (MethodType ty) end = kept.MethodType ty
+entry_of (Dynamic bootstrap signed) end = kept.Dynamic bootstrap signed
+entry_of (InvokeDynamic bootstrap signed) end = kept.InvokeDynamic bootstrap signed
+entry_of (Module name) end = kept.Module name
+entry_of (Package name) end = kept.Package name
+
+-- at the numbers that a constant takes
+abbrev pub entries_of : Constant → ℕ → List Entry
+entries_of c end = entry_of c end ∷ (if is_double c then kept.Nothing ∷ [] else [])

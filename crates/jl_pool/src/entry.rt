@@ -1,0 +1,155 @@
+//! What a pool keeps of its constants.
+
+ghost use Rattle.std.specs.Prelude.{◌≡◌, ◌+◌, ◌<◌, ◌≤◌, ◌^◌, length, take, drop, true};
+ghost use Rattle.std.specs.Option.{option_and_then};
+ghost use Rattle.byteorder.specs.Endian.{big_number};
+ghost use Rattle.jl_pool.specs.Constants.{constant_text, IsSized};
+ghost use Rattle.jl_pool.specs.Pools.{text_of};
+ghost use Rattle.jl_pool.specs.Reading.Table.{shown, text_entry, entry_of, entry_at, form_in, is_within};
+
+use crate::constant::Constant;
+use crate::form::Form;
+use byteorder::{BigEndian, ByteOrder};
+use jl_names::{LentName, Name, Text};
+
+/// What stands at a number of a pool. What is longer than two numbers stands in the block of the pool's bytes.
+#[derive(Clone, Copy, Debug, PartialEq, Eq)]
+pub enum Entry {
+    Nothing,
+    /// Where the text begins, how many bytes it has, and what it may stand for.
+    Utf8(u32, u16, Form),
+    Integer(u32),
+    Float(u32),
+    /// Where the eight bytes of the value begin, here and in the next.
+    Long(u32),
+    Double(u32),
+    Class(u16),
+    String(u16),
+    Fieldref(u16, u16),
+    Methodref(u16, u16),
+    InterfaceMethodref(u16, u16),
+    NameAndType(u16, u16),
+    MethodHandle(u8, u16),
+    MethodType(u16),
+    Dynamic(u16, u16),
+    InvokeDynamic(u16, u16),
+    Module(u16),
+    Package(u16),
+}
+
+impl Entry {
+    /// What is kept of a constant whose bytes end at this place of the block.
+    pub(crate) fn of(constant: &Constant<'_>, end: u32) -> Entry
+        requires sized { IsSized constant.now }
+        requires ends { length (constant_text constant.now) ≤ end }
+        ensures { result ≡ entry_of constant.now end }
+    {
+        match constant {
+            Constant::Utf8(text) => utf8_of(text.as_bytes(), end),
+            Constant::Integer(bits) => Entry::Integer(*bits),
+            Constant::Float(bits) => Entry::Float(*bits),
+            Constant::Long(_) => Entry::Long(end - 8),
+            Constant::Double(_) => Entry::Double(end - 8),
+            Constant::Class(name) => Entry::Class(*name),
+            Constant::String(text) => Entry::String(*text),
+            Constant::Fieldref(owner, signed) => Entry::Fieldref(*owner, *signed),
+            Constant::Methodref(owner, signed) => Entry::Methodref(*owner, *signed),
+            Constant::InterfaceMethodref(owner, signed) => {
+                Entry::InterfaceMethodref(*owner, *signed)
+            }
+            Constant::NameAndType(name, ty) => Entry::NameAndType(*name, *ty),
+            Constant::MethodHandle(kind, reference) => Entry::MethodHandle(*kind, *reference),
+            Constant::MethodType(ty) => Entry::MethodType(*ty),
+            Constant::Dynamic(bootstrap, signed) => Entry::Dynamic(*bootstrap, *signed),
+            Constant::InvokeDynamic(bootstrap, signed) => Entry::InvokeDynamic(*bootstrap, *signed),
+            Constant::Module(name) => Entry::Module(*name),
+            Constant::Package(name) => Entry::Package(*name),
+        }
+    }
+}
+
+/// What is kept of a text that ends at this place of the block.
+fn utf8_of(text: &[u8], end: u32) -> Entry
+    requires sized { length text.now < 2 ^ 16 }
+    requires ends { length text.now ≤ end }
+    ensures { result ≡ text_entry text.now end }
+{
+    Entry::Utf8(end - text.len() as u32, text.len() as u16, Form::of(text))
+}
+
+/// The constant of an entry.
+pub(crate) fn constant_in(block: &[u8], entry: Entry) -> Option<Constant<'_>>
+    requires { is_within (length block.now) entry ≡ true }
+    ensures { result ≡ shown block.now entry }
+{
+    match entry {
+        Entry::Nothing => None,
+        Entry::Utf8(at, len, _) => Some(Constant::Utf8(Text::of(bytes_in(block, at, len)))),
+        Entry::Integer(bits) => Some(Constant::Integer(bits)),
+        Entry::Float(bits) => Some(Constant::Float(bits)),
+        Entry::Long(at) => Some(Constant::Long(bits_in(block, at))),
+        Entry::Double(at) => Some(Constant::Double(bits_in(block, at))),
+        Entry::Class(name) => Some(Constant::Class(name)),
+        Entry::String(text) => Some(Constant::String(text)),
+        Entry::Fieldref(owner, signed) => Some(Constant::Fieldref(owner, signed)),
+        Entry::Methodref(owner, signed) => Some(Constant::Methodref(owner, signed)),
+        Entry::InterfaceMethodref(owner, signed) => {
+            Some(Constant::InterfaceMethodref(owner, signed))
+        }
+        Entry::NameAndType(name, ty) => Some(Constant::NameAndType(name, ty)),
+        Entry::MethodHandle(kind, reference) => Some(Constant::MethodHandle(kind, reference)),
+        Entry::MethodType(ty) => Some(Constant::MethodType(ty)),
+        Entry::Dynamic(bootstrap, signed) => Some(Constant::Dynamic(bootstrap, signed)),
+        Entry::InvokeDynamic(bootstrap, signed) => Some(Constant::InvokeDynamic(bootstrap, signed)),
+        Entry::Module(name) => Some(Constant::Module(name)),
+        Entry::Package(name) => Some(Constant::Package(name)),
+    }
+}
+
+/// So many bytes of the block from here on.
+fn bytes_in(block: &[u8], at: u32, len: u16) -> &[u8]
+    requires { at + len ≤ length block.now }
+    ensures { result.now ≡ take len (drop at block.now) }
+{
+    let at = at as usize;
+    &block[at..at + usize::from(len)]
+}
+
+/// The number of eight bytes in the block from here on.
+fn bits_in(block: &[u8], at: u32) -> u64
+    requires { at + 8 ≤ length block.now }
+    ensures { result ≡ big_number 8 (drop at block.now) }
+{
+    BigEndian::read_u64(&block[at as usize..])
+}
+
+/// What stands at a number: nothing behind the last one.
+pub(crate) fn entry_at(entries: &[Entry], number: u16) -> Entry
+    ensures { result ≡ entry_at entries.now number }
+{
+    match entries.get(usize::from(number)) {
+        Some(entry) => *entry,
+        None => Entry::Nothing,
+    }
+}
+
+/// The text of an entry, where it is a Utf8.
+pub(crate) fn text_in(block: &Name, entry: Entry) -> Option<LentName<'_>>
+    requires { is_within (length block.now) entry ≡ true }
+    ensures { result ≡ option_and_then text_of (shown block.now entry) }
+{
+    match entry {
+        Entry::Utf8(at, len, _) => Some(LentName::within(block, at as usize, usize::from(len))),
+        _ => None,
+    }
+}
+
+/// The form of the text of an entry, where it is a Utf8.
+pub(crate) fn form_in(entry: Entry) -> Option<Form>
+    ensures { result ≡ form_in entry }
+{
+    match entry {
+        Entry::Utf8(_, _, form) => Some(form),
+        _ => None,
+    }
+}
