@@ -1,6 +1,7 @@
 pub mod BufferLaws
 pub mod JsonLaws
 pub mod LackLaws
+pub mod HexLaws
 pub mod ScanLaws
 pub mod FloatLaws
 pub mod LineLaws

@@ -1,6 +1,6 @@
 -- What a line of the mode scan is answered.
 use Rattle.std.proofs.Common.{◌≡◌, ◌≢◌, ◌∙◌, ap, refl, subst, inl, inr, ◌⊎◌, ℕ, List, Option, Some}
-use Rattle.std.proofs.Common.{None, MatchOption, Bool, true, false, Result, Ok, Err, IfOk}
+use Rattle.std.proofs.Common.{None, MatchOption, Bool, true, false, Result, Ok, Err, IfOk, OnOk, is_ok, ◌++◌, if◌then◌else◌}
 use Rattle.serde_json.specs.Data.{Data}
 use Rattle.serde_json.specs.View.{view}
 use Rattle.serde_json.specs.declared.value.Value.{Value}
@@ -19,7 +19,7 @@ use Rattle.jl_classfile.specs.Faults.{IsFault}
 use Rattle.jl_json.specs.ClassAnswers.{class_data, IsClassText}
 use Rattle.jl_json.specs.Refusals.{refusal_data}
 use Rattle.serde_json.specs.Written.{compact_text}
-use Rattle.jl_cli.specs.Jsons.{bad_command, IsTextOf}
+use Rattle.jl_cli.specs.Jsons.{bad_command, IsTextOf, AddsTextOf}
 use Rattle.jl_cli.specs.Scans.{file_of, IsFaultAnswer, IsFileAnswer, IsScanAnswer}
 
 memory_or_not : (f : ClassFault) → (f ≡ Memory) ⊎ (f ≢ Memory)
@@ -68,11 +68,11 @@ of_file : (o : Option (List ℕ)) (hit : Bool) (bytes : List ℕ) (answer : Data
 of_file None hit bytes answer told is a = absurd cc
 of_file (Some file) hit bytes answer told is a = subst (λ (b : List ℕ). IsFileAnswer b answer) told.1 a
 
-pub file_text : (line : List ℕ) (hit : Bool) (bytes text : List ℕ)
+pub file_text : (line : List ℕ) (hit : Bool) (bytes old new : List ℕ)
     → MatchOption (file_of line) (hit ≡ false) (λ file. (hit ≡ true) × (bytes ≡ file)) → hit ≡ true
-    → IsTextOf (IsFileAnswer bytes) text → IsTextOf (IsScanAnswer line) text
-file_text line hit bytes text told is said =
-    (said.0, of_file (file_of line) hit bytes said.0 told is said.1, said.2)
+    → AddsTextOf (IsFileAnswer bytes) old new → AddsTextOf (IsScanAnswer line) old new
+file_text line hit bytes old new told is (text, said, added) =
+    (text, (said.0, of_file (file_of line) hit bytes said.0 told is said.1, said.2), added)
 
 no_file : (o : Option (List ℕ)) (hit : Bool) (bytes : List ℕ)
     → MatchOption o (hit ≡ false) (λ file. (hit ≡ true) × (bytes ≡ file))
@@ -84,6 +84,12 @@ pub bad_text : (line : List ℕ) (hit : Bool) (bytes text : List ℕ)
     → MatchOption (file_of line) (hit ≡ false) (λ file. (hit ≡ true) × (bytes ≡ file)) → hit ≡ false
     → text ≡ compact_text bad_command → IsTextOf (IsScanAnswer line) text
 bad_text line hit bytes text told is said = (bad_command, no_file (file_of line) hit bytes told is, said)
+
+-- a text is added, unless memory lacks
+pub added_text : {E : Type 0} (r : Result Unit E) (IsSaid : Data → Type 0) (old new text : List ℕ)
+    → new ≡ (if is_ok r then old ++ text else old) → IsTextOf IsSaid text → OnOk r (AddsTextOf IsSaid old new)
+added_text (Ok x) IsSaid old new text is said = (text, said, is)
+added_text (Err e) IsSaid old new text is said = tt
 
 pub for_ok : {X E : Type 0} {P Q : X → Type 0} → ((x : X) → P x → Q x) → (r : Result X E) → IfOk r P → IfOk r Q
 for_ok f (Ok x) h = f x h

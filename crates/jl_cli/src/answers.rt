@@ -4,14 +4,17 @@ ghost use Rattle.std.specs.Prelude.{◌≡◌, ◌<◌, ◌≤◌, ◌++◌, [],
 ghost use Rattle.std.specs.Prelude.{IfOk, OnOk, OnErr, MatchOption, MatchResult};
 ghost use Rattle.std.specs.Io.KnownBytes.{Appends};
 ghost use Rattle.jl_cli.specs.Devices.{CountsFailure};
-ghost use Rattle.jl_cli.specs.Sessions.{LacksAnswer};
+ghost use Rattle.jl_cli.specs.Jsons.{IsTextOf};
+ghost use Rattle.jl_cli.specs.Scans.{IsScanAnswer};
+ghost use Rattle.jl_cli.specs.Sketches.{IsSketchAnswer};
+ghost use Rattle.jl_cli.specs.Sessions.{IsSessionAnswer, LacksAnswer};
 ghost use Rattle.jl_cli.specs.Answers.{IsAnswer};
 ghost use Rattle.jl_cli.specs.Lines.{newline, NoNewline, ended};
 ghost use Rattle.jl_cli.specs.Progress.{IsFirstNewline, Gathers, LacksNext};
 
 use crate::failed::Failed;
 use crate::line_buffer::MOST_IN_LINE;
-use crate::scan::scan_answer;
+use crate::scan::add_scan_answer;
 use crate::session::Session;
 use crate::sink::Sink;
 use crate::sketch::sketch_answer;
@@ -60,26 +63,64 @@ impl Answers {
             (λ text. IsAnswer self.old.mode session.old line.now text session.new) session.new) }
         ensures mode { self.new.mode ≡ self.old.mode }
     {
-        let mut text = self.text_for(session, line)?;
-        text.push(b'\n')?;
-        self.text.extend_from_slice(&text)
+        match self.mode {
+            Mode::Scan => self.scan(line),
+            Mode::Sketch => self.sketch(line),
+            Mode::Run => self.run(session, line),
+        }
     }
 
-    /// The answer to a line.
-    fn text_for(&mut self, session: &mut Session, line: &[u8]) -> Result<Vec<u8>, AllocError>
+    /// Adds the answer to a line of the mode scan. The answers stay where memory lacks.
+    fn scan(&mut self, line: &[u8]) -> Result<(), AllocError>
         requires { length line.now ≤ 2100000 }
-        ensures answer { IfOk result
-            (λ text. IsAnswer self.old.mode session.old line.now text.items session.new) }
-        ensures lacks { OnErr result (LacksAnswer session.old
-            (λ text. IsAnswer self.old.mode session.old line.now text session.new) session.new) }
-        ensures text { self.new.text.items ≡ self.old.text.items }
+        ensures ok { OnOk result ((text : List ℕ) × IsTextOf (IsScanAnswer line.now) text
+            × (self.new.text.items ≡ self.old.text.items ++ ended text)) }
+        ensures err { OnErr result (self.new.text.items ≡ self.old.text.items) }
         ensures mode { self.new.mode ≡ self.old.mode }
     {
-        match self.mode {
-            Mode::Scan => scan_answer(self.alloc, line, &mut self.room),
-            Mode::Sketch => sketch_answer(self.alloc, line),
-            Mode::Run => session.answer_text(self.alloc, line),
+        let before = self.text.len();
+        add_scan_answer(self.alloc, line, &mut self.room, &mut self.text)?;
+        if self.text.push(b'\n').is_err() {
+            self.text.truncate(before);
+            return Err(AllocError);
         }
+        Ok(())
+    }
+
+    /// Adds the answer to a line of the mode sketch. The answers stay where memory lacks.
+    fn sketch(&mut self, line: &[u8]) -> Result<(), AllocError>
+        ensures ok { OnOk result ((text : List ℕ) × IsSketchAnswer line.now text
+            × (self.new.text.items ≡ self.old.text.items ++ ended text)) }
+        ensures err { OnErr result (self.new.text.items ≡ self.old.text.items) }
+        ensures mode { self.new.mode ≡ self.old.mode }
+    {
+        let text = sketch_answer(self.alloc, line)?;
+        self.add(text)
+    }
+
+    /// Adds the session's answer to a line. The answers stay where memory lacks.
+    fn run(&mut self, session: &mut Session, line: &[u8]) -> Result<(), AllocError>
+        ensures ok { OnOk result ((text : List ℕ)
+            × IsTextOf (λ answer. IsSessionAnswer session.old line.now answer session.new) text
+            × (self.new.text.items ≡ self.old.text.items ++ ended text)) }
+        ensures err { OnErr result (self.new.text.items ≡ self.old.text.items) }
+        ensures lacks { OnErr result (LacksAnswer session.old
+            (λ answer. IsSessionAnswer session.old line.now answer session.new) session.new) }
+        ensures mode { self.new.mode ≡ self.old.mode }
+    {
+        let text = session.answer_text(self.alloc, line)?;
+        self.add(text)
+    }
+
+    /// Adds a text and a newline, or nothing where memory lacks.
+    fn add(&mut self, text: Vec<u8>) -> Result<(), AllocError>
+        ensures ok { OnOk result (self.new.text.items ≡ self.old.text.items ++ ended text.items) }
+        ensures err { OnErr result (self.new.text.items ≡ self.old.text.items) }
+        ensures mode { self.new.mode ≡ self.old.mode }
+    {
+        let mut text = text;
+        text.push(b'\n')?;
+        self.text.extend_from_slice(&text)
     }
 
     /// Adds the answer to each whole line of the text, in which no newline stands before

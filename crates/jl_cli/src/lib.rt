@@ -17,6 +17,7 @@ mod sink;
 mod source;
 
 // The answer to a line.
+mod hexadecimal;
 mod json_line;
 mod scan;
 mod session;

@@ -1,25 +1,34 @@
 //! The mode scan: a class file in hexadecimal a line.
 
-ghost use Rattle.std.specs.Prelude.{◌≡◌, ◌≤◌, ◌*◌, ◌/◌, length, true, false, IfOk, MatchOption};
+ghost use Rattle.std.specs.Prelude.{◌≡◌, ◌≤◌, ◌*◌, length, IfOk, OnOk, OnErr};
 ghost use Rattle.serde_json.specs.View.{view};
 ghost use Rattle.serde_json.specs.Written.{compact_text};
 ghost use Rattle.jl_json.specs.Refusals.{refusal_data};
-ghost use Rattle.jl_cli.specs.Jsons.{IsTextOf};
+ghost use Rattle.jl_cli.specs.Jsons.{AddsTextOf};
 ghost use Rattle.jl_cli.specs.Scans.{file_of, IsFileAnswer, IsScanAnswer};
 
+use crate::hexadecimal::decode;
 use crate::json_line::{bad_command_text, text_of};
 use jl_classfile::{ClassFault, read_class};
-use jl_json::{Refusal, class_text};
+use jl_json::{Refusal, append_class};
 use serde_json::Value;
 use std::alloc::{AllocError, Global};
 
-/// The answer to the bytes of a file, as text.
-fn file_answer(alloc: Global, bytes: &[u8]) -> Result<Vec<u8>, AllocError>
-    ensures { IfOk result (λ text. IsTextOf (IsFileAnswer bytes.now) text.items) }
+/// Adds the answer to the bytes of a file, as text.
+///
+/// # Errors
+///
+/// [`AllocError`]. The text stays.
+fn add_file_answer(alloc: Global, bytes: &[u8], text: &mut Vec<u8>) -> Result<(), AllocError>
+    ensures ok { OnOk result (AddsTextOf (IsFileAnswer bytes.now) text.old.items text.new.items) }
+    ensures err { OnErr result (text.new.items ≡ text.old.items) }
 {
     match read_class(alloc, bytes) {
-        Ok(file) => class_text(alloc, &file),
-        Err(fault) => fault_text(alloc, fault),
+        Ok(file) => append_class(alloc, &file, text),
+        Err(fault) => {
+            let said = fault_text(alloc, fault)?;
+            text.extend_from_slice(&said)
+        }
     }
 }
 
@@ -38,24 +47,26 @@ pub(crate) fn fault_value(alloc: Global, fault: ClassFault) -> Result<Value, All
     Refusal::from(fault).to_value(alloc)
 }
 
-/// Whether the line is the hexadecimal of some bytes, which are written then.
-fn decode(line: &[u8], bytes: &mut [u8]) -> bool
-    requires { length bytes.old ≡ length line.now / 2 }
-    ensures { MatchOption (file_of line.now) (result ≡ false)
-        (λ file. (result ≡ true) × (bytes.new ≡ file)) }
-{
-    !line.is_empty() && hex::decode_to_slice(line, bytes).is_ok()
-}
-
-/// The answer to a line, as text: a class file in hexadecimal of either case, which is decoded into the room.
-pub fn scan_answer(alloc: Global, line: &[u8], room: &mut [u8]) -> Result<Vec<u8>, AllocError>
+/// Adds the answer to a line, as text: a class file in hexadecimal of either case, which is decoded into the room.
+///
+/// # Errors
+///
+/// [`AllocError`]. The text stays.
+pub(crate) fn add_scan_answer(
+    alloc: Global,
+    line: &[u8],
+    room: &mut [u8],
+    text: &mut Vec<u8>,
+) -> Result<(), AllocError>
     requires { length line.now ≤ 2 * length room.old }
-    ensures { IfOk result (λ text. IsTextOf (IsScanAnswer line.now) text.items) }
+    ensures ok { OnOk result (AddsTextOf (IsScanAnswer line.now) text.old.items text.new.items) }
+    ensures err { OnErr result (text.new.items ≡ text.old.items) }
 {
     let bytes = &mut room[..line.len() / 2];
     if decode(line, bytes) {
-        file_answer(alloc, bytes)
+        add_file_answer(alloc, bytes, text)
     } else {
-        bad_command_text(alloc)
+        let said = bad_command_text(alloc)?;
+        text.extend_from_slice(&said)
     }
 }

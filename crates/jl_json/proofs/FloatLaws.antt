@@ -3,11 +3,6 @@ use Rattle.std.proofs.Common.{◌≡◌, refl, ℕ, List, [], ◌∷◌, map, fa
 use Rattle.serde_json.specs.Data.{Data}
 use Rattle.serde_json.specs.View.{items_of}
 use Rattle.serde_json.specs.Written.{has_float, items_have_float}
-use Rattle.jl_classfile.specs.Class.{ClassFile, Method}
-use Rattle.jl_code.specs.declared.site.Kind.{Kind}
-use Rattle.jl_code.specs.declared.site.Operand.{Operand}
-use Rattle.jl_code.specs.declared.site.Operand.TheVariants as operand
-use Rattle.jl_code.specs.Site.{Site}
 use Rattle.jl_types.specs.declared.answer.Answer.{Answer}
 use Rattle.jl_types.specs.declared.answer.Answer.TheVariants as answer
 use Rattle.jl_types.specs.declared.answer.Outcome.{Outcome}
@@ -26,38 +21,13 @@ use Rattle.jl_types.specs.declared.refusal.PrepareFault.TheVariants as prepare
 use Rattle.jl_types.specs.declared.refusal.Refusal.{Refusal}
 use Rattle.jl_types.specs.declared.refusal.Refusal.TheVariants as refusal
 use Rattle.jl_json.specs.CallAnswers.{unlinked_data, answer_data}
-use Rattle.jl_json.specs.ClassAnswers.{number_data, operand_data, site_data, method_data, class_data}
+use Rattle.jl_json.specs.ClassAnswers.{number_data}
 use Rattle.jl_json.specs.EventRefusals.{define_refusal_data, event_refusal_data, prepare_refusal_data}
 use Rattle.jl_json.specs.LinkAnswers.{outcome_data, table_row_data, link_data}
 use Rattle.jl_json.specs.LinkAnswers.{site_link_data, site_links_data, links_data, prepared_data}
 use Rattle.jl_json.specs.Refusals as plain
 use Rattle.jl_json.specs.Refusals.{refusal_of}
 use Rattle.jl_json.specs.Replies.{made_data, reply_data}
-
-module _ (text_of : List ℕ → List ℕ) where
-  operand_floats : (pc : ℕ) (kind : Kind) (o : Operand (List ℕ)) → has_float (operand_data text_of pc kind o) ≡ false
-  operand_floats pc kind (operand.Method r) = refl
-  operand_floats pc kind (operand.CallSite s) = refl
-
-  site_floats : (s : Site) → has_float (site_data text_of s) ≡ false
-  unfolding site_data
-  site_floats s = operand_floats s.pc s.kind s.operand
-
-  sites_floats : (sites : List Site) → items_have_float (items_of (map (site_data text_of) sites)) ≡ false
-  sites_floats [] = refl
-  sites_floats (s ∷ sites) = rw (site_floats s) (sites_floats sites)
-
-  method_floats : (m : Method) → has_float (method_data text_of m) ≡ false
-  unfolding method_data
-  method_floats m = rw (sites_floats m.sites) refl
-
-  methods_floats : (methods : List Method) → items_have_float (items_of (map (method_data text_of) methods)) ≡ false
-  methods_floats [] = refl
-  methods_floats (m ∷ methods) = rw (method_floats m) (methods_floats methods)
-
-  pub class_floats : (file : ClassFile) → has_float (class_data text_of file) ≡ false
-  unfolding class_data
-  class_floats file = rw (methods_floats file.methods) refl
 
 parts_floats : (reason : List ℕ) (place method : Option ℕ)
     → has_float (refusal_of (record { reason = reason; place = place; method = method })) ≡ false

@@ -7,5 +7,5 @@ pub mod TypeLaws
 pub mod SketchLaws
 pub mod SketchFormLaws
 pub mod FloatLaws
-pub mod SendLaws
+pub mod WrittenLaws
 pub mod Rows

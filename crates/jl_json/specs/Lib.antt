@@ -12,3 +12,4 @@ pub mod Targets
 pub mod Commands
 pub mod CommandForms
 pub mod NameReading
+pub mod Written

@@ -1,21 +1,22 @@
 //! The answer to a class file: its name, and its methods with their invocations.
 
-ghost use Rattle.std.specs.Prelude.{◌≡◌, map, IfOk, OnOk};
+ghost use Rattle.std.specs.Prelude.{◌≡◌, ◌++◌, List, ℕ, map, OnOk, OnErr};
 ghost use Rattle.serde_json.specs.Data.{array};
-ghost use Rattle.serde_json.specs.Events.{SendsValue};
 ghost use Rattle.serde_json.specs.View.{items_of};
 ghost use Rattle.jl_json.specs.NameReading.{name_text};
 ghost use Rattle.jl_json.specs.ClassAnswers.{instruction_name, call_data, call_site_data};
 ghost use Rattle.jl_json.specs.ClassAnswers.{name_data, number_data, site_data, method_data, class_data};
 ghost use Rattle.jl_json.specs.ClassAnswers.{IsClassText};
+ghost use Rattle.jl_json.specs.Written.{PutsValue};
 
 use crate::text::{plain_text, text_of};
-use jl_classfile::{ClassFile, Method};
-use jl_code::{Kind, Operand, Site};
-use jl_names::Name;
+use jl_classfile::{ClassFile, Method, Methods};
+use jl_code::{Kind, Operand, Site, Sites};
+use jl_names::LentName;
 use jl_pool::{CallSiteSpecifier, Reference};
-use serde::{Described, Serialize, Serializer};
+use json::Writer;
 use std::alloc::{AllocError, Global};
+use std::mem;
 
 /// The name of the instruction (JVMS SE 17 §6.5).
 fn instruction(kind: Kind) -> &'static str
@@ -30,82 +31,85 @@ fn instruction(kind: Kind) -> &'static str
     }
 }
 
-/// Sends a name, as text.
-fn send_name<S: Serializer>(alloc: Global, name: &Name, out: &mut S) -> Result<(), S::Error>
-    ensures { OnOk result (SendsValue (name_data name_text name.now) (S.written out.old) (S.written out.new)) }
+/// Writes a name, as text.
+fn write_name(alloc: Global, name: &[u8], out: &mut Writer) -> Result<(), AllocError>
+    ensures written { OnOk result (PutsValue (name_data name_text name.now) out.old.tokens out.new.tokens) }
+    ensures before { out.new.before ≡ out.old.before }
 {
-    if let Some(text) = plain_text(name.as_slice()) {
-        return out.str(text);
+    if let Some(text) = plain_text(name) {
+        return out.string(text);
     }
-    match text_of(alloc, name.as_slice()) {
-        Ok(text) => out.str(text.as_str()),
-        Err(_) => Err(out.custom("out of memory")),
-    }
+    let text = text_of(alloc, name)?;
+    out.string(text.as_str())
 }
 
-/// Sends a number.
-fn send_number<S: Serializer>(number: u16, out: &mut S) -> Result<(), S::Error>
-    ensures { OnOk result (SendsValue (number_data number) (S.written out.old) (S.written out.new)) }
+/// Writes a number.
+fn write_number(number: u16, out: &mut Writer) -> Result<(), AllocError>
+    ensures written { OnOk result (PutsValue (number_data number) out.old.tokens out.new.tokens) }
+    ensures before { out.new.before ≡ out.old.before }
 {
     out.u64(u64::from(number))
 }
 
-/// Sends an invocation of a method.
-fn send_call<S: Serializer>(
+/// Writes an invocation of a method.
+fn write_call(
     alloc: Global,
     pc: u16,
     kind: Kind,
-    reference: &Reference<Name>,
-    out: &mut S,
-) -> Result<(), S::Error>
-    ensures { OnOk result (SendsValue (call_data name_text pc kind reference.now) (S.written out.old) (S.written out.new)) }
+    reference: &Reference<LentName<'_>>,
+    out: &mut Writer,
+) -> Result<(), AllocError>
+    ensures written { OnOk result (PutsValue (call_data name_text pc kind reference.now) out.old.tokens out.new.tokens) }
+    ensures before { out.new.before ≡ out.old.before }
 {
-    out.begin_map(Some(5))?;
+    out.begin_object()?;
     out.key("kind")?;
-    out.str(instruction(kind))?;
+    out.string(instruction(kind))?;
     out.key("name")?;
-    send_name(alloc, &reference.name, out)?;
+    write_name(alloc, reference.name.as_slice(), out)?;
     out.key("of")?;
-    send_name(alloc, &reference.owner, out)?;
+    write_name(alloc, reference.owner.as_slice(), out)?;
     out.key("pc")?;
-    send_number(pc, out)?;
+    write_number(pc, out)?;
     out.key("type")?;
-    send_name(alloc, &reference.ty, out)?;
-    out.end_map()
+    write_name(alloc, reference.ty.as_slice(), out)?;
+    out.end_object()
 }
 
-/// Sends an invocation of a call site.
-fn send_call_site<S: Serializer>(
+/// Writes an invocation of a call site.
+fn write_call_site(
     alloc: Global,
     pc: u16,
     kind: Kind,
-    specifier: &CallSiteSpecifier<Name>,
-    out: &mut S,
-) -> Result<(), S::Error>
-    ensures { OnOk result (SendsValue (call_site_data name_text pc kind specifier.now) (S.written out.old) (S.written out.new)) }
+    specifier: &CallSiteSpecifier<LentName<'_>>,
+    out: &mut Writer,
+) -> Result<(), AllocError>
+    ensures written { OnOk result (PutsValue (call_site_data name_text pc kind specifier.now) out.old.tokens out.new.tokens) }
+    ensures before { out.new.before ≡ out.old.before }
 {
-    out.begin_map(Some(5))?;
+    out.begin_object()?;
     out.key("bootstrap")?;
-    send_number(specifier.bootstrap, out)?;
+    write_number(specifier.bootstrap, out)?;
     out.key("kind")?;
-    out.str(instruction(kind))?;
+    out.string(instruction(kind))?;
     out.key("name")?;
-    send_name(alloc, &specifier.name, out)?;
+    write_name(alloc, specifier.name.as_slice(), out)?;
     out.key("pc")?;
-    send_number(pc, out)?;
+    write_number(pc, out)?;
     out.key("type")?;
-    send_name(alloc, &specifier.ty, out)?;
-    out.end_map()
+    write_name(alloc, specifier.ty.as_slice(), out)?;
+    out.end_object()
 }
 
-/// Sends an invocation.
+/// Writes an invocation.
 #[tactic(auto, unfolding(crate::specs::ClassAnswers::site_data))]
-fn send_site<S: Serializer>(alloc: Global, site: &Site, out: &mut S) -> Result<(), S::Error>
-    ensures { OnOk result (SendsValue (site_data name_text site.now) (S.written out.old) (S.written out.new)) }
+fn write_site(alloc: Global, site: &Site<'_>, out: &mut Writer) -> Result<(), AllocError>
+    ensures written { OnOk result (PutsValue (site_data name_text site.now) out.old.tokens out.new.tokens) }
+    ensures before { out.new.before ≡ out.old.before }
 {
     match site.operand() {
-        Operand::Method(reference) => send_call(alloc, site.pc(), site.kind(), reference, out),
-        Operand::CallSite(specifier) => send_call_site(
+        Operand::Method(reference) => write_call(alloc, site.pc(), site.kind(), reference, out),
+        Operand::CallSite(specifier) => write_call_site(
             alloc,
             site.pc(),
             site.kind(),
@@ -115,90 +119,90 @@ fn send_site<S: Serializer>(alloc: Global, site: &Site, out: &mut S) -> Result<(
     }
 }
 
-/// Sends invocations, in order.
-fn send_sites<S: Serializer>(alloc: Global, sites: &[Site], out: &mut S) -> Result<(), S::Error>
-    ensures { OnOk result (SendsValue (array (items_of (map (site_data name_text) sites.now))) (S.written out.old) (S.written out.new)) }
+/// Writes invocations, in order.
+fn write_sites(alloc: Global, sites: &Sites<'_>, out: &mut Writer) -> Result<(), AllocError>
+    ensures written { OnOk result (PutsValue (array (items_of (map (site_data name_text) sites.now))) out.old.tokens out.new.tokens) }
+    ensures before { out.new.before ≡ out.old.before }
 {
-    out.begin_seq(Some(sites.len()))?;
-    for site in sites {
-        send_site(alloc, site, out)?;
+    out.begin_array()?;
+    // They can be counted, and so can their places.
+    let _count = sites.len();
+    let mut place = 0;
+    while let Some(site) = sites.at(place) {
+        write_site(alloc, &site, out)?;
+        place += 1;
     }
-    out.end_seq()
+    out.end_array()
 }
 
-/// Sends a method.
+/// Writes a method.
 #[tactic(auto, unfolding(crate::specs::ClassAnswers::method_data))]
-fn send_method<S: Serializer>(alloc: Global, method: &Method, out: &mut S) -> Result<(), S::Error>
-    ensures { OnOk result (SendsValue (method_data name_text method.now) (S.written out.old) (S.written out.new)) }
+fn write_method(alloc: Global, method: &Method<'_>, out: &mut Writer) -> Result<(), AllocError>
+    ensures written { OnOk result (PutsValue (method_data name_text method.now) out.old.tokens out.new.tokens) }
+    ensures before { out.new.before ≡ out.old.before }
 {
-    out.begin_map(Some(4))?;
+    out.begin_object()?;
     out.key("flags")?;
-    send_number(method.flags(), out)?;
+    write_number(method.flags(), out)?;
     out.key("name")?;
-    send_name(alloc, method.name(), out)?;
+    write_name(alloc, method.name().as_slice(), out)?;
     out.key("sites")?;
-    send_sites(alloc, method.sites(), out)?;
+    write_sites(alloc, &method.sites(), out)?;
     out.key("type")?;
-    send_name(alloc, method.ty(), out)?;
-    out.end_map()
+    write_name(alloc, method.ty().as_slice(), out)?;
+    out.end_object()
 }
 
-/// Sends methods, in order.
-fn send_methods<S: Serializer>(
-    alloc: Global,
-    methods: &[Method],
-    out: &mut S,
-) -> Result<(), S::Error>
-    ensures { OnOk result (SendsValue (array (items_of (map (method_data name_text) methods.now))) (S.written out.old) (S.written out.new)) }
+/// Writes methods, in order.
+fn write_methods(alloc: Global, methods: &Methods<'_>, out: &mut Writer) -> Result<(), AllocError>
+    ensures written { OnOk result (PutsValue (array (items_of (map (method_data name_text) methods.now))) out.old.tokens out.new.tokens) }
+    ensures before { out.new.before ≡ out.old.before }
 {
-    out.begin_seq(Some(methods.len()))?;
-    for method in methods {
-        send_method(alloc, method, out)?;
+    out.begin_array()?;
+    // They can be counted, and so can their places.
+    let _count = methods.len();
+    let mut place = 0;
+    while let Some(method) = methods.at(place) {
+        write_method(alloc, &method, out)?;
+        place += 1;
     }
-    out.end_seq()
+    out.end_array()
 }
 
-/// A class file that is written as the answer to it.
-#[derive(Drop)]
-struct Shown<'a> {
-    alloc: Global,
-    file: &'a ClassFile,
-}
-
-impl<'a> Described for Shown<'a> {
-    ghost writes = { λ s. SendsValue (class_data name_text s.file.now) };
-}
-
-impl<'a> Serialize for Shown<'a> {
-    fn serialize<S: Serializer>(&self, out: &mut S) -> Result<(), S::Error> {
-        send_class(self.alloc, self.file, out)
-    }
-}
-
-/// Sends the answer to a class file.
+/// Writes the answer to a class file.
 #[tactic(auto, unfolding(crate::specs::ClassAnswers::class_data))]
-fn send_class<S: Serializer>(alloc: Global, file: &ClassFile, out: &mut S) -> Result<(), S::Error>
-    ensures { OnOk result (SendsValue (class_data name_text file.now) (S.written out.old) (S.written out.new)) }
+fn write_class(alloc: Global, file: &ClassFile, out: &mut Writer) -> Result<(), AllocError>
+    ensures written { OnOk result (PutsValue (class_data name_text file.now) out.old.tokens out.new.tokens) }
+    ensures before { out.new.before ≡ out.old.before }
 {
-    out.begin_map(Some(2))?;
+    out.begin_object()?;
     out.key("class")?;
-    send_name(alloc, file.name(), out)?;
+    write_name(alloc, file.name().as_slice(), out)?;
     out.key("methods")?;
-    send_methods(alloc, file.methods(), out)?;
-    out.end_map()
+    write_methods(alloc, &file.methods(), out)?;
+    out.end_object()
 }
 
-/// The answer to a class file, as JSON: its name, and its methods with their invocations (JVMS SE 17 §4.1, §4.6,
+/// Appends the answer to a class file, as JSON: its name, and its methods with their invocations (JVMS SE 17 §4.1, §4.6,
 /// §6.5).
 ///
 /// # Errors
 ///
-/// Want of memory.
-pub fn class_text(alloc: Global, file: &ClassFile) -> Result<Vec<u8>, AllocError>
-    ensures { IfOk result (λ text. IsClassText file.now text.items) }
+/// Want of memory. The text stays.
+pub fn append_class(alloc: Global, file: &ClassFile, text: &mut Vec<u8>) -> Result<(), AllocError>
+    ensures ok { OnOk result ((answer : List ℕ) × IsClassText file.now answer
+        × (text.new.items ≡ text.old.items ++ answer)) }
+    ensures err { OnErr result (text.new.items ≡ text.old.items) }
 {
-    match serde_json::to_vec(alloc, &Shown { alloc, file }) {
-        Ok(text) => Ok(text),
-        Err(_) => Err(AllocError),
+    let length = text.len();
+    let mut out = Writer::new(mem::replace(text, Vec::new(alloc)));
+    let written = write_class(alloc, file, &mut out);
+    *text = out.into_inner();
+    match written {
+        Ok(()) => Ok(()),
+        Err(fault) => {
+            text.truncate(length);
+            Err(fault)
+        }
     }
 }

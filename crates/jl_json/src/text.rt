@@ -28,7 +28,12 @@ pub(crate) fn text_of(alloc: Global, name: &[u8]) -> Result<String, AllocError>
 fn is_plain(name: &[u8]) -> bool
     ensures { result ≡ is_plain name.now }
 {
-    name.iter().all(|byte| *byte != 0 && *byte < 0x80)
+    // One less than a byte wraps at 0. No early exit, so that many bytes are tested at once.
+    let mut most = 0;
+    for byte in name {
+        most = most.max(byte.wrapping_sub(1));
+    }
+    most < 0x7f
 }
 
 /// The text of a name whose units have one byte each: the same bytes.

@@ -1,0 +1,56 @@
+//! Bytes in hexadecimal.
+
+ghost use Rattle.std.specs.Prelude.{◌≡◌, ◌*◌, ◌/◌, length, true, false, unwrap_or, MatchOption, MatchResult};
+ghost use Rattle.hex.specs.Hex.{hex_digit_value, decode_pairs};
+ghost use Rattle.jl_cli.specs.Scans.{file_of};
+
+/// The value of each digit, in either case, and 255 for a byte that is none.
+static DIGITS: [u8; 256] = [
+    255, 255, 255, 255, 255, 255, 255, 255, 255, 255, 255, 255, 255, 255, 255, 255, 255, 255, 255,
+    255, 255, 255, 255, 255, 255, 255, 255, 255, 255, 255, 255, 255, 255, 255, 255, 255, 255, 255,
+    255, 255, 255, 255, 255, 255, 255, 255, 255, 255, 0, 1, 2, 3, 4, 5, 6, 7, 8, 9, 255, 255, 255,
+    255, 255, 255, 255, 10, 11, 12, 13, 14, 15, 255, 255, 255, 255, 255, 255, 255, 255, 255, 255,
+    255, 255, 255, 255, 255, 255, 255, 255, 255, 255, 255, 255, 255, 255, 255, 255, 10, 11, 12, 13,
+    14, 15, 255, 255, 255, 255, 255, 255, 255, 255, 255, 255, 255, 255, 255, 255, 255, 255, 255,
+    255, 255, 255, 255, 255, 255, 255, 255, 255, 255, 255, 255, 255, 255, 255, 255, 255, 255, 255,
+    255, 255, 255, 255, 255, 255, 255, 255, 255, 255, 255, 255, 255, 255, 255, 255, 255, 255, 255,
+    255, 255, 255, 255, 255, 255, 255, 255, 255, 255, 255, 255, 255, 255, 255, 255, 255, 255, 255,
+    255, 255, 255, 255, 255, 255, 255, 255, 255, 255, 255, 255, 255, 255, 255, 255, 255, 255, 255,
+    255, 255, 255, 255, 255, 255, 255, 255, 255, 255, 255, 255, 255, 255, 255, 255, 255, 255, 255,
+    255, 255, 255, 255, 255, 255, 255, 255, 255, 255, 255, 255, 255, 255, 255, 255, 255, 255, 255,
+    255, 255, 255, 255, 255, 255, 255, 255, 255, 255, 255, 255, 255, 255, 255, 255, 255, 255, 255,
+    255, 255, 255,
+];
+
+/// The value of a digit, and 255 for a byte that is none.
+fn digit(byte: u8) -> u8
+    ensures { result ≡ unwrap_or (hex_digit_value byte) 255 }
+{
+    DIGITS[usize::from(byte)]
+}
+
+/// Writes the byte of each pair of digits, and tells whether all were digits: the written bytes
+/// mean nothing where one is none.
+fn decode_all(digits: &[u8], bytes: &mut [u8]) -> bool
+    requires { length digits.now ≡ 2 * length bytes.old }
+    ensures { MatchResult (decode_pairs 0 digits.now)
+        (λ file. (result ≡ true) × (bytes.new ≡ file)) (λ _. result ≡ false) }
+{
+    let mut seen = 0;
+    for index in 0..bytes.len() {
+        let high = digit(digits[2 * index]);
+        let low = digit(digits[2 * index + 1]);
+        seen |= high | low;
+        bytes[index] = (high << 4) | (low & 15);
+    }
+    seen < 16
+}
+
+/// Whether the line is the hexadecimal of some bytes, which are written then.
+pub(crate) fn decode(line: &[u8], bytes: &mut [u8]) -> bool
+    requires { length bytes.old ≡ length line.now / 2 }
+    ensures { MatchOption (file_of line.now) (result ≡ false)
+        (λ file. (result ≡ true) × (bytes.new ≡ file)) }
+{
+    !line.is_empty() && line.len() % 2 == 0 && decode_all(line, bytes)
+}
