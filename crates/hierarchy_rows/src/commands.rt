@@ -5,6 +5,7 @@ use crate::lattice::are_layers_defined;
 use crate::loaders::are_made;
 use jl_classfile::{ClassFile, Method};
 use jl_hierarchy::{Classes, LoaderFault};
+use jl_names::Name;
 use jl_types::{Class, ClassId, DefineFault, DelegateFault, LoaderId, MethodId};
 use row_files::{MethodRow, OBJECT, class, nested};
 use std::alloc::{AllocError, Global};
@@ -110,10 +111,19 @@ fn method_id(alloc: Global, method: Option<MethodId>) -> Result<String, AllocErr
     }
 }
 
+/// A name and a descriptor.
+fn name_and_type(alloc: Global, name: &Name, ty: &Name) -> Result<String, AllocError> {
+    format!(in alloc; "{name:?} {ty:?}")
+}
+
 /// A method's name and descriptor.
-fn method(alloc: Global, method: Option<&Method>) -> Result<String, AllocError> {
+fn method(alloc: Global, method: Option<Method<'_>>) -> Result<String, AllocError> {
     match method {
-        Some(method) => format!(in alloc; "{:?} {:?}", method.name(), method.ty()),
+        Some(method) => name_and_type(
+            alloc,
+            &method.name().copy(alloc)?,
+            &method.ty().copy(alloc)?,
+        ),
         None => String::from_str(alloc, "None"),
     }
 }

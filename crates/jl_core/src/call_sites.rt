@@ -15,7 +15,7 @@ use crate::settled::{make_room, quiet, settled};
 use jl_cache::Cache;
 use jl_callsites::{copy_target, discard_target};
 use jl_code::Operand;
-use jl_names::{Name, Seq};
+use jl_names::{LentName, Name, Seq};
 use jl_pool::CallSiteSpecifier;
 use jl_relink::{World, invocation_at};
 use jl_types::{
@@ -221,7 +221,7 @@ fn specifier_refusal(
     world: &World,
     site: SiteNo,
     call_site: CallSiteId,
-    specifier: &CallSiteSpecifier<Name>,
+    specifier: &CallSiteSpecifier<LentName<'_>>,
 ) -> Option<Refusal>
     ensures { result ≡ events.operand_fault world.now site call_site (operand.CallSite specifier.now) }
 {

@@ -14,7 +14,7 @@ ghost use Rattle.jl_core.specs.Changes.{IsQuiet};
 use crate::log::{Accepted, Entry};
 use crate::settled::quiet;
 use jl_code::{Operand, Site};
-use jl_names::Name;
+use jl_names::LentName;
 use jl_relink::{World, invocation_at};
 use jl_types::{Made, NotLinkable, Place, Refusal, Reply, SiteNo};
 use std::alloc::{AllocError, Global};
@@ -86,7 +86,7 @@ fn refusal_if_new(world: &World, max_sites: u32, place: &Place) -> Result<Option
     ensures err { IfErr result (λ r. verdict max_sites world.now (event.Request place.now) ≡ Err r) }
 {
     match invocation_at(&world.classes, place) {
-        Some(invocation) => Ok(new_place_refusal(world, max_sites, invocation)),
+        Some(invocation) => Ok(new_place_refusal(world, max_sites, &invocation)),
         None => Err(if world.classes.has_class(place.class) {
             Refusal::NoSuchPlace
         } else {
@@ -96,7 +96,7 @@ fn refusal_if_new(world: &World, max_sites: u32, place: &Place) -> Result<Option
 }
 
 /// The refusal of a place that isn't requested yet, by its invocation.
-fn new_place_refusal(world: &World, max_sites: u32, invocation: &Site) -> Option<Refusal>
+fn new_place_refusal(world: &World, max_sites: u32, invocation: &Site<'_>) -> Option<Refusal>
     ensures { result ≡ events.new_place_fault max_sites world.now invocation.now }
 {
     if names_array(invocation.operand()) {
@@ -112,7 +112,7 @@ fn new_place_refusal(world: &World, max_sites: u32, invocation: &Site) -> Option
 }
 
 /// Whether it names a method of an array type.
-fn names_array(operand: &Operand<Name>) -> bool
+fn names_array(operand: &Operand<LentName<'_>>) -> bool
     ensures { result ≡ events.names_array operand.now }
 {
     match operand {
@@ -122,7 +122,7 @@ fn names_array(operand: &Operand<Name>) -> bool
 }
 
 /// Whether it names a method that any descriptor fits (JVMS SE 17 §2.9.3).
-fn is_polymorphic(operand: &Operand<Name>) -> bool
+fn is_polymorphic(operand: &Operand<LentName<'_>>) -> bool
     ensures { result ≡ events.is_polymorphic operand.now }
 {
     match operand {

@@ -1,15 +1,15 @@
 -- A class's methods by the first place of each name.
-use Rattle.std.specs.Prelude.{◌≡◌, ℕ, zero, suc, ◌+◌, ◌-◌, Bool, true, false, cond, take, drop, List, [], ◌∷◌, ◌++◌, length, find, position, Option, Some, None, option_map, is_some, if◌then◌else◌}
+use Rattle.std.specs.Prelude.{◌≡◌, ℕ, zero, suc, ◌+◌, Bool, true, false, cond, drop, List, [], ◌∷◌, ◌++◌, find, position, slice_get, Option, Some, None, option_map, is_some, if◌then◌else◌}
 use Rattle.std.specs.List.{position_from}
 use Rattle.std.specs.Option.{option_or}
 use Rattle.std.specs.Str.{bytes_eq}
 use Rattle.std.proofs.Common.{refl, ap, sym, ◌∙◌, arith}
 use Rattle.std.proofs.lemmas.Iterator.Adapters.{position_from-zero}
-use Rattle.std.proofs.lemmas.List.{take_rest}
 use Rattle.std.proofs.lemmas.List.Folds.{find-append}
 use Rattle.std.proofs.lemmas.Slice.Eq.{bytes_eq-Decides}
 use Rattle.jl_classfile.specs.Class.{Method}
 use Rattle.jl_types.specs.Members.{recorded, is_called}
+use Rattle.jl_types.proofs.Lists.{left_at, none_left}
 use Rattle.jl_hierarchy.specs.Kept.{is_named, with_first, firsts_of}
 
 -- ---- what is recorded under a name
@@ -111,37 +111,42 @@ module _ {X : Type 0} (p q : X → Bool) (only : (x : X) → p x ≡ false → q
   skip [] n (suc k) e = cc
   skip (x ∷ xs) n (suc k) e = skip_test x xs n k (p x) refl e (skip xs (n + 1) k)
 
-  -- places that begin with n more
-  shifted : (xs : List X) (n j : ℕ) → position_from q (n + j) xs ≡ option_map (λ i. n + i) (position_from q j xs)
-  shifted [] n j = refl
-  shifted (x ∷ xs) n j = by_test (q x) (ap (λ m. position_from q m xs) (let same : n + j + 1 ≡ n + (j + 1) = omega arith in same) ∙ shifted xs n (j + 1))
-    where
-      by_test : (b : Bool) → position_from q (n + j + 1) xs ≡ option_map (λ i. n + i) (position_from q (j + 1) xs)
-          → cond b (Some (n + j)) (position_from q (n + j + 1) xs) ≡ option_map (λ i. n + i) (cond b (Some j) (position_from q (j + 1) xs))
-      by_test true rest = refl
-      by_test false rest = rest
-
   -- the search for q may begin where p first passes
-  pub searched_from : (xs : List X) (first : ℕ) → position p xs ≡ Some first → position q xs ≡ option_map (λ i. first + i) (position q (drop first xs))
+  pub searched_from : (xs : List X) (first : ℕ) → position p xs ≡ Some first → position_from q first (drop first xs) ≡ position q xs
   searched_from xs first e =
-      position_from-zero q xs
-      ∙ skip xs 0 first (sym (position_from-zero p xs) ∙ e ∙ ap Some (let same : first ≡ 0 + first = omega arith in same))
-      ∙ ap (λ m. position_from q m (drop first xs)) (let same : 0 + first ≡ first + 0 = omega arith in same)
-      ∙ shifted (drop first xs) first 0
-      ∙ sym (ap (option_map (λ i. first + i)) (position_from-zero q (drop first xs)))
+      let same : first ≡ 0 + first = omega arith in
+      ap (λ m. position_from q m (drop first xs)) same
+      ∙ sym (skip xs 0 first (sym (position_from-zero p xs) ∙ e ∙ ap Some same))
+      ∙ sym (position_from-zero q xs)
+
+-- ---- a search place by place
+
+module _ {X : Type 0} (test : X → Bool) (xs : List X) (n : ℕ) where
+  pub found_here : (x : X) → Some x ≡ slice_get xs n → test x ≡ true → Some n ≡ position_from test n (drop n xs)
+  found_here x e h = sym (ap (position_from test n) (left_at xs n x (sym e)) ∙ ap (λ b. cond b (Some n) (position_from test (n + 1) (drop (n + 1) xs))) h)
+
+  pub not_here : (x : X) → Some x ≡ slice_get xs n → test x ≡ false → position_from test (n + 1) (drop (n + 1) xs) ≡ position_from test n (drop n xs)
+  not_here x e h = sym (ap (position_from test n) (left_at xs n x (sym e)) ∙ ap (λ b. cond b (Some n) (position_from test (n + 1) (drop (n + 1) xs))) h)
+
+  pub not_found : None ≡ slice_get xs n → None ≡ position_from test n (drop n xs)
+  not_found e = sym (ap (position_from test n) (none_left xs n (sym e)))
 
 -- a method of another name isn't called so
 pub called_named : (name ty : List ℕ) (m : Method) → is_named name m ≡ false → is_called name ty m ≡ false
 called_named name ty m e = rw e refl
 
--- the place of a method among those from the first one of its name on
-pub place_behind : (name ty : List ℕ) (ms all : List Method) → all ≡ ms → (first : ℕ) → position (is_named name) ms ≡ Some first
-    → (o : Option ℕ) → o ≡ position (is_called name ty) (take (length all - first) (drop first all))
-    → option_map (λ i. first + i) o ≡ position (is_called name ty) ms
-place_behind name ty ms all same first e o is =
-    ap (option_map (λ i. first + i))
-    (is ∙ ap (position (is_called name ty)) (take_rest all first) ∙ ap (λ (xs : List Method). position (is_called name ty) (drop first xs)) same)
-    ∙ sym (searched_from (is_named name) (is_called name ty) (called_named name ty) ms first e)
+-- the search for a name and a descriptor may begin at the first method of the name
+pub called_from : (name ty : List ℕ) (ms : List Method) (first : ℕ) → position (is_named name) ms ≡ Some first
+    → position_from (is_called name ty) first (drop first ms) ≡ position (is_called name ty) ms
+called_from name ty ms first e = searched_from (is_named name) (is_called name ty) (called_named name ty) ms first e
+
+-- the names of the methods from a place on, begun with the one at the place
+pub first_added : (made : List (List ℕ × ℕ)) (ms : List Method) (n : ℕ) (m : Method) → Some m ≡ slice_get ms n
+    → firsts_of made n (drop n ms) ≡ firsts_of (with_first made m.name n) (n + 1) (drop (n + 1) ms)
+first_added made ms n m e = ap (firsts_of made n) (left_at ms n m (sym e))
+
+pub all_added : (made : List (List ℕ × ℕ)) (ms : List Method) (n : ℕ) → None ≡ slice_get ms n → firsts_of made n (drop n ms) ≡ made
+all_added made ms n e = ap (firsts_of made n) (none_left ms n (sym e))
 
 -- no method of this name, so none of this name and descriptor
 pub called_nowhere : (name ty : List ℕ) (ms : List Method) → None ≡ position (is_named name) ms → None ≡ position (is_called name ty) ms

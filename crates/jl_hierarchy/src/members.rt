@@ -1,14 +1,15 @@
 //! Superclasses and methods of a class. A class or a method that isn't there has no flag.
 
 ghost use Rattle.std.specs.Prelude.{◌≡◌, ◌<◌, ◌^◌, ◌&&◌, not, length};
-ghost use Rattle.std.specs.Option.{option_copied};
 ghost use Rattle.jl_classfile.specs.Conditions as conditions;
 ghost use Rattle.jl_types.specs.Members as members;
 ghost use Rattle.jl_types.specs.Ancestry as ancestry;
 ghost use Rattle.jl_types.specs.Ancestry.{AreOrdered};
 
 use crate::classes::Classes;
-use jl_classfile::{ABSTRACT, INTERFACE, Method, PRIVATE, PROTECTED, PUBLIC, STATIC, has_flag};
+use jl_classfile::{
+    ABSTRACT, INTERFACE, Method, Methods, PRIVATE, PROTECTED, PUBLIC, STATIC, has_flag,
+};
 use jl_types::{Class, ClassId, MethodId};
 
 impl Classes {
@@ -41,10 +42,10 @@ impl Classes {
     }
 
     /// The method of this number.
-    pub fn method_at(&self, method: &MethodId) -> Option<&Method>
-        ensures { option_copied result ≡ members.method_at self.now method.now }
+    pub fn method_at(&self, method: &MethodId) -> Option<Method<'_>>
+        ensures { result ≡ members.method_at self.now method.now }
     {
-        methods_of(self.class_at(method.class)?).get(method.index as usize)
+        methods_of(self.class_at(method.class)?).at(method.index as usize)
     }
 
     /// The method of this name and descriptor that the class itself declares.
@@ -112,9 +113,9 @@ impl Classes {
 }
 
 /// The methods that the class declares, in its file's order.
-fn methods_of(row: &Class) -> &[Method]
-    ensures methods { result.now ≡ row.now.file.methods }
-    ensures few { length result.now < 2 ^ 16 }
+fn methods_of(row: &Class) -> Methods<'_>
+    ensures methods { result ≡ row.now.file.methods }
+    ensures few { length result < 2 ^ 16 }
 {
     row.file().methods()
 }

@@ -133,8 +133,10 @@ fn first_places(alloc: Global, class: &Class) -> Result<IndexMap<Vec<u8>, u16>, 
 {
     let methods = class.file().methods();
     let mut firsts = IndexMap::new(alloc);
-    for (place, method) in methods.iter().enumerate() {
+    let mut place = 0;
+    while let Some(method) = methods.at(place) {
         add_first(alloc, &mut firsts, method.name().as_slice(), place as u16)?;
+        place += 1;
     }
     Ok(firsts)
 }
@@ -160,14 +162,20 @@ fn place_from(class: &Class, first: u16, name: &[u8], ty: &[u8]) -> Option<u16>
     requires { position (is_named name.now) class.now.file.methods ≡ Some first }
     ensures { result ≡ position (members.is_called name.now ty.now) class.now.file.methods }
 {
-    let behind = place_among(&class.file().methods()[first as usize..], name, ty)?;
-    Some(first + behind as u16)
+    let methods = class.file().methods();
+    let mut place = first as usize;
+    while let Some(method) = methods.at(place) {
+        if is_called(&method, name, ty) {
+            return Some(place as u16);
+        }
+        place += 1;
+    }
+    None
 }
 
-/// The place of the method of this name and descriptor among these.
-fn place_among(methods: &[Method], name: &[u8], ty: &[u8]) -> Option<usize>
-    ensures { result ≡ position (members.is_called name.now ty.now) methods.now }
+/// Whether the method has this name and descriptor.
+fn is_called(method: &Method<'_>, name: &[u8], ty: &[u8]) -> bool
+    ensures { result ≡ members.is_called name.now ty.now method.now }
 {
-    methods.iter().position(|method| method.name().as_slice() == name
-        && method.ty().as_slice() == ty)
+    method.name().as_slice() == name && method.ty().as_slice() == ty
 }

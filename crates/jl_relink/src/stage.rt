@@ -1,7 +1,6 @@
 //! What a site comes to before its receiver is looked at (JVMS SE 17 §6.5).
 
-ghost use Rattle.std.specs.Prelude.{◌≡◌, ◌<◌, ◌==◌, ◌&&◌, not, length, find};
-ghost use Rattle.std.specs.Option.{option_copied};
+ghost use Rattle.std.specs.Prelude.{◌≡◌, ◌<◌, ◌==◌, ◌&&◌, not, length};
 ghost use Rattle.jl_types.specs.Sites as sites;
 ghost use Rattle.jl_types.specs.Selection as selection;
 ghost use Rattle.jl_types.specs.Resolution as resolution;
@@ -9,9 +8,9 @@ ghost use Rattle.jl_code.specs.declared.site.Kind.TheVariants.{Special};
 ghost use Rattle.jl_relink.specs.Stages.{IsStage, selector_of};
 
 use crate::selection::Selection;
-use jl_code::{Kind, Operand, Site};
+use jl_code::{Kind, Site};
 use jl_hierarchy::Classes;
-use jl_names::Name;
+use jl_names::LentName;
 use jl_pool::Reference;
 use jl_resolve::{Resolved, resolve_reference};
 use jl_select::special;
@@ -33,21 +32,14 @@ pub(crate) enum Stage {
 }
 
 /// The invocation at a place. Takes no memory.
-pub fn invocation_at<'a>(classes: &'a Classes, place: &Place) -> Option<&'a Site>
-    ensures { option_copied result ≡ sites.invocation_at classes.now place.now }
+pub fn invocation_at<'a>(classes: &'a Classes, place: &Place) -> Option<Site<'a>>
+    ensures { result ≡ sites.invocation_at classes.now place.now }
 {
     let method = classes.method_at(&MethodId {
         class: place.class,
         index: place.method,
     })?;
-    site_at(method.sites(), place.pc)
-}
-
-/// The invocation at a pc.
-fn site_at(sites: &[Site], pc: u32) -> Option<&Site>
-    ensures { option_copied result ≡ find (λ site. site.pc == pc) sites.now }
-{
-    sites.iter().find(|site| u32::from(site.pc()) == pc)
+    method.sites().at_pc(place.pc)
 }
 
 /// What an invocation of the reference comes to, in the caller's class.
@@ -55,7 +47,7 @@ pub(crate) fn stage_of_reference(
     classes: &Classes,
     kind: Kind,
     caller: ClassId,
-    reference: &Reference<Name>,
+    reference: &Reference<LentName<'_>>,
 ) -> Stage
     ensures { IsStage classes.now result (sites.by_resolution classes.now kind caller reference.now
         (resolution.resolved classes.now caller reference.now)) }
@@ -72,7 +64,7 @@ fn by_kind(
     classes: &Classes,
     kind: Kind,
     caller: ClassId,
-    reference: &Reference<Name>,
+    reference: &Reference<LentName<'_>>,
     resolved: &Resolved,
 ) -> Stage
     requires caller { caller < length classes.now.rows }
@@ -104,7 +96,7 @@ fn selecting(
     classes: &Classes,
     kind: TableKind,
     caller: ClassId,
-    reference: &Reference<Name>,
+    reference: &Reference<LentName<'_>>,
     resolved: &Resolved,
 ) -> Stage
     requires { resolved.now.named < length classes.now.rows }
@@ -124,7 +116,7 @@ fn selecting(
 fn special_stage(
     classes: &Classes,
     caller: ClassId,
-    reference: &Reference<Name>,
+    reference: &Reference<LentName<'_>>,
     resolved: &Resolved,
 ) -> Stage
     requires caller { caller < length classes.now.rows }
@@ -141,7 +133,7 @@ fn special_stage(
 }
 
 /// Whether an `<init>` of another class than the one that is named was found.
-fn is_inherited_init(reference: &Reference<Name>, resolved: &Resolved) -> bool
+fn is_inherited_init(reference: &Reference<LentName<'_>>, resolved: &Resolved) -> bool
     ensures { result ≡ selection.is_init reference.now.name && not (resolved.now.method.class == resolved.now.named) }
 {
     reference.name.as_slice() == b"<init>".as_slice() && resolved.method.class != resolved.named

@@ -141,13 +141,13 @@ fn stage(world: &World, site: SiteNo) -> Stage
         return Stage::Waits(Unlinked::Gone);
     }
     match invocation_at(&world.classes, place) {
-        Some(invocation) => stage_of(world, site, place.class, invocation),
+        Some(invocation) => stage_of(world, site, place.class, &invocation),
         None => Stage::Waits(Unlinked::NoSite),
     }
 }
 
 /// What the site's invocation in the caller's class comes to.
-fn stage_of(world: &World, site: SiteNo, caller: ClassId, invocation: &Site) -> Stage
+fn stage_of(world: &World, site: SiteNo, caller: ClassId, invocation: &Site<'_>) -> Stage
     ensures { IsStage world.now.classes result
         (sites.by_operand world.now site caller invocation.now.kind invocation.now.operand) }
 {

@@ -7,7 +7,7 @@ ghost use Rattle.jl_resolve.specs.Answers.{method_of};
 use crate::control::{Access, access_to_method, is_accessible_class};
 use crate::finding::{found_in_class, found_in_interface};
 use jl_hierarchy::Classes;
-use jl_names::Name;
+use jl_names::LentName;
 use jl_pool::Reference;
 use jl_types::{ClassId, MethodId, Missing, ResolveAnswer, Throwable};
 use std::marker::Model;
@@ -37,7 +37,7 @@ impl Model for Resolved {
 pub fn resolve(
     classes: &Classes,
     caller: ClassId,
-    reference: &Reference<Name>,
+    reference: &Reference<LentName<'_>>,
 ) -> Result<MethodId, ResolveAnswer>
     ensures { result ≡ method_of (resolution.resolved classes.now caller reference.now) }
 {
@@ -61,7 +61,7 @@ pub fn resolve(
 pub fn resolve_reference(
     classes: &Classes,
     caller: ClassId,
-    reference: &Reference<Name>,
+    reference: &Reference<LentName<'_>>,
 ) -> Result<Resolved, ResolveAnswer>
     ensures same { result ≡ resolution.resolved classes.now caller reference.now }
     ensures there { IfOk result (λ resolved. resolved.named < length classes.now.rows) }
@@ -81,7 +81,7 @@ pub fn resolve_reference(
 pub fn named_class(
     classes: &Classes,
     caller: ClassId,
-    reference: &Reference<Name>,
+    reference: &Reference<LentName<'_>>,
 ) -> Option<ClassId>
     ensures found { result ≡ resolution.named_class classes.now caller reference.now }
     ensures there { IfSome result (λ class. class < length classes.now.rows) }
@@ -99,7 +99,7 @@ pub fn named_class(
 fn resolve_in(
     classes: &Classes,
     caller: ClassId,
-    reference: &Reference<Name>,
+    reference: &Reference<LentName<'_>>,
     named: ClassId,
 ) -> Result<MethodId, ResolveAnswer>
     requires caller { caller < length classes.now.rows }
@@ -119,7 +119,7 @@ fn resolve_in(
 }
 
 /// What the reference finds in the class that it names, which is of its kind.
-fn found(classes: &Classes, reference: &Reference<Name>, named: ClassId) -> Option<MethodId>
+fn found(classes: &Classes, reference: &Reference<LentName<'_>>, named: ClassId) -> Option<MethodId>
     requires { named < length classes.now.rows }
     ensures { result ≡ resolution.found classes.now reference.now named }
 {

@@ -1,5 +1,5 @@
 -- The walk from a class up to another one, where parents come first.
-use Rattle.std.specs.Prelude.{◌≡◌, ℕ, zero, suc, ◌<◌, ◌==◌, ◌⊎◌, Bool, true, false, not, ◌&&◌, ◌||◌, List, [], ◌∷◌, slice_get, Option, Some, None, option_and_then, IfSome, length, if◌then◌else◌}
+use Rattle.std.specs.Prelude.{◌≡◌, ℕ, zero, suc, ◌+◌, ◌<◌, ◌==◌, ◌⊎◌, Bool, true, false, not, ◌&&◌, ◌||◌, List, [], ◌∷◌, drop, slice_get, Option, Some, None, option_and_then, IfSome, length, if◌then◌else◌}
 use Rattle.std.specs.List.{list_any}
 use Rattle.std.specs.Option.{option_map_or}
 use Rattle.std.proofs.Common.{refl, ap, sym, ◌∙◌, arith, add-one, inl, inr}
@@ -7,8 +7,10 @@ use Rattle.std.proofs.lemmas.Bool.Decides.{Decides-eqb}
 use Rattle.std.proofs.lemmas.Bool.{or_right, or_left, or_cases, and_parts, and_from, both_ways, not-true}
 use Rattle.std.proofs.lemmas.Cmp.{nat_eq_equiv}
 use Rattle.std.proofs.lemmas.Option.{slice_get_within}
+use Rattle.jl_classfile.specs.Class.{Method}
 use Rattle.jl_types.specs.World.{Class, Classes}
 use Rattle.jl_types.specs.Ancestry.{superclasses, superclass_of, is_subclass, is_proper_subclass, AreOrdered}
+use Rattle.jl_types.proofs.Lists.{left_at, none_left}
 use Rattle.jl_types.proofs.Ancestors.{subclass_above, superclasses_is}
 use Rattle.jl_types.proofs.Walks.{proper_onward}
 use Rattle.jl_hierarchy.proofs.Chains.{next_below, chain_above, chain_there, is_itself}
@@ -167,3 +169,15 @@ module _ (cs : Classes) (o : AreOrdered cs.rows) where
     pub walk_ends : (n c : ℕ) → c < n → (found : Bool) → Ends c found
     walk_ends zero c lt found up h = absurd (omega arith)
     walk_ends (suc n) c lt found up h = ends_at c (λ s below f. walk_ends n s (omega arith) f) found (superclass_of cs c) refl up h
+
+-- ---- a search among methods, place by place
+
+module _ (test : Method → Bool) (ms : List Method) (n : ℕ) where
+  pub passes_here : (m : Method) → Some m ≡ slice_get ms n → test m ≡ true → true ≡ list_any test (drop n ms)
+  passes_here m e h = sym (ap (list_any test) (left_at ms n m (sym e)) ∙ ap (λ (b : Bool). b || list_any test (drop (n + 1) ms)) h)
+
+  pub not_here : (m : Method) → Some m ≡ slice_get ms n → test m ≡ false → list_any test (drop (n + 1) ms) ≡ list_any test (drop n ms)
+  not_here m e h = sym (ap (list_any test) (left_at ms n m (sym e)) ∙ ap (λ (b : Bool). b || list_any test (drop (n + 1) ms)) h)
+
+  pub passes_nowhere : None ≡ slice_get ms n → false ≡ list_any test (drop n ms)
+  passes_nowhere e = sym (ap (list_any test) (none_left ms n (sym e)))

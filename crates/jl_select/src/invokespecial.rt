@@ -7,7 +7,7 @@ ghost use Rattle.jl_select.specs.Walks.{own_passing};
 
 use crate::selection::ending;
 use jl_hierarchy::Classes;
-use jl_names::Name;
+use jl_names::LentName;
 use jl_pool::Reference;
 use jl_types::{Chosen, ClassId, MethodId, Outcome};
 
@@ -19,7 +19,7 @@ pub fn special(
     classes: &Classes,
     caller: ClassId,
     named: ClassId,
-    reference: &Reference<Name>,
+    reference: &Reference<LentName<'_>>,
 ) -> Outcome
     requires caller { caller < length classes.now.rows }
     requires named { named < length classes.now.rows }
@@ -40,7 +40,7 @@ fn special_start(
     classes: &Classes,
     caller: ClassId,
     named: ClassId,
-    reference: &Reference<Name>,
+    reference: &Reference<LentName<'_>>,
 ) -> Option<ClassId>
     requires caller { caller < length classes.now.rows }
     requires named { named < length classes.now.rows }
@@ -58,7 +58,11 @@ fn special_start(
 }
 
 /// What the search gives from there.
-fn special_choice(classes: &Classes, start: Option<ClassId>, reference: &Reference<Name>) -> Chosen
+fn special_choice(
+    classes: &Classes,
+    start: Option<ClassId>,
+    reference: &Reference<LentName<'_>>,
+) -> Chosen
     requires { IfSome start (λ class. class < length classes.now.rows) }
     ensures { result ≡ selection.special_choice classes.now reference.now start }
 {

@@ -1,6 +1,6 @@
 //! Overriding (JVMS SE 17 §5.4.5).
 
-ghost use Rattle.std.specs.Prelude.{◌≡◌, Some, false, length, Decides};
+ghost use Rattle.std.specs.Prelude.{◌≡◌, ◌<◌, ◌^◌, Some, false, length, Decides};
 ghost use Rattle.std.specs.List.{list_any};
 ghost use Rattle.jl_types.specs.Ancestry.{AreOrdered};
 ghost use Rattle.jl_types.specs.Members as members;
@@ -8,7 +8,7 @@ ghost use Rattle.jl_types.specs.Overriding as overriding;
 ghost use Rattle.jl_types.specs.Overriding.{CanOverride};
 ghost use Rattle.jl_select.specs.Walks.{are_alike_methods, is_bridge, has_bridge, bridged_before, above};
 
-use jl_classfile::{Method, PRIVATE, PROTECTED, PUBLIC, STATIC, has_flag};
+use jl_classfile::{Method, Methods, PRIVATE, PROTECTED, PUBLIC, STATIC, has_flag};
 use jl_hierarchy::Classes;
 use jl_types::{ClassId, MethodId};
 
@@ -20,7 +20,7 @@ pub fn can_override(classes: &Classes, lower: &MethodId, upper: &MethodId) -> bo
 {
     let _ = classes.class_at(lower.class);
     match (classes.method_at(lower), classes.method_at(upper)) {
-        (Some(method), Some(overridden)) => overrides(classes, lower, upper, method, overridden),
+        (Some(method), Some(overridden)) => overrides(classes, lower, upper, &method, &overridden),
         _ => false,
     }
 }
@@ -30,8 +30,8 @@ fn overrides(
     classes: &Classes,
     lower: &MethodId,
     upper: &MethodId,
-    method: &Method,
-    overridden: &Method,
+    method: &Method<'_>,
+    overridden: &Method<'_>,
 ) -> bool
     requires ordered { AreOrdered classes.now.rows }
     requires lower { members.method_at classes.now lower.now ≡ Some method.now }
@@ -48,7 +48,7 @@ fn overrides(
 }
 
 /// Whether both are instance methods of one name and descriptor, and the first isn't private.
-fn are_alike(lower: &Method, upper: &Method) -> bool
+fn are_alike(lower: &Method<'_>, upper: &Method<'_>) -> bool
     ensures { result ≡ are_alike_methods lower.now upper.now }
 {
     !has_flag(lower.flags(), STATIC)
@@ -69,7 +69,7 @@ fn is_visible(classes: &Classes, lower: &MethodId, upper: &MethodId) -> bool
 
 /// Whether a class above the first one and below the second one, in the second one's run-time package, declares a method
 /// like this one that is public or protected.
-fn is_bridged(classes: &Classes, lower: ClassId, upper: ClassId, overridden: &Method) -> bool
+fn is_bridged(classes: &Classes, lower: ClassId, upper: ClassId, overridden: &Method<'_>) -> bool
     requires { AreOrdered classes.now.rows }
     ensures { result ≡ bridged_before upper (has_bridge classes.now upper overridden.now) false (above classes.now lower) }
 {
@@ -89,25 +89,33 @@ fn is_bridged(classes: &Classes, lower: ClassId, upper: ClassId, overridden: &Me
 
 /// Whether the last class is of the first one's run-time package and declares a method like this one that is public or
 /// protected.
-fn has_bridge(classes: &Classes, upper: ClassId, overridden: &Method, class: ClassId) -> bool
+fn has_bridge(classes: &Classes, upper: ClassId, overridden: &Method<'_>, class: ClassId) -> bool
     ensures { result ≡ has_bridge classes.now upper overridden.now class }
 {
     match classes.class_at(class) {
         Some(row) => classes.same_package(upper, class)
-            && declares_bridge(row.file().methods(), overridden),
+            && declares_bridge(&row.file().methods(), overridden),
         None => false,
     }
 }
 
 /// Whether one of these methods is like this one, and public or protected.
-fn declares_bridge(methods: &[Method], overridden: &Method) -> bool
+fn declares_bridge(methods: &Methods<'_>, overridden: &Method<'_>) -> bool
+    requires { length methods.now < 2 ^ 16 }
     ensures { result ≡ list_any (is_bridge overridden.now) methods.now }
 {
-    methods.iter().any(|method| is_bridge(overridden, method))
+    let mut place = 0;
+    while let Some(method) = methods.at(place) {
+        if is_bridge(overridden, &method) {
+            return true;
+        }
+        place += 1;
+    }
+    false
 }
 
 /// Whether the second method is like the first one, and public or protected.
-fn is_bridge(overridden: &Method, method: &Method) -> bool
+fn is_bridge(overridden: &Method<'_>, method: &Method<'_>) -> bool
     ensures { result ≡ is_bridge overridden.now method.now }
 {
     are_alike(method, overridden)

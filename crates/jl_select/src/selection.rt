@@ -22,7 +22,7 @@ pub fn chosen(classes: &Classes, receiver: ClassId, resolved: &MethodId) -> Chos
     let Some(method) = classes.method_at(resolved) else {
         return Chosen::Nothing;
     };
-    match overriding(classes, receiver, resolved, method) {
+    match overriding(classes, receiver, resolved, &method) {
         Some(found) => Chosen::Method(found),
         None => classes.default_method(receiver, method.name().as_slice(), method.ty().as_slice()),
     }
@@ -98,7 +98,7 @@ fn overriding(
     classes: &Classes,
     receiver: ClassId,
     resolved: &MethodId,
-    method: &Method,
+    method: &Method<'_>,
 ) -> Option<MethodId>
     ensures { result ≡ selection.overriding classes.now receiver resolved.now method.now }
 {
@@ -119,7 +119,7 @@ fn own_overriding(
     classes: &Classes,
     class: ClassId,
     resolved: &MethodId,
-    method: &Method,
+    method: &Method<'_>,
 ) -> Option<MethodId>
     ensures { result ≡ own_passing (λ m. overriding.can_override classes.now m resolved.now) classes.now method.now.name method.now.ty class }
 {

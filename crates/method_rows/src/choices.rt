@@ -2,7 +2,7 @@
 
 use crate::commands::{Command, reference};
 use jl_hierarchy::Classes;
-use jl_names::Name;
+use jl_names::{LentName, Name};
 use jl_pool::Reference;
 use jl_select::{can_override, chosen, select, select_interface, special};
 use jl_types::{Chosen, ClassId, MethodId, Outcome};
@@ -95,7 +95,7 @@ fn special_for(
     reference: Result<Reference<Name>, AllocError>,
 ) -> Result<String, AllocError> {
     match reference {
-        Ok(reference) => special_of(alloc, classes, caller, named, &reference),
+        Ok(reference) => special_of(alloc, classes, caller, named, &reference.lent()),
         Err(fault) => Err(fault),
     }
 }
@@ -106,7 +106,7 @@ fn special_of(
     classes: &Classes,
     caller: ClassId,
     named: ClassId,
-    reference: &Reference<Name>,
+    reference: &Reference<LentName<'_>>,
 ) -> Result<String, AllocError> {
     if classes.has_class(caller) && classes.has_class(named) {
         run_or_thrown(alloc, special(classes, caller, named, reference))

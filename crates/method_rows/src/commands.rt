@@ -134,7 +134,10 @@ fn resolved(
     reference: Result<Reference<Name>, AllocError>,
 ) -> Result<String, AllocError> {
     match reference {
-        Ok(reference) => method(alloc, resolve(classes, ClassId::new(caller), &reference)),
+        Ok(reference) => method(
+            alloc,
+            resolve(classes, ClassId::new(caller), &reference.lent()),
+        ),
         Err(fault) => Err(fault),
     }
 }
@@ -149,7 +152,7 @@ fn resolved_by_name(
     match reference {
         Ok(reference) => naming(
             alloc,
-            resolve_reference(classes, ClassId::new(caller), &reference),
+            resolve_reference(classes, ClassId::new(caller), &reference.lent()),
         ),
         Err(fault) => Err(fault),
     }

@@ -3,7 +3,7 @@
 //! milliseconds of each time.
 #![tactic(auto)]
 
-use jl_classfile::read_class;
+use jl_classfile::{ClassFile, read_class};
 use std::alloc::Global;
 use std::io::{self, BufRead, BufReader};
 use std::time::Instant;
@@ -31,6 +31,18 @@ fn files(rt: &HostRuntime) -> io::Result<Vec<Vec<u8>>> {
     Ok(files)
 }
 
+/// How many invocations the methods of the class have.
+fn invocations(class: &ClassFile) -> u64 {
+    let methods = class.methods();
+    let mut count: u64 = 0;
+    for place in 0..methods.len() {
+        if let Some(method) = methods.at(place) {
+            count = count.saturating_add(method.sites().len() as u64);
+        }
+    }
+    count
+}
+
 /// Reads each class file once.
 fn read_all(alloc: Global, files: &[Vec<u8>]) -> Totals {
     let mut totals = Totals {
@@ -42,9 +54,7 @@ fn read_all(alloc: Global, files: &[Vec<u8>]) -> Totals {
         if let Ok(class) = read_class(alloc, bytes) {
             totals.classes = totals.classes.saturating_add(1);
             totals.bytes = totals.bytes.saturating_add(bytes.len() as u64);
-            for method in class.methods() {
-                totals.sites = totals.sites.saturating_add(method.sites().len() as u64);
-            }
+            totals.sites = totals.sites.saturating_add(invocations(&class));
         }
     }
     totals
