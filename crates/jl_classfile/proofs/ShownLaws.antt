@@ -1,8 +1,18 @@
 -- What a class file shows of its methods.
 use Rattle.std.proofs.Common.{◌≡◌, ◌≢◌, ℕ, ◌≤◌, List, [], ◌∷◌, ◌++◌, length, Option, Some, None, refl, sym, ap, subst, ◌∙◌, suc}
-use Rattle.std.proofs.Common.{◌+◌, ◌<◌, get_or, take, arith}
-use Rattle.std.specs.Prelude.{slice_get, codes}
-use Rattle.std.proofs.Math.Seq.{take-suc}
+use Rattle.std.proofs.Common.{◌+◌, ◌-◌, ◌<◌, true, get_or, map, take, drop, length-append, length-map, arith}
+use Rattle.std.specs.Prelude.{slice_get, slice_range, nat_le, codes}
+use Rattle.std.specs.List.{list_all}
+use Rattle.std.proofs.Math.Seq.{take-suc, take_all, take-append-le, drop-append-le, drop-append_seam}
+use Rattle.std.proofs.lemmas.Bool.{le-leb, leb-true}
+use Rattle.std.proofs.lemmas.List.{append-nil, map-append, length-drop}
+use Rattle.std.proofs.lemmas.List.Folds.{list_all-append}
+use Rattle.jl_pool.proofs.FormLaws.{and_true}
+use Rattle.jl_code.specs.Site.{Site}
+use Rattle.jl_code.specs.declared.site.KeptSite.{KeptSite}
+use Rattle.jl_code.specs.Kept.{is_named, site_in, Adds}
+use Rattle.jl_classfile.specs.declared.class.KeptMethod.{KeptMethod}
+use Rattle.jl_classfile.specs.Kept.{method_in, is_ranged, AreMethodsKept}
 use Rattle.jl_classfile.specs.declared.body.Attribute.{Attribute}
 use Rattle.jl_classfile.specs.declared.body.Member.{Member}
 use Rattle.jl_classfile.specs.declared.body.Body.{Body}
@@ -18,8 +28,8 @@ use Rattle.jl_classfile.specs.CodeAttributes.{HoldsCode, IsCodeOf}
 use Rattle.jl_classfile.specs.Conditions.{attributes_of, codes_of, HasCode, HaveCodes}
 use Rattle.jl_code.specs.Faults.{IsScanFault}
 use Rattle.jl_classfile.specs.Faults.{CodesFault}
-use Rattle.jl_classfile.specs.Shown.{shown_method, shown_methods}
-use Rattle.jl_classfile.specs.Reading.Passes.{fault_of_code, IsMethodFault, SitesShown, MethodShown, MethodsShown}
+use Rattle.jl_classfile.specs.Shown.{text_or_nothing, shown_method, shown_methods}
+use Rattle.jl_classfile.specs.Reading.Passes.{fault_of_code, IsMethodFault, SitesShown, MethodShown, MethodsShown, SitesAdded, MethodAdded, MethodsKept}
 
 -- ---- one method
 
@@ -61,6 +71,69 @@ bad_code p m index info bytes (code.BadOpcode pc) h holds fault = (h.attribute, 
 bad_code p m index info bytes (code.BadSwitch pc) h holds fault = (h.attribute, refl, h.only, (λ e. absurd cc), (bytes, subst (λ (t : List ℕ). HoldsCode t bytes) (sym h.is) holds, fault))
 bad_code p m index info bytes (code.CutShort pc) h holds fault = (h.attribute, refl, h.only, (λ e. absurd cc), (bytes, subst (λ (t : List ℕ). HoldsCode t bytes) (sym h.is) holds, fault))
 bad_code p m index info bytes (code.BadOperand pc) h holds fault = (h.attribute, refl, h.only, (λ e. absurd cc), (bytes, subst (λ (t : List ℕ). HoldsCode t bytes) (sym h.is) holds, fault))
+
+-- ---- what is kept of a method, over the sites of those before it and its own
+
+nothing_added : (p : Pool) (sites : List KeptSite) → Adds p sites sites []
+nothing_added p sites = record { made = []; behind = sym (append-nil sites); kept = record { named = refl; shown = refl } }
+
+pub added_none : (p : Pool) (m : Member) (sites : List KeptSite) → codes_of p m ≡ [] → SitesAdded p m sites sites
+added_none p m sites e = ([], sites_none p m e, nothing_added p sites)
+
+-- the invocations that were added are those of the range
+range_is : (p : Pool) (before made : List KeptSite) → slice_range (before ++ made) (length before) (length (before ++ made)) ≡ made
+range_is p before made =
+    rw (drop-append_seam before made, length-append before made) (take_all (length before + length made - length before) made (omega arith))
+
+ranged : (before made : List KeptSite) (flags name ty : ℕ)
+    → is_ranged (length (before ++ made)) (record { flags = flags; name = name; ty = ty; from = length before; to = length (before ++ made) }) ≡ true
+ranged before made flags name ty = rw (le-leb (length before) (length (before ++ made)) (omega (arith, length-append before made)), le-leb (length (before ++ made)) (length (before ++ made)) (omega arith)) refl
+
+pub method_added : (p : Pool) (m : Member) (before after : List KeptSite) → SitesAdded p m before after
+    → MethodAdded p m before after (record { flags = m.flags; name = m.name; ty = m.descriptor; from = length before; to = length after })
+method_added p m before after a =
+    let made = a.2.made in
+    subst
+    (λ (l : List KeptSite). MethodAdded p m before l (record { flags = m.flags; name = m.name; ty = m.descriptor; from = length before; to = length l }))
+    (sym a.2.behind)
+    (record {
+      made = made;
+      behind = refl;
+      named = a.2.kept.named;
+      ranged = ranged before made m.flags m.name m.descriptor;
+      shown = record {
+        code = a.1.code;
+        has = a.1.has;
+        shown =
+            ap (λ (l : List Site). record { flags = m.flags; name = text_or_nothing p m.name; ty = text_or_nothing p m.descriptor; sites = l })
+            (ap (λ (l : List KeptSite). map (site_in p) l) (range_is p before made) ∙ a.2.kept.shown ∙ a.1.shown);
+      };
+    })
+
+-- ---- what is kept of earlier methods stays, when sites are added
+
+range_stays : (sites more : List KeptSite) (from to : ℕ) → from ≤ to → to ≤ length sites → slice_range (sites ++ more) from to ≡ slice_range sites from to
+range_stays sites more from to h k =
+    ap (λ (l : List KeptSite). take (to - from) l) (drop-append-le from sites more (omega arith))
+    ∙ take-append-le (to - from) (drop from sites) more (omega (arith, length-drop from sites))
+
+in_range : (size : ℕ) (m : KeptMethod) → is_ranged size m ≡ true → (m.from ≤ m.to) × (m.to ≤ size)
+in_range size m h = let b = and_true (nat_le m.from m.to) (nat_le m.to size) h in (leb-true m.from m.to b.0, leb-true m.to size b.1)
+
+methods_stay : (p : Pool) (sites more : List KeptSite) (ms : List KeptMethod) → list_all (is_ranged (length sites)) ms ≡ true
+    → (map (method_in p (sites ++ more)) ms ≡ map (method_in p sites) ms) × (list_all (is_ranged (length (sites ++ more))) ms ≡ true)
+methods_stay p sites more [] h = (refl, refl)
+methods_stay p sites more (m ∷ ms) h =
+    let b = and_true (is_ranged (length sites) m) (list_all (is_ranged (length sites)) ms) h in
+    let r = in_range (length sites) m b.0 in
+    let rest = methods_stay p sites more ms b.1 in
+    let same : method_in p (sites ++ more) m ≡ method_in p sites m =
+    ap (λ (l : List KeptSite). record { flags = m.flags; name = text_or_nothing p m.name; ty = text_or_nothing p m.ty; sites = map (site_in p) l })
+    (range_stays sites more m.from m.to r.0 r.1)
+    in (
+      rw (same, rest.0) refl,
+      rw (le-leb m.from m.to r.0, le-leb m.to (length (sites ++ more)) (omega (arith, length-append sites more, r.1)), rest.1) refl,
+    )
 
 -- ---- all methods
 
@@ -105,6 +178,32 @@ methods_step p ms methods i d method h s k =
     let next : i + 1 ≡ suc i = omega arith in
     subst (λ (l : List Member). MethodsShown p l (methods ++ method ∷ [])) (sym (ap (λ (n : ℕ). take n ms) next ∙ take-suc ms i d h))
     (one_more_shown p (take i ms) methods (get_or ms i d) method s k)
+
+-- ---- all methods, as they are kept
+
+pub none_kept : (p : Pool) → MethodsKept p [] [] []
+none_kept p = record { kept = record { named = refl; ranged = refl }; shown = none_shown p }
+
+pub as_many_kept : (p : Pool) (ms : List Member) (sites : List KeptSite) (methods : List KeptMethod) → MethodsKept p ms sites methods → length methods ≡ length ms
+as_many_kept p ms sites methods s = sym (length-map (method_in p sites) methods) ∙ as_many p ms (map (method_in p sites) methods) s.shown
+
+pub kept_step : (p : Pool) (ms : List Member) (before after : List KeptSite) (methods : List KeptMethod) (i : ℕ) (d : Member) (method : KeptMethod) → i < length ms
+    → MethodsKept p (take i ms) before methods → MethodAdded p (get_or ms i d) before after method → MethodsKept p (take (i + 1) ms) after (methods ++ method ∷ [])
+kept_step p ms before after methods i d method h s a =
+    let stay = methods_stay p before a.made methods s.kept.ranged in
+    let after_stay : (map (method_in p after) methods ≡ map (method_in p before) methods) × (list_all (is_ranged (length after)) methods ≡ true) =
+    subst (λ (l : List KeptSite). (map (method_in p l) methods ≡ map (method_in p before) methods) × (list_all (is_ranged (length l)) methods ≡ true)) (sym a.behind) stay
+    in
+    record {
+      kept = record {
+        named = ap (λ (l : List KeptSite). list_all (is_named p) l) a.behind ∙ list_all-append (is_named p) before a.made ∙ rw (s.kept.named, a.named) refl;
+        ranged = list_all-append (is_ranged (length after)) methods (method ∷ []) ∙ rw (after_stay.1, a.ranged) refl;
+      };
+      shown =
+          subst (λ (l : List Method). MethodsShown p (take (i + 1) ms) l)
+          (sym (map-append (method_in p after) methods (method ∷ []) ∙ ap (λ (l : List Method). l ++ method_in p after method ∷ []) after_stay.0))
+          (methods_step p ms (map (method_in p before) methods) i d (method_in p after method) h s.shown a.shown);
+    }
 
 pub codes_fault : (p : Pool) (b : Body) (f : ClassFault) → f ≢ Memory → (i : ℕ) × (m : Member) × (slice_get b.methods i ≡ Some m) × IsMethodFault p i m f → CodesFault p b f
 codes_fault p b (Code i f) h x =

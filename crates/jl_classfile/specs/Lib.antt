@@ -5,5 +5,6 @@ pub mod Conditions
 pub mod ClassFiles
 pub mod Class
 pub mod Shown
+pub mod Kept
 pub mod Faults
 pub mod Reading

@@ -1,57 +1,47 @@
 //! What a class file shows.
 
-ghost use Rattle.std.specs.Prelude.{◌≡◌, ◌<◌, ◌^◌, ◌++◌, length, slice_get, option_copied, option_to_list, Some, IsSome, true, IfOk};
+ghost use Rattle.std.specs.Prelude.{◌≡◌, ◌<◌, ◌^◌, ◌++◌, length, map, slice_get, option_copied, option_to_list, Some, IsSome, true, IfOk};
+ghost use Rattle.std.specs.List.{list_all};
+ghost use Rattle.jl_code.specs.Kept.{is_named};
 ghost use Rattle.jl_classfile.specs.Conditions.{extends_object};
+ghost use Rattle.jl_classfile.specs.Kept.{method_in, is_ranged};
 
 use jl_code::{KeptSite, Sites};
 use jl_names::{LentName, Name, Seq};
+use jl_pool::Pool;
 use std::alloc::{AllocError, Global};
 use std::marker::Model;
 
-/// A method of a class file that is kept. A clause sees its flags, name and descriptor, and the invocations in its code.
-#[derive(Debug, Drop)]
+/// A method that is kept beside the pool of its class file and the invocations of all its methods: its access flags, the
+/// numbers of its name and descriptor, and where its invocations begin and end among them.
+#[derive(Clone, Copy, Debug, PartialEq, Eq)]
 pub(crate) struct KeptMethod {
     pub(crate) flags: u16,
-    pub(crate) name: Name,
-    pub(crate) ty: Name,
-    pub(crate) sites: Seq<KeptSite>,
-}
-
-impl Model for KeptMethod {
-    ghost use Rattle.jl_classfile.specs.Class as plain;
-
-    ghost Value = { plain.Method };
-
-    ghost view = { λ m. record { flags = m.flags; name = m.name; ty = m.ty; sites = m.sites } };
-}
-
-impl KeptMethod {
-    /// The same method once more. Want of memory is an error.
-    fn copy(&self, alloc: Global) -> Result<KeptMethod, AllocError>
-        ensures { IfOk result (λ copy. copy ≡ self.now) }
-    {
-        Ok(KeptMethod {
-            flags: self.flags,
-            name: self.name.copy(alloc)?,
-            ty: self.ty.copy(alloc)?,
-            sites: self.sites.try_map(alloc, |site| site.copy(alloc))?,
-        })
-    }
+    pub(crate) name: u16,
+    pub(crate) ty: u16,
+    pub(crate) from: usize,
+    pub(crate) to: usize,
 }
 
 /// A method of a class file (JVMS SE 17 §4.6), which is lent: its access flags, name and descriptor, and the invocations
 /// in its code, by rising pc. No question takes memory.
 #[derive(Debug, Drop)]
 pub struct Method<'a> {
-    kept: &'a KeptMethod,
+    pool: &'a Pool,
+    sites: &'a [KeptSite],
+    kept: KeptMethod,
 }
 
 impl<'a> Model for Method<'a> {
+    ghost use Rattle.std.specs.Prelude.{◌≡◌, true};
     ghost use Rattle.jl_classfile.specs.Class as plain;
+    ghost use Rattle.jl_classfile.specs.Kept.{method_in, IsMethodKept};
 
     ghost Value = { plain.Method };
 
-    ghost view = { λ m. m.kept.now };
+    ghost view = { λ m. method_in m.pool.now m.sites.now m.kept };
+
+    ghost invariant = { λ m. IsMethodKept m.pool.now m.sites.now m.kept };
 }
 
 impl<'a> Method<'a> {
@@ -59,48 +49,52 @@ impl<'a> Method<'a> {
     pub fn flags(&self) -> u16
         ensures { result ≡ self.now.flags }
     {
-        let kept = self.kept;
-        kept.flags
+        self.kept.flags
     }
 
     /// Its name.
     pub fn name(&self) -> LentName<'a>
         ensures { result ≡ self.now.name }
     {
-        let kept = self.kept;
-        LentName::of(&kept.name)
+        let pool = self.pool;
+        pool.text_or_nothing(self.kept.name)
     }
 
     /// Its descriptor.
     pub fn ty(&self) -> LentName<'a>
         ensures { result ≡ self.now.ty }
     {
-        let kept = self.kept;
-        LentName::of(&kept.ty)
+        let pool = self.pool;
+        pool.text_or_nothing(self.kept.ty)
     }
 
     /// The invocations in its code, by rising pc.
     pub fn sites(&self) -> Sites<'a>
         ensures { result ≡ self.now.sites }
     {
-        let kept = self.kept;
-        Sites::of(kept.sites.as_slice())
+        let KeptMethod { from, to, .. } = self.kept;
+        Sites::of(self.pool, &self.sites[from..to])
     }
 }
 
 /// Methods of a class file, which are lent. A clause sees the list of them. No question takes memory.
 #[derive(Debug, Drop)]
 pub struct Methods<'a> {
+    pool: &'a Pool,
+    sites: &'a [KeptSite],
     kept: &'a [KeptMethod],
 }
 
 impl<'a> Model for Methods<'a> {
-    ghost use Rattle.std.specs.Prelude.{List};
+    ghost use Rattle.std.specs.Prelude.{List, map};
     ghost use Rattle.jl_classfile.specs.Class as plain;
+    ghost use Rattle.jl_classfile.specs.Kept.{method_in, AreMethodsKept};
 
     ghost Value = { List plain.Method };
 
-    ghost view = { λ m. m.kept.now };
+    ghost view = { λ m. map (method_in m.pool.now m.sites.now) m.kept.now };
+
+    ghost invariant = { λ m. AreMethodsKept m.pool.now m.sites.now m.kept.now };
 }
 
 impl<'a> Methods<'a> {
@@ -116,7 +110,11 @@ impl<'a> Methods<'a> {
         ensures { result ≡ slice_get self.now place }
     {
         match self.kept.get(place) {
-            Some(kept) => Some(Method { kept }),
+            Some(kept) => Some(Method {
+                pool: self.pool,
+                sites: self.sites,
+                kept: *kept,
+            }),
             None => None,
         }
     }
@@ -125,8 +123,13 @@ impl<'a> Methods<'a> {
 /// What is kept of a class file (JVMS SE 17 §4.1): its name, access flags, superclass (java/lang/Object alone has
 /// none), direct superinterfaces, nest host and nest members as the file names them (§4.7.28, §4.7.29), and methods,
 /// in file order. Each text is in modified UTF-8. What it answers is lent, and takes no memory.
+///
+/// It owns the constant pool that was read. Names are parts of the pool's bytes, methods name their texts by number, and
+/// the invocations of all methods, by their numbers, stand in one vector.
 #[derive(Debug, Drop)]
 pub struct ClassFile {
+    pub(crate) pool: Pool,
+    pub(crate) sites: Vec<KeptSite>,
     pub(crate) name: Name,
     pub(crate) flags: u16,
     pub(crate) superclass: Option<Name>,
@@ -137,9 +140,10 @@ pub struct ClassFile {
 }
 
 impl Model for ClassFile {
-    ghost use Rattle.std.specs.Prelude.{◌≡◌, ◌<◌, ◌^◌, true, length};
+    ghost use Rattle.std.specs.Prelude.{◌≡◌, ◌<◌, ◌^◌, true, length, map};
     ghost use Rattle.jl_classfile.specs.Class as plain;
     ghost use Rattle.jl_classfile.specs.Conditions.{extends_object};
+    ghost use Rattle.jl_classfile.specs.Kept.{method_in, AreMethodsKept};
 
     ghost Value = { plain.ClassFile };
 
@@ -150,10 +154,11 @@ impl Model for ClassFile {
       interfaces = f.interfaces;
       nest_host = f.nest_host;
       nest_members = f.nest_members;
-      methods = f.methods;
+      methods = map (method_in f.pool f.sites.items) f.methods;
     } };
 
-    ghost invariant = { λ f. (length f.methods < 2 ^ 16) × (extends_object f.flags f.superclass ≡ true) };
+    ghost invariant = { λ f. (length f.methods < 2 ^ 16) × (extends_object f.flags f.superclass ≡ true)
+        × AreMethodsKept f.pool f.sites.items f.methods };
 }
 
 impl ClassFile {
@@ -243,6 +248,8 @@ impl ClassFile {
         ensures few { length result < 2 ^ 16 }
     {
         Methods {
+            pool: &self.pool,
+            sites: &self.sites,
             kept: self.methods.as_slice(),
         }
     }
@@ -252,13 +259,15 @@ impl ClassFile {
         ensures { IfOk result (λ copy. copy ≡ self.now) }
     {
         Ok(ClassFile {
+            pool: self.pool.copy(alloc)?,
+            sites: self.sites.to_vec(alloc)?,
             name: self.name.copy(alloc)?,
             flags: self.flags,
             superclass: copy_if_any(alloc, &self.superclass)?,
             interfaces: copy_all(alloc, &self.interfaces)?,
             nest_host: copy_if_any(alloc, &self.nest_host)?,
             nest_members: copy_all(alloc, &self.nest_members)?,
-            methods: self.methods.try_map(alloc, |method| method.copy(alloc))?,
+            methods: Seq::of(self.methods.as_slice().to_vec(alloc)?),
         })
     }
 }

@@ -1,6 +1,6 @@
 //! Reads a class file, pass after pass.
 
-ghost use Rattle.std.specs.Prelude.{◌<◌, ◌≤◌, ◌^◌, ◌≡◌, ◌≢◌, length, map, [], slice_get, All, List, ℕ, Some, IsTrue, IfOk, IfErr, MatchBool};
+ghost use Rattle.std.specs.Prelude.{◌<◌, ◌≤◌, ◌^◌, ◌≡◌, ◌≢◌, length, map, [], slice_get, All, List, ℕ, Some, IsTrue, IfOk, OnOk, IfErr, MatchBool};
 ghost use Rattle.std.specs.Option.{option_and_then, unwrap_or};
 ghost use Rattle.jl_classfile.specs.declared.fault.ClassFault.{ClassFault};
 ghost use Rattle.jl_classfile.specs.Parts.{Parts};
@@ -9,9 +9,9 @@ ghost use Rattle.jl_classfile.specs.declared.fault.ClassFault.TheVariants.{Memor
 ghost use Rattle.jl_classfile.specs.declared.body.Member.{Member};
 ghost use Rattle.jl_classfile.specs.Faults.{HeadFault, CodesFault, IsFault};
 ghost use Rattle.jl_pool.specs.Pools.{class_at};
-ghost use Rattle.jl_classfile.specs.Shown.{shown, text_or_nothing, name_or_nothing};
+ghost use Rattle.jl_classfile.specs.Shown.{shown, name_or_nothing};
 ghost use Rattle.jl_classfile.specs.Conditions.{IsVersion, codes_of, super_fits};
-ghost use Rattle.jl_classfile.specs.Reading.Passes.{HasHead, fault_of_code, IsMethodFault, SitesShown, MethodShown, MethodsShown, BodyShown, HasPool, Lies};
+ghost use Rattle.jl_classfile.specs.Reading.Passes.{HasHead, fault_of_code, IsMethodFault, SitesAdded, MethodAdded, MethodsKept, BodyShown, HasPool, Lies};
 
 use crate::body::{Body, Member, body_at, code_in};
 use crate::class::{ClassFile, KeptMethod};
@@ -20,7 +20,7 @@ use crate::links::check_links;
 use crate::member::{CODE, check_attribute_names, check_members, first_called};
 use crate::nest::{NestNumbers, nest_of};
 use jl_code::{CodeFault, KeptSite, scan};
-use jl_names::{LentName, Name, Seq};
+use jl_names::{Name, Seq};
 use jl_pool::{Pool, PoolFault, u2_at, u4_at};
 use std::alloc::{AllocError, Global};
 
@@ -83,51 +83,37 @@ fn code_fault(method: u16, fault: CodeFault) -> ClassFault
     }
 }
 
-/// The invocations of a method, none where it has no code.
-fn sites_of(
-    alloc: Global,
+/// Adds the invocations of a method, none where it has no code.
+fn add_sites(
     pool: &Pool,
     index: u16,
     method: &Member<'_>,
-) -> Result<Seq<KeptSite>, ClassFault>
+    sites: &mut Vec<KeptSite>,
+) -> Result<(), ClassFault>
     requires { length (codes_of pool.now method.now) ≤ 1 }
-    ensures ok { IfOk result (SitesShown pool.now method.now) }
+    ensures ok { OnOk result (SitesAdded pool.now method.now sites.old.items sites.new.items) }
     ensures fault { IfErr result (IsMethodFault pool.now index method.now) }
 {
     let Some(info) = first_called(pool, CODE, method.attributes.as_slice()) else {
-        return Ok(Seq::of(Vec::new(alloc)));
+        return Ok(());
     };
     let Some(code) = code_in(info) else {
         return Err(ClassFault::Code(index, CodeFault::BadLayout));
     };
-    match scan(alloc, code, pool) {
-        Ok(sites) => Ok(Seq::of(sites)),
+    match scan(code, pool, sites) {
+        Ok(()) => Ok(()),
         Err(fault) => Err(code_fault(index, fault)),
     }
-}
-
-/// The name once more, and nothing where there is none.
-fn copy_or_nothing(alloc: Global, name: Option<LentName<'_>>) -> Result<Name, AllocError>
-    ensures { IfOk result (λ copy. copy ≡ unwrap_or name.entry []) }
-{
-    match name {
-        Some(name) => name.copy(alloc),
-        None => Name::copied(alloc, b""),
-    }
-}
-
-/// The text at a number, kept, and nothing where there is none.
-fn kept_text(alloc: Global, pool: &Pool, number: u16) -> Result<Name, AllocError>
-    ensures { IfOk result (λ name. name ≡ text_or_nothing pool.now number) }
-{
-    copy_or_nothing(alloc, pool.utf8(number))
 }
 
 /// The class name at a number, kept, and nothing where there is none.
 fn kept_class(alloc: Global, pool: &Pool, number: u16) -> Result<Name, AllocError>
     ensures { IfOk result (λ name. name ≡ name_or_nothing pool.now number) }
 {
-    copy_or_nothing(alloc, pool.class_name(number))
+    match pool.class_name(number) {
+        Some(name) => name.copy(alloc),
+        None => Name::copied(alloc, b""),
+    }
 }
 
 /// The class names at the numbers, kept.
@@ -175,64 +161,71 @@ fn kept_members(
     }
 }
 
-/// A method with its invocations.
+/// A method, whose invocations are added.
 fn method_of(
-    alloc: Global,
     pool: &Pool,
     index: u16,
     member: &Member<'_>,
+    sites: &mut Vec<KeptSite>,
 ) -> Result<KeptMethod, ClassFault>
     requires { length (codes_of pool.now member.now) ≤ 1 }
-    ensures ok { IfOk result (MethodShown pool.now member.now) }
+    ensures ok { IfOk result (MethodAdded pool.now member.now sites.old.items sites.new.items) }
     ensures fault { IfErr result (IsMethodFault pool.now index member.now) }
 {
+    let from = sites.len();
+    add_sites(pool, index, member, sites)?;
     Ok(KeptMethod {
         flags: member.flags,
-        name: kept_text(alloc, pool, member.name)?,
-        ty: kept_text(alloc, pool, member.descriptor)?,
-        sites: sites_of(alloc, pool, index, member)?,
+        name: member.name,
+        ty: member.descriptor,
+        from,
+        to: sites.len(),
     })
 }
 
-/// The methods with their invocations.
+/// The methods, and the invocations of all of them.
 fn methods_of(
     alloc: Global,
     pool: &Pool,
     members: &[Member<'_>],
-) -> Result<Seq<KeptMethod>, ClassFault>
+) -> Result<(Seq<KeptMethod>, Vec<KeptSite>), ClassFault>
     requires few { length members.now < 2 ^ 16 }
     requires one_code { All (λ m. length (codes_of pool.now m) ≤ 1) members.now }
-    ensures ok { IfOk result (MethodsShown pool.now members.now) }
+    ensures ok { IfOk result (λ x. MethodsKept pool.now members.now x.1.items x.0) }
     ensures fault { IfErr result (λ f. f ≢ Memory → (i : ℕ) × (m : Member) × (slice_get members.now i ≡ Some m) × IsMethodFault pool.now i m f) }
 {
-    let mut methods = Vec::new(alloc);
+    let mut sites = Vec::new(alloc);
+    let mut methods = Vec::with_capacity(alloc, members.len())?;
     for (i, member) in members.iter().enumerate() {
-        methods.push(method_of(alloc, pool, i as u16, member)?)?;
+        methods.push(method_of(pool, i as u16, member, &mut sites)?)?;
     }
-    Ok(Seq::of(methods))
+    Ok((Seq::of(methods), sites))
 }
 
 /// What a class file shows whose parts have no fault outside its codes.
 fn shown(
     alloc: Global,
-    pool: &Pool,
+    pool: Pool,
     body: &Body<'_>,
     nest: &NestNumbers,
 ) -> Result<ClassFile, ClassFault>
-    requires superclass { IsTrue (super_fits pool.now body.now) }
+    requires superclass { IsTrue (super_fits pool body.now) }
     requires few { length body.now.methods < 2 ^ 16 }
-    requires one_code { All (λ m. length (codes_of pool.now m) ≤ 1) body.now.methods }
-    ensures ok { IfOk result (BodyShown pool.now body.now nest.now.host nest.now.members) }
-    ensures fault { IfErr result (λ f. f ≢ Memory → CodesFault pool.now body.now f) }
+    requires one_code { All (λ m. length (codes_of pool m) ≤ 1) body.now.methods }
+    ensures ok { IfOk result (BodyShown pool body.now nest.now.host nest.now.members) }
+    ensures fault { IfErr result (λ f. f ≢ Memory → CodesFault pool body.now f) }
 {
+    let (methods, sites) = methods_of(alloc, &pool, body.methods.as_slice())?;
     Ok(ClassFile {
-        name: kept_class(alloc, pool, body.this_class)?,
+        name: kept_class(alloc, &pool, body.this_class)?,
         flags: body.flags,
-        superclass: kept_class_if_any(alloc, pool, body.super_class)?,
-        interfaces: kept_classes(alloc, pool, body.interfaces.as_slice())?,
-        nest_host: kept_host(alloc, pool, nest.host)?,
-        nest_members: kept_members(alloc, pool, &nest.members)?,
-        methods: methods_of(alloc, pool, body.methods.as_slice())?,
+        superclass: kept_class_if_any(alloc, &pool, body.super_class)?,
+        interfaces: kept_classes(alloc, &pool, body.interfaces.as_slice())?,
+        nest_host: kept_host(alloc, &pool, nest.host)?,
+        nest_members: kept_members(alloc, &pool, &nest.members)?,
+        methods,
+        sites,
+        pool,
     })
 }
 
@@ -277,7 +270,7 @@ pub fn read_class(alloc: Global, bytes: &[u8]) -> Result<ClassFile, ClassFault>
     check_members(alloc, &pool, &body)?;
     check_attribute_names(&pool, body.attributes.as_slice())?;
     let nest = nest_of(alloc, major, &pool, &body)?;
-    shown(alloc, &pool, &body, &nest)
+    shown(alloc, pool, &body, &nest)
 }
 
 /// Bytes are one class file at most.

@@ -5,5 +5,6 @@ pub mod FixedLaws
 pub mod SwitchLaws
 pub mod InstructionLaws
 pub mod CodeLaws
+pub mod KeptLaws
 pub mod CodeFaultLaws
 pub mod Rows

@@ -1,6 +1,6 @@
 //! The invocations in a code (JVMS SE 17 §4.7.3, §4.9).
 
-ghost use Rattle.std.specs.Prelude.{◌≡◌, ◌≢◌, ◌<◌, ◌^◌, ◌++◌, List, ℕ, length, IfOk, IfErr, false};
+ghost use Rattle.std.specs.Prelude.{◌≡◌, ◌≢◌, ◌<◌, ◌^◌, ◌++◌, List, ℕ, length, IfOk, OnOk, IfErr, false};
 ghost use Rattle.std.specs.Prelude.{option_to_list};
 ghost use Rattle.std.specs.Option.{option_map_or};
 ghost use Rattle.std.specs.Str.{bytes_eq};
@@ -11,16 +11,17 @@ ghost use Rattle.jl_pool.specs.Pools.{Pool, has_tag};
 ghost use Rattle.jl_pool.specs.Reading.Forms.{slots_at};
 ghost use Rattle.jl_code.specs.declared.code_fault.CodeFault.{CodeFault};
 ghost use Rattle.jl_code.specs.declared.code_fault.CodeFault.TheVariants.{Memory};
-ghost use Rattle.jl_code.specs.Codes.{kind_of, operand_at, operand_name, begins_special, may_name, most_slots, tail_of, site_at, sites_from, OperandFits, IsCode};
+ghost use Rattle.jl_code.specs.declared.site.KeptSite.{KeptSite};
+ghost use Rattle.jl_code.specs.Kept.{IsKeptOf, Adds};
+ghost use Rattle.jl_code.specs.Codes.{kind_of, operand_name, begins_special, may_name, most_slots, tail_of, site_at, sites_from, OperandFits, IsCode};
 ghost use Rattle.jl_code.specs.Faults.{IsScanFault};
 ghost use Rattle.jl_code.specs.Reading.Sites.{invoked, IsSiteFault};
 
 use crate::code_fault::CodeFault;
 use crate::instruction::{Instruction, Stop, instruction_at};
-use crate::site::{KeptSite, Kind, Operand};
-use jl_names::{LentName, Name};
+use crate::site::{KeptSite, Kind, Operand, operand_at};
+use jl_names::LentName;
 use jl_pool::Pool;
-use std::alloc::{AllocError, Global};
 
 /// The kind of an invocation.
 fn kind_of(opcode: u8) -> Kind
@@ -32,19 +33,6 @@ fn kind_of(opcode: u8) -> Kind
         184 => Kind::Static,
         185 => Kind::Interface,
         _ => Kind::Dynamic,
-    }
-}
-
-/// The method or call site that the entry at a number names.
-fn operand_at<'a>(pool: &'a Pool, number: u16) -> Option<Operand<LentName<'a>>>
-    ensures { result ≡ operand_at pool.now number }
-{
-    match pool.method_ref(number) {
-        Some(reference) => Some(Operand::Method(reference)),
-        None => match pool.dynamic(number) {
-            Some(specifier) => Some(Operand::CallSite(specifier)),
-            None => None,
-        },
     }
 }
 
@@ -144,33 +132,22 @@ fn invoked<'a>(
     }
 }
 
-/// An operand, kept.
-fn kept(alloc: Global, operand: &Operand<LentName<'_>>) -> Result<Operand<Name>, AllocError>
-    ensures { IfOk result (λ kept. kept ≡ operand.now) }
-{
-    match operand {
-        Operand::Method(reference) => Ok(Operand::Method(reference.kept(alloc)?)),
-        Operand::CallSite(specifier) => Ok(Operand::CallSite(specifier.kept(alloc)?)),
-    }
-}
-
 /// The site of an instruction, where it is an invocation.
 fn site_of(
-    alloc: Global,
     pool: &Pool,
     pc: u16,
     instruction: &Instruction<'_>,
 ) -> Result<Option<KeptSite>, CodeFault>
-    ensures ok { IfOk result (λ site. OperandFits pool.now instruction.now × (option_to_list site ≡ site_at pool.now pc instruction.now)) }
+    ensures ok { IfOk result (λ site. OperandFits pool.now instruction.now × IsKeptOf pool.now (option_to_list site) (site_at pool.now pc instruction.now)) }
     ensures fault { IfErr result (IsSiteFault pool.now pc instruction.now) }
 {
     match instruction {
         Instruction::Invoke(opcode, number, tail) => {
             match invoked(pool, *opcode, *number, tail.as_bytes()) {
-                Some(operand) => {
-                    let operand = kept(alloc, &operand)?;
+                Some(_operand) => {
                     let kind = kind_of(*opcode);
-                    Ok(Some(KeptSite { pc, kind, operand }))
+                    let number = *number;
+                    Ok(Some(KeptSite { pc, kind, number }))
                 }
                 None => Err(CodeFault::BadOperand(pc)),
             }
@@ -179,22 +156,40 @@ fn site_of(
     }
 }
 
-/// The invocations of a code (JVMS SE 17 §4.7.3, §4.9), in order, each at its place in bytes from the code's start. It takes fewer than
-/// 65,536 bytes, as a Code attribute has. Where instructions end before the place that it names, an error is `BadOpcode` where no
-/// instruction begins so, `BadSwitch` where a switch's bounds or number of pairs can't be, `CutShort` where the bytes end within the
-/// instruction, and `BadOperand` where an invocation may not name what it names; or want of memory. `BadLayout` is none of them.
-pub fn scan(alloc: Global, code: &[u8], pool: &Pool) -> Result<Vec<KeptSite>, CodeFault>
+/// The invocations of a code (JVMS SE 17 §4.7.3, §4.9), in order, each at its place in bytes from the code's start. What is kept of them
+/// is added to these; an error adds nothing. The code takes fewer than 65,536 bytes, as a Code attribute has. Where instructions end
+/// before the place that it names, an error is `BadOpcode` where no instruction begins so, `BadSwitch` where a switch's bounds or number
+/// of pairs can't be, `CutShort` where the bytes end within the instruction, and `BadOperand` where an invocation may not name what it
+/// names; or want of memory. `BadLayout` is none of them.
+pub fn scan(code: &[u8], pool: &Pool, sites: &mut Vec<KeptSite>) -> Result<(), CodeFault>
     requires { length code.now < 2 ^ 16 }
-    ensures ok { IfOk result (λ sites. (is : List Instruction) × IsCode pool.now code.now is × (sites.items ≡ sites_from pool.now 0 is)) }
+    ensures ok { OnOk result ((is : List Instruction) × IsCode pool.now code.now is × Adds pool.now sites.old.items sites.new.items (sites_from pool.now 0 is)) }
     ensures fault { IfErr result (IsScanFault pool.now code.now) }
+    ensures unchanged { IfErr result (λ fault. sites.new.items ≡ sites.old.items) }
 {
-    let mut sites = Vec::new(alloc);
+    let before = sites.len();
+    match scan_onto(code, pool, sites) {
+        Ok(()) => Ok(()),
+        Err(fault) => {
+            sites.truncate(before);
+            Err(fault)
+        }
+    }
+}
+
+/// The same; an error may have added some.
+fn scan_onto(code: &[u8], pool: &Pool, sites: &mut Vec<KeptSite>) -> Result<(), CodeFault>
+    requires { length code.now < 2 ^ 16 }
+    ensures ok { OnOk result ((is : List Instruction) × IsCode pool.now code.now is × Adds pool.now sites.old.items sites.new.items (sites_from pool.now 0 is)) }
+    ensures fault { IfErr result (IsScanFault pool.now code.now) }
+    ensures behind { (made : List KeptSite) × (sites.new.items ≡ sites.old.items ++ made) }
+{
     let mut rest = code;
     while !rest.is_empty() {
         let pc = (code.len() - rest.len()) as u16;
         match instruction_at(pc, rest) {
             Ok((instruction, after)) => {
-                if let Some(site) = site_of(alloc, pool, pc, &instruction)? {
+                if let Some(site) = site_of(pool, pc, &instruction)? {
                     sites.push(site)?;
                 }
                 rest = after;
@@ -204,7 +199,7 @@ pub fn scan(alloc: Global, code: &[u8], pool: &Pool) -> Result<Vec<KeptSite>, Co
             Err(Stop::Switch) => return Err(CodeFault::BadSwitch(pc)),
         }
     }
-    Ok(sites)
+    Ok(())
 }
 
 /// Bytes are one code at most.

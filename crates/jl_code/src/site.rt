@@ -1,11 +1,13 @@
 //! Invocations in a code.
 
-ghost use Rattle.std.specs.Prelude.{◌≡◌, ◌==◌, length, slice_get, find, IfOk};
+ghost use Rattle.std.specs.Prelude.{◌≡◌, ◌==◌, length, map, slice_get, find, is_some, true};
+ghost use Rattle.std.specs.List.{list_all};
 ghost use Rattle.std.specs.Option.{option_copied};
+ghost use Rattle.jl_code.specs.Codes.{operand_at};
+ghost use Rattle.jl_code.specs.Kept.{site_in, is_named};
 
-use jl_names::{LentName, Name};
-use jl_pool::{CallSiteSpecifier, Reference};
-use std::alloc::{AllocError, Global};
+use jl_names::LentName;
+use jl_pool::{CallSiteSpecifier, Pool, Reference};
 use std::marker::Model;
 
 /// Which instruction invokes (JVMS SE 17 §6.5): invokevirtual, invokespecial, invokestatic, invokeinterface,
@@ -26,66 +28,37 @@ pub enum Operand<T> {
     CallSite(CallSiteSpecifier<T>),
 }
 
-impl Operand<Name> {
-    /// The same operand with names that are lent.
-    fn lent(&self) -> Operand<LentName<'_>>
-        ensures { result ≡ self.now }
-    {
-        match self {
-            Operand::Method(reference) => Operand::Method(reference.lent()),
-            Operand::CallSite(specifier) => Operand::CallSite(specifier.lent()),
-        }
-    }
-
-    /// The same operand once more. Want of memory is an error.
-    fn copy(&self, alloc: Global) -> Result<Self, AllocError>
-        ensures { IfOk result (λ copy. copy ≡ self.now) }
-    {
-        match self {
-            Operand::Method(reference) => Ok(Operand::Method(reference.copy(alloc)?)),
-            Operand::CallSite(specifier) => Ok(Operand::CallSite(specifier.copy(alloc)?)),
-        }
+/// The method or call site that the entry at a number names.
+pub(crate) fn operand_at<'a>(pool: &'a Pool, number: u16) -> Option<Operand<LentName<'a>>>
+    ensures { result ≡ operand_at pool.now number }
+{
+    match pool.method_ref(number) {
+        Some(reference) => Some(Operand::Method(reference)),
+        None => match pool.dynamic(number) {
+            Some(specifier) => Some(Operand::CallSite(specifier)),
+            None => None,
+        },
     }
 }
 
-/// An invocation that is kept. A clause sees its place, its kind and what it names.
-#[derive(Debug, Drop)]
+/// An invocation that is kept beside the pool of its class file: its place in bytes from the code's start, which
+/// instruction it is, and the number of what it names.
+#[derive(Clone, Copy, Debug, PartialEq, Eq)]
 pub struct KeptSite {
     pub(crate) pc: u16,
     pub(crate) kind: Kind,
-    pub(crate) operand: Operand<Name>,
+    pub(crate) number: u16,
 }
 
-impl Model for KeptSite {
-    ghost use Rattle.jl_code.specs.Site as plain;
-
-    ghost Value = { plain.Site };
-
-    ghost view = { λ s. record { pc = s.pc; kind = s.kind; operand = s.operand } };
-}
-
-impl KeptSite {
-    /// The same invocation, lent. Takes no memory.
-    pub fn lent(&self) -> Site<'_>
-        ensures { result ≡ self.now }
-    {
-        let KeptSite { pc, kind, operand } = self;
-        Site {
-            pc: *pc,
-            kind: *kind,
-            operand: operand.lent(),
-        }
-    }
-
-    /// The same invocation once more. Want of memory is an error.
-    pub fn copy(&self, alloc: Global) -> Result<KeptSite, AllocError>
-        ensures { IfOk result (λ copy. copy ≡ self.now) }
-    {
-        Ok(KeptSite {
-            pc: self.pc,
-            kind: self.kind,
-            operand: self.operand.copy(alloc)?,
-        })
+/// The invocation that is kept over this pool.
+fn site_in<'a>(pool: &'a Pool, kept: KeptSite) -> Site<'a>
+    requires { is_named pool.now kept ≡ true }
+    ensures { result ≡ site_in pool.now kept }
+{
+    Site {
+        pc: kept.pc,
+        kind: kept.kind,
+        operand: operand_at(pool, kept.number).unwrap(),
     }
 }
 
@@ -131,24 +104,30 @@ impl<'a> Site<'a> {
 /// Invocations that are lent. A clause sees the list of them. No question takes memory.
 #[derive(Debug, Drop)]
 pub struct Sites<'a> {
+    pool: &'a Pool,
     kept: &'a [KeptSite],
 }
 
 impl<'a> Model for Sites<'a> {
-    ghost use Rattle.std.specs.Prelude.{List};
+    ghost use Rattle.std.specs.Prelude.{◌≡◌, List, map, true};
+    ghost use Rattle.std.specs.List.{list_all};
     ghost use Rattle.jl_code.specs.Site as plain;
+    ghost use Rattle.jl_code.specs.Kept.{site_in, is_named};
 
     ghost Value = { List plain.Site };
 
-    ghost view = { λ s. s.kept.now };
+    ghost view = { λ s. map (site_in s.pool.now) s.kept.now };
+
+    ghost invariant = { λ s. list_all (is_named s.pool.now) s.kept.now ≡ true };
 }
 
 impl<'a> Sites<'a> {
-    /// These invocations.
-    pub fn of(kept: &'a [KeptSite]) -> Self
-        ensures { result ≡ kept.now }
+    /// The invocations that are kept over this pool.
+    pub fn of(pool: &'a Pool, kept: &'a [KeptSite]) -> Self
+        requires { list_all (is_named pool.now) kept.now ≡ true }
+        ensures { result ≡ map (site_in pool.now) kept.now }
     {
-        Sites { kept }
+        Sites { pool, kept }
     }
 
     /// How many there are.
@@ -163,7 +142,7 @@ impl<'a> Sites<'a> {
         ensures { result ≡ slice_get self.now place }
     {
         match self.kept.get(place) {
-            Some(site) => Some(site.lent()),
+            Some(kept) => Some(site_in(self.pool, *kept)),
             None => None,
         }
     }
@@ -173,13 +152,13 @@ impl<'a> Sites<'a> {
         ensures { result ≡ find (λ site. site.pc == pc) self.now }
     {
         match kept_at(self.kept, pc) {
-            Some(site) => Some(site.lent()),
+            Some(kept) => Some(site_in(self.pool, *kept)),
             None => None,
         }
     }
 }
 
-/// The first one at this pc.
+/// The first one that is kept at this pc.
 fn kept_at(kept: &[KeptSite], pc: u32) -> Option<&KeptSite>
     ensures { option_copied result ≡ find (λ site. site.pc == pc) kept.now }
 {

@@ -3,7 +3,7 @@
 ghost use Rattle.std.specs.Prelude.{◌≡◌, ◌≢◌, ◌<◌, ◌≤◌, ◌^◌, ◌++◌, [], ◌∷◌, length, Option, option_map, Result, List, ℕ, IfOk, IfErr};
 ghost use Rattle.std.specs.List.{flat_map};
 ghost use Rattle.jl_pool.specs.declared.constant.Constant.{Constant};
-ghost use Rattle.std.specs.Option.{option_and_then};
+ghost use Rattle.std.specs.Option.{option_and_then, unwrap_or};
 ghost use Rattle.jl_pool.specs.Numbers.{u2};
 ghost use Rattle.jl_pool.specs.Pools.{places, places_of, pool_text, IsSoundPool, text_at, descriptor_at, has_tag};
 ghost use Rattle.jl_pool.specs.Constants.{constant_text, IsSized};
@@ -22,7 +22,7 @@ use crate::form::Form;
 use crate::pool_fault::PoolFault;
 use crate::reference::{CallSiteSpecifier, Reference};
 use jl_names::{LentName, Name, Text};
-use std::alloc::Global;
+use std::alloc::{AllocError, Global};
 use std::marker::Model;
 
 /// The constants of a class file (JVMS SE 17 §4.4). A clause sees them by number.
@@ -94,6 +94,16 @@ impl Pool {
         self.len() as u16
     }
 
+    /// The same pool once more, over the same bytes. Want of memory is an error.
+    pub fn copy(&self, alloc: Global) -> Result<Pool, AllocError>
+        ensures { IfOk result (λ copy. copy ≡ self.now) }
+    {
+        Ok(Pool {
+            block: self.block.copy(alloc)?,
+            entries: self.entries.to_vec(alloc)?,
+        })
+    }
+
     /// The constant at a number. None stands at number 0, nor at the second number of a Long or a Double (§4.4.5).
     pub fn constant(&self, number: u16) -> Option<Constant<'_>>
         ensures { result ≡ standing_at self.now number }
@@ -106,6 +116,16 @@ impl Pool {
         ensures { result ≡ text_at self.now number }
     {
         text_in(&self.block, entry_at(&self.entries, number))
+    }
+
+    /// The same, and the empty text where there is none.
+    pub fn text_or_nothing(&self, number: u16) -> LentName<'_>
+        ensures { result ≡ unwrap_or (text_at self.now number) [] }
+    {
+        match self.utf8(number) {
+            Some(text) => text,
+            None => LentName::within(&self.block, 0, 0),
+        }
     }
 
     /// What the text of the Utf8 at a number may stand for.

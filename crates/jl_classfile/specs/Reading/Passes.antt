@@ -1,7 +1,7 @@
 -- What the readers of the passes find out. No public clause cites this.
-use Rattle.std.specs.Prelude.{◌≡◌, ◌≢◌, ℕ, ◌≤◌, ◌<◌, ◌^◌, List, [], ◌∷◌, ◌++◌, length, map, Option, ⊤}
+use Rattle.std.specs.Prelude.{◌≡◌, ◌≢◌, ℕ, ◌≤◌, ◌<◌, ◌^◌, true, List, [], ◌∷◌, ◌++◌, length, map, Option, ⊤}
 use Rattle.std.specs.Option.{option_and_then, unwrap_or}
-use Rattle.std.specs.List.{Contains}
+use Rattle.std.specs.List.{Contains, list_all}
 use Rattle.jl_classfile.specs.declared.body.Attribute.{Attribute}
 use Rattle.jl_classfile.specs.declared.body.Member.{Member}
 use Rattle.jl_classfile.specs.declared.body.Body.{Body}
@@ -10,9 +10,13 @@ use Rattle.jl_classfile.specs.declared.body.Broken.TheVariants as broken
 use Rattle.jl_pool.specs.declared.pool_fault.PoolFault.{PoolFault}
 use Rattle.jl_pool.specs.declared.pool_fault.PoolFault.TheVariants as pool
 use Rattle.jl_classfile.specs.Class.{ClassFile, Method}
+use Rattle.jl_classfile.specs.declared.class.KeptMethod.{KeptMethod}
+use Rattle.jl_classfile.specs.Kept.{method_in, is_ranged, AreMethodsKept}
 use Rattle.jl_pool.specs.declared.constant.Constant.{Constant}
 use Rattle.jl_code.specs.declared.instruction.Instruction.{Instruction}
 use Rattle.jl_code.specs.Site.{Site}
+use Rattle.jl_code.specs.declared.site.KeptSite.{KeptSite}
+use Rattle.jl_code.specs.Kept.{is_named, Adds}
 use Rattle.jl_code.specs.declared.code_fault.CodeFault.{CodeFault}
 use Rattle.jl_code.specs.declared.code_fault.CodeFault.TheVariants as code
 use Rattle.jl_classfile.specs.declared.fault.ClassFault.{ClassFault}
@@ -92,6 +96,23 @@ pub record MethodsShown (p : Pool) (ms : List Member) (methods : List Method) : 
   pub codes : List (Option (List Instruction))
   pub have : HaveCodes p ms codes
   pub shown : methods ≡ shown_methods p ms codes
+
+-- the sites of the method's code are added behind those of the methods before it
+abbrev pub SitesAdded : Pool → Member → List KeptSite → List KeptSite → Type 0
+SitesAdded p m before after = (sites : List Site) × SitesShown p m sites × Adds p before after sites
+
+-- the method is kept, over sites of which these were there before
+pub record MethodAdded (p : Pool) (m : Member) (before after : List KeptSite) (method : KeptMethod) : Type 0 where
+  pub made : List KeptSite
+  pub behind : after ≡ before ++ made
+  pub named : list_all (is_named p) made ≡ true
+  pub ranged : is_ranged (length after) method ≡ true
+  pub shown : MethodShown p m (method_in p after method)
+
+-- the methods are kept over these sites
+pub record MethodsKept (p : Pool) (ms : List Member) (sites : List KeptSite) (methods : List KeptMethod) : Type 0 where
+  pub kept : AreMethodsKept p sites methods
+  pub shown : MethodsShown p ms (map (method_in p sites) methods)
 
 pub record BodyShown (p : Pool) (b : Body) (host : Option ℕ) (members : Option (List ℕ)) (file : ClassFile) : Type 0 where
   pub codes : List (Option (List Instruction))

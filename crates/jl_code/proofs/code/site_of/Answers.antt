@@ -1,13 +1,14 @@
 use Rattle.std.proofs.Common.{sym, ◌∙◌, ap, refl, List, ℕ}
 use Rattle.jl_code.specs.Reading.Sites.{invoked}
 use Rattle.jl_code.proofs.SiteLaws.{invoked-some, invoked-none}
+use Rattle.jl_code.proofs.KeptLaws.{kept_one}
 use Rattle.jl_code.proofs.code.site_of.Goals as goal
 
-pub returns-in_ok-operand-in-Some-clause-ok : goal.returns-in_ok-operand-in-Some-clause-ok
-returns-in_ok-operand-in-Some-clause-ok c =
+pub returns-in-Some-clause-ok : goal.returns-in-Some-clause-ok
+returns-in-Some-clause-ok c =
     let found = ap (λ (t : List ℕ). invoked c.args.pool.now c.in-Invoke.opcode c.in-Invoke.number t) (sym c.as_bytes.ensures) ∙ sym c.in-Some.ensures in
-    let h = invoked-some c.args.pool.now c.in-Invoke.opcode c.in-Invoke.number c.in-Invoke.tail c.in-Some.operand found in
-    rw (c.in-Invoke.is, h.1, c.kind_of-kind.ensures, c.in_ok-operand-in-Some.ensures) (h.0, refl)
+    let h = invoked-some c.args.pool.now c.in-Invoke.opcode c.in-Invoke.number c.in-Invoke.tail c.in-Some._operand found in
+    rw (c.in-Invoke.is, c.kind_of-kind.ensures) (h.0, kept_one c.args.pool.now c.args.pc c.in-Invoke.opcode c.in-Invoke.number c.in-Some._operand h.1)
 
 pub returns-in-None-clause-fault : goal.returns-in-None-clause-fault
 returns-in-None-clause-fault c =

@@ -1,9 +1,9 @@
 use Rattle.std.proofs.Common.{length}
-use Rattle.jl_code.proofs.CodeLaws.{Scanned}
-use Rattle.jl_code.proofs.code.scan.Given as goal
+use Rattle.jl_code.proofs.KeptLaws.{KeptSoFar}
+use Rattle.jl_code.proofs.code.scan_onto.Given as goal
 
 abbrev pub invariant-loop-rest : goal.invariant-loop-rest
-invariant-loop-rest l = Scanned l.pool l.code l.rest l.sites.items
+invariant-loop-rest l = KeptSoFar l.pool l.code l.rest l.fn.sites.items l.sites.items
 
 abbrev pub decreases-loop-rest : goal.decreases-loop-rest
 decreases-loop-rest l = length l.rest

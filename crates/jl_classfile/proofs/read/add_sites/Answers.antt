@@ -1,6 +1,6 @@
-use Rattle.std.proofs.Common.{◌∙◌}
+use Rattle.jl_code.specs.Codes.{sites_from}
 use Rattle.jl_classfile.proofs.ShownLaws.{has_info, sites_some, bad_layout, bad_code}
-use Rattle.jl_classfile.proofs.read.sites_of.Goals as goal
+use Rattle.jl_classfile.proofs.read.add_sites.Goals as goal
 
 pub returns-in_default-code_in-clause-fault : goal.returns-in_default-code_in-clause-fault
 returns-in_default-code_in-clause-fault c =
@@ -11,7 +11,7 @@ pub returns-in-Ok-clause-ok : goal.returns-in-Ok-clause-ok
 returns-in-Ok-clause-ok c =
     let h = has_info c.args.pool.now c.args.method.now c.as_slice.result.now c.in-Some.info.now c.as_slice.ensures c.requires c.in-Some.ensures in
     let scanned = c.in-Ok.ensures.ok in
-    rw (c.of-in-Ok.ensures ∙ scanned.2) (sites_some c.args.pool.now c.args.method.now c.in-Some.info.now c.in-Some-code_in.code.now scanned.0 h c.in-Some-code_in.ensures scanned.1)
+    (sites_from c.args.pool.now 0 scanned.0, sites_some c.args.pool.now c.args.method.now c.in-Some.info.now c.in-Some-code_in.code.now scanned.0 h c.in-Some-code_in.ensures scanned.1, scanned.2)
 
 pub returns-in-Err-clause-fault : goal.returns-in-Err-clause-fault
 returns-in-Err-clause-fault c =

@@ -1,0 +1,93 @@
+-- What a scan keeps of the invocations, behind what was there.
+use Rattle.std.proofs.Common.{◌≡◌, ℕ, ◌-◌, Bool, true, false, cond, eqb, List, [], ◌∷◌, ◌++◌, length, map, Option, Some, None, Ok, refl, sym, ap, subst, ◌∙◌, append_assoc}
+use Rattle.std.specs.Prelude.{option_to_list, option_map, is_some, find, take, ◌==◌}
+use Rattle.std.specs.List.{list_all}
+use Rattle.std.proofs.lemmas.List.{append-nil, map-append}
+use Rattle.std.proofs.lemmas.List.Folds.{list_all-append}
+use Rattle.std.proofs.Math.Seq.{take-append_seam}
+use Rattle.jl_code.specs.declared.instruction.Instruction.{Instruction}
+use Rattle.jl_code.specs.declared.site.KeptSite.{KeptSite}
+use Rattle.jl_code.specs.declared.site.Operand.{Operand}
+use Rattle.jl_code.specs.Site.{Site}
+use Rattle.jl_pool.specs.Pools.{Pool}
+use Rattle.jl_code.specs.Codes.{operand_at, kind_of, site_list, site_at, sites_from, OperandFits, IsCode}
+use Rattle.jl_code.specs.Kept.{is_named, site_in, IsKeptOf, Adds}
+use Rattle.jl_code.specs.Reading.Instructions.{instruction_at}
+use Rattle.jl_pool.proofs.Fields.{IsBytes}
+use Rattle.jl_pool.proofs.FormLaws.{and_true}
+use Rattle.jl_code.proofs.CodeLaws.{Scanned, Scanned-none, Scanned-more, Scanned-done}
+
+-- ---- one invocation
+
+pub kept_one : (pool : Pool) (pc opcode number : ℕ) (o : Operand (List ℕ)) → operand_at pool number ≡ Some o
+    → IsKeptOf pool (record { pc = pc; kind = kind_of opcode; number = number } ∷ []) (site_list pc opcode (operand_at pool number))
+kept_one pool pc opcode number o e = record { named = rw e refl; shown = rw e refl }
+
+pub kept_none : (pool : Pool) → IsKeptOf pool [] []
+kept_none pool = record { named = refl; shown = refl }
+
+both_named : (pool : Pool) (xs ys : List KeptSite) → list_all (is_named pool) xs ≡ true → list_all (is_named pool) ys ≡ true → list_all (is_named pool) (xs ++ ys) ≡ true
+both_named pool xs ys h k = list_all-append (is_named pool) xs ys ∙ rw (h, k) refl
+
+pub kept_both : (pool : Pool) (xs ys : List KeptSite) (a b : List Site) → IsKeptOf pool xs a → IsKeptOf pool ys b → IsKeptOf pool (xs ++ ys) (a ++ b)
+kept_both pool xs ys a b h k = record { named = both_named pool xs ys h.named k.named; shown = map-append (site_in pool) xs ys ∙ rw (h.shown, k.shown) refl }
+
+-- ---- what a scan has kept so far
+
+pub record KeptSoFar (pool : Pool) (code rest : List ℕ) (before now : List KeptSite) : Type 0 where
+  pub made : List KeptSite
+  pub behind : now ≡ before ++ made
+  pub sites : List Site
+  pub kept : IsKeptOf pool made sites
+  pub scanned : Scanned pool code rest sites
+
+pub KeptSoFar-none : (pool : Pool) (code : List ℕ) (before : List KeptSite) → IsBytes code → KeptSoFar pool code code before before
+KeptSoFar-none pool code before fits = record {
+  made = [];
+  behind = sym (append-nil before);
+  sites = [];
+  kept = kept_none pool;
+  scanned = Scanned-none pool code fits;
+}
+
+pub KeptSoFar-more : (pool : Pool) (code rest after : List ℕ) (before now : List KeptSite) (at : ℕ) (i : Instruction) (site : Option KeptSite) → at ≡ length code - length rest
+    → KeptSoFar pool code rest before now → instruction_at at rest ≡ Ok (i, after)
+    → OperandFits pool i × IsKeptOf pool (option_to_list site) (site_at pool at i) → KeptSoFar pool code after before (now ++ option_to_list site)
+KeptSoFar-more pool code rest after before now at i site place s e found = record {
+  made = s.made ++ option_to_list site;
+  behind = ap (λ (l : List KeptSite). l ++ option_to_list site) s.behind ∙ append_assoc before s.made (option_to_list site);
+  sites = s.sites ++ site_at pool at i;
+  kept = kept_both pool s.made (option_to_list site) s.sites (site_at pool at i) s.kept found.1;
+  scanned = Scanned-more pool code rest after s.sites at i place s.scanned e found.0;
+}
+
+pub KeptSoFar-done : (pool : Pool) (code rest : List ℕ) (before now : List KeptSite) → KeptSoFar pool code rest before now → eqb (length rest) 0 ≡ true
+    → (is : List Instruction) × IsCode pool code is × Adds pool before now (sites_from pool 0 is)
+KeptSoFar-done pool code rest before now s none =
+    let d = Scanned-done pool code rest s.sites s.scanned none in
+    (d.0, d.1, record { made = s.made; behind = s.behind; kept = subst (λ (l : List Site). IsKeptOf pool s.made l) d.2 s.kept })
+
+-- ---- the first one at a place
+
+pub found_in : (pool : Pool) (kept : List KeptSite) (pc : ℕ) → find (λ site. site.pc == pc) (map (site_in pool) kept) ≡ option_map (site_in pool) (find (λ site. site.pc == pc) kept)
+found_in pool [] pc = refl
+found_in pool (s ∷ kept) pc = by (s.pc == pc) (found_in pool kept pc) where
+  by : (here : Bool) → find (λ site. site.pc == pc) (map (site_in pool) kept) ≡ option_map (site_in pool) (find (λ site. site.pc == pc) kept)
+      → cond here (Some (site_in pool s)) (find (λ site. site.pc == pc) (map (site_in pool) kept)) ≡ option_map (site_in pool) (cond here (Some s) (find (λ site. site.pc == pc) kept))
+  by true e = refl
+  by false e = e
+
+pub found_named : (pool : Pool) (kept : List KeptSite) (pc : ℕ) (found : KeptSite) → list_all (is_named pool) kept ≡ true → find (λ site. site.pc == pc) kept ≡ Some found
+    → is_named pool found ≡ true
+found_named pool [] pc found h e = absurd cc
+found_named pool (s ∷ kept) pc found h e = by (s.pc == pc) (and_true (is_named pool s) (list_all (is_named pool) kept) h) (found_named pool kept pc found) e where
+  by : (here : Bool) → (is_named pool s ≡ true) × (list_all (is_named pool) kept ≡ true)
+      → (list_all (is_named pool) kept ≡ true → find (λ site. site.pc == pc) kept ≡ Some found → is_named pool found ≡ true)
+      → cond here (Some s) (find (λ site. site.pc == pc) kept) ≡ Some found → is_named pool found ≡ true
+  by true h later e = (let same : s ≡ found = cc in subst (λ (x : KeptSite). is_named pool x ≡ true) same h.0)
+  by false h later e = later h.1 e
+
+-- ---- what was there is left
+
+pub left : (before now made : List KeptSite) → now ≡ before ++ made → take (length before) now ≡ before
+left before now made e = rw e (take-append_seam before made)
