@@ -3,11 +3,11 @@
 use crate::codes::CodeRow::*;
 use crate::rows::{A_F, Row, assert_rows};
 use jl_code::{
-    CodeFault, KeptSite, Kind, Operand, Site, begins_special, no_fault_in_a_code, one_code, scan,
+    CodeFault, Kind, Operand, Site, Sites, begins_special, no_fault_in_a_code, one_code, scan,
 };
 use jl_names::LentName;
 use jl_pool::{Pool, PoolFault};
-use std::alloc::{AllocError, Global};
+use std::alloc::Global;
 
 /// A pool, from its count on, with a Methodref of A.f:()V at 2, an InterfaceMethodref of the same at 7, and an
 /// InvokeDynamic of f:()V at 8.
@@ -39,18 +39,20 @@ fn is_site(site: &Site<'_>, pc: u16, kind: Kind) -> bool {
     site.pc() == pc && site.kind() == kind && is_f(site.operand(), kind)
 }
 
-/// Whether this, which was copied, is an invocation at this place.
-fn is_copy(copy: &Result<KeptSite, AllocError>, pc: u16, kind: Kind) -> bool {
-    match copy {
-        Ok(site) => is_site(&site.lent(), pc, kind),
-        Err(_) => false,
+/// Whether this is there, and an invocation at this place.
+fn is_there(site: &Option<Site<'_>>, pc: u16, kind: Kind) -> bool {
+    match site {
+        Some(site) => is_site(site, pc, kind),
+        None => false,
     }
 }
 
-/// Whether these are invocations at these places, and so are their copies.
-fn are_sites(alloc: Global, sites: &[KeptSite], expected: &[(u16, Kind)]) -> bool {
-    for (site, (pc, kind)) in sites.iter().zip(expected) {
-        if !is_site(&site.lent(), *pc, *kind) || !is_copy(&site.copy(alloc), *pc, *kind) {
+/// Whether these are invocations at these places, by their number and by their place, and nothing else.
+fn are_sites(sites: &Sites<'_>, expected: &[(u16, Kind)]) -> bool {
+    for (place, (pc, kind)) in expected.iter().enumerate() {
+        if !is_there(&sites.at(place), *pc, *kind)
+            || !is_there(&sites.at_pc(u32::from(*pc)), *pc, *kind)
+        {
             return false;
         }
     }
@@ -77,15 +79,17 @@ fn has_sites(alloc: Global, code: &[u8], pool: &Pool, expected: &[(u16, Kind)]) 
     if code.len() >= 65_536 {
         return false;
     }
-    match scan(alloc, code, pool) {
-        Ok(sites) => are_sites(alloc, &sites, expected),
+    let mut kept = Vec::new(alloc);
+    match scan(code, pool, &mut kept) {
+        Ok(()) => are_sites(&Sites::of(pool, &kept), expected),
         Err(_) => false,
     }
 }
 
 /// Whether the code, which is not too long, has the fault.
 fn has_fault(alloc: Global, code: &[u8], pool: &Pool, fault: CodeFault) -> bool {
-    code.len() < 65_536 && scan(alloc, code, pool).err() == Some(fault)
+    let mut kept = Vec::new(alloc);
+    code.len() < 65_536 && scan(code, pool, &mut kept).err() == Some(fault)
 }
 
 /// Stands in the table for an instruction that is a switch, an invocation or a wide.

@@ -1,11 +1,11 @@
 -- What a class file shows of its methods.
 use Rattle.std.proofs.Common.{◌≡◌, ◌≢◌, ℕ, ◌≤◌, List, [], ◌∷◌, ◌++◌, length, Option, Some, None, refl, sym, ap, subst, ◌∙◌, suc}
-use Rattle.std.proofs.Common.{◌+◌, ◌-◌, ◌<◌, true, get_or, map, take, drop, length-append, length-map, arith}
+use Rattle.std.proofs.Common.{◌+◌, ◌-◌, ◌<◌, true, get_or, map, take, drop, length-append, take-append-drop, arith}
 use Rattle.std.specs.Prelude.{slice_get, slice_range, nat_le, codes}
 use Rattle.std.specs.List.{list_all}
 use Rattle.std.proofs.Math.Seq.{take-suc, take_all, take-append-le, drop-append-le, drop-append_seam}
 use Rattle.std.proofs.lemmas.Bool.{le-leb, leb-true}
-use Rattle.std.proofs.lemmas.List.{append-nil, map-append, length-drop}
+use Rattle.std.proofs.lemmas.List.{append-nil, map-append, length-drop, length-map}
 use Rattle.std.proofs.lemmas.List.Folds.{list_all-append}
 use Rattle.jl_pool.proofs.FormLaws.{and_true}
 use Rattle.jl_code.specs.Site.{Site}
@@ -110,6 +110,14 @@ method_added p m before after a =
       };
     })
 
+-- the invocations of a range name something where all do
+pub named_range : (p : Pool) (sites : List KeptSite) (from to : ℕ) → list_all (is_named p) sites ≡ true → list_all (is_named p) (slice_range sites from to) ≡ true
+named_range p sites from to h = (halves (to - from) (drop from sites) (halves from sites h).1).0 where
+  halves : (n : ℕ) (l : List KeptSite) → list_all (is_named p) l ≡ true → (list_all (is_named p) (take n l) ≡ true) × (list_all (is_named p) (drop n l) ≡ true)
+  halves n l all =
+      and_true (list_all (is_named p) (take n l)) (list_all (is_named p) (drop n l))
+      (sym (list_all-append (is_named p) (take n l) (drop n l)) ∙ ap (λ (x : List KeptSite). list_all (is_named p) x) (take-append-drop n l) ∙ all)
+
 -- ---- what is kept of earlier methods stays, when sites are added
 
 range_stays : (sites more : List KeptSite) (from to : ℕ) → from ≤ to → to ≤ length sites → slice_range (sites ++ more) from to ≡ slice_range sites from to
@@ -185,7 +193,7 @@ pub none_kept : (p : Pool) → MethodsKept p [] [] []
 none_kept p = record { kept = record { named = refl; ranged = refl }; shown = none_shown p }
 
 pub as_many_kept : (p : Pool) (ms : List Member) (sites : List KeptSite) (methods : List KeptMethod) → MethodsKept p ms sites methods → length methods ≡ length ms
-as_many_kept p ms sites methods s = sym (length-map (method_in p sites) methods) ∙ as_many p ms (map (method_in p sites) methods) s.shown
+as_many_kept p ms sites methods s = sym (length-map methods (method_in p sites)) ∙ as_many p ms (map (method_in p sites) methods) s.shown
 
 pub kept_step : (p : Pool) (ms : List Member) (before after : List KeptSite) (methods : List KeptMethod) (i : ℕ) (d : Member) (method : KeptMethod) → i < length ms
     → MethodsKept p (take i ms) before methods → MethodAdded p (get_or ms i d) before after method → MethodsKept p (take (i + 1) ms) after (methods ++ method ∷ [])

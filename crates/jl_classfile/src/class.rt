@@ -232,14 +232,7 @@ impl ClassFile {
             interfaces,
             ..
         } = self;
-        match superclass {
-            Some(name) => if place == 0 {
-                name
-            } else {
-                interfaces.into_item(place - 1)
-            },
-            None => interfaces.into_item(place),
-        }
+        parent_at(superclass, interfaces, place)
     }
 
     /// Its methods, in the file's order: fewer than 65,536.
@@ -269,6 +262,21 @@ impl ClassFile {
             nest_members: copy_all(alloc, &self.nest_members)?,
             methods: Seq::of(self.methods.as_slice().to_vec(alloc)?),
         })
+    }
+}
+
+/// The name at this place alone: the superclass, where there is one, is the first, and then come the superinterfaces.
+fn parent_at(superclass: Option<Name>, interfaces: Seq<Name>, place: usize) -> Name
+    requires { place < length (option_to_list superclass ++ interfaces) }
+    ensures { Some result ≡ slice_get (option_to_list superclass ++ interfaces) place }
+{
+    match superclass {
+        Some(name) => if place == 0 {
+            name
+        } else {
+            interfaces.into_item(place - 1)
+        },
+        None => interfaces.into_item(place),
     }
 }
 
