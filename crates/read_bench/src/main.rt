@@ -1,10 +1,13 @@
-//! Times the reader of class files alone: reads class files in hexadecimal, a line each, into memory, and then each of
-//! them ten times over. Prints how many classes, bytes and invocations there are, and, on the standard error, the
-//! milliseconds of each time.
+//! Measures the reader of class files alone. It reads class files in hexadecimal, a line each.
+//!
+//! Without arguments it reads them into memory, and then each of them ten times over. It prints how many classes, bytes and
+//! invocations there are, and, on the standard error, the milliseconds of each time. With the argument `keep` it reads each
+//! of them once and keeps what was read and nothing else, so that the most memory of the run tells what class files take.
 #![tactic(auto)]
 
 use jl_classfile::{ClassFile, read_class};
 use std::alloc::Global;
+use std::env;
 use std::io::{self, BufRead, BufReader};
 use std::time::Instant;
 
@@ -60,20 +63,45 @@ fn read_all(alloc: Global, files: &[Vec<u8>]) -> Totals {
     totals
 }
 
-fn main(rt: HostRuntime) -> io::Result<()> {
-    let files = files(&rt)?;
+/// Reads each class file once, and keeps it.
+fn keep(rt: &HostRuntime) -> io::Result<()> {
+    let alloc = rt.alloc();
+    let mut kept = Vec::new(alloc);
+    let mut bytes: u64 = 0;
+    for line in BufReader::new(alloc, rt.reader())?.lines(alloc) {
+        if let Ok(file) = hex::decode(alloc, &line?) {
+            if let Ok(class) = read_class(alloc, &file) {
+                bytes = bytes.saturating_add(file.len() as u64);
+                kept.push(class)?;
+            }
+        }
+    }
+    println!(rt; "kept {}, bytes {}", kept.len(), bytes)
+}
+
+/// Reads all class files, and then each of them over and over.
+fn repeat(rt: &HostRuntime) -> io::Result<()> {
+    let files = files(rt)?;
     let totals = read_all(rt.alloc(), &files);
     println!(rt;
         "classes {}, bytes {}, invocations {}",
         totals.classes, totals.bytes, totals.sites
     )?;
     for _ in 0..TIMES {
-        let start = Instant::now(&rt)?;
+        let start = Instant::now(rt)?;
         let again = read_all(rt.alloc(), &files);
-        let taken = start.elapsed(&rt)?;
+        let taken = start.elapsed(rt)?;
         if again == totals {
             eprintln!(rt; "{} ms", taken.as_millis())?;
         }
     }
     Ok(())
+}
+
+fn main(rt: HostRuntime) -> io::Result<()> {
+    let words: Vec<String> = env::args(&rt)?.collect(rt.alloc())?;
+    match words.get(1) {
+        Some(word) if word.as_str() == "keep" => keep(&rt),
+        _ => repeat(&rt),
+    }
 }
