@@ -5,5 +5,7 @@ pub mod ClassNameLaws
 pub mod DescriptorLaws
 pub mod MethodLaws
 pub mod SlotLaws
+pub mod PrintLaws
+pub mod StopLaws
 pub mod Rows
 pub mod RepeatLaws

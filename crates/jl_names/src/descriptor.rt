@@ -5,7 +5,7 @@ ghost use Rattle.jl_names.specs.declared.descriptor.FieldType.{FieldType};
 ghost use Rattle.jl_names.specs.declared.fault.NameFault.{NameFault};
 ghost use Rattle.jl_names.specs.Descriptors.{field_text, IsFieldType, IsFieldDescriptor};
 ghost use Rattle.jl_names.specs.Descriptors.{IsFieldFault};
-ghost use Rattle.jl_names.specs.Reading.Descriptors.{Stops, is_stop, is_end, class_at};
+ghost use Rattle.jl_names.specs.Reading.Descriptors.{Stops, weight, is_stop, is_end, class_at};
 ghost use Rattle.jl_names.specs.Reading.Descriptors.{element_at, brackets, field_at};
 
 use crate::fault::NameFault;
@@ -67,13 +67,31 @@ impl<'a> FieldType<'a> {
 
 // ---- read at the front
 
+/// What each byte weighs in a class name: 2 where no name has it, 1 for a slash, which stands between parts.
+static WEIGHTS: [u8; 256] = [
+    0, 0, 0, 0, 0, 0, 0, 0, 0, 0, 0, 0, 0, 0, 0, 0, 0, 0, 0, 0, 0, 0, 0, 0, 0, 0, 0, 0, 0, 0, 0, 0,
+    0, 0, 0, 0, 0, 0, 0, 0, 0, 0, 0, 0, 0, 0, 2, 1, 0, 0, 0, 0, 0, 0, 0, 0, 0, 0, 0, 2, 0, 0, 0, 0,
+    0, 0, 0, 0, 0, 0, 0, 0, 0, 0, 0, 0, 0, 0, 0, 0, 0, 0, 0, 0, 0, 0, 0, 0, 0, 0, 0, 2, 0, 0, 0, 0,
+    0, 0, 0, 0, 0, 0, 0, 0, 0, 0, 0, 0, 0, 0, 0, 0, 0, 0, 0, 0, 0, 0, 0, 0, 0, 0, 0, 0, 0, 0, 0, 0,
+    0, 0, 0, 0, 0, 0, 0, 0, 0, 0, 0, 0, 0, 0, 0, 0, 0, 0, 0, 0, 0, 0, 0, 0, 0, 0, 0, 0, 0, 0, 0, 0,
+    0, 0, 0, 0, 0, 0, 0, 0, 0, 0, 0, 0, 0, 0, 0, 0, 0, 0, 0, 0, 0, 0, 0, 0, 0, 0, 0, 0, 0, 0, 0, 0,
+    0, 0, 0, 0, 0, 0, 0, 0, 0, 0, 0, 0, 0, 0, 0, 0, 0, 0, 0, 0, 0, 0, 0, 0, 0, 0, 0, 0, 0, 0, 0, 0,
+    0, 0, 0, 0, 0, 0, 0, 0, 0, 0, 0, 0, 0, 0, 0, 0, 0, 0, 0, 0, 0, 0, 0, 0, 0, 0, 0, 0, 0, 0, 0, 0,
+];
+
+/// What a byte weighs in a class name.
+fn weight(byte: u8) -> u8
+    ensures { result ≡ weight byte }
+{
+    WEIGHTS[usize::from(byte)]
+}
+
 /// Whether a class name ends before this byte, or can't go on with it. `fresh`: a part of the name
 /// begins here.
 pub(crate) fn is_stop(fresh: bool, byte: u8) -> bool
     ensures { result ≡ is_stop fresh byte }
 {
-    // Small letters, of which names mostly consist, are greater than all of these.
-    byte <= b'[' && (byte == b'.' || byte == b';' || byte == b'[' || (byte == b'/' && fresh))
+    weight(byte) + u8::from(fresh) >= 2
 }
 
 /// Whether a class name ends before this byte.

@@ -16,6 +16,10 @@ abbrev pub Stops : {X Y : Type 0} → (X → Y) → Result X (Bor (List ℕ)) �
 Stops view (Ok x) read = read ≡ Ok (view x)
 Stops view (Err rest) read = read ≡ Err rest.now
 
+-- what a byte weighs in a class name: 2 where no name has it, 1 for a slash
+abbrev pub weight : ℕ → ℕ
+weight b = if (b == byte ".") || ((b == byte ";") || (b == byte "[")) then 2 else (if b == byte "/" then 1 else 0)
+
 -- a class name ends before this byte, or can't go on with it; `fresh`: a part of the name begins here
 abbrev pub is_stop : Bool → ℕ → Bool
 is_stop fresh b = (b == byte ".") || ((b == byte ";") || ((b == byte "[") || ((b == byte "/") && fresh)))

@@ -1,6 +1,10 @@
-use Rattle.std.proofs.Common.{◌≡◌, take, fold}
-use Rattle.jl_names.specs.Reading.Prints.{print_step}
+use Rattle.std.proofs.Common.{length}
+use Rattle.jl_names.specs.Reading.Prints.{print_from}
+use Rattle.jl_names.proofs.PrintLaws.{Comes}
 use Rattle.jl_names.proofs.print.print_from.Given as goal
 
-abbrev pub invariant-loop-byte : goal.invariant-loop-byte
-invariant-loop-byte l = l.print ≡ fold print_step l.before (take l.byte-index l.text)
+abbrev pub invariant-loop-rest : goal.invariant-loop-rest
+invariant-loop-rest l = Comes l.print l.rest (print_from l.before l.text)
+
+abbrev pub decreases-loop-rest : goal.decreases-loop-rest
+decreases-loop-rest l = length l.rest

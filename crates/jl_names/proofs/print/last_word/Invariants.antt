@@ -1,0 +1,6 @@
+use Rattle.std.proofs.Common.{◌≡◌, take}
+use Rattle.jl_names.specs.Reading.Prints.{last_word}
+use Rattle.jl_names.proofs.print.last_word.Given as goal
+
+abbrev pub invariant-loop-byte : goal.invariant-loop-byte
+invariant-loop-byte l = l.word ≡ last_word (take l.byte-index l.bytes)
