@@ -6,5 +6,6 @@ pub mod SwitchLaws
 pub mod InstructionLaws
 pub mod CodeLaws
 pub mod KeptLaws
+pub mod PlainLaws
 pub mod CodeFaultLaws
 pub mod Rows

@@ -1,3 +1,4 @@
 -- Reading functions on lists: what the private readers compute. No public clause cites them.
 pub mod Instructions
+pub mod Plain
 pub mod Sites

@@ -19,6 +19,7 @@ ghost use Rattle.jl_code.specs.Reading.Sites.{invoked, IsSiteFault};
 
 use crate::code_fault::CodeFault;
 use crate::instruction::{Instruction, Stop, instruction_at};
+use crate::plain::behind_plain;
 use crate::site::{KeptSite, Kind, Operand, operand_at};
 use jl_names::LentName;
 use jl_pool::Pool;
@@ -184,7 +185,7 @@ fn scan_onto(code: &[u8], pool: &Pool, sites: &mut Vec<KeptSite>) -> Result<(), 
     ensures fault { IfErr result (IsScanFault pool.now code.now) }
     ensures behind { (made : List KeptSite) × (sites.new.items ≡ sites.old.items ++ made) }
 {
-    let mut rest = code;
+    let mut rest = behind_plain(code);
     while !rest.is_empty() {
         let pc = (code.len() - rest.len()) as u16;
         match instruction_at(pc, rest) {
@@ -192,7 +193,7 @@ fn scan_onto(code: &[u8], pool: &Pool, sites: &mut Vec<KeptSite>) -> Result<(), 
                 if let Some(site) = site_of(pool, pc, &instruction)? {
                     sites.push(site)?;
                 }
-                rest = after;
+                rest = behind_plain(after);
             }
             Err(Stop::Cut) => return Err(CodeFault::CutShort(pc)),
             Err(Stop::Opcode) => return Err(CodeFault::BadOpcode(pc)),

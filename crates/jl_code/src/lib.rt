@@ -7,6 +7,7 @@
 mod code;
 mod code_fault;
 mod instruction;
+mod plain;
 mod site;
 
 pub use code::{begins_special, no_fault_in_a_code, one_code, scan};

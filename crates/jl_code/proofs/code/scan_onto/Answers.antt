@@ -1,29 +1,26 @@
-use Rattle.std.proofs.Common.{◌≡◌, ◌-◌, length, sym, ap, ◌∙◌, refl, ◌++◌, List, subst}
+use Rattle.std.proofs.Common.{◌-◌, length, sym, ◌∙◌, refl, List, subst, arith, rules}
 use Rattle.std.proofs.lemmas.Result.{err_from_is_err_and}
 use Rattle.std.proofs.lemmas.List.{append-nil}
-use Rattle.std.specs.Prelude.{option_to_list}
 use Rattle.jl_code.specs.declared.site.KeptSite.{KeptSite}
 use Rattle.jl_code.proofs.CodeLaws.{Scanned-cut, Scanned-unknown, Scanned-switch, Scanned-operand, shorter}
-use Rattle.jl_code.proofs.KeptLaws.{KeptSoFar, KeptSoFar-more}
+use Rattle.jl_code.proofs.KeptLaws.{KeptSoFar, KeptSoFar-none, KeptSoFar-more}
+use Rattle.jl_code.proofs.PlainLaws.{KeptSoFar-plain, no_longer}
+use Rattle.jl_code.proofs.code.scan_onto.Goals.{in-Some+in_ok-push-in-Ok, in_default}
 use Rattle.jl_code.proofs.code.scan_onto.Goals as goal
 
-pub loop-rest-smaller-in_ok-push-in-Ok : goal.loop-rest-smaller-in_ok-push-in-Ok
-loop-rest-smaller-in_ok-push-in-Ok c =
-    shorter c.args.pool.now c.args.code.now c.loop-rest.rest.now c.in-Ok.after.now c.loop-rest.invariant.sites (length c.args.code.now - length c.loop-rest.rest.now)
-    c.in-Ok.instruction c.loop-rest.invariant.scanned c.in-Ok.ensures
-
-pub loop-rest-preserved-in_ok-push-in-Ok : goal.loop-rest-preserved-in_ok-push-in-Ok
-loop-rest-preserved-in_ok-push-in-Ok c =
-    let more =
-    KeptSoFar-more c.args.pool.now c.args.code.now c.loop-rest.rest.now c.in-Ok.after.now c.args.sites.now.items c.loop-rest.sites.items
-    (length c.args.code.now - length c.loop-rest.rest.now) c.in-Ok.instruction _ refl c.loop-rest.invariant c.in-Ok.ensures c.in_ok-site-in-Ok.ensures.ok
-    in
-    rw (c.in_ok-push-in-Ok.ensures.items) (rw c.in-Some.is at more)
+pub loop-rest-init : goal.loop-rest-init
+loop-rest-init c =
+    KeptSoFar-plain c.args.pool.now c.args.code.now c.args.code.now c.behind_plain-rest.result.now c.args.sites.now.items c.args.sites.now.items
+    (KeptSoFar-none c.args.pool.now c.args.code.now c.args.sites.now.items (search rules)) c.behind_plain-rest.ensures
 
 pub loop-rest-smaller : goal.loop-rest-smaller
 loop-rest-smaller c =
+    let read =
     shorter c.args.pool.now c.args.code.now c.loop-rest.rest.now c.in-Ok.after.now c.loop-rest.invariant.sites (length c.args.code.now - length c.loop-rest.rest.now)
     c.in-Ok.instruction c.loop-rest.invariant.scanned c.in-Ok.ensures
+    in
+    let skipped = no_longer c.in-Ok.after.now c.behind_plain-rest-in-Ok.result.now c.behind_plain-rest-in-Ok.ensures in
+    omega (arith, read, skipped)
 
 pub loop-rest-preserved : goal.loop-rest-preserved
 loop-rest-preserved c =
@@ -31,7 +28,14 @@ loop-rest-preserved c =
     KeptSoFar-more c.args.pool.now c.args.code.now c.loop-rest.rest.now c.in-Ok.after.now c.args.sites.now.items c.loop-rest.sites.items
     (length c.args.code.now - length c.loop-rest.rest.now) c.in-Ok.instruction _ refl c.loop-rest.invariant c.in-Ok.ensures c.in_ok-site-in-Ok.ensures.ok
     in
-    subst (λ (l : List KeptSite). KeptSoFar c.args.pool.now c.args.code.now c.in-Ok.after.now c.args.sites.now.items l) (append-nil c.loop-rest.sites.items) (rw c.in_default.is at more)
+    KeptSoFar-plain c.args.pool.now c.args.code.now c.in-Ok.after.now c.behind_plain-rest-in-Ok.result.now c.args.sites.now.items _
+    (elim c.match-branch-2.branch [
+      | in-Some+in_ok-push-in-Ok w ↦ rw (w.sites-is, w.in_ok-push-in-Ok.ensures.items) (rw w.in-Some.is at more)
+      | in_default w ↦
+          rw (w.sites-is)
+          (subst (λ (l : List KeptSite). KeptSoFar c.args.pool.now c.args.code.now c.in-Ok.after.now c.args.sites.now.items l) (append-nil c.loop-rest.sites.items) (rw w.in_default.is at more))
+    ])
+    c.behind_plain-rest-in-Ok.ensures
 
 pub returns-in-Err-Cut-clause-fault : goal.returns-in-Err-Cut-clause-fault
 returns-in-Err-Cut-clause-fault c =

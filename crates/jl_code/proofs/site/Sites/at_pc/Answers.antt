@@ -1,4 +1,4 @@
-use Rattle.std.proofs.Common.{◌≡◌, ◌==◌, sym, ap, ◌∙◌, List, Option, Some}
+use Rattle.std.proofs.Common.{◌==◌, sym, ap, ◌∙◌, List, Option, Some}
 use Rattle.std.specs.Prelude.{find, option_map}
 use Rattle.jl_code.specs.Site.{Site}
 use Rattle.jl_code.specs.declared.site.KeptSite.{KeptSite}
