@@ -2,27 +2,24 @@
 
 ghost use Rattle.std.specs.Prelude.{◌≡◌, ◌≢◌, ◌<◌, ◌^◌, ◌++◌, List, ℕ, length, IfOk, OnOk, IfErr, false};
 ghost use Rattle.std.specs.Prelude.{option_to_list};
-ghost use Rattle.std.specs.Option.{option_map_or};
+ghost use Rattle.std.specs.Option.{option_and_then};
 ghost use Rattle.std.specs.Str.{bytes_eq};
 ghost use Rattle.jl_code.specs.declared.instruction.Instruction.{Instruction};
-ghost use Rattle.jl_code.specs.Known.{invocations};
-ghost use Rattle.jl_code.specs.Instructions.{invocation_in};
-ghost use Rattle.jl_pool.specs.Pools.{Pool, has_tag};
-ghost use Rattle.jl_pool.specs.Reading.Forms.{slots_at};
+ghost use Rattle.jl_pool.specs.Pools.{Pool, text_at, signed_at};
+ghost use Rattle.jl_pool.specs.Reading.Forms.{method_slots};
 ghost use Rattle.jl_code.specs.declared.code_fault.CodeFault.{CodeFault};
 ghost use Rattle.jl_code.specs.declared.code_fault.CodeFault.TheVariants.{Memory};
 ghost use Rattle.jl_code.specs.declared.site.KeptSite.{KeptSite};
 ghost use Rattle.jl_code.specs.Kept.{IsKeptOf, Adds};
-ghost use Rattle.jl_code.specs.Codes.{kind_of, operand_name, begins_special, may_name, most_slots, tail_of, site_at, sites_from, OperandFits, IsCode};
+ghost use Rattle.jl_code.specs.Codes.{kind_of, begins_special, may_name, most_slots, tail_of, site_at, sites_from, OperandFits, IsCode};
 ghost use Rattle.jl_code.specs.Faults.{IsScanFault};
-ghost use Rattle.jl_code.specs.Reading.Sites.{invoked, IsSiteFault};
+ghost use Rattle.jl_code.specs.Reading.Sites.{may_name_tag, signed_fits, names_method, is_invoked, IsSiteFault};
 
 use crate::code_fault::CodeFault;
 use crate::instruction::{Instruction, Stop, instruction_at};
 use crate::plain::behind_plain;
-use crate::site::{KeptSite, Kind, Operand, operand_at};
-use jl_names::LentName;
-use jl_pool::Pool;
+use crate::site::{KeptSite, Kind};
+use jl_pool::{Constant, Pool};
 
 /// The kind of an invocation.
 fn kind_of(opcode: u8) -> Kind
@@ -37,25 +34,15 @@ fn kind_of(opcode: u8) -> Kind
     }
 }
 
-/// The name of what an operand names.
-fn operand_name<'a>(operand: &Operand<LentName<'a>>) -> &'a [u8]
-    ensures { result.now ≡ operand_name operand.now }
-{
-    match operand {
-        Operand::Method(reference) => reference.name.as_slice(),
-        Operand::CallSite(specifier) => specifier.name.as_slice(),
-    }
-}
-
-/// Whether an entry of the right kind stands at the number that an invocation names.
-fn is_tagged(pool: &Pool, opcode: u8, number: u16) -> bool
-    ensures { result ≡ option_map_or (λ row. has_tag pool.now row.tags number) (invocation_in invocations opcode) false }
+/// Whether an invocation may name an entry of this tag (JVMS SE 17 §4.9.1).
+fn may_name_tag(opcode: u8, tag: u8) -> bool
+    ensures { result ≡ may_name_tag opcode tag }
 {
     match opcode {
-        182 => pool.has_tag(10, number),
-        183 | 184 => pool.has_tag(10, number) || pool.has_tag(11, number),
-        185 => pool.has_tag(11, number),
-        186 => pool.has_tag(18, number),
+        182 => tag == 10,
+        183 | 184 => tag == 10 || tag == 11,
+        185 => tag == 11,
+        186 => tag == 18,
         _ => false,
     }
 }
@@ -103,33 +90,55 @@ fn tail_fits(opcode: u8, slots: u8, tail: &[u8]) -> bool
     }
 }
 
-/// The slots of the parameters of what the entry at a number names.
+/// The slots of the parameters of the method descriptor at a number.
 fn slots_at(pool: &Pool, number: u16) -> Option<u8>
-    ensures { result ≡ slots_at pool.now number }
+    ensures { result ≡ option_and_then method_slots (text_at pool.now number) }
 {
-    pool.slots(number)
+    match pool.form(number) {
+        Some(form) => form.slots,
+        None => None,
+    }
 }
 
-/// What an invocation names, where it may name that.
-#[tactic(auto, unfolding(crate::specs::Reading::Sites::invoked))]
-fn invoked<'a>(
-    pool: &'a Pool,
-    opcode: u8,
-    number: u16,
-    tail: &[u8],
-) -> Option<Operand<LentName<'a>>>
-    ensures { result ≡ invoked pool.now opcode number tail.now }
+/// Whether an invocation may name something of the name and type at a number, with these bytes behind its own number.
+fn signed_fits(pool: &Pool, opcode: u8, number: u16, tail: &[u8]) -> bool
+    ensures { result ≡ signed_fits opcode tail.now (signed_at pool.now number) }
 {
-    if !is_tagged(pool, opcode, number) {
-        return None;
+    match pool.constant(number) {
+        Some(Constant::NameAndType(name, ty)) => match (pool.utf8(name), slots_at(pool, ty)) {
+            (Some(name), Some(slots)) => {
+                may_name(opcode, name.as_slice())
+                    && slots <= most_slots(opcode)
+                    && tail_fits(opcode, slots, tail)
+            }
+            _ => false,
+        },
+        _ => false,
     }
-    let operand = operand_at(pool, number)?;
-    let slots = slots_at(pool, number)?;
-    let named = may_name(opcode, operand_name(&operand));
-    if named && slots <= most_slots(opcode) && tail_fits(opcode, slots, tail) {
-        Some(operand)
-    } else {
-        None
+}
+
+/// Whether an invocation may name a method of the class and of the name and type at these numbers.
+fn names_method(pool: &Pool, opcode: u8, owner: u16, signed: u16, tail: &[u8]) -> bool
+    ensures { result ≡ names_method pool.now opcode tail.now owner signed }
+{
+    pool.class_text(owner).is_some() && signed_fits(pool, opcode, signed, tail)
+}
+
+/// Whether an invocation may name what the entry at a number names, with these bytes behind the number.
+fn is_invoked(pool: &Pool, opcode: u8, number: u16, tail: &[u8]) -> bool
+    ensures { result ≡ is_invoked pool.now opcode number tail.now }
+{
+    match pool.constant(number) {
+        Some(Constant::Methodref(owner, signed)) => {
+            may_name_tag(opcode, 10) && names_method(pool, opcode, owner, signed, tail)
+        }
+        Some(Constant::InterfaceMethodref(owner, signed)) => {
+            may_name_tag(opcode, 11) && names_method(pool, opcode, owner, signed, tail)
+        }
+        Some(Constant::InvokeDynamic(_, signed)) => {
+            may_name_tag(opcode, 18) && signed_fits(pool, opcode, signed, tail)
+        }
+        _ => false,
     }
 }
 
@@ -144,14 +153,12 @@ fn site_of(
 {
     match instruction {
         Instruction::Invoke(opcode, number, tail) => {
-            match invoked(pool, *opcode, *number, tail.as_bytes()) {
-                Some(_operand) => {
-                    let kind = kind_of(*opcode);
-                    let number = *number;
-                    Ok(Some(KeptSite { pc, kind, number }))
-                }
-                None => Err(CodeFault::BadOperand(pc)),
+            if !is_invoked(pool, *opcode, *number, tail.as_bytes()) {
+                return Err(CodeFault::BadOperand(pc));
             }
+            let kind = kind_of(*opcode);
+            let number = *number;
+            Ok(Some(KeptSite { pc, kind, number }))
         }
         _ => Ok(None),
     }

@@ -1,5 +1,7 @@
-use Rattle.jl_pool.proofs.LookUpLaws.{slots_found}
+use Rattle.std.proofs.Common.{rules}
+use Rattle.jl_pool.specs.Reading.Forms.{form_of}
 use Rattle.jl_code.proofs.code.slots_at.Goals as goal
 
-pub returns : goal.returns
-returns c = slots_found c.args.pool.now c.args.number c.slots.result c.slots.ensures
+pub returns-in-Some : goal.returns-in-Some
+unfolding form_of
+returns-in-Some c = search rules
