@@ -1,6 +1,7 @@
 pub mod Fields
 pub mod ConstantLaws
 pub mod FormLaws
+pub mod ByteMarkLaws
 pub mod MarkLaws
 pub mod LookUpLaws
 pub mod TypedLaws

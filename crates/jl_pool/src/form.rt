@@ -1,12 +1,9 @@
 //! What a text of the pool may stand for.
 
 ghost use Rattle.std.specs.Prelude.{◌≡◌, ◌&&◌, ◌||◌, not};
-ghost use Rattle.std.specs.List.{list_any};
-ghost use Rattle.std.specs.Str.{byte};
 ghost use Rattle.jl_names.specs.ClassNames.{is_class_name, is_unqualified};
-ghost use Rattle.jl_pool.specs.Pools.{has_angle};
 ghost use Rattle.jl_pool.specs.Reading.Forms.{form_of, is_field};
-ghost use Rattle.jl_pool.specs.Reading.Marks.{is_barred, is_slash, is_angle, marks_of};
+ghost use Rattle.jl_pool.specs.Reading.Marks.{marks_of, AreMarks};
 
 use jl_names::{FieldType, is_class_name, method_slots};
 
@@ -42,7 +39,7 @@ impl Form {
     }
 }
 
-/// Which bytes that matter to a name stand in a text.
+/// Which bytes that matter to a name stand in a text, and whether it has a byte that is no unit by itself.
 #[derive(Clone, Copy, Debug, PartialEq, Eq)]
 struct Marks {
     /// One of `.`, `;` and `[`, which stand in no class name.
@@ -50,39 +47,43 @@ struct Marks {
     slash: bool,
     /// `<` or `>`.
     angle: bool,
+    /// A byte that is no unit of modified UTF-8 by itself (§4.4.7): 0, or 128 and more.
+    odd: bool,
 }
 
-/// Which bytes that matter to a name stand in a text, by one pass over it without an early exit.
+/// The marks of each byte, a bit each: 1 where it is barred, 2 for a slash, 4 for an angle bracket, 8 where it is odd.
+static BYTE_MARKS: [u8; 256] = [
+    8, 0, 0, 0, 0, 0, 0, 0, 0, 0, 0, 0, 0, 0, 0, 0, 0, 0, 0, 0, 0, 0, 0, 0, 0, 0, 0, 0, 0, 0, 0, 0,
+    0, 0, 0, 0, 0, 0, 0, 0, 0, 0, 0, 0, 0, 0, 1, 2, 0, 0, 0, 0, 0, 0, 0, 0, 0, 0, 0, 1, 4, 0, 4, 0,
+    0, 0, 0, 0, 0, 0, 0, 0, 0, 0, 0, 0, 0, 0, 0, 0, 0, 0, 0, 0, 0, 0, 0, 0, 0, 0, 0, 1, 0, 0, 0, 0,
+    0, 0, 0, 0, 0, 0, 0, 0, 0, 0, 0, 0, 0, 0, 0, 0, 0, 0, 0, 0, 0, 0, 0, 0, 0, 0, 0, 0, 0, 0, 0, 0,
+    8, 8, 8, 8, 8, 8, 8, 8, 8, 8, 8, 8, 8, 8, 8, 8, 8, 8, 8, 8, 8, 8, 8, 8, 8, 8, 8, 8, 8, 8, 8, 8,
+    8, 8, 8, 8, 8, 8, 8, 8, 8, 8, 8, 8, 8, 8, 8, 8, 8, 8, 8, 8, 8, 8, 8, 8, 8, 8, 8, 8, 8, 8, 8, 8,
+    8, 8, 8, 8, 8, 8, 8, 8, 8, 8, 8, 8, 8, 8, 8, 8, 8, 8, 8, 8, 8, 8, 8, 8, 8, 8, 8, 8, 8, 8, 8, 8,
+    8, 8, 8, 8, 8, 8, 8, 8, 8, 8, 8, 8, 8, 8, 8, 8, 8, 8, 8, 8, 8, 8, 8, 8, 8, 8, 8, 8, 8, 8, 8, 8,
+];
+
+/// The marks of a byte.
+fn byte_marks(byte: u8) -> u8
+    ensures { AreMarks byte result }
+{
+    BYTE_MARKS[usize::from(byte)]
+}
+
+/// The marks of a text, by one pass over it without an early exit.
 fn marks_of(text: &[u8]) -> Marks
     ensures { result ≡ marks_of text.now }
 {
-    let mut barred = false;
-    let mut slash = false;
-    let mut angle = false;
+    let mut seen = 0;
     for byte in text {
-        barred |= is_barred(*byte);
-        slash |= *byte == b'/';
-        angle |= is_angle(*byte);
+        seen |= byte_marks(*byte);
     }
     Marks {
-        barred,
-        slash,
-        angle,
+        barred: seen & 1 != 0,
+        slash: seen & 2 != 0,
+        angle: seen & 4 != 0,
+        odd: seen & 8 != 0,
     }
-}
-
-/// Whether no class name has this byte.
-fn is_barred(byte: u8) -> bool
-    ensures { result ≡ is_barred byte }
-{
-    (byte == b'.') | ((byte == b';') | (byte == b'['))
-}
-
-/// Whether the byte is an angle bracket.
-fn is_angle(byte: u8) -> bool
-    ensures { result ≡ is_angle byte }
-{
-    (byte == b'<') | (byte == b'>')
 }
 
 /// Whether a text of these marks is an unqualified name.

@@ -1,5 +1,5 @@
--- The bytes of a text that matter to a name.
-use Rattle.std.specs.Prelude.{ℕ, Bool, ◌==◌, ◌||◌, List}
+-- The bytes of a text that matter to a name, and those that are no unit of modified UTF-8 by themselves.
+use Rattle.std.specs.Prelude.{◌≡◌, ℕ, ◌^◌, Bool, not, ◌==◌, ◌||◌, nat_le, List, bit_and}
 use Rattle.std.specs.List.{list_any}
 use Rattle.std.specs.Str.{byte}
 use Rattle.jl_pool.specs.declared.form.Marks.{Marks}
@@ -14,5 +14,19 @@ is_slash b = b == byte "/"
 abbrev pub is_angle : ℕ → Bool
 is_angle b = (b == byte "<") || (b == byte ">")
 
+-- a unit from 0001 to 007f is one byte (JVMS SE 17 §4.4.7)
+abbrev pub is_odd : ℕ → Bool
+is_odd b = (b == 0) || nat_le 0x80 b
+
 abbrev pub marks_of : List ℕ → Marks
-marks_of text = record { barred = list_any is_barred text; slash = list_any is_slash text; angle = list_any is_angle text }
+marks_of text = record { barred = list_any is_barred text; slash = list_any is_slash text; angle = list_any is_angle text; odd = list_any is_odd text }
+
+abbrev pub is_set : ℕ → ℕ → Bool
+is_set place n = not (bit_and n (2 ^ place) == 0)
+
+-- the marks of a byte, a bit each
+pub record AreMarks (b n : ℕ) : Type 0 where
+  pub barred : is_set 0 n ≡ is_barred b
+  pub slash : is_set 1 n ≡ is_slash b
+  pub angle : is_set 2 n ≡ is_angle b
+  pub odd : is_set 3 n ≡ is_odd b
