@@ -5,6 +5,7 @@ pub mod ByteMarkLaws
 pub mod MarkLaws
 pub mod LookUpLaws
 pub mod TypedLaws
+pub mod EvenLaws
 pub mod PlaceLaws
 pub mod TableLaws
 pub mod PoolLaws

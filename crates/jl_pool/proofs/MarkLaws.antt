@@ -17,7 +17,7 @@ use Rattle.jl_pool.specs.Reading.Forms.{is_field, method_slots, form_of}
 use Rattle.jl_pool.specs.Reading.Marks.{is_barred, is_slash, marks_of}
 use Rattle.jl_pool.proofs.FormLaws.{is_field-is, class_name_of, and_true}
 
-neither : (x y : Bool) → (x || y) ≡ false → (x ≡ false) × (y ≡ false)
+pub neither : (x y : Bool) → (x || y) ≡ false → (x ≡ false) × (y ≡ false)
 neither true y h = absurd cc
 neither false y h = (refl, h)
 

@@ -33,7 +33,7 @@ All-flat P (c ∷ cs) n d h e = elim (at-front (places_of c) (flat_map places_of
   | inr more ↦ All-flat P cs (n - length (places_of c)) d h.1 more
 ]
 
-All-numbers : (P : Constant → Type 0) (cs : List Constant) (n : ℕ) (d : Constant) → AllByRecursion P cs → constant_at (places cs) n ≡ Some d → P d
+pub All-numbers : (P : Constant → Type 0) (cs : List Constant) (n : ℕ) (d : Constant) → AllByRecursion P cs → constant_at (places cs) n ≡ Some d → P d
 All-numbers P cs zero d h e = absurd cc
 All-numbers P cs (suc n) d h e = All-flat P cs n d h e
 

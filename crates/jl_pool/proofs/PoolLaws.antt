@@ -14,16 +14,19 @@ use Rattle.jl_pool.specs.declared.pool.Stop.TheVariants.{Cut, Tag}
 use Rattle.jl_pool.specs.declared.pool_fault.PoolFault.{PoolFault}
 use Rattle.jl_pool.specs.declared.pool_fault.PoolFault.TheVariants.{Truncated, BadTag}
 use Rattle.jl_pool.specs.Numbers.{u2, u4}
-use Rattle.jl_pool.specs.Constants.{tag, constant_text, IsSized, is_double}
-use Rattle.jl_pool.specs.Pools.{places, places_of, HasText, is_linked, IsTyped, IsSoundPool}
+use Rattle.jl_pool.specs.Constants.{tag, constant_text, IsSized}
+use Rattle.jl_pool.specs.Pools.{places, places_of, HasText, HaveTexts, is_linked, IsTyped, IsSoundPool}
 use Rattle.jl_pool.specs.Faults.{Opens, IsBadTag, TagFault, PoolStands, IsPoolFault, AllAt}
 use Rattle.jl_pool.specs.Reading.Entries.{IsCheckFault}
-use Rattle.jl_pool.specs.Reading.Table.{IsTable, entries_of}
+use Rattle.jl_pool.specs.Reading.Table.{IsTable, entries_of, has_odd, with_second, kept_of}
 use Rattle.jl_pool.specs.declared.entry.Entry.{Entry}
 use Rattle.jl_pool.specs.declared.entry.Entry.TheVariants as kept
+use Rattle.jl_pool.specs.declared.entry.Kept.{Kept}
 use Rattle.jl_pool.specs.Reading.Fields.{number_at}
 use Rattle.jl_pool.specs.Reading.Constants.{is_known, is_wide, is_bad_tag, constant_at}
 use Rattle.jl_pool.proofs.Fields.{IsBytes, u2_again, u2_takes, u4_again, some_is}
+use Rattle.jl_pool.proofs.EvenLaws.{even_text, entries_kept, numbers_kept}
+use Rattle.jl_pool.proofs.MarkLaws.{neither}
 use Rattle.jl_pool.proofs.PlaceLaws.{All-places}
 use Rattle.jl_pool.proofs.TableLaws.{table_none, table_more, texts_short, text_short}
 use Rattle.jl_pool.proofs.ConstantLaws.{tag_known, constant_again, constant_takes, constant_tag, constant_bad, constant_one}
@@ -48,25 +51,6 @@ places_by_tag (Dynamic bootstrap nt) = refl
 places_by_tag (InvokeDynamic bootstrap nt) = refl
 places_by_tag (Module name) = refl
 places_by_tag (Package name) = refl
-
-pub wide_double : (c : Constant) → is_wide (tag c) ≡ is_double c
-wide_double (Utf8 bytes) = refl
-wide_double (Integer bits) = refl
-wide_double (Float bits) = refl
-wide_double (Long bits) = refl
-wide_double (Double bits) = refl
-wide_double (Class name) = refl
-wide_double (String text) = refl
-wide_double (Fieldref owner nt) = refl
-wide_double (Methodref owner nt) = refl
-wide_double (InterfaceMethodref owner nt) = refl
-wide_double (NameAndType name ty) = refl
-wide_double (MethodHandle kind reference) = refl
-wide_double (MethodType ty) = refl
-wide_double (Dynamic bootstrap nt) = refl
-wide_double (InvokeDynamic bootstrap nt) = refl
-wide_double (Module name) = refl
-wide_double (Package name) = refl
 
 wide_fits : (count place : ℕ) (wide : Bool) → place < count → eqb (place + 1) count && wide ≡ false → place + cond wide 2 1 ≤ count
 wide_fits count place false lt e = omega arith
@@ -111,7 +95,7 @@ met count i t c same fits (inr two) =
 
 -- ---- constants that were read, by number, and what is left
 
-pub record SoFar (bytes : List ℕ) (entries : List Entry) (rest : List ℕ) (count place : ℕ) : Type 0 where
+pub record SoFar (bytes : List ℕ) (entries : List Entry) (odd : Bool) (rest : List ℕ) (count place : ℕ) : Type 0 where
   pub cs : List Constant
   -- whatever comes after them
   pub table : (more : List ℕ) → IsTable (flat_map constant_text cs ++ more) entries cs
@@ -120,9 +104,10 @@ pub record SoFar (bytes : List ℕ) (entries : List Entry) (rest : List ℕ) (co
   pub bytes_left : IsBytes rest
   pub next : place ≡ length (places cs)
   pub within : place ≤ count
+  pub texts : odd ≡ false → HaveTexts cs
 
-pub SoFar-none : (bytes : List ℕ) (count : ℕ) → IsBytes bytes → 1 ≤ count → SoFar bytes (kept.Nothing ∷ []) bytes count 1
-SoFar-none bytes count fits le = record { cs = []; table = table_none; spelled = refl; sized = tt; bytes_left = fits; next = refl; within = le }
+pub SoFar-none : (bytes : List ℕ) (count : ℕ) → IsBytes bytes → 1 ≤ count → SoFar bytes (kept.Nothing ∷ []) false bytes count 1
+SoFar-none bytes count fits le = record { cs = []; table = table_none; spelled = refl; sized = tt; bytes_left = fits; next = refl; within = le; texts = λ e. tt }
 
 places-push : (cs : List Constant) (c : Constant) → places (cs ++ c ∷ []) ≡ places cs ++ places_of c
 places-push cs c = sym (flat_map_more places_of (None ∷ []) cs c)
@@ -147,9 +132,9 @@ pub record Ended (bytes : List ℕ) (c : Constant) (after : List ℕ) : Type 0 w
   pub ends : length (constant_text c) ≤ length bytes - length after
   pub few : length bytes - length after < 2 ^ 32
 
-pub ended : (bytes : List ℕ) (entries : List Entry) (rest : List ℕ) (count place : ℕ) (c : Constant) (after : List ℕ)
-    → SoFar bytes entries rest count place → count < 2 ^ 16 → place < count → constant_at (eqb (place + 1) count) rest ≡ Ok (c, after) → Ended bytes c after
-ended bytes entries rest count place c after s size lt e =
+pub ended : (bytes : List ℕ) (entries : List Entry) (odd : Bool) (rest : List ℕ) (count place : ℕ) (c : Constant) (after : List ℕ)
+    → SoFar bytes entries odd rest count place → count < 2 ^ 16 → place < count → constant_at (eqb (place + 1) count) rest ≡ Ok (c, after) → Ended bytes c after
+ended bytes entries odd rest count place c after s size lt e =
     let r = constant_takes (eqb (place + 1) count) rest (c, after) s.bytes_left e in
     let end = end_is bytes s.cs c rest after s.spelled r.taken.parts in
     let front = texts_short s.cs s.sized in
@@ -161,10 +146,10 @@ ended bytes entries rest count place c after s size lt e =
       few = omega (arith, end, front, one, s.next);
     }
 
-pub SoFar-more : (bytes : List ℕ) (entries : List Entry) (rest : List ℕ) (count place : ℕ) (c : Constant) (after : List ℕ)
-    → SoFar bytes entries rest count place → place < count → constant_at (eqb (place + 1) count) rest ≡ Ok (c, after)
-    → SoFar bytes (entries ++ entries_of c (length bytes - length after)) after count (place + length (places_of c))
-SoFar-more bytes entries rest count place c after s lt e =
+SoFar-more : (bytes : List ℕ) (entries : List Entry) (odd : Bool) (rest : List ℕ) (count place : ℕ) (c : Constant) (after : List ℕ)
+    → SoFar bytes entries odd rest count place → place < count → constant_at (eqb (place + 1) count) rest ≡ Ok (c, after)
+    → SoFar bytes (entries ++ entries_of c (length bytes - length after)) (odd || has_odd c) after count (place + length (places_of c))
+SoFar-more bytes entries odd rest count place c after s lt e =
     let r = constant_takes (eqb (place + 1) count) rest (c, after) s.bytes_left e in
     record {
       cs = s.cs ++ c ∷ [];
@@ -174,11 +159,19 @@ SoFar-more bytes entries rest count place c after s lt e =
       bytes_left = r.taken.bytes_left;
       next = omega (arith, s.next, ap length (places-push s.cs c), length-append (places s.cs) (places_of c));
       within = ends_below count place rest c after s.bytes_left lt e;
+      texts = λ even. let both = neither odd (has_odd c) even in All-push HasText s.cs c (s.texts both.0) (even_text c both.1);
     }
 
-pub SoFar-done : (bytes : List ℕ) (entries : List Entry) (rest : List ℕ) (count place : ℕ) → count < 2 ^ 16 → count ≤ place
-    → SoFar bytes entries rest count place → (cs : List Constant) × PoolStands (u2 count ++ bytes) cs rest × (bytes ≡ flat_map constant_text cs ++ rest) × IsTable (flat_map constant_text cs) entries cs
-SoFar-done bytes entries rest count place size le s =
+-- the same by what is kept of the constant
+pub SoFar-kept : (bytes : List ℕ) (entries : List Entry) (odd : Bool) (rest : List ℕ) (count place : ℕ) (c : Constant) (after : List ℕ) (k : Kept) → k ≡ kept_of c (length bytes - length after)
+    → SoFar bytes entries odd rest count place → place < count → constant_at (eqb (place + 1) count) rest ≡ Ok (c, after)
+    → SoFar bytes (entries ++ with_second k.entry) (odd || k.odd) after count (place + length (with_second k.entry))
+SoFar-kept bytes entries odd rest count place c after k is s lt e =
+    rw (is, numbers_kept c (length bytes - length after), entries_kept c (length bytes - length after)) (SoFar-more bytes entries odd rest count place c after s lt e)
+
+pub SoFar-done : (bytes : List ℕ) (entries : List Entry) (odd : Bool) (rest : List ℕ) (count place : ℕ) → count < 2 ^ 16 → count ≤ place
+    → SoFar bytes entries odd rest count place → (cs : List Constant) × PoolStands (u2 count ++ bytes) cs rest × (bytes ≡ flat_map constant_text cs ++ rest) × IsTable (flat_map constant_text cs) entries cs × (odd ≡ false → HaveTexts cs)
+SoFar-done bytes entries odd rest count place size le s =
     let is : count ≡ place = omega (arith, s.within) in (
       s.cs,
       record {
@@ -187,27 +180,28 @@ SoFar-done bytes entries rest count place size le s =
       },
       s.spelled,
       subst (λ (b : List ℕ). IsTable b entries s.cs) (append-nil (flat_map constant_text s.cs)) (s.table []),
+      s.texts,
     )
 
-opens : (bytes : List ℕ) (entries : List Entry) (rest : List ℕ) (count place : ℕ) (s : SoFar bytes entries rest count place) → count < 2 ^ 16
+opens : (bytes : List ℕ) (entries : List Entry) (odd : Bool) (rest : List ℕ) (count place : ℕ) (s : SoFar bytes entries odd rest count place) → count < 2 ^ 16
     → place < count → Opens (u2 count ++ bytes) count s.cs rest
-opens bytes entries rest count place s size lt = record {
+opens bytes entries odd rest count place s size lt = record {
   count_size = size;
   bytes = ap (λ (x : List ℕ). u2 count ++ x) s.spelled;
   each = s.sized;
   more = omega (arith, s.next);
 }
 
-pub SoFar-tag : (bytes : List ℕ) (entries : List Entry) (rest : List ℕ) (count place : ℕ) → SoFar bytes entries rest count place → count < 2 ^ 16 → place < count
+pub SoFar-tag : (bytes : List ℕ) (entries : List Entry) (odd : Bool) (rest : List ℕ) (count place : ℕ) → SoFar bytes entries odd rest count place → count < 2 ^ 16 → place < count
     → constant_at (eqb (place + 1) count) rest ≡ Err Tag → IsPoolFault (u2 count ++ bytes) (BadTag place)
-SoFar-tag bytes entries rest count place s size lt e =
+SoFar-tag bytes entries odd rest count place s size lt e =
     let t = constant_tag (eqb (place + 1) count) rest e in
     inl (record {
       count = count;
       before = s.cs;
       tag = t.0;
       left = t.1;
-      begins = subst (λ (x : List ℕ). Opens (u2 count ++ bytes) count s.cs x) t.2 (opens bytes entries rest count place s size lt);
+      begins = subst (λ (x : List ℕ). Opens (u2 count ++ bytes) count s.cs x) t.2 (opens bytes entries odd rest count place s size lt);
       place = s.next;
       bad = is_bad count place t.0 t.3;
     })
@@ -266,7 +260,7 @@ tag_none count place i t left rest [] e lt is text = λ bad.
 tag_none count place i t left rest (c ∷ more) e lt is text = λ bad.
     met count i t c (cc) (omega (arith, length-append (places_of c) (flat_map places_of more))) bad
 
-module _ (bytes : List ℕ) (entries : List Entry) (rest : List ℕ) (count place : ℕ) (s : SoFar bytes entries rest count place) (size : count < 2 ^ 16)
+module _ (bytes : List ℕ) (entries : List Entry) (odd : Bool) (rest : List ℕ) (count place : ℕ) (s : SoFar bytes entries odd rest count place) (size : count < 2 ^ 16)
     (lt : place < count) (e : constant_at (eqb (place + 1) count) rest ≡ Err Cut) where
   no_pool : (cs : List Constant) (left : List ℕ) → ¬ PoolStands (u2 count ++ bytes) cs left
   no_pool cs left = λ h.

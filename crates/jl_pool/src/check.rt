@@ -17,14 +17,16 @@ use jl_names::is_text;
 
 impl Pool {
     /// Looks for the first Utf8 that is no modified UTF-8, then for the first constant that names a wrong one, and then for
-    /// the first that names a descriptor of a wrong kind.
-    pub(crate) fn check(&self) -> Result<(), PoolFault>
+    /// the first that names a descriptor of a wrong kind. A Utf8 is looked at only where some byte of a text is odd, since
+    /// each is good where none is.
+    pub(crate) fn check(&self, odd: bool) -> Result<(), PoolFault>
+        requires { odd ≡ false → AllAt HasText self.now }
         ensures texts { OnOk result (AllAt HasText self.now) }
         ensures links { OnOk result (AllAt (λ c. IsTrue (is_linked self.now c)) self.now) }
         ensures types { OnOk result (AllAt (IsTyped self.now) self.now) }
         ensures fault { IfErr result (IsCheckFault self.now) }
     {
-        match self.check_texts() {
+        match self.check_texts(odd) {
             Ok(()) => self.check_names(),
             fault => fault,
         }
@@ -42,11 +44,15 @@ impl Pool {
         }
     }
 
-    /// Looks for the first Utf8 that is no modified UTF-8.
-    fn check_texts(&self) -> Result<(), PoolFault>
+    /// Looks for the first Utf8 that is no modified UTF-8, where there may be one.
+    fn check_texts(&self, odd: bool) -> Result<(), PoolFault>
+        requires { odd ≡ false → AllAt HasText self.now }
         ensures ok { OnOk result (AllAt HasText self.now) }
         ensures fault { IfErr result (IsTextFault self.now) }
     {
+        if !odd {
+            return Ok(());
+        }
         for number in 0..self.count() {
             if let Some(constant) = self.constant(number) {
                 if !has_text(&constant) {

@@ -1,14 +1,14 @@
 //! What a pool keeps of its constants.
 
-ghost use Rattle.std.specs.Prelude.{◌≡◌, ◌+◌, ◌<◌, ◌≤◌, ◌^◌, length, take, drop, true};
+ghost use Rattle.std.specs.Prelude.{◌≡◌, ◌+◌, ◌<◌, ◌≤◌, ◌^◌, length, take, drop, true, false};
 ghost use Rattle.std.specs.Option.{option_and_then};
 ghost use Rattle.byteorder.specs.Endian.{big_number};
 ghost use Rattle.jl_pool.specs.Constants.{constant_text, IsSized};
 ghost use Rattle.jl_pool.specs.Pools.{text_of};
-ghost use Rattle.jl_pool.specs.Reading.Table.{shown, text_entry, entry_of, entry_at, form_in, is_within};
+ghost use Rattle.jl_pool.specs.Reading.Table.{shown, takes_two, kept_of, kept_text, entry_at, form_in, is_within};
 
 use crate::constant::Constant;
-use crate::form::Form;
+use crate::form::{Form, marks_of};
 use byteorder::{BigEndian, ByteOrder};
 use jl_names::{LentName, Name, Text};
 
@@ -38,43 +38,79 @@ pub enum Entry {
 }
 
 impl Entry {
-    /// What is kept of a constant whose bytes end at this place of the block.
-    pub(crate) fn of(constant: &Constant<'_>, end: u32) -> Entry
-        requires sized { IsSized constant.now }
-        requires ends { length (constant_text constant.now) ≤ end }
-        ensures { result ≡ entry_of constant.now end }
+    /// Whether it takes two numbers (§4.4.5).
+    pub(crate) fn takes_two(self) -> bool
+        ensures { result ≡ takes_two self }
     {
-        match constant {
-            Constant::Utf8(text) => utf8_of(text.as_bytes(), end),
-            Constant::Integer(bits) => Entry::Integer(*bits),
-            Constant::Float(bits) => Entry::Float(*bits),
-            Constant::Long(_) => Entry::Long(end - 8),
-            Constant::Double(_) => Entry::Double(end - 8),
-            Constant::Class(name) => Entry::Class(*name),
-            Constant::String(text) => Entry::String(*text),
-            Constant::Fieldref(owner, signed) => Entry::Fieldref(*owner, *signed),
-            Constant::Methodref(owner, signed) => Entry::Methodref(*owner, *signed),
-            Constant::InterfaceMethodref(owner, signed) => {
-                Entry::InterfaceMethodref(*owner, *signed)
-            }
-            Constant::NameAndType(name, ty) => Entry::NameAndType(*name, *ty),
-            Constant::MethodHandle(kind, reference) => Entry::MethodHandle(*kind, *reference),
-            Constant::MethodType(ty) => Entry::MethodType(*ty),
-            Constant::Dynamic(bootstrap, signed) => Entry::Dynamic(*bootstrap, *signed),
-            Constant::InvokeDynamic(bootstrap, signed) => Entry::InvokeDynamic(*bootstrap, *signed),
-            Constant::Module(name) => Entry::Module(*name),
-            Constant::Package(name) => Entry::Package(*name),
-        }
+        matches!(self, Entry::Long(_) | Entry::Double(_))
     }
 }
 
-/// What is kept of a text that ends at this place of the block.
-fn utf8_of(text: &[u8], end: u32) -> Entry
-    requires sized { length text.now < 2 ^ 16 }
-    requires ends { length text.now ≤ end }
-    ensures { result ≡ text_entry text.now end }
-{
-    Entry::Utf8(end - text.len() as u32, text.len() as u16, Form::of(text))
+/// What is kept of a constant, and whether it is a text with a byte that is no unit of modified UTF-8 by itself.
+#[derive(Clone, Copy, Debug, PartialEq, Eq)]
+pub(crate) struct Kept {
+    pub entry: Entry,
+    pub odd: bool,
+}
+
+impl Kept {
+    /// What is kept of a constant whose bytes end at this place of the block.
+    pub(crate) fn of(constant: &Constant<'_>, end: u32) -> Kept
+        requires sized { IsSized constant.now }
+        requires ends { length (constant_text constant.now) ≤ end }
+        ensures { result ≡ kept_of constant.now end }
+    {
+        match constant {
+            Constant::Utf8(text) => Kept::of_text(text.as_bytes(), end),
+            Constant::Integer(bits) => Kept::of_no_text(Entry::Integer(*bits)),
+            Constant::Float(bits) => Kept::of_no_text(Entry::Float(*bits)),
+            Constant::Long(_) => Kept::of_no_text(Entry::Long(end - 8)),
+            Constant::Double(_) => Kept::of_no_text(Entry::Double(end - 8)),
+            Constant::Class(name) => Kept::of_no_text(Entry::Class(*name)),
+            Constant::String(text) => Kept::of_no_text(Entry::String(*text)),
+            Constant::Fieldref(owner, signed) => Kept::of_no_text(Entry::Fieldref(*owner, *signed)),
+            Constant::Methodref(owner, signed) => Kept::of_no_text(Entry::Methodref(
+                *owner, *signed,
+            )),
+            Constant::InterfaceMethodref(owner, signed) => Kept::of_no_text(
+                Entry::InterfaceMethodref(*owner, *signed),
+            ),
+            Constant::NameAndType(name, ty) => Kept::of_no_text(Entry::NameAndType(*name, *ty)),
+            Constant::MethodHandle(kind, reference) => Kept::of_no_text(Entry::MethodHandle(
+                *kind, *reference,
+            )),
+            Constant::MethodType(ty) => Kept::of_no_text(Entry::MethodType(*ty)),
+            Constant::Dynamic(bootstrap, signed) => Kept::of_no_text(Entry::Dynamic(
+                *bootstrap, *signed,
+            )),
+            Constant::InvokeDynamic(bootstrap, signed) => Kept::of_no_text(Entry::InvokeDynamic(
+                *bootstrap, *signed,
+            )),
+            Constant::Module(name) => Kept::of_no_text(Entry::Module(*name)),
+            Constant::Package(name) => Kept::of_no_text(Entry::Package(*name)),
+        }
+    }
+
+    /// What is kept of a text that ends at this place of the block.
+    fn of_text(text: &[u8], end: u32) -> Kept
+        requires sized { length text.now < 2 ^ 16 }
+        requires ends { length text.now ≤ end }
+        ensures { result ≡ kept_text text.now end }
+    {
+        let marks = marks_of(text);
+        let form = Form::of(marks, text);
+        Kept {
+            entry: Entry::Utf8(end - text.len() as u32, text.len() as u16, form),
+            odd: marks.odd,
+        }
+    }
+
+    /// What is kept of any other constant.
+    fn of_no_text(entry: Entry) -> Kept
+        ensures { result ≡ record { entry = entry; odd = false } }
+    {
+        Kept { entry, odd: false }
+    }
 }
 
 /// The constant of an entry.

@@ -23,11 +23,11 @@ pub struct Form {
 }
 
 impl Form {
-    /// What this text may stand for.
-    pub(crate) fn of(text: &[u8]) -> Form
+    /// What a text of these marks may stand for.
+    pub(crate) fn of(marks: Marks, text: &[u8]) -> Form
+        requires { marks ≡ marks_of text.now }
         ensures { result ≡ form_of text.now }
     {
-        let marks = marks_of(text);
         let unqualified = is_unqualified_by(marks, text);
         Form {
             class_name: unqualified | is_qualified_by(marks, text),
@@ -41,14 +41,14 @@ impl Form {
 
 /// Which bytes that matter to a name stand in a text, and whether it has a byte that is no unit by itself.
 #[derive(Clone, Copy, Debug, PartialEq, Eq)]
-struct Marks {
+pub(crate) struct Marks {
     /// One of `.`, `;` and `[`, which stand in no class name.
     barred: bool,
     slash: bool,
     /// `<` or `>`.
     angle: bool,
     /// A byte that is no unit of modified UTF-8 by itself (§4.4.7): 0, or 128 and more.
-    odd: bool,
+    pub(crate) odd: bool,
 }
 
 /// The marks of each byte, a bit each: 1 where it is barred, 2 for a slash, 4 for an angle bracket, 8 where it is odd.
@@ -71,7 +71,7 @@ fn byte_marks(byte: u8) -> u8
 }
 
 /// The marks of a text, by one pass over it without an early exit.
-fn marks_of(text: &[u8]) -> Marks
+pub(crate) fn marks_of(text: &[u8]) -> Marks
     ensures { result ≡ marks_of text.now }
 {
     let mut seen = 0;

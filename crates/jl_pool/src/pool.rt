@@ -1,23 +1,23 @@
 //! The constant pool.
 
-ghost use Rattle.std.specs.Prelude.{◌≡◌, ◌≢◌, ◌<◌, ◌≤◌, ◌^◌, ◌++◌, [], ◌∷◌, length, Option, option_map, Result, List, ℕ, IfOk, IfErr};
+ghost use Rattle.std.specs.Prelude.{◌≡◌, ◌≢◌, ◌<◌, ◌≤◌, ◌^◌, ◌++◌, [], ◌∷◌, length, Option, option_map, Result, List, ℕ, IfOk, IfErr, false};
 ghost use Rattle.std.specs.List.{flat_map};
 ghost use Rattle.jl_pool.specs.declared.constant.Constant.{Constant};
 ghost use Rattle.std.specs.Option.{option_and_then, unwrap_or};
 ghost use Rattle.jl_pool.specs.Numbers.{u2};
-ghost use Rattle.jl_pool.specs.Pools.{places, places_of, pool_text, IsSoundPool, text_at, descriptor_at, has_tag};
-ghost use Rattle.jl_pool.specs.Constants.{constant_text, IsSized};
+ghost use Rattle.jl_pool.specs.Pools.{places, pool_text, HaveTexts, IsSoundPool, text_at, descriptor_at, has_tag};
+ghost use Rattle.jl_pool.specs.Constants.{constant_text};
 ghost use Rattle.jl_pool.specs.declared.pool_fault.PoolFault.{PoolFault};
 ghost use Rattle.jl_pool.specs.declared.pool_fault.PoolFault.TheVariants.{Memory};
 ghost use Rattle.jl_pool.specs.Faults.{PoolStands, IsPoolFault};
 ghost use Rattle.jl_pool.specs.Reading.Constants.{Gives, is_known, is_wide, of_bits, of_wide_bits, of_number, of_pair, payload_at, constant_at};
 ghost use Rattle.jl_pool.specs.Reading.Fields.{Finds};
 ghost use Rattle.jl_pool.specs.Reading.Forms.{form_of};
-ghost use Rattle.jl_pool.specs.Reading.Table.{entries_of, IsTable};
+ghost use Rattle.jl_pool.specs.Reading.Table.{with_second, IsTable};
 
 use crate::bytes::{handle_at, pair_at, text_at, u2_at, u4_at, u8_at};
 use crate::constant::Constant;
-use crate::entry::{Entry, constant_in, entry_at, form_in, text_in};
+use crate::entry::{Entry, Kept, constant_in, entry_at, form_in, text_in};
 use crate::form::Form;
 use crate::pool_fault::PoolFault;
 use crate::reference::{CallSiteSpecifier, Reference};
@@ -74,8 +74,8 @@ impl Pool {
             × IsSoundPool cs × (x.0 ≡ places cs) × (x.1 ≡ length (pool_text cs))) }
         ensures fault { IfErr result (IsPoolFault bytes.now) }
     {
-        let (pool, used) = pool_at(alloc, bytes)?;
-        pool.check()?;
+        let (pool, used, odd) = pool_at(alloc, bytes)?;
+        pool.check(odd)?;
         Ok((pool, used))
     }
 
@@ -406,49 +406,57 @@ fn constant_at(last: bool, bytes: &[u8]) -> Result<(Constant<'_>, &[u8]), Stop>
     }
 }
 
-/// Adds what is kept of a constant, at its numbers, and answers how many it takes. Its bytes end at this place of the block.
-fn push_entry(entries: &mut Vec<Entry>, constant: &Constant<'_>, end: u32) -> Result<u16, PoolFault>
-    requires sized { IsSized constant.now }
-    requires ends { length (constant_text constant.now) ≤ end }
-    ensures ok { IfOk result (λ n. (n ≡ length (places_of constant.now)) × (entries.new.items ≡ entries.old.items ++ entries_of constant.now end)) }
+/// Adds an entry, at its numbers, and answers how many it takes.
+fn push_entry(entries: &mut Vec<Entry>, entry: Entry) -> Result<u16, PoolFault>
+    ensures ok { IfOk result (λ n. (n ≡ length (with_second entry)) × (entries.new.items ≡ entries.old.items ++ with_second entry)) }
     ensures fault { IfErr result (λ f. f ≡ PoolFault.Memory) }
 {
-    entries.push(Entry::of(constant, end))?;
-    if is_wide(constant.tag()) {
+    entries.push(entry)?;
+    if entry.takes_two() {
         entries.push(Entry::Nothing)?;
         return Ok(2);
     }
     Ok(1)
 }
 
-/// What is kept of the constants by number, over a block that begins with the bytes, and what comes after the constants.
-fn constants_at(alloc: Global, count: u16, bytes: &[u8]) -> Result<(Vec<Entry>, &[u8]), PoolFault>
+/// What is kept of the constants by number, over a block that begins with the bytes; whether a byte of a text is no unit of
+/// modified UTF-8 by itself; and what comes after the constants.
+fn constants_at(
+    alloc: Global,
+    count: u16,
+    bytes: &[u8],
+) -> Result<(Vec<Entry>, bool, &[u8]), PoolFault>
     requires { 1 ≤ count }
-    ensures ok { IfOk result (λ x. (cs : List Constant) × PoolStands (u2 count ++ bytes.now) cs x.1.now × (bytes.now ≡ flat_map constant_text cs ++ x.1.now)
-        × IsTable (flat_map constant_text cs) x.0.items cs) }
+    ensures ok { IfOk result (λ x. (cs : List Constant) × PoolStands (u2 count ++ bytes.now) cs x.2.now × (bytes.now ≡ flat_map constant_text cs ++ x.2.now)
+        × IsTable (flat_map constant_text cs) x.0.items cs × (x.1 ≡ false → HaveTexts cs)) }
     ensures fault { IfErr result (IsPoolFault (u2 count ++ bytes.now)) }
 {
     let mut entries = Vec::with_capacity(alloc, usize::from(count))?;
     entries.push(Entry::Nothing)?;
+    let mut odd = false;
     let mut place = 1;
     let mut rest = bytes;
     while place < count {
         match constant_at(place + 1 == count, rest) {
             Ok((constant, after)) => {
                 let end = (bytes.len() - after.len()) as u32;
-                place += push_entry(&mut entries, &constant, end)?;
+                let kept = Kept::of(&constant, end);
+                place += push_entry(&mut entries, kept.entry)?;
+                odd |= kept.odd;
                 rest = after;
             }
             Err(Stop::Cut) => return Err(PoolFault::Truncated),
             Err(Stop::Tag) => return Err(PoolFault::BadTag(place)),
         }
     }
-    Ok((entries, rest))
+    Ok((entries, odd, rest))
 }
 
-/// The pool at the front by its layout alone, and how many bytes it takes.
-fn pool_at(alloc: Global, bytes: &[u8]) -> Result<(Pool, usize), PoolFault>
-    ensures ok { IfOk result (λ x. (cs : List Constant) × (left : List ℕ) × PoolStands bytes.now cs left × (x.0 ≡ places cs) × (x.1 ≡ length (pool_text cs))) }
+/// The pool at the front by its layout alone, how many bytes it takes, and whether a byte of a text is no unit of modified
+/// UTF-8 by itself.
+fn pool_at(alloc: Global, bytes: &[u8]) -> Result<(Pool, usize, bool), PoolFault>
+    ensures ok { IfOk result (λ x. (cs : List Constant) × (left : List ℕ) × PoolStands bytes.now cs left × (x.0 ≡ places cs) × (x.1 ≡ length (pool_text cs))
+        × (x.2 ≡ false → HaveTexts cs)) }
     ensures fault { IfErr result (IsPoolFault bytes.now) }
 {
     let Some((count, rest)) = u2_at(bytes) else {
@@ -457,8 +465,8 @@ fn pool_at(alloc: Global, bytes: &[u8]) -> Result<(Pool, usize), PoolFault>
     if count == 0 {
         return Err(PoolFault::BadTag(0));
     }
-    let (entries, after) = constants_at(alloc, count, rest)?;
+    let (entries, odd, after) = constants_at(alloc, count, rest)?;
     let used = rest.len() - after.len();
     let block = Name::copied(alloc, &rest[..used])?;
-    Ok((Pool { block, entries }, used + 2))
+    Ok((Pool { block, entries }, used + 2, odd))
 }

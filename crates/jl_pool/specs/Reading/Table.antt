@@ -1,16 +1,18 @@
 -- What a pool keeps of its constants, over a block of their bytes.
-use Rattle.std.specs.Prelude.{◌≡◌, ℕ, ◌+◌, ◌-◌, ◌<◌, ◌^◌, nat_le, Bool, true, if◌then◌else◌, List, [], ◌∷◌, length, map, take, drop, slice_get, Option, Some, None}
+use Rattle.std.specs.Prelude.{◌≡◌, ℕ, ◌+◌, ◌-◌, ◌<◌, ◌^◌, nat_le, Bool, true, false, if◌then◌else◌, List, [], ◌∷◌, length, map, take, drop, slice_get, Option, Some, None}
 use Rattle.std.specs.Option.{unwrap_or}
-use Rattle.std.specs.List.{list_all}
+use Rattle.std.specs.List.{list_all, list_any}
 use Rattle.byteorder.specs.Endian.{big_number}
 use Rattle.jl_pool.specs.declared.constant.Constant.{Constant}
 use Rattle.jl_pool.specs.declared.constant.Constant.TheVariants.{Utf8, Integer, Float, Long, Double, Class, String, Fieldref, Methodref, InterfaceMethodref, NameAndType, MethodHandle, MethodType, Dynamic, InvokeDynamic, Module, Package}
 use Rattle.jl_pool.specs.declared.entry.Entry.{Entry}
 use Rattle.jl_pool.specs.declared.entry.Entry.TheVariants as kept
+use Rattle.jl_pool.specs.declared.entry.Kept.{Kept}
 use Rattle.jl_pool.specs.declared.form.Form.{Form}
 use Rattle.jl_pool.specs.Pools.{Pool, places}
 use Rattle.jl_pool.specs.Constants.{is_double}
 use Rattle.jl_pool.specs.Reading.Forms.{form_of, forms_of}
+use Rattle.jl_pool.specs.Reading.Marks.{is_odd}
 
 -- the constant of an entry
 abbrev pub shown : List ℕ → Entry → Option Constant
@@ -85,6 +87,27 @@ entry_of (Dynamic bootstrap signed) end = kept.Dynamic bootstrap signed
 entry_of (InvokeDynamic bootstrap signed) end = kept.InvokeDynamic bootstrap signed
 entry_of (Module name) end = kept.Module name
 entry_of (Package name) end = kept.Package name
+
+-- a long and a double take two numbers
+abbrev pub takes_two : Entry → Bool
+takes_two (kept.Long at) = true
+takes_two (kept.Double at) = true
+takes_two _ = false
+
+-- an entry, and nothing at its second number
+abbrev pub with_second : Entry → List Entry
+with_second entry = entry ∷ (if takes_two entry then kept.Nothing ∷ [] else [])
+
+-- a byte of its text is no unit by itself
+abbrev pub has_odd : Constant → Bool
+has_odd (Utf8 text) = list_any is_odd text
+has_odd _ = false
+
+abbrev pub kept_text : List ℕ → ℕ → Kept
+kept_text text end = record { entry = text_entry text end; odd = list_any is_odd text }
+
+abbrev pub kept_of : Constant → ℕ → Kept
+kept_of c end = record { entry = entry_of c end; odd = has_odd c }
 
 -- at the numbers that a constant takes
 abbrev pub entries_of : Constant → ℕ → List Entry

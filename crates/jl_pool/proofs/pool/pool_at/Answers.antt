@@ -25,4 +25,5 @@ returns-clause-ok c =
       stands_at c.args.bytes.now (u2 c.in-Some.count ++ c.in-Some.rest.now) o.0 c.in_ok-entries.after.now front o.1,
       subst (λ (b : List ℕ). pool_of b c.in_ok-entries.entries.items ≡ places o.0) (sym block) o.3.by_number,
       omega (arith, ap length o.2, length-append (flat_map constant_text o.0) c.in_ok-entries.after.now),
+      o.4,
     )

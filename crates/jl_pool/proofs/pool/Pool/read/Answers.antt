@@ -1,6 +1,15 @@
+use Rattle.std.proofs.Common.{subst, sym}
 use Rattle.std.proofs.lemmas.Result.{err_from_is_err_and}
+use Rattle.jl_pool.specs.Faults.{AllAt}
+use Rattle.jl_pool.specs.Pools.{HasText}
+use Rattle.jl_pool.proofs.PoolFaultLaws.{All-numbers}
 use Rattle.jl_pool.proofs.PoolLaws.{check_fault, sound}
 use Rattle.jl_pool.proofs.pool.Pool.read.Goals as goal
+
+pub check-requires : goal.check-requires
+check-requires c = λ even.
+    let o = c.in_ok-pool.ensures.ok in
+    subst (AllAt HasText) (sym o.3) (λ j d. All-numbers HasText o.0 j d (o.5 even))
 
 pub returns-in_err-check-clause-fault : goal.returns-in_err-check-clause-fault
 returns-in_err-check-clause-fault c =
