@@ -7,6 +7,7 @@ pub mod LookUpLaws
 pub mod TypedLaws
 pub mod EvenLaws
 pub mod PlaceLaws
+pub mod NameLaws
 pub mod TableLaws
 pub mod PoolLaws
 pub mod PoolFaultLaws

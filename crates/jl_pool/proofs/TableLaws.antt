@@ -20,7 +20,7 @@ use Rattle.jl_pool.specs.Numbers.{u2, u8}
 use Rattle.jl_pool.specs.Constants.{constant_text, IsSized, is_double}
 use Rattle.jl_pool.specs.Pools.{places, places_of, constant_at, text_of, text_at}
 use Rattle.jl_pool.specs.Reading.Forms.{form_of, forms_of}
-use Rattle.jl_pool.specs.Reading.Table.{shown, pool_of, is_within, form_in, IsTable, entry_at, entry_of, entries_of}
+use Rattle.jl_pool.specs.Reading.Table.{shown, pool_of, is_within, form_in, IsTable, Shows, entry_at, entry_of, entries_of}
 use Rattle.jl_pool.proofs.Fields.{guard_some, u8_again}
 use Rattle.jl_pool.proofs.FormLaws.{and_true}
 
@@ -209,3 +209,30 @@ formed_at bytes entries n h =
     formed_here (slice_get entries n) ∙ ap (option_and_then (λ p. p)) (sym (slice_get-map form_in entries n) ∙ ap (λ (forms : List (Option Form)). slice_get forms n) h
     ∙ slice_get-map (λ q. option_map form_of (option_and_then text_of q)) (pool_of bytes entries) n)
     ∙ form_here (slice_get (pool_of bytes entries) n)
+
+shows : (bytes : List ℕ) (entry : Entry) → form_in entry ≡ option_map form_of (option_and_then text_of (shown bytes entry)) → Shows entry (shown bytes entry)
+shows bytes kept.Nothing e = refl
+shows bytes (kept.Utf8 at len form) e = (take len (drop at bytes), refl, cc)
+shows bytes (kept.Long at) e = (big_number 8 (drop at bytes), refl)
+shows bytes (kept.Double at) e = (big_number 8 (drop at bytes), refl)
+shows bytes (kept.Integer bits) e = refl
+shows bytes (kept.Float bits) e = refl
+shows bytes (kept.Class name) e = refl
+shows bytes (kept.String text) e = refl
+shows bytes (kept.Fieldref owner signed) e = refl
+shows bytes (kept.Methodref owner signed) e = refl
+shows bytes (kept.InterfaceMethodref owner signed) e = refl
+shows bytes (kept.NameAndType name ty) e = refl
+shows bytes (kept.MethodHandle kind reference) e = refl
+shows bytes (kept.MethodType ty) e = refl
+shows bytes (kept.Dynamic bootstrap signed) e = refl
+shows bytes (kept.InvokeDynamic bootstrap signed) e = refl
+shows bytes (kept.Module name) e = refl
+shows bytes (kept.Package name) e = refl
+
+pub shows_at : (bytes : List ℕ) (entries : List Entry) (n : ℕ) → map form_in entries ≡ forms_of (pool_of bytes entries)
+    → Shows (entry_at entries n) (constant_at (pool_of bytes entries) n)
+shows_at bytes entries n h =
+    let there = shown_at bytes entries n in
+    subst (Shows (entry_at entries n)) there
+    (shows bytes (entry_at entries n) (formed_at bytes entries n h ∙ ap (λ (o : Option Constant). option_map form_of (option_and_then text_of o)) (sym there)))

@@ -1,19 +1,29 @@
 //! Tests of the constants of a pool.
 
-ghost use Rattle.std.specs.Prelude.{◌≡◌, Option, Some, IsTrue, OnOk, IfErr, MatchBool, false};
+ghost use Rattle.std.specs.Prelude.{◌≡◌, Option, Some, IsTrue, OnOk, IfErr, MatchBool, ◌&&◌, ◌||◌, [], ◌∷◌, true, false};
 ghost use Rattle.std.specs.Option.{option_map_or};
 ghost use Rattle.jl_pool.specs.Constants.{handle_tags};
 ghost use Rattle.jl_pool.specs.declared.pool_fault.PoolFault.{PoolFault};
 ghost use Rattle.jl_pool.specs.Faults.{AllAt};
-ghost use Rattle.jl_pool.specs.Pools.{text_at, begins_array, has_tag, is_linked, HasText, IsTyped};
-ghost use Rattle.jl_pool.specs.Reading.Entries.{IsTextFault, IsLinkFault, IsTypeFault, IsNameFault, IsCheckFault};
+ghost use Rattle.jl_pool.specs.Pools.{constant_at, text_at, begins_array, has_tag, is_linked, HasText, IsTyped};
+ghost use Rattle.jl_pool.specs.Reading.Entries.{IsTextFault, IsNameFault, IsCheckFault};
 ghost use Rattle.jl_pool.specs.Reading.Forms.{form_of, takes_slots, is_class_text, is_typed};
 
 use crate::constant::Constant;
+use crate::entry::Entry;
 use crate::form::Form;
 use crate::pool::Pool;
 use crate::pool_fault::PoolFault;
 use jl_names::is_text;
+
+/// Whether what an entry names is of the right kinds.
+#[derive(Clone, Copy, Debug)]
+struct Names {
+    /// Each number holds a constant of the right kind.
+    linked: bool,
+    /// Each text is a class name or a descriptor of the right kind.
+    typed: bool,
+}
 
 impl Pool {
     /// Looks for the first Utf8 that is no modified UTF-8, then for the first constant that names a wrong one, and then for
@@ -32,15 +42,24 @@ impl Pool {
         }
     }
 
-    /// Looks for the first constant that names a wrong one, and then for the first that names a descriptor of a wrong kind.
+    /// Looks for the first constant that names a wrong one, and then for the first that names a descriptor of a wrong kind, by
+    /// one pass over the entries.
     fn check_names(&self) -> Result<(), PoolFault>
         ensures links { OnOk result (AllAt (λ c. IsTrue (is_linked self.now c)) self.now) }
         ensures types { OnOk result (AllAt (IsTyped self.now) self.now) }
         ensures fault { IfErr result (IsNameFault self.now) }
     {
-        match self.check_links() {
-            Ok(()) => self.check_types(),
-            fault => fault,
+        let mut untyped = None;
+        for number in 0..self.count() {
+            let names = self.names(number);
+            if !names.linked {
+                return Err(PoolFault::BadIndex(number));
+            }
+            untyped = untyped.or((!names.typed).then_some(number));
+        }
+        match untyped {
+            Some(number) => Err(PoolFault::BadDescriptor(number)),
+            None => Ok(()),
         }
     }
 
@@ -63,62 +82,65 @@ impl Pool {
         Ok(())
     }
 
-    /// Looks for the first constant that names a wrong one.
-    fn check_links(&self) -> Result<(), PoolFault>
-        ensures ok { OnOk result (AllAt (λ c. IsTrue (is_linked self.now c)) self.now) }
-        ensures fault { IfErr result (IsLinkFault self.now) }
+    /// The tests of what stands at a number.
+    fn names(&self, number: u16) -> Names
+        ensures linked { result.linked ≡ option_map_or (is_linked self.now) (constant_at self.now number) true }
+        ensures typed { result.typed ≡ option_map_or (is_typed self.now) (constant_at self.now number) true }
     {
-        for number in 0..self.count() {
-            if let Some(constant) = self.constant(number) {
-                if !self.is_linked(&constant) {
-                    return Err(PoolFault::BadIndex(number));
-                }
-            }
+        match self.entry(number) {
+            Entry::Nothing
+            | Entry::Utf8(_, _, _)
+            | Entry::Integer(_)
+            | Entry::Float(_)
+            | Entry::Long(_)
+            | Entry::Double(_) => Names {
+                linked: true,
+                typed: true,
+            },
+            Entry::String(text) | Entry::Module(text) | Entry::Package(text) => Names {
+                linked: self.has_tag(1, text),
+                typed: true,
+            },
+            Entry::Class(name) => Names {
+                linked: self.has_tag(1, name),
+                typed: self.is_class_text(name),
+            },
+            Entry::MethodType(ty) => Names {
+                linked: self.has_tag(1, ty),
+                typed: is_method(self.form(ty)),
+            },
+            Entry::NameAndType(name, ty) => Names {
+                linked: self.has_tag(1, name) & self.has_tag(1, ty),
+                typed: is_descriptor(self.form(ty)),
+            },
+            Entry::Fieldref(owner, signed) => Names {
+                linked: self.is_member(owner, signed),
+                typed: is_field(self.descriptor_form(signed)),
+            },
+            Entry::Methodref(owner, signed) | Entry::InterfaceMethodref(owner, signed) => Names {
+                linked: self.is_member(owner, signed),
+                typed: is_method(self.descriptor_form(signed)),
+            },
+            Entry::MethodHandle(kind, reference) => Names {
+                linked: self.refers(kind, reference),
+                typed: true,
+            },
+            Entry::Dynamic(_, signed) => Names {
+                linked: self.has_tag(12, signed),
+                typed: is_field(self.descriptor_form(signed)),
+            },
+            Entry::InvokeDynamic(_, signed) => Names {
+                linked: self.has_tag(12, signed),
+                typed: is_method(self.descriptor_form(signed)),
+            },
         }
-        Ok(())
     }
 
-    /// Looks for the first constant that names a descriptor of a wrong kind.
-    fn check_types(&self) -> Result<(), PoolFault>
-        ensures ok { OnOk result (AllAt (IsTyped self.now) self.now) }
-        ensures fault { IfErr result (IsTypeFault self.now) }
+    /// Whether a class, and a name and type stand at these numbers.
+    fn is_member(&self, owner: u16, signed: u16) -> bool
+        ensures { result ≡ (has_tag self.now (7 ∷ []) owner && has_tag self.now (12 ∷ []) signed) }
     {
-        for number in 0..self.count() {
-            if let Some(constant) = self.constant(number) {
-                if !self.has_types(&constant) {
-                    return Err(PoolFault::BadDescriptor(number));
-                }
-            }
-        }
-        Ok(())
-    }
-
-    /// Whether each number that the constant names holds one of the right kind.
-    fn is_linked(&self, constant: &Constant<'_>) -> bool
-        ensures { result ≡ is_linked self.now constant.now }
-    {
-        match constant {
-            Constant::Utf8(_)
-            | Constant::Integer(_)
-            | Constant::Float(_)
-            | Constant::Long(_)
-            | Constant::Double(_) => true,
-            Constant::Class(text)
-            | Constant::String(text)
-            | Constant::MethodType(text)
-            | Constant::Module(text)
-            | Constant::Package(text) => self.has_tag(1, *text),
-            Constant::Fieldref(owner, name_and_type)
-            | Constant::Methodref(owner, name_and_type)
-            | Constant::InterfaceMethodref(owner, name_and_type) => {
-                self.has_tag(7, *owner) && self.has_tag(12, *name_and_type)
-            }
-            Constant::NameAndType(name, ty) => self.has_tag(1, *name) && self.has_tag(1, *ty),
-            Constant::MethodHandle(kind, reference) => self.refers(*kind, *reference),
-            Constant::Dynamic(_, name_and_type) | Constant::InvokeDynamic(_, name_and_type) => {
-                self.has_tag(12, *name_and_type)
-            }
-        }
+        self.has_tag(7, owner) & self.has_tag(12, signed)
     }
 
     /// Whether a method handle of this kind may refer to what stands at the number.
@@ -134,29 +156,6 @@ impl Pool {
         }
     }
 
-    /// The test of the descriptors that a constant names.
-    fn is_typed(&self, constant: &Constant<'_>) -> bool
-        ensures { result ≡ is_typed self.now constant.now }
-    {
-        match constant {
-            Constant::Class(name) => self.is_class_text(*name),
-            Constant::NameAndType(_, ty) => {
-                let form = self.form(*ty);
-                is_field(form) || is_method(form)
-            }
-            Constant::Fieldref(_, name_and_type) | Constant::Dynamic(_, name_and_type) => {
-                is_field(self.descriptor_form(*name_and_type))
-            }
-            Constant::Methodref(_, name_and_type)
-            | Constant::InterfaceMethodref(_, name_and_type)
-            | Constant::InvokeDynamic(_, name_and_type) => {
-                is_method(self.descriptor_form(*name_and_type))
-            }
-            Constant::MethodType(ty) => is_method(self.form(*ty)),
-            _ => true,
-        }
-    }
-
     /// Whether the text at a number is a class name or the descriptor of an array.
     fn is_class_text(&self, number: u16) -> bool
         ensures { result ≡ option_map_or is_class_text (text_at self.now number) false }
@@ -165,13 +164,6 @@ impl Pool {
             Some(text) => names_class(text.as_slice(), self.form(number)),
             None => false,
         }
-    }
-
-    /// Whether the descriptors that a constant names are of the right kind.
-    fn has_types(&self, constant: &Constant<'_>) -> bool
-        ensures { MatchBool result (IsTyped self.now constant.now) (¬ IsTyped self.now constant.now) }
-    {
-        self.is_typed(constant)
     }
 }
 
@@ -201,6 +193,16 @@ fn is_method(form: Option<Form>) -> bool
 {
     match form {
         Some(form) => form.slots.is_some(),
+        None => false,
+    }
+}
+
+/// Whether the form is there, and of a descriptor.
+fn is_descriptor(form: Option<Form>) -> bool
+    ensures { result ≡ option_map_or (λ f. f.field || takes_slots f) form false }
+{
+    match form {
+        Some(form) => form.field | form.slots.is_some(),
         None => false,
     }
 }

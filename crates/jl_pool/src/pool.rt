@@ -13,7 +13,7 @@ ghost use Rattle.jl_pool.specs.Faults.{PoolStands, IsPoolFault};
 ghost use Rattle.jl_pool.specs.Reading.Constants.{Gives, is_known, is_wide, of_bits, of_wide_bits, of_number, of_pair, payload_at, constant_at};
 ghost use Rattle.jl_pool.specs.Reading.Fields.{Finds};
 ghost use Rattle.jl_pool.specs.Reading.Forms.{form_of};
-ghost use Rattle.jl_pool.specs.Reading.Table.{with_second, IsTable};
+ghost use Rattle.jl_pool.specs.Reading.Table.{with_second, IsTable, Shows};
 
 use crate::bytes::{handle_at, pair_at, text_at, u2_at, u4_at, u8_at};
 use crate::constant::Constant;
@@ -111,6 +111,13 @@ impl Pool {
         constant_in(self.block.as_slice(), entry_at(&self.entries, number))
     }
 
+    /// What is kept of what stands at a number.
+    pub(crate) fn entry(&self, number: u16) -> Entry
+        ensures { Shows result (standing_at self.now number) }
+    {
+        entry_at(&self.entries, number)
+    }
+
     /// The text of the Utf8 at a number.
     pub fn utf8(&self, number: u16) -> Option<LentName<'_>>
         ensures { result ≡ text_at self.now number }
@@ -139,8 +146,8 @@ impl Pool {
     pub fn class_text(&self, number: u16) -> Option<LentName<'_>>
         ensures { result ≡ class_text_at self.now number }
     {
-        match self.constant(number) {
-            Some(Constant::Class(name)) => self.utf8(name),
+        match self.entry(number) {
+            Entry::Class(name) => self.utf8(name),
             _ => None,
         }
     }
@@ -149,8 +156,8 @@ impl Pool {
     pub fn class_name(&self, number: u16) -> Option<LentName<'_>>
         ensures { result ≡ class_at self.now number }
     {
-        match self.constant(number) {
-            Some(Constant::Class(name)) => self.text_if_class_name(name),
+        match self.entry(number) {
+            Entry::Class(name) => self.text_if_class_name(name),
             _ => None,
         }
     }
@@ -170,8 +177,8 @@ impl Pool {
     fn signed(&self, number: u16) -> Option<(LentName<'_>, LentName<'_>)>
         ensures { option_map signed_names result ≡ signed_at self.now number }
     {
-        match self.constant(number) {
-            Some(Constant::NameAndType(name, ty)) => Some((self.utf8(name)?, self.utf8(ty)?)),
+        match self.entry(number) {
+            Entry::NameAndType(name, ty) => Some((self.utf8(name)?, self.utf8(ty)?)),
             _ => None,
         }
     }
@@ -194,11 +201,9 @@ impl Pool {
     pub fn method_ref(&self, number: u16) -> Option<Reference<LentName<'_>>>
         ensures { result ≡ reference_at self.now number }
     {
-        match self.constant(number) {
-            Some(Constant::Methodref(owner, signed)) => self.reference(false, owner, signed),
-            Some(Constant::InterfaceMethodref(owner, signed)) => {
-                self.reference(true, owner, signed)
-            }
+        match self.entry(number) {
+            Entry::Methodref(owner, signed) => self.reference(false, owner, signed),
+            Entry::InterfaceMethodref(owner, signed) => { self.reference(true, owner, signed) }
             _ => None,
         }
     }
@@ -207,8 +212,8 @@ impl Pool {
     pub fn dynamic(&self, number: u16) -> Option<CallSiteSpecifier<LentName<'_>>>
         ensures { result ≡ call_site_at self.now number }
     {
-        match self.constant(number) {
-            Some(Constant::InvokeDynamic(bootstrap, signed)) => {
+        match self.entry(number) {
+            Entry::InvokeDynamic(bootstrap, signed) => {
                 let (name, ty) = self.signed(signed)?;
                 Some(CallSiteSpecifier {
                     bootstrap,
@@ -224,9 +229,25 @@ impl Pool {
     pub fn has_tag(&self, tag: u8, number: u16) -> bool
         ensures { result ≡ has_tag self.now (tag ∷ []) number }
     {
-        match self.constant(number) {
-            Some(constant) => tag == constant.tag(),
-            None => false,
+        match self.entry(number) {
+            Entry::Nothing => false,
+            Entry::Utf8(_, _, _) => tag == 1,
+            Entry::Integer(_) => tag == 3,
+            Entry::Float(_) => tag == 4,
+            Entry::Long(_) => tag == 5,
+            Entry::Double(_) => tag == 6,
+            Entry::Class(_) => tag == 7,
+            Entry::String(_) => tag == 8,
+            Entry::Fieldref(_, _) => tag == 9,
+            Entry::Methodref(_, _) => tag == 10,
+            Entry::InterfaceMethodref(_, _) => tag == 11,
+            Entry::NameAndType(_, _) => tag == 12,
+            Entry::MethodHandle(_, _) => tag == 15,
+            Entry::MethodType(_) => tag == 16,
+            Entry::Dynamic(_, _) => tag == 17,
+            Entry::InvokeDynamic(_, _) => tag == 18,
+            Entry::Module(_) => tag == 19,
+            Entry::Package(_) => tag == 20,
         }
     }
 
@@ -243,10 +264,10 @@ impl Pool {
     fn named_form(&self, number: u16) -> Option<Form>
         ensures { result ≡ option_map form_of (named_descriptor self.now number) }
     {
-        match self.constant(number) {
-            Some(Constant::Methodref(_, signed)) => self.descriptor_form(signed),
-            Some(Constant::InterfaceMethodref(_, signed)) => self.descriptor_form(signed),
-            Some(Constant::InvokeDynamic(_, signed)) => self.descriptor_form(signed),
+        match self.entry(number) {
+            Entry::Methodref(_, signed) => self.descriptor_form(signed),
+            Entry::InterfaceMethodref(_, signed) => self.descriptor_form(signed),
+            Entry::InvokeDynamic(_, signed) => self.descriptor_form(signed),
             _ => None,
         }
     }
@@ -255,8 +276,8 @@ impl Pool {
     pub(crate) fn descriptor_form(&self, number: u16) -> Option<Form>
         ensures { result ≡ option_map form_of (descriptor_at self.now number) }
     {
-        match self.constant(number) {
-            Some(Constant::NameAndType(_, ty)) => self.form(ty),
+        match self.entry(number) {
+            Entry::NameAndType(_, ty) => self.form(ty),
             _ => None,
         }
     }

@@ -64,6 +64,27 @@ pub record IsTable (block : List ℕ) (entries : List Entry) (cs : List Constant
 abbrev pub entry_at : List Entry → ℕ → Entry
 entry_at entries n = unwrap_or (slice_get entries n) kept.Nothing
 
+-- what an entry tells of what stands at its number, without the block
+abbrev pub Shows : Entry → Option Constant → Type 0
+Shows kept.Nothing there = there ≡ None
+Shows (kept.Utf8 at len form) there = (text : List ℕ) × (there ≡ Some (Utf8 text)) × (form ≡ form_of text)
+Shows (kept.Long at) there = (bits : ℕ) × (there ≡ Some (Long bits))
+Shows (kept.Double at) there = (bits : ℕ) × (there ≡ Some (Double bits))
+Shows (kept.Integer bits) there = there ≡ Some (Integer bits)
+Shows (kept.Float bits) there = there ≡ Some (Float bits)
+Shows (kept.Class name) there = there ≡ Some (Class name)
+Shows (kept.String text) there = there ≡ Some (String text)
+Shows (kept.Fieldref owner signed) there = there ≡ Some (Fieldref owner signed)
+Shows (kept.Methodref owner signed) there = there ≡ Some (Methodref owner signed)
+Shows (kept.InterfaceMethodref owner signed) there = there ≡ Some (InterfaceMethodref owner signed)
+Shows (kept.NameAndType name ty) there = there ≡ Some (NameAndType name ty)
+Shows (kept.MethodHandle kind reference) there = there ≡ Some (MethodHandle kind reference)
+Shows (kept.MethodType ty) there = there ≡ Some (MethodType ty)
+Shows (kept.Dynamic bootstrap signed) there = there ≡ Some (Dynamic bootstrap signed)
+Shows (kept.InvokeDynamic bootstrap signed) there = there ≡ Some (InvokeDynamic bootstrap signed)
+Shows (kept.Module name) there = there ≡ Some (Module name)
+Shows (kept.Package name) there = there ≡ Some (Package name)
+
 -- ---- the entry of a constant that ends at a place
 
 abbrev pub text_entry : List ℕ → ℕ → Entry
