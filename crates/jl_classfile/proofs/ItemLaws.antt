@@ -1,11 +1,10 @@
 -- Items one after another: how a loop over their count goes on, stops and ends.
 use Rattle.std.proofs.Common.{◌≡◌, ℕ, suc, ◌+◌, ◌-◌, ◌<◌, ◌≤◌, List, [], ◌∷◌, ◌++◌, Option, Some, None, refl, sym, ap, ◌∙◌, append_assoc, arith}
 use Rattle.std.proofs.lemmas.List.{append-nil}
-use Rattle.std.specs.Prelude.{option_map}
+use Rattle.std.specs.Prelude.{option_map, true}
+use Rattle.std.specs.Option.{is_some, option_map_or}
 use Rattle.jl_pool.specs.Reading.Fields.{◌>>=◌}
-use Rattle.jl_classfile.specs.declared.body.Broken.{Broken}
-use Rattle.jl_classfile.specs.declared.body.Broken.TheVariants.{Cut, Memory}
-use Rattle.jl_classfile.specs.Reading.Bodies.{Reader, Stops, with_front, items_at}
+use Rattle.jl_classfile.specs.Reading.Bodies.{Reader, with_front, items_at}
 
 front_twice : {X : Type 0} (a b : List X) (r : Option (List X × List ℕ)) → with_front a (with_front b r) ≡ with_front (a ++ b) r
 front_twice {X = X} a b None = refl
@@ -51,11 +50,6 @@ items-end {X = X} item n k front rest all h so_far =
     ∙ ap (λ (r : Option (List X × List ℕ)). with_front front r) (ap (λ (m : ℕ). items_at item m rest) none ∙ items-zero item rest)
     ∙ ap (λ (xs : List X). Some (xs, rest)) (append-nil front)
 
-pub items-broken : {X : Type 0} (item : Reader X) (n k : ℕ) (front : List X) (rest : List ℕ) (all : Option (List X × List ℕ)) (e : Broken) → k < n → Stops e (item rest)
-    → with_front front (items_at item (n - k) rest) ≡ all → Stops e all
-items-broken item n k front rest all Cut h stops so_far = items-stop item n k front rest all h stops so_far
-items-broken item n k front rest all Memory h stops so_far = tt
-
 -- ---- where the items are passed over
 
 rest-front : {X : Type 0} (front : List X) (read : Option (List X × List ℕ)) → option_map (λ x. x.1) (with_front front read) ≡ option_map (λ x. x.1) read
@@ -82,3 +76,29 @@ pub rest-end : {X : Type 0} (item : Reader X) (n k : ℕ) (rest : List ℕ) (all
 rest-end {X = X} item n k rest all h so_far =
     let none : n - k ≡ 0 = omega arith in
     sym so_far ∙ ap (λ (r : Option (List X × List ℕ)). option_map (λ y. y.1) r) (ap (λ (m : ℕ). items_at item m rest) none ∙ items-zero item rest)
+
+-- ---- where the items are read when they are asked for
+
+abbrev list_of : {X : Type 0} → Option (List X × List ℕ) → List X
+list_of read = option_map_or (λ x. x.0) read []
+
+behind_one : {X : Type 0} (x : X) (read : Option (List X × List ℕ)) → is_some (with_front (x ∷ []) read) ≡ true
+    → (is_some read ≡ true) × (list_of (with_front (x ∷ []) read) ≡ x ∷ list_of read)
+behind_one x None there = absurd cc
+behind_one x (Some y) there = (refl, refl)
+
+items-first : {X : Type 0} (item : Reader X) (n : ℕ) (bytes : List ℕ) → 1 ≤ n → items_at item n bytes ≡ (item bytes >>= λ x. with_front (x.0 ∷ []) (items_at item (n - 1) x.1))
+items-first item n bytes h = let next : n ≡ suc (n - 1) = omega arith in ap (λ (m : ℕ). items_at item m bytes) next ∙ items-suc item (n - 1) bytes
+
+-- one stands in front of the others
+pub one-more : {X : Type 0} (item : Reader X) (n : ℕ) (bytes after : List ℕ) (x : X) → 1 ≤ n → item bytes ≡ Some (x, after) → is_some (items_at item n bytes) ≡ true
+    → (is_some (items_at item (n - 1) after) ≡ true) × (list_of (items_at item n bytes) ≡ x ∷ list_of (items_at item (n - 1) after))
+one-more {X = X} item n bytes after x h e there =
+    let all = items-first item n bytes h ∙ ap (λ (o : Option (X × List ℕ)). o >>= λ y. with_front (y.0 ∷ []) (items_at item (n - 1) y.1)) e in
+    let behind = behind_one x (items_at item (n - 1) after) (sym (ap (λ (r : Option (List X × List ℕ)). is_some r) all) ∙ there) in
+    (behind.0, ap (λ (r : Option (List X × List ℕ)). list_of r) all ∙ behind.1)
+
+pub one-less : {X : Type 0} (item : Reader X) (n : ℕ) (bytes : List ℕ) → 1 ≤ n → item bytes ≡ None → is_some (items_at item n bytes) ≡ true → ⊥
+one-less {X = X} item n bytes h e there =
+    let all = items-first item n bytes h ∙ ap (λ (o : Option (X × List ℕ)). o >>= λ y. with_front (y.0 ∷ []) (items_at item (n - 1) y.1)) e in
+    let clash = sym (ap (λ (r : Option (List X × List ℕ)). is_some r) all) ∙ there in cc

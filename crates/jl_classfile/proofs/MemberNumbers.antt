@@ -1,11 +1,11 @@
 -- The numbers that a member names: of its name, of its descriptor, of its attributes' names.
 use Rattle.std.proofs.Common.{◌≡◌, ℕ, ◌<◌, List, [], ◌∷◌, length, get_or}
 use Rattle.std.proofs.Common.{refl, ap, ◌∙◌, arith}
-use Rattle.std.specs.Prelude.{map, All}
+use Rattle.std.specs.Prelude.{map}
 use Rattle.std.specs.List.{AllByRecursion, Contains}
 use Rattle.std.proofs.Math.ListN.{get_or-map}
 use Rattle.std.proofs.lemmas.List.{length-map}
-use Rattle.std.proofs.lemmas.List.Elements.{Contains-append_right, recursion_from_All}
+use Rattle.std.proofs.lemmas.List.Elements.{Contains-append_right}
 use Rattle.jl_classfile.specs.declared.body.Attribute.{Attribute}
 use Rattle.jl_classfile.specs.declared.body.Member.{Member}
 use Rattle.jl_pool.specs.Pools.{Pool}
@@ -16,8 +16,8 @@ All-names : (P : ℕ → Type 0) (attributes : List Attribute) → AllByRecursio
 All-names P [] h = tt
 All-names P (a ∷ more) h = (h.0, All-names P more h.1)
 
-pub member_links : (pool : Pool) (m : Member) → IsTextNumber pool m.name → IsTextNumber pool m.descriptor → All (λ a. IsTextNumber pool a.name) m.attributes → MemberLinks pool m
-member_links pool m name descriptor attributes = (name, (descriptor, All-names (IsTextNumber pool) m.attributes (recursion_from_All (λ a. IsTextNumber pool a.name) m.attributes attributes)))
+pub member_links : (pool : Pool) (m : Member) → IsTextNumber pool m.name → IsTextNumber pool m.descriptor → AllByRecursion (λ a. IsTextNumber pool a.name) m.attributes → MemberLinks pool m
+member_links pool m name descriptor attributes = (name, (descriptor, All-names (IsTextNumber pool) m.attributes attributes))
 
 Contains-here : {X : Type 0} (x : X) (xs : List X) → Contains (x ∷ xs) x
 Contains-here x xs = (0, omega arith, refl)

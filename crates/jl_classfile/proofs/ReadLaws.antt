@@ -1,10 +1,9 @@
 -- A fault of a pass is the first where no earlier pass fails.
 use Rattle.std.proofs.Common.{◌≡◌, ◌≢◌, ℕ, ◌<◌, ◌≤◌, true, false, List, [], ◌∷◌, ◌++◌, length, drop, Option, Some, None, Result, Ok}
 use Rattle.std.proofs.Common.{Err, refl, sym, ap, subst, ◌∙◌, arith}
-use Rattle.std.specs.Prelude.{◌==◌, All, IfOk, IfErr}
+use Rattle.std.specs.Prelude.{◌==◌, IfOk, IfErr}
 use Rattle.std.specs.List.{Contains}
 use Rattle.std.proofs.lemmas.Bool.Decides.{nat_tests}
-use Rattle.std.proofs.lemmas.List.Elements.{recursion_from_All}
 use Rattle.std.proofs.lemmas.List.{append-nil}
 use Rattle.std.proofs.Math.Seq.{drop-append_seam}
 use Rattle.jl_classfile.specs.declared.body.Attribute.{Attribute}
@@ -269,13 +268,9 @@ pub has_more : (xs : List ℕ) → false ≡ (length xs == 0) → xs ≢ []
 has_more [] e = absurd cc
 has_more (x ∷ xs) e = λ none. absurd cc
 
-pub links_of : (p : Pool) (b : Body) (attributes : List Attribute) → attributes ≡ b.attributes → All (λ a. IsTextNumber p a.name) attributes → ClassAttributeLinks p b
-links_of p b attributes e h = recursion_from_All (λ a. IsTextNumber p a.name) b.attributes (subst (λ (l : List Attribute). All (λ a. IsTextNumber p a.name) l) e h)
-
-pub attributes_fault : (major : ℕ) (p : Pool) (b : Body) (attributes : List Attribute) (f : ClassFault) → attributes ≡ b.attributes
-    → (a : Attribute) × (f ≡ BadLink a.name) × Contains attributes a × ¬ IsTextNumber p a.name → AttributesFault major p b f
-attributes_fault major p b attributes f e x =
-    subst (λ (g : ClassFault). AttributesFault major p b g) (sym x.1) (contains_name b.attributes x.0 (subst (λ (l : List Attribute). Contains l x.0) e x.2), x.3)
+pub attributes_fault : (major : ℕ) (p : Pool) (b : Body) (f : ClassFault) → (a : Attribute) × (f ≡ BadLink a.name) × Contains b.attributes a × ¬ IsTextNumber p a.name
+    → AttributesFault major p b f
+attributes_fault major p b f x = subst (λ (g : ClassFault). AttributesFault major p b g) (sym x.1) (contains_name b.attributes x.0 x.2, x.3)
 
 pub nest_fault : (major : ℕ) (p : Pool) (b : Body) (f : ClassFault) → f ≢ Memory
     → (f ≢ Memory → (f ≡ BadNest) × ((host : Option ℕ) (members : Option (List ℕ)) → ¬ Nest major p b host members)) → AttributesFault major p b f

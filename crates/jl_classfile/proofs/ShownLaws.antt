@@ -12,7 +12,7 @@ use Rattle.jl_code.specs.Site.{Site}
 use Rattle.jl_code.specs.declared.site.KeptSite.{KeptSite}
 use Rattle.jl_code.specs.Kept.{is_named, site_in, Adds}
 use Rattle.jl_classfile.specs.declared.class.KeptMethod.{KeptMethod}
-use Rattle.jl_classfile.specs.Kept.{method_in, is_ranged, AreMethodsKept}
+use Rattle.jl_classfile.specs.Kept.{method_in, is_ranged}
 use Rattle.jl_classfile.specs.declared.body.Attribute.{Attribute}
 use Rattle.jl_classfile.specs.declared.body.Member.{Member}
 use Rattle.jl_classfile.specs.declared.body.Body.{Body}
@@ -25,7 +25,7 @@ use Rattle.jl_classfile.specs.declared.fault.ClassFault.TheVariants.{Code, Memor
 use Rattle.jl_pool.specs.Pools.{Pool}
 use Rattle.jl_code.specs.Codes.{IsCode, sites_from}
 use Rattle.jl_classfile.specs.CodeAttributes.{HoldsCode, IsCodeOf}
-use Rattle.jl_classfile.specs.Conditions.{attributes_of, codes_of, HasCode, HaveCodes}
+use Rattle.jl_classfile.specs.Conditions.{codes_of, HasCode, HaveCodes}
 use Rattle.jl_code.specs.Faults.{IsScanFault}
 use Rattle.jl_classfile.specs.Faults.{CodesFault}
 use Rattle.jl_classfile.specs.Shown.{text_or_nothing, shown_method, shown_methods}
@@ -42,12 +42,9 @@ pub record HasInfo (p : Pool) (m : Member) (info : List ℕ) : Type 0 where
   pub only : codes_of p m ≡ attribute ∷ []
   pub is : attribute.info ≡ info
 
-pub has_info : (p : Pool) (m : Member) (attributes : List Attribute) (info : List ℕ) → attributes ≡ m.attributes → length (codes_of p m) ≤ 1
-    → (a : Attribute) × (more : List Attribute) × (attributes_of p (codes "Code") attributes ≡ a ∷ more) × (a.info ≡ info) → HasInfo p m info
-has_info p m attributes info same few h = by_more h.1 (ap (λ (l : List Attribute). attributes_of p (codes "Code") l) (sym same) ∙ h.2) where
-  by_more : (more : List Attribute) → codes_of p m ≡ h.0 ∷ more → HasInfo p m info
-  by_more [] e = record { attribute = h.0; only = e; is = h.3 }
-  by_more (b ∷ more) e = absurd (omega (arith, few, ap length e))
+pub has_info : (p : Pool) (m : Member) (a : Attribute) (more : List Attribute) (info : List ℕ) → length (codes_of p m) ≤ 1 → codes_of p m ≡ a ∷ more → info ≡ a.info → HasInfo p m info
+has_info p m a [] info few e is = record { attribute = a; only = e; is = sym is }
+has_info p m a (b ∷ more) info few e is = absurd (omega (arith, few, ap length e))
 
 code_of : (p : Pool) (info bytes : List ℕ) (is : List Instruction) → HoldsCode info bytes → IsCode p bytes is → IsCodeOf p info is
 code_of p info bytes is holds c = record { holds = subst (λ (t : List ℕ). HoldsCode info t) c.bytes_are holds; code = subst (λ (t : List ℕ). IsCode p t is) c.bytes_are c }

@@ -1,6 +1,6 @@
 //! What stands behind the constant pool of a class file, as it lies there.
 
-ghost use Rattle.std.specs.Prelude.{◌≡◌, ◌++◌, List, ℕ, IfOk, MatchOption, option_map};
+ghost use Rattle.std.specs.Prelude.{◌≡◌, ◌++◌, List, [], ◌∷◌, ℕ, IfOk, MatchOption, option_map};
 ghost use Rattle.jl_classfile.specs.Layouts.{body_text, BodySized};
 ghost use Rattle.jl_classfile.specs.CodeAttributes.{HoldsCode};
 ghost use Rattle.jl_pool.specs.Reading.Fields.{Finds, number_at};
@@ -10,6 +10,7 @@ use crate::fault::ClassFault;
 use jl_names::{Seq, Text};
 use jl_pool::{bytes_at, u2_at, u4_at};
 use std::alloc::{AllocFailed, Global};
+use std::marker::Model;
 
 /// An attribute (JVMS SE 17 §4.7): the number of its name, and its bytes.
 #[derive(Debug, Drop)]
@@ -18,13 +19,58 @@ pub struct Attribute<'a> {
     pub info: Text<'a>,
 }
 
+/// Attributes that are read where they are asked for: how many there are, and bytes that begin with them. A clause sees the
+/// list of them.
+#[derive(Debug, Drop)]
+pub struct Attributes<'a> {
+    count: u16,
+    bytes: &'a [u8],
+}
+
+impl<'a> Model for Attributes<'a> {
+    ghost use Rattle.std.specs.Prelude.{◌≡◌, List, true};
+    ghost use Rattle.jl_classfile.specs.declared.body.Attribute.{Attribute};
+
+    ghost Value = { List Attribute };
+
+    ghost use Rattle.jl_classfile.specs.Reading.Bodies.{attributes_in, are_attributes};
+
+    ghost view = { λ a. attributes_in a.count a.bytes.now };
+
+    ghost invariant = { λ a. are_attributes a.count a.bytes.now ≡ true };
+}
+
+impl<'a> Attributes<'a> {
+    /// All of them.
+    pub fn all(&self) -> Attributes<'a>
+        ensures { result ≡ self.now }
+    {
+        Attributes {
+            count: self.count,
+            bytes: self.bytes,
+        }
+    }
+
+    /// The first one and those behind it, unless there is none.
+    pub fn split_first(&self) -> Option<(Attribute<'a>, Attributes<'a>)>
+        ensures { MatchOption result (self.now ≡ []) (λ x. self.now ≡ x.0 ∷ x.1) }
+    {
+        if self.count == 0 {
+            return None;
+        }
+        let (attribute, bytes) = attribute_at(self.bytes)?;
+        let count = self.count - 1;
+        Some((attribute, Attributes { count, bytes }))
+    }
+}
+
 /// A field or a method (§4.5, §4.6): its access flags, the numbers of its name and descriptor, and its attributes.
 #[derive(Debug, Drop)]
 pub struct Member<'a> {
     pub flags: u16,
     pub name: u16,
     pub descriptor: u16,
-    pub attributes: Seq<Attribute<'a>>,
+    pub attributes: Attributes<'a>,
 }
 
 /// What stands behind the pool (§4.1).
@@ -36,7 +82,7 @@ pub struct Body<'a> {
     pub interfaces: Seq<u16>,
     pub fields: Seq<Member<'a>>,
     pub methods: Seq<Member<'a>>,
-    pub attributes: Seq<Attribute<'a>>,
+    pub attributes: Attributes<'a>,
 }
 
 /// Why no whole part stands at the front.
@@ -96,13 +142,13 @@ pub fn attribute_at(bytes: &[u8]) -> Option<(Attribute<'_>, &[u8])>
 /// What is read one after another, behind a count.
 trait Item<'a> {
     ghost use Rattle.std.specs.Prelude.{List, ℕ, Option};
-    ghost use Rattle.jl_classfile.specs.Reading.Bodies.{Reads};
+    ghost use Rattle.jl_pool.specs.Reading.Fields.{Finds};
 
     ghost reader: { List ℕ → Option (Self × List ℕ) };
 
     /// The item at the front, and what comes after it.
-    fn at(alloc: Global, bytes: &'a [u8]) -> Result<(Self, &'a [u8]), Broken>
-        ensures { Reads (λ x. (x.0, x.1.now)) result (reader bytes.now) };
+    fn at(bytes: &'a [u8]) -> Option<(Self, &'a [u8])>
+        ensures { Finds (λ x. (x.0, x.1.now)) result (reader bytes.now) };
 }
 
 impl<'a> Item<'a> for u16 {
@@ -110,18 +156,8 @@ impl<'a> Item<'a> for u16 {
 
     ghost reader = { number_at 2 };
 
-    fn at(_alloc: Global, bytes: &'a [u8]) -> Result<(u16, &'a [u8]), Broken> {
-        whole(u2_at(bytes))
-    }
-}
-
-impl<'a> Item<'a> for Attribute<'a> {
-    ghost use Rattle.jl_classfile.specs.Reading.Bodies.{attribute_at};
-
-    ghost reader = { attribute_at };
-
-    fn at(_alloc: Global, bytes: &'a [u8]) -> Result<(Attribute<'a>, &'a [u8]), Broken> {
-        whole(attribute_at(bytes))
+    fn at(bytes: &'a [u8]) -> Option<(u16, &'a [u8])> {
+        u2_at(bytes)
     }
 }
 
@@ -131,18 +167,18 @@ impl<'a> Item<'a> for Member<'a> {
     ghost reader = { member_at };
 
     #[tactic(auto, unfolding(crate::specs::Reading::Bodies::member_at))]
-    fn at(alloc: Global, bytes: &'a [u8]) -> Result<(Member<'a>, &'a [u8]), Broken> {
-        let (flags, rest) = whole(u2_at(bytes))?;
-        let (name, rest) = whole(u2_at(rest))?;
-        let (descriptor, rest) = whole(u2_at(rest))?;
-        let (attributes, rest) = counted_at(alloc, rest)?;
+    fn at(bytes: &'a [u8]) -> Option<(Member<'a>, &'a [u8])> {
+        let (flags, rest) = u2_at(bytes)?;
+        let (name, rest) = u2_at(rest)?;
+        let (descriptor, rest) = u2_at(rest)?;
+        let (attributes, rest) = attributes_at(rest)?;
         let member = Member {
             flags,
             name,
             descriptor,
             attributes,
         };
-        Ok((member, rest))
+        Some((member, rest))
     }
 }
 
@@ -157,7 +193,9 @@ fn items_at<'a, T: Item<'a> + Drop>(
     let mut items = Vec::new(alloc);
     let mut rest = bytes;
     'items: for _ in 0..count {
-        let (item, after) = T::at(alloc, rest)?;
+        let Some((item, after)) = T::at(rest) else {
+            return Err(Broken::Cut);
+        };
         items.push(item)?;
         rest = after;
     }
@@ -194,7 +232,7 @@ fn read_body<'a>(alloc: Global, bytes: &'a [u8]) -> Result<(Body<'a>, &'a [u8]),
     let (interfaces, rest) = counted_at(alloc, rest)?;
     let (fields, rest) = counted_at(alloc, rest)?;
     let (methods, rest) = counted_at(alloc, rest)?;
-    let (attributes, rest) = counted_at(alloc, rest)?;
+    let (attributes, rest) = whole(attributes_at(rest))?;
     let body = Body {
         flags,
         this_class,
@@ -228,16 +266,17 @@ fn read_code(info: &[u8]) -> Option<&[u8]>
     let (code, rest) = bytes_at(len as usize, rest)?;
     let (exceptions, rest) = u2_at(rest)?;
     let (_table, rest) = bytes_at(8 * usize::from(exceptions), rest)?;
-    let rest = behind_attributes(rest)?;
+    let (_attributes, rest) = attributes_at(rest)?;
     if rest.is_empty() { Some(code) } else { None }
 }
 
-/// What comes after attributes and their count.
-fn behind_attributes(bytes: &[u8]) -> Option<&[u8]>
-    ensures { option_map (λ rest. rest.now) result ≡ option_map (λ x. x.1) (counted_at attribute_at bytes.now) }
+/// Attributes behind their count, and what comes after them.
+fn attributes_at(bytes: &[u8]) -> Option<(Attributes<'_>, &[u8])>
+    ensures { Finds (λ x. (x.0, x.1.now)) result (counted_at attribute_at bytes.now) }
 {
-    let (count, rest) = u2_at(bytes)?;
-    behind_so_many(count, rest)
+    let (count, bytes) = u2_at(bytes)?;
+    let rest = behind_so_many(count, bytes)?;
+    Some((Attributes { count, bytes }, rest))
 }
 
 /// What comes after so many attributes.

@@ -2,7 +2,7 @@
 
 ghost use Rattle.std.specs.Prelude.{◌≡◌, ◌<◌, ◌+◌, ◌^◌, ◌≤◌, ◌≢◌, ◌∷◌, [], ◌&&◌, ℕ, List, Some, not, map, length, codes, slice_get, true, false, option_map, IfSome, All, OnOk, IfOk, IfErr, MatchBool, MatchOption};
 ghost use Rattle.std.specs.Option.{option_map_or, option_and_then};
-ghost use Rattle.std.specs.List.{Contains, list_any};
+ghost use Rattle.std.specs.List.{AllByRecursion, Contains, list_any};
 ghost use Rattle.std.specs.Str.{byte};
 ghost use Rattle.std.specs.Prelude.{◌==◌, ◌||◌, nat_le};
 ghost use Rattle.jl_names.specs.ClassNames.{is_unqualified};
@@ -15,7 +15,7 @@ ghost use Rattle.jl_classfile.specs.Faults.{MembersFault};
 ghost use Rattle.jl_pool.specs.Reading.Forms.{form_of, is_field};
 ghost use Rattle.jl_classfile.specs.Reading.Members.{on_text, field_fits, takes_few, method_fits, is_at, FieldTested, MethodTested, IsFieldFault, IsMethodFault, IsTwin, IsFirstTwin, IsTextAt, AreTexts};
 
-use crate::body::{Attribute, Body, Member};
+use crate::body::{Attribute, Attributes, Body, Member};
 use crate::fault::ClassFault;
 use crate::flags::{ABSTRACT, PRIVATE, PROTECTED, PUBLIC, STATIC, has_flag};
 use crate::links::is_interface;
@@ -38,12 +38,14 @@ fn check_text(pool: &Pool, number: u16) -> Result<(), ClassFault>
 }
 
 /// Tests that each attribute's name is a text.
-pub fn check_attribute_names(pool: &Pool, attributes: &[Attribute<'_>]) -> Result<(), ClassFault>
-    ensures ok { OnOk result (All (λ a. IsTextNumber pool.now a.name) attributes.now) }
+pub fn check_attribute_names(pool: &Pool, attributes: &Attributes<'_>) -> Result<(), ClassFault>
+    ensures ok { OnOk result (AllByRecursion (λ a. IsTextNumber pool.now a.name) attributes.now) }
     ensures fault { IfErr result (λ f. (a : Attribute) × (f ≡ BadLink a.name) × Contains attributes.now a × ¬ IsTextNumber pool.now a.name) }
 {
-    for attribute in attributes {
+    let mut rest = attributes.all();
+    while let Some((attribute, after)) = rest.split_first() {
         check_text(pool, attribute.name)?;
+        rest = after;
     }
     Ok(())
 }
@@ -159,27 +161,33 @@ fn is_called(pool: &Pool, name: &[u8], attribute: &Attribute<'_>) -> bool
     }
 }
 
-/// How many attributes are called so.
-pub fn count_called(pool: &Pool, name: &[u8], attributes: &[Attribute<'_>]) -> usize
-    ensures { result ≡ length (attributes_of pool.now name.now attributes.now) }
-{
-    attributes
-        .iter()
-        .filter(|a| is_called(pool, name, a))
-        .count()
-}
-
-/// The bytes of the first attribute that is called so.
-pub fn first_called<'a>(pool: &Pool, name: &[u8], attributes: &[Attribute<'a>]) -> Option<&'a [u8]>
+/// The first attribute that is called so, and those behind it.
+pub fn first_called<'a>(
+    pool: &Pool,
+    name: &[u8],
+    attributes: &Attributes<'a>,
+) -> Option<(Attribute<'a>, Attributes<'a>)>
     ensures { MatchOption result (attributes_of pool.now name.now attributes.now ≡ [])
-        (λ info. (a : Attribute) × (more : List Attribute) × (attributes_of pool.now name.now attributes.now ≡ a ∷ more) × (a.info ≡ info.now)) }
+        (λ x. attributes_of pool.now name.now attributes.now ≡ x.0 ∷ attributes_of pool.now name.now x.1) }
 {
-    for attribute in attributes {
-        if is_called(pool, name, attribute) {
-            return Some(attribute.info.as_bytes());
+    let mut rest = attributes.all();
+    while let Some((attribute, after)) = rest.split_first() {
+        if is_called(pool, name, &attribute) {
+            return Some((attribute, after));
         }
+        rest = after;
     }
     None
+}
+
+/// Whether two attributes or more are called so.
+pub fn are_two_called(pool: &Pool, name: &[u8], attributes: &Attributes<'_>) -> bool
+    ensures { MatchBool result (2 ≤ length (attributes_of pool.now name.now attributes.now)) (length (attributes_of pool.now name.now attributes.now) ≤ 1) }
+{
+    match first_called(pool, name, attributes) {
+        Some((_first, rest)) => first_called(pool, name, &rest).is_some(),
+        None => false,
+    }
 }
 
 /// Tests a field, behind so many others.
@@ -192,7 +200,7 @@ fn check_field(pool: &Pool, place: u32, field: &Member<'_>) -> Result<(), ClassF
     if !field_fits(pool, field) {
         return Err(ClassFault::BadMember(place));
     }
-    check_attribute_names(pool, field.attributes.as_slice())?;
+    check_attribute_names(pool, &field.attributes)?;
     Ok(())
 }
 
@@ -216,8 +224,8 @@ fn check_method(
     if twin {
         return Err(ClassFault::DuplicateMethod(index));
     }
-    check_attribute_names(pool, method.attributes.as_slice())?;
-    if count_called(pool, CODE, method.attributes.as_slice()) > 1 {
+    check_attribute_names(pool, &method.attributes)?;
+    if are_two_called(pool, CODE, &method.attributes) {
         return Err(ClassFault::TwoCodes(index));
     }
     Ok(())

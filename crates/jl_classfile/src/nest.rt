@@ -5,10 +5,10 @@ ghost use Rattle.jl_classfile.specs.declared.fault.ClassFault.TheVariants.{BadNe
 ghost use Rattle.jl_classfile.specs.Conditions.{IsClassNumber, IsHost, AreMembers, attributes_of, Nest};
 ghost use Rattle.jl_classfile.specs.Reading.Nests.{IsOnly, Holds};
 
-use crate::body::{Attribute, Body, Broken, counted_at};
+use crate::body::{Attributes, Body, Broken, counted_at};
 use crate::fault::ClassFault;
 use crate::links::check_classes;
-use crate::member::{count_called, first_called};
+use crate::member::{are_two_called, first_called};
 use jl_names::Seq;
 use jl_pool::{Pool, u2_at};
 use std::alloc::Global;
@@ -31,15 +31,18 @@ pub struct NestNumbers {
 fn only_called<'a>(
     pool: &Pool,
     name: &[u8],
-    attributes: &[Attribute<'a>],
+    attributes: &Attributes<'a>,
 ) -> Result<Option<&'a [u8]>, ClassFault>
     ensures ok { IfOk result (λ only. IsOnly (attributes_of pool.now name.now attributes.now) (option_map (λ info. info.now) only)) }
     ensures fault { IfErr result (λ f. (f ≡ BadNest) × (2 ≤ length (attributes_of pool.now name.now attributes.now))) }
 {
-    if count_called(pool, name, attributes) > 1 {
+    if are_two_called(pool, name, attributes) {
         return Err(ClassFault::BadNest);
     }
-    Ok(first_called(pool, name, attributes))
+    match first_called(pool, name, attributes) {
+        Some((attribute, _behind)) => Ok(Some(attribute.info.as_bytes())),
+        None => Ok(None),
+    }
 }
 
 /// The number that a NestHost holds, where it is a class's.
@@ -86,7 +89,7 @@ fn members_in(alloc: Global, pool: &Pool, info: &[u8]) -> Result<Seq<u16>, Class
 fn held_by(
     alloc: Global,
     pool: &Pool,
-    attributes: &[Attribute<'_>],
+    attributes: &Attributes<'_>,
 ) -> Result<NestNumbers, ClassFault>
     ensures ok { IfOk result (λ n. Holds pool.now attributes.now n.host n.members) }
     ensures fault { IfErr result (λ f. f ≢ Memory → (f ≡ BadNest) × ((host : Option ℕ) (members : Option (List ℕ)) → ¬ Holds pool.now attributes.now host members)) }
@@ -129,5 +132,5 @@ pub fn nest_of(
             members: None,
         });
     }
-    held_by(alloc, pool, body.attributes.as_slice())
+    held_by(alloc, pool, &body.attributes)
 }

@@ -94,10 +94,10 @@ fn add_sites(
     ensures ok { OnOk result (SitesAdded pool.now method.now sites.old.items sites.new.items) }
     ensures fault { IfErr result (IsMethodFault pool.now index method.now) }
 {
-    let Some(info) = first_called(pool, CODE, method.attributes.as_slice()) else {
+    let Some((attribute, _behind)) = first_called(pool, CODE, &method.attributes) else {
         return Ok(());
     };
-    let Some(code) = code_in(info) else {
+    let Some(code) = code_in(attribute.info.as_bytes()) else {
         return Err(ClassFault::Code(index, CodeFault::BadLayout));
     };
     match scan(code, pool, sites) {
@@ -268,7 +268,7 @@ pub fn read_class(alloc: Global, bytes: &[u8]) -> Result<ClassFile, ClassFault>
     let (major, pool, body) = laid_at(alloc, bytes)?;
     check_links(major, &pool, &body)?;
     check_members(alloc, &pool, &body)?;
-    check_attribute_names(&pool, body.attributes.as_slice())?;
+    check_attribute_names(&pool, &body.attributes)?;
     let nest = nest_of(alloc, major, &pool, &body)?;
     shown(alloc, pool, &body, &nest)
 }

@@ -1,6 +1,7 @@
 -- What stands behind the pool, read from the front: the value and what is left, or none where the bytes end before.
 -- No public clause cites this.
-use Rattle.std.specs.Prelude.{◌≡◌, ℕ, zero, suc, ◌*◌, ◌==◌, nat_lt, ◌||◌, if◌then◌else◌, List, [], ◌∷◌, ◌++◌, length, Option, Some, None, option_map, Result, Ok, Err, ⊤}
+use Rattle.std.specs.Prelude.{◌≡◌, ℕ, zero, suc, ◌*◌, ◌==◌, nat_lt, ◌||◌, if◌then◌else◌, Bool, List, [], ◌∷◌, ◌++◌, length, Option, Some, None, option_map, Result, Ok, Err, ⊤}
+use Rattle.std.specs.Option.{is_some, option_map_or}
 use Rattle.jl_classfile.specs.declared.body.Attribute.{Attribute}
 use Rattle.jl_classfile.specs.declared.body.Member.{Member}
 use Rattle.jl_classfile.specs.declared.body.Body.{Body}
@@ -41,6 +42,14 @@ attribute_at bytes = do
   len ← number_at 4 name.1
   info ← bytes_at len.0 len.1
   Some (record { name = name.0; info = info.0 }, info.1)
+
+-- the attributes that stand there, so many
+abbrev pub attributes_in : ℕ → List ℕ → List Attribute
+attributes_in count bytes = option_map_or (λ x. x.0) (items_at attribute_at count bytes) []
+
+-- so many stand there
+abbrev pub are_attributes : ℕ → List ℕ → Bool
+are_attributes count bytes = is_some (items_at attribute_at count bytes)
 
 unfoldable pub member_at : List ℕ → Option (Member × List ℕ)
 member_at bytes = do

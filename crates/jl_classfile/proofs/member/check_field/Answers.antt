@@ -12,11 +12,11 @@ returns-then-not-field_fits-clause-fault c = (refl, not_when _ _ (field_fits-is 
 pub returns-in_err-check_attribute_names-clause-fault : goal.returns-in_err-check_attribute_names-clause-fault
 returns-in_err-check_attribute_names-clause-fault c =
     let p = err_from_is_err_and c.from_residual-in_err-check_attribute_names.result c.from_residual-in_err-check_attribute_names.ensures.1 in
-    let f = rw c.as_slice.ensures at c.in_err-check_attribute_names.ensures.fault in
+    let f = c.in_err-check_attribute_names.ensures.fault in
     rw (p.1, p.2) (subst (λ (g : ClassFault). IsFieldFault c.args.pool.now c.args.place c.args.field.now g) (sym f.1) (at_attribute c.args.field.now f.0 f.2, f.3))
 
 pub returns-clause-ok : goal.returns-clause-ok
 returns-clause-ok c = record {
-  links = member_links c.args.pool.now c.args.field.now c.in_ok-check_text.ensures.ok c.in_ok-check_text-2.ensures.ok (rw c.as_slice.ensures at c.in_ok-check_attribute_names.ensures.ok);
+  links = member_links c.args.pool.now c.args.field.now c.in_ok-check_text.ensures.ok c.in_ok-check_text-2.ensures.ok c.in_ok-check_attribute_names.ensures.ok;
   fits = yes_when _ _ (field_fits-is c.args.pool.now c.args.field.now) (sym c.field_fits.ensures ∙ c.if-not-field_fits.false);
 }

@@ -1,4 +1,4 @@
-use Rattle.std.proofs.Common.{◌∙◌, refl, sym, subst, arith}
+use Rattle.std.proofs.Common.{◌∙◌, refl, sym, subst}
 use Rattle.std.proofs.lemmas.Result.{err_from_is_err_and}
 use Rattle.jl_classfile.specs.declared.fault.ClassFault.{ClassFault}
 use Rattle.jl_classfile.specs.Reading.Members.{IsMethodFault}
@@ -12,18 +12,17 @@ returns-then-not-method_fits-clause-fault c = (refl, not_when _ _ (method_fits-i
 pub returns-in_err-check_attribute_names-clause-fault : goal.returns-in_err-check_attribute_names-clause-fault
 returns-in_err-check_attribute_names-clause-fault c =
     let p = err_from_is_err_and c.from_residual-in_err-check_attribute_names.result c.from_residual-in_err-check_attribute_names.ensures.1 in
-    let f = rw c.as_slice.ensures at c.in_err-check_attribute_names.ensures.fault in
+    let f = c.in_err-check_attribute_names.ensures.fault in
     rw (p.1, p.2)
     (subst (λ (g : ClassFault). IsMethodFault c.args.pool.now c.args.interface c.args.place c.args.index c.args.twin c.args.method.now g) (sym f.1)
     (at_attribute c.args.method.now f.0 f.2, f.3))
 
 pub returns-clause-ok : goal.returns-clause-ok
-returns-clause-ok c =
-    let counted = rw c.as_slice-2.ensures at c.count_called.ensures in (
-      record {
-        links = member_links c.args.pool.now c.args.method.now c.in_ok-check_text.ensures.ok c.in_ok-check_text-2.ensures.ok (rw c.as_slice.ensures at c.in_ok-check_attribute_names.ensures.ok);
-        fits = yes_when _ _ (method_fits-is c.args.pool.now c.args.interface c.args.method.now) (sym c.method_fits.ensures ∙ c.if-not-method_fits.false);
-        one_code = (let few = c.if-count_called-gt1.false in omega (arith, counted, few));
-      },
-      c.if-twin.false,
-    )
+returns-clause-ok c = (
+  record {
+    links = member_links c.args.pool.now c.args.method.now c.in_ok-check_text.ensures.ok c.in_ok-check_text-2.ensures.ok c.in_ok-check_attribute_names.ensures.ok;
+    fits = yes_when _ _ (method_fits-is c.args.pool.now c.args.interface c.args.method.now) (sym c.method_fits.ensures ∙ c.if-not-method_fits.false);
+    one_code = c.if-are_two_called.ensures;
+  },
+  c.if-twin.false,
+)

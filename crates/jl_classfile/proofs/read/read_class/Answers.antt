@@ -1,5 +1,5 @@
 use Rattle.std.proofs.lemmas.Result.{err_from_is_err_and}
-use Rattle.jl_classfile.proofs.ReadLaws.{links_first, members_first, attributes_first, attributes_fault, nest_fault, links_of, classes_are, faults_are}
+use Rattle.jl_classfile.proofs.ReadLaws.{links_first, members_first, attributes_first, attributes_fault, nest_fault, classes_are, faults_are}
 use Rattle.jl_classfile.proofs.read.read_class.Goals as goal
 
 pub returns-in_err-check_links-clause-fault : goal.returns-in_err-check_links-clause-fault
@@ -25,7 +25,7 @@ returns-in_err-check_attribute_names-clause-fault c =
     attributes_first c.args.bytes.now c.in_ok-major.major c.in_ok-major.pool c.in_ok-major.body c.in_ok-major.ensures.ok c.in_err-check_attribute_names.field-0.0
     c.in_ok-check_links.ensures.ok
     c.in_ok-check_members.ensures.ok
-    (attributes_fault c.in_ok-major.major c.in_ok-major.pool c.in_ok-major.body c.as_slice.result.now c.in_err-check_attribute_names.field-0.0 c.as_slice.ensures
+    (attributes_fault c.in_ok-major.major c.in_ok-major.pool c.in_ok-major.body c.in_err-check_attribute_names.field-0.0
     c.in_err-check_attribute_names.ensures.fault))
 
 pub returns-in_err-nest-clause-fault : goal.returns-in_err-nest-clause-fault
@@ -38,11 +38,9 @@ returns-in_err-nest-clause-fault c =
 pub returns-clause-ok : goal.returns-clause-ok
 returns-clause-ok c =
     classes_are c.args.bytes.now c.in_ok-major.major c.in_ok-major.pool c.in_ok-major.body c.in_ok-major.ensures.ok c.in_ok-check_links.ensures.ok c.in_ok-check_members.ensures.ok
-    (links_of c.in_ok-major.pool c.in_ok-major.body c.as_slice.result.now c.as_slice.ensures c.in_ok-check_attribute_names.ensures.ok)
-    c.in_ok-nest.nest.host c.in_ok-nest.nest.members c.in_ok-nest.ensures.ok c.shown.result c.shown.ensures.ok
+    c.in_ok-check_attribute_names.ensures.ok c.in_ok-nest.nest.host c.in_ok-nest.nest.members c.in_ok-nest.ensures.ok c.shown.result c.shown.ensures.ok
 
 pub returns-clause-fault : goal.returns-clause-fault
 returns-clause-fault c =
     faults_are c.args.bytes.now c.in_ok-major.major c.in_ok-major.pool c.in_ok-major.body c.in_ok-major.ensures.ok c.in_ok-check_links.ensures.ok c.in_ok-check_members.ensures.ok
-    (links_of c.in_ok-major.pool c.in_ok-major.body c.as_slice.result.now c.as_slice.ensures c.in_ok-check_attribute_names.ensures.ok)
-    c.in_ok-nest.nest.host c.in_ok-nest.nest.members c.in_ok-nest.ensures.ok c.shown.result c.shown.ensures.fault
+    c.in_ok-check_attribute_names.ensures.ok c.in_ok-nest.nest.host c.in_ok-nest.nest.members c.in_ok-nest.ensures.ok c.shown.result c.shown.ensures.fault

@@ -1,5 +1,3 @@
-use Rattle.std.proofs.Common.{length, map, sym, ◌∙◌}
-use Rattle.jl_classfile.specs.Kept.{method_in}
 use Rattle.jl_classfile.proofs.ShownLaws.{as_many_kept}
 use Rattle.jl_classfile.proofs.LinkLaws.{extends}
 use Rattle.jl_classfile.proofs.read.shown.Goals as goal
