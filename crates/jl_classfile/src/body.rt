@@ -9,7 +9,7 @@ ghost use Rattle.jl_classfile.specs.Reading.Bodies.{Reads, items_at, counted_at,
 use crate::fault::ClassFault;
 use jl_names::{Seq, Text};
 use jl_pool::{bytes_at, u2_at, u4_at};
-use std::alloc::{AllocFailed, Global};
+use std::alloc::{AllocError, AllocFailed, Global};
 use std::marker::Model;
 
 /// An attribute (JVMS SE 17 §4.7): the number of its name, and its bytes.
@@ -94,6 +94,16 @@ pub enum Broken {
     Memory,
 }
 
+impl From<AllocError> for Broken {
+    ghost use Rattle.jl_classfile.specs.declared.body.Broken.TheVariants.{Memory};
+
+    ghost from_gives = { λ _ f. f ≡ Memory };
+
+    fn from(_e: AllocError) -> Broken {
+        Broken::Memory
+    }
+}
+
 impl<T: Drop> From<AllocFailed<T>> for Broken {
     ghost use Rattle.jl_classfile.specs.declared.body.Broken.TheVariants.{Memory};
 
@@ -139,7 +149,7 @@ pub fn attribute_at(bytes: &[u8]) -> Option<(Attribute<'_>, &[u8])>
     Some((Attribute { name, info }, rest))
 }
 
-/// What is read one after another, behind a count.
+/// What is read one after another, behind a count. An item takes two bytes or more.
 trait Item<'a> {
     ghost use Rattle.std.specs.Prelude.{List, ℕ, Option};
     ghost use Rattle.jl_pool.specs.Reading.Fields.{Finds};
@@ -190,7 +200,9 @@ fn items_at<'a, T: Item<'a> + Drop>(
 ) -> Result<(Seq<T>, &'a [u8]), Broken>
     ensures { Reads (λ x. (x.0, x.1.now)) result (items_at T.reader count bytes.now) }
 {
-    let mut items = Vec::new(alloc);
+    // Where the bytes can't hold so many, no room is made for them.
+    let room = usize::from(count).min(bytes.len() / 2);
+    let mut items = Vec::with_capacity(alloc, room)?;
     let mut rest = bytes;
     'items: for _ in 0..count {
         let Some((item, after)) = T::at(rest) else {

@@ -120,7 +120,7 @@ fn kept_class(alloc: Global, pool: &Pool, number: u16) -> Result<Name, AllocErro
 fn kept_classes(alloc: Global, pool: &Pool, numbers: &[u16]) -> Result<Seq<Name>, AllocError>
     ensures { IfOk result (λ names. names ≡ map (name_or_nothing pool.now) numbers.now) }
 {
-    let mut names = Vec::new(alloc);
+    let mut names = Vec::with_capacity(alloc, numbers.len())?;
     for number in numbers {
         names.push(kept_class(alloc, pool, *number)?)?;
     }
@@ -194,7 +194,8 @@ fn methods_of(
     ensures ok { IfOk result (λ x. MethodsKept pool.now members.now x.1.items x.0) }
     ensures fault { IfErr result (λ f. f ≢ Memory → (i : ℕ) × (m : Member) × (slice_get members.now i ≡ Some m) × IsMethodFault pool.now i m f) }
 {
-    let mut sites = Vec::new(alloc);
+    // Class files have about one invocation for each four numbers of the pool.
+    let mut sites = Vec::with_capacity(alloc, pool.len() / 4)?;
     let mut methods = Vec::with_capacity(alloc, members.len())?;
     for (i, member) in members.iter().enumerate() {
         methods.push(method_of(pool, i as u16, member, &mut sites)?)?;
