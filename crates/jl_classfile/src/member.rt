@@ -181,7 +181,7 @@ pub fn first_called<'a>(
 }
 
 /// Whether two attributes or more are called so.
-pub fn are_two_called(pool: &Pool, name: &[u8], attributes: &Attributes<'_>) -> bool
+fn are_two_called(pool: &Pool, name: &[u8], attributes: &Attributes<'_>) -> bool
     ensures { MatchBool result (2 ≤ length (attributes_of pool.now name.now attributes.now)) (length (attributes_of pool.now name.now attributes.now) ≤ 1) }
 {
     match first_called(pool, name, attributes) {

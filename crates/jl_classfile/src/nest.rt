@@ -8,7 +8,7 @@ ghost use Rattle.jl_classfile.specs.Reading.Nests.{IsOnly, Holds};
 use crate::body::{Attributes, Body, Broken, counted_at};
 use crate::fault::ClassFault;
 use crate::links::check_classes;
-use crate::member::{are_two_called, first_called};
+use crate::member::first_called;
 use jl_names::Seq;
 use jl_pool::{Pool, u2_at};
 use std::alloc::Global;
@@ -36,13 +36,13 @@ fn only_called<'a>(
     ensures ok { IfOk result (λ only. IsOnly (attributes_of pool.now name.now attributes.now) (option_map (λ info. info.now) only)) }
     ensures fault { IfErr result (λ f. (f ≡ BadNest) × (2 ≤ length (attributes_of pool.now name.now attributes.now))) }
 {
-    if are_two_called(pool, name, attributes) {
+    let Some((attribute, behind)) = first_called(pool, name, attributes) else {
+        return Ok(None);
+    };
+    if first_called(pool, name, &behind).is_some() {
         return Err(ClassFault::BadNest);
     }
-    match first_called(pool, name, attributes) {
-        Some((attribute, _behind)) => Ok(Some(attribute.info.as_bytes())),
-        None => Ok(None),
-    }
+    Ok(Some(attribute.info.as_bytes()))
 }
 
 /// The number that a NestHost holds, where it is a class's.

@@ -121,6 +121,9 @@ pub fn first_twin(
     ensures ok { IfOk result (λ twin. MatchOption twin ((i : ℕ) → ¬ IsTwin pool.now methods.now i) (IsFirstTwin pool.now methods.now)) }
     ensures fault { IfErr result (λ f. f ≡ Memory) }
 {
+    if methods.len() < 2 {
+        return Ok(None);
+    }
     // Equal texts have equal prints, so the texts are looked at only where two prints are equal.
     if are_distinct(prints_of(alloc, pool, methods)?) {
         return Ok(None);
