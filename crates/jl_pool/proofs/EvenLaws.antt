@@ -25,34 +25,34 @@ even_units (b ∷ text) even =
     ((first.1, rest.0), ap (λ (t : List ℕ). b ∷ t) rest.1 ∙ rw first.0 refl)
 
 -- what is kept of a constant takes its numbers, and tells whether its text may be bad
-of_kept : (c : Constant) (end : ℕ) → (takes_two (entry_of c end) ≡ is_double c) × (has_odd c ≡ false → HasText c)
-of_kept (Utf8 text) end = (refl, λ even. let units = even_units text even in (text, record { in_range = units.0; bytes = units.1 }))
-of_kept (Integer bits) end = (refl, λ even. tt)
-of_kept (Float bits) end = (refl, λ even. tt)
-of_kept (Long bits) end = (refl, λ even. tt)
-of_kept (Double bits) end = (refl, λ even. tt)
-of_kept (Class name) end = (refl, λ even. tt)
-of_kept (String text) end = (refl, λ even. tt)
-of_kept (Fieldref owner nt) end = (refl, λ even. tt)
-of_kept (Methodref owner nt) end = (refl, λ even. tt)
-of_kept (InterfaceMethodref owner nt) end = (refl, λ even. tt)
-of_kept (NameAndType name ty) end = (refl, λ even. tt)
-of_kept (MethodHandle kind reference) end = (refl, λ even. tt)
-of_kept (MethodType ty) end = (refl, λ even. tt)
-of_kept (Dynamic bootstrap nt) end = (refl, λ even. tt)
-of_kept (InvokeDynamic bootstrap nt) end = (refl, λ even. tt)
-of_kept (Module name) end = (refl, λ even. tt)
-of_kept (Package name) end = (refl, λ even. tt)
+of_kept : (c : Constant) (start : ℕ) → (takes_two (entry_of c start) ≡ is_double c) × (has_odd c ≡ false → HasText c)
+of_kept (Utf8 text) start = (refl, λ even. let units = even_units text even in (text, record { in_range = units.0; bytes = units.1 }))
+of_kept (Integer bits) start = (refl, λ even. tt)
+of_kept (Float bits) start = (refl, λ even. tt)
+of_kept (Long bits) start = (refl, λ even. tt)
+of_kept (Double bits) start = (refl, λ even. tt)
+of_kept (Class name) start = (refl, λ even. tt)
+of_kept (String text) start = (refl, λ even. tt)
+of_kept (Fieldref owner nt) start = (refl, λ even. tt)
+of_kept (Methodref owner nt) start = (refl, λ even. tt)
+of_kept (InterfaceMethodref owner nt) start = (refl, λ even. tt)
+of_kept (NameAndType name ty) start = (refl, λ even. tt)
+of_kept (MethodHandle kind reference) start = (refl, λ even. tt)
+of_kept (MethodType ty) start = (refl, λ even. tt)
+of_kept (Dynamic bootstrap nt) start = (refl, λ even. tt)
+of_kept (InvokeDynamic bootstrap nt) start = (refl, λ even. tt)
+of_kept (Module name) start = (refl, λ even. tt)
+of_kept (Package name) start = (refl, λ even. tt)
 
 pub even_text : (c : Constant) → has_odd c ≡ false → HasText c
 even_text c = (of_kept c 0).1
 
-pub entries_kept : (c : Constant) (end : ℕ) → with_second (entry_of c end) ≡ entries_of c end
-entries_kept c end = ap (λ (double : Bool). entry_of c end ∷ cond double (kept.Nothing ∷ []) []) (of_kept c end).0
+pub entries_kept : (c : Constant) (start : ℕ) → with_second (entry_of c start) ≡ entries_of c start
+entries_kept c start = ap (λ (double : Bool). entry_of c start ∷ cond double (kept.Nothing ∷ []) []) (of_kept c start).0
 
 second_number : (double : Bool) → length (cond double (kept.Nothing ∷ []) []) ≡ length {A = Option Constant} (cond double (None ∷ []) [])
 second_number true = refl
 second_number false = refl
 
-pub numbers_kept : (c : Constant) (end : ℕ) → length (with_second (entry_of c end)) ≡ length (places_of c)
-numbers_kept c end = ap length (entries_kept c end) ∙ omega (arith, second_number (is_double c))
+pub numbers_kept : (c : Constant) (start : ℕ) → length (with_second (entry_of c start)) ≡ length (places_of c)
+numbers_kept c start = ap length (entries_kept c start) ∙ omega (arith, second_number (is_double c))

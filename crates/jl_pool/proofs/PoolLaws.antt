@@ -1,6 +1,6 @@
 -- One constant after another.
 use Rattle.std.proofs.Common.{◌≡◌, ℕ, ◌+◌, ◌-◌, ◌^◌, ◌<◌, ◌≤◌, Bool, true, false, cond, eqb, not, ◌&&◌, ◌||◌, List, [], ◌∷◌, ◌++◌}
-use Rattle.std.proofs.Common.{length, take, Option, Some, None, Ok, Err, refl, sym, ap, subst, ◌∙◌, append_assoc, length-append, get_or, arith, inl, inr}
+use Rattle.std.proofs.Common.{length, take, Option, Some, None, Result, Ok, Err, refl, sym, ap, subst, ◌∙◌, append_assoc, length-append, get_or, arith, inl, inr}
 use Rattle.std.specs.Prelude.{◌⊎◌, IsTrue}
 use Rattle.std.specs.List.{flat_map, AllByRecursion}
 use Rattle.std.proofs.lemmas.Bool.Decides.{nat_tests}
@@ -10,6 +10,7 @@ use Rattle.jl_names.proofs.Tests.{All-push, texts-push}
 use Rattle.jl_pool.specs.declared.constant.Constant.{Constant}
 use Rattle.jl_pool.specs.declared.constant.Constant.TheVariants.{Utf8, Integer, Float, Long, Double, Class, String, Fieldref, Methodref, InterfaceMethodref, NameAndType}
 use Rattle.jl_pool.specs.declared.constant.Constant.TheVariants.{MethodHandle, MethodType, Dynamic, InvokeDynamic, Module, Package}
+use Rattle.jl_pool.specs.declared.pool.Stop.{Stop}
 use Rattle.jl_pool.specs.declared.pool.Stop.TheVariants.{Cut, Tag}
 use Rattle.jl_pool.specs.declared.pool_fault.PoolFault.{PoolFault}
 use Rattle.jl_pool.specs.declared.pool_fault.PoolFault.TheVariants.{Truncated, BadTag}
@@ -18,7 +19,7 @@ use Rattle.jl_pool.specs.Constants.{tag, constant_text, IsSized}
 use Rattle.jl_pool.specs.Pools.{places, places_of, HasText, HaveTexts, is_linked, IsTyped, IsSoundPool}
 use Rattle.jl_pool.specs.Faults.{Opens, IsBadTag, TagFault, PoolStands, IsPoolFault, AllAt}
 use Rattle.jl_pool.specs.Reading.Entries.{IsCheckFault}
-use Rattle.jl_pool.specs.Reading.Table.{IsTable, entries_of, has_odd, with_second, kept_of}
+use Rattle.jl_pool.specs.Reading.Table.{IsTable, entries_of, has_odd, with_second, kept_of, keep_read}
 use Rattle.jl_pool.specs.declared.entry.Entry.{Entry}
 use Rattle.jl_pool.specs.declared.entry.Entry.TheVariants as kept
 use Rattle.jl_pool.specs.declared.entry.Kept.{Kept}
@@ -28,7 +29,7 @@ use Rattle.jl_pool.proofs.Fields.{IsBytes, u2_again, u2_takes, u4_again, some_is
 use Rattle.jl_pool.proofs.EvenLaws.{even_text, entries_kept, numbers_kept}
 use Rattle.jl_pool.proofs.MarkLaws.{neither}
 use Rattle.jl_pool.proofs.PlaceLaws.{All-places}
-use Rattle.jl_pool.proofs.TableLaws.{table_none, table_more, texts_short, text_short}
+use Rattle.jl_pool.proofs.TableLaws.{table_none, table_more, texts_short}
 use Rattle.jl_pool.proofs.ConstantLaws.{tag_known, constant_again, constant_takes, constant_tag, constant_bad, constant_one}
 
 -- ---- how many numbers a constant takes
@@ -120,40 +121,25 @@ ends_below count place rest c after fits lt e =
     let le = wide_fits count place (is_wide (tag c)) lt r.room in
     omega (arith, places_by_tag c, le)
 
-end_is : (bytes : List ℕ) (cs : List Constant) (c : Constant) (rest after : List ℕ) → bytes ≡ flat_map constant_text cs ++ rest → rest ≡ constant_text c ++ after
-    → length bytes - length after ≡ length (flat_map constant_text cs) + length (constant_text c)
-end_is bytes cs c rest after e f =
-    omega (arith, ap length e, ap length f, length-append (flat_map constant_text cs) rest, length-append (constant_text c) after)
+start_is : (bytes : List ℕ) (cs : List Constant) (rest : List ℕ) → bytes ≡ flat_map constant_text cs ++ rest → length bytes - length rest ≡ length (flat_map constant_text cs)
+start_is bytes cs rest e = omega (arith, ap length e, length-append (flat_map constant_text cs) rest)
 
--- where a constant that was read ends
-pub record Ended (bytes : List ℕ) (c : Constant) (after : List ℕ) : Type 0 where
-  pub sized : IsSized c
-  pub within : length after ≤ length bytes
-  pub ends : length (constant_text c) ≤ length bytes - length after
-  pub few : length bytes - length after < 2 ^ 32
-
-pub ended : (bytes : List ℕ) (entries : List Entry) (odd : Bool) (rest : List ℕ) (count place : ℕ) (c : Constant) (after : List ℕ)
-    → SoFar bytes entries odd rest count place → count < 2 ^ 16 → place < count → constant_at (eqb (place + 1) count) rest ≡ Ok (c, after) → Ended bytes c after
-ended bytes entries odd rest count place c after s size lt e =
-    let r = constant_takes (eqb (place + 1) count) rest (c, after) s.bytes_left e in
-    let end = end_is bytes s.cs c rest after s.spelled r.taken.parts in
+-- where the next constant begins
+pub starts : (bytes : List ℕ) (entries : List Entry) (odd : Bool) (rest : List ℕ) (count place : ℕ) → SoFar bytes entries odd rest count place → count < 2 ^ 16 → place < count
+    → (length rest ≤ length bytes) × (length bytes - length rest + 3 < 2 ^ 32)
+starts bytes entries odd rest count place s size lt =
     let front = texts_short s.cs s.sized in
-    let one = text_short c r.sized in
-    record {
-      sized = r.sized;
-      within = omega (arith, ap length s.spelled, ap length r.taken.parts, length-append (flat_map constant_text s.cs) rest, length-append (constant_text c) after);
-      ends = omega (arith, end);
-      few = omega (arith, end, front, one, s.next);
-    }
+    let start = start_is bytes s.cs rest s.spelled in
+    (omega (arith, ap length s.spelled, length-append (flat_map constant_text s.cs) rest), omega (arith, start, front, s.next, size, lt))
 
 SoFar-more : (bytes : List ℕ) (entries : List Entry) (odd : Bool) (rest : List ℕ) (count place : ℕ) (c : Constant) (after : List ℕ)
     → SoFar bytes entries odd rest count place → place < count → constant_at (eqb (place + 1) count) rest ≡ Ok (c, after)
-    → SoFar bytes (entries ++ entries_of c (length bytes - length after)) (odd || has_odd c) after count (place + length (places_of c))
+    → SoFar bytes (entries ++ entries_of c (length bytes - length rest)) (odd || has_odd c) after count (place + length (places_of c))
 SoFar-more bytes entries odd rest count place c after s lt e =
     let r = constant_takes (eqb (place + 1) count) rest (c, after) s.bytes_left e in
     record {
       cs = s.cs ++ c ∷ [];
-      table = λ more. table_more s.cs c entries more (length bytes - length after) r.sized (end_is bytes s.cs c rest after s.spelled r.taken.parts) (s.table (constant_text c ++ more));
+      table = λ more. table_more s.cs c entries more (length bytes - length rest) r.sized (start_is bytes s.cs rest s.spelled) (s.table (constant_text c ++ more));
       spelled = s.spelled ∙ ap (λ (x : List ℕ). flat_map constant_text s.cs ++ x) r.taken.parts ∙ sym (texts-push constant_text s.cs c after);
       sized = All-push IsSized s.cs c s.sized r.sized;
       bytes_left = r.taken.bytes_left;
@@ -162,12 +148,31 @@ SoFar-more bytes entries odd rest count place c after s lt e =
       texts = λ even. let both = neither odd (has_odd c) even in All-push HasText s.cs c (s.texts both.0) (even_text c both.1);
     }
 
--- the same by what is kept of the constant
-pub SoFar-kept : (bytes : List ℕ) (entries : List Entry) (odd : Bool) (rest : List ℕ) (count place : ℕ) (c : Constant) (after : List ℕ) (k : Kept) → k ≡ kept_of c (length bytes - length after)
-    → SoFar bytes entries odd rest count place → place < count → constant_at (eqb (place + 1) count) rest ≡ Ok (c, after)
-    → SoFar bytes (entries ++ with_second k.entry) (odd || k.odd) after count (place + length (with_second k.entry))
-SoFar-kept bytes entries odd rest count place c after k is s lt e =
-    rw (is, numbers_kept c (length bytes - length after), entries_kept c (length bytes - length after)) (SoFar-more bytes entries odd rest count place c after s lt e)
+-- ---- the same by what is kept of the constant
+
+kept_ok : (start : ℕ) (read : Result (Constant × List ℕ) Stop) (k : Kept) (after : List ℕ) → keep_read start read ≡ Ok (k, after) → (c : Constant) × (read ≡ Ok (c, after)) × (kept_of c start ≡ k)
+kept_ok start (Err stop) k after e = absurd cc
+kept_ok start (Ok (c, left)) k after e =
+    let both : (kept_of c start, left) ≡ (k, after) = cc in
+    (c, ap (λ (x : Kept × List ℕ). Ok (c, x.1)) both, ap (λ (x : Kept × List ℕ). x.0) both)
+
+pub kept_err : (start : ℕ) (read : Result (Constant × List ℕ) Stop) (stop : Stop) → keep_read start read ≡ Err stop → read ≡ Err stop
+kept_err start (Err found) stop e = cc
+kept_err start (Ok x) stop e = absurd cc
+
+module _ (bytes : List ℕ) (entries : List Entry) (odd : Bool) (rest : List ℕ) (count place : ℕ) (s : SoFar bytes entries odd rest count place) (lt : place < count)
+    (k : Kept) (after : List ℕ) (e : keep_read (length bytes - length rest) (constant_at (eqb (place + 1) count) rest) ≡ Ok (k, after)) where
+  pub kept_below : place + length (with_second k.entry) ≤ count
+  kept_below =
+      let x = kept_ok (length bytes - length rest) (constant_at (eqb (place + 1) count) rest) k after e in
+      let below = ends_below count place rest x.0 after s.bytes_left lt x.1 in
+      omega (arith, below, numbers_kept x.0 (length bytes - length rest), ap (λ (k : Kept). length (with_second k.entry)) x.2)
+
+  pub SoFar-kept : SoFar bytes (entries ++ with_second k.entry) (odd || k.odd) after count (place + length (with_second k.entry))
+  SoFar-kept =
+      let x = kept_ok (length bytes - length rest) (constant_at (eqb (place + 1) count) rest) k after e in
+      subst (λ (k : Kept). SoFar bytes (entries ++ with_second k.entry) (odd || k.odd) after count (place + length (with_second k.entry))) x.2
+      (rw (numbers_kept x.0 (length bytes - length rest), entries_kept x.0 (length bytes - length rest)) (SoFar-more bytes entries odd rest count place x.0 after s lt x.1))
 
 pub SoFar-done : (bytes : List ℕ) (entries : List Entry) (odd : Bool) (rest : List ℕ) (count place : ℕ) → count < 2 ^ 16 → count ≤ place
     → SoFar bytes entries odd rest count place → (cs : List Constant) × PoolStands (u2 count ++ bytes) cs rest × (bytes ≡ flat_map constant_text cs ++ rest) × IsTable (flat_map constant_text cs) entries cs × (odd ≡ false → HaveTexts cs)

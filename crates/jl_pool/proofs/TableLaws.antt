@@ -1,5 +1,5 @@
 -- What a pool keeps of its constants shows them.
-use Rattle.std.proofs.Common.{◌≡◌, ℕ, zero, suc, ◌+◌, ◌-◌, ◌*◌, ◌^◌, ◌<◌, ◌≤◌, Bool, true, false, cond, ltb, List, [], ◌∷◌, ◌++◌, length, map, take, drop, slice_get, Option, Some, None, refl, sym, ap, subst, ◌∙◌}
+use Rattle.std.proofs.Common.{◌≡◌, ℕ, zero, suc, ◌+◌, ◌*◌, ◌^◌, ◌<◌, ◌≤◌, Bool, true, false, cond, ltb, List, [], ◌∷◌, ◌++◌, length, map, take, drop, slice_get, Option, Some, None, refl, sym, ap, subst, ◌∙◌}
 use Rattle.std.proofs.Common.{append_assoc, length-append, arith}
 use Rattle.std.specs.Prelude.{option_map}
 use Rattle.std.specs.Option.{option_and_then, unwrap_or}
@@ -40,69 +40,69 @@ wide_there front after t bits n e lt =
     let read = guard_some (ltb (length (u8 bits ++ after)) 8) (big_number 8 (u8 bits ++ after), drop 8 (u8 bits ++ after)) (bits, after) (u8_again bits after lt) in
     ap (λ (x : List ℕ). big_number 8 x) there ∙ ap (λ (x : ℕ × List ℕ). x.0) read.1
 
-pub shown_of : (c : Constant) (front after : List ℕ) (end : ℕ) → IsSized c → end ≡ length front + length (constant_text c)
-    → shown (front ++ (constant_text c ++ after)) (entry_of c end) ≡ Some c
-shown_of (Utf8 text) front after end sized e =
+pub shown_of : (c : Constant) (front after : List ℕ) (start : ℕ) → IsSized c → start ≡ length front
+    → shown (front ++ (constant_text c ++ after)) (entry_of c start) ≡ Some c
+shown_of (Utf8 text) front after start sized e =
     ap (λ (t : List ℕ). Some (Utf8 t))
-    (text_there front (1 ∷ u2 (length text)) text after (end - length text) (omega (arith, e)))
-shown_of (Integer bits) front after end sized e = refl
-shown_of (Float bits) front after end sized e = refl
-shown_of (Long bits) front after end sized e = ap (λ (n : ℕ). Some (Long n)) (wide_there front after 5 bits (end - 8) (omega (arith, e)) sized)
-shown_of (Double bits) front after end sized e = ap (λ (n : ℕ). Some (Double n)) (wide_there front after 6 bits (end - 8) (omega (arith, e)) sized)
-shown_of (Class name) front after end sized e = refl
-shown_of (String text) front after end sized e = refl
-shown_of (Fieldref owner signed) front after end sized e = refl
-shown_of (Methodref owner signed) front after end sized e = refl
-shown_of (InterfaceMethodref owner signed) front after end sized e = refl
-shown_of (NameAndType name ty) front after end sized e = refl
-shown_of (MethodHandle kind reference) front after end sized e = refl
-shown_of (MethodType ty) front after end sized e = refl
-shown_of (Dynamic bootstrap signed) front after end sized e = refl
-shown_of (InvokeDynamic bootstrap signed) front after end sized e = refl
-shown_of (Module name) front after end sized e = refl
-shown_of (Package name) front after end sized e = refl
+    (text_there front (1 ∷ u2 (length text)) text after (start + 3) (omega (arith, e)))
+shown_of (Integer bits) front after start sized e = refl
+shown_of (Float bits) front after start sized e = refl
+shown_of (Long bits) front after start sized e = ap (λ (n : ℕ). Some (Long n)) (wide_there front after 5 bits (start + 1) (omega (arith, e)) sized)
+shown_of (Double bits) front after start sized e = ap (λ (n : ℕ). Some (Double n)) (wide_there front after 6 bits (start + 1) (omega (arith, e)) sized)
+shown_of (Class name) front after start sized e = refl
+shown_of (String text) front after start sized e = refl
+shown_of (Fieldref owner signed) front after start sized e = refl
+shown_of (Methodref owner signed) front after start sized e = refl
+shown_of (InterfaceMethodref owner signed) front after start sized e = refl
+shown_of (NameAndType name ty) front after start sized e = refl
+shown_of (MethodHandle kind reference) front after start sized e = refl
+shown_of (MethodType ty) front after start sized e = refl
+shown_of (Dynamic bootstrap signed) front after start sized e = refl
+shown_of (InvokeDynamic bootstrap signed) front after start sized e = refl
+shown_of (Module name) front after start sized e = refl
+shown_of (Package name) front after start sized e = refl
 
-within_of : (c : Constant) (front after : List ℕ) (end : ℕ) → end ≡ length front + length (constant_text c)
-    → is_within (length (front ++ (constant_text c ++ after))) (entry_of c end) ≡ true
-within_of (Utf8 text) front after end e =
+within_of : (c : Constant) (front after : List ℕ) (start : ℕ) → start ≡ length front
+    → is_within (length (front ++ (constant_text c ++ after))) (entry_of c start) ≡ true
+within_of (Utf8 text) front after start e =
     le-leb _ _ (omega (arith, e, length-append front (constant_text (Utf8 text) ++ after), length-append (constant_text (Utf8 text)) after))
-within_of (Integer bits) front after end e = refl
-within_of (Float bits) front after end e = refl
-within_of (Long bits) front after end e =
+within_of (Integer bits) front after start e = refl
+within_of (Float bits) front after start e = refl
+within_of (Long bits) front after start e =
     le-leb _ _ (omega (arith, e, length-append front (constant_text (Long bits) ++ after), length-append (constant_text (Long bits)) after))
-within_of (Double bits) front after end e =
+within_of (Double bits) front after start e =
     le-leb _ _ (omega (arith, e, length-append front (constant_text (Double bits) ++ after), length-append (constant_text (Double bits)) after))
-within_of (Class name) front after end e = refl
-within_of (String text) front after end e = refl
-within_of (Fieldref owner signed) front after end e = refl
-within_of (Methodref owner signed) front after end e = refl
-within_of (InterfaceMethodref owner signed) front after end e = refl
-within_of (NameAndType name ty) front after end e = refl
-within_of (MethodHandle kind reference) front after end e = refl
-within_of (MethodType ty) front after end e = refl
-within_of (Dynamic bootstrap signed) front after end e = refl
-within_of (InvokeDynamic bootstrap signed) front after end e = refl
-within_of (Module name) front after end e = refl
-within_of (Package name) front after end e = refl
+within_of (Class name) front after start e = refl
+within_of (String text) front after start e = refl
+within_of (Fieldref owner signed) front after start e = refl
+within_of (Methodref owner signed) front after start e = refl
+within_of (InterfaceMethodref owner signed) front after start e = refl
+within_of (NameAndType name ty) front after start e = refl
+within_of (MethodHandle kind reference) front after start e = refl
+within_of (MethodType ty) front after start e = refl
+within_of (Dynamic bootstrap signed) front after start e = refl
+within_of (InvokeDynamic bootstrap signed) front after start e = refl
+within_of (Module name) front after start e = refl
+within_of (Package name) front after start e = refl
 
-formed_of : (c : Constant) (end : ℕ) → form_in (entry_of c end) ≡ option_map form_of (text_of c)
-formed_of (Utf8 text) end = refl
-formed_of (Integer bits) end = refl
-formed_of (Float bits) end = refl
-formed_of (Long bits) end = refl
-formed_of (Double bits) end = refl
-formed_of (Class name) end = refl
-formed_of (String text) end = refl
-formed_of (Fieldref owner signed) end = refl
-formed_of (Methodref owner signed) end = refl
-formed_of (InterfaceMethodref owner signed) end = refl
-formed_of (NameAndType name ty) end = refl
-formed_of (MethodHandle kind reference) end = refl
-formed_of (MethodType ty) end = refl
-formed_of (Dynamic bootstrap signed) end = refl
-formed_of (InvokeDynamic bootstrap signed) end = refl
-formed_of (Module name) end = refl
-formed_of (Package name) end = refl
+formed_of : (c : Constant) (start : ℕ) → form_in (entry_of c start) ≡ option_map form_of (text_of c)
+formed_of (Utf8 text) start = refl
+formed_of (Integer bits) start = refl
+formed_of (Float bits) start = refl
+formed_of (Long bits) start = refl
+formed_of (Double bits) start = refl
+formed_of (Class name) start = refl
+formed_of (String text) start = refl
+formed_of (Fieldref owner signed) start = refl
+formed_of (Methodref owner signed) start = refl
+formed_of (InterfaceMethodref owner signed) start = refl
+formed_of (NameAndType name ty) start = refl
+formed_of (MethodHandle kind reference) start = refl
+formed_of (MethodType ty) start = refl
+formed_of (Dynamic bootstrap signed) start = refl
+formed_of (InvokeDynamic bootstrap signed) start = refl
+formed_of (Module name) start = refl
+formed_of (Package name) start = refl
 
 -- ---- the entries of one constant more
 
@@ -127,32 +127,32 @@ places-push cs c = sym (flat_map_more places_of (None ∷ []) cs c)
 forms_push : (cs : List Constant) (c : Constant) → forms_of (places cs) ++ forms_of (places_of c) ≡ forms_of (places (cs ++ c ∷ []))
 forms_push cs c = sym (map-append (λ place. option_map form_of (option_and_then text_of place)) (places cs) (places_of c)) ∙ ap forms_of (sym (places-push cs c))
 
-module _ (cs : List Constant) (c : Constant) (entries : List Entry) (more : List ℕ) (end : ℕ) (sized : IsSized c)
-    (there : end ≡ length (flat_map constant_text cs) + length (constant_text c)) where
+module _ (cs : List Constant) (c : Constant) (entries : List Entry) (more : List ℕ) (start : ℕ) (sized : IsSized c)
+    (there : start ≡ length (flat_map constant_text cs)) where
   abbrev front : List ℕ
   front = flat_map constant_text cs
 
   abbrev block : List ℕ
   block = front ++ (constant_text c ++ more)
 
-  shown_more : pool_of block (entries_of c end) ≡ places_of c
-  shown_more = rw (shown_of c front more end sized there, second block (is_double c)) refl
+  shown_more : pool_of block (entries_of c start) ≡ places_of c
+  shown_more = rw (shown_of c front more start sized there, second block (is_double c)) refl
 
-  within_more : list_all (is_within (length block)) (entries_of c end) ≡ true
-  within_more = rw (within_of c front more end there) (second_within (length block) (is_double c))
+  within_more : list_all (is_within (length block)) (entries_of c start) ≡ true
+  within_more = rw (within_of c front more start there) (second_within (length block) (is_double c))
 
-  formed_more : map form_in (entries_of c end) ≡ forms_of (places_of c)
-  formed_more = rw (formed_of c end, second_formed (is_double c)) refl
+  formed_more : map form_in (entries_of c start) ≡ forms_of (places_of c)
+  formed_more = rw (formed_of c start, second_formed (is_double c)) refl
 
-  pub table_more : IsTable block entries cs → IsTable (flat_map constant_text (cs ++ c ∷ []) ++ more) (entries ++ entries_of c end) (cs ++ c ∷ [])
+  pub table_more : IsTable block entries cs → IsTable (flat_map constant_text (cs ++ c ∷ []) ++ more) (entries ++ entries_of c start) (cs ++ c ∷ [])
   table_more t =
-      subst (λ (b : List ℕ). IsTable b (entries ++ entries_of c end) (cs ++ c ∷ [])) (sym (texts-push constant_text cs c more)) (record {
-        by_number = map-append (shown block) entries (entries_of c end) ∙ rw (t.by_number, shown_more) (sym (places-push cs c));
-        within = list_all-append (is_within (length block)) entries (entries_of c end) ∙ rw (t.within, within_more) refl;
-        formed = map-append form_in entries (entries_of c end) ∙ rw (t.formed, formed_more) (forms_push cs c);
+      subst (λ (b : List ℕ). IsTable b (entries ++ entries_of c start) (cs ++ c ∷ [])) (sym (texts-push constant_text cs c more)) (record {
+        by_number = map-append (shown block) entries (entries_of c start) ∙ rw (t.by_number, shown_more) (sym (places-push cs c));
+        within = list_all-append (is_within (length block)) entries (entries_of c start) ∙ rw (t.within, within_more) refl;
+        formed = map-append form_in entries (entries_of c start) ∙ rw (t.formed, formed_more) (forms_push cs c);
       })
 
--- ---- where a constant ends is a number of 32 bits
+-- ---- where a constant begins is a number of 32 bits
 
 pub text_short : (c : Constant) → IsSized c → length (constant_text c) ≤ 65538
 text_short (Utf8 text) sized = omega (arith, sized)

@@ -1,6 +1,6 @@
 //! Numbers and texts at the front of bytes. None where the bytes end before.
 
-ghost use Rattle.std.specs.Prelude.{◌≡◌, Option};
+ghost use Rattle.std.specs.Prelude.{◌≡◌, ◌<◌, ◌^◌, length, Option, IfSome};
 ghost use Rattle.jl_pool.specs.Reading.Fields.{Finds, number_at, bytes_at, text_at, pair_at, handle_at};
 
 use byteorder::{BigEndian, ByteOrder};
@@ -64,7 +64,8 @@ pub(crate) fn handle_at(bytes: &[u8]) -> Option<((u8, u16), &[u8])>
 /// Bytes behind their count.
 #[tactic(auto, unfolding(crate::specs::Reading::Fields::text_at))]
 pub(crate) fn text_at(bytes: &[u8]) -> Option<(&[u8], &[u8])>
-    ensures { Finds (λ x. (x.0.now, x.1.now)) result (text_at bytes.now) }
+    ensures found { Finds (λ x. (x.0.now, x.1.now)) result (text_at bytes.now) }
+    ensures short { IfSome result (λ x. length x.0.now < 2 ^ 16) }
 {
     let (len, rest) = u2_at(bytes)?;
     let len = len as usize;

@@ -3,9 +3,8 @@
 ghost use Rattle.std.specs.Prelude.{◌≡◌, ◌+◌, ◌<◌, ◌≤◌, ◌^◌, length, take, drop, true, false};
 ghost use Rattle.std.specs.Option.{option_and_then};
 ghost use Rattle.byteorder.specs.Endian.{big_number};
-ghost use Rattle.jl_pool.specs.Constants.{constant_text, IsSized};
 ghost use Rattle.jl_pool.specs.Pools.{text_of};
-ghost use Rattle.jl_pool.specs.Reading.Table.{shown, takes_two, kept_of, kept_text, entry_at, form_in, is_within};
+ghost use Rattle.jl_pool.specs.Reading.Table.{shown, takes_two, kept_text, entry_at, form_in, is_within};
 
 use crate::constant::Constant;
 use crate::form::{Form, marks_of};
@@ -54,59 +53,21 @@ pub(crate) struct Kept {
 }
 
 impl Kept {
-    /// What is kept of a constant whose bytes end at this place of the block.
-    pub(crate) fn of(constant: &Constant<'_>, end: u32) -> Kept
-        requires sized { IsSized constant.now }
-        requires ends { length (constant_text constant.now) ≤ end }
-        ensures { result ≡ kept_of constant.now end }
-    {
-        match constant {
-            Constant::Utf8(text) => Kept::of_text(text.as_bytes(), end),
-            Constant::Integer(bits) => Kept::of_no_text(Entry::Integer(*bits)),
-            Constant::Float(bits) => Kept::of_no_text(Entry::Float(*bits)),
-            Constant::Long(_) => Kept::of_no_text(Entry::Long(end - 8)),
-            Constant::Double(_) => Kept::of_no_text(Entry::Double(end - 8)),
-            Constant::Class(name) => Kept::of_no_text(Entry::Class(*name)),
-            Constant::String(text) => Kept::of_no_text(Entry::String(*text)),
-            Constant::Fieldref(owner, signed) => Kept::of_no_text(Entry::Fieldref(*owner, *signed)),
-            Constant::Methodref(owner, signed) => Kept::of_no_text(Entry::Methodref(
-                *owner, *signed,
-            )),
-            Constant::InterfaceMethodref(owner, signed) => Kept::of_no_text(
-                Entry::InterfaceMethodref(*owner, *signed),
-            ),
-            Constant::NameAndType(name, ty) => Kept::of_no_text(Entry::NameAndType(*name, *ty)),
-            Constant::MethodHandle(kind, reference) => Kept::of_no_text(Entry::MethodHandle(
-                *kind, *reference,
-            )),
-            Constant::MethodType(ty) => Kept::of_no_text(Entry::MethodType(*ty)),
-            Constant::Dynamic(bootstrap, signed) => Kept::of_no_text(Entry::Dynamic(
-                *bootstrap, *signed,
-            )),
-            Constant::InvokeDynamic(bootstrap, signed) => Kept::of_no_text(Entry::InvokeDynamic(
-                *bootstrap, *signed,
-            )),
-            Constant::Module(name) => Kept::of_no_text(Entry::Module(*name)),
-            Constant::Package(name) => Kept::of_no_text(Entry::Package(*name)),
-        }
-    }
-
-    /// What is kept of a text that ends at this place of the block.
-    fn of_text(text: &[u8], end: u32) -> Kept
-        requires sized { length text.now < 2 ^ 16 }
-        requires ends { length text.now ≤ end }
-        ensures { result ≡ kept_text text.now end }
+    /// What is kept of a text whose bytes begin at this place of the block.
+    pub(crate) fn of_text(text: &[u8], at: u32) -> Kept
+        requires { length text.now < 2 ^ 16 }
+        ensures { result ≡ kept_text text.now at }
     {
         let marks = marks_of(text);
         let form = Form::of(marks, text);
         Kept {
-            entry: Entry::Utf8(end - text.len() as u32, text.len() as u16, form),
+            entry: Entry::Utf8(at, text.len() as u16, form),
             odd: marks.odd,
         }
     }
 
     /// What is kept of any other constant.
-    fn of_no_text(entry: Entry) -> Kept
+    pub(crate) fn of_no_text(entry: Entry) -> Kept
         ensures { result ≡ record { entry = entry; odd = false } }
     {
         Kept { entry, odd: false }

@@ -1,6 +1,6 @@
 //! The constant pool.
 
-ghost use Rattle.std.specs.Prelude.{◌≡◌, ◌≢◌, ◌<◌, ◌≤◌, ◌^◌, ◌++◌, [], ◌∷◌, length, Option, option_map, Result, List, ℕ, IfOk, IfErr, false};
+ghost use Rattle.std.specs.Prelude.{◌≡◌, ◌≢◌, ◌+◌, ◌<◌, ◌≤◌, ◌^◌, ◌++◌, [], ◌∷◌, length, Option, option_map, Result, List, ℕ, IfOk, IfErr, false};
 ghost use Rattle.std.specs.List.{flat_map};
 ghost use Rattle.jl_pool.specs.declared.constant.Constant.{Constant};
 ghost use Rattle.std.specs.Option.{option_and_then, unwrap_or};
@@ -10,10 +10,10 @@ ghost use Rattle.jl_pool.specs.Constants.{constant_text};
 ghost use Rattle.jl_pool.specs.declared.pool_fault.PoolFault.{PoolFault};
 ghost use Rattle.jl_pool.specs.declared.pool_fault.PoolFault.TheVariants.{Memory};
 ghost use Rattle.jl_pool.specs.Faults.{PoolStands, IsPoolFault};
-ghost use Rattle.jl_pool.specs.Reading.Constants.{Gives, is_known, is_wide, of_bits, of_wide_bits, of_number, of_pair, payload_at, constant_at};
+ghost use Rattle.jl_pool.specs.Reading.Constants.{Gives, is_known, is_wide, of_bits, of_number, of_pair, payload_at, constant_at};
 ghost use Rattle.jl_pool.specs.Reading.Fields.{Finds};
 ghost use Rattle.jl_pool.specs.Reading.Forms.{form_of};
-ghost use Rattle.jl_pool.specs.Reading.Table.{with_second, IsTable, Shows};
+ghost use Rattle.jl_pool.specs.Reading.Table.{with_second, IsTable, Shows, entry_of, wide_entry, keep, keep_read};
 
 use crate::bytes::{handle_at, pair_at, text_at, u2_at, u4_at, u8_at};
 use crate::constant::Constant;
@@ -21,7 +21,7 @@ use crate::entry::{Entry, Kept, constant_in, entry_at, form_in, text_in};
 use crate::form::Form;
 use crate::pool_fault::PoolFault;
 use crate::reference::{CallSiteSpecifier, Reference};
-use jl_names::{LentName, Name, Text};
+use jl_names::{LentName, Name};
 use std::alloc::{AllocError, Global};
 use std::marker::Model;
 
@@ -326,91 +326,95 @@ fn is_wide(tag: u8) -> bool
     matches!(tag, 5 | 6)
 }
 
-/// The constant of this tag at the front, and what comes after it.
+/// What is kept of the constant of this tag, which begins at this place of the block: what stands behind the tag is at the
+/// front. And what comes after it.
 #[tactic(auto, unfolding(crate::specs::Reading::Constants::payload_at))]
-fn payload_at(tag: u8, bytes: &[u8]) -> Option<(Constant<'_>, &[u8])>
-    ensures { Finds (λ x. (x.0, x.1.now)) result (payload_at tag bytes.now) }
+fn payload_at(tag: u8, start: u32, bytes: &[u8]) -> Option<(Kept, &[u8])>
+    requires { start + 3 < 2 ^ 32 }
+    ensures { Finds (λ x. (x.0, x.1.now)) result (option_map (keep start) (payload_at tag bytes.now)) }
 {
     match tag {
         1 => {
             let (text, rest) = text_at(bytes)?;
-            Some((Constant::Utf8(Text::of(text)), rest))
+            Some((Kept::of_text(text, start + 3), rest))
         }
         3 | 4 => {
             let (bits, rest) = u4_at(bytes)?;
-            Some((of_bits(tag, bits), rest))
+            Some((Kept::of_no_text(of_bits(tag, bits)), rest))
         }
         5 | 6 => {
-            let (bits, rest) = u8_at(bytes)?;
-            Some((of_wide_bits(tag, bits), rest))
+            let (_, rest) = u8_at(bytes)?;
+            Some((Kept::of_no_text(of_wide_bits(tag, start + 1)), rest))
         }
         7 | 8 | 16 | 19 | 20 => {
             let (number, rest) = u2_at(bytes)?;
-            Some((of_number(tag, number), rest))
+            Some((Kept::of_no_text(of_number(tag, number)), rest))
         }
         9..=12 | 17 | 18 => {
             let ((first, second), rest) = pair_at(bytes)?;
-            Some((of_pair(tag, first, second), rest))
+            Some((Kept::of_no_text(of_pair(tag, first, second)), rest))
         }
         15 => {
             let ((kind, reference), rest) = handle_at(bytes)?;
-            Some((Constant::MethodHandle(kind, reference), rest))
+            Some((Kept::of_no_text(Entry::MethodHandle(kind, reference)), rest))
         }
         _ => None,
     }
 }
 
 /// An Integer or a Float, by its tag.
-fn of_bits<'a>(tag: u8, bits: u32) -> Constant<'a>
-    ensures { result ≡ of_bits tag bits }
+fn of_bits(tag: u8, bits: u32) -> Entry
+    ensures { result ≡ entry_of (of_bits tag bits) 0 }
 {
     match tag {
-        3 => Constant::Integer(bits),
-        _ => Constant::Float(bits),
+        3 => Entry::Integer(bits),
+        _ => Entry::Float(bits),
     }
 }
 
-/// A Long or a Double, by its tag.
-fn of_wide_bits<'a>(tag: u8, bits: u64) -> Constant<'a>
-    ensures { result ≡ of_wide_bits tag bits }
+/// A Long or a Double whose value begins at this place of the block, by its tag.
+fn of_wide_bits(tag: u8, at: u32) -> Entry
+    ensures { result ≡ wide_entry tag at }
 {
     match tag {
-        5 => Constant::Long(bits),
-        _ => Constant::Double(bits),
+        5 => Entry::Long(at),
+        _ => Entry::Double(at),
     }
 }
 
-/// A constant of one number, by its tag.
-fn of_number<'a>(tag: u8, number: u16) -> Constant<'a>
-    ensures { result ≡ of_number tag number }
+/// An entry of one number, by its tag.
+fn of_number(tag: u8, number: u16) -> Entry
+    ensures { result ≡ entry_of (of_number tag number) 0 }
 {
     match tag {
-        7 => Constant::Class(number),
-        8 => Constant::String(number),
-        16 => Constant::MethodType(number),
-        19 => Constant::Module(number),
-        _ => Constant::Package(number),
+        7 => Entry::Class(number),
+        8 => Entry::String(number),
+        16 => Entry::MethodType(number),
+        19 => Entry::Module(number),
+        _ => Entry::Package(number),
     }
 }
 
-/// A constant of two numbers, by its tag.
-fn of_pair<'a>(tag: u8, first: u16, second: u16) -> Constant<'a>
-    ensures { result ≡ of_pair tag (first, second) }
+/// An entry of two numbers, by its tag.
+fn of_pair(tag: u8, first: u16, second: u16) -> Entry
+    ensures { result ≡ entry_of (of_pair tag (first, second)) 0 }
 {
     match tag {
-        9 => Constant::Fieldref(first, second),
-        10 => Constant::Methodref(first, second),
-        11 => Constant::InterfaceMethodref(first, second),
-        12 => Constant::NameAndType(first, second),
-        17 => Constant::Dynamic(first, second),
-        _ => Constant::InvokeDynamic(first, second),
+        9 => Entry::Fieldref(first, second),
+        10 => Entry::Methodref(first, second),
+        11 => Entry::InterfaceMethodref(first, second),
+        12 => Entry::NameAndType(first, second),
+        17 => Entry::Dynamic(first, second),
+        _ => Entry::InvokeDynamic(first, second),
     }
 }
 
-/// The constant at the front, and what comes after it. Where it has the last number, it may take no second one.
+/// What is kept of the constant at the front, which begins at this place of the block, and what comes after it. Where it has
+/// the last number, it may take no second one.
 #[tactic(auto, unfolding(crate::specs::Reading::Constants::constant_at))]
-fn constant_at(last: bool, bytes: &[u8]) -> Result<(Constant<'_>, &[u8]), Stop>
-    ensures { Gives (λ x. (x.0, x.1.now)) result (constant_at last bytes.now) }
+fn kept_at(last: bool, start: u32, bytes: &[u8]) -> Result<(Kept, &[u8]), Stop>
+    requires { start + 3 < 2 ^ 32 }
+    ensures { Gives (λ x. (x.0, x.1.now)) result (keep_read start (constant_at last bytes.now)) }
 {
     match bytes {
         [] => Err(Stop::Cut),
@@ -419,7 +423,7 @@ fn constant_at(last: bool, bytes: &[u8]) -> Result<(Constant<'_>, &[u8]), Stop>
             if !is_known(tag) || (last && is_wide(tag)) {
                 return Err(Stop::Tag);
             }
-            match payload_at(tag, rest) {
+            match payload_at(tag, start, rest) {
                 Some(found) => Ok(found),
                 None => Err(Stop::Cut),
             }
@@ -458,10 +462,9 @@ fn constants_at(
     let mut place = 1;
     let mut rest = bytes;
     while place < count {
-        match constant_at(place + 1 == count, rest) {
-            Ok((constant, after)) => {
-                let end = (bytes.len() - after.len()) as u32;
-                let kept = Kept::of(&constant, end);
+        let start = (bytes.len() - rest.len()) as u32;
+        match kept_at(place + 1 == count, start, rest) {
+            Ok((kept, after)) => {
                 place += push_entry(&mut entries, kept.entry)?;
                 odd |= kept.odd;
                 rest = after;

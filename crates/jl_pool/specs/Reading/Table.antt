@@ -1,5 +1,5 @@
 -- What a pool keeps of its constants, over a block of their bytes.
-use Rattle.std.specs.Prelude.{◌≡◌, ℕ, ◌+◌, ◌-◌, ◌<◌, ◌^◌, nat_le, Bool, true, false, if◌then◌else◌, List, [], ◌∷◌, length, map, take, drop, slice_get, Option, Some, None}
+use Rattle.std.specs.Prelude.{◌≡◌, ℕ, ◌+◌, ◌<◌, ◌^◌, ◌==◌, nat_le, Bool, true, false, if◌then◌else◌, List, [], ◌∷◌, length, map, take, drop, slice_get, Option, Some, None, Result, Ok, Err}
 use Rattle.std.specs.Option.{unwrap_or}
 use Rattle.std.specs.List.{list_all, list_any}
 use Rattle.byteorder.specs.Endian.{big_number}
@@ -9,6 +9,7 @@ use Rattle.jl_pool.specs.declared.entry.Entry.{Entry}
 use Rattle.jl_pool.specs.declared.entry.Entry.TheVariants as kept
 use Rattle.jl_pool.specs.declared.entry.Kept.{Kept}
 use Rattle.jl_pool.specs.declared.form.Form.{Form}
+use Rattle.jl_pool.specs.declared.pool.Stop.{Stop}
 use Rattle.jl_pool.specs.Pools.{Pool, places}
 use Rattle.jl_pool.specs.Constants.{is_double}
 use Rattle.jl_pool.specs.Reading.Forms.{form_of, forms_of}
@@ -85,29 +86,30 @@ Shows (kept.InvokeDynamic bootstrap signed) there = there ≡ Some (InvokeDynami
 Shows (kept.Module name) there = there ≡ Some (Module name)
 Shows (kept.Package name) there = there ≡ Some (Package name)
 
--- ---- the entry of a constant that ends at a place
+-- ---- the entry of a constant that begins at a place
 
+-- a text's bytes begin behind its tag and its count
 abbrev pub text_entry : List ℕ → ℕ → Entry
-text_entry text end = kept.Utf8 (end - length text) (length text) (form_of text)
+text_entry text at = kept.Utf8 at (length text) (form_of text)
 
 abbrev pub entry_of : Constant → ℕ → Entry
-entry_of (Utf8 text) end = text_entry text end
-entry_of (Integer bits) end = kept.Integer bits
-entry_of (Float bits) end = kept.Float bits
-entry_of (Long bits) end = kept.Long (end - 8)
-entry_of (Double bits) end = kept.Double (end - 8)
-entry_of (Class name) end = kept.Class name
-entry_of (String text) end = kept.String text
-entry_of (Fieldref owner signed) end = kept.Fieldref owner signed
-entry_of (Methodref owner signed) end = kept.Methodref owner signed
-entry_of (InterfaceMethodref owner signed) end = kept.InterfaceMethodref owner signed
-entry_of (NameAndType name ty) end = kept.NameAndType name ty
-entry_of (MethodHandle kind reference) end = kept.MethodHandle kind reference
-entry_of (MethodType ty) end = kept.MethodType ty
-entry_of (Dynamic bootstrap signed) end = kept.Dynamic bootstrap signed
-entry_of (InvokeDynamic bootstrap signed) end = kept.InvokeDynamic bootstrap signed
-entry_of (Module name) end = kept.Module name
-entry_of (Package name) end = kept.Package name
+entry_of (Utf8 text) start = text_entry text (start + 3)
+entry_of (Integer bits) start = kept.Integer bits
+entry_of (Float bits) start = kept.Float bits
+entry_of (Long bits) start = kept.Long (start + 1)
+entry_of (Double bits) start = kept.Double (start + 1)
+entry_of (Class name) start = kept.Class name
+entry_of (String text) start = kept.String text
+entry_of (Fieldref owner signed) start = kept.Fieldref owner signed
+entry_of (Methodref owner signed) start = kept.Methodref owner signed
+entry_of (InterfaceMethodref owner signed) start = kept.InterfaceMethodref owner signed
+entry_of (NameAndType name ty) start = kept.NameAndType name ty
+entry_of (MethodHandle kind reference) start = kept.MethodHandle kind reference
+entry_of (MethodType ty) start = kept.MethodType ty
+entry_of (Dynamic bootstrap signed) start = kept.Dynamic bootstrap signed
+entry_of (InvokeDynamic bootstrap signed) start = kept.InvokeDynamic bootstrap signed
+entry_of (Module name) start = kept.Module name
+entry_of (Package name) start = kept.Package name
 
 -- a long and a double take two numbers
 abbrev pub takes_two : Entry → Bool
@@ -125,11 +127,24 @@ has_odd (Utf8 text) = list_any is_odd text
 has_odd _ = false
 
 abbrev pub kept_text : List ℕ → ℕ → Kept
-kept_text text end = record { entry = text_entry text end; odd = list_any is_odd text }
+kept_text text at = record { entry = text_entry text at; odd = list_any is_odd text }
 
 abbrev pub kept_of : Constant → ℕ → Kept
-kept_of c end = record { entry = entry_of c end; odd = has_odd c }
+kept_of c start = record { entry = entry_of c start; odd = has_odd c }
 
 -- at the numbers that a constant takes
 abbrev pub entries_of : Constant → ℕ → List Entry
-entries_of c end = entry_of c end ∷ (if is_double c then kept.Nothing ∷ [] else [])
+entries_of c start = entry_of c start ∷ (if is_double c then kept.Nothing ∷ [] else [])
+
+-- the entry of a long or a double whose value begins at a place, by its tag
+abbrev pub wide_entry : ℕ → ℕ → Entry
+wide_entry t at = if t == 5 then kept.Long at else kept.Double at
+
+-- ---- what is kept of the constant at the front, which begins at a place, and what is left
+
+abbrev pub keep : ℕ → Constant × List ℕ → Kept × List ℕ
+keep start x = (kept_of x.0 start, x.1)
+
+abbrev pub keep_read : ℕ → Result (Constant × List ℕ) Stop → Result (Kept × List ℕ) Stop
+keep_read start (Ok x) = Ok (keep start x)
+keep_read start (Err stop) = Err stop
