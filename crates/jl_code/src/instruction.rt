@@ -93,12 +93,13 @@ fn plain_at(opcode: u8, count: u8, bytes: &[u8]) -> Option<(Instruction<'_>, &[u
 fn fixed_at(opcode: u8, bytes: &[u8]) -> Result<(Instruction<'_>, &[u8]), Stop>
     ensures { Gives (λ x. (x.0, x.1.now)) result (fixed_at opcode bytes.now) }
 {
-    let found = match (operand_count(opcode), tail_count(opcode)) {
-        (_, Some(tail)) => invocation_at(opcode, tail, bytes),
-        (Some(count), None) => plain_at(opcode, count, bytes),
-        (None, None) => return Err(Stop::Opcode),
-    };
-    found.ok_or(Stop::Cut)
+    if let Some(tail) = tail_count(opcode) {
+        return invocation_at(opcode, tail, bytes).ok_or(Stop::Cut);
+    }
+    match operand_count(opcode) {
+        Some(count) => plain_at(opcode, count, bytes).ok_or(Stop::Cut),
+        None => Err(Stop::Opcode),
+    }
 }
 
 /// An instruction behind a wide, and what comes after it.
