@@ -41,9 +41,6 @@ pub stands : (bytes : List ℕ) (n : ℕ) → n ≡ plain_length (get_or bytes 0
 stands [] n e some fits = absurd (some (omega (arith, fits)))
 stands (opcode ∷ bytes) n e some fits = stands_by opcode bytes (operands_in plain_opcodes opcode) n refl e some fits
 
-pub none_skipped : (bytes : List ℕ) → IsBehindPlain bytes bytes
-none_skipped bytes = record { is = []; bytes_are = refl; plain = tt }
-
 pub more_skipped : (a b c : List ℕ) → IsBehindPlain a b → IsBehindPlain b c → IsBehindPlain a c
 more_skipped a b c h k = record {
   is = h.is ++ k.is;
