@@ -41,7 +41,7 @@ impl<'a> Model for Attributes<'a> {
 }
 
 impl<'a> Attributes<'a> {
-    /// All of them.
+    /// The same ones once more, to go over them.
     pub fn all(&self) -> Attributes<'a>
         ensures { result ≡ self.now }
     {
@@ -139,7 +139,7 @@ fn whole<T>(found: Option<T>) -> Result<T, Broken>
 
 /// An attribute, and what comes after it.
 #[tactic(auto, unfolding(crate::specs::Reading::Bodies::attribute_at))]
-pub fn attribute_at(bytes: &[u8]) -> Option<(Attribute<'_>, &[u8])>
+fn attribute_at(bytes: &[u8]) -> Option<(Attribute<'_>, &[u8])>
     ensures { Finds (λ x. (x.0, x.1.now)) result (attribute_at bytes.now) }
 {
     let (name, rest) = u2_at(bytes)?;
