@@ -5,7 +5,7 @@ pub mod ByteMarkLaws
 pub mod MarkLaws
 pub mod LookUpLaws
 pub mod TypedLaws
-pub mod EvenLaws
+pub mod EntryLaws
 pub mod PlaceLaws
 pub mod NameLaws
 pub mod TableLaws

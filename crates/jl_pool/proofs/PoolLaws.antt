@@ -1,11 +1,11 @@
 -- One constant after another.
 use Rattle.std.proofs.Common.{◌≡◌, ℕ, ◌+◌, ◌-◌, ◌^◌, ◌<◌, ◌≤◌, Bool, true, false, cond, eqb, not, ◌&&◌, ◌||◌, List, [], ◌∷◌, ◌++◌}
-use Rattle.std.proofs.Common.{length, take, Option, Some, None, Result, Ok, Err, refl, sym, ap, subst, ◌∙◌, append_assoc, length-append, get_or, arith, inl, inr}
+use Rattle.std.proofs.Common.{length, take, Option, Some, Result, Ok, Err, refl, sym, ap, subst, ◌∙◌, append_assoc, length-append, get_or, arith, inl, inr}
 use Rattle.std.specs.Prelude.{◌⊎◌, IsTrue}
 use Rattle.std.specs.List.{flat_map, AllByRecursion}
 use Rattle.std.proofs.lemmas.Bool.Decides.{nat_tests}
 use Rattle.std.proofs.lemmas.Grind.{flat_map-append}
-use Rattle.std.proofs.lemmas.List.{append-nil, flat_map_more, take_at}
+use Rattle.std.proofs.lemmas.List.{append-nil, take_at}
 use Rattle.jl_names.proofs.Tests.{All-push, texts-push}
 use Rattle.jl_pool.specs.declared.constant.Constant.{Constant}
 use Rattle.jl_pool.specs.declared.constant.Constant.TheVariants.{Utf8, Integer, Float, Long, Double, Class, String, Fieldref, Methodref, InterfaceMethodref, NameAndType}
@@ -26,10 +26,10 @@ use Rattle.jl_pool.specs.declared.entry.Kept.{Kept}
 use Rattle.jl_pool.specs.Reading.Fields.{number_at}
 use Rattle.jl_pool.specs.Reading.Constants.{is_known, is_wide, is_bad_tag, constant_at}
 use Rattle.jl_pool.proofs.Fields.{IsBytes, u2_again, u2_takes, u4_again, some_is}
-use Rattle.jl_pool.proofs.EvenLaws.{even_text, entries_kept, numbers_kept}
+use Rattle.jl_pool.proofs.EntryLaws.{even_text, entries_kept, numbers_kept}
 use Rattle.jl_pool.proofs.MarkLaws.{neither}
 use Rattle.jl_pool.proofs.PlaceLaws.{All-places}
-use Rattle.jl_pool.proofs.TableLaws.{table_none, table_more, texts_short}
+use Rattle.jl_pool.proofs.TableLaws.{places-push, table_none, table_more, texts_short}
 use Rattle.jl_pool.proofs.ConstantLaws.{tag_known, constant_again, constant_takes, constant_tag, constant_bad, constant_one}
 
 -- ---- how many numbers a constant takes
@@ -109,9 +109,6 @@ pub record SoFar (bytes : List ℕ) (entries : List Entry) (odd : Bool) (rest : 
 
 pub SoFar-none : (bytes : List ℕ) (count : ℕ) → IsBytes bytes → 1 ≤ count → SoFar bytes (kept.Nothing ∷ []) false bytes count 1
 SoFar-none bytes count fits le = record { cs = []; table = table_none; spelled = refl; sized = tt; bytes_left = fits; next = refl; within = le; texts = λ e. tt }
-
-places-push : (cs : List Constant) (c : Constant) → places (cs ++ c ∷ []) ≡ places cs ++ places_of c
-places-push cs c = sym (flat_map_more places_of (None ∷ []) cs c)
 
 -- a constant that was read ends below the count
 pub ends_below : (count place : ℕ) (rest : List ℕ) (c : Constant) (after : List ℕ) → IsBytes rest → place < count

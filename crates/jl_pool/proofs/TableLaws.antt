@@ -1,7 +1,7 @@
 -- What a pool keeps of its constants shows them.
 use Rattle.std.proofs.Common.{◌≡◌, ℕ, zero, suc, ◌+◌, ◌*◌, ◌^◌, ◌<◌, ◌≤◌, Bool, true, false, cond, ltb, List, [], ◌∷◌, ◌++◌, length, map, take, drop, slice_get, Option, Some, None, refl, sym, ap, subst, ◌∙◌}
 use Rattle.std.proofs.Common.{append_assoc, length-append, arith}
-use Rattle.std.specs.Prelude.{option_map}
+use Rattle.std.specs.Prelude.{option_map, nat_le}
 use Rattle.std.specs.Option.{option_and_then, unwrap_or}
 use Rattle.std.specs.List.{flat_map, list_all, AllByRecursion}
 use Rattle.std.proofs.lemmas.Bool.{le-leb}
@@ -22,6 +22,7 @@ use Rattle.jl_pool.specs.Pools.{places, places_of, constant_at, text_of, text_at
 use Rattle.jl_pool.specs.Reading.Forms.{form_of, forms_of}
 use Rattle.jl_pool.specs.Reading.Table.{shown, pool_of, is_within, form_in, IsTable, Shows, entry_at, entry_of, entries_of}
 use Rattle.jl_pool.proofs.Fields.{guard_some, u8_again}
+use Rattle.jl_pool.proofs.EntryLaws.{form_kept}
 use Rattle.jl_pool.proofs.FormLaws.{and_true}
 
 -- ---- the entry of one constant, behind some bytes and before others
@@ -40,69 +41,35 @@ wide_there front after t bits n e lt =
     let read = guard_some (ltb (length (u8 bits ++ after)) 8) (big_number 8 (u8 bits ++ after), drop 8 (u8 bits ++ after)) (bits, after) (u8_again bits after lt) in
     ap (λ (x : List ℕ). big_number 8 x) there ∙ ap (λ (x : ℕ × List ℕ). x.0) read.1
 
-pub shown_of : (c : Constant) (front after : List ℕ) (start : ℕ) → IsSized c → start ≡ length front
-    → shown (front ++ (constant_text c ++ after)) (entry_of c start) ≡ Some c
-shown_of (Utf8 text) front after start sized e =
-    ap (λ (t : List ℕ). Some (Utf8 t))
-    (text_there front (1 ∷ u2 (length text)) text after (start + 3) (omega (arith, e)))
-shown_of (Integer bits) front after start sized e = refl
-shown_of (Float bits) front after start sized e = refl
-shown_of (Long bits) front after start sized e = ap (λ (n : ℕ). Some (Long n)) (wide_there front after 5 bits (start + 1) (omega (arith, e)) sized)
-shown_of (Double bits) front after start sized e = ap (λ (n : ℕ). Some (Double n)) (wide_there front after 6 bits (start + 1) (omega (arith, e)) sized)
-shown_of (Class name) front after start sized e = refl
-shown_of (String text) front after start sized e = refl
-shown_of (Fieldref owner signed) front after start sized e = refl
-shown_of (Methodref owner signed) front after start sized e = refl
-shown_of (InterfaceMethodref owner signed) front after start sized e = refl
-shown_of (NameAndType name ty) front after start sized e = refl
-shown_of (MethodHandle kind reference) front after start sized e = refl
-shown_of (MethodType ty) front after start sized e = refl
-shown_of (Dynamic bootstrap signed) front after start sized e = refl
-shown_of (InvokeDynamic bootstrap signed) front after start sized e = refl
-shown_of (Module name) front after start sized e = refl
-shown_of (Package name) front after start sized e = refl
+module _ (front after : List ℕ) where
+  abbrev around : Constant → List ℕ
+  around c = front ++ (constant_text c ++ after)
 
-within_of : (c : Constant) (front after : List ℕ) (start : ℕ) → start ≡ length front
-    → is_within (length (front ++ (constant_text c ++ after))) (entry_of c start) ≡ true
-within_of (Utf8 text) front after start e =
-    le-leb _ _ (omega (arith, e, length-append front (constant_text (Utf8 text) ++ after), length-append (constant_text (Utf8 text)) after))
-within_of (Integer bits) front after start e = refl
-within_of (Float bits) front after start e = refl
-within_of (Long bits) front after start e =
-    le-leb _ _ (omega (arith, e, length-append front (constant_text (Long bits) ++ after), length-append (constant_text (Long bits)) after))
-within_of (Double bits) front after start e =
-    le-leb _ _ (omega (arith, e, length-append front (constant_text (Double bits) ++ after), length-append (constant_text (Double bits)) after))
-within_of (Class name) front after start e = refl
-within_of (String text) front after start e = refl
-within_of (Fieldref owner signed) front after start e = refl
-within_of (Methodref owner signed) front after start e = refl
-within_of (InterfaceMethodref owner signed) front after start e = refl
-within_of (NameAndType name ty) front after start e = refl
-within_of (MethodHandle kind reference) front after start e = refl
-within_of (MethodType ty) front after start e = refl
-within_of (Dynamic bootstrap signed) front after start e = refl
-within_of (InvokeDynamic bootstrap signed) front after start e = refl
-within_of (Module name) front after start e = refl
-within_of (Package name) front after start e = refl
+  in_block : (c : Constant) (n : ℕ) → n ≤ length front + length (constant_text c) → nat_le n (length (around c)) ≡ true
+  in_block c n le = le-leb _ _ (omega (arith, le, length-append front (constant_text c ++ after), length-append (constant_text c) after))
 
-formed_of : (c : Constant) (start : ℕ) → form_in (entry_of c start) ≡ option_map form_of (text_of c)
-formed_of (Utf8 text) start = refl
-formed_of (Integer bits) start = refl
-formed_of (Float bits) start = refl
-formed_of (Long bits) start = refl
-formed_of (Double bits) start = refl
-formed_of (Class name) start = refl
-formed_of (String text) start = refl
-formed_of (Fieldref owner signed) start = refl
-formed_of (Methodref owner signed) start = refl
-formed_of (InterfaceMethodref owner signed) start = refl
-formed_of (NameAndType name ty) start = refl
-formed_of (MethodHandle kind reference) start = refl
-formed_of (MethodType ty) start = refl
-formed_of (Dynamic bootstrap signed) start = refl
-formed_of (InvokeDynamic bootstrap signed) start = refl
-formed_of (Module name) start = refl
-formed_of (Package name) start = refl
+  -- it shows the constant, within the block
+  shown_of : (c : Constant) (start : ℕ) → IsSized c → start ≡ length front → (shown (around c) (entry_of c start) ≡ Some c) × (is_within (length (around c)) (entry_of c start) ≡ true)
+  shown_of (Utf8 text) start sized e =
+      (ap (λ (t : List ℕ). Some (Utf8 t)) (text_there front (1 ∷ u2 (length text)) text after (start + 3) (omega (arith, e))), in_block (Utf8 text) (start + 3 + length text) (omega (arith, e)))
+  shown_of (Integer bits) start sized e = (refl, refl)
+  shown_of (Float bits) start sized e = (refl, refl)
+  shown_of (Long bits) start sized e =
+      (ap (λ (n : ℕ). Some (Long n)) (wide_there front after 5 bits (start + 1) (omega (arith, e)) sized), in_block (Long bits) (start + 1 + 8) (omega (arith, e)))
+  shown_of (Double bits) start sized e =
+      (ap (λ (n : ℕ). Some (Double n)) (wide_there front after 6 bits (start + 1) (omega (arith, e)) sized), in_block (Double bits) (start + 1 + 8) (omega (arith, e)))
+  shown_of (Class name) start sized e = (refl, refl)
+  shown_of (String text) start sized e = (refl, refl)
+  shown_of (Fieldref owner signed) start sized e = (refl, refl)
+  shown_of (Methodref owner signed) start sized e = (refl, refl)
+  shown_of (InterfaceMethodref owner signed) start sized e = (refl, refl)
+  shown_of (NameAndType name ty) start sized e = (refl, refl)
+  shown_of (MethodHandle kind reference) start sized e = (refl, refl)
+  shown_of (MethodType ty) start sized e = (refl, refl)
+  shown_of (Dynamic bootstrap signed) start sized e = (refl, refl)
+  shown_of (InvokeDynamic bootstrap signed) start sized e = (refl, refl)
+  shown_of (Module name) start sized e = (refl, refl)
+  shown_of (Package name) start sized e = (refl, refl)
 
 -- ---- the entries of one constant more
 
@@ -121,7 +88,7 @@ second_formed false = refl
 pub table_none : (bytes : List ℕ) → IsTable bytes (kept.Nothing ∷ []) []
 table_none bytes = record { by_number = refl; within = refl; formed = refl }
 
-places-push : (cs : List Constant) (c : Constant) → places (cs ++ c ∷ []) ≡ places cs ++ places_of c
+pub places-push : (cs : List Constant) (c : Constant) → places (cs ++ c ∷ []) ≡ places cs ++ places_of c
 places-push cs c = sym (flat_map_more places_of (None ∷ []) cs c)
 
 forms_push : (cs : List Constant) (c : Constant) → forms_of (places cs) ++ forms_of (places_of c) ≡ forms_of (places (cs ++ c ∷ []))
@@ -136,13 +103,13 @@ module _ (cs : List Constant) (c : Constant) (entries : List Entry) (more : List
   block = front ++ (constant_text c ++ more)
 
   shown_more : pool_of block (entries_of c start) ≡ places_of c
-  shown_more = rw (shown_of c front more start sized there, second block (is_double c)) refl
+  shown_more = rw ((shown_of front more c start sized there).0, second block (is_double c)) refl
 
   within_more : list_all (is_within (length block)) (entries_of c start) ≡ true
-  within_more = rw (within_of c front more start there) (second_within (length block) (is_double c))
+  within_more = rw ((shown_of front more c start sized there).1) (second_within (length block) (is_double c))
 
   formed_more : map form_in (entries_of c start) ≡ forms_of (places_of c)
-  formed_more = rw (formed_of c start, second_formed (is_double c)) refl
+  formed_more = rw (form_kept c start, second_formed (is_double c)) refl
 
   pub table_more : IsTable block entries cs → IsTable (flat_map constant_text (cs ++ c ∷ []) ++ more) (entries ++ entries_of c start) (cs ++ c ∷ [])
   table_more t =
