@@ -1,5 +1,5 @@
 -- What is kept of a constant tells its numbers, its form, and whether its text may be bad.
-use Rattle.std.proofs.Common.{◌≡◌, ◌∙◌, refl, ap, arith, ℕ, ◌^◌, ◌<◌, Bool, true, false, cond, List, [], ◌∷◌, length, Option, None}
+use Rattle.std.proofs.Common.{◌≡◌, ◌∙◌, refl, ap, subst, ◌++◌, arith, ℕ, ◌^◌, ◌<◌, Bool, true, false, cond, List, [], ◌∷◌, length, Option, None}
 use Rattle.std.specs.Prelude.{option_map}
 use Rattle.std.specs.List.{list_any}
 use Rattle.std.proofs.lemmas.Bool.Decides.{nat_tests}
@@ -8,11 +8,14 @@ use Rattle.jl_pool.specs.declared.constant.Constant.{Constant}
 use Rattle.jl_pool.specs.declared.constant.Constant.TheVariants.{Utf8, Integer, Float, Long, Double, Class, String, Fieldref, Methodref, InterfaceMethodref, NameAndType}
 use Rattle.jl_pool.specs.declared.constant.Constant.TheVariants.{MethodHandle, MethodType, Dynamic, InvokeDynamic, Module, Package}
 use Rattle.jl_pool.specs.declared.entry.Entry.TheVariants as kept
-use Rattle.jl_pool.specs.Constants.{is_double}
+use Rattle.jl_pool.specs.Constants.{is_double, constant_text, IsSized}
 use Rattle.jl_pool.specs.Pools.{HasText, places_of, text_of}
 use Rattle.jl_pool.specs.Reading.Forms.{form_of}
 use Rattle.jl_pool.specs.Reading.Marks.{is_odd}
 use Rattle.jl_pool.specs.Reading.Table.{form_in, entry_of, entries_of, takes_two, with_second, has_odd}
+use Rattle.jl_pool.specs.Reading.Entries.{BeginsText}
+use Rattle.jl_names.proofs.Tests.{by_test}
+use Rattle.jl_pool.proofs.Fields.{text_again}
 use Rattle.jl_pool.proofs.MarkLaws.{neither}
 
 one_unit : (b : ℕ) → is_odd b ≡ false → (unit_bytes b ≡ b ∷ []) × (b < 2 ^ 16)
@@ -50,8 +53,17 @@ tells (InvokeDynamic bootstrap nt) start = record { two = refl; even = λ e. tt;
 tells (Module name) start = record { two = refl; even = λ e. tt; form = refl }
 tells (Package name) start = record { two = refl; even = λ e. tt; form = refl }
 
-pub even_text : (c : Constant) → has_odd c ≡ false → HasText c
+even_text : (c : Constant) → has_odd c ≡ false → HasText c
 even_text c = (tells c 0).even
+
+-- where a text has an odd byte, it is good if the bytes begin with one that is
+good_text : (c : Constant) (after : List ℕ) → IsSized c → has_odd c ≡ true → BeginsText (constant_text c ++ after) → HasText c
+good_text (Utf8 text) after sized e good = rw (text_again text after sized) at good
+good_text _ after sized e good = absurd cc
+
+pub text_kept : (c : Constant) (rest after : List ℕ) → IsSized c → rest ≡ constant_text c ++ after → (has_odd c ≡ true → BeginsText rest) → HasText c
+text_kept c rest after sized e good =
+    by_test (has_odd c) (λ odd. good_text c after sized odd (subst BeginsText e (good odd))) (even_text c)
 
 pub form_kept : (c : Constant) (start : ℕ) → form_in (entry_of c start) ≡ option_map form_of (text_of c)
 form_kept c start = (tells c start).form

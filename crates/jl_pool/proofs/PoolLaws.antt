@@ -18,7 +18,7 @@ use Rattle.jl_pool.specs.Numbers.{u2, u4}
 use Rattle.jl_pool.specs.Constants.{tag, constant_text, IsSized}
 use Rattle.jl_pool.specs.Pools.{places, places_of, HasText, HaveTexts, is_linked, IsTyped, IsSoundPool}
 use Rattle.jl_pool.specs.Faults.{Opens, IsBadTag, TagFault, PoolStands, IsPoolFault, AllAt}
-use Rattle.jl_pool.specs.Reading.Entries.{IsCheckFault}
+use Rattle.jl_pool.specs.Reading.Entries.{IsCheckFault, BeginsText}
 use Rattle.jl_pool.specs.Reading.Table.{IsTable, entries_of, has_odd, with_second, kept_of, keep_read}
 use Rattle.jl_pool.specs.declared.entry.Entry.{Entry}
 use Rattle.jl_pool.specs.declared.entry.Entry.TheVariants as kept
@@ -26,7 +26,7 @@ use Rattle.jl_pool.specs.declared.entry.Kept.{Kept}
 use Rattle.jl_pool.specs.Reading.Fields.{number_at}
 use Rattle.jl_pool.specs.Reading.Constants.{is_known, is_wide, is_bad_tag, constant_at}
 use Rattle.jl_pool.proofs.Fields.{IsBytes, u2_again, u2_takes, u4_again, some_is}
-use Rattle.jl_pool.proofs.EntryLaws.{even_text, entries_kept, numbers_kept}
+use Rattle.jl_pool.proofs.EntryLaws.{text_kept, entries_kept, numbers_kept}
 use Rattle.jl_pool.proofs.MarkLaws.{neither}
 use Rattle.jl_pool.proofs.PlaceLaws.{All-places}
 use Rattle.jl_pool.proofs.TableLaws.{places-push, table_none, table_more, texts_short}
@@ -96,7 +96,7 @@ met count i t c same fits (inr two) =
 
 -- ---- constants that were read, by number, and what is left
 
-pub record SoFar (bytes : List ℕ) (entries : List Entry) (odd : Bool) (rest : List ℕ) (count place : ℕ) : Type 0 where
+pub record SoFar (bytes : List ℕ) (entries : List Entry) (bad : Bool) (rest : List ℕ) (count place : ℕ) : Type 0 where
   pub cs : List Constant
   -- whatever comes after them
   pub table : (more : List ℕ) → IsTable (flat_map constant_text cs ++ more) entries cs
@@ -105,7 +105,7 @@ pub record SoFar (bytes : List ℕ) (entries : List Entry) (odd : Bool) (rest : 
   pub bytes_left : IsBytes rest
   pub next : place ≡ length (places cs)
   pub within : place ≤ count
-  pub texts : odd ≡ false → HaveTexts cs
+  pub texts : bad ≡ false → HaveTexts cs
 
 pub SoFar-none : (bytes : List ℕ) (count : ℕ) → IsBytes bytes → 1 ≤ count → SoFar bytes (kept.Nothing ∷ []) false bytes count 1
 SoFar-none bytes count fits le = record { cs = []; table = table_none; spelled = refl; sized = tt; bytes_left = fits; next = refl; within = le; texts = λ e. tt }
@@ -122,17 +122,18 @@ start_is : (bytes : List ℕ) (cs : List Constant) (rest : List ℕ) → bytes �
 start_is bytes cs rest e = omega (arith, ap length e, length-append (flat_map constant_text cs) rest)
 
 -- where the next constant begins
-pub starts : (bytes : List ℕ) (entries : List Entry) (odd : Bool) (rest : List ℕ) (count place : ℕ) → SoFar bytes entries odd rest count place → count < 2 ^ 16 → place < count
+pub starts : (bytes : List ℕ) (entries : List Entry) (bad : Bool) (rest : List ℕ) (count place : ℕ) → SoFar bytes entries bad rest count place → count < 2 ^ 16 → place < count
     → (length rest ≤ length bytes) × (length bytes - length rest + 3 < 2 ^ 32)
-starts bytes entries odd rest count place s size lt =
+starts bytes entries bad rest count place s size lt =
     let front = texts_short s.cs s.sized in
     let start = start_is bytes s.cs rest s.spelled in
     (omega (arith, ap length s.spelled, length-append (flat_map constant_text s.cs) rest), omega (arith, start, front, s.next, size, lt))
 
-SoFar-more : (bytes : List ℕ) (entries : List Entry) (odd : Bool) (rest : List ℕ) (count place : ℕ) (c : Constant) (after : List ℕ)
-    → SoFar bytes entries odd rest count place → place < count → constant_at (eqb (place + 1) count) rest ≡ Ok (c, after)
-    → SoFar bytes (entries ++ entries_of c (length bytes - length rest)) (odd || has_odd c) after count (place + length (places_of c))
-SoFar-more bytes entries odd rest count place c after s lt e =
+SoFar-more : (bytes : List ℕ) (entries : List Entry) (bad : Bool) (rest : List ℕ) (count place : ℕ) (c : Constant) (after : List ℕ)
+    → SoFar bytes entries bad rest count place → place < count → constant_at (eqb (place + 1) count) rest ≡ Ok (c, after)
+    → (worse : Bool) → (worse ≡ false → has_odd c ≡ true → BeginsText rest)
+    → SoFar bytes (entries ++ entries_of c (length bytes - length rest)) (bad || worse) after count (place + length (places_of c))
+SoFar-more bytes entries bad rest count place c after s lt e worse tells =
     let r = constant_takes (eqb (place + 1) count) rest (c, after) s.bytes_left e in
     record {
       cs = s.cs ++ c ∷ [];
@@ -142,7 +143,7 @@ SoFar-more bytes entries odd rest count place c after s lt e =
       bytes_left = r.taken.bytes_left;
       next = omega (arith, s.next, ap length (places-push s.cs c), length-append (places s.cs) (places_of c));
       within = ends_below count place rest c after s.bytes_left lt e;
-      texts = λ even. let both = neither odd (has_odd c) even in All-push HasText s.cs c (s.texts both.0) (even_text c both.1);
+      texts = λ good. let both = neither bad worse good in All-push HasText s.cs c (s.texts both.0) (text_kept c rest after r.sized r.taken.parts (tells both.1));
     }
 
 -- ---- the same by what is kept of the constant
@@ -157,7 +158,7 @@ pub kept_err : (start : ℕ) (read : Result (Constant × List ℕ) Stop) (stop :
 kept_err start (Err found) stop e = cc
 kept_err start (Ok x) stop e = absurd cc
 
-module _ (bytes : List ℕ) (entries : List Entry) (odd : Bool) (rest : List ℕ) (count place : ℕ) (s : SoFar bytes entries odd rest count place) (lt : place < count)
+module _ (bytes : List ℕ) (entries : List Entry) (bad : Bool) (rest : List ℕ) (count place : ℕ) (s : SoFar bytes entries bad rest count place) (lt : place < count)
     (k : Kept) (after : List ℕ) (e : keep_read (length bytes - length rest) (constant_at (eqb (place + 1) count) rest) ≡ Ok (k, after)) where
   pub kept_below : place + length (with_second k.entry) ≤ count
   kept_below =
@@ -165,15 +166,17 @@ module _ (bytes : List ℕ) (entries : List Entry) (odd : Bool) (rest : List ℕ
       let below = ends_below count place rest x.0 after s.bytes_left lt x.1 in
       omega (arith, below, numbers_kept x.0 (length bytes - length rest), ap (λ (k : Kept). length (with_second k.entry)) x.2)
 
-  pub SoFar-kept : SoFar bytes (entries ++ with_second k.entry) (odd || k.odd) after count (place + length (with_second k.entry))
-  SoFar-kept =
+  pub SoFar-kept : (worse : Bool) → (worse ≡ false → k.odd ≡ true → BeginsText rest)
+      → SoFar bytes (entries ++ with_second k.entry) (bad || worse) after count (place + length (with_second k.entry))
+  SoFar-kept worse tells =
       let x = kept_ok (length bytes - length rest) (constant_at (eqb (place + 1) count) rest) k after e in
-      subst (λ (k : Kept). SoFar bytes (entries ++ with_second k.entry) (odd || k.odd) after count (place + length (with_second k.entry))) x.2
-      (rw (numbers_kept x.0 (length bytes - length rest), entries_kept x.0 (length bytes - length rest)) (SoFar-more bytes entries odd rest count place x.0 after s lt x.1))
+      subst (λ (k : Kept). SoFar bytes (entries ++ with_second k.entry) (bad || worse) after count (place + length (with_second k.entry))) x.2
+      (rw (numbers_kept x.0 (length bytes - length rest), entries_kept x.0 (length bytes - length rest))
+      (SoFar-more bytes entries bad rest count place x.0 after s lt x.1 worse (λ good odd. tells good (ap (λ (k : Kept). k.odd) (sym x.2) ∙ odd))))
 
-pub SoFar-done : (bytes : List ℕ) (entries : List Entry) (odd : Bool) (rest : List ℕ) (count place : ℕ) → count < 2 ^ 16 → count ≤ place
-    → SoFar bytes entries odd rest count place → (cs : List Constant) × PoolStands (u2 count ++ bytes) cs rest × (bytes ≡ flat_map constant_text cs ++ rest) × IsTable (flat_map constant_text cs) entries cs × (odd ≡ false → HaveTexts cs)
-SoFar-done bytes entries odd rest count place size le s =
+pub SoFar-done : (bytes : List ℕ) (entries : List Entry) (bad : Bool) (rest : List ℕ) (count place : ℕ) → count < 2 ^ 16 → count ≤ place
+    → SoFar bytes entries bad rest count place → (cs : List Constant) × PoolStands (u2 count ++ bytes) cs rest × (bytes ≡ flat_map constant_text cs ++ rest) × IsTable (flat_map constant_text cs) entries cs × (bad ≡ false → HaveTexts cs)
+SoFar-done bytes entries bad rest count place size le s =
     let is : count ≡ place = omega (arith, s.within) in (
       s.cs,
       record {
@@ -185,25 +188,25 @@ SoFar-done bytes entries odd rest count place size le s =
       s.texts,
     )
 
-opens : (bytes : List ℕ) (entries : List Entry) (odd : Bool) (rest : List ℕ) (count place : ℕ) (s : SoFar bytes entries odd rest count place) → count < 2 ^ 16
+opens : (bytes : List ℕ) (entries : List Entry) (bad : Bool) (rest : List ℕ) (count place : ℕ) (s : SoFar bytes entries bad rest count place) → count < 2 ^ 16
     → place < count → Opens (u2 count ++ bytes) count s.cs rest
-opens bytes entries odd rest count place s size lt = record {
+opens bytes entries bad rest count place s size lt = record {
   count_size = size;
   bytes = ap (λ (x : List ℕ). u2 count ++ x) s.spelled;
   each = s.sized;
   more = omega (arith, s.next);
 }
 
-pub SoFar-tag : (bytes : List ℕ) (entries : List Entry) (odd : Bool) (rest : List ℕ) (count place : ℕ) → SoFar bytes entries odd rest count place → count < 2 ^ 16 → place < count
+pub SoFar-tag : (bytes : List ℕ) (entries : List Entry) (bad : Bool) (rest : List ℕ) (count place : ℕ) → SoFar bytes entries bad rest count place → count < 2 ^ 16 → place < count
     → constant_at (eqb (place + 1) count) rest ≡ Err Tag → IsPoolFault (u2 count ++ bytes) (BadTag place)
-SoFar-tag bytes entries odd rest count place s size lt e =
+SoFar-tag bytes entries bad rest count place s size lt e =
     let t = constant_tag (eqb (place + 1) count) rest e in
     inl (record {
       count = count;
       before = s.cs;
       tag = t.0;
       left = t.1;
-      begins = subst (λ (x : List ℕ). Opens (u2 count ++ bytes) count s.cs x) t.2 (opens bytes entries odd rest count place s size lt);
+      begins = subst (λ (x : List ℕ). Opens (u2 count ++ bytes) count s.cs x) t.2 (opens bytes entries bad rest count place s size lt);
       place = s.next;
       bad = is_bad count place t.0 t.3;
     })
@@ -262,7 +265,7 @@ tag_none count place i t left rest [] e lt is text = λ bad.
 tag_none count place i t left rest (c ∷ more) e lt is text = λ bad.
     met count i t c (cc) (omega (arith, length-append (places_of c) (flat_map places_of more))) bad
 
-module _ (bytes : List ℕ) (entries : List Entry) (odd : Bool) (rest : List ℕ) (count place : ℕ) (s : SoFar bytes entries odd rest count place) (size : count < 2 ^ 16)
+module _ (bytes : List ℕ) (entries : List Entry) (bad : Bool) (rest : List ℕ) (count place : ℕ) (s : SoFar bytes entries bad rest count place) (size : count < 2 ^ 16)
     (lt : place < count) (e : constant_at (eqb (place + 1) count) rest ≡ Err Cut) where
   no_pool : (cs : List Constant) (left : List ℕ) → ¬ PoolStands (u2 count ++ bytes) cs left
   no_pool cs left = λ h.

@@ -27,16 +27,16 @@ struct Names {
 
 impl Pool {
     /// Looks for the first Utf8 that is no modified UTF-8, then for the first constant that names a wrong one, and then for
-    /// the first that names a descriptor of a wrong kind. A Utf8 is looked at only where some byte of a text is odd, since
-    /// each is good where none is.
-    pub(crate) fn check(&self, odd: bool) -> Result<(), PoolFault>
-        requires { odd ≡ false → AllAt HasText self.now }
+    /// the first that names a descriptor of a wrong kind. The texts are gone over only where it is known that one of
+    /// them is bad, to find the first.
+    pub(crate) fn check(&self, bad: bool) -> Result<(), PoolFault>
+        requires { bad ≡ false → AllAt HasText self.now }
         ensures texts { OnOk result (AllAt HasText self.now) }
         ensures links { OnOk result (AllAt (λ c. IsTrue (is_linked self.now c)) self.now) }
         ensures types { OnOk result (AllAt (IsTyped self.now) self.now) }
         ensures fault { IfErr result (IsCheckFault self.now) }
     {
-        match self.check_texts(odd) {
+        match self.check_texts(bad) {
             Ok(()) => self.check_names(),
             fault => fault,
         }
@@ -64,12 +64,12 @@ impl Pool {
     }
 
     /// Looks for the first Utf8 that is no modified UTF-8, where there may be one.
-    fn check_texts(&self, odd: bool) -> Result<(), PoolFault>
-        requires { odd ≡ false → AllAt HasText self.now }
+    fn check_texts(&self, bad: bool) -> Result<(), PoolFault>
+        requires { bad ≡ false → AllAt HasText self.now }
         ensures ok { OnOk result (AllAt HasText self.now) }
         ensures fault { IfErr result (IsTextFault self.now) }
     {
-        if !odd {
+        if !bad {
             return Ok(());
         }
         for number in 0..self.count() {

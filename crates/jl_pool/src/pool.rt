@@ -1,6 +1,6 @@
 //! The constant pool.
 
-ghost use Rattle.std.specs.Prelude.{◌≡◌, ◌≢◌, ◌+◌, ◌<◌, ◌≤◌, ◌^◌, ◌++◌, [], ◌∷◌, length, Option, option_map, Result, List, ℕ, IfOk, IfErr, false};
+ghost use Rattle.std.specs.Prelude.{◌≡◌, ◌≢◌, ◌+◌, ◌<◌, ◌≤◌, ◌^◌, ◌++◌, [], ◌∷◌, length, Option, option_map, Result, List, ℕ, IfOk, IfErr, true, false};
 ghost use Rattle.std.specs.List.{flat_map};
 ghost use Rattle.jl_pool.specs.declared.constant.Constant.{Constant};
 ghost use Rattle.std.specs.Option.{option_and_then, unwrap_or};
@@ -11,6 +11,7 @@ ghost use Rattle.jl_pool.specs.declared.pool_fault.PoolFault.{PoolFault};
 ghost use Rattle.jl_pool.specs.declared.pool_fault.PoolFault.TheVariants.{Memory};
 ghost use Rattle.jl_pool.specs.Faults.{PoolStands, IsPoolFault};
 ghost use Rattle.jl_pool.specs.Reading.Constants.{Gives, is_known, is_wide, of_bits, of_number, of_pair, payload_at, constant_at};
+ghost use Rattle.jl_pool.specs.Reading.Entries.{BeginsText};
 ghost use Rattle.jl_pool.specs.Reading.Fields.{Finds};
 ghost use Rattle.jl_pool.specs.Reading.Forms.{form_of};
 ghost use Rattle.jl_pool.specs.Reading.Table.{with_second, IsTable, Shows, entry_of, wide_entry, keep, keep_read};
@@ -21,7 +22,7 @@ use crate::entry::{Entry, Kept, constant_in, entry_at, form_in, text_in};
 use crate::form::Form;
 use crate::pool_fault::PoolFault;
 use crate::reference::{CallSiteSpecifier, Reference};
-use jl_names::{LentName, Name};
+use jl_names::{LentName, Name, is_text};
 use std::alloc::{AllocError, Global};
 use std::marker::Model;
 
@@ -74,8 +75,8 @@ impl Pool {
             × IsSoundPool cs × (x.0 ≡ places cs) × (x.1 ≡ length (pool_text cs))) }
         ensures fault { IfErr result (IsPoolFault bytes.now) }
     {
-        let (pool, used, odd) = pool_at(alloc, bytes)?;
-        pool.check(odd)?;
+        let (pool, used, bad) = pool_at(alloc, bytes)?;
+        pool.check(bad)?;
         Ok((pool, used))
     }
 
@@ -444,8 +445,28 @@ fn push_entry(entries: &mut Vec<Entry>, entry: Entry) -> Result<u16, PoolFault>
     Ok(1)
 }
 
-/// What is kept of the constants by number, over a block that begins with the bytes; whether a byte of a text is no unit of
-/// modified UTF-8 by itself; and what comes after the constants.
+/// Whether these bytes begin with a text that has an odd byte and is no modified UTF-8.
+fn is_bad_text(odd: bool, bytes: &[u8]) -> bool
+    ensures { result ≡ false → odd ≡ true → BeginsText bytes.now }
+{
+    odd && !begins_text(bytes)
+}
+
+/// Whether these bytes begin with a tag, a count and so many bytes that are modified UTF-8.
+fn begins_text(bytes: &[u8]) -> bool
+    ensures { result ≡ true → BeginsText bytes.now }
+{
+    match bytes {
+        [_, rest @ ..] => match text_at(rest) {
+            Some((text, _)) => is_text(text),
+            None => false,
+        },
+        [] => false,
+    }
+}
+
+/// What is kept of the constants by number, over a block that begins with the bytes; whether one of the texts is no modified
+/// UTF-8; and what comes after the constants.
 fn constants_at(
     alloc: Global,
     count: u16,
@@ -458,7 +479,7 @@ fn constants_at(
 {
     let mut entries = Vec::with_capacity(alloc, usize::from(count))?;
     entries.push(Entry::Nothing)?;
-    let mut odd = false;
+    let mut bad = false;
     let mut place = 1;
     let mut rest = bytes;
     while place < count {
@@ -466,18 +487,17 @@ fn constants_at(
         match kept_at(place + 1 == count, start, rest) {
             Ok((kept, after)) => {
                 place += push_entry(&mut entries, kept.entry)?;
-                odd |= kept.odd;
+                bad |= is_bad_text(kept.odd, rest);
                 rest = after;
             }
             Err(Stop::Cut) => return Err(PoolFault::Truncated),
             Err(Stop::Tag) => return Err(PoolFault::BadTag(place)),
         }
     }
-    Ok((entries, odd, rest))
+    Ok((entries, bad, rest))
 }
 
-/// The pool at the front by its layout alone, how many bytes it takes, and whether a byte of a text is no unit of modified
-/// UTF-8 by itself.
+/// The pool at the front by its layout alone, how many bytes it takes, and whether one of its texts is no modified UTF-8.
 fn pool_at(alloc: Global, bytes: &[u8]) -> Result<(Pool, usize, bool), PoolFault>
     ensures ok { IfOk result (λ x. (cs : List Constant) × (left : List ℕ) × PoolStands bytes.now cs left × (x.0 ≡ places cs) × (x.1 ≡ length (pool_text cs))
         × (x.2 ≡ false → HaveTexts cs)) }
@@ -489,8 +509,8 @@ fn pool_at(alloc: Global, bytes: &[u8]) -> Result<(Pool, usize, bool), PoolFault
     if count == 0 {
         return Err(PoolFault::BadTag(0));
     }
-    let (entries, odd, after) = constants_at(alloc, count, rest)?;
+    let (entries, bad, after) = constants_at(alloc, count, rest)?;
     let used = rest.len() - after.len();
     let block = Name::copied(alloc, &rest[..used])?;
-    Ok((Pool { block, entries }, used + 2, odd))
+    Ok((Pool { block, entries }, used + 2, bad))
 }

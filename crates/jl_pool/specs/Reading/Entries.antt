@@ -1,9 +1,17 @@
 -- Why the constants of a pool are refused, once they stand there.
-use Rattle.std.specs.Prelude.{◌≡◌, ℕ, IsTrue, ◌⊎◌}
+use Rattle.std.specs.Prelude.{◌≡◌, ℕ, IsTrue, ◌⊎◌, List, [], ◌∷◌}
+use Rattle.std.specs.Option.{IsSomeAnd}
+use Rattle.jl_names.specs.Mutf8.{IsText}
 use Rattle.jl_pool.specs.declared.pool_fault.PoolFault.{PoolFault}
 use Rattle.jl_pool.specs.declared.pool_fault.PoolFault.TheVariants.{BadUtf8, BadIndex, BadDescriptor}
 use Rattle.jl_pool.specs.Pools.{Pool, HasText, is_linked, IsTyped}
 use Rattle.jl_pool.specs.Faults.{AllAt, IsFirstNot}
+use Rattle.jl_pool.specs.Reading.Fields.{text_at}
+
+-- these begin with a tag, a count and so many bytes that are modified UTF-8
+abbrev pub BeginsText : List ℕ → Type 0
+BeginsText [] = ⊥
+BeginsText (t ∷ bytes) = IsSomeAnd (text_at bytes) (λ x. IsText x.0)
 
 abbrev pub IsTextFault : Pool → PoolFault → Type 0
 IsTextFault p f = (i : ℕ) × (f ≡ BadUtf8 i) × IsFirstNot HasText p i
