@@ -25,6 +25,18 @@ struct Names {
     typed: bool,
 }
 
+impl Names {
+    /// The tests of an entry that names no class name and no descriptor.
+    fn of_link(linked: bool) -> Names
+        ensures { result ≡ record { linked = linked; typed = true } }
+    {
+        Names {
+            linked,
+            typed: true,
+        }
+    }
+}
+
 impl Pool {
     /// Looks for the first Utf8 that is no modified UTF-8, then for the first constant that names a wrong one, and then for
     /// the first that names a descriptor of a wrong kind. The texts are gone over only where it is known that one of
@@ -93,14 +105,11 @@ impl Pool {
             | Entry::Integer(_)
             | Entry::Float(_)
             | Entry::Long(_)
-            | Entry::Double(_) => Names {
-                linked: true,
-                typed: true,
-            },
-            Entry::String(text) | Entry::Module(text) | Entry::Package(text) => Names {
-                linked: self.has_tag(1, text),
-                typed: true,
-            },
+            | Entry::Double(_) => Names::of_link(true),
+            Entry::String(text) | Entry::Module(text) | Entry::Package(text) => {
+                Names::of_link(self.has_tag(1, text))
+            }
+            Entry::MethodHandle(kind, reference) => Names::of_link(self.refers(kind, reference)),
             Entry::Class(name) => Names {
                 linked: self.has_tag(1, name),
                 typed: self.is_class_text(name),
@@ -120,10 +129,6 @@ impl Pool {
             Entry::Methodref(owner, signed) | Entry::InterfaceMethodref(owner, signed) => Names {
                 linked: self.is_member(owner, signed),
                 typed: is_method(self.descriptor_form(signed)),
-            },
-            Entry::MethodHandle(kind, reference) => Names {
-                linked: self.refers(kind, reference),
-                typed: true,
             },
             Entry::Dynamic(_, signed) => Names {
                 linked: self.has_tag(12, signed),
