@@ -30,10 +30,15 @@ fn behind_one(bytes: &[u8]) -> Option<&[u8]>
     ensures stands { IfSome result (λ rest. IsBehindPlain bytes.now rest.now) }
     ensures shorter { IfSome result (λ rest. length rest.now < length bytes.now) }
 {
-    let [opcode, ..] = bytes else {
+    let [opcode, after @ ..] = bytes else {
         return None;
     };
-    let length = usize::from(plain_length(*opcode));
+    let length = plain_length(*opcode);
+    // Most take one byte. A branch that is foreseen is gone on behind, where a length that is looked up is waited for.
+    if length == 1 {
+        return Some(after);
+    }
+    let length = usize::from(length);
     if length == 0 || length > bytes.len() {
         return None;
     }
