@@ -153,6 +153,7 @@ fn brackets(text: &[u8]) -> usize
 }
 
 /// A field's type at the front, and what comes after it.
+#[inline(always)]
 #[tactic(auto, unfolding(crate::specs::Reading::Descriptors::field_at))]
 pub(crate) fn field_at(text: &[u8]) -> Result<(FieldType<'_>, &[u8]), &[u8]>
     ensures { Stops (λ x. (x.0, x.1.now)) result (field_at text.now) }
