@@ -3,6 +3,9 @@
 #
 #     bench/jdk.sh PROGRAM       PROGRAM is the built linkd
 #     bench/jdk.sh --speed       only how fast ASM reads the same files
+#     bench/jdk.sh --reader PROGRAM
+#                                only read_class beside ASM, in turn, and what read class files take; PROGRAM is the built
+#                                read_bench. TURNS (7) is how often each is run. It needs GNU time.
 #
 # JAVA_HOME chooses the JDK (else java of the PATH). RUNS (3) is how often the scan is timed. JAVAP=n has javap read
 # each n-th class, as a third opinion. SPEED=0 leaves out ASM's speed. AS=61 writes that version into each file, for a
@@ -21,15 +24,59 @@ speed() {
     run_java AsmSpeed 0 10
 }
 
-if [ $# != 1 ]; then usage; fi
+# The middle one of the numbers.
+middle() {
+    sort -n "$1" | awk '{ t[NR] = $1 } END { print t[int((NR + 1) / 2)] }'
+}
+
+# The most memory of a run of read_bench that keeps the class files of these lines, in KB.
+kept() {
+    env time -f %M -o "$work/most" "$program" keep < "$1" > "$work/kept"
+    cat "$work/most"
+}
+
+# What the class files of these lines take, over their bytes.
+memory() {
+    awk -v with="$(kept "$2")" -v without="$(kept /dev/null)" -v lines="$(wc -l < "$2")" -v size="$(wc -c < "$2")" -v what="$1" 'BEGIN {
+        bytes = (size - lines) / 2
+        printf "%s: %d KB more for %d bytes of class file, %.2f times these\n", what, with - without, bytes, (with - without) * 1024 / bytes
+    }'
+}
+
+# Milliseconds of each: the middle of the ten passes of read_class, and ASM's tenth pass.
+reader() {
+    bytes=$(awk '{ n += $NF } END { printf "%d", n }' "$data/classes.names")
+    : > "$work/ours"
+    : > "$work/theirs"
+    for turn in $(seq "${TURNS:-7}"); do
+        "$program" < "$data/classes.hex" 2> "$work/passes" > "$work/totals"
+        middle "$work/passes" >> "$work/ours"
+        run_java AsmSpeed 6 10 | awk -v b="$bytes" '/pass 10/ { for (i = 1; i <= NF; i++) if ($i == "MB") print b / 1e3 / $(i - 1) }' >> "$work/theirs"
+        echo "turn $turn: read_class $(tail -n 1 "$work/ours") ms, ASM $(tail -n 1 "$work/theirs") ms"
+    done
+    awk -v a="$(middle "$work/ours")" -v b="$(middle "$work/theirs")" -v c="$(sort -n "$work/ours" | head -n 1)" -v d="$(sort -n "$work/theirs" | head -n 1)" \
+        'BEGIN { printf "read_class is %.2f times as fast as ASM by the middles, %.2f by the best\n", b / a, d / c }'
+    memory "all class files" "$data/classes.hex"
+    awk 'length($0) > length(most) { most = $0 } END { for (i = 0; i < 50; i++) print most }' "$data/classes.hex" > "$work/largest.hex"
+    memory "the largest, 50 times" "$work/largest.hex"
+}
+
+if [ $# = 0 ] || [ $# -gt 2 ]; then usage; fi
 java -version 2>&1 | sed -n 2p
 if [ "$1" = --speed ]; then
     speed
     exit 0
 fi
-take_program "$1"
 data=${KEEP:-$work}
 mkdir -p "$data"
+if [ "$1" = --reader ] && [ $# = 2 ] && [ "$has_asm" = 1 ]; then
+    take_program "$2"
+    run_java Lines "$data"
+    reader
+    exit 0
+fi
+if [ $# != 1 ]; then usage; fi
+take_program "$1"
 
 echo "== the lines"
 run_java Lines "$data" ${AS:+"$AS"} | tee "$data/lines.txt"
