@@ -4,7 +4,7 @@ use crate::names::NameRow::*;
 use crate::rows::{A_F, Row, assert_rows};
 use jl_names::{
     Name, NameFault, Seq, Text, decode_mutf8, encode_mutf8, is_class_name, is_text, is_unqualified,
-    no_fault_in_units, one_list_of_units, package_of,
+    no_fault_in_units, one_list_of_units, package_of, print_from,
 };
 use std::alloc::{AllocError, Global};
 use std::hash::{DefaultHasher, Hash, Hasher};
@@ -35,6 +35,8 @@ enum NameRow {
     OtherName(&'static [u8], &'static [u8]),
     /// They are cut from one block: the first byte, the second and the rest.
     Cut,
+    /// This is the print that they make of one.
+    Print(u64, &'static [u8], u64),
 }
 
 /// Whether the bytes are no text, and have this fault.
@@ -202,6 +204,7 @@ impl Row for NameRow {
                 differ(&Name::copied(alloc, bytes), &Name::copied(alloc, others))
             },
             Cut => can_be_cut(alloc),
+            Print(before, bytes, print) => print_from(*before, bytes) == *print,
         }
     }
 }
@@ -286,4 +289,19 @@ const KEPT: &[NameRow] = &[
 #[test]
 fn kept_names(rt: HostRuntime) {
     assert_rows(&rt, KEPT);
+}
+
+/// Prints: for each word of eight bytes, and for what is left, the product of what it is and 0x9e3779b97f4a7c15, with its upper half on its
+/// lower one.
+const PRINTS: &[NameRow] = &[
+    Print(0, b"", 0x0000_0000_0000_0000),
+    Print(0, b"A", 0x2c15_e819_7dfc_694c),
+    Print(7, b"run", 0x73fd_636d_f261_1ef0),
+    Print(0, b"toString", 0x25f3_ad29_19f0_ab50),
+    Print(0, b"()Ljava/lang/String;", 0x0a6b_38b1_af27_b619),
+];
+
+#[test]
+fn prints(rt: HostRuntime) {
+    assert_rows(&rt, PRINTS);
 }

@@ -251,6 +251,8 @@ enum PoolRow {
     CopiedMethod,
     /// The copy of a call site is equal to it.
     CopiedCallSite,
+    /// The copy of the pool that has each tag is one.
+    CopiedPool,
 }
 
 /// Whether the pool of this count, of these entries and then this one, has this fault, or none.
@@ -404,6 +406,25 @@ fn is_call_site(made: &Result<CallSiteSpecifier<Name>, AllocError>) -> bool {
     }
 }
 
+/// A copy of the pool that has each tag, which is let go.
+fn copied_pool(alloc: Global) -> Option<Pool> {
+    let bytes = bytes_with(alloc, 26, EACH_TAG, &[]).ok()?;
+    let (pool, _used) = Pool::read(alloc, &bytes).ok()?;
+    pool.copy(alloc).ok()
+}
+
+/// Whether it is the pool that has each tag.
+fn is_each_tag(copied: &Option<Pool>) -> bool {
+    match copied {
+        Some(pool) => {
+            have_tags(pool, TAGS)
+                && pool.text_or_nothing(4).as_slice() == b"()V".as_slice()
+                && pool.text_or_nothing(5).as_slice().is_empty()
+        }
+        None => false,
+    }
+}
+
 impl Row for PoolRow {
     fn is_so(&self, alloc: Global) -> bool {
         match self {
@@ -416,6 +437,7 @@ impl Row for PoolRow {
             Front(count, bytes, found) => bytes_at(*count, bytes) == *found,
             CopiedMethod => is_interface_method(&copied_method(alloc)),
             CopiedCallSite => is_call_site(&copied_call_site(alloc)),
+            CopiedPool => is_each_tag(&copied_pool(alloc)),
         }
     }
 }
@@ -485,6 +507,37 @@ const POOLS: &[PoolRow] = &[
         Some(PoolFault::BadIndex(6)),
     ),
     Fault(2, &[b"\x01\x00\x01\x00"], Some(PoolFault::BadUtf8(1))),
+    // A zero and the sign of the euro, in modified UTF-8; and behind them a byte that begins no unit.
+    Fault(
+        4,
+        &[
+            b"\x01\x00\x02\xc0\x80",
+            b"\x01\x00\x03\xe2\x82\xac",
+            b"\x01\x00\x01A",
+        ],
+        None,
+    ),
+    Fault(
+        4,
+        &[
+            b"\x01\x00\x02\xc0\x80",
+            b"\x01\x00\x01A",
+            b"\x01\x00\x01\x80",
+        ],
+        Some(PoolFault::BadUtf8(3)),
+    ),
+    // The first of two; but the bytes end, or a tag is bad, before any text is.
+    Fault(
+        4,
+        &[b"\x01\x00\x01A", b"\x01\x00\x01\xff", b"\x01\x00\x01\x00"],
+        Some(PoolFault::BadUtf8(2)),
+    ),
+    Fault(3, &[b"\x01\x00\x01\x00"], Some(PoolFault::Truncated)),
+    Fault(
+        3,
+        &[b"\x01\x00\x01\x00", b"\x02\x00\x01"],
+        Some(PoolFault::BadTag(2)),
+    ),
     // The text at 2 comes before the number at 1, and that before the descriptor at 3.
     Fault(
         5,
@@ -568,6 +621,7 @@ const PARTS: &[PoolRow] = &[
     Front(4, &[1, 2, 3], None),
     CopiedMethod,
     CopiedCallSite,
+    CopiedPool,
 ];
 
 #[test]
