@@ -1,11 +1,12 @@
 //! What a text of the pool may stand for.
 
-ghost use Rattle.std.specs.Prelude.{◌≡◌, ◌&&◌, ◌||◌, not};
+ghost use Rattle.std.specs.Prelude.{◌≡◌, ◌+◌, ◌≤◌, ◌&&◌, ◌||◌, not, length, take, drop};
 ghost use Rattle.jl_names.specs.ClassNames.{is_class_name, is_unqualified};
 ghost use Rattle.jl_pool.specs.Reading.Forms.{form_of, is_field};
-ghost use Rattle.jl_pool.specs.Reading.Marks.{marks_of, AreMarks};
+ghost use Rattle.jl_pool.specs.Reading.Marks.{marks_of, either, AreMarks};
 
 use jl_names::{FieldType, is_class_name, method_slots};
+use std::simd::prelude::*;
 
 /// What a text may stand for. It is found once for each text of a pool, however many entries name that text.
 #[derive(Clone, Copy, Debug, PartialEq, Eq)]
@@ -51,6 +52,20 @@ pub(crate) struct Marks {
     pub(crate) odd: bool,
 }
 
+impl Marks {
+    /// The marks of either of two texts.
+    fn or(self, other: Marks) -> Marks
+        ensures { result ≡ either self other }
+    {
+        Marks {
+            barred: self.barred | other.barred,
+            slash: self.slash | other.slash,
+            angle: self.angle | other.angle,
+            odd: self.odd | other.odd,
+        }
+    }
+}
+
 /// The marks of each byte, a bit each: 1 where it is barred, 2 for a slash, 4 for an angle bracket, 8 where it is odd.
 static BYTE_MARKS: [u8; 256] = [
     8, 0, 0, 0, 0, 0, 0, 0, 0, 0, 0, 0, 0, 0, 0, 0, 0, 0, 0, 0, 0, 0, 0, 0, 0, 0, 0, 0, 0, 0, 0, 0,
@@ -70,8 +85,59 @@ fn byte_marks(byte: u8) -> u8
     BYTE_MARKS[usize::from(byte)]
 }
 
-/// The marks of a text, by one pass over it without an early exit.
+/// The marks of a text. Sixteen, eight or four bytes are looked at together, and the last ones overlap those before, so that few
+/// texts are gone over byte by byte.
 pub(crate) fn marks_of(text: &[u8]) -> Marks
+    ensures { result ≡ marks_of text.now }
+{
+    if text.len() < 4 {
+        marks_by_byte(text)
+    } else if text.len() < 8 {
+        marks_in::<4>(text, 0).or(marks_in::<4>(text, text.len() - 4))
+    } else if text.len() < 16 {
+        marks_in::<8>(text, 0).or(marks_in::<8>(text, text.len() - 8))
+    } else {
+        marks_of_long(text)
+    }
+}
+
+/// The marks of a text of 16 bytes and more.
+fn marks_of_long(text: &[u8]) -> Marks
+    requires { 16 ≤ length text.now }
+    ensures { result ≡ marks_of text.now }
+{
+    let mut seen = marks_in::<16>(text, 0);
+    let mut at = 16;
+    while text.len() - at > 16 {
+        seen = seen.or(marks_in::<16>(text, at));
+        at += 16;
+    }
+    seen.or(marks_in::<16>(text, text.len() - 16))
+}
+
+/// The marks of so many bytes from here on.
+#[inline(always)]
+fn marks_in<const N: usize>(text: &[u8], at: usize) -> Marks
+    requires within { at + N ≤ length text.now }
+    requires few { N ≤ 64 }
+    ensures { result ≡ marks_of (take N (drop at text.now)) }
+{
+    let bytes = Simd::<u8, N>::from_slice(&text[at..]);
+    let barred = bytes.simd_eq(Simd::splat(b'.'))
+        | (bytes.simd_eq(Simd::splat(b';')) | bytes.simd_eq(Simd::splat(b'[')));
+    let slash = bytes.simd_eq(Simd::splat(b'/'));
+    let angle = bytes.simd_eq(Simd::splat(b'<')) | bytes.simd_eq(Simd::splat(b'>'));
+    let odd = bytes.simd_eq(Simd::splat(0)) | bytes.simd_ge(Simd::splat(0x80));
+    Marks {
+        barred: barred.to_bitmask() != 0,
+        slash: slash.to_bitmask() != 0,
+        angle: angle.to_bitmask() != 0,
+        odd: odd.to_bitmask() != 0,
+    }
+}
+
+/// The marks of a text, byte by byte without an early exit.
+fn marks_by_byte(text: &[u8]) -> Marks
     ensures { result ≡ marks_of text.now }
 {
     let mut seen = 0;

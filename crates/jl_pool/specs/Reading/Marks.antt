@@ -21,6 +21,10 @@ is_odd b = (b == 0) || nat_le 0x80 b
 abbrev pub marks_of : List ℕ → Marks
 marks_of text = record { barred = list_any is_barred text; slash = list_any is_slash text; angle = list_any is_angle text; odd = list_any is_odd text }
 
+-- the marks of two texts
+abbrev pub either : Marks → Marks → Marks
+either x y = record { barred = x.barred || y.barred; slash = x.slash || y.slash; angle = x.angle || y.angle; odd = x.odd || y.odd }
+
 abbrev pub is_set : ℕ → ℕ → Bool
 is_set place n = not (bit_and n (2 ^ place) == 0)
 

@@ -1,6 +1,6 @@
 use Rattle.jl_pool.specs.Reading.Marks.{is_barred, is_slash, is_angle, is_odd}
 use Rattle.jl_pool.proofs.ByteMarkLaws.{IsSeen}
-use Rattle.jl_pool.proofs.form.marks_of.Given as goal
+use Rattle.jl_pool.proofs.form.marks_by_byte.Given as goal
 
 abbrev pub invariant-loop-byte : goal.invariant-loop-byte
 invariant-loop-byte l =
