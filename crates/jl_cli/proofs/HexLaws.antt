@@ -1,58 +1,51 @@
--- Hexadecimal by a table.
-use Rattle.std.proofs.Common.{◌≡◌, ◌∙◌, refl, sym, ap, subst, arith, ℕ, ◌+◌, ◌*◌, ◌%◌, ◌<◌, ◌≤◌, List, length, take, drop, map}
-use Rattle.std.proofs.Common.{get_or, slice_index, slice_set, bit_or, bit_and, inl, inr, Bool, true, false, Option, Some, None, unwrap_or, Result, Ok, Err, MatchResult}
+-- Hexadecimal, by a value for each digit.
+use Rattle.std.proofs.Common.{◌≡◌, ◌∙◌, refl, sym, ap, subst, arith, ℕ, ◌+◌, ◌*◌, ◌%◌, ◌<◌, ◌≤◌, List, length, take, drop}
+use Rattle.std.proofs.Common.{slice_index, slice_set, bit_or, bit_and, inl, inr, Bool, true, false, Option, Some, None, Result, Ok, Err, MatchOption, MatchResult}
 use Rattle.std.specs.Prelude.{nat_lt}
-use Rattle.std.specs.List.{range_with_len}
 use Rattle.std.proofs.lemmas.Bool.{cases_lt}
 use Rattle.std.proofs.lemmas.Bool.Decides.{nat_tests}
 use Rattle.std.proofs.lemmas.Nat.{le_or_l, le_or_r, or_lt, or_shifted, and_mask}
-use Rattle.std.proofs.lemmas.List.FromFn.{get_or-map-range_with_len}
 use Rattle.hex.specs.Hex.{hex_digit_value, pair_value, decode_pairs}
 use Rattle.hex.specs.declared.error.FromHexError.{FromHexError}
 use Rattle.hex.specs.declared.error.FromHexError.TheVariants.{InvalidHexCharacter}
 use Rattle.hex.proofs.Pairs.{prepend, decode_start, decode_step, decode_done, decode_err}
-use Rattle.jl_cli.specs.declared.hexadecimal.TheConstants.{DIGITS}
 
--- the entry of a byte: a digit's value, and 255 where it is none
-abbrev pub entry : ℕ → ℕ
-entry byte = unwrap_or (hex_digit_value byte) 255
-
-table : DIGITS ≡ map entry (range_with_len 0 256)
-table = refl
-
-pub entry_of : (byte : ℕ) → byte < 256 → get_or DIGITS byte 0 ≡ entry byte
-entry_of byte h = ap (λ t. get_or t byte 0) table ∙ get_or-map-range_with_len entry 0 256 byte byte 0 h (omega arith)
+-- what a value tells of the digit that it was read from, if that was one
+abbrev pub Reads : Option ℕ → ℕ → Type 0
+Reads digit value = MatchOption digit (16 ≤ value) (λ d. value ≡ d)
 
 -- a value below 16 is that of a digit
-digit_some : (o : Option ℕ) → unwrap_or o 255 < 16 → o ≡ Some (unwrap_or o 255)
-digit_some (Some v) h = refl
-digit_some None h = absurd (omega arith)
+digit_some : (o : Option ℕ) (v : ℕ) → Reads o v → v < 16 → o ≡ Some v
+digit_some (Some d) v reads h = ap Some (sym reads)
+digit_some None v reads h = absurd (omega arith)
 
 value_small : (byte v : ℕ) → hex_digit_value byte ≡ Some v → v < 16
 value_small byte v h = grind (arith)
 
-digit_none : (o : Option ℕ) → ((v : ℕ) → o ≡ Some v → v < 16) → 16 ≤ unwrap_or o 255 → o ≡ None
-digit_none (Some v) small h = let few = small v refl in absurd (omega (arith, few))
-digit_none None small h = refl
+digit_none : (o : Option ℕ) (v : ℕ) → ((d : ℕ) → o ≡ Some d → d < 16) → Reads o v → 16 ≤ v → o ≡ None
+digit_none (Some d) v small reads h = let few = small d refl in absurd (omega (arith, few, reads))
+digit_none None v small reads h = refl
 
 -- two digits make their byte
-pair_read : (high low i : ℕ) → entry high < 16 → entry low < 16 → pair_value high low i ≡ Ok (entry high * 16 + entry low)
-pair_read high low i h l =
-    rw (digit_some (hex_digit_value high) h, digit_some (hex_digit_value low) l) refl
+pair_read : (high low i x y : ℕ) → Reads (hex_digit_value high) x → Reads (hex_digit_value low) y → x < 16 → y < 16
+    → pair_value high low i ≡ Ok (x * 16 + y)
+pair_read high low i x y rx ry h l =
+    rw (digit_some (hex_digit_value high) x rx h, digit_some (hex_digit_value low) y ry l) refl
 
 -- a pair that isn't of digits is refused
 abbrev IsRefused : Result ℕ FromHexError → Type 0
 IsRefused r = (e : FromHexError) × (r ≡ Err e)
 
-high_refused : (high low i : ℕ) → 16 ≤ entry high → IsRefused (pair_value high low i)
-high_refused high low i h =
-    let none = digit_none (hex_digit_value high) (value_small high) h in
+high_refused : (high low i x : ℕ) → Reads (hex_digit_value high) x → 16 ≤ x → IsRefused (pair_value high low i)
+high_refused high low i x rx h =
+    let none = digit_none (hex_digit_value high) x (value_small high) rx h in
     (InvalidHexCharacter high i, rw none refl)
 
-low_refused : (high low i : ℕ) → entry high < 16 → 16 ≤ entry low → IsRefused (pair_value high low i)
-low_refused high low i h l =
-    let none = digit_none (hex_digit_value low) (value_small low) l in
-    (InvalidHexCharacter low (i + 1), rw (digit_some (hex_digit_value high) h, none) refl)
+low_refused : (high low i x y : ℕ) → Reads (hex_digit_value high) x → Reads (hex_digit_value low) y → x < 16 → 16 ≤ y
+    → IsRefused (pair_value high low i)
+low_refused high low i x y rx ry h l =
+    let none = digit_none (hex_digit_value low) y (value_small low) ry l in
+    (InvalidHexCharacter low (i + 1), rw (digit_some (hex_digit_value high) x rx h, none) refl)
 
 -- the byte of two values
 byte_of : (x y : ℕ) → x < 16 → y < 16 → bit_or (x * 16 % 256) (bit_and y 15) ≡ x * 16 + y
@@ -72,53 +65,54 @@ AreDecoded digits bytes i seen =
 pub none_decoded : (digits bytes : List ℕ) → AreDecoded digits bytes 0 0
 none_decoded digits bytes = (λ h. decode_start digits bytes, λ h. absurd (omega arith))
 
-module _ (digits bytes : List ℕ) (i seen : ℕ) (fits : 2 * i + 1 < length digits) (room : i < length bytes)
-    (before : AreDecoded digits bytes i seen) where
-  abbrev high : ℕ
-  high = slice_index digits (2 * i)
+module _ (digits bytes : List ℕ) (i seen x y : ℕ) (fits : 2 * i + 1 < length digits) (room : i < length bytes)
+    (before : AreDecoded digits bytes i seen)
+    (high : Reads (hex_digit_value (slice_index digits (2 * i))) x)
+    (low : Reads (hex_digit_value (slice_index digits (2 * i + 1))) y) where
+  abbrev first : ℕ
+  first = slice_index digits (2 * i)
 
-  abbrev low : ℕ
-  low = slice_index digits (2 * i + 1)
+  abbrev second : ℕ
+  second = slice_index digits (2 * i + 1)
 
   -- a pair of digits more
-  read_more : seen < 16 → entry high < 16 → entry low < 16
+  read_more : seen < 16 → x < 16 → y < 16
       → decode_pairs 0 digits
-      ≡ prepend (take (i + 1) (slice_set bytes i (bit_or (entry high * 16 % 256) (bit_and (entry low) 15))))
+      ≡ prepend (take (i + 1) (slice_set bytes i (bit_or (x * 16 % 256) (bit_and y 15))))
       (decode_pairs (2 * (i + 1)) (drop (2 * (i + 1)) digits))
   read_more s h l =
       decode_step digits bytes i _ fits room
-      (pair_read high low (2 * i) h l ∙ ap Ok (sym (byte_of (entry high) (entry low) h l))) (before.0 s)
+      (pair_read first second (2 * i) x y high low h l ∙ ap Ok (sym (byte_of x y h l))) (before.0 s)
 
-  refused_here : seen < 16 → IsRefused (pair_value high low (2 * i)) → (e : FromHexError) × (decode_pairs 0 digits ≡ Err e)
+  refused_here : seen < 16 → IsRefused (pair_value first second (2 * i))
+      → (e : FromHexError) × (decode_pairs 0 digits ≡ Err e)
   refused_here s bad = (bad.0, decode_err digits bytes i bad.0 fits bad.1 (before.0 s))
 
-  all_small : seen < 16 → entry high < 16 → entry low < 16 → bit_or seen (bit_or (entry high) (entry low)) < 16
-  all_small s h l = or_lt 4 seen (bit_or (entry high) (entry low)) s (or_lt 4 (entry high) (entry low) h l)
+  all_small : seen < 16 → x < 16 → y < 16 → bit_or seen (bit_or x y) < 16
+  all_small s h l = or_lt 4 seen (bit_or x y) s (or_lt 4 x y h l)
 
-  refuse_more : 16 ≤ bit_or seen (bit_or (entry high) (entry low)) → (e : FromHexError) × (decode_pairs 0 digits ≡ Err e)
+  refuse_more : 16 ≤ bit_or seen (bit_or x y) → (e : FromHexError) × (decode_pairs 0 digits ≡ Err e)
   refuse_more big =
       elim (cases_lt seen 16) [
         | inr earlier ↦ before.1 earlier
         | inl s ↦
-            elim (cases_lt (entry high) 16) [
-              | inr bad ↦ refused_here s (high_refused high low (2 * i) bad)
+            elim (cases_lt x 16) [
+              | inr bad ↦ refused_here s (high_refused first second (2 * i) x high bad)
               | inl h ↦
-                  elim (cases_lt (entry low) 16) [
-                    | inr bad ↦ refused_here s (low_refused high low (2 * i) h bad)
+                  elim (cases_lt y 16) [
+                    | inr bad ↦ refused_here s (low_refused first second (2 * i) x y high low h bad)
                     | inl l ↦ let small = all_small s h l in absurd (omega (arith, small, big))
                   ]
             ]
       ]
 
-  pub decoded_more : AreDecoded digits (slice_set bytes i (bit_or (entry high * 16 % 256) (bit_and (entry low) 15))) (i + 1)
-      (bit_or seen (bit_or (entry high) (entry low)))
+  pub decoded_more : AreDecoded digits (slice_set bytes i (bit_or (x * 16 % 256) (bit_and y 15))) (i + 1) (bit_or seen (bit_or x y))
   decoded_more = (
     λ small.
-        let rest = bit_or (entry high) (entry low) in
-        let both = le_or_r seen rest in
-        read_more (omega (arith, le_or_l seen rest, small))
-        (omega (arith, both, le_or_l (entry high) (entry low), small))
-        (omega (arith, both, le_or_r (entry high) (entry low), small)),
+        let both = le_or_r seen (bit_or x y) in
+        read_more (omega (arith, le_or_l seen (bit_or x y), small))
+        (omega (arith, both, le_or_l x y, small))
+        (omega (arith, both, le_or_r x y, small)),
     refuse_more,
   )
 

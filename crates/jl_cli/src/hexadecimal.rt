@@ -1,32 +1,22 @@
 //! Bytes in hexadecimal.
 
-ghost use Rattle.std.specs.Prelude.{◌≡◌, ◌*◌, ◌/◌, length, true, false, unwrap_or, MatchOption, MatchResult};
+ghost use Rattle.std.specs.Prelude.{◌≡◌, ◌≤◌, ◌*◌, ◌/◌, length, true, false, MatchOption, MatchResult};
 ghost use Rattle.hex.specs.Hex.{hex_digit_value, decode_pairs};
 ghost use Rattle.jl_cli.specs.Scans.{file_of};
 
-/// The value of each digit, in either case, and 255 for a byte that is none.
-static DIGITS: [u8; 256] = [
-    255, 255, 255, 255, 255, 255, 255, 255, 255, 255, 255, 255, 255, 255, 255, 255, 255, 255, 255,
-    255, 255, 255, 255, 255, 255, 255, 255, 255, 255, 255, 255, 255, 255, 255, 255, 255, 255, 255,
-    255, 255, 255, 255, 255, 255, 255, 255, 255, 255, 0, 1, 2, 3, 4, 5, 6, 7, 8, 9, 255, 255, 255,
-    255, 255, 255, 255, 10, 11, 12, 13, 14, 15, 255, 255, 255, 255, 255, 255, 255, 255, 255, 255,
-    255, 255, 255, 255, 255, 255, 255, 255, 255, 255, 255, 255, 255, 255, 255, 255, 10, 11, 12, 13,
-    14, 15, 255, 255, 255, 255, 255, 255, 255, 255, 255, 255, 255, 255, 255, 255, 255, 255, 255,
-    255, 255, 255, 255, 255, 255, 255, 255, 255, 255, 255, 255, 255, 255, 255, 255, 255, 255, 255,
-    255, 255, 255, 255, 255, 255, 255, 255, 255, 255, 255, 255, 255, 255, 255, 255, 255, 255, 255,
-    255, 255, 255, 255, 255, 255, 255, 255, 255, 255, 255, 255, 255, 255, 255, 255, 255, 255, 255,
-    255, 255, 255, 255, 255, 255, 255, 255, 255, 255, 255, 255, 255, 255, 255, 255, 255, 255, 255,
-    255, 255, 255, 255, 255, 255, 255, 255, 255, 255, 255, 255, 255, 255, 255, 255, 255, 255, 255,
-    255, 255, 255, 255, 255, 255, 255, 255, 255, 255, 255, 255, 255, 255, 255, 255, 255, 255, 255,
-    255, 255, 255, 255, 255, 255, 255, 255, 255, 255, 255, 255, 255, 255, 255, 255, 255, 255, 255,
-    255, 255, 255,
-];
-
-/// The value of a digit, and 255 for a byte that is none.
+/// The value of a digit, in either case, and 16 or more for a byte that is none. By sums alone, so that many digits are read
+/// at once.
 fn digit(byte: u8) -> u8
-    ensures { result ≡ unwrap_or (hex_digit_value byte) 255 }
+    ensures { MatchOption (hex_digit_value byte) (16 ≤ result) (λ value. result ≡ value) }
 {
-    DIGITS[usize::from(byte)]
+    // What is before the first of its kind wraps at 0, so it is far behind the last one.
+    let number = byte.wrapping_sub(b'0');
+    let letter = byte.wrapping_sub(b'A').min(byte.wrapping_sub(b'a'));
+    if number < 10 {
+        number
+    } else {
+        letter.saturating_add(10)
+    }
 }
 
 /// Writes the byte of each pair of digits, and tells whether all were digits: the written bytes

@@ -1,4 +1,5 @@
 pub mod NameLaws
+pub mod PlainLaws
 pub mod CommandLaws
 pub mod FormLaws
 pub mod KeyLaws

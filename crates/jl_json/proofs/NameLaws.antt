@@ -93,7 +93,7 @@ below_128 : (name : List ℕ) → AllByRecursion (λ b. (0 < b) × (b < 128)) na
 below_128 [] h = tt
 below_128 (b ∷ name) h = (h.0.1, below_128 name h.1)
 
-ascii : (name : List ℕ) → is_plain name ≡ true → IsAscii name
+pub ascii : (name : List ℕ) → is_plain name ≡ true → IsAscii name
 ascii name h = IsAscii-from_all name (All-from_recursion (λ b. b < 128) name (below_128 name (low_bytes name h)))
 
 pub plain_text : (name : List ℕ) → is_plain name ≡ true → name_text name ≡ name

@@ -9,6 +9,7 @@
 
 // Class files.
 mod class_answer;
+mod plain;
 mod refusal;
 mod text;
 

@@ -1,9 +1,11 @@
 //! Names as text.
 
 ghost use Rattle.std.specs.Prelude.{◌≡◌, string_bytes, IfOk, IfSome};
-ghost use Rattle.jl_json.specs.NameReading.{is_plain, name_text};
+ghost use Rattle.jl_json.specs.NameReading.{name_text};
 
+use crate::plain::is_plain;
 use jl_names::{NameFault, decode_mutf8};
+use percent_encoding::ascii_str;
 use std::alloc::{AllocError, Global};
 
 /// The text of a name in modified UTF-8 (JVMS SE 17 §4.4.7): two surrogates are their character, a
@@ -24,25 +26,13 @@ pub(crate) fn text_of(alloc: Global, name: &[u8]) -> Result<String, AllocError>
     }
 }
 
-/// Whether each unit of the name has one byte.
-fn is_plain(name: &[u8]) -> bool
-    ensures { result ≡ is_plain name.now }
-{
-    // One less than a byte wraps at 0. No early exit, so that many bytes are tested at once.
-    let mut most = 0;
-    for byte in name {
-        most = most.max(byte.wrapping_sub(1));
-    }
-    most < 0x7f
-}
-
 /// The text of a name whose units have one byte each: the same bytes.
-#[tactic(auto, using(crate::proofs::NameLaws::plain_text))]
+#[tactic(auto, using(crate::proofs::NameLaws::plain_text, crate::proofs::NameLaws::ascii))]
 pub(crate) fn plain_text(name: &[u8]) -> Option<&str>
     ensures { IfSome result (λ text. text.now ≡ name_text name.now) }
 {
     if is_plain(name) {
-        std::str::from_utf8(name).ok()
+        Some(ascii_str(name))
     } else {
         None
     }

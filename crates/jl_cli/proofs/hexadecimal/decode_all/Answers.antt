@@ -4,9 +4,8 @@ use Rattle.jl_cli.proofs.hexadecimal.decode_all.Goals as goal
 
 pub loop-index-preserved : goal.loop-index-preserved
 loop-index-preserved c =
-    rw (c.digit-high.ensures, c.digit-low.ensures)
-    (decoded_more c.args.digits.now c.loop-index.bytes c.loop-index.index c.loop-index.seen (omega arith) (omega arith)
-    c.loop-index.invariant)
+    decoded_more c.args.digits.now c.loop-index.bytes c.loop-index.index c.loop-index.seen _ _ (omega arith) (omega arith)
+    c.loop-index.invariant c.digit-high.ensures c.digit-low.ensures
 
 pub returns : goal.returns
 returns c =
