@@ -24,14 +24,13 @@ fn is_long_plain(name: &[u8]) -> bool
     requires { 16 ≤ length name.now }
     ensures { result ≡ is_plain name.now }
 {
-    let mut at = 0;
+    let mut plain = are_plain_16(name, 0);
+    let mut at = 16;
     while name.len() - at > 16 {
-        if !are_plain_16(name, at) {
-            return false;
-        }
+        plain &= are_plain_16(name, at);
         at += 16;
     }
-    are_plain_16(name, name.len() - 16)
+    plain & are_plain_16(name, name.len() - 16)
 }
 
 /// Whether each of the 16 bytes from here on is a unit by itself.

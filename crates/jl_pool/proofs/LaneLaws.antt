@@ -1,4 +1,4 @@
--- What lanes of a vector of bytes tell of the marks of a text.
+-- What lanes of a vector of bytes, and windows of a text, tell of the text.
 use Rattle.std.proofs.Common.{◌≡◌, ◌∙◌, refl, ap, ap₂, subst, arith, ℕ, zero, suc, ◌+◌, ◌*◌, ◌%◌, ◌^◌, ◌≤◌, leb, eqb, not, ◌||◌, Bool, true, false, cond, List, [], ◌∷◌, length, take, drop, map, replicate, bit_or}
 use Rattle.std.specs.List.{list_any}
 use Rattle.std.proofs.lemmas.Bool.Decides.{nat_tests}
@@ -14,15 +14,15 @@ use Rattle.jl_pool.specs.Reading.Marks.{is_barred, is_slash, is_angle, is_odd, m
 abbrev pub lane : Bool → ℕ
 lane test = cond test 255 0
 
--- the lanes of a vector by a test
-abbrev lanes : (ℕ → Bool) → List ℕ → List ℕ
+-- the lanes of a vector by a test of a byte
+abbrev pub lanes : (ℕ → Bool) → List ℕ → List ℕ
 lanes test v = map (λ x. lane (test x)) v
 
-pub equal_lanes : (y : ℕ) (v : List ℕ) → zip2 (λ a b. lane (eqb a b)) v (replicate (length v) y) ≡ lanes (λ x. eqb x y) v
+equal_lanes : (y : ℕ) (v : List ℕ) → zip2 (λ a b. lane (eqb a b)) v (replicate (length v) y) ≡ lanes (λ x. eqb x y) v
 equal_lanes y [] = refl
 equal_lanes y (x ∷ v) = ap (λ l. lane (eqb x y) ∷ l) (equal_lanes y v)
 
-pub large_lanes : (y : ℕ) (v : List ℕ) → zip2 (λ a b. lane (leb a b)) (replicate (length v) y) v ≡ lanes (λ x. leb y x) v
+large_lanes : (y : ℕ) (v : List ℕ) → zip2 (λ a b. lane (leb a b)) (replicate (length v) y) v ≡ lanes (λ x. leb y x) v
 large_lanes y [] = refl
 large_lanes y (x ∷ v) = ap (λ l. lane (leb y x) ∷ l) (large_lanes y v)
 
@@ -62,7 +62,7 @@ some_set p v few =
     ∙ ap (λ m. not (eqb m 0)) (mask_l-mod (map p v) 64 (omega (arith, length-map v p)))
     ∙ some_lane p v
 
-abbrev equals : ℕ → ℕ → List ℕ → List ℕ
+abbrev pub equals : ℕ → ℕ → List ℕ → List ℕ
 equals y n v = zip2 (λ a b. lane (eqb a b)) v (replicate n y)
 
 -- the tests of a vector of n lanes, as the code makes them
@@ -80,7 +80,7 @@ two_equals y z v = ap₂ (zip2 bit_or) (equal_lanes y v) (equal_lanes z v) ∙ o
 barred_lanes : (v : List ℕ) → zip2 bit_or (equals 46 (length v) v) (zip2 bit_or (equals 59 (length v) v) (equals 91 (length v) v)) ≡ lanes is_barred v
 barred_lanes v = ap₂ (zip2 bit_or) (equal_lanes 46 v) (two_equals 59 91 v) ∙ or_lanes (λ x. eqb x 46) (λ x. eqb x 59 || eqb x 91) v
 
-odd_lanes : (v : List ℕ) → zip2 bit_or (equals 0 (length v) v) (zip2 (λ a b. lane (leb a b)) (replicate (length v) 128) v) ≡ lanes is_odd v
+pub odd_lanes : (v : List ℕ) → zip2 bit_or (equals 0 (length v) v) (zip2 (λ a b. lane (leb a b)) (replicate (length v) 128) v) ≡ lanes is_odd v
 odd_lanes v = ap₂ (zip2 bit_or) (equal_lanes 0 v) (large_lanes 128 v) ∙ or_lanes (λ x. eqb x 0) (λ x. leb 128 x) v
 
 by_lanes : (v : List ℕ) → length v ≤ 64 → marks_by_lanes (length v) v ≡ marks_of v
@@ -115,7 +115,7 @@ module _ (test : ℕ → Bool) where
   front (suc n) (x ∷ xs) = absorbed (test x) (list_any test (take n xs)) (list_any test xs) (front n xs)
 
   -- a front, and all from a place in it on
-  covered : (i n : ℕ) (text : List ℕ) → i ≤ n → (list_any test (take n text) || list_any test (drop i text)) ≡ list_any test text
+  pub covered : (i n : ℕ) (text : List ℕ) → i ≤ n → (list_any test (take n text) || list_any test (drop i text)) ≡ list_any test text
   covered zero n text le = front n text
   covered (suc i) zero text le = absurd (omega arith)
   covered (suc i) (suc n) [] le = refl
@@ -123,7 +123,7 @@ module _ (test : ℕ → Bool) where
       or_assoc (test x) (list_any test (take n xs)) (list_any test (drop i xs)) ∙ ap (λ b. test x || b) (covered i n xs (omega arith))
 
   -- a front, and a window behind it
-  longer : (i n j : ℕ) (text : List ℕ) → j ≡ i + n → (list_any test (take i text) || list_any test (take n (drop i text))) ≡ list_any test (take j text)
+  pub longer : (i n j : ℕ) (text : List ℕ) → j ≡ i + n → (list_any test (take i text) || list_any test (take n (drop i text))) ≡ list_any test (take j text)
   longer zero n j text e = let same : n ≡ j = omega arith in ap (λ k. list_any test (take k text)) same
   longer (suc i) n zero text e = absurd (omega arith)
   longer (suc i) n (suc j) [] e = none n where

@@ -1,8 +1,8 @@
 use Rattle.std.proofs.Common.{arith, ap₂, ◌∙◌, ◌&&◌}
-use Rattle.jl_json.proofs.PlainLaws.{two_windows}
+use Rattle.jl_json.proofs.PlainLaws.{last_window}
 use Rattle.jl_json.proofs.plain.is_plain.Goals as goal
 
 pub returns-then-name-lt16 : goal.returns-then-name-lt16
 returns-then-name-lt16 c =
     ap₂ (λ a b. a && b) c.are_plain_8.ensures c.are_plain_8-then-name-lt16.ensures
-    ∙ two_windows _ 8 c.args.name.now (omega arith) (omega arith)
+    ∙ last_window _ 8 8 c.args.name.now (omega arith) (omega arith)
