@@ -11,9 +11,9 @@ pub(crate) fn is_plain(name: &[u8]) -> bool
     ensures { result ≡ is_plain name.now }
 {
     if name.len() < 8 {
-        are_plain(name)
+        is_short_plain(name)
     } else if name.len() < 16 {
-        are_plain_8(name, 0) & are_plain_8(name, name.len() - 8)
+        is_plain_in::<8>(name, 0) & is_plain_in::<8>(name, name.len() - 8)
     } else {
         is_long_plain(name)
     }
@@ -24,42 +24,33 @@ fn is_long_plain(name: &[u8]) -> bool
     requires { 16 ≤ length name.now }
     ensures { result ≡ is_plain name.now }
 {
-    let mut plain = are_plain_16(name, 0);
+    let mut plain = is_plain_in::<16>(name, 0);
     let mut at = 16;
     while name.len() - at > 16 {
-        plain &= are_plain_16(name, at);
+        plain &= is_plain_in::<16>(name, at);
         at += 16;
     }
-    plain & are_plain_16(name, name.len() - 16)
+    plain & is_plain_in::<16>(name, name.len() - 16)
 }
 
-/// Whether each of the 16 bytes from here on is a unit by itself.
+/// Whether each of so many bytes from here on is a unit by itself.
 #[inline(always)]
-fn are_plain_16(name: &[u8], at: usize) -> bool
-    requires { at + 16 ≤ length name.now }
-    ensures { result ≡ is_plain (take 16 (drop at name.now)) }
+fn is_plain_in<const N: usize>(name: &[u8], at: usize) -> bool
+    requires within { at + N ≤ length name.now }
+    requires few { N ≤ 64 }
+    ensures { result ≡ is_plain (take N (drop at name.now)) }
 {
-    let bytes = u8x16::from_slice(&name[at..]);
-    (bytes.simd_eq(u8x16::splat(0)) | bytes.simd_ge(u8x16::splat(0x80))).to_bitmask() == 0
+    let bytes = Simd::<u8, N>::from_slice(&name[at..]);
+    (bytes.simd_eq(Simd::splat(0)) | bytes.simd_ge(Simd::splat(0x80))).to_bitmask() == 0
 }
 
-/// The same of eight bytes.
-#[inline(always)]
-fn are_plain_8(name: &[u8], at: usize) -> bool
-    requires { at + 8 ≤ length name.now }
-    ensures { result ≡ is_plain (take 8 (drop at name.now)) }
-{
-    let bytes = u8x8::from_slice(&name[at..]);
-    (bytes.simd_eq(u8x8::splat(0)) | bytes.simd_ge(u8x8::splat(0x80))).to_bitmask() == 0
-}
-
-/// The same of bytes one by one.
-fn are_plain(bytes: &[u8]) -> bool
-    ensures { result ≡ is_plain bytes.now }
+/// The same of a few bytes, one by one.
+fn is_short_plain(name: &[u8]) -> bool
+    ensures { result ≡ is_plain name.now }
 {
     // One less than a byte wraps at 0.
     let mut most = 0;
-    for byte in bytes {
+    for byte in name {
         most = most.max(byte.wrapping_sub(1));
     }
     most < 0x7f

@@ -1,7 +1,6 @@
 pub mod Fields
 pub mod ConstantLaws
 pub mod FormLaws
-pub mod ByteMarkLaws
 pub mod LaneLaws
 pub mod MarkLaws
 pub mod LookUpLaws

@@ -1,9 +1,9 @@
 //! What a text of the pool may stand for.
 
-ghost use Rattle.std.specs.Prelude.{◌≡◌, ◌+◌, ◌≤◌, ◌&&◌, ◌||◌, not, length, take, drop};
+ghost use Rattle.std.specs.Prelude.{◌≡◌, ◌+◌, ◌*◌, ◌≤◌, ◌&&◌, ◌||◌, not, length, take, drop};
 ghost use Rattle.jl_names.specs.ClassNames.{is_class_name, is_unqualified};
 ghost use Rattle.jl_pool.specs.Reading.Forms.{form_of, is_field};
-ghost use Rattle.jl_pool.specs.Reading.Marks.{marks_of, either, AreMarks};
+ghost use Rattle.jl_pool.specs.Reading.Marks.{marks_of, either};
 
 use jl_names::{FieldType, is_class_name, method_slots};
 use std::simd::prelude::*;
@@ -66,39 +66,35 @@ impl Marks {
     }
 }
 
-/// The marks of each byte, a bit each: 1 where it is barred, 2 for a slash, 4 for an angle bracket, 8 where it is odd.
-static BYTE_MARKS: [u8; 256] = [
-    8, 0, 0, 0, 0, 0, 0, 0, 0, 0, 0, 0, 0, 0, 0, 0, 0, 0, 0, 0, 0, 0, 0, 0, 0, 0, 0, 0, 0, 0, 0, 0,
-    0, 0, 0, 0, 0, 0, 0, 0, 0, 0, 0, 0, 0, 0, 1, 2, 0, 0, 0, 0, 0, 0, 0, 0, 0, 0, 0, 1, 4, 0, 4, 0,
-    0, 0, 0, 0, 0, 0, 0, 0, 0, 0, 0, 0, 0, 0, 0, 0, 0, 0, 0, 0, 0, 0, 0, 0, 0, 0, 0, 1, 0, 0, 0, 0,
-    0, 0, 0, 0, 0, 0, 0, 0, 0, 0, 0, 0, 0, 0, 0, 0, 0, 0, 0, 0, 0, 0, 0, 0, 0, 0, 0, 0, 0, 0, 0, 0,
-    8, 8, 8, 8, 8, 8, 8, 8, 8, 8, 8, 8, 8, 8, 8, 8, 8, 8, 8, 8, 8, 8, 8, 8, 8, 8, 8, 8, 8, 8, 8, 8,
-    8, 8, 8, 8, 8, 8, 8, 8, 8, 8, 8, 8, 8, 8, 8, 8, 8, 8, 8, 8, 8, 8, 8, 8, 8, 8, 8, 8, 8, 8, 8, 8,
-    8, 8, 8, 8, 8, 8, 8, 8, 8, 8, 8, 8, 8, 8, 8, 8, 8, 8, 8, 8, 8, 8, 8, 8, 8, 8, 8, 8, 8, 8, 8, 8,
-    8, 8, 8, 8, 8, 8, 8, 8, 8, 8, 8, 8, 8, 8, 8, 8, 8, 8, 8, 8, 8, 8, 8, 8, 8, 8, 8, 8, 8, 8, 8, 8,
-];
-
-/// The marks of a byte.
-fn byte_marks(byte: u8) -> u8
-    ensures { AreMarks byte result }
-{
-    BYTE_MARKS[usize::from(byte)]
-}
-
-/// The marks of a text. Sixteen, eight or four bytes are looked at together, and the last ones overlap those before, so that few
-/// texts are gone over byte by byte.
+/// The marks of a text. Sixteen, eight, four or two bytes are looked at together, and the last ones overlap those before, so that
+/// no text is gone over byte by byte.
 pub(crate) fn marks_of(text: &[u8]) -> Marks
     ensures { result ≡ marks_of text.now }
 {
-    if text.len() < 4 {
-        marks_by_byte(text)
-    } else if text.len() < 8 {
-        marks_in::<4>(text, 0).or(marks_in::<4>(text, text.len() - 4))
-    } else if text.len() < 16 {
-        marks_in::<8>(text, 0).or(marks_in::<8>(text, text.len() - 8))
-    } else {
-        marks_of_long(text)
+    match text.len() {
+        0 => Marks {
+            barred: false,
+            slash: false,
+            angle: false,
+            odd: false,
+        },
+        1 => marks_in::<1>(text, 0),
+        2..=3 => marks_of_ends::<2>(text),
+        4..=7 => marks_of_ends::<4>(text),
+        8..=15 => marks_of_ends::<8>(text),
+        _ => marks_of_long(text),
     }
+}
+
+/// The marks of a text of N bytes to twice as many.
+#[inline(always)]
+fn marks_of_ends<const N: usize>(text: &[u8]) -> Marks
+    requires low { N ≤ length text.now }
+    requires high { length text.now ≤ 2 * N }
+    requires few { N ≤ 64 }
+    ensures { result ≡ marks_of text.now }
+{
+    marks_in::<N>(text, 0).or(marks_in::<N>(text, text.len() - N))
 }
 
 /// The marks of a text of 16 bytes and more.
@@ -133,22 +129,6 @@ fn marks_in<const N: usize>(text: &[u8], at: usize) -> Marks
         slash: slash.to_bitmask() != 0,
         angle: angle.to_bitmask() != 0,
         odd: odd.to_bitmask() != 0,
-    }
-}
-
-/// The marks of a text, byte by byte without an early exit.
-fn marks_by_byte(text: &[u8]) -> Marks
-    ensures { result ≡ marks_of text.now }
-{
-    let mut seen = 0;
-    for byte in text {
-        seen |= byte_marks(*byte);
-    }
-    Marks {
-        barred: seen & 1 != 0,
-        slash: seen & 2 != 0,
-        angle: seen & 4 != 0,
-        odd: seen & 8 != 0,
     }
 }
 

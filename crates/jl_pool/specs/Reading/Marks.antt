@@ -1,5 +1,5 @@
 -- The bytes of a text that matter to a name, and those that are no unit of modified UTF-8 by themselves.
-use Rattle.std.specs.Prelude.{◌≡◌, ℕ, ◌^◌, Bool, not, ◌==◌, ◌||◌, nat_le, List, bit_and}
+use Rattle.std.specs.Prelude.{ℕ, Bool, ◌==◌, ◌||◌, nat_le, List}
 use Rattle.std.specs.List.{list_any}
 use Rattle.std.specs.Str.{byte}
 use Rattle.jl_pool.specs.declared.form.Marks.{Marks}
@@ -24,13 +24,3 @@ marks_of text = record { barred = list_any is_barred text; slash = list_any is_s
 -- the marks of two texts
 abbrev pub either : Marks → Marks → Marks
 either x y = record { barred = x.barred || y.barred; slash = x.slash || y.slash; angle = x.angle || y.angle; odd = x.odd || y.odd }
-
-abbrev pub is_set : ℕ → ℕ → Bool
-is_set place n = not (bit_and n (2 ^ place) == 0)
-
--- the marks of a byte, a bit each
-pub record AreMarks (b n : ℕ) : Type 0 where
-  pub barred : is_set 0 n ≡ is_barred b
-  pub slash : is_set 1 n ≡ is_slash b
-  pub angle : is_set 2 n ≡ is_angle b
-  pub odd : is_set 3 n ≡ is_odd b
