@@ -3,9 +3,9 @@
 #
 #     bench/try_edits.sh [NAME..]     NAMEs are crates; without one, all that have edits
 #
-# They are tried on a copy of the repository, where they stand in must-fail/ in the place of those that the gate tries.
-# JOBS crates are tried at a time (as many as there are processors, if unset); 3.5 GB of memory for each is enough. The last
-# line is 'N refused, M not'.
+# `rt ci NAME..` tries them on a copy of the repository, where they stand in must-fail/ in the place of those that the gate tries.
+# What such a run or the gate has proved or tried on this machine is not done again. RT_JOBS checks run at a time (if unset, as many
+# as rt chooses), of up to 3.5 GB of memory each. The last line is 'N refused, M not'.
 set -eu
 top=$(cd "$(dirname "$0")/.." && pwd)
 if [ $# = 0 ]; then
@@ -18,18 +18,15 @@ done
 copy=$(mktemp -d)
 trap 'rm -rf "$copy"' EXIT
 trap 'exit 130' INT TERM
-# What checks here have kept is taken along, so that only what has changed is proved again.
-cp -a "$top/." "$copy/"
+tar -C "$top" --exclude=out --exclude=must-fail -cf - . | tar -C "$copy" -xf -
 cd "$copy"
-rm -rf crates/*/must-fail
 for name in "$@"; do
     mv "crates/$name/edits" "crates/$name/must-fail"
-    (cd "crates/$name" && rt check > built.txt) || { cat "crates/$name/built.txt"; exit 1; }
 done
-printf '%s\n' "$@" | xargs -P "${JOBS:-$(nproc)}" -I NAME sh -c 'rt must-fail NAME > NAME.edits.txt 2>&1 || true'
+rt ci "$@" > ci.txt 2>&1 || true
 
-cat ./*.edits.txt
+grep '^rt: must-fail ' ci.txt || tail -n 20 ci.txt
 tried=$(ls crates/*/must-fail/*.edit | wc -l)
-refused=$(cat ./*.edits.txt | grep -c 'refused, as it must be' || true)
+refused=$(grep -c '^rt: must-fail .*refused, as it must be' ci.txt || true)
 echo "$refused refused, $((tried - refused)) not"
 [ "$refused" = "$tried" ]
