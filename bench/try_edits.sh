@@ -25,7 +25,8 @@ for name in "$@"; do
 done
 rt ci "$@" > ci.txt 2>&1 || true
 
-grep '^rt: must-fail ' ci.txt || tail -n 20 ci.txt
+# The line behind a verdict says more of an edit that isn't one.
+grep -A1 --no-group-separator '^rt: must-fail ' ci.txt || tail -n 20 ci.txt
 tried=$(ls crates/*/must-fail/*.edit | wc -l)
 refused=$(grep -c '^rt: must-fail .*refused, as it must be' ci.txt || true)
 echo "$refused refused, $((tried - refused)) not"
