@@ -17,3 +17,4 @@ pub mod Limits
 pub mod Targets
 pub mod Installs
 pub mod Entries
+pub mod Footprints

@@ -18,4 +18,5 @@ pub mod Events
 pub mod Preparation
 pub mod History
 pub mod Entries
+pub mod Footprints
 pub mod Fast

@@ -2,8 +2,8 @@
 //!
 //! What a link is, and what a call comes to, stands in `specs/`, in reading order: `Target`, `World`, `Members`,
 //! `Ancestry`, `Access`, `Resolution`, `Overriding`, `Selection`, `Targets`, `Sites`, `Links`, `Calls`, `Definitions`,
-//! `Batches`, `Events`, `Preparation`, `History`, `Entries`, `Fast`. The laws about them are the contracts of the functions
-//! of `laws`.
+//! `Batches`, `Events`, `Preparation`, `History`, `Entries`, `Footprints`, `Fast`. The laws about them are the contracts
+//! of the functions of `laws`.
 #![tactic(auto)]
 
 // Numbers.
@@ -17,9 +17,13 @@ mod switch_id;
 // What is kept, and what calls come to.
 mod answer;
 mod class;
+mod key;
 mod link;
 mod table;
 mod target;
+
+// What is counted.
+mod work;
 
 // What comes in, and what is answered.
 mod event;
@@ -36,6 +40,7 @@ pub use class::Class;
 pub use class_id::ClassId;
 pub use event::{Event, Made, Reply};
 pub use ids::{MethodId, Place};
+pub use key::Key;
 pub use laws::{
     accepted_installs, ancestors_are_listed, ancestors_of_ancestors, beginnings_are_legal,
     definitions_are_the_classes, dropped_are_the_empty_slots, each_site_once,
@@ -52,3 +57,4 @@ pub use site_no::SiteNo;
 pub use switch_id::SwitchId;
 pub use table::Table;
 pub use target::{CallSiteKind, Part, Target};
+pub use work::Work;
