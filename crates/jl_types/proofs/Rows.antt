@@ -18,3 +18,6 @@ pub mod Targets
 pub mod Installs
 pub mod Entries
 pub mod Footprints
+pub mod Statics
+pub mod Requests
+pub mod Fast

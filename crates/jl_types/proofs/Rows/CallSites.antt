@@ -1,5 +1,5 @@
 -- Call sites and switch points, over the whole history.
-use Rattle.std.specs.Prelude.{◌≡◌, ℕ, zero, suc, List, [], ◌∷◌, ◌++◌, Some, Ok, Err, codes, refl}
+use Rattle.std.specs.Prelude.{◌≡◌, ℕ, Bool, true, false, zero, suc, List, [], ◌∷◌, ◌++◌, Some, Ok, Err, codes, refl}
 use Rattle.jl_classfile.specs.Class.{Method}
 use Rattle.jl_code.specs.declared.site.Kind.TheVariants.{Dynamic}
 use Rattle.jl_code.specs.declared.site.Operand.TheVariants as operand
@@ -8,7 +8,7 @@ use Rattle.jl_types.specs.declared.answer.Recv.TheVariants.{Null}
 use Rattle.jl_types.specs.declared.answer.Answer.TheVariants as answer
 use Rattle.jl_types.specs.declared.answer.Unlinked.TheVariants.{Unbound}
 use Rattle.jl_types.specs.declared.link.Link.TheVariants.{Plain}
-use Rattle.jl_types.specs.declared.target.CallSiteKind.TheVariants.{Constant, Mutable}
+use Rattle.jl_types.specs.declared.target.CallSiteKind.TheVariants.{Constant, Mutable, Volatile}
 use Rattle.jl_types.specs.Target as target
 use Rattle.jl_types.specs.Target.{Target}
 use Rattle.jl_types.specs.declared.event.Event.{Event}
@@ -19,7 +19,7 @@ use Rattle.jl_types.specs.declared.refusal.CallSiteFault.TheVariants as fault
 use Rattle.jl_types.specs.Links.{scratch}
 use Rattle.jl_types.specs.Calls.{dispatch}
 use Rattle.jl_types.specs.Events.{verdict}
-use Rattle.jl_types.specs.History.{world_after, installed_links, dropped}
+use Rattle.jl_types.specs.History.{world_after, installed_links, dropped, reply}
 use Rattle.jl_types.proofs.Rows.Sketch.{method, file}
 
 -- with an invokedynamic of ()V at pc 0
@@ -32,17 +32,17 @@ bootstrapping = record {
 }
 
 -- T 1 has static methods m, n and r; its invokedynamic is site 0
-abbrev begun : List Event
+abbrev pub begun : List Event
 begun = Define 0 (file (codes "java/lang/Object") 33 [])
     ∷ Define 0 (record (file (codes "T") 33 (method 9 (codes "m") ∷ method 9 (codes "n") ∷ bootstrapping ∷ [])) { superclass = Some (codes "java/lang/Object") })
     ∷ Request (record { class = 1; method = 2; pc = 0 })
     ∷ NewSwitch
     ∷ []
 
-abbrev m : MethodId
+abbrev pub m : MethodId
 m = record { class = 1; index = 0 }
 
-abbrev n : MethodId
+abbrev pub n : MethodId
 n = record { class = 1; index = 1 }
 
 unbound : dispatch (world_after begun) 0 Null ≡ answer.Unlinked Unbound
@@ -120,3 +120,79 @@ deepest = refl
 
 too_deep : verdict 65536 (world_after begun) (NewCallSite Mutable (codes "()V") (deep 64)) ≡ Err (refusal.CallSite fault.TooDeep)
 too_deep = refl
+
+-- the same, one in the other's fallback
+abbrev deep_fallback : ℕ → Target
+deep_fallback zero = target.Method m
+deep_fallback (suc k) = target.Guard 0 (target.Method n) (deep_fallback k)
+
+deepest_fallback : verdict 65536 (world_after begun) (NewCallSite Mutable (codes "()V") (deep_fallback 63)) ≡ Ok (made.CallSite 0)
+deepest_fallback = refl
+
+too_deep_fallback : verdict 65536 (world_after begun) (NewCallSite Mutable (codes "()V") (deep_fallback 64)) ≡ Err (refusal.CallSite fault.TooDeep)
+too_deep_fallback = refl
+
+-- ---- new targets that are taken
+
+retargets : reply 65536 linked (SetTarget 0 (target.Method n)) ≡ Ok (record { made = made.Nothing; dropped = 0 ∷ [] })
+retargets = refl
+
+-- a volatile call site, bound
+abbrev volatile : List Event → List Event
+volatile more = begun ++ NewCallSite Volatile (codes "()V") (target.Method m) ∷ Bind 0 0 ∷ more
+
+takes_a_target : verdict 65536 (world_after (volatile [])) (SetTarget 0 (target.Method n)) ≡ Ok made.Nothing
+takes_a_target = refl
+
+takes_a_second : verdict 65536 (world_after (volatile (SetTarget 0 (target.Method n) ∷ []))) (SetTarget 0 (target.Method m)) ≡ Ok made.Nothing
+takes_a_second = refl
+
+runs_the_first : dispatch (world_after (volatile (SetTarget 0 (target.Method n) ∷ []))) 0 Null ≡ answer.Run n
+runs_the_first = refl
+
+runs_the_second : dispatch (world_after (volatile (SetTarget 0 (target.Method n) ∷ SetTarget 0 (target.Method m) ∷ []))) 0 Null ≡ answer.Run m
+runs_the_second = refl
+
+-- of two call sites the one that is named
+other_keeps_its_target : dispatch (world_after (volatile (NewCallSite Mutable (codes "()V") (target.Method m) ∷ SetTarget 1 (target.Method n) ∷ []))) 0 Null ≡ answer.Run m
+other_keeps_its_target = refl
+
+-- ---- invalid points
+
+-- point 0, and two more
+abbrev three : List Event → List Event
+three more = begun ++ NewSwitch ∷ NewSwitch ∷ more
+
+abbrev left_by : List Event → List Bool
+left_by events = (world_after (three events)).sites.switches
+
+invalidates : reply 65536 (guarded n) (Invalidate (0 ∷ [])) ≡ Ok (record { made = made.Nothing; dropped = 0 ∷ [] })
+invalidates = refl
+
+none_is_accepted : verdict 65536 (world_after (three [])) (Invalidate []) ≡ Ok made.Nothing
+none_is_accepted = refl
+
+invalid_is_accepted : verdict 65536 (world_after (three (Invalidate (1 ∷ []) ∷ []))) (Invalidate (1 ∷ [])) ≡ Ok made.Nothing
+invalid_is_accepted = refl
+
+twice_is_accepted : verdict 65536 (world_after (three [])) (Invalidate (1 ∷ 1 ∷ [])) ≡ Ok made.Nothing
+twice_is_accepted = refl
+
+none_is_made_invalid : left_by (Invalidate [] ∷ []) ≡ true ∷ true ∷ true ∷ []
+none_is_made_invalid = refl
+
+one_is_made_invalid : left_by (Invalidate (1 ∷ []) ∷ []) ≡ true ∷ false ∷ true ∷ []
+one_is_made_invalid = refl
+
+both_are_made_invalid : left_by (Invalidate (2 ∷ 0 ∷ []) ∷ []) ≡ false ∷ true ∷ false ∷ []
+both_are_made_invalid = refl
+
+twice_is_once : left_by (Invalidate (1 ∷ 1 ∷ []) ∷ []) ≡ true ∷ false ∷ true ∷ []
+twice_is_once = refl
+
+none_is_made_valid : left_by (Invalidate (1 ∷ []) ∷ Invalidate (1 ∷ []) ∷ Invalidate (2 ∷ []) ∷ Invalidate [] ∷ []) ≡ true ∷ false ∷ false ∷ []
+none_is_made_valid = refl
+
+-- a new point is valid, whatever the others are
+new_is_valid : left_by (Invalidate (0 ∷ 1 ∷ 2 ∷ []) ∷ NewSwitch ∷ []) ≡ false ∷ false ∷ false ∷ true ∷ []
+new_is_valid = refl

@@ -74,7 +74,7 @@ own = entry (below (codes "A") (codes "C") 33 (method 1 (codes "f") ∷ [])) (Cl
 abbrev relink : Entry
 relink = entry (Install ((1, two) ∷ [])) Nothing [] ((1, Some two) ∷ [])
 
-abbrev linked : List Entry
+abbrev pub linked : List Entry
 linked = requested ++ install ∷ []
 
 abbrev all : List Entry

@@ -1,5 +1,5 @@
 -- What there is room for, and places that are never linked.
-use Rattle.std.specs.Prelude.{◌≡◌, ℕ, List, [], ◌∷◌, Some, Ok, Err, length, replicate, codes, refl}
+use Rattle.std.specs.Prelude.{◌≡◌, ℕ, List, [], ◌∷◌, ◌++◌, Some, Ok, Err, length, replicate, codes, refl}
 use Rattle.jl_code.specs.declared.site.Kind.TheVariants.{Virtual}
 use Rattle.jl_types.specs.declared.ids.Place.{Place}
 use Rattle.jl_types.specs.declared.event.Event.TheVariants.{NewLoader, NewSwitch, NewCallSite, Request}
@@ -9,11 +9,13 @@ use Rattle.jl_types.specs.declared.refusal.NotLinkable.TheVariants.{ArrayReceive
 use Rattle.jl_types.specs.declared.refusal.CallSiteFault.TheVariants as fault
 use Rattle.jl_types.specs.declared.refusal.PrepareFault.TheVariants as prepare
 use Rattle.jl_types.specs.declared.target.CallSiteKind.TheVariants.{Mutable}
-use Rattle.jl_types.specs.Target.{Target}
-use Rattle.jl_types.specs.World.{World}
+use Rattle.jl_types.specs.Target.{Target, Method}
+use Rattle.jl_types.specs.World.{World, CallSite}
 use Rattle.jl_types.specs.Events.{verdict}
+use Rattle.jl_types.specs.History.{world_after}
 use Rattle.jl_types.specs.Preparation.{prepare_fault}
 use Rattle.jl_types.proofs.Rows.Sketch.{object, class, world, calling, class_ref}
+use Rattle.jl_types.proofs.Rows.CallSites.{begun, m}
 
 -- ---- loaders, call sites, switch points
 
@@ -27,6 +29,16 @@ too_many_loaders max_sites w e = rw e refl
 too_many_call_sites : (max_sites : ℕ) (w : World) (ty : List ℕ) (t : Target) → length w.sites.call_sites ≡ 65536
     → verdict max_sites w (NewCallSite Mutable ty t) ≡ Err (refusal.CallSite fault.Full)
 too_many_call_sites max_sites w ty t e = rw e refl
+
+-- with these call sites
+abbrev with_call_sites : List CallSite → World
+with_call_sites call_sites =
+    let w = world_after begun in
+    record w { sites = record w.sites { call_sites = call_sites } }
+
+last_call_site : (call_sites : List CallSite) → length call_sites ≡ 65535
+    → verdict 65536 (with_call_sites call_sites) (NewCallSite Mutable (codes "()V") (Method m)) ≡ Ok (made.CallSite 65535)
+last_call_site call_sites e = rw e refl
 
 last_switch : (max_sites : ℕ) (w : World) → length w.sites.switches ≡ 65535 → verdict max_sites w NewSwitch ≡ Ok (made.Switch 65535)
 last_switch max_sites w e = rw e refl
@@ -87,3 +99,15 @@ too_many_sites = refl
 
 as_many_as_may_be : prepare_fault (calls (codes "A")) (replicate 256 9) ≡ Some (prepare.UnknownSite 9)
 as_many_as_may_be = refl
+
+-- site 1 isn't ready either
+abbrev two_waiting : World
+two_waiting =
+    let w = calls (codes "A") in
+    record w { places = w.places ++ other ∷ [] }
+
+first_of_two : prepare_fault two_waiting (0 ∷ 1 ∷ []) ≡ Some (prepare.NotReady 0)
+first_of_two = refl
+
+first_in_the_batch : prepare_fault two_waiting (1 ∷ 0 ∷ []) ≡ Some (prepare.NotReady 1)
+first_in_the_batch = refl

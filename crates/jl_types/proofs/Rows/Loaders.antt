@@ -4,10 +4,11 @@ use Rattle.jl_types.specs.declared.event.Event.{Event}
 use Rattle.jl_types.specs.declared.event.Event.TheVariants.{NewLoader, Define, Delegate}
 use Rattle.jl_types.specs.declared.event.Made.TheVariants as made
 use Rattle.jl_types.specs.declared.refusal.Refusal.TheVariants as refusal
-use Rattle.jl_types.specs.declared.refusal.DefineFault.TheVariants.{MissingParent, SecondObject, InaccessibleParent, NamesItself}
+use Rattle.jl_types.specs.declared.refusal.DefineFault.TheVariants.{MissingParent, SecondObject, InaccessibleParent, NamesItself, SuperIsInterface}
 use Rattle.jl_types.specs.declared.refusal.DelegateFault.TheVariants as delegate
 use Rattle.jl_types.specs.Events.{verdict}
 use Rattle.jl_types.specs.Members.{lookup}
+use Rattle.jl_types.specs.Ancestry.{superclass_of, ancestors}
 use Rattle.jl_types.specs.History.{world_after}
 
 abbrev defines : ℕ → List ℕ → ℕ → Option (List ℕ) → Event
@@ -84,3 +85,37 @@ same_package = refl
 
 other_loader : verdict 65536 (world_after closed) (defines 1 (codes "p/B") 33 (Some (codes "p/A"))) ≡ Err (refusal.Define (InaccessibleParent (codes "p/A")))
 other_loader = refl
+
+-- ---- a loader's own parents
+
+-- loader 0 has a final interface A 1, which isn't public, and a class I 2; loader 1 has a class A 3 and an interface I 4
+abbrev same_names : List Event
+same_names = shared
+    ++ defines 0 (codes "A") 1552 (Some object)
+    ∷ defines 0 (codes "I") 32 (Some object)
+    ∷ defines 1 (codes "A") 33 (Some object)
+    ∷ defines 1 (codes "I") 1537 (Some object)
+    ∷ []
+
+-- B is below A and I of the loader that defines it
+abbrev with_parents : ℕ → Event
+with_parents loader =
+    Define loader (record { name = codes "B"; flags = 33; superclass = Some (codes "A"); interfaces = codes "I" ∷ []; nest_host = None; nest_members = []; methods = [] })
+
+own_parents : verdict 65536 (world_after same_names) (with_parents 1) ≡ Ok (made.Class 5)
+own_parents = refl
+
+other_parents : verdict 65536 (world_after same_names) (with_parents 0) ≡ Err (refusal.Define SuperIsInterface)
+other_parents = refl
+
+own_superclass : superclass_of (world_after (same_names ++ with_parents 1 ∷ [])).classes 5 ≡ Some 3
+own_superclass = refl
+
+own_ancestors : ancestors (world_after (same_names ++ with_parents 1 ∷ [])).classes.rows 5 ≡ 0 ∷ 3 ∷ 4 ∷ 5 ∷ []
+own_ancestors = refl
+
+recorded_by_its_loader : lookup (world_after (same_names ++ with_parents 1 ∷ [])).classes 1 (codes "B") ≡ Some 5
+recorded_by_its_loader = refl
+
+not_by_the_other : lookup (world_after (same_names ++ with_parents 1 ∷ [])).classes 0 (codes "B") ≡ None
+not_by_the_other = refl

@@ -1,5 +1,5 @@
--- Overriding across packages.
-use Rattle.std.specs.Prelude.{◌≡◌, [], ◌∷◌, Some, codes, refl, true}
+-- Overriding across packages, and by methods that override nothing.
+use Rattle.std.specs.Prelude.{◌≡◌, ℕ, List, [], ◌∷◌, Some, codes, refl, true, false}
 use Rattle.jl_types.specs.declared.answer.Chosen.TheVariants.{Method as Picked}
 use Rattle.jl_types.specs.World.{Classes}
 use Rattle.jl_types.specs.Overriding.{can_override}
@@ -39,3 +39,28 @@ c_overrides_by_b = refl
 
 c_is_chosen_by_b : chosen chained 3 (first 1) ≡ Picked (first 3)
 c_is_chosen_by_b = refl
+
+-- A 1 with f, B 2 below it with this method
+abbrev below : ℕ → List ℕ → Classes
+below flags name = classes (object
+    ∷ class (codes "A") 33 (Some 0) [] (method 1 (codes "f") ∷ [])
+    ∷ class (codes "B") 33 (Some 1) [] (method flags name ∷ [])
+    ∷ [])
+
+public_does : can_override (below 1 (codes "f")) (first 2) (first 1) ≡ true
+public_does = refl
+
+private_does_not : can_override (below 2 (codes "f")) (first 2) (first 1) ≡ false
+private_does_not = refl
+
+private_is_passed_over : chosen (below 2 (codes "f")) 2 (first 1) ≡ Picked (first 1)
+private_is_passed_over = refl
+
+static_does_not : can_override (below 9 (codes "f")) (first 2) (first 1) ≡ false
+static_does_not = refl
+
+static_is_passed_over : chosen (below 9 (codes "f")) 2 (first 1) ≡ Picked (first 1)
+static_is_passed_over = refl
+
+other_name_does_not : can_override (below 1 (codes "g")) (first 2) (first 1) ≡ false
+other_name_does_not = refl

@@ -7,13 +7,14 @@ use Rattle.jl_types.specs.World.{Classes}
 use Rattle.jl_types.specs.Resolution.{resolved}
 use Rattle.jl_types.proofs.Rows.Sketch.{object, class, classes, method, first, naming, class_ref, itf_ref}
 
--- X 3 implements I 1 and J 2, each with its f; M 4 is the caller
+-- X 3 implements I 1 and J 2, each with its f; M 4 is the caller; K 5 is below I and J
 abbrev with_flags : ℕ → ℕ → Classes
 with_flags i j = classes (object
     ∷ class (codes "I") 1537 (Some 0) [] (method i (codes "f") ∷ [])
     ∷ class (codes "J") 1537 (Some 0) [] (method j (codes "f") ∷ [])
     ∷ class (codes "X") 1057 (Some 0) (1 ∷ 2 ∷ []) []
     ∷ class (codes "M") 33 (Some 0) [] []
+    ∷ class (codes "K") 1537 (Some 0) (1 ∷ 2 ∷ []) []
     ∷ [])
 
 -- both abstract: that of the interface of least number
@@ -23,6 +24,20 @@ both_abstract = refl
 -- the only one with a body
 one_body : resolved (with_flags 1025 1) 4 (class_ref (codes "X") (codes "f")) ≡ Ok (naming 3 (first 2))
 one_body = refl
+
+-- two with bodies: that of the interface of least number again
+two_bodies : resolved (with_flags 1 1) 4 (class_ref (codes "X") (codes "f")) ≡ Ok (naming 3 (first 1))
+two_bodies = refl
+
+-- the same of an interface
+one_body_of_interface : resolved (with_flags 1025 1) 4 (itf_ref (codes "K") (codes "f")) ≡ Ok (naming 5 (first 2))
+one_body_of_interface = refl
+
+abstract_of_interface : resolved (with_flags 1025 1025) 4 (itf_ref (codes "K") (codes "f")) ≡ Ok (naming 5 (first 1))
+abstract_of_interface = refl
+
+two_bodies_of_interface : resolved (with_flags 1 1) 4 (itf_ref (codes "K") (codes "f")) ≡ Ok (naming 5 (first 1))
+two_bodies_of_interface = refl
 
 by_interface : resolved (with_flags 1025 1) 4 (itf_ref (codes "I") (codes "f")) ≡ Ok (naming 1 (first 1))
 by_interface = refl
