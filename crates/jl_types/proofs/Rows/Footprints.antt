@@ -22,6 +22,7 @@ use Rattle.jl_types.proofs.Rows.Sketch as sketch
 use Rattle.jl_types.proofs.Rows.Statics.{called}
 use Rattle.jl_types.proofs.Rows.Histories.{below, object}
 use Rattle.jl_types.proofs.Rows.CallSites.{bootstrapping}
+use Rattle.jl_types.proofs.Rows.Loaders.{same_names, with_parents}
 use Rattle.jl_types.proofs.Rows.Entries as entries
 use Rattle.jl_types.specs.Entries.{events_of}
 use Rattle.jl_types.specs.declared.key.Key.{Key}
@@ -301,6 +302,10 @@ its_target = refl
 its_interface : keys (world_after (object ∷ below (codes "java/lang/Object") (codes "I") 1537 [] ∷ []))
     (Define 0 (record (file (codes "C") 33 []) { superclass = Some (codes "java/lang/Object"); interfaces = codes "I" ∷ [] })) ≡ Receivers 0 ∷ Receivers 1 ∷ Receivers 2 ∷ []
 its_interface = refl
+
+-- in loader 1, which has other classes of the parents' names than loader 0
+parents_of_its_loader : keys (world_after same_names) (with_parents 1) ≡ Receivers 0 ∷ Receivers 3 ∷ Receivers 4 ∷ Receivers 5 ∷ []
+parents_of_its_loader = refl
 
 others_change_nothing : map (keys (world_after crossed)) (
     NewLoader

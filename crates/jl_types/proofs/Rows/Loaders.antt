@@ -89,7 +89,7 @@ other_loader = refl
 -- ---- a loader's own parents
 
 -- loader 0 has a final interface A 1, which isn't public, and a class I 2; loader 1 has a class A 3 and an interface I 4
-abbrev same_names : List Event
+abbrev pub same_names : List Event
 same_names = shared
     ++ defines 0 (codes "A") 1552 (Some object)
     ∷ defines 0 (codes "I") 32 (Some object)
@@ -98,7 +98,7 @@ same_names = shared
     ∷ []
 
 -- B is below A and I of the loader that defines it
-abbrev with_parents : ℕ → Event
+abbrev pub with_parents : ℕ → Event
 with_parents loader =
     Define loader (record { name = codes "B"; flags = 33; superclass = Some (codes "A"); interfaces = codes "I" ∷ []; nest_host = None; nest_members = []; methods = [] })
 

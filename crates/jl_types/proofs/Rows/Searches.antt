@@ -114,6 +114,21 @@ default_of_its_superinterface = refl
 default_of_the_superclass : scratch (with_default (class_ref (codes "A") (codes "f"))) 0 ≡ Ok (link.Direct (Run (first 1)))
 default_of_the_superclass = refl
 
+-- I 1 with a default f, A 2 with its own; B 3 below A implements I and calls I.super.f()
+over_the_superclass : scratch (world (object
+    ∷ class (codes "I") 1537 (Some 0) [] (method 1 (codes "f") ∷ [])
+    ∷ class (codes "A") 33 (Some 0) [] (method 1 (codes "f") ∷ [])
+    ∷ class (codes "B") 33 (Some 2) (1 ∷ []) (calling 1 (codes "run") Special (itf_ref (codes "I") (codes "f")) ∷ [])
+    ∷ []) 3) 0 ≡ Ok (link.Direct (Run (first 1)))
+over_the_superclass = refl
+
+-- A 1 with f, B 2 below it calls its own
+own_method : scratch (world (object
+    ∷ class (codes "A") 33 (Some 0) [] (method 1 (codes "f") ∷ [])
+    ∷ class (codes "B") 33 (Some 1) [] (calling 1 (codes "run") Special (class_ref (codes "B") (codes "f")) ∷ method 1 (codes "f") ∷ [])
+    ∷ []) 2) 0 ≡ Ok (link.Direct (Run (record { class = 2; index = 1 })))
+own_method = refl
+
 -- X 2 implements I 1 and calls I.h, which java/lang/Object alone declares
 special_of_object : scratch (world (root (method 1 (codes "h"))
     ∷ class (codes "I") 1537 (Some 0) [] []
