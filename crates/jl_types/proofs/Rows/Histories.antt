@@ -1,10 +1,11 @@
 -- A site is linked, a class comes, and the link goes: over the whole history.
-use Rattle.std.specs.Prelude.{◌≡◌, ℕ, List, [], ◌∷◌, ◌++◌, Some, None, Ok, Err, codes, refl}
+use Rattle.std.specs.Prelude.{◌≡◌, ℕ, true, false, List, [], ◌∷◌, ◌++◌, Some, None, Ok, Err, codes, refl}
 use Rattle.jl_classfile.specs.Class.{Method}
 use Rattle.jl_code.specs.declared.site.Kind.TheVariants.{Virtual}
 use Rattle.jl_types.specs.declared.answer.Outcome.TheVariants.{Run}
 use Rattle.jl_types.specs.declared.answer.Recv.TheVariants.{Null, Of}
 use Rattle.jl_types.specs.declared.answer.Throwable.TheVariants.{NullPointerException}
+use Rattle.jl_types.specs.declared.answer.Unlinked.TheVariants.{Unbound}
 use Rattle.jl_types.specs.declared.answer.Answer.TheVariants as answer
 use Rattle.jl_types.specs.declared.answer.Fast.TheVariants.{Now, Miss}
 use Rattle.jl_types.specs.declared.link.Link.{Link}
@@ -19,7 +20,7 @@ use Rattle.jl_types.specs.Links.{scratch}
 use Rattle.jl_types.specs.Calls.{dispatch}
 use Rattle.jl_types.specs.Events.{verdict}
 use Rattle.jl_types.specs.World.{nothing_yet}
-use Rattle.jl_types.specs.History.{world_after, installed, dropped}
+use Rattle.jl_types.specs.History.{world_after, installed, dropped, kept}
 use Rattle.jl_types.specs.Fast.{fast_answer}
 use Rattle.jl_types.proofs.Rows.Sketch.{method, first, calling, class_ref}
 
@@ -111,6 +112,23 @@ no_place = refl
 
 no_class : verdict 65536 (world_after before) (Request (record { class = 9; method = 0; pc = 0 })) ≡ Err refusal.UnknownClass
 no_class = refl
+
+-- ---- one event more
+
+installs_a_link : kept true None (Ok Mega) ≡ Some Mega
+installs_a_link = refl
+
+keeps_a_link : kept false (Some Mega) (Ok Mega) ≡ Some Mega
+keeps_a_link = refl
+
+other_link_now : kept false (Some Mega) (Ok (Direct (Run (first 1)))) ≡ None
+other_link_now = refl
+
+stays_without : kept false None (Ok Mega) ≡ None
+stays_without = refl
+
+waits_now : kept true (Some Mega) (Err Unbound) ≡ None
+waits_now = refl
 
 -- ---- answers of links
 

@@ -1,6 +1,6 @@
 -- What there is room for, and places that are never linked.
-use Rattle.std.specs.Prelude.{◌≡◌, ℕ, List, [], ◌∷◌, ◌++◌, Some, Ok, Err, length, replicate, codes, refl}
-use Rattle.jl_code.specs.declared.site.Kind.TheVariants.{Virtual}
+use Rattle.std.specs.Prelude.{◌≡◌, ℕ, List, [], ◌∷◌, ◌++◌, Some, None, Ok, Err, length, replicate, codes, refl}
+use Rattle.jl_code.specs.declared.site.Kind.TheVariants.{Virtual, Static}
 use Rattle.jl_types.specs.declared.ids.Place.{Place}
 use Rattle.jl_types.specs.declared.event.Event.TheVariants.{NewLoader, NewSwitch, NewCallSite, Request}
 use Rattle.jl_types.specs.declared.event.Made.TheVariants as made
@@ -15,6 +15,7 @@ use Rattle.jl_types.specs.Events.{verdict}
 use Rattle.jl_types.specs.History.{world_after}
 use Rattle.jl_types.specs.Preparation.{prepare_fault}
 use Rattle.jl_types.proofs.Rows.Sketch.{object, class, world, calling, class_ref}
+use Rattle.jl_types.proofs.Rows.Statics.{called}
 use Rattle.jl_types.proofs.Rows.CallSites.{begun, m}
 
 -- ---- loaders, call sites, switch points
@@ -111,3 +112,10 @@ first_of_two = refl
 
 first_in_the_batch : prepare_fault two_waiting (1 ∷ 0 ∷ []) ≡ Some (prepare.NotReady 1)
 first_in_the_batch = refl
+
+-- a site is ready where it has a link, be it a fault
+ready : prepare_fault (called 33 9 Static class_ref) (0 ∷ []) ≡ None
+ready = refl
+
+faulty_is_ready : prepare_fault (called 33 1 Static class_ref) (0 ∷ []) ≡ None
+faulty_is_ready = refl

@@ -40,6 +40,36 @@ c_overrides_by_b = refl
 c_is_chosen_by_b : chosen chained 3 (first 1) ≡ Picked (first 3)
 c_is_chosen_by_b = refl
 
+-- p/A f without flag; below it a class of this name, with f of these flags; below that q/C with a public f
+abbrev bridged : List ℕ → ℕ → Classes
+bridged name flags = classes (object
+    ∷ class (codes "p/A") 33 (Some 0) [] (method 0 (codes "f") ∷ [])
+    ∷ class name 33 (Some 1) [] (method flags (codes "f") ∷ [])
+    ∷ class (codes "q/C") 33 (Some 2) [] (method 1 (codes "f") ∷ [])
+    ∷ [])
+
+-- C overrides B, but B doesn't override A
+c_overrides_b_alone : can_override (bridged (codes "q/B") 1) (first 3) (first 1) ≡ false
+c_overrides_b_alone = refl
+
+a_is_chosen : chosen (bridged (codes "q/B") 1) 3 (first 1) ≡ Picked (first 1)
+a_is_chosen = refl
+
+-- B overrides A, but C doesn't override B
+b_overrides_a_alone : can_override (bridged (codes "p/B") 0) (first 3) (first 1) ≡ false
+b_overrides_a_alone = refl
+
+b_is_chosen : chosen (bridged (codes "p/B") 0) 3 (first 1) ≡ Picked (first 2)
+b_is_chosen = refl
+
+-- p/Z with a public f, p/A below it f without flag, q/C below that public f: Z isn't between C and A
+bridge_above : can_override (classes (object
+    ∷ class (codes "p/Z") 33 (Some 0) [] (method 1 (codes "f") ∷ [])
+    ∷ class (codes "p/A") 33 (Some 1) [] (method 0 (codes "f") ∷ [])
+    ∷ class (codes "q/C") 33 (Some 2) [] (method 1 (codes "f") ∷ [])
+    ∷ [])) (first 3) (first 2) ≡ false
+bridge_above = refl
+
 -- A 1 with f, B 2 below it with this method
 abbrev below : ℕ → List ℕ → Classes
 below flags name = classes (object
