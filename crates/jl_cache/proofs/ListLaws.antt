@@ -1,4 +1,4 @@
--- A list of links by rising site is told by what is found in it.
+-- How long rising lists of links are, and which they are.
 use Rattle.std.specs.Prelude.{◌≡◌, ℕ, zero, suc, ◌+◌, ◌<◌, ◌≤◌, ◌==◌, ◌⊎◌, Bool, true, false, List, [], ◌∷◌, length, Option, Some, None, option_map, if◌then◌else◌}
 use Rattle.std.specs.List.{AllByRecursion, cons_option}
 use Rattle.std.proofs.Common.{refl, ap, sym, subst, ◌∙◌, arith, get_or, inl, inr}
@@ -8,70 +8,20 @@ use Rattle.std.proofs.lemmas.Bool.{cases_order, both_ways}
 use Rattle.jl_types.specs.declared.link.Link.{Link}
 use Rattle.jl_types.proofs.InstalledLinks.{row, rows, above}
 use Rattle.jl_cache.specs.Links.{link_at, AreRising}
-use Rattle.jl_cache.proofs.LinkLaws.{Rises, found_first, wider}
-
--- ---- what is found
-
-same_there : (s : ℕ) (l : Link) (rows : List (ℕ × Link)) → link_at ((s, l) ∷ rows) s ≡ Some l
-same_there s l rows = found_first s s l rows ∙ ap (λ (b : Bool). if b then Some l else link_at rows s) ((Decides-eqb s s).1 refl)
-
-other_there : (s t : ℕ) (l : Link) (rows : List (ℕ × Link)) → ¬ (s ≡ t) → link_at ((s, l) ∷ rows) t ≡ link_at rows t
-other_there s t l rows h = found_first s t l rows ∙ by_test (s == t) refl
-  where
-    by_test : (b : Bool) → (s == t) ≡ b → (if b then Some l else link_at rows t) ≡ link_at rows t
-    by_test true e = absurd (h ((Decides-eqb s t).0 e))
-    by_test false e = refl
-
--- nothing is found below the first site
-none_below : (n : ℕ) (rows : List (ℕ × Link)) → AllByRecursion (λ (r : ℕ × Link). n < r.0) rows → link_at rows n ≡ None
-none_below n [] h = refl
-none_below n (row ∷ rows) h = other_there row.0 n row.1 rows (λ e. let lt = h.0 in omega arith) ∙ none_below n rows h.1
-
-no_link : (l : Link) → Some l ≡ None → ⊥
-no_link l e = cc
-
--- ---- rising lists in which the same is found are the same
-
-pub same_links : (xs ys : List (ℕ × Link)) → Rises xs → Rises ys → ((s : ℕ) → link_at xs s ≡ link_at ys s) → xs ≡ ys
-same_links [] [] h k e = refl
-same_links [] (y ∷ ys) h k e = absurd (no_link y.1 (sym (same_there y.0 y.1 ys) ∙ sym (e y.0)))
-same_links (x ∷ xs) [] h k e = absurd (no_link x.1 (sym (same_there x.0 x.1 xs) ∙ e x.0))
-same_links (x ∷ xs) (y ∷ ys) h k e = by_order (cases_order x.0 y.0) (same_links xs ys h.1 k.1)
-  where
-    tails : x.0 ≡ y.0 → (s : ℕ) → link_at xs s ≡ link_at ys s
-    tails same s = by_test (x.0 == s) refl
-      where
-        by_test : (b : Bool) → (x.0 == s) ≡ b → link_at xs s ≡ link_at ys s
-        by_test true is =
-            let here = (Decides-eqb x.0 s).0 is in
-            none_below s xs (subst (λ n. AllByRecursion (λ (r : ℕ × Link). n < r.0) xs) here h.0)
-            ∙ sym (none_below s ys (subst (λ n. AllByRecursion (λ (r : ℕ × Link). n < r.0) ys) (sym same ∙ here) k.0))
-        by_test false is =
-            let other : ¬ (x.0 ≡ s) = λ at. both_ways (x.0 == s) is ((Decides-eqb x.0 s).1 at) in
-            sym (other_there x.0 s x.1 xs other) ∙ e s ∙ other_there y.0 s y.1 ys (λ at. other (same ∙ at))
-
-    heads : x.0 ≡ y.0 → x ≡ y
-    heads same =
-        let links : x.1 ≡ y.1 = same_Some x.1 y.1 (sym (same_there x.0 x.1 xs) ∙ e x.0 ∙ ap (link_at (y ∷ ys)) same ∙ same_there y.0 y.1 ys) in
-        λ i. (same i, links i)
-
-    by_order : ((x.0 ≡ y.0) ⊎ ((x.0 < y.0) ⊎ (y.0 < x.0))) → (((s : ℕ) → link_at xs s ≡ link_at ys s) → xs ≡ ys) → x ∷ xs ≡ y ∷ ys
-    by_order (inr (inl lt)) rest = absurd (no_link x.1 (sym (same_there x.0 x.1 xs) ∙ e x.0 ∙ none_below x.0 (y ∷ ys) (lt, wider x.0 y.0 ys lt k.0)))
-    by_order (inl same) rest = λ i. heads same i ∷ rest (tails same) i
-    by_order (inr (inr gt)) rest = absurd (no_link y.1 (sym (same_there y.0 y.1 ys) ∙ sym (e y.0) ∙ none_below y.0 (x ∷ xs) (gt, wider y.0 x.0 xs gt h.0)))
+use Rattle.jl_types.proofs.BySite.{Rises, wider, same_there, other_there, none_below, no_value, same_values, rises_of}
 
 -- ---- a rising list in which no more is found is no longer
 
 shorter : (xs ys : List (ℕ × Link)) → Rises xs → Rises ys → ((s : ℕ) (l : Link) → link_at xs s ≡ Some l → link_at ys s ≡ Some l) → length xs ≤ length ys
 shorter [] ys h k e = omega arith
-shorter (x ∷ xs) [] h k e = absurd (no_link x.1 (sym (e x.0 x.1 (same_there x.0 x.1 xs))))
+shorter (x ∷ xs) [] h k e = absurd (no_value x.1 (sym (e x.0 x.1 (same_there x.0 x.1 xs))))
 shorter (x ∷ xs) (y ∷ ys) h k e = by_order (cases_order x.0 y.0) (shorter xs ys h.1 k.1) (shorter (x ∷ xs) ys h k.1)
   where
     tails : x.0 ≡ y.0 → (s : ℕ) (l : Link) → link_at xs s ≡ Some l → link_at ys s ≡ Some l
     tails same s l is = by_test (x.0 == s) refl
       where
         by_test : (b : Bool) → (x.0 == s) ≡ b → link_at ys s ≡ Some l
-        by_test true at = absurd (no_link l (sym is ∙ none_below s xs (subst (λ n. AllByRecursion (λ (r : ℕ × Link). n < r.0) xs) ((Decides-eqb x.0 s).0 at) h.0)))
+        by_test true at = absurd (no_value l (sym is ∙ none_below s xs (subst (λ n. AllByRecursion (λ (r : ℕ × Link). n < r.0) xs) ((Decides-eqb x.0 s).0 at) h.0)))
         by_test false at =
             let other : ¬ (x.0 ≡ s) = λ there. both_ways (x.0 == s) at ((Decides-eqb x.0 s).1 there) in
             sym (other_there y.0 s y.1 ys (λ there. other (same ∙ there))) ∙ e s l (other_there x.0 s x.1 xs other ∙ is)
@@ -81,14 +31,14 @@ shorter (x ∷ xs) (y ∷ ys) h k e = by_order (cases_order x.0 y.0) (shorter xs
       where
         by_test : (b : Bool) → (y.0 == s) ≡ b → link_at ys s ≡ Some l
         by_test true at =
-            absurd (no_link l (sym is ∙ none_below s (x ∷ xs) (subst (λ n. AllByRecursion (λ (r : ℕ × Link). n < r.0) (x ∷ xs)) ((Decides-eqb y.0 s).0 at) (lt, wider y.0 x.0 xs lt h.0))))
+            absurd (no_value l (sym is ∙ none_below s (x ∷ xs) (subst (λ n. AllByRecursion (λ (r : ℕ × Link). n < r.0) (x ∷ xs)) ((Decides-eqb y.0 s).0 at) (lt, wider y.0 x.0 xs lt h.0))))
         by_test false at = sym (other_there y.0 s y.1 ys (λ there. both_ways (y.0 == s) at ((Decides-eqb y.0 s).1 there))) ∙ e s l is
 
     by_order : ((x.0 ≡ y.0) ⊎ ((x.0 < y.0) ⊎ (y.0 < x.0))) → (((s : ℕ) (l : Link) → link_at xs s ≡ Some l → link_at ys s ≡ Some l) → length xs ≤ length ys)
         → (((s : ℕ) (l : Link) → link_at (x ∷ xs) s ≡ Some l → link_at ys s ≡ Some l) → length (x ∷ xs) ≤ length ys) → length (x ∷ xs) ≤ length (y ∷ ys)
     by_order (inl same) rest later = let le = rest (tails same) in omega arith
     by_order (inr (inl lt)) rest later =
-        absurd (no_link x.1 (sym (e x.0 x.1 (same_there x.0 x.1 xs)) ∙ none_below x.0 (y ∷ ys) (lt, wider x.0 y.0 ys lt k.0)))
+        absurd (no_value x.1 (sym (e x.0 x.1 (same_there x.0 x.1 xs)) ∙ none_below x.0 (y ∷ ys) (lt, wider x.0 y.0 ys lt k.0)))
     by_order (inr (inr gt)) rest later = let le = later (behind gt) in omega arith
 
 -- one from which some sites are left out is no longer
@@ -96,7 +46,7 @@ pub no_longer : (xs ys : List (ℕ × Link)) → Rises xs → Rises ys → (gone
 no_longer xs ys h k gone e = shorter xs ys h k (λ s l is. by_test s l (gone s) (sym (e s) ∙ is))
   where
     by_test : (s : ℕ) (l : Link) → (b : Bool) → (if b then None else link_at ys s) ≡ Some l → link_at ys s ≡ Some l
-    by_test s l true is = absurd (no_link l (sym is))
+    by_test s l true is = absurd (no_value l (sym is))
     by_test s l false is = is
 
 -- ---- the links of the first sites
@@ -134,20 +84,10 @@ module _ (f : ℕ → Option Link) where
 
 -- a rising list is that of the links of its sites
 pub rows_are : (links : List (ℕ × Link)) → Rises links → (end : ℕ) → ((s : ℕ) (l : Link) → link_at links s ≡ Some l → s < end) → rows (link_at links) 0 end ≡ links
-rows_are links h end within = same_links (rows (link_at links) 0 end) links (rows_rise (link_at links) 0 end) h (λ s. found_from (link_at links) end within 0 end (omega arith) s (omega arith))
-
--- ---- lists by AllPairs
-
-each_above : (n : ℕ) (rows : List (ℕ × Link)) → ((j : ℕ) (d : ℕ × Link) → j < length rows → n < (get_or rows j d).0) → AllByRecursion (λ (r : ℕ × Link). n < r.0) rows
-each_above n [] h = tt
-each_above n (row ∷ rows) h = (h 0 row (omega arith), each_above n rows (λ j d lt. h (suc j) d (omega arith)))
-
-pub rises_of : (links : List (ℕ × Link)) → AreRising links → Rises links
-rises_of [] h = tt
-rises_of (row ∷ rows) h = (each_above row.0 rows (λ j d lt. h 0 (suc j) d (omega arith) (omega arith)), rises_of rows (λ i j d le lt. h (suc i) (suc j) d (omega arith) (omega arith)))
+rows_are links h end within = same_values (rows (link_at links) 0 end) links (rows_rise (link_at links) 0 end) h (λ s. found_from (link_at links) end within 0 end (omega arith) s (omega arith))
 
 -- a rising list is that of a function by which each site has its link
 pub rows_found : (links : List (ℕ × Link)) → AreRising links → (f : ℕ → Option Link) (n : ℕ) → ((s : ℕ) → link_at links s ≡ f s)
     → ((s : ℕ) (l : Link) → f s ≡ Some l → s < n) → rows f 0 n ≡ links
 rows_found links h f n found within =
-    same_links (rows f 0 n) links (rows_rise f 0 n) (rises_of links h) (λ s. found_from f n within 0 n (omega arith) s (omega arith) ∙ sym (found s))
+    same_values (rows f 0 n) links (rows_rise f 0 n) (rises_of links h) (λ s. found_from f n within 0 n (omega arith) s (omega arith) ∙ sym (found s))

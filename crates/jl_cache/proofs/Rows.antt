@@ -4,7 +4,7 @@ use Rattle.std.proofs.Common.{arith}
 use Rattle.jl_types.specs.declared.link.Link.{Link}
 use Rattle.jl_types.specs.declared.link.Link.TheVariants.{Plain, Mega}
 use Rattle.jl_cache.specs.Links.{link_at, AreRising, link_with}
-use Rattle.jl_cache.proofs.LinkLaws.{sites_rise}
+use Rattle.jl_types.proofs.BySite.{sites_rise}
 
 abbrev plain : ℕ → Link
 plain class = Plain (record { class = class; index = 0 })

@@ -14,9 +14,8 @@ use Rattle.std.proofs.lemmas.Map.Views.{Contains-from_lookup, lookup-from_Contai
 use Rattle.std.proofs.Math.Arith.{lt_of_le-ne}
 use Rattle.jl_types.specs.declared.link.Link.{Link}
 use Rattle.jl_cache.specs.Links.{link_at}
-use Rattle.jl_cache.specs.LinkMaps.{put, by_site}
-use Rattle.jl_cache.proofs.LinkLaws.{Rises, rises, found_first, found_by_site}
-use Rattle.jl_cache.proofs.ListLaws.{same_links}
+use Rattle.jl_types.specs.Means.BySite.{put, by_site}
+use Rattle.jl_types.proofs.BySite.{Rises, rises, found_first, found_by_site, same_values}
 
 -- each entry once more
 pub entries_same : (es fs : List (ℕ × Link)) → AllZip (λ e f. (f.0 ≡ e.0) × (f.1 ≡ e.1)) es fs → fs ≡ es
@@ -111,5 +110,5 @@ module _ (entries rows : List (ℕ × Link)) (moved : IsPermutation entries rows
 
   pub sorted_entries : IsNonDecreasingBy (λ (r : ℕ × Link). r.0) rows → rows ≡ by_site entries
   sorted_entries h =
-      same_links rows (by_site entries) (rises_from_sorted rows h rows_apart) (rises entries)
+      same_values rows (by_site entries) (rises_from_sorted rows h rows_apart) (rises entries)
       (λ s. found_in_list rows s ∙ found_alike s ∙ sym (found_by_site entries s))

@@ -1,3 +1,2 @@
--- `Links` is what contracts cite; `LinkMaps` is a means of proof.
+-- What contracts cite.
 pub mod Links
-pub mod LinkMaps

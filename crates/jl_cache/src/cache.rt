@@ -26,7 +26,7 @@ impl Drop for Cache {
 impl Model for Cache {
     ghost use Rattle.std.specs.Prelude.{List, ℕ};
     ghost use Rattle.jl_types.specs.declared.link.Link.{Link};
-    ghost use Rattle.jl_cache.specs.LinkMaps.{by_site};
+    ghost use Rattle.jl_types.specs.Means.BySite.{by_site};
 
     ghost Value = { List (ℕ × Link) };
 

@@ -1,11 +1,11 @@
 //! What a call site runs now (java.lang.invoke: CallSite, SwitchPoint.guardWithTest; JVMS SE 17 §6.5, invokedynamic).
 
-ghost use Rattle.std.specs.Prelude.{◌≡◌, ◌<◌, Some, length};
+ghost use Rattle.std.specs.Prelude.{◌≡◌, ◌+◌, ◌^◌, ◌<◌, Some, length};
 ghost use Rattle.jl_types.specs.Targets as targets;
 ghost use Rattle.jl_callsites.specs.Runs.{method_of};
 
 use crate::sites::Sites;
-use jl_types::{CallSiteId, MethodId, Part, Target};
+use jl_types::{CallSiteId, MethodId, Part, Target, Work};
 
 impl Sites {
     /// The method that the call site, which has to be there, runs now. Takes no memory.
@@ -14,6 +14,17 @@ impl Sites {
         ensures { method_of self.now site ≡ Some result }
     {
         self.evaluated(self.call_sites[site.number() as usize].target())
+    }
+
+    /// The same with one tick: this is an evaluation of a call site. Takes no memory.
+    pub fn evaluate_counted(&self, site: CallSiteId, work: &mut Work) -> MethodId
+        requires there { site < length self.now.call_sites }
+        requires fits { work.old + 1 < 2 ^ 64 }
+        ensures method { method_of self.now site ≡ Some result }
+        ensures ticks { work.new ≡ work.old + 1 }
+    {
+        work.tick();
+        self.evaluate(site)
     }
 
     /// The method that the call site runs now, if there is such a call site. Takes no memory.

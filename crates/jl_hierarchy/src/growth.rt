@@ -1,15 +1,16 @@
 //! What the definition of a class adds.
 
-ghost use Rattle.std.specs.Prelude.{◌≡◌, ◌<◌, ◌++◌, ◌∷◌, [], length, filter_map, option_and_then, true, All, IfOk, OnOk};
+ghost use Rattle.std.specs.Prelude.{◌≡◌, ◌==◌, ◌<◌, ◌++◌, ◌∷◌, [], ℕ, length, filter_map, option_and_then, true, All, IfOk, OnOk, if◌then◌else◌};
 ghost use Rattle.jl_classfile.specs.Conditions.{extends_object};
 ghost use Rattle.jl_types.specs.Members as members;
-ghost use Rattle.std.specs.List.{flat_map};
+ghost use Rattle.std.specs.List.{flat_map, list_any};
 ghost use Rattle.jl_types.specs.Ancestry as ancestry;
 ghost use Rattle.jl_types.specs.Ancestry.{AreOrdered};
 ghost use Rattle.jl_hierarchy.specs.Kept.{Rises};
 ghost use Rattle.jl_types.specs.Definitions as definitions;
 
 use crate::classes::Classes;
+use crate::receiving::is_concrete_file;
 use jl_classfile::ClassFile;
 use jl_names::{Name, Seq};
 use jl_types::{Class, ClassId, LoaderId};
@@ -72,10 +73,84 @@ impl Classes {
         ensures there { IfOk result (λ proper. All (λ a. a < length self.now.rows) proper.items) }
     {
         let parents = parents_of(alloc, row)?;
-        let mut proper = self.ancestors_of_all(alloc, &parents)?;
-        proper.sort_unstable();
-        proper.dedup();
+        let proper = self.joined_ancestors(alloc, &parents)?;
         Ok(proper)
+    }
+
+    /// The classes that would get one receiver more if the loader defined the class of the file, by rising number: its ancestors
+    /// and itself, which would get the next number; and none if no object may be of it. Want of memory is an error.
+    pub fn gaining_receiver(
+        &self,
+        alloc: Global,
+        loader: LoaderId,
+        file: &ClassFile,
+    ) -> Result<Vec<ClassId>, AllocError>
+        ensures { IfOk result (λ gaining. gaining.items
+            ≡ (if members.is_concrete (definitions.defined self.now loader file.now) (length self.now.rows)
+            then ancestry.ancestors (definitions.defined self.now loader file.now).rows (length self.now.rows) else [])) }
+    {
+        if !is_concrete_file(file) {
+            return Ok(Vec::new(alloc));
+        }
+        let gaining = self.ancestors_if_defined(alloc, loader, file)?;
+        Ok(gaining)
+    }
+
+    /// The ancestors, by rising number, of the class that the loader would make of the file, and itself as the last. Want of
+    /// memory is an error.
+    fn ancestors_if_defined(
+        &self,
+        alloc: Global,
+        loader: LoaderId,
+        file: &ClassFile,
+    ) -> Result<Vec<ClassId>, AllocError>
+        ensures { IfOk result (λ all. all.items
+            ≡ ancestry.ancestors (definitions.defined self.now loader file.now).rows (length self.now.rows)) }
+    {
+        let class = ClassId::new(self.rows.as_slice().len() as u32);
+        let parents = self.parents_found(alloc, loader, file)?;
+        let mut all = self.joined_ancestors(alloc, &parents)?;
+        all.push(class)?;
+        Ok(all)
+    }
+
+    /// The superclass and the direct superinterfaces that the loader finds for the file. Want of memory is an error.
+    fn parents_found(
+        &self,
+        alloc: Global,
+        loader: LoaderId,
+        file: &ClassFile,
+    ) -> Result<Vec<ClassId>, AllocError>
+        ensures { IfOk result (λ parents. parents.items ≡ ancestry.parents (definitions.class_made self.now loader file.now)) }
+    {
+        let interfaces = self.found_all(alloc, loader, file.interfaces())?;
+        match self.found_superclass(loader, file) {
+            Some(superclass) => {
+                let mut parents = Vec::new(alloc);
+                parents.push(superclass)?;
+                parents.extend_from_slice(&interfaces)?;
+                Ok(parents)
+            }
+            None => Ok(interfaces),
+        }
+    }
+
+    /// The ancestors of these classes, each once, by rising number. Want of memory is an error.
+    fn joined_ancestors(
+        &self,
+        alloc: Global,
+        classes: &[ClassId],
+    ) -> Result<Vec<ClassId>, AllocError>
+        requires there { All (λ p. p < length self.now.rows) classes.now }
+        requires ordered { AreOrdered self.now.rows }
+        ensures rising { IfOk result (λ joined. Rises joined.items) }
+        ensures members { IfOk result (λ joined. (a : ℕ) → list_any (λ k. k == a) joined.items
+            ≡ list_any (λ p. ancestry.is_ancestor self.now a p) classes.now) }
+    {
+        let mut joined = self.ancestors_of_all(alloc, classes)?;
+        joined.sort_unstable();
+        joined.dedup();
+        Ok(joined)
     }
 
     /// The ancestors of these classes, one class after another. Want of memory is an error.

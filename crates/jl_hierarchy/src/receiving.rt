@@ -1,10 +1,11 @@
 //! The lists of receivers, as a class is added to some of them.
 
-ghost use Rattle.std.specs.Prelude.{◌≡◌, ◌<◌, length, if◌then◌else◌, [], ◌∷◌, All, OnOk, IfOk};
+ghost use Rattle.std.specs.Prelude.{◌≡◌, ◌<◌, ◌&&◌, not, length, if◌then◌else◌, [], ◌∷◌, All, OnOk, IfOk};
+ghost use Rattle.jl_classfile.specs.Conditions.{has_flag, INTERFACE, ABSTRACT};
 ghost use Rattle.jl_types.specs.Members as members;
 ghost use Rattle.jl_hierarchy.specs.Kept.{HasRoom, Rises, IsAppended, lists};
 
-use jl_classfile::{ABSTRACT, INTERFACE, has_flag};
+use jl_classfile::{ABSTRACT, ClassFile, INTERFACE, has_flag};
 use jl_types::{Class, ClassId};
 use std::alloc::{AllocError, Global};
 
@@ -12,7 +13,14 @@ use std::alloc::{AllocError, Global};
 pub(crate) fn is_concrete(row: &Class) -> bool
     ensures { result ≡ members.is_concrete_row row.now }
 {
-    !has_flag(row.file().flags(), INTERFACE) && !has_flag(row.file().flags(), ABSTRACT)
+    is_concrete_file(row.file())
+}
+
+/// Whether objects may be of the file's class.
+pub(crate) fn is_concrete_file(file: &ClassFile) -> bool
+    ensures { result ≡ (not (has_flag file.now.flags INTERFACE) && not (has_flag file.now.flags ABSTRACT)) }
+{
+    !has_flag(file.flags(), INTERFACE) && !has_flag(file.flags(), ABSTRACT)
 }
 
 /// Those of a class's ancestors that get it as a receiver: all of them or none.

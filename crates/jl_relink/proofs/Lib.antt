@@ -4,4 +4,11 @@ pub mod BatchLaws
 pub mod Bindings
 pub mod Loaders
 pub mod Staying
+pub mod Paths
+pub mod Untouched
+pub mod KeyLaws
+pub mod InOrder
+pub mod OneReceiver
+pub mod Costs
+pub mod CountLaws
 pub mod Crossing

@@ -50,7 +50,7 @@ use Rattle.jl_relink.proofs.Loaders.{virtual_same, interface_same, loader_consta
 
 -- ---- what is there
 
-present_there : (cs : Classes) (c : ℕ) → is_present cs c ≡ true → c < length cs.rows
+pub present_there : (cs : Classes) (c : ℕ) → is_present cs c ≡ true → c < length cs.rows
 present_there cs c = by_row (slice_get cs.rows c) refl
   where
     by_row : (o : Option Class) → slice_get cs.rows c ≡ o → is_some o ≡ true → c < length cs.rows
@@ -58,7 +58,7 @@ present_there cs c = by_row (slice_get cs.rows c) refl
     by_row (Some row) is e = slice_get_within cs.rows c row is
 
 -- a class that is accessible is there
-accessible_there : (cs : Classes) (d c : ℕ) → is_accessible_class cs d c ≡ true → c < length cs.rows
+pub accessible_there : (cs : Classes) (d c : ℕ) → is_accessible_class cs d c ≡ true → c < length cs.rows
 accessible_there cs d c = by_row (slice_get cs.rows c) refl
   where
     by_row : (o : Option Class) → slice_get cs.rows c ≡ o
@@ -72,7 +72,7 @@ named_or (Ok r) = r.named
 named_or (Err answer) = 0
 
 -- the class that a resolved reference names is there
-named_there : (cs : Classes) (d : ℕ) (ref : Reference (List ℕ)) (r : Resolved) → resolved cs d ref ≡ Ok r → r.named < length cs.rows
+pub named_there : (cs : Classes) (d : ℕ) (ref : Reference (List ℕ)) (r : Resolved) → resolved cs d ref ≡ Ok r → r.named < length cs.rows
 named_there cs d ref r = by_class (named_class cs d ref)
   where
     same_named : (named : ℕ) (o : Result MethodId ResolveAnswer) → naming named o ≡ Ok r → named ≡ r.named
@@ -224,7 +224,7 @@ runs_itself : (sites : Sites) → RunAsBefore sites sites
 runs_itself sites = record { same = λ c lt. refl }
 
 -- what a site is bound to stays where a binding is added
-bound_before : (bindings : List (ℕ × ℕ)) (binding : ℕ × ℕ) (s c : ℕ) → option_map (λ b. b.1) (find (λ b. b.0 == s) bindings) ≡ Some c
+pub bound_before : (bindings : List (ℕ × ℕ)) (binding : ℕ × ℕ) (s c : ℕ) → option_map (λ b. b.1) (find (λ b. b.0 == s) bindings) ≡ Some c
     → option_map (λ b. b.1) (find (λ b. b.0 == s) (bindings ++ binding ∷ [])) ≡ Some c
 bound_before [] binding s c e = cc
 bound_before (first ∷ bindings) binding s c e = by_test (first.0 == s) (bound_before bindings binding s c) e
@@ -236,7 +236,7 @@ bound_before (first ∷ bindings) binding s c e = by_test (first.0 == s) (bound_
     by_test true rest e = e
     by_test false rest e = rest e
 
-requested_stays : (places : List Place) (place : Place) (s : ℕ) (p : Place) → slice_get places s ≡ Some p → slice_get (requested places place) s ≡ Some p
+pub requested_stays : (places : List Place) (place : Place) (s : ℕ) (p : Place) → slice_get places s ≡ Some p → slice_get (requested places place) s ≡ Some p
 requested_stays places place s p e = by_test (list_any (same_place place) places)
   where
     by_test : (b : Bool) → slice_get (if b then places else places ++ place ∷ []) s ≡ Some p

@@ -1,11 +1,52 @@
--- Which events change no link.
-use Rattle.std.specs.Prelude.{◌≡◌, ℕ, Ok}
+-- Which events change no link, and what a link rests on.
+use Rattle.std.specs.Prelude.{◌≡◌, ◌≢◌, ℕ, length, Bool, true, List, take, slice_get, Some, Ok, IsOk}
+use Rattle.std.specs.List.{list_all}
+use Rattle.jl_classfile.specs.Conditions.{extends_object}
 use Rattle.jl_types.specs.declared.event.Event.{Event}
+use Rattle.jl_types.specs.declared.event.Event.TheVariants as event
 use Rattle.jl_types.specs.declared.link.Link.{Link}
 use Rattle.jl_types.specs.World.{World}
-use Rattle.jl_types.specs.Events.{step}
-use Rattle.jl_types.specs.Links.{scratch}
+use Rattle.jl_types.specs.Events.{verdict, step}
+use Rattle.jl_types.specs.Links.{outcome, scratch}
+use Rattle.jl_types.specs.Sites.{Invocation, BySpecial, Selects, stage}
+use Rattle.jl_classfile.specs.Class.{ClassFile}
+use Rattle.jl_types.specs.History.{world_after, is_link}
+use Rattle.jl_hierarchy.specs.Constancy.{AreInOrder}
+use Rattle.jl_callsites.specs.Known.{are_known}
+use Rattle.jl_types.specs.Footprints.{footprint, stays_with}
 
 -- each site that has a link from scratch has the same one after the event
 pub record LinksStay (w : World) (e : Event) : Type 0 where
   pub stays : (s : ℕ) (l : Link) → scratch w s ≡ Ok l → scratch (step w e) s ≡ Ok l
+
+-- the classes came in order, and each guard has its switch point
+pub record IsInOrder (w : World) : Type 0 where
+  pub classes : AreInOrder w.classes
+  pub points : are_known w.sites ≡ true
+
+-- the link of site s, and what it rests on, is the same in both worlds
+pub record SiteStays (w after : World) (s : ℕ) (l : Link) : Type 0 where
+  pub link : scratch after s ≡ Ok l
+  pub rests_on : footprint after s ≡ footprint w s
+
+-- After the definition of a class that the site's link looks at, the site selects as before, by this invocation, and whether its link
+-- stays is told by the link and by what the invocation comes to for the new class. What the link rests on stays.
+pub record OneMore (w : World) (loader : ℕ) (file : ClassFile) (s : ℕ) (l : Link) : Type 0 where
+  pub invocation : Invocation
+  pub selects : stage (step w (event.Define loader file)) s ≡ Selects invocation
+  pub selector : invocation.selector ≢ BySpecial
+  pub link : is_link (scratch (step w (event.Define loader file)) s) l
+      ≡ stays_with l (outcome (step w (event.Define loader file)).classes invocation (length w.classes.rows))
+  pub rests_on : footprint (step w (event.Define loader file)) s ≡ footprint w s
+
+-- ---- lists of accepted events
+
+-- a definition's file is one of those that are read: an interface extends java/lang/Object
+abbrev pub has_read_file : Event → Bool
+has_read_file (event.Define loader file) = extends_object file.flags file.superclass
+has_read_file _ = true
+
+-- Each event was accepted after those before it, where at most so many sites may be requested, and each file was read.
+pub record AreAccepted (max_sites : ℕ) (h : List Event) : Type 0 where
+  pub each : (n : ℕ) (e : Event) → slice_get h n ≡ Some e → IsOk (verdict max_sites (world_after (take n h)) e)
+  pub files : list_all has_read_file h ≡ true

@@ -4,3 +4,5 @@ pub mod Laws
 pub mod Fills
 pub mod Rows
 pub mod Stages
+pub mod Counts
+pub mod Receivers

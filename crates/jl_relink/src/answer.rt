@@ -1,14 +1,76 @@
-//! The answer to a call of an invocation that selects by its receiver. It looks at no link.
+//! The answer to a call (JVMS SE 17 §6.5). It looks at no link.
 
 ghost use Rattle.std.specs.Prelude.{◌≡◌};
+ghost use Rattle.jl_types.specs.Resolution as resolution;
+ghost use Rattle.jl_types.specs.Sites as sites;
+ghost use Rattle.jl_types.specs.Calls as calls;
 ghost use Rattle.jl_relink.specs.Rows.{selected_answer, special_answer, fits, fits_named};
 
+use crate::located::{Located, locate};
 use crate::selection::{Selection, outcome};
+use crate::stage::{Stage, stage_of_reference};
+use crate::world::World;
+use jl_code::{Kind, Operand};
 use jl_hierarchy::Classes;
-use jl_types::{Answer, ClassId, Outcome, Recv, TableKind, Throwable};
+use jl_names::LentName;
+use jl_pool::Reference;
+use jl_select::special;
+use jl_types::{Answer, ClassId, Outcome, Recv, SiteNo, TableKind, Throwable, Unlinked};
+
+/// The answer to a call (JVMS SE 17 §6.5). It looks at no link. Takes no memory.
+pub fn dispatch(world: &World, site: SiteNo, recv: Recv) -> Answer
+    ensures { result ≡ calls.dispatch world.now site recv }
+{
+    match locate(world, site) {
+        Ok(found) => invocation_answer(world, site, &found, recv),
+        Err(reason) => Answer::Unlinked(reason),
+    }
+}
+
+/// The answer to a call of the site's invocation.
+fn invocation_answer(world: &World, site: SiteNo, found: &Located<'_>, recv: Recv) -> Answer
+    ensures { result ≡ calls.answer_of world.now.classes
+        (sites.by_operand world.now site found.now.caller found.now.invocation.kind found.now.invocation.operand) recv }
+{
+    match found.invocation.operand() {
+        Operand::Method(reference) => reference_answer(
+            &world.classes,
+            found.invocation.kind(),
+            found.caller,
+            reference,
+            recv,
+        ),
+        Operand::CallSite(_) => match world.bound_method(site) {
+            Some(method) => Answer::Run(method),
+            None => Answer::Unlinked(Unlinked::Unbound),
+        },
+    }
+}
+
+/// The answer to a call of an invocation of the reference in the caller's class.
+fn reference_answer(
+    classes: &Classes,
+    kind: Kind,
+    caller: ClassId,
+    reference: &Reference<LentName<'_>>,
+    recv: Recv,
+) -> Answer
+    ensures { result ≡ calls.answer_of classes.now (sites.by_resolution classes.now kind caller reference.now
+        (resolution.resolved classes.now caller reference.now)) recv }
+{
+    match stage_of_reference(classes, kind, caller, reference) {
+        Stage::Waits(reason) => Answer::Unlinked(reason),
+        Stage::Fails(throwable) => Answer::Throws(throwable),
+        Stage::Calls(method) => Answer::Run(method),
+        Stage::Selects(selection) => selected_answer(classes, &selection, recv),
+        Stage::Searches(named) => {
+            special_answer(classes, special(classes, caller, named, reference), recv)
+        }
+    }
+}
 
 /// The answer to a call of the invocation on the receiver.
-pub(crate) fn selected_answer(classes: &Classes, selection: &Selection, recv: Recv) -> Answer
+fn selected_answer(classes: &Classes, selection: &Selection, recv: Recv) -> Answer
     ensures { result ≡ selected_answer classes.now selection.now recv }
 {
     match recv {
@@ -24,7 +86,7 @@ pub(crate) fn selected_answer(classes: &Classes, selection: &Selection, recv: Re
 }
 
 /// The answer to a call of an invokespecial that comes to this outcome.
-pub(crate) fn special_answer(classes: &Classes, outcome: Outcome, recv: Recv) -> Answer
+fn special_answer(classes: &Classes, outcome: Outcome, recv: Recv) -> Answer
     ensures { result ≡ special_answer classes.now outcome recv }
 {
     match recv {

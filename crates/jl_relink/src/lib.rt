@@ -11,16 +11,25 @@ mod batch;
 mod fill;
 mod laws;
 mod link;
+mod located;
 mod preparation;
+mod receiver;
 mod receivers;
+mod scratch;
 mod selection;
 mod snapshot;
 mod stage;
 mod world;
 
+pub use answer::dispatch;
 pub use batch::{Row, is_bad_size, sites_fault};
-pub use laws::links_stay;
+pub use laws::{
+    accepted_events_are_in_order, links_stay, one_receiver_more, touched_sites_take_one_evaluation,
+    untouched_links_stay,
+};
+pub use located::invocation_at;
 pub use preparation::{Prepared, prepare, prepare_in};
+pub use receiver::stays_with_receiver;
+pub use scratch::{link_counted, link_of};
 pub use snapshot::Snapshot;
-pub use stage::invocation_at;
-pub use world::{World, dispatch, link_of};
+pub use world::World;

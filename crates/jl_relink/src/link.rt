@@ -1,50 +1,94 @@
 //! The link of an invocation that selects by its receiver.
 
-ghost use Rattle.std.specs.Prelude.{◌≡◌, ◌<◌, length, All};
+ghost use Rattle.std.specs.Prelude.{◌≡◌, ◌+◌, ◌^◌, ◌<◌, ◌≤◌, length, All};
 ghost use Rattle.jl_types.specs.Ancestry as ancestry;
-ghost use Rattle.jl_types.specs.Links.{table_or_mega};
-ghost use Rattle.jl_relink.specs.Rows.{rows_of, selected_link, virtual_link_of};
+ghost use Rattle.jl_types.specs.Links.{table_or_mega, virtual_link};
+ghost use Rattle.jl_types.specs.declared.link.TableKind.TheVariants.{Interface};
+ghost use Rattle.jl_relink.specs.Counts.{most_of};
+ghost use Rattle.jl_relink.specs.Rows.{rows_of, selected_link};
 
-use crate::receivers::{common_run, table_of};
-use crate::selection::{Selection, outcome};
+use crate::receivers::{common_of, common_run, table_of};
+use crate::selection::{Selection, outcome_counted};
 use jl_hierarchy::Classes;
-use jl_types::{ClassId, Link, Outcome, TableKind};
+use jl_types::{ClassId, Link, Outcome, TableKind, Work};
 
 /// The most receivers of a table (Hölzle, Chambers and Ungar 1991).
 const MOST_RECEIVERS: usize = 8;
 
 /// The link of the invocation: Direct where an invokevirtual's method is private or its receivers run one same method, else
-/// a table of up to eight receivers, else Mega.
-pub(crate) fn selected_link(classes: &Classes, selection: &Selection) -> Link
-    requires { selection.now.named < length classes.now.rows }
-    ensures { result ≡ selected_link classes.now selection.now }
+/// a table of up to eight receivers, else Mega. It takes one tick at most for each receiver that it looks at, and one where it
+/// looks at none.
+pub(crate) fn selected_link(classes: &Classes, selection: &Selection, work: &mut Work) -> Link
+    requires named { selection.now.named < length classes.now.rows }
+    requires fits { work.old + most_of classes.now selection.now < 2 ^ 64 }
+    ensures link { result ≡ selected_link classes.now selection.now }
+    ensures ticks { work.new ≤ work.old + most_of classes.now selection.now }
 {
     match selection.kind {
-        TableKind::Virtual => virtual_link(classes, selection),
-        TableKind::Interface => {
-            table_or_mega(
+        TableKind::Virtual => {
+            if classes.is_private(&selection.method) {
+                return Link::Direct(outcome_counted(classes, selection, selection.named, work));
+            }
+            virtual_link(
                 classes,
                 selection,
-                TableKind::Interface,
                 receivers_of(classes, selection.named),
+                work,
             )
         }
+        TableKind::Interface => interface_link(
+            classes,
+            selection,
+            receivers_of(classes, selection.named),
+            work,
+        ),
     }
 }
 
-/// The same of an invokevirtual.
-fn virtual_link(classes: &Classes, selection: &Selection) -> Link
-    requires { selection.now.named < length classes.now.rows }
-    ensures { result ≡ virtual_link_of classes.now selection.now }
+/// The link of an invokevirtual whose receivers these are: each is walked once at most.
+fn virtual_link(
+    classes: &Classes,
+    selection: &Selection,
+    receivers: &[ClassId],
+    work: &mut Work,
+) -> Link
+    requires there { All (λ x. x < length classes.now.rows) receivers.now }
+    requires fits { work.old + length receivers.now < 2 ^ 64 }
+    ensures link { result ≡ virtual_link (rows_of classes.now selection.now receivers.now) }
+    ensures ticks { work.new ≤ work.old + length receivers.now }
 {
-    if classes.is_private(&selection.method) {
-        return Link::Direct(outcome(classes, selection, selection.named));
+    if receivers.len() > MOST_RECEIVERS {
+        return match common_run(classes, selection, receivers, work) {
+            Some(method) => Link::Direct(Outcome::Run(method)),
+            None => Link::Mega,
+        };
     }
-    let receivers = receivers_of(classes, selection.named);
-    match common_run(classes, selection, receivers) {
+    let table = table_of(classes, selection, receivers, work);
+    match common_of(table.as_slice()) {
         Some(method) => Link::Direct(Outcome::Run(method)),
-        None => table_or_mega(classes, selection, TableKind::Virtual, receivers),
+        None => Link::Table(TableKind::Virtual, table),
     }
+}
+
+/// The link of an invokeinterface whose receivers these are: each is walked once at most.
+fn interface_link(
+    classes: &Classes,
+    selection: &Selection,
+    receivers: &[ClassId],
+    work: &mut Work,
+) -> Link
+    requires there { All (λ x. x < length classes.now.rows) receivers.now }
+    requires fits { work.old + length receivers.now < 2 ^ 64 }
+    ensures link { result ≡ table_or_mega Interface (rows_of classes.now selection.now receivers.now) }
+    ensures ticks { work.new ≤ work.old + length receivers.now }
+{
+    if receivers.len() > MOST_RECEIVERS {
+        return Link::Mega;
+    }
+    Link::Table(
+        TableKind::Interface,
+        table_of(classes, selection, receivers, work),
+    )
 }
 
 /// The receivers of the class.
@@ -54,20 +98,4 @@ fn receivers_of(classes: &Classes, class: ClassId) -> &[ClassId]
     ensures there { All (λ x. x < length classes.now.rows) result.now }
 {
     classes.receivers(class)
-}
-
-/// A table of this kind of these receivers, or Mega where they are more than eight.
-fn table_or_mega(
-    classes: &Classes,
-    selection: &Selection,
-    kind: TableKind,
-    receivers: &[ClassId],
-) -> Link
-    requires { All (λ x. x < length classes.now.rows) receivers.now }
-    ensures { result ≡ table_or_mega kind (rows_of classes.now selection.now receivers.now) }
-{
-    if receivers.len() > MOST_RECEIVERS {
-        return Link::Mega;
-    }
-    Link::Table(kind, table_of(classes, selection, receivers))
 }

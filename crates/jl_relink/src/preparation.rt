@@ -8,8 +8,9 @@ ghost use Rattle.jl_types.specs.Links.{scratch};
 
 use crate::batch::{is_bad_size, sites_fault};
 use crate::fill::fill;
+use crate::scratch::link_of;
 use crate::snapshot::Snapshot;
-use crate::world::{World, link_of};
+use crate::world::World;
 use jl_names::Seq;
 use jl_types::{Link, PrepareFault, SiteNo};
 use std::alloc::Global;

@@ -1,11 +1,11 @@
 //! What an invocation that selects by its receiver comes to.
 
-ghost use Rattle.std.specs.Prelude.{◌≡◌, ◌<◌, length};
+ghost use Rattle.std.specs.Prelude.{◌≡◌, ◌+◌, ◌^◌, ◌<◌, ◌≤◌, length};
 ghost use Rattle.jl_relink.specs.Rows.{outcome_of};
 
 use jl_hierarchy::Classes;
-use jl_select::{select, select_interface};
-use jl_types::{ClassId, MethodId, Outcome, TableKind};
+use jl_select::{select, select_counted, select_interface, select_interface_counted};
+use jl_types::{ClassId, MethodId, Outcome, TableKind, Work};
 
 /// An invokevirtual or an invokeinterface whose method is resolved: the instruction, the class that the reference names, and
 /// the method.
@@ -25,6 +25,26 @@ pub(crate) fn outcome(classes: &Classes, selection: &Selection, receiver: ClassI
         TableKind::Virtual => select(classes, receiver, &selection.method),
         TableKind::Interface => {
             select_interface(classes, receiver, selection.named, &selection.method)
+        }
+    }
+}
+
+/// The same with one tick at most.
+pub(crate) fn outcome_counted(
+    classes: &Classes,
+    selection: &Selection,
+    receiver: ClassId,
+    work: &mut Work,
+) -> Outcome
+    requires there { receiver < length classes.now.rows }
+    requires fits { work.old + 1 < 2 ^ 64 }
+    ensures outcome { result ≡ outcome_of classes.now selection.now receiver }
+    ensures ticks { work.new ≤ work.old + 1 }
+{
+    match selection.kind {
+        TableKind::Virtual => select_counted(classes, receiver, &selection.method, work),
+        TableKind::Interface => {
+            select_interface_counted(classes, receiver, selection.named, &selection.method, work)
         }
     }
 }

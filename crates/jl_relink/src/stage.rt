@@ -1,4 +1,4 @@
-//! What a site comes to before its receiver is looked at (JVMS SE 17 §6.5).
+//! What an invocation of a reference comes to before its receiver is looked at (JVMS SE 17 §6.5).
 
 ghost use Rattle.std.specs.Prelude.{◌≡◌, ◌<◌, ◌==◌, ◌&&◌, not, length};
 ghost use Rattle.jl_types.specs.Sites as sites;
@@ -8,15 +8,14 @@ ghost use Rattle.jl_code.specs.declared.site.Kind.TheVariants.{Special};
 ghost use Rattle.jl_relink.specs.Stages.{IsStage, selector_of};
 
 use crate::selection::Selection;
-use jl_code::{Kind, Site};
+use jl_code::Kind;
 use jl_hierarchy::Classes;
 use jl_names::LentName;
 use jl_pool::Reference;
 use jl_resolve::{Resolved, resolve_reference};
-use jl_select::special;
-use jl_types::{ClassId, MethodId, Outcome, Place, ResolveAnswer, TableKind, Throwable, Unlinked};
+use jl_types::{ClassId, MethodId, ResolveAnswer, TableKind, Throwable, Unlinked};
 
-/// What a site comes to before its receiver is looked at.
+/// What an invocation of a reference comes to before its receiver is looked at.
 #[derive(Clone, Copy, Debug)]
 pub(crate) enum Stage {
     /// It has no link yet.
@@ -27,19 +26,8 @@ pub(crate) enum Stage {
     Calls(MethodId),
     /// It selects by the receiver.
     Selects(Selection),
-    /// An invokespecial: it comes to this for each receiver.
-    Special(Outcome),
-}
-
-/// The invocation at a place. Takes no memory.
-pub fn invocation_at<'a>(classes: &'a Classes, place: &Place) -> Option<Site<'a>>
-    ensures { result ≡ sites.invocation_at classes.now place.now }
-{
-    let method = classes.method_at(&MethodId {
-        class: place.class,
-        index: place.method,
-    })?;
-    method.sites().at_pc(place.pc)
+    /// An invokespecial, whose reference names this class: it searches, and comes to the same for each receiver.
+    Searches(ClassId),
 }
 
 /// What an invocation of the reference comes to, in the caller's class.
@@ -49,7 +37,7 @@ pub(crate) fn stage_of_reference(
     caller: ClassId,
     reference: &Reference<LentName<'_>>,
 ) -> Stage
-    ensures { IsStage classes.now result (sites.by_resolution classes.now kind caller reference.now
+    ensures { IsStage classes.now caller reference.now result (sites.by_resolution classes.now kind caller reference.now
         (resolution.resolved classes.now caller reference.now)) }
 {
     match resolve_reference(classes, caller, reference) {
@@ -69,10 +57,10 @@ fn by_kind(
 ) -> Stage
     requires caller { caller < length classes.now.rows }
     requires named { resolved.now.named < length classes.now.rows }
-    ensures { IsStage classes.now result (sites.by_kind classes.now kind caller reference.now resolved.now) }
+    ensures { IsStage classes.now caller reference.now result (sites.by_kind classes.now kind caller reference.now resolved.now) }
 {
     match kind {
-        Kind::Static => static_stage(classes, resolved),
+        Kind::Static => static_stage(classes, caller, reference, resolved),
         Kind::Virtual => selecting(classes, TableKind::Virtual, caller, reference, resolved),
         Kind::Interface => selecting(classes, TableKind::Interface, caller, reference, resolved),
         Kind::Special => special_stage(classes, caller, reference, resolved),
@@ -81,8 +69,13 @@ fn by_kind(
 }
 
 /// A static method where one has to be.
-fn static_stage(classes: &Classes, resolved: &Resolved) -> Stage
-    ensures { IsStage classes.now result (sites.if_static classes.now resolved.now.method) }
+fn static_stage(
+    classes: &Classes,
+    caller: ClassId,
+    reference: &Reference<LentName<'_>>,
+    resolved: &Resolved,
+) -> Stage
+    ensures { IsStage classes.now caller reference.now result (sites.if_static classes.now resolved.now.method) }
 {
     if classes.is_static(&resolved.method) {
         Stage::Calls(resolved.method)
@@ -100,7 +93,7 @@ fn selecting(
     resolved: &Resolved,
 ) -> Stage
     requires { resolved.now.named < length classes.now.rows }
-    ensures { IsStage classes.now result (sites.selecting classes.now (selector_of kind) caller reference.now resolved.now) }
+    ensures { IsStage classes.now caller reference.now result (sites.selecting classes.now (selector_of kind) caller reference.now resolved.now) }
 {
     if classes.is_static(&resolved.method) {
         return Stage::Fails(Throwable::IncompatibleClassChangeError);
@@ -121,7 +114,7 @@ fn special_stage(
 ) -> Stage
     requires caller { caller < length classes.now.rows }
     requires named { resolved.now.named < length classes.now.rows }
-    ensures { IsStage classes.now result (sites.by_kind classes.now Special caller reference.now resolved.now) }
+    ensures { IsStage classes.now caller reference.now result (sites.by_kind classes.now Special caller reference.now resolved.now) }
 {
     if is_inherited_init(reference, resolved) {
         return Stage::Fails(Throwable::NoSuchMethodError);
@@ -129,7 +122,7 @@ fn special_stage(
     if classes.is_static(&resolved.method) {
         return Stage::Fails(Throwable::IncompatibleClassChangeError);
     }
-    Stage::Special(special(classes, caller, resolved.named, reference))
+    Stage::Searches(resolved.named)
 }
 
 /// Whether an `<init>` of another class than the one that is named was found.

@@ -1,6 +1,6 @@
 //! What an invokespecial comes to (JVMS SE 17 §6.5.invokespecial).
 
-ghost use Rattle.std.specs.Prelude.{◌≡◌, ◌<◌, not, length, IfSome};
+ghost use Rattle.std.specs.Prelude.{◌≡◌, ◌+◌, ◌^◌, ◌<◌, not, length, IfSome};
 ghost use Rattle.jl_types.specs.Members as members;
 ghost use Rattle.jl_types.specs.Selection as selection;
 ghost use Rattle.jl_select.specs.Walks.{own_passing};
@@ -9,7 +9,7 @@ use crate::selection::ending;
 use jl_hierarchy::Classes;
 use jl_names::LentName;
 use jl_pool::Reference;
-use jl_types::{Chosen, ClassId, MethodId, Outcome};
+use jl_types::{Chosen, ClassId, MethodId, Outcome, Work};
 
 /// What an invokespecial in the caller's class comes to, where its reference names this class or interface. Takes no memory.
 ///
@@ -33,6 +33,24 @@ pub fn special(
             reference,
         ),
     )
+}
+
+/// The same with one tick: this is a special search. Takes no memory.
+pub fn special_counted(
+    classes: &Classes,
+    caller: ClassId,
+    named: ClassId,
+    reference: &Reference<LentName<'_>>,
+    work: &mut Work,
+) -> Outcome
+    requires caller { caller < length classes.now.rows }
+    requires named { named < length classes.now.rows }
+    requires fits { work.old + 1 < 2 ^ 64 }
+    ensures outcome { result ≡ selection.special_outcome classes.now caller named reference.now }
+    ensures ticks { work.new ≡ work.old + 1 }
+{
+    work.tick();
+    special(classes, caller, named, reference)
 }
 
 /// Where the search begins.

@@ -8,7 +8,9 @@ mod laws;
 mod overriding;
 mod selection;
 
-pub use invokespecial::special;
+pub use invokespecial::{special, special_counted};
 pub use laws::{outcomes_stay, what_was_selected_stays};
 pub use overriding::can_override;
-pub use selection::{chosen, select, select_interface};
+pub use selection::{
+    chosen, chosen_counted, select, select_counted, select_interface, select_interface_counted,
+};

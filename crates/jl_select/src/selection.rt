@@ -1,6 +1,6 @@
 //! Selection (JVMS SE 17 §5.4.6), and what invokevirtual and invokeinterface make of it (§6.5).
 
-ghost use Rattle.std.specs.Prelude.{◌≡◌, ◌<◌, ◌||◌, length};
+ghost use Rattle.std.specs.Prelude.{◌≡◌, ◌+◌, ◌^◌, ◌<◌, ◌≤◌, ◌||◌, length};
 ghost use Rattle.jl_types.specs.Members as members;
 ghost use Rattle.jl_types.specs.Overriding as overriding;
 ghost use Rattle.jl_types.specs.Selection as selection;
@@ -9,7 +9,7 @@ ghost use Rattle.jl_select.specs.Walks.{own_passing};
 use crate::overriding::can_override;
 use jl_classfile::Method;
 use jl_hierarchy::Classes;
-use jl_types::{Chosen, ClassId, MethodId, Outcome, Throwable};
+use jl_types::{Chosen, ClassId, MethodId, Outcome, Throwable, Work};
 
 /// The method that selection picks for a receiver's class and the resolved method (JVMS SE 17 §5.4.6). Takes no memory.
 pub fn chosen(classes: &Classes, receiver: ClassId, resolved: &MethodId) -> Chosen
@@ -28,12 +28,43 @@ pub fn chosen(classes: &Classes, receiver: ClassId, resolved: &MethodId) -> Chos
     }
 }
 
+/// The same with one tick: this is a selection walk. Takes no memory.
+pub fn chosen_counted(
+    classes: &Classes,
+    receiver: ClassId,
+    resolved: &MethodId,
+    work: &mut Work,
+) -> Chosen
+    requires there { receiver < length classes.now.rows }
+    requires fits { work.old + 1 < 2 ^ 64 }
+    ensures chosen { result ≡ selection.chosen classes.now receiver resolved.now }
+    ensures ticks { work.new ≡ work.old + 1 }
+{
+    work.tick();
+    chosen(classes, receiver, resolved)
+}
+
 /// What an invokevirtual of the resolved method comes to for a receiver's class.
 pub fn select(classes: &Classes, receiver: ClassId, resolved: &MethodId) -> Outcome
     requires { receiver < length classes.now.rows }
     ensures { result ≡ selection.virtual_outcome classes.now receiver resolved.now }
 {
     ending(classes, chosen(classes, receiver, resolved))
+}
+
+/// The same with one tick, for its selection walk. Takes no memory.
+pub fn select_counted(
+    classes: &Classes,
+    receiver: ClassId,
+    resolved: &MethodId,
+    work: &mut Work,
+) -> Outcome
+    requires there { receiver < length classes.now.rows }
+    requires fits { work.old + 1 < 2 ^ 64 }
+    ensures outcome { result ≡ selection.virtual_outcome classes.now receiver resolved.now }
+    ensures ticks { work.new ≡ work.old + 1 }
+{
+    ending(classes, chosen_counted(classes, receiver, resolved, work))
 }
 
 /// What an invokeinterface of the resolved method comes to for a receiver's class, where the reference names this interface.
@@ -50,6 +81,26 @@ pub fn select_interface(
         return Outcome::Throws(Throwable::IncompatibleClassChangeError);
     }
     interface_ending(classes, chosen(classes, receiver, resolved))
+}
+
+/// The same with one tick at most: a receiver that doesn't implement the interface is told without a walk. Takes no memory.
+pub fn select_interface_counted(
+    classes: &Classes,
+    receiver: ClassId,
+    named: ClassId,
+    resolved: &MethodId,
+    work: &mut Work,
+) -> Outcome
+    requires there { receiver < length classes.now.rows }
+    requires fits { work.old + 1 < 2 ^ 64 }
+    ensures outcome { result ≡ selection.interface_outcome classes.now receiver named resolved.now }
+    ensures ticks { work.new ≤ work.old + 1 }
+{
+    if classes.is_ancestor(named, receiver) {
+        interface_ending(classes, chosen_counted(classes, receiver, resolved, work))
+    } else {
+        Outcome::Throws(Throwable::IncompatibleClassChangeError)
+    }
 }
 
 /// What a choice comes to.

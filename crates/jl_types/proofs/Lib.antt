@@ -19,4 +19,5 @@ pub mod Places
 pub mod Written
 pub mod Emptied
 pub mod ClassCounts
+pub mod BySite
 pub mod Crossing

@@ -1,4 +1,5 @@
 -- Means of proof. What is promised doesn't rest on how these say it.
+pub mod BySite
 pub mod Padded
 pub mod Same
 pub mod SameLink

@@ -1,9 +1,8 @@
-use Rattle.std.specs.Prelude.{Bool, if◌then◌else◌}
-use Rattle.std.proofs.Common.{refl, sym, ap, ◌∙◌}
+use Rattle.std.specs.Prelude.{ℕ, ◌<◌, length, Bool, if◌then◌else◌}
+use Rattle.std.proofs.Common.{refl, sym, ap, subst, ◌∙◌}
 use Rattle.jl_types.specs.declared.answer.Throwable.TheVariants.{NoSuchMethodError, IncompatibleClassChangeError}
 use Rattle.jl_types.specs.Members.{is_static}
 use Rattle.jl_types.specs.Resolution.{Resolved}
-use Rattle.jl_types.specs.Selection.{special_outcome}
 use Rattle.jl_types.specs.Sites.{BySpecial, Fails, Selects, Invocation, selecting}
 use Rattle.jl_relink.proofs.stage.special_stage.Goals as goal
 
@@ -12,11 +11,18 @@ returns c =
     let cs = c.args.classes.now in
     let r = c.args.resolved.now in
     let i : Invocation = record { selector = BySpecial; caller = c.args.caller; named = r.named; ref = c.args.reference.now; method = r.method } in
+    let named = sym (ap (λ (r : Resolved). r.named) c.resolved.view_is) in
     let instance = sym (ap (λ (r : Resolved). is_static cs r.method) c.resolved.view_is) ∙ sym c.is_static.ensures ∙ c.if-is_static.false in (
       i,
       ap (λ (b : Bool). if b then Fails NoSuchMethodError else selecting cs BySpecial c.args.caller c.args.reference.now r)
           (sym c.is_inherited_init.ensures ∙ c.if-is_inherited_init.false)
           ∙ ap (λ (b : Bool). if b then Fails IncompatibleClassChangeError else Selects i) instance,
-      refl,
-      c.special.ensures ∙ ap (λ (r : Resolved). special_outcome cs c.args.caller r.named c.args.reference.now) c.resolved.view_is,
+      record {
+        selector = refl;
+        caller = refl;
+        named_class = named;
+        reference = refl;
+        caller_there = c.requires.caller;
+        named_there = subst (λ (n : ℕ). n < length cs.rows) named c.requires.named;
+      },
     )

@@ -1,6 +1,6 @@
 use Rattle.std.proofs.Common.{sym, ap, subst, ◌∙◌}
 use Rattle.jl_cache.specs.Links.{link_at, AreRising}
-use Rattle.jl_cache.proofs.LinkLaws.{found_by_site, sites_rise}
+use Rattle.jl_types.proofs.BySite.{found_by_site, sites_rise}
 use Rattle.jl_cache.proofs.cache.Cache.get.Goals as goal
 
 pub returns-clause-link : goal.returns-clause-link

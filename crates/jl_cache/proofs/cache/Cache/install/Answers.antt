@@ -3,7 +3,8 @@ use Rattle.std.proofs.Common.{sym, ap, ◌∙◌, arith}
 use Rattle.std.proofs.lemmas.List.{take_more}
 use Rattle.jl_types.specs.declared.link.Link.{Link}
 use Rattle.jl_cache.specs.Links.{link_at, link_with}
-use Rattle.jl_cache.proofs.LinkLaws.{found_by_site, link_more, where_ok}
+use Rattle.jl_types.proofs.BySite.{found_by_site, where_ok}
+use Rattle.jl_cache.proofs.LinkLaws.{link_more}
 use Rattle.jl_cache.proofs.cache.Cache.install.Goals as goal
 
 pub loop-row-preserved : goal.loop-row-preserved

@@ -1,7 +1,7 @@
 use Rattle.std.proofs.Common.{◌≡◌, ◌≤◌, ◌+◌, ℕ, length, take}
 use Rattle.indexmap.specs.IndexMap.{spare}
 use Rattle.jl_cache.specs.Links.{link_at, link_with}
-use Rattle.jl_cache.specs.LinkMaps.{by_site}
+use Rattle.jl_types.specs.Means.BySite.{by_site}
 use Rattle.jl_cache.proofs.cache.Cache.install.Given as goal
 
 -- the rows so far are installed, and there is room for the others

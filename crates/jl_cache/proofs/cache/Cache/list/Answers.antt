@@ -4,7 +4,7 @@ use Rattle.std.specs.List.Sorted.{IsPermutation}
 use Rattle.std.proofs.lemmas.List.Sorted.{IsNonDecreasingBy-from_sort_by_key}
 use Rattle.jl_types.specs.declared.link.Link.{Link}
 use Rattle.jl_cache.specs.Links.{AreRising}
-use Rattle.jl_cache.proofs.LinkLaws.{sites_rise}
+use Rattle.jl_types.proofs.BySite.{sites_rise}
 use Rattle.jl_cache.proofs.SortedLaws.{sorted_entries}
 use Rattle.jl_cache.proofs.cache.Cache.list.Goals as goal
 

@@ -1,0 +1,128 @@
+//! An index against a plain list of footprints, over operations that a fixed generator draws.
+
+use crate::plain::{KeySet, Plain, SITES, keys};
+use jl_deps::Index;
+use jl_types::SiteNo;
+use std::alloc::{AllocError, Global};
+use std::process::Abort;
+
+/// How many operations are tried.
+const OPERATIONS: u32 = 10_000;
+
+/// A generator of numbers (Knuth's MMIX), which always draws the same.
+#[derive(Drop)]
+struct Draws {
+    state: u64,
+}
+
+impl Draws {
+    /// The next number, below the bound.
+    fn below(&mut self, bound: u32) -> u32 {
+        self.state = self
+            .state
+            .wrapping_mul(6_364_136_223_846_793_005)
+            .wrapping_add(1_442_695_040_888_963_407);
+        (self.state >> 33) as u32 % bound
+    }
+
+    /// A set of keys: each of twelve is in it once in four times.
+    fn key_set(&mut self) -> KeySet {
+        self.below(4096) & self.below(4096)
+    }
+}
+
+/// How often each operation was tried, and how many sites were touched in all.
+#[derive(Clone, Copy, Debug, PartialEq, Eq)]
+struct Counts {
+    added: u32,
+    removed: u32,
+    asked: u32,
+    touched: u32,
+}
+
+/// What is tried: the index, the plain list and what was counted so far.
+#[derive(Drop)]
+struct Trial {
+    index: Index,
+    plain: Plain,
+    counts: Counts,
+}
+
+/// Nothing was tried yet.
+fn begun(alloc: Global) -> Result<Trial, AllocError> {
+    let counts = Counts {
+        added: 0,
+        removed: 0,
+        asked: 0,
+        touched: 0,
+    };
+    Ok(Trial {
+        index: Index::new(alloc),
+        plain: Plain::new(alloc)?,
+        counts,
+    })
+}
+
+/// Adds the site to both. Answers whether they agree at it then.
+fn add(alloc: Global, trial: &mut Trial, site: u32, set: KeySet) -> Result<bool, AllocError> {
+    let footprint = keys(alloc, set)?;
+    trial.index.add(alloc, SiteNo::new(site), footprint)?;
+    trial.plain.set(site, Some(set));
+    trial.counts.added += 1;
+    trial.plain.agrees_at(alloc, &trial.index, site)
+}
+
+/// Removes the site from both. Answers whether they agree at it then.
+fn remove(alloc: Global, trial: &mut Trial, site: u32) -> Result<bool, AllocError> {
+    trial.index.remove(SiteNo::new(site));
+    trial.plain.set(site, None);
+    trial.counts.removed += 1;
+    trial.plain.agrees_at(alloc, &trial.index, site)
+}
+
+/// Asks both which sites the keys touch. Answers whether they agree.
+fn ask(alloc: Global, trial: &mut Trial, set: KeySet) -> Result<bool, AllocError> {
+    let keys = keys(alloc, set)?;
+    let sites = trial.index.touched_by(alloc, keys.as_slice())?;
+    let want = trial.plain.touched(alloc, set)?;
+    trial.counts.asked += 1;
+    trial.counts.touched += sites.len() as u32;
+    Ok(sites.as_slice() == want.as_slice())
+}
+
+/// Tries one operation. Answers whether index and list agree.
+fn try_one(alloc: Global, trial: &mut Trial, draws: &mut Draws) -> Result<bool, AllocError> {
+    let site = draws.below(SITES);
+    let set = draws.key_set();
+    match draws.below(4) {
+        0 => remove(alloc, trial, site),
+        1 => ask(alloc, trial, set),
+        _ => add(alloc, trial, site, set),
+    }
+}
+
+/// Tries all operations. Answers what was counted, if index and list agreed each time.
+fn try_all(alloc: Global, trial: &mut Trial) -> Result<Option<Counts>, AllocError> {
+    let mut draws = Draws { state: 1 };
+    for _ in 0..OPERATIONS {
+        if !try_one(alloc, trial, &mut draws)? {
+            return Ok(None);
+        }
+    }
+    Ok(Some(trial.counts))
+}
+
+/// The counts are those of the same operations over sets, drawn and counted by another program.
+#[test]
+fn agrees_with_a_plain_list(rt: HostRuntime) -> Result<(), AllocError> {
+    let mut trial = begun(rt.alloc())?;
+    let counts = try_all(rt.alloc(), &mut trial)?;
+    let want = Counts {
+        added: 5_013,
+        removed: 2_524,
+        asked: 2_463,
+        touched: 55_813,
+    };
+    assert_eq!(&rt; counts, Some(want));
+    Ok(())
+}

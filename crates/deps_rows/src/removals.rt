@@ -1,0 +1,62 @@
+//! A key that very many sites rest on.
+
+use jl_deps::{Footprint, Index};
+use jl_names::Seq;
+use jl_types::{ClassId, Key, SiteNo};
+use std::alloc::{AllocError, Global};
+use std::process::Abort;
+
+/// How many sites a core has at most.
+const SITES: u32 = 65_536;
+
+/// The receivers of class 0 and of another class.
+fn footprint(alloc: Global, site: u32) -> Result<Footprint, AllocError> {
+    let mut keys = Vec::new(alloc);
+    keys.push(Key::Receivers(ClassId::new(0)))?;
+    keys.push(Key::Receivers(ClassId::new(1 + site % 7)))?;
+    Ok(Seq::of(keys))
+}
+
+/// All sites, each under class 0.
+fn full(alloc: Global) -> Result<Index, AllocError> {
+    let mut index = Index::new(alloc);
+    for site in 0..SITES {
+        index.add(alloc, SiteNo::new(site), footprint(alloc, site)?)?;
+    }
+    Ok(index)
+}
+
+/// How many sites rest on the receivers of the class.
+fn count(alloc: Global, index: &Index, class: u32) -> Result<usize, AllocError> {
+    let sites = index.touched_by(alloc, &[Key::Receivers(ClassId::new(class))])?;
+    Ok(sites.len())
+}
+
+/// Removes every other site, from the first or from the second.
+fn remove_from(index: &mut Index, first: u32) {
+    for half in 0..SITES / 2 {
+        index.remove(SiteNo::new(2 * half + first));
+    }
+}
+
+/// How many sites there are under class 0 at first, once every other one is gone, and once all are, and then under class 3.
+fn counts(alloc: Global) -> Result<[usize; 4], AllocError> {
+    let mut index = full(alloc)?;
+    let all = count(alloc, &index, 0)?;
+    remove_from(&mut index, 1);
+    let half = count(alloc, &index, 0)?;
+    remove_from(&mut index, 0);
+    Ok([
+        all,
+        half,
+        count(alloc, &index, 0)?,
+        count(alloc, &index, 3)?,
+    ])
+}
+
+#[test]
+fn removes_one_by_one(rt: HostRuntime) -> Result<(), AllocError> {
+    let counts = counts(rt.alloc())?;
+    assert_eq!(&rt; counts, [65_536, 32_768, 0, 0]);
+    Ok(())
+}

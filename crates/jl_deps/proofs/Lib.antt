@@ -1,0 +1,6 @@
+pub mod KeyLists
+pub mod PointLaws
+pub mod TouchLaws
+pub mod IndexLaws
+pub mod BoundLaws
+pub mod ListLaws

@@ -1,0 +1,184 @@
+//! What the link of a site rests on.
+
+ghost use Rattle.std.specs.Prelude.{◌≡◌, ◌++◌, ◌∷◌, [], map, length, IfOk, OnOk, option_to_list};
+ghost use Rattle.jl_types.specs.Resolution as resolution;
+ghost use Rattle.jl_types.specs.Sites as sites;
+ghost use Rattle.jl_types.specs.declared.key.Key.TheVariants as key;
+ghost use Rattle.jl_types.specs.Footprints as footprints;
+ghost use Rattle.jl_types.specs.Footprints.{of_stage, of_operand, path, among};
+
+use jl_callsites::Sites;
+use jl_code::{Kind, Operand, Site};
+use jl_hierarchy::Classes;
+use jl_names::{LentName, Seq};
+use jl_pool::Reference;
+use jl_relink::{World, invocation_at};
+use jl_resolve::{Resolved, resolve_reference};
+use jl_types::{CallSiteId, ClassId, Key, Part, SiteNo, SwitchId, Target};
+use std::alloc::{AllocError, Global};
+
+/// What the link of a site rests on: keys, rising, none of them twice.
+pub type Footprint = Seq<Key>;
+
+/// What the link of the site rests on. No receiver is looked at, and nothing is evaluated. Want of memory is an error.
+pub fn footprint_of(alloc: Global, world: &World, site: SiteNo) -> Result<Footprint, AllocError>
+    ensures { IfOk result (λ keys. keys ≡ footprints.footprint world.now site) }
+{
+    let Some(place) = world.places.get_index(site.number() as usize) else {
+        return Ok(Seq::of(Vec::new(alloc)));
+    };
+    match invocation_at(&world.classes, place) {
+        Some(invocation) => of_invocation(alloc, world, site, place.class, &invocation),
+        None => Ok(Seq::of(Vec::new(alloc))),
+    }
+}
+
+/// What the link of the site's invocation in the caller's class rests on. Want of memory is an error.
+fn of_invocation(
+    alloc: Global,
+    world: &World,
+    site: SiteNo,
+    caller: ClassId,
+    invocation: &Site<'_>,
+) -> Result<Footprint, AllocError>
+    ensures { IfOk result (λ keys. keys ≡ of_operand world.now site caller invocation.now.kind invocation.now.operand) }
+{
+    match invocation.operand() {
+        Operand::Method(reference) => of_class(
+            alloc,
+            looked_at(&world.classes, invocation.kind(), caller, reference),
+        ),
+        Operand::CallSite(_) => of_binding(alloc, &world.sites, world.bound_to(site)),
+    }
+}
+
+/// The receivers of the class, if there is one. Want of memory is an error.
+fn of_class(alloc: Global, class: Option<ClassId>) -> Result<Footprint, AllocError>
+    ensures { IfOk result (λ keys. keys ≡ map key.Receivers (option_to_list class)) }
+{
+    let mut keys = Vec::new(alloc);
+    if let Some(class) = class {
+        keys.push(Key::Receivers(class))?;
+    }
+    Ok(Seq::of(keys))
+}
+
+/// The class whose receivers an invocation of the reference in the caller's class looks at.
+fn looked_at(
+    classes: &Classes,
+    kind: Kind,
+    caller: ClassId,
+    reference: &Reference<LentName<'_>>,
+) -> Option<ClassId>
+    ensures { of_stage classes.now (sites.by_resolution classes.now kind caller reference.now
+        (resolution.resolved classes.now caller reference.now)) ≡ map key.Receivers (option_to_list result) }
+{
+    match resolve_reference(classes, caller, reference) {
+        Ok(resolved) => looked_at_by(classes, kind, caller, reference, &resolved),
+        Err(_) => None,
+    }
+}
+
+/// The same where the reference is resolved.
+fn looked_at_by(
+    classes: &Classes,
+    kind: Kind,
+    caller: ClassId,
+    reference: &Reference<LentName<'_>>,
+    resolved: &Resolved,
+) -> Option<ClassId>
+    ensures { of_stage classes.now (sites.by_kind classes.now kind caller reference.now resolved.now)
+        ≡ map key.Receivers (option_to_list result) }
+{
+    match kind {
+        Kind::Virtual => {
+            if classes.is_static(&resolved.method) || classes.is_private(&resolved.method) {
+                None
+            } else {
+                Some(resolved.named)
+            }
+        }
+        Kind::Interface => {
+            if classes.is_static(&resolved.method) {
+                None
+            } else {
+                Some(resolved.named)
+            }
+        }
+        Kind::Special => None,
+        Kind::Static => None,
+        Kind::Dynamic => None,
+    }
+}
+
+/// What an invokedynamic rests on that is bound to this call site, or to none. Want of memory is an error.
+fn of_binding(
+    alloc: Global,
+    sites: &Sites,
+    binding: Option<CallSiteId>,
+) -> Result<Footprint, AllocError>
+    ensures { IfOk result (λ keys. keys ≡ footprints.of_binding sites.now binding) }
+{
+    match binding {
+        Some(call_site) => of_call_site(alloc, sites, call_site),
+        None => Ok(Seq::of(Vec::new(alloc))),
+    }
+}
+
+/// The target of the call site, and the valid points on its path. Want of memory is an error.
+fn of_call_site(
+    alloc: Global,
+    sites: &Sites,
+    call_site: CallSiteId,
+) -> Result<Footprint, AllocError>
+    ensures { IfOk result (λ keys. keys ≡ footprints.of_call_site sites.now call_site) }
+{
+    let mut keys = Vec::new(alloc);
+    keys.push(Key::Target(call_site))?;
+    if let Some(found) = sites.call_site_at(call_site) {
+        let points = points_on(alloc, sites, found.target())?;
+        push_points(&mut keys, points.as_slice())?;
+    }
+    Ok(Seq::of(keys))
+}
+
+/// Adds that these points are valid. Want of memory is an error.
+pub(crate) fn push_points(keys: &mut Vec<Key>, points: &[SwitchId]) -> Result<(), AllocError>
+    ensures { OnOk result (keys.new.items ≡ keys.old.items ++ map key.Valid points.now) }
+{
+    for point in points {
+        keys.push(Key::Valid(*point))?;
+    }
+    Ok(())
+}
+
+/// The valid points on the target's path, each once, by rising number. Want of memory is an error.
+fn points_on(alloc: Global, sites: &Sites, target: &Target) -> Result<Vec<SwitchId>, AllocError>
+    ensures { IfOk result (λ points. points.items ≡ among (length sites.now.switches) (path sites.now target.now)) }
+{
+    let mut points = Vec::new(alloc);
+    push_path(sites, target, &mut points)?;
+    points.sort_unstable();
+    points.dedup();
+    Ok(points)
+}
+
+/// Adds the valid points on the target's path, in order. Want of memory is an error.
+fn push_path(sites: &Sites, target: &Target, points: &mut Vec<SwitchId>) -> Result<(), AllocError>
+    ensures { OnOk result (points.new.items ≡ points.old.items ++ path sites.now target.now) }
+{
+    let mut target = target;
+    loop {
+        match &target.part {
+            Part::Method(_) => return Ok(()),
+            Part::Guard(point, first, fallback) => {
+                if sites.is_valid(*point) {
+                    points.push(*point)?;
+                    target = first;
+                } else {
+                    target = fallback;
+                }
+            }
+        }
+    }
+}

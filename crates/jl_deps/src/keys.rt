@@ -1,0 +1,118 @@
+//! What an event changes of what links rest on.
+
+ghost use Rattle.std.specs.Prelude.{◌≡◌, ◌==◌, ◌||◌, ◌&&◌, ◌++◌, ◌∷◌, ℕ, [], map, length, IfOk, OnOk};
+ghost use Rattle.std.specs.List.{list_any};
+ghost use Rattle.jl_types.specs.Definitions as definitions;
+ghost use Rattle.jl_types.specs.Targets as targets;
+ghost use Rattle.jl_types.specs.declared.key.Key.TheVariants as key;
+ghost use Rattle.jl_types.specs.Footprints as footprints;
+
+use crate::footprint::push_points;
+use jl_callsites::Sites;
+use jl_classfile::ClassFile;
+use jl_hierarchy::Classes;
+use jl_names::Seq;
+use jl_relink::World;
+use jl_types::{CallSiteId, ClassId, Event, Key, LoaderId, SwitchId};
+use std::alloc::{AllocError, Global};
+
+/// What an event changes of what links rest on: keys, rising, none of them twice.
+pub type Keys = Seq<Key>;
+
+/// What the event, which the world is to accept, changes of what links rest on. Want of memory is an error.
+pub fn keys_of(alloc: Global, world: &World, event: &Event) -> Result<Keys, AllocError>
+    ensures { IfOk result (λ keys. keys ≡ footprints.keys world.now event.now) }
+{
+    match event {
+        Event::Define(loader, file) => of_definition(alloc, &world.classes, *loader, file),
+        Event::SetTarget(site, _) => of_target(alloc, *site),
+        Event::Invalidate(points) => of_points(alloc, &world.sites, points.as_slice()),
+        _ => Ok(Seq::of(Vec::new(alloc))),
+    }
+}
+
+/// What a definition changes: the receivers of the ancestors of the class that the loader makes of the file, where objects may be of
+/// it. Want of memory is an error.
+fn of_definition(
+    alloc: Global,
+    classes: &Classes,
+    loader: LoaderId,
+    file: &ClassFile,
+) -> Result<Keys, AllocError>
+    ensures { IfOk result (λ keys. keys ≡ footprints.of_class (definitions.defined classes.now loader file.now) (length classes.now.rows)) }
+{
+    let gaining = classes.gaining_receiver(alloc, loader, file)?;
+    let mut keys = Vec::with_capacity(alloc, gaining.len())?;
+    push_receivers(&mut keys, &gaining)?;
+    Ok(Seq::of(keys))
+}
+
+/// Adds the receivers of these classes. Want of memory is an error.
+fn push_receivers(keys: &mut Vec<Key>, classes: &[ClassId]) -> Result<(), AllocError>
+    ensures { OnOk result (keys.new.items ≡ keys.old.items ++ map key.Receivers classes.now) }
+{
+    for class in classes {
+        keys.push(Key::Receivers(*class))?;
+    }
+    Ok(())
+}
+
+/// What a new target changes. Want of memory is an error.
+fn of_target(alloc: Global, site: CallSiteId) -> Result<Keys, AllocError>
+    ensures { IfOk result (λ keys. keys ≡ key.Target site ∷ []) }
+{
+    let mut keys = Vec::new(alloc);
+    keys.push(Key::Target(site))?;
+    Ok(Seq::of(keys))
+}
+
+/// What becomes of these points: those that are valid aren't any more. Want of memory is an error.
+fn of_points(alloc: Global, sites: &Sites, points: &[SwitchId]) -> Result<Keys, AllocError>
+    ensures { IfOk result (λ keys. keys ≡ map key.Valid (footprints.still_valid sites.now points.now)) }
+{
+    let valid = valid_among(alloc, sites, points)?;
+    let mut keys = Vec::with_capacity(alloc, valid.len())?;
+    push_points(&mut keys, &valid)?;
+    Ok(Seq::of(keys))
+}
+
+/// Those of the points that are valid, each once, by rising number. Want of memory is an error.
+fn valid_among(
+    alloc: Global,
+    sites: &Sites,
+    points: &[SwitchId],
+) -> Result<Vec<SwitchId>, AllocError>
+    ensures { IfOk result (λ valid. valid.items ≡ footprints.still_valid sites.now points.now) }
+{
+    let mut valid = Vec::new(alloc);
+    push_valid(sites, points, &mut valid)?;
+    valid.sort_unstable();
+    valid.dedup();
+    Ok(valid)
+}
+
+/// Adds those of the points that are valid. Want of memory is an error.
+fn push_valid(
+    sites: &Sites,
+    points: &[SwitchId],
+    valid: &mut Vec<SwitchId>,
+) -> Result<(), AllocError>
+    ensures { OnOk result ((p : ℕ) → list_any (λ q. q == p) valid.new.items
+        ≡ (list_any (λ q. q == p) valid.old.items || (list_any (λ q. q == p) points.now && targets.is_valid sites.now p))) }
+{
+    for point in points {
+        push_if(valid, sites.is_valid(*point), *point)?;
+    }
+    Ok(())
+}
+
+/// Adds the point, if so. Want of memory is an error.
+fn push_if(valid: &mut Vec<SwitchId>, is_valid: bool, point: SwitchId) -> Result<(), AllocError>
+    ensures { OnOk result ((p : ℕ) → list_any (λ q. q == p) valid.new.items
+        ≡ (list_any (λ q. q == p) valid.old.items || ((point == p) && is_valid))) }
+{
+    if is_valid {
+        valid.push(point)?;
+    }
+    Ok(())
+}

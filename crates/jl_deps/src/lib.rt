@@ -1,0 +1,17 @@
+//! The dependency index: which sites' links rest on what, and what an event changes of that (selective recompilation:
+//! Chambers, Dean and Grove 1995).
+//!
+//! What a link rests on and what an event changes is defined in jl_types (`specs/Footprints`). `specs/Indexes` says what an index
+//! has; `specs/Lists` is a means of proof.
+#![tactic(auto)]
+
+mod footprint;
+mod index;
+mod keys;
+mod laws;
+mod lists;
+
+pub use footprint::{Footprint, footprint_of};
+pub use index::Index;
+pub use keys::{Keys, keys_of};
+pub use laws::only_touched_sites_change;

@@ -1,0 +1,226 @@
+-- An event that changes nothing of what a site's link rests on leaves the link, and what it rests on.
+use Rattle.std.specs.Prelude.{◌≡◌, ◌≢◌, ℕ, ◌<◌, ◌==◌, ◌&&◌, ◌||◌, Bool, true, false, cond, List, [], ◌∷◌, ◌++◌, length, map, slice_get, Option, Some, None, option_map, Ok, if◌then◌else◌}
+use Rattle.std.specs.Option.{option_map_or}
+use Rattle.std.proofs.Common.{refl, ap, sym, ◌∙◌}
+use Rattle.std.proofs.lemmas.Bool.{or_left, both_ways}
+use Rattle.std.proofs.lemmas.Bool.Decides.{Decides-eqb}
+use Rattle.std.proofs.lemmas.Cmp.{nat_eq_equiv}
+use Rattle.std.proofs.lemmas.Option.{slice_get_within}
+use Rattle.jl_classfile.specs.Class.{ClassFile}
+use Rattle.jl_classfile.specs.Conditions.{object}
+use Rattle.jl_types.specs.declared.ids.MethodId.{MethodId}
+use Rattle.jl_types.specs.declared.event.Event.{Event}
+use Rattle.jl_types.specs.declared.event.Event.TheVariants as event
+use Rattle.jl_types.specs.declared.link.Link.{Link}
+use Rattle.jl_types.specs.World.{Classes, CallSite, Sites, World}
+use Rattle.jl_types.specs.Members.{lookup, is_concrete}
+use Rattle.jl_types.specs.Ancestry.{ancestors, is_ancestor, receivers}
+use Rattle.jl_types.specs.Definitions.{with_record, defined, delegated}
+use Rattle.jl_types.specs.Targets.{evaluated}
+use Rattle.jl_types.specs.Links.{scratch}
+use Rattle.jl_types.specs.Events.{step}
+use Rattle.jl_types.proofs.Bools.{any-map}
+use Rattle.jl_types.proofs.Grown.{among_ancestors, receivers_after}
+use Rattle.jl_types.proofs.Orders.{IsGood, defined_good}
+use Rattle.jl_hierarchy.specs.Constancy.{Stays}
+use Rattle.jl_hierarchy.proofs.Constancy.{stays_defined, stays_with_record, stays_with_loader}
+use Rattle.jl_hierarchy.proofs.Objects.{is_there}
+use Rattle.jl_resolve.specs.Constancy.{RecordsObject}
+use Rattle.jl_resolve.proofs.Constancy.{settled_stays}
+use Rattle.jl_select.specs.Constancy.{IsConstant}
+use Rattle.jl_select.proofs.Constancy.{selected_stays, outcomes_stay}
+use Rattle.jl_callsites.specs.Runs.{method_of}
+use Rattle.jl_types.specs.declared.key.Key.{Key}
+use Rattle.jl_types.specs.declared.key.Key.TheVariants as key
+use Rattle.jl_types.specs.Footprints.{same_key, has_key, of_call_site, of_class, footprint, keys, touches}
+use Rattle.jl_relink.specs.Laws.{IsInOrder, SiteStays}
+use Rattle.jl_relink.proofs.Staying.{bound_before, requested_stays}
+use Rattle.jl_relink.proofs.Paths.{RunsOn, site_runs_on, target_runs_on, switch_runs_on, invalid_runs_on}
+use Rattle.jl_relink.proofs.Untouched.{IsLater, apart, site_keeps}
+
+-- ---- classes
+
+stays_itself : (cs : Classes) → Stays cs cs
+stays_itself cs = record { rows = λ c row e. e; records = λ l name c h. h; ancestors = λ c lt. refl; hosts = λ c host h. h }
+
+delegated_stays : (cs : Classes) → IsGood cs → (loader : ℕ) (name : List ℕ) (to : ℕ) → Stays cs (delegated cs loader name to)
+delegated_stays cs good loader name to = by_found (lookup cs to name)
+  where
+    by_found : (o : Option ℕ) → Stays cs (record cs { loaders = option_map_or (with_record cs.loaders loader name) o cs.loaders })
+    by_found None = stays_itself cs
+    by_found (Some c) = stays_with_record cs good loader name c
+
+pub step_stays : (w : World) → IsGood w.classes → (e : Event) → Stays w.classes (step w e).classes
+step_stays w good event.NewLoader = stays_with_loader w.classes good
+step_stays w good (event.Define loader file) = stays_defined w.classes good loader file
+step_stays w good (event.Delegate loader name to) = delegated_stays w.classes good loader name to
+step_stays w good (event.Request place) = stays_itself w.classes
+step_stays w good (event.NewCallSite kind ty t) = stays_itself w.classes
+step_stays w good (event.SetTarget c t) = stays_itself w.classes
+step_stays w good event.NewSwitch = stays_itself w.classes
+step_stays w good (event.Invalidate points) = stays_itself w.classes
+step_stays w good (event.Bind s c) = stays_itself w.classes
+step_stays w good (event.Install rows) = stays_itself w.classes
+
+module _ (w : World) (order : IsInOrder w) where
+  pub good : IsGood w.classes
+  good = record { there = order.classes.there; ordered = order.classes.ordered }
+
+  recorded : RecordsObject w.classes
+  recorded c is = is_there (lookup w.classes 0 object) (order.classes.object.interfaces c is)
+
+  pub constant : (e : Event) → IsConstant w.classes (step w e).classes
+  constant e = record {
+    resolved = settled_stays w.classes (step w e).classes (step_stays w good e) good recorded;
+    chosen = selected_stays w.classes (step w e).classes (step_stays w good e) good;
+    outcomes = outcomes_stay w.classes (step w e).classes (step_stays w good e) good recorded;
+  }
+
+  -- ---- call sites
+
+  there : (c : ℕ) (m : MethodId) → method_of w.sites c ≡ Some m → c < length w.sites.call_sites
+  there c m = by_site (slice_get w.sites.call_sites c) refl
+    where
+      by_site : (o : Option CallSite) → slice_get w.sites.call_sites c ≡ o → option_map (λ site. evaluated w.sites site.target) o ≡ Some m → c < length w.sites.call_sites
+      by_site None is e = cc
+      by_site (Some site) is e = slice_get_within w.sites.call_sites c site is
+
+  abbrev Runs : Sites → ℕ → MethodId → Type 0
+  Runs new c m = (method_of new c ≡ Some m) × (of_call_site new c ≡ of_call_site w.sites c)
+
+  as_before : (new : Sites) (c : ℕ) (m : MethodId) → RunsOn w.sites new c → method_of w.sites c ≡ Some m → Runs new c m
+  as_before new c m on run = (on.method ∙ run, on.keys)
+
+  -- ---- receivers
+
+  module _ (loader : ℕ) (file : ClassFile) (c : ℕ) where
+    abbrev new : Classes
+    new = defined w.classes loader file
+
+    abbrev n : ℕ
+    n = length w.classes.rows
+
+    receivers_stay : has_key (of_class new n) (key.Receivers c) ≡ false → receivers new c ≡ receivers w.classes c
+    receivers_stay none =
+        receivers_after w.classes good.ordered loader file c
+        ∙ ap (λ (b : Bool). receivers w.classes c ++ cond b (n ∷ []) []) (by_concrete (is_concrete new n) refl none)
+        ∙ append_nil (receivers w.classes c)
+      where
+        append_nil : (xs : List ℕ) → xs ++ [] ≡ xs
+        append_nil [] = refl
+        append_nil (x ∷ xs) = ap (λ (ys : List ℕ). x ∷ ys) (append_nil xs)
+
+        by_concrete : (b : Bool) → is_concrete new n ≡ b → has_key (if b then map key.Receivers (ancestors new.rows n) else []) (key.Receivers c) ≡ false
+            → (is_concrete new n && is_ancestor new c n) ≡ false
+        by_concrete false is h = ap (λ (b : Bool). b && is_ancestor new c n) is
+        by_concrete true is h =
+            ap (λ (b : Bool). b && is_ancestor new c n) is
+            ∙ among_ancestors new (defined_good w.classes good loader file).ordered c n
+            ∙ sym (any-map (λ other. same_key other (key.Receivers c)) key.Receivers (ancestors new.rows n))
+            ∙ h
+
+  -- ---- events
+
+  module _ (s : ℕ) (l : Link) where
+    -- another world with the same classes' rows
+    of_rows : (after : World) → (later : IsLater w after s) → ((c : ℕ) → receivers after.classes c ≡ receivers w.classes c) → scratch w s ≡ Ok l → SiteStays w after s l
+    of_rows after later same e = let one = site_keeps w after s later (λ c h. same c) l e in record { link = one.0; rests_on = one.1 }
+
+    untouched : (e : Event) → touches w e s ≡ false → scratch w s ≡ Ok l → SiteStays w (step w e) s l
+    untouched event.NewLoader none =
+        of_rows (step w event.NewLoader) (record {
+          good = good;
+          stays = step_stays w good event.NewLoader;
+          constant = constant event.NewLoader;
+          places = λ place e. e;
+          bindings = λ c e. e;
+          runs = λ c listed m run. (run, refl);
+        }) (λ c. refl)
+    untouched (event.Define loader file) none = λ e.
+        let one = site_keeps w (step w (event.Define loader file)) s (record {
+          good = good;
+          stays = step_stays w good (event.Define loader file);
+          constant = constant (event.Define loader file);
+          places = λ place e. e;
+          bindings = λ c e. e;
+          runs = λ c listed m run. (run, refl);
+        }) (λ c h. receivers_stay loader file c (apart (footprint w s) (keys w (event.Define loader file)) (key.Receivers c) none h)) l e in
+        record { link = one.0; rests_on = one.1 }
+    untouched (event.Delegate loader name to) none =
+        of_rows (step w (event.Delegate loader name to)) (record {
+          good = good;
+          stays = step_stays w good (event.Delegate loader name to);
+          constant = constant (event.Delegate loader name to);
+          places = λ place e. e;
+          bindings = λ c e. e;
+          runs = λ c listed m run. (run, refl);
+        }) (λ c. refl)
+    untouched (event.Request place) none =
+        of_rows (step w (event.Request place)) (record {
+          good = good;
+          stays = step_stays w good (event.Request place);
+          constant = constant (event.Request place);
+          places = λ p e. requested_stays w.places place s p e;
+          bindings = λ c e. e;
+          runs = λ c listed m run. (run, refl);
+        }) (λ c. refl)
+    untouched (event.NewCallSite kind ty t) none =
+        of_rows (step w (event.NewCallSite kind ty t)) (record {
+          good = good;
+          stays = step_stays w good (event.NewCallSite kind ty t);
+          constant = constant (event.NewCallSite kind ty t);
+          places = λ p e. e;
+          bindings = λ c e. e;
+          runs = λ c listed m run. as_before _ c m (site_runs_on w.sites kind ty t order.points c (there c m run)) run;
+        }) (λ c. refl)
+    untouched (event.SetTarget d t) none =
+        of_rows (step w (event.SetTarget d t)) (record {
+          good = good;
+          stays = step_stays w good (event.SetTarget d t);
+          constant = constant (event.SetTarget d t);
+          places = λ p e. e;
+          bindings = λ c e. e;
+          runs = λ c listed m run. as_before _ c m (target_runs_on w.sites d t order.points c (other c listed)) run;
+        }) (λ c. refl)
+      where
+        other : (c : ℕ) → ((k : Key) → has_key (of_call_site w.sites c) k ≡ true → has_key (footprint w s) k ≡ true) → c ≢ d
+        other c listed same =
+            let inside = listed (key.Target c) (or_left (c == c) _ (nat_eq_equiv.refl c)) in
+            both_ways (d == c) (or_first (d == c) (apart (footprint w s) (key.Target d ∷ []) (key.Target c) none inside))
+            ((Decides-eqb d c).1 (sym same))
+          where
+            or_first : (b : Bool) → (b || false) ≡ false → b ≡ false
+            or_first true h = cc
+            or_first false h = refl
+    untouched event.NewSwitch none =
+        of_rows (step w event.NewSwitch) (record {
+          good = good;
+          stays = step_stays w good event.NewSwitch;
+          constant = constant event.NewSwitch;
+          places = λ p e. e;
+          bindings = λ c e. e;
+          runs = λ c listed m run. as_before _ c m (switch_runs_on w.sites order.points c) run;
+        }) (λ c. refl)
+    untouched (event.Invalidate points) none =
+        of_rows (step w (event.Invalidate points)) (record {
+          good = good;
+          stays = step_stays w good (event.Invalidate points);
+          constant = constant (event.Invalidate points);
+          places = λ p e. e;
+          bindings = λ c e. e;
+          runs = λ c listed m run.
+              as_before _ c m (invalid_runs_on w.sites points order.points c (λ k h. apart (footprint w s) (keys w (event.Invalidate points)) k none (listed k h))) run;
+        }) (λ c. refl)
+    untouched (event.Bind n d) none =
+        of_rows (step w (event.Bind n d)) (record {
+          good = good;
+          stays = step_stays w good (event.Bind n d);
+          constant = constant (event.Bind n d);
+          places = λ p e. e;
+          bindings = λ c e. bound_before w.bindings (n, d) s c e;
+          runs = λ c listed m run. (run, refl);
+        }) (λ c. refl)
+    untouched (event.Install rows) none = λ e. record { link = e; rests_on = refl }
+
+pub untouched_stays : (w : World) → IsInOrder w → (e : Event) (s : ℕ) (l : Link) → touches w e s ≡ false → scratch w s ≡ Ok l → SiteStays w (step w e) s l
+untouched_stays w order e s l none = untouched w order s l e none

@@ -1,0 +1,119 @@
+//! Whether a link stays once there is one receiver more.
+
+ghost use Rattle.std.specs.Prelude.{◌≡◌, ◌+◌, ◌^◌, ◌<◌, ◌≤◌, length};
+ghost use Rattle.jl_types.specs.Resolution as resolution;
+ghost use Rattle.jl_types.specs.Sites as sites;
+ghost use Rattle.jl_types.specs.Links as links;
+ghost use Rattle.jl_types.specs.Sites.{stage};
+ghost use Rattle.jl_relink.specs.Receivers.{TellsStay, TellsRun, IsSelection};
+
+use crate::located::{Located, locate};
+use crate::selection::{Selection, outcome_counted};
+use crate::stage::{Stage, stage_of_reference};
+use crate::world::World;
+use jl_code::{Kind, Operand};
+use jl_hierarchy::Classes;
+use jl_names::LentName;
+use jl_pool::Reference;
+use jl_types::{ClassId, Link, MethodId, Outcome, SiteNo, Work};
+
+/// Whether the link of a site that selects by its receiver stays, once this receiver has come, with one tick at most. It looks at no
+/// other receiver. Takes no memory.
+pub fn stays_with_receiver(
+    world: &World,
+    site: SiteNo,
+    link: &Link,
+    receiver: ClassId,
+    work: &mut Work,
+) -> bool
+    requires there { receiver < length world.now.classes.rows }
+    requires fits { work.old + 1 < 2 ^ 64 }
+    ensures stays { TellsStay world.now site link.now receiver result }
+    ensures ticks { work.new ≤ work.old + 1 }
+{
+    match link {
+        Link::Direct(Outcome::Run(method)) => runs_at(world, site, receiver, method, work),
+        Link::Direct(Outcome::Throws(_)) => false,
+        Link::Mega => true,
+        Link::Fault(_) => false,
+        Link::Plain(_) => false,
+        Link::Table(_, _) => false,
+    }
+}
+
+/// Whether a call at the site runs this method on an object of this class, with one tick at most.
+fn runs_at(
+    world: &World,
+    site: SiteNo,
+    receiver: ClassId,
+    method: &MethodId,
+    work: &mut Work,
+) -> bool
+    requires there { receiver < length world.now.classes.rows }
+    requires fits { work.old + 1 < 2 ^ 64 }
+    ensures runs { TellsRun world.now site method.now receiver result }
+    ensures ticks { work.new ≤ work.old + 1 }
+{
+    match selection_at(world, site) {
+        Some(selection) => runs(
+            outcome_counted(&world.classes, &selection, receiver, work),
+            method,
+        ),
+        None => false,
+    }
+}
+
+/// Whether the outcome is that this method runs.
+fn runs(outcome: Outcome, method: &MethodId) -> bool
+    ensures { result ≡ links.runs method.now outcome }
+{
+    match outcome {
+        Outcome::Run(run) => method.class == run.class && method.index == run.index,
+        Outcome::Throws(_) => false,
+    }
+}
+
+/// The invokevirtual or invokeinterface of the site that selects by its receiver. Takes no memory.
+fn selection_at(world: &World, site: SiteNo) -> Option<Selection>
+    ensures { IsSelection (stage world.now site) result }
+{
+    match locate(world, site) {
+        Ok(found) => selection_of(world, site, &found),
+        Err(_) => None,
+    }
+}
+
+/// The same of an invocation.
+fn selection_of(world: &World, site: SiteNo, found: &Located<'_>) -> Option<Selection>
+    ensures { IsSelection
+        (sites.by_operand world.now site found.now.caller found.now.invocation.kind found.now.invocation.operand) result }
+{
+    match found.invocation.operand() {
+        Operand::Method(reference) => selection_of_reference(
+            &world.classes,
+            found.invocation.kind(),
+            found.caller,
+            reference,
+        ),
+        Operand::CallSite(_) => None,
+    }
+}
+
+/// The same of an invocation of the reference in the caller's class.
+fn selection_of_reference(
+    classes: &Classes,
+    kind: Kind,
+    caller: ClassId,
+    reference: &Reference<LentName<'_>>,
+) -> Option<Selection>
+    ensures { IsSelection (sites.by_resolution classes.now kind caller reference.now
+        (resolution.resolved classes.now caller reference.now)) result }
+{
+    match stage_of_reference(classes, kind, caller, reference) {
+        Stage::Selects(selection) => Some(selection),
+        Stage::Waits(_) => None,
+        Stage::Fails(_) => None,
+        Stage::Calls(_) => None,
+        Stage::Searches(_) => None,
+    }
+}
