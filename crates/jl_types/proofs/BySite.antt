@@ -1,6 +1,6 @@
 -- Values by site: what is found once a value is put in its place, and their order.
 use Rattle.std.specs.Prelude.{◌≡◌, ℕ, suc, ◌<◌, ◌==◌, ◌⊎◌, nat_lt, Bool, true, false, cond, List, [], ◌∷◌, length, find}
-use Rattle.std.specs.Prelude.{Option, Some, None, option_map, Result, Ok, Err, OnOk, if◌then◌else◌, AllPairs}
+use Rattle.std.specs.Prelude.{Some, None, option_map, Result, Ok, Err, OnOk, if◌then◌else◌, AllPairs}
 use Rattle.std.specs.List.{AllByRecursion}
 use Rattle.std.specs.Map.{lookup}
 use Rattle.std.proofs.Common.{refl, ap, sym, subst, ◌∙◌, arith, get_or, inl, inr}

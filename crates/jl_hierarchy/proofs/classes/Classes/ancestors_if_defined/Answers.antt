@@ -1,15 +1,13 @@
-use Rattle.std.specs.Prelude.{◌≡◌, ℕ, ◌<◌, ◌++◌, ◌∷◌, [], List, length, All}
+use Rattle.std.specs.Prelude.{◌≡◌, ℕ, ◌<◌, ◌++◌, ◌∷◌, [], length, All}
 use Rattle.std.specs.List.{list_any}
 use Rattle.std.proofs.Common.{ap, sym, subst, ◌∙◌, rules}
 use Rattle.std.proofs.lemmas.List.Elements.{All-from_recursion}
-use Rattle.jl_types.specs.World.{Class}
-use Rattle.jl_types.specs.Ancestry.{parents, is_ancestor, AreOrdered}
+use Rattle.jl_types.specs.Ancestry.{parents, is_ancestor}
 use Rattle.jl_types.specs.Definitions.{class_made}
 use Rattle.jl_types.proofs.Orders.{defined_good}
 use Rattle.jl_hierarchy.proofs.KeptLaws.{good}
 use Rattle.jl_hierarchy.proofs.Parents.{listed_next, low, ordered}
 use Rattle.jl_hierarchy.proofs.classes.Classes.ancestors_if_defined.Goals as goal
-
 
 pub joined_ancestors-requires-clause-there : goal.joined_ancestors-requires-clause-there
 joined_ancestors-requires-clause-there c =

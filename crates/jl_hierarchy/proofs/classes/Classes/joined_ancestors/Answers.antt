@@ -1,4 +1,3 @@
-use Rattle.std.specs.Prelude.{ℕ}
 use Rattle.std.proofs.Common.{eqb, ap, sym, subst, ◌∙◌}
 use Rattle.std.proofs.lemmas.List.Filters.{dedup_is}
 use Rattle.jl_hierarchy.specs.Kept.{Rises}
