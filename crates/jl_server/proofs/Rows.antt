@@ -1,5 +1,5 @@
 -- That the condition matters: answers at once to what is no receiver.
-use Rattle.std.specs.Prelude.{◌≡◌, ℕ, true, false, List, [], ◌∷◌, Some, codes, refl}
+use Rattle.std.specs.Prelude.{◌≡◌, ℕ, true, false, List, [], ◌∷◌, Some, None, codes, refl}
 use Rattle.std.proofs.Common.{subst}
 use Rattle.std.proofs.lemmas.Option.{same_Some}
 use Rattle.jl_code.specs.declared.site.Kind.{Kind}
@@ -7,14 +7,16 @@ use Rattle.jl_code.specs.declared.site.Kind.TheVariants.{Virtual, Interface}
 use Rattle.jl_pool.specs.declared.reference.Reference.{Reference}
 use Rattle.jl_types.specs.declared.answer.Outcome.TheVariants.{Run}
 use Rattle.jl_types.specs.declared.answer.Throwable.TheVariants.{IncompatibleClassChangeError}
-use Rattle.jl_types.specs.declared.answer.Recv.TheVariants.{Of}
+use Rattle.jl_types.specs.declared.answer.Recv.{Recv}
+use Rattle.jl_types.specs.declared.answer.Recv.TheVariants.{Null, Of}
 use Rattle.jl_types.specs.declared.answer.Answer.TheVariants as answer
 use Rattle.jl_types.specs.declared.answer.Fast.TheVariants.{Now}
 use Rattle.jl_types.specs.declared.link.Link.{Link}
-use Rattle.jl_types.specs.declared.link.Link.TheVariants.{Direct, Table}
+use Rattle.jl_types.specs.declared.link.Link.TheVariants.{Fault, Plain, Direct, Table, Mega}
 use Rattle.jl_types.specs.declared.link.TableKind.TheVariants as kind
 use Rattle.jl_types.specs.declared.event.Event.{Event}
 use Rattle.jl_types.specs.declared.event.Event.TheVariants.{Request, Install}
+use Rattle.jl_types.specs.World.{World}
 use Rattle.jl_types.specs.Sites.{Invocation, ByVirtual, Selects}
 use Rattle.jl_types.specs.Calls.{dispatch, fits_named}
 use Rattle.jl_types.specs.Fast.{fast_answer}
@@ -115,3 +117,35 @@ virtual_at_once = refl
 
 virtual_by_call : dispatch (world_after at_virtual) 0 (Of 2) ≡ answer.BadReceiver
 virtual_by_call = refl
+
+-- an object of M, a concrete class, fits each table; one of the abstract B fits none
+table_fits : FitsLink (world_after at_interface) 0 (Table kind.Interface []) (Of 3)
+table_fits = refl
+
+table_fits_installed : FitsInstalled at_virtual 0 (Of 3)
+table_fits_installed link there =
+    subst (λ (l : Link). FitsLink (world_after at_virtual) 0 l (Of 3)) (same_Some (Table kind.Virtual []) link there) refl
+
+abstract_is_unfit_at_table : FitsLink (world_after at_interface) 0 (Table kind.Interface []) (Of 2) → ⊥
+abstract_is_unfit_at_table fits = let concrete : false ≡ true = fits in cc
+
+-- nor does one of a class that isn't there
+absent_is_unfit_at_table : FitsLink (world_after at_interface) 0 (Table kind.Interface []) (Of 4) → ⊥
+absent_is_unfit_at_table fits = let concrete : false ≡ true = fits in cc
+
+-- ---- in each world
+
+-- null fits each link
+null_fits : (w : World) (s : ℕ) (link : Link) → FitsLink w s link Null
+null_fits w s (Fault throwable) = tt
+null_fits w s (Plain m) = tt
+null_fits w s (Direct outcome) = tt
+null_fits w s (Table kind rows) = tt
+null_fits w s Mega = tt
+
+-- and each receiver fits a site whose link looks at none
+all_fit_mega : (w : World) (s : ℕ) (recv : Recv) → FitsLink w s Mega recv
+all_fit_mega w s recv = tt
+
+all_fit_none : (h : List Event) (s : ℕ) (recv : Recv) → installed h s ≡ None → FitsInstalled h s recv
+all_fit_none h s recv none link there = absurd (cc (none, there))

@@ -1,6 +1,6 @@
 //! Callers: each has seen a legal list, and looks at the published table without waiting for anybody.
 
-ghost use Rattle.std.specs.Prelude.{◌≡◌, ◌⊎◌, Some, length, IfOk, IfErr};
+ghost use Rattle.std.specs.Prelude.{◌≡◌, ◌⊎◌, ◌<◌, Some, length, IfOk, IfErr};
 ghost use Rattle.std.specs.List.{AllZip};
 ghost use mathlib.Core.List.{IsPrefix};
 ghost use Rattle.left_right.specs.Sides.{view as seat_view};
@@ -213,14 +213,34 @@ fn entered<K: Name>(
     ensures given { IfErr result (λ r. (seat_view r.0.place ≡ seat_view looking.place) × (r.1 ≡ seen)) }
     ensures same { IfErr result (λ r. IsPrefix seen r.1 × IsLegal K.max_sites r.1) }
 {
-    let _serial = seen.serial();
-    let reading = match enter(looking) {
-        Ok(reading) => reading,
+    match enter(looking) {
+        Ok(reading) => found(reading, seen),
         Err(looking) => {
+            let _serial = seen.serial();
             seen.begins(&seen);
-            return Err((looking, seen));
+            Err((looking, seen))
         }
-    };
+    }
+}
+
+/// The table that was entered and its list, which what was seen begins. It is left again just where its list is shorter.
+fn found<K: Name>(
+    reading: TableReading,
+    seen: Seen<K>,
+) -> Result<(TableReading, Seen<K>), (TableReader, Seen<K>)>
+    requires shown { IsShown (content reading.part.value) }
+    requires book { reading.part.value.list.reached.book ≡ K.book }
+    requires legal { IsLegal K.max_sites reading.part.value.list.reached.log }
+    ensures older { IfErr result (λ r. length reading.part.value.list.reached.log < length seen) }
+    ensures place { IfOk result (λ r. seat_view r.0.place ≡ seat_view reading.place) }
+    ensures shown { IfOk result (λ r. IsShown (content r.0.part.value)) }
+    ensures list { IfOk result (λ r. r.1 ≡ r.0.part.value.list.reached.log) }
+    ensures own { IfOk result (λ r. IsPrefix seen r.1) }
+    ensures legal { IfOk result (λ r. IsLegal K.max_sites r.1) }
+    ensures given { IfErr result (λ r. (seat_view r.0.place ≡ seat_view reading.place) × (r.1 ≡ seen)) }
+    ensures same { IfErr result (λ r. IsPrefix seen r.1 × IsLegal K.max_sites r.1) }
+{
+    let _serial = seen.serial();
     let table = reading.get();
     let list = Seen::<K>::of(&table.list);
     if list.serial() < seen.serial() {

@@ -1,12 +1,12 @@
 //! A link server: its book under one lock.
 
-ghost use Rattle.std.specs.Prelude.{◌≡◌, ◌<◌, ◌≤◌, length, IfOk, IfErr, OnErr};
+ghost use Rattle.std.specs.Prelude.{◌≡◌, ◌<◌, ◌≤◌, [], ◌∷◌, ◌++◌, length, IfOk, IfErr, OnErr};
 ghost use mathlib.Core.List.{IsPrefix};
 ghost use Rattle.jl_types.specs.Events.{verdict};
 ghost use Rattle.jl_types.specs.History.{world_after, installed_links};
 ghost use Rattle.jl_types.specs.Entries.{IsLegal, events_of};
 ghost use Rattle.jl_core.specs.State.{IsRefused};
-ghost use Rattle.jl_server.specs.History.{EndsWith};
+ghost use Rattle.jl_server.specs.History.{EndsWith, entry_after};
 
 use crate::book::{Book, Denied, Receipt};
 use crate::caller::Caller;
@@ -146,7 +146,7 @@ fn apply_after<K: Name, H: Wait, R: Wait + Drop>(
     unreachable!()
 }
 
-/// One step of the book, which isn't behind this list.
+/// One step of the book, which isn't behind this list: the book gets this one entry, or stays as it is.
 #[tactic(auto, using(crate::proofs::Beginnings::prefix_trans, crate::proofs::Ends::prefix_more, crate::proofs::Ends::longer_more))]
 fn step_after<K: Name, H: Wait, R: Wait + Drop>(
     rt: &H,
@@ -156,6 +156,9 @@ fn step_after<K: Name, H: Wait, R: Wait + Drop>(
     event: Event,
 ) -> Result<Receipt<K>, Denied<K>>
     requires { length seen.now ≤ length book.old }
+    ensures added { IfOk result (λ r. book.new ≡ book.old ++ entry_after book.old event r.reply ∷ []) }
+    ensures told { IfOk result (λ r. (r.seen ≡ book.new) × (r.serial ≡ length book.new)) }
+    ensures kept { IfErr result (λ d. (d.seen ≡ book.old) × (book.new ≡ book.old)) }
     ensures receipt { IfOk result (λ r. IsPrefix seen.now r.seen × IsLegal K.max_sites r.seen × (r.serial ≡ length r.seen)) }
     ensures entry { IfOk result (λ r. EndsWith r.seen event r.reply) }
     ensures longer { IfOk result (λ r. length seen.now < length r.seen) }
