@@ -32,7 +32,7 @@ use Rattle.jl_server.specs.History.{EndsWith}
 use Rattle.jl_farm.specs.declared.report.JobOutcome.{JobOutcome}
 use Rattle.jl_farm.specs.declared.report.JobOutcome.TheVariants as outcome
 use Rattle.jl_farm.specs.Reports.{world_of, ComesAfter, IsNoBatch, IsShown, IsStale, IsRefusedBatch, IsInstalled}
-use Rattle.jl_farm.specs.Work.{refused_as}
+use Rattle.jl_farm.specs.Work.{refused_as, HasSeen}
 use Rattle.jl_farm.proofs.Causes.{batch_cause, no_batch_by_size, no_batch_by_sites, unready_by_fault, stale_by_fault, prepared_sites}
 
 -- ---- what a caller had seen before
@@ -205,3 +205,26 @@ pub not_installed : {K : Type 0} (n : ℕ) (before after first second : List Ent
     → IsRefused (verdict n (world_of after) (Install rows)) r → IsShown n before of o
 not_installed {K = K} n before after first second of rows r o is first_is second_is prepared legal more also refused =
     subst (IsShown n before of) (sym (is ∙ (λ i. refused_as (first_is i) (second_is i) r))) (shown_refused K n before after of rows prepared legal more also r refused)
+
+-- the caller of a refused install has seen the list after which it was refused
+pub refusal_seen : {K : Type 0} (list first second : List Entry) (r : Refusal) (o : JobOutcome K) → o ≡ refused_as first second r → second ≡ list → HasSeen list o
+refusal_seen {K = K} list first second r o is same = subst (HasSeen list) (sym is) (by_refusal r)
+  where
+    by_refusal : (x : Refusal) → HasSeen {K = K} list (refused_as first second x)
+    by_refusal (refusal.Define fault) = tt
+    by_refusal refusal.UnknownClass = tt
+    by_refusal refusal.NoSuchPlace = tt
+    by_refusal (refusal.NotLinkable why) = tt
+    by_refusal refusal.SitesFull = tt
+    by_refusal (refusal.CallSite fault) = tt
+    by_refusal refusal.NotDynamic = tt
+    by_refusal (refusal.AlreadyBound site) = tt
+    by_refusal refusal.TypeMismatch = tt
+    by_refusal (refusal.Stale s l) = same
+    by_refusal (refusal.NotReady s) = same
+    by_refusal (refusal.UnknownSite s) = same
+    by_refusal (refusal.Repeated s) = same
+    by_refusal refusal.BatchSize = same
+    by_refusal refusal.Memory = tt
+    by_refusal (refusal.Delegate fault) = tt
+    by_refusal refusal.LoadersFull = tt

@@ -21,6 +21,14 @@ refused_as first second (refusal.Repeated s) = outcome.Bad second
 refused_as first second refusal.BatchSize = outcome.Bad second
 refused_as first second _ = outcome.Memory
 
+-- The caller that ran a job has seen just the list that its outcome names, of two the later one. Of want of memory nothing is said.
+abbrev pub HasSeen : {K : Type 0} → List Entry → JobOutcome K → Type 0
+HasSeen list (outcome.Installed receipt) = receipt.seen ≡ list
+HasSeen list (outcome.Stale first second) = second ≡ list
+HasSeen list (outcome.NotReady after) = after ≡ list
+HasSeen list (outcome.Bad after) = after ≡ list
+HasSeen list outcome.Memory = Unit {0}
+
 -- The worker took jobs and reported them, in the order in which it took them.
 pub record Works {K : Type 0} (max_sites : ℕ) (jobs : List (List ℕ)) (old new : Worker K) : Type 0 where
   pub more : List (Report K)

@@ -1,6 +1,6 @@
 //! The farm.
 
-ghost use Rattle.std.specs.Prelude.{◌≡◌, ◌≤◌, ◌+◌, [], ℕ, All, IfOk, vec_len};
+ghost use Rattle.std.specs.Prelude.{◌≡◌, ◌≤◌, ◌+◌, [], ℕ, true, false, All, IsOk, IfOk, IfErr, vec_len};
 ghost use Rattle.std.specs.List.{AllZip, sum_by, range_with_len};
 ghost use Rattle.std.specs.List.Sorted.{IsPermutation, IsNonDecreasingBy};
 ghost use Rattle.crossbeam_queue.specs.Passes.{view, IsPassOf};
@@ -21,16 +21,43 @@ use std::alloc::{AllocError, Global};
 use std::snapshot::Snapshot;
 use std::sync::Wait;
 use std::thread;
-use std::thread::Threads;
+use std::thread::{JoinHandle, Threads};
 
 /// Runs the jobs, each once, by one worker for each caller: the job's sites are prepared in a snapshot of the server, and their links
 /// installed as one batch. There are 1 to 16 callers, and at most 65,536 jobs. Gives a report of each job, in the order of the jobs.
+/// Without jobs it makes no thread, takes no memory and gives no reports.
 ///
 /// # Errors
 ///
 /// - [`FarmFault::NoThread`]: no thread could be made, and no job has run.
 /// - [`FarmFault::Memory`]: want of memory. What was installed by then stays so.
 pub fn run<
+    K: Name + Send + Sync,
+    G: Gate + Sync,
+    R: Threads + Wait + Sync,
+    S: Wait + Drop + Send + Sync,
+>(
+    rt: &R,
+    alloc: Global,
+    server: &LinkServer<K, S>,
+    jobs: Vec<Seq<SiteNo>>,
+    workers: Vec<Caller<K>>,
+    gate: &G,
+) -> Result<Vec<Report<K>>, FarmFault>
+    requires workers { (1 ≤ vec_len workers) × (vec_len workers ≤ 16) }
+    requires jobs { vec_len jobs ≤ 65536 }
+    ensures jobs { IfOk result (λ reports. jobs_of reports.items ≡ range_with_len 0 (vec_len jobs)) }
+    ensures shown { IfOk result (λ reports. All (IsReport K.max_sites workers.items jobs.items) reports.items) }
+    ensures idle { vec_len jobs ≡ 0 → IsOk result }
+{
+    if jobs.len() == 0 {
+        return Ok(Vec::new(alloc));
+    }
+    run_some(rt, alloc, server, jobs, workers, gate)
+}
+
+/// The same, of at least one job.
+fn run_some<
     K: Name + Send + Sync,
     G: Gate + Sync,
     R: Threads + Wait + Sync,
@@ -69,7 +96,15 @@ pub fn run<
 
 /// Whether a thread can be made. Of those that are made later, each that can't be has its work done by another one.
 fn has_thread<R: Threads>(rt: &R) -> bool {
-    match thread::spawn(rt, || ()) {
+    is_made(rt, thread::spawn(rt, || ()))
+}
+
+/// Whether the thread was made. It waits for it.
+fn is_made<R: Threads, E: Drop>(rt: &R, spawned: Result<JoinHandle<()>, E>) -> bool
+    ensures made { IfOk spawned (λ _. result ≡ true) }
+    ensures refused { IfErr spawned (λ _. result ≡ false) }
+{
+    match spawned {
         Ok(child) => {
             child.join(rt);
             true

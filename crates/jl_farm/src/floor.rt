@@ -7,7 +7,7 @@ ghost use Rattle.jl_types.specs.Entries.{IsLegal};
 ghost use Rattle.jl_types.specs.Preparation.{ArePrepared};
 ghost use Rattle.jl_farm.specs.Queued.{KnowsAll};
 ghost use Rattle.jl_farm.specs.Reports.{IsShown, sites_of, world_of};
-ghost use Rattle.jl_farm.specs.Work.{Works, HasPart, refused_as};
+ghost use Rattle.jl_farm.specs.Work.{Works, HasPart, HasSeen, refused_as};
 
 use crate::crew::Shift;
 use crate::gate::Gate;
@@ -82,6 +82,7 @@ impl<'a, K: Name, G: Gate, R: Wait, S: Wait + Drop> Floor<'a, K, G, R, S> {
         ensures own { IsPrefix caller.old caller.new }
         ensures job { result.job ≡ job }
         ensures shown { IsShown K.max_sites caller.old (sites_of self.now.jobs.now job) result.outcome }
+        ensures seen { HasSeen caller.new result.outcome }
     {
         self.gate.before_prepare(job);
         let outcome = match self.jobs.get(job) {
@@ -96,6 +97,7 @@ impl<'a, K: Name, G: Gate, R: Wait, S: Wait + Drop> Floor<'a, K, G, R, S> {
     fn outcome(&self, caller: &mut Caller<K>, sites: &[SiteNo]) -> JobOutcome<K>
         ensures own { IsPrefix caller.old caller.new }
         ensures shown { IsShown K.max_sites caller.old sites.now result }
+        ensures seen { HasSeen caller.new result }
     {
         let Ok((snapshot, seen)) = caller.snapshot(self.rt, self.alloc, self.server) else {
             return JobOutcome::Memory;
@@ -124,6 +126,7 @@ impl<'a, K: Name, G: Gate, R: Wait, S: Wait + Drop> Floor<'a, K, G, R, S> {
         requires rows { ArePrepared (world_of caller.old) sites.now rows }
         ensures own { IsPrefix caller.old caller.new }
         ensures shown { IsShown K.max_sites caller.old sites.now result }
+        ensures seen { HasSeen caller.new result }
     {
         match caller.apply(self.rt, self.alloc, self.server, Event::Install(rows)) {
             Ok(receipt) => JobOutcome::Installed(receipt),

@@ -8,7 +8,7 @@ use Rattle.jl_farm.specs.declared.worker.Worker.{Worker}
 use Rattle.jl_farm.specs.Reports.{IsReport}
 use Rattle.jl_farm.specs.Work.{IsHired}
 use Rattle.jl_farm.proofs.Shifts.{crew_reported, in_order}
-use Rattle.jl_farm.proofs.farm.run.Goals as goal
+use Rattle.jl_farm.proofs.farm.run_some.Goals as goal
 
 pub finish-requires-clause-crew : goal.finish-requires-clause-crew
 finish-requires-clause-crew g c =

@@ -1,4 +1,4 @@
-use Rattle.jl_farm.proofs.Outcomes.{installed, not_installed}
+use Rattle.jl_farm.proofs.Outcomes.{installed, not_installed, refusal_seen}
 use Rattle.jl_farm.proofs.floor.Floor.install.Goals as goal
 
 pub returns-in-Ok-clause-shown : goal.returns-in-Ok-clause-shown
@@ -7,3 +7,6 @@ returns-in-Ok-clause-shown g c = installed _ _ _ _ _ _ c.requires.rows c.in-Ok.e
 pub returns-in-Err-clause-shown : goal.returns-in-Err-clause-shown
 returns-in-Err-clause-shown g c =
     not_installed _ _ _ _ _ _ _ _ _ c.refused.ensures c.requires.prepared.0 c.in-Err.ensures.denied c.requires.rows c.requires.prepared.1 c.in-Err.ensures.own c.in-Err.ensures.legal c.in-Err.ensures.refused
+
+pub returns-in-Err-clause-seen : goal.returns-in-Err-clause-seen
+returns-in-Err-clause-seen g c = refusal_seen _ _ _ _ _ c.refused.ensures c.in-Err.ensures.denied
