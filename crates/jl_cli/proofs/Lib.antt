@@ -11,3 +11,4 @@ pub mod CountLaws
 pub mod FarmLaws
 pub mod WordsLaws
 pub mod Rows
+pub mod FaultRows

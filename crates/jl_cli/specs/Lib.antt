@@ -11,3 +11,4 @@ pub mod Sketches
 pub mod Sessions
 pub mod Answers
 pub mod Progress
+pub mod Farms

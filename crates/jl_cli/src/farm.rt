@@ -1,6 +1,11 @@
 //! Commands, a line each, on a link server, and then a farm for the sites that they requested.
 
-ghost use Rattle.std.specs.Prelude.{◌≤◌, vec_len};
+ghost use Rattle.std.specs.Prelude.{◌≡◌, ◌≤◌, [], ◌∷◌, IfOk, vec_len};
+ghost use Rattle.std.specs.List.{range_with_len};
+ghost use mathlib.Core.List.{IsPrefix};
+ghost use Rattle.jl_types.specs.History.{site_numbers};
+ghost use Rattle.jl_types.specs.Entries.{events_of};
+ghost use Rattle.jl_cli.specs.Farms.{job_of_each};
 
 use crate::farm_fault::FarmLineFault;
 use crate::json_line::{bad_command, json_in};
@@ -91,17 +96,13 @@ impl<'a, K: Name, H: Wait, S: Wait + Drop> Foreman<'a, K, H, S> {
         }
     }
 
-    /// One job for each requested site, in order. Requests number their sites from 0 on.
-    fn jobs(&mut self) -> Result<Vec<Seq<SiteNo>>, AllocError> {
+    /// One job for each requested site, in order.
+    fn jobs(&mut self) -> Result<Vec<Seq<SiteNo>>, AllocError>
+        ensures own { IsPrefix self.old.caller self.new.caller }
+        ensures jobs { IfOk result (λ jobs. jobs.items ≡ job_of_each (site_numbers (events_of self.new.caller))) }
+    {
         let (snapshot, _seen) = self.caller.snapshot(self.rt, self.alloc, self.server)?;
-        let mut jobs = Vec::new(self.alloc);
-        for number in 0..snapshot.world().site_count() {
-            let mut sites = Vec::new(self.alloc);
-            let number = u32::try_from(number).map_err(|_| AllocError)?;
-            sites.push(SiteNo::new(number))?;
-            jobs.push(Seq::of(sites))?;
-        }
-        Ok(jobs)
+        each_site(self.alloc, snapshot.world().site_count())
     }
 
     /// The links that are installed, and these reports.
@@ -110,6 +111,28 @@ impl<'a, K: Name, H: Wait, S: Wait + Drop> Foreman<'a, K, H, S> {
         let list = self.server.links(self.rt, self.alloc, &mut self.caller)?;
         farm_value(self.alloc, list.rows.as_slice(), reports)
     }
+}
+
+/// One job for each of so many sites, by rising number.
+fn each_site(alloc: Global, count: usize) -> Result<Vec<Seq<SiteNo>>, AllocError>
+    ensures { IfOk result (λ jobs. jobs.items ≡ job_of_each (range_with_len 0 count)) }
+{
+    let mut jobs = Vec::new(alloc);
+    for number in 0..count {
+        let job = one_site(alloc, number)?;
+        jobs.push(job)?;
+    }
+    Ok(jobs)
+}
+
+/// The job of one site.
+fn one_site(alloc: Global, number: usize) -> Result<Seq<SiteNo>, AllocError>
+    ensures { IfOk result (λ job. job ≡ number ∷ []) }
+{
+    let number = u32::try_from(number).map_err(|_| AllocError)?;
+    let mut sites = Vec::new(alloc);
+    sites.push(SiteNo::new(number))?;
+    Ok(Seq::of(sites))
 }
 
 /// A gate that lets each job pass.

@@ -1,0 +1,106 @@
+-- Worked rows of what faults leave, of exit statuses, and of a farm's jobs.
+use Rattle.std.proofs.Common.{◌≡◌, ℕ, List, [], ◌∷◌, length, refl, inl, inr, arith}
+use Rattle.std.specs.Prelude.{codes}
+use Rattle.jl_types.specs.declared.link.Link.{Link}
+use Rattle.jl_farm.specs.declared.fault.FarmFault.TheVariants as farm_fault
+use Rattle.jl_core.specs.State.{empty_core}
+use Rattle.jl_cli.specs.declared.line_fault.LineFault.TheVariants.{TooLong, Device, Memory}
+use Rattle.jl_cli.specs.declared.farm_fault.FarmLineFault.TheVariants.{Line, Farm}
+use Rattle.jl_cli.specs.declared.words.WordsFault.TheVariants as words_fault
+use Rattle.jl_cli.specs.declared.words.Mode.{Mode}
+use Rattle.jl_cli.specs.declared.words.Mode.TheVariants.{Scan, Sketch, Run}
+use Rattle.jl_cli.specs.Statuses.{words_status, line_status, farm_status}
+use Rattle.jl_cli.specs.Sessions.{Session, new_session}
+use Rattle.jl_cli.specs.Answers.{LongIf, LeftBy}
+use Rattle.jl_cli.specs.Farms.{job_of_each}
+
+-- ---- exit statuses
+
+long_status : line_status TooLong ≡ 2
+long_status = refl
+
+device_status : line_status Device ≡ 3
+device_status = refl
+
+memory_status : line_status Memory ≡ 4
+memory_status = refl
+
+words_statuses : words_status words_fault.BadWords ∷ words_status words_fault.Memory ∷ [] ≡ 1 ∷ 4 ∷ []
+words_statuses = refl
+
+-- a farm's lines have the statuses of lines, and a farm that failed has its own
+farm_line_statuses : farm_status (Line TooLong) ∷ farm_status (Line Device) ∷ farm_status (Line Memory) ∷ [] ≡ 2 ∷ 3 ∷ 4 ∷ []
+farm_line_statuses = refl
+
+farm_statuses : farm_status (Farm farm_fault.NoThread) ∷ farm_status (Farm farm_fault.Memory) ∷ [] ≡ 1 ∷ 1 ∷ []
+farm_statuses = refl
+
+-- ---- a line that is too long
+
+-- it is the next one, and has over 2,100,000 bytes
+long_next : (line : List ℕ) (lines : List (List ℕ)) → length line ≡ 2100001 → LongIf TooLong (line ∷ lines)
+long_next line lines size = omega (arith, size)
+
+not_long_at_limit : (line : List ℕ) (lines : List (List ℕ)) → length line ≡ 2100000 → LongIf TooLong (line ∷ lines) → ⊥
+not_long_at_limit line lines size long = omega (arith, size, long)
+
+not_long_behind : (line : List ℕ) → length line ≡ 2100001 → LongIf TooLong (codes "links" ∷ line ∷ []) → ⊥
+not_long_behind line size long = omega (arith, long)
+
+not_long_at_end : LongIf TooLong [] → ⊥
+not_long_at_end long = long
+
+-- of the other faults nothing is said
+device_is_not_long : (lines : List (List ℕ)) → LongIf Device lines
+device_is_not_long lines = tt
+
+memory_is_not_long : (lines : List (List ℕ)) → LongIf Memory lines
+memory_is_not_long lines = tt
+
+-- ---- the session that a fault leaves
+
+-- a new session with one batch
+abbrev one_batch : Session
+one_batch = record { core = empty_core 65536; batches = [] ∷ [] }
+
+other_session : one_batch ≡ new_session → ⊥
+other_session same = let batches : ◌≡◌ {A = List (List (ℕ × Link))} ([] ∷ []) [] = λ i. (same i).batches in cc batches
+
+-- the session of the lines that were answered
+long_leaves : (mode : Mode) (last : Session) (after : List (List ℕ)) → LeftBy TooLong mode last after last
+long_leaves mode last after = refl
+
+long_changes_none : (mode : Mode) (after : List (List ℕ)) → LeftBy TooLong mode new_session after one_batch → ⊥
+long_changes_none mode after left = other_session left
+
+device_leaves : (mode : Mode) (last : Session) (after : List (List ℕ)) → LeftBy Device mode last after last
+device_leaves mode last after = refl
+
+device_changes_none : (mode : Mode) (after : List (List ℕ)) → LeftBy Device mode new_session after one_batch → ⊥
+device_changes_none mode after left = other_session left
+
+-- want of memory, too, where no line follows
+memory_leaves_at_end : (mode : Mode) → LeftBy Memory mode new_session [] one_batch → ⊥
+memory_leaves_at_end mode left = other_session left
+
+-- and in the modes without commands
+memory_leaves_scan : (line : List ℕ) (after : List (List ℕ)) → LeftBy Memory Scan new_session (line ∷ after) one_batch → ⊥
+memory_leaves_scan line after (inl same) = other_session same
+memory_leaves_scan line after (inr said) = other_session said.1.1
+
+memory_leaves_sketch : (line : List ℕ) (after : List (List ℕ)) → LeftBy Memory Sketch new_session (line ∷ after) one_batch → ⊥
+memory_leaves_sketch line after (inl same) = other_session same
+memory_leaves_sketch line after (inr said) = other_session said.1.1
+
+-- in the mode run the session may be as before, whatever the next line is
+memory_may_leave : (line : List ℕ) (after : List (List ℕ)) → LeftBy Memory Run new_session (line ∷ after) new_session
+memory_may_leave line after = inl refl
+
+-- ---- a farm's jobs
+
+-- one for each site, in their order
+jobs_of_three : job_of_each (0 ∷ 1 ∷ 2 ∷ []) ≡ (0 ∷ []) ∷ (1 ∷ []) ∷ (2 ∷ []) ∷ []
+jobs_of_three = refl
+
+jobs_of_none : job_of_each [] ≡ []
+jobs_of_none = refl
