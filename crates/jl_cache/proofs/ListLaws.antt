@@ -1,12 +1,11 @@
 -- How long rising lists of links are, and which they are.
 use Rattle.std.specs.Prelude.{◌≡◌, ℕ, zero, suc, ◌+◌, ◌<◌, ◌≤◌, ◌==◌, ◌⊎◌, Bool, true, false, List, [], ◌∷◌, length, Option, Some, None, option_map, if◌then◌else◌}
 use Rattle.std.specs.List.{AllByRecursion, cons_option}
-use Rattle.std.proofs.Common.{refl, ap, sym, subst, ◌∙◌, arith, get_or, inl, inr}
+use Rattle.std.proofs.Common.{refl, ap, sym, subst, ◌∙◌, arith, inl, inr}
 use Rattle.std.proofs.lemmas.Bool.Decides.{Decides-eqb}
-use Rattle.std.proofs.lemmas.Option.{same_Some}
 use Rattle.std.proofs.lemmas.Bool.{cases_order, both_ways}
 use Rattle.jl_types.specs.declared.link.Link.{Link}
-use Rattle.jl_types.proofs.InstalledLinks.{row, rows, above}
+use Rattle.jl_types.proofs.InstalledLinks.{rows, above}
 use Rattle.jl_cache.specs.Links.{link_at, AreRising}
 use Rattle.jl_types.proofs.BySite.{Rises, wider, same_there, other_there, none_below, no_value, same_values, rises_of}
 

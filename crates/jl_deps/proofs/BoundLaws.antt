@@ -1,16 +1,11 @@
 -- The sites that the index gives for an event's keys are those that the bound counts.
-use Rattle.std.specs.Prelude.{◌≡◌, ℕ, ◌<◌, ◌==◌, ◌&&◌, Bool, true, List, filter, length, Option, Some, None, is_some}
-use Rattle.std.specs.List.{range_with_len}
-use Rattle.std.specs.Bool.{one_answer}
-use Rattle.std.proofs.Common.{refl, ap, sym, ◌∙◌, arith}
-use Rattle.std.proofs.lemmas.Bool.Decides.{Decides-eqb}
-use Rattle.std.proofs.lemmas.Cmp.{nat_eq_equiv}
+use Rattle.std.specs.Prelude.{◌≡◌, ℕ, ◌<◌, ◌&&◌, true, List, length, Option, Some, None, is_some}
+use Rattle.std.proofs.Common.{refl, sym, ◌∙◌}
 use Rattle.jl_types.specs.declared.event.Event.{Event}
 use Rattle.jl_types.specs.declared.link.Link.{Link}
 use Rattle.jl_types.specs.History.{world_after, installed}
-use Rattle.jl_types.proofs.Bools.{any-filter, any-filter-at, any-range-from}
 use Rattle.jl_types.proofs.InstalledLinks.{installed_requested}
-use Rattle.jl_hierarchy.proofs.Rising.{has, one_rising, filter_rises}
+use Rattle.jl_hierarchy.proofs.Rising.{one_rising, filter_rises}
 use Rattle.jl_types.specs.declared.key.Key.{Key}
 use Rattle.jl_types.specs.Footprints.{meets, keys, touches, touched}
 use Rattle.jl_deps.specs.Indexes.{AreRising, IsIndex, touched_by}

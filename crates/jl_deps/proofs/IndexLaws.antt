@@ -1,8 +1,7 @@
 -- Nothing changes at a site that the index doesn't give.
-use Rattle.std.specs.Prelude.{◌≡◌, ℕ, suc, ◌<◌, ◌&&◌, Bool, false, List, [], ◌∷◌, length, Option, Some, None, option_map, Result, Ok, Err, is_some, if◌then◌else◌, slice_index_or}
-use Rattle.std.specs.List.{AllByRecursion}
+use Rattle.std.specs.Prelude.{◌≡◌, ℕ, ◌&&◌, Bool, false, List, Option, Some, None, option_map, Result, Ok, Err, is_some, if◌then◌else◌}
 use Rattle.std.specs.Option.{option_map_or}
-use Rattle.std.proofs.Common.{refl, ap, sym, ◌∙◌, arith}
+use Rattle.std.proofs.Common.{refl, ap, sym, ◌∙◌}
 use Rattle.jl_types.specs.declared.event.Event.{Event}
 use Rattle.jl_types.specs.declared.link.Link.{Link}
 use Rattle.jl_types.specs.declared.answer.Unlinked.{Unlinked}

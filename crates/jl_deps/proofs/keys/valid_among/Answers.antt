@@ -1,4 +1,4 @@
-use Rattle.std.specs.Prelude.{◌==◌, ◌&&◌, ◌||◌, ℕ, List, length}
+use Rattle.std.specs.Prelude.{◌&&◌, ◌||◌, ℕ, List}
 use Rattle.std.proofs.Common.{eqb, ap, sym, subst, ◌∙◌}
 use Rattle.std.proofs.lemmas.List.Filters.{dedup_is}
 use Rattle.jl_types.specs.Targets.{is_valid}

@@ -1,6 +1,5 @@
-use Rattle.std.specs.Prelude.{◌^◌, ◌<◌, length, ◌+◌}
+use Rattle.std.specs.Prelude.{◌^◌, ◌<◌, length}
 use Rattle.std.proofs.Common.{rules, arith}
-use Rattle.jl_types.specs.Footprints.{most_for}
 use Rattle.jl_relink.proofs.CountLaws.{few_ticks}
 use Rattle.jl_relink.proofs.scratch.link_of.Goals as goal
 
@@ -9,4 +8,4 @@ link_counted-requires c =
     let rows : length c.args.world.now.classes.rows < 2 ^ 64 = search rules in
     let few = few_ticks c.args.world.now c.args.site (2 ^ 64) rows (omega arith) in
     let none = c.new-work.ensures in
-    record { fits = omega arith; }
+    record { fits = omega arith }
