@@ -16,13 +16,14 @@ struct Draws {
 }
 
 impl Draws {
-    /// The next number, below the bound.
+    /// The next number, below the bound, which isn't 0.
     fn below(&mut self, bound: u32) -> u32 {
         self.state = self
             .state
             .wrapping_mul(6_364_136_223_846_793_005)
             .wrapping_add(1_442_695_040_888_963_407);
-        (self.state >> 33) as u32 % bound
+        let number = u32::try_from(self.state >> 33).unwrap_or(0);
+        number.checked_rem(bound).unwrap_or(0)
     }
 
     /// A set of keys: each of twelve is in it once in four times.
@@ -37,7 +38,7 @@ struct Counts {
     added: u32,
     removed: u32,
     asked: u32,
-    touched: u32,
+    touched: usize,
 }
 
 /// What is tried: the index, the plain list and what was counted so far.
@@ -68,7 +69,7 @@ fn add(alloc: Global, trial: &mut Trial, site: u32, set: KeySet) -> Result<bool,
     let footprint = keys(alloc, set)?;
     trial.index.add(alloc, SiteNo::new(site), footprint)?;
     trial.plain.set(site, Some(set));
-    trial.counts.added += 1;
+    trial.counts.added = trial.counts.added.wrapping_add(1);
     trial.plain.agrees_at(alloc, &trial.index, site)
 }
 
@@ -76,7 +77,7 @@ fn add(alloc: Global, trial: &mut Trial, site: u32, set: KeySet) -> Result<bool,
 fn remove(alloc: Global, trial: &mut Trial, site: u32) -> Result<bool, AllocError> {
     trial.index.remove(SiteNo::new(site));
     trial.plain.set(site, None);
-    trial.counts.removed += 1;
+    trial.counts.removed = trial.counts.removed.wrapping_add(1);
     trial.plain.agrees_at(alloc, &trial.index, site)
 }
 
@@ -85,8 +86,8 @@ fn ask(alloc: Global, trial: &mut Trial, set: KeySet) -> Result<bool, AllocError
     let keys = keys(alloc, set)?;
     let sites = trial.index.touched_by(alloc, keys.as_slice())?;
     let want = trial.plain.touched(alloc, set)?;
-    trial.counts.asked += 1;
-    trial.counts.touched += sites.len() as u32;
+    trial.counts.asked = trial.counts.asked.wrapping_add(1);
+    trial.counts.touched = trial.counts.touched.wrapping_add(sites.len());
     Ok(sites.as_slice() == want.as_slice())
 }
 

@@ -32,10 +32,17 @@ fn count(alloc: Global, index: &Index, class: u32) -> Result<usize, AllocError> 
     Ok(sites.len())
 }
 
-/// Removes every other site, from the first or from the second.
-fn remove_from(index: &mut Index, first: u32) {
+/// Removes the sites of even numbers.
+fn remove_even(index: &mut Index) {
     for half in 0..SITES / 2 {
-        index.remove(SiteNo::new(2 * half + first));
+        index.remove(SiteNo::new(2 * half));
+    }
+}
+
+/// Removes the sites of odd numbers.
+fn remove_odd(index: &mut Index) {
+    for half in 0..SITES / 2 {
+        index.remove(SiteNo::new(2 * half + 1));
     }
 }
 
@@ -43,9 +50,9 @@ fn remove_from(index: &mut Index, first: u32) {
 fn counts(alloc: Global) -> Result<[usize; 4], AllocError> {
     let mut index = full(alloc)?;
     let all = count(alloc, &index, 0)?;
-    remove_from(&mut index, 1);
+    remove_odd(&mut index);
     let half = count(alloc, &index, 0)?;
-    remove_from(&mut index, 0);
+    remove_even(&mut index);
     Ok([
         all,
         half,

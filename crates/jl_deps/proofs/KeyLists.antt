@@ -22,9 +22,6 @@ key_same (key.Valid c) (key.Receivers d) = refl
 key_same (key.Valid c) (key.Target d) = refl
 key_same (key.Valid c) (key.Valid d) = refl
 
-pub key_eq_is : (k j : Key) → key_eq k j ≡ true → k ≡ j
-key_eq_is k j h = same_key_is k j (sym (key_same k j) ∙ h)
-
 -- ---- one key more
 
 has_more : (front : List Key) (key k : Key) → has_key (front ++ key ∷ []) k ≡ (has_key front k || same_key key k)

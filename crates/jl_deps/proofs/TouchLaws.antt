@@ -29,11 +29,6 @@ key_turned (key.Valid c) (key.Receivers d) = refl
 key_turned (key.Valid c) (key.Target d) = refl
 key_turned (key.Valid c) (key.Valid d) = nat_eq_equiv.symm c d
 
-or_swap : (a b d : Bool) → (a || (b || d)) ≡ (b || (a || d))
-or_swap true true d = refl
-or_swap true false d = refl
-or_swap false b d = refl
-
 none_any : {A : Type 0} (xs : List A) → list_any (λ (x : A). false) xs ≡ false
 none_any [] = refl
 none_any (x ∷ xs) = none_any xs

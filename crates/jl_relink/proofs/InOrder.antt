@@ -36,10 +36,6 @@ use Rattle.jl_relink.proofs.Paths.{invalidated_length}
 
 -- ---- no fault
 
-no_refusal : (o : Option Refusal) (m : Made) → IsOk (unless o m) → o ≡ None
-no_refusal None m h = refl
-no_refusal (Some r) m h = cc
-
 no_fault : {A : Type 0} (F : A → Refusal) (o : Option A) (m : Made) → IsOk (unless (option_map F o) m) → o ≡ None
 no_fault F None m h = refl
 no_fault F (Some f) m h = cc
