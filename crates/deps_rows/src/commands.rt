@@ -4,10 +4,10 @@
 use jl_classfile::ClassFile;
 use jl_deps::{footprint_of, keys_of};
 use jl_names::Seq;
-use jl_relink::World;
+use jl_relink::{World, link_counted, link_of, stays_with_receiver};
 use jl_types::{
     CallSiteId, CallSiteKind, ClassId, DefineFault, Event, Key, LoaderId, MethodId, Place, SiteNo,
-    SwitchId, Target,
+    SwitchId, Target, Work,
 };
 use row_files::{CallRow, MethodRow, OBJECT, calling, class, named};
 use std::alloc::{AllocError, Global};
@@ -42,6 +42,10 @@ pub(crate) enum Command {
     Invalidated(&'static [u32]),
     /// What a new switch point would change.
     NewPoint,
+    /// How many ticks the link of the site takes.
+    Ticks(u32),
+    /// Whether the link of the site stays once an object of this class is a receiver, too, and how many ticks that takes.
+    Stays(u32, u32),
 }
 
 /// One text behind another, with a comma between where both are there.
@@ -184,6 +188,27 @@ fn invalidation(alloc: Global, points: &[u32]) -> Result<Event, AllocError> {
     Ok(Event::Invalidate(Seq::of(all)))
 }
 
+/// How many ticks the link of the site takes.
+fn ticks(alloc: Global, world: &World, site: SiteNo) -> Result<String, AllocError> {
+    let _count = world.classes.class_count();
+    let mut work = Work::new();
+    let _link = link_counted(world, site, &mut work);
+    format!(in alloc; "{}", work.ticks())
+}
+
+/// Whether the link of the site stays with this receiver, too, and how many ticks that takes.
+fn stays(alloc: Global, world: &World, site: SiteNo, class: ClassId) -> Result<String, AllocError> {
+    if !world.classes.has_class(class) {
+        return String::from_str(alloc, "no class");
+    }
+    let Ok(link) = link_of(world, site) else {
+        return String::from_str(alloc, "no link");
+    };
+    let mut work = Work::new();
+    let stays = stays_with_receiver(world, site, &link, class, &mut work);
+    format!(in alloc; "{stays} {}", work.ticks())
+}
+
 /// What the question is answered.
 fn told(alloc: Global, world: &World, command: &Command) -> Result<String, AllocError> {
     match command {
@@ -203,6 +228,10 @@ fn told(alloc: Global, world: &World, command: &Command) -> Result<String, Alloc
         ),
         Command::Invalidated(points) => changed(alloc, world, &invalidation(alloc, points)?),
         Command::NewPoint => changed(alloc, world, &Event::NewSwitch),
+        Command::Ticks(site) => ticks(alloc, world, SiteNo::new(*site)),
+        Command::Stays(site, class) => {
+            stays(alloc, world, SiteNo::new(*site), ClassId::new(*class))
+        }
         _ => String::from_str(alloc, "no question"),
     }
 }

@@ -70,6 +70,27 @@ const BY_RECEIVER: &[(Command, &str)] = &[
     ),
     (Defined("C", 1057, "B", &["I"]), ""),
     (Defined("J", 1537, OBJECT, &["I"]), ""),
+    // A and B are walked, then B alone; a private method is selected once, and no class implements I yet.
+    (Ticks(0), "2"),
+    (Ticks(1), "1"),
+    (Ticks(2), "1"),
+    (Ticks(3), "0"),
+    // No walk at invokestatic, a search at invokespecial, nothing where linking fails.
+    (Ticks(4), "0"),
+    (Ticks(5), "1"),
+    (Ticks(6), "0"),
+    (Ticks(8), "0"),
+    // The link is Direct: an object of B runs A.f, too, and one of X has no f. A table never stays.
+    (Stays(0, 2), "true 1"),
+    (Stays(0, 4), "false 1"),
+    (
+        Class("C", 33, "B", &["I"], &[("f", "()V", 1), ("g", "()V", 1)]),
+        "5",
+    ),
+    (Stays(0, 2), "false 0"),
+    (Class("D", 33, "C", &[], &[]), "6"),
+    (Ticks(0), "4"),
+    (Ticks(3), "2"),
 ];
 
 /// T has static methods n, o and p behind its caller. Its invokedynamic is bound to a call site with two guards.
@@ -91,7 +112,9 @@ const BY_CALL_SITE: &[(Command, &str)] = &[
     (CallSite(1, &[], 1), "0"),
     (CallSite(1, &[(1, 1), (0, 2)], 3), "1"),
     (Footprint(0), ""),
+    (Ticks(0), "0"),
     (Bind(0, 1), "bound"),
+    (Ticks(0), "1"),
     (Footprint(0), "Target 1, Valid 1"),
     (Retargeted(1), "Target 1"),
     (NewPoint, ""),

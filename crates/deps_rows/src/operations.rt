@@ -102,7 +102,18 @@ fn try_one(alloc: Global, trial: &mut Trial, draws: &mut Draws) -> Result<bool, 
     }
 }
 
-/// Tries all operations. Answers what was counted, if index and list agreed each time.
+/// Whether a copy of the index agrees with the list at each site.
+fn agrees_copied(alloc: Global, trial: &Trial) -> Result<bool, AllocError> {
+    let copy = trial.index.copy(alloc)?;
+    for site in 0..SITES {
+        if !trial.plain.agrees_at(alloc, &copy, site)? {
+            return Ok(false);
+        }
+    }
+    Ok(true)
+}
+
+/// Tries all operations. Answers what was counted, if index and list agreed each time, and a copy in the end.
 fn try_all(alloc: Global, trial: &mut Trial) -> Result<Option<Counts>, AllocError> {
     let mut draws = Draws { state: 1 };
     for _ in 0..OPERATIONS {
@@ -110,7 +121,7 @@ fn try_all(alloc: Global, trial: &mut Trial) -> Result<Option<Counts>, AllocErro
             return Ok(None);
         }
     }
-    Ok(Some(trial.counts))
+    Ok(agrees_copied(alloc, trial)?.then_some(trial.counts))
 }
 
 /// The counts are those of the same operations over sets, drawn and counted by another program.
