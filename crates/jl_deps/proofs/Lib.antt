@@ -1,3 +1,4 @@
+pub mod Rows
 pub mod KeyLists
 pub mod PointLaws
 pub mod TouchLaws
