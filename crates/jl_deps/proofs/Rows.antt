@@ -1,6 +1,7 @@
 -- What is found in a small index, which lists rise, and which index is that of some links.
-use Rattle.std.specs.Prelude.{◌≡◌, ℕ, List, [], ◌∷◌, ◌++◌, Option, Some, None, codes, refl}
-use Rattle.std.proofs.Common.{arith}
+use Rattle.std.specs.Prelude.{◌≡◌, ℕ, ◌==◌, Bool, true, false, cond, List, [], ◌∷◌, ◌++◌, Option, Some, None, option_map, codes, refl, if◌then◌else◌}
+use Rattle.std.proofs.Common.{ap, arith}
+use Rattle.std.proofs.lemmas.Bool.Decides.{Decides-eqb}
 use Rattle.jl_types.specs.declared.event.Event.TheVariants.{NewCallSite, SetTarget, NewSwitch, Invalidate, Bind}
 use Rattle.jl_types.specs.declared.key.Key.{Key}
 use Rattle.jl_types.specs.declared.key.Key.TheVariants.{Receivers, Target, Valid}
@@ -10,6 +11,7 @@ use Rattle.jl_types.specs.declared.target.CallSiteKind.TheVariants.{Mutable}
 use Rattle.jl_types.specs.Target as target
 use Rattle.jl_types.specs.World.{World}
 use Rattle.jl_types.specs.History.{world_after}
+use Rattle.jl_types.specs.Footprints.{footprint}
 use Rattle.jl_types.proofs.BySite.{sites_rise}
 use Rattle.jl_types.proofs.Rows.CallSites.{begun, m, n}
 use Rattle.jl_deps.specs.Indexes.{footprint_at, AreRising, touched_by, IsIndex, StaysIndexed}
@@ -72,6 +74,18 @@ plain s = Some (Plain m)
 
 nothing_linked : IsIndex runs_m none []
 nothing_linked s = refl
+
+-- site 1 alone, which nobody requested, so that it rests on nothing
+abbrev one_linked : ℕ → Option Link
+one_linked s = if 1 == s then Some (Plain m) else None
+
+one_site : IsIndex runs_m one_linked ((1, []) ∷ [])
+one_site s = by_site (1 == s) refl
+  where
+    by_site : (b : Bool) → (1 == s) ≡ b → option_map (λ row. row.1) (cond {A = Option (ℕ × List Key)} b (Some (1, [])) None)
+        ≡ option_map (λ l. footprint runs_m s) (if b then Some (Plain m) else None)
+    by_site true is = ap (λ (k : ℕ). Some (footprint runs_m k)) ((Decides-eqb 1 s).0 is)
+    by_site false is = refl
 
 linked_site_missing : ¬ IsIndex runs_m plain []
 linked_site_missing h = let e = h 0 in cc
