@@ -4,7 +4,7 @@
 use crate::shapes::{Shape, target};
 use jl_callsites::{CallSite, Sites};
 use jl_hierarchy::Classes;
-use jl_types::{CallSiteFault, CallSiteId, CallSiteKind, LoaderId, MethodId, SwitchId};
+use jl_types::{CallSiteFault, CallSiteId, CallSiteKind, LoaderId, MethodId, OrMemory, SwitchId};
 use row_files::{MethodRow, OBJECT, class, named};
 use std::alloc::{AllocError, Global};
 use std::process::Abort;
@@ -75,18 +75,26 @@ fn define(
 }
 
 /// The new switch point's number, or why there is none.
-fn point(alloc: Global, answer: Result<SwitchId, CallSiteFault>) -> Result<String, AllocError> {
+fn point(
+    alloc: Global,
+    answer: Result<SwitchId, OrMemory<CallSiteFault>>,
+) -> Result<String, AllocError> {
     match answer {
         Ok(point) => format!(in alloc; "{}", point.number()),
-        Err(fault) => format!(in alloc; "{fault:?}"),
+        Err(OrMemory::Fault(fault)) => format!(in alloc; "{fault:?}"),
+        Err(OrMemory::Memory) => Err(AllocError),
     }
 }
 
 /// The new call site's number, or why there is none.
-fn site(alloc: Global, answer: Result<CallSiteId, CallSiteFault>) -> Result<String, AllocError> {
+fn site(
+    alloc: Global,
+    answer: Result<CallSiteId, OrMemory<CallSiteFault>>,
+) -> Result<String, AllocError> {
     match answer {
         Ok(site) => format!(in alloc; "{}", site.number()),
-        Err(fault) => format!(in alloc; "{fault:?}"),
+        Err(OrMemory::Fault(fault)) => format!(in alloc; "{fault:?}"),
+        Err(OrMemory::Memory) => Err(AllocError),
     }
 }
 

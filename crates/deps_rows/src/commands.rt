@@ -6,8 +6,8 @@ use jl_deps::{footprint_of, keys_of};
 use jl_names::Seq;
 use jl_relink::{World, link_counted, link_of, stays_with_receiver};
 use jl_types::{
-    CallSiteId, CallSiteKind, ClassId, DefineFault, Event, Key, LoaderId, MethodId, Place, SiteNo,
-    SwitchId, Target, Work,
+    CallSiteId, CallSiteKind, ClassId, DefineFault, Event, Key, LoaderId, MethodId, OrMemory,
+    Place, SiteNo, SwitchId, Target, Work,
 };
 use row_files::{CallRow, MethodRow, OBJECT, calling, class, named};
 use std::alloc::{AllocError, Global};
@@ -82,10 +82,14 @@ fn all_shown(alloc: Global, keys: &[Key]) -> Result<String, AllocError> {
 }
 
 /// What the definition is answered: the class's number, or why there is none.
-fn definition(alloc: Global, answer: Result<ClassId, DefineFault>) -> Result<String, AllocError> {
+fn definition(
+    alloc: Global,
+    answer: Result<ClassId, OrMemory<DefineFault>>,
+) -> Result<String, AllocError> {
     match answer {
         Ok(class) => format!(in alloc; "{}", class.number()),
-        Err(fault) => format!(in alloc; "{fault:?}"),
+        Err(OrMemory::Fault(fault)) => format!(in alloc; "{fault:?}"),
+        Err(OrMemory::Memory) => Err(AllocError),
     }
 }
 
@@ -143,7 +147,8 @@ fn call_site(alloc: Global, world: &mut World, target: Target) -> Result<String,
         .new_site(&world.classes, CallSiteKind::Mutable, ty, target)
     {
         Ok(site) => format!(in alloc; "{}", site.number()),
-        Err(fault) => format!(in alloc; "{fault:?}"),
+        Err(OrMemory::Fault(fault)) => format!(in alloc; "{fault:?}"),
+        Err(OrMemory::Memory) => Err(AllocError),
     }
 }
 
@@ -151,7 +156,8 @@ fn call_site(alloc: Global, world: &mut World, target: Target) -> Result<String,
 fn point(alloc: Global, world: &mut World) -> Result<String, AllocError> {
     match world.sites.new_switch() {
         Ok(point) => format!(in alloc; "{}", point.number()),
-        Err(fault) => format!(in alloc; "{fault:?}"),
+        Err(OrMemory::Fault(fault)) => format!(in alloc; "{fault:?}"),
+        Err(OrMemory::Memory) => Err(AllocError),
     }
 }
 

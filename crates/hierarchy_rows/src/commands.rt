@@ -6,7 +6,7 @@ use crate::loaders::are_made;
 use jl_classfile::{ClassFile, Method};
 use jl_hierarchy::{Classes, LoaderFault};
 use jl_names::Name;
-use jl_types::{Class, ClassId, DefineFault, DelegateFault, LoaderId, MethodId};
+use jl_types::{Class, ClassId, DefineFault, DelegateFault, LoaderId, MethodId, OrMemory};
 use row_files::{MethodRow, OBJECT, class, nested};
 use std::alloc::{AllocError, Global};
 use std::process::Abort;
@@ -79,18 +79,26 @@ fn loader(alloc: Global, answer: Result<LoaderId, LoaderFault>) -> Result<String
 }
 
 /// The defined class's number, or why there is none.
-fn definition(alloc: Global, answer: Result<ClassId, DefineFault>) -> Result<String, AllocError> {
+fn definition(
+    alloc: Global,
+    answer: Result<ClassId, OrMemory<DefineFault>>,
+) -> Result<String, AllocError> {
     match answer {
         Ok(class) => format!(in alloc; "{}", class.number()),
-        Err(fault) => format!(in alloc; "{fault:?}"),
+        Err(OrMemory::Fault(fault)) => format!(in alloc; "{fault:?}"),
+        Err(OrMemory::Memory) => Err(AllocError),
     }
 }
 
 /// Whether a delegation was made, or why not.
-fn delegation(alloc: Global, answer: Result<(), DelegateFault>) -> Result<String, AllocError> {
+fn delegation(
+    alloc: Global,
+    answer: Result<(), OrMemory<DelegateFault>>,
+) -> Result<String, AllocError> {
     match answer {
         Ok(()) => String::from_str(alloc, "Ok"),
-        Err(fault) => format!(in alloc; "{fault:?}"),
+        Err(OrMemory::Fault(fault)) => format!(in alloc; "{fault:?}"),
+        Err(OrMemory::Memory) => Err(AllocError),
     }
 }
 

@@ -17,7 +17,7 @@ use Rattle.jl_callsites.proofs.Worlds.{evaluated_same}
 
 -- ---- tests
 
-both : (a b : Bool) → a ≡ true → b ≡ true → (a && b) ≡ true
+pub both : (a b : Bool) → a ≡ true → b ≡ true → (a && b) ≡ true
 both a b h k = λ i. h i && k i
 
 first_test : (a b : Bool) → (a && b) ≡ true → a ≡ true

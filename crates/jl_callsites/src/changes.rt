@@ -1,8 +1,9 @@
 //! New call sites and switch points, new targets, and switch points that become invalid (java.lang.invoke).
 
-ghost use Rattle.std.specs.Prelude.{◌≡◌, ◌≢◌, ◌<◌, ◌++◌, ◌∷◌, [], nat_le, true, false, None, Some, Err, length, IfOk, IfErr, OnOk, OnErr};
+ghost use Rattle.std.specs.Prelude.{◌≡◌, ◌<◌, nat_le, true, false, None, Some, Err, length, IfOk, IfErr, OnOk, OnErr};
 ghost use Rattle.std.specs.List.{list_any};
-ghost use Rattle.jl_types.specs.declared.refusal.CallSiteFault.TheVariants as fault;
+ghost use Rattle.jl_types.specs.declared.refusal.CallSiteFault.{CallSiteFault};
+ghost use Rattle.jl_types.specs.declared.refusal.OrMemory.TheVariants as or_memory;
 ghost use Rattle.jl_types.specs.Events as events;
 ghost use Rattle.jl_types.specs.Targets as targets;
 ghost use Rattle.jl_callsites.specs.Faults as faults;
@@ -14,7 +15,7 @@ use crate::discard::discard_target;
 use crate::sites::Sites;
 use jl_hierarchy::Classes;
 use jl_names::Name;
-use jl_types::{CallSiteFault, CallSiteId, CallSiteKind, SwitchId, Target};
+use jl_types::{CallSiteFault, CallSiteId, CallSiteKind, OrMemory, SwitchId, Target};
 use std::alloc::AllocError;
 
 impl Sites {
@@ -33,24 +34,21 @@ impl Sites {
         kind: CallSiteKind,
         ty: Name,
         target: Target,
-    ) -> Result<CallSiteId, CallSiteFault>
+    ) -> Result<CallSiteId, OrMemory<CallSiteFault>>
         ensures accepted { OnOk result (faults.new_site_fault classes.now self.old ty target ≡ None) }
         ensures number { IfOk result (λ site. site ≡ length self.old.call_sites) }
         ensures ok { OnOk result (self.new ≡ faults.with_site self.old kind ty target) }
         ensures runs { OnOk result (RunAsBefore self.old self.new) }
-        ensures fault { IfErr result (λ f. f ≢ fault.Memory → faults.new_site_fault classes.now self.old ty target ≡ Some f) }
-        ensures memory { result ≡ Err fault.Memory → faults.new_site_fault classes.now self.old ty target ≡ None }
+        ensures fault { (f : CallSiteFault) → result ≡ Err (or_memory.Fault f)
+            → faults.new_site_fault classes.now self.old ty target ≡ Some f }
+        ensures memory { result ≡ Err or_memory.Memory → faults.new_site_fault classes.now self.old ty target ≡ None }
         ensures err { OnErr result (self.new ≡ self.old) }
     {
         if let Some(fault) = self.new_site_fault(classes, ty.as_slice(), &target) {
             discard_target(target);
-            return Err(fault);
+            return Err(OrMemory::Fault(fault));
         }
-        let site = CallSiteId::new(self.call_site_count() as u32);
-        match self.push_site(CallSite::new(kind, ty, target)) {
-            Ok(()) => Ok(site),
-            Err(_) => Err(CallSiteFault::Memory),
-        }
+        Ok(self.add_site(kind, ty, target)?)
     }
 
     /// The call site runs this target from now on (MutableCallSite.setTarget, VolatileCallSite.setTarget). Takes no memory.
@@ -70,7 +68,6 @@ impl Sites {
         ensures runs { OnOk result (method_of self.new site ≡ Some (targets.evaluated self.old target)) }
         ensures others { OnOk result (OthersRunAsBefore self.old self.new site) }
         ensures fault { IfErr result (λ f. faults.set_target_fault classes.now self.old site target ≡ Some f) }
-        ensures named { IfErr result (λ f. f ≢ fault.Memory) }
         ensures err { OnErr result (self.new ≡ self.old) }
     {
         if let Some(fault) = self.set_target_fault(classes, site, &target) {
@@ -86,23 +83,19 @@ impl Sites {
     /// # Errors
     ///
     /// `Full` where there are 65,536 switch points, else want of memory. Nothing has changed then.
-    pub fn new_switch(&mut self) -> Result<SwitchId, CallSiteFault>
+    pub fn new_switch(&mut self) -> Result<SwitchId, OrMemory<CallSiteFault>>
         ensures accepted { OnOk result (faults.new_switch_fault self.old ≡ None) }
         ensures number { IfOk result (λ point. point ≡ length self.old.switches) }
         ensures ok { OnOk result (self.new ≡ faults.with_switch self.old) }
         ensures runs { OnOk result (RunAsBefore self.old self.new) }
-        ensures fault { IfErr result (λ f. f ≢ fault.Memory → faults.new_switch_fault self.old ≡ Some f) }
-        ensures memory { result ≡ Err fault.Memory → faults.new_switch_fault self.old ≡ None }
+        ensures fault { (f : CallSiteFault) → result ≡ Err (or_memory.Fault f) → faults.new_switch_fault self.old ≡ Some f }
+        ensures memory { result ≡ Err or_memory.Memory → faults.new_switch_fault self.old ≡ None }
         ensures err { OnErr result (self.new ≡ self.old) }
     {
         if let Some(fault) = self.new_switch_fault() {
-            return Err(fault);
+            return Err(OrMemory::Fault(fault));
         }
-        let point = SwitchId::new(self.switch_count() as u32);
-        match self.push_switch() {
-            Ok(()) => Ok(point),
-            Err(_) => Err(CallSiteFault::Memory),
-        }
+        Ok(self.add_switch()?)
     }
 
     /// The switch points are invalid from now on, for good (SwitchPoint.invalidateAll). None at all, one that is invalid
@@ -115,18 +108,27 @@ impl Sites {
         ensures accepted { OnOk result (faults.invalidate_fault self.old points.now ≡ None) }
         ensures ok { OnOk result (self.new ≡ faults.with_invalid self.old points.now) }
         ensures fault { IfErr result (λ f. faults.invalidate_fault self.old points.now ≡ Some f) }
-        ensures named { IfErr result (λ f. f ≢ fault.Memory) }
         ensures err { OnErr result (self.new ≡ self.old) }
     {
         if let Some(fault) = self.invalidate_fault(points) {
             return Err(fault);
         }
-        invalidate(self.switches.as_mut_slice(), points);
+        self.put_invalid(points);
         Ok(())
     }
 
-    /// The call site, which is there, runs this target from now on.
-    fn put_target(&mut self, site: CallSiteId, target: Target)
+    /// The switch points, which are there, are invalid from now on, for good: the second half of
+    /// [`invalidate_all`](Sites::invalidate_all). Takes no memory.
+    pub fn put_invalid(&mut self, points: &[SwitchId])
+        requires { list_any (nat_le (length self.old.switches)) points.now ≡ false }
+        ensures { self.new ≡ faults.with_invalid self.old points.now }
+    {
+        invalidate(self.switches.as_mut_slice(), points);
+    }
+
+    /// The call site, which is there, runs this target from now on, whose switch points are there: the second half of
+    /// [`set_target`](Sites::set_target). Takes no memory.
+    pub fn put_target(&mut self, site: CallSiteId, target: Target)
         requires there { site < length self.old.call_sites }
         requires known { has_points (length self.old.switches) target ≡ true }
         ensures put { self.new ≡ faults.with_target self.old site target }
@@ -136,33 +138,46 @@ impl Sites {
         retarget_in(&mut self.call_sites, site, target);
     }
 
-    /// One call site more.
+    /// A new call site, by its number, where there are fewer than there may be, and whose target's switch points are there: the
+    /// second half of [`new_site`](Sites::new_site).
     ///
     /// # Errors
     ///
     /// Want of memory. Nothing has changed then.
-    fn push_site(&mut self, site: CallSite) -> Result<(), AllocError>
-        requires { has_points (length self.old.switches) site.target ≡ true }
-        ensures ok { OnOk result (self.new ≡ record self.old { call_sites = self.old.call_sites ++ site ∷ [] }) }
+    pub fn add_site(
+        &mut self,
+        kind: CallSiteKind,
+        ty: Name,
+        target: Target,
+    ) -> Result<CallSiteId, AllocError>
+        requires room { length self.old.call_sites < 65536 }
+        requires known { has_points (length self.old.switches) target ≡ true }
+        ensures number { IfOk result (λ site. site ≡ length self.old.call_sites) }
+        ensures ok { OnOk result (self.new ≡ faults.with_site self.old kind ty target) }
         ensures runs { OnOk result (RunAsBefore self.old self.new) }
         ensures err { OnErr result (self.new ≡ self.old) }
     {
-        self.call_sites.push(site)?;
-        Ok(())
+        let site = CallSiteId::new(self.call_site_count() as u32);
+        self.call_sites.push(CallSite::new(kind, ty, target))?;
+        Ok(site)
     }
 
-    /// One switch point more, which is valid.
+    /// A new switch point, which is valid, by its number, where there are fewer than there may be: the second half of
+    /// [`new_switch`](Sites::new_switch).
     ///
     /// # Errors
     ///
     /// Want of memory. Nothing has changed then.
-    fn push_switch(&mut self) -> Result<(), AllocError>
+    pub fn add_switch(&mut self) -> Result<SwitchId, AllocError>
+        requires { length self.old.switches < 65536 }
+        ensures number { IfOk result (λ point. point ≡ length self.old.switches) }
         ensures ok { OnOk result (self.new ≡ faults.with_switch self.old) }
         ensures runs { OnOk result (RunAsBefore self.old self.new) }
         ensures err { OnErr result (self.new ≡ self.old) }
     {
+        let point = SwitchId::new(self.switch_count() as u32);
         self.switches.push(true)?;
-        Ok(())
+        Ok(point)
     }
 }
 

@@ -1,8 +1,7 @@
 //! Why a call site or a switch point isn't made or changed (java.lang.invoke).
 
-ghost use Rattle.std.specs.Prelude.{◌≡◌, ◌≢◌, ◌<◌, not, nat_le, true, false, None, Some, length, IfSome};
+ghost use Rattle.std.specs.Prelude.{◌≡◌, ◌<◌, nat_le, true, false, None, Some, length};
 ghost use Rattle.std.specs.List.{list_any};
-ghost use Rattle.jl_types.specs.declared.refusal.CallSiteFault.TheVariants as fault;
 ghost use Rattle.jl_types.specs.Targets as targets;
 ghost use Rattle.jl_callsites.specs.Faults as faults;
 ghost use Rattle.jl_callsites.specs.Faults.{world_of};
@@ -26,7 +25,6 @@ impl Sites {
         target: &Target,
     ) -> Option<CallSiteFault>
         ensures first { result ≡ faults.new_site_fault classes.now self.now ty.now target.now }
-        ensures named { IfSome result (λ f. f ≢ fault.Memory) }
         ensures room { result ≡ None → length self.now.call_sites < 65536 }
         ensures known { result ≡ None → has_points (length self.now.switches) target.now ≡ true }
     {
@@ -44,7 +42,6 @@ impl Sites {
         target: &Target,
     ) -> Option<CallSiteFault>
         ensures first { result ≡ faults.set_target_fault classes.now self.now site target.now }
-        ensures named { IfSome result (λ f. f ≢ fault.Memory) }
         ensures there { result ≡ None → site < length self.now.call_sites }
         ensures known { result ≡ None → has_points (length self.now.switches) target.now ≡ true }
     {
@@ -60,7 +57,6 @@ impl Sites {
     /// Why no switch point is made. Takes no memory.
     pub fn new_switch_fault(&self) -> Option<CallSiteFault>
         ensures first { result ≡ faults.new_switch_fault self.now }
-        ensures named { IfSome result (λ f. f ≢ fault.Memory) }
         ensures room { result ≡ None → length self.now.switches < 65536 }
     {
         if self.switch_count() >= MOST_OF_A_KIND {
@@ -73,7 +69,6 @@ impl Sites {
     /// Why the switch points don't become invalid. Takes no memory.
     pub fn invalidate_fault(&self, points: &[SwitchId]) -> Option<CallSiteFault>
         ensures first { result ≡ faults.invalidate_fault self.now points.now }
-        ensures named { IfSome result (λ f. f ≢ fault.Memory) }
         ensures there { result ≡ None → list_any (nat_le (length self.now.switches)) points.now ≡ false }
     {
         if self.lacks_one_of(points) {
@@ -95,7 +90,6 @@ impl Sites {
     fn target_fault(&self, classes: &Classes, ty: &[u8], target: &Target) -> Option<CallSiteFault>
         ensures first { result ≡ targets.target_fault (world_of classes.now self.now) 0 ty.now target.now }
         ensures known { result ≡ None → has_points (length self.now.switches) target.now ≡ true }
-        ensures named { IfSome result (λ f. f ≢ fault.Memory) }
     {
         if is_too_large(target) {
             return Some(CallSiteFault::TooDeep);
@@ -107,7 +101,6 @@ impl Sites {
     fn part_fault(&self, classes: &Classes, ty: &[u8], target: &Target) -> Option<CallSiteFault>
         ensures first { result ≡ targets.part_fault (world_of classes.now self.now) 0 ty.now target.now }
         ensures known { result ≡ None → has_points (length self.now.switches) target.now ≡ true }
-        ensures named { IfSome result (λ f. f ≢ fault.Memory) }
     {
         match &target.part {
             Part::Method(method) => method_fault(classes, ty, method),
@@ -126,8 +119,7 @@ impl Sites {
 
 /// Why a call site of this type doesn't run the method.
 fn method_fault(classes: &Classes, ty: &[u8], method: &MethodId) -> Option<CallSiteFault>
-    ensures first { result ≡ faults.method_fault classes.now ty.now method.now }
-    ensures named { IfSome result (λ f. f ≢ fault.Memory) }
+    ensures { result ≡ faults.method_fault classes.now ty.now method.now }
 {
     if !may_be_named(classes, method) {
         return Some(CallSiteFault::UnknownMethod);

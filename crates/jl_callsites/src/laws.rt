@@ -1,7 +1,7 @@
 //! The laws of call sites: contracts of functions that do nothing.
 
 ghost use Rattle.std.specs.Prelude.{◌≡◌, ℕ, List, length, option_and_then};
-ghost use Rattle.jl_types.specs.declared.event.Event.TheVariants as event;
+ghost use Rattle.jl_types.specs.declared.event.EventOf.TheVariants as event;
 ghost use Rattle.jl_types.specs.declared.event.Made.TheVariants as made;
 ghost use Rattle.jl_types.specs.declared.target.CallSiteKind.{CallSiteKind};
 ghost use Rattle.jl_types.specs.Target.{Target};

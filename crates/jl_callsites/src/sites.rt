@@ -1,9 +1,10 @@
 //! The call sites and switch points.
 
-ghost use Rattle.std.specs.Prelude.{◌≡◌, length, slice_get, is_some, nat_lt};
+ghost use Rattle.std.specs.Prelude.{◌≡◌, true, length, slice_get, is_some, nat_lt};
 ghost use Rattle.std.specs.Option.{option_copied};
 ghost use Rattle.jl_types.specs.World.{nothing_yet};
 ghost use Rattle.jl_types.specs.Targets as targets;
+ghost use Rattle.jl_callsites.specs.Known.{are_known};
 
 use crate::call_site::CallSite;
 use jl_types::{CallSiteId, SwitchId};
@@ -66,6 +67,15 @@ impl Sites {
         ensures { result ≡ length self.now.switches }
     {
         self.switches.as_slice().len()
+    }
+
+    /// How many switch points there are, among which are those of all guards. Takes no memory.
+    pub fn known_switches(&self) -> usize
+        ensures known { are_known self.now ≡ true }
+        ensures count { result ≡ length self.now.switches }
+    {
+        let _ = &self.call_sites;
+        self.switch_count()
     }
 
     /// The call site of this number.

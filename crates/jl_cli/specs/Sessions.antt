@@ -6,8 +6,8 @@ use Rattle.jl_classfile.specs.ClassFiles.{IsClass}
 use Rattle.jl_classfile.specs.Shown.{shown}
 use Rattle.jl_sketch.specs.Faults.{IsWritten}
 use Rattle.jl_types.specs.declared.link.Link.{Link}
-use Rattle.jl_types.specs.declared.event.Event.{Event}
-use Rattle.jl_types.specs.declared.event.Event.TheVariants as event
+use Rattle.jl_types.specs.Event.{Event}
+use Rattle.jl_types.specs.declared.event.EventOf.TheVariants as event
 use Rattle.jl_types.specs.declared.event.Reply.{Reply}
 use Rattle.jl_types.specs.declared.refusal.Refusal.{Refusal}
 use Rattle.jl_types.specs.declared.refusal.PrepareFault.{PrepareFault}

@@ -2,7 +2,7 @@
 
 ghost use Rattle.std.specs.Prelude.{◌≡◌, IfOk, OnErr, length};
 ghost use Rattle.serde_json.specs.View.{view};
-ghost use Rattle.jl_types.specs.declared.event.Event.TheVariants as event;
+ghost use Rattle.jl_types.specs.declared.event.EventOf.TheVariants as event;
 ghost use Rattle.jl_json.specs.declared.command.Command.TheVariants as command;
 ghost use Rattle.jl_json.specs.declared.command.ClassSource.TheVariants as source;
 ghost use Rattle.jl_json.specs.Commands.{command_of};

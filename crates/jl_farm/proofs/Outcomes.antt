@@ -7,7 +7,7 @@ use Rattle.jl_types.specs.declared.link.Link.{Link}
 use Rattle.jl_types.specs.declared.answer.Unlinked.{Unlinked}
 use Rattle.jl_types.specs.declared.event.Made.{Made}
 use Rattle.jl_types.specs.declared.event.Made.TheVariants as made
-use Rattle.jl_types.specs.declared.event.Event.TheVariants.{Install}
+use Rattle.jl_types.specs.declared.event.EventOf.TheVariants.{Install}
 use Rattle.jl_types.specs.declared.refusal.Refusal.{Refusal}
 use Rattle.jl_types.specs.declared.refusal.Refusal.TheVariants as refusal
 use Rattle.jl_types.specs.declared.refusal.PrepareFault.{PrepareFault}

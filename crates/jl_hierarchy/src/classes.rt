@@ -5,6 +5,7 @@ ghost use Rattle.std.specs.Option.{option_copied};
 ghost use Rattle.jl_types.specs.World.{nothing_yet};
 ghost use Rattle.jl_types.specs.Members as members;
 ghost use Rattle.jl_types.specs.Ancestry.{AreOrdered};
+ghost use Rattle.jl_hierarchy.specs.Constancy.{AreInOrder};
 
 use crate::loader::Loader;
 use crate::row::Row;
@@ -86,6 +87,16 @@ impl Classes {
     {
         let _ = &self.loaders;
         self.rows.len()
+    }
+
+    /// How many classes and interfaces there are, which came in order. Takes no memory.
+    pub fn count_in_order(&self) -> usize
+        ensures order { AreInOrder self.now }
+        ensures few { length self.now.rows ≤ 65536 }
+        ensures count { result ≡ length self.now.rows }
+    {
+        let _ = &self.loaders;
+        self.class_count()
     }
 
     /// Whether there is a class of this number.

@@ -1,8 +1,9 @@
 //! The definition of a class (JVMS SE 17 §5.3.5).
 
-ghost use Rattle.std.specs.Prelude.{◌≡◌, ◌≢◌, ◌<◌, ◌++◌, ◌∷◌, [], Some, None, Err, length, List, ℕ, if◌then◌else◌, true, All, IfOk, IfErr, OnOk, OnErr};
+ghost use Rattle.std.specs.Prelude.{◌≡◌, ◌<◌, ◌++◌, ◌∷◌, [], Some, None, Err, length, List, ℕ, if◌then◌else◌, true, All, IfOk, OnOk, OnErr};
 ghost use Rattle.std.specs.Vec.{vec_len, vec_capacity};
-ghost use Rattle.jl_types.specs.declared.refusal.DefineFault.TheVariants as fault;
+ghost use Rattle.jl_types.specs.declared.refusal.DefineFault.{DefineFault};
+ghost use Rattle.jl_types.specs.declared.refusal.OrMemory.TheVariants as or_memory;
 ghost use Rattle.jl_types.specs.Members as members;
 ghost use Rattle.jl_types.specs.Ancestry as ancestry;
 ghost use Rattle.jl_types.specs.Definitions as definitions;
@@ -16,7 +17,7 @@ use crate::receiving::{append_to_each, is_concrete, own_receivers, receiving, re
 use crate::row::Row;
 use jl_classfile::ClassFile;
 use jl_names::Seq;
-use jl_types::{ClassId, DefineFault, LoaderId};
+use jl_types::{ClassId, DefineFault, LoaderId, OrMemory};
 use std::alloc::{AllocError, Global};
 
 /// What the definition of a class adds.
@@ -42,20 +43,22 @@ impl Classes {
         alloc: Global,
         loader: LoaderId,
         file: ClassFile,
-    ) -> Result<ClassId, DefineFault>
+    ) -> Result<ClassId, OrMemory<DefineFault>>
         ensures number { IfOk result (λ class. class ≡ length self.old.rows) }
         ensures accepted { OnOk result (definitions.define_fault self.old loader file ≡ None) }
         ensures ok { OnOk result (self.new ≡ definitions.defined self.old loader file) }
         ensures in_order { OnOk result (AreInOrder self.old) }
         ensures stays { OnOk result (Stays self.old self.new) }
         ensures receivers { OnOk result (AddsReceiver self.old self.new) }
-        ensures fault { IfErr result (λ f. f ≢ fault.Memory → definitions.define_fault self.old loader file ≡ Some f) }
-        ensures memory { result ≡ Err fault.Memory → definitions.define_fault self.old loader file ≡ None }
+        ensures fault { (f : DefineFault) → result ≡ Err (or_memory.Fault f)
+            → definitions.define_fault self.old loader file ≡ Some f }
+        ensures memory { result ≡ Err or_memory.Memory → definitions.define_fault self.old loader file ≡ None }
         ensures err { OnErr result (self.new ≡ self.old) }
     {
-        let file = self.admitted(loader, file)?;
-        let class = self.add(alloc, loader, file)?;
-        Ok(class)
+        match self.admitted(loader, file) {
+            Ok(file) => Ok(self.add(alloc, loader, file)?),
+            Err(fault) => Err(OrMemory::Fault(fault)),
+        }
     }
 
     /// The loader defines the class of a file that it may define, the second half of [`define`](Classes::define). Every

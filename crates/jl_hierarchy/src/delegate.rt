@@ -1,7 +1,8 @@
 //! New loaders, and delegation (JVMS SE 17 §5.3).
 
-ghost use Rattle.std.specs.Prelude.{◌≡◌, ◌≢◌, ◌↔◌, nat_le, ℕ, ◌<◌, ◌≤◌, ◌++◌, ◌∷◌, [], Some, None, Err, length, IfOk, IfErr, OnOk, OnErr};
-ghost use Rattle.jl_types.specs.declared.refusal.DelegateFault.TheVariants as fault;
+ghost use Rattle.std.specs.Prelude.{◌≡◌, ◌↔◌, nat_le, ℕ, ◌<◌, ◌≤◌, ◌++◌, ◌∷◌, [], Some, None, Err, length, IfOk, IfErr, OnOk, OnErr};
+ghost use Rattle.jl_types.specs.declared.refusal.DelegateFault.{DelegateFault};
+ghost use Rattle.jl_types.specs.declared.refusal.OrMemory.TheVariants as or_memory;
 ghost use Rattle.jl_types.specs.Definitions as definitions;
 ghost use Rattle.jl_types.specs.Members as members;
 ghost use Rattle.jl_hierarchy.specs.Constancy.{AreInOrder, Stays};
@@ -9,7 +10,7 @@ ghost use Rattle.jl_hierarchy.specs.declared.delegate.LoaderFault.TheVariants as
 
 use crate::classes::Classes;
 use crate::loader::{Loader, record_in};
-use jl_types::{ClassId, DelegateFault, LoaderId};
+use jl_types::{ClassId, DelegateFault, LoaderId, OrMemory};
 use std::alloc::{AllocError, Global};
 
 /// Why a loader isn't made.
@@ -41,9 +42,8 @@ impl Classes {
         if self.has_all_loaders() {
             return Err(LoaderFault::Full);
         }
-        let loader = LoaderId::new(self.loaders.len() as u32);
-        match self.push_loader(alloc) {
-            Ok(()) => Ok(loader),
+        match self.add_loader(alloc) {
+            Ok(loader) => Ok(loader),
             Err(_) => Err(LoaderFault::Memory),
         }
     }
@@ -56,20 +56,23 @@ impl Classes {
         self.loaders.len() >= MOST_LOADERS
     }
 
-    /// One loader more, which has found nothing.
+    /// A new loader, which has found nothing, by its number, where there are fewer than there may be: the second half of
+    /// [`new_loader`](Classes::new_loader).
     ///
     /// # Errors
     ///
     /// Want of memory. Nothing has changed then.
-    fn push_loader(&mut self, alloc: Global) -> Result<(), AllocError>
+    pub fn add_loader(&mut self, alloc: Global) -> Result<LoaderId, AllocError>
         requires { length self.old.loaders < 1024 }
+        ensures number { IfOk result (λ loader. loader ≡ length self.old.loaders) }
         ensures ok { OnOk result (self.new ≡ record self.old { loaders = self.old.loaders ++ [] ∷ [] }) }
         ensures in_order { OnOk result (AreInOrder self.old) }
         ensures stays { OnOk result (Stays self.old self.new) }
         ensures err { OnErr result (self.new ≡ self.old) }
     {
+        let loader = LoaderId::new(self.loaders.len() as u32);
         self.loaders.push(Loader::new(alloc))?;
-        Ok(())
+        Ok(loader)
     }
 
     /// The loader finds the class that the other one has recorded under the name, from now on (JVMS SE 17 §5.3).
@@ -83,20 +86,43 @@ impl Classes {
         loader: LoaderId,
         name: &[u8],
         to: LoaderId,
-    ) -> Result<(), DelegateFault>
+    ) -> Result<(), OrMemory<DelegateFault>>
         ensures accepted { OnOk result (definitions.delegate_fault self.old loader name.now to ≡ None) }
         ensures ok { OnOk result (self.new ≡ definitions.delegated self.old loader name.now to) }
         ensures in_order { OnOk result (AreInOrder self.old) }
         ensures stays { OnOk result (Stays self.old self.new) }
-        ensures fault { IfErr result (λ f. f ≢ fault.Memory → definitions.delegate_fault self.old loader name.now to ≡ Some f) }
-        ensures memory { result ≡ Err fault.Memory → definitions.delegate_fault self.old loader name.now to ≡ None }
+        ensures fault { (f : DelegateFault) → result ≡ Err (or_memory.Fault f)
+            → definitions.delegate_fault self.old loader name.now to ≡ Some f }
+        ensures memory { result ≡ Err or_memory.Memory → definitions.delegate_fault self.old loader name.now to ≡ None }
         ensures err { OnErr result (self.new ≡ self.old) }
     {
-        let class = self.delegation(loader, name, to)?;
-        match self.record(alloc, loader, name, class) {
-            Ok(()) => Ok(()),
-            Err(_) => Err(DelegateFault::Memory),
+        match self.delegation(loader, name, to) {
+            Ok(class) => Ok(self.record(alloc, loader, name, class)?),
+            Err(fault) => Err(OrMemory::Fault(fault)),
         }
+    }
+
+    /// The loader finds the class that the other one has recorded under the name, from now on, where nothing speaks against it:
+    /// the second half of [`delegate`](Classes::delegate).
+    ///
+    /// # Errors
+    ///
+    /// Want of memory. Nothing has changed then.
+    pub fn add_delegation(
+        &mut self,
+        alloc: Global,
+        loader: LoaderId,
+        name: &[u8],
+        to: LoaderId,
+    ) -> Result<(), AllocError>
+        requires { definitions.delegate_fault self.old loader name.now to ≡ None }
+        ensures ok { OnOk result (self.new ≡ definitions.delegated self.old loader name.now to) }
+        ensures in_order { OnOk result (AreInOrder self.old) }
+        ensures stays { OnOk result (Stays self.old self.new) }
+        ensures err { OnErr result (self.new ≡ self.old) }
+    {
+        let class = self.lookup(to, name).unwrap();
+        self.record(alloc, loader, name, class)
     }
 
     /// The loader records the class under the name, which is new to it.
@@ -141,7 +167,7 @@ impl Classes {
         ensures loader { OnOk result (loader < length self.now.loaders) }
         ensures there { IfOk result (λ class. class < length self.now.rows) }
         ensures accepted { OnOk result (definitions.delegate_fault self.now loader name.now to ≡ None) }
-        ensures fault { IfErr result (λ f. (definitions.delegate_fault self.now loader name.now to ≡ Some f) × (f ≢ fault.Memory)) }
+        ensures fault { IfErr result (λ f. definitions.delegate_fault self.now loader name.now to ≡ Some f) }
     {
         let count = self.loaders.len();
         if loader.number() as usize >= count || to.number() as usize >= count {

@@ -1,12 +1,11 @@
 //! Why a class isn't defined (JVMS SE 17 §5.3.5).
 
-ghost use Rattle.std.specs.Prelude.{◌≡◌, ◌≢◌, ◌==◌, ◌&&◌, ◌||◌, not, nat_le, is_some, is_none, option_map, Some, None, length, position, ℕ, List, IfOk, IfErr, IfSome, OnOk, ◌+◌, ◌<◌, ◌^◌, ◌∷◌, []};
+ghost use Rattle.std.specs.Prelude.{◌≡◌, ◌==◌, ◌&&◌, ◌||◌, not, nat_le, is_some, is_none, option_map, Some, None, length, position, ℕ, List, IfOk, IfErr, IfSome, OnOk, ◌+◌, ◌<◌, ◌^◌, ◌∷◌, []};
 ghost use Rattle.std.specs.Bool.{then_some};
 ghost use Rattle.std.specs.List.{list_any};
 ghost use Rattle.std.specs.Option.{option_copied};
 ghost use Rattle.jl_classfile.specs.Conditions.{object};
 ghost use Rattle.std.specs.Str.{bytes_eq};
-ghost use Rattle.jl_types.specs.declared.refusal.DefineFault.TheVariants as fault;
 ghost use Rattle.jl_types.specs.Members as members;
 ghost use Rattle.jl_types.specs.Definitions as definitions;
 ghost use Rattle.jl_types.specs.Resolution.{first_of};
@@ -32,7 +31,6 @@ impl Classes {
         ensures same { IfOk result (λ f. f ≡ file) }
         ensures accepted { OnOk result (definitions.define_fault self.now loader file ≡ None) }
         ensures fault { IfErr result (λ f. definitions.define_fault self.now loader file ≡ Some f) }
-        ensures named { IfErr result (λ f. f ≢ fault.Memory) }
     {
         if let Some(fault) = self.first_fault(loader, &file) {
             return Err(fault);
@@ -64,8 +62,7 @@ impl Classes {
 
     /// The first of the faults that are tested before the parents are looked up.
     fn first_fault(&self, loader: LoaderId, file: &ClassFile) -> Option<DefineFault>
-        ensures first { result ≡ first_of (first_faults self.now loader file.now) }
-        ensures named { IfSome result (λ f. f ≢ fault.Memory) }
+        ensures { result ≡ first_of (first_faults self.now loader file.now) }
     {
         if loader.number() as usize >= self.loaders.len() {
             return Some(DefineFault::UnknownLoader);
@@ -112,8 +109,7 @@ impl Classes {
 
     /// The first of the faults of the superclass alone.
     fn superclass_fault(&self, loader: LoaderId, file: &ClassFile) -> Option<DefineFault>
-        ensures first { result ≡ first_of (superclass_faults self.now loader file.now) }
-        ensures named { IfSome result (λ f. f ≢ fault.Memory) }
+        ensures { result ≡ first_of (superclass_faults self.now loader file.now) }
     {
         let row = self.named(loader, file.superclass()?.as_slice())?;
         if has_flag(row.file().flags(), INTERFACE) {

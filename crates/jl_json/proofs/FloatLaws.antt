@@ -126,7 +126,6 @@ module _ (text_of : List ℕ → List ℕ) where
   define_floats define.FinalSuper = refl
   define_floats define.SecondObject = refl
   define_floats define.Full = refl
-  define_floats define.Memory = refl
 
   pub event_refusal_floats : (r : Refusal) → has_float (event_refusal_data text_of r) ≡ false
   unfolding event_refusal_data

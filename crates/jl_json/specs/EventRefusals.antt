@@ -46,7 +46,6 @@ abbrev pub delegate_name : DelegateFault → List ℕ
 delegate_name delegate.UnknownLoader = codes "Delegate.UnknownLoader"
 delegate_name delegate.NotRecorded = codes "Delegate.NotRecorded"
 delegate_name delegate.AlreadyRecorded = codes "Delegate.AlreadyRecorded"
-delegate_name delegate.Memory = codes "Memory"
 
 abbrev pub call_site_name : CallSiteFault → List ℕ
 call_site_name call_site.UnknownCallSite = codes "CallSite.UnknownCallSite"
@@ -57,7 +56,6 @@ call_site_name call_site.NotStatic = codes "CallSite.NotStatic"
 call_site_name call_site.UnknownSwitch = codes "CallSite.UnknownSwitch"
 call_site_name call_site.TooDeep = codes "CallSite.TooDeep"
 call_site_name call_site.Full = codes "CallSite.Full"
-call_site_name call_site.Memory = codes "Memory"
 
 abbrev pub not_linkable_name : NotLinkable → List ℕ
 not_linkable_name not_linkable.ArrayReceiver = codes "NotLinkable.ArrayReceiver"
@@ -84,7 +82,6 @@ module _ (text_of : List ℕ → List ℕ) where
       refused_name (codes "Define.InaccessibleParent") name
   define_refusal_data define.SecondObject = refused (codes "Define.SecondObject")
   define_refusal_data define.Full = refused (codes "Define.Full")
-  define_refusal_data define.Memory = refused (codes "Memory")
 
   unfoldable pub event_refusal_data : Refusal → Data
   event_refusal_data (refusal.Define fault) = define_refusal_data fault

@@ -72,7 +72,6 @@ fn delegate_fault(fault: DelegateFault) -> &'static str
         DelegateFault::UnknownLoader => "Delegate.UnknownLoader",
         DelegateFault::NotRecorded => "Delegate.NotRecorded",
         DelegateFault::AlreadyRecorded => "Delegate.AlreadyRecorded",
-        DelegateFault::Memory => "Memory",
     }
 }
 
@@ -89,7 +88,6 @@ fn call_site_fault(fault: CallSiteFault) -> &'static str
         CallSiteFault::UnknownSwitch => "CallSite.UnknownSwitch",
         CallSiteFault::TooDeep => "CallSite.TooDeep",
         CallSiteFault::Full => "CallSite.Full",
-        CallSiteFault::Memory => "Memory",
     }
 }
 
@@ -125,13 +123,11 @@ fn define_refusal_value(alloc: Global, fault: &DefineFault) -> Result<Value, All
         }
         DefineFault::SecondObject => refused_value(alloc, "Define.SecondObject"),
         DefineFault::Full => refused_value(alloc, "Define.Full"),
-        DefineFault::Memory => refused_value(alloc, "Memory"),
     }
 }
 
 /// The answer that an event is refused: the name of the fault, behind the name of the fault that it
-/// is within, and the name, call site, site or link that it is about. A want of memory is `Memory`
-/// wherever it is within.
+/// is within, and the name, call site, site or link that it is about.
 ///
 /// # Errors
 ///

@@ -9,8 +9,8 @@ use Rattle.std.proofs.lemmas.Option.{slice_get_within}
 use Rattle.jl_classfile.specs.Class.{ClassFile}
 use Rattle.jl_classfile.specs.Conditions.{object}
 use Rattle.jl_types.specs.declared.ids.MethodId.{MethodId}
-use Rattle.jl_types.specs.declared.event.Event.{Event}
-use Rattle.jl_types.specs.declared.event.Event.TheVariants as event
+use Rattle.jl_types.specs.Event.{Event}
+use Rattle.jl_types.specs.declared.event.EventOf.TheVariants as event
 use Rattle.jl_types.specs.declared.link.Link.{Link}
 use Rattle.jl_types.specs.World.{Classes, CallSite, Sites, World}
 use Rattle.jl_types.specs.Members.{lookup, is_concrete}

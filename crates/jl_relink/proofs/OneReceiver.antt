@@ -8,7 +8,7 @@ use Rattle.std.proofs.lemmas.List.Folds.{list_all-append}
 use Rattle.jl_classfile.specs.Class.{ClassFile}
 use Rattle.jl_types.specs.declared.answer.Outcome.{Outcome}
 use Rattle.jl_types.specs.declared.answer.Outcome.TheVariants.{Run, Throws}
-use Rattle.jl_types.specs.declared.event.Event.TheVariants as event
+use Rattle.jl_types.specs.declared.event.EventOf.TheVariants as event
 use Rattle.jl_types.specs.declared.link.Link.{Link}
 use Rattle.jl_types.specs.declared.link.Link.TheVariants.{Fault, Plain, Direct, Table, Mega}
 use Rattle.jl_types.specs.declared.link.TableKind.{TableKind}

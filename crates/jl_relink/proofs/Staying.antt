@@ -19,7 +19,7 @@ use Rattle.jl_types.specs.declared.answer.ResolveAnswer.{ResolveAnswer}
 use Rattle.jl_types.specs.declared.answer.ResolveAnswer.TheVariants as resolve
 use Rattle.jl_types.specs.declared.answer.Throwable.TheVariants.{NoSuchMethodError, IllegalAccessError, IncompatibleClassChangeError}
 use Rattle.jl_types.specs.declared.answer.Unlinked.TheVariants.{Gone}
-use Rattle.jl_types.specs.declared.event.Event.TheVariants as event
+use Rattle.jl_types.specs.declared.event.EventOf.TheVariants as event
 use Rattle.jl_types.specs.declared.link.Link.{Link}
 use Rattle.jl_types.specs.declared.link.Link.TheVariants.{Direct}
 use Rattle.jl_types.specs.declared.link.TableKind.TheVariants as table

@@ -2,8 +2,8 @@
 use Rattle.std.specs.Prelude.{◌≡◌, ◌≢◌, ℕ, length, Bool, true, List, take, slice_get, Some, Ok, IsOk}
 use Rattle.std.specs.List.{list_all}
 use Rattle.jl_classfile.specs.Conditions.{extends_object}
-use Rattle.jl_types.specs.declared.event.Event.{Event}
-use Rattle.jl_types.specs.declared.event.Event.TheVariants as event
+use Rattle.jl_types.specs.Event.{Event}
+use Rattle.jl_types.specs.declared.event.EventOf.TheVariants as event
 use Rattle.jl_types.specs.declared.link.Link.{Link}
 use Rattle.jl_types.specs.World.{World}
 use Rattle.jl_types.specs.Events.{verdict, step}

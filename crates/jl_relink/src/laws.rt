@@ -1,8 +1,8 @@
 //! The laws of links: each is the contract of a function that does nothing.
 
 ghost use Rattle.std.specs.Prelude.{◌≡◌, ℕ, ◌++◌, ◌∷◌, [], List, Ok, true, false};
-ghost use Rattle.jl_types.specs.declared.event.Event.{Event};
-ghost use Rattle.jl_types.specs.declared.event.Event.TheVariants as event;
+ghost use Rattle.jl_types.specs.Event.{Event};
+ghost use Rattle.jl_types.specs.declared.event.EventOf.TheVariants as event;
 ghost use Rattle.jl_types.specs.declared.ids.Place.{Place};
 ghost use Rattle.jl_types.specs.declared.link.Link.{Link};
 ghost use Rattle.jl_types.specs.declared.target.CallSiteKind.{CallSiteKind};

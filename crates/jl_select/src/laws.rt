@@ -1,7 +1,7 @@
 //! The laws of what is selected: each is the contract of a function that does nothing.
 
 ghost use Rattle.std.specs.Prelude.{◌++◌, ◌∷◌, [], List};
-ghost use Rattle.jl_types.specs.declared.event.Event.{Event};
+ghost use Rattle.jl_types.specs.Event.{Event};
 ghost use Rattle.jl_types.specs.History.{world_after};
 ghost use Rattle.jl_resolve.specs.Constancy.{RecordsObject};
 ghost use Rattle.jl_select.specs.Constancy.{ChosenStays, OutcomesStay};

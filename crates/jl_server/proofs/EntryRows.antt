@@ -4,8 +4,8 @@ use Rattle.std.proofs.Common.{refl}
 use Rattle.jl_code.specs.declared.site.Kind.TheVariants.{Virtual}
 use Rattle.jl_types.specs.declared.answer.Outcome.TheVariants.{Run}
 use Rattle.jl_types.specs.declared.link.Link.TheVariants.{Direct}
-use Rattle.jl_types.specs.declared.event.Event.{Event}
-use Rattle.jl_types.specs.declared.event.Event.TheVariants.{NewSwitch, Request, Install}
+use Rattle.jl_types.specs.Event.{Event}
+use Rattle.jl_types.specs.declared.event.EventOf.TheVariants.{NewSwitch, Request, Install}
 use Rattle.jl_types.specs.declared.event.Made.TheVariants.{Switch, Nothing}
 use Rattle.jl_types.specs.declared.event.Reply.{Reply}
 use Rattle.jl_types.specs.Entries.{Entry}

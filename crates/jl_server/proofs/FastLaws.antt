@@ -14,7 +14,7 @@ use Rattle.jl_types.specs.declared.answer.Fast.TheVariants.{Now, Miss}
 use Rattle.jl_types.specs.declared.link.Link.{Link}
 use Rattle.jl_types.specs.declared.link.Link.TheVariants.{Fault, Plain, Direct, Table, Mega}
 use Rattle.jl_types.specs.declared.link.TableKind.{TableKind}
-use Rattle.jl_types.specs.declared.event.Event.{Event}
+use Rattle.jl_types.specs.Event.{Event}
 use Rattle.jl_types.specs.World.{World, Classes}
 use Rattle.jl_types.specs.Members.{is_concrete}
 use Rattle.jl_types.specs.Sites.{Invocation, Stage, Waits, Fails, Calls, Selects, stage}

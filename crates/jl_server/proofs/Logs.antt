@@ -3,8 +3,8 @@ use Rattle.std.specs.Prelude.{◌≡◌, ℕ, suc, List, [], ◌∷◌, ◌++◌
 use Rattle.std.proofs.Common.{refl, ap, sym, ◌∙◌, subst, inr}
 use Rattle.std.proofs.lemmas.List.{map-append}
 use Rattle.std.proofs.lemmas.List.Sums.{fold-append}
-use Rattle.jl_types.specs.declared.event.Event.{Event}
-use Rattle.jl_types.specs.declared.event.Event.TheVariants as event
+use Rattle.jl_types.specs.Event.{Event}
+use Rattle.jl_types.specs.declared.event.EventOf.TheVariants as event
 use Rattle.jl_types.specs.declared.event.Reply.{Reply}
 use Rattle.jl_types.specs.Entries.{Entry, IsEntry, events_of, classes_of}
 use Rattle.jl_types.specs.declared.event.Made.{Made}

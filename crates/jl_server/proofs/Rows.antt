@@ -14,8 +14,8 @@ use Rattle.jl_types.specs.declared.answer.Fast.TheVariants.{Now}
 use Rattle.jl_types.specs.declared.link.Link.{Link}
 use Rattle.jl_types.specs.declared.link.Link.TheVariants.{Fault, Plain, Direct, Table, Mega}
 use Rattle.jl_types.specs.declared.link.TableKind.TheVariants as kind
-use Rattle.jl_types.specs.declared.event.Event.{Event}
-use Rattle.jl_types.specs.declared.event.Event.TheVariants.{Request, Install}
+use Rattle.jl_types.specs.Event.{Event}
+use Rattle.jl_types.specs.declared.event.EventOf.TheVariants.{Request, Install}
 use Rattle.jl_types.specs.World.{World}
 use Rattle.jl_types.specs.Sites.{Invocation, ByVirtual, Selects}
 use Rattle.jl_types.specs.Calls.{dispatch, fits_named}

@@ -4,7 +4,7 @@ use Rattle.jl_types.specs.declared.answer.Recv.{Recv}
 use Rattle.jl_types.specs.declared.answer.Answer.{Answer}
 use Rattle.jl_types.specs.declared.answer.Fast.{Fast}
 use Rattle.jl_types.specs.declared.answer.Fast.TheVariants.{Now, Closed}
-use Rattle.jl_types.specs.declared.event.Event.{Event}
+use Rattle.jl_types.specs.Event.{Event}
 use Rattle.jl_types.specs.Calls.{dispatch}
 use Rattle.jl_types.specs.Fast.{fast_answer}
 use Rattle.jl_types.specs.History.{world_after, installed}

@@ -1,8 +1,8 @@
 -- The history of a server, which exists in the proofs alone, and the entries that it consists of.
 use Rattle.std.specs.Prelude.{ℕ, ◌≡◌, ◌==◌, true, List, [], ◌∷◌, ◌++◌, length, map, fold}
 use Rattle.logbook.specs.Pages.{Cell, Step, View, Book, Named}
-use Rattle.jl_types.specs.declared.event.Event.{Event}
-use Rattle.jl_types.specs.declared.event.Event.TheVariants as event
+use Rattle.jl_types.specs.Event.{Event}
+use Rattle.jl_types.specs.declared.event.EventOf.TheVariants as event
 use Rattle.jl_types.specs.declared.event.Reply.{Reply}
 use Rattle.jl_types.specs.Entries.{Entry, events_of, slots_changed}
 use Rattle.jl_core.specs.State.{State}

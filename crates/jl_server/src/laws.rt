@@ -5,7 +5,7 @@ ghost use Rattle.jl_types.specs.declared.answer.Recv.{Recv};
 ghost use Rattle.jl_types.specs.declared.answer.Answer.{Answer};
 ghost use Rattle.jl_types.specs.declared.answer.Fast.TheVariants.{Now};
 ghost use Rattle.jl_types.specs.declared.link.Link.{Link};
-ghost use Rattle.jl_types.specs.declared.event.Event.{Event};
+ghost use Rattle.jl_types.specs.Event.{Event};
 ghost use Rattle.jl_types.specs.Calls.{dispatch};
 ghost use Rattle.jl_types.specs.Fast.{fast_answer};
 ghost use Rattle.jl_types.specs.History.{world_after, installed};

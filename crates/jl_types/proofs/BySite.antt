@@ -1,8 +1,8 @@
 -- Values by site: what is found once a value is put in its place, and their order.
 use Rattle.std.specs.Prelude.{◌≡◌, ℕ, suc, ◌<◌, ◌==◌, ◌⊎◌, nat_lt, Bool, true, false, cond, List, [], ◌∷◌, length, find}
 use Rattle.std.specs.Prelude.{Some, None, option_map, Result, Ok, Err, OnOk, if◌then◌else◌, AllPairs}
-use Rattle.std.specs.List.{AllByRecursion}
-use Rattle.std.specs.Map.{lookup}
+use Rattle.std.specs.List.{AllByRecursion, IsDistinct}
+use Rattle.std.specs.Map.{lookup, keys_of}
 use Rattle.std.proofs.Common.{refl, ap, sym, subst, ◌∙◌, arith, get_or, inl, inr}
 use Rattle.std.proofs.lemmas.Bool.{ltb-false, ltb-true, cases_order, both_ways}
 use Rattle.std.proofs.lemmas.Option.{same_Some}
@@ -10,6 +10,7 @@ use Rattle.std.proofs.lemmas.Cmp.{nat_eq_equiv}
 use Rattle.std.proofs.lemmas.Bool.Decides.{Decides-eqb}
 use Rattle.std.proofs.lemmas.List.Elements.{All-from_recursion}
 use Rattle.std.proofs.lemmas.List.Kept.{AllPairs-cons}
+use Rattle.std.proofs.lemmas.Map.Keys.{IsDistinct-head, IsDistinct-tail}
 use Rattle.std.proofs.Math.Arith.{lt_of_le-ne}
 use Rattle.jl_types.specs.Means.BySite.{value_at, put, by_site}
 
@@ -167,3 +168,39 @@ rises_of (row ∷ rows) h = (each_above row.0 rows (λ j d lt. h 0 (suc j) d (om
 pub where_ok : {X E P : Type 0} (r : Result X E) (x : X) → r ≡ Ok x → OnOk r P → P
 where_ok (Ok y) x e h = h
 where_ok (Err y) x e h = cc
+
+-- ---- how many there are
+
+some_none : {A : Type 0} (l : A) → Some l ≡ None → ⊥
+some_none l e = cc
+
+-- a value of a new site makes the list longer
+longer_put : {A : Type 0} (s : ℕ) (l : A) (rows : List (ℕ × A)) → value_at rows s ≡ None → length (put s l rows) ≡ suc (length rows)
+longer_put s l [] h = refl
+longer_put s l (row ∷ rows) h = by_place (row.0 == s) refl (λ e. longer_put s l rows (behind false e))
+  where
+    behind : (b : Bool) → (row.0 == s) ≡ b → (if b then Some row.1 else value_at rows s) ≡ None
+    behind b e = ap (λ (b : Bool). if b then Some row.1 else value_at rows s) (sym e) ∙ sym (found_first row.0 s row.1 rows) ∙ h
+
+    by_order : (before same : Bool) → (s == row.0) ≡ same → (s == row.0) ≡ false → length (put s l rows) ≡ suc (length rows)
+        → length (if before then (s, l) ∷ row ∷ rows else if same then (s, l) ∷ rows else row ∷ put s l rows) ≡ suc (suc (length rows))
+    by_order true same e f ih = refl
+    by_order false true e f ih = absurd (both_ways (s == row.0) f e)
+    by_order false false e f ih = ap suc ih
+
+    by_place : (b : Bool) → (row.0 == s) ≡ b → ((row.0 == s) ≡ false → length (put s l rows) ≡ suc (length rows))
+        → length (put s l (row ∷ rows)) ≡ suc (length (row ∷ rows))
+    by_place true e ih = absurd (some_none row.1 (behind true e))
+    by_place false e ih = by_order (nat_lt s row.0) (s == row.0) refl (nat_eq_equiv.symm s row.0 ∙ e) (ih e)
+
+none_there : {A : Type 0} (s : ℕ) (entries : List (ℕ × A)) → AllByRecursion (λ k. (s == k) ≡ false) (keys_of entries) → lookup (λ k. s == k) entries ≡ None
+none_there s [] h = refl
+none_there s (entry ∷ entries) h = ap (λ b. cond b (Some entry.1) (lookup (λ k. s == k) entries)) h.0 ∙ none_there s entries h.1
+
+-- entries of different sites are as many as the values
+pub as_many : {A : Type 0} (entries : List (ℕ × A)) → IsDistinct (λ a b. a == b) (keys_of entries) → length (by_site entries) ≡ length entries
+as_many [] h = refl
+as_many (entry ∷ entries) h =
+    longer_put entry.0 entry.1 (by_site entries)
+    (found_by_site entries entry.0 ∙ none_there entry.0 entries (IsDistinct-head (λ a b. a == b) entry.0 (keys_of entries) h))
+    ∙ ap suc (as_many entries (IsDistinct-tail (λ a b. a == b) entry.0 (keys_of entries) h))

@@ -1,8 +1,8 @@
 -- How many classes a list of events makes.
 use Rattle.std.specs.Prelude.{◌≡◌, ℕ, ◌+◌, Bool, cond, true, false, List, [], ◌∷◌, filter, length, fold}
 use Rattle.std.proofs.Common.{arith, length-append}
-use Rattle.jl_types.specs.declared.event.Event.{Event}
-use Rattle.jl_types.specs.declared.event.Event.TheVariants as event
+use Rattle.jl_types.specs.Event.{Event}
+use Rattle.jl_types.specs.declared.event.EventOf.TheVariants as event
 use Rattle.jl_types.specs.World.{World, nothing_yet}
 use Rattle.jl_types.specs.Definitions.{class_made}
 use Rattle.jl_types.specs.Events.{step}

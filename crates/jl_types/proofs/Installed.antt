@@ -7,7 +7,7 @@ use Rattle.std.proofs.lemmas.Bool.{cases_lt}
 use Rattle.std.proofs.lemmas.Option.{cond_some}
 use Rattle.jl_types.specs.declared.link.Link.{Link}
 use Rattle.jl_types.specs.declared.answer.Unlinked.{Unlinked}
-use Rattle.jl_types.specs.declared.event.Event.{Event}
+use Rattle.jl_types.specs.Event.{Event}
 use Rattle.jl_types.specs.Means.SameLink.{same_link, link_decides}
 use Rattle.jl_types.specs.Links.{scratch}
 use Rattle.jl_types.specs.History.{Settled, installed_at, scratch_after, world_after, is_link, all_below, any_below, settled_since, settled, installed, installed_of}

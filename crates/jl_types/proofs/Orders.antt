@@ -8,8 +8,8 @@ use Rattle.std.proofs.lemmas.List.Elements.{All-from_recursion, recursion_from_A
 use Rattle.std.proofs.lemmas.Option.{same_Some}
 use Rattle.std.specs.Str.{bytes_eq}
 use Rattle.jl_classfile.specs.Class.{ClassFile}
-use Rattle.jl_types.specs.declared.event.Event.{Event}
-use Rattle.jl_types.specs.declared.event.Event.TheVariants as event
+use Rattle.jl_types.specs.Event.{Event}
+use Rattle.jl_types.specs.declared.event.EventOf.TheVariants as event
 use Rattle.jl_types.specs.World.{Class, Classes, World, nothing_yet}
 use Rattle.jl_types.specs.Members.{recorded, lookup}
 use Rattle.jl_types.specs.Ancestry.{parents, AreOrdered}

@@ -9,7 +9,7 @@ use Rattle.std.proofs.lemmas.List.Sums.{fold-append}
 use Rattle.std.proofs.lemmas.Grind.{get_or-set_at}
 use Rattle.std.proofs.lemmas.Option.{slice_get-get_or}
 use Rattle.jl_types.specs.declared.link.Link.{Link}
-use Rattle.jl_types.specs.declared.event.Event.{Event}
+use Rattle.jl_types.specs.Event.{Event}
 use Rattle.jl_types.specs.Means.SameLink.{link_decides}
 use Rattle.jl_types.specs.History.{world_after, installed}
 use Rattle.jl_types.specs.Entries.{Entry, IsEntry, IsLegal, events_of, same_slot, change, slots_changed, written, table_of}

@@ -1,8 +1,8 @@
 -- Lists of accepted events with all that they change, and the table of links that such a list makes.
 use Rattle.std.specs.Prelude.{◌≡◌, ℕ, Bool, true, false, List, [], ◌∷◌, ◌++◌, map, filter, filter_map, fold, take, length, replicate, slice_get, slice_set, Option, Some, None, option_map, is_none, Ok, if◌then◌else◌}
 use Rattle.jl_types.specs.declared.link.Link.{Link}
-use Rattle.jl_types.specs.declared.event.Event.{Event}
-use Rattle.jl_types.specs.declared.event.Event.TheVariants as event
+use Rattle.jl_types.specs.Event.{Event}
+use Rattle.jl_types.specs.declared.event.EventOf.TheVariants as event
 use Rattle.jl_types.specs.declared.event.Reply.{Reply}
 use Rattle.jl_types.specs.History.{world_after, installed, site_numbers, has_link, reply}
 

@@ -14,6 +14,7 @@ pub mod Links
 pub mod Calls
 pub mod Definitions
 pub mod Batches
+pub mod Event
 pub mod Events
 pub mod Preparation
 pub mod History

@@ -11,13 +11,13 @@ use crate::target::{CallSiteKind, Target};
 use jl_classfile::ClassFile;
 use jl_names::{Name, Seq};
 
-/// What changes the classes, sites and links.
+/// What changes the classes, sites and links, where a definition carries a `D`.
 #[derive(Debug, Drop)]
-pub enum Event {
+pub enum EventOf<D> {
     /// One loader more.
     NewLoader,
-    /// The loader defines a class of this file (JVMS SE 17 §5.3.5).
-    Define(LoaderId, ClassFile),
+    /// The loader defines a class (JVMS SE 17 §5.3.5).
+    Define(LoaderId, D),
     /// The first loader finds under the name the class that the second one finds (§5.3).
     Delegate(LoaderId, Name, LoaderId),
     /// The invocation at the place is to be linked.
@@ -35,6 +35,9 @@ pub enum Event {
     /// Sites with the links that they are to have.
     Install(Seq<(SiteNo, Link)>),
 }
+
+/// What changes the classes, sites and links, with the file of the class that a definition defines.
+pub type Event = EventOf<ClassFile>;
 
 /// What an event gave a number to.
 #[derive(Clone, Copy, Debug, PartialEq, Eq)]

@@ -2,7 +2,7 @@
 //!
 //! What a link is, and what a call comes to, stands in `specs/`, in reading order: `Target`, `World`, `Members`,
 //! `Ancestry`, `Access`, `Resolution`, `Overriding`, `Selection`, `Targets`, `Sites`, `Links`, `Calls`, `Definitions`,
-//! `Batches`, `Events`, `Preparation`, `History`, `Entries`, `Footprints`, `Fast`. The laws about them are the contracts
+//! `Batches`, `Event`, `Events`, `Preparation`, `History`, `Entries`, `Footprints`, `Fast`. The laws about them are the contracts
 //! of the functions of `laws`.
 #![tactic(auto)]
 
@@ -38,7 +38,7 @@ pub use answer::{
 pub use call_site_id::CallSiteId;
 pub use class::Class;
 pub use class_id::ClassId;
-pub use event::{Event, Made, Reply};
+pub use event::{Event, EventOf, Made, Reply};
 pub use ids::{MethodId, Place};
 pub use key::Key;
 pub use laws::{
@@ -51,7 +51,8 @@ pub use laws::{
 pub use link::{Link, TableKind, same_link};
 pub use loader_id::LoaderId;
 pub use refusal::{
-    CallSiteFault, DefineFault, DelegateFault, NotLinkable, PrepareFault, Refusal, SitesFault,
+    CallSiteFault, DefineFault, DelegateFault, NotLinkable, OrMemory, PrepareFault, Refusal,
+    SitesFault,
 };
 pub use site_no::SiteNo;
 pub use switch_id::SwitchId;

@@ -1,7 +1,7 @@
 //! Why an event is refused.
 
 ghost use Rattle.std.specs.Prelude.{◌≡◌};
-ghost use Rattle.jl_types.specs.declared.refusal.DefineFault.TheVariants as define;
+ghost use Rattle.jl_types.specs.declared.refusal.OrMemory.TheVariants as or_memory;
 ghost use Rattle.jl_types.specs.declared.refusal.Refusal.TheVariants as refusal;
 
 use crate::call_site_id::CallSiteId;
@@ -33,8 +33,6 @@ pub enum DefineFault {
     SecondObject,
     /// There are 65,536 classes.
     Full,
-    /// Want of memory.
-    Memory,
 }
 
 /// Why a loader doesn't record a class of another one.
@@ -46,8 +44,6 @@ pub enum DelegateFault {
     NotRecorded,
     /// The loader has recorded a class under the name, be it the same one.
     AlreadyRecorded,
-    /// Want of memory.
-    Memory,
 }
 
 /// Why a call site or a switch point isn't made or changed (java.lang.invoke).
@@ -69,6 +65,13 @@ pub enum CallSiteFault {
     TooDeep,
     /// There are 65,536 of them.
     Full,
+}
+
+/// Why a change isn't made.
+#[derive(Debug, Drop)]
+pub enum OrMemory<F> {
+    /// This speaks against it.
+    Fault(F),
     /// Want of memory.
     Memory,
 }
@@ -171,19 +174,11 @@ impl From<SitesFault> for PrepareFault {
     }
 }
 
-impl From<AllocError> for DefineFault {
-    ghost from_gives = { λ _ f. f ≡ define.Memory };
+impl<F> From<AllocError> for OrMemory<F> {
+    ghost from_gives = { λ _ f. f ≡ or_memory.Memory };
 
-    fn from(_e: AllocError) -> DefineFault {
-        DefineFault::Memory
-    }
-}
-
-impl<T: Drop> From<AllocFailed<T>> for DefineFault {
-    ghost from_gives = { λ _ f. f ≡ define.Memory };
-
-    fn from(_e: AllocFailed<T>) -> DefineFault {
-        DefineFault::Memory
+    fn from(_e: AllocError) -> OrMemory<F> {
+        OrMemory::Memory
     }
 }
 

@@ -170,8 +170,7 @@ fn refused_within_events(rt: HostRuntime) -> Result<(), AllocError> {
     assert_refusal(&rt, delegate, r#"{"refused":"Delegate.NotRecorded"}"#)?;
     let full = EventRefusal::Define(DefineFault::Full);
     assert_refusal(&rt, full, r#"{"refused":"Define.Full"}"#)?;
-    let memory = EventRefusal::Define(DefineFault::Memory);
-    assert_refusal(&rt, memory, r#"{"refused":"Memory"}"#)?;
+    assert_refusal(&rt, EventRefusal::Memory, r#"{"refused":"Memory"}"#)?;
     let parent = DefineFault::MissingParent(Name::copied(rt.alloc(), b"p/A")?);
     assert_refusal(
         &rt,
@@ -208,7 +207,6 @@ const CALL_SITE_FAULTS: &[(CallSiteFault, &str)] = &[
     ),
     (CallSiteFault::TooDeep, r#"{"refused":"CallSite.TooDeep"}"#),
     (CallSiteFault::Full, r#"{"refused":"CallSite.Full"}"#),
-    (CallSiteFault::Memory, r#"{"refused":"Memory"}"#),
 ];
 
 #[test]

@@ -6,7 +6,7 @@ use indexmap::IndexSet;
 use jl_classfile::ClassFile;
 use jl_hierarchy::{Classes, LoaderFault};
 use jl_relink::{World, link_of};
-use jl_types::{ClassId, DefineFault, DelegateFault, LoaderId, Place, Recv, SiteNo};
+use jl_types::{ClassId, DefineFault, DelegateFault, LoaderId, OrMemory, Place, Recv, SiteNo};
 use row_files::{CallRow, MethodRow, OBJECT, calling, class, nested_calling};
 use std::alloc::{AllocError, Global};
 use std::process::Abort;
@@ -59,18 +59,26 @@ fn loader(alloc: Global, answer: Result<LoaderId, LoaderFault>) -> Result<String
 }
 
 /// The defined class's number, or why there is none.
-fn definition(alloc: Global, answer: Result<ClassId, DefineFault>) -> Result<String, AllocError> {
+fn definition(
+    alloc: Global,
+    answer: Result<ClassId, OrMemory<DefineFault>>,
+) -> Result<String, AllocError> {
     match answer {
         Ok(class) => format!(in alloc; "{}", class.number()),
-        Err(fault) => format!(in alloc; "{fault:?}"),
+        Err(OrMemory::Fault(fault)) => format!(in alloc; "{fault:?}"),
+        Err(OrMemory::Memory) => Err(AllocError),
     }
 }
 
 /// Whether a delegation was made, or why not.
-fn delegation(alloc: Global, answer: Result<(), DelegateFault>) -> Result<String, AllocError> {
+fn delegation(
+    alloc: Global,
+    answer: Result<(), OrMemory<DelegateFault>>,
+) -> Result<String, AllocError> {
     match answer {
         Ok(()) => String::from_str(alloc, "Ok"),
-        Err(fault) => format!(in alloc; "{fault:?}"),
+        Err(OrMemory::Fault(fault)) => format!(in alloc; "{fault:?}"),
+        Err(OrMemory::Memory) => Err(AllocError),
     }
 }
 

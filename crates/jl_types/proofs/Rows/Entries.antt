@@ -7,8 +7,8 @@ use Rattle.jl_types.specs.declared.answer.Outcome.TheVariants.{Run}
 use Rattle.jl_types.specs.declared.link.Link.{Link}
 use Rattle.jl_types.specs.declared.link.Link.TheVariants.{Direct, Table}
 use Rattle.jl_types.specs.declared.link.TableKind.TheVariants as kind
-use Rattle.jl_types.specs.declared.event.Event.{Event}
-use Rattle.jl_types.specs.declared.event.Event.TheVariants.{NewLoader, Request, NewSwitch, Install}
+use Rattle.jl_types.specs.Event.{Event}
+use Rattle.jl_types.specs.declared.event.EventOf.TheVariants.{NewLoader, Request, NewSwitch, Install}
 use Rattle.jl_types.specs.declared.event.Made.{Made}
 use Rattle.jl_types.specs.declared.event.Made.TheVariants.{Nothing, Loader, Class, Site, Switch}
 use Rattle.jl_types.specs.declared.event.Reply.{Reply}

@@ -13,8 +13,8 @@ use Rattle.jl_types.specs.declared.link.TableKind.TheVariants as kind
 use Rattle.jl_types.specs.declared.target.CallSiteKind.TheVariants.{Mutable}
 use Rattle.jl_types.specs.Target as target
 use Rattle.jl_types.specs.Target.{Target}
-use Rattle.jl_types.specs.declared.event.Event.{Event}
-use Rattle.jl_types.specs.declared.event.Event.TheVariants.{NewLoader, Define, Delegate, Request, NewCallSite, SetTarget, NewSwitch, Invalidate, Bind, Install}
+use Rattle.jl_types.specs.Event.{Event}
+use Rattle.jl_types.specs.declared.event.EventOf.TheVariants.{NewLoader, Define, Delegate, Request, NewCallSite, SetTarget, NewSwitch, Invalidate, Bind, Install}
 use Rattle.jl_types.specs.World.{World}
 use Rattle.jl_types.specs.History.{world_after, dropped}
 use Rattle.jl_types.proofs.Rows.Sketch.{method, file, class, first, world, calling, class_ref, itf_ref}

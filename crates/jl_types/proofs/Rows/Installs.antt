@@ -4,8 +4,8 @@ use Rattle.jl_code.specs.declared.site.Kind.TheVariants.{Static}
 use Rattle.jl_types.specs.declared.answer.Unlinked.TheVariants.{Unbound}
 use Rattle.jl_types.specs.declared.link.Link.{Link}
 use Rattle.jl_types.specs.declared.link.Link.TheVariants.{Plain, Mega}
-use Rattle.jl_types.specs.declared.event.Event.{Event}
-use Rattle.jl_types.specs.declared.event.Event.TheVariants.{Define, Request, Install}
+use Rattle.jl_types.specs.Event.{Event}
+use Rattle.jl_types.specs.declared.event.EventOf.TheVariants.{Define, Request, Install}
 use Rattle.jl_types.specs.declared.event.Made.{Made}
 use Rattle.jl_types.specs.declared.event.Made.TheVariants.{Nothing}
 use Rattle.jl_types.specs.declared.refusal.Refusal.{Refusal}

@@ -2,7 +2,7 @@
 use Rattle.std.specs.Prelude.{◌≡◌, ℕ, List, [], ◌∷◌, ◌++◌, Some, None, Ok, Err, length, replicate, codes, refl}
 use Rattle.jl_code.specs.declared.site.Kind.TheVariants.{Virtual, Static}
 use Rattle.jl_types.specs.declared.ids.Place.{Place}
-use Rattle.jl_types.specs.declared.event.Event.TheVariants.{NewLoader, NewSwitch, NewCallSite, Request}
+use Rattle.jl_types.specs.declared.event.EventOf.TheVariants.{NewLoader, NewSwitch, NewCallSite, Request}
 use Rattle.jl_types.specs.declared.event.Made.TheVariants as made
 use Rattle.jl_types.specs.declared.refusal.Refusal.TheVariants as refusal
 use Rattle.jl_types.specs.declared.refusal.NotLinkable.TheVariants.{ArrayReceiver, PolymorphicSignature}

@@ -6,8 +6,8 @@ use Rattle.jl_code.specs.declared.site.Operand.TheVariants as operand
 use Rattle.jl_types.specs.declared.target.CallSiteKind.TheVariants.{Constant, Mutable}
 use Rattle.jl_types.specs.Target as target
 use Rattle.jl_types.specs.Target.{Target}
-use Rattle.jl_types.specs.declared.event.Event.{Event}
-use Rattle.jl_types.specs.declared.event.Event.TheVariants.{Define, Request, NewCallSite, SetTarget, NewSwitch, Bind}
+use Rattle.jl_types.specs.Event.{Event}
+use Rattle.jl_types.specs.declared.event.EventOf.TheVariants.{Define, Request, NewCallSite, SetTarget, NewSwitch, Bind}
 use Rattle.jl_types.specs.declared.event.Made.{Made}
 use Rattle.jl_types.specs.declared.event.Made.TheVariants as made
 use Rattle.jl_types.specs.declared.refusal.Refusal.{Refusal}

@@ -6,7 +6,7 @@ use Rattle.jl_hierarchy.specs.Kept.{IsKept, lists}
 use Rattle.jl_hierarchy.proofs.NewRecords.{kept_with_loader}
 use Rattle.jl_hierarchy.proofs.KeptLaws.{good, in_order}
 use Rattle.jl_hierarchy.proofs.Constancy.{stays_with_loader}
-use Rattle.jl_hierarchy.proofs.classes.Classes.push_loader.Goals as goal
+use Rattle.jl_hierarchy.proofs.classes.Classes.add_loader.Goals as goal
 
 pub invariant_of-self-2 : goal.invariant_of-self-2
 invariant_of-self-2 c =

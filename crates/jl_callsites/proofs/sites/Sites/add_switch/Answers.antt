@@ -3,7 +3,7 @@ use Rattle.std.proofs.Common.{sym, subst}
 use Rattle.jl_types.specs.World.{Sites}
 use Rattle.jl_callsites.specs.Known.{are_known, RunAsBefore}
 use Rattle.jl_callsites.proofs.Known.{one_switch_more, switch_runs}
-use Rattle.jl_callsites.proofs.sites.Sites.push_switch.Goals as goal
+use Rattle.jl_callsites.proofs.sites.Sites.add_switch.Goals as goal
 
 pub invariant_of-self-2 : goal.invariant_of-self-2
 invariant_of-self-2 c =

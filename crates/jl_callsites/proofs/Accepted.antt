@@ -1,0 +1,61 @@
+-- What an event of call sites or switch points finds there that no fault speaks against.
+use Rattle.std.specs.Prelude.{◌≡◌, ℕ, ◌<◌, Bool, true, false, ◌&&◌, ◌||◌, nat_lt, nat_le, List, [], ◌∷◌, length, slice_get, Option, Some, None, if◌then◌else◌}
+use Rattle.std.specs.Bool.{then_some}
+use Rattle.std.specs.List.{list_any}
+use Rattle.std.proofs.Common.{refl}
+use Rattle.std.proofs.lemmas.Bool.{leb-false, lt-ltb}
+use Rattle.std.proofs.lemmas.Option.{slice_get_within}
+use Rattle.jl_types.specs.declared.refusal.CallSiteFault.TheVariants.{UnknownSwitch, TooDeep, Full, Constant}
+use Rattle.jl_types.specs.Target.{Target, Method, Guard, depth}
+use Rattle.jl_types.specs.World.{World, Sites, CallSite}
+use Rattle.jl_types.specs.Resolution.{first_of}
+use Rattle.jl_types.specs.Targets.{parts, part_fault, target_fault}
+use Rattle.jl_types.specs.Events.{is_constant, most_of_a_kind, new_call_site_fault, set_target_fault, invalidate_fault}
+use Rattle.jl_types.proofs.Firsts.{first_none, test_none}
+use Rattle.jl_callsites.specs.Faults.{new_switch_fault}
+use Rattle.jl_callsites.specs.Known.{has_points}
+use Rattle.jl_callsites.proofs.Known.{both}
+
+points_in_part : (w : World) (c : ℕ) (ty : List ℕ) (t : Target) → part_fault w c ty t ≡ None → has_points (length w.sites.switches) t ≡ true
+points_in_part w c ty (Method m) e = refl
+points_in_part w c ty (Guard p first fallback) e =
+    let n = length w.sites.switches in
+    let guard = first_none (then_some (nat_le n p) UnknownSwitch) (part_fault w c ty first ∷ part_fault w c ty fallback ∷ []) e in
+    let one = first_none (part_fault w c ty first) (part_fault w c ty fallback ∷ []) guard.1 in
+    both (nat_lt p n) (has_points n first && has_points n fallback) (lt-ltb p n (leb-false n p (test_none (nat_le n p) UnknownSwitch guard.0)))
+    (both (has_points n first) (has_points n fallback)
+    (points_in_part w c ty first one.0) (points_in_part w c ty fallback (first_none (part_fault w c ty fallback) [] one.1).0))
+
+points_in_target : (w : World) (c : ℕ) (ty : List ℕ) (t : Target) → target_fault w c ty t ≡ None → has_points (length w.sites.switches) t ≡ true
+points_in_target w c ty t e =
+    points_in_part w c ty t (first_none (part_fault w c ty t) []
+    (first_none (then_some (nat_lt 64 (depth t) || nat_lt 255 (parts t)) TooDeep) (part_fault w c ty t ∷ []) e).1).0
+
+module _ (w : World) (ty : List ℕ) (t : Target) (e : new_call_site_fault w ty t ≡ None) where
+  faults : (then_some (nat_le most_of_a_kind (length w.sites.call_sites)) Full ≡ None) × (first_of (target_fault w (length w.sites.call_sites) ty t ∷ []) ≡ None)
+  faults = first_none (then_some (nat_le most_of_a_kind (length w.sites.call_sites)) Full) (target_fault w (length w.sites.call_sites) ty t ∷ []) e
+
+  pub site_room : length w.sites.call_sites < 65536
+  site_room = leb-false 65536 (length w.sites.call_sites) (test_none (nat_le most_of_a_kind (length w.sites.call_sites)) Full faults.0)
+
+  pub site_points : has_points (length w.sites.switches) t ≡ true
+  site_points = points_in_target w (length w.sites.call_sites) ty t (first_none (target_fault w (length w.sites.call_sites) ty t) [] faults.1).0
+
+pub switch_room : (sites : Sites) → new_switch_fault sites ≡ None → length sites.switches < 65536
+switch_room sites e = leb-false 65536 (length sites.switches) (test_none (nat_le most_of_a_kind (length sites.switches)) Full e)
+
+module _ (w : World) (c : ℕ) (t : Target) where
+  pub target_there : (found : Option CallSite) → slice_get w.sites.call_sites c ≡ found → set_target_fault w c found t ≡ None → c < length w.sites.call_sites
+  target_there None is e = cc
+  target_there (Some site) is e = slice_get_within w.sites.call_sites c site is
+
+  pub target_points : (found : Option CallSite) → set_target_fault w c found t ≡ None → has_points (length w.sites.switches) t ≡ true
+  target_points None e = cc
+  target_points (Some site) e = unless_constant (is_constant site.kind) e
+    where
+      unless_constant : (b : Bool) → (if b then Some Constant else target_fault w c site.ty t) ≡ None → has_points (length w.sites.switches) t ≡ true
+      unless_constant true h = cc
+      unless_constant false h = points_in_target w c site.ty t h
+
+pub points_there : (w : World) (points : List ℕ) → invalidate_fault w points ≡ None → list_any (nat_le (length w.sites.switches)) points ≡ false
+points_there w points e = test_none (list_any (nat_le (length w.sites.switches)) points) UnknownSwitch e
