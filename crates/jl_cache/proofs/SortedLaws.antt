@@ -24,42 +24,6 @@ entries_same [] (f ∷ fs) h = absurd h
 entries_same (e ∷ es) [] h = absurd h
 entries_same (e ∷ es) (f ∷ fs) h = λ i. (h.0.0 i, h.0.1 i) ∷ entries_same es fs h.1 i
 
--- ---- how many there are
-
-some_none : (l : Link) → Some l ≡ None → ⊥
-some_none l e = cc
-
--- a link of a new site makes the list longer
-longer_put : (s : ℕ) (l : Link) (rows : List (ℕ × Link)) → link_at rows s ≡ None → length (put s l rows) ≡ suc (length rows)
-longer_put s l [] h = refl
-longer_put s l (row ∷ rows) h = by_place (row.0 == s) refl (λ e. longer_put s l rows (behind false e))
-  where
-    behind : (b : Bool) → (row.0 == s) ≡ b → (if b then Some row.1 else link_at rows s) ≡ None
-    behind b e = ap (λ (b : Bool). if b then Some row.1 else link_at rows s) (sym e) ∙ sym (found_first row.0 s row.1 rows) ∙ h
-
-    by_order : (before same : Bool) → (s == row.0) ≡ same → (s == row.0) ≡ false → length (put s l rows) ≡ suc (length rows)
-        → length (if before then (s, l) ∷ row ∷ rows else if same then (s, l) ∷ rows else row ∷ put s l rows) ≡ suc (suc (length rows))
-    by_order true same e f ih = refl
-    by_order false true e f ih = absurd (both_ways (s == row.0) f e)
-    by_order false false e f ih = ap suc ih
-
-    by_place : (b : Bool) → (row.0 == s) ≡ b → ((row.0 == s) ≡ false → length (put s l rows) ≡ suc (length rows))
-        → length (put s l (row ∷ rows)) ≡ suc (length (row ∷ rows))
-    by_place true e ih = absurd (some_none row.1 (behind true e))
-    by_place false e ih = by_order (nat_lt s row.0) (s == row.0) refl (nat_eq_equiv.symm s row.0 ∙ e) (ih e)
-
-none_there : (s : ℕ) (entries : List (ℕ × Link)) → AllByRecursion (λ k. (s == k) ≡ false) (keys_of entries) → lookup (λ k. s == k) entries ≡ None
-none_there s [] h = refl
-none_there s (entry ∷ entries) h = ap (λ b. cond b (Some entry.1) (lookup (λ k. s == k) entries)) h.0 ∙ none_there s entries h.1
-
--- entries of different sites are as many as the links
-pub as_many : (entries : List (ℕ × Link)) → IsDistinct (λ a b. a == b) (keys_of entries) → length (by_site entries) ≡ length entries
-as_many [] h = refl
-as_many (entry ∷ entries) h =
-    longer_put entry.0 entry.1 (by_site entries)
-    (found_by_site entries entry.0 ∙ none_there entry.0 entries (IsDistinct-head (λ a b. a == b) entry.0 (keys_of entries) h))
-    ∙ ap suc (as_many entries (IsDistinct-tail (λ a b. a == b) entry.0 (keys_of entries) h))
-
 -- ---- rows that don't fall, of different sites, rise
 
 all_from : (n : ℕ) (rows : List (ℕ × Link)) → ((j : ℕ) (d : ℕ × Link) → j < length rows → n ≤ (get_or rows j d).0)

@@ -1,7 +1,7 @@
 -- The sites that the index gives for an event's keys are those that the bound counts.
 use Rattle.std.specs.Prelude.{◌≡◌, ℕ, ◌<◌, ◌&&◌, true, List, length, Option, Some, None, is_some}
 use Rattle.std.proofs.Common.{refl, sym, ◌∙◌}
-use Rattle.jl_types.specs.declared.event.Event.{Event}
+use Rattle.jl_types.specs.Event.{Event}
 use Rattle.jl_types.specs.declared.link.Link.{Link}
 use Rattle.jl_types.specs.History.{world_after, installed}
 use Rattle.jl_types.proofs.InstalledLinks.{installed_requested}

@@ -2,7 +2,7 @@
 use Rattle.std.specs.Prelude.{◌≡◌, ℕ, ◌&&◌, Bool, false, List, Option, Some, None, option_map, Result, Ok, Err, is_some, if◌then◌else◌}
 use Rattle.std.specs.Option.{option_map_or}
 use Rattle.std.proofs.Common.{refl, ap, sym, ◌∙◌}
-use Rattle.jl_types.specs.declared.event.Event.{Event}
+use Rattle.jl_types.specs.Event.{Event}
 use Rattle.jl_types.specs.declared.link.Link.{Link}
 use Rattle.jl_types.specs.declared.answer.Unlinked.{Unlinked}
 use Rattle.jl_types.specs.Means.SameLink.{link_decides}

@@ -1,6 +1,6 @@
 //! The index.
 
-ghost use Rattle.std.specs.Prelude.{◌≡◌, ◌==◌, ◌||◌, ℕ, nat_eq, [], Some, None, IfOk, OnOk, OnErr, if◌then◌else◌};
+ghost use Rattle.std.specs.Prelude.{◌≡◌, ◌==◌, ◌||◌, ℕ, nat_eq, [], length, Some, None, IfOk, OnOk, OnErr, if◌then◌else◌};
 ghost use Rattle.std.specs.List.{list_any};
 ghost use Rattle.std.specs.Option.{option_copied};
 ghost use Rattle.indexmap.specs.IndexMap.{get};
@@ -72,8 +72,9 @@ impl Index {
         Ok(copy)
     }
 
-    /// How many sites have a footprint.
-    fn len(&self) -> usize
+    /// How many sites have a footprint. Takes no memory.
+    pub fn len(&self) -> usize
+        ensures count { result ≡ length self.now }
         ensures rising { AreRising self.now }
     {
         self.footprints.len()

@@ -24,16 +24,16 @@ pub fn keys_of(alloc: Global, world: &World, event: &Event) -> Result<Keys, Allo
     ensures { IfOk result (λ keys. keys ≡ footprints.keys world.now event.now) }
 {
     match event {
-        Event::Define(loader, file) => of_definition(alloc, &world.classes, *loader, file),
-        Event::SetTarget(site, _) => of_target(alloc, *site),
-        Event::Invalidate(points) => of_points(alloc, &world.sites, points.as_slice()),
+        Event::Define(loader, file) => keys_of_definition(alloc, &world.classes, *loader, file),
+        Event::SetTarget(site, _) => keys_of_target(alloc, *site),
+        Event::Invalidate(points) => keys_of_points(alloc, &world.sites, points.as_slice()),
         _ => Ok(Seq::of(Vec::new(alloc))),
     }
 }
 
 /// What a definition changes: the receivers of the ancestors of the class that the loader makes of the file, where objects may be of
 /// it. Want of memory is an error.
-fn of_definition(
+pub fn keys_of_definition(
     alloc: Global,
     classes: &Classes,
     loader: LoaderId,
@@ -58,7 +58,7 @@ fn push_receivers(keys: &mut Vec<Key>, classes: &[ClassId]) -> Result<(), AllocE
 }
 
 /// What a new target changes. Want of memory is an error.
-fn of_target(alloc: Global, site: CallSiteId) -> Result<Keys, AllocError>
+pub fn keys_of_target(alloc: Global, site: CallSiteId) -> Result<Keys, AllocError>
     ensures { IfOk result (λ keys. keys ≡ key.Target site ∷ []) }
 {
     let mut keys = Vec::new(alloc);
@@ -67,7 +67,7 @@ fn of_target(alloc: Global, site: CallSiteId) -> Result<Keys, AllocError>
 }
 
 /// What becomes of these points: those that are valid aren't any more. Want of memory is an error.
-fn of_points(alloc: Global, sites: &Sites, points: &[SwitchId]) -> Result<Keys, AllocError>
+pub fn keys_of_points(alloc: Global, sites: &Sites, points: &[SwitchId]) -> Result<Keys, AllocError>
     ensures { IfOk result (λ keys. keys ≡ map key.Valid (footprints.still_valid sites.now points.now)) }
 {
     let valid = valid_among(alloc, sites, points)?;

@@ -2,7 +2,7 @@
 
 ghost use Rattle.std.specs.Prelude.{◌≡◌, ◌==◌, ◌&&◌, ℕ, List, Option, Some, Ok, false, is_some};
 ghost use Rattle.std.specs.List.{list_any};
-ghost use Rattle.jl_types.specs.declared.event.Event.{Event};
+ghost use Rattle.jl_types.specs.Event.{Event};
 ghost use Rattle.jl_types.specs.declared.link.Link.{Link};
 ghost use Rattle.jl_types.specs.World.{World};
 ghost use Rattle.jl_types.specs.Links.{scratch};

@@ -13,5 +13,5 @@ mod lists;
 
 pub use footprint::{Footprint, footprint_of};
 pub use index::Index;
-pub use keys::{Keys, keys_of};
+pub use keys::{Keys, keys_of, keys_of_definition, keys_of_points, keys_of_target};
 pub use laws::only_touched_sites_change;

@@ -1,6 +1,6 @@
 use Rattle.std.specs.Prelude.{length}
 use Rattle.std.proofs.Common.{sym, ap, ◌∙◌}
-use Rattle.jl_cache.proofs.SortedLaws.{as_many}
+use Rattle.jl_types.proofs.BySite.{as_many}
 use Rattle.jl_cache.proofs.cache.Cache.len.Goals as goal
 
 pub returns : goal.returns

@@ -1,0 +1,26 @@
+-- Worked links: which stay, and which go.
+use Rattle.std.specs.Prelude.{◌≡◌, ℕ, true, false, length, Some, None}
+use Rattle.std.proofs.Common.{refl}
+use Rattle.jl_classfile.specs.Class.{ClassFile}
+use Rattle.jl_types.specs.declared.event.EventOf.TheVariants as event
+use Rattle.jl_types.specs.declared.link.Link.TheVariants.{Mega}
+use Rattle.jl_types.specs.World.{World, nothing_yet}
+use Rattle.jl_settle.specs.Settling.{kept_at, goes, defined_by}
+
+-- a site that was never requested has no link from scratch
+unrequested_is_not_kept : kept_at nothing_yet (λ s. Some Mega) 0 ≡ None
+unrequested_is_not_kept = refl
+
+unrequested_goes : goes nothing_yet (λ s. Some Mega) 0 ≡ true
+unrequested_goes = refl
+
+module _ (w : World) (s : ℕ) where
+  no_link_goes : goes w (λ s. None) s ≡ false
+  no_link_goes = refl
+
+module _ (w : World) (loader : ℕ) (file : ClassFile) where
+  definition_defines_the_next_class : defined_by w (event.Define loader file) ≡ Some (length w.classes.rows)
+  definition_defines_the_next_class = refl
+
+  new_switch_defines_none : defined_by w event.NewSwitch ≡ None
+  new_switch_defines_none = refl

@@ -1,0 +1,333 @@
+-- What is left once the touched sites were looked at.
+use Rattle.std.specs.Prelude.{◌≡◌, ℕ, suc, ◌+◌, ◌<◌, ◌==◌, ◌&&◌, ◌||◌, Bool, true, false, List, [], ◌∷◌, ◌++◌, not, zero, drop, map, length, Option, Some, None, option_map, Result, Ok, Err, is_some, is_none, IfSome, OnOk, if◌then◌else◌}
+use Rattle.std.specs.List.{AllByRecursion}
+use Rattle.std.specs.Bool.{one_answer}
+use Rattle.std.proofs.Common.{refl, ap, sym, subst, ◌∙◌, arith, add-one, length-append}
+use Rattle.std.proofs.lemmas.Bool.{or_left, or_right}
+use Rattle.std.proofs.lemmas.Cmp.{nat_eq_equiv}
+use Rattle.std.proofs.lemmas.Option.{same_Some}
+use Rattle.std.proofs.lemmas.Bool.Decides.{Decides-eqb}
+use Rattle.std.proofs.lemmas.List.Folds.{list_any-append}
+use Rattle.jl_classfile.specs.Class.{ClassFile}
+use Rattle.jl_types.specs.declared.answer.Unlinked.{Unlinked}
+use Rattle.jl_types.specs.declared.link.Link.{Link}
+use Rattle.jl_types.specs.Means.SameLink.{same_link, link_decides}
+use Rattle.jl_types.specs.World.{World}
+use Rattle.jl_types.specs.Definitions.{class_made}
+use Rattle.jl_types.specs.Event.{Event}
+use Rattle.jl_types.specs.declared.event.EventOf.TheVariants as event
+use Rattle.jl_types.specs.declared.key.Key.{Key}
+use Rattle.jl_types.specs.Links.{outcome, scratch}
+use Rattle.jl_types.specs.Sites.{stage}
+use Rattle.jl_types.specs.Events.{step}
+use Rattle.jl_types.specs.Entries.{defines}
+use Rattle.jl_types.specs.History.{is_link, kept}
+use Rattle.jl_types.specs.Footprints.{footprint, most_for, stays_with, touches}
+use Rattle.jl_hierarchy.proofs.Rising.{has}
+use Rattle.jl_relink.specs.Laws.{OneMore}
+use Rattle.jl_relink.specs.Receivers.{TellsStay}
+use Rattle.jl_relink.proofs.OneReceiver.{one_more}
+use Rattle.jl_relink.proofs.Costs.{takes_one_evaluation}
+use Rattle.jl_cache.specs.Links.{link_with}
+use Rattle.jl_deps.specs.Indexes.{footprint_at, AreRising, IsIndex, StaysIndexed, touched_by}
+use Rattle.jl_deps.proofs.IndexLaws.{touched_of, others_stay}
+use Rattle.jl_settle.specs.Settling.{kept_at, goes, defined_by, HasChanged, IsTold, MayBeAsked}
+
+-- ---- loops over sites
+
+-- one site more, with its value
+pub one_more_at : {A : Type 0} (F : ℕ → A) (next now old : A) (front : List ℕ) (site s : ℕ) → next ≡ (if site == s then F site else now)
+    → now ≡ (if has s front then F s else old) → next ≡ (if has s (front ++ site ∷ []) then F s else old)
+one_more_at F next now old front site s last before =
+    last ∙ by_site (site == s) refl ∙ ap (λ (b : Bool). if b then F s else old) (sym (list_any-append (λ t. t == s) front (site ∷ [])))
+  where
+    by_tests : (b : Bool) → F s ≡ (if b || true then F s else old)
+    by_tests true = refl
+    by_tests false = refl
+
+    either : (b : Bool) → (if b then F s else old) ≡ (if b || false then F s else old)
+    either true = refl
+    either false = refl
+
+    by_site : (b : Bool) → (site == s) ≡ b → (if b then F site else now) ≡ (if has s front || (b || false) then F s else old)
+    by_site true is = ap F ((Decides-eqb site s).0 is) ∙ by_tests (has s front)
+    by_site false is = before ∙ either (has s front)
+
+rest_of : (P : ℕ → Type 0) (xs : List ℕ) (i : ℕ) → AllByRecursion P (drop i xs) → AllByRecursion P (drop (suc i) xs)
+rest_of P [] zero h = tt
+rest_of P [] (suc i) h = tt
+rest_of P (x ∷ xs) zero h = h.1
+rest_of P (x ∷ xs) (suc i) h = rest_of P xs i h
+
+pub all_rest : (P : ℕ → Type 0) (xs : List ℕ) (i : ℕ) → AllByRecursion P (drop i xs) → AllByRecursion P (drop (i + 1) xs)
+all_rest P xs i h = rw add-one (rest_of P xs i h)
+
+-- ---- what is kept
+
+none_kept : (r : Result Link Unlinked) → kept false None r ≡ None
+none_kept (Ok l) = refl
+none_kept (Err reason) = refl
+
+-- what is kept is the link, unless that goes
+kept_or : (o : Option Link) (r : Result Link Unlinked) → (if is_some o && is_none (kept false o r) then None else o) ≡ kept false o r
+kept_or None r = sym (none_kept r)
+kept_or (Some l) (Err reason) = refl
+kept_or (Some l) (Ok now) = by_test (same_link l now) refl
+  where
+    by_test : (b : Bool) → same_link l now ≡ b → (if is_none (if b then Some now else None) then None else Some l) ≡ (if b then Some now else None)
+    by_test true is = ap Some ((link_decides l now).0 is)
+    by_test false is = refl
+
+some_none : (o : Option Link) → (is_some o && is_none o) ≡ false
+some_none None = refl
+some_none (Some l) = refl
+
+-- ---- the sites that aren't touched, and those that are
+
+module _ (world : World) (keys : List Key) (defined : Option ℕ) (links : ℕ → Option Link) (index : List (ℕ × List Key))
+    (changed : HasChanged world keys defined links index) (rising : AreRising index) where
+  -- a site that isn't touched
+  pub other : (s : ℕ) → has s (touched_by index keys) ≡ false
+      → (kept_at world links s ≡ links s) × (option_map (λ l. footprint world s) (links s) ≡ footprint_at index s)
+  other s none =
+      let stays : StaysIndexed changed.before changed.event links index s =
+      others_stay changed.before changed.event links index rising changed.index_is changed.order changed.scratch s
+      (ap (λ (k : List Key). has s (touched_by index k)) (sym changed.keys_are) ∙ none)
+      in (
+        ap (λ (w : World). kept_at w links s) changed.step ∙ stays.link,
+        ap (λ (w : World). option_map (λ l. footprint w s) (links s)) changed.step ∙ stays.rests_on,
+      )
+
+  is_touched : (s : ℕ) → has s (touched_by index keys) ≡ true → (is_some (links s) && touches changed.before changed.event s) ≡ true
+  is_touched s inside =
+      sym (touched_of changed.before changed.event links index rising changed.index_is s)
+      ∙ ap (λ (k : List Key). has s (touched_by index k)) (sym changed.keys_are) ∙ inside
+
+  -- ---- once the links that go were dropped
+
+  module _ (lost : List ℕ) (now : ℕ → Option Link)
+      (listed : (s : ℕ) → has s lost ≡ (has s (touched_by index keys) && goes world links s))
+      (removed : (s : ℕ) → now s ≡ (if has s lost then None else links s)) where
+    pub are_lost : (s : ℕ) → has s lost ≡ goes world links s
+    are_lost s = listed s ∙ by_touched (has s (touched_by index keys)) refl
+      where
+        by_touched : (b : Bool) → has s (touched_by index keys) ≡ b → (b && goes world links s) ≡ goes world links s
+        by_touched true is = refl
+        by_touched false is = sym (ap (λ (o : Option Link). is_some (links s) && is_none o) (other s is).0 ∙ some_none (links s))
+
+    pub are_kept : (s : ℕ) → now s ≡ kept_at world links s
+    are_kept s = removed s ∙ ap (λ (b : Bool). if b then None else links s) (are_lost s) ∙ kept_or (links s) (scratch world s)
+
+    -- the touched sites were looked up again
+    pub refreshed : (left : List (ℕ × List Key))
+        → ((s : ℕ) → footprint_at left s ≡ (if has s (touched_by index keys) then option_map (λ l. footprint world s) (now s) else footprint_at index s))
+        → IsIndex world now left
+    refreshed left indexed s = indexed s ∙ by_touched (has s (touched_by index keys)) refl
+      where
+        by_touched : (b : Bool) → has s (touched_by index keys) ≡ b
+            → (if b then option_map (λ l. footprint world s) (now s) else footprint_at index s) ≡ option_map (λ l. footprint world s) (now s)
+        by_touched true is = refl
+        by_touched false is =
+            let stays = other s is in
+            sym stays.1 ∙ ap (option_map (λ l. footprint world s)) (sym (are_kept s ∙ stays.0))
+
+    -- the sites whose links went were taken out, and what the others rest on stays
+    pub left_out : ((s : ℕ) → has s (touched_by index keys) ≡ true → footprint_at index s ≡ option_map (λ l. footprint world s) (links s))
+        → (left : List (ℕ × List Key)) → ((s : ℕ) → footprint_at left s ≡ (if has s lost then None else footprint_at index s)) → IsIndex world now left
+    left_out rests left taken s =
+        taken s ∙ by_lost (has s lost) ∙ ap (option_map (λ l. footprint world s)) (sym (removed s))
+      where
+        as_before : (b : Bool) → has s (touched_by index keys) ≡ b → footprint_at index s ≡ option_map (λ l. footprint world s) (links s)
+        as_before true is = rests s is
+        as_before false is = sym (other s is).1
+
+        by_lost : (b : Bool) → (if b then None else footprint_at index s) ≡ option_map (λ l. footprint world s) (if b then None else links s)
+        by_lost true = refl
+        by_lost false = as_before (has s (touched_by index keys)) refl
+
+all_of : (P : ℕ → Type 0) (xs : List ℕ) → ((s : ℕ) → has s xs ≡ true → P s) → AllByRecursion P xs
+all_of P [] h = tt
+all_of P (x ∷ xs) h = (h x (or_left (x == x) (has x xs) (nat_eq_equiv.refl x)), all_of P xs (λ s k. h s (or_right (x == s) (has s xs) k)))
+
+second : (a b : Bool) → (a && b) ≡ true → b ≡ true
+second true b h = h
+second false b h = cc
+
+same_turned : (a b : Link) → same_link a b ≡ same_link b a
+same_turned a b =
+    one_answer (same_link a b) (same_link b a) (λ e. e, λ e. e)
+    (λ h. (link_decides a b).1 (sym ((link_decides b a).0 h)), λ h. (link_decides b a).1 (sym ((link_decides a b).0 h)))
+
+told_kept : (l : Link) (r : Result Link Unlinked) → is_link r l ≡ is_some (kept false (Some l) r)
+told_kept l (Err reason) = refl
+told_kept l (Ok now) = same_turned now l ∙ by_test (same_link l now)
+  where
+    by_test : (b : Bool) → b ≡ is_some (if b then Some now else None)
+    by_test true = refl
+    by_test false = refl
+
+not_defined : (w : World) (e : Event) → None ≡ defined_by w e → defines e ≡ false
+not_defined w event.NewLoader is = refl
+not_defined w (event.Define loader file) is = cc
+not_defined w (event.Delegate loader name to) is = refl
+not_defined w (event.Request place) is = refl
+not_defined w (event.NewCallSite kind ty target) is = refl
+not_defined w (event.SetTarget c target) is = refl
+not_defined w event.NewSwitch is = refl
+not_defined w (event.Invalidate points) is = refl
+not_defined w (event.Bind s c) is = refl
+not_defined w (event.Install rows) is = refl
+
+-- the event is the definition of this class
+pub record IsDefinition (w : World) (e : Event) (x : ℕ) : Type 0 where
+  pub loader : ℕ
+  pub file : ClassFile
+  pub is : e ≡ event.Define loader file
+  pub class : x ≡ length w.classes.rows
+
+definition : (w : World) (e : Event) (x : ℕ) → Some x ≡ defined_by w e → IsDefinition w e x
+definition w (event.Define loader file) x is = record { loader = loader; file = file; is = refl; class = same_Some x (length w.classes.rows) is }
+definition w event.NewLoader x is = cc
+definition w (event.Delegate loader name to) x is = cc
+definition w (event.Request place) x is = cc
+definition w (event.NewCallSite kind ty target) x is = cc
+definition w (event.SetTarget c target) x is = cc
+definition w event.NewSwitch x is = cc
+definition w (event.Invalidate points) x is = cc
+definition w (event.Bind s c) x is = cc
+definition w (event.Install rows) x is = cc
+
+module _ (world : World) (keys : List Key) (links : ℕ → Option Link) (index : List (ℕ × List Key)) (rising : AreRising index) where
+  -- each touched site takes one evaluation
+  each_one : HasChanged world keys None links index → AllByRecursion (MayBeAsked world None links) (touched_by index keys)
+  each_one changed =
+      all_of (MayBeAsked world None links) (touched_by index keys) (λ s inside.
+      ap (λ (w : World). most_for w s) changed.step
+      ∙ takes_one_evaluation changed.before changed.event s (not_defined changed.before changed.event changed.defined_is)
+      (second (is_some (links s)) (touches changed.before changed.event s) (is_touched world keys None links index changed rising s inside)))
+
+  module _ (x : ℕ) (changed : HasChanged world keys (Some x) links index) where
+    is_definition : IsDefinition changed.before changed.event x
+    is_definition = definition changed.before changed.event x changed.defined_is
+
+    after : world ≡ step changed.before (event.Define is_definition.loader is_definition.file)
+    after = changed.step ∙ ap (step changed.before) is_definition.is
+
+    pub there : x < length world.classes.rows
+    there =
+        let more = length-append changed.before.classes.rows (class_made changed.before.classes is_definition.loader is_definition.file ∷ []) in
+        subst (λ (w : World). x < length w.classes.rows) (sym after) (let is = is_definition.class in omega arith)
+
+    more : (s : ℕ) (l : Link) → links s ≡ Some l → has s (touched_by index keys) ≡ true
+        → OneMore changed.before is_definition.loader is_definition.file s l
+    more s l is inside =
+        one_more changed.before changed.order is_definition.loader is_definition.file s l
+        (ap (λ (e : Event). touches changed.before e s) (sym is_definition.is)
+        ∙ second (is_some (links s)) (touches changed.before changed.event s) (is_touched world keys (Some x) links index changed rising s inside))
+        (changed.scratch s l is)
+
+    -- each site that looks at the new class is told by it
+    told_at : (s : ℕ) (o : Option Link) → links s ≡ o → has s (touched_by index keys) ≡ true → IsTold world x links s
+    told_at s None is inside =
+        absurd (no_link (ap (λ (o : Option Link). is_some o && touches changed.before changed.event s) (sym is) ∙ is_touched world keys (Some x) links index changed rising s inside))
+      where
+        no_link : false ≡ true → ⊥
+        no_link e = cc e
+    told_at s (Some l) is inside =
+        let here = more s l is inside in
+        record {
+          link = l;
+          is = is;
+          told = λ stays tells.
+              tells here.invocation (ap (λ (w : World). stage w s) after ∙ here.selects) here.selector
+              ∙ (λ i. stays_with l (outcome (after i).classes here.invocation (is_definition.class i)))
+              ∙ sym here.link
+              ∙ ap (λ (w : World). is_link (scratch w s) l) (sym after)
+              ∙ told_kept l (scratch world s);
+        }
+
+    each_told : AllByRecursion (MayBeAsked world (Some x) links) (touched_by index keys)
+    each_told = all_of (MayBeAsked world (Some x) links) (touched_by index keys) (λ s inside. told_at s (links s) refl inside)
+
+    -- and what its link rests on stays
+    pub rests : (s : ℕ) → has s (touched_by index keys) ≡ true → footprint_at index s ≡ option_map (λ l. footprint world s) (links s)
+    rests s inside = by_link (links s) refl
+      where
+        by_link : (o : Option Link) → links s ≡ o → footprint_at index s ≡ option_map (λ l. footprint world s) o
+        by_link None is = changed.index_is s ∙ ap (option_map (λ l. footprint changed.before s)) is
+        by_link (Some l) is =
+            changed.index_is s ∙ ap (option_map (λ l. footprint changed.before s)) is
+            ∙ ap Some (sym (more s l is inside).rests_on ∙ ap (λ (w : World). footprint w s) (sym after))
+
+-- each touched site may be asked
+pub each_asked : (world : World) (keys : List Key) (defined : Option ℕ) (links : ℕ → Option Link) (index : List (ℕ × List Key))
+    → HasChanged world keys defined links index → AreRising index → (sites : List ℕ) → sites ≡ touched_by index keys
+    → AllByRecursion (MayBeAsked world defined links) sites
+each_asked world keys None links index changed rising sites are =
+    subst (AllByRecursion (MayBeAsked world None links)) (sym are) (each_one world keys links index rising changed)
+each_asked world keys (Some x) links index changed rising sites are =
+    subst (AllByRecursion (MayBeAsked world (Some x) links)) (sym are) (each_told world keys links index rising x changed)
+
+pub is_there : (world : World) (keys : List Key) (defined : Option ℕ) (links : ℕ → Option Link) (index : List (ℕ × List Key))
+    → HasChanged world keys defined links index → AreRising index → IfSome defined (λ x. x < length world.classes.rows)
+is_there world keys None links index changed rising = tt
+is_there world keys (Some x) links index changed rising = there world keys links index rising x changed
+
+-- ---- what is told of one site
+
+pub told_gone : (w : World) (x : ℕ) (links : ℕ → Option Link) (s : ℕ) (l : Link) (stays : Bool) → IsTold w x links s → links s ≡ Some l
+    → TellsStay w s l x stays → not stays ≡ goes w links s
+told_gone w x links s l stays told is tells = sym (ap (λ (o : Option Link). is_some o && is_none (kept false o (scratch w s))) is ∙ by_kept (kept false (Some l) (scratch w s)) said)
+  where
+    said : stays ≡ is_some (kept false (Some l) (scratch w s))
+    said =
+        let same : told.link ≡ l = same_Some told.link l (sym told.is ∙ is) in
+        told.told stays (subst (λ (m : Link). TellsStay w s m x stays) (sym same) tells) ∙ ap (λ (m : Link). is_some (kept false (Some m) (scratch w s))) same
+
+    by_kept : (o : Option Link) → stays ≡ is_some o → is_none o ≡ not stays
+    by_kept None e = sym (ap not e)
+    by_kept (Some k) e = sym (ap not e)
+
+-- ---- installs
+
+not_with : (rows : List (ℕ × Link)) (before : Option Link) (s : ℕ) → has s (map (λ (row : ℕ × Link). row.0) rows) ≡ false → link_with rows before s ≡ before
+not_with [] before s e = refl
+not_with (row ∷ rows) before s e = by_test (row.0 == s) e (λ f. not_with rows before s f)
+  where
+    by_test : (b : Bool) → (b || has s (map (λ (row : ℕ × Link). row.0) rows)) ≡ false
+        → (has s (map (λ (row : ℕ × Link). row.0) rows) ≡ false → link_with rows before s ≡ before)
+        → link_with rows (if b then Some row.1 else before) s ≡ before
+    by_test true f rest = cc
+    by_test false f rest = rest f
+
+-- the index is that of the links once the installed sites were looked up
+pub installed_index : (w : World) (rows : List (ℕ × Link)) (links now : ℕ → Option Link) (index left : List (ℕ × List Key)) → IsIndex w links index
+    → ((s : ℕ) → now s ≡ link_with rows (links s) s)
+    → ((s : ℕ) → footprint_at left s ≡ (if has s (map (λ (row : ℕ × Link). row.0) rows) then option_map (λ l. footprint w s) (now s) else footprint_at index s))
+    → IsIndex w now left
+installed_index w rows links now index left was linked looked s = looked s ∙ by_test (has s (map (λ (row : ℕ × Link). row.0) rows)) refl
+  where
+    by_test : (b : Bool) → has s (map (λ (row : ℕ × Link). row.0) rows) ≡ b
+        → (if b then option_map (λ l. footprint w s) (now s) else footprint_at index s) ≡ option_map (λ l. footprint w s) (now s)
+    by_test true e = refl
+    by_test false e = was s ∙ ap (option_map (λ l. footprint w s)) (sym (linked s ∙ not_with rows (links s) s e))
+
+-- ---- the index once all is done
+
+pub are_indexed : (world : World) (keys : List Key) (defined : Option ℕ) (links : ℕ → Option Link) (index : List (ℕ × List Key))
+    → (changed : HasChanged world keys defined links index) → (rising : AreRising index) → (lost : List ℕ) (now : ℕ → Option Link)
+    → ((s : ℕ) → has s lost ≡ (has s (touched_by index keys) && goes world links s))
+    → ((s : ℕ) → now s ≡ (if has s lost then None else links s))
+    → (left : List (ℕ × List Key))
+    → (is_some defined ≡ true → (s : ℕ) → footprint_at left s ≡ (if has s lost then None else footprint_at index s))
+    → (is_some defined ≡ false → (s : ℕ)
+    → footprint_at left s ≡ (if has s (touched_by index keys) then option_map (λ l. footprint world s) (now s) else footprint_at index s))
+    → IsIndex world now left
+are_indexed world keys None links index changed rising lost now listed removed left taken looked_up =
+    refreshed world keys None links index changed rising lost now listed removed left (looked_up refl)
+are_indexed world keys (Some x) links index changed rising lost now listed removed left taken looked_up =
+    left_out world keys (Some x) links index changed rising lost now listed removed (rests world keys links index rising x changed) left (taken refl)
+
+pub on_ok : {A E : Type 0} {P Q : Type 0} → (r : Result A E) → (P → Q) → OnOk r P → OnOk r Q
+on_ok (Ok x) f p = f p
+on_ok (Err e) f p = p

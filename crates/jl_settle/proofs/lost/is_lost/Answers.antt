@@ -1,0 +1,15 @@
+use Rattle.std.specs.Prelude.{◌≡◌, ℕ, Option, Some}
+use Rattle.std.proofs.Common.{rules, subst}
+use Rattle.jl_cache.specs.Links.{link_at}
+use Rattle.jl_settle.specs.Settling.{IsTold, MayBeAsked}
+use Rattle.jl_settle.proofs.SettleLaws.{told_gone}
+use Rattle.jl_settle.proofs.lost.is_lost.Goals as goal
+
+pub returns-in-Some-defined-clause-lost : goal.returns-in-Some-defined-clause-lost
+returns-in-Some-defined-clause-lost c =
+    let w = c.args.world.now in
+    let links = link_at c.args.links.now in
+    let told : IsTold w c.in-Some-defined.receiver links c.args.site =
+    subst (λ (o : Option ℕ). MayBeAsked w o links c.args.site) c.in-Some-defined.is c.requires.asked in
+    let is : links c.args.site ≡ Some c.in-Some.link = search rules in
+    told_gone w c.in-Some-defined.receiver links c.args.site c.in-Some.link c.stays_with_receiver.result told is c.stays_with_receiver.ensures.stays

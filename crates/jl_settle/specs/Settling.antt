@@ -1,0 +1,53 @@
+-- What is left of the links and the index once an event has changed the world.
+use Rattle.std.specs.Prelude.{◌≡◌, ℕ, Bool, false, length, ◌&&◌, List, Option, Some, None, Ok, is_some, is_none}
+use Rattle.jl_types.specs.Event.{Event}
+use Rattle.jl_types.specs.declared.event.EventOf.TheVariants as event
+use Rattle.jl_types.specs.declared.link.Link.{Link}
+use Rattle.jl_types.specs.World.{World}
+use Rattle.jl_types.specs.Links.{scratch}
+use Rattle.jl_types.specs.Events.{step}
+use Rattle.jl_types.specs.History.{kept}
+use Rattle.jl_types.specs.declared.key.Key.{Key}
+use Rattle.jl_types.specs.Footprints as footprints
+use Rattle.jl_types.specs.Footprints.{most_for}
+use Rattle.jl_relink.specs.Laws.{IsInOrder}
+use Rattle.jl_relink.specs.Receivers.{TellsStay}
+use Rattle.jl_deps.specs.Indexes.{IsIndex}
+
+-- the site's link, where it is the one from scratch
+abbrev pub kept_at : World → (ℕ → Option Link) → ℕ → Option Link
+kept_at w links s = kept false (links s) (scratch w s)
+
+-- the site had a link that isn't the one from scratch any more
+abbrev pub goes : World → (ℕ → Option Link) → ℕ → Bool
+goes w links s = is_some (links s) && is_none (kept_at w links s)
+
+-- the class that the event defines
+abbrev pub defined_by : World → Event → Option ℕ
+defined_by w (event.Define loader file) = Some (length w.classes.rows)
+defined_by w _ = None
+
+-- An event with these keys, which defined this class or none, led to the world. Before it each link was the one from scratch, the index
+-- that of the links, and the world in order.
+pub record HasChanged (world : World) (keys : List Key) (defined : Option ℕ) (links : ℕ → Option Link) (index : List (ℕ × List Key)) : Type 0 where
+  pub before : World
+  pub event : Event
+  pub step : world ≡ step before event
+  pub order : IsInOrder before
+  pub keys_are : keys ≡ footprints.keys before event
+  pub defined_is : defined ≡ defined_by before event
+  pub scratch : (s : ℕ) (l : Link) → links s ≡ Some l → scratch before s ≡ Ok l
+  pub index_is : IsIndex before links index
+
+-- ---- a touched site
+
+-- The site has a link, and the receiver x tells whether it stays.
+pub record IsTold (w : World) (x : ℕ) (links : ℕ → Option Link) (s : ℕ) : Type 0 where
+  pub link : Link
+  pub is : links s ≡ Some link
+  pub told : (stays : Bool) → TellsStay w s link x stays → stays ≡ is_some (kept false (Some link) (scratch w s))
+
+-- whether its link stays is known by one evaluation: that of the class that was defined, or that of the link
+abbrev pub MayBeAsked : World → Option ℕ → (ℕ → Option Link) → ℕ → Type 0
+MayBeAsked w (Some x) links s = IsTold w x links s
+MayBeAsked w None links s = most_for w s ≡ 1

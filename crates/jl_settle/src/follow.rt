@@ -1,0 +1,79 @@
+//! The links and the index of an instance that is behind another one.
+
+ghost use Rattle.std.specs.Prelude.{◌≡◌, ◌==◌, ℕ, IfOk, OnOk, if◌then◌else◌};
+ghost use Rattle.std.specs.List.{list_any};
+ghost use Rattle.std.specs.Option.{option_copied};
+ghost use Rattle.jl_cache.specs.Links.{link_at};
+ghost use Rattle.jl_deps.specs.Indexes.{footprint_at};
+
+use jl_cache::Cache;
+use jl_deps::{Footprint, Index};
+use jl_names::Seq;
+use jl_types::{Link, SiteNo};
+use std::alloc::{AllocError, Global};
+
+/// These sites have the links and the footprints that they have ahead. Nothing is evaluated, and no footprint is looked up.
+///
+/// # Errors
+///
+/// Want of memory. The links and the index are of no use then.
+pub fn take_over(
+    alloc: Global,
+    links: &mut Cache,
+    index: &mut Index,
+    links_ahead: &Cache,
+    index_ahead: &Index,
+    sites: &[SiteNo],
+) -> Result<(), AllocError>
+    ensures links { OnOk result ((s : ℕ) → link_at links.new s
+        ≡ (if list_any (λ t. t == s) sites.now then link_at links_ahead.now s else link_at links.old s)) }
+    ensures index { OnOk result ((s : ℕ) → footprint_at index.new s
+        ≡ (if list_any (λ t. t == s) sites.now then footprint_at index_ahead.now s else footprint_at index.old s)) }
+{
+    for site in sites {
+        take_link(links, *site, links_ahead.get(*site))?;
+        take_footprint(alloc, index, *site, index_ahead.footprint(*site))?;
+    }
+    Ok(())
+}
+
+/// The site has this link, or none. Want of memory is an error; nothing has changed then.
+fn take_link(links: &mut Cache, site: SiteNo, link: Option<Link>) -> Result<(), AllocError>
+    ensures { OnOk result ((s : ℕ) → link_at links.new s ≡ (if site == s then link else link_at links.old s)) }
+{
+    match link {
+        Some(link) => links.install(&[(site, link)]),
+        None => {
+            links.drop_changed(&[site]);
+            Ok(())
+        }
+    }
+}
+
+/// The site has this footprint, or none. Want of memory is an error; nothing has changed then.
+fn take_footprint(
+    alloc: Global,
+    index: &mut Index,
+    site: SiteNo,
+    footprint: Option<&Footprint>,
+) -> Result<(), AllocError>
+    ensures { OnOk result ((s : ℕ) → footprint_at index.new s ≡ (if site == s then option_copied footprint.entry else footprint_at index.old s)) }
+{
+    match footprint {
+        Some(footprint) => {
+            let copy = copied(alloc, footprint)?;
+            index.add(alloc, site, copy)
+        }
+        None => {
+            index.remove(site);
+            Ok(())
+        }
+    }
+}
+
+/// The same keys once more. Want of memory is an error.
+fn copied(alloc: Global, keys: &Footprint) -> Result<Footprint, AllocError>
+    ensures { IfOk result (λ copy. copy ≡ keys.now) }
+{
+    Ok(Seq::of(keys.as_slice().to_vec(alloc)?))
+}

@@ -1,0 +1,14 @@
+//! Brings the installed links and their index up to date once an event has changed the world, and looks at no site that the event
+//! doesn't touch (selective recompilation: Chambers, Dean and Grove 1995).
+//!
+//! `specs/Settling` says what is settled, and when.
+#![tactic(auto)]
+
+mod follow;
+mod install;
+mod lost;
+mod settling;
+
+pub use follow::take_over;
+pub use install::install_rows;
+pub use settling::settle;

@@ -1,0 +1,122 @@
+//! The links and the index once the world has changed.
+
+ghost use Rattle.std.specs.Prelude.{◌≡◌, ◌==◌, ◌+◌, ◌^◌, ◌<◌, ◌≤◌, ℕ, true, false, length, None, option_map, is_some, IfOk, OnOk, if◌then◌else◌};
+ghost use Rattle.std.specs.List.{list_any};
+ghost use Rattle.jl_types.specs.Footprints.{footprint};
+ghost use Rattle.jl_cache.specs.Links.{link_at};
+ghost use Rattle.jl_deps.specs.Indexes.{footprint_at, IsIndex, touched_by};
+ghost use Rattle.jl_settle.specs.Settling.{kept_at, goes, HasChanged};
+
+use crate::lost::lost_among;
+use jl_cache::Cache;
+use jl_deps::{Index, footprint_of};
+use jl_relink::World;
+use jl_types::{ClassId, Key, SiteNo, Work};
+use std::alloc::{AllocError, Global};
+
+/// Drops the links that aren't those from scratch any more, once an event with these keys has changed the world, and brings the index
+/// up to date. It evaluates one link for each site that the event touches, and looks at no others; where the event defined a class, it
+/// asks of a touched site what a call runs on an object of this class alone. It gives the sites whose links went.
+///
+/// # Errors
+///
+/// Want of memory. The links and the index are of no use then.
+pub fn settle(
+    alloc: Global,
+    world: &World,
+    links: &mut Cache,
+    index: &mut Index,
+    keys: &[Key],
+    defined: Option<ClassId>,
+    work: &mut Work,
+) -> Result<Vec<SiteNo>, AllocError>
+    requires changed { HasChanged world.now keys.now defined (link_at links.old) index.old }
+    requires fits { work.old + length (touched_by index.old keys.now) < 2 ^ 64 }
+    ensures ticks { OnOk result (work.new ≤ work.old + length (touched_by index.old keys.now)) }
+    ensures links { OnOk result ((s : ℕ) → link_at links.new s ≡ kept_at world.now (link_at links.old) s) }
+    ensures index { OnOk result (IsIndex world.now (link_at links.new) index.new) }
+    ensures lost { IfOk result (λ lost. (s : ℕ) → list_any (λ t. t == s) lost.items ≡ goes world.now (link_at links.old) s) }
+{
+    let sites = index.touched_by(alloc, keys)?;
+    let lost = lost_among(alloc, world, links, sites.as_slice(), &defined, work)?;
+    links.drop_changed(lost.as_slice());
+    reindex(
+        alloc,
+        world,
+        links,
+        index,
+        sites.as_slice(),
+        lost.as_slice(),
+        &defined,
+    )?;
+    Ok(lost)
+}
+
+/// Takes the sites whose links went out of the index; where no class was defined, the other touched sites may rest on other things than
+/// before. Want of memory is an error; the index is of no use then.
+fn reindex(
+    alloc: Global,
+    world: &World,
+    links: &Cache,
+    index: &mut Index,
+    sites: &[SiteNo],
+    lost: &[SiteNo],
+    defined: &Option<ClassId>,
+) -> Result<(), AllocError>
+    ensures taken { is_some defined.now ≡ true → OnOk result ((s : ℕ) → footprint_at index.new s
+        ≡ (if list_any (λ t. t == s) lost.now then None else footprint_at index.old s)) }
+    ensures looked_up { is_some defined.now ≡ false → OnOk result ((s : ℕ) → footprint_at index.new s ≡ (if list_any (λ t. t == s) sites.now
+        then option_map (λ l. footprint world.now s) (link_at links.now s) else footprint_at index.old s)) }
+{
+    if defined.is_some() {
+        remove_all(index, lost);
+        return Ok(());
+    }
+    refresh(alloc, world, links, index, sites)
+}
+
+/// Takes these sites out of the index.
+fn remove_all(index: &mut Index, sites: &[SiteNo])
+    ensures { (s : ℕ) → footprint_at index.new s ≡ (if list_any (λ t. t == s) sites.now then None else footprint_at index.old s) }
+{
+    for site in sites {
+        index.remove(*site);
+    }
+}
+
+/// Each of these sites that has a link has its footprint in the index, and each other one none. Want of memory is an error; the index is
+/// of no use then.
+pub(crate) fn refresh(
+    alloc: Global,
+    world: &World,
+    links: &Cache,
+    index: &mut Index,
+    sites: &[SiteNo],
+) -> Result<(), AllocError>
+    ensures { OnOk result ((s : ℕ) → footprint_at index.new s ≡ (if list_any (λ t. t == s) sites.now
+        then option_map (λ l. footprint world.now s) (link_at links.now s) else footprint_at index.old s)) }
+{
+    for site in sites {
+        refresh_site(alloc, world, links, index, *site)?;
+    }
+    Ok(())
+}
+
+/// The same for one site.
+fn refresh_site(
+    alloc: Global,
+    world: &World,
+    links: &Cache,
+    index: &mut Index,
+    site: SiteNo,
+) -> Result<(), AllocError>
+    ensures { OnOk result ((s : ℕ) → footprint_at index.new s ≡ (if site == s
+        then option_map (λ l. footprint world.now site) (link_at links.now site) else footprint_at index.old s)) }
+{
+    if links.get(site).is_none() {
+        index.remove(site);
+        return Ok(());
+    }
+    let footprint = footprint_of(alloc, world, site)?;
+    index.add(alloc, site, footprint)
+}
