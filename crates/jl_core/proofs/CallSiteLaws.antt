@@ -1,11 +1,12 @@
--- Refusals of call sites, switch points and bindings.
-use Rattle.std.specs.Prelude.{◌≡◌, ℕ, List, Option, Some, None, option_map, Err, IsOk, slice_get, length}
+-- The verdicts on events of call sites, switch points and bindings.
+use Rattle.std.specs.Prelude.{◌≡◌, ℕ, List, Option, Some, None, option_map, Result, Ok, IsOk, slice_get, length}
 use Rattle.std.proofs.Common.{refl, ap, sym, subst, ◌∙◌}
 use Rattle.jl_code.specs.declared.site.Operand.{Operand}
 use Rattle.jl_code.specs.declared.site.Operand.TheVariants as operand
 use Rattle.jl_code.specs.Site.{Site}
 use Rattle.jl_types.specs.declared.ids.Place.{Place}
-use Rattle.jl_types.specs.declared.event.Event.TheVariants as event
+use Rattle.jl_types.specs.Event.{Event}
+use Rattle.jl_types.specs.declared.event.EventOf.TheVariants as event
 use Rattle.jl_types.specs.declared.event.Made.{Made}
 use Rattle.jl_types.specs.declared.event.Made.TheVariants as made
 use Rattle.jl_types.specs.declared.target.CallSiteKind.{CallSiteKind}
@@ -19,25 +20,16 @@ use Rattle.jl_types.specs.Events.{unless, verdict, operand_fault, bind_at, bind_
 use Rattle.jl_types.proofs.Firsts.{first_none}
 use Rattle.jl_callsites.specs.Faults.{new_site_fault, set_target_fault}
 use Rattle.jl_callsites.proofs.Worlds.{new_site_comes_to, set_target_comes_to}
+use Rattle.jl_core.specs.Judging.{IsJudged}
 
 module _ (w : World) (kind : CallSiteKind) (ty : List ℕ) (t : Target) where
   pub new_site_verdict : (o : Option CallSiteFault) → new_site_fault w.classes w.sites ty t ≡ o
       → verdict 0 w (event.NewCallSite kind ty t) ≡ unless (option_map CallSite o) (made.CallSite (length w.sites.call_sites))
   new_site_verdict o e = (new_site_comes_to 0 w kind ty t).verdict ∙ ap (λ f. unless (option_map CallSite f) (made.CallSite (length w.sites.call_sites))) e
 
-  pub new_site_refused : (f : CallSiteFault) → new_site_fault w.classes w.sites ty t ≡ Some f → verdict 0 w (event.NewCallSite kind ty t) ≡ Err (CallSite f)
-  new_site_refused f e = new_site_verdict (Some f) e
-
-  pub new_site_accepted : new_site_fault w.classes w.sites ty t ≡ None → IsOk (verdict 0 w (event.NewCallSite kind ty t))
-  new_site_accepted e = subst IsOk (sym (new_site_verdict None e)) refl
-
 pub set_target_verdict : (w : World) (c : ℕ) (t : Target) (o : Option CallSiteFault) → set_target_fault w.classes w.sites c t ≡ o
     → verdict 0 w (event.SetTarget c t) ≡ unless (option_map CallSite o) made.Nothing
 set_target_verdict w c t o e = (set_target_comes_to 0 w c t).verdict ∙ ap (λ f. unless (option_map CallSite f) made.Nothing) e
-
-pub set_target_refused : (w : World) (c : ℕ) (t : Target) (f : CallSiteFault) → set_target_fault w.classes w.sites c t ≡ Some f
-    → verdict 0 w (event.SetTarget c t) ≡ Err (CallSite f)
-set_target_refused w c t f e = set_target_verdict w c t (Some f) e
 
 no_number : (F : ℕ → Refusal) (o : Option ℕ) → option_map F o ≡ None → o ≡ None
 no_number F None e = refl
@@ -64,5 +56,19 @@ pub no_fault : (o : Option Refusal) (m : Made) → IsOk (unless o m) → o ≡ N
 no_fault None m is = refl
 no_fault (Some r) m is = cc
 
-pub bind_accepted : (w : World) (s c : ℕ) → IsOk (verdict 0 w (event.Bind s c)) → bind_fault w s c (slice_get w.places s) ≡ None
-bind_accepted w s c is = no_fault (bind_fault w s c (slice_get w.places s)) made.Nothing is
+-- and is answered so
+pub given_so : (o : Option Refusal) (m : Made) → IsOk (unless o m) → unless o m ≡ Ok m
+given_so None m is = refl
+given_so (Some r) m is = cc
+
+pub none_of : {F : Type 0} (R : F → Refusal) (o : Option F) → option_map R o ≡ None → o ≡ None
+none_of R None e = refl
+none_of R (Some f) e = cc
+
+-- ---- what is judged
+
+pub as_judged : (max_sites : ℕ) (w : World) (asked e : Event) (o f : Option Refusal) (m : Made) (r : Result Event Refusal) → asked ≡ e
+    → verdict max_sites w e ≡ unless f m → o ≡ f → IsJudged (unless o m) e r → IsJudged (verdict max_sites w asked) asked r
+as_judged max_sites w asked e o f m r is given same judged =
+    subst (λ (x : Event). IsJudged (verdict max_sites w x) x r) (sym is)
+    (subst (λ (v : Result Made Refusal). IsJudged v e r) (sym given) (subst (λ (p : Option Refusal). IsJudged (unless p m) e r) same judged))

@@ -7,6 +7,7 @@ use Rattle.jl_types.proofs.event.Reply.TheSendSync as of_replies
 use Rattle.jl_types.proofs.Crossing.{target_send, target_sync}
 use Rattle.jl_relink.proofs.Crossing.{world_send, world_sync}
 use Rattle.jl_cache.proofs.cache.Cache.TheSendSync as of_caches
+use Rattle.jl_deps.proofs.index.Index.TheSendSync as of_indexes
 use Rattle.jl_core.specs.contracts.log.Entry as Entry
 use Rattle.jl_core.specs.contracts.instance.Instance as Instance
 use Rattle.jl_core.specs.contracts.machine.Core as Core
@@ -19,10 +20,10 @@ pub entry_sync : IsSync Entry.the_row
 entry_sync = search (target_sync, of_names.the_sync, of_links.the_sync, of_replies.the_sync, sendable, of_std) depth 60 fits 100000
 
 instance_send : IsSend Instance.the_row
-instance_send = search (world_send, of_caches.the_send, entry_send, sendable, of_std) depth 20
+instance_send = search (world_send, of_caches.the_send, of_indexes.the_send, entry_send, sendable, of_std) depth 20
 
 instance_sync : IsSync Instance.the_row
-instance_sync = search (world_sync, of_caches.the_sync, entry_sync, sendable, of_std) depth 20
+instance_sync = search (world_sync, of_caches.the_sync, of_indexes.the_sync, entry_sync, sendable, of_std) depth 20
 
 pub core_send : IsSend Core.the_row
 core_send = search (instance_send, sendable) depth 12

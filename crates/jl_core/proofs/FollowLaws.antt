@@ -1,34 +1,29 @@
 -- An instance that is one event behind another one, and what it is once the event was replayed.
-use Rattle.std.specs.Prelude.{◌≡◌, ℕ, zero, suc, ◌+◌, ◌≤◌, ◌==◌, ◌&&◌, Bool, true, false, List, [], ◌∷◌, ◌++◌, map, take, length, slice_get, Option, Some, None, option_map, is_some, IsOk, Ok, Err, Result, OnOk, OnErr, if◌then◌else◌}
-use Rattle.std.specs.List.{list_any, cons_option}
+use Rattle.std.specs.Prelude.{◌≡◌, ℕ, zero, suc, ◌+◌, ◌≤◌, ◌&&◌, Bool, true, false, List, [], ◌∷◌, ◌++◌, map, take, length, slice_get, Option, Some, None, option_map, is_some, IsOk, Ok}
+use Rattle.std.specs.List.{cons_option}
 use Rattle.std.proofs.Common.{refl, ap, sym, subst, ◌∙◌, arith}
 use Rattle.std.proofs.lemmas.List.{map-append}
 use Rattle.std.proofs.lemmas.Option.{same_Some}
 use Rattle.jl_types.specs.declared.link.Link.{Link}
-use Rattle.jl_types.specs.declared.event.Event.{Event}
-use Rattle.jl_types.specs.declared.event.Event.TheVariants as event
-use Rattle.jl_types.specs.declared.event.Made.TheVariants as made
+use Rattle.jl_types.specs.Event.{Event}
 use Rattle.jl_types.specs.declared.event.Reply.{Reply}
 use Rattle.jl_types.specs.World.{Class, World}
 use Rattle.jl_types.specs.Links.{scratch}
-use Rattle.jl_types.specs.Events.{verdict, step, install_fault}
+use Rattle.jl_types.specs.Events.{verdict, step}
 use Rattle.jl_types.specs.History.{world_after, installed, installs, kept, dropped}
 use Rattle.jl_types.specs.History as history
 use Rattle.jl_types.proofs.OneMore.{installed_step}
 use Rattle.jl_types.proofs.Places.{accepted_of, world_more}
-use Rattle.jl_cache.specs.Links.{link_at, link_with}
-use Rattle.jl_core.specs.declared.log.Accepted.{Accepted}
-use Rattle.jl_core.specs.declared.log.Accepted.TheVariants as accepted
+use Rattle.jl_types.specs.declared.key.Key.{Key}
+use Rattle.jl_relink.specs.Laws.{IsInOrder}
+use Rattle.jl_cache.specs.Links.{link_at}
+use Rattle.jl_deps.specs.Indexes.{AreRising, IsIndex}
 use Rattle.jl_core.specs.declared.log.Entry.{Entry}
 use Rattle.jl_core.specs.State.{State, events, world_of, AreAnswered}
 use Rattle.jl_core.specs.Logs.{event_of, told, are_told, shown, IsLogged}
-use Rattle.jl_core.specs.Replays.{IsBehind, IsNext, replayed}
-use Rattle.jl_core.specs.Touched.{has}
+use Rattle.jl_core.specs.Replays.{IsBehind, IsNext, IsFurther}
 use Rattle.jl_core.proofs.LogLaws.{length_told}
-use Rattle.jl_core.proofs.HistoryLaws.{core_of, IsExact, exact_links, exact_same, shown_further, told_further}
-use Rattle.jl_core.proofs.InstallLaws.{install_keeps}
-use Rattle.jl_core.proofs.CallSiteLaws.{no_fault}
-use Rattle.jl_core.proofs.SlotLaws.{left_after}
+use Rattle.jl_core.proofs.HistoryLaws.{core_of, IsExact, exact_links, shown_further, told_further}
 
 -- ---- what an entry tells
 
@@ -158,48 +153,35 @@ module _ (m : ℕ) (old : World) (links : List (ℕ × Link)) (log : List Entry)
       (ap (λ (w : World). verdict m w e) exact.world ∙ parts.0, parts.1)
 
   pub is_next : IsNext old ahead entry.event
-  is_next = record { max_sites = m; event = e; is = tells.0; accepted = subst IsOk (sym judged.0) refl; step = moved }
+  is_next = record { event = e; tells = tells.0; accepted = (m, subst IsOk (sym judged.0) refl); step = moved }
 
-  -- ---- the links
+  -- ---- what it begins with to follow
 
-  module _ (s : ℕ) where
-    quiet : installs s e ≡ false → (if list_any (λ n. n == s) entry.reply.dropped then None else link_at links s) ≡ installed (h ++ e ∷ []) s
-    quiet none =
-        (λ i. if has s ((ap (λ (r : Reply). r.dropped) tells.1 ∙ sym judged.1) i) then None else exact.links s i)
-        ∙ left_after h e s none
+  module _ (index further_index : List (ℕ × List Key)) (order : IsInOrder old) (rising : AreRising index) (indexed : IsIndex old (link_at links) index)
+      (linked : List (ℕ × Link)) (are_links : (s : ℕ) → link_at linked s ≡ installed (events further) s) (ahead_indexed : IsIndex ahead (link_at linked) further_index) where
+    pub is_further : IsFurther old ahead entry.event links linked index further_index
+    unfolding is_next
+    is_further = record {
+      next = is_next;
+      were_scratch = exact_links m old links log exact;
+      order = order;
+      rising = rising;
+      indexed = indexed;
+      kept_so = λ s.
+          are_links s ∙ ap (λ (es : List Event). installed es s) events_further
+          ∙ installed_step h e s
+          ∙ (λ i. kept (installs s e) (sym (exact.links s) i) (scratch (sym (is_world ∙ ap world_after events_further) i) s));
+      ahead_indexed = ahead_indexed;
+    }
 
-    of_install : (rows : List (ℕ × Link)) → event.Install rows ≡ e → link_with rows (link_at links s) s ≡ installed (h ++ e ∷ []) s
-    of_install rows is =
-        let free : install_fault old rows ≡ None =
-        no_fault (install_fault old rows) made.Nothing (subst IsOk (sym (ap (verdict m old) is ∙ judged.0)) refl) in
-        let same : old ≡ world_after (h ++ e ∷ []) = ap (step old) is ∙ sym moved ∙ is_world ∙ ap world_after events_further in
-        install_keeps old s links rows free (exact_links m old links log exact)
-        ∙ (λ i. kept (installs s (is i)) (exact.links s i) (scratch (same i) s))
-        ∙ sym (installed_step h e s)
+  -- ---- once it has followed
 
-    as_event : (x : Event) → Some x ≡ Some e → installs s x ≡ false → installs s e ≡ false
-    as_event x is none = ap (installs s) (sym (same_Some x e is)) ∙ none
-
-    of_class : (o : Option Class) → option_map (λ (row : Class). event.Define row.loader row.file) o ≡ Some e → installs s e ≡ false
-    of_class None is = absurd (cc is)
-    of_class (Some row) is = as_event (event.Define row.loader row.file) is refl
-
-    by_kind : (a : Accepted) → event_of ahead.classes.rows a ≡ Some e → replayed a entry.reply.dropped (link_at links s) s ≡ installed (h ++ e ∷ []) s
-    by_kind accepted.NewLoader is = quiet (as_event event.NewLoader is refl)
-    by_kind (accepted.Define c) is = quiet (of_class (slice_get ahead.classes.rows c) is)
-    by_kind (accepted.Delegate loader name to) is = quiet (as_event (event.Delegate loader name to) is refl)
-    by_kind (accepted.Request place) is = quiet (as_event (event.Request place) is refl)
-    by_kind (accepted.NewCallSite kind ty target) is = quiet (as_event (event.NewCallSite kind ty target) is refl)
-    by_kind (accepted.SetTarget c target) is = quiet (as_event (event.SetTarget c target) is refl)
-    by_kind accepted.NewSwitch is = quiet (as_event event.NewSwitch is refl)
-    by_kind (accepted.Invalidate points) is = quiet (as_event (event.Invalidate points) is refl)
-    by_kind (accepted.Bind site c) is = quiet (as_event (event.Bind site c) is refl)
-    by_kind (accepted.Install rows) is = of_install rows (same_Some (event.Install rows) e is)
-
-  -- ---- once it was replayed
+  pub few_so : (new : World) → new ≡ ahead → length ahead.places ≤ k → length new.places ≤ m
+  few_so new came few = subst (λ n. length new.places ≤ n) (sym next.limit) (subst (λ (v : World). length v.places ≤ k) (sym came) few)
 
   module _ (new : World) (after : List (ℕ × Link)) (more : List Entry) (came : new ≡ ahead)
-      (linked : (s : ℕ) → link_at after s ≡ replayed entry.event entry.reply.dropped (link_at links s) s)
+      (linked : List (ℕ × Link)) (are_links : (s : ℕ) → link_at linked s ≡ installed (events further) s)
+      (same_links : (s : ℕ) → link_at after s ≡ link_at linked s)
       (logged : more ≡ log ++ entry ∷ []) where
     is_logged : IsLogged new.classes.rows e reply log more
     is_logged = record {
@@ -217,35 +199,7 @@ module _ (m : ℕ) (old : World) (links : List (ℕ × Link)) (log : List Entry)
     pub exact_so : IsExact m new after more
     exact_so = record {
       world = came ∙ is_world ∙ ap world_of (sym same_core);
-      links = λ s. linked s ∙ by_kind s entry.event tells.0 ∙ ap (λ (es : List Event). installed es s) (sym events_further ∙ ap events (sym same_core));
+      links = λ s. same_links s ∙ are_links s ∙ ap (λ (es : List Event). installed es s) (ap events (sym same_core));
       told = told_further old new log more e reply exact.told (came ∙ moved) is_logged;
       answered = subst AreAnswered (sym same_core) answered;
     }
-
-  -- ---- by the answer
-
-  module _ (new : World) (after : List (ℕ × Link)) (more : List Entry) {U E : Type 0} (r : Result U E)
-      (came : OnOk r (new ≡ ahead))
-      (linked : OnOk r ((s : ℕ) → link_at after s ≡ replayed entry.event entry.reply.dropped (link_at links s) s))
-      (logged : OnOk r (more ≡ log ++ entry ∷ [])) where
-    pub same_if_ok : OnOk r (core_of m new more ≡ further)
-    same_if_ok = by_answer r came linked logged
-      where
-        by_answer : (r : Result U E) → OnOk r (new ≡ ahead) → OnOk r ((s : ℕ) → link_at after s ≡ replayed entry.event entry.reply.dropped (link_at links s) s)
-            → OnOk r (more ≡ log ++ entry ∷ []) → OnOk r (core_of m new more ≡ further)
-        by_answer (Ok u) w l g = same_core new after more w l g
-        by_answer (Err x) w l g = tt
-
-    pub exact_if_ok : OnErr r (new ≡ old) → OnErr r (after ≡ links) → OnErr r (more ≡ log) → length old.places ≤ m → length ahead.places ≤ k
-        → IsExact m new after more × (length new.places ≤ m)
-    exact_if_ok = by_answer r came linked logged
-      where
-        by_answer : (r : Result U E) → OnOk r (new ≡ ahead) → OnOk r ((s : ℕ) → link_at after s ≡ replayed entry.event entry.reply.dropped (link_at links s) s)
-            → OnOk r (more ≡ log ++ entry ∷ []) → OnErr r (new ≡ old) → OnErr r (after ≡ links) → OnErr r (more ≡ log)
-            → length old.places ≤ m → length ahead.places ≤ k → IsExact m new after more × (length new.places ≤ m)
-        by_answer (Ok u) w l g x y z few few_ahead =
-            (exact_so new after more w l g, subst (λ n. length new.places ≤ n) (sym next.limit) (subst (λ (v : World). length v.places ≤ k) (sym w) few_ahead))
-        by_answer (Err e) w l g x y z few few_ahead = (
-          exact_same m old new links after log more x y z exact,
-          subst (λ (v : World). length v.places ≤ m) (sym x) few,
-        )

@@ -1,13 +1,12 @@
 -- One event more, as the whole history says it.
-use Rattle.std.specs.Prelude.{◌≡◌, ℕ, ◌&&◌, true, List, [], ◌∷◌, ◌++◌, map, filter, length, slice_get, Some, Result, Ok, Err, IfOk, OnErr, is_some, is_none}
+use Rattle.std.specs.Prelude.{◌≡◌, ℕ, ◌&&◌, true, List, [], ◌∷◌, ◌++◌, map, filter, length, slice_get, Some, option_map, Ok, IsOk, is_some, is_none}
 use Rattle.std.specs.List.{range_with_len}
 use Rattle.std.proofs.Common.{ap, sym, subst, ◌∙◌}
 use Rattle.std.proofs.lemmas.List.{map-append}
 use Rattle.std.proofs.lemmas.List.Sums.{fold-append}
 use Rattle.jl_types.specs.declared.link.Link.{Link}
-use Rattle.jl_types.specs.declared.event.Event.{Event}
+use Rattle.jl_types.specs.Event.{Event}
 use Rattle.jl_types.specs.declared.event.Reply.{Reply}
-use Rattle.jl_types.specs.declared.refusal.Refusal.{Refusal}
 use Rattle.jl_types.specs.World.{Class, World, nothing_yet}
 use Rattle.jl_types.specs.Links.{scratch}
 use Rattle.jl_types.specs.Events.{verdict, step}
@@ -16,7 +15,10 @@ use Rattle.jl_types.specs.History as history
 use Rattle.jl_types.proofs.Installed.{installed_to, settled_now}
 use Rattle.jl_types.proofs.OneMore.{installed_step}
 use Rattle.jl_select.specs.Constancy.{IsConstant}
+use Rattle.jl_types.specs.declared.key.Key.{Key}
+use Rattle.jl_types.specs.Footprints.{footprint}
 use Rattle.jl_cache.specs.Links.{link_at}
+use Rattle.jl_deps.specs.Indexes.{footprint_at, IsIndex}
 use Rattle.jl_core.specs.declared.log.Entry.{Entry}
 use Rattle.jl_core.specs.State.{State, events, world_of, AreAnswered, IsAccepted}
 use Rattle.jl_core.specs.Logs.{are_told, shown, IsLogged}
@@ -63,12 +65,12 @@ module _ (old new : World) (log more : List Entry) (e : Event) (reply : Reply)
 -- ---- one event more
 
 module _ (m : ℕ) (old new : World) (before after : List (ℕ × Link)) (log more : List Entry) (e : Event) (reply : Reply)
-    (exact : IsExact m old before log) (done : IsDone (verdict m old e) old new before after log more e reply) where
+    (exact : IsExact m old before log) (accepted : IsOk (verdict m old e)) (done : IsDone old new before after log more e reply) where
   abbrev h : List Event
   h = events (core_of m old log)
 
   shown_after : shown new.classes.rows more ≡ shown old.classes.rows log ++ (e, reply) ∷ []
-  shown_after = shown_further old new log more e reply exact.told done.world done.logged
+  shown_after = shown_further old new log more e reply exact.told done.moved.step done.logged
 
   events_after : events (core_of m new more) ≡ h ++ e ∷ []
   events_after =
@@ -76,7 +78,7 @@ module _ (m : ℕ) (old new : World) (before after : List (ℕ × Link)) (log mo
       ∙ map-append (λ (entry : Event × Reply). entry.0) (shown old.classes.rows log) ((e, reply) ∷ [])
 
   world_more : new ≡ world_after (h ++ e ∷ [])
-  world_more = done.world ∙ ap (λ (w : World). step w e) exact.world ∙ sym (fold-append step nothing_yet h (e ∷ []))
+  world_more = done.moved.step ∙ ap (λ (w : World). step w e) exact.world ∙ sym (fold-append step nothing_yet h (e ∷ []))
 
   links_more : (s : ℕ) → link_at after s ≡ installed (h ++ e ∷ []) s
   links_more s = done.links s ∙ (λ i. kept (installs s e) (exact.links s i) (scratch (world_more i) s)) ∙ sym (installed_step h e s)
@@ -89,13 +91,13 @@ module _ (m : ℕ) (old new : World) (before after : List (ℕ × Link)) (log mo
   answered : history.reply m h e ≡ Ok reply
   answered =
       (λ i. replied (same_dropped i) (verdict m (sym exact.world i) e))
-      ∙ ap (replied reply.dropped) done.made
+      ∙ ap (replied reply.dropped) (done.moved.made_is m accepted)
 
   pub exact_after : IsExact m new after more
   exact_after = record {
     world = world_more ∙ ap world_after (sym events_after);
     links = λ s. links_more s ∙ ap (λ (es : List Event). installed es s) (sym events_after);
-    told = told_further old new log more e reply exact.told done.world done.logged;
+    told = told_further old new log more e reply exact.told done.moved.step done.logged;
     answered =
         subst (λ (entries : List (Event × Reply)). AreAnswered (record { max_sites = m; log = entries })) (sym shown_after)
         (answered_more m (shown old.classes.rows log) e reply exact.answered answered);
@@ -106,31 +108,16 @@ module _ (m : ℕ) (old new : World) (before after : List (ℕ × Link)) (log mo
     answered = answered;
     logged = λ i. record { max_sites = m; log = shown_after i };
     constant = subst (λ (w : World). IsConstant w.classes (world_of (core_of m new more)).classes) exact.world
-        (subst (λ (w : World). IsConstant old.classes w.classes) (world_more ∙ ap world_after (sym events_after)) done.constant);
+        (subst (λ (w : World). IsConstant old.classes w.classes) (world_more ∙ ap world_after (sym events_after)) done.moved.constant);
   }
-
--- ---- by the answer
-
-module _ (m : ℕ) (old new : World) (before after : List (ℕ × Link)) (log more : List Entry) (e : Event)
-    (exact : IsExact m old before log) where
-  pub accepted_if : (r : Result Reply Refusal) → IfOk r (IsDone (verdict m old e) old new before after log more e)
-      → IfOk r (IsAccepted (core_of m old log) (core_of m new more) e)
-  accepted_if (Ok reply) done = accepted_after m old new before after log more e reply exact done
-  accepted_if (Err r) done = tt
-
-  pub exact_if : (r : Result Reply Refusal) → IfOk r (IsDone (verdict m old e) old new before after log more e)
-      → OnErr r (new ≡ old) → OnErr r (after ≡ before) → OnErr r (more ≡ log) → IsExact m new after more
-  exact_if (Ok reply) done w l g = exact_after m old new before after log more e reply exact done
-  exact_if (Err r) done w l g =
-      subst (λ (w : World). IsExact m w after more) (sym w)
-      (subst (λ (links : List (ℕ × Link)). IsExact m old links more) (sym l) (subst (IsExact m old before) (sym g) exact))
-
-pub unchanged_if : (m : ℕ) (old new : World) (log more : List Entry) (r : Result Reply Refusal) → OnErr r (new ≡ old) → OnErr r (more ≡ log)
-    → OnErr r (core_of m new more ≡ core_of m old log)
-unchanged_if m old new log more (Ok reply) w g = tt
-unchanged_if m old new log more (Err r) w g = λ i. core_of m (w i) (g i)
 
 -- the same world, links and log
 pub exact_same : (m : ℕ) (w v : World) (links same : List (ℕ × Link)) (log more : List Entry) → v ≡ w → same ≡ links → more ≡ log → IsExact m w links log → IsExact m v same more
 exact_same m w v links same log more e f g exact = subst (λ (x : World). IsExact m x same more) (sym e)
     (subst (λ (ls : List (ℕ × Link)). IsExact m w ls more) (sym f) (subst (IsExact m w links) (sym g) exact))
+
+-- and the index of the links
+pub index_same : (old new : World) (before after : List (ℕ × Link)) (index further : List (ℕ × List Key)) → new ≡ old → after ≡ before → further ≡ index
+    → IsIndex old (link_at before) index → IsIndex new (link_at after) further
+index_same old new before after index further w l x is s =
+    (λ i. footprint_at (x i) s) ∙ is s ∙ sym (λ i. option_map (λ l. footprint (w i) s) (link_at (l i) s))

@@ -1,13 +1,10 @@
 -- Which installed links stay, and that none is lost where each stays.
-use Rattle.std.specs.Prelude.{◌≡◌, ℕ, ◌&&◌, Bool, true, false, List, [], ◌∷◌, filter, Option, Some, None, is_some, is_none, Result, Ok, Err, if◌then◌else◌}
-use Rattle.std.specs.List.{range_with_len}
+use Rattle.std.specs.Prelude.{◌≡◌, Bool, true, false, Option, Some, None, is_some, Result, Ok, Err, if◌then◌else◌}
 use Rattle.std.proofs.Common.{refl, ap, sym, ◌∙◌}
 use Rattle.jl_types.specs.declared.link.Link.{Link}
 use Rattle.jl_types.specs.declared.answer.Unlinked.{Unlinked}
 use Rattle.jl_types.specs.Means.SameLink.{same_link, link_decides}
 use Rattle.jl_types.specs.History.{kept}
-use Rattle.jl_cache.specs.Links.{link_at}
-use Rattle.jl_core.specs.Changes.{lost}
 
 same_itself : (l : Link) → same_link l l ≡ true
 same_itself l = (link_decides l l).1 refl
@@ -40,24 +37,3 @@ kept_if l (Ok now) e = by_test (same_link l now) refl e
 pub not_some : {A : Type 0} (o : Option A) → is_some o ≡ false → o ≡ None
 not_some None e = refl
 not_some (Some x) e = cc
-
--- ---- nothing is lost
-
-pub kept_none_lost : (before after : Option Link) → after ≡ before → (is_some before && is_none after) ≡ false
-kept_none_lost None after e = refl
-kept_none_lost (Some l) after e = ap is_none e
-
-filter_none : {A : Type 0} (p : A → Bool) (xs : List A) → ((x : A) → p x ≡ false) → filter p xs ≡ []
-filter_none p [] h = refl
-filter_none p (x ∷ xs) h = rw (h x) (filter_none p xs h)
-
-pub nothing_lost : (n : ℕ) (before after : List (ℕ × Link)) → ((s : ℕ) (l : Link) → link_at before s ≡ Some l → is_some (link_at after s) ≡ true) → lost n before after ≡ []
-nothing_lost n before after h = filter_none (λ s. is_some (link_at before s) && is_none (link_at after s)) (range_with_len 0 n) (λ s. by_link s (link_at before s) refl)
-  where
-    still : (o : Option Link) → is_some o ≡ true → is_none o ≡ false
-    still None e = cc
-    still (Some l) e = refl
-
-    by_link : (s : ℕ) (o : Option Link) → link_at before s ≡ o → (is_some o && is_none (link_at after s)) ≡ false
-    by_link s None e = refl
-    by_link s (Some l) e = still (link_at after s) (h s l e)

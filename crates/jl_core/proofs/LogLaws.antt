@@ -6,15 +6,14 @@ use Rattle.std.proofs.lemmas.Option.{slice_get_within}
 use Rattle.std.proofs.lemmas.List.Elements.{filter_map-append}
 use Rattle.std.proofs.lemmas.List.Folds.{list_all-append}
 use Rattle.jl_classfile.specs.Class.{ClassFile}
-use Rattle.jl_types.specs.declared.event.Event.{Event}
-use Rattle.jl_types.specs.declared.event.Event.TheVariants as event
+use Rattle.jl_types.specs.Event.{Event}
+use Rattle.jl_types.specs.declared.event.EventOf.TheVariants as event
 use Rattle.jl_types.specs.declared.event.Reply.{Reply}
 use Rattle.jl_types.specs.World.{Class, Classes, World}
 use Rattle.jl_types.specs.Events.{step}
 use Rattle.jl_types.specs.Definitions.{class_made, defined}
 use Rattle.jl_types.proofs.Lists.{before_end, at_end}
-use Rattle.jl_core.specs.declared.log.Accepted.{Accepted}
-use Rattle.jl_core.specs.declared.log.Accepted.TheVariants as accepted
+use Rattle.jl_core.specs.Logs.{Accepted}
 use Rattle.jl_core.specs.declared.log.Entry.{Entry}
 use Rattle.jl_core.specs.Logs.{event_of, told, are_told, shown}
 
@@ -34,24 +33,25 @@ rows_stay w (event.Install links) c row is = is
 -- ---- where the classes stay
 
 module _ (rows more : List Class) (stay : (c : ℕ) (row : Class) → slice_get rows c ≡ Some row → slice_get more c ≡ Some row) where
-  abbrev defined_by : Option Class → Option Event
-  defined_by row = option_map (λ (r : Class). event.Define r.loader r.file) row
+  abbrev defined_by : ℕ → Option Class → Option Event
+  defined_by loader row = option_map (λ (r : Class). event.Define loader r.file) row
 
-  define_still : (c : ℕ) (o : Option Class) → slice_get rows c ≡ o → is_some (defined_by o) ≡ true → defined_by (slice_get more c) ≡ defined_by o
-  define_still c None is e = cc
-  define_still c (Some row) is e = ap defined_by (stay c row is)
+  define_still : (loader c : ℕ) (o : Option Class) → slice_get rows c ≡ o → is_some (defined_by loader o) ≡ true
+      → defined_by loader (slice_get more c) ≡ defined_by loader o
+  define_still loader c None is e = cc
+  define_still loader c (Some row) is e = ap (defined_by loader) (stay c row is)
 
   event_still : (a : Accepted) → is_some (event_of rows a) ≡ true → event_of more a ≡ event_of rows a
-  event_still accepted.NewLoader e = refl
-  event_still (accepted.Define c) e = define_still c (slice_get rows c) refl e
-  event_still (accepted.Delegate loader name to) e = refl
-  event_still (accepted.Request place) e = refl
-  event_still (accepted.NewCallSite kind ty target) e = refl
-  event_still (accepted.SetTarget site target) e = refl
-  event_still accepted.NewSwitch e = refl
-  event_still (accepted.Invalidate points) e = refl
-  event_still (accepted.Bind site call_site) e = refl
-  event_still (accepted.Install links) e = refl
+  event_still event.NewLoader e = refl
+  event_still (event.Define loader c) e = define_still loader c (slice_get rows c) refl e
+  event_still (event.Delegate loader name to) e = refl
+  event_still (event.Request place) e = refl
+  event_still (event.NewCallSite kind ty target) e = refl
+  event_still (event.SetTarget site target) e = refl
+  event_still event.NewSwitch e = refl
+  event_still (event.Invalidate points) e = refl
+  event_still (event.Bind site call_site) e = refl
+  event_still (event.Install links) e = refl
 
   some_event : (o : Option Event) (reply : Reply) → is_some {T = Event × Reply} (option_map (λ (e : Event). (e, reply)) o) ≡ true → is_some o ≡ true
   some_event None reply e = cc
@@ -91,8 +91,8 @@ module _ (rows : List Class) (a : Accepted) (reply : Reply) (e : Event) (is : ev
   shown_more entries = filter_map-append (told rows) entries (newest ∷ []) ∙ (λ i. shown rows entries ++ cons_option (tells i) [])
 
 -- a definition names the class that it made
-pub defines : (cs : Classes) (loader : ℕ) (file : ClassFile) → event_of (defined cs loader file).rows (accepted.Define (length cs.rows)) ≡ Some (event.Define loader file)
-defines cs loader file = ap (option_map (λ (row : Class). event.Define row.loader row.file)) (at_end cs.rows (class_made cs loader file))
+pub defines : (cs : Classes) (loader : ℕ) (file : ClassFile) → event_of (defined cs loader file).rows (event.Define loader (length cs.rows)) ≡ Some (event.Define loader file)
+defines cs loader file = ap (option_map (λ (row : Class). event.Define loader row.file)) (at_end cs.rows (class_made cs loader file))
 
 -- ---- lengths
 

@@ -5,8 +5,8 @@ use Rattle.std.proofs.Common.{refl, ap, sym, ◌∙◌, arith}
 use Rattle.std.proofs.lemmas.List.{map-append}
 use Rattle.std.proofs.lemmas.Option.{same_Some, slice_get_within}
 use Rattle.jl_types.specs.declared.link.Link.{Link}
-use Rattle.jl_types.specs.declared.event.Event.{Event}
-use Rattle.jl_types.specs.declared.event.Event.TheVariants as event
+use Rattle.jl_types.specs.Event.{Event}
+use Rattle.jl_types.specs.declared.event.EventOf.TheVariants as event
 use Rattle.jl_types.specs.declared.event.Reply.{Reply}
 use Rattle.jl_types.specs.World.{Class}
 use Rattle.jl_types.specs.Events.{verdict}
@@ -15,8 +15,7 @@ use Rattle.jl_types.specs.Entries.{slots_changed}
 use Rattle.jl_types.proofs.Lists.{at_end}
 use Rattle.jl_types.proofs.Places.{accepted_of}
 use Rattle.jl_cache.specs.Links.{link_at}
-use Rattle.jl_core.specs.declared.log.Accepted.{Accepted}
-use Rattle.jl_core.specs.declared.log.Accepted.TheVariants as accepted
+use Rattle.jl_core.specs.Logs.{Accepted}
 use Rattle.jl_core.specs.declared.log.Entry.{Entry}
 use Rattle.jl_core.specs.State.{State, events, world_of, IsAccepted}
 use Rattle.jl_core.specs.Logs.{event_of, are_told, shown}
@@ -33,7 +32,7 @@ has_both s (x ∷ xs) ys e = by_test (x == s) (has s (xs ++ ys)) (has_both s xs 
     by_test true r rest f = absurd (cc f)
     by_test false r rest f = rest f
 
-installs_has : (s : ℕ) (rows : List (ℕ × Link)) → list_any (λ row. row.0 == s) rows ≡ has s (map (λ row. row.0) rows)
+pub installs_has : (s : ℕ) (rows : List (ℕ × Link)) → list_any (λ row. row.0 == s) rows ≡ has s (map (λ row. row.0) rows)
 installs_has s [] = refl
 installs_has s (row ∷ rows) = ap (λ (b : Bool). (row.0 == s) || b) (installs_has s rows)
 
@@ -41,22 +40,22 @@ module _ (rows : List Class) (e : Event) (dropped_by : List ℕ) (s : ℕ) where
   as_event : (x : Event) → Some x ≡ Some e → installs s x ≡ false → installs s e ≡ false
   as_event x is none = ap (installs s) (sym (same_Some x e is)) ∙ none
 
-  of_class : (o : Option Class) → option_map (λ (row : Class). event.Define row.loader row.file) o ≡ Some e → installs s e ≡ false
-  of_class None is = absurd (cc is)
-  of_class (Some row) is = as_event (event.Define row.loader row.file) is refl
+  of_class : (loader : ℕ) (o : Option Class) → option_map (λ (row : Class). event.Define loader row.file) o ≡ Some e → installs s e ≡ false
+  of_class loader None is = absurd (cc is)
+  of_class loader (Some row) is = as_event (event.Define loader row.file) is refl
 
   -- an event changes no other site
   outside : (a : Accepted) → event_of rows a ≡ Some e → has s (touched_by a dropped_by) ≡ false → (has s dropped_by ≡ false) × (installs s e ≡ false)
-  outside accepted.NewLoader is f = (f, as_event event.NewLoader is refl)
-  outside (accepted.Define c) is f = (f, of_class (slice_get rows c) is)
-  outside (accepted.Delegate loader name to) is f = (f, as_event (event.Delegate loader name to) is refl)
-  outside (accepted.Request place) is f = (f, as_event (event.Request place) is refl)
-  outside (accepted.NewCallSite kind ty target) is f = (f, as_event (event.NewCallSite kind ty target) is refl)
-  outside (accepted.SetTarget c target) is f = (f, as_event (event.SetTarget c target) is refl)
-  outside accepted.NewSwitch is f = (f, as_event event.NewSwitch is refl)
-  outside (accepted.Invalidate points) is f = (f, as_event (event.Invalidate points) is refl)
-  outside (accepted.Bind site c) is f = (f, as_event (event.Bind site c) is refl)
-  outside (accepted.Install links) is f =
+  outside event.NewLoader is f = (f, as_event event.NewLoader is refl)
+  outside (event.Define loader c) is f = (f, of_class loader (slice_get rows c) is)
+  outside (event.Delegate loader name to) is f = (f, as_event (event.Delegate loader name to) is refl)
+  outside (event.Request place) is f = (f, as_event (event.Request place) is refl)
+  outside (event.NewCallSite kind ty target) is f = (f, as_event (event.NewCallSite kind ty target) is refl)
+  outside (event.SetTarget c target) is f = (f, as_event (event.SetTarget c target) is refl)
+  outside event.NewSwitch is f = (f, as_event event.NewSwitch is refl)
+  outside (event.Invalidate points) is f = (f, as_event (event.Invalidate points) is refl)
+  outside (event.Bind site c) is f = (f, as_event (event.Bind site c) is refl)
+  outside (event.Install links) is f =
       let parts = has_both s dropped_by (map (λ (row : ℕ × Link). row.0) links) f in
       (parts.0, as_event (event.Install links) is (installs_has s links ∙ parts.1))
 

@@ -1,35 +1,130 @@
--- An accepted event once more.
-use Rattle.std.specs.Prelude.{◌≡◌, ℕ, Option, Some, None, option_map, IsOk, slice_get, length}
+-- An accepted event once more: what it needs, and what it leaves as it was.
+use Rattle.std.specs.Prelude.{◌≡◌, ℕ, Bool, true, false, List, map, Option, Some, None, option_map, IsOk, slice_get, if◌then◌else◌}
 use Rattle.std.proofs.Common.{refl, ap, sym, subst, ◌∙◌}
 use Rattle.std.proofs.lemmas.Option.{same_Some}
-use Rattle.jl_types.specs.declared.event.Event.{Event}
-use Rattle.jl_types.specs.declared.event.Event.TheVariants as event
+use Rattle.jl_types.specs.declared.link.Link.{Link}
+use Rattle.jl_types.specs.Event.{Event}
+use Rattle.jl_types.specs.declared.event.EventOf.TheVariants as event
 use Rattle.jl_types.specs.declared.event.Made.TheVariants as made
-use Rattle.jl_types.specs.declared.refusal.DefineFault.{DefineFault}
 use Rattle.jl_types.specs.declared.refusal.Refusal.TheVariants.{Define}
 use Rattle.jl_types.specs.World.{Class, World}
 use Rattle.jl_types.specs.Definitions.{define_fault}
+use Rattle.jl_types.specs.Links.{scratch}
 use Rattle.jl_types.specs.Events.{verdict, step}
+use Rattle.jl_types.specs.History.{installs, kept}
 use Rattle.jl_hierarchy.specs.Constancy as constancy
-use Rattle.jl_core.specs.declared.log.Accepted.TheVariants as accepted
-use Rattle.jl_core.specs.Replays.{IsNext}
-use Rattle.jl_core.proofs.CallSiteLaws.{no_fault}
+use Rattle.jl_types.specs.declared.key.Key.{Key}
+use Rattle.jl_types.specs.Footprints.{footprint, keys}
+use Rattle.jl_cache.specs.Links.{link_at}
+use Rattle.jl_deps.specs.Indexes.{footprint_at, touched_by, IsIndex}
+use Rattle.jl_settle.specs.Settling.{HasChanged, defined_by}
+use Rattle.jl_settle.proofs.SettleLaws.{other}
+use Rattle.jl_core.specs.Logs.{Accepted, event_of}
+use Rattle.jl_core.specs.Changes.{IsAcceptable, installs_at}
+use Rattle.jl_core.specs.Replays.{IsNext, IsFurther, IsUntouched}
+use Rattle.jl_core.specs.Touched.{has}
+use Rattle.jl_core.proofs.CallSiteLaws.{no_fault, none_of}
+use Rattle.jl_core.proofs.StepLaws.{none_touched}
+use Rattle.jl_core.proofs.PlanLaws.{installs_has}
 
-free_to_define : (o : Option DefineFault) → option_map Define o ≡ None → o ≡ None
-free_to_define None e = refl
-free_to_define (Some f) e = cc
+-- the event that is told is acceptable, and leads to the world ahead
+module _ (old ahead : World) (told : Accepted) (next : IsNext old ahead told) (e : Event) (tells : event_of ahead.classes.rows told ≡ Some e) where
+  same : next.event ≡ e
+  same = same_Some next.event e (sym next.tells ∙ tells)
 
-pub next_class : (old ahead : World) (c : ℕ) → IsNext old ahead (accepted.Define c) → constancy.IsNext old.classes ahead.classes
-next_class old ahead c next = by_row (slice_get ahead.classes.rows c) next.is
+  pub acceptable : IsAcceptable old e
+  acceptable = subst (IsAcceptable old) same next.accepted
+
+  pub led : ahead ≡ step old e
+  led = next.step ∙ ap (step old) same
+
+pub next_class : (old ahead : World) (loader c : ℕ) → IsNext old ahead (event.Define loader c) → constancy.IsNext old.classes ahead.classes
+next_class old ahead loader c next = by_row (slice_get ahead.classes.rows c) next.tells
   where
-    by_row : (o : Option Class) → option_map (λ (row : Class). event.Define row.loader row.file) o ≡ Some next.event → constancy.IsNext old.classes ahead.classes
+    by_row : (o : Option Class) → option_map (λ (row : Class). event.Define loader row.file) o ≡ Some next.event → constancy.IsNext old.classes ahead.classes
     by_row None e = cc
     by_row (Some row) e =
-        let same : event.Define row.loader row.file ≡ next.event = same_Some (event.Define row.loader row.file) next.event e in
-        let free = subst (λ (x : Event). IsOk (verdict next.max_sites old x)) (sym same) next.accepted in
-        let fault = define_fault old.classes row.loader row.file in (
-          row.loader,
+        let same : event.Define loader row.file ≡ next.event = same_Some (event.Define loader row.file) next.event e in
+        let free = subst (λ (x : Event). IsOk (verdict next.accepted.0 old x)) (sym same) next.accepted.1 in
+        let fault = define_fault old.classes loader row.file in (
+          loader,
           row.file,
-          free_to_define fault (no_fault (option_map Define fault) (made.Class (length old.classes.rows)) free),
+          none_of Define fault (no_fault (option_map Define fault) (made.Class _) free),
           ap (λ (w : World). w.classes) (next.step ∙ ap (step old) (sym same)),
         )
+
+-- ---- what the event installs
+
+module _ (rows : List Class) (e : Event) (s : ℕ) where
+  as_event : (x : Event) (b : Bool) → Some x ≡ Some e → installs s x ≡ b → installs s e ≡ b
+  as_event x b is none = ap (installs s) (sym (same_Some x e is)) ∙ none
+
+  of_row : (loader : ℕ) (o : Option Class) → option_map (λ (row : Class). event.Define loader row.file) o ≡ Some e → installs s e ≡ false
+  of_row loader None is = absurd (cc is)
+  of_row loader (Some row) is = as_event (event.Define loader row.file) false is refl
+
+  pub installs_so : (told : Accepted) → event_of rows told ≡ Some e → installs s e ≡ installs_at s told
+  installs_so event.NewLoader is = as_event event.NewLoader false is refl
+  installs_so (event.Define loader c) is = of_row loader (slice_get rows c) is
+  installs_so (event.Delegate loader name to) is = as_event (event.Delegate loader name to) false is refl
+  installs_so (event.Request place) is = as_event (event.Request place) false is refl
+  installs_so (event.NewCallSite kind ty target) is = as_event (event.NewCallSite kind ty target) false is refl
+  installs_so (event.SetTarget c target) is = as_event (event.SetTarget c target) false is refl
+  installs_so event.NewSwitch is = as_event event.NewSwitch false is refl
+  installs_so (event.Invalidate points) is = as_event (event.Invalidate points) false is refl
+  installs_so (event.Bind site c) is = as_event (event.Bind site c) false is refl
+  installs_so (event.Install links) is = as_event (event.Install links) (installs_at s (event.Install links)) is refl
+
+-- an install changes no other sites
+pub install_untouched : (w : World) (rows : List Class) (index : List (ℕ × List Key)) (e : Event) (told : Accepted) (links : List (ℕ × Link))
+    → told ≡ event.Install links → event_of rows told ≡ Some e → (s : ℕ) → has s (map (λ (row : ℕ × Link). row.0) links) ≡ false → IsUntouched w index e s
+install_untouched w rows index e told links is tells s none =
+    let same : event.Install links ≡ e = same_Some (event.Install links) e (ap (event_of rows) (sym is) ∙ tells) in (
+      ap (λ (x : Event). has s (touched_by index (keys w x))) (sym same) ∙ ap (has s) (none_touched index),
+      ap (installs s) (sym same) ∙ installs_has s links ∙ none,
+    )
+
+-- ---- what is taken over
+
+module _ (old ahead : World) (told : Accepted) (links linked : List (ℕ × Link)) (index far : List (ℕ × List Key))
+    (further : IsFurther old ahead told links linked index far) (sites : List ℕ)
+    (others : (s : ℕ) → has s sites ≡ false → IsUntouched old index further.next.event s) where
+  abbrev e : Event
+  e = further.next.event
+
+  changed : HasChanged ahead (keys old e) (defined_by old e) (link_at links) index
+  changed = record {
+    before = old;
+    event = e;
+    step = further.next.step;
+    order = further.order;
+    keys_are = refl;
+    defined_is = refl;
+    scratch = further.were_scratch;
+    index_is = further.indexed;
+  }
+
+  stays : (s : ℕ) → has s sites ≡ false
+      → (kept false (link_at links s) (scratch ahead s) ≡ link_at links s) × (option_map (λ l. footprint ahead s) (link_at links s) ≡ footprint_at index s)
+  stays s none = other ahead (keys old e) (defined_by old e) (link_at links) index changed further.rising s (others s none).0
+
+  pub links_taken : (left : List (ℕ × Link)) → ((s : ℕ) → link_at left s ≡ (if has s sites then link_at linked s else link_at links s))
+      → (s : ℕ) → link_at left s ≡ link_at linked s
+  links_taken left taken s = taken s ∙ by_site (has s sites) refl
+    where
+      by_site : (b : Bool) → has s sites ≡ b → (if b then link_at linked s else link_at links s) ≡ link_at linked s
+      by_site true is = refl
+      by_site false is =
+          sym (further.kept_so s
+          ∙ ap (λ (b : Bool). kept b (link_at links s) (scratch ahead s)) (others s is).1
+          ∙ (stays s is).0)
+
+  pub index_taken : (left : List (ℕ × Link)) → ((s : ℕ) → link_at left s ≡ (if has s sites then link_at linked s else link_at links s))
+      → (near : List (ℕ × List Key)) → ((s : ℕ) → footprint_at near s ≡ (if has s sites then footprint_at far s else footprint_at index s))
+      → IsIndex ahead (link_at left) near
+  index_taken left taken near looked s = looked s ∙ by_site (has s sites) refl ∙ ap (option_map (λ l. footprint ahead s)) (sym (taken s))
+    where
+      by_site : (b : Bool) → has s sites ≡ b → (if b then footprint_at far s else footprint_at index s)
+          ≡ option_map (λ l. footprint ahead s) (if b then link_at linked s else link_at links s)
+      by_site true is = further.ahead_indexed s
+      by_site false is = sym (stays s is).1

@@ -1,19 +1,21 @@
 -- Worked cores: what a log comes to, and which cores some events lead to.
 use Rattle.std.specs.Prelude.{◌≡◌, true, false, [], ◌∷◌, Some, None, Ok, Err}
 use Rattle.std.proofs.Common.{refl, inl}
-use Rattle.jl_types.specs.declared.event.Event.TheVariants as event
+use Rattle.jl_types.specs.declared.event.EventOf.TheVariants as event
 use Rattle.jl_types.specs.declared.event.Made.TheVariants as made
+use Rattle.jl_types.specs.Event.{Event}
 use Rattle.jl_types.specs.declared.event.Reply.{Reply}
 use Rattle.jl_types.specs.declared.refusal.Refusal.TheVariants.{CallSite}
 use Rattle.jl_types.specs.declared.refusal.CallSiteFault.TheVariants.{UnknownSwitch}
+use Rattle.jl_types.specs.Footprints.{bound}
 use Rattle.jl_types.specs.World.{Class, nothing_yet}
 use Rattle.jl_select.proofs.Constancy.{constant_itself}
 use Rattle.jl_relink.proofs.Loaders.{loader_constant}
-use Rattle.jl_core.specs.declared.log.Accepted.TheVariants as accepted
 use Rattle.jl_core.specs.declared.log.Entry.{Entry}
 use Rattle.jl_core.specs.State.{State, empty_core, events, world_of, links_of}
 use Rattle.jl_core.specs.Logs.{event_of, are_told, shown}
 use Rattle.jl_core.specs.Headline.{AreApplied}
+use Rattle.jl_core.specs.Works.{most_of_last}
 
 -- ---- no events
 
@@ -62,16 +64,32 @@ two_loaders = refl
 
 module _ (row : Class) where
   abbrev defined : Entry
-  defined = record { event = accepted.Define 0; reply = record { made = made.Class 0; dropped = [] } }
+  defined = record { event = event.Define 3 0; reply = record { made = made.Class 0; dropped = [] } }
 
-  class_tells_its_definition : event_of (row ∷ []) (accepted.Define 0) ≡ Some (event.Define row.loader row.file)
+  class_tells_its_definition : event_of (row ∷ []) (event.Define 3 0) ≡ Some (event.Define 3 row.file)
   class_tells_its_definition = refl
 
-  no_class_tells_nothing : event_of (row ∷ []) (accepted.Define 1) ≡ None
+  no_class_tells_nothing : event_of (row ∷ []) (event.Define 3 1) ≡ None
   no_class_tells_nothing = refl
 
-  shown_with_its_reply : shown (row ∷ []) (defined ∷ []) ≡ (event.Define row.loader row.file, defined.reply) ∷ []
+  shown_with_its_reply : shown (row ∷ []) (defined ∷ []) ≡ (event.Define 3 row.file, defined.reply) ∷ []
   shown_with_its_reply = refl
 
   each_has_to_tell : are_told [] (defined ∷ []) ≡ false
   each_has_to_tell = refl
+
+-- ---- how many evaluations the last event may take
+
+nothing_takes_nothing : most_of_last [] ≡ 0
+nothing_takes_nothing = refl
+
+module _ (e f g : Event) where
+  first_takes_its_bound : most_of_last (e ∷ []) ≡ bound [] e
+  first_takes_its_bound = refl
+
+  last_takes_its_bound : most_of_last (e ∷ f ∷ g ∷ []) ≡ bound (e ∷ f ∷ []) g
+  last_takes_its_bound = refl
+
+-- of a point on which no link rests
+point_takes_nothing : most_of_last (event.NewSwitch ∷ event.Invalidate (0 ∷ []) ∷ []) ≡ 0
+point_takes_nothing = refl

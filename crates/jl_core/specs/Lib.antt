@@ -1,10 +1,11 @@
--- `State`, `Logs`, `Plans` and `Headline` are what contracts cite; the others are means of proof.
+-- `State`, `Logs`, `Plans`, `Headline` and `Works` are what contracts cite; the others are means of proof.
 pub mod State
 pub mod Logs
 pub mod Plans
 pub mod Headline
+pub mod Works
+pub mod Judging
 pub mod Changes
-pub mod Rooms
-pub mod Batches
+pub mod Steps
 pub mod Replays
 pub mod Touched

@@ -1,7 +1,7 @@
 -- Planned events. A plan makes all that is to be refused and all room, so that what is left of the event can't fail.
 use Rattle.std.specs.Prelude.{ℕ, List, Option}
 use Rattle.jl_types.specs.declared.link.Link.{Link}
-use Rattle.jl_types.specs.declared.event.Event.{Event}
+use Rattle.jl_types.specs.Event.{Event}
 use Rattle.jl_types.specs.declared.event.Reply.{Reply}
 use Rattle.jl_types.specs.Entries.{IsEntry}
 use Rattle.jl_core.specs.State.{State, events, IsAccepted}

@@ -5,12 +5,12 @@ use Rattle.jl_types.specs.declared.link.Link.{Link}
 use Rattle.jl_types.specs.Entries.{change}
 use Rattle.jl_cache.specs.Links.{link_at}
 use Rattle.jl_hierarchy.specs.Kept.{Rises}
-use Rattle.jl_core.specs.declared.log.Accepted.{Accepted}
-use Rattle.jl_core.specs.declared.log.Accepted.TheVariants as accepted
+use Rattle.jl_core.specs.Logs.{Accepted}
+use Rattle.jl_types.specs.declared.event.EventOf.TheVariants as event
 
 -- those that it drops, and those that it installs
 abbrev pub touched_by : Accepted → List ℕ → List ℕ
-touched_by (accepted.Install rows) dropped = dropped ++ map (λ row. row.0) rows
+touched_by (event.Install rows) dropped = dropped ++ map (λ row. row.0) rows
 touched_by _ dropped = dropped
 
 abbrev pub has : ℕ → List ℕ → Bool

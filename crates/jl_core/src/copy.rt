@@ -45,7 +45,7 @@ fn copy_event(alloc: Global, event: &Accepted) -> Result<Accepted, AllocError>
 {
     Ok(match event {
         Accepted::NewLoader => Accepted::NewLoader,
-        Accepted::Define(class) => Accepted::Define(*class),
+        Accepted::Define(loader, class) => Accepted::Define(*loader, *class),
         Accepted::Delegate(loader, name, to) => Accepted::Delegate(*loader, name.copy(alloc)?, *to),
         Accepted::Request(place) => Accepted::Request(*place),
         Accepted::NewCallSite(kind, ty, target) => {

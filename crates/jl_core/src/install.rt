@@ -1,52 +1,35 @@
-//! Installs, and what they are refused for.
+//! What an install is refused for.
 
-ghost use Rattle.std.specs.Prelude.{◌≡◌, IfOk, IfErr, OnErr};
-ghost use Rattle.jl_types.specs.declared.event.Event.TheVariants as event;
-ghost use Rattle.jl_types.specs.Events as events;
-ghost use Rattle.jl_types.specs.Events.{verdict};
+ghost use Rattle.std.specs.Prelude.{◌≡◌, ◌+◌, ◌^◌, ◌<◌, ◌≤◌, length};
 ghost use Rattle.jl_types.specs.Resolution.{first_of};
-ghost use Rattle.jl_core.specs.State.{IsRefused};
-ghost use Rattle.jl_core.specs.Batches.{row_faults};
-ghost use Rattle.jl_core.specs.Changes.{AreScratch, IsDone};
+ghost use Rattle.jl_types.specs.Events as events;
+ghost use Rattle.jl_core.specs.Judging.{row_faults, most_of_rows};
 
-use crate::log::{Accepted, Entry};
-use crate::settled::quiet;
-use jl_cache::Cache;
-use jl_names::Seq;
-use jl_relink::{World, is_bad_size, link_of, sites_fault};
-use jl_types::{Link, Made, Refusal, Reply, SiteNo};
-use std::alloc::Global;
+use jl_relink::{World, is_bad_size, link_counted, sites_fault};
+use jl_types::{Link, Refusal, SiteNo, Work};
 
-/// Installs all of the links, or none. It changes no world, so its verdict doesn't hang on how many places may be requested, and
-/// the clauses name 0.
-///
-/// # Errors
-///
-/// The refusal, or want of memory. Nothing has changed then.
-pub(crate) fn install(
+/// The refusal of an install of these rows, if there is one. It looks up the link of each row. Takes no memory.
+pub(crate) fn install_refusal(
     world: &World,
-    links: &mut Cache,
-    log: &mut Vec<Entry>,
-    alloc: Global,
-    rows: Seq<(SiteNo, Link)>,
-) -> Result<Reply, Refusal>
-    requires scratch { AreScratch world.now links.old }
-    ensures ok { IfOk result (IsDone (verdict 0 world.now (event.Install rows)) world.now world.now links.old links.new log.old.items log.new.items (event.Install rows)) }
-    ensures refused { IfErr result (IsRefused (verdict 0 world.now (event.Install rows))) }
-    ensures unchanged { OnErr result (links.new ≡ links.old) }
-    ensures log { OnErr result (log.new.items ≡ log.old.items) }
+    rows: &[(SiteNo, Link)],
+    work: &mut Work,
+) -> Option<Refusal>
+    requires nothing_yet { work.old ≡ 0 }
+    ensures refusal { result ≡ events.install_fault world.now rows.now }
+    ensures ticks { work.new ≤ most_of_rows world.now rows.now }
+    ensures small { work.new ≤ 16777216 }
 {
-    if let Some(refusal) = install_refusal(world, rows.as_slice()) {
-        return Err(refusal);
-    }
-    log.reserve(1)?;
-    links.install(rows.as_slice())?;
-    Ok(quiet(log, alloc, Made::Nothing, Accepted::Install(rows)))
+    let _classes = world.classes.count_in_order();
+    batch_refusal(world, rows, work)
 }
 
-/// The refusal of an install of these rows, if there is one. Takes no memory.
-pub(crate) fn install_refusal(world: &World, rows: &[(SiteNo, Link)]) -> Option<Refusal>
-    ensures { result ≡ events.install_fault world.now rows.now }
+/// The same where no more classes are known than there may be.
+fn batch_refusal(world: &World, rows: &[(SiteNo, Link)], work: &mut Work) -> Option<Refusal>
+    requires few { length world.now.classes.rows ≤ 65536 }
+    requires nothing_yet { work.old ≡ 0 }
+    ensures refusal { result ≡ events.install_fault world.now rows.now }
+    ensures ticks { work.new ≤ most_of_rows world.now rows.now }
+    ensures small { work.new ≤ 16777216 }
 {
     if is_bad_size(rows.len()) {
         return Some(Refusal::BatchSize);
@@ -54,16 +37,18 @@ pub(crate) fn install_refusal(world: &World, rows: &[(SiteNo, Link)]) -> Option<
     if let Some(fault) = sites_fault(world, rows) {
         return Some(Refusal::from(fault));
     }
-    row_refusal(world, rows)
+    row_refusal(world, rows, work)
 }
 
 /// The refusal of the first row that isn't the site's link from scratch.
-fn row_refusal(world: &World, rows: &[(SiteNo, Link)]) -> Option<Refusal>
-    ensures { result ≡ first_of (row_faults world.now rows.now) }
+fn row_refusal(world: &World, rows: &[(SiteNo, Link)], work: &mut Work) -> Option<Refusal>
+    requires fits { work.old + most_of_rows world.now rows.now < 2 ^ 64 }
+    ensures refusal { result ≡ first_of (row_faults world.now rows.now) }
+    ensures ticks { work.new ≤ work.old + most_of_rows world.now rows.now }
 {
     for row in rows {
         let site = row.0;
-        match link_of(world, site) {
+        match link_counted(world, site, work) {
             Err(_) => return Some(Refusal::NotReady { site }),
             Ok(present) => {
                 if present != row.1 {

@@ -1,30 +1,34 @@
 //! One instance of all that a core keeps.
 
-ghost use Rattle.std.specs.Prelude.{◌≡◌, ◌≤◌, ℕ, true, length, option_copied, slice_get, IfOk, IfErr, OnOk, OnErr};
+ghost use Rattle.std.specs.Prelude.{◌≡◌, ◌≤◌, ℕ, true, option_copied, slice_get, IsOk, IfOk, OnOk};
 ghost use Rattle.jl_types.specs.Events.{verdict};
 ghost use Rattle.jl_types.specs.History.{installed};
+ghost use Rattle.jl_types.specs.Footprints.{bound};
 ghost use Rattle.jl_cache.specs.Links.{link_at};
-ghost use Rattle.jl_core.specs.State.{State, empty_core, events, world_of, IsAccepted, IsRefused};
+ghost use Rattle.jl_core.specs.State.{empty_core, events, world_of, IsAccepted};
 ghost use Rattle.jl_core.specs.Logs.{shown, are_told};
+ghost use Rattle.jl_core.specs.Judging.{IsJudged, most_to_judge};
 ghost use Rattle.jl_core.specs.Replays.{IsBehind};
 
-use crate::change::change;
 use crate::copy::copy_log;
+use crate::follow::follow;
+use crate::judge::judged;
 use crate::log::Entry;
-use crate::refusal::refusal_of;
-use crate::replay::replay;
+use crate::perform::perform;
 use jl_cache::Cache;
+use jl_deps::Index;
 use jl_relink::World;
-use jl_types::{Event, Refusal, Reply};
+use jl_types::{Event, Refusal, Reply, Work};
 use std::alloc::{AllocError, Global};
 use std::marker::Model;
 
-/// The accepted events, with what they leave to link and the links that they leave installed. A clause sees the events with
-/// their replies, and how many sites there may be.
+/// The accepted events, with what they leave to link, the links that they leave installed, and the index of what those rest on. A
+/// clause sees the events with their replies, and how many sites there may be.
 pub(crate) struct Instance {
     max_sites: u32,
     world: World,
     links: Cache,
+    index: Index,
     log: Vec<Entry>,
 }
 
@@ -35,6 +39,7 @@ impl Drop for Instance {
             max_sites: _max_sites,
             world: _world,
             links: _links,
+            index: _index,
             log: _log,
         } = self;
     }
@@ -46,6 +51,7 @@ impl Model for Instance {
     ghost use Rattle.jl_types.specs.Means.TargetCode.{target_code};
     ghost use Rattle.jl_types.specs.History.{installed};
     ghost use Rattle.jl_cache.specs.Links.{link_at};
+    ghost use Rattle.jl_deps.specs.Indexes.{IsIndex};
     ghost use Rattle.jl_core.specs.State.{State, events, world_of, AreAnswered};
     ghost use Rattle.jl_core.specs.Logs.{shown, are_told};
 
@@ -61,7 +67,8 @@ impl Model for Instance {
         × (are_told c.world.classes.rows c.log.items ≡ true)
         × (length c.world.places ≤ c.max_sites)
         × (c.max_sites ≤ 65536)
-        × AreAnswered (record { max_sites = c.max_sites; log = shown c.world.classes.rows c.log.items }) };
+        × AreAnswered (record { max_sites = c.max_sites; log = shown c.world.classes.rows c.log.items })
+        × IsIndex c.world (link_at c.links) c.index };
 }
 
 impl Instance {
@@ -74,6 +81,7 @@ impl Instance {
             max_sites,
             world: World::new(alloc)?,
             links: Cache::new(alloc),
+            index: Index::new(alloc),
             log: Vec::new(alloc),
         })
     }
@@ -86,55 +94,105 @@ impl Instance {
             max_sites: self.max_sites,
             world: self.world.copy(alloc)?,
             links: self.links.copy()?,
+            index: self.index.copy(alloc)?,
             log: copy_log(alloc, self.log.as_slice())?,
         })
     }
 
-    /// Applies the event.
+    /// The event once more, if it is accepted, and what it takes to tell.
     ///
     /// # Errors
     ///
-    /// The first refusal; want of memory where there is none. Nothing has changed then.
-    pub(crate) fn apply(&mut self, alloc: Global, event: Event) -> Result<Reply, Refusal>
-        ensures accepted { IfOk result (IsAccepted self.old self.new event) }
-        ensures refused { IfErr result (IsRefused (verdict self.old.max_sites (world_of self.old) event)) }
-        ensures unchanged { OnErr result (self.new ≡ self.old) }
+    /// The first refusal.
+    pub(crate) fn judged(&self, event: Event, work: &mut Work) -> Result<Event, Refusal>
+        requires nothing_yet { work.old ≡ 0 }
+        ensures judged { IsJudged (verdict self.now.max_sites (world_of self.now) event) event result }
+        ensures ticks { work.new ≤ most_to_judge (world_of self.now) event }
+        ensures small { work.new ≤ 16777216 }
     {
-        change(
-            &mut self.world,
-            &mut self.links,
-            &mut self.log,
-            self.max_sites,
-            alloc,
-            event,
-        )
+        judged(&self.world, self.max_sites, event, work)
     }
 
-    /// Comes after the other one, which is one event ahead or none. Want of memory is an error; nothing has changed then.
-    pub(crate) fn follow(&mut self, alloc: Global, ahead: &Instance) -> Result<(), AllocError>
-        requires { IsBehind self.old ahead.now }
-        ensures ok { OnOk result (self.new ≡ ahead.now) }
-        ensures err { OnErr result (self.new ≡ self.old) }
+    /// The instance after the accepted event, with its reply; and counts what that takes. Want of memory is an error; the instance is
+    /// gone then.
+    pub(crate) fn perform(
+        self,
+        alloc: Global,
+        event: Event,
+        work: &mut Work,
+    ) -> Result<(Instance, Reply), AllocError>
+        requires accepted { IsOk (verdict self.max_sites (world_of self) event) }
+        requires judged { work.old ≤ most_to_judge (world_of self) event }
+        requires small { work.old ≤ 16777216 }
+        ensures accepted { IfOk result (λ next. IsAccepted self next.0 event next.1) }
+        ensures bounded { OnOk result (work.new ≤ bound (events self) event) }
     {
-        let place = self.log.as_slice().len();
-        let Some(entry) = entry_at(ahead.log.as_slice(), place) else {
-            return Ok(());
+        let Instance {
+            max_sites,
+            mut world,
+            mut links,
+            mut index,
+            mut log,
+        } = self;
+        let _classes = world.classes.count_in_order();
+        let _switches = world.sites.known_switches();
+        let _sites = index.len();
+        let reply = perform(
+            &mut world, &mut links, &mut index, &mut log, alloc, event, work,
+        )?;
+        let next = Instance {
+            max_sites,
+            world,
+            links,
+            index,
+            log,
         };
-        replay(
-            &mut self.world,
-            &mut self.links,
-            &mut self.log,
+        Ok((next, reply))
+    }
+
+    /// Comes after the other one, which is one event ahead or none. Want of memory is an error; the instance is gone then.
+    pub(crate) fn follow(self, alloc: Global, ahead: &Instance) -> Result<Instance, AllocError>
+        requires { IsBehind self ahead.now }
+        ensures { IfOk result (λ next. next ≡ ahead.now) }
+    {
+        let Instance {
+            max_sites,
+            mut world,
+            mut links,
+            mut index,
+            mut log,
+        } = self;
+        let _classes = world.classes.count_in_order();
+        let _switches = world.sites.known_switches();
+        let _sites = index.len();
+        let place = log.as_slice().len();
+        let Some(entry) = entry_at(ahead.log.as_slice(), place) else {
+            return Ok(Instance {
+                max_sites,
+                world,
+                links,
+                index,
+                log,
+            });
+        };
+        follow(
+            &mut world,
+            &mut links,
+            &mut index,
+            &mut log,
             alloc,
             &ahead.world,
+            &ahead.links,
+            &ahead.index,
             entry,
-        )
-    }
-
-    /// The event's first refusal; where there is none, want of memory.
-    pub(crate) fn refusal_of(&self, event: Event) -> Refusal
-        ensures { IsRefused (verdict self.now.max_sites (world_of self.now) event) result }
-    {
-        refusal_of(&self.world, self.max_sites, event)
+        )?;
+        Ok(Instance {
+            max_sites,
+            world,
+            links,
+            index,
+            log,
+        })
     }
 
     /// What there is to link.

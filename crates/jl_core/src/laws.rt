@@ -1,7 +1,7 @@
 //! The laws of a core: each is the contract of a function that does nothing.
 
 ghost use Rattle.std.specs.Prelude.{◌≡◌, ◌↔◌, ◌<◌, ℕ, List, Some, Ok, length, slice_get, take, Contains};
-ghost use Rattle.jl_types.specs.declared.event.Event.{Event};
+ghost use Rattle.jl_types.specs.Event.{Event};
 ghost use Rattle.jl_types.specs.declared.event.Reply.{Reply};
 ghost use Rattle.jl_types.specs.declared.link.Link.{Link};
 ghost use Rattle.jl_types.specs.Links.{scratch};

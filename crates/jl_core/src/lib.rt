@@ -5,21 +5,21 @@
 //! what a planned event is, and `specs/Logs` how a log tells the events. The other definitions here are means of proof.
 #![tactic(auto)]
 
-mod call_sites;
-mod change;
-mod classes;
+mod binding;
+mod changes;
 mod copy;
+mod follow;
 mod install;
 mod instance;
+mod judge;
 mod laws;
 mod log;
 mod machine;
+mod perform;
 mod plan;
-mod refusal;
-mod replay;
 mod request;
-mod settled;
 mod slots;
+mod step;
 
 pub use laws::links_are_exact;
 pub use log::{Accepted, Entry};

@@ -9,13 +9,14 @@ ghost use Rattle.jl_cache.specs.Links.{link_at};
 ghost use Rattle.jl_core.specs.State.{State, empty_core, events, world_of, links_of, IsAccepted, IsRefused};
 ghost use Rattle.jl_core.specs.Plans.{IsPlanned, IsAsPlanned};
 ghost use Rattle.jl_core.specs.Logs.{shown, are_told};
+ghost use Rattle.jl_core.specs.Works.{most_of_last};
 
 use crate::instance::Instance;
 use crate::log::Entry;
 use crate::plan::Planned;
 use jl_cache::Cache;
 use jl_relink::{Prepared, Snapshot, World, dispatch, prepare_in};
-use jl_types::{Answer, Event, Link, PrepareFault, Recv, Refusal, Reply, SiteNo};
+use jl_types::{Answer, Event, Link, PrepareFault, Recv, Refusal, Reply, SiteNo, Work};
 use std::alloc::{AllocError, Global};
 use std::marker::Model;
 use std::mem;
@@ -28,6 +29,8 @@ use std::mem;
 pub struct Core {
     present: Instance,
     next: Option<Instance>,
+    /// How many selection walks, special searches and evaluations of call sites the last event took.
+    last_work: u64,
 }
 
 // Written out, since a derived drop is proved anew in each crate that lets one go.
@@ -36,16 +39,18 @@ impl Drop for Core {
         let Core {
             present: _present,
             next: _next,
+            last_work: _last_work,
         } = self;
     }
 }
 
 impl Model for Core {
-    ghost use Rattle.std.specs.Prelude.{IfSome};
+    ghost use Rattle.std.specs.Prelude.{◌≤◌, IfSome};
     ghost use Rattle.std.specs.Coded.{codes};
     ghost use Rattle.jl_types.specs.Means.TargetCode.{target_code};
-    ghost use Rattle.jl_core.specs.State.{State};
+    ghost use Rattle.jl_core.specs.State.{State, events};
     ghost use Rattle.jl_core.specs.Replays.{IsBehind};
+    ghost use Rattle.jl_core.specs.Works.{most_of_last};
 
     ghost Value = { State };
 
@@ -53,7 +58,7 @@ impl Model for Core {
 
     ghost view = { λ c. c.present };
 
-    ghost invariant = { λ c. IfSome c.next (λ next. IsBehind next c.present) };
+    ghost invariant = { λ c. IfSome c.next (λ next. IsBehind next c.present) × (c.last_work ≤ most_of_last (events c.present)) };
 }
 
 impl Core {
@@ -67,6 +72,7 @@ impl Core {
         Ok(Core {
             present: Instance::new(alloc, max_sites)?,
             next: None,
+            last_work: 0,
         })
     }
 
@@ -81,9 +87,6 @@ impl Core {
         ensures refused { IfErr result (IsRefused (verdict self.old.max_sites (world_of self.old) event)) }
         ensures unchanged { OnErr result (self.new ≡ self.old) }
     {
-        if self.next.is_none() {
-            return self.present.apply(alloc, event);
-        }
         let planned = self.plan(alloc, event)?;
         Ok(self.commit(planned))
     }
@@ -100,16 +103,12 @@ impl Core {
         ensures refused { IfErr result (IsRefused (verdict self.old.max_sites (world_of self.old) event)) }
         ensures unchanged { self.new ≡ self.old }
     {
-        let Ok(mut next) = self.take_next(alloc) else {
-            return Err(self.present.refusal_of(event));
-        };
-        match next.apply(alloc, event) {
-            Ok(reply) => Ok(Planned::new(alloc, &self.present, next, reply)?),
-            Err(refusal) => {
-                self.next = Some(next);
-                Err(refusal)
-            }
-        }
+        let mut work = Work::new();
+        let event = self.present.judged(event, &mut work)?;
+        let next = self.take_next(alloc)?;
+        let (next, reply) = next.perform(alloc, event, &mut work)?;
+        let planned = Planned::new(alloc, &self.present, next, reply, work.ticks())?;
+        Ok(planned)
     }
 
     /// The second half of [`apply`](Core::apply): the core is as the plan left it, and comes to be what it was planned to be.
@@ -119,9 +118,10 @@ impl Core {
         ensures core { self.new ≡ planned.after }
         ensures reply { result ≡ planned.reply }
     {
-        let (after, reply) = planned.into_parts();
+        let (after, reply, work) = planned.into_parts();
         let before = mem::replace(&mut self.present, after);
         self.next = Some(before);
+        self.last_work = work;
         reply
     }
 
@@ -130,16 +130,19 @@ impl Core {
         ensures next { IfOk result (λ next. next ≡ self.old) }
         ensures unchanged { self.new ≡ self.old }
     {
-        let Some(mut next) = self.next.take() else {
-            return self.present.copy(alloc);
-        };
-        match next.follow(alloc, &self.present) {
-            Ok(()) => Ok(next),
-            Err(error) => {
-                self.next = Some(next);
-                Err(error)
-            }
+        match self.next.take() {
+            Some(next) => next.follow(alloc, &self.present),
+            None => self.present.copy(alloc),
         }
+    }
+
+    /// How many selection walks, special searches and evaluations of call sites the last accepted event took. A refused event and a
+    /// plan that was dropped leave it. Takes no memory.
+    pub fn last_work(&self) -> u64
+        ensures { result ≤ most_of_last (events self.now) }
+    {
+        let _present = &self.present;
+        self.last_work
     }
 
     /// The answer to a call. Takes no memory.

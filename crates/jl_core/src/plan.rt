@@ -1,8 +1,9 @@
 //! A planned event, and the sites that it changes.
 
-ghost use Rattle.std.specs.Prelude.{◌≡◌, IfOk};
-ghost use Rattle.jl_types.specs.declared.event.Event.{Event};
-ghost use Rattle.jl_core.specs.State.{IsAccepted};
+ghost use Rattle.std.specs.Prelude.{◌≡◌, ◌≤◌, IfOk};
+ghost use Rattle.jl_types.specs.Event.{Event};
+ghost use Rattle.jl_core.specs.State.{events, IsAccepted};
+ghost use Rattle.jl_core.specs.Works.{most_of_last};
 ghost use Rattle.jl_core.specs.Plans.{IsPlanned};
 
 use crate::instance::Instance;
@@ -17,6 +18,8 @@ pub struct Planned {
     after: Instance,
     reply: Reply,
     slots: Vec<(SiteNo, Option<Link>)>,
+    /// How many selection walks, special searches and evaluations of call sites the event took.
+    work: u64,
 }
 
 impl Model for Planned {
@@ -29,6 +32,12 @@ impl Model for Planned {
     ghost coded = { Prim.hlevel (codes, target_code) };
 
     ghost view = { λ p. record { after = p.after; reply = p.reply; slots = p.slots.items } };
+
+    ghost use Rattle.std.specs.Prelude.{◌≤◌};
+    ghost use Rattle.jl_core.specs.State.{events};
+    ghost use Rattle.jl_core.specs.Works.{most_of_last};
+
+    ghost invariant = { λ p. p.work ≤ most_of_last (events p.after) };
 }
 
 impl Planned {
@@ -38,7 +47,9 @@ impl Planned {
         before: &Instance,
         after: Instance,
         reply: Reply,
+        work: u64,
     ) -> Result<Self, AllocError>
+        requires { work ≤ most_of_last (events after) }
         ensures { IfOk result (λ plan. (e : Event) → IsAccepted before.now after e reply → IsPlanned before.now e plan) }
     {
         let slots = changed(alloc, before, &after)?;
@@ -46,6 +57,7 @@ impl Planned {
             after,
             reply,
             slots,
+            work,
         })
     }
 
@@ -63,16 +75,18 @@ impl Planned {
         self.slots.as_slice()
     }
 
-    /// The core that the event leads to, and what it is answered.
-    pub(crate) fn into_parts(self) -> (Instance, Reply)
+    /// The core that the event leads to, what it is answered, and how much work it took.
+    pub(crate) fn into_parts(self) -> (Instance, Reply, u64)
         ensures core { result.0 ≡ self.after }
         ensures reply { result.1 ≡ self.reply }
+        ensures work { result.2 ≤ most_of_last (events self.after) }
     {
         let Planned {
             after,
             reply,
             slots: _slots,
+            work,
         } = self;
-        (after, reply)
+        (after, reply, work)
     }
 }

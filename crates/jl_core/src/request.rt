@@ -1,81 +1,34 @@
-//! The request of a place.
+//! Whether a place may be requested.
 
-ghost use Rattle.std.specs.Prelude.{◌≡◌, ◌≢◌, ◌≤◌, Some, Ok, Err, length, IfOk, IfErr, OnOk, OnErr};
+ghost use Rattle.std.specs.Prelude.{◌≡◌, ◌≤◌, Some, Ok, Err, IfOk, IfErr};
 ghost use Rattle.jl_code.specs.Site as site;
 ghost use Rattle.jl_types.specs.Sites.{invocation_at};
 ghost use Rattle.jl_types.specs.Events as events;
 ghost use Rattle.jl_types.specs.Events.{verdict};
-ghost use Rattle.jl_types.specs.declared.event.Event.TheVariants as event;
-ghost use Rattle.jl_types.specs.declared.event.Made.TheVariants as made;
-ghost use Rattle.jl_types.specs.declared.refusal.Refusal.TheVariants as refusal;
-ghost use Rattle.jl_core.specs.State.{IsRefused};
-ghost use Rattle.jl_core.specs.Changes.{IsQuiet};
+ghost use Rattle.jl_types.specs.declared.event.EventOf.TheVariants as event;
+ghost use Rattle.jl_core.specs.Judging.{IsJudged};
 
-use crate::log::{Accepted, Entry};
-use crate::settled::quiet;
 use jl_code::{Operand, Site};
 use jl_names::LentName;
 use jl_relink::{World, invocation_at};
-use jl_types::{Made, NotLinkable, Place, Refusal, Reply, SiteNo};
-use std::alloc::{AllocError, Global};
+use jl_types::{Event, NotLinkable, Place, Refusal};
 
-/// Gives the place a number. A place that is requested already keeps it.
-///
-/// # Errors
-///
-/// The first refusal, or want of memory. Nothing has changed then.
-pub(crate) fn request(
-    world: &mut World,
-    log: &mut Vec<Entry>,
-    max_sites: u32,
-    alloc: Global,
-    place: Place,
-) -> Result<Reply, Refusal>
-    requires few { length world.old.places ≤ max_sites }
-    requires most { max_sites ≤ 65536 }
-    ensures ok { IfOk result (IsQuiet (verdict max_sites world.old (event.Request place)) world.old world.new log.old.items log.new.items (event.Request place)) }
-    ensures refused { IfErr result (IsRefused (verdict max_sites world.old (event.Request place))) }
-    ensures few { length world.new.places ≤ max_sites }
-    ensures unchanged { OnErr result (world.new ≡ world.old) }
-    ensures log { OnErr result (log.new.items ≡ log.old.items) }
-{
-    let site = site_of(world, max_sites, &place)?;
-    log.reserve(1)?;
-    add_place(world, place)?;
-    Ok(quiet(log, alloc, Made::Site(site), Accepted::Request(place)))
-}
-
-/// The number of the place's site, also where the request is still to give it one.
+/// The request once more, if the world accepts it. A place that is requested already keeps its number.
 ///
 /// # Errors
 ///
 /// The first refusal.
-pub(crate) fn site_of(world: &World, max_sites: u32, place: &Place) -> Result<SiteNo, Refusal>
-    requires few { length world.now.places ≤ max_sites }
-    requires most { max_sites ≤ 65536 }
-    ensures number { IfOk result (λ site. verdict max_sites world.now (event.Request place.now) ≡ Ok (made.Site site)) }
-    ensures fault { IfErr result (λ r. verdict max_sites world.now (event.Request place.now) ≡ Err r) }
-    ensures few { OnOk result (length (events.requested world.now.places place.now) ≤ max_sites) }
+pub(crate) fn judged_request(world: &World, max_sites: u32, place: Place) -> Result<Event, Refusal>
+    ensures { IsJudged (verdict max_sites world.now (event.Request place)) (event.Request place) result }
 {
-    let refusal = refusal_if_new(world, max_sites, place)?;
-    if let Some(site) = world.places.get_index_of(place) {
-        return Ok(SiteNo::new(site as u32));
+    let refusal = refusal_if_new(world, max_sites, &place)?;
+    if world.places.get_index_of(&place).is_some() {
+        return Ok(Event::Request(place));
     }
     if let Some(refusal) = refusal {
         return Err(refusal);
     }
-    Ok(SiteNo::new(world.site_count() as u32))
-}
-
-/// The place is requested. Want of memory is an error; nothing has changed then.
-pub(crate) fn add_place(world: &mut World, place: Place) -> Result<(), AllocError>
-    ensures ok { OnOk result (world.new ≡ events.step world.old (event.Request place)) }
-    ensures err { OnErr result (world.new ≡ world.old) }
-{
-    if world.places.get_index_of(&place).is_none() {
-        world.places.insert_full(place)?;
-    }
-    Ok(())
+    Ok(Event::Request(place))
 }
 
 /// The refusal of the place if it isn't requested yet, where it isn't refused anyway.

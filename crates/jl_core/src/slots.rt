@@ -2,7 +2,7 @@
 
 ghost use Rattle.std.specs.Prelude.{◌≡◌, ◌++◌, ◌∷◌, [], map, filter_map, option_map, IfOk, OnOk};
 ghost use Rattle.std.specs.List.{cons_option};
-ghost use Rattle.jl_types.specs.declared.event.Event.{Event};
+ghost use Rattle.jl_types.specs.Event.{Event};
 ghost use Rattle.jl_types.specs.declared.event.Reply.{Reply};
 ghost use Rattle.jl_types.specs.History as history;
 ghost use Rattle.jl_types.specs.Entries.{change, same_slot, slots_changed};
@@ -11,6 +11,7 @@ ghost use Rattle.jl_core.specs.Touched.{touched_by, AreTouched, slot_at};
 
 use crate::instance::{Instance, entry_at};
 use crate::log::{Accepted, Entry};
+use crate::perform::each_once;
 use jl_cache::Cache;
 use jl_types::{Link, SiteNo};
 use std::alloc::{AllocError, Global};
@@ -35,10 +36,8 @@ pub(crate) fn changed(
 fn touched(alloc: Global, entry: &Entry) -> Result<Vec<SiteNo>, AllocError>
     ensures { IfOk result (λ sites. AreTouched (touched_by entry.now.event entry.now.reply.dropped) sites.items) }
 {
-    let mut sites = listed(alloc, entry)?;
-    sites.sort_unstable();
-    sites.dedup();
-    Ok(sites)
+    let sites = listed(alloc, entry)?;
+    Ok(each_once(sites))
 }
 
 /// The sites that the entry's event drops, and those that it installs. Want of memory is an error.
@@ -53,7 +52,10 @@ fn listed(alloc: Global, entry: &Entry) -> Result<Vec<SiteNo>, AllocError>
 }
 
 /// These sites, and behind them those of the links. Want of memory is an error.
-fn with_sites(sites: Vec<SiteNo>, rows: &[(SiteNo, Link)]) -> Result<Vec<SiteNo>, AllocError>
+pub(crate) fn with_sites(
+    sites: Vec<SiteNo>,
+    rows: &[(SiteNo, Link)],
+) -> Result<Vec<SiteNo>, AllocError>
     ensures { IfOk result (λ all. all.items ≡ sites.items ++ map (λ row. row.0) rows.now) }
 {
     let mut all = sites;

@@ -1,7 +1,7 @@
 use Rattle.std.specs.Prelude.{◌≤◌, length}
 use Rattle.std.proofs.Common.{sym, subst, ◌∙◌}
 use Rattle.jl_types.specs.World.{World}
-use Rattle.jl_core.proofs.HistoryLaws.{exact_same}
+use Rattle.jl_core.proofs.HistoryLaws.{exact_same, index_same}
 use Rattle.jl_core.proofs.instance.Instance.copy.Goals as goal
 
 pub invariant_of-result : goal.invariant_of-result
@@ -17,4 +17,6 @@ invariant_of-result c =
       subst (λ (w : World). length w.places ≤ c.self.inside.max_sites) (sym c.in_ok-copy.ensures) c.self.invariant.3,
       c.self.invariant.4,
       now.answered,
+      index_same c.self.inside.world c.in_ok-copy.field-0 c.self.inside.links c.in_ok-copy-2.field-0 c.self.inside.index c.in_ok-copy-3.field-0
+          c.in_ok-copy.ensures c.in_ok-copy-2.ensures c.in_ok-copy-3.ensures c.self.invariant.6,
     )

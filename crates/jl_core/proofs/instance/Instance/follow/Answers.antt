@@ -1,60 +1,81 @@
-use Rattle.std.specs.Prelude.{◌≡◌, OnOk, slice_get, length}
-use Rattle.std.proofs.Common.{sym, subst, ◌∙◌}
+use Rattle.std.specs.Prelude.{slice_get, length}
+use Rattle.std.proofs.Common.{ap, sym, subst, ◌∙◌}
+use Rattle.jl_types.specs.World.{World}
+use Rattle.jl_hierarchy.specs.Constancy.{AreInOrder}
+use Rattle.jl_callsites.specs.Known.{are_known}
+use Rattle.jl_cache.specs.Links.{link_at}
+use Rattle.jl_deps.specs.Indexes.{IsIndex}
 use Rattle.jl_core.specs.State.{State}
 use Rattle.jl_core.specs.Replays.{IsBehind}
 use Rattle.jl_core.proofs.HistoryLaws.{core_of}
-use Rattle.jl_core.proofs.FollowLaws.{none_behind, is_next, exact_if_ok, same_if_ok}
+use Rattle.jl_core.proofs.FollowLaws.{none_behind, is_further, exact_so, same_core, few_so}
 use Rattle.jl_core.proofs.instance.Instance.follow.Goals as goal
 
-pub returns-in_default-clause-ok : goal.returns-in_default-clause-ok
-returns-in_default-clause-ok c =
+pub returns-in_default : goal.returns-in_default
+returns-in_default c =
     let old = c.self.inside in
     let ahead = c.ahead.inside in
     let behind =
     subst (λ (s : State). IsBehind s (core_of ahead.max_sites ahead.world ahead.log.items)) (sym c.self.view_is)
-    (subst (IsBehind c.args.self.now) (sym c.ahead.view_is) c.requires)
+    (subst (IsBehind c.args.self) (sym c.ahead.view_is) c.requires)
     in
-    sym c.self.view_is
-    ∙ none_behind old.max_sites ahead.max_sites old.world ahead.world old.log.items ahead.log.items c.self.invariant.2 c.ahead.invariant.2 behind
+    none_behind old.max_sites ahead.max_sites old.world ahead.world old.log.items ahead.log.items c.self.invariant.2 c.ahead.invariant.2 behind
     ((λ i. slice_get (sym c.as_slice.ensures.value i) (length (sym c.as_slice-place.ensures.value i))) ∙ sym c.in_default.ensures)
     ∙ c.ahead.view_is
 
-pub replay-requires : goal.replay-requires
-replay-requires c = record {
-  next = is_next c.self.inside.max_sites c.self.inside.world c.self.inside.links c.self.inside.log.items
-      c.ahead.inside.max_sites c.ahead.inside.world c.ahead.inside.log.items c.in-Some.entry.now
-      (record { world = c.self.invariant.0; links = c.self.invariant.1; told = c.self.invariant.2; answered = c.self.invariant.5 })
-      c.ahead.invariant.0 c.ahead.invariant.2 c.ahead.invariant.5
-      (subst (λ (s : State). IsBehind s (core_of c.ahead.inside.max_sites c.ahead.inside.world c.ahead.inside.log.items)) (sym c.self.view_is)
-      (subst (IsBehind c.args.self.now) (sym c.ahead.view_is) c.requires))
-      ((λ i. slice_get (sym c.as_slice.ensures.value i) (length (sym c.as_slice-place.ensures.value i))) ∙ sym c.in-Some.ensures);
-}
-
-pub invariant_of-self : goal.invariant_of-self
-invariant_of-self c =
-    let now =
-    exact_if_ok c.self.inside.max_sites c.self.inside.world c.self.inside.links c.self.inside.log.items
+pub follow-requires-clause-further : goal.follow-requires-clause-further
+follow-requires-clause-further c =
+    is_further c.self.inside.max_sites c.self.inside.world c.self.inside.links c.self.inside.log.items
     c.ahead.inside.max_sites c.ahead.inside.world c.ahead.inside.log.items c.in-Some.entry.now
     (record { world = c.self.invariant.0; links = c.self.invariant.1; told = c.self.invariant.2; answered = c.self.invariant.5 })
     c.ahead.invariant.0 c.ahead.invariant.2 c.ahead.invariant.5
     (subst (λ (s : State). IsBehind s (core_of c.ahead.inside.max_sites c.ahead.inside.world c.ahead.inside.log.items)) (sym c.self.view_is)
-    (subst (IsBehind c.args.self.now) (sym c.ahead.view_is) c.requires))
+    (subst (IsBehind c.args.self) (sym c.ahead.view_is) c.requires))
     ((λ i. slice_get (sym c.as_slice.ensures.value i) (length (sym c.as_slice-place.ensures.value i))) ∙ sym c.in-Some.ensures)
-    c.replay.new.world c.replay.new.links c.replay.new.log.items c.replay.result
-    c.replay.ensures.world c.replay.ensures.links c.replay.ensures.log
-    c.replay.ensures.world_err c.replay.ensures.links_err c.replay.ensures.log_err c.self.invariant.3 c.ahead.invariant.3
+    c.self.inside.index c.ahead.inside.index
+    (record {
+      classes = subst (λ (w : World). AreInOrder w.classes) c.world.view_is c.count_in_order-classes.ensures.order;
+      points = ap (λ (w : World). are_known w.sites) (sym c.world.view_is) ∙ c.known_switches-switches.ensures.known;
+    })
+    c.len-sites.ensures.rising c.self.invariant.6 c.ahead.inside.links c.ahead.invariant.1 c.ahead.invariant.6
+
+pub invariant_of-result-2 : goal.invariant_of-result-2
+invariant_of-result-2 c =
+    let behind =
+    subst (λ (s : State). IsBehind s (core_of c.ahead.inside.max_sites c.ahead.inside.world c.ahead.inside.log.items)) (sym c.self.view_is)
+    (subst (IsBehind c.args.self) (sym c.ahead.view_is) c.requires)
     in
-    (now.0.world, now.0.links, now.0.told, now.1, c.self.invariant.4, now.0.answered)
+    let at =
+    (λ i. slice_get (sym c.as_slice.ensures.value i) (length (sym c.as_slice-place.ensures.value i))) ∙ sym c.in-Some.ensures
+    in
+    let now =
+    exact_so c.self.inside.max_sites c.self.inside.world c.self.inside.links c.self.inside.log.items
+    c.ahead.inside.max_sites c.ahead.inside.world c.ahead.inside.log.items c.in-Some.entry.now
+    (record { world = c.self.invariant.0; links = c.self.invariant.1; told = c.self.invariant.2; answered = c.self.invariant.5 })
+    c.ahead.invariant.0 c.ahead.invariant.2 c.ahead.invariant.5 behind at
+    c.follow.new.world c.follow.new.links c.follow.new.log.items c.in_ok-follow.ensures.world c.ahead.inside.links c.ahead.invariant.1 c.in_ok-follow.ensures.links c.in_ok-follow.ensures.log
+    in (
+      now.world,
+      now.links,
+      now.told,
+      few_so c.self.inside.max_sites c.self.inside.world c.self.inside.links c.self.inside.log.items
+          c.ahead.inside.max_sites c.ahead.inside.world c.ahead.inside.log.items c.in-Some.entry.now
+          (record { world = c.self.invariant.0; links = c.self.invariant.1; told = c.self.invariant.2; answered = c.self.invariant.5 })
+          c.ahead.invariant.0 c.ahead.invariant.2 c.ahead.invariant.5 behind at
+          c.follow.new.world c.in_ok-follow.ensures.world c.ahead.invariant.3,
+      c.self.invariant.4,
+      now.answered,
+      subst (λ (w : World). IsIndex w (link_at c.follow.new.links) c.follow.new.index) (sym c.in_ok-follow.ensures.world) c.in_ok-follow.ensures.index,
+    )
 
-pub returns-clause-ok : goal.returns-clause-ok
-returns-clause-ok c =
-    subst (λ (s : State). OnOk c.replay.result (core_of c.self.inside.max_sites c.replay.new.world c.replay.new.log.items ≡ s)) c.ahead.view_is
-    (same_if_ok c.self.inside.max_sites c.self.inside.world c.self.inside.links c.self.inside.log.items
+pub returns : goal.returns
+returns c =
+    same_core c.self.inside.max_sites c.self.inside.world c.self.inside.links c.self.inside.log.items
     c.ahead.inside.max_sites c.ahead.inside.world c.ahead.inside.log.items c.in-Some.entry.now
     (record { world = c.self.invariant.0; links = c.self.invariant.1; told = c.self.invariant.2; answered = c.self.invariant.5 })
     c.ahead.invariant.0 c.ahead.invariant.2 c.ahead.invariant.5
     (subst (λ (s : State). IsBehind s (core_of c.ahead.inside.max_sites c.ahead.inside.world c.ahead.inside.log.items)) (sym c.self.view_is)
-    (subst (IsBehind c.args.self.now) (sym c.ahead.view_is) c.requires))
+    (subst (IsBehind c.args.self) (sym c.ahead.view_is) c.requires))
     ((λ i. slice_get (sym c.as_slice.ensures.value i) (length (sym c.as_slice-place.ensures.value i))) ∙ sym c.in-Some.ensures)
-    c.replay.new.world c.replay.new.links c.replay.new.log.items c.replay.result
-    c.replay.ensures.world c.replay.ensures.links c.replay.ensures.log)
+    c.follow.new.world c.follow.new.links c.follow.new.log.items c.in_ok-follow.ensures.world c.ahead.inside.links c.ahead.invariant.1 c.in_ok-follow.ensures.links c.in_ok-follow.ensures.log
+    ∙ c.ahead.view_is

@@ -1,0 +1,29 @@
+use Rattle.std.specs.Prelude.{ℕ, List, if◌then◌else◌}
+use Rattle.std.proofs.Common.{ap, ◌∙◌}
+use Rattle.jl_cache.specs.Links.{link_at}
+use Rattle.jl_deps.specs.Indexes.{footprint_at}
+use Rattle.jl_core.specs.Touched.{has}
+use Rattle.jl_core.proofs.ReplayLaws.{links_taken, index_taken}
+use Rattle.jl_core.proofs.follow.follow.Goals as goal
+
+pub returns-clause-links : goal.returns-clause-links
+returns-clause-links c =
+    links_taken c.args.world.now c.args.world_ahead.now c.args.entry.now.event c.args.links.now c.args.links_ahead.now c.args.index.now c.args.index_ahead.now c.requires.further c.in_ok-sites.sites.items
+    (λ s none. c.in_ok-sites.ensures c.requires.further.next.event c.requires.further.next.tells s none)
+    c.take_over.new.links
+    (λ s.
+    c.in_ok-take_over.ensures.links s
+    ∙ ap (λ (ts : List ℕ). if has s ts then link_at c.args.links_ahead.now s else link_at c.args.links.now s) c.as_slice.ensures.value)
+
+pub returns-clause-index : goal.returns-clause-index
+returns-clause-index c =
+    index_taken c.args.world.now c.args.world_ahead.now c.args.entry.now.event c.args.links.now c.args.links_ahead.now c.args.index.now c.args.index_ahead.now c.requires.further c.in_ok-sites.sites.items
+    (λ s none. c.in_ok-sites.ensures c.requires.further.next.event c.requires.further.next.tells s none)
+    c.take_over.new.links
+    (λ s.
+    c.in_ok-take_over.ensures.links s
+    ∙ ap (λ (ts : List ℕ). if has s ts then link_at c.args.links_ahead.now s else link_at c.args.links.now s) c.as_slice.ensures.value)
+    c.take_over.new.index
+    (λ s.
+    c.in_ok-take_over.ensures.index s
+    ∙ ap (λ (ts : List ℕ). if has s ts then footprint_at c.args.index_ahead.now s else footprint_at c.args.index.now s) c.as_slice.ensures.value)

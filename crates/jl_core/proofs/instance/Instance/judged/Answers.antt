@@ -1,0 +1,13 @@
+use Rattle.std.proofs.Common.{ap, subst, ◌∙◌}
+use Rattle.jl_types.specs.Events.{verdict}
+use Rattle.jl_types.specs.World.{World}
+use Rattle.jl_core.specs.State.{State, world_of}
+use Rattle.jl_core.specs.Judging.{IsJudged}
+use Rattle.jl_core.proofs.instance.Instance.judged.Goals as goal
+
+pub returns-clause-judged : goal.returns-clause-judged
+returns-clause-judged c =
+    subst (λ v. IsJudged v c.args.event c.judged.result)
+    (ap (λ (w : World). verdict c.self.inside.max_sites w c.args.event) c.self.invariant.0
+    ∙ ap (λ (core : State). verdict core.max_sites (world_of core) c.args.event) c.self.view_is)
+    c.judged.ensures.judged

@@ -1,0 +1,146 @@
+//! An accepted event once more, in an instance that is behind. It is not judged again, nothing is evaluated, and no footprint is
+//! looked up: what the event changed is taken over from the instance ahead.
+
+ghost use Rattle.std.specs.Prelude.{◌≡◌, ◌≤◌, ◌++◌, ◌∷◌, [], ℕ, false, Some, length, IfOk, OnOk};
+ghost use Rattle.jl_types.specs.Event.{Event};
+ghost use Rattle.jl_types.specs.Footprints as footprints;
+ghost use Rattle.jl_cache.specs.Links.{link_at};
+ghost use Rattle.jl_deps.specs.Indexes.{IsIndex};
+ghost use Rattle.jl_core.specs.Logs.{event_of};
+ghost use Rattle.jl_core.specs.Replays.{IsNext, IsFurther, IsUntouched};
+ghost use Rattle.jl_core.specs.Touched.{has};
+
+use crate::changes::{
+    add_binding, add_call_site, add_delegation, add_loader, add_place, add_switch, put_invalid,
+    put_target,
+};
+use crate::copy::copy_entry;
+use crate::log::{Accepted, Entry};
+use crate::slots::with_sites;
+use jl_cache::Cache;
+use jl_deps::{Index, Keys, keys_of_definition, keys_of_points, keys_of_target};
+use jl_names::Seq;
+use jl_relink::World;
+use jl_settle::take_over;
+use jl_types::SiteNo;
+use std::alloc::{AllocError, Global};
+
+/// The world, the links, their index and the log come after the entry, the last one of those ahead. Want of memory is an error; what
+/// is there is of no use then.
+pub(crate) fn follow(
+    world: &mut World,
+    links: &mut Cache,
+    index: &mut Index,
+    log: &mut Vec<Entry>,
+    alloc: Global,
+    world_ahead: &World,
+    links_ahead: &Cache,
+    index_ahead: &Index,
+    entry: &Entry,
+) -> Result<(), AllocError>
+    requires further { IsFurther world.old world_ahead.now entry.now.event links.old links_ahead.now index.old index_ahead.now }
+    requires few { length world.old.places ≤ 65536 }
+    ensures world { OnOk result (world.new ≡ world_ahead.now) }
+    ensures links { OnOk result ((s : ℕ) → link_at links.new s ≡ link_at links_ahead.now s) }
+    ensures index { OnOk result (IsIndex world_ahead.now (link_at links.new) index.new) }
+    ensures log { OnOk result (log.new.items ≡ log.old.items ++ entry.now ∷ []) }
+{
+    let sites = changed_sites(alloc, world, world_ahead, index, &entry.event)?;
+    follow_world(world, alloc, world_ahead, &entry.event)?;
+    take_over(
+        alloc,
+        links,
+        index,
+        links_ahead,
+        index_ahead,
+        sites.as_slice(),
+    )?;
+    log.push(copy_entry(alloc, entry)?)?;
+    Ok(())
+}
+
+/// The sites whose links and footprints the event may change. Want of memory is an error.
+fn changed_sites(
+    alloc: Global,
+    world: &World,
+    ahead: &World,
+    index: &Index,
+    event: &Accepted,
+) -> Result<Vec<SiteNo>, AllocError>
+    requires { IsNext world.now ahead.now event.now }
+    ensures { IfOk result (λ sites. (e : Event) → event_of ahead.now.classes.rows event.now ≡ Some e
+        → (s : ℕ) → has s sites.items ≡ false → IsUntouched world.now index.now e s) }
+{
+    match event {
+        Accepted::Install(rows) => {
+            let sites = with_sites(Vec::new(alloc), rows.as_slice())?;
+            Ok(sites)
+        }
+        _ => {
+            let keys = keys_told(alloc, world, ahead, event)?;
+            let sites = index.touched_by(alloc, keys.as_slice())?;
+            Ok(sites)
+        }
+    }
+}
+
+/// What the event changes of what links rest on. Want of memory is an error.
+fn keys_told(
+    alloc: Global,
+    world: &World,
+    ahead: &World,
+    event: &Accepted,
+) -> Result<Keys, AllocError>
+    requires { IsNext world.now ahead.now event.now }
+    ensures { IfOk result (λ keys. (e : Event) → event_of ahead.now.classes.rows event.now ≡ Some e → keys ≡ footprints.keys world.now e) }
+{
+    match event {
+        Accepted::Define(loader, class) => {
+            let made = ahead.classes.class_at(*class).unwrap();
+            keys_of_definition(alloc, &world.classes, *loader, made.file())
+        }
+        Accepted::SetTarget(site, _) => keys_of_target(alloc, *site),
+        Accepted::Invalidate(points) => keys_of_points(alloc, &world.sites, points.as_slice()),
+        _ => Ok(Seq::of(Vec::new(alloc))),
+    }
+}
+
+/// The world comes to be the one ahead. Want of memory is an error; the world is of no use then.
+fn follow_world(
+    world: &mut World,
+    alloc: Global,
+    ahead: &World,
+    event: &Accepted,
+) -> Result<(), AllocError>
+    requires next { IsNext world.old ahead.now event.now }
+    requires few { length world.old.places ≤ 65536 }
+    ensures { OnOk result (world.new ≡ ahead.now) }
+{
+    match event {
+        Accepted::NewLoader => {
+            add_loader(world, alloc)?;
+            Ok(())
+        }
+        Accepted::Define(_, _) => world.classes.follow(alloc, &ahead.classes),
+        Accepted::Delegate(loader, name, to) => add_delegation(world, alloc, *loader, name, *to),
+        Accepted::Request(place) => {
+            add_place(world, place)?;
+            Ok(())
+        }
+        Accepted::NewCallSite(kind, ty, target) => {
+            add_call_site(world, alloc, *kind, ty, target)?;
+            Ok(())
+        }
+        Accepted::SetTarget(site, target) => put_target(world, alloc, *site, target),
+        Accepted::NewSwitch => {
+            add_switch(world)?;
+            Ok(())
+        }
+        Accepted::Invalidate(points) => {
+            put_invalid(world, points.as_slice());
+            Ok(())
+        }
+        Accepted::Bind(site, call_site) => add_binding(world, *site, *call_site),
+        Accepted::Install(_) => Ok(()),
+    }
+}

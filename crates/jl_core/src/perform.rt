@@ -1,0 +1,127 @@
+//! What an accepted event changes: the world, the installed links, their index and the log. Nothing is judged here.
+
+ghost use Rattle.std.specs.Prelude.{◌≡◌, ◌==◌, ◌&&◌, ◌+◌, ◌≤◌, ◌++◌, ◌∷◌, [], ℕ, length, IfOk, OnOk, is_some, is_none};
+ghost use Rattle.std.specs.List.{list_any};
+ghost use Rattle.jl_types.specs.Links.{scratch};
+ghost use Rattle.jl_types.specs.History.{kept};
+ghost use Rattle.jl_cache.specs.Links.{link_at};
+ghost use Rattle.jl_deps.specs.Indexes.{IsIndex, touched_by};
+ghost use Rattle.jl_core.specs.Changes.{IsAcceptable, installs_at};
+ghost use Rattle.jl_core.specs.Steps.{IsSound, IsLed, IsStep};
+ghost use Rattle.jl_core.specs.Touched.{AreTouched};
+
+use crate::log::{Accepted, Entry};
+use crate::step::step;
+use jl_cache::Cache;
+use jl_deps::{Index, keys_of};
+use jl_names::Seq;
+use jl_relink::World;
+use jl_settle::{install_rows, settle};
+use jl_types::{Event, Key, Made, Reply, SiteNo, Work};
+use std::alloc::{AllocError, Global};
+
+/// Changes the world, the links and their index as the accepted event says, keeps it in the log, and answers it. Of the installed links
+/// it looks at those that the event touches, and at no others.
+///
+/// # Errors
+///
+/// Want of memory, and then what is there is of no use.
+pub(crate) fn perform(
+    world: &mut World,
+    links: &mut Cache,
+    index: &mut Index,
+    log: &mut Vec<Entry>,
+    alloc: Global,
+    event: Event,
+    work: &mut Work,
+) -> Result<Reply, AllocError>
+    requires accepted { IsAcceptable world.old event }
+    requires sound { IsSound world.old links.old index.old }
+    requires few { length world.old.places ≤ 65536 }
+    requires small { work.old ≤ 16777216 }
+    ensures { IfOk result (IsStep world.old world.new links.old links.new index.old index.new log.old.items log.new.items event work.old work.new) }
+{
+    let keys = keys_of(alloc, world, &event)?;
+    let (event, made) = step(world, alloc, event)?;
+    let lost = relink(alloc, world, links, index, keys.as_slice(), &event, work)?;
+    let reply = answered(log, alloc, made, event, lost)?;
+    Ok(reply)
+}
+
+/// The links and the index come after the event, which has led to the world. It gives the sites whose links went. Want of memory is an
+/// error; the links and the index are of no use then.
+fn relink(
+    alloc: Global,
+    world: &World,
+    links: &mut Cache,
+    index: &mut Index,
+    keys: &[Key],
+    event: &Accepted,
+    work: &mut Work,
+) -> Result<Vec<SiteNo>, AllocError>
+    requires led { IsLed world.now keys.now event.now links.old index.old }
+    requires small { work.old ≤ 16777216 }
+    ensures links { OnOk result ((s : ℕ) → link_at links.new s ≡ kept (installs_at s event.now) (link_at links.old s) (scratch world.now s)) }
+    ensures index { OnOk result (IsIndex world.now (link_at links.new) index.new) }
+    ensures lost { IfOk result (λ lost. (s : ℕ) → list_any (λ t. t == s) lost.items
+        ≡ (is_some (link_at links.old s) && is_none (link_at links.new s))) }
+    ensures ticks { OnOk result (work.new ≤ work.old + length (touched_by index.old keys.now)) }
+{
+    match event {
+        Accepted::Define(_, class) => {
+            let lost = settle(alloc, world, links, index, keys, Some(*class), work)?;
+            Ok(lost)
+        }
+        Accepted::Install(rows) => {
+            install_rows(alloc, world, links, index, rows.as_slice())?;
+            Ok(Vec::new(alloc))
+        }
+        _ => {
+            let lost = settle(alloc, world, links, index, keys, None, work)?;
+            Ok(lost)
+        }
+    }
+}
+
+/// Keeps an event in the log that drops the links of these sites, and answers it. Want of memory is an error; the log is of no use
+/// then.
+fn answered(
+    log: &mut Vec<Entry>,
+    alloc: Global,
+    made: Made,
+    event: Accepted,
+    lost: Vec<SiteNo>,
+) -> Result<Reply, AllocError>
+    ensures made { IfOk result (λ reply. reply.made ≡ made) }
+    ensures dropped { IfOk result (λ reply. AreTouched lost.items reply.dropped) }
+    ensures last { IfOk result (λ reply. log.new.items ≡ log.old.items ++ record { event = event; reply = reply } ∷ []) }
+{
+    let dropped = each_once(lost);
+    let logged = dropped.as_slice().to_vec(alloc)?;
+    log.push(Entry {
+        event,
+        reply: reply(&made, logged),
+    })?;
+    Ok(reply(&made, dropped))
+}
+
+/// The reply of what was made and the sites that were dropped.
+fn reply(made: &Made, dropped: Vec<SiteNo>) -> Reply
+    ensures made { result.made ≡ made.now }
+    ensures dropped { result.dropped ≡ dropped.items }
+{
+    Reply {
+        made: *made,
+        dropped: Seq::of(dropped),
+    }
+}
+
+/// The same sites, each once, by rising number. Takes no memory.
+pub(crate) fn each_once(sites: Vec<SiteNo>) -> Vec<SiteNo>
+    ensures { AreTouched sites.items result.items }
+{
+    let mut sites = sites;
+    sites.sort_unstable();
+    sites.dedup();
+    sites
+}
