@@ -17,8 +17,8 @@ const T: &str =
 /// The entries of a first loader and the events of `assert_events`, as they print.
 const LOG: &[&str] = &[
     "Entry { event: NewLoader, reply: Reply { made: Loader(LoaderId(1)), dropped: Seq { items: [] } } }",
-    "Entry { event: Define(ClassId(0)), reply: Reply { made: Class(ClassId(0)), dropped: Seq { items: [] } } }",
-    "Entry { event: Define(ClassId(1)), reply: Reply { made: Class(ClassId(1)), dropped: Seq { items: [] } } }",
+    "Entry { event: Define(LoaderId(0), ClassId(0)), reply: Reply { made: Class(ClassId(0)), dropped: Seq { items: [] } } }",
+    "Entry { event: Define(LoaderId(0), ClassId(1)), reply: Reply { made: Class(ClassId(1)), dropped: Seq { items: [] } } }",
     "Entry { event: Delegate(LoaderId(1), Name { bytes: b\"T\" }, LoaderId(0)), reply: Reply { made: Nothing, dropped: Seq { items: [] } } }",
     "Entry { event: Request(Place { class: ClassId(1), method: 1, pc: 0 }), reply: Reply { made: Site(SiteNo(0)), dropped: Seq { items: [] } } }",
     "Entry { event: NewSwitch, reply: Reply { made: Switch(SwitchId(0)), dropped: Seq { items: [] } } }",
@@ -123,7 +123,7 @@ fn assert_entries(rt: &(impl Abort + AllocGlobal), entries: &[Entry]) -> Result<
 /// The name in the file of the class that the entry of a definition names.
 fn defined_name(core: &Core, entry: usize) -> Option<&[u8]> {
     match core.log().get(entry)?.event {
-        Accepted::Define(class) => {
+        Accepted::Define(_, class) => {
             let class = core.world().classes.class_at(class)?;
             Some(class.file().name().as_slice())
         }

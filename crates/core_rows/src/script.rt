@@ -1,0 +1,394 @@
+//! A core beside a plain one, over events that a fixed generator draws.
+
+use crate::draws::{Draws, Numbers, drawn};
+use crate::plain::{Plain, SITES};
+use crate::steps::{Step, event, rows};
+use jl_core::{Accepted, Core, Entry};
+use jl_names::Seq;
+use jl_relink::{World, invocation_at};
+use jl_types::{ClassId, Event, Link, Place, Refusal, Reply, SiteNo};
+use std::alloc::{AllocError, Global};
+use std::mem;
+use std::process::Abort;
+
+/// How many events are tried.
+const EVENTS: u32 = 2_000;
+
+/// How many events of a kind were accepted, how many were refused, and how many links went with what.
+#[derive(Clone, Copy, Debug)]
+struct Counts {
+    loaders: u32,
+    definitions: u32,
+    retargets: u32,
+    invalidations: u32,
+    installs: u32,
+    refusals: u32,
+    /// Refused installs of links that the sites don't have any more.
+    stale: u32,
+    dropped_by_definitions: u32,
+    dropped_by_retargets: u32,
+    dropped_by_invalidations: u32,
+}
+
+/// What is drawn, and what comes of it.
+#[derive(Drop)]
+struct Script {
+    draws: Draws,
+    /// The last class that makes calls.
+    caller: u32,
+    /// The site whose link went last.
+    lost: u32,
+    /// Links of an earlier preparation.
+    kept: Seq<(SiteNo, Link)>,
+    counts: Counts,
+}
+
+/// How many there are.
+fn number(count: usize) -> u32 {
+    u32::try_from(count).unwrap_or(0)
+}
+
+impl Counts {
+    /// Nothing was tried yet.
+    fn new() -> Counts {
+        Counts {
+            loaders: 0,
+            definitions: 0,
+            retargets: 0,
+            invalidations: 0,
+            installs: 0,
+            refusals: 0,
+            stale: 0,
+            dropped_by_definitions: 0,
+            dropped_by_retargets: 0,
+            dropped_by_invalidations: 0,
+        }
+    }
+
+    /// Counts an accepted event that dropped so many links.
+    fn accept(&mut self, event: &Accepted, dropped: u32) {
+        match event {
+            Accepted::NewLoader => self.loaders = self.loaders.wrapping_add(1),
+            Accepted::Define(_, _) => {
+                self.definitions = self.definitions.wrapping_add(1);
+                self.dropped_by_definitions = self.dropped_by_definitions.wrapping_add(dropped);
+            }
+            Accepted::SetTarget(_, _) => {
+                self.retargets = self.retargets.wrapping_add(1);
+                self.dropped_by_retargets = self.dropped_by_retargets.wrapping_add(dropped);
+            }
+            Accepted::Invalidate(_) => {
+                self.invalidations = self.invalidations.wrapping_add(1);
+                self.dropped_by_invalidations = self.dropped_by_invalidations.wrapping_add(dropped);
+            }
+            Accepted::Install(_) => self.installs = self.installs.wrapping_add(1),
+            _ => {}
+        }
+    }
+
+    /// Counts an event that was answered so, if it was refused.
+    fn refuse(&mut self, answer: &[u8]) {
+        if answer.starts_with(b"Err".as_slice()) {
+            self.refusals = self.refusals.wrapping_add(1);
+        }
+        if answer.starts_with(b"Err(Stale".as_slice()) {
+            self.stale = self.stale.wrapping_add(1);
+        }
+    }
+
+    /// Whether enough of all was done.
+    fn are_enough(&self) -> bool {
+        let changes = [
+            self.definitions,
+            self.retargets,
+            self.invalidations,
+            self.installs,
+        ];
+        let dropped = [
+            self.dropped_by_definitions,
+            self.dropped_by_retargets,
+            self.dropped_by_invalidations,
+        ];
+        are_at_least(&changes, &[60, 50, 50, 300])
+            && are_at_least(&dropped, &[15, 30, 8])
+            && are_at_least(&[self.refusals, self.stale], &[500, 30])
+    }
+}
+
+/// Whether each count is at least so much.
+fn are_at_least(counts: &[u32], least: &[u32]) -> bool {
+    for (count, least) in counts.iter().zip(least) {
+        if *count < *least {
+            return false;
+        }
+    }
+    true
+}
+
+impl Script {
+    /// Nothing was drawn yet.
+    fn new(alloc: Global) -> Script {
+        Script {
+            draws: Draws::new(),
+            caller: 0,
+            lost: 0,
+            kept: Seq::of(Vec::new(alloc)),
+            counts: Counts::new(),
+        }
+    }
+
+    /// What there is now.
+    fn numbers(&self, world: &World) -> Numbers {
+        Numbers {
+            loaders: self.counts.loaders.wrapping_add(1),
+            classes: number(world.classes.class_count()),
+            caller: self.caller,
+            sites: number(world.site_count()),
+            points: number(world.sites.switch_count()),
+        }
+    }
+
+    /// Keeps the class of a definition, if it makes calls.
+    fn keep_caller(&mut self, world: &World, class: ClassId) {
+        let place = Place {
+            class,
+            method: 0,
+            pc: 0,
+        };
+        if invocation_at(&world.classes, &place).is_some() {
+            self.caller = class.number();
+        }
+    }
+
+    /// Keeps what an accepted event has dropped and made.
+    fn accept(&mut self, world: &World, entry: &Entry) {
+        let dropped = entry.reply.dropped.as_slice();
+        self.counts.accept(&entry.event, number(dropped.len()));
+        if let Some(site) = dropped.first() {
+            self.lost = site.number();
+        }
+        if let Accepted::Define(_, class) = &entry.event {
+            self.keep_caller(world, *class);
+        }
+    }
+}
+
+/// How the answer prints.
+fn printed(alloc: Global, answer: &Result<Reply, Refusal>) -> Result<String, AllocError> {
+    format!(in alloc; "{answer:?}")
+}
+
+/// What the core answers.
+fn answer(alloc: Global, core: &mut Core, event: Event) -> Result<String, AllocError> {
+    printed(alloc, &core.apply(alloc, event))
+}
+
+/// What the plain core answers.
+fn plain_answer(alloc: Global, plain: &mut Plain, event: Event) -> Result<String, AllocError> {
+    printed(alloc, &plain.apply(alloc, event))
+}
+
+/// Whether the two cores have the same links.
+fn have_same_links(core: &Core, plain: &Plain) -> bool {
+    for (site, slot) in plain.links().iter().enumerate() {
+        if core.links().get(SiteNo::new(number(site))) != *slot {
+            return false;
+        }
+    }
+    core.links().len() as u64 == plain.installed()
+}
+
+/// What is known before an event.
+#[derive(Clone, Copy)]
+struct Before {
+    accepted: usize,
+    installed: u64,
+    work: u64,
+}
+
+/// Whether this work may be told after an event that has this entry, if it was accepted. Only definitions, targets and invalid
+/// points touch installed sites, one tick each.
+fn may_be_told(work: u64, before: &Before, entry: Option<&Entry>) -> bool {
+    match entry {
+        Some(entry) => match &entry.event {
+            Accepted::Install(_) => true,
+            Accepted::Define(_, _) => work <= before.installed,
+            Accepted::SetTarget(_, _) => work <= before.installed,
+            Accepted::Invalidate(_) => work <= before.installed,
+            _ => work == 0,
+        },
+        None => work == before.work,
+    }
+}
+
+/// Asserts that both cores answer the event in the same way.
+fn assert_answers(
+    rt: &(impl Abort + AllocGlobal),
+    core: &mut Core,
+    plain: &mut Plain,
+    counts: &mut Counts,
+    event: Event,
+    same: Event,
+) -> Result<(), AllocError> {
+    let number = core.log().len();
+    let text = answer(rt.alloc(), core, event)?;
+    let want = plain_answer(rt.alloc(), plain, same)?;
+    assert_eq!(rt; text.as_str(), want.as_str(), "after {number} events");
+    counts.refuse(text.as_bytes());
+    Ok(())
+}
+
+/// Asserts that both cores have the same links after an event, and that it took no more work than it may.
+fn assert_state(rt: &impl Abort, core: &Core, plain: &Plain, script: &mut Script, before: &Before) {
+    let number = before.accepted;
+    let entry = core.log().get(number);
+    let work = core.last_work();
+    assert!(rt; have_same_links(core, plain), "after {number} events");
+    assert!(rt;
+        may_be_told(work, before, entry),
+        "work {work} after {number} events"
+    );
+    if let Some(entry) = entry {
+        script.accept(core.world(), entry);
+    }
+}
+
+/// Asserts that both cores come to the same by the event.
+fn assert_same(
+    rt: &(impl Abort + AllocGlobal),
+    core: &mut Core,
+    plain: &mut Plain,
+    script: &mut Script,
+    event: Event,
+    same: Event,
+) -> Result<(), AllocError> {
+    let before = Before {
+        accepted: core.log().len(),
+        installed: plain.installed(),
+        work: core.last_work(),
+    };
+    assert_answers(rt, core, plain, &mut script.counts, event, same)?;
+    assert_state(rt, core, plain, script, &before);
+    Ok(())
+}
+
+/// A site of an install, one of the last ones or any.
+fn drawn_site(draws: &mut Draws, sites: u32) -> u32 {
+    if draws.is_one_in(2) {
+        return draws.recent(sites, 6);
+    }
+    draws.below(sites.wrapping_add(1))
+}
+
+/// Up to three sites, often with the one whose link went last. One may not be requested, or come twice.
+fn drawn_sites(alloc: Global, script: &mut Script, sites: u32) -> Result<Vec<u32>, AllocError> {
+    let mut numbers = Vec::new(alloc);
+    if script.draws.is_one_in(2) {
+        numbers.push(script.lost)?;
+    }
+    for _ in 0..2 {
+        if numbers.is_empty() || script.draws.is_one_in(3) {
+            numbers.push(drawn_site(&mut script.draws, sites))?;
+        }
+    }
+    Ok(numbers)
+}
+
+/// The rows of an install: links as they are now, or those that were kept before.
+fn drawn_rows(
+    alloc: Global,
+    core: &Core,
+    script: &mut Script,
+) -> Result<Seq<(SiteNo, Link)>, AllocError> {
+    let sites = drawn_sites(alloc, script, number(core.world().site_count()))?;
+    let rows = rows(alloc, core, &sites)?;
+    if script.draws.is_one_in(4) {
+        return Ok(mem::replace(&mut script.kept, rows));
+    }
+    Ok(rows)
+}
+
+/// Asserts that both cores come to the same by an install.
+fn assert_install(
+    rt: &(impl Abort + AllocGlobal),
+    core: &mut Core,
+    plain: &mut Plain,
+    script: &mut Script,
+) -> Result<(), AllocError> {
+    let rows = drawn_rows(rt.alloc(), core, script)?;
+    let same = Seq::of(rows.as_slice().to_vec(rt.alloc())?);
+    assert_same(
+        rt,
+        core,
+        plain,
+        script,
+        Event::Install(rows),
+        Event::Install(same),
+    )
+}
+
+/// Asserts that both cores come to the same by the step.
+fn assert_step(
+    rt: &(impl Abort + AllocGlobal),
+    core: &mut Core,
+    plain: &mut Plain,
+    script: &mut Script,
+    step: &Step,
+) -> Result<(), AllocError> {
+    let first = event(rt.alloc(), step)?;
+    let second = event(rt.alloc(), step)?;
+    assert_same(rt, core, plain, script, first, second)
+}
+
+/// Asserts that both cores come to the same by the event of this number.
+fn assert_next(
+    rt: &(impl Abort + AllocGlobal),
+    core: &mut Core,
+    plain: &mut Plain,
+    script: &mut Script,
+    number: u32,
+) -> Result<(), AllocError> {
+    let numbers = script.numbers(core.world());
+    match drawn(&mut script.draws, &core.world().classes, number, &numbers) {
+        Some(step) => assert_step(rt, core, plain, script, &step),
+        None => assert_install(rt, core, plain, script),
+    }
+}
+
+/// Asserts that both cores come to the same by each event.
+fn assert_events(
+    rt: &(impl Abort + AllocGlobal),
+    core: &mut Core,
+    plain: &mut Plain,
+    script: &mut Script,
+) -> Result<(), AllocError> {
+    for number in 0..EVENTS {
+        assert_next(rt, core, plain, script, number)?;
+    }
+    Ok(())
+}
+
+/// Asserts the same where no event was drawn before, and that the script did what it is for.
+fn assert_script(
+    rt: &(impl Abort + AllocGlobal),
+    core: &mut Core,
+    plain: &mut Plain,
+) -> Result<(), AllocError> {
+    let mut script = Script::new(rt.alloc());
+    assert_events(rt, core, plain, &mut script)?;
+    let counts = script.counts;
+    assert!(rt; counts.are_enough(), "{counts:?}");
+    Ok(())
+}
+
+/// Asserts the same where there was no event before in either core.
+fn assert_plain(rt: &(impl Abort + AllocGlobal), core: &mut Core) -> Result<(), AllocError> {
+    let mut plain = Plain::new(rt.alloc())?;
+    assert_script(rt, core, &mut plain)
+}
+
+#[test]
+fn comes_to_the_same_as_a_plain_core(rt: HostRuntime) -> Result<(), AllocError> {
+    let mut core = Core::new(rt.alloc(), SITES)?;
+    assert_plain(&rt, &mut core)
+}
