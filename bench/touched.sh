@@ -3,11 +3,11 @@
 #
 #     bench/touched.sh PROGRAM       PROGRAM is a built linkd
 #
-# EVENTS (8,192) is how many events of each kind are timed. Each time is that of a run with them less that of the same run without, by
-# processor, the least of five; for the ratios half of the events are of one kind. It needs GNU time.
+# EVENTS (60,000, at most 65,000) is how many definitions are timed, and ten times as many new targets and invalidations. Each time is that
+# of a run with them less that of the same run without, by processor, the least of five. It needs GNU time.
 set -eu
 program=${1:?a built linkd}
-events=${EVENTS:-8192}
+events=${EVENTS:-60000}
 work=$(mktemp -d)
 trap 'rm -rf "$work"' EXIT
 
@@ -73,15 +73,17 @@ linked=$(seconds "$work/linked")
 bare=$(seconds "$work/bare")
 echo "65,536 sites: $bare s requested, $linked s with their links"
 
-echo "== $events events that touch no site: seconds behind 65,536 links and behind none"
+echo "== events that touch no site: seconds behind 65,536 links and behind none"
 for kind in java/lang/Object target invalidate; do
-    more "$kind" "$events" > "$work/more"
+    count=$events
+    if [ "$kind" != java/lang/Object ]; then count=$((10 * events)); fi
+    more "$kind" "$count" > "$work/more"
     cat "$work/linked" "$work/more" > "$work/all"
     behind=$(seconds "$work/all")
     cat "$work/bare" "$work/more" > "$work/all"
     alone=$(seconds "$work/all")
-    awk -v kind="$kind" -v a="$behind" -v b="$linked" -v c="$alone" -v d="$bare" 'BEGIN {
-        printf "%s: %.2f and %.2f, ratio %.2f\n", kind == "java/lang/Object" ? "define" : kind, a - b, c - d, (a - b) / (c - d)
+    awk -v kind="$kind" -v n="$count" -v a="$behind" -v b="$linked" -v c="$alone" -v d="$bare" 'BEGIN {
+        printf "%d of %s: %.2f and %.2f, ratio %.2f\n", n, kind == "java/lang/Object" ? "define" : kind, a - b, c - d, (a - b) / (c - d)
     }'
 done
 
