@@ -10,10 +10,12 @@ use Rattle.jl_types.specs.declared.event.Reply.{Reply}
 use Rattle.jl_types.specs.declared.refusal.Refusal.{Refusal}
 use Rattle.jl_types.specs.declared.refusal.PrepareFault.{PrepareFault}
 use Rattle.jl_relink.specs.declared.preparation.Prepared.{Prepared}
+use Rattle.jl_json.specs.Commands.{AskedEvent}
 use Rattle.jl_json.specs.declared.command.Command.{Command}
 use Rattle.jl_json.specs.declared.command.Command.TheVariants as command
 use Rattle.jl_json.proofs.FloatLaws.{refusal_floats, reply_floats, event_refusal_floats, prepared_floats, prepare_refusal_floats, answer_floats, links_floats}
-use Rattle.jl_cli.specs.Sessions.{Session, IsEventData, IsEventAnswer, IsFileDefined, IsDefineAnswer, IsPreparedData, IsCommandAnswer, IsAskedAnswer, IsSessionAnswer}
+use Rattle.jl_cli.specs.Sessions.{Session, IsEventData, IsEventAnswer, IsFileDefined, IsDefineAnswer, IsPreparedData}
+use Rattle.jl_cli.specs.Sessions.{IsAskedEventAnswer, IsCommandAnswer, IsAskedAnswer, IsSessionAnswer}
 use Rattle.jl_json.specs.declared.command.ClassSource.{ClassSource}
 use Rattle.jl_json.specs.declared.command.ClassSource.TheVariants as source
 use Rattle.jl_json.specs.Refusals.{sketch_refusal_data}
@@ -58,21 +60,25 @@ install_floats : (o : Option (List (ℕ × Link))) (old : Session) (answer : Dat
 install_floats None old answer new is = ap has_float is.0
 install_floats (Some rows) old answer new is = event_floats is.outcome answer is.said
 
+asked_event_floats : (old : Session) (asked : AskedEvent) (answer : Data) (new : Session)
+    → IsAskedEventAnswer old asked answer new → has_float answer ≡ false
+asked_event_floats old event.NewLoader answer new is = event_floats is.outcome answer is.said
+asked_event_floats old (event.Define loader source) answer new is = define_floats old loader source answer new is
+asked_event_floats old (event.Delegate loader name to) answer new is = event_floats is.outcome answer is.said
+asked_event_floats old (event.Request place) answer new is = event_floats is.outcome answer is.said
+asked_event_floats old (event.NewCallSite kind ty target) answer new is = event_floats is.outcome answer is.said
+asked_event_floats old (event.SetTarget call_site target) answer new is = event_floats is.outcome answer is.said
+asked_event_floats old event.NewSwitch answer new is = event_floats is.outcome answer is.said
+asked_event_floats old (event.Invalidate switches) answer new is = event_floats is.outcome answer is.said
+asked_event_floats old (event.Bind site call_site) answer new is = event_floats is.outcome answer is.said
+asked_event_floats old (event.Install batch) answer new is = install_floats (slice_get old.batches batch) old answer new is
+
 command_floats : (old : Session) (asked : Command) (answer : Data) (new : Session)
     → IsCommandAnswer old asked answer new → has_float answer ≡ false
-command_floats old command.NewLoader answer new is = event_floats is.outcome answer is.said
-command_floats old (command.Define loader source) answer new is = define_floats old loader source answer new is
-command_floats old (command.Delegate loader name to) answer new is = event_floats is.outcome answer is.said
-command_floats old (command.Request place) answer new is = event_floats is.outcome answer is.said
+command_floats old (command.Apply asked) answer new is = asked_event_floats old asked answer new is
 command_floats old (command.Prepare sites) answer new is = prepare_floats old is.outcome answer new is.said
-command_floats old (command.Install batch) answer new is = install_floats (slice_get old.batches batch) old answer new is
 command_floats old (command.Call site recv) answer new is = ap has_float is.0 ∙ answer_floats _
 command_floats old command.Links answer new is = ap has_float is.0 ∙ links_floats _
-command_floats old (command.NewCallSite kind ty target) answer new is = event_floats is.outcome answer is.said
-command_floats old (command.SetTarget call_site target) answer new is = event_floats is.outcome answer is.said
-command_floats old command.NewSwitch answer new is = event_floats is.outcome answer is.said
-command_floats old (command.Invalidate switches) answer new is = event_floats is.outcome answer is.said
-command_floats old (command.Bind site call_site) answer new is = event_floats is.outcome answer is.said
 
 asked_floats : (old : Session) (asked : Option Command) (answer : Data) (new : Session)
     → IsAskedAnswer old asked answer new → has_float answer ≡ false

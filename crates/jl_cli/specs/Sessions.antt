@@ -23,7 +23,7 @@ use Rattle.jl_json.specs.Replies.{reply_data}
 use Rattle.jl_json.specs.EventRefusals.{IsRefusalData, prepare_refusal_data}
 use Rattle.jl_json.specs.LinkAnswers.{links_data, prepared_data}
 use Rattle.jl_json.specs.CallAnswers.{answer_data}
-use Rattle.jl_json.specs.Commands.{command_of}
+use Rattle.jl_json.specs.Commands.{AskedEvent, command_of}
 use Rattle.jl_cli.specs.Jsons.{IsReadAs, bad_command}
 use Rattle.jl_cli.specs.Scans.{IsFaultAnswer}
 use Rattle.jl_cli.specs.Sketches.{IsSketchRefusal}
@@ -83,23 +83,27 @@ pub record IsPrepareAnswer (old : Session) (sites : List ℕ) (answer : Data) (n
   pub prepared : IsPreparation (snapshot_of old) sites outcome
   pub said : IsPreparedData old outcome answer new
 
-abbrev pub IsCommandAnswer : Session → Command → Data → Session → Type 0
-IsCommandAnswer old command.NewLoader answer new = IsEventAnswer old event.NewLoader answer new
-IsCommandAnswer old (command.Define loader source) answer new = IsDefineAnswer old loader source answer new
-IsCommandAnswer old (command.Delegate loader name to) answer new = IsEventAnswer old (event.Delegate loader name to) answer new
-IsCommandAnswer old (command.Request place) answer new = IsEventAnswer old (event.Request place) answer new
-IsCommandAnswer old (command.Prepare sites) answer new = IsPrepareAnswer old sites answer new
-IsCommandAnswer old (command.Install batch) answer new =
+-- the event of the core; an install is of the batch of that number, if there is one
+abbrev pub IsAskedEventAnswer : Session → AskedEvent → Data → Session → Type 0
+IsAskedEventAnswer old event.NewLoader answer new = IsEventAnswer old event.NewLoader answer new
+IsAskedEventAnswer old (event.Define loader source) answer new = IsDefineAnswer old loader source answer new
+IsAskedEventAnswer old (event.Delegate loader name to) answer new = IsEventAnswer old (event.Delegate loader name to) answer new
+IsAskedEventAnswer old (event.Request place) answer new = IsEventAnswer old (event.Request place) answer new
+IsAskedEventAnswer old (event.NewCallSite kind ty target) answer new = IsEventAnswer old (event.NewCallSite kind ty target) answer new
+IsAskedEventAnswer old (event.SetTarget call_site target) answer new = IsEventAnswer old (event.SetTarget call_site target) answer new
+IsAskedEventAnswer old event.NewSwitch answer new = IsEventAnswer old event.NewSwitch answer new
+IsAskedEventAnswer old (event.Invalidate switches) answer new = IsEventAnswer old (event.Invalidate switches) answer new
+IsAskedEventAnswer old (event.Bind site call_site) answer new = IsEventAnswer old (event.Bind site call_site) answer new
+IsAskedEventAnswer old (event.Install batch) answer new =
     MatchOption (slice_get old.batches batch) ((answer ≡ bad_command) × (new ≡ old))
     (λ rows. IsEventAnswer old (event.Install rows) answer new)
+
+abbrev pub IsCommandAnswer : Session → Command → Data → Session → Type 0
+IsCommandAnswer old (command.Apply asked) answer new = IsAskedEventAnswer old asked answer new
+IsCommandAnswer old (command.Prepare sites) answer new = IsPrepareAnswer old sites answer new
 IsCommandAnswer old (command.Call site recv) answer new =
     (answer ≡ answer_data (dispatch (world_of old.core) site recv)) × (new ≡ old)
 IsCommandAnswer old command.Links answer new = (answer ≡ links_data (links_of old.core)) × (new ≡ old)
-IsCommandAnswer old (command.NewCallSite kind ty target) answer new = IsEventAnswer old (event.NewCallSite kind ty target) answer new
-IsCommandAnswer old (command.SetTarget call_site target) answer new = IsEventAnswer old (event.SetTarget call_site target) answer new
-IsCommandAnswer old command.NewSwitch answer new = IsEventAnswer old event.NewSwitch answer new
-IsCommandAnswer old (command.Invalidate switches) answer new = IsEventAnswer old (event.Invalidate switches) answer new
-IsCommandAnswer old (command.Bind site call_site) answer new = IsEventAnswer old (event.Bind site call_site) answer new
 
 -- ---- what a line is answered
 

@@ -14,7 +14,9 @@ use crate::scan::fault_value;
 use crate::sketch::sketch_fault_value;
 use jl_classfile::read_class;
 use jl_farm::{Gate, JobOutcome, Report, run};
-use jl_json::{ClassSource, Command, event_refusal_value, farm_value, read_command, reply_value};
+use jl_json::{
+    AskedEvent, ClassSource, Command, event_refusal_value, farm_value, read_command, reply_value,
+};
 use jl_names::Seq;
 use jl_server::{Caller, LinkServer, Name};
 use jl_sketch::write_class;
@@ -52,23 +54,31 @@ impl<'a, K: Name, H: Wait, S: Wait + Drop> Foreman<'a, K, H, S> {
 
     fn obey(&mut self, asked: Command) -> Result<Value, AllocError> {
         match asked {
-            Command::NewLoader => self.apply(Event::NewLoader),
-            Command::Define { loader, source } => self.define(loader, source),
-            Command::Delegate { loader, name, to } => self.apply(Event::Delegate(loader, name, to)),
-            Command::Request(place) => self.apply(Event::Request(place)),
-            Command::NewCallSite { kind, ty, target } => {
-                self.apply(Event::NewCallSite(kind, ty, target))
-            }
-            Command::SetTarget { call_site, target } => {
-                self.apply(Event::SetTarget(call_site, target))
-            }
-            Command::NewSwitch => self.apply(Event::NewSwitch),
-            Command::Invalidate(switches) => self.apply(Event::Invalidate(switches)),
-            Command::Bind { site, call_site } => self.apply(Event::Bind(site, call_site)),
+            Command::Apply(asked) => self.obey_event(asked),
             Command::Prepare(_) => bad_command(self.alloc),
-            Command::Install(_) => bad_command(self.alloc),
             Command::Call(_, _) => bad_command(self.alloc),
             Command::Links => bad_command(self.alloc),
+        }
+    }
+
+    fn obey_event(&mut self, asked: AskedEvent) -> Result<Value, AllocError> {
+        match asked {
+            AskedEvent::NewLoader => self.apply(Event::NewLoader),
+            AskedEvent::Define(loader, source) => self.define(loader, source),
+            AskedEvent::Delegate(loader, name, to) => {
+                self.apply(Event::Delegate(loader, name, to))
+            }
+            AskedEvent::Request(place) => self.apply(Event::Request(place)),
+            AskedEvent::NewCallSite(kind, ty, target) => {
+                self.apply(Event::NewCallSite(kind, ty, target))
+            }
+            AskedEvent::SetTarget(call_site, target) => {
+                self.apply(Event::SetTarget(call_site, target))
+            }
+            AskedEvent::NewSwitch => self.apply(Event::NewSwitch),
+            AskedEvent::Invalidate(switches) => self.apply(Event::Invalidate(switches)),
+            AskedEvent::Bind(site, call_site) => self.apply(Event::Bind(site, call_site)),
+            AskedEvent::Install(_) => bad_command(self.alloc),
         }
     }
 

@@ -2,13 +2,12 @@
 
 ghost use Rattle.std.specs.Prelude.{◌≡◌, IfOk, OnErr, length};
 ghost use Rattle.serde_json.specs.View.{view};
-ghost use Rattle.jl_types.specs.declared.event.EventOf.TheVariants as event;
-ghost use Rattle.jl_json.specs.declared.command.Command.TheVariants as command;
+ghost use Rattle.jl_types.specs.declared.event.EventOf.TheVariants.{Install};
 ghost use Rattle.jl_json.specs.declared.command.ClassSource.TheVariants as source;
 ghost use Rattle.jl_json.specs.Commands.{command_of};
 ghost use Rattle.jl_cli.specs.Jsons.{IsReadAs, IsTextOf};
 ghost use Rattle.jl_cli.specs.Sessions.{new_session, IsEventData, IsEventAnswer, IsFileDefined, IsDefineAnswer};
-ghost use Rattle.jl_cli.specs.Sessions.{IsPrepareAnswer, IsCommandAnswer, IsSessionAnswer, LacksAnswer};
+ghost use Rattle.jl_cli.specs.Sessions.{IsPrepareAnswer, IsAskedEventAnswer, IsCommandAnswer, IsSessionAnswer, LacksAnswer};
 
 use crate::json_line::{bad_command, json_in, text_of};
 use crate::scan::fault_value;
@@ -16,8 +15,8 @@ use crate::sketch::sketch_fault_value;
 use jl_classfile::read_class;
 use jl_core::Core;
 use jl_json::{
-    ClassSource, Command, answer_value, event_refusal_value, links_value, prepare_refusal_value,
-    prepared_value, read_command, reply_value,
+    AskedEvent, ClassSource, Command, answer_value, event_refusal_value, links_value,
+    prepare_refusal_value, prepared_value, read_command, reply_value,
 };
 use jl_names::Seq;
 use jl_sketch::{Sketch, write_class};
@@ -109,28 +108,38 @@ impl Session {
         ensures lacks { OnErr result (LacksAnswer self.old (λ answer. IsCommandAnswer self.old asked answer self.new) self.new) }
     {
         match asked {
-            Command::NewLoader => self.apply(alloc, Event::NewLoader),
-            Command::Define { loader, source } => self.define(alloc, loader, source),
-            Command::Delegate { loader, name, to } => {
-                self.apply(alloc, Event::Delegate(loader, name, to))
-            }
-            Command::Request(place) => self.apply(alloc, Event::Request(place)),
+            Command::Apply(asked) => self.obey_event(alloc, asked),
             Command::Prepare(sites) => self.prepare(alloc, sites.as_slice()),
-            Command::Install(batch) => self.install(alloc, batch),
             Command::Call(site, recv) => answer_value(alloc, self.core.call(site, recv)),
             Command::Links => {
                 let links = self.core.list_links(alloc)?;
                 links_value(alloc, links.as_slice())
             }
-            Command::NewCallSite { kind, ty, target } => {
+        }
+    }
+
+    /// The answer to an event that is asked for.
+    fn obey_event(&mut self, alloc: Global, asked: AskedEvent) -> Result<Value, AllocError>
+        ensures ok { IfOk result (λ v. IsAskedEventAnswer self.old asked (view v) self.new) }
+        ensures lacks { OnErr result (LacksAnswer self.old (λ answer. IsAskedEventAnswer self.old asked answer self.new) self.new) }
+    {
+        match asked {
+            AskedEvent::NewLoader => self.apply(alloc, Event::NewLoader),
+            AskedEvent::Define(loader, source) => self.define(alloc, loader, source),
+            AskedEvent::Delegate(loader, name, to) => {
+                self.apply(alloc, Event::Delegate(loader, name, to))
+            }
+            AskedEvent::Request(place) => self.apply(alloc, Event::Request(place)),
+            AskedEvent::NewCallSite(kind, ty, target) => {
                 self.apply(alloc, Event::NewCallSite(kind, ty, target))
             }
-            Command::SetTarget { call_site, target } => {
+            AskedEvent::SetTarget(call_site, target) => {
                 self.apply(alloc, Event::SetTarget(call_site, target))
             }
-            Command::NewSwitch => self.apply(alloc, Event::NewSwitch),
-            Command::Invalidate(switches) => self.apply(alloc, Event::Invalidate(switches)),
-            Command::Bind { site, call_site } => self.apply(alloc, Event::Bind(site, call_site)),
+            AskedEvent::NewSwitch => self.apply(alloc, Event::NewSwitch),
+            AskedEvent::Invalidate(switches) => self.apply(alloc, Event::Invalidate(switches)),
+            AskedEvent::Bind(site, call_site) => self.apply(alloc, Event::Bind(site, call_site)),
+            AskedEvent::Install(batch) => self.install(alloc, batch),
         }
     }
 
@@ -215,8 +224,8 @@ impl Session {
 
     /// The answer to the install of a batch.
     fn install(&mut self, alloc: Global, batch: u32) -> Result<Value, AllocError>
-        ensures ok { IfOk result (λ v. IsCommandAnswer self.old (command.Install batch) (view v) self.new) }
-        ensures lacks { OnErr result (LacksAnswer self.old (λ answer. IsCommandAnswer self.old (command.Install batch) answer self.new) self.new) }
+        ensures ok { IfOk result (λ v. IsAskedEventAnswer self.old (Install batch) (view v) self.new) }
+        ensures lacks { OnErr result (LacksAnswer self.old (λ answer. IsAskedEventAnswer self.old (Install batch) answer self.new) self.new) }
     {
         let Some(rows) = self.batches.as_slice().get(batch as usize) else {
             return bad_command(alloc);

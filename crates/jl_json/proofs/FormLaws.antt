@@ -12,6 +12,8 @@ use Rattle.serde_json.specs.Data.{Data}
 use Rattle.serde_json.specs.View.{items_of}
 use Rattle.jl_types.specs.declared.answer.Recv.{Recv}
 use Rattle.jl_types.specs.declared.answer.Recv.TheVariants.{Null, Of}
+use Rattle.jl_types.specs.declared.event.EventOf.TheVariants.{NewLoader, Define, Delegate, Request, Install}
+use Rattle.jl_types.specs.declared.event.EventOf.TheVariants.{NewCallSite, SetTarget, NewSwitch, Invalidate, Bind}
 use Rattle.jl_types.specs.declared.target.CallSiteKind.{CallSiteKind}
 use Rattle.jl_types.specs.declared.target.CallSiteKind.TheVariants.{Constant, Mutable, Volatile}
 use Rattle.jl_types.specs.Target.{Target, Method, Guard}
@@ -19,17 +21,16 @@ use Rattle.jl_names.specs.MethodTypes.{IsMethodDescriptor}
 use Rattle.jl_pool.specs.Reading.Forms.{method_slots}
 use Rattle.jl_pool.proofs.FormLaws.{SlotsAre, method_slots-is}
 use Rattle.jl_json.specs.declared.command.Command.{Command}
-use Rattle.jl_json.specs.declared.command.Command.TheVariants.{NewLoader, Define, Delegate, Request, Prepare, Install, Call, Links}
-use Rattle.jl_json.specs.declared.command.Command.TheVariants.{NewCallSite, SetTarget, NewSwitch, Invalidate, Bind}
+use Rattle.jl_json.specs.declared.command.Command.TheVariants.{Apply, Prepare, Call, Links}
 use Rattle.jl_json.specs.declared.command.ClassSource.TheVariants.{File, Sketch}
 use Rattle.jl_sketch.specs.declared.sketch.Sketch.{Sketch as SketchOf}
 use Rattle.jl_json.specs.ClassAnswers.{number_data}
 use Rattle.jl_json.specs.Members.{below, number_in, each_in, ◌>>=◌}
 use Rattle.jl_json.specs.Sketches.{name_in, sketch_of}
 use Rattle.jl_json.specs.Targets.{guard, target_in, target_under}
-use Rattle.jl_json.specs.Commands.{recv_in, kind_in, is_method_descriptor, method_type, command_of}
-use Rattle.jl_json.specs.CommandForms.{recv_data, kind_name, target_data, command_data}
-use Rattle.jl_json.specs.CommandForms.{IsReceiver, IsTarget, IsCommand}
+use Rattle.jl_json.specs.Commands.{AskedEvent, recv_in, kind_in, is_method_descriptor, method_type, command_of}
+use Rattle.jl_json.specs.CommandForms.{recv_data, kind_name, target_data, event_data, command_data}
+use Rattle.jl_json.specs.CommandForms.{IsReceiver, IsTarget, IsEvent, IsCommand}
 
 pub within : (bound n : ℕ) → n < bound → below bound n ≡ Some n
 within bound n lt = grind (arith, nat_tests)
@@ -90,35 +91,35 @@ target_again (Guard p first fallback) h =
 
 -- what follows a number of the form
 
-abbrev file_next : List ℕ → Option ℕ → Option Command
+abbrev file_next : List ℕ → Option ℕ → Option AskedEvent
 file_next file loader =
     loader >>= (λ l. option_map File (result_ok (decode_of (encode_lower file))) >>= (λ source. Some (Define l source)))
 
-abbrev bytes_next : ℕ → Result (List ℕ) FromHexError → Option Command
+abbrev bytes_next : ℕ → Result (List ℕ) FromHexError → Option AskedEvent
 bytes_next loader read = option_map File (result_ok read) >>= (λ source. Some (Define loader source))
 
-abbrev sketch_next : ℕ → Option SketchOf → Option Command
+abbrev sketch_next : ℕ → Option SketchOf → Option AskedEvent
 sketch_next loader s = option_map Sketch s >>= (λ source. Some (Define loader source))
 
-abbrev sketched_next : Data → Option ℕ → Option Command
+abbrev sketched_next : Data → Option ℕ → Option AskedEvent
 sketched_next sketch loader = loader >>= (λ l. sketch_next l (sketch_of sketch))
 
-abbrev name_next : ℕ → ℕ → Option (List ℕ) → Option Command
+abbrev name_next : ℕ → ℕ → Option (List ℕ) → Option AskedEvent
 name_next loader to name = name >>= (λ n. Some (Delegate loader n to))
 
-abbrev to_next : Data → ℕ → Option ℕ → Option Command
+abbrev to_next : Data → ℕ → Option ℕ → Option AskedEvent
 to_next written loader to = to >>= (λ t. name_next loader t (name_in written))
 
-abbrev loader_next : Data → ℕ → Option ℕ → Option Command
+abbrev loader_next : Data → ℕ → Option ℕ → Option AskedEvent
 loader_next written to loader = loader >>= (λ l. to_next written l (below (2 ^ 32) to))
 
-abbrev pc_next : ℕ → ℕ → Option ℕ → Option Command
+abbrev pc_next : ℕ → ℕ → Option ℕ → Option AskedEvent
 pc_next class method pc = pc >>= (λ p. Some (Request (record { class = class; method = method; pc = p })))
 
-abbrev method_next : ℕ → ℕ → Option ℕ → Option Command
+abbrev method_next : ℕ → ℕ → Option ℕ → Option AskedEvent
 method_next pc class method = method >>= (λ m. pc_next class m (below (2 ^ 32) pc))
 
-abbrev class_next : ℕ → ℕ → Option ℕ → Option Command
+abbrev class_next : ℕ → ℕ → Option ℕ → Option AskedEvent
 class_next method pc class = class >>= (λ c. method_next pc c (below (2 ^ 16) method))
 
 abbrev recv_next : ℕ → Option Recv → Option Command
@@ -127,64 +128,68 @@ recv_next site recv = recv >>= (λ r. Some (Call site r))
 abbrev site_next : Recv → Option ℕ → Option Command
 site_next recv site = site >>= (λ s. recv_next s (recv_in (recv_data recv)))
 
-abbrev kind_next : Data → Target → Option CallSiteKind → Option Command
+abbrev kind_next : Data → Target → Option CallSiteKind → Option AskedEvent
 kind_next written target kind = kind >>= (λ k. (name_in written >>= method_type)
     >>= (λ ty. target_in (target_data target) >>= (λ t. Some (NewCallSite k ty t))))
 
-abbrev type_next : CallSiteKind → Target → Option (List ℕ) → Option Command
+abbrev type_next : CallSiteKind → Target → Option (List ℕ) → Option AskedEvent
 type_next kind target ty =
     (ty >>= method_type) >>= (λ ty. target_in (target_data target) >>= (λ t. Some (NewCallSite kind ty t)))
 
-abbrev typed_next : CallSiteKind → List ℕ → Target → Bool → Option Command
+abbrev typed_next : CallSiteKind → List ℕ → Target → Bool → Option AskedEvent
 typed_next kind ty target is =
     (if is then Some ty else None)
     >>= (λ ty. target_in (target_data target) >>= (λ t. Some (NewCallSite kind ty t)))
 
-abbrev target_next : CallSiteKind → List ℕ → Option Target → Option Command
+abbrev target_next : CallSiteKind → List ℕ → Option Target → Option AskedEvent
 target_next kind ty target = target >>= (λ t. Some (NewCallSite kind ty t))
 
-abbrev changed_next : Target → Option ℕ → Option Command
+abbrev changed_next : Target → Option ℕ → Option AskedEvent
 changed_next target call_site =
     call_site >>= (λ c. target_in (target_data target) >>= (λ t. Some (SetTarget c t)))
 
-abbrev new_target_next : ℕ → Option Target → Option Command
+abbrev new_target_next : ℕ → Option Target → Option AskedEvent
 new_target_next call_site target = target >>= (λ t. Some (SetTarget call_site t))
 
-abbrev bound_next : ℕ → Option ℕ → Option Command
+abbrev bound_next : ℕ → Option ℕ → Option AskedEvent
 bound_next call_site site = site >>= (λ s. below (2 ^ 32) call_site >>= (λ c. Some (Bind s c)))
 
-abbrev call_site_next : ℕ → Option ℕ → Option Command
+abbrev call_site_next : ℕ → Option ℕ → Option AskedEvent
 call_site_next site call_site = call_site >>= (λ c. Some (Bind site c))
+
+event_again : (written : Data) (a : AskedEvent) → IsEvent written a → command_of (event_data written a) ≡ Some (Apply a)
+unfolding event_data
+event_again written NewLoader h = refl
+event_again written (Define loader (File file)) h = ap (option_map Apply)
+    (ap (file_next file) (within (2 ^ 32) loader h.0)
+    ∙ ap (bytes_next loader) (decode_of-encode_lower file h.1))
+event_again written (Define loader (Sketch s)) h = ap (option_map Apply)
+    (ap (sketched_next written) (within (2 ^ 32) loader h.0) ∙ ap (sketch_next loader) h.1)
+event_again written (Delegate loader name to) h = ap (option_map Apply)
+    (ap (loader_next written to) (within (2 ^ 32) loader h.0)
+    ∙ ap (to_next written loader) (within (2 ^ 32) to h.1)
+    ∙ ap (name_next loader to) h.2)
+event_again written (Request place) h = ap (option_map Apply)
+    (ap (class_next place.method place.pc) (within (2 ^ 32) place.class h.0)
+    ∙ ap (method_next place.pc place.class) (within (2 ^ 16) place.method h.1)
+    ∙ ap (pc_next place.class place.method) (within (2 ^ 32) place.pc h.2))
+event_again written (Install batch) h = ap (option_map Apply) (ap (option_map Install) (within (2 ^ 32) batch h))
+event_again written (NewCallSite kind ty target) h = ap (option_map Apply)
+    (ap (kind_next written target) (kind_again kind)
+    ∙ ap (type_next kind target) h.0
+    ∙ ap (typed_next kind ty target) (type_again ty h.1)
+    ∙ ap (target_next kind ty) (target_again target h.2))
+event_again written (SetTarget call_site target) h = ap (option_map Apply)
+    (ap (changed_next target) (within (2 ^ 32) call_site h.0) ∙ ap (new_target_next call_site) (target_again target h.1))
+event_again written NewSwitch h = refl
+event_again written (Invalidate switches) h = ap (option_map Apply) (ap (option_map Invalidate) (numbers_again switches h))
+event_again written (Bind site call_site) h = ap (option_map Apply)
+    (ap (bound_next call_site) (within (2 ^ 32) site h.0) ∙ ap (call_site_next site) (within (2 ^ 32) call_site h.1))
 
 pub again : (written : Data) (c : Command) → IsCommand written c → command_of (command_data written c) ≡ Some c
 unfolding command_data
-again written NewLoader h = refl
-again written (Define loader (File file)) h =
-    ap (file_next file) (within (2 ^ 32) loader h.0)
-    ∙ ap (bytes_next loader) (decode_of-encode_lower file h.1)
-again written (Define loader (Sketch s)) h =
-    ap (sketched_next written) (within (2 ^ 32) loader h.0) ∙ ap (sketch_next loader) h.1
-again written (Delegate loader name to) h =
-    ap (loader_next written to) (within (2 ^ 32) loader h.0)
-    ∙ ap (to_next written loader) (within (2 ^ 32) to h.1)
-    ∙ ap (name_next loader to) h.2
-again written (Request place) h =
-    ap (class_next place.method place.pc) (within (2 ^ 32) place.class h.0)
-    ∙ ap (method_next place.pc place.class) (within (2 ^ 16) place.method h.1)
-    ∙ ap (pc_next place.class place.method) (within (2 ^ 32) place.pc h.2)
+again written (Apply a) h = event_again written a h
 again written (Prepare sites) h = ap (option_map Prepare) (numbers_again sites h)
-again written (Install batch) h = ap (option_map Install) (within (2 ^ 32) batch h)
 again written (Call site recv) h =
     ap (site_next recv) (within (2 ^ 32) site h.0) ∙ ap (recv_next site) (recv_again recv h.1)
 again written Links h = refl
-again written (NewCallSite kind ty target) h =
-    ap (kind_next written target) (kind_again kind)
-    ∙ ap (type_next kind target) h.0
-    ∙ ap (typed_next kind ty target) (type_again ty h.1)
-    ∙ ap (target_next kind ty) (target_again target h.2)
-again written (SetTarget call_site target) h =
-    ap (changed_next target) (within (2 ^ 32) call_site h.0) ∙ ap (new_target_next call_site) (target_again target h.1)
-again written NewSwitch h = refl
-again written (Invalidate switches) h = ap (option_map Invalidate) (numbers_again switches h)
-again written (Bind site call_site) h =
-    ap (bound_next call_site) (within (2 ^ 32) site h.0) ∙ ap (call_site_next site) (within (2 ^ 32) call_site h.1)

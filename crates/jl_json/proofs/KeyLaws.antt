@@ -20,9 +20,10 @@ use Rattle.serde_json.specs.Data.{Data, null, boolean, number, string, array, ob
 use Rattle.serde_json.specs.Find.{get, get_member, as_str}
 use Rattle.jl_names.proofs.Tests.{by_test}
 use Rattle.jl_types.specs.declared.answer.Recv.TheVariants.{Null}
+use Rattle.jl_types.specs.declared.event.EventOf.TheVariants.{NewLoader, Define, Delegate, Request, Install}
+use Rattle.jl_types.specs.declared.event.EventOf.TheVariants.{NewCallSite, SetTarget, NewSwitch, Invalidate, Bind}
 use Rattle.jl_json.specs.declared.command.Command.{Command}
-use Rattle.jl_json.specs.declared.command.Command.TheVariants.{NewLoader, Define, Delegate, Request, Prepare, Install, Call, Links}
-use Rattle.jl_json.specs.declared.command.Command.TheVariants.{NewCallSite, SetTarget, NewSwitch, Invalidate, Bind}
+use Rattle.jl_json.specs.declared.command.Command.TheVariants.{Apply, Prepare, Call, Links}
 use Rattle.jl_json.specs.declared.command.ClassSource.{ClassSource}
 use Rattle.jl_json.specs.declared.command.ClassSource.TheVariants.{File, Sketch}
 use Rattle.jl_json.specs.Members.{number_in, number_at, text_at, list_in, member_count, member_keys, keys_of, has_key, AreAmong, ◌>>=◌}
@@ -30,8 +31,9 @@ use Rattle.jl_json.specs.Sketches.{name_in, name_at, sketch_of}
 use Rattle.jl_json.specs.Targets.{target_in, target_at}
 use Rattle.jl_json.specs.Commands.{numbers_at, file_at, recv_in, kind_in, kind_at, method_type, method_type_at, source_of}
 use Rattle.jl_json.specs.Commands.{define_of, delegate_of, request_of, prepare_of, install_of, call_of, call_on_of}
-use Rattle.jl_json.specs.Commands.{new_call_site_of, set_target_of, invalidate_of, bind_of, by_word, command_of}
-use Rattle.jl_json.specs.CommandForms.{command_data}
+use Rattle.jl_json.specs.Commands.{new_call_site_of, set_target_of, invalidate_of, bind_of}
+use Rattle.jl_json.specs.Commands.{AskedEvent, by_call_site_word, by_event_word, by_word, command_of}
+use Rattle.jl_json.specs.CommandForms.{event_data, command_data}
 
 abbrev pub Keys : Type 0
 Keys = List (List ℕ)
@@ -133,7 +135,10 @@ named_alone named ms differ same has =
 
 -- ---- commands
 
--- the keys of the members are among those of the command's form
+-- the keys of the members are among those of the form of the event, or of the command
+abbrev IsEventForm : Data → Members → AskedEvent → Type 0
+IsEventForm sketch ms a = AreAmong (member_keys ms) (keys_of (event_data sketch a))
+
 abbrev IsForm : Data → Members → Command → Type 0
 IsForm sketch ms c = AreAmong (member_keys ms) (keys_of (command_data sketch c))
 
@@ -154,36 +159,36 @@ source_from ms o =
 source_keys : (sketch : Data) (ms : Members) (loader : ℕ) (source : ClassSource) (o : Option Data)
     → member_count ms ≡ 3 → Has (member_keys ms) (codes "do") → Has (member_keys ms) (codes "loader")
     → get_member (codes "sketch") ms ≡ o → source_from ms o ≡ Some source
-    → IsForm sketch ms (Define loader source)
-unfolding command_data
+    → IsEventForm sketch ms (Define loader source)
+unfolding event_data
 source_keys sketch ms loader source None count asked told stands e =
     mapped File (file_at (codes "hex") (object ms)) source e
-    (λ file read made. subst (λ (x : ClassSource). IsForm sketch ms (Define loader x)) made
+    (λ file read made. subst (λ (x : ClassSource). IsEventForm sketch ms (Define loader x)) made
     (named_alone (codes "do" ∷ codes "hex" ∷ codes "loader" ∷ []) ms
     ((refl, (refl, tt)), ((refl, tt), (tt, tt))) count
     (asked, (file_found (codes "hex") ms file read, (told, tt)))))
 source_keys sketch ms loader source (Some d) count asked told stands e = mapped Sketch (sketch_of d) source e
-    (λ s read made. subst (λ (x : ClassSource). IsForm sketch ms (Define loader x)) made
+    (λ s read made. subst (λ (x : ClassSource). IsEventForm sketch ms (Define loader x)) made
     (named_alone (codes "do" ∷ codes "loader" ∷ codes "sketch" ∷ []) ms
     ((refl, (refl, tt)), ((refl, tt), (tt, tt))) count
     (asked, (told, (found (codes "sketch") ms d stands, tt)))))
 
-define_keys : (sketch : Data) (ms : Members) (c : Command) → member_count ms ≡ 3 → Has (member_keys ms) (codes "do")
-    → define_of (object ms) ≡ Some c → IsForm sketch ms c
-define_keys sketch ms c count asked e =
-    option_and_then_some _ (number_at (2 ^ 32) (codes "loader") (object ms)) c e
-    (λ loader is next. option_and_then_some _ (source_of (object ms)) c next
-    (λ source read made. subst (IsForm sketch ms) (same_Some (Define loader source) c made)
+define_keys : (sketch : Data) (ms : Members) (a : AskedEvent) → member_count ms ≡ 3 → Has (member_keys ms) (codes "do")
+    → define_of (object ms) ≡ Some a → IsEventForm sketch ms a
+define_keys sketch ms a count asked e =
+    option_and_then_some _ (number_at (2 ^ 32) (codes "loader") (object ms)) a e
+    (λ loader is next. option_and_then_some _ (source_of (object ms)) a next
+    (λ source read made. subst (IsEventForm sketch ms) (same_Some (Define loader source) a made)
     (source_keys sketch ms loader source (get_member (codes "sketch") ms) count asked
     (number_found (2 ^ 32) (codes "loader") ms loader is) refl read)))
 
-delegate_keys : (sketch : Data) (ms : Members) (c : Command) → member_count ms ≡ 4 → Has (member_keys ms) (codes "do")
-    → delegate_of (object ms) ≡ Some c → IsForm sketch ms c
-unfolding command_data
-delegate_keys sketch ms c count asked e = option_and_then_some _ (number_at (2 ^ 32) (codes "loader") (object ms)) c e
-    (λ loader is next. option_and_then_some _ (number_at (2 ^ 32) (codes "to") (object ms)) c next
-    (λ to here last. option_and_then_some _ (name_at (codes "name") (object ms)) c last
-    (λ name there made. subst (IsForm sketch ms) (same_Some (Delegate loader name to) c made)
+delegate_keys : (sketch : Data) (ms : Members) (a : AskedEvent) → member_count ms ≡ 4 → Has (member_keys ms) (codes "do")
+    → delegate_of (object ms) ≡ Some a → IsEventForm sketch ms a
+unfolding event_data
+delegate_keys sketch ms a count asked e = option_and_then_some _ (number_at (2 ^ 32) (codes "loader") (object ms)) a e
+    (λ loader is next. option_and_then_some _ (number_at (2 ^ 32) (codes "to") (object ms)) a next
+    (λ to here last. option_and_then_some _ (name_at (codes "name") (object ms)) a last
+    (λ name there made. subst (IsEventForm sketch ms) (same_Some (Delegate loader name to) a made)
     (named_alone (codes "do" ∷ codes "loader" ∷ codes "name" ∷ codes "to" ∷ []) ms
     ((refl, (refl, (refl, tt))), ((refl, (refl, tt)), ((refl, tt), (tt, tt)))) count (
       asked,
@@ -196,14 +201,14 @@ delegate_keys sketch ms c count asked e = option_and_then_some _ (number_at (2 ^
       ),
     )))))
 
-request_keys : (sketch : Data) (ms : Members) (c : Command) → member_count ms ≡ 4 → Has (member_keys ms) (codes "do")
-    → request_of (object ms) ≡ Some c → IsForm sketch ms c
-unfolding command_data
-request_keys sketch ms c count asked e = option_and_then_some _ (number_at (2 ^ 32) (codes "class") (object ms)) c e
-    (λ class is next. option_and_then_some _ (number_at (2 ^ 16) (codes "method") (object ms)) c next
-    (λ method here last. option_and_then_some _ (number_at (2 ^ 32) (codes "pc") (object ms)) c last
-    (λ pc there made. subst (IsForm sketch ms)
-    (same_Some (Request (record { class = class; method = method; pc = pc })) c made)
+request_keys : (sketch : Data) (ms : Members) (a : AskedEvent) → member_count ms ≡ 4 → Has (member_keys ms) (codes "do")
+    → request_of (object ms) ≡ Some a → IsEventForm sketch ms a
+unfolding event_data
+request_keys sketch ms a count asked e = option_and_then_some _ (number_at (2 ^ 32) (codes "class") (object ms)) a e
+    (λ class is next. option_and_then_some _ (number_at (2 ^ 16) (codes "method") (object ms)) a next
+    (λ method here last. option_and_then_some _ (number_at (2 ^ 32) (codes "pc") (object ms)) a last
+    (λ pc there made. subst (IsEventForm sketch ms)
+    (same_Some (Request (record { class = class; method = method; pc = pc })) a made)
     (named_alone (codes "class" ∷ codes "do" ∷ codes "method" ∷ codes "pc" ∷ []) ms
     ((refl, (refl, (refl, tt))), ((refl, (refl, tt)), ((refl, tt), (tt, tt)))) count (
       number_found (2 ^ 32) (codes "class") ms class is,
@@ -216,6 +221,82 @@ request_keys sketch ms c count asked e = option_and_then_some _ (number_at (2 ^ 
       ),
     )))))
 
+install_keys : (sketch : Data) (ms : Members) (a : AskedEvent) → member_count ms ≡ 2 → Has (member_keys ms) (codes "do")
+    → install_of (object ms) ≡ Some a → IsEventForm sketch ms a
+unfolding event_data
+install_keys sketch ms a count asked e = mapped Install (number_at (2 ^ 32) (codes "prepared") (object ms)) a e
+    (λ batch is made. subst (IsEventForm sketch ms) made
+    (named_alone (codes "do" ∷ codes "prepared" ∷ []) ms ((refl, tt), (tt, tt)) count
+    (asked, (number_found (2 ^ 32) (codes "prepared") ms batch is, tt))))
+
+loader_keys : (sketch : Data) (ms : Members) (a : AskedEvent) → member_count ms ≡ 1 → Has (member_keys ms) (codes "do")
+    → NewLoader ≡ a → IsEventForm sketch ms a
+unfolding event_data
+loader_keys sketch ms a count asked made = subst (IsEventForm sketch ms) made
+    (named_alone (codes "do" ∷ []) ms (tt, tt) count (asked, tt))
+
+new_call_site_keys : (sketch : Data) (ms : Members) (a : AskedEvent) → member_count ms ≡ 4 → Has (member_keys ms) (codes "do")
+    → new_call_site_of (object ms) ≡ Some a → IsEventForm sketch ms a
+unfolding event_data
+new_call_site_keys sketch ms a count asked e = option_and_then_some _ (kind_at (codes "kind") (object ms)) a e
+    (λ kind is next. option_and_then_some _ (method_type_at (codes "type") (object ms)) a next
+    (λ ty here last. option_and_then_some _ (target_at (codes "target") (object ms)) a last
+    (λ target there made. subst (IsEventForm sketch ms) (same_Some (NewCallSite kind ty target) a made)
+    (named_alone (codes "do" ∷ codes "kind" ∷ codes "target" ∷ codes "type" ∷ []) ms
+    ((refl, (refl, (refl, tt))), ((refl, (refl, tt)), ((refl, tt), (tt, tt)))) count (
+      asked,
+      (
+        option_and_then_some kind_in (text_at (codes "kind") (object ms)) kind is
+            (λ word read _. next_found as_str (codes "kind") ms word read),
+        (
+          next_found target_in (codes "target") ms target there,
+          (
+            option_and_then_some method_type (name_at (codes "type") (object ms)) ty here
+                (λ name read _. next_found name_in (codes "type") ms name read),
+            tt,
+          ),
+        ),
+      ),
+    )))))
+
+set_target_keys : (sketch : Data) (ms : Members) (a : AskedEvent) → member_count ms ≡ 3 → Has (member_keys ms) (codes "do")
+    → set_target_of (object ms) ≡ Some a → IsEventForm sketch ms a
+unfolding event_data
+set_target_keys sketch ms a count asked e = option_and_then_some _ (number_at (2 ^ 32) (codes "callsite") (object ms)) a e
+    (λ call_site is next. option_and_then_some _ (target_at (codes "target") (object ms)) a next
+    (λ target here made. subst (IsEventForm sketch ms) (same_Some (SetTarget call_site target) a made)
+    (named_alone (codes "callsite" ∷ codes "do" ∷ codes "target" ∷ []) ms
+    ((refl, (refl, tt)), ((refl, tt), (tt, tt))) count (
+      number_found (2 ^ 32) (codes "callsite") ms call_site is,
+      (asked, (next_found target_in (codes "target") ms target here, tt)),
+    ))))
+
+switch_keys : (sketch : Data) (ms : Members) (a : AskedEvent) → member_count ms ≡ 1 → Has (member_keys ms) (codes "do")
+    → NewSwitch ≡ a → IsEventForm sketch ms a
+unfolding event_data
+switch_keys sketch ms a count asked made = subst (IsEventForm sketch ms) made
+    (named_alone (codes "do" ∷ []) ms (tt, tt) count (asked, tt))
+
+invalidate_keys : (sketch : Data) (ms : Members) (a : AskedEvent) → member_count ms ≡ 2 → Has (member_keys ms) (codes "do")
+    → invalidate_of (object ms) ≡ Some a → IsEventForm sketch ms a
+unfolding event_data
+invalidate_keys sketch ms a count asked e = mapped Invalidate (numbers_at (codes "switches") (object ms)) a e
+    (λ switches is made. subst (IsEventForm sketch ms) made
+    (named_alone (codes "do" ∷ codes "switches" ∷ []) ms ((refl, tt), (tt, tt)) count
+    (asked, (next_found (list_in (number_in (2 ^ 32))) (codes "switches") ms switches is, tt))))
+
+bind_keys : (sketch : Data) (ms : Members) (a : AskedEvent) → member_count ms ≡ 3 → Has (member_keys ms) (codes "do")
+    → bind_of (object ms) ≡ Some a → IsEventForm sketch ms a
+unfolding event_data
+bind_keys sketch ms a count asked e = option_and_then_some _ (number_at (2 ^ 32) (codes "site") (object ms)) a e
+    (λ site is next. option_and_then_some _ (number_at (2 ^ 32) (codes "callsite") (object ms)) a next
+    (λ call_site here made. subst (IsEventForm sketch ms) (same_Some (Bind site call_site) a made)
+    (named_alone (codes "callsite" ∷ codes "do" ∷ codes "site" ∷ []) ms
+    ((refl, (refl, tt)), ((refl, tt), (tt, tt))) count (
+      number_found (2 ^ 32) (codes "callsite") ms call_site here,
+      (asked, (number_found (2 ^ 32) (codes "site") ms site is, tt)),
+    ))))
+
 prepare_keys : (sketch : Data) (ms : Members) (c : Command) → member_count ms ≡ 2 → Has (member_keys ms) (codes "do")
     → prepare_of (object ms) ≡ Some c → IsForm sketch ms c
 unfolding command_data
@@ -223,14 +304,6 @@ prepare_keys sketch ms c count asked e = mapped Prepare (numbers_at (codes "site
     (λ sites is made. subst (IsForm sketch ms) made
     (named_alone (codes "do" ∷ codes "sites" ∷ []) ms ((refl, tt), (tt, tt)) count
     (asked, (next_found (list_in (number_in (2 ^ 32))) (codes "sites") ms sites is, tt))))
-
-install_keys : (sketch : Data) (ms : Members) (c : Command) → member_count ms ≡ 2 → Has (member_keys ms) (codes "do")
-    → install_of (object ms) ≡ Some c → IsForm sketch ms c
-unfolding command_data
-install_keys sketch ms c count asked e = mapped Install (number_at (2 ^ 32) (codes "prepared") (object ms)) c e
-    (λ batch is made. subst (IsForm sketch ms) made
-    (named_alone (codes "do" ∷ codes "prepared" ∷ []) ms ((refl, tt), (tt, tt)) count
-    (asked, (number_found (2 ^ 32) (codes "prepared") ms batch is, tt))))
 
 -- a receiver may be named besides
 named_or_not : (xs : Keys) → AreAmong xs (codes "do" ∷ codes "site" ∷ [])
@@ -268,120 +341,68 @@ call_on_keys sketch ms c count asked e = option_and_then_some _ (number_at (2 ^ 
       ),
     )))))
 
-loader_keys : (sketch : Data) (ms : Members) (c : Command) → member_count ms ≡ 1 → Has (member_keys ms) (codes "do")
-    → NewLoader ≡ c → IsForm sketch ms c
-unfolding command_data
-loader_keys sketch ms c count asked made = subst (IsForm sketch ms) made
-    (named_alone (codes "do" ∷ []) ms (tt, tt) count (asked, tt))
-
 links_keys : (sketch : Data) (ms : Members) (c : Command) → member_count ms ≡ 1 → Has (member_keys ms) (codes "do")
     → Links ≡ c → IsForm sketch ms c
 unfolding command_data
 links_keys sketch ms c count asked made = subst (IsForm sketch ms) made
     (named_alone (codes "do" ∷ []) ms (tt, tt) count (asked, tt))
 
-new_call_site_keys : (sketch : Data) (ms : Members) (c : Command) → member_count ms ≡ 4 → Has (member_keys ms) (codes "do")
-    → new_call_site_of (object ms) ≡ Some c → IsForm sketch ms c
-unfolding command_data
-new_call_site_keys sketch ms c count asked e = option_and_then_some _ (kind_at (codes "kind") (object ms)) c e
-    (λ kind is next. option_and_then_some _ (method_type_at (codes "type") (object ms)) c next
-    (λ ty here last. option_and_then_some _ (target_at (codes "target") (object ms)) c last
-    (λ target there made. subst (IsForm sketch ms) (same_Some (NewCallSite kind ty target) c made)
-    (named_alone (codes "do" ∷ codes "kind" ∷ codes "target" ∷ codes "type" ∷ []) ms
-    ((refl, (refl, (refl, tt))), ((refl, (refl, tt)), ((refl, tt), (tt, tt)))) count (
-      asked,
-      (
-        option_and_then_some kind_in (text_at (codes "kind") (object ms)) kind is
-            (λ word read _. next_found as_str (codes "kind") ms word read),
-        (
-          next_found target_in (codes "target") ms target there,
-          (
-            option_and_then_some method_type (name_at (codes "type") (object ms)) ty here
-                (λ name read _. next_found name_in (codes "type") ms name read),
-            tt,
-          ),
-        ),
-      ),
-    )))))
-
-set_target_keys : (sketch : Data) (ms : Members) (c : Command) → member_count ms ≡ 3 → Has (member_keys ms) (codes "do")
-    → set_target_of (object ms) ≡ Some c → IsForm sketch ms c
-unfolding command_data
-set_target_keys sketch ms c count asked e = option_and_then_some _ (number_at (2 ^ 32) (codes "callsite") (object ms)) c e
-    (λ call_site is next. option_and_then_some _ (target_at (codes "target") (object ms)) c next
-    (λ target here made. subst (IsForm sketch ms) (same_Some (SetTarget call_site target) c made)
-    (named_alone (codes "callsite" ∷ codes "do" ∷ codes "target" ∷ []) ms
-    ((refl, (refl, tt)), ((refl, tt), (tt, tt))) count (
-      number_found (2 ^ 32) (codes "callsite") ms call_site is,
-      (asked, (next_found target_in (codes "target") ms target here, tt)),
-    ))))
-
-switch_keys : (sketch : Data) (ms : Members) (c : Command) → member_count ms ≡ 1 → Has (member_keys ms) (codes "do")
-    → NewSwitch ≡ c → IsForm sketch ms c
-unfolding command_data
-switch_keys sketch ms c count asked made = subst (IsForm sketch ms) made
-    (named_alone (codes "do" ∷ []) ms (tt, tt) count (asked, tt))
-
-invalidate_keys : (sketch : Data) (ms : Members) (c : Command) → member_count ms ≡ 2 → Has (member_keys ms) (codes "do")
-    → invalidate_of (object ms) ≡ Some c → IsForm sketch ms c
-unfolding command_data
-invalidate_keys sketch ms c count asked e = mapped Invalidate (numbers_at (codes "switches") (object ms)) c e
-    (λ switches is made. subst (IsForm sketch ms) made
-    (named_alone (codes "do" ∷ codes "switches" ∷ []) ms ((refl, tt), (tt, tt)) count
-    (asked, (next_found (list_in (number_in (2 ^ 32))) (codes "switches") ms switches is, tt))))
-
-bind_keys : (sketch : Data) (ms : Members) (c : Command) → member_count ms ≡ 3 → Has (member_keys ms) (codes "do")
-    → bind_of (object ms) ≡ Some c → IsForm sketch ms c
-unfolding command_data
-bind_keys sketch ms c count asked e = option_and_then_some _ (number_at (2 ^ 32) (codes "site") (object ms)) c e
-    (λ site is next. option_and_then_some _ (number_at (2 ^ 32) (codes "callsite") (object ms)) c next
-    (λ call_site here made. subst (IsForm sketch ms) (same_Some (Bind site call_site) c made)
-    (named_alone (codes "callsite" ∷ codes "do" ∷ codes "site" ∷ []) ms
-    ((refl, (refl, tt)), ((refl, tt), (tt, tt))) count (
-      number_found (2 ^ 32) (codes "callsite") ms call_site here,
-      (asked, (number_found (2 ^ 32) (codes "site") ms site is, tt)),
-    ))))
-
 -- the word and the count fit here, or further on
-here_or_on : {P : Type 0} (b : Bool) (count n : ℕ) (o rest : Option Command) (c : Command)
-    → (if b && (count == n) then o else rest) ≡ Some c → (count ≡ n → o ≡ Some c → P) → (rest ≡ Some c → P) → P
-here_or_on false count n o rest c e here on = on e
-here_or_on true count n o rest c e here on = by_test (count == n)
+here_or_on : {A P : Type 0} (b : Bool) (count n : ℕ) (o rest : Option A) (x : A)
+    → (if b && (count == n) then o else rest) ≡ Some x → (count ≡ n → o ≡ Some x → P) → (rest ≡ Some x → P) → P
+here_or_on false count n o rest x e here on = on e
+here_or_on true count n o rest x e here on = by_test (count == n)
     (λ same. here (eqb-true count n same) (rw same at e))
     (λ other. on (rw other at e))
+
+call_site_word_keys : (sketch : Data) (word : List ℕ) (ms : Members) (a : AskedEvent) → Has (member_keys ms) (codes "do")
+    → by_call_site_word word (member_count ms) (object ms) ≡ Some a → IsEventForm sketch ms a
+call_site_word_keys sketch word ms a asked e =
+    here_or_on (bytes_eq word (codes "callsite")) (member_count ms) 4 _ _ a e
+    (λ n is. new_call_site_keys sketch ms a n asked is) (λ e1.
+    here_or_on (bytes_eq word (codes "target")) (member_count ms) 3 _ _ a e1
+    (λ n is. set_target_keys sketch ms a n asked is) (λ e2.
+    here_or_on (bytes_eq word (codes "switch")) (member_count ms) 1 _ _ a e2
+    (λ n is. switch_keys sketch ms a n asked (same_Some NewSwitch a is)) (λ e3.
+    here_or_on (bytes_eq word (codes "invalidate")) (member_count ms) 2 _ _ a e3
+    (λ n is. invalidate_keys sketch ms a n asked is) (λ e4.
+    here_or_on (bytes_eq word (codes "bind")) (member_count ms) 3 _ _ a e4
+    (λ n is. bind_keys sketch ms a n asked is) (λ e5.
+    absurd (none-some a e5))))))
+
+event_word_keys : (sketch : Data) (word : List ℕ) (ms : Members) (a : AskedEvent) → Has (member_keys ms) (codes "do")
+    → by_event_word word (member_count ms) (object ms) ≡ Some a → IsEventForm sketch ms a
+event_word_keys sketch word ms a asked e =
+    here_or_on (bytes_eq word (codes "loader")) (member_count ms) 1 _ _ a e
+    (λ n is. loader_keys sketch ms a n asked (same_Some NewLoader a is)) (λ e1.
+    here_or_on (bytes_eq word (codes "define")) (member_count ms) 3 _ _ a e1
+    (λ n is. define_keys sketch ms a n asked is) (λ e2.
+    here_or_on (bytes_eq word (codes "delegate")) (member_count ms) 4 _ _ a e2
+    (λ n is. delegate_keys sketch ms a n asked is) (λ e3.
+    here_or_on (bytes_eq word (codes "request")) (member_count ms) 4 _ _ a e3
+    (λ n is. request_keys sketch ms a n asked is) (λ e4.
+    here_or_on (bytes_eq word (codes "install")) (member_count ms) 2 _ _ a e4
+    (λ n is. install_keys sketch ms a n asked is) (λ e5.
+    call_site_word_keys sketch word ms a asked e5)))))
+
+applied_keys : (sketch : Data) (word : List ℕ) (ms : Members) (c : Command) → Has (member_keys ms) (codes "do")
+    → option_map Apply (by_event_word word (member_count ms) (object ms)) ≡ Some c → IsForm sketch ms c
+unfolding command_data
+applied_keys sketch word ms c asked e = mapped Apply (by_event_word word (member_count ms) (object ms)) c e
+    (λ a is made. subst (IsForm sketch ms) made (event_word_keys sketch word ms a asked is))
 
 word_keys : (sketch : Data) (word : List ℕ) (ms : Members) (c : Command) → Has (member_keys ms) (codes "do")
     → by_word word (member_count ms) (object ms) ≡ Some c → IsForm sketch ms c
 word_keys sketch word ms c asked e =
-    here_or_on (bytes_eq word (codes "loader")) (member_count ms) 1 _ _ c e
-    (λ n is. loader_keys sketch ms c n asked (same_Some NewLoader c is)) (λ e1.
-    here_or_on (bytes_eq word (codes "define")) (member_count ms) 3 _ _ c e1
-    (λ n is. define_keys sketch ms c n asked is) (λ e2.
-    here_or_on (bytes_eq word (codes "delegate")) (member_count ms) 4 _ _ c e2
-    (λ n is. delegate_keys sketch ms c n asked is) (λ e3.
-    here_or_on (bytes_eq word (codes "request")) (member_count ms) 4 _ _ c e3
-    (λ n is. request_keys sketch ms c n asked is) (λ e4.
-    here_or_on (bytes_eq word (codes "prepare")) (member_count ms) 2 _ _ c e4
-    (λ n is. prepare_keys sketch ms c n asked is) (λ e5.
-    here_or_on (bytes_eq word (codes "install")) (member_count ms) 2 _ _ c e5
-    (λ n is. install_keys sketch ms c n asked is) (λ e6.
-    here_or_on (bytes_eq word (codes "call")) (member_count ms) 2 _ _ c e6
-    (λ n is. call_keys sketch ms c n asked is) (λ e7.
-    here_or_on (bytes_eq word (codes "call")) (member_count ms) 3 _ _ c e7
-    (λ n is. call_on_keys sketch ms c n asked is) (λ e8.
-    here_or_on (bytes_eq word (codes "links")) (member_count ms) 1 _ _ c e8
-    (λ n is. links_keys sketch ms c n asked (same_Some Links c is)) (λ e9.
-    here_or_on (bytes_eq word (codes "callsite")) (member_count ms) 4 _ _ c e9
-    (λ n is. new_call_site_keys sketch ms c n asked is) (λ e10.
-    here_or_on (bytes_eq word (codes "target")) (member_count ms) 3 _ _ c e10
-    (λ n is. set_target_keys sketch ms c n asked is) (λ e11.
-    here_or_on (bytes_eq word (codes "switch")) (member_count ms) 1 _ _ c e11
-    (λ n is. switch_keys sketch ms c n asked (same_Some NewSwitch c is)) (λ e12.
-    here_or_on (bytes_eq word (codes "invalidate")) (member_count ms) 2 _ _ c e12
-    (λ n is. invalidate_keys sketch ms c n asked is) (λ e13.
-    here_or_on (bytes_eq word (codes "bind")) (member_count ms) 3 _ _ c e13
-    (λ n is. bind_keys sketch ms c n asked is) (λ e14.
-    absurd (none-some c e14)))))))))))))))
+    here_or_on (bytes_eq word (codes "prepare")) (member_count ms) 2 _ _ c e
+    (λ n is. prepare_keys sketch ms c n asked is) (λ e1.
+    here_or_on (bytes_eq word (codes "call")) (member_count ms) 2 _ _ c e1
+    (λ n is. call_keys sketch ms c n asked is) (λ e2.
+    here_or_on (bytes_eq word (codes "call")) (member_count ms) 3 _ _ c e2
+    (λ n is. call_on_keys sketch ms c n asked is) (λ e3.
+    here_or_on (bytes_eq word (codes "links")) (member_count ms) 1 _ _ c e3
+    (λ n is. links_keys sketch ms c n asked (same_Some Links c is)) (λ e4.
+    applied_keys sketch word ms c asked e4))))
 
 pub form_keys : (d : Data) (c : Command) (sketch : Data) → command_of d ≡ Some c
     → AreAmong (keys_of d) (keys_of (command_data sketch c))

@@ -7,6 +7,8 @@ use Rattle.hex.specs.Hex.{encode_lower, IsBytes}
 use Rattle.serde_json.specs.Data.{Data, null, string, object, no_members, member}
 use Rattle.jl_types.specs.declared.answer.Recv.{Recv}
 use Rattle.jl_types.specs.declared.answer.Recv.TheVariants.{Null, Of}
+use Rattle.jl_types.specs.declared.event.EventOf.TheVariants.{NewLoader, Define, Delegate, Request, Install}
+use Rattle.jl_types.specs.declared.event.EventOf.TheVariants.{NewCallSite, SetTarget, NewSwitch, Invalidate, Bind}
 use Rattle.jl_types.specs.declared.ids.MethodId.{MethodId}
 use Rattle.jl_types.specs.declared.ids.Place.{Place}
 use Rattle.jl_types.specs.declared.target.CallSiteKind.{CallSiteKind}
@@ -14,12 +16,12 @@ use Rattle.jl_types.specs.declared.target.CallSiteKind.TheVariants.{Constant, Mu
 use Rattle.jl_types.specs.Target.{Target, Method, Guard}
 use Rattle.jl_names.specs.MethodTypes.{IsMethodDescriptor}
 use Rattle.jl_json.specs.declared.command.Command.{Command}
-use Rattle.jl_json.specs.declared.command.Command.TheVariants.{NewLoader, Define, Delegate, Request, Prepare, Install, Call, Links}
-use Rattle.jl_json.specs.declared.command.Command.TheVariants.{NewCallSite, SetTarget, NewSwitch, Invalidate, Bind}
+use Rattle.jl_json.specs.declared.command.Command.TheVariants.{Apply, Prepare, Call, Links}
 use Rattle.jl_json.specs.declared.command.ClassSource.TheVariants.{File, Sketch}
 use Rattle.jl_json.specs.ClassAnswers.{number_data}
 use Rattle.jl_json.specs.LinkAnswers.{single, method_id_data}
 use Rattle.jl_json.specs.Replies.{numbers_data}
+use Rattle.jl_json.specs.Commands.{AskedEvent}
 use Rattle.jl_json.specs.Sketches.{name_in, sketch_of}
 
 abbrev pub recv_data : Recv → Data
@@ -38,54 +40,57 @@ target_data (Guard p first fallback) =
     (member (codes "guard") (number_data p)
     (member (codes "target") (target_data first) no_members)))
 
-unfoldable pub command_data : Data → Command → Data
-command_data written NewLoader = single (codes "do") (string (codes "loader"))
-command_data written (Define loader (File file)) =
+unfoldable pub event_data : Data → AskedEvent → Data
+event_data written NewLoader = single (codes "do") (string (codes "loader"))
+event_data written (Define loader (File file)) =
     object (member (codes "do") (string (codes "define"))
     (member (codes "hex") (string (encode_lower file))
     (member (codes "loader") (number_data loader) no_members)))
-command_data written (Define loader (Sketch s)) =
+event_data written (Define loader (Sketch s)) =
     object (member (codes "do") (string (codes "define"))
     (member (codes "loader") (number_data loader)
     (member (codes "sketch") written no_members)))
-command_data written (Delegate loader name to) =
+event_data written (Delegate loader name to) =
     object (member (codes "do") (string (codes "delegate"))
     (member (codes "loader") (number_data loader)
     (member (codes "name") written
     (member (codes "to") (number_data to) no_members))))
-command_data written (Request place) =
+event_data written (Request place) =
     object (member (codes "class") (number_data place.class)
     (member (codes "do") (string (codes "request"))
     (member (codes "method") (number_data place.method)
     (member (codes "pc") (number_data place.pc) no_members))))
+event_data written (Install batch) =
+    object (member (codes "do") (string (codes "install"))
+    (member (codes "prepared") (number_data batch) no_members))
+event_data written (NewCallSite kind ty target) =
+    object (member (codes "do") (string (codes "callsite"))
+    (member (codes "kind") (string (kind_name kind))
+    (member (codes "target") (target_data target)
+    (member (codes "type") written no_members))))
+event_data written (SetTarget call_site target) =
+    object (member (codes "callsite") (number_data call_site)
+    (member (codes "do") (string (codes "target"))
+    (member (codes "target") (target_data target) no_members)))
+event_data written NewSwitch = single (codes "do") (string (codes "switch"))
+event_data written (Invalidate switches) =
+    object (member (codes "do") (string (codes "invalidate"))
+    (member (codes "switches") (numbers_data switches) no_members))
+event_data written (Bind site call_site) =
+    object (member (codes "callsite") (number_data call_site)
+    (member (codes "do") (string (codes "bind"))
+    (member (codes "site") (number_data site) no_members)))
+
+unfoldable pub command_data : Data → Command → Data
+command_data written (Apply asked) = event_data written asked
 command_data written (Prepare sites) =
     object (member (codes "do") (string (codes "prepare"))
     (member (codes "sites") (numbers_data sites) no_members))
-command_data written (Install batch) =
-    object (member (codes "do") (string (codes "install"))
-    (member (codes "prepared") (number_data batch) no_members))
 command_data written (Call site recv) =
     object (member (codes "do") (string (codes "call"))
     (member (codes "recv") (recv_data recv)
     (member (codes "site") (number_data site) no_members)))
 command_data written Links = single (codes "do") (string (codes "links"))
-command_data written (NewCallSite kind ty target) =
-    object (member (codes "do") (string (codes "callsite"))
-    (member (codes "kind") (string (kind_name kind))
-    (member (codes "target") (target_data target)
-    (member (codes "type") written no_members))))
-command_data written (SetTarget call_site target) =
-    object (member (codes "callsite") (number_data call_site)
-    (member (codes "do") (string (codes "target"))
-    (member (codes "target") (target_data target) no_members)))
-command_data written NewSwitch = single (codes "do") (string (codes "switch"))
-command_data written (Invalidate switches) =
-    object (member (codes "do") (string (codes "invalidate"))
-    (member (codes "switches") (numbers_data switches) no_members))
-command_data written (Bind site call_site) =
-    object (member (codes "callsite") (number_data call_site)
-    (member (codes "do") (string (codes "bind"))
-    (member (codes "site") (number_data site) no_members)))
 
 -- ---- commands that there are: each number in the range of its type, a sketch or a name that this JSON is, and the type
 -- of a call site a method descriptor
@@ -104,19 +109,22 @@ abbrev pub IsTarget : Target → Type 0
 IsTarget (Method m) = IsMethodId m
 IsTarget (Guard p first fallback) = (p < 2 ^ 32) × IsTarget first × IsTarget fallback
 
+abbrev pub IsEvent : Data → AskedEvent → Type 0
+IsEvent written NewLoader = ⊤
+IsEvent written (Define loader (File file)) = (loader < 2 ^ 32) × IsBytes file
+IsEvent written (Define loader (Sketch s)) = (loader < 2 ^ 32) × (sketch_of written ≡ Some s)
+IsEvent written (Delegate loader name to) = (loader < 2 ^ 32) × (to < 2 ^ 32) × (name_in written ≡ Some name)
+IsEvent written (Request place) = IsPlace place
+IsEvent written (Install batch) = batch < 2 ^ 32
+IsEvent written (NewCallSite kind ty target) =
+    (name_in written ≡ Some ty) × IsMethodDescriptor ty × IsTarget target
+IsEvent written (SetTarget call_site target) = (call_site < 2 ^ 32) × IsTarget target
+IsEvent written NewSwitch = ⊤
+IsEvent written (Invalidate switches) = AllByRecursion (λ p. p < 2 ^ 32) switches
+IsEvent written (Bind site call_site) = (site < 2 ^ 32) × (call_site < 2 ^ 32)
+
 abbrev pub IsCommand : Data → Command → Type 0
-IsCommand written NewLoader = ⊤
-IsCommand written (Define loader (File file)) = (loader < 2 ^ 32) × IsBytes file
-IsCommand written (Define loader (Sketch s)) = (loader < 2 ^ 32) × (sketch_of written ≡ Some s)
-IsCommand written (Delegate loader name to) = (loader < 2 ^ 32) × (to < 2 ^ 32) × (name_in written ≡ Some name)
-IsCommand written (Request place) = IsPlace place
+IsCommand written (Apply asked) = IsEvent written asked
 IsCommand written (Prepare sites) = AllByRecursion (λ s. s < 2 ^ 32) sites
-IsCommand written (Install batch) = batch < 2 ^ 32
 IsCommand written (Call site recv) = (site < 2 ^ 32) × IsReceiver recv
 IsCommand written Links = ⊤
-IsCommand written (NewCallSite kind ty target) =
-    (name_in written ≡ Some ty) × IsMethodDescriptor ty × IsTarget target
-IsCommand written (SetTarget call_site target) = (call_site < 2 ^ 32) × IsTarget target
-IsCommand written NewSwitch = ⊤
-IsCommand written (Invalidate switches) = AllByRecursion (λ p. p < 2 ^ 32) switches
-IsCommand written (Bind site call_site) = (site < 2 ^ 32) × (call_site < 2 ^ 32)

@@ -1,4 +1,4 @@
-//! Commands of call sites and switch points, read from JSON.
+//! Events of call sites and switch points, read from JSON.
 
 ghost use Rattle.std.specs.Prelude.{◌≡◌, ◌^◌, ℕ, List, Some, IfOk};
 ghost use Rattle.serde_json.specs.Data.{Data};
@@ -8,12 +8,13 @@ ghost use Rattle.jl_json.specs.Commands.{kind_in, kind_at};
 ghost use Rattle.jl_json.specs.Commands.{is_method_descriptor, method_type_at};
 ghost use Rattle.jl_json.specs.Commands.{new_call_site_of, set_target_of, invalidate_of, bind_of};
 ghost use Rattle.jl_json.specs.Commands.{by_call_site_word, command_of};
-ghost use Rattle.jl_json.specs.declared.command.Command.TheVariants.{NewCallSite};
+ghost use Rattle.jl_json.specs.declared.command.Command.TheVariants.{Apply};
 ghost use Rattle.jl_names.specs.MethodTypes.{IsMethodDescriptor};
+ghost use Rattle.jl_types.specs.declared.event.EventOf.TheVariants.{NewCallSite};
 ghost use Rattle.jl_types.specs.declared.target.CallSiteKind.{CallSiteKind};
 ghost use Rattle.jl_types.specs.Target.{Target};
 
-use crate::command::{Command, number_at, number_in, text_at};
+use crate::command::{AskedEvent, number_at, number_in, text_at};
 use crate::from_json::{FromJson, list_at};
 use crate::sketch::name_at;
 use crate::target::target_at;
@@ -73,9 +74,9 @@ impl FromJson for SwitchId {
     }
 }
 
-/// The command to make a call site.
-fn new_call_site(alloc: Global, value: &Value) -> Result<Option<Command>, AllocError>
-    ensures { IfOk result (λ command. command ≡ new_call_site_of (view value.now)) }
+/// The event that makes a call site.
+fn new_call_site(alloc: Global, value: &Value) -> Result<Option<AskedEvent>, AllocError>
+    ensures { IfOk result (λ asked. asked ≡ new_call_site_of (view value.now)) }
 {
     let Some(kind) = kind_at(value, "kind") else {
         return Ok(None);
@@ -84,14 +85,14 @@ fn new_call_site(alloc: Global, value: &Value) -> Result<Option<Command>, AllocE
         return Ok(None);
     };
     match target_at(alloc, value, "target")? {
-        Some(target) => Ok(Some(Command::NewCallSite { kind, ty, target })),
+        Some(target) => Ok(Some(AskedEvent::NewCallSite(kind, ty, target))),
         None => Ok(None),
     }
 }
 
-/// The command to give a call site another target.
-fn set_target(alloc: Global, value: &Value) -> Result<Option<Command>, AllocError>
-    ensures { IfOk result (λ command. command ≡ set_target_of (view value.now)) }
+/// The event that gives a call site another target.
+fn set_target(alloc: Global, value: &Value) -> Result<Option<AskedEvent>, AllocError>
+    ensures { IfOk result (λ asked. asked ≡ set_target_of (view value.now)) }
 {
     let Some(call_site) = number_at(value, "callsite") else {
         return Ok(None);
@@ -100,43 +101,43 @@ fn set_target(alloc: Global, value: &Value) -> Result<Option<Command>, AllocErro
         return Ok(None);
     };
     let call_site = CallSiteId::new(call_site);
-    Ok(Some(Command::SetTarget { call_site, target }))
+    Ok(Some(AskedEvent::SetTarget(call_site, target)))
 }
 
-/// The command to invalidate switch points.
-fn invalidate(alloc: Global, value: &Value) -> Result<Option<Command>, AllocError>
-    ensures { IfOk result (λ command. command ≡ invalidate_of (view value.now)) }
+/// The event that invalidates switch points.
+fn invalidate(alloc: Global, value: &Value) -> Result<Option<AskedEvent>, AllocError>
+    ensures { IfOk result (λ asked. asked ≡ invalidate_of (view value.now)) }
 {
     match list_at(alloc, value, "switches")? {
-        Some(switches) => Ok(Some(Command::Invalidate(switches))),
+        Some(switches) => Ok(Some(AskedEvent::Invalidate(switches))),
         None => Ok(None),
     }
 }
 
-/// The command to bind a site to a call site.
-fn bind(value: &Value) -> Option<Command>
+/// The event that binds a site to a call site.
+fn bind(value: &Value) -> Option<AskedEvent>
     ensures { result ≡ bind_of (view value.now) }
 {
     let site = number_at(value, "site")?;
     let call_site = number_at(value, "callsite")?;
     let site = SiteNo::new(site);
     let call_site = CallSiteId::new(call_site);
-    Some(Command::Bind { site, call_site })
+    Some(AskedEvent::Bind(site, call_site))
 }
 
-/// The command of call sites or switch points that has this word, in an object of this many members.
-pub(crate) fn call_site_command(
+/// The event of call sites or switch points that has this word, in an object of this many members.
+pub(crate) fn call_site_event(
     alloc: Global,
     value: &Value,
     word: &str,
     count: usize,
-) -> Result<Option<Command>, AllocError>
-    ensures { IfOk result (λ command. command ≡ by_call_site_word word.now count (view value.now)) }
+) -> Result<Option<AskedEvent>, AllocError>
+    ensures { IfOk result (λ asked. asked ≡ by_call_site_word word.now count (view value.now)) }
 {
     match (word, count) {
         ("callsite", 4) => new_call_site(alloc, value),
         ("target", 3) => set_target(alloc, value),
-        ("switch", 1) => Ok(Some(Command::NewSwitch)),
+        ("switch", 1) => Ok(Some(AskedEvent::NewSwitch)),
         ("invalidate", 2) => invalidate(alloc, value),
         ("bind", 3) => Ok(bind(value)),
         _ => Ok(None),
@@ -146,5 +147,5 @@ pub(crate) fn call_site_command(
 /// The type of each new call site that is read is a method descriptor (JVMS SE 17 §4.3.3).
 pub fn types_are_descriptors()
     ensures { (d : Data) (kind : CallSiteKind) (ty : List ℕ) (target : Target)
-        → command_of d ≡ Some (NewCallSite kind ty target) → IsMethodDescriptor ty }
+        → command_of d ≡ Some (Apply (NewCallSite kind ty target)) → IsMethodDescriptor ty }
 {}

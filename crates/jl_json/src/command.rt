@@ -6,71 +6,36 @@ ghost use Rattle.serde_json.specs.Find.{as_object};
 ghost use Rattle.serde_json.specs.View.{view};
 ghost use Rattle.jl_json.specs.Members.{number_in, number_at, text_at, member_count, keys_of, AreAmong};
 ghost use Rattle.jl_json.specs.Commands.{file_at, recv_in, source_of};
-ghost use Rattle.jl_json.specs.Commands.{define_of, delegate_of, request_of, prepare_of, install_of, call_of};
-ghost use Rattle.jl_json.specs.Commands.{call_on_of, by_word, command_of};
+ghost use Rattle.jl_json.specs.Commands.{define_of, delegate_of, request_of, install_of, prepare_of, call_of};
+ghost use Rattle.jl_json.specs.Commands.{call_on_of, by_event_word, by_word, command_of};
 ghost use Rattle.jl_json.specs.CommandForms.{IsCommand, command_data};
 ghost use Rattle.jl_json.specs.declared.command.Command.{Command};
 
-use crate::call_site::call_site_command;
+use crate::call_site::call_site_event;
 use crate::from_json::{FromJson, list_at};
 use crate::sketch::{name_at, read_sketch};
 use hex::FromHexError;
 use jl_names::{Name, Seq};
 use jl_sketch::Sketch;
-use jl_types::{
-    CallSiteId, CallSiteKind, ClassId, LoaderId, Place, Recv, SiteNo, SwitchId, Target,
-};
+use jl_types::{ClassId, EventOf, LoaderId, Place, Recv, SiteNo};
 use serde_json::Value;
 use std::alloc::{AllocError, Global};
 
 /// What is asked of a linker.
 #[derive(Debug, Drop)]
 pub enum Command {
-    /// There is to be one loader more.
-    NewLoader,
-    /// The loader is to define a class (JVMS SE 17 §5.3.5).
-    Define {
-        loader: LoaderId,
-        source: ClassSource,
-    },
-    /// The loader is to find under the name what the other one finds (§5.3).
-    Delegate {
-        loader: LoaderId,
-        name: Name,
-        to: LoaderId,
-    },
-    /// The invocation at the place is to be linked.
-    Request(Place),
+    /// The event is to happen.
+    Apply(AskedEvent),
     /// Links are to be prepared for these sites.
     Prepare(Seq<SiteNo>),
-    /// The prepared batch of this number is to be installed.
-    Install(u32),
     /// The site is called on the receiver.
     Call(SiteNo, Recv),
     /// The installed links are to be listed.
     Links,
-    /// There is to be one call site more, of this type, a method descriptor, and with this target at
-    /// first (java.lang.invoke.CallSite).
-    NewCallSite {
-        kind: CallSiteKind,
-        ty: Name,
-        target: Target,
-    },
-    /// The call site is to have this target from now on.
-    SetTarget {
-        call_site: CallSiteId,
-        target: Target,
-    },
-    /// There is to be one switch point more, valid (java.lang.invoke.SwitchPoint).
-    NewSwitch,
-    /// The switch points are to become invalid for good.
-    Invalidate(Seq<SwitchId>),
-    /// The site, an invokedynamic, is to run what the call site runs (JVMS SE 17 §6.5).
-    Bind {
-        site: SiteNo,
-        call_site: CallSiteId,
-    },
 }
+
+/// An event as it is asked for: a definition carries what the class is defined by, and an install the number of a prepared batch.
+pub type AskedEvent = EventOf<ClassSource, u32>;
 
 /// What a class is defined by.
 #[derive(Debug, Drop)]
@@ -166,9 +131,9 @@ fn class_source(alloc: Global, value: &Value) -> Result<Option<ClassSource>, All
     }
 }
 
-/// The command to define a class.
-fn define(alloc: Global, value: &Value) -> Result<Option<Command>, AllocError>
-    ensures { IfOk result (λ command. command ≡ define_of (view value.now)) }
+/// The event that defines a class.
+fn define(alloc: Global, value: &Value) -> Result<Option<AskedEvent>, AllocError>
+    ensures { IfOk result (λ asked. asked ≡ define_of (view value.now)) }
 {
     let Some(loader) = number_at(value, "loader") else {
         return Ok(None);
@@ -177,12 +142,12 @@ fn define(alloc: Global, value: &Value) -> Result<Option<Command>, AllocError>
         return Ok(None);
     };
     let loader = LoaderId::new(loader);
-    Ok(Some(Command::Define { loader, source }))
+    Ok(Some(AskedEvent::Define(loader, source)))
 }
 
-/// The command to delegate.
-fn delegate(alloc: Global, value: &Value) -> Result<Option<Command>, AllocError>
-    ensures { IfOk result (λ command. command ≡ delegate_of (view value.now)) }
+/// The event that delegates.
+fn delegate(alloc: Global, value: &Value) -> Result<Option<AskedEvent>, AllocError>
+    ensures { IfOk result (λ asked. asked ≡ delegate_of (view value.now)) }
 {
     let Some(loader) = number_at(value, "loader") else {
         return Ok(None);
@@ -195,18 +160,26 @@ fn delegate(alloc: Global, value: &Value) -> Result<Option<Command>, AllocError>
     };
     let loader = LoaderId::new(loader);
     let to = LoaderId::new(to);
-    Ok(Some(Command::Delegate { loader, name, to }))
+    Ok(Some(AskedEvent::Delegate(loader, name, to)))
 }
 
-/// The command to link an invocation.
-fn request(value: &Value) -> Option<Command>
+/// The event that links an invocation.
+fn request(value: &Value) -> Option<AskedEvent>
     ensures { result ≡ request_of (view value.now) }
 {
     let class = number_at(value, "class")?;
     let method = index_at(value, "method")?;
     let pc = number_at(value, "pc")?;
     let class = ClassId::new(class);
-    Some(Command::Request(Place { class, method, pc }))
+    Some(AskedEvent::Request(Place { class, method, pc }))
+}
+
+/// The event that installs a batch.
+fn install(value: &Value) -> Option<AskedEvent>
+    ensures { result ≡ install_of (view value.now) }
+{
+    let prepared = number_at(value, "prepared")?;
+    Some(AskedEvent::Install(prepared))
 }
 
 /// The command to prepare links.
@@ -217,14 +190,6 @@ fn prepare(alloc: Global, value: &Value) -> Result<Option<Command>, AllocError>
         Some(sites) => Ok(Some(Command::Prepare(sites))),
         None => Ok(None),
     }
-}
-
-/// The command to install a batch.
-fn install(value: &Value) -> Option<Command>
-    ensures { result ≡ install_of (view value.now) }
-{
-    let prepared = number_at(value, "prepared")?;
-    Some(Command::Install(prepared))
 }
 
 /// The command to call a site on null.
@@ -252,6 +217,25 @@ pub(crate) fn member_count(value: &Value) -> Option<usize>
     Some(members.len())
 }
 
+/// The event of this word, in an object of this many members.
+fn event_of_word(
+    alloc: Global,
+    value: &Value,
+    word: &str,
+    count: usize,
+) -> Result<Option<AskedEvent>, AllocError>
+    ensures { IfOk result (λ asked. asked ≡ by_event_word word.now count (view value.now)) }
+{
+    match (word, count) {
+        ("loader", 1) => Ok(Some(AskedEvent::NewLoader)),
+        ("define", 3) => define(alloc, value),
+        ("delegate", 4) => delegate(alloc, value),
+        ("request", 4) => Ok(request(value)),
+        ("install", 2) => Ok(install(value)),
+        _ => call_site_event(alloc, value, word, count),
+    }
+}
+
 /// The command of this word, in an object of this many members.
 fn command_of_word(
     alloc: Global,
@@ -262,16 +246,11 @@ fn command_of_word(
     ensures { IfOk result (λ command. command ≡ by_word word.now count (view value.now)) }
 {
     match (word, count) {
-        ("loader", 1) => Ok(Some(Command::NewLoader)),
-        ("define", 3) => define(alloc, value),
-        ("delegate", 4) => delegate(alloc, value),
-        ("request", 4) => Ok(request(value)),
         ("prepare", 2) => prepare(alloc, value),
-        ("install", 2) => Ok(install(value)),
         ("call", 2) => Ok(call(value)),
         ("call", 3) => Ok(call_on(value)),
         ("links", 1) => Ok(Some(Command::Links)),
-        _ => call_site_command(alloc, value, word, count),
+        _ => Ok(event_of_word(alloc, value, word, count)?.map(Command::Apply)),
     }
 }
 

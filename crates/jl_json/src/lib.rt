@@ -29,7 +29,9 @@ mod target;
 pub use call_answer::answer_value;
 pub use call_site::types_are_descriptors;
 pub use class_answer::append_class;
-pub use command::{ClassSource, Command, each_command_is_read, no_other_keys, read_command};
+pub use command::{
+    AskedEvent, ClassSource, Command, each_command_is_read, no_other_keys, read_command,
+};
 pub use event_refusal::{event_refusal_value, prepare_refusal_value};
 pub use link_answer::{farm_value, link_value, links_value, outcome_value, prepared_value};
 pub use refusal::Refusal;

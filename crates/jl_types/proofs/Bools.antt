@@ -1,5 +1,5 @@
 -- Tests put together, and tests over lists.
-use Rattle.std.specs.Prelude.{◌≡◌, ℕ, zero, suc, ◌+◌, ◌<◌, ◌≤◌, ◌==◌, ◌⊎◌, Bool, true, false, cond, ◌||◌, List, [], ◌∷◌, map, filter}
+use Rattle.std.specs.Prelude.{◌≡◌, ℕ, zero, suc, ◌+◌, ◌<◌, ◌≤◌, ◌==◌, ◌⊎◌, Bool, true, false, cond, ◌&&◌, ◌||◌, List, [], ◌∷◌, map, filter}
 use Rattle.std.specs.List.{list_any, range_with_len}
 use Rattle.std.proofs.Common.{refl, ap, ◌∙◌, arith, inl, inr}
 use Rattle.std.proofs.lemmas.Bool.{or_right, or_left, or_cases, both_ways}
@@ -68,3 +68,12 @@ any-range-from f a (suc n) i h k is = by_place f a n i (a == i) refl h k is (λ 
         → (a + 1 ≤ i → list_any f (range_with_len (a + 1) n) ≡ true) → list_any f (range_with_len a (suc n)) ≡ true
     by_place f a n i true e h k is rest = or_left (f a) (list_any f (range_with_len (a + 1) n)) (ap f ((Decides-eqb a i).0 e) ∙ is)
     by_place f a n i false e h k is rest = or_right (f a) (list_any f (range_with_len (a + 1) n)) (rest (above a i h (lt_of_le-ne h (λ same. both_ways (a == i) e ((Decides-eqb a i).1 same)))))
+
+-- two tests that hold both hold
+pub first_test : (a b : Bool) → (a && b) ≡ true → a ≡ true
+first_test true b h = refl
+first_test false b h = cc
+
+pub second_test : (a b : Bool) → (a && b) ≡ true → b ≡ true
+second_test true b h = h
+second_test false b h = cc

@@ -1,5 +1,5 @@
 -- The test of History says what its relation says.
-use Rattle.std.specs.Prelude.{◌≡◌, ℕ, ◌+◌, ◌<◌, ◌≤◌, ◌⊎◌, ◌||◌, nat_le, Bool, true, List, length, Some, None, Ok, Err, Result, if◌then◌else◌}
+use Rattle.std.specs.Prelude.{◌≡◌, ℕ, ◌+◌, ◌<◌, ◌≤◌, ◌⊎◌, ◌||◌, nat_le, Bool, true, false, List, length, Some, None, Ok, Err, Result, if◌then◌else◌}
 use Rattle.std.proofs.Common.{refl, ap, sym, ◌∙◌, arith, inl, inr, Decides, subst}
 use Rattle.std.proofs.lemmas.Bool.Decides.{Decides-below_and, Decides-below_or, Decides-and, Decides-or, Decides-like, leb_tells}
 use Rattle.std.proofs.Math.Seq.{take-length}
@@ -10,7 +10,7 @@ use Rattle.jl_types.specs.declared.answer.Unlinked.{Unlinked}
 use Rattle.jl_types.specs.Event.{Event}
 use Rattle.jl_types.specs.Means.SameLink.{same_link, link_decides}
 use Rattle.jl_types.specs.Links.{scratch}
-use Rattle.jl_types.specs.History.{Settled, installed_at, scratch_after, world_after, is_link, all_below, any_below, settled_since, settled, installed, installed_of}
+use Rattle.jl_types.specs.History.{Settled, installed_at, scratch_after, world_after, is_link, kept, all_below, any_below, settled_since, settled, installed, installed_of}
 use Rattle.jl_types.proofs.Settling.{within}
 
 le_decides : (n m : ℕ) → Decides (nat_le n m) (n ≤ m)
@@ -19,6 +19,19 @@ le_decides n m = elim (leb_tells n m) [ inl p ↦ (λ e. p.1, λ h. p.0) | inr p
 pub is_link_decides : (r : Result Link Unlinked) (l : Link) → Decides (is_link r l) (r ≡ Ok l)
 is_link_decides (Ok now) l = Decides-like (same_link now l) (ap Ok) (λ e. cc) (link_decides now l)
 is_link_decides (Err reason) l = (λ e. cc, λ e. cc)
+
+-- ---- what an event leaves of a link, where it installs none
+
+-- where there was none there is none
+pub kept_none : (r : Result Link Unlinked) → kept false None r ≡ None
+kept_none (Ok now) = refl
+kept_none (Err reason) = refl
+
+-- the link from scratch stays
+pub kept_link : (l : Link) → kept false (Some l) (Ok l) ≡ Some l
+kept_link l = ap (λ (b : Bool). if b then Some l else None) ((link_decides l l).1 refl)
+
+-- ---- the test
 
 module _ (h : List Event) (s : ℕ) (l : Link) where
   since_decides : (since : ℕ) → Decides (settled_since h s l since) ((installed_at h since s ≡ true) × ((n : ℕ) → n < length h + 1 → (n ≤ since) ⊎ (scratch_after h n s ≡ Ok l)))

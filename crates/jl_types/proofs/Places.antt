@@ -90,7 +90,7 @@ module _ (max_sites : ℕ) (w : World) (place : Place) where
   within true le room = le
   within false le room = let lt = room refl in omega (arith, length-append w.places (place ∷ []))
 
-limit_step : (max_sites : ℕ) (w : World) (e : Event) (given : Made) → verdict max_sites w e ≡ Ok given → length w.places ≤ max_sites
+pub limit_step : (max_sites : ℕ) (w : World) (e : Event) (given : Made) → verdict max_sites w e ≡ Ok given → length w.places ≤ max_sites
     → length (step w e).places ≤ max_sites
 limit_step max_sites w event.NewLoader given accepted le = le
 limit_step max_sites w (event.Define loader file) given accepted le = le

@@ -11,9 +11,9 @@ use crate::target::{CallSiteKind, Target};
 use jl_classfile::ClassFile;
 use jl_names::{Name, Seq};
 
-/// What changes the classes, sites and links, where a definition carries a `D`.
+/// What changes the classes, sites and links, where a definition carries a `D` and an install an `I`.
 #[derive(Debug, Drop)]
-pub enum EventOf<D> {
+pub enum EventOf<D, I> {
     /// One loader more.
     NewLoader,
     /// The loader defines a class (JVMS SE 17 §5.3.5).
@@ -32,12 +32,13 @@ pub enum EventOf<D> {
     Invalidate(Seq<SwitchId>),
     /// The call site that the invokedynamic's bootstrap method gave (JVMS SE 17 §6.5).
     Bind(SiteNo, CallSiteId),
-    /// Sites with the links that they are to have.
-    Install(Seq<(SiteNo, Link)>),
+    /// Sites get the links that they are to have.
+    Install(I),
 }
 
-/// What changes the classes, sites and links, with the file of the class that a definition defines.
-pub type Event = EventOf<ClassFile>;
+/// What changes the classes, sites and links: a definition carries the file of the class, an install the sites with their
+/// links.
+pub type Event = EventOf<ClassFile, Seq<(SiteNo, Link)>>;
 
 /// What an event gave a number to.
 #[derive(Clone, Copy, Debug, PartialEq, Eq)]

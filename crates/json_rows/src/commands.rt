@@ -13,21 +13,21 @@ use std::test::Fail;
 const COMMANDS: [(&str, &str); 32] = [
     (
         r#"{"do":"define","loader":0,"hex":"cAFe"}"#,
-        "Some(Define { loader: LoaderId(0), source: File(Seq { items: [202, 254] }) })",
+        "Some(Apply(Define(LoaderId(0), File(Seq { items: [202, 254] }))))",
     ),
     (
         r#"{"do":"define","loader":1,"sketch":{"name":"M","flags":33}}"#,
-        r#"Some(Define { loader: LoaderId(1), source: Sketch(Sketch { name: Name { bytes: b"M" }, flags: 33, superclass: None, interfaces: Seq { items: [] }, methods: Seq { items: [] }, host: None, members: Seq { items: [] } }) })"#,
+        r#"Some(Apply(Define(LoaderId(1), Sketch(Sketch { name: Name { bytes: b"M" }, flags: 33, superclass: None, interfaces: Seq { items: [] }, methods: Seq { items: [] }, host: None, members: Seq { items: [] } }))))"#,
     ),
-    (r#"{"do":"loader"}"#, "Some(NewLoader)"),
+    (r#"{"do":"loader"}"#, "Some(Apply(NewLoader))"),
     // A text becomes modified UTF-8: the two bytes of the zero.
     (
         r#"{"do":"delegate","loader":2,"name":"A\u0000","to":4294967295}"#,
-        r#"Some(Delegate { loader: LoaderId(2), name: Name { bytes: b"A\xc0\x80" }, to: LoaderId(4294967295) })"#,
+        r#"Some(Apply(Delegate(LoaderId(2), Name { bytes: b"A\xc0\x80" }, LoaderId(4294967295))))"#,
     ),
     (
         r#"{"do":"request","class":65536,"method":65535,"pc":65536}"#,
-        "Some(Request(Place { class: ClassId(65536), method: 65535, pc: 65536 }))",
+        "Some(Apply(Request(Place { class: ClassId(65536), method: 65535, pc: 65536 })))",
     ),
     (
         r#"{"do":"prepare","sites":[3,0]}"#,
@@ -35,7 +35,7 @@ const COMMANDS: [(&str, &str); 32] = [
     ),
     (
         r#"{"do":"install","prepared":4294967295}"#,
-        "Some(Install(4294967295))",
+        "Some(Apply(Install(4294967295)))",
     ),
     (r#"{"do":"call","site":2}"#, "Some(Call(SiteNo(2), Null))"),
     (
@@ -86,54 +86,54 @@ const COMMANDS: [(&str, &str); 32] = [
 const CALL_SITES: &[(&str, &str)] = &[
     (
         r#"{"do":"callsite","kind":"mutable","type":"()V","target":{"method":[0,1]}}"#,
-        r#"Some(NewCallSite { kind: Mutable, ty: Name { bytes: b"()V" }, target: Target { part: Method(MethodId { class: ClassId(0), index: 1 }) } })"#,
+        r#"Some(Apply(NewCallSite(Mutable, Name { bytes: b"()V" }, Target { part: Method(MethodId { class: ClassId(0), index: 1 }) })))"#,
     ),
     (
         r#"{"type":"(J[DLA;I)D","target":{"method":[4294967295,65535]},"kind":"constant","do":"callsite"}"#,
-        r#"Some(NewCallSite { kind: Constant, ty: Name { bytes: b"(J[DLA;I)D" }, target: Target { part: Method(MethodId { class: ClassId(4294967295), index: 65535 }) } })"#,
+        r#"Some(Apply(NewCallSite(Constant, Name { bytes: b"(J[DLA;I)D" }, Target { part: Method(MethodId { class: ClassId(4294967295), index: 65535 }) })))"#,
     ),
     (
         r#"{"do":"callsite","kind":"volatile","type":"()I","target":{"guard":4294967295,"target":{"method":[1,2]},"fallback":{"fallback":{"method":[3,4]},"guard":0,"target":{"method":[5,6]}}}}"#,
-        r#"Some(NewCallSite { kind: Volatile, ty: Name { bytes: b"()I" }, target: Target { part: Guard(SwitchId(4294967295), Target { part: Method(MethodId { class: ClassId(1), index: 2 }) }, Target { part: Guard(SwitchId(0), Target { part: Method(MethodId { class: ClassId(5), index: 6 }) }, Target { part: Method(MethodId { class: ClassId(3), index: 4 }) }) }) } })"#,
+        r#"Some(Apply(NewCallSite(Volatile, Name { bytes: b"()I" }, Target { part: Guard(SwitchId(4294967295), Target { part: Method(MethodId { class: ClassId(1), index: 2 }) }, Target { part: Guard(SwitchId(0), Target { part: Method(MethodId { class: ClassId(5), index: 6 }) }, Target { part: Method(MethodId { class: ClassId(3), index: 4 }) }) }) })))"#,
     ),
     // Two bytes for the zero; and 255 slots.
     (
         r#"{"do":"callsite","kind":"mutable","type":"(L\u0000;)V","target":{"method":[0,1]}}"#,
-        r#"Some(NewCallSite { kind: Mutable, ty: Name { bytes: b"(L\xc0\x80;)V" }, target: Target { part: Method(MethodId { class: ClassId(0), index: 1 }) } })"#,
+        r#"Some(Apply(NewCallSite(Mutable, Name { bytes: b"(L\xc0\x80;)V" }, Target { part: Method(MethodId { class: ClassId(0), index: 1 }) })))"#,
     ),
     (
         r#"{"do":"callsite","kind":"mutable","type":"(JJJJJJJJJJJJJJJJJJJJJJJJJJJJJJJJJJJJJJJJJJJJJJJJJJJJJJJJJJJJJJJJJJJJJJJJJJJJJJJJJJJJJJJJJJJJJJJJJJJJJJJJJJJJJJJJJJJJJJJJJJJJJJJI)V","target":{"method":[0,1]}}"#,
-        r#"Some(NewCallSite { kind: Mutable, ty: Name { bytes: b"(JJJJJJJJJJJJJJJJJJJJJJJJJJJJJJJJJJJJJJJJJJJJJJJJJJJJJJJJJJJJJJJJJJJJJJJJJJJJJJJJJJJJJJJJJJJJJJJJJJJJJJJJJJJJJJJJJJJJJJJJJJJJJJJI)V" }, target: Target { part: Method(MethodId { class: ClassId(0), index: 1 }) } })"#,
+        r#"Some(Apply(NewCallSite(Mutable, Name { bytes: b"(JJJJJJJJJJJJJJJJJJJJJJJJJJJJJJJJJJJJJJJJJJJJJJJJJJJJJJJJJJJJJJJJJJJJJJJJJJJJJJJJJJJJJJJJJJJJJJJJJJJJJJJJJJJJJJJJJJJJJJJJJJJJJJJI)V" }, Target { part: Method(MethodId { class: ClassId(0), index: 1 }) })))"#,
     ),
     (
         r#"{"do":"target","callsite":4294967295,"target":{"method":[0,0]}}"#,
-        r#"Some(SetTarget { call_site: CallSiteId(4294967295), target: Target { part: Method(MethodId { class: ClassId(0), index: 0 }) } })"#,
+        r#"Some(Apply(SetTarget(CallSiteId(4294967295), Target { part: Method(MethodId { class: ClassId(0), index: 0 }) })))"#,
     ),
     (
         r#"{"target":{"guard":1,"target":{"guard":2,"target":{"method":[0,0]},"fallback":{"method":[0,1]}},"fallback":{"method":[0,2]}},"callsite":0,"do":"target"}"#,
-        r#"Some(SetTarget { call_site: CallSiteId(0), target: Target { part: Guard(SwitchId(1), Target { part: Guard(SwitchId(2), Target { part: Method(MethodId { class: ClassId(0), index: 0 }) }, Target { part: Method(MethodId { class: ClassId(0), index: 1 }) }) }, Target { part: Method(MethodId { class: ClassId(0), index: 2 }) }) } })"#,
+        r#"Some(Apply(SetTarget(CallSiteId(0), Target { part: Guard(SwitchId(1), Target { part: Guard(SwitchId(2), Target { part: Method(MethodId { class: ClassId(0), index: 0 }) }, Target { part: Method(MethodId { class: ClassId(0), index: 1 }) }) }, Target { part: Method(MethodId { class: ClassId(0), index: 2 }) }) })))"#,
     ),
     // Of equal keys the last one.
     (
         r#"{"do":"target","callsite":0,"target":{"method":0,"method":[0,1]}}"#,
-        r#"Some(SetTarget { call_site: CallSiteId(0), target: Target { part: Method(MethodId { class: ClassId(0), index: 1 }) } })"#,
+        r#"Some(Apply(SetTarget(CallSiteId(0), Target { part: Method(MethodId { class: ClassId(0), index: 1 }) })))"#,
     ),
-    (r#"{"do":"switch"}"#, r#"Some(NewSwitch)"#),
+    (r#"{"do":"switch"}"#, r#"Some(Apply(NewSwitch))"#),
     (
         r#"{"do":"invalidate","switches":[]}"#,
-        r#"Some(Invalidate(Seq { items: [] }))"#,
+        r#"Some(Apply(Invalidate(Seq { items: [] })))"#,
     ),
     (
         r#"{"do":"invalidate","switches":[3,0,3,4294967295]}"#,
-        r#"Some(Invalidate(Seq { items: [SwitchId(3), SwitchId(0), SwitchId(3), SwitchId(4294967295)] }))"#,
+        r#"Some(Apply(Invalidate(Seq { items: [SwitchId(3), SwitchId(0), SwitchId(3), SwitchId(4294967295)] })))"#,
     ),
     (
         r#"{"do":"bind","site":2,"callsite":3}"#,
-        r#"Some(Bind { site: SiteNo(2), call_site: CallSiteId(3) })"#,
+        r#"Some(Apply(Bind(SiteNo(2), CallSiteId(3))))"#,
     ),
     (
         r#"{"site":1,"callsite":4294967295,"do":"bind","site":4294967295}"#,
-        r#"Some(Bind { site: SiteNo(4294967295), call_site: CallSiteId(4294967295) })"#,
+        r#"Some(Apply(Bind(SiteNo(4294967295), CallSiteId(4294967295))))"#,
     ),
 ];
 
@@ -279,7 +279,7 @@ fn nested(alloc: Global, guards: usize) -> Result<String, AllocError> {
 fn is_read(alloc: Global, guards: usize) -> Result<bool, Fail> {
     let text = nested(alloc, guards)?;
     let told = printed(alloc, &text)?;
-    Ok(told.as_str().starts_with("Some(SetTarget"))
+    Ok(told.as_str().starts_with("Some(Apply(SetTarget"))
 }
 
 /// Whether its text is no JSON that is read.
