@@ -1,5 +1,5 @@
 -- The entries of a map, sorted, are its links by rising number.
-use Rattle.std.specs.Prelude.{◌≡◌, ℕ, suc, ◌<◌, ◌≤◌, ◌==◌, nat_lt, Bool, true, false, cond, List, [], ◌∷◌, length}
+use Rattle.std.specs.Prelude.{◌≡◌, ℕ, suc, ◌<◌, ◌≤◌, ◌==◌, Bool, true, false, cond, List, [], ◌∷◌, length}
 use Rattle.std.specs.Prelude.{Option, Some, None, if◌then◌else◌}
 use Rattle.std.specs.List.{AllByRecursion, AllZip, IsDistinct}
 use Rattle.std.specs.List.Sorted.{IsPermutation, IsNonDecreasingBy}
@@ -14,7 +14,7 @@ use Rattle.std.proofs.lemmas.Map.Views.{Contains-from_lookup, lookup-from_Contai
 use Rattle.std.proofs.Math.Arith.{lt_of_le-ne}
 use Rattle.jl_types.specs.declared.link.Link.{Link}
 use Rattle.jl_cache.specs.Links.{link_at}
-use Rattle.jl_types.specs.Means.BySite.{put, by_site}
+use Rattle.jl_types.specs.Means.BySite.{by_site}
 use Rattle.jl_types.proofs.BySite.{Rises, rises, found_first, found_by_site, same_values}
 
 -- each entry once more

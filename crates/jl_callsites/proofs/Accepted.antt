@@ -3,18 +3,16 @@ use Rattle.std.specs.Prelude.{◌≡◌, ℕ, ◌<◌, Bool, true, false, ◌&&�
 use Rattle.std.specs.Bool.{then_some}
 use Rattle.std.specs.List.{list_any}
 use Rattle.std.proofs.Common.{refl}
-use Rattle.std.proofs.lemmas.Bool.{leb-false, lt-ltb}
+use Rattle.std.proofs.lemmas.Bool.{and_from, leb-false, lt-ltb}
 use Rattle.std.proofs.lemmas.Option.{slice_get_within}
 use Rattle.jl_types.specs.declared.refusal.CallSiteFault.TheVariants.{UnknownSwitch, TooDeep, Full, Constant}
 use Rattle.jl_types.specs.Target.{Target, Method, Guard, depth}
-use Rattle.jl_types.specs.World.{World, Sites, CallSite}
+use Rattle.jl_types.specs.World.{World, CallSite}
 use Rattle.jl_types.specs.Resolution.{first_of}
 use Rattle.jl_types.specs.Targets.{parts, part_fault, target_fault}
 use Rattle.jl_types.specs.Events.{is_constant, most_of_a_kind, new_call_site_fault, set_target_fault, invalidate_fault}
 use Rattle.jl_types.proofs.Firsts.{first_none, test_none}
-use Rattle.jl_callsites.specs.Faults.{new_switch_fault}
 use Rattle.jl_callsites.specs.Known.{has_points}
-use Rattle.jl_callsites.proofs.Known.{both}
 
 points_in_part : (w : World) (c : ℕ) (ty : List ℕ) (t : Target) → part_fault w c ty t ≡ None → has_points (length w.sites.switches) t ≡ true
 points_in_part w c ty (Method m) e = refl
@@ -22,8 +20,8 @@ points_in_part w c ty (Guard p first fallback) e =
     let n = length w.sites.switches in
     let guard = first_none (then_some (nat_le n p) UnknownSwitch) (part_fault w c ty first ∷ part_fault w c ty fallback ∷ []) e in
     let one = first_none (part_fault w c ty first) (part_fault w c ty fallback ∷ []) guard.1 in
-    both (nat_lt p n) (has_points n first && has_points n fallback) (lt-ltb p n (leb-false n p (test_none (nat_le n p) UnknownSwitch guard.0)))
-    (both (has_points n first) (has_points n fallback)
+    and_from (nat_lt p n) (has_points n first && has_points n fallback) (lt-ltb p n (leb-false n p (test_none (nat_le n p) UnknownSwitch guard.0)))
+    (and_from (has_points n first) (has_points n fallback)
     (points_in_part w c ty first one.0) (points_in_part w c ty fallback (first_none (part_fault w c ty fallback) [] one.1).0))
 
 points_in_target : (w : World) (c : ℕ) (ty : List ℕ) (t : Target) → target_fault w c ty t ≡ None → has_points (length w.sites.switches) t ≡ true
@@ -40,9 +38,6 @@ module _ (w : World) (ty : List ℕ) (t : Target) (e : new_call_site_fault w ty 
 
   pub site_points : has_points (length w.sites.switches) t ≡ true
   site_points = points_in_target w (length w.sites.call_sites) ty t (first_none (target_fault w (length w.sites.call_sites) ty t) [] faults.1).0
-
-pub switch_room : (sites : Sites) → new_switch_fault sites ≡ None → length sites.switches < 65536
-switch_room sites e = leb-false 65536 (length sites.switches) (test_none (nat_le most_of_a_kind (length sites.switches)) Full e)
 
 module _ (w : World) (c : ℕ) (t : Target) where
   pub target_there : (found : Option CallSite) → slice_get w.sites.call_sites c ≡ found → set_target_fault w c found t ≡ None → c < length w.sites.call_sites

@@ -3,44 +3,32 @@ use Rattle.std.specs.Prelude.{◌≡◌, ◌≢◌, ℕ, zero, suc, ◌<◌, ◌
 use Rattle.std.specs.Option.{option_map_or}
 use Rattle.std.proofs.Common.{refl, ap, sym, subst, ◌∙◌, arith, length-append}
 use Rattle.std.proofs.lemmas.Option.{same_Some}
-use Rattle.std.proofs.lemmas.Bool.{ltb-true, lt-ltb}
+use Rattle.std.proofs.lemmas.Bool.{and_from, ltb-true, lt-ltb}
 use Rattle.jl_types.specs.declared.target.CallSiteKind.{CallSiteKind}
 use Rattle.jl_types.specs.Target.{Target, Method, Guard}
 use Rattle.jl_types.specs.World.{Sites, CallSite}
 use Rattle.jl_types.specs.Targets.{is_valid, evaluated}
 use Rattle.jl_types.specs.Events.{retargeted}
+use Rattle.jl_types.proofs.Bools.{first_test, second_test}
 use Rattle.jl_types.proofs.Lists.{before_end}
 use Rattle.jl_callsites.specs.Faults.{with_site, with_target, with_switch}
 use Rattle.jl_callsites.specs.Runs.{method_of}
 use Rattle.jl_callsites.specs.Known.{has_points, have_points, are_known, RunAsBefore, OthersRunAsBefore}
 use Rattle.jl_callsites.proofs.Worlds.{evaluated_same}
 
--- ---- tests
-
-pub both : (a b : Bool) → a ≡ true → b ≡ true → (a && b) ≡ true
-both a b h k = λ i. h i && k i
-
-first_test : (a b : Bool) → (a && b) ≡ true → a ≡ true
-first_test true b h = refl
-first_test false b h = cc
-
-second_test : (a b : Bool) → (a && b) ≡ true → b ≡ true
-second_test true b h = h
-second_test false b h = cc
-
 -- ---- all of them
 
 pub one_more_known : (n : ℕ) (sites : List CallSite) (site : CallSite) → have_points n sites ≡ true → has_points n site.target ≡ true → have_points n (sites ++ site ∷ []) ≡ true
-one_more_known n [] site h k = both (has_points n site.target) true k refl
+one_more_known n [] site h k = and_from (has_points n site.target) true k refl
 one_more_known n (s ∷ sites) site h k =
-    both (has_points n s.target) (have_points n (sites ++ site ∷ [])) (first_test (has_points n s.target) (have_points n sites) h)
+    and_from (has_points n s.target) (have_points n (sites ++ site ∷ [])) (first_test (has_points n s.target) (have_points n sites) h)
     (one_more_known n sites site (second_test (has_points n s.target) (have_points n sites) h) k)
 
 set_known : (n : ℕ) (sites : List CallSite) (c : ℕ) (site : CallSite) → have_points n sites ≡ true → has_points n site.target ≡ true → have_points n (slice_set sites c site) ≡ true
 set_known n [] c site h k = h
-set_known n (s ∷ sites) zero site h k = both (has_points n site.target) (have_points n sites) k (second_test (has_points n s.target) (have_points n sites) h)
+set_known n (s ∷ sites) zero site h k = and_from (has_points n site.target) (have_points n sites) k (second_test (has_points n s.target) (have_points n sites) h)
 set_known n (s ∷ sites) (suc c) site h k =
-    both (has_points n s.target) (have_points n (slice_set sites c site)) (first_test (has_points n s.target) (have_points n sites) h)
+    and_from (has_points n s.target) (have_points n (slice_set sites c site)) (first_test (has_points n s.target) (have_points n sites) h)
     (set_known n sites c site (second_test (has_points n s.target) (have_points n sites) h) k)
 
 pub retargeted_known : (n : ℕ) (sites : List CallSite) (c : ℕ) (t : Target) → have_points n sites ≡ true → has_points n t ≡ true → have_points n (retargeted sites c t) ≡ true
@@ -55,15 +43,15 @@ more_points n (Method m) h = refl
 more_points n (Guard p first fallback) h =
     let rest = second_test (nat_lt p n) (has_points n first && has_points n fallback) h in
     let lt = ltb-true p n (first_test (nat_lt p n) (has_points n first && has_points n fallback) h) in
-    both (nat_lt p (n + 1)) (has_points (n + 1) first && has_points (n + 1) fallback) (lt-ltb p (n + 1) (omega arith))
-    (both (has_points (n + 1) first) (has_points (n + 1) fallback)
+    and_from (nat_lt p (n + 1)) (has_points (n + 1) first && has_points (n + 1) fallback) (lt-ltb p (n + 1) (omega arith))
+    (and_from (has_points (n + 1) first) (has_points (n + 1) fallback)
     (more_points n first (first_test (has_points n first) (has_points n fallback) rest))
     (more_points n fallback (second_test (has_points n first) (has_points n fallback) rest)))
 
 all_more_points : (n : ℕ) (sites : List CallSite) → have_points n sites ≡ true → have_points (n + 1) sites ≡ true
 all_more_points n [] h = refl
 all_more_points n (s ∷ sites) h =
-    both (has_points (n + 1) s.target) (have_points (n + 1) sites) (more_points n s.target (first_test (has_points n s.target) (have_points n sites) h))
+    and_from (has_points (n + 1) s.target) (have_points (n + 1) sites) (more_points n s.target (first_test (has_points n s.target) (have_points n sites) h))
     (all_more_points n sites (second_test (has_points n s.target) (have_points n sites) h))
 
 pub one_switch_more : (sites : Sites) → are_known sites ≡ true → are_known (with_switch sites) ≡ true

@@ -1,11 +1,9 @@
 -- Nothing changes at a site that the index doesn't give.
-use Rattle.std.specs.Prelude.{◌≡◌, ℕ, ◌&&◌, Bool, false, List, Option, Some, None, option_map, Result, Ok, Err, is_some, if◌then◌else◌}
+use Rattle.std.specs.Prelude.{◌≡◌, ℕ, ◌&&◌, false, List, Option, Some, None, option_map, Ok, is_some}
 use Rattle.std.specs.Option.{option_map_or}
 use Rattle.std.proofs.Common.{refl, ap, sym, ◌∙◌}
 use Rattle.jl_types.specs.Event.{Event}
 use Rattle.jl_types.specs.declared.link.Link.{Link}
-use Rattle.jl_types.specs.declared.answer.Unlinked.{Unlinked}
-use Rattle.jl_types.specs.Means.SameLink.{link_decides}
 use Rattle.jl_types.specs.World.{World}
 use Rattle.jl_types.specs.Links.{scratch}
 use Rattle.jl_types.specs.Events.{step}
@@ -17,6 +15,7 @@ use Rattle.jl_relink.specs.Laws.{IsInOrder}
 use Rattle.jl_relink.proofs.KeyLaws.{untouched_stays}
 use Rattle.jl_deps.specs.Indexes.{AreRising, IsIndex, StaysIndexed, touched_by}
 use Rattle.jl_types.proofs.BySite.{rises_of}
+use Rattle.jl_types.proofs.Installed.{kept_none, kept_link}
 use Rattle.jl_deps.proofs.TouchLaws.{passing}
 
 module _ (w : World) (e : Event) (links : ℕ → Option Link) (index : List (ℕ × List Key)) (rising : AreRising index) (is_index : IsIndex w links index) where
@@ -34,22 +33,15 @@ module _ (w : World) (e : Event) (links : ℕ → Option Link) (index : List (�
       → StaysIndexed w e links index s
   others_stay order linked s none = by_link (links s) refl (sym (touched_of s) ∙ none)
     where
-      same_kept : (l : Link) → kept false (Some l) (Ok l) ≡ Some l
-      same_kept l = ap (λ (b : Bool). if b then Some l else None) ((link_decides l l).1 refl)
-
-      none_kept : (r : Result Link Unlinked) → kept false None r ≡ None
-      none_kept (Ok l) = refl
-      none_kept (Err reason) = refl
-
       by_link : (o : Option Link) → links s ≡ o → (is_some o && touches w e s) ≡ false → StaysIndexed w e links index s
       by_link None is h = record {
-        link = ap (λ (o : Option Link). kept false o (scratch (step w e) s)) is ∙ none_kept (scratch (step w e) s) ∙ sym is;
+        link = ap (λ (o : Option Link). kept false o (scratch (step w e) s)) is ∙ kept_none (scratch (step w e) s) ∙ sym is;
         rests_on = ap (option_map (λ l. footprint (step w e) s)) is ∙ sym (is_index s ∙ ap (option_map (λ l. footprint w s)) is);
       }
       by_link (Some l) is h =
           let stays = untouched_stays w order e s l h (linked s l is) in
           record {
-            link = (λ i. kept false (is i) (stays.link i)) ∙ same_kept l ∙ sym is;
+            link = (λ i. kept false (is i) (stays.link i)) ∙ kept_link l ∙ sym is;
             rests_on =
                 ap (option_map (λ l. footprint (step w e) s)) is ∙ ap Some stays.rests_on
                 ∙ sym (is_index s ∙ ap (option_map (λ l. footprint w s)) is);

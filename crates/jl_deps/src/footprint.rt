@@ -20,6 +20,13 @@ use std::alloc::{AllocError, Global};
 /// What the link of a site rests on: keys, rising, none of them twice.
 pub type Footprint = Seq<Key>;
 
+/// The same keys once more. Want of memory is an error.
+pub fn copy_footprint(alloc: Global, footprint: &Footprint) -> Result<Footprint, AllocError>
+    ensures { IfOk result (λ copy. copy ≡ footprint.now) }
+{
+    Ok(Seq::of(footprint.as_slice().to_vec(alloc)?))
+}
+
 /// What the link of the site rests on. No receiver is looked at, and nothing is evaluated. Want of memory is an error.
 pub fn footprint_of(alloc: Global, world: &World, site: SiteNo) -> Result<Footprint, AllocError>
     ensures { IfOk result (λ keys. keys ≡ footprints.footprint world.now site) }

@@ -9,7 +9,7 @@ ghost use Rattle.jl_types.specs.declared.key.Key.{Key};
 ghost use Rattle.jl_types.specs.Footprints.{has_key};
 ghost use Rattle.jl_deps.specs.Lists.{AreListed, listed, rests};
 
-use crate::footprint::Footprint;
+use crate::footprint::{Footprint, copy_footprint};
 use crate::lists::{Lists, relist, unlist_others};
 use indexmap::IndexMap;
 use jl_names::Seq;
@@ -137,18 +137,11 @@ fn add_all(alloc: Global, footprints: &Footprints, copy: &mut Index) -> Result<(
     let _len = footprints.len();
     let mut place = 0;
     while let Some((site, footprint)) = footprints.get_index(place) {
-        let keys = copied(alloc, footprint)?;
+        let keys = copy_footprint(alloc, footprint)?;
         copy.add(alloc, *site, keys)?;
         place += 1;
     }
     Ok(())
-}
-
-/// The same keys once more. Want of memory is an error.
-fn copied(alloc: Global, keys: &Footprint) -> Result<Footprint, AllocError>
-    ensures { IfOk result (λ copy. copy ≡ keys.now) }
-{
-    Ok(Seq::of(keys.as_slice().to_vec(alloc)?))
 }
 
 /// The site has this footprint. Want of memory is an error; nothing has changed then.

@@ -9,8 +9,9 @@ use Rattle.jl_types.specs.declared.event.Reply.{Reply}
 use Rattle.jl_types.specs.Entries.{Entry}
 use Rattle.jl_server.specs.declared.book.Receipt.{Receipt}
 use Rattle.jl_server.specs.History.{entry_after}
-use Rattle.jl_farm.specs.declared.report.JobOutcome.TheVariants.{Installed, Stale, NotReady}
+use Rattle.jl_farm.specs.declared.report.JobOutcome.TheVariants.{Installed, Stale, NotReady, Bad, Memory}
 use Rattle.jl_farm.specs.Reports.{has_twice, sites_of, world_of, IsInstalled, IsShown}
+use Rattle.jl_farm.specs.Work.{HasSeen}
 
 -- no site, one, two equal ones and two different ones
 twice_none : has_twice [] ≡ false
@@ -108,3 +109,31 @@ module _ (K : Type 0) (max_sites : ℕ) (before earlier : List Entry) (receipt :
   no_installed_switch sites ends shown =
       let same = last_same (quiet NewSwitch) (last_of shown) earlier shown.last.0 (sym ends ∙ shown.last.1) in
       let events : NewSwitch ≡ Install shown.rows = ap (λ (e : Entry). e.event) same in cc events
+
+-- ---- what the caller that ran a job has seen
+
+module _ (K : Type 0) (list : List Entry) where
+  saw_the_later_list : HasSeen {K = K} list (Stale [] list)
+  saw_the_later_list = refl
+
+  saw_what_it_installed : (receipt : Receipt K) → receipt.seen ≡ list → HasSeen list (Installed receipt)
+  saw_what_it_installed receipt is = is
+
+  nothing_of_want_of_memory : HasSeen {K = K} list Memory
+  nothing_of_want_of_memory = tt
+
+  -- no other list than the one that the outcome names
+  abbrev one : List Entry
+  one = quiet NewSwitch ∷ []
+
+  not_the_earlier_list : HasSeen {K = K} [] (Stale [] one) → ⊥
+  not_the_earlier_list e = cc
+
+  no_other_when_not_ready : HasSeen {K = K} [] (NotReady one) → ⊥
+  no_other_when_not_ready e = cc
+
+  no_other_when_bad : HasSeen {K = K} [] (Bad one) → ⊥
+  no_other_when_bad e = cc
+
+  no_other_when_installed : (receipt : Receipt K) → receipt.seen ≡ one → HasSeen [] (Installed receipt) → ⊥
+  no_other_when_installed receipt is e = let clash : one ≡ [] = sym is ∙ e in cc

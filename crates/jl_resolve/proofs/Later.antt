@@ -1,14 +1,15 @@
 -- Each event leaves the classes that are there as they are.
-use Rattle.std.specs.Prelude.{◌≡◌, ℕ, List, [], ◌∷◌, ◌++◌, fold, Option, Some, None}
+use Rattle.std.specs.Prelude.{ℕ, List, [], ◌∷◌, ◌++◌, Option, Some, None}
 use Rattle.std.specs.Option.{option_map_or}
 use Rattle.std.proofs.Common.{refl, sym, subst}
 use Rattle.jl_types.specs.Event.{Event}
 use Rattle.jl_types.specs.declared.event.EventOf.TheVariants as event
-use Rattle.jl_types.specs.World.{Classes, World, nothing_yet}
+use Rattle.jl_types.specs.World.{Classes, World}
 use Rattle.jl_types.specs.Members.{lookup}
 use Rattle.jl_types.specs.Definitions.{with_record, delegated}
 use Rattle.jl_types.specs.Events.{step}
 use Rattle.jl_types.specs.History.{world_after}
+use Rattle.jl_types.proofs.Places.{world_more}
 use Rattle.jl_types.proofs.Orders.{IsGood, world_good}
 use Rattle.jl_hierarchy.specs.Constancy.{Stays}
 use Rattle.jl_hierarchy.proofs.Constancy.{stays_defined, stays_with_record, stays_with_loader}
@@ -23,7 +24,8 @@ delegated_stays cs good loader name to = by_found (lookup cs to name)
     by_found None = stays_itself cs
     by_found (Some c) = stays_with_record cs good loader name c
 
-step_stays : (w : World) → IsGood w.classes → (e : Event) → Stays w.classes (step w e).classes
+-- what an event makes of the classes leaves those that are there
+pub step_stays : (w : World) → IsGood w.classes → (e : Event) → Stays w.classes (step w e).classes
 step_stays w good event.NewLoader = stays_with_loader w.classes good
 step_stays w good (event.Define loader file) = stays_defined w.classes good loader file
 step_stays w good (event.Delegate loader name to) = delegated_stays w.classes good loader name to
@@ -35,10 +37,6 @@ step_stays w good (event.Invalidate points) = stays_itself w.classes
 step_stays w good (event.Bind s c) = stays_itself w.classes
 step_stays w good (event.Install rows) = stays_itself w.classes
 
-last_step : (h : List Event) (e : Event) (w : World) → fold step w (h ++ e ∷ []) ≡ step (fold step w h) e
-last_step [] e w = refl
-last_step (first ∷ h) e w = last_step h e (step w first)
-
 pub later_stays : (h : List Event) (e : Event) → Stays (world_after h).classes (world_after (h ++ e ∷ [])).classes
 later_stays h e =
-    subst (λ (w : World). Stays (world_after h).classes w.classes) (sym (last_step h e nothing_yet)) (step_stays (world_after h) (world_good h) e)
+    subst (λ (w : World). Stays (world_after h).classes w.classes) (sym (world_more h e)) (step_stays (world_after h) (world_good h) e)

@@ -1,14 +1,13 @@
 //! The links and the index of an instance that is behind another one.
 
-ghost use Rattle.std.specs.Prelude.{◌≡◌, ◌==◌, ℕ, IfOk, OnOk, if◌then◌else◌};
+ghost use Rattle.std.specs.Prelude.{◌≡◌, ◌==◌, ℕ, OnOk, if◌then◌else◌};
 ghost use Rattle.std.specs.List.{list_any};
 ghost use Rattle.std.specs.Option.{option_copied};
 ghost use Rattle.jl_cache.specs.Links.{link_at};
 ghost use Rattle.jl_deps.specs.Indexes.{footprint_at};
 
 use jl_cache::Cache;
-use jl_deps::{Footprint, Index};
-use jl_names::Seq;
+use jl_deps::{Footprint, Index, copy_footprint};
 use jl_types::{Link, SiteNo};
 use std::alloc::{AllocError, Global};
 
@@ -61,7 +60,7 @@ fn take_footprint(
 {
     match footprint {
         Some(footprint) => {
-            let copy = copied(alloc, footprint)?;
+            let copy = copy_footprint(alloc, footprint)?;
             index.add(alloc, site, copy)
         }
         None => {
@@ -69,11 +68,4 @@ fn take_footprint(
             Ok(())
         }
     }
-}
-
-/// The same keys once more. Want of memory is an error.
-fn copied(alloc: Global, keys: &Footprint) -> Result<Footprint, AllocError>
-    ensures { IfOk result (λ copy. copy ≡ keys.now) }
-{
-    Ok(Seq::of(keys.as_slice().to_vec(alloc)?))
 }
