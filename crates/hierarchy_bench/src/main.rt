@@ -1,6 +1,7 @@
 //! Times classes by loader: has loader 0 define the class files of its input, a line of hexadecimal each, in order, and then
-//! asks of each class 32 times what the loader finds by its name, and whether another one is its ancestor. Prints how many
-//! classes were defined and how many questions had a yes, and, on the standard error, the microseconds of each time.
+//! asks of each class 32 times what the loader finds by its name, and whether another one is its ancestor, and copies all classes
+//! 64 times. Prints how many classes were defined, how many questions had a yes and how many copies were made, and, on the
+//! standard error, the microseconds of each time.
 #![tactic(auto)]
 
 use jl_classfile::read_class;
@@ -15,6 +16,9 @@ const BATCH: usize = 3_000;
 
 /// How many questions of a kind are asked about each class.
 const ROUNDS: u32 = 32;
+
+/// How many copies are timed.
+const COPIES: u32 = 64;
 
 /// The bytes of the lines that are hexadecimal.
 fn files(rt: &HostRuntime) -> io::Result<Vec<Vec<u8>>> {
@@ -147,9 +151,36 @@ fn time_questions(rt: &HostRuntime, classes: &Classes, count: u32) -> io::Result
     Ok(())
 }
 
+/// Whether the classes are copied. The copy is let go.
+fn is_copied(alloc: Global, classes: &Classes) -> bool {
+    classes.copy(alloc).is_ok()
+}
+
+/// How many copies are made, one after another.
+fn copy_each(alloc: Global, classes: &Classes) -> u32 {
+    let mut copies = 0u32;
+    for _ in 0..COPIES {
+        if is_copied(alloc, classes) {
+            copies = copies.saturating_add(1);
+        }
+    }
+    copies
+}
+
+/// Times the copies.
+fn time_copies(rt: &HostRuntime, classes: &Classes) -> io::Result<()> {
+    let start = Instant::now(rt)?;
+    let copies = copy_each(rt.alloc(), classes);
+    let copying = start.elapsed(rt)?;
+    println!(rt; "copies {copies}")?;
+    eprintln!(rt; "copies in {} us", copying.as_micros())?;
+    Ok(())
+}
+
 fn main(rt: HostRuntime) -> io::Result<()> {
     let files = files(&rt)?;
     let mut classes = Classes::new(rt.alloc())?;
     let defined = time_definitions(&rt, &mut classes, &files)?;
-    time_questions(&rt, &classes, defined)
+    time_questions(&rt, &classes, defined)?;
+    time_copies(&rt, &classes)
 }

@@ -1,7 +1,7 @@
 -- The lists of receivers, as one of them is changed.
-use Rattle.std.specs.Prelude.{◌≡◌, ℕ, zero, suc, ◌+◌, ◌<◌, ◌==◌, ◌||◌, Bool, true, false, if◌then◌else◌, List, [], ◌∷◌, ◌++◌, Vec, length, get_or, slice_set, take, drop}
+use Rattle.std.specs.Prelude.{◌≡◌, ℕ, zero, suc, ◌+◌, ◌<◌, ◌==◌, ◌||◌, Bool, true, false, if◌then◌else◌, List, [], ◌∷◌, ◌++◌, length, get_or, slice_set, take, drop}
 use Rattle.std.specs.List.{list_any, AllByRecursion}
-use Rattle.std.specs.Vec.{vec_len, vec_capacity}
+use Rattle.smallvec.specs.SmallVec.{SmallVec, HasRoomFor}
 use Rattle.std.proofs.Common.{refl, ap, sym, subst, ◌∙◌, arith}
 use Rattle.std.proofs.Math.Seq.{take-append_seam}
 use Rattle.std.proofs.lemmas.Bool.Decides.{Decides-eqb}
@@ -17,30 +17,30 @@ use Rattle.jl_hierarchy.specs.Kept.{HasRoom, Rises, IsAppended, lists}
 -- ---- one list is changed
 
 -- the elements of all lists stay where those of the changed one do
-pub same_lists : {A : Type 0} (below : List (Vec ℕ A)) (i : ℕ) (d v : Vec ℕ A) → v.items ≡ (get_or below i d).items
+pub same_lists : (below : List (SmallVec ℕ)) (i : ℕ) (d v : SmallVec ℕ) → v.items ≡ (get_or below i d).items
     → lists (slice_set below i v) ≡ lists below
 same_lists [] i d v e = refl
 same_lists (x ∷ below) zero d v e = ap (λ (l : List ℕ). l ∷ lists below) e
 same_lists (x ∷ below) (suc i) d v e = ap (λ (ls : List (List ℕ)). x.items ∷ ls) (same_lists below i d v e)
 
 -- room where the changed list has some, and elsewhere where there was
-pub room_set : {A : Type 0} (below : List (Vec ℕ A)) (i c : ℕ) (v : Vec ℕ A) → i < length below → ((i == c) ≡ true → vec_len v < vec_capacity v)
+pub room_set : (below : List (SmallVec ℕ)) (i c : ℕ) (v : SmallVec ℕ) → i < length below → ((i == c) ≡ true → HasRoomFor v 1)
     → ((i == c) ≡ false → HasRoom below c) → HasRoom (slice_set below i v) c
-room_set {A = A} below i c v lt room old d = by_test (i == c) refl
+room_set below i c v lt room old d = by_test (i == c) refl
   where
-    by_test : (b : Bool) → (i == c) ≡ b → vec_len (get_or (slice_set below i v) c d) < vec_capacity (get_or (slice_set below i v) c d)
+    by_test : (b : Bool) → (i == c) ≡ b → HasRoomFor (get_or (slice_set below i v) c d) 1
     by_test true e =
-        subst (λ k. vec_len (get_or (slice_set below i v) k d) < vec_capacity (get_or (slice_set below i v) k d)) ((Decides-eqb i c).0 e)
-        (subst (λ (w : Vec ℕ A). vec_len w < vec_capacity w) (sym (get_or-set_same below i v d lt)) (room e))
-    by_test false e = subst (λ (w : Vec ℕ A). vec_len w < vec_capacity w) (sym (get_or-set_other below i c v d (λ same. both_ways (i == c) e ((Decides-eqb i c).1 (sym same))))) (old e d)
+        subst (λ k. HasRoomFor (get_or (slice_set below i v) k d) 1) ((Decides-eqb i c).0 e)
+        (subst (λ (w : SmallVec ℕ). HasRoomFor w 1) (sym (get_or-set_same below i v d lt)) (room e))
+    by_test false e = subst (λ (w : SmallVec ℕ). HasRoomFor w 1) (sym (get_or-set_other below i c v d (λ same. both_ways (i == c) e ((Decides-eqb i c).1 (sym same))))) (old e d)
 
 -- the lists that were written in place, and one behind them
-pub with_own : {A : Type 0} (n : ℕ) (old new : List (Vec ℕ A)) (own : Vec ℕ A) → length new ≡ n
+pub with_own : (n : ℕ) (old new : List (SmallVec ℕ)) (own : SmallVec ℕ) → length new ≡ n
     → lists (take n (new ++ drop (length new) old) ++ own ∷ []) ≡ lists new ++ own.items ∷ []
-with_own {A = A} n old new own e =
-    ap (λ (vs : List (Vec ℕ A)). lists (vs ++ own ∷ []))
+with_own n old new own e =
+    ap (λ (vs : List (SmallVec ℕ)). lists (vs ++ own ∷ []))
     (ap (λ (k : ℕ). take k (new ++ drop (length new) old)) (sym e) ∙ take-append_seam new (drop (length new) old))
-    ∙ map-append (λ (v : Vec ℕ A). v.items) new (own ∷ [])
+    ∙ map-append (λ (v : SmallVec ℕ). v.items) new (own ∷ [])
 
 -- ---- a class is appended to one list more
 
@@ -57,9 +57,9 @@ has_more classes n c d lt =
     ∙ ap (λ (b : Bool). list_any (λ k. k == c) (take n classes) || b) (or_none (get_or classes n d == c))
 
 -- as many lists as vectors
-pub as_many_lists : {A : Type 0} (vectors others : List (Vec ℕ A)) → lists vectors ≡ lists others → length vectors ≡ length others
-as_many_lists {A = A} vectors others e =
-    sym (length-map vectors (λ (u : Vec ℕ A). u.items)) ∙ ap length e ∙ length-map others (λ (u : Vec ℕ A). u.items)
+pub as_many_lists : (vectors others : List (SmallVec ℕ)) → lists vectors ≡ lists others → length vectors ≡ length others
+as_many_lists vectors others e =
+    sym (length-map vectors (λ (u : SmallVec ℕ). u.items)) ∙ ap length e ∙ length-map others (λ (u : SmallVec ℕ). u.items)
 
 pub same_default : {X : Type 0} (xs : List X) (i : ℕ) (d e : X) → i < length xs → get_or xs i d ≡ get_or xs i e
 same_default [] i d e lt = absurd (omega arith)
@@ -86,20 +86,20 @@ not_before (x ∷ classes) (suc n) d r lt =
     ap (λ (b : Bool). b || list_any (λ k. k == get_or classes n d) (take n classes)) (other_number x (get_or classes n d) (above_any x classes n d r.0 (omega arith)))
     ∙ not_before classes n d r.1 (omega arith)
 
-module _ {A : Type 0} (classes : List ℕ) (x : ℕ) (old : List (List ℕ)) (below : List (Vec ℕ A)) (n d : ℕ) (r : Rises classes) (lt : n < length classes)
-    (h : IsAppended (take n classes) x old (lists below)) (v : Vec ℕ A) (w : Vec ℕ A)
+module _ (classes : List ℕ) (x : ℕ) (old : List (List ℕ)) (below : List (SmallVec ℕ)) (n d : ℕ) (r : Rises classes) (lt : n < length classes)
+    (h : IsAppended (take n classes) x old (lists below)) (v : SmallVec ℕ) (w : SmallVec ℕ)
     (there : get_or classes n d < length below) (e : v.items ≡ (get_or below (get_or classes n d) w).items ++ x ∷ []) where
   abbrev at : ℕ
   at = get_or classes n d
 
   lists_set : lists (slice_set below at v) ≡ slice_set (lists below) at v.items
-  lists_set = map-set (λ (u : Vec ℕ A). u.items) below at v
+  lists_set = map-set (λ (u : SmallVec ℕ). u.items) below at v
 
   abbrev with : Bool → ℕ → List ℕ
   with b c = if b then get_or old c [] ++ x ∷ [] else get_or old c []
 
   there_too : at < length (lists below)
-  there_too = let m = length-map below (λ (u : Vec ℕ A). u.items) in omega arith
+  there_too = let m = length-map below (λ (u : SmallVec ℕ). u.items) in omega arith
 
   at_place : get_or (lists (slice_set below at v)) at [] ≡ grown (take (n + 1) classes) x old at
   at_place =

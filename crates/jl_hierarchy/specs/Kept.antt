@@ -2,7 +2,7 @@
 use Rattle.std.specs.Prelude.{◌≡◌, ℕ, ◌+◌, ◌<◌, ◌≤◌, ◌==◌, Bool, if◌then◌else◌, List, ◌∷◌, [], ◌++◌, Vec, map, length, get_or, is_some, ⊤}
 use Rattle.std.specs.List.{AllByRecursion, list_any}
 use Rattle.std.specs.Str.{bytes_eq}
-use Rattle.std.specs.Vec.{vec_len, vec_capacity}
+use Rattle.smallvec.specs.SmallVec.{SmallVec, HasRoomFor}
 use Rattle.jl_classfile.specs.Class.{Method}
 use Rattle.jl_types.specs.World.{Classes}
 use Rattle.jl_types.specs.Members.{numbers, recorded}
@@ -27,7 +27,7 @@ firsts_of made n [] = made
 firsts_of made n (m ∷ ms) = firsts_of (with_first made m.name n) (n + 1) ms
 
 -- what the lists that grow hold
-abbrev pub lists : {A : Type 0} → List (Vec ℕ A) → List (List ℕ)
+abbrev pub lists : List (SmallVec ℕ) → List (List ℕ)
 lists vectors = map (λ v. v.items) vectors
 
 -- Of each class its ancestors and its receivers are kept. What loaders have recorded is there, and parents come first, as
@@ -42,8 +42,8 @@ pub record IsKept (cs : Classes) (above below : List (List ℕ)) : Type 0 where
   pub receivers_kept : below ≡ map (receivers cs) (numbers cs)
 
 -- the list of the class has room for one more
-abbrev pub HasRoom : {A : Type 0} → List (Vec ℕ A) → ℕ → Type 0
-HasRoom {A = A} vectors c = (d : Vec ℕ A) → vec_len (get_or vectors c d) < vec_capacity (get_or vectors c d)
+abbrev pub HasRoom : List (SmallVec ℕ) → ℕ → Type 0
+HasRoom vectors c = (d : SmallVec ℕ) → HasRoomFor (get_or vectors c d) 1
 
 -- each number is below those after it
 abbrev pub Rises : List ℕ → Type 0

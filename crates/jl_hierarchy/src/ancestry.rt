@@ -16,7 +16,7 @@ impl Classes {
         ensures ordered { AreOrdered self.now.rows }
         ensures listed { result.now ≡ ancestry.ancestors self.now.rows class }
     {
-        self.above.as_slice()[class.number() as usize].as_slice()
+        self.above.at(class.number() as usize).as_slice()
     }
 
     /// Whether the first class is among the ancestors of the second one, as that itself is. A search in the ancestors that

@@ -7,9 +7,11 @@ ghost use Rattle.jl_types.specs.Members as members;
 ghost use Rattle.jl_types.specs.Ancestry.{AreOrdered};
 ghost use Rattle.jl_hierarchy.specs.Constancy.{AreInOrder};
 
+use crate::kin::Kin;
 use crate::loader::Loader;
+use crate::receiving::Receivers;
 use crate::row::Row;
-use jl_names::Seq;
+use jl_paged::Paged;
 use jl_types::{Class, ClassId, LoaderId};
 use std::alloc::{AllocError, Global};
 use std::marker::Model;
@@ -20,11 +22,11 @@ use std::marker::Model;
 /// Of each class its ancestors and its receivers are kept, so that a question about them walks no other class.
 pub struct Classes {
     pub(crate) loaders: Vec<Loader>,
-    pub(crate) rows: Vec<Row>,
+    pub(crate) rows: Paged<Row>,
     /// Of each class its ancestors, rising, itself the last. They never change.
-    pub(crate) above: Vec<Seq<ClassId>>,
+    pub(crate) above: Paged<Kin>,
     /// Of each class its receivers, rising.
-    pub(crate) below: Vec<Vec<ClassId>>,
+    pub(crate) below: Vec<Receivers>,
 }
 
 // Written out, since a derived drop is proved anew in each crate that lets one go.
@@ -56,11 +58,11 @@ impl Classes {
         ensures { IfOk result (λ classes. classes ≡ nothing_yet.classes) }
     {
         let mut loaders = Vec::new(alloc);
-        loaders.push(Loader::new(alloc))?;
+        loaders.push(Loader::new(alloc)?)?;
         Ok(Classes {
             loaders,
-            rows: Vec::new(alloc),
-            above: Vec::new(alloc),
+            rows: Paged::new(alloc),
+            above: Paged::new(alloc),
             below: Vec::new(alloc),
         })
     }

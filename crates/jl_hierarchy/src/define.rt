@@ -1,6 +1,6 @@
 //! The definition of a class (JVMS SE 17 §5.3.5).
 
-ghost use Rattle.std.specs.Prelude.{◌≡◌, ◌<◌, ◌++◌, ◌∷◌, [], Some, None, Err, length, List, ℕ, if◌then◌else◌, true, All, IfOk, OnOk, OnErr};
+ghost use Rattle.std.specs.Prelude.{◌≡◌, ◌<◌, ◌^◌, ◌++◌, ◌∷◌, [], Some, None, Err, length, List, ℕ, if◌then◌else◌, true, All, IfOk, OnOk, OnErr};
 ghost use Rattle.std.specs.Vec.{vec_len, vec_capacity};
 ghost use Rattle.jl_types.specs.declared.refusal.DefineFault.{DefineFault};
 ghost use Rattle.jl_types.specs.declared.refusal.OrMemory.TheVariants as or_memory;
@@ -12,11 +12,14 @@ ghost use Rattle.jl_hierarchy.specs.Constancy.{AreInOrder, Stays, AddsReceiver};
 ghost use Rattle.jl_hierarchy.specs.Kept.{HasRoom, Rises, IsAppended, lists};
 
 use crate::classes::Classes;
+use crate::kin::Kin;
 use crate::loader::record_in;
-use crate::receiving::{append_to_each, is_concrete, own_receivers, receiving, reserve_each};
+use crate::receiving::{
+    Receivers, append_to_each, is_concrete, own_receivers, receiving, reserve_each,
+};
 use crate::row::Row;
 use jl_classfile::ClassFile;
-use jl_names::Seq;
+use jl_paged::Paged;
 use jl_types::{ClassId, DefineFault, LoaderId, OrMemory};
 use std::alloc::{AllocError, Global};
 
@@ -25,10 +28,12 @@ use std::alloc::{AllocError, Global};
 pub(crate) struct Growth {
     row: Row,
     is_concrete: bool,
-    /// The ancestors but the class itself, by rising number, with room for that one.
+    /// The ancestors but the class itself, by rising number.
     ancestors: Vec<ClassId>,
+    /// The ancestors with the class itself.
+    kin: Kin,
     /// The receivers of the class: itself or none.
-    own: Vec<ClassId>,
+    own: Receivers,
 }
 
 impl Classes {
@@ -114,8 +119,9 @@ impl Classes {
         let loader = row.class().loader();
         let name = name_of(alloc, &row)?;
         let growth = self.growth(alloc, row)?;
-        let class = ClassId::new(self.rows.as_slice().len() as u32);
+        let class = ClassId::new(self.rows.len() as u32);
         reserve_all(
+            alloc,
             &mut self.rows,
             &mut self.above,
             &mut self.below,
@@ -141,19 +147,20 @@ impl Classes {
             ≡ ancestry.ancestors (self.now.rows ++ row ∷ []) (length self.now.rows)) }
         ensures rising { IfOk result (λ growth. Rises growth.ancestors.items) }
         ensures there { IfOk result (λ growth. All (λ a. a < length self.now.rows) growth.ancestors.items) }
-        ensures room { IfOk result (λ growth. vec_len growth.ancestors < vec_capacity growth.ancestors) }
+        ensures kin { IfOk result (λ growth. growth.kin ≡ growth.ancestors.items ++ length self.now.rows ∷ []) }
         ensures own { IfOk result (λ growth. growth.own.items
             ≡ (if members.is_concrete_row row then length self.now.rows ∷ [] else [])) }
     {
-        let class = ClassId::new(self.rows.as_slice().len() as u32);
+        let class = ClassId::new(self.rows.len() as u32);
         let is_concrete = is_concrete(row.class());
-        let mut ancestors = self.proper_ancestors(alloc, row.class())?;
-        ancestors.reserve(1)?;
+        let ancestors = self.proper_ancestors(alloc, row.class())?;
+        let kin = Kin::of(alloc, &ancestors, class)?;
         let own = own_receivers(alloc, is_concrete, class)?;
         Ok(Growth {
             row,
             is_concrete,
             ancestors,
+            kin,
             own,
         })
     }
@@ -169,22 +176,23 @@ fn name_of(alloc: Global, row: &Row) -> Result<Vec<u8>, AllocError>
 /// Makes room for one class more: for its row, its ancestors and its receivers, and in the list of each of these. Want of
 /// memory is an error.
 fn reserve_all(
-    rows: &mut Vec<Row>,
-    above: &mut Vec<Seq<ClassId>>,
-    below: &mut Vec<Vec<ClassId>>,
+    alloc: Global,
+    rows: &mut Paged<Row>,
+    above: &mut Paged<Kin>,
+    below: &mut Vec<Receivers>,
     receiving: &[ClassId],
 ) -> Result<(), AllocError>
     requires { All (λ c. c < length below.old.items) receiving.now }
     ensures rows { rows.new.items ≡ rows.old.items }
     ensures above { above.new.items ≡ above.old.items }
     ensures below { lists below.new.items ≡ lists below.old.items }
-    ensures row_room { OnOk result (vec_len rows.new < vec_capacity rows.new) }
-    ensures above_room { OnOk result (vec_len above.new < vec_capacity above.new) }
+    ensures row_room { OnOk result (rows.new.room ≡ true) }
+    ensures above_room { OnOk result (above.new.room ≡ true) }
     ensures below_room { OnOk result (vec_len below.new < vec_capacity below.new) }
     ensures room { OnOk result (All (HasRoom below.new.items) receiving.now) }
 {
-    rows.reserve(1)?;
-    above.reserve(1)?;
+    rows.reserve(alloc)?;
+    above.reserve(alloc)?;
     below.reserve(1)?;
     reserve_each(below.as_mut_slice(), receiving)?;
     Ok(())
@@ -192,16 +200,17 @@ fn reserve_all(
 
 /// Adds a class behind the others, all of which have room for it.
 fn push_all(
-    rows: &mut Vec<Row>,
-    above: &mut Vec<Seq<ClassId>>,
-    below: &mut Vec<Vec<ClassId>>,
+    rows: &mut Paged<Row>,
+    above: &mut Paged<Kin>,
+    below: &mut Vec<Receivers>,
     growth: Growth,
     class: ClassId,
 )
-    requires row_room { vec_len rows.old < vec_capacity rows.old }
-    requires above_room { vec_len above.old < vec_capacity above.old }
+    requires row_room { rows.old.room ≡ true }
+    requires above_room { above.old.room ≡ true }
+    requires few { (length rows.old.items < 2 ^ 32) × (length above.old.items < 2 ^ 32) }
     requires below_room { vec_len below.old < vec_capacity below.old }
-    requires ancestors_room { vec_len growth.ancestors < vec_capacity growth.ancestors }
+    requires kin { growth.kin ≡ growth.ancestors.items ++ class ∷ [] }
     requires there { All (λ c. c < length below.old.items) (if growth.is_concrete then growth.ancestors.items else []) }
     requires rising { Rises (if growth.is_concrete then growth.ancestors.items else []) }
     requires room { All (HasRoom below.old.items) (if growth.is_concrete then growth.ancestors.items else []) }
@@ -214,7 +223,8 @@ fn push_all(
     let Growth {
         row,
         is_concrete,
-        mut ancestors,
+        ancestors,
+        kin,
         own,
     } = growth;
     append_to_each(
@@ -223,7 +233,6 @@ fn push_all(
         class,
     );
     below.push_reserved(own);
-    ancestors.push_reserved(class);
-    above.push_reserved(Seq::of(ancestors));
+    above.push_reserved(kin);
     rows.push_reserved(row);
 }

@@ -70,8 +70,9 @@ impl Classes {
         ensures stays { OnOk result (Stays self.old self.new) }
         ensures err { OnErr result (self.new ≡ self.old) }
     {
+        let made = Loader::new(alloc)?;
         let loader = LoaderId::new(self.loaders.len() as u32);
-        self.loaders.push(Loader::new(alloc))?;
+        self.loaders.push(made)?;
         Ok(loader)
     }
 

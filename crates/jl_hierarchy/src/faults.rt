@@ -1,10 +1,8 @@
 //! Why a class isn't defined (JVMS SE 17 §5.3.5).
 
-ghost use Rattle.std.specs.Prelude.{◌≡◌, ◌==◌, ◌&&◌, ◌||◌, not, nat_le, is_some, is_none, option_map, Some, None, length, position, ℕ, List, IfOk, IfErr, IfSome, OnOk, ◌+◌, ◌<◌, ◌^◌, ◌∷◌, []};
-ghost use Rattle.std.specs.Bool.{then_some};
+ghost use Rattle.std.specs.Prelude.{◌≡◌, ◌==◌, ◌&&◌, ◌||◌, not, nat_le, is_some, is_none, option_map, Some, None, length, position, List, IfOk, IfErr, IfSome, OnOk, ◌+◌, ◌<◌, ◌^◌};
 ghost use Rattle.std.specs.List.{list_any};
 ghost use Rattle.std.specs.Option.{option_copied};
-ghost use Rattle.jl_classfile.specs.Conditions.{object};
 ghost use Rattle.std.specs.Str.{bytes_eq};
 ghost use Rattle.jl_types.specs.Members as members;
 ghost use Rattle.jl_types.specs.Definitions as definitions;
@@ -57,7 +55,7 @@ impl Classes {
     fn is_full(&self) -> bool
         ensures { result ≡ nat_le 65536 (length self.now.rows) }
     {
-        self.rows.as_slice().len() >= MOST_CLASSES
+        self.rows.len() >= MOST_CLASSES
     }
 
     /// The first of the faults that are tested before the parents are looked up.

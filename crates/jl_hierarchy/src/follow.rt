@@ -34,7 +34,7 @@ impl Classes {
         ensures defined { IfOk result (λ row. ahead.now ≡ definitions.defined self.now row.loader row.file) }
         ensures interface { IfOk result (λ row. extends_object row.file.flags row.file.superclass ≡ true) }
     {
-        let row = &ahead.rows.as_slice()[self.rows.as_slice().len()];
+        let row = ahead.rows.at(self.rows.len());
         // The file tells that the superclass of an interface is java/lang/Object.
         let _ = row.class().file().superclass();
         row.copy()

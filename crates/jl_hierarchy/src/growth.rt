@@ -107,7 +107,7 @@ impl Classes {
         ensures { IfOk result (λ all. all.items
             ≡ ancestry.ancestors (definitions.defined self.now loader file.now).rows (length self.now.rows)) }
     {
-        let class = ClassId::new(self.rows.as_slice().len() as u32);
+        let class = ClassId::new(self.rows.len() as u32);
         let parents = self.parents_found(alloc, loader, file)?;
         let mut all = self.joined_ancestors(alloc, &parents)?;
         all.push(class)?;

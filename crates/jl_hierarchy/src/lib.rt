@@ -15,6 +15,7 @@ mod delegate;
 mod faults;
 mod follow;
 mod growth;
+mod kin;
 mod loader;
 mod members;
 mod nests;

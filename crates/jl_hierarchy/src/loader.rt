@@ -8,15 +8,84 @@ use indexmap::IndexMap;
 use jl_types::{ClassId, LoaderId};
 use std::alloc::{AllocError, Global};
 use std::marker::Model;
+use std::sync::Arc;
 
-/// The names under which a loader finds classes, each with its class (JVMS SE 17 §5.3). A clause sees the pairs, in the
-/// order in which they were recorded.
+/// The names under which a loader finds classes, each with its class (JVMS SE 17 §5.3), which copies of the loader share until one
+/// of them records more. A clause sees the pairs, in the order in which they were recorded.
 #[derive(Drop)]
 pub(crate) struct Loader {
-    records: IndexMap<Vec<u8>, ClassId>,
+    shared: Arc<Records>,
 }
 
 impl Model for Loader {
+    ghost use Rattle.std.specs.Prelude.{List, ℕ};
+
+    ghost Value = { List (List ℕ × ℕ) };
+
+    ghost view = { λ l. l.shared.value };
+}
+
+impl Loader {
+    /// A loader that has found nothing. Want of memory is an error.
+    pub(crate) fn new(alloc: Global) -> Result<Self, AllocError>
+        ensures { IfOk result (λ loader. loader ≡ []) }
+    {
+        Ok(Loader {
+            shared: Arc::new(alloc, Records::new(alloc))?,
+        })
+    }
+
+    /// The class that is recorded under the name.
+    pub(crate) fn get(&self, name: &[u8]) -> Option<ClassId>
+        ensures { result ≡ recorded name.now self.now }
+    {
+        self.shared.get(name)
+    }
+
+    /// The same loader once more, which both share. Too many copies are an error.
+    pub(crate) fn copy(&self) -> Result<Loader, AllocError>
+        ensures { IfOk result (λ copy. copy ≡ self.now) }
+    {
+        Ok(Loader {
+            shared: Arc::try_clone(&self.shared)?,
+        })
+    }
+
+    /// Records the class under the name, which is new. Records that copies share are copied first.
+    ///
+    /// # Errors
+    ///
+    /// Want of memory. Nothing has changed then.
+    pub(crate) fn record(&mut self, name: Vec<u8>, class: ClassId) -> Result<(), AllocError>
+        requires { recorded name.items self.old ≡ None }
+        ensures ok { OnOk result (self.new ≡ self.old ++ (name.items, class) ∷ []) }
+        ensures err { OnErr result (self.new ≡ self.old) }
+    {
+        record_shared(&mut self.shared, name, class)
+    }
+}
+
+/// Records the class under the name, which is new. Records that others hold, too, are copied first.
+///
+/// # Errors
+///
+/// Want of memory. Nothing has changed then.
+fn record_shared(shared: &mut Arc<Records>, name: Vec<u8>, class: ClassId) -> Result<(), AllocError>
+    requires { recorded name.items shared.old.value ≡ None }
+    ensures ok { OnOk result (shared.new.value ≡ shared.old.value ++ (name.items, class) ∷ []) }
+    ensures err { OnErr result (shared.new.value ≡ shared.old.value) }
+{
+    let records = Arc::make_mut(shared)?;
+    records.record(name, class)
+}
+
+/// Names, each with its class. A clause sees the pairs, in the order in which they were recorded.
+#[derive(Drop)]
+struct Records {
+    records: IndexMap<Vec<u8>, ClassId>,
+}
+
+impl Model for Records {
     ghost use Rattle.std.specs.Prelude.{List, ℕ};
     ghost use Rattle.jl_hierarchy.specs.Kept.{named};
 
@@ -25,30 +94,31 @@ impl Model for Loader {
     ghost view = { λ l. named l.records.entries };
 }
 
-impl Loader {
-    /// A loader that has found nothing.
-    pub(crate) fn new(alloc: Global) -> Self
+impl Clone for Records {
+    ghost is_clone = { λ records copy. copy ≡ records };
+
+    fn clone(&self) -> Result<Records, AllocError> {
+        Ok(Records {
+            records: self.records.clone()?,
+        })
+    }
+}
+
+impl Records {
+    /// No names.
+    fn new(alloc: Global) -> Self
         ensures { result ≡ [] }
     {
-        Loader {
+        Records {
             records: IndexMap::new(alloc),
         }
     }
 
     /// The class that is recorded under the name.
-    pub(crate) fn get(&self, name: &[u8]) -> Option<ClassId>
+    fn get(&self, name: &[u8]) -> Option<ClassId>
         ensures { result ≡ recorded name.now self.now }
     {
         self.records.get(name).copied()
-    }
-
-    /// The same records once more. Want of memory is an error.
-    pub(crate) fn copy(&self) -> Result<Loader, AllocError>
-        ensures { IfOk result (λ copy. copy ≡ self.now) }
-    {
-        Ok(Loader {
-            records: self.records.clone()?,
-        })
     }
 
     /// Records the class under the name, which is new.
@@ -56,7 +126,7 @@ impl Loader {
     /// # Errors
     ///
     /// Want of memory. Nothing has changed then.
-    pub(crate) fn record(&mut self, name: Vec<u8>, class: ClassId) -> Result<(), AllocError>
+    fn record(&mut self, name: Vec<u8>, class: ClassId) -> Result<(), AllocError>
         requires { recorded name.items self.old ≡ None }
         ensures ok { OnOk result (self.new ≡ self.old ++ (name.items, class) ∷ []) }
         ensures err { OnErr result (self.new ≡ self.old) }

@@ -7,6 +7,7 @@ ghost use Rattle.jl_hierarchy.specs.Kept.{HasRoom, Rises, IsAppended, lists};
 
 use jl_classfile::{ABSTRACT, ClassFile, INTERFACE, has_flag};
 use jl_types::{Class, ClassId};
+use smallvec::SmallVec;
 use std::alloc::{AllocError, Global};
 
 /// Whether objects may be of the class: it is neither an interface nor abstract.
@@ -30,15 +31,18 @@ pub(crate) fn receiving<'a>(is_concrete: bool, ancestors: &'a [ClassId]) -> &'a 
     if is_concrete { ancestors } else { &[] }
 }
 
+/// The receivers of a class, rising. Most classes have none below them.
+pub(crate) type Receivers = SmallVec<ClassId, 4>;
+
 /// The receivers of a class that has none below it. Want of memory is an error.
 pub(crate) fn own_receivers(
     alloc: Global,
     is_concrete: bool,
     class: ClassId,
-) -> Result<Vec<ClassId>, AllocError>
+) -> Result<Receivers, AllocError>
     ensures { IfOk result (λ own. own.items ≡ (if is_concrete then class ∷ [] else [])) }
 {
-    let mut own = Vec::new(alloc);
+    let mut own = SmallVec::new(alloc);
     if is_concrete {
         own.push(class)?;
     }
@@ -46,10 +50,7 @@ pub(crate) fn own_receivers(
 }
 
 /// Makes room for one class more in the list of each of these. Want of memory is an error.
-pub(crate) fn reserve_each(
-    below: &mut [Vec<ClassId>],
-    classes: &[ClassId],
-) -> Result<(), AllocError>
+pub(crate) fn reserve_each(below: &mut [Receivers], classes: &[ClassId]) -> Result<(), AllocError>
     requires { All (λ c. c < length below.old) classes.now }
     ensures lists { lists below.new ≡ lists below.old }
     ensures room { OnOk result (All (HasRoom below.new) classes.now) }
@@ -61,7 +62,7 @@ pub(crate) fn reserve_each(
 }
 
 /// Appends the class to the list of each of these, which have room for it.
-pub(crate) fn append_to_each(below: &mut [Vec<ClassId>], classes: &[ClassId], class: ClassId)
+pub(crate) fn append_to_each(below: &mut [Receivers], classes: &[ClassId], class: ClassId)
     requires there { All (λ c. c < length below.old) classes.now }
     requires rising { Rises classes.now }
     requires room { All (HasRoom below.old) classes.now }

@@ -6,6 +6,7 @@ ghost use Rattle.jl_hierarchy.specs.Kept.{named, with_first, firsts_of, is_named
 
 use indexmap::IndexMap;
 use jl_classfile::Method;
+use jl_paged::Again;
 use jl_types::Class;
 use std::alloc::{AllocError, Global};
 use std::marker::Model;
@@ -63,6 +64,12 @@ impl Row {
         ensures { result ≡ position (members.is_called name.now ty.now) self.now.file.methods }
     {
         self.kept.place_of(name, ty)
+    }
+}
+
+impl Again for Row {
+    fn again(&self, _alloc: Global) -> Result<Row, AllocError> {
+        self.copy()
     }
 }
 

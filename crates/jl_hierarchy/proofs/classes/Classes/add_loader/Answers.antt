@@ -13,7 +13,7 @@ invariant_of-self-2 c =
     let loaders = c.self.inside.loaders.items in
     let inside : Classes = record { loaders = loaders; rows = c.self.inside.rows.items } in
     subst (λ (ls : List (List (List ℕ × ℕ))). IsKept (record { loaders = ls; rows = c.self.inside.rows.items }) c.self.inside.above.items (lists c.self.inside.below.items))
-    (sym (c.in_ok-push.ensures.items ∙ ap (λ (records : List (List ℕ × ℕ)). loaders ++ records ∷ []) c.new.ensures))
+    (sym (c.in_ok-push.ensures.items ∙ ap (λ (records : List (List ℕ × ℕ)). loaders ++ records ∷ []) c.in_ok-made.ensures))
     (kept_with_loader inside c.self.inside.above.items (lists c.self.inside.below.items) c.self.invariant
     (subst (λ (k : Classes). length k.loaders < 1024) (sym c.self.view_is) c.requires))
 
@@ -23,7 +23,7 @@ returns-clause-stays c =
     let inside : Classes = record { loaders = loaders; rows = c.self.inside.rows.items } in
     subst (λ (old : Classes). Stays old (record { loaders = c.push.new.self.items; rows = c.self.inside.rows.items })) c.self.view_is
     (subst (λ (ls : List (List (List ℕ × ℕ))). Stays inside (record { loaders = ls; rows = c.self.inside.rows.items }))
-    (sym (c.in_ok-push.ensures.items ∙ ap (λ (records : List (List ℕ × ℕ)). loaders ++ records ∷ []) c.new.ensures))
+    (sym (c.in_ok-push.ensures.items ∙ ap (λ (records : List (List ℕ × ℕ)). loaders ++ records ∷ []) c.in_ok-made.ensures))
     (stays_with_loader inside (good _ _ _ c.self.invariant inside refl)))
 
 pub returns-clause-in_order : goal.returns-clause-in_order

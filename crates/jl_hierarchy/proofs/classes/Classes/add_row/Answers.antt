@@ -1,11 +1,11 @@
 use Rattle.std.specs.Prelude.{◌≡◌, ℕ, List, [], ◌∷◌, ◌++◌, length, if◌then◌else◌}
-use Rattle.std.proofs.Common.{refl, ap, sym, subst, ◌∙◌}
+use Rattle.std.proofs.Common.{refl, ap, sym, subst, ◌∙◌, arith}
 use Rattle.jl_types.specs.World.{Class, Classes}
 use Rattle.jl_types.specs.Members.{lookup}
 use Rattle.jl_types.specs.Definitions.{with_record, defined}
 use Rattle.jl_hierarchy.specs.Constancy.{Stays, AddsReceiver}
 use Rattle.jl_hierarchy.specs.Kept.{IsKept, IsAppended, lists}
-use Rattle.jl_hierarchy.proofs.KeptLaws.{many_below, good, in_order}
+use Rattle.jl_hierarchy.proofs.KeptLaws.{many_above, many_below, good, in_order}
 use Rattle.jl_hierarchy.proofs.FaultLaws.{is_new}
 use Rattle.jl_hierarchy.proofs.Constancy.{stays_defined, adds_receiver}
 use Rattle.jl_hierarchy.proofs.NewClass.{kept_all, there_chosen, kept_as}
@@ -40,8 +40,23 @@ push_all-requires-clause-there c =
     (many_below _ _ _ c.self.invariant c.args.self.now c.self.view_is c.reserve_all.new.below.items c.in_ok-reserve_all.ensures.below)
     c.in_ok-growth.ensures.there
 
+pub push_all-requires-clause-kin : goal.push_all-requires-clause-kin
+push_all-requires-clause-kin c =
+    c.in_ok-growth.ensures.kin
+    ∙ ap (λ (n : ℕ). c.in_ok-growth.growth.ancestors.items ++ n ∷ []) (sym (c.new-class.ensures ∙ c.len.ensures ∙ ap (λ (k : Classes). length k.rows) c.self.view_is))
+
+pub push_all-requires-clause-few : goal.push_all-requires-clause-few
+push_all-requires-clause-few c =
+    let rows = ap length c.in_ok-reserve_all.ensures.rows in
+    let above = many_above _ _ _ c.self.invariant c.args.self.now c.self.view_is c.reserve_all.new.above.items c.in_ok-reserve_all.ensures.above in
+    let same = ap (λ (k : Classes). length k.rows) c.self.view_is in
+    let few = c.self.invariant.few in (
+      omega (arith, rows, few),
+      omega (arith, above, same, few),
+    )
+
 numbered : (c : goal.After-push_all) → c.new-class.result ≡ length c.args.self.now.rows
-numbered c = c.new-class.ensures ∙ ap length c.as_slice.ensures.value ∙ ap (λ (k : Classes). length k.rows) c.self.view_is
+numbered c = c.new-class.ensures ∙ c.len.ensures ∙ ap (λ (k : Classes). length k.rows) c.self.view_is
 
 -- the parts afterwards, by those before
 loaders_are : (c : goal.After-push_all)

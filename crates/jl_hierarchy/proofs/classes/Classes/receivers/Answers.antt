@@ -1,5 +1,6 @@
-use Rattle.std.specs.Prelude.{Vec, ℕ}
-use Rattle.std.proofs.Common.{ap, Global, ◌∙◌}
+use Rattle.std.specs.Prelude.{ℕ}
+use Rattle.smallvec.specs.SmallVec.{SmallVec}
+use Rattle.std.proofs.Common.{ap, ◌∙◌}
 use Rattle.jl_hierarchy.specs.Kept.{lists}
 use Rattle.jl_hierarchy.proofs.KeptLaws.{receivers_here, below_here}
 use Rattle.jl_hierarchy.proofs.classes.Classes.receivers.Goals as goal
@@ -10,6 +11,6 @@ bounds-as_slice-number c =
 
 pub returns : goal.returns
 returns c =
-    c.as_slice-2.ensures.value ∙ ap (λ (v : Vec ℕ Global). v.items) c.index-as_slice-number.is
+    c.as_slice-2.ensures ∙ ap (λ (v : SmallVec ℕ). v.items) c.index-as_slice-number.is
     ∙ receivers_here _ _ _ c.self.invariant c.args.self.now c.self.view_is c.as_slice.result.now (ap lists c.as_slice.ensures.value) c.number.result
     c.args.class c.number.ensures c.requires c.index-as_slice-number.result

@@ -3,7 +3,7 @@ use Rattle.std.proofs.Common.{ap, ◌∙◌}
 use Rattle.jl_types.specs.Members.{recorded}
 use Rattle.jl_hierarchy.specs.Kept.{named}
 use Rattle.jl_hierarchy.proofs.Records.{new_entry}
-use Rattle.jl_hierarchy.proofs.loader.Loader.record.Goals as goal
+use Rattle.jl_hierarchy.proofs.loader.Records.record.Goals as goal
 
 pub returns-clause-ok : goal.returns-clause-ok
 returns-clause-ok c =

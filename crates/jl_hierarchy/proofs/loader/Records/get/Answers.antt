@@ -1,7 +1,7 @@
 use Rattle.std.proofs.Common.{ap, sym, ◌∙◌}
 use Rattle.jl_types.specs.Members.{recorded}
 use Rattle.jl_hierarchy.proofs.Records.{recorded_is}
-use Rattle.jl_hierarchy.proofs.loader.Loader.get.Goals as goal
+use Rattle.jl_hierarchy.proofs.loader.Records.get.Goals as goal
 
 pub returns : goal.returns
 returns c =

@@ -1,0 +1,50 @@
+//! The ancestors of a class.
+
+ghost use Rattle.std.specs.Prelude.{◌≡◌, ◌++◌, ◌∷◌, [], IfOk};
+
+use jl_names::Seq;
+use jl_paged::Again;
+use jl_types::ClassId;
+use std::alloc::{AllocError, Global};
+use std::marker::Model;
+
+/// The ancestors of a class, rising, itself the last. A clause sees the list.
+#[derive(Drop)]
+pub(crate) struct Kin {
+    all: Seq<ClassId>,
+}
+
+impl Model for Kin {
+    ghost use Rattle.std.specs.Prelude.{List, ℕ};
+
+    ghost Value = { List ℕ };
+
+    ghost view = { λ k. k.all };
+}
+
+impl Kin {
+    /// These ancestors, and the class itself. Want of memory is an error.
+    pub(crate) fn of(alloc: Global, proper: &[ClassId], class: ClassId) -> Result<Kin, AllocError>
+        ensures { IfOk result (λ kin. kin ≡ proper.now ++ class ∷ []) }
+    {
+        let mut all = Vec::with_capacity(alloc, proper.len() + 1)?;
+        all.extend_from_slice(proper)?;
+        all.push(class)?;
+        Ok(Kin { all: Seq::of(all) })
+    }
+
+    /// The ancestors, in order.
+    pub(crate) fn as_slice(&self) -> &[ClassId]
+        ensures { result.now ≡ self.now }
+    {
+        self.all.as_slice()
+    }
+}
+
+impl Again for Kin {
+    fn again(&self, alloc: Global) -> Result<Kin, AllocError> {
+        Ok(Kin {
+            all: Seq::of(self.as_slice().to_vec(alloc)?),
+        })
+    }
+}
