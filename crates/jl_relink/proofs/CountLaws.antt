@@ -1,8 +1,8 @@
--- Links of few and of many receivers, and how many a link looks at.
+-- Links of many receivers, and how many a link looks at.
 use Rattle.std.specs.Prelude.{◌≡◌, ℕ, suc, ◌<◌, ◌≤◌, ◌&&◌, cond, nat_le, Bool, true, false, List, [], ◌∷◌, map, filter, length, if◌then◌else◌}
 use Rattle.std.proofs.Common.{refl, ap, arith}
 use Rattle.std.proofs.lemmas.List.FromFn.{length-range_with_len}
-use Rattle.std.proofs.lemmas.Bool.{leb-true, leb-false}
+use Rattle.std.proofs.lemmas.Bool.{leb-true}
 use Rattle.jl_types.specs.declared.answer.Outcome.{Outcome}
 use Rattle.jl_types.specs.declared.link.Link.TheVariants.{Table, Mega}
 use Rattle.jl_types.specs.declared.link.TableKind.{TableKind}
@@ -24,13 +24,6 @@ of_many kind f xs many = by_size (nat_le (length (map f xs)) 8) refl
     by_size : (b : Bool) → nat_le (length (map f xs)) 8 ≡ b → (if b then Table kind (map f xs) else Mega) ≡ Mega
     by_size true is = absurd (let le = leb-true (length (map f xs)) 8 is in let same = length_map f xs in omega arith)
     by_size false is = refl
-
-pub of_few : (kind : TableKind) (f : ℕ → ℕ × Outcome) (xs : List ℕ) → length xs ≤ 8 → table_or_mega kind (map f xs) ≡ Table kind (map f xs)
-of_few kind f xs few = by_size (nat_le (length (map f xs)) 8) refl
-  where
-    by_size : (b : Bool) → nat_le (length (map f xs)) 8 ≡ b → (if b then Table kind (map f xs) else Mega) ≡ Table kind (map f xs)
-    by_size true is = refl
-    by_size false is = absurd (let lt = leb-false (length (map f xs)) 8 is in let same = length_map f xs in omega arith)
 
 -- ---- how many receivers
 

@@ -14,9 +14,9 @@ pub world_sync : IsSync World.the_row
 world_sync = search (of_classes.the_sync, sites_sync, sendable, of_std) depth 60 fits 100000
 
 pub snapshot_send : IsSend Snapshot.the_row
-snapshot_send = search (world_send, sendable) depth 12
+snapshot_send = search (world_send, world_sync, sendable, of_std) depth 60 fits 100000
 
 pub snapshot_sync : IsSync Snapshot.the_row
-snapshot_sync = search (world_sync, sendable) depth 12
+snapshot_sync = search (world_send, world_sync, sendable, of_std) depth 60 fits 100000
 
 pub ruleset crosses = (world_send, world_sync, snapshot_send, snapshot_sync, of_prepared.the_send, of_prepared.the_sync)

@@ -1,10 +1,8 @@
 -- After accepted events classes came in order, and each guard has its switch point.
-use Rattle.std.specs.Prelude.{◌≡◌, ℕ, zero, suc, Bool, true, false, ◌&&◌, ◌||◌, nat_le, nat_lt, List, [], ◌∷◌, ◌++◌, fold, take, length, slice_get, Option, Some, None, option_map, IsOk, if◌then◌else◌}
-use Rattle.std.specs.Bool.{then_some}
+use Rattle.std.specs.Prelude.{◌≡◌, ℕ, zero, suc, true, false, List, [], ◌∷◌, ◌++◌, fold, take, length, slice_get, Option, Some, None, option_map, IsOk}
 use Rattle.std.specs.List.{list_all}
 use Rattle.std.specs.Option.{option_map_or}
 use Rattle.std.proofs.Common.{refl, ap, sym, subst, ◌∙◌}
-use Rattle.std.proofs.lemmas.Bool.{leb-false, lt-ltb}
 use Rattle.jl_classfile.specs.Class.{ClassFile}
 use Rattle.jl_classfile.specs.Conditions.{extends_object}
 use Rattle.jl_types.specs.Event.{Event}
@@ -12,19 +10,18 @@ use Rattle.jl_types.specs.declared.event.EventOf.TheVariants as event
 use Rattle.jl_types.specs.declared.event.Made.{Made}
 use Rattle.jl_types.specs.declared.refusal.Refusal.{Refusal}
 use Rattle.jl_types.specs.declared.refusal.Refusal.TheVariants.{Define, CallSite}
-use Rattle.jl_types.specs.declared.refusal.CallSiteFault.TheVariants.{UnknownSwitch, TooDeep, Full, Constant}
-use Rattle.jl_types.specs.Target.{Target, Method, Guard, depth}
-use Rattle.jl_types.specs.World.{CallSite as CallSiteRow, World, nothing_yet}
+use Rattle.jl_types.specs.World.{World, nothing_yet}
 use Rattle.jl_types.specs.Members.{lookup}
-use Rattle.jl_types.specs.Targets.{parts, part_fault, target_fault}
 use Rattle.jl_types.specs.Definitions.{define_fault, with_record, delegated}
-use Rattle.jl_types.specs.Events.{unless, is_constant, most_of_a_kind, new_call_site_fault, set_target_fault, verdict, step}
+use Rattle.jl_types.specs.Events.{unless, new_call_site_fault, set_target_fault, verdict, step}
 use Rattle.jl_types.specs.History.{world_after}
-use Rattle.jl_types.proofs.Firsts.{first_none, test_none}
+use Rattle.jl_types.proofs.Bools.{first_test, second_test}
+use Rattle.jl_types.proofs.Places.{world_more}
 use Rattle.jl_types.proofs.Orders.{IsGood, looked_up, recorded_below, defined_good, with_loader}
 use Rattle.jl_hierarchy.specs.Constancy.{has_object, AreInOrder}
 use Rattle.jl_hierarchy.proofs.Objects.{first_with_record, first_with_loader, first_defined}
-use Rattle.jl_callsites.specs.Known.{has_points, have_points}
+use Rattle.jl_callsites.specs.Known.{have_points}
+use Rattle.jl_callsites.proofs.Accepted.{site_points, target_points}
 use Rattle.jl_callsites.proofs.Known.{one_more_known, retargeted_known, one_switch_more}
 use Rattle.jl_types.specs.declared.link.Link.{Link}
 use Rattle.jl_types.specs.History.{Settled}
@@ -39,35 +36,6 @@ use Rattle.jl_relink.proofs.Paths.{invalidated_length}
 no_fault : {A : Type 0} (F : A → Refusal) (o : Option A) (m : Made) → IsOk (unless (option_map F o) m) → o ≡ None
 no_fault F None m h = refl
 no_fault F (Some f) m h = cc
-
-both : (a b : Bool) → a ≡ true → b ≡ true → (a && b) ≡ true
-both a b h k = λ i. h i && k i
-
-first_test : (a b : Bool) → (a && b) ≡ true → a ≡ true
-first_test true b h = refl
-first_test false b h = cc
-
-second_test : (a b : Bool) → (a && b) ≡ true → b ≡ true
-second_test true b h = h
-second_test false b h = cc
-
--- ---- targets
-
-part_known : (w : World) (c : ℕ) (ty : List ℕ) (t : Target) → part_fault w c ty t ≡ None → has_points (length w.sites.switches) t ≡ true
-part_known w c ty (Method m) none = refl
-part_known w c ty (Guard p first fallback) none =
-    let n = length w.sites.switches in
-    let one = first_none (then_some (nat_le n p) UnknownSwitch) (part_fault w c ty first ∷ part_fault w c ty fallback ∷ []) none in
-    let two = first_none (part_fault w c ty first) (part_fault w c ty fallback ∷ []) one.1 in
-    let three = first_none (part_fault w c ty fallback) [] two.1 in
-    both (nat_lt p n) (has_points n first && has_points n fallback) (lt-ltb p n (leb-false n p (test_none (nat_le n p) UnknownSwitch one.0)))
-    (both (has_points n first) (has_points n fallback) (part_known w c ty first two.0) (part_known w c ty fallback three.0))
-
-target_known : (w : World) (c : ℕ) (ty : List ℕ) (t : Target) → target_fault w c ty t ≡ None → has_points (length w.sites.switches) t ≡ true
-target_known w c ty t none =
-    let one = first_none (then_some (nat_lt 64 (depth t) || nat_lt 255 (parts t)) TooDeep) (part_fault w c ty t ∷ []) none in
-    let two = first_none (part_fault w c ty t) [] one.1 in
-    part_known w c ty t two.0
 
 -- ---- one event
 
@@ -97,15 +65,6 @@ module _ (max_sites : ℕ) (w : World) (order : IsInOrder w) where
             object = first_with_record w.classes order.classes.object to loader name c is;
           }
 
-  of_target : (c : ℕ) (t : Target) → IsOk (verdict max_sites w (event.SetTarget c t)) → (o : Option CallSiteRow)
-      → set_target_fault w c o t ≡ None → has_points (length w.sites.switches) t ≡ true
-  of_target c t accepted None none = cc
-  of_target c t accepted (Some site) none = by_kind (is_constant site.kind) none
-    where
-      by_kind : (b : Bool) → (if b then Some Constant else target_fault w c site.ty t) ≡ None → has_points (length w.sites.switches) t ≡ true
-      by_kind true e = cc
-      by_kind false e = target_known w c site.ty t e
-
   in_order_after : (e : Event) → IsOk (verdict max_sites w e) → has_read_file e ≡ true → IsInOrder (step w e)
   in_order_after event.NewLoader accepted read = record {
     classes = record {
@@ -118,21 +77,17 @@ module _ (max_sites : ℕ) (w : World) (order : IsInOrder w) where
   in_order_after (event.Define loader file) accepted read = record { classes = of_define loader file accepted read; points = order.points }
   in_order_after (event.Delegate loader name to) accepted read = record { classes = of_delegate loader name to; points = order.points }
   in_order_after (event.Request place) accepted read = record { classes = order.classes; points = order.points }
-  in_order_after (event.NewCallSite kind ty t) accepted read =
-      let none = no_fault CallSite (new_call_site_fault w ty t) _ accepted in
-      let one = first_none (then_some (nat_le most_of_a_kind (length w.sites.call_sites)) Full) (target_fault w (length w.sites.call_sites) ty t ∷ []) none in
-      let two = first_none (target_fault w (length w.sites.call_sites) ty t) [] one.1 in
-      record {
-        classes = order.classes;
-        points =
-            one_more_known (length w.sites.switches) w.sites.call_sites (record { kind = kind; ty = ty; target = t }) order.points
-            (target_known w (length w.sites.call_sites) ty t two.0);
-      }
+  in_order_after (event.NewCallSite kind ty t) accepted read = record {
+    classes = order.classes;
+    points =
+        one_more_known (length w.sites.switches) w.sites.call_sites (record { kind = kind; ty = ty; target = t }) order.points
+        (site_points w ty t (no_fault CallSite (new_call_site_fault w ty t) _ accepted));
+  }
   in_order_after (event.SetTarget c t) accepted read = record {
     classes = order.classes;
     points =
         retargeted_known (length w.sites.switches) w.sites.call_sites c t order.points
-        (of_target c t accepted (slice_get w.sites.call_sites c) (no_fault CallSite (set_target_fault w c (slice_get w.sites.call_sites c) t) _ accepted));
+        (target_points w c t (slice_get w.sites.call_sites c) (no_fault CallSite (set_target_fault w c (slice_get w.sites.call_sites c) t) _ accepted));
   }
   in_order_after event.NewSwitch accepted read = record { classes = order.classes; points = one_switch_more w.sites order.points }
   in_order_after (event.Invalidate points) accepted read = record {
@@ -166,12 +121,8 @@ at_first = record {
 pub accepted_in_order : (max_sites : ℕ) (h : List Event) → AreAccepted max_sites h → IsInOrder (world_after h)
 accepted_in_order max_sites h all = from max_sites h nothing_yet at_first all.each all.files
 
-last_step : (h : List Event) (e : Event) (w : World) → fold step w (h ++ e ∷ []) ≡ step (fold step w h) e
-last_step [] e w = refl
-last_step (first ∷ h) e w = last_step h e (step w first)
-
 pub settled_stays : (max_sites : ℕ) (h : List Event) (e : Event) (s : ℕ) (l : Link) → AreAccepted max_sites h → Settled h s l
     → touches (world_after h) e s ≡ false → SiteStays (world_after h) (world_after (h ++ e ∷ [])) s l
 settled_stays max_sites h e s l all settled none =
-    subst (λ (w : World). SiteStays (world_after h) w s l) (sym (last_step h e nothing_yet))
+    subst (λ (w : World). SiteStays (world_after h) w s l) (sym (world_more h e))
     (untouched_stays (world_after h) (accepted_in_order max_sites h all) e s l none (settled_now h s l settled))

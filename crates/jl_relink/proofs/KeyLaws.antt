@@ -1,6 +1,5 @@
 -- An event that changes nothing of what a site's link rests on leaves the link, and what it rests on.
 use Rattle.std.specs.Prelude.{◌≡◌, ◌≢◌, ℕ, ◌<◌, ◌==◌, ◌&&◌, ◌||◌, Bool, true, false, cond, List, [], ◌∷◌, ◌++◌, length, map, slice_get, Option, Some, None, option_map, Ok, if◌then◌else◌}
-use Rattle.std.specs.Option.{option_map_or}
 use Rattle.std.proofs.Common.{refl, ap, sym, ◌∙◌}
 use Rattle.std.proofs.lemmas.Bool.{or_left, both_ways}
 use Rattle.std.proofs.lemmas.Bool.Decides.{Decides-eqb}
@@ -15,18 +14,17 @@ use Rattle.jl_types.specs.declared.link.Link.{Link}
 use Rattle.jl_types.specs.World.{Classes, CallSite, Sites, World}
 use Rattle.jl_types.specs.Members.{lookup, is_concrete}
 use Rattle.jl_types.specs.Ancestry.{ancestors, is_ancestor, receivers}
-use Rattle.jl_types.specs.Definitions.{with_record, defined, delegated}
+use Rattle.jl_types.specs.Definitions.{defined}
 use Rattle.jl_types.specs.Targets.{evaluated}
 use Rattle.jl_types.specs.Links.{scratch}
 use Rattle.jl_types.specs.Events.{step}
 use Rattle.jl_types.proofs.Bools.{any-map}
 use Rattle.jl_types.proofs.Grown.{among_ancestors, receivers_after}
 use Rattle.jl_types.proofs.Orders.{IsGood, defined_good}
-use Rattle.jl_hierarchy.specs.Constancy.{Stays}
-use Rattle.jl_hierarchy.proofs.Constancy.{stays_defined, stays_with_record, stays_with_loader}
 use Rattle.jl_hierarchy.proofs.Objects.{is_there}
 use Rattle.jl_resolve.specs.Constancy.{RecordsObject}
 use Rattle.jl_resolve.proofs.Constancy.{settled_stays}
+use Rattle.jl_resolve.proofs.Later.{step_stays}
 use Rattle.jl_select.specs.Constancy.{IsConstant}
 use Rattle.jl_select.proofs.Constancy.{selected_stays, outcomes_stay}
 use Rattle.jl_callsites.specs.Runs.{method_of}
@@ -39,28 +37,6 @@ use Rattle.jl_relink.proofs.Paths.{RunsOn, site_runs_on, target_runs_on, switch_
 use Rattle.jl_relink.proofs.Untouched.{IsLater, apart, site_keeps}
 
 -- ---- classes
-
-stays_itself : (cs : Classes) → Stays cs cs
-stays_itself cs = record { rows = λ c row e. e; records = λ l name c h. h; ancestors = λ c lt. refl; hosts = λ c host h. h }
-
-delegated_stays : (cs : Classes) → IsGood cs → (loader : ℕ) (name : List ℕ) (to : ℕ) → Stays cs (delegated cs loader name to)
-delegated_stays cs good loader name to = by_found (lookup cs to name)
-  where
-    by_found : (o : Option ℕ) → Stays cs (record cs { loaders = option_map_or (with_record cs.loaders loader name) o cs.loaders })
-    by_found None = stays_itself cs
-    by_found (Some c) = stays_with_record cs good loader name c
-
-pub step_stays : (w : World) → IsGood w.classes → (e : Event) → Stays w.classes (step w e).classes
-step_stays w good event.NewLoader = stays_with_loader w.classes good
-step_stays w good (event.Define loader file) = stays_defined w.classes good loader file
-step_stays w good (event.Delegate loader name to) = delegated_stays w.classes good loader name to
-step_stays w good (event.Request place) = stays_itself w.classes
-step_stays w good (event.NewCallSite kind ty t) = stays_itself w.classes
-step_stays w good (event.SetTarget c t) = stays_itself w.classes
-step_stays w good event.NewSwitch = stays_itself w.classes
-step_stays w good (event.Invalidate points) = stays_itself w.classes
-step_stays w good (event.Bind s c) = stays_itself w.classes
-step_stays w good (event.Install rows) = stays_itself w.classes
 
 module _ (w : World) (order : IsInOrder w) where
   pub good : IsGood w.classes

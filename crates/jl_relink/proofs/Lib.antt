@@ -12,3 +12,5 @@ pub mod OneReceiver
 pub mod Costs
 pub mod CountLaws
 pub mod Crossing
+pub mod Rows
+pub mod WideLaws

@@ -31,7 +31,8 @@ use Rattle.jl_types.specs.declared.key.Key.TheVariants as key
 use Rattle.jl_types.specs.Footprints.{same_key, has_key, meets, of_selector, of_stage, of_class, footprint, touches, stays_with}
 use Rattle.jl_relink.specs.Laws.{IsInOrder, OneMore}
 use Rattle.jl_relink.proofs.Untouched.{same_key_is, IsLater, AreThere, SiteKeeps, map_same, site_stays, outcome_same, receivers_there}
-use Rattle.jl_relink.proofs.KeyLaws.{step_stays, good, constant}
+use Rattle.jl_resolve.proofs.Later.{step_stays}
+use Rattle.jl_relink.proofs.KeyLaws.{good, constant}
 
 -- ---- links of rows
 

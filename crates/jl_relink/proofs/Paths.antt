@@ -15,7 +15,7 @@ use Rattle.jl_types.specs.Target.{Target, Method, Guard}
 use Rattle.jl_types.specs.World.{CallSite, Sites}
 use Rattle.jl_types.specs.Targets.{is_valid, evaluated}
 use Rattle.jl_types.specs.Events.{invalidated}
-use Rattle.jl_types.proofs.Bools.{any-filter, any-filter-at, any-range-from}
+use Rattle.jl_types.proofs.Bools.{any-filter, any-filter-at, any-range-from, first_test, second_test}
 use Rattle.jl_types.proofs.Lists.{before_end, range_end}
 use Rattle.jl_callsites.specs.Faults.{with_site, with_target, with_switch, with_invalid}
 use Rattle.jl_callsites.specs.Runs.{method_of}
@@ -23,16 +23,6 @@ use Rattle.jl_callsites.specs.Known.{has_points, have_points, are_known}
 use Rattle.jl_types.specs.declared.key.Key.{Key}
 use Rattle.jl_types.specs.declared.key.Key.TheVariants as key
 use Rattle.jl_types.specs.Footprints.{has_key, path, among, points_of, of_call_site, still_valid}
-
--- ---- tests
-
-first_test : (a b : Bool) → (a && b) ≡ true → a ≡ true
-first_test true b h = refl
-first_test false b h = cc
-
-second_test : (a b : Bool) → (a && b) ≡ true → b ≡ true
-second_test true b h = h
-second_test false b h = cc
 
 -- ---- one target
 

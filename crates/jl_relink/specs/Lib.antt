@@ -6,3 +6,5 @@ pub mod Rows
 pub mod Stages
 pub mod Counts
 pub mod Receivers
+pub mod Holding
+pub mod Wide

@@ -1,8 +1,8 @@
 -- What is told of a site's link by one receiver.
-use Rattle.std.specs.Prelude.{◌≡◌, ◌≢◌, ℕ, Bool, Option, Some, None}
+use Rattle.std.specs.Prelude.{◌≡◌, ◌≢◌, ◌<◌, ℕ, Bool, length, Option, Some, None}
 use Rattle.jl_types.specs.declared.ids.MethodId.{MethodId}
 use Rattle.jl_types.specs.declared.link.Link.{Link}
-use Rattle.jl_types.specs.World.{World}
+use Rattle.jl_types.specs.World.{World, Classes}
 use Rattle.jl_types.specs.Sites.{Stage, Invocation, BySpecial, Selects, stage}
 use Rattle.jl_types.specs.Links.{outcome, runs}
 use Rattle.jl_types.specs.Footprints.{stays_with}
@@ -10,9 +10,9 @@ use Rattle.jl_relink.specs.declared.selection.Selection.{Selection}
 use Rattle.jl_relink.specs.Stages.{IsKept}
 
 -- what is kept of an invocation that selects by its receiver and isn't an invokespecial
-abbrev pub IsSelection : Stage → Option Selection → Type 0
-IsSelection stage None = (i : Invocation) → stage ≡ Selects i → i.selector ≡ BySpecial
-IsSelection stage (Some s) = (i : Invocation) → stage ≡ Selects i → IsKept s i
+abbrev pub IsSelection : Classes → Stage → Option Selection → Type 0
+IsSelection cs stage None = (i : Invocation) → stage ≡ Selects i → i.selector ≡ BySpecial
+IsSelection cs stage (Some s) = (i : Invocation) × (stage ≡ Selects i) × IsKept s i × (s.named < length cs.rows)
 
 -- the answer is whether the link stays once there is this receiver more, where the site selects by its receiver
 abbrev pub TellsStay : World → ℕ → Link → ℕ → Bool → Type 0

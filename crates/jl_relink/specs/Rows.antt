@@ -44,6 +44,11 @@ run_on common (row ∷ rows) = option_and_then (λ m. run_on (Some m) rows) (joi
 
 -- ---- links
 
+-- the link of an invocation whose receivers decide it, by what they come to
+abbrev pub link_by_rows : TableKind → List (ℕ × Outcome) → Link
+link_by_rows Virtual rows = virtual_link rows
+link_by_rows Interface rows = table_or_mega Interface rows
+
 abbrev pub virtual_link_of : Classes → Selection → Link
 virtual_link_of cs s =
     if is_private cs s.method then Direct (outcome_of cs s s.named) else virtual_link (rows_of cs s (receivers cs s.named))

@@ -1,5 +1,5 @@
 //! The link of a site from scratch, the answer to a call (JVMS SE 17 §6.5; Hölzle, Chambers and Ungar 1991), and links that
-//! are looked up apart from the events and installed later.
+//! are looked up apart from the events, in one thread or in several, and installed later.
 //!
 //! The contract of each is its definition in jl_types (`specs/Links`, `Calls`, `Batches` and `Preparation`);
 //! `specs/Preparations` says what a preparation is answered, and `specs/Laws` that an event changes no link. The other
@@ -8,10 +8,13 @@
 
 mod answer;
 mod batch;
+mod by_rows;
 mod fill;
 mod laws;
 mod link;
 mod located;
+mod pairs;
+mod plan;
 mod preparation;
 mod receiver;
 mod receivers;
@@ -19,6 +22,8 @@ mod scratch;
 mod selection;
 mod snapshot;
 mod stage;
+mod together;
+mod wide;
 mod world;
 
 pub use answer::dispatch;
@@ -32,4 +37,5 @@ pub use preparation::{Prepared, prepare, prepare_in};
 pub use receiver::stays_with_receiver;
 pub use scratch::{link_counted, link_of};
 pub use snapshot::Snapshot;
+pub use wide::{Probe, prepare_wide, prepare_wide_seen};
 pub use world::World;

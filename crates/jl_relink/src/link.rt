@@ -7,13 +7,11 @@ ghost use Rattle.jl_types.specs.declared.link.TableKind.TheVariants.{Interface};
 ghost use Rattle.jl_relink.specs.Counts.{most_of};
 ghost use Rattle.jl_relink.specs.Rows.{rows_of, selected_link};
 
-use crate::receivers::{common_of, common_run, table_of};
+use crate::by_rows::{MOST_RECEIVERS, virtual_by_rows};
+use crate::receivers::{common_run, table_of};
 use crate::selection::{Selection, outcome_counted};
 use jl_hierarchy::Classes;
 use jl_types::{ClassId, Link, Outcome, TableKind, Work};
-
-/// The most receivers of a table (Hölzle, Chambers and Ungar 1991).
-const MOST_RECEIVERS: usize = 8;
 
 /// The link of the invocation: Direct where an invokevirtual's method is private or its receivers run one same method, else
 /// a table of up to eight receivers, else Mega. It takes one tick at most for each receiver that it looks at, and one where it
@@ -64,10 +62,7 @@ fn virtual_link(
         };
     }
     let table = table_of(classes, selection, receivers, work);
-    match common_of(table.as_slice()) {
-        Some(method) => Link::Direct(Outcome::Run(method)),
-        None => Link::Table(TableKind::Virtual, table),
-    }
+    virtual_by_rows(table.as_slice())
 }
 
 /// The link of an invokeinterface whose receivers these are: each is walked once at most.
@@ -92,7 +87,7 @@ fn interface_link(
 }
 
 /// The receivers of the class.
-fn receivers_of(classes: &Classes, class: ClassId) -> &[ClassId]
+pub(crate) fn receivers_of(classes: &Classes, class: ClassId) -> &[ClassId]
     requires { class < length classes.now.rows }
     ensures receivers { result.now ≡ ancestry.receivers classes.now class }
     ensures there { All (λ x. x < length classes.now.rows) result.now }

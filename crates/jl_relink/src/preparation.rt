@@ -1,9 +1,10 @@
 //! Links that are looked up apart from the events, and installed later.
 
-ghost use Rattle.std.specs.Prelude.{◌≡◌, ◌+◌, ◌≤◌, ◌⊎◌, None, Some, Ok, length, IfOk, IfErr, OnOk};
+ghost use Rattle.std.specs.Prelude.{◌≡◌, ◌+◌, ◌≤◌, ◌⊎◌, [], None, Some, Ok, length, IfOk, IfErr, OnOk};
+ghost use Rattle.std.specs.Vec.{vec_len, vec_capacity};
 ghost use Rattle.jl_types.specs.Preparation as prepared;
 ghost use Rattle.jl_types.specs.Preparation.{link_fault};
-ghost use Rattle.jl_relink.specs.Preparations.{IsPreparation};
+ghost use Rattle.jl_relink.specs.Preparations.{IsPreparation, IsFault};
 ghost use Rattle.jl_types.specs.Links.{scratch};
 
 use crate::batch::{is_bad_size, sites_fault};
@@ -23,6 +24,7 @@ pub struct Prepared {
 }
 
 /// Looks up the links of these sites from scratch, in the world of the snapshot. Nothing is installed.
+/// [`prepare_wide`](crate::prepare_wide) says where it is faster.
 ///
 /// # Errors
 ///
@@ -52,20 +54,35 @@ pub fn prepare_in(
 ) -> Result<Prepared, PrepareFault>
     ensures { IsPreparation (record { world = world.now; serial = serial }) sites.now result }
 {
+    let mut rows = room_for(alloc, world, sites)?;
+    fill(sites, &mut rows, |site| row(world, *site))?;
+    Ok(Prepared {
+        serial,
+        rows: Seq::of(rows),
+    })
+}
+
+/// An empty list with room for something of each site, where the batch has the right size and its sites are requested, each once.
+pub(crate) fn room_for<T: Drop>(
+    alloc: Global,
+    world: &World,
+    sites: &[SiteNo],
+) -> Result<Vec<T>, PrepareFault>
+    ensures checked { OnOk result (prepared.prepare_fault world.now sites.now ≡ prepared.ready_fault world.now sites.now) }
+    ensures empty { IfOk result (λ made. made.items ≡ []) }
+    ensures room { IfOk result (λ made. vec_len made + length sites.now ≤ vec_capacity made) }
+    ensures fault { IfErr result (λ f. IsFault world.now sites.now f) }
+{
     if is_bad_size(sites.len()) {
         return Err(PrepareFault::BatchSize);
     }
     if let Some(fault) = sites_fault(world, sites) {
         return Err(PrepareFault::from(fault));
     }
-    let Ok(mut rows) = Vec::with_capacity(alloc, sites.len()) else {
-        return Err(ready_fault(world, sites).unwrap_or(PrepareFault::Memory));
-    };
-    fill(sites, &mut rows, |site| row(world, *site))?;
-    Ok(Prepared {
-        serial,
-        rows: Seq::of(rows),
-    })
+    match Vec::with_capacity(alloc, sites.len()) {
+        Ok(made) => Ok(made),
+        Err(_) => Err(ready_fault(world, sites).unwrap_or(PrepareFault::Memory)),
+    }
 }
 
 /// The fault of the first site that has no link from scratch.

@@ -74,8 +74,8 @@ fn runs(outcome: Outcome, method: &MethodId) -> bool
 }
 
 /// The invokevirtual or invokeinterface of the site that selects by its receiver. Takes no memory.
-fn selection_at(world: &World, site: SiteNo) -> Option<Selection>
-    ensures { IsSelection (stage world.now site) result }
+pub(crate) fn selection_at(world: &World, site: SiteNo) -> Option<Selection>
+    ensures { IsSelection world.now.classes (stage world.now site) result }
 {
     match locate(world, site) {
         Ok(found) => selection_of(world, site, &found),
@@ -85,7 +85,7 @@ fn selection_at(world: &World, site: SiteNo) -> Option<Selection>
 
 /// The same of an invocation.
 fn selection_of(world: &World, site: SiteNo, found: &Located<'_>) -> Option<Selection>
-    ensures { IsSelection
+    ensures { IsSelection world.now.classes
         (sites.by_operand world.now site found.now.caller found.now.invocation.kind found.now.invocation.operand) result }
 {
     match found.invocation.operand() {
@@ -106,7 +106,7 @@ fn selection_of_reference(
     caller: ClassId,
     reference: &Reference<LentName<'_>>,
 ) -> Option<Selection>
-    ensures { IsSelection (sites.by_resolution classes.now kind caller reference.now
+    ensures { IsSelection classes.now (sites.by_resolution classes.now kind caller reference.now
         (resolution.resolved classes.now caller reference.now)) result }
 {
     match stage_of_reference(classes, kind, caller, reference) {

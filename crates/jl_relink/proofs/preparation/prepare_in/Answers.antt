@@ -1,13 +1,11 @@
-use Rattle.std.specs.Prelude.{◌≡◌, ℕ, [], take, Some, Ok}
-use Rattle.std.proofs.Common.{rules, of_calls, refl, sym, ap, subst, ◌∙◌, inl}
+use Rattle.std.specs.Prelude.{◌≡◌, ℕ, take, Some, Ok}
+use Rattle.std.proofs.Common.{rules, of_calls, refl, sym, subst, ◌∙◌, inl}
 use Rattle.std.proofs.lemmas.Result.{err_from_is_err_and}
 use Rattle.jl_types.specs.declared.link.Link.{Link}
 use Rattle.jl_types.specs.Links.{scratch}
-use Rattle.std.proofs.lemmas.List.{map-id}
-use Rattle.jl_types.specs.Batches.{sites_fault}
 use Rattle.jl_types.specs.Preparation.{link_fault, ArePrepared}
-use Rattle.jl_relink.proofs.BatchLaws.{all_ready, first_unready, size_and_sites, zip_each}
-use Rattle.jl_relink.proofs.preparation.prepare_in.Goals.{After-of, After-drop-rows}
+use Rattle.jl_relink.proofs.BatchLaws.{all_ready, first_unready, zip_each}
+use Rattle.jl_relink.proofs.preparation.prepare_in.Goals.{After-of}
 use Rattle.jl_relink.proofs.preparation.prepare_in.Goals as goal
 
 rows_are : (c : After-of) → ArePrepared c.args.world.now c.args.sites.now c.of.result
@@ -18,17 +16,14 @@ rows_are c =
 
 pub returns : goal.returns
 returns c = record {
-  accepted =
-      size_and_sites c.args.world.now c.args.sites.now (sym c.is_bad_size.ensures ∙ c.if-is_bad_size.false)
-      (sym (c.sites_fault.ensures ∙ ap (sites_fault c.args.world.now []) (map-id c.args.sites.now)) ∙ c.in_default.is)
-      ∙ all_ready c.args.world.now c.args.sites.now c.of.result (rows_are c);
+  accepted = c.in_ok-rows.ensures.checked ∙ all_ready c.args.world.now c.args.sites.now c.of.result (rows_are c);
   rows = rows_are c;
   serial = refl;
 }
 
 pub returns-in_err-fill : goal.returns-in_err-fill
 returns-in_err-fill c =
-    let p = err_from_is_err_and c.from_residual.result c.from_residual.ensures.1 in
+    let p = err_from_is_err_and c.from_residual-in_err-fill.result c.from_residual-in_err-fill.ensures.1 in
     let sites = c.args.sites.now in
     let first = c.in_err-fill.ensures.first in
     let made : ArePrepared c.args.world.now (take first.count sites) first.made =
@@ -40,6 +35,5 @@ returns-in_err-fill c =
     in
     rw (p.1, p.2)
     (inl
-    (size_and_sites c.args.world.now sites (sym c.is_bad_size.ensures ∙ c.if-is_bad_size.false)
-    (sym (c.sites_fault.ensures ∙ ap (sites_fault c.args.world.now []) (map-id c.args.sites.now)) ∙ c.in_default.is)
+    (c.in_ok-rows.ensures.checked
     ∙ first_unready c.args.world.now sites first.count first.item first.made c.in_err-fill.field-0.0 made first.next unready))

@@ -1,0 +1,17 @@
+use Rattle.std.proofs.Common.{ap, sym, ◌∙◌}
+use Rattle.jl_types.specs.World.{World}
+use Rattle.jl_types.specs.Sites.{stage}
+use Rattle.jl_types.specs.Links.{runs}
+use Rattle.jl_relink.specs.Rows.{outcome_of}
+use Rattle.jl_relink.proofs.StageLaws.{selects_outcome}
+use Rattle.jl_relink.proofs.receiver.runs_at.Goals as goal
+
+pub returns-in-Some-clause-runs : goal.returns-in-Some-clause-runs
+returns-in-Some-clause-runs c = λ i is other.
+    let w = c.args.world.now in
+    let selection = c.in-Some.selection in
+    c.runs.ensures
+    ∙ ap (runs c.args.method.now)
+    (c.outcome_counted.ensures.outcome
+    ∙ ap (λ (w : World). outcome_of w.classes selection c.args.receiver) c.world.view_is
+    ∙ sym (selects_outcome w.classes (stage w c.args.site) selection c.args.receiver c.in-Some.ensures i is))

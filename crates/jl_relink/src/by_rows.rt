@@ -1,0 +1,53 @@
+//! The link of an invocation by what its receivers come to.
+
+ghost use Rattle.std.specs.Prelude.{◌≡◌, ◌≤◌, length};
+ghost use Rattle.jl_types.specs.Links.{virtual_link, table_or_mega};
+ghost use Rattle.jl_relink.specs.Rows.{link_by_rows};
+
+use crate::receivers::common_of;
+use jl_types::{ClassId, Link, Outcome, Table, TableKind};
+
+/// The most receivers of a table (Hölzle, Chambers and Ungar 1991).
+pub(crate) const MOST_RECEIVERS: usize = 8;
+
+/// The link of an invocation whose receivers come to this. Nothing is walked.
+pub(crate) fn link_by_rows(kind: TableKind, rows: &[(ClassId, Outcome)]) -> Link
+    ensures { result ≡ link_by_rows kind rows.now }
+{
+    match kind {
+        TableKind::Virtual => virtual_by_rows(rows),
+        TableKind::Interface => table_or_mega(TableKind::Interface, rows),
+    }
+}
+
+/// The same of an invokevirtual.
+pub(crate) fn virtual_by_rows(rows: &[(ClassId, Outcome)]) -> Link
+    ensures { result ≡ virtual_link rows.now }
+{
+    match common_of(rows) {
+        Some(method) => Link::Direct(Outcome::Run(method)),
+        None => table_or_mega(TableKind::Virtual, rows),
+    }
+}
+
+/// A table of these, or Mega where they are more than eight.
+fn table_or_mega(kind: TableKind, rows: &[(ClassId, Outcome)]) -> Link
+    ensures { result ≡ table_or_mega kind rows.now }
+{
+    if rows.len() > MOST_RECEIVERS {
+        return Link::Mega;
+    }
+    Link::Table(kind, table_of_rows(rows))
+}
+
+/// These as a table.
+fn table_of_rows(rows: &[(ClassId, Outcome)]) -> Table
+    requires { length rows.now ≤ 8 }
+    ensures { result ≡ rows.now }
+{
+    let mut table = Table::new();
+    for row in rows {
+        table.push(row.0, row.1);
+    }
+    table
+}

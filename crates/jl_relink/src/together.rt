@@ -1,0 +1,49 @@
+//! A batch's rows, put together from what their receivers came to.
+
+ghost use Rattle.std.specs.Prelude.{◌≡◌, map, length, All, IfOk};
+ghost use Rattle.jl_relink.specs.Wide as plans;
+
+use crate::by_rows::link_by_rows;
+use crate::pairs::pair_count;
+use crate::plan::Planned;
+use jl_hierarchy::Classes;
+use jl_types::{ClassId, Link, Outcome, SiteNo};
+use std::alloc::{AllocError, Global};
+
+/// The rows of the plan with their links, from what the pairs came to.
+pub(crate) fn put_together(
+    alloc: Global,
+    classes: &Classes,
+    plan: &[(SiteNo, Planned)],
+    looked: &[(ClassId, Outcome)],
+) -> Result<Vec<(SiteNo, Link)>, AllocError>
+    requires there { All (λ row. plans.IsThere classes.now row.1) plan.now }
+    requires looked { looked.now ≡ map (plans.looked_up classes.now) (plans.pairs_of classes.now plan.now) }
+    ensures { IfOk result (λ rows. rows.items ≡ map (plans.row_of_plan classes.now) plan.now) }
+{
+    let mut rows = Vec::with_capacity(alloc, plan.len())?;
+    let mut rest = looked;
+    for row in plan {
+        let (mine, later) = rest.split_at(pair_count(classes, row));
+        rows.push(row_with(row, mine))?;
+        rest = later;
+    }
+    Ok(rows)
+}
+
+/// The row with its link, by what its pairs came to.
+fn row_with(row: &(SiteNo, Planned), looked: &[(ClassId, Outcome)]) -> (SiteNo, Link)
+    ensures { result ≡ (row.now.0, plans.link_with row.now.1 looked.now) }
+{
+    (row.0, link_with(&row.1, looked))
+}
+
+/// The row's link by what its pairs came to.
+fn link_with(planned: &Planned, looked: &[(ClassId, Outcome)]) -> Link
+    ensures { result ≡ plans.link_with planned.now looked.now }
+{
+    match planned {
+        Planned::Known(link) => *link,
+        Planned::Depends(selection) => link_by_rows(selection.kind, looked),
+    }
+}

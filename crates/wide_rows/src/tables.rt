@@ -1,0 +1,229 @@
+//! What several threads prepare is what one does.
+
+use crate::worlds::{SITES, Shape, WITHOUT_LINK, sites, snapshot};
+use jl_relink::{Prepared, Probe, Snapshot, prepare, prepare_wide, prepare_wide_seen};
+use jl_types::{Link, Outcome, PrepareFault, SiteNo, TableKind};
+use std::alloc::Global;
+use std::sync::atomic::{AtomicU64, Ordering};
+use std::test::Fail;
+use std::thread::Threads;
+
+/// The shape of a world, its receivers, the link of its sites, and how many pairs are looked at.
+type Row = (Shape, u32, Kind, u64);
+
+/// What kind of link each site has.
+#[derive(Clone, Copy, PartialEq)]
+enum Kind {
+    Direct,
+    Virtual,
+    Interface,
+    Mega,
+    Other,
+}
+
+const ROWS: &[Row] = &[
+    (Shape::Flat, 64, Kind::Direct, 16_384),
+    (Shape::Chain, 64, Kind::Direct, 16_384),
+    (Shape::Own, 64, Kind::Mega, 16_384),
+    (Shape::Own, 8, Kind::Virtual, 2_048),
+    (Shape::Own, 9, Kind::Mega, 2_304),
+    (Shape::Implementers, 8, Kind::Interface, 2_048),
+    (Shape::Implementers, 9, Kind::Mega, 0),
+    (Shape::Implementers, 64, Kind::Mega, 0),
+];
+
+/// Counts the pairs.
+#[derive(Drop)]
+struct Count {
+    pairs: AtomicU64,
+}
+
+impl Probe for Count {
+    fn at(&self, _place: usize) {
+        self.pairs.fetch_add(1, Ordering::SeqCst);
+    }
+}
+
+/// The kind of a link.
+fn kind_of(link: &Link) -> Kind {
+    match link {
+        Link::Direct(Outcome::Run(_)) => Kind::Direct,
+        Link::Direct(Outcome::Throws(_)) => Kind::Other,
+        Link::Table(TableKind::Virtual, _) => Kind::Virtual,
+        Link::Table(TableKind::Interface, _) => Kind::Interface,
+        Link::Mega => Kind::Mega,
+        Link::Fault(_) => Kind::Other,
+        Link::Plain(_) => Kind::Other,
+    }
+}
+
+/// Whether each row has a link of this kind.
+fn all_are(prepared: &Prepared, kind: Kind) -> bool {
+    let mut all = prepared.rows.as_slice().len() == SITES as usize;
+    for row in prepared.rows.as_slice() {
+        all = all && kind_of(&row.1) == kind;
+    }
+    all
+}
+
+/// Whether both have the same rows, and the same number of events.
+fn are_same(a: &Prepared, b: &Prepared) -> bool {
+    let mut all = a.serial == b.serial && a.rows.as_slice().len() == b.rows.as_slice().len();
+    for (x, y) in a.rows.as_slice().iter().zip(b.rows.as_slice()) {
+        all = all && x == y;
+    }
+    all
+}
+
+/// Whether a preparation gives these rows.
+fn gives(prepared: Result<Prepared, PrepareFault>, alone: &Prepared) -> bool {
+    match prepared {
+        Ok(prepared) => are_same(&prepared, alone),
+        Err(_) => false,
+    }
+}
+
+/// Whether both forms give these rows, and look at so many pairs.
+fn both_give(
+    rt: &(impl Threads + Sync),
+    alloc: Global,
+    snapshot: &Snapshot,
+    sites: &[SiteNo],
+    alone: &Prepared,
+    pairs: u64,
+) -> bool {
+    let count = Count {
+        pairs: AtomicU64::new(0),
+    };
+    let seen = gives(prepare_wide_seen(rt, alloc, snapshot, sites, &count), alone);
+    let looked = count.pairs.load(Ordering::SeqCst) == pairs;
+    seen && looked && gives(prepare_wide(rt, alloc, snapshot, sites), alone)
+}
+
+/// The same of all sites of a snapshot, whose links are of this kind.
+fn is_of(
+    rt: &(impl Threads + Sync),
+    alloc: Global,
+    snapshot: &Snapshot,
+    sites: &[SiteNo],
+    row: &Row,
+) -> bool {
+    match prepare(alloc, snapshot, sites) {
+        Ok(alone) => {
+            all_are(&alone, row.2) && both_give(rt, alloc, snapshot, sites, &alone, row.3)
+        }
+        Err(_) => false,
+    }
+}
+
+/// The same in a snapshot.
+fn is_so_in(rt: &(impl Threads + Sync), alloc: Global, snapshot: &Snapshot, row: &Row) -> bool {
+    match sites(alloc, SITES) {
+        Ok(sites) => is_of(rt, alloc, snapshot, sites.as_slice(), row),
+        Err(_) => false,
+    }
+}
+
+/// Whether all forms give what the row says.
+fn is_so(rt: &(impl Threads + Sync), alloc: Global, row: &Row) -> bool {
+    match snapshot(alloc, row.0, row.1) {
+        Some(snapshot) => is_so_in(rt, alloc, &snapshot, row),
+        None => false,
+    }
+}
+
+#[test]
+fn gives_equal_rows(rt: HostRuntime) -> Result<(), Fail> {
+    for row in ROWS {
+        assert!(rt; is_so(&rt, rt.alloc(), row));
+    }
+    Ok(())
+}
+
+/// How many sites from 0 on, one site more, and what refuses them.
+const REFUSED: &[(u32, u32, Refused)] = &[
+    (256, 0, Refused::BatchSize),
+    (255, 3, Refused::Repeated),
+    (255, 300, Refused::UnknownSite),
+    (255, WITHOUT_LINK, Refused::NotReady),
+];
+
+/// A fault, without its site.
+#[derive(Clone, Copy)]
+enum Refused {
+    BatchSize,
+    Repeated,
+    UnknownSite,
+    NotReady,
+}
+
+/// The fault at the site.
+fn fault_at(refused: Refused, site: SiteNo) -> PrepareFault {
+    match refused {
+        Refused::BatchSize => PrepareFault::BatchSize,
+        Refused::Repeated => PrepareFault::Repeated(site),
+        Refused::UnknownSite => PrepareFault::UnknownSite(site),
+        Refused::NotReady => PrepareFault::NotReady(site),
+    }
+}
+
+/// Whether a preparation has this fault.
+fn fails(prepared: Result<Prepared, PrepareFault>, fault: &PrepareFault) -> bool {
+    prepared.err() == Some(*fault)
+}
+
+/// Whether all forms have this fault, and look at no pair.
+fn all_fail(
+    rt: &(impl Threads + Sync),
+    alloc: Global,
+    snapshot: &Snapshot,
+    sites: &[SiteNo],
+    fault: &PrepareFault,
+) -> bool {
+    let count = Count {
+        pairs: AtomicU64::new(0),
+    };
+    fails(prepare(alloc, snapshot, sites), fault)
+        && fails(prepare_wide(rt, alloc, snapshot, sites), fault)
+        && fails(prepare_wide_seen(rt, alloc, snapshot, sites, &count), fault)
+        && count.pairs.load(Ordering::SeqCst) == 0
+}
+
+/// Whether all forms refuse so many sites from 0 on, and this one more.
+fn is_refused(
+    rt: &(impl Threads + Sync),
+    alloc: Global,
+    snapshot: &Snapshot,
+    row: &(u32, u32, Refused),
+) -> bool {
+    let last = SiteNo::new(row.1);
+    match sites(alloc, row.0) {
+        Ok(mut sites) => {
+            sites.push(last).is_ok()
+                && all_fail(
+                    rt,
+                    alloc,
+                    snapshot,
+                    sites.as_slice(),
+                    &fault_at(row.2, last),
+                )
+        }
+        Err(_) => false,
+    }
+}
+
+/// Whether all forms refuse each row.
+fn all_are_refused(rt: &(impl Threads + Sync), alloc: Global) -> bool {
+    match snapshot(alloc, Shape::Flat, 2) {
+        Some(snapshot) => REFUSED
+            .iter()
+            .all(|row| is_refused(rt, alloc, &snapshot, row)),
+        None => false,
+    }
+}
+
+#[test]
+fn refuses_alike(rt: HostRuntime) -> Result<(), Fail> {
+    assert!(rt; all_are_refused(&rt, rt.alloc()));
+    Ok(())
+}
