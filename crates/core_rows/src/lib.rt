@@ -18,6 +18,8 @@ mod plans;
 #[cfg(test)]
 mod script;
 #[cfg(test)]
+mod snapshots;
+#[cfg(test)]
 mod steps;
 #[cfg(test)]
 mod work;

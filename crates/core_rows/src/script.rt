@@ -2,17 +2,21 @@
 
 use crate::draws::{Draws, Numbers, drawn};
 use crate::plain::{Plain, SITES};
+use crate::snapshots::are_same;
 use crate::steps::{Step, event, rows};
 use jl_core::{Accepted, Core, Entry};
 use jl_names::Seq;
-use jl_relink::{World, invocation_at};
+use jl_relink::{Snapshot, World, invocation_at};
 use jl_types::{ClassId, Event, Link, Place, Refusal, Reply, SiteNo};
 use std::alloc::{AllocError, Global};
 use std::mem;
+use std::ops::Range;
 use std::process::Abort;
 
-/// How many events are tried.
-const EVENTS: u32 = 2_000;
+/// How many events are tried before a snapshot is taken, and while it is kept.
+const BEFORE: u32 = 500;
+
+const BEHIND: u32 = 1_500;
 
 /// How many events of a kind were accepted, how many were refused, and how many links went with what.
 #[derive(Clone, Copy, Debug)]
@@ -355,17 +359,45 @@ fn assert_next(
     }
 }
 
-/// Asserts that both cores come to the same by each event.
+/// Asserts that both cores come to the same by each event of these numbers.
 fn assert_events(
     rt: &(impl Abort + AllocGlobal),
     core: &mut Core,
     plain: &mut Plain,
     script: &mut Script,
+    numbers: Range<u32>,
 ) -> Result<(), AllocError> {
-    for number in 0..EVENTS {
+    for number in numbers {
         assert_next(rt, core, plain, script, number)?;
     }
     Ok(())
+}
+
+/// Asserts the same, and that the snapshot is of the world of before then, which the core's isn't any more.
+fn assert_kept(
+    rt: &(impl Abort + AllocGlobal),
+    core: &mut Core,
+    plain: &mut Plain,
+    script: &mut Script,
+    snapshot: &Snapshot,
+) -> Result<(), AllocError> {
+    let before = snapshot.world().copy(rt.alloc())?;
+    assert_events(rt, core, plain, script, BEFORE..BEFORE + BEHIND)?;
+    assert!(rt; are_same(snapshot.world(), &before));
+    assert!(rt; !are_same(core.world(), &before));
+    Ok(())
+}
+
+/// Asserts that both cores come to the same by each event, and that a snapshot stays as it was.
+fn assert_all(
+    rt: &(impl Abort + AllocGlobal),
+    core: &mut Core,
+    plain: &mut Plain,
+    script: &mut Script,
+) -> Result<(), AllocError> {
+    assert_events(rt, core, plain, script, 0..BEFORE)?;
+    let snapshot = core.snapshot(rt.alloc())?;
+    assert_kept(rt, core, plain, script, &snapshot)
 }
 
 /// Asserts the same where no event was drawn before, and that the script did what it is for.
@@ -375,7 +407,7 @@ fn assert_script(
     plain: &mut Plain,
 ) -> Result<(), AllocError> {
     let mut script = Script::new(rt.alloc());
-    assert_events(rt, core, plain, &mut script)?;
+    assert_all(rt, core, plain, &mut script)?;
     let counts = script.counts;
     assert!(rt; counts.are_enough(), "{counts:?}");
     Ok(())

@@ -3,7 +3,6 @@ use denote.Param.Send.{IsSend, IsSync, sendable}
 use Rattle.std.proofs.Crossing.{crosses as of_std}
 use Rattle.jl_names.proofs.name.Name.TheSendSync as of_names
 use Rattle.jl_types.proofs.link.Link.TheSendSync as of_links
-use Rattle.jl_types.proofs.event.Reply.TheSendSync as of_replies
 use Rattle.jl_types.proofs.Crossing.{target_send, target_sync}
 use Rattle.jl_relink.proofs.Crossing.{world_send, world_sync}
 use Rattle.jl_cache.proofs.cache.Cache.TheSendSync as of_caches
@@ -14,16 +13,16 @@ use Rattle.jl_core.specs.contracts.machine.Core as Core
 use Rattle.jl_core.specs.contracts.plan.Planned as Planned
 
 pub entry_send : IsSend Entry.the_row
-entry_send = search (target_send, of_names.the_send, of_links.the_send, of_replies.the_send, sendable, of_std) depth 60 fits 100000
+entry_send = search (target_send, of_names.the_send, of_links.the_send, sendable, of_std) depth 60 fits 100000
 
 pub entry_sync : IsSync Entry.the_row
-entry_sync = search (target_sync, of_names.the_sync, of_links.the_sync, of_replies.the_sync, sendable, of_std) depth 60 fits 100000
+entry_sync = search (target_sync, of_names.the_sync, of_links.the_sync, sendable, of_std) depth 60 fits 100000
 
 instance_send : IsSend Instance.the_row
-instance_send = search (world_send, of_caches.the_send, of_indexes.the_send, entry_send, sendable, of_std) depth 20
+instance_send = search (world_send, world_sync, of_caches.the_send, of_indexes.the_send, entry_send, sendable, of_std) depth 20
 
 instance_sync : IsSync Instance.the_row
-instance_sync = search (world_sync, of_caches.the_sync, of_indexes.the_sync, entry_sync, sendable, of_std) depth 20
+instance_sync = search (world_send, world_sync, of_caches.the_sync, of_indexes.the_sync, entry_sync, sendable, of_std) depth 20
 
 pub core_send : IsSend Core.the_row
 core_send = search (instance_send, sendable) depth 12
@@ -32,9 +31,9 @@ pub core_sync : IsSync Core.the_row
 core_sync = search (instance_sync, sendable) depth 12
 
 pub planned_send : IsSend Planned.the_row
-planned_send = search (instance_send, of_links.the_send, of_replies.the_send, sendable, of_std) depth 40
+planned_send = search (instance_send, of_links.the_send, sendable, of_std) depth 40
 
 pub planned_sync : IsSync Planned.the_row
-planned_sync = search (instance_sync, of_links.the_sync, of_replies.the_sync, sendable, of_std) depth 40
+planned_sync = search (instance_sync, of_links.the_sync, sendable, of_std) depth 40
 
 pub ruleset crosses = (entry_send, entry_sync, core_send, core_sync, planned_send, planned_sync)

@@ -1,5 +1,6 @@
 -- An instance that is one event behind another one, and what it is once the event was replayed.
-use Rattle.std.specs.Prelude.{◌≡◌, ℕ, zero, suc, ◌+◌, ◌≤◌, ◌&&◌, Bool, true, false, List, [], ◌∷◌, ◌++◌, map, take, length, slice_get, Option, Some, None, option_map, is_some, IsOk, Ok}
+use Rattle.std.specs.Prelude.{◌≡◌, ℕ, zero, suc, ◌+◌, ◌≤◌, ◌&&◌, Bool, true, false, List, [], ◌∷◌, ◌++◌, map, take, length}
+use Rattle.std.specs.Prelude.{slice_get, Option, Some, None, option_map, is_some, IsOk, Ok}
 use Rattle.std.specs.List.{cons_option}
 use Rattle.std.proofs.Common.{refl, ap, sym, subst, ◌∙◌, arith}
 use Rattle.std.proofs.lemmas.List.{map-append}
@@ -46,7 +47,8 @@ told_at rows (one ∷ log) n entry all at =
     by_first zero (Some p) is some rest at = (p, ap (told rows) (sym (same_Some one entry at)) ∙ is, refl)
     by_first (suc n) (Some p) is some rest at = rest n at
 
-pub event_told : (e : Event) (reply : Reply) (o : Option Event) (r : Reply) → option_map {U = Event × Reply} (λ (x : Event). (x, r)) o ≡ Some (e, reply) → (o ≡ Some e) × (r ≡ reply)
+pub event_told : (e : Event) (reply : Reply) (o : Option Event) (r : Reply) → option_map {U = Event × Reply} (λ (x : Event). (x, r)) o ≡ Some (e, reply)
+    → (o ≡ Some e) × (r ≡ reply)
 event_told e reply None r is = absurd (cc is)
 event_told e reply (Some x) r is =
     let pair : (x, r) ≡ (e, reply) = same_Some (x, r) (e, reply) is in
@@ -96,8 +98,8 @@ pub record HasNext (core ahead : State) (e : Event) (reply : Reply) : Type 0 whe
   pub more : ahead.log ≡ core.log ++ (e, reply) ∷ []
   pub answered : history.reply core.max_sites (events core) e ≡ Ok reply
 
-pub has_next : (core ahead : State) (e : Event) (reply : Reply) → IsBehind core ahead → AreAnswered ahead → slice_get ahead.log (length core.log) ≡ Some (e, reply)
-    → HasNext core ahead e reply
+pub has_next : (core ahead : State) (e : Event) (reply : Reply) → IsBehind core ahead → AreAnswered ahead
+    → slice_get ahead.log (length core.log) ≡ Some (e, reply) → HasNext core ahead e reply
 has_next core ahead e reply behind answered at =
     let start : core.log ≡ take (length core.log) ahead.log = ap (λ (s : State). s.log) behind.0 in
     record {
@@ -158,7 +160,8 @@ module _ (m : ℕ) (old : World) (links : List (ℕ × Link)) (log : List Entry)
   -- ---- what it begins with to follow
 
   module _ (index further_index : List (ℕ × List Key)) (order : IsInOrder old) (rising : AreRising index) (indexed : IsIndex old (link_at links) index)
-      (linked : List (ℕ × Link)) (are_links : (s : ℕ) → link_at linked s ≡ installed (events further) s) (ahead_indexed : IsIndex ahead (link_at linked) further_index) where
+      (linked : List (ℕ × Link)) (are_links : (s : ℕ) → link_at linked s ≡ installed (events further) s)
+      (ahead_indexed : IsIndex ahead (link_at linked) further_index) where
     pub is_further : IsFurther old ahead entry.event links linked index further_index
     unfolding is_next
     is_further = record {

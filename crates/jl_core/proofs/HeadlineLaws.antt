@@ -106,8 +106,8 @@ none_answered m n e reply is = absurd (nothing n (e, reply) is)
     nothing : (n : ℕ) (x : Event × Reply) → slice_get [] n ≡ Some x → ⊥
     nothing n x e = cc
 
-pub log_answered : (m : ℕ) (es : List Event) (core : State) → AreApplied (empty_core m) es core → (n : ℕ) (e : Event) (reply : Reply) → slice_get core.log n ≡ Some (e, reply)
-    → history.reply m (take n (events core)) e ≡ Ok reply
+pub log_answered : (m : ℕ) (es : List Event) (core : State) → AreApplied (empty_core m) es core → (n : ℕ) (e : Event) (reply : Reply)
+    → slice_get core.log n ≡ Some (e, reply) → history.reply m (take n (events core)) e ≡ Ok reply
 log_answered m es core is n e reply at =
     let all = all_answered (empty_core m) es core (none_answered m) is in
     ap (λ k. history.reply k (take n (events core)) e) (sym all.1) ∙ all.0 n e reply at

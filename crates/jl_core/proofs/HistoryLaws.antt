@@ -112,7 +112,8 @@ module _ (m : ℕ) (old new : World) (before after : List (ℕ × Link)) (log mo
   }
 
 -- the same world, links and log
-pub exact_same : (m : ℕ) (w v : World) (links same : List (ℕ × Link)) (log more : List Entry) → v ≡ w → same ≡ links → more ≡ log → IsExact m w links log → IsExact m v same more
+pub exact_same : (m : ℕ) (w v : World) (links same : List (ℕ × Link)) (log more : List Entry) → v ≡ w → same ≡ links → more ≡ log
+    → IsExact m w links log → IsExact m v same more
 exact_same m w v links same log more e f g exact = subst (λ (x : World). IsExact m x same more) (sym e)
     (subst (λ (ls : List (ℕ × Link)). IsExact m w ls more) (sym f) (subst (IsExact m w links) (sym g) exact))
 

@@ -5,18 +5,12 @@ use Rattle.jl_types.specs.declared.link.Link.{Link}
 use Rattle.jl_types.specs.declared.answer.Unlinked.{Unlinked}
 use Rattle.jl_types.specs.Means.SameLink.{same_link, link_decides}
 use Rattle.jl_types.specs.History.{kept}
-
-same_itself : (l : Link) → same_link l l ≡ true
-same_itself l = (link_decides l l).1 refl
-
-pub kept_none : (r : Result Link Unlinked) → kept false None r ≡ None
-kept_none (Err reason) = refl
-kept_none (Ok now) = refl
+use Rattle.jl_types.proofs.Installed.{kept_none, kept_link}
 
 -- where the link is still the one from scratch, it stays
 pub kept_same : (before : Option Link) (r : Result Link Unlinked) → ((l : Link) → before ≡ Some l → r ≡ Ok l) → kept false before r ≡ before
 kept_same None r h = kept_none r
-kept_same (Some l) r h = ap (kept false (Some l)) (h l refl) ∙ ap (λ (b : Bool). if b then Some l else None) (same_itself l)
+kept_same (Some l) r h = ap (kept false (Some l)) (h l refl) ∙ kept_link l
 
 -- an installed link that is the one from scratch stays, whether it is installed again or not
 pub kept_once : (b : Bool) (before : Option Link) (r : Result Link Unlinked) (l : Link) → before ≡ Some l → r ≡ Ok l → kept b before r ≡ Some l
@@ -24,7 +18,7 @@ kept_once b before r l e f = (λ i. kept b (e i) (f i)) ∙ by_flag b
   where
     by_flag : (b : Bool) → kept b (Some l) (Ok l) ≡ Some l
     by_flag true = refl
-    by_flag false = ap (λ (d : Bool). if d then Some l else None) (same_itself l)
+    by_flag false = kept_link l
 
 pub kept_if : (l : Link) (r : Result Link Unlinked) → is_some (kept false (Some l) r) ≡ true → kept false (Some l) r ≡ Some l
 kept_if l (Err reason) e = cc

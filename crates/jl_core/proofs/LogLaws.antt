@@ -91,7 +91,8 @@ module _ (rows : List Class) (a : Accepted) (reply : Reply) (e : Event) (is : ev
   shown_more entries = filter_map-append (told rows) entries (newest ∷ []) ∙ (λ i. shown rows entries ++ cons_option (tells i) [])
 
 -- a definition names the class that it made
-pub defines : (cs : Classes) (loader : ℕ) (file : ClassFile) → event_of (defined cs loader file).rows (event.Define loader (length cs.rows)) ≡ Some (event.Define loader file)
+pub defines : (cs : Classes) (loader : ℕ) (file : ClassFile)
+    → event_of (defined cs loader file).rows (event.Define loader (length cs.rows)) ≡ Some (event.Define loader file)
 defines cs loader file = ap (option_map (λ (row : Class). event.Define loader row.file)) (at_end cs.rows (class_made cs loader file))
 
 -- ---- lengths
@@ -100,7 +101,7 @@ pub length_told : (rows : List Class) (entries : List Entry) → are_told rows e
 length_told rows [] e = refl
 length_told rows (entry ∷ entries) e = by_one (told rows entry) e (length_told rows entries)
   where
-    by_one : (o : Option (Event × Reply)) → (is_some o && are_told rows entries) ≡ true → (are_told rows entries ≡ true → length (shown rows entries) ≡ length entries)
-        → length (cons_option o (shown rows entries)) ≡ suc (length entries)
+    by_one : (o : Option (Event × Reply)) → (is_some o && are_told rows entries) ≡ true
+        → (are_told rows entries ≡ true → length (shown rows entries) ≡ length entries) → length (cons_option o (shown rows entries)) ≡ suc (length entries)
     by_one None k rest = cc
     by_one (Some x) k rest = ap suc (rest k)

@@ -78,7 +78,8 @@ module _ (old new : State) (past rows : List Class) (before after : List Entry)
   pub events_led : events new ≡ events old ++ e ∷ []
   events_led = ap events led.logged ∙ map-append (λ (p : Event × Reply). p.0) old.log ((e, reply) ∷ [])
 
-  pub slots_led : (entry : Entry) → slice_get after (length before) ≡ Some entry → (sites : List ℕ) → AreTouched (touched_by entry.event entry.reply.dropped) sites
+  pub slots_led : (entry : Entry) → slice_get after (length before) ≡ Some entry
+      → (sites : List ℕ) → AreTouched (touched_by entry.event entry.reply.dropped) sites
       → (links now : List (ℕ × Link)) → ((s : ℕ) → link_at links s ≡ installed (events old) s) → ((s : ℕ) → link_at now s ≡ installed (events new) s)
       → filter_map (slot_at links now) sites ≡ slots_changed (events old) e
   slots_led entry is sites are links now is_links is_now =

@@ -1,5 +1,6 @@
 -- What one event leaves at a site, by whether it drops or installs it.
-use Rattle.std.specs.Prelude.{◌≡◌, ℕ, zero, suc, ◌+◌, ◌<◌, ◌≤◌, ◌==◌, ◌&&◌, ◌||◌, ◌⊎◌, Bool, true, false, List, [], ◌∷◌, ◌++◌, filter_map, take, get_or, length, Option, Some, None, option_map, is_some, is_none, Result, if◌then◌else◌}
+use Rattle.std.specs.Prelude.{◌≡◌, ℕ, zero, suc, ◌+◌, ◌<◌, ◌≤◌, ◌==◌, ◌&&◌, ◌||◌, ◌⊎◌, Bool, true, false, List, [], ◌∷◌, ◌++◌, filter_map, take, get_or}
+use Rattle.std.specs.Prelude.{length, Option, Some, None, option_map, is_some, is_none, Result, if◌then◌else◌}
 use Rattle.std.specs.List.{AllByRecursion, range_with_len, cons_option}
 use Rattle.std.proofs.Common.{refl, ap, sym, subst, ◌∙◌, arith, inl, inr}
 use Rattle.std.proofs.lemmas.Bool.{both_ways, cases_order}
@@ -21,7 +22,8 @@ use Rattle.jl_types.proofs.Places.{places_grow}
 use Rattle.jl_hierarchy.specs.Kept.{Rises}
 use Rattle.jl_hierarchy.proofs.Rising.{none_up_to, other_number}
 use Rattle.jl_core.specs.Touched.{has, AreTouched}
-use Rattle.jl_core.proofs.KeptLaws.{kept_none, kept_if}
+use Rattle.jl_types.proofs.Installed.{kept_none}
+use Rattle.jl_core.proofs.KeptLaws.{kept_if}
 
 pub change_none : (o : Option Link) → change o o ≡ None
 change_none None = refl
@@ -54,7 +56,8 @@ module _ (h : List Event) (e : Event) (s : ℕ) where
           let lt = installed_requested h s one.0 one.1 in
           absurd (both_ways (has s (dropped h e)) f
           (any-filter-at goes (λ n. n == s) s (site_numbers h)
-          (any-range-from (λ n. n == s) 0 (length (world_after h).places) s (omega arith) (omega arith) ((Decides-eqb s s).1 refl)) k ((Decides-eqb s s).1 refl)))
+          (any-range-from (λ n. n == s) 0 (length (world_after h).places) s (omega arith) (omega arith) ((Decides-eqb s s).1 refl))
+          k ((Decides-eqb s s).1 refl)))
 
   gone_so : has s (dropped h e) ≡ true → installed (h ++ e ∷ []) s ≡ None
   gone_so f =
@@ -138,7 +141,8 @@ module _ {A : Type 0} (f : ℕ → Option A) where
           (λ s h. past s (omega arith)))
       by_order (inr (inl lt)) rest whole =
           whole ((omega arith), higher a x xs lt rises.0) (λ s h none. out s (omega arith) none) (λ s h. past s (omega arith))
-          ∙ sym (none_at a (filter_map f (range_with_len (a + 1) n)) (out a (omega arith) (ap (λ (b : Bool). b || has a xs) (not_first a x lt) ∙ none_up_to x a xs rises.0 (omega arith))))
+          ∙ sym (none_at a (filter_map f (range_with_len (a + 1) n))
+          (out a (omega arith) (ap (λ (b : Bool). b || has a xs) (not_first a x lt) ∙ none_up_to x a xs rises.0 (omega arith))))
       by_order (inr (inr gt)) rest whole = absurd (let low = le.0 in omega arith)
 
 -- ---- the slots of one event

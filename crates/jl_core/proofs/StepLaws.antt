@@ -91,9 +91,8 @@ none_met (k ∷ footprint) = none_met footprint
 pub none_touched : (index : List (ℕ × List Key)) → touched_by index [] ≡ []
 none_touched [] = refl
 none_touched (row ∷ index) =
-    ap (λ (b : Bool). map (λ (r : ℕ × List Key). r.0) (cond b (row ∷ filter (λ (r : ℕ × List Key). meets r.1 []) index) (filter (λ (r : ℕ × List Key). meets r.1 []) index)))
-    (none_met row.1)
-    ∙ none_touched index
+    let met = filter (λ (r : ℕ × List Key). meets r.1 []) index in
+    ap (λ (b : Bool). map (λ (r : ℕ × List Key). r.0) (cond b (row ∷ met) met)) (none_met row.1) ∙ none_touched index
 
 -- ---- what the log keeps of the event
 
@@ -145,12 +144,14 @@ module _ (w : World) (ks : List Key) (told : Accepted) (links : List (ℕ × Lin
   pub fits : (work : ℕ) → work ≤ 16777216 → work + length (touched_by index ks) < 2 ^ 64
   fits work small =
       let few = few_touched led.before links index led.sound led.event in
-      let same : length (touched_by index ks) ≡ length (touched_by index (keys led.before led.event)) = ap (λ (k : List Key). length (touched_by index k)) led.keys_are in
+      let same : length (touched_by index ks) ≡ length (touched_by index (keys led.before led.event)) =
+      ap (λ (k : List Key). length (touched_by index k)) led.keys_are in
       let places = led.few in
       omega arith
 
   module _ (left : List (ℕ × Link)) (settled : (s : ℕ) → link_at left s ≡ kept_at w (link_at links) s) where
-    pub links_kept : ((rows : List (ℕ × Link)) → told ≡ event.Install rows → ⊥) → (s : ℕ) → link_at left s ≡ kept (installs_at s told) (link_at links s) (scratch w s)
+    pub links_kept : ((rows : List (ℕ × Link)) → told ≡ event.Install rows → ⊥)
+        → (s : ℕ) → link_at left s ≡ kept (installs_at s told) (link_at links s) (scratch w s)
     links_kept other s = settled s ∙ ap (λ (b : Bool). kept b (link_at links s) (scratch w s)) (sym (no_install s told other))
 
     pub links_lost : (s : ℕ) → goes w (link_at links) s ≡ (is_some (link_at links s) && is_none (link_at left s))

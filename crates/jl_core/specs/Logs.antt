@@ -4,13 +4,14 @@ use Rattle.std.specs.List.{list_all}
 use Rattle.jl_types.specs.Event.{Event}
 use Rattle.jl_types.specs.declared.event.EventOf.{EventOf}
 use Rattle.jl_types.specs.declared.event.EventOf.TheVariants as event
+use Rattle.jl_types.specs.declared.link.Link.{Link}
 use Rattle.jl_types.specs.declared.event.Reply.{Reply}
 use Rattle.jl_types.specs.World.{Class}
 use Rattle.jl_core.specs.declared.log.Entry.{Entry}
 
 -- what a log keeps of an event: a definition carries the number of its class
 abbrev pub Accepted : Type 0
-Accepted = EventOf ℕ
+Accepted = EventOf ℕ (List (ℕ × Link))
 
 -- the event of an entry: a definition's file is that of the class that it made
 abbrev pub event_of : List Class → Accepted → Option Event

@@ -24,29 +24,30 @@ use jl_relink::World;
 use jl_settle::take_over;
 use jl_types::SiteNo;
 use std::alloc::{AllocError, Global};
+use std::sync::Arc;
 
 /// The world, the links, their index and the log come after the entry, the last one of those ahead. Want of memory is an error; what
 /// is there is of no use then.
 pub(crate) fn follow(
-    world: &mut World,
+    world: &mut Arc<World>,
     links: &mut Cache,
     index: &mut Index,
     log: &mut Vec<Entry>,
     alloc: Global,
-    world_ahead: &World,
+    world_ahead: &Arc<World>,
     links_ahead: &Cache,
     index_ahead: &Index,
     entry: &Entry,
 ) -> Result<(), AllocError>
-    requires further { IsFurther world.old world_ahead.now entry.now.event links.old links_ahead.now index.old index_ahead.now }
-    requires few { length world.old.places ≤ 65536 }
-    ensures world { OnOk result (world.new ≡ world_ahead.now) }
+    requires further { IsFurther world.old.value world_ahead.now.value entry.now.event links.old links_ahead.now index.old index_ahead.now }
+    requires few { length world.old.value.places ≤ 65536 }
+    ensures world { OnOk result (world.new.value ≡ world_ahead.now.value) }
     ensures links { OnOk result ((s : ℕ) → link_at links.new s ≡ link_at links_ahead.now s) }
-    ensures index { OnOk result (IsIndex world_ahead.now (link_at links.new) index.new) }
+    ensures index { OnOk result (IsIndex world_ahead.now.value (link_at links.new) index.new) }
     ensures log { OnOk result (log.new.items ≡ log.old.items ++ entry.now ∷ []) }
 {
     let sites = changed_sites(alloc, world, world_ahead, index, &entry.event)?;
-    follow_world(world, alloc, world_ahead, &entry.event)?;
+    follow_shared(world, alloc, world_ahead, &entry.event)?;
     take_over(
         alloc,
         links,
@@ -105,7 +106,33 @@ fn keys_told(
     }
 }
 
-/// The world comes to be the one ahead. Want of memory is an error; the world is of no use then.
+/// The world comes to be the one ahead. One that others hold, too, is let go, and the one ahead is shared from then on. Want of memory
+/// is an error; the world is of no use then.
+fn follow_shared(
+    world: &mut Arc<World>,
+    alloc: Global,
+    ahead: &Arc<World>,
+    event: &Accepted,
+) -> Result<(), AllocError>
+    requires next { IsNext world.old.value ahead.now.value event.now }
+    requires few { length world.old.value.places ≤ 65536 }
+    ensures { OnOk result (world.new.value ≡ ahead.now.value) }
+{
+    match Arc::get_mut(world) {
+        Some(world) => follow_world(world, alloc, ahead, event),
+        None => share(world, ahead),
+    }
+}
+
+/// The world is the one ahead from then on. More holders than can be counted are an error.
+fn share(world: &mut Arc<World>, ahead: &Arc<World>) -> Result<(), AllocError>
+    ensures { OnOk result (world.new.value ≡ ahead.now.value) }
+{
+    *world = Arc::try_clone(ahead)?;
+    Ok(())
+}
+
+/// The world, which no other holds, comes to be the one ahead. Want of memory is an error; the world is of no use then.
 fn follow_world(
     world: &mut World,
     alloc: Global,

@@ -4,6 +4,7 @@ ghost use Rattle.std.specs.Prelude.{◌≡◌, ◌≤◌, ℕ, true, option_copi
 ghost use Rattle.jl_types.specs.Events.{verdict};
 ghost use Rattle.jl_types.specs.History.{installed};
 ghost use Rattle.jl_types.specs.Footprints.{bound};
+ghost use Rattle.jl_relink.specs.Laws.{IsInOrder};
 ghost use Rattle.jl_cache.specs.Links.{link_at};
 ghost use Rattle.jl_core.specs.State.{empty_core, events, world_of, IsAccepted};
 ghost use Rattle.jl_core.specs.Logs.{shown, are_told};
@@ -21,12 +22,13 @@ use jl_relink::World;
 use jl_types::{Event, Refusal, Reply, Work};
 use std::alloc::{AllocError, Global};
 use std::marker::Model;
+use std::sync::Arc;
 
 /// The accepted events, with what they leave to link, the links that they leave installed, and the index of what those rest on. A
-/// clause sees the events with their replies, and how many sites there may be.
+/// clause sees the events with their replies, and how many sites there may be. Snapshots, and another instance, may share the world.
 pub(crate) struct Instance {
     max_sites: u32,
-    world: World,
+    world: Arc<World>,
     links: Cache,
     index: Index,
     log: Vec<Entry>,
@@ -59,16 +61,16 @@ impl Model for Instance {
 
     ghost coded = { Prim.hlevel (codes, target_code) };
 
-    ghost view = { λ c. record { max_sites = c.max_sites; log = shown c.world.classes.rows c.log.items } };
+    ghost view = { λ c. record { max_sites = c.max_sites; log = shown c.world.value.classes.rows c.log.items } };
 
     ghost invariant = { λ c.
-        (c.world ≡ world_of (record { max_sites = c.max_sites; log = shown c.world.classes.rows c.log.items }))
-        × ((s : ℕ) → link_at c.links s ≡ installed (events (record { max_sites = c.max_sites; log = shown c.world.classes.rows c.log.items })) s)
-        × (are_told c.world.classes.rows c.log.items ≡ true)
-        × (length c.world.places ≤ c.max_sites)
+        (c.world.value ≡ world_of (record { max_sites = c.max_sites; log = shown c.world.value.classes.rows c.log.items }))
+        × ((s : ℕ) → link_at c.links s ≡ installed (events (record { max_sites = c.max_sites; log = shown c.world.value.classes.rows c.log.items })) s)
+        × (are_told c.world.value.classes.rows c.log.items ≡ true)
+        × (length c.world.value.places ≤ c.max_sites)
         × (c.max_sites ≤ 65536)
-        × AreAnswered (record { max_sites = c.max_sites; log = shown c.world.classes.rows c.log.items })
-        × IsIndex c.world (link_at c.links) c.index };
+        × AreAnswered (record { max_sites = c.max_sites; log = shown c.world.value.classes.rows c.log.items })
+        × IsIndex c.world.value (link_at c.links) c.index };
 }
 
 impl Instance {
@@ -79,20 +81,20 @@ impl Instance {
     {
         Ok(Instance {
             max_sites,
-            world: World::new(alloc)?,
+            world: Arc::new(alloc, World::new(alloc)?)?,
             links: Cache::new(alloc),
             index: Index::new(alloc),
             log: Vec::new(alloc),
         })
     }
 
-    /// The same once more. Want of memory is an error.
+    /// The same once more, with the same world, which both share until one of them is to change it. Want of memory is an error.
     pub(crate) fn copy(&self, alloc: Global) -> Result<Self, AllocError>
         ensures { IfOk result (λ copy. copy ≡ self.now) }
     {
         Ok(Instance {
             max_sites: self.max_sites,
-            world: self.world.copy(alloc)?,
+            world: Arc::try_clone(&self.world)?,
             links: self.links.copy()?,
             index: self.index.copy(alloc)?,
             log: copy_log(alloc, self.log.as_slice())?,
@@ -134,8 +136,7 @@ impl Instance {
             mut index,
             mut log,
         } = self;
-        let _classes = world.classes.count_in_order();
-        let _switches = world.sites.known_switches();
+        note_order(&world);
         let _sites = index.len();
         let reply = perform(
             &mut world, &mut links, &mut index, &mut log, alloc, event, work,
@@ -162,8 +163,7 @@ impl Instance {
             mut index,
             mut log,
         } = self;
-        let _classes = world.classes.count_in_order();
-        let _switches = world.sites.known_switches();
+        note_order(&world);
         let _sites = index.len();
         let place = log.as_slice().len();
         let Some(entry) = entry_at(ahead.log.as_slice(), place) else {
@@ -202,6 +202,13 @@ impl Instance {
         &self.world
     }
 
+    /// What there is to link, for one more who holds it. More holders than can be counted are an error.
+    pub(crate) fn shared_world(&self) -> Result<Arc<World>, AllocError>
+        ensures { IfOk result (λ world. world.value ≡ world_of self.now) }
+    {
+        Arc::try_clone(&self.world)
+    }
+
     /// The installed links.
     pub(crate) fn links(&self) -> &Cache
         ensures { (s : ℕ) → link_at result.now s ≡ installed (events self.now) s }
@@ -223,4 +230,12 @@ pub(crate) fn entry_at<'a>(log: &'a [Entry], place: usize) -> Option<&'a Entry>
     ensures { option_copied result ≡ slice_get log.now place }
 {
     log.get(place)
+}
+
+/// The classes of a world came in order, and each guard has its switch point.
+fn note_order(world: &World)
+    ensures { IsInOrder world.now }
+{
+    let _classes = world.classes.count_in_order();
+    let _switches = world.sites.known_switches();
 }

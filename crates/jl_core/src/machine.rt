@@ -25,7 +25,8 @@ use std::mem;
 /// links are installed is what the events come to.
 ///
 /// Once an event was planned there is a second instance of all that is kept, at most one event behind, so that the next plan has
-/// where to make the event without a change of the core.
+/// where to make the event without a change of the core. Want of memory loses it, and so does a plan that is dropped; the next plan
+/// then copies what the core keeps.
 pub struct Core {
     present: Instance,
     next: Option<Instance>,
@@ -93,7 +94,7 @@ impl Core {
 
     /// The first half of [`apply`](Core::apply): every refusal and every growth, and no change. The plan tells what the event is
     /// answered and which sites it changes. A first plan copies what the core keeps, and so does one after a plan that was
-    /// dropped.
+    /// dropped, or that ended for want of memory. A world that a snapshot holds, too, is copied before it is changed.
     ///
     /// # Errors
     ///
@@ -183,7 +184,7 @@ impl Core {
     }
 
     /// Looks up the links of these sites from scratch, as a preparation in a snapshot does that is taken now, but without
-    /// the copy.
+    /// the snapshot.
     ///
     /// # Errors
     ///
@@ -201,11 +202,12 @@ impl Core {
         self.links().list(alloc)
     }
 
-    /// The world as it is, with the count of the events that were accepted. Want of memory is an error.
-    pub fn snapshot(&self, alloc: Global) -> Result<Snapshot, AllocError>
+    /// The world as it is, with the count of the events that were accepted. It is not copied: an event that is to change it while
+    /// the snapshot holds it changes a copy. Want of memory is an error.
+    pub fn snapshot(&self, _alloc: Global) -> Result<Snapshot, AllocError>
         ensures { IfOk result (λ snapshot. snapshot ≡ record { world = world_of self.now; serial = length self.now.log }) }
     {
-        Ok(Snapshot::new(self.world().copy(alloc)?, self.serial()))
+        Ok(Snapshot::sharing(self.present.shared_world()?, self.serial()))
     }
 
     /// How many events were accepted.

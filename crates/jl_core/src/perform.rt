@@ -19,6 +19,7 @@ use jl_relink::World;
 use jl_settle::{install_rows, settle};
 use jl_types::{Event, Key, Made, Reply, SiteNo, Work};
 use std::alloc::{AllocError, Global};
+use std::sync::Arc;
 
 /// Changes the world, the links and their index as the accepted event says, keeps it in the log, and answers it. Of the installed links
 /// it looks at those that the event touches, and at no others.
@@ -27,7 +28,7 @@ use std::alloc::{AllocError, Global};
 ///
 /// Want of memory, and then what is there is of no use.
 pub(crate) fn perform(
-    world: &mut World,
+    world: &mut Arc<World>,
     links: &mut Cache,
     index: &mut Index,
     log: &mut Vec<Entry>,
@@ -35,11 +36,11 @@ pub(crate) fn perform(
     event: Event,
     work: &mut Work,
 ) -> Result<Reply, AllocError>
-    requires accepted { IsAcceptable world.old event }
-    requires sound { IsSound world.old links.old index.old }
-    requires few { length world.old.places ≤ 65536 }
+    requires accepted { IsAcceptable world.old.value event }
+    requires sound { IsSound world.old.value links.old index.old }
+    requires few { length world.old.value.places ≤ 65536 }
     requires small { work.old ≤ 16777216 }
-    ensures { IfOk result (IsStep world.old world.new links.old links.new index.old index.new log.old.items log.new.items event work.old work.new) }
+    ensures { IfOk result (IsStep world.old.value world.new.value links.old links.new index.old index.new log.old.items log.new.items event work.old work.new) }
 {
     let keys = keys_of(alloc, world, &event)?;
     let (event, made) = step(world, alloc, event)?;

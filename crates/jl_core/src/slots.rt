@@ -59,9 +59,7 @@ pub(crate) fn with_sites(
     ensures { IfOk result (λ all. all.items ≡ sites.items ++ map (λ row. row.0) rows.now) }
 {
     let mut all = sites;
-    for row in rows {
-        all.push(row.0)?;
-    }
+    all.extend(rows.iter().map(|row| row.0))?;
     Ok(all)
 }
 

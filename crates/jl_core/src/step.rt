@@ -14,10 +14,48 @@ use jl_names::{Name, Seq};
 use jl_relink::World;
 use jl_types::{CallSiteId, CallSiteKind, Event, LoaderId, Made, Place, SiteNo, SwitchId, Target};
 use std::alloc::{AllocError, Global};
+use std::sync::Arc;
 
-/// The world comes after the accepted event. It gives what the log keeps of it, and what it gave a number to. Want of memory is an error;
-/// the world is of no use then.
+/// The world comes after the accepted event. It gives what the log keeps of it, and what it gave a number to. Where others hold the
+/// world, too, a copy of it is changed. Want of memory is an error; the world is of no use then.
 pub(crate) fn step(
+    world: &mut Arc<World>,
+    alloc: Global,
+    event: Event,
+) -> Result<(Accepted, Made), AllocError>
+    requires accepted { IsAcceptable world.old.value event }
+    requires few { length world.old.value.places ≤ 65536 }
+    ensures { IfOk result (λ told. IsStepped world.old.value world.new.value event told.0 told.1) }
+{
+    match Arc::get_mut(world) {
+        Some(world) => step_owned(world, alloc, event),
+        None => step_copy(world, alloc, event),
+    }
+}
+
+/// The same by a copy of the world. An install changes no world and copies none.
+fn step_copy(
+    world: &mut Arc<World>,
+    alloc: Global,
+    event: Event,
+) -> Result<(Accepted, Made), AllocError>
+    requires accepted { IsAcceptable world.old.value event }
+    requires few { length world.old.value.places ≤ 65536 }
+    ensures { IfOk result (λ told. IsStepped world.old.value world.new.value event told.0 told.1) }
+{
+    match event {
+        Event::Install(rows) => Ok((Accepted::Install(rows), Made::Nothing)),
+        event => {
+            let mut copy = world.copy(alloc)?;
+            let told = step_owned(&mut copy, alloc, event)?;
+            *world = Arc::new(alloc, copy)?;
+            Ok(told)
+        }
+    }
+}
+
+/// The same for a world that no other holds.
+fn step_owned(
     world: &mut World,
     alloc: Global,
     event: Event,

@@ -27,8 +27,8 @@ returns c =
     let count : c.in_ok-site.site ≡ length c.args.world.now.sites.call_sites = search rules in
     record {
       made_is = λ m.
-          made_so (option_map CallSite (new_call_site_fault c.args.world.now c.args.ty.now c.args.target.now)) (made.CallSite (length c.args.world.now.sites.call_sites))
-          (made.CallSite c.in_ok-site.site) (ap (λ n. made.CallSite n) count);
+          made_so (option_map CallSite (new_call_site_fault c.args.world.now c.args.ty.now c.args.target.now))
+          (made.CallSite (length c.args.world.now.sites.call_sites)) (made.CallSite c.in_ok-site.site) (ap (λ n. made.CallSite n) count);
       step = search rules;
       constant = subst (λ (w : World). IsConstant w.classes c.world.inside.classes) c.world.view_is (constant_itself c.world.inside.classes);
     }

@@ -19,8 +19,8 @@ returns c =
     let count : c.in_ok-point.point ≡ length c.args.world.now.sites.switches = search rules in
     record {
       made_is = λ m.
-          made_so (then_some (nat_le most_of_a_kind (length c.args.world.now.sites.switches)) (CallSite Full)) (made.Switch (length c.args.world.now.sites.switches))
-          (made.Switch c.in_ok-point.point) (ap (λ n. made.Switch n) count);
+          made_so (then_some (nat_le most_of_a_kind (length c.args.world.now.sites.switches)) (CallSite Full))
+          (made.Switch (length c.args.world.now.sites.switches)) (made.Switch c.in_ok-point.point) (ap (λ n. made.Switch n) count);
       step = search rules;
       constant = subst (λ (w : World). IsConstant w.classes c.world.inside.classes) c.world.view_is (constant_itself c.world.inside.classes);
     }

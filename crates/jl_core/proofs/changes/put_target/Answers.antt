@@ -24,7 +24,9 @@ put_target-requires-clause-known c =
 
 pub returns : goal.returns
 returns c = record {
-  made_is = λ m. made_so (option_map CallSite (set_target_fault c.args.world.now c.args.site (slice_get c.args.world.now.sites.call_sites c.args.site) c.args.target.now))
+  made_is = λ m.
+      made_so
+      (option_map CallSite (set_target_fault c.args.world.now c.args.site (slice_get c.args.world.now.sites.call_sites c.args.site) c.args.target.now))
       made.Nothing made.Nothing refl;
   step = search rules;
   constant = subst (λ (w : World). IsConstant w.classes c.world.inside.classes) c.world.view_is (constant_itself c.world.inside.classes);

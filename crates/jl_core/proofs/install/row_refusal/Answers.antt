@@ -17,7 +17,8 @@ returns-then-ne-clause-refusal c =
     sym
     (stale_row c.args.world.now row (drop (c.loop-row.row-index + 1) c.args.rows.now) c.in-Ok.present (sym c.in-Ok.ensures.link)
     (not-true (same_link c.in-Ok.present row.1) (sym c.ne.ensures ∙ c.if-ne.true)))
-    ∙ ap (λ (rows : List (ℕ × Link)). first_of (row_faults c.args.world.now rows)) (sym (rest_at c.args.rows.now c.loop-row.row-index row c.loop-row-test.true c.row-item.is))
+    ∙ ap (λ (rows : List (ℕ × Link)). first_of (row_faults c.args.world.now rows))
+    (sym (rest_at c.args.rows.now c.loop-row.row-index row c.loop-row-test.true c.row-item.is))
     ∙ c.loop-row.invariant.left
 
 -- the count of one row and of those behind it
@@ -34,7 +35,8 @@ loop-row-preserved c =
           sym
           (good_row w row rest c.in-Ok.present (sym c.in-Ok.ensures.link)
           (not-false (same_link c.in-Ok.present row.1) (sym c.ne.ensures ∙ c.if-ne.false)))
-          ∙ ap (λ (rows : List (ℕ × Link)). first_of (row_faults w rows)) (sym (rest_at c.args.rows.now c.loop-row.row-index row c.loop-row-test.true c.row-item.is))
+          ∙ ap (λ (rows : List (ℕ × Link)). first_of (row_faults w rows))
+          (sym (rest_at c.args.rows.now c.loop-row.row-index row c.loop-row-test.true c.row-item.is))
           ∙ c.loop-row.invariant.left;
       ticks =
           counted (footprints.most_for w row.0) (most_of_rows w rest) c.loop-row.work c.link_counted.new.work

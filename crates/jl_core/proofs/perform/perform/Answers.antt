@@ -1,12 +1,13 @@
-use Rattle.std.specs.Prelude.{◌≡◌, ◌+◌, ◌≤◌, List, Bool, length}
-use Rattle.std.proofs.Common.{rules, sym, ap, subst, ◌∙◌}
+use Rattle.std.specs.Prelude.{◌≡◌, ◌+◌, ◌≤◌, List, length}
+use Rattle.std.proofs.Common.{rules, sym, subst, ◌∙◌}
 use Rattle.jl_types.specs.declared.event.Made.{Made}
 use Rattle.jl_types.specs.declared.key.Key.{Key}
+use Rattle.jl_types.specs.World.{World}
 use Rattle.jl_types.specs.Links.{scratch}
 use Rattle.jl_types.specs.History.{kept}
 use Rattle.jl_types.specs.Footprints.{keys}
 use Rattle.jl_cache.specs.Links.{link_at}
-use Rattle.jl_deps.specs.Indexes.{touched_by}
+use Rattle.jl_deps.specs.Indexes.{IsIndex, touched_by}
 use Rattle.jl_core.specs.Changes.{IsMoved}
 use Rattle.jl_core.proofs.StepLaws.{lost_are}
 use Rattle.jl_core.proofs.ReplayLaws.{installs_so}
@@ -14,19 +15,19 @@ use Rattle.jl_core.proofs.perform.perform.Goals as goal
 
 pub returns : goal.returns
 returns c =
-    let same : c.as_slice.result.now ≡ keys c.args.world.now c.args.event = search rules in
+    let same : c.as_slice.result.now ≡ keys c.args.world.now.value c.args.event = search rules in
     record {
       done = record {
-        moved = subst (λ (made : Made). IsMoved c.args.world.now c.step.new.world c.args.event made) (sym c.in_ok-reply.ensures.made)
+        moved = subst (λ (made : Made). IsMoved c.args.world.now.value c.step.new.world.value c.args.event made) (sym c.in_ok-reply.ensures.made)
             c.in_ok-event.ensures.moved;
-        dropped = lost_are c.args.world.now c.args.links.now c.args.index.now c.requires.sound c.relink.new.links c.in_ok-lost.lost.items
+        dropped = lost_are c.args.world.now.value c.args.links.now c.args.index.now c.requires.sound c.relink.new.links c.in_ok-lost.lost.items
             c.in_ok-reply.reply.dropped c.in_ok-lost.ensures.lost c.in_ok-reply.ensures.dropped;
         links = λ s.
             c.in_ok-lost.ensures.links s
-            ∙ ap (λ (b : Bool). kept b (link_at c.args.links.now s) (scratch c.step.new.world s))
-            (sym (installs_so c.step.new.world.classes.rows c.args.event s c.in_ok-event.event c.in_ok-event.ensures.tells));
+            ∙ (λ i. kept (sym (installs_so c.step.new.world.value.classes.rows c.args.event s c.in_ok-event.event c.in_ok-event.ensures.tells) i)
+            (link_at c.args.links.now s) (scratch (c.deref-2.ensures i) s));
         logged = record { accepted = c.in_ok-event.event; is = c.in_ok-event.ensures.tells; last = c.in_ok-reply.ensures.last };
       };
-      indexed = c.in_ok-lost.ensures.index;
+      indexed = subst (λ (w : World). IsIndex w (link_at c.relink.new.links) c.relink.new.index) c.deref-2.ensures c.in_ok-lost.ensures.index;
       ticks = subst (λ (k : List Key). c.relink.new.work ≤ c.args.work.now + length (touched_by c.args.index.now k)) same c.in_ok-lost.ensures.ticks;
     }

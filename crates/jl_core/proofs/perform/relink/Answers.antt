@@ -8,43 +8,59 @@ use Rattle.jl_core.proofs.StepLaws.{has_changed, fits, no_class, define_installs
 use Rattle.jl_core.proofs.perform.relink.Goals as goal
 
 pub settle-requires-clause-changed : goal.settle-requires-clause-changed
-settle-requires-clause-changed c = has_changed c.args.world.now c.args.keys.now c.args.event.now c.args.links.now c.args.index.now c.requires.led (Some c.in-Define.class) (ap class_of c.in-Define.is)
+settle-requires-clause-changed c =
+    has_changed c.args.world.now c.args.keys.now c.args.event.now c.args.links.now c.args.index.now c.requires.led
+    (Some c.in-Define.class) (ap class_of c.in-Define.is)
 
 pub settle-requires-clause-fits : goal.settle-requires-clause-fits
-settle-requires-clause-fits c = fits c.args.world.now c.args.keys.now c.args.event.now c.args.links.now c.args.index.now c.requires.led c.args.work.now c.requires.small
+settle-requires-clause-fits c =
+    fits c.args.world.now c.args.keys.now c.args.event.now c.args.links.now c.args.index.now c.requires.led
+    c.args.work.now c.requires.small
 
 pub returns-in_ok-lost-in-Define-clause-links : goal.returns-in_ok-lost-in-Define-clause-links
 returns-in_ok-lost-in-Define-clause-links c =
-    links_kept c.args.world.now c.args.keys.now c.args.event.now c.args.links.now c.args.index.now c.requires.led c.settle.new.links c.in_ok-lost-in-Define.ensures.links (define_installs_none c.in-Define.field-0 c.in-Define.class c.args.event.now c.in-Define.is)
+    links_kept c.args.world.now c.args.keys.now c.args.event.now c.args.links.now c.args.index.now c.requires.led
+    c.settle.new.links c.in_ok-lost-in-Define.ensures.links
+    (define_installs_none c.in-Define.field-0 c.in-Define.class c.args.event.now c.in-Define.is)
 
 pub returns-in_ok-lost-in-Define-clause-lost : goal.returns-in_ok-lost-in-Define-clause-lost
 returns-in_ok-lost-in-Define-clause-lost c = λ s.
-    c.in_ok-lost-in-Define.ensures.lost s ∙ links_lost c.args.world.now c.args.keys.now c.args.event.now c.args.links.now c.args.index.now c.requires.led c.settle.new.links c.in_ok-lost-in-Define.ensures.links s
+    c.in_ok-lost-in-Define.ensures.lost s
+    ∙ links_lost c.args.world.now c.args.keys.now c.args.event.now c.args.links.now c.args.index.now c.requires.led
+    c.settle.new.links c.in_ok-lost-in-Define.ensures.links s
 
 pub install_rows-requires : goal.install_rows-requires
-install_rows-requires c = was_index c.args.world.now c.args.keys.now c.args.event.now c.args.links.now c.args.index.now c.requires.led c.in-Install.rows c.in-Install.is
+install_rows-requires c =
+    was_index c.args.world.now c.args.keys.now c.args.event.now c.args.links.now c.args.index.now c.requires.led
+    c.in-Install.rows c.in-Install.is
 
 pub returns-in_ok-install_rows-in-Install-clause-links : goal.returns-in_ok-install_rows-in-Install-clause-links
 returns-in_ok-install_rows-in-Install-clause-links c =
-    links_installed c.args.world.now c.args.keys.now c.args.event.now c.args.links.now c.args.index.now c.requires.led c.in-Install.rows c.in-Install.is c.install_rows.new.links
+    links_installed c.args.world.now c.args.keys.now c.args.event.now c.args.links.now c.args.index.now c.requires.led
+    c.in-Install.rows c.in-Install.is c.install_rows.new.links
     (λ s. c.in_ok-install_rows-in-Install.ensures.links s ∙ ap (λ (rows : List (ℕ × Link)). link_with rows (link_at c.args.links.now s) s) c.as_slice.ensures)
 
 pub returns-in_ok-install_rows-in-Install-clause-lost : goal.returns-in_ok-install_rows-in-Install-clause-lost
 returns-in_ok-install_rows-in-Install-clause-lost c = λ s.
     ap (has s) c.new.ensures.items
-    ∙ none_lost c.args.world.now c.args.keys.now c.args.event.now c.args.links.now c.args.index.now c.requires.led c.in-Install.rows c.in-Install.is c.install_rows.new.links
+    ∙ none_lost c.args.world.now c.args.keys.now c.args.event.now c.args.links.now c.args.index.now c.requires.led
+    c.in-Install.rows c.in-Install.is c.install_rows.new.links
     (λ s. c.in_ok-install_rows-in-Install.ensures.links s ∙ ap (λ (rows : List (ℕ × Link)). link_with rows (link_at c.args.links.now s) s) c.as_slice.ensures) s
 
 pub settle-requires-in_default : goal.settle-requires-in_default
 settle-requires-in_default c = record {
-  changed = has_changed c.args.world.now c.args.keys.now c.args.event.now c.args.links.now c.args.index.now c.requires.led _ (no_class c.args.event.now c.in_default.not-Define);
+  changed = has_changed c.args.world.now c.args.keys.now c.args.event.now c.args.links.now c.args.index.now c.requires.led _
+      (no_class c.args.event.now c.in_default.not-Define);
   fits = fits c.args.world.now c.args.keys.now c.args.event.now c.args.links.now c.args.index.now c.requires.led c.args.work.now c.requires.small;
 }
 
 pub returns-in_ok-lost-in_default-clause-links : goal.returns-in_ok-lost-in_default-clause-links
 returns-in_ok-lost-in_default-clause-links c =
-    links_kept c.args.world.now c.args.keys.now c.args.event.now c.args.links.now c.args.index.now c.requires.led c.settle-in_default.new.links c.in_ok-lost-in_default.ensures.links c.in_default.not-Install
+    links_kept c.args.world.now c.args.keys.now c.args.event.now c.args.links.now c.args.index.now c.requires.led
+    c.settle-in_default.new.links c.in_ok-lost-in_default.ensures.links c.in_default.not-Install
 
 pub returns-in_ok-lost-in_default-clause-lost : goal.returns-in_ok-lost-in_default-clause-lost
 returns-in_ok-lost-in_default-clause-lost c = λ s.
-    c.in_ok-lost-in_default.ensures.lost s ∙ links_lost c.args.world.now c.args.keys.now c.args.event.now c.args.links.now c.args.index.now c.requires.led c.settle-in_default.new.links c.in_ok-lost-in_default.ensures.links s
+    c.in_ok-lost-in_default.ensures.lost s
+    ∙ links_lost c.args.world.now c.args.keys.now c.args.event.now c.args.links.now c.args.index.now c.requires.led
+    c.settle-in_default.new.links c.in_ok-lost-in_default.ensures.links s

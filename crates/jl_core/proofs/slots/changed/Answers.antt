@@ -15,12 +15,14 @@ returns c =
     (λ slots items e reply led.
     items
     ∙ ap (filter_map (slot_at c.links.result.now c.links-2.result.now)) c.deref.ensures.value
-    ∙ slots_led c.args.before.now c.args.after.now (world_of c.args.before.now).classes.rows (world_of c.args.after.now).classes.rows c.log-2.result.now c.log.result.now
-    c.log-2.ensures.told c.log.ensures.told c.log-2.ensures.events c.log.ensures.events e reply led
-    c.in-Some.last.now (sym c.in-Some.ensures) c.in_ok-sites.sites.items c.in_ok-sites.ensures c.links.result.now c.links-2.result.now c.links.ensures c.links-2.ensures)
+    ∙ slots_led c.args.before.now c.args.after.now (world_of c.args.before.now).classes.rows (world_of c.args.after.now).classes.rows
+    c.log-2.result.now c.log.result.now c.log-2.ensures.told c.log.ensures.told c.log-2.ensures.events c.log.ensures.events e reply led
+    c.in-Some.last.now (sym c.in-Some.ensures) c.in_ok-sites.sites.items c.in_ok-sites.ensures
+    c.links.result.now c.links-2.result.now c.links.ensures c.links-2.ensures)
     c.slots_among.result c.slots_among.ensures
 
 pub returns-in_default : goal.returns-in_default
 returns-in_default c = λ e reply led.
-    has_last c.args.before.now c.args.after.now (world_of c.args.before.now).classes.rows (world_of c.args.after.now).classes.rows c.log-2.result.now c.log.result.now
-    c.log-2.ensures.told c.log.ensures.told c.log-2.ensures.events c.log.ensures.events e reply led (sym c.in_default.ensures)
+    has_last c.args.before.now c.args.after.now (world_of c.args.before.now).classes.rows (world_of c.args.after.now).classes.rows
+    c.log-2.result.now c.log.result.now c.log-2.ensures.told c.log.ensures.told c.log-2.ensures.events c.log.ensures.events
+    e reply led (sym c.in_default.ensures)

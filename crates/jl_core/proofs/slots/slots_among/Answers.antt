@@ -9,5 +9,8 @@ use Rattle.jl_core.proofs.slots.slots_among.Goals as goal
 pub loop-site-preserved : goal.loop-site-preserved
 loop-site-preserved c =
     c.in_ok-add_slot.ensures
-    ∙ (λ i. c.loop-site.invariant i ++ cons_option (option_map (λ slot. (c.site-item.result, slot)) (change (c.get.ensures.link i) (c.get-in-loop-site.ensures.link i))) [])
-    ∙ sym (one_more (slot_at c.args.before.now c.args.after.now) c.args.sites.now c.loop-site.site-index c.site-item.result c.loop-site-test.true c.site-item.is)
+    ∙ (λ i.
+    c.loop-site.invariant i
+    ++ cons_option (option_map (λ slot. (c.site-item.result, slot)) (change (c.get.ensures.link i) (c.get-in-loop-site.ensures.link i))) [])
+    ∙ sym (one_more (slot_at c.args.before.now c.args.after.now) c.args.sites.now c.loop-site.site-index c.site-item.result
+    c.loop-site-test.true c.site-item.is)

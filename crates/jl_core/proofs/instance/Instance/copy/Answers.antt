@@ -6,17 +6,18 @@ use Rattle.jl_core.proofs.instance.Instance.copy.Goals as goal
 
 pub invariant_of-result : goal.invariant_of-result
 invariant_of-result c =
+    let old = c.self.inside in
     let now =
-    exact_same c.self.inside.max_sites c.self.inside.world c.in_ok-copy.field-0 c.self.inside.links c.in_ok-copy-2.field-0 c.self.inside.log.items c.in_ok-copy_log.field-0.items
-    c.in_ok-copy.ensures c.in_ok-copy-2.ensures (c.in_ok-copy_log.ensures ∙ c.as_slice.ensures.value)
+    exact_same old.max_sites old.world.value c.in_ok-try_clone.field-0.value old.links c.in_ok-copy.field-0 old.log.items c.in_ok-copy_log.field-0.items
+    c.in_ok-try_clone.ensures c.in_ok-copy.ensures (c.in_ok-copy_log.ensures ∙ c.as_slice.ensures.value)
     (record { world = c.self.invariant.0; links = c.self.invariant.1; told = c.self.invariant.2; answered = c.self.invariant.5 })
     in (
       now.world,
       now.links,
       now.told,
-      subst (λ (w : World). length w.places ≤ c.self.inside.max_sites) (sym c.in_ok-copy.ensures) c.self.invariant.3,
+      subst (λ (w : World). length w.places ≤ c.self.inside.max_sites) (sym c.in_ok-try_clone.ensures) c.self.invariant.3,
       c.self.invariant.4,
       now.answered,
-      index_same c.self.inside.world c.in_ok-copy.field-0 c.self.inside.links c.in_ok-copy-2.field-0 c.self.inside.index c.in_ok-copy-3.field-0
-          c.in_ok-copy.ensures c.in_ok-copy-2.ensures c.in_ok-copy-3.ensures c.self.invariant.6,
+      index_same old.world.value c.in_ok-try_clone.field-0.value old.links c.in_ok-copy.field-0 old.index c.in_ok-copy-2.field-0
+          c.in_ok-try_clone.ensures c.in_ok-copy.ensures c.in_ok-copy-2.ensures c.self.invariant.6,
     )
