@@ -1,64 +1,75 @@
 #!/usr/bin/env bash
-# Preparations a second of `linkd farm` by 1, 2 and 4 workers, beside as many processes with a worker each.
+# Jobs a second of a farm by 1, 2 and 4 workers, of 1 and of 64 sites each.
 #
-#     bench/farm.sh PROGRAM      PROGRAM is the built linkd
+#     bench/farm.sh LINKD FARM      the built linkd and crates/farm_bench
 #
-# The world has 2,000 classes, and 4,096 invocations of theirs are requested, a job each. Seconds are of the wall clock, the least of
-# three runs, less a run of `linkd run` over the same lines, which prepares nothing. It needs python3.
+# The world is every class of the JDK (JAVA_HOME, else java of the PATH), or, where there is none or JDK=0, 26,000 small classes. 65,536 of
+# its invocations, spread evenly, are requested, if they may be. Each number is the most of RUNS (3) runs, by the wall clock of the farm
+# alone. It needs python3. KEEP=DIR keeps the input there.
 set -eu
-program=${1:?the built linkd}
-work=$(mktemp -d)
-trap 'rm -rf "$work"' EXIT
+here=$(cd "$(dirname "$0")" && pwd)
+linkd=$(realpath "${1:?the built linkd}")
+farm=$(realpath "${2:?the built farm_bench}")
+scratch=$(mktemp -d)
+trap 'rm -rf "$scratch"' EXIT
+data=${KEEP:-$scratch}
+mkdir -p "$data"
 
-python3 - > "$work/lines" <<'PY'
+small_classes() {
+    python3 - <<'PY' | "$linkd" sketch | tr -d '"'
 import json
 
-def define(sketch):
-    print(json.dumps({"do": "define", "loader": 0, "sketch": sketch}))
+def sketch(value):
+    print(json.dumps(value))
 
-named, callers, calls = 1983, 16, 256
-define({"name": "java/lang/Object", "flags": 33})
+named, callers = 25743, 256
+method = {"name": "f", "type": "()V", "flags": 1}
+sketch({"name": "java/lang/Object", "flags": 33})
 for number in range(named):
-    define({"name": f"T{number}", "super": "java/lang/Object", "flags": 33, "methods": [{"name": "f", "type": "()V", "flags": 1}]})
+    sketch({"name": f"T{number}", "super": "java/lang/Object", "flags": 33, "methods": [method]})
 for caller in range(callers):
-    invocations = [
-        {"kind": "invokevirtual", "of": f"T{(caller * calls + place) % named}", "name": "f", "type": "()V"}
-        for place in range(calls)
+    calls = [
+        {"kind": "invokevirtual", "of": f"T{(caller * 256 + place) % named}", "name": "f", "type": "()V"}
+        for place in range(256)
     ]
-    method = {"name": "run", "type": "()V", "flags": 9, "calls": invocations}
-    define({"name": f"M{caller}", "super": "java/lang/Object", "flags": 33, "methods": [method]})
-for caller in range(callers):
-    for place in range(calls):
-        print(json.dumps({"do": "request", "class": 1 + named + caller, "method": 0, "pc": 3 * place}))
+    sketch({"name": f"M{caller}", "super": "java/lang/Object", "flags": 33,
+            "methods": [{"name": "run", "type": "()V", "flags": 9, "calls": calls}]})
 PY
+}
 
-python3 - "$program" "$work/lines" <<'PY'
-import json, subprocess, sys, time
+if [ "${JDK:-1}" = 1 ] && command -v "${JAVA_HOME:+$JAVA_HOME/bin/}java" > /dev/null; then
+    . "$here/common.sh"
+    take_program "$linkd"
+    trap 'rm -rf "$scratch" "$work"' EXIT
+    run_java Links lines "$data" > /dev/null
+else
+    small_classes > "$data/ordered.hex"
+fi
 
-program, lines = sys.argv[1:]
-jobs = 4096
+"$linkd" scan < "$data/ordered.hex" > "$data/scanned.json"
+python3 - "$data/scanned.json" > "$data/places.txt" <<'PY'
+import json, sys
 
-def start(words, output):
-    return subprocess.Popen([program, *words], stdin=open(lines), stdout=output)
-
-def seconds(words, processes=1):
-    least = None
-    for _ in range(3):
-        begin = time.perf_counter()
-        running = [start(words, subprocess.DEVNULL) for _ in range(processes)]
-        for one in running:
-            if one.wait() != 0:
-                sys.exit("a run failed")
-        took = time.perf_counter() - begin
-        least = took if least is None else min(least, took)
-    return least
-
-last = start(["farm", "--workers", "4"], subprocess.PIPE).communicate()[0].splitlines()[-1]
-answer = json.loads(last)
-if answer["reports"] != ["Installed"] * jobs or len(answer["links"]) != jobs:
-    sys.exit("not all jobs were installed")
-for workers in (1, 2, 4):
-    farm = jobs / (seconds(["farm", "--workers", str(workers)]) - seconds(["run"]))
-    apart = workers * jobs / (seconds(["farm", "--workers", "1"], workers) - seconds(["run"], workers))
-    print(f"{workers} workers: {farm:.0f} preparations a second; {workers} processes: {apart:.0f}; ratio {farm / apart:.2f}")
+places = []
+for number, line in enumerate(open(sys.argv[1])):
+    for method, shown in enumerate(json.loads(line).get("methods", [])):
+        places += [(number, method, site["pc"]) for site in shown.get("sites", []) if site["kind"] != "invokedynamic"]
+wanted = min(65536, len(places))
+for number in range(wanted):
+    print(*places[number * len(places) // wanted])
 PY
+cat "$data/ordered.hex" "$data/places.txt" > "$data/input.txt"
+
+for sites in 1 64; do
+    for workers in 1 2 4; do
+        most=0
+        for _ in $(seq "${RUNS:-3}"); do
+            "$farm" "$workers" "$sites" < "$data/input.txt" > "$data/said.txt" 2> "$data/times.txt"
+            jobs=$(sed 's/.*installed jobs //' "$data/said.txt")
+            micros=$(sed 's/.*jobs in \([0-9]*\) us.*/\1/' "$data/times.txt")
+            rate=$((jobs * 1000000 / micros))
+            if [ "$rate" -gt "$most" ]; then most=$rate; fi
+        done
+        echo "$workers workers, $sites sites a job: $most jobs a second ($(cat "$data/said.txt"))"
+    done
+done
