@@ -15,3 +15,5 @@ mod loaders;
 mod members;
 #[cfg(test)]
 mod nests;
+#[cfg(test)]
+mod pages;
