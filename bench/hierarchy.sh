@@ -22,5 +22,6 @@ run_java Hierarchy lines "$shape" "$count" > "$work/lines"
 if [ "${JVM:-1}" = 1 ]; then
     java -version 2>&1 | sed -n 2p
     run_java Hierarchy jvm "$shape" "$count" | tee "$work/theirs"
-    cmp "$work/ours" "$work/theirs"
+    # A JVM copies no classes.
+    grep -v '^copies ' "$work/ours" | cmp - "$work/theirs"
 fi
