@@ -1,6 +1,6 @@
 //! Commands, read from JSON.
 
-ghost use Rattle.std.specs.Prelude.{◌≡◌, ◌^◌, codes, Some, option_map, option_and_then, IfOk};
+ghost use Rattle.std.specs.Prelude.{◌≡◌, ◌^◌, Some, option_map, IfOk};
 ghost use Rattle.serde_json.specs.Data.{Data};
 ghost use Rattle.serde_json.specs.Find.{as_object};
 ghost use Rattle.serde_json.specs.View.{view};

@@ -1,6 +1,6 @@
 //! A batch's rows, put together from what their receivers came to.
 
-ghost use Rattle.std.specs.Prelude.{◌≡◌, map, length, All, IfOk};
+ghost use Rattle.std.specs.Prelude.{◌≡◌, map, All, IfOk};
 ghost use Rattle.jl_relink.specs.Wide as plans;
 
 use crate::by_rows::link_by_rows;
