@@ -42,7 +42,12 @@ fn interface(alloc: Global, name: &str, layer: u32) -> Option<ClassFile> {
 }
 
 /// Whether loader 0 defines the class of the file as the class of this number.
-fn is_defined(alloc: Global, classes: &mut Classes, file: Option<ClassFile>, number: u32) -> bool {
+pub(crate) fn is_defined(
+    alloc: Global,
+    classes: &mut Classes,
+    file: Option<ClassFile>,
+    number: u32,
+) -> bool {
     match file {
         Some(file) => {
             classes.define(alloc, LoaderId::new(0), file).ok() == Some(ClassId::new(number))

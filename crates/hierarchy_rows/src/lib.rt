@@ -17,3 +17,5 @@ mod members;
 mod nests;
 #[cfg(test)]
 mod pages;
+#[cfg(test)]
+mod records;

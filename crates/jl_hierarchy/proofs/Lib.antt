@@ -13,3 +13,4 @@ pub mod Constancy
 pub mod FirstPlaces
 pub mod Objects
 pub mod NewRecords
+pub mod Recents

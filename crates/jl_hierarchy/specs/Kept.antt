@@ -1,5 +1,5 @@
 -- What the classes keep beside what a clause sees. A means of proof.
-use Rattle.std.specs.Prelude.{◌≡◌, ℕ, ◌+◌, ◌<◌, ◌≤◌, ◌==◌, Bool, if◌then◌else◌, List, ◌∷◌, [], ◌++◌, Vec, map, length, get_or, is_some, ⊤}
+use Rattle.std.specs.Prelude.{◌≡◌, ℕ, ◌+◌, ◌<◌, ◌≤◌, ◌==◌, Bool, true, ◌&&◌, if◌then◌else◌, List, ◌∷◌, [], ◌++◌, Vec, map, length, get_or, is_some, is_none, ⊤}
 use Rattle.std.specs.List.{AllByRecursion, list_any}
 use Rattle.std.specs.Str.{bytes_eq}
 use Rattle.smallvec.specs.SmallVec.{SmallVec, HasRoomFor}
@@ -12,6 +12,11 @@ use Rattle.jl_hierarchy.specs.Constancy.{ObjectComesFirst}
 -- the names of a map, each with its number
 abbrev pub named : {A : Type 0} → List (Vec ℕ A × ℕ) → List (List ℕ × ℕ)
 named entries = map (λ e. (e.0.items, e.1)) entries
+
+-- each of the recent names is new to those before it
+abbrev pub are_new : List (List ℕ × ℕ) → List (List ℕ × ℕ) → Bool
+are_new older [] = true
+are_new older (r ∷ recent) = is_none (recorded r.0 older) && are_new (older ++ r ∷ []) recent
 
 -- a method of this name
 abbrev pub is_named : List ℕ → Method → Bool

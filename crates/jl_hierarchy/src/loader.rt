@@ -1,8 +1,9 @@
 //! What one loader finds by name.
 
-ghost use Rattle.std.specs.Prelude.{◌≡◌, ◌<◌, ◌++◌, ◌∷◌, [], None, length, slice_get, option_and_then, IfOk, OnOk, OnErr};
+ghost use Rattle.std.specs.Prelude.{◌≡◌, ◌<◌, ◌++◌, ◌∷◌, [], true, None, length, slice_get, option_and_then, IfOk, OnOk, OnErr};
 ghost use Rattle.jl_types.specs.Members.{recorded};
 ghost use Rattle.jl_types.specs.Definitions.{with_record};
+ghost use Rattle.jl_hierarchy.specs.Kept.{are_new};
 
 use indexmap::IndexMap;
 use jl_types::{ClassId, LoaderId};
@@ -10,19 +11,30 @@ use std::alloc::{AllocError, Global};
 use std::marker::Model;
 use std::sync::Arc;
 
-/// The names under which a loader finds classes, each with its class (JVMS SE 17 §5.3), which copies of the loader share until one
-/// of them records more. A clause sees the pairs, in the order in which they were recorded.
+/// The most records that a loader keeps apart from the older ones.
+const MOST_RECENT: usize = 256;
+
+/// The names under which a loader finds classes, each with its class (JVMS SE 17 §5.3). A clause sees the pairs, in the order in
+/// which they were recorded.
+///
+/// Copies of the loader share the records. The recent ones are kept apart, so that a loader that records more, while copies share
+/// what it has, copies those alone, and all of them once in 256 times.
 #[derive(Drop)]
 pub(crate) struct Loader {
-    shared: Arc<Records>,
+    older: Arc<Records>,
+    /// Those behind the older ones: 256 at the most.
+    recent: Arc<Records>,
 }
 
 impl Model for Loader {
-    ghost use Rattle.std.specs.Prelude.{List, ℕ};
+    ghost use Rattle.std.specs.Prelude.{◌≡◌, List, ℕ, true, ◌++◌};
+    ghost use Rattle.jl_hierarchy.specs.Kept.{are_new};
 
     ghost Value = { List (List ℕ × ℕ) };
 
-    ghost view = { λ l. l.shared.value };
+    ghost view = { λ l. l.older.value ++ l.recent.value };
+
+    ghost invariant = { λ l. are_new l.older.value l.recent.value ≡ true };
 }
 
 impl Loader {
@@ -31,7 +43,8 @@ impl Loader {
         ensures { IfOk result (λ loader. loader ≡ []) }
     {
         Ok(Loader {
-            shared: Arc::new(alloc, Records::new(alloc))?,
+            older: Arc::new(alloc, Records::new(alloc))?,
+            recent: Arc::new(alloc, Records::new(alloc))?,
         })
     }
 
@@ -39,7 +52,8 @@ impl Loader {
     pub(crate) fn get(&self, name: &[u8]) -> Option<ClassId>
         ensures { result ≡ recorded name.now self.now }
     {
-        self.shared.get(name)
+        let recent = &self.recent;
+        self.older.get(name).or_else(|| recent.get(name))
     }
 
     /// The same loader once more, which both share. Too many copies are an error.
@@ -47,11 +61,13 @@ impl Loader {
         ensures { IfOk result (λ copy. copy ≡ self.now) }
     {
         Ok(Loader {
-            shared: Arc::try_clone(&self.shared)?,
+            older: Arc::try_clone(&self.older)?,
+            recent: Arc::try_clone(&self.recent)?,
         })
     }
 
-    /// Records the class under the name, which is new. Records that copies share are copied first.
+    /// Records the class under the name, which is new. Recent records that copies share are copied first. So are the older ones,
+    /// but only where there are as many recent ones as there may be, which move behind them then.
     ///
     /// # Errors
     ///
@@ -61,8 +77,65 @@ impl Loader {
         ensures ok { OnOk result (self.new ≡ self.old ++ (name.items, class) ∷ []) }
         ensures err { OnErr result (self.new ≡ self.old) }
     {
-        record_shared(&mut self.shared, name, class)
+        record_behind(&mut self.older, &mut self.recent, name, class)
     }
+}
+
+/// Records the class under the name, which is new to both, behind the recent ones. Where there are as many of these as there may
+/// be, they move behind the older ones first.
+///
+/// # Errors
+///
+/// Want of memory. Both together are as they were then, though the recent ones may have moved.
+fn record_behind(
+    older: &mut Arc<Records>,
+    recent: &mut Arc<Records>,
+    name: Vec<u8>,
+    class: ClassId,
+) -> Result<(), AllocError>
+    requires apart { are_new older.old.value recent.old.value ≡ true }
+    requires fresh { recorded name.items (older.old.value ++ recent.old.value) ≡ None }
+    ensures ok { OnOk result
+        (older.new.value ++ recent.new.value ≡ (older.old.value ++ recent.old.value) ++ (name.items, class) ∷ []) }
+    ensures err { OnErr result (older.new.value ++ recent.new.value ≡ older.old.value ++ recent.old.value) }
+    ensures apart { are_new older.new.value recent.new.value ≡ true }
+{
+    make_room(older, recent)?;
+    record_shared(recent, name, class)
+}
+
+/// Moves the recent records behind the older ones, where there are as many as there may be.
+///
+/// # Errors
+///
+/// Want of memory. Nothing has changed then.
+fn make_room(older: &mut Arc<Records>, recent: &mut Arc<Records>) -> Result<(), AllocError>
+    requires apart { are_new older.old.value recent.old.value ≡ true }
+    ensures same { older.new.value ++ recent.new.value ≡ older.old.value ++ recent.old.value }
+    ensures apart { are_new older.new.value recent.new.value ≡ true }
+    ensures room { OnOk result (length recent.new.value < 256) }
+{
+    if recent.len() < MOST_RECENT {
+        return Ok(());
+    }
+    move_recent(older, recent)
+}
+
+/// Moves the recent records behind the older ones, to which they are new. Records that others hold, too, are copied first.
+///
+/// # Errors
+///
+/// Want of memory. Nothing has changed then.
+fn move_recent(older: &mut Arc<Records>, recent: &mut Arc<Records>) -> Result<(), AllocError>
+    requires apart { are_new older.old.value recent.old.value ≡ true }
+    ensures older { OnOk result (older.new.value ≡ older.old.value ++ recent.old.value) }
+    ensures recent { OnOk result (recent.new.value ≡ []) }
+    ensures older_err { OnErr result (older.new.value ≡ older.old.value) }
+    ensures recent_err { OnErr result (recent.new.value ≡ recent.old.value) }
+{
+    let moved = Arc::make_mut(recent)?;
+    let records = Arc::make_mut(older)?;
+    records.append(moved)
 }
 
 /// Records the class under the name, which is new. Records that others hold, too, are copied first.
@@ -121,6 +194,13 @@ impl Records {
         self.records.get(name).copied()
     }
 
+    /// How many names there are.
+    fn len(&self) -> usize
+        ensures { result ≡ length self.now }
+    {
+        self.records.len()
+    }
+
     /// Records the class under the name, which is new.
     ///
     /// # Errors
@@ -133,6 +213,21 @@ impl Records {
     {
         self.records.insert(name, class)?;
         Ok(())
+    }
+
+    /// Moves the other names behind these, to which they are new.
+    ///
+    /// # Errors
+    ///
+    /// Want of memory. Nothing has changed then.
+    fn append(&mut self, other: &mut Records) -> Result<(), AllocError>
+        requires { are_new self.old other.old ≡ true }
+        ensures ok { OnOk result (self.new ≡ self.old ++ other.old) }
+        ensures emptied { OnOk result (other.new ≡ []) }
+        ensures err { OnErr result (self.new ≡ self.old) }
+        ensures other_err { OnErr result (other.new ≡ other.old) }
+    {
+        self.records.append(&mut other.records)
     }
 }
 
