@@ -1,6 +1,6 @@
 //! The event machine.
 
-ghost use Rattle.std.specs.Prelude.{◌≡◌, ◌≤◌, ℕ, true, length, IfOk, IfErr, OnErr};
+ghost use Rattle.std.specs.Prelude.{◌≡◌, ◌≤◌, ℕ, true, length, IsOk, IfOk, IfErr, OnErr};
 ghost use Rattle.jl_types.specs.Calls as calls;
 ghost use Rattle.jl_types.specs.Events.{verdict};
 ghost use Rattle.jl_types.specs.History.{installed};
@@ -10,6 +10,7 @@ ghost use Rattle.jl_core.specs.State.{State, empty_core, events, world_of, links
 ghost use Rattle.jl_core.specs.Plans.{IsPlanned, IsAsPlanned};
 ghost use Rattle.jl_core.specs.Logs.{shown, are_told};
 ghost use Rattle.jl_core.specs.Works.{most_of_last};
+ghost use Rattle.jl_core.specs.Judging.{most_to_judge};
 
 use crate::instance::Instance;
 use crate::log::Entry;
@@ -106,10 +107,38 @@ impl Core {
     {
         let mut work = Work::new();
         let event = self.present.judged(event, &mut work)?;
-        let next = self.take_next(alloc)?;
-        let (next, reply) = next.perform(alloc, event, &mut work)?;
-        let planned = Planned::new(alloc, &self.present, next, reply, work.ticks())?;
+        let planned = self.plan_accepted(alloc, event, &mut work)?;
         Ok(planned)
+    }
+
+    /// The first half of [`apply`](Core::apply) for an event of which the caller knows that it is accepted: as
+    /// [`plan`](Core::plan), but the event isn't judged, so that of an install no link is looked up. Want of memory is the only
+    /// error.
+    pub fn plan_judged(&mut self, alloc: Global, event: Event) -> Result<Planned, AllocError>
+        requires { IsOk (verdict self.old.max_sites (world_of self.old) event) }
+        ensures planned { IfOk result (IsPlanned self.old event) }
+        ensures unchanged { self.new ≡ self.old }
+    {
+        let mut work = Work::new();
+        self.plan_accepted(alloc, event, &mut work)
+    }
+
+    /// Plans an event that is accepted, and counts what that takes beside what it took to judge it. Want of memory is an error.
+    fn plan_accepted(
+        &mut self,
+        alloc: Global,
+        event: Event,
+        work: &mut Work,
+    ) -> Result<Planned, AllocError>
+        requires accepted { IsOk (verdict self.old.max_sites (world_of self.old) event) }
+        requires judged { work.old ≤ most_to_judge (world_of self.old) event }
+        requires small { work.old ≤ 16777216 }
+        ensures planned { IfOk result (IsPlanned self.old event) }
+        ensures unchanged { self.new ≡ self.old }
+    {
+        let next = self.take_next(alloc)?;
+        let (next, reply) = next.perform(alloc, event, work)?;
+        Planned::new(alloc, &self.present, next, reply, work.ticks())
     }
 
     /// The second half of [`apply`](Core::apply): the core is as the plan left it, and comes to be what it was planned to be.
