@@ -28,8 +28,11 @@ module _ (K R : RattleType) (g : name.Ghosts K.Denot) where
           (
             search of_seen.the_send depth 9,
             (
-              search (of_writers.the_field_send, of_tables.the_send, of_tables.the_sync, of_changes.the_send, sendable, of_std) depth 12,
-              (search sendable depth 9, tt),
+              search sendable depth 9,
+              (
+                search (of_writers.the_field_send, of_tables.the_send, of_tables.the_sync, of_changes.the_send, sendable, of_std) depth 12,
+                (search sendable depth 9, tt),
+              ),
             ),
           ),
         ),

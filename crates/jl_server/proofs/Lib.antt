@@ -2,6 +2,7 @@ pub mod Beginnings
 pub mod Adding
 pub mod Rules
 pub mod Logs
+pub mod Alone
 pub mod Next
 pub mod Ends
 pub mod Opens

@@ -55,6 +55,10 @@ module _ (n : ℕ) (entries : List Entry) (e : Event) (plan : Plan) (planned : I
   pub entry_exact : planned_entry plan ≡ entry_after entries e plan.reply
   entry_exact = entry_is ∙ ap (λ (slots : List (ℕ × Option Link)). record { event = e; reply = plan.reply; slots = slots }) is_entry.slots
 
+  -- the entry is of this event
+  pub event_planned : (planned_entry plan).event ≡ e
+  event_planned = ap (λ (x : Entry). x.event) entry_is
+
   -- the core that the event leads to is that of the list with the entry
   pub core_next : plan.after ≡ core_of n (entries ++ planned_entry plan ∷ [])
   core_next =
@@ -85,3 +89,10 @@ serial_logged n entries core is = ap (λ (s : State). length s.log) is ∙ lengt
 -- as many classes as after the list
 pub classes_logged : (n : ℕ) (entries : List Entry) (core : State) → core ≡ core_of n entries → length (world_of core).classes.rows ≡ classes_of entries
 classes_logged n entries core is = ap (λ (w : World). length w.classes.rows) (world_logged n entries core is)
+
+-- what is accepted in a world is accepted by a core that has this world
+pub accepted_logged : (n : ℕ) (entries : List Entry) (core : State) (e : Event) (w : World) → core ≡ core_of n entries → world_after (events_of entries) ≡ w
+    → IsOk (verdict n w e) → IsOk (verdict core.max_sites (world_of core) e)
+accepted_logged n entries core e w is same accepted =
+    subst (λ (v : World). IsOk (verdict core.max_sites v e)) (sym (world_logged n entries core is ∙ same))
+    (subst (λ (s : State). IsOk (verdict s.max_sites w e)) (sym is) accepted)

@@ -1,5 +1,6 @@
 -- The history of a server, which exists in the proofs alone, and the entries that it consists of.
-use Rattle.std.specs.Prelude.{ℕ, ◌≡◌, ◌==◌, true, List, [], ◌∷◌, ◌++◌, length, map, fold}
+use Rattle.std.specs.Prelude.{ℕ, ◌≡◌, ◌==◌, Bool, true, false, List, [], ◌∷◌, ◌++◌, length, map, fold, drop}
+use Rattle.std.specs.List.{list_all}
 use Rattle.logbook.specs.Pages.{Cell, Step, View, Book, Named}
 use Rattle.jl_types.specs.Event.{Event}
 use Rattle.jl_types.specs.declared.event.EventOf.TheVariants as event
@@ -27,6 +28,15 @@ EndsWith entries e reply = (before : List Entry) × (entries ≡ before ++ entry
 -- the entry of a planned event: the last event of the core that it leads to
 abbrev pub planned_entry : Plan → Entry
 planned_entry plan = record { event = fold (λ last entry. entry.0) event.NewSwitch plan.after.log; reply = plan.reply; slots = plan.slots }
+
+-- the event is an install
+abbrev pub is_install : Event → Bool
+is_install (event.Install rows) = true
+is_install _ = false
+
+-- after the first n entries there are installs alone
+abbrev pub installs_alone : ℕ → List Entry → Bool
+installs_alone n entries = list_all (λ entry. is_install entry.event) (drop n entries)
 
 -- a server that was not started yet: its history, how many sites may be requested, and how many callers it is to have
 pub record Server : Type 0 where

@@ -1,13 +1,13 @@
 //! What lies under the lock: a core, and the one writer of the published table.
 
-ghost use Rattle.std.specs.Prelude.{◌≡◌, [], ◌∷◌, ◌++◌, length, drop, IfOk, IfErr, IfSome};
+ghost use Rattle.std.specs.Prelude.{◌≡◌, true, [], ◌∷◌, ◌++◌, length, drop, IsOk, IfOk, IfErr, IfSome, if◌then◌else◌};
 ghost use Rattle.jl_types.specs.declared.refusal.Refusal.TheVariants.{Memory};
 ghost use Rattle.jl_types.specs.Events.{verdict};
 ghost use Rattle.jl_types.specs.History.{world_after, installed_links};
 ghost use Rattle.jl_types.specs.Entries.{IsLegal, events_of};
 ghost use Rattle.jl_core.specs.State.{IsAccepted, IsRefused, empty_core};
-ghost use Rattle.jl_core.specs.Plans.{IsAsPlanned};
-ghost use Rattle.jl_server.specs.History.{core_of, entry_after, planned_entry};
+ghost use Rattle.jl_core.specs.Plans.{IsPlanned, IsAsPlanned};
+ghost use Rattle.jl_server.specs.History.{core_of, entry_after, is_install, planned_entry};
 
 use crate::history::{Head, Name};
 use crate::publish::{TableWriter, publish_in};
@@ -46,16 +46,18 @@ pub struct Book<K: Name, R: Wait + Drop> {
     core: Core,
     head: Head<K>,
     list: Seen<K>,
+    /// After so many entries there were installs alone, which leave what there is to link as it is.
+    since: u64,
     writer: TableWriter,
     rt: R,
 }
 
 impl<K: Name, R: Wait + Drop> Model for Book<K, R> {
-    ghost use Rattle.std.specs.Prelude.{◌≡◌, List, [], length, drop};
+    ghost use Rattle.std.specs.Prelude.{◌≡◌, true, List, [], length, drop};
     ghost use Rattle.std.specs.Coded.{codes};
     ghost use Rattle.jl_types.specs.Means.TargetCode.{target_code};
     ghost use Rattle.jl_types.specs.Entries as plain;
-    ghost use Rattle.jl_server.specs.History.{core_of};
+    ghost use Rattle.jl_server.specs.History.{core_of, installs_alone};
 
     ghost Value = { List plain.Entry };
 
@@ -68,7 +70,8 @@ impl<K: Name, R: Wait + Drop> Model for Book<K, R> {
         × (b.writer.desk.shown.value.list.reached.log ≡ b.list)
         × (b.writer.desk.shown.value.list.reached.book ≡ K.book)
         × (length b.writer.desk.shown.value.links.items ≡ K.max_sites)
-        × (length (drop b.writer.behind b.writer.log.items) ≡ 0) };
+        × (length (drop b.writer.behind b.writer.log.items) ≡ 0)
+        × (installs_alone b.since b.list ≡ true) };
 }
 
 /// The writer waits for its readers at its end.
@@ -78,6 +81,7 @@ impl<K: Name, R: Wait + Drop> Drop for Book<K, R> {
             core: _core,
             head: _head,
             list: _list,
+            since: _since,
             writer,
             rt,
         } = self;
@@ -104,6 +108,7 @@ impl<K: Name, R: Wait + Drop> Book<K, R> {
             core,
             head,
             list,
+            since: 0,
             writer,
             rt,
         }
@@ -156,27 +161,112 @@ impl<K: Name, R: Wait + Drop> Book<K, R> {
         ensures refused { IfErr result (λ d. IsRefused (verdict K.max_sites (world_after (events_of self.old)) event) d.refusal) }
         ensures denied { IfErr result (λ d. (d.seen ≡ self.old) × (self.new ≡ self.old)) }
     {
-        match self.core.plan(alloc, event) {
-            Ok(planned) => self.perform(rt, alloc, planned),
+        self.step_judged(rt, alloc, event, None)
+    }
+
+    /// The same, of an event that is accepted after the judged list, where there is one.
+    pub(crate) fn step_judged<'a, H: Wait>(
+        &'a mut self,
+        rt: &H,
+        alloc: Global,
+        event: Event,
+        judged: Option<&'a Seen<K>>,
+    ) -> Result<Receipt<K>, Denied<K>>
+        requires { IfSome judged (λ list. IsOk (verdict K.max_sites (world_after (events_of list.now)) event)) }
+        ensures accepted { IfOk result (λ r. IsAccepted (core_of K.max_sites self.old) (core_of K.max_sites self.new) event r.reply) }
+        ensures entry { IfOk result (λ r. self.new ≡ self.old ++ entry_after self.old event r.reply ∷ []) }
+        ensures receipt { IfOk result (λ r. (r.seen ≡ self.new) × (r.serial ≡ length self.new)) }
+        ensures legal { IsLegal K.max_sites self.new }
+        ensures refused { IfErr result (λ d. IsRefused (verdict K.max_sites (world_after (events_of self.old)) event) d.refusal) }
+        ensures denied { IfErr result (λ d. (d.seen ≡ self.old) × (self.new ≡ self.old)) }
+    {
+        let installs = installs(&event);
+        match self.plan(alloc, event, judged) {
+            Ok(planned) => self.perform(rt, alloc, planned, installs),
             Err(refusal) => Err(self.denied(refusal)),
         }
     }
 
-    /// What was planned, with all its room made first. Want of memory is the only refusal.
+    /// Plans the event, which is accepted after the judged list, where there is one.
+    fn plan(
+        &mut self,
+        alloc: Global,
+        event: Event,
+        judged: Option<&Seen<K>>,
+    ) -> Result<Planned, Refusal>
+        requires { IfSome judged (λ list. IsOk (verdict K.max_sites (world_after (events_of list.now)) event)) }
+        ensures planned { IfOk result (IsPlanned (core_of K.max_sites self.old) event) }
+        ensures refused { IfErr result (IsRefused (verdict K.max_sites (world_after (events_of self.old)) event)) }
+        ensures unchanged { self.new ≡ self.old }
+    {
+        match judged {
+            Some(list) => self.plan_judged(alloc, event, list),
+            None => self.plan_new(alloc, event),
+        }
+    }
+
+    /// Plans the event, which is accepted after this list, and judges it once more where anything but installs came since.
+    fn plan_judged(
+        &mut self,
+        alloc: Global,
+        event: Event,
+        judged: &Seen<K>,
+    ) -> Result<Planned, Refusal>
+        requires { IsOk (verdict K.max_sites (world_after (events_of judged.now)) event) }
+        ensures planned { IfOk result (IsPlanned (core_of K.max_sites self.old) event) }
+        ensures refused { IfErr result (IsRefused (verdict K.max_sites (world_after (events_of self.old)) event)) }
+        ensures unchanged { self.new ≡ self.old }
+    {
+        if !self.is_as_after(judged) {
+            return self.plan_new(alloc, event);
+        }
+        match self.core.plan_judged(alloc, event) {
+            Ok(planned) => Ok(planned),
+            Err(_) => Err(Refusal::Memory),
+        }
+    }
+
+    /// Plans the event, of which nothing is known.
+    fn plan_new(&mut self, alloc: Global, event: Event) -> Result<Planned, Refusal>
+        ensures planned { IfOk result (IsPlanned (core_of K.max_sites self.old) event) }
+        ensures refused { IfErr result (IsRefused (verdict K.max_sites (world_after (events_of self.old)) event)) }
+        ensures unchanged { self.new ≡ self.old }
+    {
+        self.core.plan(alloc, event)
+    }
+
+    /// Whether nothing but installs came after this list, so that what there is to link is what there was.
+    fn is_as_after(&self, list: &Seen<K>) -> bool
+        ensures { result ≡ true → world_after (events_of self.now) ≡ world_after (events_of list.now) }
+    {
+        let serial = list.serial();
+        if serial < self.since {
+            return false;
+        }
+        if serial > self.list.serial() {
+            return false;
+        }
+        list.begins(&self.list);
+        true
+    }
+
+    /// What was planned, an install or not, with all its room made first. Want of memory is the only refusal.
     fn perform<H: Wait>(
         &mut self,
         rt: &H,
         alloc: Global,
         planned: Planned,
+        installs: bool,
     ) -> Result<Receipt<K>, Denied<K>>
-        requires { IsAsPlanned (core_of K.max_sites self.old) planned }
+        requires planned { IsAsPlanned (core_of K.max_sites self.old) planned }
+        requires installs { installs ≡ is_install (planned_entry planned).event }
         ensures list { IfOk result (λ r. (self.new ≡ self.old ++ planned_entry planned ∷ []) × (r.reply ≡ planned.reply)) }
         ensures receipt { IfOk result (λ r. (r.seen ≡ self.new) × (r.serial ≡ length self.new)) }
         ensures legal { IsLegal K.max_sites self.new }
         ensures refused { IfErr result (λ d. (d.refusal ≡ Memory) × (d.seen ≡ self.old) × (self.new ≡ self.old)) }
     {
         match self.next(alloc, &planned) {
-            Some(next) => Ok(self.publish(rt, planned, next)),
+            Some(next) => Ok(self.publish(rt, planned, next, installs)),
             None => Err(self.unmade(planned)),
         }
     }
@@ -198,8 +288,15 @@ impl<K: Name, R: Wait + Drop> Book<K, R> {
     }
 
     /// Commits what was planned, and publishes it.
-    fn publish<H: Wait>(&mut self, rt: &H, planned: Planned, next: Next<K>) -> Receipt<K>
+    fn publish<H: Wait>(
+        &mut self,
+        rt: &H,
+        planned: Planned,
+        next: Next<K>,
+        installs: bool,
+    ) -> Receipt<K>
         requires planned { IsAsPlanned (core_of K.max_sites self.old) planned }
+        requires installs { installs ≡ is_install (planned_entry planned).event }
         requires slots { next.slots.items ≡ planned.slots }
         requires list { next.list ≡ self.old ++ planned_entry planned ∷ [] }
         ensures list { self.new ≡ self.old ++ planned_entry planned ∷ [] }
@@ -215,6 +312,7 @@ impl<K: Name, R: Wait + Drop> Book<K, R> {
             list: list.mark(),
         };
         publish_in(rt, &mut self.writer, change);
+        self.since = since_after(installs, self.since, &list);
         self.list = list;
         self.receipt(reply)
     }
@@ -251,6 +349,21 @@ impl<K: Name, R: Wait + Drop> Book<K, R> {
     {
         self.denied(Refusal::Memory)
     }
+}
+
+/// Whether the event is an install.
+fn installs(event: &Event) -> bool
+    ensures { result ≡ is_install event.now }
+{
+    matches!(event, Event::Install(_))
+}
+
+/// After how many entries of this list there were installs alone. Its last entry is an install or not, and before it there were
+/// installs alone after so many.
+fn since_after<K: Name>(installs: bool, since: u64, list: &Seen<K>) -> u64
+    ensures { result ≡ (if installs then since else length list.now) }
+{
+    if installs { since } else { list.serial() }
 }
 
 /// The slots once more. Want of memory is an error.

@@ -1,6 +1,6 @@
 //! A link server: its book under one lock.
 
-ghost use Rattle.std.specs.Prelude.{◌≡◌, ◌<◌, ◌≤◌, [], ◌∷◌, ◌++◌, length, IfOk, IfErr, OnErr};
+ghost use Rattle.std.specs.Prelude.{◌≡◌, ◌<◌, ◌≤◌, [], ◌∷◌, ◌++◌, length, IsOk, IfOk, IfErr, IfSome, OnErr};
 ghost use mathlib.Core.List.{IsPrefix};
 ghost use Rattle.jl_types.specs.Events.{verdict};
 ghost use Rattle.jl_types.specs.History.{world_after, installed_links};
@@ -93,7 +93,54 @@ impl<K: Name> Caller<K> {
         ensures denied { IfErr result (λ d. d.seen ≡ self.new) }
         ensures refused { IfErr result (λ d. IsRefused (verdict K.max_sites (world_after (events_of self.new)) event) d.refusal) }
     {
-        let answer = apply_after(rt, alloc, server, self.seen(), event);
+        self.apply_one(rt, alloc, server, event, None)
+    }
+
+    /// As [`apply`](Caller::apply), of an event that would have been accepted after this list. Where nothing but installs came since,
+    /// it isn't judged again under the lock.
+    ///
+    /// # Errors
+    ///
+    /// Those of [`apply`](Caller::apply).
+    pub fn apply_judged<H: Wait, R: Wait + Drop>(
+        &mut self,
+        rt: &H,
+        alloc: Global,
+        server: &LinkServer<K, R>,
+        event: Event,
+        judged: &Seen<K>,
+    ) -> Result<Receipt<K>, Denied<K>>
+        requires { IsOk (verdict K.max_sites (world_after (events_of judged.now)) event) }
+        ensures own { IsPrefix self.old self.new }
+        ensures legal { IsLegal K.max_sites self.new }
+        ensures receipt { IfOk result (λ r. (r.seen ≡ self.new) × (r.serial ≡ length self.new)) }
+        ensures entry { IfOk result (λ r. EndsWith self.new event r.reply) }
+        ensures longer { IfOk result (λ r. length self.old < length self.new) }
+        ensures denied { IfErr result (λ d. d.seen ≡ self.new) }
+        ensures refused { IfErr result (λ d. IsRefused (verdict K.max_sites (world_after (events_of self.new)) event) d.refusal) }
+    {
+        self.apply_one(rt, alloc, server, event, Some(judged))
+    }
+
+    /// Applies the event, which is accepted after the judged list, where there is one.
+    fn apply_one<'a, H: Wait, R: Wait + Drop>(
+        &mut self,
+        rt: &H,
+        alloc: Global,
+        server: &'a LinkServer<K, R>,
+        event: Event,
+        judged: Option<&'a Seen<K>>,
+    ) -> Result<Receipt<K>, Denied<K>>
+        requires { IfSome judged (λ list. IsOk (verdict K.max_sites (world_after (events_of list.now)) event)) }
+        ensures own { IsPrefix self.old self.new }
+        ensures legal { IsLegal K.max_sites self.new }
+        ensures receipt { IfOk result (λ r. (r.seen ≡ self.new) × (r.serial ≡ length self.new)) }
+        ensures entry { IfOk result (λ r. EndsWith self.new event r.reply) }
+        ensures longer { IfOk result (λ r. length self.old < length self.new) }
+        ensures denied { IfErr result (λ d. d.seen ≡ self.new) }
+        ensures refused { IfErr result (λ d. IsRefused (verdict K.max_sites (world_after (events_of self.new)) event) d.refusal) }
+    {
+        let answer = apply_after(rt, alloc, server, self.seen(), event, judged);
         match &answer {
             Ok(receipt) => self.see(&receipt.seen),
             Err(denied) => self.see(&denied.seen),
@@ -123,14 +170,17 @@ impl<K: Name> Caller<K> {
     }
 }
 
-/// One step of the book after this list. While the book is behind it, which never happens, the lock is let go and taken again.
+/// One step of the book after this list, of an event that is accepted after the judged list, where there is one. While the book is
+/// behind this list, which never happens, the lock is let go and taken again.
 fn apply_after<K: Name, H: Wait, R: Wait + Drop>(
     rt: &H,
     alloc: Global,
     server: &LinkServer<K, R>,
     seen: &Seen<K>,
     event: Event,
+    judged: Option<&Seen<K>>,
 ) -> Result<Receipt<K>, Denied<K>>
+    requires { IfSome judged (λ list. IsOk (verdict K.max_sites (world_after (events_of list.now)) event)) }
     ensures receipt { IfOk result (λ r. IsPrefix seen.now r.seen × IsLegal K.max_sites r.seen × (r.serial ≡ length r.seen)) }
     ensures entry { IfOk result (λ r. EndsWith r.seen event r.reply) }
     ensures longer { IfOk result (λ r. length seen.now < length r.seen) }
@@ -140,7 +190,7 @@ fn apply_after<K: Name, H: Wait, R: Wait + Drop>(
     for _ in rt.forever() {
         let mut book = server.book.lock(rt);
         if book.list().serial() >= seen.serial() {
-            return step_after(rt, alloc, &mut book, seen, event);
+            return step_after(rt, alloc, &mut book, seen, event, judged);
         }
     }
     unreachable!()
@@ -154,8 +204,10 @@ fn step_after<K: Name, H: Wait, R: Wait + Drop>(
     book: &mut Book<K, R>,
     seen: &Seen<K>,
     event: Event,
+    judged: Option<&Seen<K>>,
 ) -> Result<Receipt<K>, Denied<K>>
-    requires { length seen.now ≤ length book.old }
+    requires later { length seen.now ≤ length book.old }
+    requires judged { IfSome judged (λ list. IsOk (verdict K.max_sites (world_after (events_of list.now)) event)) }
     ensures added { IfOk result (λ r. book.new ≡ book.old ++ entry_after book.old event r.reply ∷ []) }
     ensures told { IfOk result (λ r. (r.seen ≡ book.new) × (r.serial ≡ length book.new)) }
     ensures kept { IfErr result (λ d. (d.seen ≡ book.old) × (book.new ≡ book.old)) }
@@ -166,7 +218,7 @@ fn step_after<K: Name, H: Wait, R: Wait + Drop>(
     ensures refused { IfErr result (λ d. IsRefused (verdict K.max_sites (world_after (events_of d.seen)) event) d.refusal) }
 {
     seen.begins(book.list());
-    book.step(rt, alloc, event)
+    book.step_judged(rt, alloc, event, judged)
 }
 
 /// A snapshot of the book after this list.

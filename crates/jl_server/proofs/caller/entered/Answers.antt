@@ -1,5 +1,3 @@
-use Rattle.std.specs.Prelude.{IfOk, IfErr}
-use Rattle.std.proofs.Common.{sym, subst}
 use Rattle.left_right.specs.Sides.{view as seat_view}
 use Rattle.jl_server.proofs.Next.{legal_shown}
 use Rattle.jl_server.proofs.caller.entered.Goals as goal

@@ -4,6 +4,7 @@ use Rattle.jl_types.proofs.Written.{length_written}
 use Rattle.jl_server.specs.History.{core_of, planned_entry}
 use Rattle.jl_server.specs.Shown.{content}
 use Rattle.jl_server.proofs.Logs.{core_next, classes_logged}
+use Rattle.jl_server.proofs.Alone.{alone_next}
 use Rattle.jl_server.proofs.Next.{shown_next}
 use Rattle.jl_server.proofs.book.Book.publish.Goals as goal
 
@@ -29,4 +30,6 @@ invariant_of-self g c =
       ap (λ t. t.list.reached.book) shown ∙ c.mark.ensures.book,
       ap (λ t. length t.links) shown ∙ (length_written c.args.next.slots.items c.self.inside.writer.desk.shown.value.links.items ∙ c.self.invariant.3),
       c.publish_in.ensures.settled,
+      alone_next c.args.installs c.self.inside.since c.since_after-self-inside.result c.self.inside.list xs c.args.next.list (planned_entry c.args.planned) c.self.view_is c.requires.list c.requires.installs
+          c.since_after-self-inside.ensures c.self.invariant.5,
     )
