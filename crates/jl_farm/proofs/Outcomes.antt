@@ -1,6 +1,7 @@
 -- What a job came to is shown by the lists that its report names.
 use Rattle.std.proofs.Common.{◌≡◌, ◌⊎◌, ◌<◌, ℕ, Bool, true, false, List, [], ◌∷◌, map, length, Option, Some, None, Result, Ok, Err, Any, refl, ap, sym, ◌∙◌, subst, inl, inr, arith}
-use Rattle.std.specs.Prelude.{IsErr}
+use Rattle.std.specs.Prelude.{option_map, IsOk, IsErr}
+use Rattle.std.specs.Bool.{then_some}
 use Rattle.std.proofs.lemmas.List.{length-map}
 use mathlib.Core.List.{IsPrefix}
 use Rattle.jl_types.specs.declared.link.Link.{Link}
@@ -33,7 +34,7 @@ use Rattle.jl_farm.specs.declared.report.JobOutcome.{JobOutcome}
 use Rattle.jl_farm.specs.declared.report.JobOutcome.TheVariants as outcome
 use Rattle.jl_farm.specs.Reports.{world_of, ComesAfter, IsNoBatch, IsShown, IsStale, IsRefusedBatch, IsInstalled}
 use Rattle.jl_farm.specs.Work.{refused_as, HasSeen}
-use Rattle.jl_farm.proofs.Causes.{batch_cause, no_batch_by_size, no_batch_by_sites, unready_by_fault, stale_by_fault, prepared_sites}
+use Rattle.jl_farm.proofs.Causes.{batch_cause, no_batch_cause, no_row_fault, no_batch_by_size, no_batch_by_sites, unready_by_fault, stale_by_fault, prepared_sites}
 
 -- ---- what a caller had seen before
 
@@ -108,6 +109,16 @@ module _ (w : World) (of : List ℕ) where
 refused_install : (o : Option Refusal) (m : Made) (r : Refusal) → unless o m ≡ Err r → o ≡ Some r
 refused_install None m r e = cc
 refused_install (Some f) m r e = cc
+
+-- rows that were prepared in the world would have been accepted there
+no_install_fault : (w : World) (of : List ℕ) (rows : List (ℕ × Link)) → prepare_fault w of ≡ None → ArePrepared w of rows → install_fault w rows ≡ None
+no_install_fault w of rows none prepared =
+    let same = prepared_sites w of rows prepared in
+    let cause = no_batch_cause fault.BatchSize preparation.of_sites (is_bad_size (length of)) (sites_fault w [] of) (ready_fault w of) none in
+    let size : is_bad_size (length rows) ≡ false = ap is_bad_size (sym (length-map rows (λ (row : ℕ × Link). row.0)) ∙ ap length same) ∙ cause.0 in
+    let sites_are : sites_fault w [] (map (λ row. row.0) rows) ≡ None = ap (sites_fault w []) same ∙ cause.1 in
+    let fine = no_row_fault w of rows prepared in
+    λ i. first_of (then_some (size i) refusal.BatchSize ∷ option_map events.of_sites (sites_are i) ∷ fine i ∷ [])
 
 -- a row is stale or not ready
 row_kind : (w : World) (rows : List (ℕ × Link)) (r : Refusal) → first_of (map (λ row. row_fault row.0 row.1 (scratch w row.0)) rows) ≡ Some r
@@ -187,6 +198,13 @@ prepared_why n before after list snapshot of f g own legal is shot answer same =
     let here = subst (λ (x : Snapshot). IsPreparation x of (Err f)) shot answer in
     let cause = subst (IsWhy (world_of after) of) same (why (world_of after) of (length after) f here) in
     subst (λ (xs : List Entry). ComesAfter n before xs × IsWhy (world_of xs) of g) (sym is) ((own, legal), cause)
+
+-- rows that were prepared after the list would have been accepted after it
+pub accepted_prepared : (n : ℕ) (list before : List Entry) (of : List ℕ) (rows : List (ℕ × Link)) → list ≡ before → prepare_fault (world_of before) of ≡ None
+    → ArePrepared (world_of before) of rows → IsOk (verdict n (world_of list) (Install rows))
+accepted_prepared n list before of rows is none prepared =
+    subst (λ (xs : List Entry). IsOk (verdict n (world_of xs) (Install rows))) (sym is)
+    (subst (λ (o : Option Refusal). IsOk (unless o made.Nothing)) (sym (no_install_fault (world_of before) of rows none prepared)) refl)
 
 pub installed : {K : Type 0} (n : ℕ) (before after : List Entry) (of : List ℕ) (rows : List (ℕ × Link)) (receipt : Receipt K)
     → ArePrepared (world_of before) of rows → (receipt.seen ≡ after) × (receipt.serial ≡ length after) → IsPrefix before after → IsLegal n after → length before < length after

@@ -1,10 +1,10 @@
 //! What all workers of a farm share, and what one of them does.
 
-ghost use Rattle.std.specs.Prelude.{◌≡◌, ◌<◌, false, [], IfOk, OnOk};
+ghost use Rattle.std.specs.Prelude.{◌≡◌, ◌<◌, false, [], None, IfOk, OnOk};
 ghost use mathlib.Core.List.{IsPrefix};
 ghost use Rattle.crossbeam_queue.specs.Passes.{view, IsPassOf};
 ghost use Rattle.jl_types.specs.Entries.{IsLegal};
-ghost use Rattle.jl_types.specs.Preparation.{ArePrepared};
+ghost use Rattle.jl_types.specs.Preparation.{prepare_fault, ArePrepared};
 ghost use Rattle.jl_farm.specs.Queued.{KnowsAll};
 ghost use Rattle.jl_farm.specs.Reports.{IsShown, sites_of, world_of};
 ghost use Rattle.jl_farm.specs.Work.{Works, HasPart, HasSeen, refused_as};
@@ -114,7 +114,8 @@ impl<'a, K: Name, G: Gate, R: Wait, S: Wait + Drop> Floor<'a, K, G, R, S> {
         }
     }
 
-    /// Installs the rows, which were prepared of these sites after this list.
+    /// Installs the rows, which were prepared of these sites after this list. Where nothing but installs came since, they aren't looked up
+    /// once more.
     fn install(
         &self,
         caller: &mut Caller<K>,
@@ -123,12 +124,14 @@ impl<'a, K: Name, G: Gate, R: Wait, S: Wait + Drop> Floor<'a, K, G, R, S> {
         rows: Seq<(SiteNo, Link)>,
     ) -> JobOutcome<K>
         requires prepared { (prepared ≡ caller.old) × IsLegal K.max_sites caller.old }
+        requires batch { prepare_fault (world_of caller.old) sites.now ≡ None }
         requires rows { ArePrepared (world_of caller.old) sites.now rows }
         ensures own { IsPrefix caller.old caller.new }
         ensures shown { IsShown K.max_sites caller.old sites.now result }
         ensures seen { HasSeen caller.new result }
     {
-        match caller.apply(self.rt, self.alloc, self.server, Event::Install(rows)) {
+        let install = Event::Install(rows);
+        match caller.apply_judged(self.rt, self.alloc, self.server, install, &prepared) {
             Ok(receipt) => JobOutcome::Installed(receipt),
             Err(denied) => refused(prepared, denied),
         }
