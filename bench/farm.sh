@@ -5,7 +5,8 @@
 #
 # The world is every class of the JDK (JAVA_HOME, else java of the PATH), or, where there is none or JDK=0, 26,000 small classes. 65,536 of
 # its invocations, spread evenly, are requested, if they may be. Each number is the most of RUNS (3) runs, by the wall clock of the farm
-# alone. It needs python3. KEEP=DIR keeps the input there.
+# alone. Last, four programs at once, each a farm of one worker, tell how much faster than one the machine lets four be that share nothing.
+# It needs python3. KEEP=DIR keeps the input there.
 set -eu
 here=$(cd "$(dirname "$0")" && pwd)
 linkd=$(realpath "${1:?the built linkd}")
@@ -60,16 +61,31 @@ for number in range(wanted):
 PY
 cat "$data/ordered.hex" "$data/places.txt" > "$data/input.txt"
 
+# The jobs a second of the run that left said$1.txt and times$1.txt.
+rate_of() {
+    jobs=$(sed 's/.*installed jobs //' "$data/said$1.txt")
+    micros=$(sed 's/.*jobs in \([0-9]*\) us.*/\1/' "$data/times$1.txt")
+    echo $((jobs * 1000000 / micros))
+}
+
 for sites in 1 64; do
     for workers in 1 2 4; do
         most=0
         for _ in $(seq "${RUNS:-3}"); do
             "$farm" "$workers" "$sites" < "$data/input.txt" > "$data/said.txt" 2> "$data/times.txt"
-            jobs=$(sed 's/.*installed jobs //' "$data/said.txt")
-            micros=$(sed 's/.*jobs in \([0-9]*\) us.*/\1/' "$data/times.txt")
-            rate=$((jobs * 1000000 / micros))
+            rate=$(rate_of "")
             if [ "$rate" -gt "$most" ]; then most=$rate; fi
         done
         echo "$workers workers, $sites sites a job: $most jobs a second ($(cat "$data/said.txt"))"
     done
+    most=0
+    for _ in $(seq "${RUNS:-3}"); do
+        for one in 1 2 3 4; do
+            "$farm" 1 "$sites" < "$data/input.txt" > "$data/said$one.txt" 2> "$data/times$one.txt" &
+        done
+        wait
+        rate=$(($(rate_of 1) + $(rate_of 2) + $(rate_of 3) + $(rate_of 4)))
+        if [ "$rate" -gt "$most" ]; then most=$rate; fi
+    done
+    echo "4 programs of 1 worker, $sites sites a job: $most jobs a second in all"
 done
