@@ -42,7 +42,7 @@ impl Probe for Silent {
 /// them in threads. An invokeinterface with more than eight receivers has no pair.
 ///
 /// It pays where `prepare` looks at many receivers: where all of a site's run one method, 256 sites with 64 receivers each, at
-/// some 0.4 microseconds a receiver, were 2.2 to 3.1 times as fast on four processors, and 1.3 to 2.3 times where those were two
+/// some 0.4 microseconds a receiver, were 2.2 to 3.1 times as fast on four processors, and 1.3 to 2.4 times where those were two
 /// cores of two threads each. `prepare` is faster where there are fewer than 1,024 pairs, which one thread looks at here, too, and
 /// where more than eight receivers of an invokevirtual run several methods, since it ends such a site after a few of them.
 ///
