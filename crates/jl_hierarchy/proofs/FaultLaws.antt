@@ -19,7 +19,7 @@ use Rattle.jl_types.specs.Members.{lookup, is_interface}
 use Rattle.jl_types.specs.Resolution.{first_of}
 use Rattle.jl_types.specs.Definitions.{parent_names, named_test, is_open_parent, define_fault}
 use Rattle.jl_hierarchy.specs.Faults.{first_faults, superclass_faults, first_place}
-use Rattle.jl_hierarchy.proofs.FirstPlaces.{none_yet}
+use Rattle.jl_hierarchy.proofs.PrintLaws.{none_yet}
 
 first_here : {A : Type 0} (p : A → Bool) (x : A) (xs : List A) → p x ≡ true → position p (x ∷ xs) ≡ Some 0
 first_here p x xs e = grind (arith, common_steps)

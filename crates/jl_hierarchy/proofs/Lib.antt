@@ -10,7 +10,11 @@ pub mod NewClass
 pub mod Chains
 pub mod DefaultLaws
 pub mod Constancy
-pub mod FirstPlaces
+pub mod PrintLaws
 pub mod Objects
 pub mod NewRecords
 pub mod Recents
+pub mod Lines
+pub mod MarkLaws
+pub mod Redeclaring
+pub mod NewMarks

@@ -1,9 +1,7 @@
 -- What the classes keep beside what a clause sees. A means of proof.
-use Rattle.std.specs.Prelude.{◌≡◌, ℕ, ◌+◌, ◌<◌, ◌≤◌, ◌==◌, Bool, true, ◌&&◌, if◌then◌else◌, List, ◌∷◌, [], ◌++◌, Vec, map, length, get_or, is_some, is_none, ⊤}
+use Rattle.std.specs.Prelude.{◌≡◌, ℕ, ◌<◌, ◌≤◌, ◌==◌, Bool, true, ◌&&◌, if◌then◌else◌, List, ◌∷◌, [], ◌++◌, Vec, map, length, get_or, is_none, ⊤}
 use Rattle.std.specs.List.{AllByRecursion, list_any}
-use Rattle.std.specs.Str.{bytes_eq}
 use Rattle.smallvec.specs.SmallVec.{SmallVec, HasRoomFor}
-use Rattle.jl_classfile.specs.Class.{Method}
 use Rattle.jl_types.specs.World.{Classes}
 use Rattle.jl_types.specs.Members.{numbers, recorded}
 use Rattle.jl_types.specs.Ancestry.{AreOrdered, ancestors, receivers}
@@ -17,19 +15,6 @@ named entries = map (λ e. (e.0.items, e.1)) entries
 abbrev pub are_new : List (List ℕ × ℕ) → List (List ℕ × ℕ) → Bool
 are_new older [] = true
 are_new older (r ∷ recent) = is_none (recorded r.0 older) && are_new (older ++ r ∷ []) recent
-
--- a method of this name
-abbrev pub is_named : List ℕ → Method → Bool
-is_named name method = bytes_eq method.name name
-
--- the place is added under the name, unless there is one already
-abbrev pub with_first : List (List ℕ × ℕ) → List ℕ → ℕ → List (List ℕ × ℕ)
-with_first made name n = if is_some (recorded name made) then made else made ++ (name, n) ∷ []
-
--- the first place of each name is added, where the places of the methods begin with n
-abbrev pub firsts_of : List (List ℕ × ℕ) → ℕ → List Method → List (List ℕ × ℕ)
-firsts_of made n [] = made
-firsts_of made n (m ∷ ms) = firsts_of (with_first made m.name n) (n + 1) ms
 
 -- what the lists that grow hold
 abbrev pub lists : List (SmallVec ℕ) → List (List ℕ)

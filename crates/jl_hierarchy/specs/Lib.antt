@@ -3,3 +3,5 @@ pub mod Kept
 pub mod Constancy
 pub mod Faults
 pub mod Defaults
+pub mod Prints
+pub mod Redeclared

@@ -10,11 +10,13 @@ ghost use Rattle.jl_hierarchy.specs.Constancy.{AreInOrder};
 use crate::kin::Kin;
 use crate::loader::Loader;
 use crate::receiving::Receivers;
+use crate::marks::Marks;
 use crate::row::Row;
 use jl_paged::Paged;
 use jl_types::{Class, ClassId, LoaderId};
 use std::alloc::{AllocError, Global};
 use std::marker::Model;
+use std::sync::Arc;
 
 /// The defined classes and interfaces, in order of definition, and what each loader finds by name (JVMS SE 17 §5.3). A
 /// clause sees these alone.
@@ -27,6 +29,10 @@ pub struct Classes {
     pub(crate) above: Paged<Kin>,
     /// Of each class its receivers, rising.
     pub(crate) below: Vec<Receivers>,
+    /// Of each class the methods that it sees and a proper subclass declares again. There may be more.
+    pub(crate) marks: Arc<Marks>,
+    /// Whether each ancestor of a class that isn't an interface is one of its superclasses.
+    pub(crate) are_lines: bool,
 }
 
 // Written out, since a derived drop is proved anew in each crate that lets one go.
@@ -37,6 +43,8 @@ impl Drop for Classes {
             rows: _rows,
             above: _above,
             below: _below,
+            marks: _marks,
+            are_lines: _are_lines,
         } = self;
     }
 }
@@ -44,12 +52,14 @@ impl Drop for Classes {
 impl Model for Classes {
     ghost use Rattle.jl_types.specs.World.{Classes};
     ghost use Rattle.jl_hierarchy.specs.Kept.{IsKept, lists};
+    ghost use Rattle.jl_hierarchy.specs.Redeclared.{IsIndexed};
 
     ghost Value = { Classes };
 
     ghost view = { λ c. record { loaders = c.loaders.items; rows = c.rows.items } };
 
-    ghost invariant = { λ c. IsKept (record { loaders = c.loaders.items; rows = c.rows.items }) c.above.items (lists c.below.items) };
+    ghost invariant = { λ c. IsKept (record { loaders = c.loaders.items; rows = c.rows.items }) c.above.items (lists c.below.items)
+        × IsIndexed c.rows.items c.marks.value c.are_lines };
 }
 
 impl Classes {
@@ -64,6 +74,8 @@ impl Classes {
             rows: Paged::new(alloc),
             above: Paged::new(alloc),
             below: Vec::new(alloc),
+            marks: Arc::new(alloc, Marks::new(alloc))?,
+            are_lines: true,
         })
     }
 

@@ -8,6 +8,7 @@ use crate::loader::Loader;
 use crate::receiving::Receivers;
 use smallvec::SmallVec;
 use std::alloc::{AllocError, Global};
+use std::sync::Arc;
 
 impl Classes {
     /// The same classes once more. Want of memory is an error.
@@ -19,6 +20,8 @@ impl Classes {
             rows: self.rows.copy(alloc)?,
             above: self.above.copy(alloc)?,
             below: copy_below(alloc, self.below.as_slice())?,
+            marks: Arc::try_clone(&self.marks)?,
+            are_lines: self.are_lines,
         })
     }
 }

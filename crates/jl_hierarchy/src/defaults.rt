@@ -6,6 +6,7 @@ ghost use Rattle.jl_types.specs.Resolution.{candidates, defaults, first_element,
 ghost use Rattle.jl_hierarchy.specs.Defaults as by_ancestor;
 
 use crate::classes::Classes;
+use crate::sought::Sought;
 use jl_classfile::{PRIVATE, STATIC, has_flag};
 use jl_types::{Chosen, ClassId, MethodId};
 
@@ -16,8 +17,16 @@ impl Classes {
         requires { class < length self.now.rows }
         ensures { result ≡ first_element (candidates self.now name.now ty.now class) }
     {
+        self.first_candidate_by(class, &Sought::of(name, ty))
+    }
+
+    /// The same of a name and a descriptor that are sought in many classes.
+    fn first_candidate_by(&self, class: ClassId, sought: &Sought<'_>) -> Option<MethodId>
+        requires { class < length self.now.rows }
+        ensures { result ≡ first_element (candidates self.now sought.now.name sought.now.ty class) }
+    {
         for ancestor in self.ancestors(class) {
-            if let Some(method) = self.candidate(class, *ancestor, name, ty) {
+            if let Some(method) = self.candidate(class, *ancestor, sought) {
                 return Some(method);
             }
         }
@@ -30,9 +39,17 @@ impl Classes {
         requires { class < length self.now.rows }
         ensures { result ≡ pick (defaults self.now name.now ty.now class) }
     {
+        self.default_by(class, &Sought::of(name, ty))
+    }
+
+    /// The same of a name and a descriptor that are sought in many classes.
+    pub fn default_by(&self, class: ClassId, sought: &Sought<'_>) -> Chosen
+        requires { class < length self.now.rows }
+        ensures { result ≡ pick (defaults self.now sought.now.name sought.now.ty class) }
+    {
         let mut found = None;
         for ancestor in self.ancestors(class) {
-            let Some(method) = self.default_of(class, *ancestor, name, ty) else {
+            let Some(method) = self.default_of(class, *ancestor, sought) else {
                 continue;
             };
             if found.is_some() {
@@ -45,19 +62,13 @@ impl Classes {
 
     /// The method that the ancestor declares, where it is a superinterface of the class and the method is neither private nor
     /// static.
-    fn candidate(
-        &self,
-        class: ClassId,
-        ancestor: ClassId,
-        name: &[u8],
-        ty: &[u8],
-    ) -> Option<MethodId>
-        ensures { result ≡ by_ancestor.candidate_at self.now name.now ty.now class ancestor }
+    fn candidate(&self, class: ClassId, ancestor: ClassId, sought: &Sought<'_>) -> Option<MethodId>
+        ensures { result ≡ by_ancestor.candidate_at self.now sought.now.name sought.now.ty class ancestor }
     {
         if !self.is_other_interface(class, ancestor) {
             return None;
         }
-        let method = self.declared(ancestor, name, ty)?;
+        let method = self.declared_by(ancestor, sought)?;
         if self.is_inherited(&method) {
             Some(method)
         } else {
@@ -84,18 +95,12 @@ impl Classes {
 
     /// The candidate that the ancestor declares, where it isn't abstract and no subinterface of the ancestor declares another
     /// one.
-    fn default_of(
-        &self,
-        class: ClassId,
-        ancestor: ClassId,
-        name: &[u8],
-        ty: &[u8],
-    ) -> Option<MethodId>
+    fn default_of(&self, class: ClassId, ancestor: ClassId, sought: &Sought<'_>) -> Option<MethodId>
         requires { class < length self.now.rows }
-        ensures { result ≡ by_ancestor.default_at self.now name.now ty.now class ancestor }
+        ensures { result ≡ by_ancestor.default_at self.now sought.now.name sought.now.ty class ancestor }
     {
-        let method = self.candidate(class, ancestor, name, ty)?;
-        if self.is_default(class, &method, name, ty) {
+        let method = self.candidate(class, ancestor, sought)?;
+        if self.is_default(class, &method, sought) {
             Some(method)
         } else {
             None
@@ -103,22 +108,22 @@ impl Classes {
     }
 
     /// Whether the candidate isn't abstract, and no subinterface of its class declares another one.
-    fn is_default(&self, class: ClassId, method: &MethodId, name: &[u8], ty: &[u8]) -> bool
+    fn is_default(&self, class: ClassId, method: &MethodId, sought: &Sought<'_>) -> bool
         requires { class < length self.now.rows }
-        ensures { result ≡ by_ancestor.is_default self.now name.now ty.now class method.now }
+        ensures { result ≡ by_ancestor.is_default self.now sought.now.name sought.now.ty class method.now }
     {
-        !self.is_abstract(method) && !self.is_redeclared(class, method.class, name, ty)
+        !self.is_abstract(method) && !self.is_redeclared(class, method.class, sought)
     }
 
     /// Whether a superinterface of the class that is a subinterface of this one declares a method of the name and descriptor
     /// that is neither private nor static.
-    fn is_redeclared(&self, class: ClassId, interface: ClassId, name: &[u8], ty: &[u8]) -> bool
+    fn is_redeclared(&self, class: ClassId, interface: ClassId, sought: &Sought<'_>) -> bool
         requires { class < length self.now.rows }
-        ensures { result ≡ by_ancestor.is_redeclared self.now name.now ty.now class interface }
+        ensures { result ≡ by_ancestor.is_redeclared self.now sought.now.name sought.now.ty class interface }
     {
-        self.ancestors(class).iter().any(|lower| self.redeclares(
-            class, interface, *lower, name, ty,
-        ))
+        self.ancestors(class)
+            .iter()
+            .any(|lower| self.redeclares(class, interface, *lower, sought))
     }
 
     /// Whether the ancestor is a subinterface of the interface, and declares such a method.
@@ -127,13 +132,12 @@ impl Classes {
         class: ClassId,
         interface: ClassId,
         ancestor: ClassId,
-        name: &[u8],
-        ty: &[u8],
+        sought: &Sought<'_>,
     ) -> bool
-        ensures { result ≡ by_ancestor.redeclares self.now name.now ty.now class interface ancestor }
+        ensures { result ≡ by_ancestor.redeclares self.now sought.now.name sought.now.ty class interface ancestor }
     {
         self.is_proper_ancestor(interface, ancestor)
-            && self.candidate(class, ancestor, name, ty).is_some()
+            && self.candidate(class, ancestor, sought).is_some()
     }
 }
 

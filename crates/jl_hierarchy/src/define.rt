@@ -1,15 +1,17 @@
 //! The definition of a class (JVMS SE 17 §5.3.5).
 
-ghost use Rattle.std.specs.Prelude.{◌≡◌, ◌<◌, ◌^◌, ◌++◌, ◌∷◌, [], Some, None, Err, length, List, ℕ, if◌then◌else◌, true, All, IfOk, OnOk, OnErr};
+ghost use Rattle.std.specs.Prelude.{◌≡◌, ◌<◌, ◌^◌, ◌++◌, ◌∷◌, [], Some, None, Err, length, slice_get, List, ℕ, if◌then◌else◌, true, false, All, IfOk, OnOk, OnErr};
 ghost use Rattle.std.specs.Vec.{vec_len, vec_capacity};
 ghost use Rattle.jl_types.specs.declared.refusal.DefineFault.{DefineFault};
 ghost use Rattle.jl_types.specs.declared.refusal.OrMemory.TheVariants as or_memory;
 ghost use Rattle.jl_types.specs.Members as members;
 ghost use Rattle.jl_types.specs.Ancestry as ancestry;
 ghost use Rattle.jl_types.specs.Definitions as definitions;
+ghost use Rattle.jl_classfile.specs.Class.{Method};
 ghost use Rattle.jl_classfile.specs.Conditions.{extends_object};
 ghost use Rattle.jl_hierarchy.specs.Constancy.{AreInOrder, Stays, AddsReceiver};
 ghost use Rattle.jl_hierarchy.specs.Kept.{HasRoom, Rises, IsAppended, lists};
+ghost use Rattle.jl_hierarchy.specs.Redeclared.{sees, line_above, is_above, is_on, IsTold};
 
 use crate::classes::Classes;
 use crate::kin::Kin;
@@ -17,6 +19,7 @@ use crate::loader::record_in;
 use crate::receiving::{
     Receivers, append_to_each, is_concrete, own_receivers, receiving, reserve_each,
 };
+use crate::marks::{Mark, add_marks};
 use crate::row::Row;
 use jl_classfile::ClassFile;
 use jl_paged::Paged;
@@ -34,6 +37,10 @@ pub(crate) struct Growth {
     kin: Kin,
     /// The receivers of the class: itself or none.
     own: Receivers,
+    /// What is marked of the superclasses.
+    marks: Vec<Mark>,
+    /// Whether each ancestor that isn't an interface is one of the superclasses.
+    is_line: bool,
 }
 
 impl Classes {
@@ -127,7 +134,9 @@ impl Classes {
             &mut self.below,
             receiving(growth.is_concrete, &growth.ancestors),
         )?;
+        add_marks(&mut self.marks, &growth.marks)?;
         record_in(&mut self.loaders, loader, name, class)?;
+        self.are_lines &= growth.is_line;
         push_all(
             &mut self.rows,
             &mut self.above,
@@ -150,18 +159,27 @@ impl Classes {
         ensures kin { IfOk result (λ growth. growth.kin ≡ growth.ancestors.items ++ length self.now.rows ∷ []) }
         ensures own { IfOk result (λ growth. growth.own.items
             ≡ (if members.is_concrete_row row then length self.now.rows ∷ [] else [])) }
+        ensures marks { IfOk result (λ growth. (s k : ℕ) (m : Method) → slice_get row.file.methods k ≡ Some m
+            → is_on s (line_above self.now row) ≡ true → sees self.now m.name m.ty s ≡ true
+            → IsTold self.now m.name m.ty growth.marks.items s) }
+        ensures line { IfOk result (λ growth. growth.is_line ≡ true → (a : ℕ) → is_on a growth.ancestors.items ≡ true
+            → members.is_interface self.now a ≡ false → is_above self.now row a ≡ true) }
     {
         let class = ClassId::new(self.rows.len() as u32);
         let is_concrete = is_concrete(row.class());
         let ancestors = self.proper_ancestors(alloc, row.class())?;
         let kin = Kin::of(alloc, &ancestors, class)?;
         let own = own_receivers(alloc, is_concrete, class)?;
+        let marks = self.marks_of(alloc, row.class())?;
+        let is_line = self.are_on_line(row.class(), &ancestors);
         Ok(Growth {
             row,
             is_concrete,
             ancestors,
             kin,
             own,
+            marks,
+            is_line,
         })
     }
 }
@@ -226,6 +244,8 @@ fn push_all(
         ancestors,
         kin,
         own,
+        marks: _marks,
+        is_line: _is_line,
     } = growth;
     append_to_each(
         below.as_mut_slice(),

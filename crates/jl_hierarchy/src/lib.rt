@@ -2,8 +2,8 @@
 //! receivers and declarations.
 //!
 //! The contract of each question is its definition in jl_types (`specs/Members`, `Ancestry`, `Access` and `Resolution`), and
-//! that of a definition or a delegation is its fault and its step there (`specs/Definitions`). `specs/Kept`, `Faults` and
-//! `Defaults` are means of proof.
+//! that of a definition or a delegation is its fault and its step there (`specs/Definitions`). `specs/Kept`, `Prints`, `Redeclared`,
+//! `Faults` and `Defaults` are means of proof.
 #![tactic(auto)]
 
 mod ancestry;
@@ -17,12 +17,16 @@ mod follow;
 mod growth;
 mod kin;
 mod loader;
+mod marks;
 mod members;
 mod nests;
 mod object;
 mod receiving;
+mod redeclared;
 mod row;
+mod sought;
 mod upward;
 
 pub use classes::Classes;
 pub use delegate::LoaderFault;
+pub use sought::Sought;

@@ -1,16 +1,16 @@
 //! Superclasses and methods of a class. A class or a method that isn't there has no flag.
 
-ghost use Rattle.std.specs.Prelude.{◌≡◌, ◌<◌, ◌^◌, ◌&&◌, not, length};
+ghost use Rattle.std.specs.Prelude.{◌≡◌, ◌&&◌, not};
 ghost use Rattle.jl_classfile.specs.Conditions as conditions;
 ghost use Rattle.jl_types.specs.Members as members;
 ghost use Rattle.jl_types.specs.Ancestry as ancestry;
 ghost use Rattle.jl_types.specs.Ancestry.{AreOrdered};
 
 use crate::classes::Classes;
-use jl_classfile::{
-    ABSTRACT, INTERFACE, Method, Methods, PRIVATE, PROTECTED, PUBLIC, STATIC, has_flag,
-};
-use jl_types::{Class, ClassId, MethodId};
+use crate::row::methods_of;
+use crate::sought::Sought;
+use jl_classfile::{ABSTRACT, INTERFACE, Method, PRIVATE, PROTECTED, PUBLIC, STATIC, has_flag};
+use jl_types::{ClassId, MethodId};
 
 impl Classes {
     /// The direct superclass of the class.
@@ -52,7 +52,14 @@ impl Classes {
     pub fn declared(&self, class: ClassId, name: &[u8], ty: &[u8]) -> Option<MethodId>
         ensures { result ≡ members.declared self.now name.now ty.now class }
     {
-        let index = self.row_at(class)?.place_of(name, ty)?;
+        self.declared_by(class, &Sought::of(name, ty))
+    }
+
+    /// The same of a name and a descriptor that are sought in many classes.
+    pub fn declared_by(&self, class: ClassId, sought: &Sought<'_>) -> Option<MethodId>
+        ensures { result ≡ members.declared self.now sought.now.name sought.now.ty class }
+    {
+        let index = self.row_at(class)?.place_of(sought)?;
         Some(MethodId { class, index })
     }
 
@@ -110,14 +117,6 @@ impl Classes {
             None => false,
         }
     }
-}
-
-/// The methods that the class declares, in its file's order.
-fn methods_of(row: &Class) -> Methods<'_>
-    ensures methods { result ≡ row.now.file.methods }
-    ensures few { length result < 2 ^ 16 }
-{
-    row.file().methods()
 }
 
 /// Whether none of the access flags is set.

@@ -1,11 +1,12 @@
-//! A class as it is kept, with the places of its methods by their names.
+//! A class as it is kept, with the prints of its methods.
 
-ghost use Rattle.std.specs.Prelude.{◌≡◌, [], Some, position, IfOk, OnOk};
+ghost use Rattle.std.specs.Prelude.{◌≡◌, ◌<◌, ◌^◌, false, length, map, position, slice_get, IfOk};
+ghost use Rattle.std.specs.Option.{option_map_or};
 ghost use Rattle.jl_types.specs.Members as members;
-ghost use Rattle.jl_hierarchy.specs.Kept.{named, with_first, firsts_of, is_named};
+ghost use Rattle.jl_hierarchy.specs.Prints.{print_of_method};
 
-use indexmap::IndexMap;
-use jl_classfile::Method;
+use crate::sought::{Sought, print_of};
+use jl_classfile::{Method, Methods};
 use jl_paged::Again;
 use jl_types::Class;
 use std::alloc::{AllocError, Global};
@@ -60,10 +61,10 @@ impl Row {
     }
 
     /// The place of the method of this name and descriptor.
-    pub(crate) fn place_of(&self, name: &[u8], ty: &[u8]) -> Option<u16>
-        ensures { result ≡ position (members.is_called name.now ty.now) self.now.file.methods }
+    pub(crate) fn place_of(&self, sought: &Sought<'_>) -> Option<u16>
+        ensures { result ≡ position (members.is_called sought.now.name sought.now.ty) self.now.file.methods }
     {
-        self.kept.place_of(name, ty)
+        self.kept.place_of(sought)
     }
 }
 
@@ -73,23 +74,23 @@ impl Again for Row {
     }
 }
 
-/// A class, with the place of its first method of each name, so that one look-up tells that it declares none of a name. A
+/// A class, with the print of each of its methods, so that most look-ups of a method that it doesn't declare read no text. A
 /// clause sees the class alone.
 struct Indexed {
     class: Class,
-    firsts: IndexMap<Vec<u8>, u16>,
+    prints: Vec<u64>,
 }
 
 impl Model for Indexed {
-    ghost use Rattle.std.specs.Prelude.{◌≡◌, []};
+    ghost use Rattle.std.specs.Prelude.{◌≡◌, map};
     ghost use Rattle.jl_types.specs.World.{Class};
-    ghost use Rattle.jl_hierarchy.specs.Kept.{named, firsts_of};
+    ghost use Rattle.jl_hierarchy.specs.Prints.{print_of_method};
 
     ghost Value = { Class };
 
     ghost view = { λ r. r.class };
 
-    ghost invariant = { λ r. named r.firsts.entries ≡ firsts_of [] 0 r.class.file.methods };
+    ghost invariant = { λ r. r.prints.items ≡ map print_of_method r.class.file.methods };
 }
 
 /// Written out, as a row's is.
@@ -97,18 +98,18 @@ impl Drop for Indexed {
     fn drop(self) {
         let Indexed {
             class: _class,
-            firsts: _firsts,
+            prints: _prints,
         } = self;
     }
 }
 
 impl Indexed {
-    /// The class with the places of its methods. Want of memory is an error.
+    /// The class with the prints of its methods. Want of memory is an error.
     fn new(alloc: Global, class: Class) -> Result<Indexed, AllocError>
         ensures { IfOk result (λ indexed. indexed ≡ class) }
     {
-        let firsts = first_places(alloc, &class)?;
-        Ok(Indexed { class, firsts })
+        let prints = prints_of(alloc, &methods_of(&class))?;
+        Ok(Indexed { class, prints })
     }
 
     /// The class.
@@ -119,70 +120,69 @@ impl Indexed {
     }
 
     /// The place of the method of this name and descriptor.
-    fn place_of(&self, name: &[u8], ty: &[u8]) -> Option<u16>
-        ensures { result ≡ position (members.is_called name.now ty.now) self.now.file.methods }
+    fn place_of(&self, sought: &Sought<'_>) -> Option<u16>
+        ensures { result ≡ position (members.is_called sought.now.name sought.now.ty) self.now.file.methods }
     {
-        let first = self.first_named(name)?;
-        place_from(self.class(), first, name, ty)
-    }
-
-    /// The place of the first method of this name.
-    fn first_named(&self, name: &[u8]) -> Option<u16>
-        ensures { result ≡ position (is_named name.now) self.now.file.methods }
-    {
-        self.firsts.get(name).copied()
+        place_in(self.prints.as_slice(), &methods_of(&self.class), sought)
     }
 }
 
-/// The place of the first method of each name. Want of memory is an error.
-fn first_places(alloc: Global, class: &Class) -> Result<IndexMap<Vec<u8>, u16>, AllocError>
-    ensures { IfOk result (λ firsts. named firsts.entries ≡ firsts_of [] 0 class.now.file.methods) }
+/// The methods that the class declares, in its file's order.
+pub(crate) fn methods_of(row: &Class) -> Methods<'_>
+    ensures methods { result ≡ row.now.file.methods }
+    ensures few { length result < 2 ^ 16 }
 {
-    let methods = class.file().methods();
-    let mut firsts = IndexMap::new(alloc);
+    row.file().methods()
+}
+
+/// The prints of these methods. Want of memory is an error.
+fn prints_of(alloc: Global, methods: &Methods<'_>) -> Result<Vec<u64>, AllocError>
+    requires { length methods.now < 2 ^ 16 }
+    ensures { IfOk result (λ prints. prints.items ≡ map print_of_method methods.now) }
+{
+    let mut prints = Vec::with_capacity(alloc, methods.len())?;
     let mut place = 0;
     while let Some(method) = methods.at(place) {
-        add_first(alloc, &mut firsts, method.name().as_slice(), place as u16)?;
+        prints.push(print_of_method(&method))?;
         place += 1;
     }
-    Ok(firsts)
+    Ok(prints)
 }
 
-/// Adds the place under the name, unless there is one already. Want of memory is an error.
-fn add_first(
-    alloc: Global,
-    firsts: &mut IndexMap<Vec<u8>, u16>,
-    name: &[u8],
-    place: u16,
-) -> Result<(), AllocError>
-    ensures { OnOk result (named firsts.new.entries ≡ with_first (named firsts.old.entries) name.now place) }
+/// The print of the method's name and descriptor.
+fn print_of_method(method: &Method<'_>) -> u64
+    ensures { result ≡ print_of_method method.now }
 {
-    if firsts.contains_key(name) {
-        return Ok(());
-    }
-    firsts.insert(name.to_vec(alloc)?, place)?;
-    Ok(())
+    print_of(method.name().as_slice(), method.ty().as_slice())
 }
 
-/// The place of the method of this name and descriptor, from the place of the first one of this name.
-fn place_from(class: &Class, first: u16, name: &[u8], ty: &[u8]) -> Option<u16>
-    requires { position (is_named name.now) class.now.file.methods ≡ Some first }
-    ensures { result ≡ position (members.is_called name.now ty.now) class.now.file.methods }
+/// The place of the method of this name and descriptor, where these are the methods' prints.
+fn place_in(prints: &[u64], methods: &Methods<'_>, sought: &Sought<'_>) -> Option<u16>
+    requires prints { prints.now ≡ map print_of_method methods.now }
+    requires few { length methods.now < 2 ^ 16 }
+    ensures { result ≡ position (members.is_called sought.now.name sought.now.ty) methods.now }
 {
-    let methods = class.file().methods();
-    let mut place = first as usize;
-    while let Some(method) = methods.at(place) {
-        if is_called(&method, name, ty) {
+    for (place, print) in prints.iter().enumerate() {
+        if *print == sought.print() && is_at(methods, place, sought) {
             return Some(place as u16);
         }
-        place += 1;
     }
     None
 }
 
-/// Whether the method has this name and descriptor.
-fn is_called(method: &Method<'_>, name: &[u8], ty: &[u8]) -> bool
-    ensures { result ≡ members.is_called name.now ty.now method.now }
+/// Whether the method at the place has this name and descriptor.
+fn is_at(methods: &Methods<'_>, place: usize, sought: &Sought<'_>) -> bool
+    ensures { result ≡ option_map_or (members.is_called sought.now.name sought.now.ty) (slice_get methods.now place) false }
 {
-    method.name().as_slice() == name && method.ty().as_slice() == ty
+    match methods.at(place) {
+        Some(method) => is_called(&method, sought),
+        None => false,
+    }
+}
+
+/// Whether the method has this name and descriptor.
+fn is_called(method: &Method<'_>, sought: &Sought<'_>) -> bool
+    ensures { result ≡ members.is_called sought.now.name sought.now.ty method.now }
+{
+    method.name().as_slice() == sought.name() && method.ty().as_slice() == sought.ty()
 }

@@ -5,6 +5,7 @@ ghost use Rattle.jl_types.specs.Ancestry as ancestry;
 ghost use Rattle.jl_types.specs.Resolution as resolution;
 
 use crate::classes::Classes;
+use crate::sought::Sought;
 use jl_types::{ClassId, MethodId};
 
 impl Classes {
@@ -37,9 +38,16 @@ impl Classes {
     pub fn declared_upward(&self, class: ClassId, name: &[u8], ty: &[u8]) -> Option<MethodId>
         ensures { result ≡ resolution.declared_upward self.now name.now ty.now class }
     {
+        self.declared_upward_by(class, &Sought::of(name, ty))
+    }
+
+    /// The same of a name and a descriptor that are sought in many classes.
+    pub fn declared_upward_by(&self, class: ClassId, sought: &Sought<'_>) -> Option<MethodId>
+        ensures { result ≡ resolution.declared_upward self.now sought.now.name sought.now.ty class }
+    {
         let mut at = class;
         loop {
-            if let Some(method) = self.declared(at, name, ty) {
+            if let Some(method) = self.declared_by(at, sought) {
                 return Some(method);
             }
             match self.superclass(at) {

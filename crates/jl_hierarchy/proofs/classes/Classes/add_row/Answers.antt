@@ -1,5 +1,11 @@
-use Rattle.std.specs.Prelude.{◌≡◌, ℕ, List, [], ◌∷◌, ◌++◌, length, if◌then◌else◌}
-use Rattle.std.proofs.Common.{refl, ap, sym, subst, ◌∙◌, arith}
+use Rattle.std.specs.Prelude.{◌≡◌, ℕ, List, [], ◌∷◌, ◌++◌, length, Bool, ◌&&◌, if◌then◌else◌}
+use Rattle.std.proofs.Common.{refl, ap, sym, subst, ◌∙◌, arith, true}
+use Rattle.jl_types.specs.Ancestry.{AreOrdered}
+use Rattle.jl_types.proofs.Orders.{defined_good}
+use Rattle.std.proofs.lemmas.Bool.{and_parts}
+use Rattle.jl_hierarchy.specs.declared.marks.Mark.{Mark}
+use Rattle.jl_hierarchy.specs.Redeclared.{IsIndexed, is_marked}
+use Rattle.jl_hierarchy.proofs.NewMarks.{still_indexed, indexed_now}
 use Rattle.jl_types.specs.World.{Class, Classes}
 use Rattle.jl_types.specs.Members.{lookup}
 use Rattle.jl_types.specs.Definitions.{with_record, defined}
@@ -16,7 +22,7 @@ reserve_all-requires c =
     let g = c.in_ok-growth.growth in
     there_chosen g.is_concrete g.ancestors.items c.receiving.result.now (length c.args.self.now.rows) (length c.self.inside.below.items)
     (c.receiving.ensures ∙ ap (λ (xs : List ℕ). if g.is_concrete then xs else []) c.deref.ensures.value)
-    (many_below _ _ _ c.self.invariant c.args.self.now c.self.view_is c.self.inside.below.items refl)
+    (many_below _ _ _ c.self.invariant.0 c.args.self.now c.self.view_is c.self.inside.below.items refl)
     c.in_ok-growth.ensures.there
 
 pub record_in-requires-clause-fresh : goal.record_in-requires-clause-fresh
@@ -25,19 +31,35 @@ record_in-requires-clause-fresh c =
     ∙ is_new c.args.self.now c.args.row.loader c.args.row.file c.requires.accepted
 
 pub invariant_of-self-in_err-record_in : goal.invariant_of-self-in_err-record_in
-invariant_of-self-in_err-record_in c =
-    kept_as (record { loaders = c.record_in.new.loaders.items; rows = c.reserve_all.new.rows.items })
-    (record { loaders = c.self.inside.loaders.items; rows = c.self.inside.rows.items })
-    c.reserve_all.new.above.items c.self.inside.above.items (lists c.reserve_all.new.below.items) (lists c.self.inside.below.items)
-    (λ i. record { loaders = c.in_err-record_in.ensures.err i; rows = c.in_ok-reserve_all.ensures.rows i })
-    c.in_ok-reserve_all.ensures.above c.in_ok-reserve_all.ensures.below c.self.invariant
+invariant_of-self-in_err-record_in c = (
+  kept_as (record { loaders = c.record_in.new.loaders.items; rows = c.reserve_all.new.rows.items })
+      (record { loaders = c.self.inside.loaders.items; rows = c.self.inside.rows.items })
+      c.reserve_all.new.above.items c.self.inside.above.items (lists c.reserve_all.new.below.items) (lists c.self.inside.below.items)
+      (λ i. record { loaders = c.in_err-record_in.ensures.err i; rows = c.in_ok-reserve_all.ensures.rows i })
+      c.in_ok-reserve_all.ensures.above c.in_ok-reserve_all.ensures.below c.self.invariant.0,
+  subst (λ (rows : List Class). IsIndexed rows c.add_marks.new.shared.value c.self.inside.are_lines) (sym c.in_ok-reserve_all.ensures.rows)
+      (still_indexed c.self.inside.rows.items c.self.inside.marks.value c.add_marks.new.shared.value
+      c.self.inside.are_lines c.self.inside.are_lines c.self.invariant.1 c.in_ok-add_marks.ensures.kept (λ known. known)),
+)
+
+pub invariant_of-self-in_err-add_marks : goal.invariant_of-self-in_err-add_marks
+invariant_of-self-in_err-add_marks c = (
+  kept_as (record { loaders = c.self.inside.loaders.items; rows = c.reserve_all.new.rows.items })
+      (record { loaders = c.self.inside.loaders.items; rows = c.self.inside.rows.items })
+      c.reserve_all.new.above.items c.self.inside.above.items (lists c.reserve_all.new.below.items) (lists c.self.inside.below.items)
+      (λ i. record { loaders = c.self.inside.loaders.items; rows = c.in_ok-reserve_all.ensures.rows i })
+      c.in_ok-reserve_all.ensures.above c.in_ok-reserve_all.ensures.below c.self.invariant.0,
+  subst (λ (rows : List Class). IsIndexed rows c.add_marks.new.shared.value c.self.inside.are_lines) (sym c.in_ok-reserve_all.ensures.rows)
+      (still_indexed c.self.inside.rows.items c.self.inside.marks.value c.add_marks.new.shared.value
+      c.self.inside.are_lines c.self.inside.are_lines c.self.invariant.1 c.in_err-add_marks.ensures.kept (λ known. known)),
+)
 
 pub push_all-requires-clause-there : goal.push_all-requires-clause-there
 push_all-requires-clause-there c =
     let g = c.in_ok-growth.growth in
     there_chosen g.is_concrete g.ancestors.items (if g.is_concrete then g.ancestors.items else []) (length c.args.self.now.rows) (length c.reserve_all.new.below.items)
     refl
-    (many_below _ _ _ c.self.invariant c.args.self.now c.self.view_is c.reserve_all.new.below.items c.in_ok-reserve_all.ensures.below)
+    (many_below _ _ _ c.self.invariant.0 c.args.self.now c.self.view_is c.reserve_all.new.below.items c.in_ok-reserve_all.ensures.below)
     c.in_ok-growth.ensures.there
 
 pub push_all-requires-clause-kin : goal.push_all-requires-clause-kin
@@ -48,15 +70,19 @@ push_all-requires-clause-kin c =
 pub push_all-requires-clause-few : goal.push_all-requires-clause-few
 push_all-requires-clause-few c =
     let rows = ap length c.in_ok-reserve_all.ensures.rows in
-    let above = many_above _ _ _ c.self.invariant c.args.self.now c.self.view_is c.reserve_all.new.above.items c.in_ok-reserve_all.ensures.above in
+    let above = many_above _ _ _ c.self.invariant.0 c.args.self.now c.self.view_is c.reserve_all.new.above.items c.in_ok-reserve_all.ensures.above in
     let same = ap (λ (k : Classes). length k.rows) c.self.view_is in
-    let few = c.self.invariant.few in (
+    let few = c.self.invariant.0.few in (
       omega (arith, rows, few),
       omega (arith, above, same, few),
     )
 
 numbered : (c : goal.After-push_all) → c.new-class.result ≡ length c.args.self.now.rows
 numbered c = c.new-class.ensures ∙ c.len.ensures ∙ ap (λ (k : Classes). length k.rows) c.self.view_is
+
+-- whether the lines are known afterwards
+abbrev lines_now : (c : goal.After-push_all) → Bool
+lines_now c = c.self.inside.are_lines && c.in_ok-growth.growth.is_line
 
 -- the parts afterwards, by those before
 loaders_are : (c : goal.After-push_all)
@@ -73,17 +99,29 @@ rows_are c =
 pub invariant_of-self-2 : goal.invariant_of-self-2
 invariant_of-self-2 c =
     let g = c.in_ok-growth.growth in
-    let class = c.new-class.result in
-    kept_all c.args.self.now c.self.inside.above.items (lists c.self.inside.below.items)
-    (subst (λ (k : Classes). IsKept k c.self.inside.above.items (lists c.self.inside.below.items)) c.self.view_is c.self.invariant)
-    c.args.row c.requires.made c.requires.accepted c.requires.interface
-    g.is_concrete g.ancestors.items g.own.items c.in_ok-name.name.items class c.push_all.ensures.below.0
-    c.in_ok-growth.ensures.concrete c.in_ok-growth.ensures.all c.in_ok-growth.ensures.own c.in_ok-name.ensures (numbered c)
-    (subst (λ ls. IsAppended (if g.is_concrete then g.ancestors.items else []) class ls c.push_all.ensures.below.0) c.in_ok-reserve_all.ensures.below c.push_all.ensures.below.1)
-    c.record_in.new.loaders.items c.push_all.new.rows.items c.push_all.new.above.items (lists c.push_all.new.below.items)
-    (loaders_are c) (rows_are c)
-    (c.push_all.ensures.above ∙ ap (λ (ls : List (List ℕ)). ls ++ (g.ancestors.items ++ class ∷ []) ∷ []) c.in_ok-reserve_all.ensures.above)
-    c.push_all.ensures.below.2
+    let class = c.new-class.result in (
+      kept_all c.args.self.now c.self.inside.above.items (lists c.self.inside.below.items)
+          (subst (λ (k : Classes). IsKept k c.self.inside.above.items (lists c.self.inside.below.items)) c.self.view_is c.self.invariant.0)
+          c.args.row c.requires.made c.requires.accepted c.requires.interface
+          g.is_concrete g.ancestors.items g.own.items c.in_ok-name.name.items class c.push_all.ensures.below.0
+          c.in_ok-growth.ensures.concrete c.in_ok-growth.ensures.all c.in_ok-growth.ensures.own c.in_ok-name.ensures (numbered c)
+          (subst (λ ls. IsAppended (if g.is_concrete then g.ancestors.items else []) class ls c.push_all.ensures.below.0) c.in_ok-reserve_all.ensures.below c.push_all.ensures.below.1)
+          c.record_in.new.loaders.items c.push_all.new.rows.items c.push_all.new.above.items (lists c.push_all.new.below.items)
+          (loaders_are c) (rows_are c)
+          (c.push_all.ensures.above ∙ ap (λ (ls : List (List ℕ)). ls ++ (g.ancestors.items ++ class ∷ []) ∷ []) c.in_ok-reserve_all.ensures.above)
+          c.push_all.ensures.below.2,
+      subst (λ (rows : List Class). IsIndexed rows c.add_marks.new.shared.value (lines_now c)) (sym (rows_are c))
+          (indexed_now c.args.self.now.rows c.args.row
+          (subst (λ (r : Class). AreOrdered (c.args.self.now.rows ++ r ∷ [])) (sym c.requires.made)
+          ((defined_good c.args.self.now (good _ _ _ c.self.invariant.0 c.args.self.now c.self.view_is) c.args.row.loader c.args.row.file).ordered))
+          c.self.inside.marks.value c.add_marks.new.shared.value c.self.inside.are_lines (lines_now c)
+          (subst (λ (k : Classes). IsIndexed k.rows c.self.inside.marks.value c.self.inside.are_lines) c.self.view_is c.self.invariant.1)
+          c.in_ok-add_marks.ensures.kept g.marks.items c.in_ok-growth.ensures.marks
+          (λ s p marked. c.in_ok-add_marks.ensures.added s p
+          (subst (λ (found : List Mark). is_marked found s p ≡ true) (sym c.deref-2.ensures.value) marked))
+          g.ancestors.items c.in_ok-growth.ensures.all (λ known. (and_parts c.self.inside.are_lines g.is_line known).0)
+          (λ known. c.in_ok-growth.ensures.line (and_parts c.self.inside.are_lines g.is_line known).1)),
+    )
 
 -- the classes afterwards
 made : (c : goal.After-push_all)
@@ -96,12 +134,12 @@ made c = λ i. record {
 pub returns-clause-stays : goal.returns-clause-stays
 returns-clause-stays c =
     subst (λ (new : Classes). Stays c.args.self.now new) (sym (made c))
-    (stays_defined c.args.self.now (good _ _ _ c.self.invariant c.args.self.now c.self.view_is) c.args.row.loader c.args.row.file)
+    (stays_defined c.args.self.now (good _ _ _ c.self.invariant.0 c.args.self.now c.self.view_is) c.args.row.loader c.args.row.file)
 
 pub returns-clause-receivers : goal.returns-clause-receivers
 returns-clause-receivers c =
     subst (λ (new : Classes). AddsReceiver c.args.self.now new) (sym (made c))
-    (adds_receiver c.args.self.now (good _ _ _ c.self.invariant c.args.self.now c.self.view_is).ordered c.args.row.loader c.args.row.file)
+    (adds_receiver c.args.self.now (good _ _ _ c.self.invariant.0 c.args.self.now c.self.view_is).ordered c.args.row.loader c.args.row.file)
 
 pub returns-clause-in_order : goal.returns-clause-in_order
-returns-clause-in_order c = in_order _ _ _ c.self.invariant c.args.self.now c.self.view_is
+returns-clause-in_order c = in_order _ _ _ c.self.invariant.0 c.args.self.now c.self.view_is

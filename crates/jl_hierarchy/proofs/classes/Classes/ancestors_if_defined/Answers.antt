@@ -13,7 +13,7 @@ pub joined_ancestors-requires-clause-there : goal.joined_ancestors-requires-clau
 joined_ancestors-requires-clause-there c =
     let cs = c.args.self.now in
     let row = class_made cs c.args.loader c.args.file.now in
-    let o = (defined_good cs (good _ _ _ c.self.invariant cs c.self.view_is) c.args.loader c.args.file.now).ordered in
+    let o = (defined_good cs (good _ _ _ c.self.invariant.0 cs c.self.view_is) c.args.loader c.args.file.now).ordered in
     subst (All (λ p. p < length cs.rows)) (sym (c.deref.ensures.value ∙ c.in_ok-parents.ensures))
     (All-from_recursion (λ p. p < length cs.rows) (parents row) (low cs row o))
 
@@ -21,13 +21,13 @@ pub joined_ancestors-requires-clause-ordered : goal.joined_ancestors-requires-cl
 joined_ancestors-requires-clause-ordered c =
     let cs = c.args.self.now in
     let row = class_made cs c.args.loader c.args.file.now in
-    ordered cs row ((defined_good cs (good _ _ _ c.self.invariant cs c.self.view_is) c.args.loader c.args.file.now).ordered)
+    ordered cs row ((defined_good cs (good _ _ _ c.self.invariant.0 cs c.self.view_is) c.args.loader c.args.file.now).ordered)
 
 pub returns : goal.returns
 returns c =
     let cs = c.args.self.now in
     let row = class_made cs c.args.loader c.args.file.now in
-    let o = (defined_good cs (good _ _ _ c.self.invariant cs c.self.view_is) c.args.loader c.args.file.now).ordered in
+    let o = (defined_good cs (good _ _ _ c.self.invariant.0 cs c.self.view_is) c.args.loader c.args.file.now).ordered in
     let class_is : c.new-class.result ≡ length cs.rows = search rules in
     c.in_ok-push.ensures.items
     ∙ ap (λ (n : ℕ). c.in_ok-all.all.items ++ n ∷ []) class_is

@@ -11,13 +11,15 @@ use Rattle.jl_hierarchy.proofs.classes.Classes.record.Goals as goal
 
 pub invariant_of-self-2 : goal.invariant_of-self-2
 invariant_of-self-2 c =
-    let inside : Classes = record { loaders = c.self.inside.loaders.items; rows = c.self.inside.rows.items } in
-    subst (λ (ls : List (List (List ℕ × ℕ))). IsKept (record { loaders = ls; rows = c.self.inside.rows.items }) c.self.inside.above.items (lists c.self.inside.below.items))
-    (sym c.in_ok-record_in.ensures.ok)
-    (kept_with_record inside c.self.inside.above.items (lists c.self.inside.below.items) c.self.invariant c.requires.recorded.0 c.args.loader
-    c.in_ok-name.name.items c.args.class
-    (subst (λ (k : Classes). lookup k c.requires.recorded.0 c.in_ok-name.name.items ≡ Some c.args.class) (sym c.self.view_is)
-    (subst (λ name. lookup c.args.self.now c.requires.recorded.0 name ≡ Some c.args.class) (sym is) c.requires.recorded.1)))
+    let inside : Classes = record { loaders = c.self.inside.loaders.items; rows = c.self.inside.rows.items } in (
+      subst (λ (ls : List (List (List ℕ × ℕ))). IsKept (record { loaders = ls; rows = c.self.inside.rows.items }) c.self.inside.above.items (lists c.self.inside.below.items))
+          (sym c.in_ok-record_in.ensures.ok)
+          (kept_with_record inside c.self.inside.above.items (lists c.self.inside.below.items) c.self.invariant.0 c.requires.recorded.0 c.args.loader
+          c.in_ok-name.name.items c.args.class
+          (subst (λ (k : Classes). lookup k c.requires.recorded.0 c.in_ok-name.name.items ≡ Some c.args.class) (sym c.self.view_is)
+          (subst (λ name. lookup c.args.self.now c.requires.recorded.0 name ≡ Some c.args.class) (sym is) c.requires.recorded.1))),
+      c.self.invariant.1,
+    )
   where
     is : c.in_ok-name.name.items ≡ c.args.name.now
     is = search rules
@@ -27,7 +29,7 @@ returns-clause-stays c =
     let inside : Classes = record { loaders = c.self.inside.loaders.items; rows = c.self.inside.rows.items } in
     subst (λ (old : Classes). Stays old (record { loaders = c.record_in.new.loaders.items; rows = c.self.inside.rows.items })) c.self.view_is
     (subst (λ (ls : List (List (List ℕ × ℕ))). Stays inside (record { loaders = ls; rows = c.self.inside.rows.items })) (sym c.in_ok-record_in.ensures.ok)
-    (stays_with_record inside (good _ _ _ c.self.invariant inside refl) c.args.loader c.in_ok-name.name.items c.args.class))
+    (stays_with_record inside (good _ _ _ c.self.invariant.0 inside refl) c.args.loader c.in_ok-name.name.items c.args.class))
 
 pub returns-clause-in_order : goal.returns-clause-in_order
-returns-clause-in_order c = in_order _ _ _ c.self.invariant c.args.self.now c.self.view_is
+returns-clause-in_order c = in_order _ _ _ c.self.invariant.0 c.args.self.now c.self.view_is

@@ -1,6 +1,0 @@
-use Rattle.std.proofs.Common.{sym}
-use Rattle.jl_hierarchy.proofs.DefaultLaws.{defaults_are}
-use Rattle.jl_hierarchy.proofs.classes.Classes.default_method.Goals as goal
-
-pub loop-ancestor-init : goal.loop-ancestor-init
-loop-ancestor-init c = sym (defaults_are c.args.self.now c.args.name.now c.args.ty.now c.args.class)

@@ -1,0 +1,160 @@
+//! Which classes have a subclass that declares a method again that they see.
+
+ghost use Rattle.std.specs.Prelude.{◌≡◌, ◌<◌, ◌^◌, ℕ, Some, true, false, length, slice_get, IfOk, IfSome, OnOk};
+ghost use Rattle.jl_classfile.specs.Class.{Method};
+ghost use Rattle.jl_types.specs.Members as members;
+ghost use Rattle.jl_types.specs.Ancestry as ancestry;
+ghost use Rattle.jl_hierarchy.specs.Redeclared.{is_marked, sees, line_above, is_above, is_on, AreLines, IsNotRedeclared, IsTold};
+
+use crate::classes::Classes;
+use crate::marks::Mark;
+use crate::row::methods_of;
+use crate::sought::Sought;
+use jl_classfile::Methods;
+use jl_types::{Class, ClassId};
+use std::alloc::{AllocError, Global};
+
+/// How many classes a definition looks at for each method, on the average, and how many besides. Past these it marks every method
+/// at each superclass, so that a class of many methods far below the top costs no more than its length.
+const LOOKS_A_METHOD: usize = 16;
+const LOOKS_BESIDES: usize = 256;
+
+impl Classes {
+    /// What the definition of the class marks: each method at its superclasses, up to the first that declares it. What sees it
+    /// above that one was marked when that one was defined. Want of memory is an error.
+    pub(crate) fn marks_of(&self, alloc: Global, row: &Class) -> Result<Vec<Mark>, AllocError>
+        ensures { IfOk result (λ marks. (s k : ℕ) (m : Method) → slice_get row.now.file.methods k ≡ Some m
+            → is_on s (line_above self.now row.now) ≡ true → sees self.now m.name m.ty s ≡ true
+            → IsTold self.now m.name m.ty marks.items s) }
+    {
+        let Some(superclass) = row.superclass() else {
+            return Ok(Vec::new(alloc));
+        };
+        match self.marks_of_each(alloc, superclass, &methods_of(row))? {
+            Some(marks) => Ok(marks),
+            None => self.marks_of_all(alloc, superclass),
+        }
+    }
+
+    /// The marks of each of these methods, or none where that takes too many looks. Want of memory is an error.
+    fn marks_of_each(
+        &self,
+        alloc: Global,
+        superclass: ClassId,
+        methods: &Methods<'_>,
+    ) -> Result<Option<Vec<Mark>>, AllocError>
+        requires { length methods.now < 2 ^ 16 }
+        ensures { IfOk result (λ found. IfSome found (λ marks. (s k : ℕ) (m : Method) → slice_get methods.now k ≡ Some m
+            → ancestry.is_subclass self.now superclass s ≡ true → sees self.now m.name m.ty s ≡ true
+            → IsTold self.now m.name m.ty marks.items s)) }
+    {
+        let mut marks = Vec::new(alloc);
+        let mut looks = LOOKS_A_METHOD * methods.len() + LOOKS_BESIDES;
+        let mut place = 0;
+        while let Some(method) = methods.at(place) {
+            let (name, ty) = (method.name(), method.ty());
+            let sought = Sought::of(name.as_slice(), ty.as_slice());
+            let Some(left) = self.mark_upward(superclass, &sought, looks, &mut marks)? else {
+                return Ok(None);
+            };
+            looks = left;
+            place += 1;
+        }
+        Ok(Some(marks))
+    }
+
+    /// Marks the method at the class and upward, to the first that declares it; at none of them where none does. It gives how many
+    /// looks are left, or none where there were too few. Want of memory is an error.
+    fn mark_upward(
+        &self,
+        class: ClassId,
+        sought: &Sought<'_>,
+        looks: usize,
+        marks: &mut Vec<Mark>,
+    ) -> Result<Option<usize>, AllocError>
+        ensures kept { OnOk result ((s p : ℕ) → is_marked marks.old.items s p ≡ true → is_marked marks.new.items s p ≡ true) }
+        ensures told { IfOk result (λ left. IfSome left (λ n. (s : ℕ) → ancestry.is_subclass self.now class s ≡ true
+            → sees self.now sought.now.name sought.now.ty s ≡ true
+            → IsTold self.now sought.now.name sought.now.ty marks.new.items s)) }
+    {
+        let start = marks.len();
+        let mut left = looks;
+        let mut at = class;
+        while left > 0 {
+            left -= 1;
+            marks.push(Mark {
+                class: at,
+                print: Some(sought.print()),
+            })?;
+            if self.declared_by(at, sought).is_some() {
+                return Ok(Some(left));
+            }
+            let Some(superclass) = self.superclass(at) else {
+                marks.truncate(start);
+                return Ok(Some(left));
+            };
+            at = superclass;
+        }
+        Ok(None)
+    }
+
+    /// Marks of every method at the class and each superclass upward. Want of memory is an error.
+    fn marks_of_all(&self, alloc: Global, class: ClassId) -> Result<Vec<Mark>, AllocError>
+        ensures { IfOk result (λ marks. (s p : ℕ) → ancestry.is_subclass self.now class s ≡ true → is_marked marks.items s p ≡ true) }
+    {
+        let mut marks = Vec::new(alloc);
+        let mut at = class;
+        loop {
+            marks.push(Mark {
+                class: at,
+                print: None,
+            })?;
+            match self.superclass(at) {
+                Some(superclass) => at = superclass,
+                None => return Ok(marks),
+            }
+        }
+    }
+
+    /// Whether a proper subclass of the class may declare such a method, which the class sees: one look at what is marked.
+    pub fn is_redeclared_below(&self, class: ClassId, sought: &Sought<'_>) -> bool
+        ensures { result ≡ false → sees self.now sought.now.name sought.now.ty class ≡ true
+            → IsNotRedeclared self.now sought.now.name sought.now.ty class }
+    {
+        let _ = self.class_at(class);
+        self.marks.has(class, sought.print())
+    }
+
+    /// Whether it is known that each ancestor of a class that isn't an interface is one of its superclasses.
+    pub fn are_lines(&self) -> bool
+        ensures { result ≡ true → AreLines self.now.rows }
+    {
+        self.are_lines
+    }
+
+    /// Whether each of these that isn't an interface is an ancestor of the superclass of the class that is made.
+    pub(crate) fn are_on_line(&self, row: &Class, ancestors: &[ClassId]) -> bool
+        ensures { result ≡ true → (a : ℕ) → is_on a ancestors.now ≡ true → members.is_interface self.now a ≡ false
+            → is_above self.now row.now a ≡ true }
+    {
+        for ancestor in ancestors {
+            if !self.is_on_line(row, *ancestor) {
+                return false;
+            }
+        }
+        true
+    }
+
+    /// Whether the ancestor is an interface, or an ancestor of the superclass of the class that is made.
+    fn is_on_line(&self, row: &Class, ancestor: ClassId) -> bool
+        ensures { result ≡ true → members.is_interface self.now ancestor ≡ false → is_above self.now row.now ancestor ≡ true }
+    {
+        if self.is_interface(ancestor) {
+            return true;
+        }
+        match row.superclass() {
+            Some(superclass) => self.is_ancestor(ancestor, superclass),
+            None => false,
+        }
+    }
+}
