@@ -1,31 +1,92 @@
--- The place of a method by the prints of all.
-use Rattle.std.specs.Prelude.{◌≡◌, ℕ, zero, suc, ◌+◌, ◌<◌, Bool, true, false, ◌&&◌, cond, drop, List, ◌∷◌, [], map, length, get_or, slice_get, Option, Some, None, is_some, ◌++◌}
-use Rattle.std.specs.List.{position_from}
+-- The place of a method by the sorted prints of all.
+use Rattle.std.specs.Prelude.{◌≡◌, ℕ, zero, suc, ◌+◌, ◌<◌, ◌≤◌, Bool, true, false, not, ◌&&◌, ◌==◌, cond, drop, List, ◌∷◌, [], length, get_or, slice_get, filter, find, position, option_map, Option, Some, None, is_some, ◌++◌}
+use Rattle.std.specs.List.{position_from, AllWithin}
+use Rattle.std.specs.List.Sorted.{IsNonDecreasingBy, IsStableByKey}
 use Rattle.std.specs.Option.{option_map_or}
+use Rattle.std.specs.Ordering.{nat_cmp, is_lt}
 use Rattle.std.specs.Str.{bytes_eq}
-use Rattle.std.proofs.Common.{refl, ap, sym, ◌∙◌, arith, append_assoc, append-nil}
-use Rattle.std.proofs.lemmas.List.{length-map}
+use Rattle.std.proofs.Common.{Less, Equal, Greater, refl, ap, sym, ◌∙◌, subst, arith, append_assoc, append-nil, get_or-drop, ltb, le-ltb, ne_eqb, eq-eqb, ltb-true, ltb-false, ap₂}
+use Rattle.std.proofs.lemmas.List.{length-drop, get_or_default}
+use Rattle.std.proofs.lemmas.Iterator.Adapters.{position_from-zero}
 use Rattle.std.proofs.lemmas.Slice.Eq.{bytes_eq-Decides}
+use Rattle.jl_names.proofs.Tests.{by_test}
 use Rattle.jl_classfile.specs.Class.{Method}
 use Rattle.jl_types.specs.Members.{is_called}
-use Rattle.jl_types.proofs.Lists.{left_at, none_left, element_at}
-use Rattle.jl_hierarchy.specs.Prints.{print_of, print_of_method}
+use Rattle.jl_types.proofs.Lists.{left_at, none_left}
+use Rattle.jl_hierarchy.specs.declared.row.Printed.{Printed}
+use Rattle.jl_hierarchy.specs.Prints.{print_of, print_of_method, printed_from, has_print, AreSorted}
 
--- ---- a search place by place
+-- ---- the prints as they are made
 
-module _ {X : Type 0} (test : X → Bool) (xs : List X) (n : ℕ) where
-  pub found_here : option_map_or test (slice_get xs n) false ≡ true → Some n ≡ position_from test n (drop n xs)
-  found_here h = by_element (slice_get xs n) refl h
+-- one more
+pub print_added : (made : List Printed) (ms : List Method) (n : ℕ) (m : Method) → slice_get ms n ≡ Some m
+    → made ++ printed_from n (drop n ms) ≡ (made ++ record { print = print_of_method m; place = n } ∷ []) ++ printed_from (n + 1) (drop (n + 1) ms)
+print_added made ms n m e =
+    ap (λ (xs : List Method). made ++ printed_from n xs) (left_at ms n m e)
+    ∙ sym (append_assoc made (record { print = print_of_method m; place = n } ∷ []) (printed_from (n + 1) (drop (n + 1) ms)))
+
+pub all_printed : (made : List Printed) (ms : List Method) (n : ℕ) → slice_get ms n ≡ None → made ++ printed_from n (drop n ms) ≡ made
+all_printed made ms n e = ap (λ (xs : List Method). made ++ printed_from n xs) (none_left ms n e) ∙ append-nil made
+
+-- ---- the prints in order
+
+answers_less : (a b : ℕ) → is_lt (nat_cmp a b) ≡ ltb a b
+answers_less a b = by_tests (ltb a b) (a == b)
+  where
+    by_tests : (x y : Bool) → is_lt (cond x Less (cond y Equal Greater)) ≡ x
+    by_tests true y = refl
+    by_tests false true = refl
+    by_tests false false = refl
+
+-- numbers of which none is less are equal
+ties_equal : (a b : ℕ) → (not (is_lt (nat_cmp a b)) && not (is_lt (nat_cmp b a))) ≡ (b == a)
+ties_equal a b = by_test (ltb a b)
+    (λ t. let lt = ltb-true a b t in sides true false false t (le-ltb b a (omega arith)) (ne_eqb b a (λ e. omega (arith, e))) refl)
+    (λ f. let le = ltb-false a b f in by_test (ltb b a)
+    (λ t. let lt = ltb-true b a t in sides false true false f t (ne_eqb b a (λ e. omega (arith, e))) refl)
+    (λ g. let ge = ltb-false b a g in sides false false true f g (eq-eqb b a (omega arith)) refl))
+  where
+    sides : (x y z : Bool) → ltb a b ≡ x → ltb b a ≡ y → (b == a) ≡ z → (not x && not y) ≡ z
+        → (not (is_lt (nat_cmp a b)) && not (is_lt (nat_cmp b a))) ≡ (b == a)
+    sides x y z p q r s = ap₂ (λ (u v : Bool). not u && not v) (answers_less a b ∙ p) (answers_less b a ∙ q) ∙ s ∙ sym r
+
+-- a stable sort by prints leaves those of one print as they were
+pub same_of_print : (xs ys : List Printed) → IsStableByKey (λ (e : Printed). e.print) nat_cmp xs ys → (p : ℕ) → filter (has_print p) ys ≡ filter (has_print p) xs
+same_of_print xs ys stable p =
+    subst (λ (test : Printed → Bool). filter test ys ≡ filter test xs) (λ i e. ties_equal p e.print i) (stable (record { print = p; place = 0 }))
+
+-- ---- the first element that passes two tests
+
+module _ {X : Type 0} (q t : X → Bool) where
+  found_in_filter : (xs : List X) → find (λ e. q e && t e) xs ≡ find t (filter q xs)
+  found_in_filter [] = refl
+  found_in_filter (x ∷ xs) = by_first (found_in_filter xs) (q x) (t x) refl
     where
-      by_element : (o : Option X) → slice_get xs n ≡ o → option_map_or test o false ≡ true → Some n ≡ position_from test n (drop n xs)
-      by_element None e h = cc
-      by_element (Some x) e h = sym (ap (position_from test n) (left_at xs n x e) ∙ ap (λ b. cond b (Some n) (position_from test (n + 1) (drop (n + 1) xs))) h)
+      by_first : find (λ e. q e && t e) xs ≡ find t (filter q xs) → (a b : Bool) → t x ≡ b
+          → cond (a && b) (Some x) (find (λ e. q e && t e) xs) ≡ find t (cond a (x ∷ filter q xs) (filter q xs))
+      by_first rest true b e = ap₂ (λ (c : Bool) (o : Option X). cond c (Some x) o) (sym e) rest
+      by_first rest false b e = rest
 
-  pub not_here : (x : X) → slice_get xs n ≡ Some x → test x ≡ false → position_from test (n + 1) (drop (n + 1) xs) ≡ position_from test n (drop n xs)
-  not_here x e h = sym (ap (position_from test n) (left_at xs n x e) ∙ ap (λ b. cond b (Some n) (position_from test (n + 1) (drop (n + 1) xs))) h)
+  -- none of those before the place passes the first one
+  found_behind : (n : ℕ) (xs : List X) → ((k : ℕ) (d : X) → k < n → k < length xs → q (get_or xs k d) ≡ false)
+      → find (λ e. q e && t e) (drop n xs) ≡ find (λ e. q e && t e) xs
+  found_behind zero xs none = refl
+  found_behind (suc n) [] none = refl
+  found_behind (suc n) (x ∷ xs) none =
+      found_behind n xs (λ k d lt within. none (suc k) d (omega arith) (omega arith))
+      ∙ sym (ap (λ (b : Bool). cond (b && t x) (Some x) (find (λ e. q e && t e) xs)) (none 0 x (omega arith) (omega arith)))
 
-  pub not_found : slice_get xs n ≡ None → None ≡ position_from test n (drop n xs)
-  not_found e = sym (ap (position_from test n) (none_left xs n e))
+  -- none passes it
+  none_found : (xs : List X) → ((k : ℕ) (d : X) → k < length xs → q (get_or xs k d) ≡ false) → find (λ e. q e && t e) xs ≡ None
+  none_found [] none = refl
+  none_found (x ∷ xs) none =
+      ap (λ (b : Bool). cond (b && t x) (Some x) (find (λ e. q e && t e) xs)) (none 0 x (omega arith)) ∙ none_found xs (λ k d lt. none (suc k) d (omega arith))
+
+-- ---- a method by its print
+
+pub none_yet : (o : Option ℕ) → is_some o ≡ false → o ≡ None
+none_yet None e = refl
+none_yet (Some k) e = cc
 
 -- a method of another print isn't called so
 pub called_print : (name ty : List ℕ) (m : Method) → is_called name ty m ≡ true → print_of_method m ≡ print_of name ty
@@ -39,39 +100,93 @@ called_print name ty m e = by_parts (bytes_eq m.name name) (bytes_eq m.ty ty) re
     by_parts true false p q e = cc
     by_parts false b p q e = cc
 
-pub none_yet : (o : Option ℕ) → is_some o ≡ false → o ≡ None
-none_yet None e = refl
-none_yet (Some k) e = cc
+module _ (name ty : List ℕ) (ms : List Method) where
+  -- the sought print
+  abbrev sought : ℕ
+  sought = print_of name ty
 
--- the prints of the methods from a place on, begun with the one at the place
-pub print_added : (made : List ℕ) (ms : List Method) (n : ℕ) (m : Method) → Some m ≡ slice_get ms n
-    → made ++ map print_of_method (drop n ms) ≡ (made ++ print_of_method m ∷ []) ++ map print_of_method (drop (n + 1) ms)
-print_added made ms n m e =
-    ap (λ (xs : List Method). made ++ map print_of_method xs) (left_at ms n m (sym e))
-    ∙ sym (append_assoc made (print_of_method m ∷ []) (map print_of_method (drop (n + 1) ms)))
+  abbrev called : Method → Bool
+  called = is_called name ty
 
-pub all_printed : (made : List ℕ) (ms : List Method) (n : ℕ) → None ≡ slice_get ms n → made ++ map print_of_method (drop n ms) ≡ made
-all_printed made ms n e = ap (λ (xs : List Method). made ++ map print_of_method xs) (none_left ms n (sym e)) ∙ append-nil made
+  -- whether the method at the entry's place has the texts
+  abbrev has_texts : Printed → Bool
+  has_texts e = option_map_or called (slice_get ms e.place) false
 
--- ---- a method by its print
+  abbrev passes : Printed → Bool
+  passes e = has_print sought e && has_texts e
 
-print_at : (ms : List Method) (n : ℕ) (m : Method) → slice_get ms n ≡ Some m → get_or (map print_of_method ms) n 0 ≡ print_of_method m
-print_at [] n m e = cc
-print_at (x ∷ xs) zero m e = let same : x ≡ m = cc in ap print_of_method same
-print_at (x ∷ xs) (suc n) m e = print_at xs n m e
+  abbrev places : Option Printed → Option ℕ
+  places = option_map (λ (e : Printed). e.place)
 
-module _ (name ty : List ℕ) (prints : List ℕ) (ms : List Method) (n : ℕ) (are : prints ≡ map print_of_method ms) where
-  pub method_here : n < length prints → (m : Method) × (slice_get ms n ≡ Some m)
-  method_here h = element_at ms n (let as_many = ap length are ∙ length-map ms print_of_method in omega (arith, as_many))
+  -- the place of the first entry that has the print, and whose method has the texts
+  abbrev pub found : List Printed → Option ℕ
+  found entries = places (find passes entries)
 
-  -- with another print
-  pub other_print : (m : Method) → slice_get ms n ≡ Some m → (get_or prints n 0 ≡ print_of name ty → ⊥) → is_called name ty m ≡ false
-  other_print m e other = by_test (is_called name ty m) refl
+  -- whoever has the texts has the print
+  both_tests : (m : Method) → ((print_of_method m == sought) && called m) ≡ called m
+  both_tests m = by_called (called m) refl
     where
-      by_test : (b : Bool) → is_called name ty m ≡ b → is_called name ty m ≡ false
-      by_test false is = is
-      by_test true is = absurd (other (ap (λ (ps : List ℕ). get_or ps n 0) are ∙ print_at ms n m e ∙ called_print name ty m is))
+      by_called : (b : Bool) → called m ≡ b → ((print_of_method m == sought) && b) ≡ b
+      by_called true e = ap (λ (c : Bool). c && true) (eq-eqb (print_of_method m) sought (called_print name ty m e))
+      by_called false e = never (print_of_method m == sought)
+        where
+          never : (c : Bool) → (c && false) ≡ false
+          never true = refl
+          never false = refl
 
-  -- with another text
-  pub other_text : (m : Method) → slice_get ms n ≡ Some m → option_map_or (is_called name ty) (slice_get ms n) false ≡ false → is_called name ty m ≡ false
-  other_text m e h = sym (ap (λ (o : Option Method). option_map_or (is_called name ty) o false) e) ∙ h
+  -- what is found among the prints as they were made
+  found_from : (n : ℕ) (xs : List Method) → ((k : ℕ) → slice_get ms (n + k) ≡ slice_get xs k) → found (printed_from n xs) ≡ position_from called n xs
+  found_from n [] at = refl
+  found_from n (x ∷ xs) at = by_first first_passes (found_from (n + 1) xs (λ k. ap (slice_get ms) (omega arith) ∙ at (suc k)))
+    where
+      first : Printed
+      first = record { print = print_of_method x; place = n }
+
+      first_passes : passes first ≡ called x
+      first_passes =
+          ap (λ (o : Option Method). has_print sought first && option_map_or called o false) (ap (slice_get ms) (omega arith) ∙ at 0) ∙ both_tests x
+
+      at_first : (b : Bool) (o : Option Printed) → places (cond b (Some first) o) ≡ cond b (Some n) (places o)
+      at_first true o = refl
+      at_first false o = refl
+
+      by_first : passes first ≡ called x → found (printed_from (n + 1) xs) ≡ position_from called (n + 1) xs
+          → found (first ∷ printed_from (n + 1) xs) ≡ cond (called x) (Some n) (position_from called (n + 1) xs)
+      by_first same rest =
+          at_first (passes first) (find passes (printed_from (n + 1) xs)) ∙ ap₂ (λ (b : Bool) (o : Option ℕ). cond b (Some n) o) same rest
+
+  -- what is found among the sorted prints
+  pub found_sorted : (entries : List Printed) → AreSorted entries ms → found entries ≡ position called ms
+  found_sorted entries are =
+      let test = has_print sought in
+      ap places (found_in_filter test has_texts entries ∙ ap (find has_texts) (are.1 sought) ∙ sym (found_in_filter test has_texts (printed_from 0 ms)))
+      ∙ found_from 0 ms (λ k. ap (slice_get ms) (omega arith))
+      ∙ sym (position_from-zero called ms)
+
+  -- those below the print may be left out
+  pub found_from_start : (entries : List Printed) (start : ℕ) → AllWithin (λ (e : Printed). e.print < sought) entries 0 start
+      → found (drop start entries) ≡ found entries
+  found_from_start entries start below = ap places (found_behind (has_print sought) has_texts start entries others)
+    where
+      others : (k : ℕ) (d : Printed) → k < start → k < length entries → has_print sought (get_or entries k d) ≡ false
+      others k d lt within = let less = below k d (omega arith) lt in ne_eqb (get_or entries k d).print sought (λ e. omega (arith, e, less))
+
+  -- none is found from one on that has another print, where none is below it
+  pub none_behind : (entries rest : List Printed) (start n : ℕ) (d : Printed) → IsNonDecreasingBy (λ (e : Printed). e.print) entries
+      → AllWithin (λ (e : Printed). sought ≤ e.print) entries start (length entries) → rest ≡ drop start entries
+      → n < length rest → ((get_or rest n d).print ≡ sought → ⊥) → None ≡ found (drop n rest)
+  none_behind entries rest start n d rise others is lt other = sym (ap places (none_found (has_print sought) has_texts (drop n rest) above))
+    where
+      in_rest : (k : ℕ) (e : Printed) → get_or rest k e ≡ get_or entries (start + k) e
+      in_rest k e = ap (λ (xs : List Printed). get_or xs k e) is ∙ get_or-drop start entries k e
+
+      above : (k : ℕ) (e : Printed) → k < length (drop n rest) → has_print sought (get_or (drop n rest) k e) ≡ false
+      above k e within =
+          let left = ap length is ∙ length-drop start entries in
+          let more = length-drop n rest in
+          let least = others (start + n) d (omega arith) (omega (arith, left, lt)) in
+          let rises = rise (start + n) (start + (n + k)) d (omega arith) (omega (arith, left, more, within)) in
+          let first = ap (λ (x : Printed). x.print) (in_rest n d) in
+          let other_default = get_or_default entries (start + (n + k)) e d (omega (arith, left, more, within)) in
+          let here = ap (λ (x : Printed). x.print) (get_or-drop n rest k e ∙ in_rest (n + k) e ∙ other_default) in
+          ne_eqb (get_or (drop n rest) k e).print sought (λ same. other (omega (arith, least, rises, first, here, same)))

@@ -9,8 +9,8 @@ ghost use Rattle.jl_hierarchy.specs.Constancy.{AreInOrder};
 
 use crate::kin::Kin;
 use crate::loader::Loader;
-use crate::receiving::Receivers;
 use crate::marks::Marks;
+use crate::receiving::Receivers;
 use crate::row::Row;
 use jl_paged::Paged;
 use jl_types::{Class, ClassId, LoaderId};

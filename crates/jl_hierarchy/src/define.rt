@@ -16,10 +16,10 @@ ghost use Rattle.jl_hierarchy.specs.Redeclared.{sees, line_above, is_above, is_o
 use crate::classes::Classes;
 use crate::kin::Kin;
 use crate::loader::record_in;
+use crate::marks::{Mark, add_marks};
 use crate::receiving::{
     Receivers, append_to_each, is_concrete, own_receivers, receiving, reserve_each,
 };
-use crate::marks::{Mark, add_marks};
 use crate::row::Row;
 use jl_classfile::ClassFile;
 use jl_paged::Paged;

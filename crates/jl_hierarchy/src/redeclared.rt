@@ -17,6 +17,7 @@ use std::alloc::{AllocError, Global};
 /// How many classes a definition looks at for each method, on the average, and how many besides. Past these it marks every method
 /// at each superclass, so that a class of many methods far below the top costs no more than its length.
 const LOOKS_A_METHOD: usize = 16;
+
 const LOOKS_BESIDES: usize = 256;
 
 impl Classes {

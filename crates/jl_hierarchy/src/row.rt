@@ -1,9 +1,11 @@
 //! A class as it is kept, with the prints of its methods.
 
-ghost use Rattle.std.specs.Prelude.{◌≡◌, ◌<◌, ◌^◌, false, length, map, position, slice_get, IfOk};
+ghost use Rattle.std.specs.Prelude.{◌≡◌, ◌<◌, ◌≤◌, ◌^◌, false, length, position, slice_get, IfOk};
 ghost use Rattle.std.specs.Option.{option_map_or};
+ghost use Rattle.std.specs.List.Sorted.{IsNonDecreasingBy, IsPartitionPoint};
 ghost use Rattle.jl_types.specs.Members as members;
-ghost use Rattle.jl_hierarchy.specs.Prints.{print_of_method};
+ghost use Rattle.jl_hierarchy.specs.declared.row.Printed.{Printed};
+ghost use Rattle.jl_hierarchy.specs.Prints.{print_of_method, printed_from, AreSorted};
 
 use crate::sought::{Sought, print_of};
 use jl_classfile::{Method, Methods};
@@ -74,23 +76,29 @@ impl Again for Row {
     }
 }
 
-/// A class, with the print of each of its methods, so that most look-ups of a method that it doesn't declare read no text. A
-/// clause sees the class alone.
+/// A method's print, with the method's place.
+#[derive(Drop)]
+struct Printed {
+    print: u64,
+    place: u16,
+}
+
+/// A class, with the prints of its methods in order, so that a look-up of a method that it doesn't declare seldom reads a
+/// text. A clause sees the class alone.
 struct Indexed {
     class: Class,
-    prints: Vec<u64>,
+    prints: Vec<Printed>,
 }
 
 impl Model for Indexed {
-    ghost use Rattle.std.specs.Prelude.{◌≡◌, map};
     ghost use Rattle.jl_types.specs.World.{Class};
-    ghost use Rattle.jl_hierarchy.specs.Prints.{print_of_method};
+    ghost use Rattle.jl_hierarchy.specs.Prints.{AreSorted};
 
     ghost Value = { Class };
 
     ghost view = { λ r. r.class };
 
-    ghost invariant = { λ r. r.prints.items ≡ map print_of_method r.class.file.methods };
+    ghost invariant = { λ r. AreSorted r.prints.items r.class.file.methods };
 }
 
 /// Written out, as a row's is.
@@ -108,7 +116,7 @@ impl Indexed {
     fn new(alloc: Global, class: Class) -> Result<Indexed, AllocError>
         ensures { IfOk result (λ indexed. indexed ≡ class) }
     {
-        let prints = prints_of(alloc, &methods_of(&class))?;
+        let prints = sorted_prints(alloc, &methods_of(&class))?;
         Ok(Indexed { class, prints })
     }
 
@@ -135,39 +143,64 @@ pub(crate) fn methods_of(row: &Class) -> Methods<'_>
     row.file().methods()
 }
 
-/// The prints of these methods. Want of memory is an error.
-fn prints_of(alloc: Global, methods: &Methods<'_>) -> Result<Vec<u64>, AllocError>
+/// The prints of these methods in order, those of one print by their places. Want of memory is an error.
+fn sorted_prints(alloc: Global, methods: &Methods<'_>) -> Result<Vec<Printed>, AllocError>
     requires { length methods.now < 2 ^ 16 }
-    ensures { IfOk result (λ prints. prints.items ≡ map print_of_method methods.now) }
+    ensures { IfOk result (λ prints. AreSorted prints.items methods.now) }
+{
+    let mut prints = prints_of(alloc, methods)?;
+    prints.sort_by_key(|entry| entry.print)?;
+    Ok(prints)
+}
+
+/// The prints of these methods. Want of memory is an error.
+fn prints_of(alloc: Global, methods: &Methods<'_>) -> Result<Vec<Printed>, AllocError>
+    requires { length methods.now < 2 ^ 16 }
+    ensures { IfOk result (λ prints. prints.items ≡ printed_from 0 methods.now) }
 {
     let mut prints = Vec::with_capacity(alloc, methods.len())?;
     let mut place = 0;
     while let Some(method) = methods.at(place) {
-        prints.push(print_of_method(&method))?;
+        prints.push(Printed {
+            print: print_of_method(&method),
+            place: place as u16,
+        })?;
         place += 1;
     }
     Ok(prints)
 }
 
 /// The print of the method's name and descriptor.
-fn print_of_method(method: &Method<'_>) -> u64
+pub(crate) fn print_of_method(method: &Method<'_>) -> u64
     ensures { result ≡ print_of_method method.now }
 {
     print_of(method.name().as_slice(), method.ty().as_slice())
 }
 
 /// The place of the method of this name and descriptor, where these are the methods' prints.
-fn place_in(prints: &[u64], methods: &Methods<'_>, sought: &Sought<'_>) -> Option<u16>
-    requires prints { prints.now ≡ map print_of_method methods.now }
-    requires few { length methods.now < 2 ^ 16 }
+fn place_in(prints: &[Printed], methods: &Methods<'_>, sought: &Sought<'_>) -> Option<u16>
+    requires { AreSorted prints.now methods.now }
     ensures { result ≡ position (members.is_called sought.now.name sought.now.ty) methods.now }
 {
-    for (place, print) in prints.iter().enumerate() {
-        if *print == sought.print() && is_at(methods, place, sought) {
-            return Some(place as u16);
+    let start = first_not_below(prints, sought.print());
+    for entry in &prints[start..] {
+        if entry.print != sought.print() {
+            return None;
+        }
+        if is_at(methods, entry.place as usize, sought) {
+            return Some(entry.place);
         }
     }
     None
+}
+
+/// Where the prints that aren't below this one begin.
+fn first_not_below(prints: &[Printed], print: u64) -> usize
+    requires { IsNonDecreasingBy (λ (e : Printed). e.print) prints.now }
+    ensures within { result ≤ length prints.now }
+    ensures split { IsPartitionPoint (λ (e : Printed). e.print < print) (λ (e : Printed). print ≤ e.print) prints.now result }
+{
+    prints.partition_point(|entry| entry.print < print)
 }
 
 /// Whether the method at the place has this name and descriptor.

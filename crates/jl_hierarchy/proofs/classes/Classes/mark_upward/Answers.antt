@@ -1,5 +1,5 @@
-use Rattle.std.specs.Prelude.{◌≡◌, ◌++◌, ◌∷◌, [], ℕ, List, Option, Some, None}
-use Rattle.std.proofs.Common.{refl, sym, inl, ap, ◌∙◌, append_assoc, append-nil}
+use Rattle.std.specs.Prelude.{◌≡◌, ◌++◌, ◌∷◌, [], ℕ, List, Some, None}
+use Rattle.std.proofs.Common.{sym, inl, ap, ◌∙◌, append_assoc, append-nil}
 use Rattle.jl_types.specs.Members.{declared}
 use Rattle.jl_hierarchy.specs.declared.marks.Mark.{Mark}
 use Rattle.jl_hierarchy.specs.Prints.{print_of}

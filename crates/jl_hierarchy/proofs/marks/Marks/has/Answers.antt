@@ -1,7 +1,7 @@
-use Rattle.std.proofs.Common.{sym, ◌∙◌, ap, Bool, ◌||◌, true}
+use Rattle.std.proofs.Common.{sym, ◌∙◌, ap, Bool, ◌||◌}
 use Rattle.std.specs.List.{list_any}
 use Rattle.jl_hierarchy.specs.Redeclared.{same_mark}
-use Rattle.jl_hierarchy.proofs.MarkLaws.{marked_by, every, one}
+use Rattle.jl_hierarchy.proofs.MarkLaws.{marked_by, one}
 use Rattle.jl_hierarchy.proofs.marks.Marks.has.Goals as goal
 
 pub returns-then-has_mark : goal.returns-then-has_mark
