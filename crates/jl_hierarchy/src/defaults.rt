@@ -21,7 +21,7 @@ impl Classes {
     }
 
     /// The same of a name and a descriptor that are sought in many classes.
-    fn first_candidate_by(&self, class: ClassId, sought: &Sought<'_>) -> Option<MethodId>
+    pub fn first_candidate_by(&self, class: ClassId, sought: &Sought<'_>) -> Option<MethodId>
         requires { class < length self.now.rows }
         ensures { result ≡ first_element (candidates self.now sought.now.name sought.now.ty class) }
     {

@@ -4,7 +4,7 @@ ghost use Rattle.std.specs.Prelude.{◌≡◌, ◌<◌, [], ◌∷◌, length};
 ghost use Rattle.jl_types.specs.Resolution as resolution;
 ghost use Rattle.jl_types.specs.Resolution.{first_of, first_element, only, pick, defaults, candidates};
 
-use jl_hierarchy::Classes;
+use jl_hierarchy::{Classes, Sought};
 use jl_types::{Chosen, ClassId, MethodId};
 
 /// What is found in a class: its own or its first superclass's declaration upward, else the one maximally-specific
@@ -14,9 +14,10 @@ pub fn found_in_class(classes: &Classes, class: ClassId, name: &[u8], ty: &[u8])
     requires { class < length classes.now.rows }
     ensures { result ≡ resolution.found_in_class classes.now name.now ty.now class }
 {
-    match classes.declared_upward(class, name, ty) {
+    let sought = Sought::of(name, ty);
+    match classes.declared_upward_by(class, &sought) {
         Some(method) => Some(method),
-        None => found_in_superinterfaces(classes, class, name, ty),
+        None => found_in_superinterfaces(classes, class, &sought),
     }
 }
 
@@ -31,12 +32,13 @@ pub fn found_in_interface(
     requires { interface < length classes.now.rows }
     ensures { result ≡ resolution.found_in_interface classes.now name.now ty.now interface }
 {
-    if let Some(method) = classes.declared(interface, name, ty) {
+    let sought = Sought::of(name, ty);
+    if let Some(method) = classes.declared_by(interface, &sought) {
         return Some(method);
     }
     match classes.declared_in_object(name, ty) {
         Some(method) => Some(method),
-        None => found_in_superinterfaces(classes, interface, name, ty),
+        None => found_in_superinterfaces(classes, interface, &sought),
     }
 }
 
@@ -45,16 +47,15 @@ pub fn found_in_interface(
 fn found_in_superinterfaces(
     classes: &Classes,
     class: ClassId,
-    name: &[u8],
-    ty: &[u8],
+    sought: &Sought<'_>,
 ) -> Option<MethodId>
     requires { class < length classes.now.rows }
-    ensures { result ≡ first_of (only (pick (defaults classes.now name.now ty.now class))
-        ∷ first_element (candidates classes.now name.now ty.now class) ∷ []) }
+    ensures { result ≡ first_of (only (pick (defaults classes.now sought.now.name sought.now.ty class))
+        ∷ first_element (candidates classes.now sought.now.name sought.now.ty class) ∷ []) }
 {
-    match classes.default_method(class, name, ty) {
+    match classes.default_by(class, sought) {
         Chosen::Method(method) => Some(method),
-        Chosen::Several => classes.first_candidate(class, name, ty),
-        Chosen::Nothing => classes.first_candidate(class, name, ty),
+        Chosen::Several => classes.first_candidate_by(class, sought),
+        Chosen::Nothing => classes.first_candidate_by(class, sought),
     }
 }

@@ -2,3 +2,5 @@ pub mod Upward
 pub mod Bridges
 pub mod Overrides
 pub mod Constancy
+pub mod Choices
+pub mod SameBelow

@@ -6,7 +6,7 @@ ghost use Rattle.jl_types.specs.Selection as selection;
 ghost use Rattle.jl_select.specs.Walks.{own_passing};
 
 use crate::selection::ending;
-use jl_hierarchy::Classes;
+use jl_hierarchy::{Classes, Sought};
 use jl_names::LentName;
 use jl_pool::Reference;
 use jl_types::{Chosen, ClassId, MethodId, Outcome, Work};
@@ -87,35 +87,34 @@ fn special_choice(
     let Some(class) = start else {
         return Chosen::Nothing;
     };
-    let name = reference.name.as_slice();
-    let ty = reference.ty.as_slice();
-    match special_found(classes, class, name, ty) {
+    let sought = Sought::of(reference.name.as_slice(), reference.ty.as_slice());
+    match special_found(classes, class, &sought) {
         Some(method) => Chosen::Method(method),
-        None => classes.default_method(class, name, ty),
+        None => classes.default_by(class, &sought),
     }
 }
 
 /// The instance method that the search finds before the defaults.
-fn special_found(classes: &Classes, class: ClassId, name: &[u8], ty: &[u8]) -> Option<MethodId>
-    ensures { result ≡ selection.special_found classes.now name.now ty.now class }
+fn special_found(classes: &Classes, class: ClassId, sought: &Sought<'_>) -> Option<MethodId>
+    ensures { result ≡ selection.special_found classes.now sought.now.name sought.now.ty class }
 {
     if classes.is_interface(class) {
-        match own_instance(classes, class, name, ty) {
+        match own_instance(classes, class, sought) {
             Some(method) => Some(method),
-            None => classes.declared_in_object(name, ty),
+            None => classes.declared_in_object(sought.name(), sought.ty()),
         }
     } else {
-        special_in_class(classes, class, name, ty)
+        special_in_class(classes, class, sought)
     }
 }
 
 /// The first instance method of this name and descriptor, in the class and its superclasses upward.
-fn special_in_class(classes: &Classes, class: ClassId, name: &[u8], ty: &[u8]) -> Option<MethodId>
-    ensures { result ≡ selection.special_in_class classes.now name.now ty.now class }
+fn special_in_class(classes: &Classes, class: ClassId, sought: &Sought<'_>) -> Option<MethodId>
+    ensures { result ≡ selection.special_in_class classes.now sought.now.name sought.now.ty class }
 {
     let mut at = class;
     loop {
-        if let Some(method) = own_instance(classes, at, name, ty) {
+        if let Some(method) = own_instance(classes, at, sought) {
             return Some(method);
         }
         match classes.superclass(at) {
@@ -126,10 +125,10 @@ fn special_in_class(classes: &Classes, class: ClassId, name: &[u8], ty: &[u8]) -
 }
 
 /// The class's own instance method of this name and descriptor.
-fn own_instance(classes: &Classes, class: ClassId, name: &[u8], ty: &[u8]) -> Option<MethodId>
-    ensures { result ≡ own_passing (λ m. not (members.is_static classes.now m)) classes.now name.now ty.now class }
+fn own_instance(classes: &Classes, class: ClassId, sought: &Sought<'_>) -> Option<MethodId>
+    ensures { result ≡ own_passing (λ m. not (members.is_static classes.now m)) classes.now sought.now.name sought.now.ty class }
 {
-    let method = classes.declared(class, name, ty)?;
+    let method = classes.declared_by(class, sought)?;
     if !classes.is_static(&method) {
         Some(method)
     } else {

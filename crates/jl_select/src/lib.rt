@@ -3,11 +3,13 @@
 //! The contract of each is its definition in jl_types (`specs/Overriding` and `Selection`). `specs/Walks` is a means of proof.
 #![tactic(auto)]
 
+mod below;
 mod invokespecial;
 mod laws;
 mod overriding;
 mod selection;
 
+pub use below::runs_below;
 pub use invokespecial::{special, special_counted};
 pub use laws::{outcomes_stay, what_was_selected_stays};
 pub use overriding::can_override;

@@ -1,14 +1,14 @@
 //! Selection (JVMS SE 17 §5.4.6), and what invokevirtual and invokeinterface make of it (§6.5).
 
 ghost use Rattle.std.specs.Prelude.{◌≡◌, ◌+◌, ◌^◌, ◌<◌, ◌≤◌, ◌||◌, length};
+ghost use Rattle.jl_types.specs.Ancestry.{superclasses};
 ghost use Rattle.jl_types.specs.Members as members;
 ghost use Rattle.jl_types.specs.Overriding as overriding;
 ghost use Rattle.jl_types.specs.Selection as selection;
-ghost use Rattle.jl_select.specs.Walks.{own_passing};
+ghost use Rattle.jl_select.specs.Walks.{own_passing, first_passing};
 
 use crate::overriding::can_override;
-use jl_classfile::Method;
-use jl_hierarchy::Classes;
+use jl_hierarchy::{Classes, Sought};
 use jl_types::{Chosen, ClassId, MethodId, Outcome, Throwable, Work};
 
 /// The method that selection picks for a receiver's class and the resolved method (JVMS SE 17 §5.4.6). Takes no memory.
@@ -22,9 +22,11 @@ pub fn chosen(classes: &Classes, receiver: ClassId, resolved: &MethodId) -> Chos
     let Some(method) = classes.method_at(resolved) else {
         return Chosen::Nothing;
     };
-    match overriding(classes, receiver, resolved, &method) {
+    let (name, ty) = (method.name(), method.ty());
+    let sought = Sought::of(name.as_slice(), ty.as_slice());
+    match overriding(classes, receiver, resolved, &sought) {
         Some(found) => Chosen::Method(found),
-        None => classes.default_method(receiver, method.name().as_slice(), method.ty().as_slice()),
+        None => classes.default_by(receiver, &sought),
     }
 }
 
@@ -149,13 +151,14 @@ fn overriding(
     classes: &Classes,
     receiver: ClassId,
     resolved: &MethodId,
-    method: &Method<'_>,
+    sought: &Sought<'_>,
 ) -> Option<MethodId>
-    ensures { result ≡ selection.overriding classes.now receiver resolved.now method.now }
+    ensures { result ≡ first_passing (λ m. overriding.can_override classes.now m resolved.now) classes.now sought.now.name sought.now.ty
+        (superclasses classes.now receiver) }
 {
     let mut at = receiver;
     loop {
-        if let Some(found) = own_overriding(classes, at, resolved, method) {
+        if let Some(found) = own_overriding(classes, at, resolved, sought) {
             return Some(found);
         }
         match classes.superclass(at) {
@@ -170,11 +173,11 @@ fn own_overriding(
     classes: &Classes,
     class: ClassId,
     resolved: &MethodId,
-    method: &Method<'_>,
+    sought: &Sought<'_>,
 ) -> Option<MethodId>
-    ensures { result ≡ own_passing (λ m. overriding.can_override classes.now m resolved.now) classes.now method.now.name method.now.ty class }
+    ensures { result ≡ own_passing (λ m. overriding.can_override classes.now m resolved.now) classes.now sought.now.name sought.now.ty class }
 {
-    let found = classes.declared(class, method.name().as_slice(), method.ty().as_slice())?;
+    let found = classes.declared_by(class, sought)?;
     if can_override(classes, &found, resolved) {
         Some(found)
     } else {

@@ -11,6 +11,6 @@ loop-method-smaller c = next_below c.args.classes.now c.superclass.ensures.order
 pub loop-method-preserved : goal.loop-method-preserved
 loop-method-preserved c =
     sym
-    (upward (λ m. not (is_static c.args.classes.now m)) c.args.classes.now c.args.name.now c.args.ty.now c.loop-method.at
+    (upward (λ m. not (is_static c.args.classes.now m)) c.args.classes.now c.args.sought.now.name c.args.sought.now.ty c.loop-method.at
     c.superclass.ensures.ordered c.in-Some-superclass.superclass (sym c.in_default.ensures) (sym c.in-Some-superclass.ensures.same))
     ∙ c.loop-method.invariant

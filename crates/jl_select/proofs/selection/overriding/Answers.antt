@@ -10,6 +10,6 @@ loop-found-smaller c = next_below c.args.classes.now c.superclass.ensures.ordere
 pub loop-found-preserved : goal.loop-found-preserved
 loop-found-preserved c =
     sym
-    (upward (λ m. can_override c.args.classes.now m c.args.resolved.now) c.args.classes.now c.args.method.now.name c.args.method.now.ty c.loop-found.at
+    (upward (λ m. can_override c.args.classes.now m c.args.resolved.now) c.args.classes.now c.args.sought.now.name c.args.sought.now.ty c.loop-found.at
     c.superclass.ensures.ordered c.in-Some-superclass.superclass (sym c.in_default.ensures) (sym c.in-Some-superclass.ensures.same))
     ∙ c.loop-found.invariant

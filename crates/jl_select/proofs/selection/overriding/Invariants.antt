@@ -1,10 +1,14 @@
 use Rattle.std.proofs.Common.{◌≡◌}
-use Rattle.jl_types.specs.Selection as selection
+use Rattle.jl_types.specs.Ancestry.{superclasses}
+use Rattle.jl_types.specs.Overriding.{can_override}
+use Rattle.jl_select.specs.Walks.{first_passing}
 use Rattle.jl_select.proofs.selection.overriding.Given as goal
 
 -- what is found from here is what is found from the receiver's class
 abbrev pub invariant-loop-found : goal.invariant-loop-found
-invariant-loop-found l = selection.overriding l.classes l.at l.resolved l.method ≡ selection.overriding l.fn.classes l.fn.receiver l.fn.resolved l.fn.method
+invariant-loop-found l =
+    first_passing (λ m. can_override l.classes m l.resolved) l.classes l.sought.name l.sought.ty (superclasses l.classes l.at)
+    ≡ first_passing (λ m. can_override l.fn.classes m l.fn.resolved) l.fn.classes l.fn.sought.name l.fn.sought.ty (superclasses l.fn.classes l.fn.receiver)
 
 abbrev pub decreases-loop-found : goal.decreases-loop-found
 decreases-loop-found l = l.at

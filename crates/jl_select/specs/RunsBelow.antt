@@ -1,0 +1,23 @@
+-- That every class below one runs one same method. A means of proof.
+use Rattle.std.specs.Prelude.{◌≡◌, ℕ, true, false}
+use Rattle.jl_types.specs.declared.ids.MethodId.{MethodId}
+use Rattle.jl_types.specs.declared.answer.Outcome.TheVariants.{Run}
+use Rattle.jl_types.specs.World.{Classes}
+use Rattle.jl_types.specs.Members.{is_interface, is_private, is_abstract}
+use Rattle.jl_types.specs.Ancestry.{is_ancestor, AreOrdered}
+use Rattle.jl_types.specs.Overriding.{can_override}
+use Rattle.jl_hierarchy.specs.Redeclared.{AreLines}
+use Rattle.jl_types.specs.Selection.{virtual_outcome}
+
+-- an invokevirtual of r comes to r for each class that has n among its ancestors
+abbrev pub RunsBelow : Classes → ℕ → MethodId → Type 0
+RunsBelow cs n r = (x : ℕ) → is_ancestor cs n x ≡ true → virtual_outcome cs x r ≡ Run r
+
+-- what is to be known of the class and the method
+pub record MayRun (cs : Classes) (n : ℕ) (r : MethodId) : Type 0 where
+  pub ordered : AreOrdered cs.rows
+  pub plain : is_interface cs n ≡ false
+  pub lines : AreLines cs.rows
+  pub shared : is_private cs r ≡ false
+  pub whole : is_abstract cs r ≡ false
+  pub itself : can_override cs r r ≡ true
