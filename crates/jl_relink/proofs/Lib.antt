@@ -14,3 +14,4 @@ pub mod CountLaws
 pub mod Crossing
 pub mod Rows
 pub mod WideLaws
+pub mod OneForAll

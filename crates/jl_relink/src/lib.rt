@@ -10,6 +10,7 @@ mod answer;
 mod batch;
 mod by_rows;
 mod fill;
+mod known;
 mod laws;
 mod link;
 mod located;

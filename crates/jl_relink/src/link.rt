@@ -8,14 +8,15 @@ ghost use Rattle.jl_relink.specs.Counts.{most_of};
 ghost use Rattle.jl_relink.specs.Rows.{rows_of, selected_link};
 
 use crate::by_rows::{MOST_RECEIVERS, virtual_by_rows};
+use crate::known::all_run;
 use crate::receivers::{common_run, table_of};
 use crate::selection::{Selection, outcome_counted};
 use jl_hierarchy::Classes;
 use jl_types::{ClassId, Link, Outcome, TableKind, Work};
 
 /// The link of the invocation: Direct where an invokevirtual's method is private or its receivers run one same method, else
-/// a table of up to eight receivers, else Mega. It takes one tick at most for each receiver that it looks at, and one where it
-/// looks at none.
+/// a table of up to eight receivers, else Mega. It takes one tick at most for each receiver that it looks at, and one of a
+/// private method. No receiver is looked at where no subclass redeclares the method.
 pub(crate) fn selected_link(classes: &Classes, selection: &Selection, work: &mut Work) -> Link
     requires named { selection.now.named < length classes.now.rows }
     requires fits { work.old + most_of classes.now selection.now < 2 ^ 64 }
@@ -26,6 +27,9 @@ pub(crate) fn selected_link(classes: &Classes, selection: &Selection, work: &mut
         TableKind::Virtual => {
             if classes.is_private(&selection.method) {
                 return Link::Direct(outcome_counted(classes, selection, selection.named, work));
+            }
+            if all_run(classes, selection) {
+                return Link::Direct(Outcome::Run(selection.method));
             }
             virtual_link(
                 classes,

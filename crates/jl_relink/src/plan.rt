@@ -8,13 +8,14 @@ ghost use Rattle.jl_relink.specs.Wide as plans;
 
 use crate::by_rows::MOST_RECEIVERS;
 use crate::fill::fill;
+use crate::known::all_run;
 use crate::preparation::room_for;
 use crate::receiver::selection_at;
 use crate::scratch::link_of;
 use crate::selection::Selection;
 use crate::world::World;
 use jl_hierarchy::Classes;
-use jl_types::{ClassId, Link, PrepareFault, SiteNo, TableKind};
+use jl_types::{ClassId, Link, Outcome, PrepareFault, SiteNo, TableKind};
 use std::alloc::Global;
 
 /// An invocation with one of its receivers.
@@ -52,8 +53,8 @@ fn plan_of(world: &World, site: SiteNo) -> Result<(SiteNo, Planned), PrepareFaul
     ensures ok { IfOk result (λ row. (row.0 ≡ site) × plans.IsPlanned world.now site row.1) }
     ensures err { IfErr result (λ f. link_fault site (scratch world.now site) ≡ Some f) }
 {
-    match depends_at(world, site) {
-        Some(selection) => Ok((site, Planned::Depends(selection))),
+    match planned_at(world, site) {
+        Some(planned) => Ok((site, planned)),
         None => known_of(world, site),
     }
 }
@@ -69,15 +70,29 @@ fn known_of(world: &World, site: SiteNo) -> Result<(SiteNo, Planned), PrepareFau
     }
 }
 
-/// The invocation of the site, where what its receivers come to decides the link.
-fn depends_at(world: &World, site: SiteNo) -> Option<Selection>
-    ensures { IfSome result (λ selection. plans.IsPlanned world.now site (plans.depends_on selection)) }
+/// What is known of the site where what its receivers come to decides the link: that all of them run one method which no subclass
+/// redeclares, and else the invocation.
+fn planned_at(world: &World, site: SiteNo) -> Option<Planned>
+    ensures { IfSome result (λ planned. plans.IsPlanned world.now site planned) }
 {
     let selection = selection_at(world, site)?;
-    if depends(&world.classes, &selection) {
-        return Some(selection);
+    if !depends(&world.classes, &selection) {
+        return None;
     }
-    None
+    Some(planned_of(&world.classes, &selection))
+}
+
+/// The same of an invocation whose link its receivers decide.
+fn planned_of(classes: &Classes, selection: &Selection) -> Planned
+    requires { selection.now.named < length classes.now.rows }
+    ensures link { plans.link_of_plan classes.now result ≡ plans.link_of_plan classes.now (plans.depends_on selection.now) }
+    ensures there { plans.IsThere classes.now result }
+{
+    if all_run(classes, selection) {
+        Planned::Known(Link::Direct(Outcome::Run(selection.method)))
+    } else {
+        Planned::Depends(*selection)
+    }
 }
 
 /// Whether what the receivers come to decides the link: not where an invokevirtual's method is private, or where an

@@ -1,12 +1,14 @@
 //! Whether a link stays once there is one receiver more.
 
-ghost use Rattle.std.specs.Prelude.{◌≡◌, ◌+◌, ◌^◌, ◌<◌, ◌≤◌, length};
+ghost use Rattle.std.specs.Prelude.{◌≡◌, ◌+◌, ◌^◌, ◌<◌, ◌≤◌, true, length};
 ghost use Rattle.jl_types.specs.Resolution as resolution;
 ghost use Rattle.jl_types.specs.Sites as sites;
 ghost use Rattle.jl_types.specs.Links as links;
 ghost use Rattle.jl_types.specs.Sites.{stage};
 ghost use Rattle.jl_relink.specs.Receivers.{TellsStay, TellsRun, IsSelection};
+ghost use Rattle.jl_relink.specs.Rows.{outcome_of};
 
+use crate::known::one_runs;
 use crate::located::{Located, locate};
 use crate::selection::{Selection, outcome_counted};
 use crate::stage::{Stage, stage_of_reference};
@@ -55,12 +57,47 @@ fn runs_at(
     ensures ticks { work.new ≤ work.old + 1 }
 {
     match selection_at(world, site) {
-        Some(selection) => runs(
-            outcome_counted(&world.classes, &selection, receiver, work),
-            method,
-        ),
+        Some(selection) => receiver_runs(&world.classes, &selection, receiver, method, work),
         None => false,
     }
+}
+
+/// Whether the invocation runs this method on an object of this class: without a tick where it is known that every receiver runs
+/// the method that is resolved, and that is this one, and else with one at most.
+fn receiver_runs(
+    classes: &Classes,
+    selection: &Selection,
+    receiver: ClassId,
+    method: &MethodId,
+    work: &mut Work,
+) -> bool
+    requires named { selection.now.named < length classes.now.rows }
+    requires there { receiver < length classes.now.rows }
+    requires fits { work.old + 1 < 2 ^ 64 }
+    ensures runs { result ≡ links.runs method.now (outcome_of classes.now selection.now receiver) }
+    ensures ticks { work.new ≤ work.old + 1 }
+{
+    if is_known_to_run(classes, selection, receiver, method) {
+        return true;
+    }
+    runs(outcome_counted(classes, selection, receiver, work), method)
+}
+
+/// Whether it is known, without a search, that the invocation runs this method on an object of this class: it is the method that is
+/// resolved, and no subclass redeclares that.
+fn is_known_to_run(
+    classes: &Classes,
+    selection: &Selection,
+    receiver: ClassId,
+    method: &MethodId,
+) -> bool
+    requires { selection.now.named < length classes.now.rows }
+    ensures { result ≡ true → links.runs method.now (outcome_of classes.now selection.now receiver) ≡ true }
+{
+    if !runs(Outcome::Run(selection.method), method) {
+        return false;
+    }
+    one_runs(classes, selection, receiver)
 }
 
 /// Whether the outcome is that this method runs.

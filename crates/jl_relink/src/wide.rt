@@ -39,12 +39,14 @@ impl Probe for Silent {
 /// [`prepare`](crate::prepare) gives, with as many threads as there are processors. Nothing is installed.
 ///
 /// It lists the pairs of a site and a receiver of all sites whose links depend on what their receivers come to, and looks at
-/// them in threads. An invokeinterface with more than eight receivers has no pair.
+/// them in threads. An invokeinterface with more than eight receivers has no pair, nor has an invokevirtual whose method no
+/// subclass redeclares.
 ///
-/// It pays where `prepare` looks at many receivers: where all of a site's run one method, 256 sites with 64 receivers each, at
-/// some 0.4 microseconds a receiver, were 2.2 to 3.1 times as fast on four processors, and 1.3 to 2.4 times where those were two
-/// cores of two threads each. `prepare` is faster where there are fewer than 1,024 pairs, which one thread looks at here, too, and
-/// where more than eight receivers of an invokevirtual run several methods, since it ends such a site after a few of them.
+/// It pays where `prepare` looks at many receivers: where all of a site's run one method, which another subclass redeclares, 256
+/// sites with 64 receivers each, at some 0.4 microseconds a receiver, were 2.2 to 3.1 times as fast on four processors, and 1.3 to
+/// 2.4 times where those were two cores of two threads each. `prepare` is faster where there are fewer than 1,024 pairs, which one
+/// thread looks at here, too, and where more than eight receivers of an invokevirtual run several methods, since it ends such a
+/// site after a few of them.
 ///
 /// # Errors
 ///

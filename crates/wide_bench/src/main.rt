@@ -1,4 +1,4 @@
-//! Times both forms. The words are the shape of the receivers (0 flat, 1 own, 2 a chain, 3 implementers), the sites, the
+//! Times both forms. The words are the shape of the receivers (0 flat, 1 own, 2 a chain, 3 implementers, 4 beside one), the sites, the
 //! receivers of each and the rounds; it prints the least time of a round in nanoseconds, of one thread and of several. With no
 //! words it does nothing.
 #![tactic(auto)]
@@ -52,7 +52,8 @@ fn main(rt: HostRuntime) -> io::Result<()> {
         0 => Shape::Flat,
         1 => Shape::Own,
         2 => Shape::Chain,
-        _ => Shape::Implementers,
+        3 => Shape::Implementers,
+        _ => Shape::Beside,
     };
     let count = number_at(words.as_slice(), 2);
     let receivers = number_at(words.as_slice(), 3);

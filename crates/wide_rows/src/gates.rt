@@ -92,7 +92,7 @@ fn meets(
 
 /// The same in a world of so many pairs.
 fn meets_in_it(rt: &(impl Threads + Sync), alloc: Global, held: usize, until: usize) -> bool {
-    match snapshot(alloc, Shape::Flat, RECEIVERS) {
+    match snapshot(alloc, Shape::Beside, RECEIVERS) {
         Some(snapshot) => meets(rt, alloc, &snapshot, held, until),
         None => false,
     }

@@ -22,8 +22,9 @@ enum Kind {
 }
 
 const ROWS: &[Row] = &[
-    (Shape::Flat, 64, Kind::Direct, 16_384),
-    (Shape::Chain, 64, Kind::Direct, 16_384),
+    (Shape::Flat, 64, Kind::Direct, 0),
+    (Shape::Chain, 64, Kind::Direct, 0),
+    (Shape::Beside, 64, Kind::Direct, 16_384),
     (Shape::Own, 64, Kind::Mega, 16_384),
     (Shape::Own, 8, Kind::Virtual, 2_048),
     (Shape::Own, 9, Kind::Mega, 2_304),

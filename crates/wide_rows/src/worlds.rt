@@ -33,6 +33,8 @@ pub enum Shape {
     Own,
     /// Each is a subclass of the one before, and declares no method.
     Chain,
+    /// Each is a direct subclass of A, and declares no method; an abstract subclass has an f of its own.
+    Beside,
     /// Each implements I, with an f of its own.
     Implementers,
 }
@@ -50,6 +52,7 @@ fn receiver(alloc: Global, shape: Shape, number: u32) -> Option<ClassFile> {
     let name = format!(in alloc; "C{number}").ok()?;
     match shape {
         Shape::Flat => class(alloc, name.as_str(), 33, Some("A"), &[], &[]),
+        Shape::Beside => class(alloc, name.as_str(), 33, Some("A"), &[], &[]),
         Shape::Own => class(alloc, name.as_str(), 33, Some("A"), &[], &F),
         Shape::Chain => below_the_one_before(alloc, name.as_str(), number),
         Shape::Implementers => class(alloc, name.as_str(), 33, Some(OBJECT), &["I"], &F),
@@ -85,13 +88,21 @@ fn define_callers(alloc: Global, world: &mut World, shape: Shape) -> bool {
         )
 }
 
+/// Defines the abstract subclass of A that has an f of its own, where the shape wants it.
+fn define_beside(alloc: Global, world: &mut World, shape: Shape) -> bool {
+    match shape {
+        Shape::Beside => define(alloc, world, class(alloc, "B", 1057, Some("A"), &[], &F)),
+        _ => true,
+    }
+}
+
 /// Defines classes, so that there are so many receivers. A is one of those of its own method.
 fn define_receivers(alloc: Global, world: &mut World, shape: Shape, receivers: u32) -> bool {
     let more = match shape {
         Shape::Implementers => receivers,
         _ => receivers.saturating_sub(1),
     };
-    let mut all = true;
+    let mut all = define_beside(alloc, world, shape);
     for number in 0..more {
         all = all
             && define(

@@ -10,8 +10,7 @@ pub returns-in-Some-clause-runs : goal.returns-in-Some-clause-runs
 returns-in-Some-clause-runs c = λ i is other.
     let w = c.args.world.now in
     let selection = c.in-Some.selection in
-    c.runs.ensures
+    c.receiver_runs.ensures.runs
     ∙ ap (runs c.args.method.now)
-    (c.outcome_counted.ensures.outcome
-    ∙ ap (λ (w : World). outcome_of w.classes selection c.args.receiver) c.world.view_is
+    (ap (λ (w : World). outcome_of w.classes selection c.args.receiver) c.world.view_is
     ∙ sym (selects_outcome w.classes (stage w c.args.site) selection c.args.receiver c.in-Some.ensures i is))
