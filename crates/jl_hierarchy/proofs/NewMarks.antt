@@ -1,27 +1,23 @@
 -- What is marked once a class is defined.
-use Rattle.std.specs.Prelude.{◌≡◌, ℕ, zero, suc, ◌+◌, ◌<◌, ◌≤◌, ◌==◌, ◌||◌, Bool, true, false, List, [], ◌∷◌, ◌++◌, filter_map, length, position, slice_get, is_some, Option, Some, None, option_map}
-use Rattle.std.specs.List.{cons_option, AllByRecursion}
+use Rattle.std.specs.Prelude.{◌≡◌, ℕ, zero, suc, ◌+◌, ◌<◌, ◌≤◌, ◌==◌, ◌||◌, Bool, true, false, List, [], ◌∷◌, ◌++◌, length, slice_get, Option, Some, None}
+use Rattle.std.specs.List.{list_any, AllByRecursion}
 use Rattle.std.specs.Option.{option_map_or}
 use Rattle.std.proofs.Common.{refl, ap, sym, subst, ◌∙◌, arith, inl, inr}
 use Rattle.std.proofs.lemmas.Bool.{or_cases, or_right, or_left, both_ways}
 use Rattle.std.proofs.Math.Arith.{lt_of_le-ne}
 use Rattle.std.proofs.lemmas.Bool.Decides.{Decides-eqb}
 use Rattle.std.proofs.lemmas.List.Folds.{list_any-append}
-use Rattle.std.proofs.lemmas.Option.{same_Some, slice_get_within}
-use Rattle.jl_classfile.specs.Class.{Method}
+use Rattle.std.proofs.lemmas.Option.{slice_get_within}
 use Rattle.jl_classfile.specs.Conditions.{has_flag, INTERFACE}
 use Rattle.jl_types.specs.World.{Class}
-use Rattle.jl_types.specs.Members.{declared, is_called, is_interface}
+use Rattle.jl_types.specs.Members.{is_interface}
 use Rattle.jl_types.specs.Ancestry.{IsAncestor, itself, over, superclasses_within, superclasses, is_ancestor, is_subclass, ancestors, AreOrdered}
-use Rattle.jl_types.specs.Resolution.{first_element}
 use Rattle.jl_types.proofs.Ancestors.{superclass_below, superclasses_is, ancestor_decides}
 use Rattle.jl_types.proofs.Grown.{above, among_ancestors, old_within}
 use Rattle.jl_types.proofs.Lists.{before_end, at_end}
 use Rattle.jl_types.proofs.Orders.{none_behind}
 use Rattle.jl_hierarchy.specs.declared.marks.Mark.{Mark}
-use Rattle.jl_hierarchy.specs.Prints.{print_of, print_of_method}
-use Rattle.jl_hierarchy.specs.Redeclared.{of_rows, is_marked, sees, line_above, line_from, is_above, is_on, AreMarked, AreLines, IsIndexed, IsTold}
-use Rattle.jl_hierarchy.proofs.Redeclaring.{marked_if_redeclared}
+use Rattle.jl_hierarchy.specs.Redeclared.{of_rows, is_marked, has_method, declares_print, sees_print, line_above, line_from, is_above, is_on, AreMarked, AreLines, IsIndexed, IsTold}
 
 module _ (rows : List Class) (row : Class) (ordered : AreOrdered (rows ++ row ∷ [])) where
   abbrev n : ℕ
@@ -73,18 +69,16 @@ module _ (rows : List Class) (row : Class) (ordered : AreOrdered (rows ++ row �
   line_there zero c = tt
   line_there (suc k) c = there_row k c (line_there k) (slice_get rows c) refl
 
-  declared_stays : (name ty : List ℕ) (c : ℕ) → c < n → declared (of_rows more) name ty c ≡ declared (of_rows rows) name ty c
-  declared_stays name ty c there =
-      λ i. option_map (λ k. record { class = c; index = k }) (position (is_called name ty) (option_map_or (λ r. r.file.methods) (before c there i) []))
+  declares_stays : (p c : ℕ) → c < n → declares_print (of_rows more) p c ≡ declares_print (of_rows rows) p c
+  declares_stays p c there = λ i. has_method p (option_map_or (λ r. r.file.methods) (before c there i) [])
 
-  found_stay : (name ty : List ℕ) (xs : List ℕ) → AllByRecursion (λ x. x < n) xs → filter_map (declared (of_rows more) name ty) xs ≡ filter_map (declared (of_rows rows) name ty) xs
-  found_stay name ty [] all = refl
-  found_stay name ty (x ∷ xs) all = λ i. cons_option (declared_stays name ty x all.0 i) (found_stay name ty xs all.1 i)
+  any_stays : (p : ℕ) (xs : List ℕ) → AllByRecursion (λ x. x < n) xs → list_any (declares_print (of_rows more) p) xs ≡ list_any (declares_print (of_rows rows) p) xs
+  any_stays p [] all = refl
+  any_stays p (x ∷ xs) all = λ i. declares_stays p x all.0 i || any_stays p xs all.1 i
 
-  pub sees_stays : (name ty : List ℕ) (c : ℕ) → c < n → sees (of_rows more) name ty c ≡ sees (of_rows rows) name ty c
-  sees_stays name ty c there =
-      ap (λ (xs : List ℕ). is_some (first_element (filter_map (declared (of_rows more) name ty) xs))) (line_stays c there)
-      ∙ ap (λ ms. is_some (first_element ms)) (found_stay name ty (superclasses (of_rows rows) c) (line_there (c + 1) c))
+  sees_stays : (p c : ℕ) → c < n → sees_print (of_rows more) p c ≡ sees_print (of_rows rows) p c
+  sees_stays p c there =
+      ap (list_any (declares_print (of_rows more) p)) (line_stays c there) ∙ any_stays p (superclasses (of_rows rows) c) (line_there (c + 1) c)
 
   -- ---- the line above a class that was there, or above the new one
 
@@ -109,33 +103,58 @@ module _ (rows : List Class) (row : Class) (ordered : AreOrdered (rows ++ row �
   above_there s None h = cc
   above_there s (Some p) h = on_there s (superclasses (of_rows rows) p) (line_there (p + 1) p) h
 
+  own_line : superclasses (of_rows more) n ≡ n ∷ line_above (of_rows rows) row
+  own_line = superclasses_is (of_rows more) ordered n row (at_end rows row) ∙ ap (λ (xs : List ℕ). n ∷ xs) (above_stays n row (at_end rows row))
+
   module _ (marks new : List Mark) (are_lines still_lines : Bool) (old : IsIndexed rows marks are_lines)
       (kept : (s p : ℕ) → is_marked marks s p ≡ true → is_marked new s p ≡ true) (found : List Mark)
-      (seen : (s k : ℕ) (m : Method) → slice_get row.file.methods k ≡ Some m → is_on s (line_above (of_rows rows) row) ≡ true
-      → sees (of_rows rows) m.name m.ty s ≡ true → IsTold (of_rows rows) m.name m.ty found s)
+      (seen : (s p : ℕ) → has_method p row.file.methods ≡ true → is_on s (line_above (of_rows rows) row) ≡ true
+      → sees_print (of_rows rows) p s ≡ true → IsTold (of_rows rows) p found s)
       (added : (s p : ℕ) → is_marked found s p ≡ true → is_marked new s p ≡ true) where
-    told : (s : ℕ) (name ty : List ℕ) → sees (of_rows rows) name ty s ≡ true → IsTold (of_rows rows) name ty found s → is_marked new s (print_of name ty) ≡ true
-    told s name ty sees_it (inl marked) = added s (print_of name ty) marked
-    told s name ty sees_it (inr above) =
-        kept s (print_of name ty) (marked_if_redeclared (of_rows rows) old_ordered marks old.marked name ty s sees_it above)
+    told : (s p : ℕ) → sees_print (of_rows rows) p s ≡ true → IsTold (of_rows rows) p found s → is_marked new s p ≡ true
+    told s p sees_it (inl marked) = added s p marked
+    told s p sees_it (inr above) = kept s p (old.marked s p above sees_it)
+
+    -- by the new class
+    by_new : (s p d : ℕ) → d ≡ n → (d == s) ≡ false → is_subclass (of_rows more) d s ≡ true → declares_print (of_rows more) p d ≡ true
+        → sees_print (of_rows more) p s ≡ true → is_marked new s p ≡ true
+    by_new s p d is apart below declares sees_it =
+        let either : ((n == s) || is_on s (line_above (of_rows rows) row)) ≡ true =
+        ap (is_on s) (sym own_line) ∙ ap (λ (k : ℕ). is_subclass (of_rows more) k s) (sym is) ∙ below
+        in
+        let on : is_on s (line_above (of_rows rows) row) ≡ true =
+        elim (or_cases (n == s) (is_on s (line_above (of_rows rows) row)) either) [
+          | inl same ↦ absurd (both_ways (d == s) apart (ap (λ (k : ℕ). k == s) is ∙ same))
+          | inr above ↦ above
+        ]
+        in
+        let methods : has_method p row.file.methods ≡ true =
+        ap (λ (r : Option Class). has_method p (option_map_or (λ c. c.file.methods) r [])) (sym (at_end rows row) ∙ ap (slice_get more) (sym is)) ∙ declares
+        in
+        let sees_old = sym (sees_stays p s (above_there s row.superclass on)) ∙ sees_it in
+        told s p sees_old (seen s p methods on sees_old)
+
+    -- by one that was there
+    by_old : (s p d : ℕ) → d < n → (d == s) ≡ false → is_subclass (of_rows more) d s ≡ true → declares_print (of_rows more) p d ≡ true
+        → sees_print (of_rows more) p s ≡ true → is_marked new s p ≡ true
+    by_old s p d there apart below declares sees_it =
+        let below_old = ap (is_on s) (sym (line_stays d there)) ∙ below in
+        let s_there = on_there s (superclasses (of_rows rows) d) (line_there (d + 1) d) below_old in
+        kept s p (old.marked s p (d, apart, below_old, sym (declares_stays p d there) ∙ declares) (sym (sees_stays p s s_there) ∙ sees_it))
 
     marked_now : AreMarked more new
-    marked_now x s k r m e on method sees_it =
-        let on_old = ap (is_on s) (sym (above_stays x r e)) ∙ on in
-        let there = above_there s r.superclass on_old in
-        let sees_old = sym (sees_stays m.name m.ty s there) ∙ sees_it in
-        by_place (x == n) refl there on_old sees_old
+    marked_now s p (d, apart, below, declares) sees_it = by_row (slice_get more d) refl
       where
-        by_place : (b : Bool) → (x == n) ≡ b → s < n → is_on s (line_above (of_rows rows) r) ≡ true → sees (of_rows rows) m.name m.ty s ≡ true
-            → is_marked new s (print_of_method m) ≡ true
-        by_place true is there on_old sees_old =
-            let same : row ≡ r = same_Some row r (sym (at_end rows row) ∙ ap (slice_get more) (sym ((Decides-eqb x n).0 is)) ∙ e) in
-            told s m.name m.ty sees_old
-            (seen s k m (ap (λ (c : Class). slice_get c.file.methods k) same ∙ method) (ap (λ (c : Class). is_on s (line_above (of_rows rows) c)) same ∙ on_old) sees_old)
-        by_place false apart there on_old sees_old =
-            let last = none_behind rows row r x e in
-            let lt : x < n = lt_of_le-ne last (λ same. both_ways (x == n) apart ((Decides-eqb x n).1 same)) in
-            kept s (print_of_method m) (old.marked x s k r m (sym (before x lt) ∙ e) on_old method sees_old)
+        by_row : (r : Option Class) → slice_get more d ≡ r → is_marked new s p ≡ true
+        by_row None e =
+            let none : declares_print (of_rows more) p d ≡ false = ap (λ (r : Option Class). has_method p (option_map_or (λ c. c.file.methods) r [])) e in
+            absurd (both_ways (declares_print (of_rows more) p d) none declares)
+        by_row (Some r) e = by_place (d == n) refl
+          where
+            by_place : (b : Bool) → (d == n) ≡ b → is_marked new s p ≡ true
+            by_place true is = by_new s p d ((Decides-eqb d n).0 is) apart below declares sees_it
+            by_place false other =
+                by_old s p d (lt_of_le-ne (none_behind rows row r d e) (λ same. both_ways (d == n) other ((Decides-eqb d n).1 same))) apart below declares sees_it
 
     module _ (proper : List ℕ) (listed : proper ++ n ∷ [] ≡ ancestors more n) (still : still_lines ≡ true → are_lines ≡ true)
         (line : still_lines ≡ true → (a : ℕ) → is_on a proper ≡ true → is_interface (of_rows rows) a ≡ false
@@ -151,9 +170,6 @@ module _ (rows : List Class) (row : Class) (ordered : AreOrdered (rows ++ row �
 
       plain_before : (a : ℕ) → a < n → is_interface (of_rows more) a ≡ false → is_interface (of_rows rows) a ≡ false
       plain_before a lt plain = ap (λ (r : Option Class). option_map_or (λ c. has_flag c.file.flags INTERFACE) r false) (sym (before a lt)) ∙ plain
-
-      own_line : superclasses (of_rows more) n ≡ n ∷ line_above (of_rows rows) row
-      own_line = superclasses_is (of_rows more) ordered n row (at_end rows row) ∙ ap (λ (xs : List ℕ). n ∷ xs) (above_stays n row (at_end rows row))
 
       of_new : still_lines ≡ true → (a : ℕ) → is_ancestor (of_rows more) a n ≡ true → a ≤ n → is_interface (of_rows more) a ≡ false
           → (b : Bool) → (n == a) ≡ b → is_subclass (of_rows more) n a ≡ true
@@ -200,17 +216,21 @@ pub still_indexed : (rows : List Class) (marks new : List Mark) (are_lines still
     → ((s p : ℕ) → is_marked marks s p ≡ true → is_marked new s p ≡ true) → (still_lines ≡ true → are_lines ≡ true)
     → IsIndexed rows new still_lines
 still_indexed rows marks new are_lines still_lines old kept still = record {
-  marked = λ x s k r m e on method seen. kept s (print_of_method m) (old.marked x s k r m e on method seen);
+  marked = λ s p above seen. kept s p (old.marked s p above seen);
   lines = λ known. old.lines (still known);
 }
 
 -- of no class
 pub none_indexed : IsIndexed [] [] true
 none_indexed = record {
-  marked = λ x s k r m e on method seen. no_row x r e;
+  marked = λ s p above seen. no_method p (slice_get [] above.0) refl above.3;
   lines = λ known x a up plain. no_ancestor a ((ancestor_decides (of_rows []) (λ c r e. no_row c r e) a x).0 up);
 }
   where
+    no_method : {B : Type 0} (p : ℕ) (r : Option Class) → None ≡ r → has_method p (option_map_or (λ c. c.file.methods) r []) ≡ true → B
+    no_method p None e h = cc
+    no_method p (Some r) e h = cc
+
     no_row : {B : Type 0} (x : ℕ) (r : Class) → slice_get [] x ≡ Some r → B
     no_row x r e = cc
 

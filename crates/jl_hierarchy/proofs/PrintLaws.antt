@@ -1,10 +1,13 @@
 -- The place of a method by the sorted prints of all.
-use Rattle.std.specs.Prelude.{◌≡◌, ℕ, zero, suc, ◌+◌, ◌<◌, ◌≤◌, Bool, true, false, not, ◌&&◌, ◌==◌, cond, drop, List, ◌∷◌, [], length, get_or, slice_get, filter, find, position, option_map, Option, Some, None, is_some, ◌++◌}
-use Rattle.std.specs.List.{position_from, AllWithin}
+use Rattle.std.specs.Prelude.{◌≡◌, ℕ, zero, suc, ◌+◌, ◌<◌, ◌≤◌, Bool, true, false, not, ◌&&◌, ◌||◌, ◌==◌, cond, drop, List, ◌∷◌, [], length, get_or, slice_get, filter, find, position, option_map, Option, Some, None, is_some, ◌++◌}
+use Rattle.std.specs.List.{position_from, list_any, AllWithin}
 use Rattle.std.specs.List.Sorted.{IsNonDecreasingBy, IsStableByKey}
 use Rattle.std.specs.Option.{option_map_or}
 use Rattle.std.specs.Ordering.{nat_cmp, is_lt}
 use Rattle.std.specs.Str.{bytes_eq}
+use Rattle.std.proofs.lemmas.Bool.{both_ways}
+use Rattle.std.proofs.lemmas.List.Folds.{list_any_at}
+use Rattle.std.proofs.lemmas.Option.{same_Some, slice_get_within, slice_get-get_or}
 use Rattle.std.proofs.Common.{Less, Equal, Greater, refl, ap, sym, ◌∙◌, subst, arith, append_assoc, append-nil, get_or-drop, ltb, le-ltb, ne_eqb, eq-eqb, ltb-true, ltb-false, ap₂}
 use Rattle.std.proofs.lemmas.List.{length-drop, get_or_default}
 use Rattle.std.proofs.lemmas.Iterator.Adapters.{position_from-zero}
@@ -15,6 +18,7 @@ use Rattle.jl_types.specs.Members.{is_called}
 use Rattle.jl_types.proofs.Lists.{left_at, none_left}
 use Rattle.jl_hierarchy.specs.declared.row.Printed.{Printed}
 use Rattle.jl_hierarchy.specs.Prints.{print_of, print_of_method, printed_from, has_print, AreSorted}
+use Rattle.jl_hierarchy.specs.Redeclared.{has_method}
 
 -- ---- the prints as they are made
 
@@ -190,3 +194,67 @@ module _ (name ty : List ℕ) (ms : List Method) where
           let other_default = get_or_default entries (start + (n + k)) e d (omega (arith, left, more, within)) in
           let here = ap (λ (x : Printed). x.print) (get_or-drop n rest k e ∙ in_rest (n + k) e ∙ other_default) in
           ne_eqb (get_or (drop n rest) k e).print sought (λ same. other (omega (arith, least, rises, first, here, same)))
+
+-- ---- whether a method has a print
+
+module _ (p : ℕ) where
+  abbrev not_nil : List Printed → Bool
+  not_nil [] = false
+  not_nil (e ∷ es) = true
+
+  some_left : (entries : List Printed) → list_any (has_print p) entries ≡ not_nil (filter (has_print p) entries)
+  some_left [] = refl
+  some_left (e ∷ es) = by_first (has_print p e) (some_left es)
+    where
+      by_first : (b : Bool) → list_any (has_print p) es ≡ not_nil (filter (has_print p) es)
+          → (b || list_any (has_print p) es) ≡ not_nil (cond b (e ∷ filter (has_print p) es) (filter (has_print p) es))
+      by_first true rest = refl
+      by_first false rest = rest
+
+  any_printed : (n : ℕ) (ms : List Method) → list_any (has_print p) (printed_from n ms) ≡ has_method p ms
+  any_printed n [] = refl
+  any_printed n (m ∷ ms) = ap (λ (b : Bool). (print_of_method m == p) || b) (any_printed (n + 1) ms)
+
+  -- among the sorted prints
+  pub any_sorted : (entries : List Printed) (ms : List Method) → AreSorted entries ms → list_any (has_print p) entries ≡ has_method p ms
+  any_sorted entries ms are =
+      some_left entries ∙ ap not_nil (are.1 p) ∙ sym (some_left (printed_from 0 ms)) ∙ any_printed 0 ms
+
+  none_any : (entries : List Printed) → ((k : ℕ) (d : Printed) → k < length entries → has_print p (get_or entries k d) ≡ false)
+      → list_any (has_print p) entries ≡ false
+  none_any [] none = refl
+  none_any (e ∷ es) none =
+      ap (λ (b : Bool). b || list_any (has_print p) es) (none 0 e (omega arith)) ∙ none_any es (λ k d lt. none (suc k) d (omega arith))
+
+  module _ (entries : List Printed) (rise : IsNonDecreasingBy (λ (e : Printed). e.print) entries) (start : ℕ)
+      (below : AllWithin (λ (e : Printed). e.print < p) entries 0 start)
+      (others : AllWithin (λ (e : Printed). p ≤ e.print) entries start (length entries)) where
+    -- the first that isn't below the print has it
+    pub print_there : (e : Printed) → slice_get entries start ≡ Some e → (e.print == p) ≡ list_any (has_print p) entries
+    print_there e at = by_print (e.print == p) refl
+      where
+        within : start < length entries
+        within = slice_get_within entries start e at
+
+        here : (d : Printed) → get_or entries start d ≡ e
+        here d = same_Some (get_or entries start d) e (sym (slice_get-get_or entries start d within) ∙ at)
+
+        others_differ : (e.print == p) ≡ false → (k : ℕ) (d : Printed) → k < length entries → has_print p (get_or entries k d) ≡ false
+        others_differ apart k d lt = by_test (ltb k start)
+            (λ t. let less = below k d (omega arith) (ltb-true k start t) in ne_eqb (get_or entries k d).print p (λ e. omega (arith, e, less)))
+            (λ f. let le = ltb-false k start f in
+            let least = others start d (omega arith) within in
+            let rises = rise start k d le lt in
+            let first = ap (λ (x : Printed). x.print) (here d) in
+            ne_eqb (get_or entries k d).print p (λ same. both_ways (e.print == p) apart (eq-eqb e.print p (omega (arith, least, rises, first, same)))))
+
+        by_print : (b : Bool) → (e.print == p) ≡ b → b ≡ list_any (has_print p) entries
+        by_print true is = sym (list_any_at (has_print p) entries start e within (ap (λ (x : Printed). x.print == p) (here e) ∙ is))
+        by_print false apart = sym (none_any entries (others_differ apart))
+
+    -- all are below it
+    pub print_nowhere : length entries ≤ start → false ≡ list_any (has_print p) entries
+    print_nowhere over = sym (none_any entries all_below)
+      where
+        all_below : (k : ℕ) (d : Printed) → k < length entries → has_print p (get_or entries k d) ≡ false
+        all_below k d lt = let less = below k d (omega arith) (omega (arith, over)) in ne_eqb (get_or entries k d).print p (λ e. omega (arith, e, less))

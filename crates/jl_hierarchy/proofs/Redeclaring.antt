@@ -1,69 +1,64 @@
 -- What no mark tells.
-use Rattle.std.specs.Prelude.{◌≡◌, ℕ, ◌==◌, ◌||◌, ◌⊎◌, Bool, true, false, List, [], ◌∷◌, get_or, position, slice_get, is_some, Option, Some, None, option_map}
-use Rattle.std.specs.List.{list_any}
+use Rattle.std.specs.Prelude.{◌≡◌, ℕ, ◌==◌, ◌⊎◌, Bool, true, false, List, [], ◌∷◌, get_or, position, slice_get, is_some, Option, Some, None, option_map, filter_map}
+use Rattle.std.specs.List.{list_any, cons_option}
 use Rattle.std.specs.Option.{option_map_or}
-use Rattle.std.specs.Str.{bytes_eq}
-use Rattle.std.proofs.Common.{refl, ap, sym, ◌∙◌, inl, inr}
-use Rattle.std.proofs.lemmas.Bool.{or_cases, both_ways, and_parts}
+use Rattle.std.proofs.Common.{refl, ap, sym, ◌∙◌, inl, inr, eq-eqb}
+use Rattle.std.proofs.lemmas.Bool.{or_left, or_right, both_ways}
 use Rattle.std.proofs.lemmas.List.Quantifiers.{position-Some}
-use Rattle.std.proofs.lemmas.Option.{slice_get-get_or}
-use Rattle.std.proofs.lemmas.Slice.Eq.{bytes_eq-Decides}
+use Rattle.std.proofs.lemmas.Option.{slice_get-get_or, slice_get_within, same_Some}
+use Rattle.std.proofs.lemmas.List.Folds.{list_any_at}
 use Rattle.jl_classfile.specs.Class.{Method}
 use Rattle.jl_types.specs.World.{Class, Classes}
 use Rattle.jl_types.specs.Members.{declared, is_called}
-use Rattle.jl_types.specs.Ancestry.{is_subclass, AreOrdered}
-use Rattle.jl_types.proofs.Ancestors.{superclasses_is}
-use Rattle.jl_hierarchy.specs.Prints.{print_of}
+use Rattle.jl_types.specs.declared.ids.MethodId.{MethodId}
+use Rattle.jl_types.specs.Ancestry.{superclasses}
+use Rattle.jl_types.specs.Resolution.{first_element}
+use Rattle.jl_hierarchy.specs.Prints.{print_of, print_of_method}
 use Rattle.jl_hierarchy.specs.declared.marks.Mark.{Mark}
-use Rattle.jl_hierarchy.specs.Redeclared.{is_marked, sees, line_above, is_on, AreMarked, IsRedeclared, IsNotRedeclared}
+use Rattle.jl_hierarchy.specs.Redeclared.{is_marked, has_method, declares_print, sees, AreMarked, IsNotRedeclared}
 use Rattle.jl_hierarchy.proofs.PrintLaws.{called_print}
 
 place_at : (test : Method → Bool) (xs : List Method) (k : ℕ) → position test xs ≡ Some k → (m : Method) × (slice_get xs k ≡ Some m) × (test m ≡ true)
 place_at test [] k e = cc
 place_at test (y ∷ ys) k e = let is = position-Some test (y ∷ ys) k y e in (get_or (y ∷ ys) k y, slice_get-get_or (y ∷ ys) k y is.0, is.1)
 
-module _ (cs : Classes) (o : AreOrdered cs.rows) (marks : List Mark) (are : AreMarked cs.rows marks) (name ty : List ℕ) (c : ℕ)
-    (seen : sees cs name ty c ≡ true) where
-  marked_there : (x k : ℕ) (row : Class) (m : Method) → (x == c) ≡ false → is_subclass cs x c ≡ true → slice_get cs.rows x ≡ Some row
-      → slice_get row.file.methods k ≡ Some m → is_called name ty m ≡ true → is_marked marks c (print_of name ty) ≡ true
-  marked_there x k row m apart below e at called =
-      let both = and_parts (bytes_eq m.name name) (bytes_eq m.ty ty) called in
-      let names : m.name ≡ name = (bytes_eq-Decides m.name name).0 both.0 in
-      let types : m.ty ≡ ty = (bytes_eq-Decides m.ty ty).0 both.1 in
-      let either : ((x == c) || is_on c (line_above cs row)) ≡ true = ap (list_any (λ k. k == c)) (sym (superclasses_is cs o x row e)) ∙ below in
-      let on : is_on c (line_above cs row) ≡ true = elim (or_cases (x == c) (is_on c (line_above cs row)) either) [
-        | inl is ↦ absurd (both_ways (x == c) apart is)
-        | inr more ↦ more
-      ] in
-      ap (is_marked marks c) (sym (called_print name ty m called))
-      ∙ are x c k row m e on at ((λ i. sees cs (names i) (types i) c) ∙ seen)
+-- a method of these texts has their print
+called_has_print : (name ty : List ℕ) (ms : List Method) (k : ℕ) → position (is_called name ty) ms ≡ Some k → has_method (print_of name ty) ms ≡ true
+called_has_print name ty ms k e =
+    let at = place_at (is_called name ty) ms k e in
+    let within = slice_get_within ms k at.0 at.1 in
+    let here : get_or ms k at.0 ≡ at.0 = same_Some (get_or ms k at.0) at.0 (sym (slice_get-get_or ms k at.0 within) ∙ at.1) in
+    list_any_at (λ m. print_of_method m == print_of name ty) ms k at.0 within
+    (ap (λ (m : Method). print_of_method m == print_of name ty) here ∙ eq-eqb (print_of_method at.0) (print_of name ty) (called_print name ty at.0 at.2))
 
-  -- a proper subclass declares it, or doesn't
-  by_declared : (x : ℕ) → (x == c) ≡ false → is_subclass cs x c ≡ true
-      → (declared cs name ty x ≡ None) ⊎ (is_marked marks c (print_of name ty) ≡ true)
-  by_declared x apart below = by_row (slice_get cs.rows x) refl
+module _ (cs : Classes) (name ty : List ℕ) where
+  -- a class that declares a method of these texts declares one of their print
+  by_declared : (c : ℕ) → (declared cs name ty c ≡ None) ⊎ (declares_print cs (print_of name ty) c ≡ true)
+  by_declared c = by_place (position (is_called name ty) methods) refl
     where
-      by_place : (row : Class) → slice_get cs.rows x ≡ Some row → (p : Option ℕ) → position (is_called name ty) row.file.methods ≡ p
-          → (declared cs name ty x ≡ None) ⊎ (is_marked marks c (print_of name ty) ≡ true)
-      by_place row e None is =
-          inl
-          (ap (λ (r : Option Class). option_map (λ i. record { class = x; index = i }) (position (is_called name ty) (option_map_or (λ r. r.file.methods) r []))) e
-          ∙ ap (option_map (λ (i : ℕ). record { class = x; index = i })) is)
-      by_place row e (Some k) is =
-          let at = place_at (is_called name ty) row.file.methods k is in inr (marked_there x k row at.0 apart below e at.1 at.2)
+      methods : List Method
+      methods = option_map_or (λ (r : Class). r.file.methods) (slice_get cs.rows c) []
 
-      by_row : (r : Option Class) → slice_get cs.rows x ≡ r → (declared cs name ty x ≡ None) ⊎ (is_marked marks c (print_of name ty) ≡ true)
-      by_row None e = inl (ap (λ (r : Option Class). option_map (λ i. record { class = x; index = i }) (position (is_called name ty) (option_map_or (λ r. r.file.methods) r []))) e)
-      by_row (Some row) e = by_place row e (position (is_called name ty) row.file.methods) refl
+      by_place : (p : Option ℕ) → position (is_called name ty) methods ≡ p → (declared cs name ty c ≡ None) ⊎ (declares_print cs (print_of name ty) c ≡ true)
+      by_place None e = inl (ap (option_map (λ (i : ℕ). record { class = c; index = i })) e)
+      by_place (Some k) e = inr (called_has_print name ty methods k e)
 
-  pub marked_if_redeclared : IsRedeclared cs name ty c → is_marked marks c (print_of name ty) ≡ true
-  marked_if_redeclared (x, apart, below, there) = elim (by_declared x apart below) [
-    | inl none ↦ let other : false ≡ true = sym (ap is_some none) ∙ there in cc
-    | inr marked ↦ marked
+  -- what sees the texts sees their print
+  any_declares : (xs : List ℕ) → is_some (first_element (filter_map (declared cs name ty) xs)) ≡ true → list_any (declares_print cs (print_of name ty)) xs ≡ true
+  any_declares [] h = cc
+  any_declares (x ∷ xs) h = elim (by_declared x) [
+    | inl none ↦
+        or_right (declares_print cs (print_of name ty) x) (list_any (declares_print cs (print_of name ty)) xs)
+        (any_declares xs (ap (λ (d : Option MethodId). is_some (first_element (cons_option d (filter_map (declared cs name ty) xs)))) (sym none) ∙ h))
+    | inr there ↦ or_left (declares_print cs (print_of name ty) x) (list_any (declares_print cs (print_of name ty)) xs) there
   ]
 
-  pub not_redeclared : is_marked marks c (print_of name ty) ≡ false → IsNotRedeclared cs name ty c
-  not_redeclared unmarked x apart below = elim (by_declared x apart below) [
+  -- where the print isn't marked, no proper subclass declares the method
+  pub not_redeclared : (marks : List Mark) → AreMarked cs.rows marks → (c : ℕ) → sees cs name ty c ≡ true
+      → is_marked marks c (print_of name ty) ≡ false → IsNotRedeclared cs name ty c
+  not_redeclared marks are c seen unmarked x apart below = elim (by_declared x) [
     | inl none ↦ none
-    | inr marked ↦ absurd (both_ways (is_marked marks c (print_of name ty)) unmarked marked)
+    | inr there ↦
+        absurd (both_ways (is_marked marks c (print_of name ty)) unmarked
+        (are c (print_of name ty) (x, apart, below, there) (any_declares (superclasses cs c) seen)))
   ]

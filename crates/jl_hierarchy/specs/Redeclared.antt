@@ -1,5 +1,5 @@
 -- Which classes have a subclass that declares a method again that they see. A means of proof.
-use Rattle.std.specs.Prelude.{◌≡◌, ℕ, ◌==◌, ◌&&◌, ◌⊎◌, Bool, true, false, List, [], slice_get, is_some, nat_eq, Option, Some, None}
+use Rattle.std.specs.Prelude.{◌≡◌, ℕ, ◌==◌, ◌&&◌, ◌⊎◌, Bool, true, false, List, [], slice_get, is_some, nat_eq, Option, None}
 use Rattle.std.specs.List.{list_any}
 use Rattle.std.specs.Option.{option_map_or, option_eq}
 use Rattle.jl_classfile.specs.Class.{Method}
@@ -8,7 +8,7 @@ use Rattle.jl_types.specs.Members.{is_interface, declared}
 use Rattle.jl_types.specs.Ancestry.{is_ancestor, is_subclass, superclasses}
 use Rattle.jl_types.specs.Resolution.{declared_upward}
 use Rattle.jl_hierarchy.specs.declared.marks.Mark.{Mark}
-use Rattle.jl_hierarchy.specs.Prints.{print_of, print_of_method}
+use Rattle.jl_hierarchy.specs.Prints.{print_of_method}
 
 -- what is said of classes hangs on these alone
 abbrev pub of_rows : List Class → Classes
@@ -30,6 +30,18 @@ is_marked marks s p = list_any (tells s p) marks
 abbrev pub sees : Classes → List ℕ → List ℕ → ℕ → Bool
 sees cs name ty s = is_some (declared_upward cs name ty s)
 
+-- one of the methods has the print
+abbrev pub has_method : ℕ → List Method → Bool
+has_method p ms = list_any (λ m. print_of_method m == p) ms
+
+-- the class declares a method of the print
+abbrev pub declares_print : Classes → ℕ → ℕ → Bool
+declares_print cs p c = has_method p (option_map_or (λ r. r.file.methods) (slice_get cs.rows c) [])
+
+-- the class or one above it does
+abbrev pub sees_print : Classes → ℕ → ℕ → Bool
+sees_print cs p s = list_any (declares_print cs p) (superclasses cs s)
+
 -- this superclass and those above it
 abbrev pub line_from : Classes → Option ℕ → List ℕ
 line_from cs superclass = option_map_or (superclasses cs) superclass []
@@ -46,18 +58,17 @@ is_above cs row a = option_map_or (is_ancestor cs a) row.superclass false
 abbrev pub is_on : ℕ → List ℕ → Bool
 is_on s xs = list_any (λ c. c == s) xs
 
--- a proper subclass of s declares such a method
-abbrev pub IsRedeclared : Classes → List ℕ → List ℕ → ℕ → Type 0
-IsRedeclared cs name ty s = (d : ℕ) × ((d == s) ≡ false) × (is_subclass cs d s ≡ true) × (is_some (declared cs name ty d) ≡ true)
+-- a proper subclass of s declares a method of the print
+abbrev pub IsRedeclared : Classes → ℕ → ℕ → Type 0
+IsRedeclared cs p s = (d : ℕ) × ((d == s) ≡ false) × (is_subclass cs d s ≡ true) × (declares_print cs p d ≡ true)
 
--- the method is marked at s, or was when s got such a subclass
-abbrev pub IsTold : Classes → List ℕ → List ℕ → List Mark → ℕ → Type 0
-IsTold cs name ty marks s = (is_marked marks s (print_of name ty) ≡ true) ⊎ IsRedeclared cs name ty s
-
--- what is marked: at each superclass that sees such a method, the print of each method of the class
+-- what is marked: of each class the prints that it sees and a proper subclass declares again
 abbrev pub AreMarked : List Class → List Mark → Type 0
-AreMarked rows marks = (x s k : ℕ) (row : Class) (m : Method) → slice_get rows x ≡ Some row → is_on s (line_above (of_rows rows) row) ≡ true
-    → slice_get row.file.methods k ≡ Some m → sees (of_rows rows) m.name m.ty s ≡ true → is_marked marks s (print_of_method m) ≡ true
+AreMarked rows marks = (s p : ℕ) → IsRedeclared (of_rows rows) p s → sees_print (of_rows rows) p s ≡ true → is_marked marks s p ≡ true
+
+-- the print is marked at s, or was when s got such a subclass
+abbrev pub IsTold : Classes → ℕ → List Mark → ℕ → Type 0
+IsTold cs p marks s = (is_marked marks s p ≡ true) ⊎ IsRedeclared cs p s
 
 -- each ancestor of a class that isn't an interface is one of its superclasses
 abbrev pub AreLines : List Class → Type 0

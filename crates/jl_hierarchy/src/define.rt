@@ -1,17 +1,16 @@
 //! The definition of a class (JVMS SE 17 §5.3.5).
 
-ghost use Rattle.std.specs.Prelude.{◌≡◌, ◌<◌, ◌^◌, ◌++◌, ◌∷◌, [], Some, None, Err, length, slice_get, List, ℕ, if◌then◌else◌, true, false, All, IfOk, OnOk, OnErr};
+ghost use Rattle.std.specs.Prelude.{◌≡◌, ◌<◌, ◌^◌, ◌++◌, ◌∷◌, [], Some, None, Err, length, List, ℕ, if◌then◌else◌, true, false, All, IfOk, OnOk, OnErr};
 ghost use Rattle.std.specs.Vec.{vec_len, vec_capacity};
 ghost use Rattle.jl_types.specs.declared.refusal.DefineFault.{DefineFault};
 ghost use Rattle.jl_types.specs.declared.refusal.OrMemory.TheVariants as or_memory;
 ghost use Rattle.jl_types.specs.Members as members;
 ghost use Rattle.jl_types.specs.Ancestry as ancestry;
 ghost use Rattle.jl_types.specs.Definitions as definitions;
-ghost use Rattle.jl_classfile.specs.Class.{Method};
 ghost use Rattle.jl_classfile.specs.Conditions.{extends_object};
 ghost use Rattle.jl_hierarchy.specs.Constancy.{AreInOrder, Stays, AddsReceiver};
 ghost use Rattle.jl_hierarchy.specs.Kept.{HasRoom, Rises, IsAppended, lists};
-ghost use Rattle.jl_hierarchy.specs.Redeclared.{sees, line_above, is_above, is_on, IsTold};
+ghost use Rattle.jl_hierarchy.specs.Redeclared.{has_method, sees_print, line_above, is_above, is_on, IsTold};
 
 use crate::classes::Classes;
 use crate::kin::Kin;
@@ -159,9 +158,8 @@ impl Classes {
         ensures kin { IfOk result (λ growth. growth.kin ≡ growth.ancestors.items ++ length self.now.rows ∷ []) }
         ensures own { IfOk result (λ growth. growth.own.items
             ≡ (if members.is_concrete_row row then length self.now.rows ∷ [] else [])) }
-        ensures marks { IfOk result (λ growth. (s k : ℕ) (m : Method) → slice_get row.file.methods k ≡ Some m
-            → is_on s (line_above self.now row) ≡ true → sees self.now m.name m.ty s ≡ true
-            → IsTold self.now m.name m.ty growth.marks.items s) }
+        ensures marks { IfOk result (λ growth. (s p : ℕ) → has_method p row.file.methods ≡ true
+            → is_on s (line_above self.now row) ≡ true → sees_print self.now p s ≡ true → IsTold self.now p growth.marks.items s) }
         ensures line { IfOk result (λ growth. growth.is_line ≡ true → (a : ℕ) → is_on a growth.ancestors.items ≡ true
             → members.is_interface self.now a ≡ false → is_above self.now row a ≡ true) }
     {

@@ -1,14 +1,13 @@
 //! Which classes have a subclass that declares a method again that they see.
 
-ghost use Rattle.std.specs.Prelude.{◌≡◌, ◌<◌, ◌^◌, ℕ, Some, true, false, length, slice_get, IfOk, IfSome, OnOk};
-ghost use Rattle.jl_classfile.specs.Class.{Method};
+ghost use Rattle.std.specs.Prelude.{◌≡◌, ◌<◌, ◌^◌, ℕ, true, false, length, IfOk, IfSome, OnOk};
 ghost use Rattle.jl_types.specs.Members as members;
 ghost use Rattle.jl_types.specs.Ancestry as ancestry;
-ghost use Rattle.jl_hierarchy.specs.Redeclared.{is_marked, sees, line_above, is_above, is_on, AreLines, IsNotRedeclared, IsTold};
+ghost use Rattle.jl_hierarchy.specs.Redeclared.{is_marked, has_method, sees, declares_print, sees_print, line_above, is_above, is_on, AreLines, IsNotRedeclared, IsTold};
 
 use crate::classes::Classes;
 use crate::marks::Mark;
-use crate::row::methods_of;
+use crate::row::{methods_of, print_of_method};
 use crate::sought::Sought;
 use jl_classfile::Methods;
 use jl_types::{Class, ClassId};
@@ -21,12 +20,11 @@ const LOOKS_A_METHOD: usize = 16;
 const LOOKS_BESIDES: usize = 256;
 
 impl Classes {
-    /// What the definition of the class marks: each method at its superclasses, up to the first that declares it. What sees it
-    /// above that one was marked when that one was defined. Want of memory is an error.
+    /// What the definition of the class marks: each method's print at its superclasses, up to the first that declares one of that
+    /// print. What sees it above that one was marked when that one was defined. Want of memory is an error.
     pub(crate) fn marks_of(&self, alloc: Global, row: &Class) -> Result<Vec<Mark>, AllocError>
-        ensures { IfOk result (λ marks. (s k : ℕ) (m : Method) → slice_get row.now.file.methods k ≡ Some m
-            → is_on s (line_above self.now row.now) ≡ true → sees self.now m.name m.ty s ≡ true
-            → IsTold self.now m.name m.ty marks.items s) }
+        ensures { IfOk result (λ marks. (s p : ℕ) → has_method p row.now.file.methods ≡ true
+            → is_on s (line_above self.now row.now) ≡ true → sees_print self.now p s ≡ true → IsTold self.now p marks.items s) }
     {
         let Some(superclass) = row.superclass() else {
             return Ok(Vec::new(alloc));
@@ -45,17 +43,16 @@ impl Classes {
         methods: &Methods<'_>,
     ) -> Result<Option<Vec<Mark>>, AllocError>
         requires { length methods.now < 2 ^ 16 }
-        ensures { IfOk result (λ found. IfSome found (λ marks. (s k : ℕ) (m : Method) → slice_get methods.now k ≡ Some m
-            → ancestry.is_subclass self.now superclass s ≡ true → sees self.now m.name m.ty s ≡ true
-            → IsTold self.now m.name m.ty marks.items s)) }
+        ensures { IfOk result (λ found. IfSome found (λ marks. (s p : ℕ) → has_method p methods.now ≡ true
+            → ancestry.is_subclass self.now superclass s ≡ true → sees_print self.now p s ≡ true
+            → IsTold self.now p marks.items s)) }
     {
         let mut marks = Vec::new(alloc);
         let mut looks = LOOKS_A_METHOD * methods.len() + LOOKS_BESIDES;
         let mut place = 0;
         while let Some(method) = methods.at(place) {
-            let (name, ty) = (method.name(), method.ty());
-            let sought = Sought::of(name.as_slice(), ty.as_slice());
-            let Some(left) = self.mark_upward(superclass, &sought, looks, &mut marks)? else {
+            let print = print_of_method(&method);
+            let Some(left) = self.mark_upward(superclass, print, looks, &mut marks)? else {
                 return Ok(None);
             };
             looks = left;
@@ -64,19 +61,18 @@ impl Classes {
         Ok(Some(marks))
     }
 
-    /// Marks the method at the class and upward, to the first that declares it; at none of them where none does. It gives how many
-    /// looks are left, or none where there were too few. Want of memory is an error.
+    /// Marks the print at the class and upward, to the first that declares a method of it; at none of them where none does. It gives
+    /// how many looks are left, or none where there were too few. Want of memory is an error.
     fn mark_upward(
         &self,
         class: ClassId,
-        sought: &Sought<'_>,
+        print: u64,
         looks: usize,
         marks: &mut Vec<Mark>,
     ) -> Result<Option<usize>, AllocError>
         ensures kept { OnOk result ((s p : ℕ) → is_marked marks.old.items s p ≡ true → is_marked marks.new.items s p ≡ true) }
         ensures told { IfOk result (λ left. IfSome left (λ n. (s : ℕ) → ancestry.is_subclass self.now class s ≡ true
-            → sees self.now sought.now.name sought.now.ty s ≡ true
-            → IsTold self.now sought.now.name sought.now.ty marks.new.items s)) }
+            → sees_print self.now print s ≡ true → IsTold self.now print marks.new.items s)) }
     {
         let start = marks.len();
         let mut left = looks;
@@ -85,9 +81,9 @@ impl Classes {
             left -= 1;
             marks.push(Mark {
                 class: at,
-                print: Some(sought.print()),
+                print: Some(print),
             })?;
-            if self.declared_by(at, sought).is_some() {
+            if self.declares_print(at, print) {
                 return Ok(Some(left));
             }
             let Some(superclass) = self.superclass(at) else {
@@ -97,6 +93,16 @@ impl Classes {
             at = superclass;
         }
         Ok(None)
+    }
+
+    /// Whether the class declares a method of this print.
+    fn declares_print(&self, class: ClassId, print: u64) -> bool
+        ensures { result ≡ declares_print self.now print class }
+    {
+        match self.row_at(class) {
+            Some(row) => row.has_print(print),
+            None => false,
+        }
     }
 
     /// Marks of every method at the class and each superclass upward. Want of memory is an error.

@@ -2,10 +2,12 @@
 
 ghost use Rattle.std.specs.Prelude.{◌≡◌, ◌<◌, ◌≤◌, ◌^◌, false, length, position, slice_get, IfOk};
 ghost use Rattle.std.specs.Option.{option_map_or};
+ghost use Rattle.std.specs.List.{list_any};
 ghost use Rattle.std.specs.List.Sorted.{IsNonDecreasingBy, IsPartitionPoint};
 ghost use Rattle.jl_types.specs.Members as members;
 ghost use Rattle.jl_hierarchy.specs.declared.row.Printed.{Printed};
-ghost use Rattle.jl_hierarchy.specs.Prints.{print_of_method, printed_from, AreSorted};
+ghost use Rattle.jl_hierarchy.specs.Redeclared.{has_method};
+ghost use Rattle.jl_hierarchy.specs.Prints.{print_of_method, printed_from, has_print, AreSorted};
 
 use crate::sought::{Sought, print_of};
 use jl_classfile::{Method, Methods};
@@ -67,6 +69,13 @@ impl Row {
         ensures { result ≡ position (members.is_called sought.now.name sought.now.ty) self.now.file.methods }
     {
         self.kept.place_of(sought)
+    }
+
+    /// Whether a method has this print.
+    pub(crate) fn has_print(&self, print: u64) -> bool
+        ensures { result ≡ has_method print self.now.file.methods }
+    {
+        self.kept.has_print(print)
     }
 }
 
@@ -133,6 +142,13 @@ impl Indexed {
     {
         place_in(self.prints.as_slice(), &methods_of(&self.class), sought)
     }
+
+    /// Whether a method has this print.
+    fn has_print(&self, print: u64) -> bool
+        ensures { result ≡ has_method print self.now.file.methods }
+    {
+        is_among(self.prints.as_slice(), print)
+    }
 }
 
 /// The methods that the class declares, in its file's order.
@@ -192,6 +208,17 @@ fn place_in(prints: &[Printed], methods: &Methods<'_>, sought: &Sought<'_>) -> O
         }
     }
     None
+}
+
+/// Whether the print is one of these, which are in order.
+fn is_among(prints: &[Printed], print: u64) -> bool
+    requires { IsNonDecreasingBy (λ (e : Printed). e.print) prints.now }
+    ensures { result ≡ list_any (has_print print) prints.now }
+{
+    match prints.get(first_not_below(prints, print)) {
+        Some(entry) => entry.print == print,
+        None => false,
+    }
 }
 
 /// Where the prints that aren't below this one begin.

@@ -8,7 +8,7 @@ use Rattle.jl_hierarchy.proofs.classes.Classes.mark_upward.Given as goal
 abbrev pub invariant-loop-left : goal.invariant-loop-left
 invariant-loop-left l = record {
   behind : (more : List Mark) × (l.marks.items ≡ l.fn.marks.items ++ more);
-  passed : (s : ℕ) → ancestry.is_subclass l.self l.fn.class s ≡ true → IsPassed l.self l.sought.name l.sought.ty l.marks.items l.at s;
+  passed : (s : ℕ) → ancestry.is_subclass l.self l.fn.class s ≡ true → IsPassed l.self l.print l.marks.items l.at s;
 }
 
 abbrev pub decreases-loop-left : goal.decreases-loop-left
