@@ -167,8 +167,8 @@ const BY_CLASSES: &[Row] = &[
     (Applied, Do(Define(0, B)), "[]", 0, 0),
     (Applied, Do(Define(0, M)), "[]", 0, 0),
     (Applied, Do(Request(3, 0)), "[]", 0, 0),
-    // A and B are the receivers.
-    (Applied, Install(&[0]), "[]", 1, 2),
+    // A and B are the receivers, and no subclass of A has an f of its own, so that neither is looked at.
+    (Applied, Install(&[0]), "[]", 0, 0),
     (Applied, Do(Request(3, 3)), "[]", 0, 0),
     // What a refused event took isn't told, but what the last accepted one did.
     (
@@ -198,11 +198,24 @@ const BY_CLASSES: &[Row] = &[
     (Applied, Do(Loader), "[]", 0, 0),
 ];
 
-/// Objects of B run A's f, as those of A do, so the link stays.
+/// Objects of B run A's f, as those of A do, so the link stays. That is known of its own while no subclass of A has an f.
 const BY_CLASSES_THAT_CHANGE_NOTHING: &[Row] = &[
     (Applied, Do(Define(0, OBJECT)), "[]", 0, 0),
     (Applied, Do(Define(0, A)), "[]", 0, 0),
     (Applied, Do(Define(0, M)), "[]", 0, 0),
+    (Applied, Do(Request(2, 0)), "[]", 0, 0),
+    (Applied, Install(&[0]), "[]", 0, 0),
+    (Applied, Do(Define(0, B)), "[]", 0, 0),
+    (Applied, Do(Point), "[]", 0, 0),
+    (Applied, Do(Define(0, C)), "[SiteNo(0)]", 1, 1),
+];
+
+/// The same where an abstract one has.
+const BY_CLASSES_BESIDE_AN_ABSTRACT_ONE: &[Row] = &[
+    (Applied, Do(Define(0, OBJECT)), "[]", 0, 0),
+    (Applied, Do(Define(0, A)), "[]", 0, 0),
+    (Applied, Do(Define(0, M)), "[]", 0, 0),
+    (Applied, Do(Define(0, ABSTRACT)), "[]", 0, 0),
     (Applied, Do(Request(2, 0)), "[]", 0, 0),
     (Applied, Install(&[0]), "[]", 1, 1),
     (Applied, Do(Define(0, B)), "[]", 1, 1),
@@ -215,6 +228,7 @@ const BY_PLANS: &[Row] = &[
     (Committed, Do(Define(0, OBJECT)), "[]", 0, 0),
     (Committed, Do(Define(0, A)), "[]", 0, 0),
     (Committed, Do(Define(0, M)), "[]", 0, 0),
+    (Committed, Do(Define(0, ABSTRACT)), "[]", 0, 0),
     (Committed, Do(Request(2, 0)), "[]", 0, 0),
     (Dropped, Install(&[0]), "[]", 0, 0),
     (Committed, Install(&[0]), "[]", 1, 1),
@@ -233,7 +247,7 @@ const BY_PLANS: &[Row] = &[
 /// M's first call, beside a thousand sites.
 const BESIDE_A_THOUSAND: &[Row] = &[
     (Applied, Do(Request(3, 0)), "[]", 0, 0),
-    (Applied, Install(&[1000]), "[]", 1, 2),
+    (Applied, Install(&[1000]), "[]", 0, 0),
     (Applied, Do(Define(0, ALONE)), "[]", 0, 0),
     (Applied, Do(Define(0, C)), "[SiteNo(1000)]", 1, 1),
     (Applied, Do(Define(0, D)), "[]", 0, 0),
@@ -489,7 +503,8 @@ fn assert_rows(rt: &(impl Abort + AllocGlobal), rows: &[Row]) -> Result<(), Allo
 #[test]
 fn takes_one_walk_at_a_site_of_an_ancestor(rt: HostRuntime) -> Result<(), AllocError> {
     assert_rows(&rt, BY_CLASSES)?;
-    assert_rows(&rt, BY_CLASSES_THAT_CHANGE_NOTHING)
+    assert_rows(&rt, BY_CLASSES_THAT_CHANGE_NOTHING)?;
+    assert_rows(&rt, BY_CLASSES_BESIDE_AN_ABSTRACT_ONE)
 }
 
 #[test]
