@@ -3,8 +3,9 @@
 
 use crate::lattice::are_layers_defined;
 use crate::loaders::are_made;
+use crate::redeclared::is_stack_defined;
 use jl_classfile::{ClassFile, Method};
-use jl_hierarchy::{Classes, LoaderFault};
+use jl_hierarchy::{Classes, LoaderFault, Sought};
 use jl_names::Name;
 use jl_types::{Class, ClassId, DefineFault, DelegateFault, LoaderId, MethodId, OrMemory};
 use row_files::{MethodRow, OBJECT, class, nested};
@@ -53,6 +54,13 @@ pub(crate) enum Command {
     NestHost(u32),
     /// The method of this name and descriptor that the class declares.
     Declared(u32, &'static str, &'static str),
+    /// The same in the class and its superclasses upward.
+    Upward(u32, &'static str, &'static str),
+    /// Whether a proper subclass of the class may declare such a method, which the class sees.
+    Redeclared(u32, &'static str, &'static str),
+    /// The definitions of so many classes without methods, the first below A and each other one below the one before, and whether
+    /// they get the numbers from 2 on.
+    Stack(u32),
     /// The name and the descriptor of the method of this number.
     MethodAt(u32, u16),
 }
@@ -246,6 +254,17 @@ fn told(alloc: Global, classes: &Classes, command: &Command) -> Result<String, A
             alloc,
             classes.declared(ClassId::new(*class), name.as_bytes(), ty.as_bytes()),
         ),
+        Command::Upward(class, name, ty) => method_id(
+            alloc,
+            classes.declared_upward(ClassId::new(*class), name.as_bytes(), ty.as_bytes()),
+        ),
+        Command::Redeclared(class, name, ty) => yes_or_no(
+            alloc,
+            classes.is_redeclared_below(
+                ClassId::new(*class),
+                &Sought::of(name.as_bytes(), ty.as_bytes()),
+            ),
+        ),
         Command::MethodAt(class, index) => method(
             alloc,
             classes.method_at(&MethodId {
@@ -267,6 +286,7 @@ fn answer(alloc: Global, classes: &mut Classes, command: &Command) -> Result<Str
         Command::Nested(by, _, _, _) => defined(alloc, classes, *by, command),
         Command::Declaring(by, _, _, _) => defined(alloc, classes, *by, command),
         Command::Layers => yes_or_no(alloc, are_layers_defined(alloc, classes)),
+        Command::Stack(count) => yes_or_no(alloc, is_stack_defined(alloc, classes, *count)),
         Command::Delegate(from, name, to) => delegation(
             alloc,
             classes.delegate(

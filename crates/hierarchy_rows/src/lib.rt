@@ -19,3 +19,5 @@ mod nests;
 mod pages;
 #[cfg(test)]
 mod records;
+#[cfg(test)]
+mod redeclared;

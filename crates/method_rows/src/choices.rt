@@ -4,7 +4,7 @@ use crate::commands::{Command, reference};
 use jl_hierarchy::Classes;
 use jl_names::{LentName, Name};
 use jl_pool::Reference;
-use jl_select::{can_override, chosen, select, select_interface, special};
+use jl_select::{can_override, chosen, runs_below, select, select_interface, special};
 use jl_types::{Chosen, ClassId, MethodId, Outcome};
 use std::alloc::{AllocError, Global};
 
@@ -66,6 +66,21 @@ fn virtual_for(
 ) -> Result<String, AllocError> {
     if classes.has_class(receiver) {
         run_or_thrown(alloc, select(classes, receiver, method))
+    } else {
+        String::from_str(alloc, "no class")
+    }
+}
+
+/// Whether the method is known to run below the class, if there is such a class.
+fn runs_below_it(
+    alloc: Global,
+    classes: &Classes,
+    named: ClassId,
+    method: &MethodId,
+) -> Result<String, AllocError> {
+    if classes.has_class(named) {
+        let answer = runs_below(classes, named, method);
+        format!(in alloc; "{answer}")
     } else {
         String::from_str(alloc, "no class")
     }
@@ -138,6 +153,12 @@ pub(crate) fn choice(
             alloc,
             classes,
             ClassId::new(*receiver),
+            &method_id(*class, *index),
+        ),
+        Command::RunsBelow(named, class, index) => runs_below_it(
+            alloc,
+            classes,
+            ClassId::new(*named),
             &method_id(*class, *index),
         ),
         Command::Interface(receiver, named, class, index) => interface_for(

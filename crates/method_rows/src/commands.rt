@@ -41,6 +41,8 @@ pub(crate) enum Command {
     Chosen(u32, u32, u16),
     /// What an invokevirtual of the method comes to for a receiver of the first class.
     Virtual(u32, u32, u16),
+    /// Whether it is known that an invokevirtual of the method comes to that itself for each class below the first one.
+    RunsBelow(u32, u32, u16),
     /// What an invokeinterface comes to for a receiver of the first class, where the second one is named.
     Interface(u32, u32, u32, u16),
     /// What an invokespecial comes to, where the second class is named.

@@ -4,6 +4,8 @@
 #[cfg(test)]
 mod access;
 #[cfg(test)]
+mod below;
+#[cfg(test)]
 mod choices;
 #[cfg(test)]
 mod commands;
