@@ -328,6 +328,16 @@ final class Linking {
         stop("requests of " + wanted + " of " + places.size() + " invocations", requests, "requests");
         printCounts();
         wrongUnless(sites.size() == wanted, "only " + sites.size() + " of " + wanted + " requests are accepted");
+        writePlaces();
+    }
+
+    /** The requested places for {@code link_bench}, a line each. */
+    private void writePlaces() throws IOException {
+        List<String> lines = new ArrayList<>();
+        for (Place place : sites) {
+            lines.add(place.caller() + " " + place.method() + " " + place.pc());
+        }
+        Files.write(dir.resolve("places.txt"), lines);
     }
 
     // ---- links
