@@ -177,8 +177,7 @@ fn kinds_of(batches: &[Rows]) -> Kinds {
 /// How many of the batches are installed.
 fn install_each(alloc: Global, core: &mut Core, batches: Vec<Rows>) -> u32 {
     let mut installed = 0u32;
-    let mut batches = batches;
-    while let Some(rows) = batches.pop() {
+    for rows in batches {
         if is_accepted(alloc, core, Event::Install(rows)) {
             installed = installed.saturating_add(1);
         }
@@ -186,7 +185,7 @@ fn install_each(alloc: Global, core: &mut Core, batches: Vec<Rows>) -> u32 {
     installed
 }
 
-/// How many calls of these sites without an object are answered by a link that fits.
+/// how many calls of these sites are answered, each on null.
 fn call_each(core: &Core, sites: &[SiteNo]) -> u32 {
     let mut answered = 0u32;
     for site in sites {
