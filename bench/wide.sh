@@ -16,11 +16,13 @@ world() {
     "$bench" "$2" "$3" "$4" "$rounds"
 }
 
+world 'subclasses without a method, and one beside them with one' 4 256 64
+world 'subclasses without a method, and one beside them with one' 4 256 512
+world 'subclasses without a method, and one beside them with one' 4 256 2048
+world 'subclasses without a method, and one beside them with one' 4 64 64
+world 'subclasses without a method, and one beside them with one' 4 256 8
+world 'subclasses without a method, and one beside them with one' 4 256 2
 world 'subclasses without a method' 0 256 64
-world 'subclasses without a method' 0 256 512
-world 'subclasses without a method' 0 64 64
-world 'subclasses without a method' 0 256 8
-world 'subclasses without a method' 0 256 2
 world 'a chain without a method' 2 256 64
 world 'subclasses with a method each' 1 256 64
 world 'subclasses with a method each' 1 256 8

@@ -1,7 +1,7 @@
 //! Answers to the lines of an input.
 
 ghost use Rattle.std.specs.Prelude.{◌≡◌, ◌≢◌, ◌<◌, ◌≤◌, ◌-◌, ◌^◌, ◌⊎◌, List, ℕ, [], length, take};
-ghost use Rattle.std.specs.Prelude.{IfOk, IfErr, IfSome, OnOk, IsErrOf};
+ghost use Rattle.std.specs.Prelude.{IfErr, IfSome, OnOk, IsErrOf};
 ghost use Rattle.std.specs.Io.KnownBytes.{Appends, Keeps, IsAtEnd};
 ghost use Rattle.jl_cli.specs.declared.line_fault.LineFault.TheVariants.{TooLong, Device};
 ghost use Rattle.jl_cli.specs.Devices.{one_more, HasRisen};

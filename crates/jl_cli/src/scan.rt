@@ -5,7 +5,7 @@ ghost use Rattle.serde_json.specs.View.{view};
 ghost use Rattle.serde_json.specs.Written.{compact_text};
 ghost use Rattle.jl_json.specs.Refusals.{refusal_data};
 ghost use Rattle.jl_cli.specs.Jsons.{AddsTextOf};
-ghost use Rattle.jl_cli.specs.Scans.{file_of, IsFileAnswer, IsScanAnswer};
+ghost use Rattle.jl_cli.specs.Scans.{IsFileAnswer, IsScanAnswer};
 
 use crate::hexadecimal::decode;
 use crate::json_line::{bad_command_text, text_of};

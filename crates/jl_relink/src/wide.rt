@@ -42,11 +42,11 @@ impl Probe for Silent {
 /// them in threads. An invokeinterface with more than eight receivers has no pair, nor has an invokevirtual whose method no
 /// subclass redeclares.
 ///
-/// It pays where `prepare` looks at many receivers: where all of a site's run one method, which another subclass redeclares, 256
-/// sites with 64 receivers each, at some 0.4 microseconds a receiver, were 2.2 to 3.1 times as fast on four processors, and 1.3 to
-/// 2.4 times where those were two cores of two threads each. `prepare` is faster where there are fewer than 1,024 pairs, which one
-/// thread looks at here, too, and where more than eight receivers of an invokevirtual run several methods, since it ends such a
-/// site after a few of them.
+/// It pays where `prepare` looks at many receivers: where all of a site's run one method, which another subclass declares again, 256
+/// sites with 64 to 2,048 receivers each, at some 0.04 microseconds a receiver, were 1.2 to 2.7 times as fast on four processors that
+/// were two cores of two threads each. Both take about as long at 4,096 pairs and at 2,048. `prepare` is faster where more than eight
+/// receivers of an invokevirtual run several methods, since it ends such a site after a few of them. Fewer than 1,024 pairs one thread
+/// looks at here, too.
 ///
 /// # Errors
 ///
