@@ -6,11 +6,12 @@
 
 ghost use Rattle.std.specs.Prelude.{◌≡◌};
 
+use bench_input::Input;
 use jl_classfile::read_class;
 use jl_farm::{FarmFault, Gate, JobOutcome, Report, run};
 use jl_names::Seq;
 use jl_server::{Caller, LinkServer, Name, Parts};
-use jl_types::{ClassId, Event, LoaderId, Place, SiteNo};
+use jl_types::{Event, LoaderId, Place, SiteNo};
 use std::alloc::{AllocError, Global};
 use std::io::{self, BufRead, BufReader};
 use std::marker::Brand;
@@ -29,13 +30,6 @@ struct Work {
     sites: usize,
 }
 
-/// The class files and the places of the input.
-#[derive(Drop)]
-struct Input {
-    files: Vec<Vec<u8>>,
-    places: Vec<Place>,
-}
-
 /// A gate that is told and does nothing.
 #[derive(Drop)]
 struct Open;
@@ -46,39 +40,11 @@ impl Gate for Open {
     fn after_install(&self, _job: usize) {}
 }
 
-/// The number that the word is, if it is one.
-fn number(word: Option<&str>) -> Option<u32> {
-    word?.parse::<u32>().ok()
-}
-
-/// The place of a line.
-fn place(line: &str) -> Option<Place> {
-    let mut words = line.split(' ');
-    let class = number(words.next())?;
-    let method = number(words.next())?;
-    let pc = number(words.next())?;
-    Some(Place {
-        class: ClassId::new(class),
-        method: u16::try_from(method).ok()?,
-        pc,
-    })
-}
-
-/// Adds what the line is.
-fn add_line(alloc: Global, input: &mut Input, line: &str) -> Result<(), AllocError> {
-    if let Some(place) = place(line) {
-        input.places.push(place)?;
-    } else if let Ok(bytes) = hex::decode(alloc, line) {
-        input.files.push(bytes)?;
-    }
-    Ok(())
-}
-
 /// All lines of the input.
 fn read_input(rt: &HostRuntime, input: &mut Input) -> io::Result<()> {
     let alloc = rt.alloc();
     for line in BufReader::new(alloc, rt.reader())?.lines(alloc) {
-        add_line(alloc, input, line?.as_str())?;
+        input.add_line(alloc, line?.as_str())?;
     }
     Ok(())
 }

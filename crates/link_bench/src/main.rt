@@ -4,10 +4,11 @@
 //! microseconds of each.
 #![tactic(auto)]
 
+use bench_input::Input;
 use jl_classfile::read_class;
 use jl_core::Core;
 use jl_names::Seq;
-use jl_types::{ClassId, Event, Link, LoaderId, Place, Recv, SiteNo};
+use jl_types::{Event, Link, LoaderId, Place, Recv, SiteNo};
 use std::alloc::{AllocError, Global};
 use std::io::{self, BufRead, BufReader};
 use std::time::Instant;
@@ -21,13 +22,6 @@ const ROUNDS: u32 = 3;
 /// Sites with their links.
 type Rows = Seq<(SiteNo, Link)>;
 
-/// The class files and the places of the input.
-#[derive(Drop)]
-struct Input {
-    files: Vec<Vec<u8>>,
-    places: Vec<Place>,
-}
-
 /// How many links there are of each kind.
 #[derive(Clone, Copy, Default)]
 struct Kinds {
@@ -38,39 +32,11 @@ struct Kinds {
     mega: u32,
 }
 
-/// The number that the word is, if it is one.
-fn number(word: Option<&str>) -> Option<u32> {
-    word?.parse::<u32>().ok()
-}
-
-/// The place of a line.
-fn place(line: &str) -> Option<Place> {
-    let mut words = line.split(' ');
-    let class = number(words.next())?;
-    let method = number(words.next())?;
-    let pc = number(words.next())?;
-    Some(Place {
-        class: ClassId::new(class),
-        method: u16::try_from(method).ok()?,
-        pc,
-    })
-}
-
-/// Adds what the line is.
-fn add_line(alloc: Global, input: &mut Input, line: &str) -> Result<(), AllocError> {
-    if let Some(place) = place(line) {
-        input.places.push(place)?;
-    } else if let Ok(bytes) = hex::decode(alloc, line) {
-        input.files.push(bytes)?;
-    }
-    Ok(())
-}
-
 /// All lines of the input.
 fn read_input(rt: &HostRuntime, input: &mut Input) -> io::Result<()> {
     let alloc = rt.alloc();
     for line in BufReader::new(alloc, rt.reader())?.lines(alloc) {
-        add_line(alloc, input, line?.as_str())?;
+        input.add_line(alloc, line?.as_str())?;
     }
     Ok(())
 }
@@ -237,10 +203,7 @@ fn time_all(rt: &HostRuntime, core: &mut Core, sites: &[SiteNo]) -> io::Result<(
 
 fn main(rt: HostRuntime) -> io::Result<()> {
     let alloc = rt.alloc();
-    let mut input = Input {
-        files: Vec::new(alloc),
-        places: Vec::new(alloc),
-    };
+    let mut input = Input::new(alloc);
     read_input(&rt, &mut input)?;
     let mut core = Core::new(alloc, 65_536)?;
     let start = Instant::now(&rt)?;
