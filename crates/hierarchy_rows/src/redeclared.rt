@@ -128,7 +128,7 @@ const BELOW_TWENTY: &[(Command, &str)] = &[
     (Redeclared(21, "f", "()V"), "false"),
 ];
 
-/// Here it would look at 42 for each, so that it marks every method.
+/// Here it would look at 42 for each, so that it marks every method at each ancestor; and so does the definition of a class below.
 const BELOW_FORTY: &[(Command, &str)] = &[
     (Object(0), "0"),
     (Declaring(0, "A", OBJECT, &[("f", "()V", 1)]), "1"),
@@ -139,6 +139,9 @@ const BELOW_FORTY: &[(Command, &str)] = &[
     (Redeclared(41, "f", "()V"), "true"),
     (Redeclared(42, "f", "()V"), "false"),
     (Upward(42, "f", "()V"), "1 0"),
+    (Declaring(0, "Y", "X", &[("z", "()V", 1)]), "43"),
+    (Redeclared(42, "f", "()V"), "true"),
+    (Redeclared(43, "f", "()V"), "false"),
 ];
 
 /// Whether the class of this place in the stack is defined as the class of that number.

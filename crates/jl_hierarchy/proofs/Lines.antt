@@ -1,22 +1,24 @@
 -- What is said of each class on a line of superclasses, from the top down.
-use Rattle.std.specs.Prelude.{◌≡◌, ℕ, zero, suc, ◌+◌, ◌<◌, ◌≤◌, ◌==◌, ◌||◌, length, Bool, true, false, ◌⊎◌, List, [], ◌∷◌, ◌++◌, take, get_or, slice_get, Option, Some, None, option_and_then, IfSome}
+use Rattle.std.specs.Prelude.{◌≡◌, ℕ, zero, suc, ◌+◌, ◌<◌, ◌≤◌, ◌==◌, ◌||◌, length, Bool, true, false, ◌⊎◌, List, [], ◌∷◌, ◌++◌, take, get_or, slice_get, Option, Some, None, option_and_then, option_to_list, IfSome}
 use Rattle.std.specs.List.{list_any}
 use Rattle.std.specs.Option.{option_map_or}
 use Rattle.std.proofs.Common.{refl, ap, sym, subst, ◌∙◌, arith, inl, inr}
-use Rattle.std.proofs.lemmas.Bool.{or_cases, both_ways}
+use Rattle.std.proofs.lemmas.Bool.{or_cases, or_left, both_ways}
+use Rattle.std.proofs.lemmas.Cmp.{nat_eq_equiv}
 use Rattle.std.proofs.lemmas.Bool.Decides.{Decides-eqb}
 use Rattle.std.proofs.lemmas.Option.{same_Some, slice_get_within, slice_get_cases, slice_get-get_or}
 use Rattle.std.proofs.lemmas.List.{take_more, take_all}
 use Rattle.std.proofs.lemmas.List.Folds.{list_any-append}
 use Rattle.jl_classfile.specs.Class.{Method}
 use Rattle.jl_types.specs.World.{Class, Classes}
-use Rattle.jl_types.specs.Ancestry.{superclasses, superclass_of, is_subclass, AreOrdered}
-use Rattle.jl_types.proofs.Ancestors.{superclasses_is}
+use Rattle.jl_types.specs.Members.{is_interface}
+use Rattle.jl_types.specs.Ancestry.{IsAncestor, itself, over, parents, is_parent, is_ancestor, superclasses_within, superclasses, superclass_of, is_subclass, AreOrdered}
+use Rattle.jl_types.proofs.Ancestors.{superclasses_is, ancestor_decides, of_ancestors}
 use Rattle.jl_hierarchy.proofs.Chains.{next_below, chain_above}
 use Rattle.jl_hierarchy.specs.declared.marks.Mark.{Mark}
 use Rattle.jl_hierarchy.specs.Prints.{print_of_method}
-use Rattle.jl_hierarchy.specs.Redeclared.{has_method, declares_print, sees_print, tells, is_marked, IsTold}
-use Rattle.jl_hierarchy.proofs.MarkLaws.{mark_stays, mark_last, tells_itself, tells_every}
+use Rattle.jl_hierarchy.specs.Redeclared.{has_method, declares_print, sees_print, tells, is_listed, is_on, is_above, line_from, line_above, AreLines, IsTold}
+use Rattle.jl_hierarchy.proofs.MarkLaws.{mark_stays, mark_last, tells_itself}
 
 module _ (cs : Classes) (o : AreOrdered cs.rows) (s : ℕ) where
   -- at the top of a line that holds s
@@ -95,24 +97,24 @@ top_unseen cs o p at top none = by_row (slice_get cs.rows at) refl
 
 -- of a class on the line from where the walk began: it is still to come, or is marked and sees what the walk's place sees
 abbrev pub IsPassed : Classes → ℕ → List Mark → ℕ → ℕ → Type 0
-IsPassed cs p marks at s = (is_subclass cs at s ≡ true) ⊎ ((is_marked marks s p ≡ true) × (sees_print cs p s ≡ sees_print cs p at))
+IsPassed cs p marks at s = (is_subclass cs at s ≡ true) ⊎ ((is_listed marks s p ≡ true) × (sees_print cs p s ≡ sees_print cs p at))
 
 module _ (cs : Classes) (o : AreOrdered cs.rows) (p : ℕ) where
-  module _ (at s : ℕ) (found new : List Mark) (more : new ≡ found ++ record { class = at; print = Some p } ∷ []) where
-    marked_at : (at == s) ≡ true → is_marked new s p ≡ true
+  module _ (at s : ℕ) (found new : List Mark) (more : new ≡ found ++ record { class = at; print = p } ∷ []) where
+    marked_at : (at == s) ≡ true → is_listed new s p ≡ true
     marked_at is =
-        mark_last found new (record { class = at; print = Some p }) more s p
-        (ap (λ (k : ℕ). tells s p (record { class = k; print = Some p })) ((Decides-eqb at s).0 is) ∙ tells_itself s p)
+        mark_last found new (record { class = at; print = p }) more s p
+        (ap (λ (k : ℕ). tells s p (record { class = k; print = p })) ((Decides-eqb at s).0 is) ∙ tells_itself s p)
 
-    still : is_marked found s p ≡ true → is_marked new s p ≡ true
-    still = mark_stays found new (record { class = at; print = Some p }) more s p
+    still : is_listed found s p ≡ true → is_listed new s p ≡ true
+    still = mark_stays found new (record { class = at; print = p }) more s p
 
     -- the walk's place declares one
-    pub told_here : declares_print cs p at ≡ true → IsPassed cs p found at s → IsTold cs p new s
+    pub told_here : declares_print cs p at ≡ true → IsPassed cs p found at s → IsTold cs p (is_listed new) s
     told_here there (inr marked) = inl (still marked.0)
     told_here there (inl below) = by_here (at == s) refl
       where
-        by_here : (b : Bool) → (at == s) ≡ b → IsTold cs p new s
+        by_here : (b : Bool) → (at == s) ≡ b → IsTold cs p (is_listed new) s
         by_here true same = inl (marked_at same)
         by_here false apart = inr (at, apart, below, there)
 
@@ -132,30 +134,117 @@ module _ (cs : Classes) (o : AreOrdered cs.rows) (p : ℕ) where
       absurd (both_ways (sees_print cs p at) (top_unseen cs o p at top none) (ap (sees_print cs p) ((Decides-eqb at s).0 (at_top cs o s at top below)) ∙ seen))
   unseen found at s none top (inr marked) seen = absurd (both_ways (sees_print cs p s) (marked.1 ∙ top_unseen cs o p at top none) seen)
 
--- ---- a walk upward that marks every method
+-- ---- lines and ancestors
 
-module _ (cs : Classes) (o : AreOrdered cs.rows) (at : ℕ) (found new : List Mark) (more : new ≡ found ++ record { class = at; print = None } ∷ []) (s p : ℕ) where
-  every_at : (at == s) ≡ true → is_marked new s p ≡ true
-  every_at is =
-      mark_last found new (record { class = at; print = None }) more s p
-      (ap (λ (k : ℕ). tells s p (record { class = k; print = None })) ((Decides-eqb at s).0 is) ∙ tells_every s p)
+-- what stands on a line is an ancestor
+line_within : (rows : List Class) (a k c : ℕ) → list_any (λ x. x == a) (superclasses_within k rows c) ≡ true → IsAncestor rows a c
+line_within rows a zero c h = cc
+line_within rows a (suc k) c h = by_row (λ s on. line_within rows a k s on) (slice_get rows c) refl h
+  where
+    by_superclass : ((s : ℕ) → list_any (λ x. x == a) (superclasses_within k rows s) ≡ true → IsAncestor rows a s)
+        → (row : Class) → slice_get rows c ≡ Some row → (p : Option ℕ) → row.superclass ≡ p
+        → list_any (λ x. x == a) (option_map_or (superclasses_within k rows) p []) ≡ true → IsAncestor rows a c
+    by_superclass ih row e None is on = cc
+    by_superclass ih row e (Some s) is on =
+        let parent : is_parent row s ≡ true =
+        ap (λ (p : Option ℕ). list_any (λ q. s == q) (option_to_list p ++ row.interfaces)) is
+        ∙ or_left (s == s) (list_any (λ q. s == q) row.interfaces) (nat_eq_equiv.refl s)
+        in
+        over e parent (ih s on)
 
-  pub every_more : (next : ℕ) → superclass_of cs at ≡ Some next → (is_marked found s p ≡ true) ⊎ (is_subclass cs at s ≡ true)
-      → (is_marked new s p ≡ true) ⊎ (is_subclass cs next s ≡ true)
-  every_more next e (inl marked) = inl (mark_stays found new (record { class = at; print = None }) more s p marked)
-  every_more next e (inr below) = by_here (at == s) refl
+    by_row : ((s : ℕ) → list_any (λ x. x == a) (superclasses_within k rows s) ≡ true → IsAncestor rows a s)
+        → (r : Option Class) → slice_get rows c ≡ r
+        → list_any (λ x. x == a) (option_map_or (λ row. c ∷ option_map_or (superclasses_within k rows) row.superclass []) r []) ≡ true → IsAncestor rows a c
+    by_row ih None e on = cc
+    by_row ih (Some row) e on = elim (or_cases (c == a) (list_any (λ x. x == a) (option_map_or (superclasses_within k rows) row.superclass [])) on) [
+      | inl same ↦
+          let is : c ≡ a = (Decides-eqb c a).0 same in
+          subst (IsAncestor rows a) (sym is) (itself (ap (slice_get rows) (sym is) ∙ e))
+      | inr later ↦ by_superclass ih row e row.superclass refl later
+    ]
+
+pub line_ancestor : (cs : Classes) → AreOrdered cs.rows → (a c : ℕ) → is_subclass cs c a ≡ true → is_ancestor cs a c ≡ true
+line_ancestor cs o a c h = (ancestor_decides cs o a c).1 (line_within cs.rows a (c + 1) c h)
+
+-- what stands on the line above a class is an ancestor of a parent
+pub line_parents : (cs : Classes) → AreOrdered cs.rows → (row : Class) (s : ℕ) → is_on s (line_above cs row) ≡ true
+    → list_any (λ p. is_ancestor cs s p) (parents row) ≡ true
+line_parents cs o row s h = by_superclass row.superclass refl
+  where
+    by_superclass : (p : Option ℕ) → row.superclass ≡ p → list_any (λ p. is_ancestor cs s p) (parents row) ≡ true
+    by_superclass None is = let none : false ≡ true = sym (ap (λ (p : Option ℕ). is_on s (line_from cs p)) is) ∙ h in cc
+    by_superclass (Some p) is =
+        let on : is_subclass cs p s ≡ true = sym (ap (λ (q : Option ℕ). is_on s (line_from cs q)) is) ∙ h in
+        ap (λ (q : Option ℕ). list_any (λ p. is_ancestor cs s p) (option_to_list q ++ row.interfaces)) is
+        ∙ or_left (is_ancestor cs s p) (list_any (λ p. is_ancestor cs s p) row.interfaces) (line_ancestor cs o s p on)
+
+-- ---- classes whose ancestors are superclasses
+
+module _ (cs : Classes) (o : AreOrdered cs.rows) (row : Class) where
+  above_through : (a s : ℕ) → is_ancestor cs a s ≡ true → is_above cs row s ≡ true → is_above cs row a ≡ true
+  above_through a s up above = by_superclass row.superclass refl
     where
-      by_here : (b : Bool) → (at == s) ≡ b → (is_marked new s p ≡ true) ⊎ (is_subclass cs next s ≡ true)
-      by_here true is = inl (every_at is)
-      by_here false apart = inr (on_next cs o s at next e apart below)
+      by_superclass : (p : Option ℕ) → row.superclass ≡ p → is_above cs row a ≡ true
+      by_superclass None is = let none : false ≡ true = sym (ap (λ (p : Option ℕ). option_map_or (is_ancestor cs s) p false) is) ∙ above in cc
+      by_superclass (Some p) is =
+          ap (λ (q : Option ℕ). option_map_or (is_ancestor cs a) q false) is
+          ∙ of_ancestors cs o a s p up (sym (ap (λ (q : Option ℕ). option_map_or (is_ancestor cs s) q false) is) ∙ above)
 
-  pub every_last : superclass_of cs at ≡ None → (is_marked found s p ≡ true) ⊎ (is_subclass cs at s ≡ true) → is_marked new s p ≡ true
-  every_last e (inl marked) = mark_stays found new (record { class = at; print = None }) more s p marked
-  every_last e (inr below) = every_at (at_top cs o s at e below)
+  -- of an interface whose superclass is above
+  pub above_by_interface : AreLines cs.rows → (i : ℕ) → is_interface cs i ≡ true → ((s : ℕ) → superclass_of cs i ≡ Some s → is_above cs row s ≡ true)
+      → (a : ℕ) → is_ancestor cs a i ≡ true → is_interface cs a ≡ false → is_above cs row a ≡ true
+  above_by_interface lines i interface upper a up plain = by_superclass (superclass_of cs i) refl
+    where
+      apart : (i == a) ≡ false
+      apart = by_test (i == a) refl
+        where
+          by_test : (b : Bool) → (i == a) ≡ b → b ≡ false
+          by_test true same = absurd (both_ways (is_interface cs a) plain (ap (is_interface cs) (sym ((Decides-eqb i a).0 same)) ∙ interface))
+          by_test false other = refl
+
+      by_superclass : (p : Option ℕ) → superclass_of cs i ≡ p → is_above cs row a ≡ true
+      by_superclass None is = absurd (both_ways (i == a) apart (at_top cs o a i is (lines i a up plain)))
+      by_superclass (Some s) is =
+          above_through a s (line_ancestor cs o a s (on_next cs o a i s is apart (lines i a up plain))) (upper s is)
+
+module _ (cs : Classes) (row : Class) where
+  -- of all parents
+  pub above_by_parents : (a : ℕ) → (list_any (λ p. is_ancestor cs a p) row.interfaces ≡ true → is_above cs row a ≡ true)
+      → list_any (λ p. is_ancestor cs a p) (parents row) ≡ true → is_above cs row a ≡ true
+  above_by_parents a others h = by_superclass row.superclass refl
+    where
+      by_superclass : (p : Option ℕ) → row.superclass ≡ p → is_above cs row a ≡ true
+      by_superclass None is = others (sym (ap (λ (q : Option ℕ). list_any (λ p. is_ancestor cs a p) (option_to_list q ++ row.interfaces)) is) ∙ h)
+      by_superclass (Some p) is =
+          let either : (is_ancestor cs a p || list_any (λ p. is_ancestor cs a p) row.interfaces) ≡ true =
+          sym (ap (λ (q : Option ℕ). list_any (λ p. is_ancestor cs a p) (option_to_list q ++ row.interfaces)) is) ∙ h
+          in
+          elim (or_cases (is_ancestor cs a p) (list_any (λ p. is_ancestor cs a p) row.interfaces) either) [
+            | inl up ↦ ap (λ (q : Option ℕ). option_map_or (is_ancestor cs a) q false) is ∙ up
+            | inr other ↦ others other
+          ]
+
+  -- one interface more
+  pub above_more : (interfaces : List ℕ) (n interface a : ℕ) → n < length interfaces → get_or interfaces n interface ≡ interface
+      → (list_any (λ p. is_ancestor cs a p) (take n interfaces) ≡ true → is_above cs row a ≡ true)
+      → (is_ancestor cs a interface ≡ true → is_above cs row a ≡ true)
+      → list_any (λ p. is_ancestor cs a p) (take (n + 1) interfaces) ≡ true → is_above cs row a ≡ true
+  above_more interfaces n interface a lt is before here h =
+      let either : (list_any (λ p. is_ancestor cs a p) (take n interfaces) || (is_ancestor cs a interface || false)) ≡ true =
+      sym
+      (ap (list_any (λ p. is_ancestor cs a p)) (take_more interfaces n interface lt)
+      ∙ list_any-append (λ p. is_ancestor cs a p) (take n interfaces) (get_or interfaces n interface ∷ [])
+      ∙ ap (λ (k : ℕ). list_any (λ p. is_ancestor cs a p) (take n interfaces) || (is_ancestor cs a k || false)) is)
+      ∙ h
+      in
+      elim (or_cases (list_any (λ p. is_ancestor cs a p) (take n interfaces)) (is_ancestor cs a interface || false) either) [
+        | inl earlier ↦ before earlier
+        | inr last ↦ elim (or_cases (is_ancestor cs a interface) false last) [ inl up ↦ here up | inr other ↦ cc ]
+      ]
 
 -- what is told stays so
-pub still_told : (cs : Classes) (p : ℕ) (found new : List Mark) → ((s p : ℕ) → is_marked found s p ≡ true → is_marked new s p ≡ true)
-    → (s : ℕ) → IsTold cs p found s → IsTold cs p new s
+pub still_told : (cs : Classes) (p : ℕ) (found new : List Mark) → ((s p : ℕ) → is_listed found s p ≡ true → is_listed new s p ≡ true)
+    → (s : ℕ) → IsTold cs p (is_listed found) s → IsTold cs p (is_listed new) s
 still_told cs p found new kept s (inl marked) = inl (kept s p marked)
 still_told cs p found new kept s (inr above) = inr above
 
@@ -163,14 +252,14 @@ still_told cs p found new kept s (inr above) = inr above
 
 -- what these marks tell of a list of methods
 abbrev pub AreTold : Classes → ℕ → List Mark → List Method → Type 0
-AreTold cs superclass marks ms = (s p : ℕ) → has_method p ms ≡ true → is_subclass cs superclass s ≡ true → sees_print cs p s ≡ true → IsTold cs p marks s
+AreTold cs superclass marks ms = (s p : ℕ) → has_method p ms ≡ true → is_subclass cs superclass s ≡ true → sees_print cs p s ≡ true → IsTold cs p (is_listed marks) s
 
 -- one method more
 pub told_more : (cs : Classes) (superclass : ℕ) (methods : List Method) (found new : List Mark) (place : ℕ) (method : Method) (print : ℕ)
     → slice_get methods place ≡ Some method → print ≡ print_of_method method
-    → ((s p : ℕ) → is_marked found s p ≡ true → is_marked new s p ≡ true)
+    → ((s p : ℕ) → is_listed found s p ≡ true → is_listed new s p ≡ true)
     → (o : Option ℕ) (left : ℕ) → o ≡ Some left
-    → IfSome o (λ n. (s : ℕ) → is_subclass cs superclass s ≡ true → sees_print cs print s ≡ true → IsTold cs print new s)
+    → IfSome o (λ n. (s : ℕ) → is_subclass cs superclass s ≡ true → sees_print cs print s ≡ true → IsTold cs print (is_listed new) s)
     → AreTold cs superclass found (take place methods) → AreTold cs superclass new (take (place + 1) methods)
 told_more cs superclass methods found new place method print here is kept None left none last before = cc
 told_more cs superclass methods found new place method print here is kept (Some n) left some last before = told
@@ -188,10 +277,10 @@ told_more cs superclass methods found new place method print here is kept (Some 
         in
         elim (or_cases (has_method p (take place methods)) ((print_of_method method == p) || false) split) [
           | inl before_it ↦ still_told cs p found new kept s (before s p before_it on seen)
-          | inr itself ↦ elim (or_cases (print_of_method method == p) false itself) [
+          | inr last_one ↦ elim (or_cases (print_of_method method == p) false last_one) [
             | inl same ↦
                 let equal : print ≡ p = is ∙ (Decides-eqb (print_of_method method) p).0 same in
-                subst (λ q. IsTold cs q new s) equal (last s on (ap (λ q. sees_print cs q s) equal ∙ seen))
+                subst (λ q. IsTold cs q (is_listed new) s) equal (last s on (ap (λ q. sees_print cs q s) equal ∙ seen))
             | inr other ↦ cc
           ]
         ]

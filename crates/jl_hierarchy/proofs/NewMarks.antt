@@ -1,5 +1,5 @@
 -- What is marked once a class is defined.
-use Rattle.std.specs.Prelude.{◌≡◌, ℕ, zero, suc, ◌+◌, ◌<◌, ◌≤◌, ◌==◌, ◌||◌, Bool, true, false, List, [], ◌∷◌, ◌++◌, length, slice_get, Option, Some, None}
+use Rattle.std.specs.Prelude.{◌≡◌, ℕ, zero, suc, ◌+◌, ◌<◌, ◌≤◌, ◌==◌, ◌||◌, Bool, IfSome, true, false, List, [], ◌∷◌, ◌++◌, length, slice_get, Option, Some, None}
 use Rattle.std.specs.List.{list_any, AllByRecursion}
 use Rattle.std.specs.Option.{option_map_or}
 use Rattle.std.proofs.Common.{refl, ap, sym, subst, ◌∙◌, arith, inl, inr}
@@ -9,7 +9,7 @@ use Rattle.std.proofs.lemmas.Bool.Decides.{Decides-eqb}
 use Rattle.std.proofs.lemmas.List.Folds.{list_any-append}
 use Rattle.std.proofs.lemmas.Option.{slice_get_within}
 use Rattle.jl_classfile.specs.Conditions.{has_flag, INTERFACE}
-use Rattle.jl_types.specs.World.{Class}
+use Rattle.jl_types.specs.World.{Class, Classes}
 use Rattle.jl_types.specs.Members.{is_interface}
 use Rattle.jl_types.specs.Ancestry.{IsAncestor, itself, over, superclasses_within, superclasses, is_ancestor, is_subclass, ancestors, AreOrdered}
 use Rattle.jl_types.proofs.Ancestors.{superclass_below, superclasses_is, ancestor_decides}
@@ -17,7 +17,7 @@ use Rattle.jl_types.proofs.Grown.{above, among_ancestors, old_within}
 use Rattle.jl_types.proofs.Lists.{before_end, at_end}
 use Rattle.jl_types.proofs.Orders.{none_behind}
 use Rattle.jl_hierarchy.specs.declared.marks.Mark.{Mark}
-use Rattle.jl_hierarchy.specs.Redeclared.{of_rows, is_marked, has_method, declares_print, sees_print, line_above, line_from, is_above, is_on, AreMarked, AreLines, IsIndexed, IsTold}
+use Rattle.jl_hierarchy.specs.Redeclared.{of_rows, Marked, is_listed, is_marked, has_method, declares_print, sees_print, line_above, line_from, is_above, is_on, AreMarked, AreLines, IsIndexed, IsTold}
 
 module _ (rows : List Class) (row : Class) (ordered : AreOrdered (rows ++ row ∷ [])) where
   abbrev n : ℕ
@@ -106,15 +106,10 @@ module _ (rows : List Class) (row : Class) (ordered : AreOrdered (rows ++ row �
   own_line : superclasses (of_rows more) n ≡ n ∷ line_above (of_rows rows) row
   own_line = superclasses_is (of_rows more) ordered n row (at_end rows row) ∙ ap (λ (xs : List ℕ). n ∷ xs) (above_stays n row (at_end rows row))
 
-  module _ (marks new : List Mark) (are_lines still_lines : Bool) (old : IsIndexed rows marks are_lines)
-      (kept : (s p : ℕ) → is_marked marks s p ≡ true → is_marked new s p ≡ true) (found : List Mark)
-      (seen : (s p : ℕ) → has_method p row.file.methods ≡ true → is_on s (line_above (of_rows rows) row) ≡ true
-      → sees_print (of_rows rows) p s ≡ true → IsTold (of_rows rows) p found s)
-      (added : (s p : ℕ) → is_marked found s p ≡ true → is_marked new s p ≡ true) where
-    told : (s p : ℕ) → sees_print (of_rows rows) p s ≡ true → IsTold (of_rows rows) p found s → is_marked new s p ≡ true
-    told s p sees_it (inl marked) = added s p marked
-    told s p sees_it (inr above) = kept s p (old.marked s p above sees_it)
-
+  module _ (marks new : Marked) (are_lines still_lines : Bool) (old : IsIndexed rows marks are_lines)
+      (kept : (s p : ℕ) → is_marked marks s p ≡ true → is_marked new s p ≡ true)
+      (told : (s p : ℕ) → has_method p row.file.methods ≡ true → is_on s (line_above (of_rows rows) row) ≡ true
+      → sees_print (of_rows rows) p s ≡ true → IsTold (of_rows rows) p (is_marked new) s) where
     -- by the new class
     by_new : (s p d : ℕ) → d ≡ n → (d == s) ≡ false → is_subclass (of_rows more) d s ≡ true → declares_print (of_rows more) p d ≡ true
         → sees_print (of_rows more) p s ≡ true → is_marked new s p ≡ true
@@ -132,7 +127,7 @@ module _ (rows : List Class) (row : Class) (ordered : AreOrdered (rows ++ row �
         ap (λ (r : Option Class). has_method p (option_map_or (λ c. c.file.methods) r [])) (sym (at_end rows row) ∙ ap (slice_get more) (sym is)) ∙ declares
         in
         let sees_old = sym (sees_stays p s (above_there s row.superclass on)) ∙ sees_it in
-        told s p sees_old (seen s p methods on sees_old)
+        elim (told s p methods on sees_old) [ inl marked ↦ marked | inr above ↦ kept s p (old.marked s p above sees_old) ]
 
     -- by one that was there
     by_old : (s p d : ℕ) → d < n → (d == s) ≡ false → is_subclass (of_rows more) d s ≡ true → declares_print (of_rows more) p d ≡ true
@@ -212,7 +207,7 @@ module _ (rows : List Class) (row : Class) (ordered : AreOrdered (rows ++ row �
       }
 
 -- more marks, and lines that may not be known any more
-pub still_indexed : (rows : List Class) (marks new : List Mark) (are_lines still_lines : Bool) → IsIndexed rows marks are_lines
+pub still_indexed : (rows : List Class) (marks new : Marked) (are_lines still_lines : Bool) → IsIndexed rows marks are_lines
     → ((s p : ℕ) → is_marked marks s p ≡ true → is_marked new s p ≡ true) → (still_lines ≡ true → are_lines ≡ true)
     → IsIndexed rows new still_lines
 still_indexed rows marks new are_lines still_lines old kept still = record {
@@ -221,7 +216,7 @@ still_indexed rows marks new are_lines still_lines old kept still = record {
 }
 
 -- of no class
-pub none_indexed : IsIndexed [] [] true
+pub none_indexed : IsIndexed [] ([], []) true
 none_indexed = record {
   marked = λ s p above seen. no_method p (slice_get [] above.0) refl above.3;
   lines = λ known x a up plain. no_ancestor a ((ancestor_decides (of_rows []) (λ c r e. no_row c r e) a x).0 up);
@@ -237,3 +232,17 @@ none_indexed = record {
     no_ancestor : {B : Type 0} (a : ℕ) {x : ℕ} → IsAncestor [] a x → B
     no_ancestor a (itself {row = r} e) = no_row a r e
     no_ancestor a (over {x = x} {row = r} e m up) = no_row x r e
+
+-- what is told of a new class: by the marks that were found, or by those of every print at each ancestor
+pub told_by : {A : Type 0} (cs : Classes) (row : Class) (marks_of : A → List Mark) (found : Option A) (classes : List ℕ) (new : Marked)
+    → IfSome found (λ ms. (s p : ℕ) → has_method p row.file.methods ≡ true → is_on s (line_above cs row) ≡ true → sees_print cs p s ≡ true
+    → IsTold cs p (is_listed (marks_of ms)) s)
+    → IfSome found (λ ms. (s p : ℕ) → is_listed (marks_of ms) s p ≡ true → is_marked new s p ≡ true)
+    → (found ≡ None → (s p : ℕ) → is_on s classes ≡ true → is_marked new s p ≡ true)
+    → ((s : ℕ) → is_on s (line_above cs row) ≡ true → is_on s classes ≡ true)
+    → (s p : ℕ) → has_method p row.file.methods ≡ true → is_on s (line_above cs row) ≡ true → sees_print cs p s ≡ true → IsTold cs p (is_marked new) s
+told_by cs row marks_of None classes new told each every above s p h on seen = inl (every refl s p (above s on))
+told_by cs row marks_of (Some ms) classes new told each every above s p h on seen = elim (told s p h on seen) [
+  | inl listed ↦ inl (each s p listed)
+  | inr before ↦ inr before
+]

@@ -14,8 +14,7 @@ use Rattle.jl_types.specs.declared.ids.MethodId.{MethodId}
 use Rattle.jl_types.specs.Ancestry.{superclasses}
 use Rattle.jl_types.specs.Resolution.{first_element}
 use Rattle.jl_hierarchy.specs.Prints.{print_of, print_of_method}
-use Rattle.jl_hierarchy.specs.declared.marks.Mark.{Mark}
-use Rattle.jl_hierarchy.specs.Redeclared.{is_marked, has_method, declares_print, sees, AreMarked, IsNotRedeclared}
+use Rattle.jl_hierarchy.specs.Redeclared.{Marked, is_marked, has_method, declares_print, sees, AreMarked, IsNotRedeclared}
 use Rattle.jl_hierarchy.proofs.PrintLaws.{called_print}
 
 place_at : (test : Method → Bool) (xs : List Method) (k : ℕ) → position test xs ≡ Some k → (m : Method) × (slice_get xs k ≡ Some m) × (test m ≡ true)
@@ -54,7 +53,7 @@ module _ (cs : Classes) (name ty : List ℕ) where
   ]
 
   -- where the print isn't marked, no proper subclass declares the method
-  pub not_redeclared : (marks : List Mark) → AreMarked cs.rows marks → (c : ℕ) → sees cs name ty c ≡ true
+  pub not_redeclared : (marks : Marked) → AreMarked cs.rows marks → (c : ℕ) → sees cs name ty c ≡ true
       → is_marked marks c (print_of name ty) ≡ false → IsNotRedeclared cs name ty c
   not_redeclared marks are c seen unmarked x apart below = elim (by_declared x) [
     | inl none ↦ none

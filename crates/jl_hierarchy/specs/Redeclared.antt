@@ -1,7 +1,7 @@
 -- Which classes have a subclass that declares a method again that they see. A means of proof.
-use Rattle.std.specs.Prelude.{◌≡◌, ℕ, ◌==◌, ◌&&◌, ◌⊎◌, Bool, true, false, List, [], slice_get, is_some, nat_eq, Option, None}
+use Rattle.std.specs.Prelude.{◌≡◌, ℕ, ◌==◌, ◌&&◌, ◌||◌, ◌⊎◌, Bool, true, false, List, [], get_or, slice_get, is_some, Option, None}
 use Rattle.std.specs.List.{list_any}
-use Rattle.std.specs.Option.{option_map_or, option_eq}
+use Rattle.std.specs.Option.{option_map_or}
 use Rattle.jl_classfile.specs.Class.{Method}
 use Rattle.jl_types.specs.World.{Class, Classes}
 use Rattle.jl_types.specs.Members.{is_interface, declared}
@@ -14,17 +14,24 @@ use Rattle.jl_hierarchy.specs.Prints.{print_of_method}
 abbrev pub of_rows : List Class → Classes
 of_rows rows = record { loaders = []; rows = rows }
 
--- the same class and print
-abbrev pub same_mark : Mark → Mark → Bool
-same_mark m k = (m.class == k.class) && option_eq nat_eq m.print k.print
+-- the marks that are kept: of a class with a print, and of classes of which every print is marked, a test for each number
+abbrev pub Marked : Type 0
+Marked = List Mark × List Bool
 
--- the mark tells of the class and the print
+-- the mark is of the class and the print
 abbrev pub tells : ℕ → ℕ → Mark → Bool
-tells s p m = (m.class == s) && option_map_or (λ q. q == p) m.print true
+tells s p m = (m.class == s) && (m.print == p)
+
+abbrev pub is_listed : List Mark → ℕ → ℕ → Bool
+is_listed marks s p = list_any (tells s p) marks
+
+-- every print is marked at the class
+abbrev pub is_every : List Bool → ℕ → Bool
+is_every every s = get_or every s false
 
 -- the print is marked at the class
-abbrev pub is_marked : List Mark → ℕ → ℕ → Bool
-is_marked marks s p = list_any (tells s p) marks
+abbrev pub is_marked : Marked → ℕ → ℕ → Bool
+is_marked marks s p = is_every marks.1 s || is_listed marks.0 s p
 
 -- the class or one above it declares such a method
 abbrev pub sees : Classes → List ℕ → List ℕ → ℕ → Bool
@@ -63,18 +70,18 @@ abbrev pub IsRedeclared : Classes → ℕ → ℕ → Type 0
 IsRedeclared cs p s = (d : ℕ) × ((d == s) ≡ false) × (is_subclass cs d s ≡ true) × (declares_print cs p d ≡ true)
 
 -- what is marked: of each class the prints that it sees and a proper subclass declares again
-abbrev pub AreMarked : List Class → List Mark → Type 0
+abbrev pub AreMarked : List Class → Marked → Type 0
 AreMarked rows marks = (s p : ℕ) → IsRedeclared (of_rows rows) p s → sees_print (of_rows rows) p s ≡ true → is_marked marks s p ≡ true
 
--- the print is marked at s, or was when s got such a subclass
-abbrev pub IsTold : Classes → ℕ → List Mark → ℕ → Type 0
-IsTold cs p marks s = (is_marked marks s p ≡ true) ⊎ IsRedeclared cs p s
+-- the print is told at s by this test, or s had such a subclass before
+abbrev pub IsTold : Classes → ℕ → (ℕ → ℕ → Bool) → ℕ → Type 0
+IsTold cs p told s = (told s p ≡ true) ⊎ IsRedeclared cs p s
 
 -- each ancestor of a class that isn't an interface is one of its superclasses
 abbrev pub AreLines : List Class → Type 0
 AreLines rows = (x a : ℕ) → is_ancestor (of_rows rows) a x ≡ true → is_interface (of_rows rows) a ≡ false → is_subclass (of_rows rows) x a ≡ true
 
-pub record IsIndexed (rows : List Class) (marks : List Mark) (are_lines : Bool) : Type 0 where
+pub record IsIndexed (rows : List Class) (marks : Marked) (are_lines : Bool) : Type 0 where
   pub marked : AreMarked rows marks
   pub lines : are_lines ≡ true → AreLines rows
 

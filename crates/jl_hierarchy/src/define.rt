@@ -1,6 +1,6 @@
 //! The definition of a class (JVMS SE 17 §5.3.5).
 
-ghost use Rattle.std.specs.Prelude.{◌≡◌, ◌<◌, ◌^◌, ◌++◌, ◌∷◌, [], Some, None, Err, length, List, ℕ, if◌then◌else◌, true, false, All, IfOk, OnOk, OnErr};
+ghost use Rattle.std.specs.Prelude.{◌≡◌, ◌<◌, ◌^◌, ◌++◌, ◌∷◌, [], Some, None, Err, length, List, ℕ, if◌then◌else◌, true, false, All, IfOk, IfSome, OnOk, OnErr};
 ghost use Rattle.std.specs.Vec.{vec_len, vec_capacity};
 ghost use Rattle.jl_types.specs.declared.refusal.DefineFault.{DefineFault};
 ghost use Rattle.jl_types.specs.declared.refusal.OrMemory.TheVariants as or_memory;
@@ -10,7 +10,7 @@ ghost use Rattle.jl_types.specs.Definitions as definitions;
 ghost use Rattle.jl_classfile.specs.Conditions.{extends_object};
 ghost use Rattle.jl_hierarchy.specs.Constancy.{AreInOrder, Stays, AddsReceiver};
 ghost use Rattle.jl_hierarchy.specs.Kept.{HasRoom, Rises, IsAppended, lists};
-ghost use Rattle.jl_hierarchy.specs.Redeclared.{has_method, sees_print, line_above, is_above, is_on, IsTold};
+ghost use Rattle.jl_hierarchy.specs.Redeclared.{has_method, sees_print, line_above, is_above, is_listed, is_on, IsTold};
 
 use crate::classes::Classes;
 use crate::kin::Kin;
@@ -36,8 +36,8 @@ pub(crate) struct Growth {
     kin: Kin,
     /// The receivers of the class: itself or none.
     own: Receivers,
-    /// What is marked of the superclasses.
-    marks: Vec<Mark>,
+    /// What is marked of the superclasses. None, where every method is to be marked at each ancestor.
+    marks: Option<Vec<Mark>>,
     /// Whether each ancestor that isn't an interface is one of the superclasses.
     is_line: bool,
 }
@@ -133,7 +133,7 @@ impl Classes {
             &mut self.below,
             receiving(growth.is_concrete, &growth.ancestors),
         )?;
-        add_marks(&mut self.marks, &growth.marks)?;
+        add_marks(&mut self.marks, &growth.marks, &growth.ancestors)?;
         record_in(&mut self.loaders, loader, name, class)?;
         self.are_lines &= growth.is_line;
         push_all(
@@ -158,8 +158,11 @@ impl Classes {
         ensures kin { IfOk result (λ growth. growth.kin ≡ growth.ancestors.items ++ length self.now.rows ∷ []) }
         ensures own { IfOk result (λ growth. growth.own.items
             ≡ (if members.is_concrete_row row then length self.now.rows ∷ [] else [])) }
-        ensures marks { IfOk result (λ growth. (s p : ℕ) → has_method p row.file.methods ≡ true
-            → is_on s (line_above self.now row) ≡ true → sees_print self.now p s ≡ true → IsTold self.now p growth.marks.items s) }
+        ensures marks { IfOk result (λ growth. IfSome growth.marks (λ marks. (s p : ℕ) → has_method p row.file.methods ≡ true
+            → is_on s (line_above self.now row) ≡ true → sees_print self.now p s ≡ true
+            → IsTold self.now p (is_listed marks.items) s)) }
+        ensures above { IfOk result (λ growth. (s : ℕ) → is_on s (line_above self.now row) ≡ true
+            → is_on s growth.ancestors.items ≡ true) }
         ensures line { IfOk result (λ growth. growth.is_line ≡ true → (a : ℕ) → is_on a growth.ancestors.items ≡ true
             → members.is_interface self.now a ≡ false → is_above self.now row a ≡ true) }
     {
@@ -169,7 +172,7 @@ impl Classes {
         let kin = Kin::of(alloc, &ancestors, class)?;
         let own = own_receivers(alloc, is_concrete, class)?;
         let marks = self.marks_of(alloc, row.class())?;
-        let is_line = self.are_on_line(row.class(), &ancestors);
+        let is_line = self.is_line(row.class());
         Ok(Growth {
             row,
             is_concrete,

@@ -71,6 +71,8 @@ impl Classes {
             ≡ ancestry.ancestors (self.now.rows ++ row.now ∷ []) (length self.now.rows)) }
         ensures rising { IfOk result (λ proper. Rises proper.items) }
         ensures there { IfOk result (λ proper. All (λ a. a < length self.now.rows) proper.items) }
+        ensures members { IfOk result (λ proper. (a : ℕ) → list_any (λ k. k == a) proper.items
+            ≡ list_any (λ p. ancestry.is_ancestor self.now a p) (ancestry.parents row.now)) }
     {
         let parents = parents_of(alloc, row)?;
         let proper = self.joined_ancestors(alloc, &parents)?;

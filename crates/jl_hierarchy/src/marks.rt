@@ -1,8 +1,7 @@
 //! Marks of methods that a subclass declares again.
 
-ghost use Rattle.std.specs.Prelude.{◌≡◌, ℕ, [], true, OnOk};
-ghost use Rattle.std.specs.List.{list_any};
-ghost use Rattle.jl_hierarchy.specs.Redeclared.{same_mark, tells, is_marked};
+ghost use Rattle.std.specs.Prelude.{◌≡◌, ◌<◌, ℕ, [], None, true, false, length, get_or, slice_set, OnOk, IfSome};
+ghost use Rattle.jl_hierarchy.specs.Redeclared.{tells, is_listed, is_every, is_marked, is_on};
 
 use indexmap::IndexSet;
 use jl_types::ClassId;
@@ -10,26 +9,26 @@ use std::alloc::{AllocError, Global};
 use std::marker::Model;
 use std::sync::Arc;
 
-/// A class, and the print of a method that it sees; where there is no print, every method.
+/// A class, and the print of a method that it sees.
 #[derive(Clone, Copy, Debug, PartialEq, Eq, Hash)]
 pub(crate) struct Mark {
     pub(crate) class: ClassId,
-    pub(crate) print: Option<u64>,
+    pub(crate) print: u64,
 }
 
-/// Marks, each once. A clause sees the list.
+/// Marks, each once, and by number the classes of which every method is marked. A clause sees both lists.
 #[derive(Drop)]
 pub(crate) struct Marks {
     marks: IndexSet<Mark>,
+    every: Vec<bool>,
 }
 
 impl Model for Marks {
-    ghost use Rattle.std.specs.Prelude.{List};
-    ghost use Rattle.jl_hierarchy.specs.declared.marks.Mark.{Mark};
+    ghost use Rattle.jl_hierarchy.specs.Redeclared.{Marked};
 
-    ghost Value = { List Mark };
+    ghost Value = { Marked };
 
-    ghost view = { λ m. m.marks.keys };
+    ghost view = { λ m. (m.marks.keys, m.every.items) };
 }
 
 impl Clone for Marks {
@@ -38,6 +37,7 @@ impl Clone for Marks {
     fn clone(&self) -> Result<Marks, AllocError> {
         Ok(Marks {
             marks: self.marks.clone()?,
+            every: self.every.clone()?,
         })
     }
 }
@@ -45,10 +45,11 @@ impl Clone for Marks {
 impl Marks {
     /// No marks.
     pub(crate) fn new(alloc: Global) -> Self
-        ensures { result ≡ [] }
+        ensures { result ≡ ([], []) }
     {
         Marks {
             marks: IndexSet::new(alloc),
+            every: Vec::new(alloc),
         }
     }
 
@@ -56,19 +57,24 @@ impl Marks {
     pub(crate) fn has(&self, class: ClassId, print: u64) -> bool
         ensures { result ≡ is_marked self.now class print }
     {
-        let every = Mark { class, print: None };
-        let one = Mark {
-            class,
-            print: Some(print),
-        };
-        self.has_mark(&every) || self.has_mark(&one)
+        self.has_every(class) || self.has_mark(class, print)
     }
 
-    /// Whether it is one of these.
-    fn has_mark(&self, mark: &Mark) -> bool
-        ensures { result ≡ list_any (same_mark mark.now) self.now }
+    /// Whether every method is marked at the class.
+    pub(crate) fn has_every(&self, class: ClassId) -> bool
+        ensures { result ≡ is_every self.now.1 class }
     {
-        self.marks.contains(mark)
+        match self.every.get(class.number() as usize) {
+            Some(every) => *every,
+            None => false,
+        }
+    }
+
+    /// Whether there is a mark of the class and the print.
+    fn has_mark(&self, class: ClassId, print: u64) -> bool
+        ensures { result ≡ is_listed self.now.0 class print }
+    {
+        self.marks.contains(&Mark { class, print })
     }
 
     /// Adds the mark, where it isn't there. Want of memory is an error; nothing has changed then.
@@ -79,13 +85,57 @@ impl Marks {
         self.marks.insert(mark)?;
         Ok(())
     }
+
+    /// Marks every method at the class. Want of memory is an error.
+    fn add_every(&mut self, class: ClassId) -> Result<(), AllocError>
+        ensures kept { (s p : ℕ) → is_marked self.old s p ≡ true → is_marked self.new s p ≡ true }
+        ensures added { OnOk result ((p : ℕ) → is_marked self.new class p ≡ true) }
+    {
+        set_every(&mut self.every, class.number() as usize)
+    }
 }
 
-/// Adds the marks, where they aren't there. Marks that others hold, too, are copied before the first that is new. Want of memory is
-/// an error; some of them are added then.
-pub(crate) fn add_marks(shared: &mut Arc<Marks>, marks: &[Mark]) -> Result<(), AllocError>
+/// Sets the test of this number, and makes those before it where they aren't there. Want of memory is an error.
+fn set_every(every: &mut Vec<bool>, number: usize) -> Result<(), AllocError>
+    ensures kept { (s : ℕ) → is_every every.old.items s ≡ true → is_every every.new.items s ≡ true }
+    ensures added { OnOk result (is_every every.new.items number ≡ true) }
+{
+    while every.len() <= number {
+        every.push(false)?;
+    }
+    set(every.as_mut_slice(), number);
+    Ok(())
+}
+
+/// Sets the test of this number.
+fn set(every: &mut [bool], number: usize)
+    requires { number < length every.old }
+    ensures { every.new ≡ slice_set every.old number true }
+{
+    every[number] = true;
+}
+
+/// Adds the marks, where they aren't there; where none are given, marks every method at each of these classes. Marks that others
+/// hold, too, are copied before the first that is new. Want of memory is an error; some of them are added then.
+pub(crate) fn add_marks(
+    shared: &mut Arc<Marks>,
+    marks: &Option<Vec<Mark>>,
+    classes: &[ClassId],
+) -> Result<(), AllocError>
     ensures kept { (s p : ℕ) → is_marked shared.old.value s p ≡ true → is_marked shared.new.value s p ≡ true }
-    ensures added { OnOk result ((s p : ℕ) → is_marked marks.now s p ≡ true → is_marked shared.new.value s p ≡ true) }
+    ensures each { OnOk result (IfSome marks.now (λ ms. (s p : ℕ) → is_listed ms.items s p ≡ true → is_marked shared.new.value s p ≡ true)) }
+    ensures every { OnOk result (marks.now ≡ None → (s p : ℕ) → is_on s classes.now ≡ true → is_marked shared.new.value s p ≡ true) }
+{
+    match marks {
+        Some(marks) => add_each(shared, marks.as_slice()),
+        None => add_every(shared, classes),
+    }
+}
+
+/// Adds these marks. Want of memory is an error; some of them are added then.
+fn add_each(shared: &mut Arc<Marks>, marks: &[Mark]) -> Result<(), AllocError>
+    ensures kept { (s p : ℕ) → is_marked shared.old.value s p ≡ true → is_marked shared.new.value s p ≡ true }
+    ensures added { OnOk result ((s p : ℕ) → is_listed marks.now s p ≡ true → is_marked shared.new.value s p ≡ true) }
 {
     for mark in marks {
         add_mark(shared, *mark)?;
@@ -98,9 +148,32 @@ fn add_mark(shared: &mut Arc<Marks>, mark: Mark) -> Result<(), AllocError>
     ensures kept { (s p : ℕ) → is_marked shared.old.value s p ≡ true → is_marked shared.new.value s p ≡ true }
     ensures added { OnOk result ((s p : ℕ) → tells s p mark ≡ true → is_marked shared.new.value s p ≡ true) }
 {
-    if shared.has_mark(&mark) {
+    if shared.has(mark.class, mark.print) {
         return Ok(());
     }
     let marks = Arc::make_mut(shared)?;
     marks.add(mark)
+}
+
+/// Marks every method at each of these classes. Want of memory is an error; some of them are done then.
+fn add_every(shared: &mut Arc<Marks>, classes: &[ClassId]) -> Result<(), AllocError>
+    ensures kept { (s p : ℕ) → is_marked shared.old.value s p ≡ true → is_marked shared.new.value s p ≡ true }
+    ensures added { OnOk result ((s p : ℕ) → is_on s classes.now ≡ true → is_marked shared.new.value s p ≡ true) }
+{
+    for class in classes {
+        add_every_mark(shared, *class)?;
+    }
+    Ok(())
+}
+
+/// Marks every method at the class, where they aren't. Want of memory is an error.
+fn add_every_mark(shared: &mut Arc<Marks>, class: ClassId) -> Result<(), AllocError>
+    ensures kept { (s p : ℕ) → is_marked shared.old.value s p ≡ true → is_marked shared.new.value s p ≡ true }
+    ensures added { OnOk result ((p : ℕ) → is_marked shared.new.value class p ≡ true) }
+{
+    if shared.has_every(class) {
+        return Ok(());
+    }
+    let marks = Arc::make_mut(shared)?;
+    marks.add_every(class)
 }

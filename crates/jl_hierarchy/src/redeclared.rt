@@ -1,9 +1,10 @@
 //! Which classes have a subclass that declares a method again that they see.
 
-ghost use Rattle.std.specs.Prelude.{◌≡◌, ◌<◌, ◌^◌, ℕ, true, false, length, IfOk, IfSome, OnOk};
+ghost use Rattle.std.specs.Prelude.{◌≡◌, ◌<◌, ◌^◌, ℕ, Some, true, false, length, IfOk, IfSome, OnOk};
+ghost use Rattle.std.specs.List.{list_any};
 ghost use Rattle.jl_types.specs.Members as members;
 ghost use Rattle.jl_types.specs.Ancestry as ancestry;
-ghost use Rattle.jl_hierarchy.specs.Redeclared.{is_marked, has_method, sees, declares_print, sees_print, line_above, is_above, is_on, AreLines, IsNotRedeclared, IsTold};
+ghost use Rattle.jl_hierarchy.specs.Redeclared.{is_listed, has_method, sees, declares_print, sees_print, line_above, is_above, is_on, AreLines, IsNotRedeclared, IsTold};
 
 use crate::classes::Classes;
 use crate::marks::Mark;
@@ -14,24 +15,38 @@ use jl_types::{Class, ClassId};
 use std::alloc::{AllocError, Global};
 
 /// How many classes a definition looks at for each method, on the average, and how many besides. Past these it marks every method
-/// at each superclass, so that a class of many methods far below the top costs no more than its length.
+/// at each ancestor, so that a class of many methods far below the top costs little more than its ancestors.
 const LOOKS_A_METHOD: usize = 16;
 
 const LOOKS_BESIDES: usize = 256;
 
 impl Classes {
     /// What the definition of the class marks: each method's print at its superclasses, up to the first that declares one of that
-    /// print. What sees it above that one was marked when that one was defined. Want of memory is an error.
-    pub(crate) fn marks_of(&self, alloc: Global, row: &Class) -> Result<Vec<Mark>, AllocError>
-        ensures { IfOk result (λ marks. (s p : ℕ) → has_method p row.now.file.methods ≡ true
-            → is_on s (line_above self.now row.now) ≡ true → sees_print self.now p s ≡ true → IsTold self.now p marks.items s) }
+    /// print. What sees it above that one was marked when that one was defined. Nothing, where every method is to be marked at each
+    /// ancestor: where this takes too many looks, or did so a class or two above. Want of memory is an error.
+    pub(crate) fn marks_of(
+        &self,
+        alloc: Global,
+        row: &Class,
+    ) -> Result<Option<Vec<Mark>>, AllocError>
+        ensures { IfOk result (λ found. IfSome found (λ marks. (s p : ℕ) → has_method p row.now.file.methods ≡ true
+            → is_on s (line_above self.now row.now) ≡ true → sees_print self.now p s ≡ true
+            → IsTold self.now p (is_listed marks.items) s)) }
     {
         let Some(superclass) = row.superclass() else {
-            return Ok(Vec::new(alloc));
+            return Ok(Some(Vec::new(alloc)));
         };
-        match self.marks_of_each(alloc, superclass, &methods_of(row))? {
-            Some(marks) => Ok(marks),
-            None => self.marks_of_all(alloc, superclass),
+        if self.is_deep(superclass) {
+            return Ok(None);
+        }
+        self.marks_of_each(alloc, superclass, &methods_of(row))
+    }
+
+    /// Whether every method is marked at the class or at its superclass.
+    fn is_deep(&self, class: ClassId) -> bool {
+        match self.superclass(class) {
+            Some(superclass) => self.marks.has_every(class) || self.marks.has_every(superclass),
+            None => self.marks.has_every(class),
         }
     }
 
@@ -45,7 +60,7 @@ impl Classes {
         requires { length methods.now < 2 ^ 16 }
         ensures { IfOk result (λ found. IfSome found (λ marks. (s p : ℕ) → has_method p methods.now ≡ true
             → ancestry.is_subclass self.now superclass s ≡ true → sees_print self.now p s ≡ true
-            → IsTold self.now p marks.items s)) }
+            → IsTold self.now p (is_listed marks.items) s)) }
     {
         let mut marks = Vec::new(alloc);
         let mut looks = LOOKS_A_METHOD * methods.len() + LOOKS_BESIDES;
@@ -70,19 +85,16 @@ impl Classes {
         looks: usize,
         marks: &mut Vec<Mark>,
     ) -> Result<Option<usize>, AllocError>
-        ensures kept { OnOk result ((s p : ℕ) → is_marked marks.old.items s p ≡ true → is_marked marks.new.items s p ≡ true) }
+        ensures kept { OnOk result ((s p : ℕ) → is_listed marks.old.items s p ≡ true → is_listed marks.new.items s p ≡ true) }
         ensures told { IfOk result (λ left. IfSome left (λ n. (s : ℕ) → ancestry.is_subclass self.now class s ≡ true
-            → sees_print self.now print s ≡ true → IsTold self.now print marks.new.items s)) }
+            → sees_print self.now print s ≡ true → IsTold self.now print (is_listed marks.new.items) s)) }
     {
         let start = marks.len();
         let mut left = looks;
         let mut at = class;
         while left > 0 {
             left -= 1;
-            marks.push(Mark {
-                class: at,
-                print: Some(print),
-            })?;
+            marks.push(Mark { class: at, print })?;
             if self.declares_print(at, print) {
                 return Ok(Some(left));
             }
@@ -105,24 +117,6 @@ impl Classes {
         }
     }
 
-    /// Marks of every method at the class and each superclass upward. Want of memory is an error.
-    fn marks_of_all(&self, alloc: Global, class: ClassId) -> Result<Vec<Mark>, AllocError>
-        ensures { IfOk result (λ marks. (s p : ℕ) → ancestry.is_subclass self.now class s ≡ true → is_marked marks.items s p ≡ true) }
-    {
-        let mut marks = Vec::new(alloc);
-        let mut at = class;
-        loop {
-            marks.push(Mark {
-                class: at,
-                print: None,
-            })?;
-            match self.superclass(at) {
-                Some(superclass) => at = superclass,
-                None => return Ok(marks),
-            }
-        }
-    }
-
     /// Whether a proper subclass of the class may declare such a method, which the class sees: one look at what is marked.
     pub fn is_redeclared_below(&self, class: ClassId, sought: &Sought<'_>) -> bool
         ensures { result ≡ false → sees self.now sought.now.name sought.now.ty class ≡ true
@@ -139,29 +133,42 @@ impl Classes {
         self.are_lines
     }
 
-    /// Whether each of these that isn't an interface is an ancestor of the superclass of the class that is made.
-    pub(crate) fn are_on_line(&self, row: &Class, ancestors: &[ClassId]) -> bool
-        ensures { result ≡ true → (a : ℕ) → is_on a ancestors.now ≡ true → members.is_interface self.now a ≡ false
-            → is_above self.now row.now a ≡ true }
+    /// Whether each ancestor of the class that is made which isn't an interface is an ancestor of its superclass. So it is where the
+    /// same is known of the classes that are there, and the superclass of each direct superinterface is one.
+    pub(crate) fn is_line(&self, row: &Class) -> bool
+        ensures { result ≡ true → (a : ℕ) → list_any (λ p. ancestry.is_ancestor self.now a p) (ancestry.parents row.now) ≡ true
+            → members.is_interface self.now a ≡ false → is_above self.now row.now a ≡ true }
     {
-        for ancestor in ancestors {
-            if !self.is_on_line(row, *ancestor) {
+        if !self.are_lines() {
+            return false;
+        }
+        for interface in row.interfaces() {
+            if !self.is_on_line(row, *interface) {
                 return false;
             }
         }
         true
     }
 
-    /// Whether the ancestor is an interface, or an ancestor of the superclass of the class that is made.
-    fn is_on_line(&self, row: &Class, ancestor: ClassId) -> bool
-        ensures { result ≡ true → members.is_interface self.now ancestor ≡ false → is_above self.now row.now ancestor ≡ true }
+    /// Whether it is an interface, and its superclass is an ancestor of the superclass of the class that is made.
+    fn is_on_line(&self, row: &Class, interface: ClassId) -> bool
+        ensures { result ≡ true → AreLines self.now.rows → (a : ℕ) → ancestry.is_ancestor self.now a interface ≡ true
+            → members.is_interface self.now a ≡ false → is_above self.now row.now a ≡ true }
     {
-        if self.is_interface(ancestor) {
-            return true;
+        if !self.is_interface(interface) {
+            return false;
         }
-        match row.superclass() {
-            Some(superclass) => self.is_ancestor(ancestor, superclass),
-            None => false,
+        self.has_above(row, self.superclass(interface))
+    }
+
+    /// Whether the class, if there is one, is an ancestor of the superclass of the class that is made.
+    fn has_above(&self, row: &Class, upper: Option<ClassId>) -> bool
+        ensures { result ≡ true → (s : ℕ) → upper ≡ Some s → is_above self.now row.now s ≡ true }
+    {
+        match (upper, row.superclass()) {
+            (None, _) => true,
+            (Some(upper), Some(superclass)) => self.is_ancestor(upper, superclass),
+            (Some(_), None) => false,
         }
     }
 }

@@ -1,11 +1,11 @@
 use Rattle.std.specs.Prelude.{◌≡◌, ℕ, List, [], ◌∷◌, ◌++◌, length, Bool, ◌&&◌, if◌then◌else◌}
-use Rattle.std.proofs.Common.{refl, ap, sym, subst, ◌∙◌, arith, true}
+use Rattle.std.proofs.Common.{refl, ap, sym, subst, ◌∙◌, arith, Vec, Global}
 use Rattle.jl_types.specs.Ancestry.{AreOrdered}
 use Rattle.jl_types.proofs.Orders.{defined_good}
 use Rattle.std.proofs.lemmas.Bool.{and_parts}
 use Rattle.jl_hierarchy.specs.declared.marks.Mark.{Mark}
-use Rattle.jl_hierarchy.specs.Redeclared.{IsIndexed, is_marked}
-use Rattle.jl_hierarchy.proofs.NewMarks.{still_indexed, indexed_now}
+use Rattle.jl_hierarchy.specs.Redeclared.{IsIndexed, is_on}
+use Rattle.jl_hierarchy.proofs.NewMarks.{still_indexed, indexed_now, told_by}
 use Rattle.jl_types.specs.World.{Class, Classes}
 use Rattle.jl_types.specs.Members.{lookup}
 use Rattle.jl_types.specs.Definitions.{with_record, defined}
@@ -116,9 +116,10 @@ invariant_of-self-2 c =
           ((defined_good c.args.self.now (good _ _ _ c.self.invariant.0 c.args.self.now c.self.view_is) c.args.row.loader c.args.row.file).ordered))
           c.self.inside.marks.value c.add_marks.new.shared.value c.self.inside.are_lines (lines_now c)
           (subst (λ (k : Classes). IsIndexed k.rows c.self.inside.marks.value c.self.inside.are_lines) c.self.view_is c.self.invariant.1)
-          c.in_ok-add_marks.ensures.kept g.marks.items c.in_ok-growth.ensures.marks
-          (λ s p marked. c.in_ok-add_marks.ensures.added s p
-          (subst (λ (found : List Mark). is_marked found s p ≡ true) (sym c.deref-2.ensures.value) marked))
+          c.in_ok-add_marks.ensures.kept
+          (told_by c.args.self.now c.args.row (λ (ms : Vec Mark Global). ms.items) g.marks c.deref-2.result.now c.add_marks.new.shared.value
+          c.in_ok-growth.ensures.marks c.in_ok-add_marks.ensures.each c.in_ok-add_marks.ensures.every
+          (λ s on. ap (is_on s) c.deref-2.ensures.value ∙ c.in_ok-growth.ensures.above s on))
           g.ancestors.items c.in_ok-growth.ensures.all (λ known. (and_parts c.self.inside.are_lines g.is_line known).0)
           (λ known. c.in_ok-growth.ensures.line (and_parts c.self.inside.are_lines g.is_line known).1)),
     )

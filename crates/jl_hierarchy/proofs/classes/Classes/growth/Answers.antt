@@ -1,7 +1,10 @@
 use Rattle.std.specs.Prelude.{◌++◌, ◌∷◌, []}
-use Rattle.std.proofs.Common.{sym, subst, ◌∙◌}
+use Rattle.std.specs.List.{list_any}
+use Rattle.std.proofs.Common.{ap, sym, subst, ◌∙◌}
 use Rattle.jl_types.specs.World.{Class}
-use Rattle.jl_types.specs.Ancestry.{AreOrdered}
+use Rattle.jl_types.specs.Ancestry.{AreOrdered, parents, is_ancestor}
+use Rattle.jl_hierarchy.specs.Redeclared.{is_above}
+use Rattle.jl_hierarchy.proofs.Lines.{line_parents}
 use Rattle.jl_types.proofs.Orders.{defined_good}
 use Rattle.jl_hierarchy.proofs.KeptLaws.{good}
 use Rattle.jl_hierarchy.proofs.classes.Classes.growth.Goals as goal
@@ -11,3 +14,16 @@ proper_ancestors-requires c =
     let row : Class = c.args.row in
     subst (λ (r : Class). AreOrdered (c.args.self.now.rows ++ r ∷ [])) (sym (c.class-2.ensures ∙ c.requires))
     ((defined_good c.args.self.now (good _ _ _ c.self.invariant.0 c.args.self.now c.self.view_is) row.loader row.file).ordered)
+
+pub returns-clause-above : goal.returns-clause-above
+returns-clause-above c s on =
+    c.in_ok-ancestors.ensures.members s
+    ∙ ap (λ (r : Class). list_any (λ p. is_ancestor c.args.self.now s p) (parents r)) c.class-2.ensures
+    ∙ line_parents c.args.self.now (good _ _ _ c.self.invariant.0 c.args.self.now c.self.view_is).ordered c.args.row s on
+
+pub returns-clause-line : goal.returns-clause-line
+returns-clause-line c known a on plain =
+    ap (λ (r : Class). is_above c.args.self.now r a) (sym c.class-4.ensures)
+    ∙ c.is_line-is_line.ensures known a
+    (ap (λ (r : Class). list_any (λ p. is_ancestor c.args.self.now a p) (parents r)) (c.class-4.ensures ∙ sym c.class-2.ensures)
+    ∙ sym (c.in_ok-ancestors.ensures.members a) ∙ on) plain

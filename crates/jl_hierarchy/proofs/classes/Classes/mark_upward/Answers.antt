@@ -1,4 +1,4 @@
-use Rattle.std.specs.Prelude.{◌++◌, ◌∷◌, [], List, Some}
+use Rattle.std.specs.Prelude.{◌++◌, ◌∷◌, [], List}
 use Rattle.std.proofs.Common.{sym, inl, ap, ◌∙◌, append_assoc, append-nil}
 use Rattle.jl_hierarchy.specs.declared.marks.Mark.{Mark}
 use Rattle.jl_hierarchy.proofs.Lines.{passes}
@@ -10,7 +10,7 @@ loop-left-init c = record { behind = ([], sym (append-nil c.args.marks.now.items
 pub loop-left-preserved : goal.loop-left-preserved
 loop-left-preserved c =
     let behind = c.loop-left.invariant.behind in
-    let mark : Mark = record { class = c.loop-left.at; print = Some c.args.print } in
+    let mark : Mark = record { class = c.loop-left.at; print = c.args.print } in
     record {
       behind = (
         behind.0 ++ mark ∷ [],
