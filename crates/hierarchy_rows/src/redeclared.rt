@@ -128,7 +128,7 @@ const BELOW_TWENTY: &[(Command, &str)] = &[
     (Redeclared(21, "f", "()V"), "false"),
 ];
 
-/// Here it would look at 42 for each, so that it marks every method at each ancestor; and so does the definition of a class below.
+/// Here it would look at 42 for each, so that it marks every method at each ancestor; and so does the definition of a class below it.
 const BELOW_FORTY: &[(Command, &str)] = &[
     (Object(0), "0"),
     (Declaring(0, "A", OBJECT, &[("f", "()V", 1)]), "1"),
@@ -142,6 +142,14 @@ const BELOW_FORTY: &[(Command, &str)] = &[
     (Declaring(0, "Y", "X", &[("z", "()V", 1)]), "43"),
     (Redeclared(42, "f", "()V"), "true"),
     (Redeclared(43, "f", "()V"), "false"),
+    // B and C are below the same classes, but not far.
+    (
+        Declaring(0, "B", "A", &[("f", "()V", 1), ("g", "()V", 1)]),
+        "44",
+    ),
+    (Declaring(0, "C", "B", &[("g", "()V", 1)]), "45"),
+    (Redeclared(44, "g", "()V"), "true"),
+    (Redeclared(44, "f", "()V"), "false"),
 ];
 
 /// Whether the class of this place in the stack is defined as the class of that number.

@@ -23,7 +23,7 @@ const LOOKS_BESIDES: usize = 256;
 impl Classes {
     /// What the definition of the class marks: each method's print at its superclasses, up to the first that declares one of that
     /// print. What sees it above that one was marked when that one was defined. Nothing, where every method is to be marked at each
-    /// ancestor: where this takes too many looks, or did so a class or two above. Want of memory is an error.
+    /// ancestor: where this takes too many looks, or did so a class or two above and the class is as deep. Want of memory is an error.
     pub(crate) fn marks_of(
         &self,
         alloc: Global,
@@ -42,12 +42,29 @@ impl Classes {
         self.marks_of_each(alloc, superclass, &methods_of(row))
     }
 
-    /// Whether every method is marked at the class or at its superclass.
+    /// Whether every method is marked at the class or at its superclass, and the class has 16 superclasses or more.
     fn is_deep(&self, class: ClassId) -> bool {
+        self.is_every_near(class) && self.has_superclasses(class, LOOKS_A_METHOD)
+    }
+
+    /// Whether every method is marked at the class or at its superclass.
+    fn is_every_near(&self, class: ClassId) -> bool {
         match self.superclass(class) {
             Some(superclass) => self.marks.has_every(class) || self.marks.has_every(superclass),
             None => self.marks.has_every(class),
         }
+    }
+
+    /// Whether the class has so many superclasses or more.
+    fn has_superclasses(&self, class: ClassId, count: usize) -> bool {
+        let mut at = class;
+        for _ in 0..count {
+            let Some(superclass) = self.superclass(at) else {
+                return false;
+            };
+            at = superclass;
+        }
+        true
     }
 
     /// The marks of each of these methods, or none where that takes too many looks. Want of memory is an error.
