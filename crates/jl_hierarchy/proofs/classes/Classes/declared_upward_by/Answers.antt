@@ -1,6 +1,5 @@
 use Rattle.std.proofs.Common.{sym, ◌∙◌}
 use Rattle.jl_hierarchy.proofs.Chains.{next_below, found_above}
-use Rattle.jl_hierarchy.proofs.classes.Classes.declared_upward_by.Goals.{In-Some-superclass}
 use Rattle.jl_hierarchy.proofs.classes.Classes.declared_upward_by.Goals as goal
 
 pub loop-method-smaller : goal.loop-method-smaller
