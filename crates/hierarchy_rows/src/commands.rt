@@ -58,6 +58,8 @@ pub(crate) enum Command {
     Upward(u32, &'static str, &'static str),
     /// Whether a proper subclass of the class may declare such a method, which the class sees.
     Redeclared(u32, &'static str, &'static str),
+    /// Whether it is known that each ancestor of a class that isn't an interface is one of its superclasses.
+    Lines,
     /// The definitions of so many classes without methods, the first below A and each other one below the one before, and whether
     /// they get the numbers from 2 on.
     Stack(u32),
@@ -265,6 +267,7 @@ fn told(alloc: Global, classes: &Classes, command: &Command) -> Result<String, A
                 &Sought::of(name.as_bytes(), ty.as_bytes()),
             ),
         ),
+        Command::Lines => yes_or_no(alloc, classes.are_lines()),
         Command::MethodAt(class, index) => method(
             alloc,
             classes.method_at(&MethodId {

@@ -94,6 +94,17 @@ const BY_EQUAL_PRINTS: &[(Command, &str)] = &[
     (Upward(3, OTHER, "()V"), "3 0"),
 ];
 
+/// Interfaces and java/lang/Object are all that a class has above it besides its superclasses.
+const BY_INTERFACES: &[(Command, &str)] = &[
+    (Lines, "true"),
+    (Object(0), "0"),
+    (Define(0, "I", 1537, OBJECT, &[]), "1"),
+    (Define(0, "J", 1537, OBJECT, &["I"]), "2"),
+    (Define(0, "A", 33, OBJECT, &["J"]), "3"),
+    (Define(0, "B", 33, "A", &["I"]), "4"),
+    (Lines, "true"),
+];
+
 /// Methods that no class above declares.
 const TWENTY: &[MethodRow] = &[
     ("a", "()V", 1),
@@ -186,6 +197,7 @@ pub(crate) fn is_stack_defined(alloc: Global, classes: &mut Classes, count: u32)
 fn knows_what_subclasses_declare_again(rt: HostRuntime) -> Result<(), AllocError> {
     assert_rows(&rt, BY_SUBCLASSES)?;
     assert_rows(&rt, BY_EQUAL_PRINTS)?;
+    assert_rows(&rt, BY_INTERFACES)?;
     assert_rows(&rt, BELOW_TWENTY)?;
     assert_rows(&rt, BELOW_FORTY)
 }

@@ -62,9 +62,6 @@ AreDecoded digits bytes i seen =
     (seen < 16 → decode_pairs 0 digits ≡ prepend (take i bytes) (decode_pairs (2 * i) (drop (2 * i) digits)))
     × (16 ≤ seen → (e : FromHexError) × (decode_pairs 0 digits ≡ Err e))
 
-pub none_decoded : (digits bytes : List ℕ) → AreDecoded digits bytes 0 0
-none_decoded digits bytes = (λ h. decode_start digits bytes, λ h. absurd (omega arith))
-
 module _ (digits bytes : List ℕ) (i seen x y : ℕ) (fits : 2 * i + 1 < length digits) (room : i < length bytes)
     (before : AreDecoded digits bytes i seen)
     (high : Reads (hex_digit_value (slice_index digits (2 * i))) x)

@@ -1,11 +1,11 @@
--- The prints of names and descriptors. A means of proof.
+-- The prints of names and descriptors. `Called` is what contracts say; the rest is a means of proof.
 use Rattle.std.specs.Prelude.{◌≡◌, ℕ, ◌+◌, Bool, ◌==◌, List, [], ◌∷◌, filter}
 use Rattle.std.specs.List.Sorted.{IsNonDecreasingBy}
 use Rattle.jl_names.specs.Reading.Prints.{print_from}
 use Rattle.jl_classfile.specs.Class.{Method}
 use Rattle.jl_hierarchy.specs.declared.row.Printed.{Printed}
 
--- a name and a descriptor
+-- a name and a descriptor (JVMS 4.6)
 pub record Called : Type 0 where
   pub name : List ℕ
   pub ty : List ℕ

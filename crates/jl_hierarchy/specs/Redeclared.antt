@@ -1,4 +1,5 @@
--- Which classes have a subclass that declares a method again that they see. A means of proof.
+-- Which classes have a subclass that declares a method again that they see (JVMS 5.4.5), and which ancestors classes have (5.4.3.3).
+-- `sees`, `AreLines` and `IsNotRedeclared` are what contracts say; the rest is a means of proof.
 use Rattle.std.specs.Prelude.{◌≡◌, ℕ, ◌==◌, ◌&&◌, ◌||◌, ◌⊎◌, Bool, true, false, List, [], get_or, slice_get, is_some, Option, None}
 use Rattle.std.specs.List.{list_any}
 use Rattle.std.specs.Option.{option_map_or}

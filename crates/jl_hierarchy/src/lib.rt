@@ -2,8 +2,8 @@
 //! receivers and declarations.
 //!
 //! The contract of each question is its definition in jl_types (`specs/Members`, `Ancestry`, `Access` and `Resolution`), and
-//! that of a definition or a delegation is its fault and its step there (`specs/Definitions`). `specs/Kept`, `Prints`, `Redeclared`,
-//! `Faults` and `Defaults` are means of proof.
+//! that of a definition or a delegation is its fault and its step there (`specs/Definitions`). What a class and those above and
+//! below it declare is said in `specs/Redeclared`. `specs/Kept`, `Prints`, `Faults` and `Defaults` are means of proof.
 #![tactic(auto)]
 
 mod ancestry;

@@ -4,7 +4,8 @@ ghost use Rattle.std.specs.Prelude.{◌≡◌, ◌<◌, ◌^◌, ℕ, Some, true
 ghost use Rattle.std.specs.List.{list_any};
 ghost use Rattle.jl_types.specs.Members as members;
 ghost use Rattle.jl_types.specs.Ancestry as ancestry;
-ghost use Rattle.jl_hierarchy.specs.Redeclared.{is_listed, has_method, sees, declares_print, sees_print, line_above, is_above, is_on, AreLines, IsNotRedeclared, IsTold};
+ghost use Rattle.jl_hierarchy.specs.Redeclared.{is_listed, has_method, sees, declares_print, sees_print, line_above, is_above, is_on};
+ghost use Rattle.jl_hierarchy.specs.Redeclared.{AreLines, IsNotRedeclared, IsTold};
 
 use crate::classes::Classes;
 use crate::marks::Mark;

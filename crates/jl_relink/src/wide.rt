@@ -39,8 +39,8 @@ impl Probe for Silent {
 /// [`prepare`](crate::prepare) gives, with as many threads as there are processors. Nothing is installed.
 ///
 /// It lists the pairs of a site and a receiver of all sites whose links depend on what their receivers come to, and looks at
-/// them in threads. An invokeinterface with more than eight receivers has no pair, nor has an invokevirtual whose method no
-/// subclass redeclares.
+/// them in threads. An invokeinterface with more than eight receivers has no pair, nor has an invokevirtual whose method is known
+/// to be redeclared by no subclass.
 ///
 /// It pays where `prepare` looks at many receivers: where all of a site's run one method, which another subclass declares again, 256
 /// sites with 64 to 2,048 receivers each, at some 0.04 microseconds a receiver, were 1.2 to 2.7 times as fast on four processors that

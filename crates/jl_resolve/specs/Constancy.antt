@@ -6,7 +6,6 @@ use Rattle.jl_types.specs.declared.answer.ResolveAnswer.{ResolveAnswer}
 use Rattle.jl_types.specs.declared.answer.ResolveAnswer.TheVariants.{NotReady, Fault}
 use Rattle.jl_types.specs.World.{Classes}
 use Rattle.jl_types.specs.Members.{is_interface, lookup}
-use Rattle.jl_types.specs.Resolution.{Resolved}
 use Rattle.jl_types.specs.Resolution as resolution
 
 -- resolution came to a method or failed, and waits for no class

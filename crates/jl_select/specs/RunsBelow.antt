@@ -1,4 +1,4 @@
--- That every class below one runs one same method. `MayRun` is a means of proof.
+-- That every class below one runs one same method (JVMS 5.4.6, 6.5). `MayRun` is a means of proof.
 use Rattle.std.specs.Prelude.{◌≡◌, ℕ, true, false}
 use Rattle.jl_types.specs.declared.ids.MethodId.{MethodId}
 use Rattle.jl_types.specs.declared.answer.Outcome.TheVariants.{Run}
