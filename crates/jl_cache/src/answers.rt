@@ -1,6 +1,6 @@
 //! What an installed link answers without a look at the classes.
 
-ghost use Rattle.std.specs.Prelude.{◌≡◌, ◌==◌, find};
+ghost use Rattle.std.specs.Prelude.{◌≡◌, ◌==◌, Some, find};
 ghost use Rattle.std.specs.Option.{option_copied};
 ghost use Rattle.jl_types.specs.declared.answer.Fast.TheVariants.{Now};
 ghost use Rattle.jl_types.specs.declared.link.Link.TheVariants as variant;
@@ -17,6 +17,37 @@ pub fn fast(link: Option<Link>, recv: Recv) -> Fast
     match link {
         None => Fast::Miss,
         Some(link) => link_answer(&link, recv),
+    }
+}
+
+/// What a call is answered by the link alone where there are so many classes: nothing either where the answer hangs on the receiver
+/// and its class is newer. Takes no memory.
+pub fn fast_answer(link: &Link, classes: usize, recv: Recv) -> Fast
+    ensures { result ≡ fast.fast_answer (Some link.now) classes recv }
+{
+    if looks_at_receiver(link) && is_newer(classes, &recv) {
+        return Fast::Miss;
+    }
+    link_answer(link, recv)
+}
+
+/// Whether the link's answer hangs on the receiver.
+fn looks_at_receiver(link: &Link) -> bool
+    ensures { result ≡ fast.looks_at_receiver link.now }
+{
+    match link {
+        Link::Fault(_) | Link::Plain(_) | Link::Mega => false,
+        Link::Direct(_) | Link::Table(_, _) => true,
+    }
+}
+
+/// Whether the receiver's class came after so many classes.
+fn is_newer(classes: usize, recv: &Recv) -> bool
+    ensures { result ≡ fast.is_newer classes recv.now }
+{
+    match recv {
+        Recv::Null => false,
+        Recv::Of(class) => classes <= class.number() as usize,
     }
 }
 

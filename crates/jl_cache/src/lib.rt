@@ -7,5 +7,5 @@
 mod answers;
 mod cache;
 
-pub use answers::{fast, link_answer};
+pub use answers::{fast, fast_answer, link_answer};
 pub use cache::Cache;

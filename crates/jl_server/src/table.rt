@@ -5,7 +5,7 @@ ghost use Rattle.jl_types.specs.Fast as fast_of;
 ghost use Rattle.jl_types.specs.Entries.{written};
 
 use crate::mark::Mark;
-use jl_cache::link_answer;
+use jl_cache::fast_answer;
 use jl_types::{Fast, Link, Recv, SiteNo};
 use left_right::Absorb;
 use std::alloc::{AllocError, Global};
@@ -69,7 +69,7 @@ impl Table {
         ensures { result ≡ fast_of.fast_answer (get_or self.now.links.items site None) self.now.classes recv }
     {
         match self.links.get(site.number() as usize) {
-            Some(Some(link)) => answer_by(link, self.classes, recv),
+            Some(Some(link)) => fast_answer(link, self.classes, recv),
             _ => Fast::Miss,
         }
     }
@@ -82,36 +82,6 @@ impl Table {
         for (place, call) in calls.iter().enumerate() {
             answers[place] = self.answer(call.0, call.1);
         }
-    }
-}
-
-/// What the link answers where there are so many classes.
-fn answer_by(link: &Link, classes: usize, recv: Recv) -> Fast
-    ensures { result ≡ fast_of.fast_answer (Some link.now) classes recv }
-{
-    if looks_at_receiver(link) && is_newer(classes, &recv) {
-        return Fast::Miss;
-    }
-    link_answer(link, recv)
-}
-
-/// Whether the link's answer hangs on the receiver.
-fn looks_at_receiver(link: &Link) -> bool
-    ensures { result ≡ fast_of.looks_at_receiver link.now }
-{
-    match link {
-        Link::Fault(_) | Link::Plain(_) | Link::Mega => false,
-        Link::Direct(_) | Link::Table(_, _) => true,
-    }
-}
-
-/// Whether the receiver's class came after so many classes.
-fn is_newer(classes: usize, recv: &Recv) -> bool
-    ensures { result ≡ fast_of.is_newer classes recv.now }
-{
-    match recv {
-        Recv::Null => false,
-        Recv::Of(class) => classes <= class.number() as usize,
     }
 }
 

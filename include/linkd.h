@@ -1,0 +1,224 @@
+/* linkd: which method does this JVM call run, now? A proved devirtualizing linker, as a library for C and C++.
+ *
+ * A linker is a block of linkd_size() bytes at a multiple of linkd_align() that the caller has, as from aligned_alloc, the stack or
+ * an arena. linkd_blank makes a linker of it, linkd_open opens it, and after linkd_close the block is only memory again: it holds
+ * nothing. A seat is one thread's place to read links without a lock; its block is made and left the same way.
+ *
+ * What a caller owes, since nothing checks it:
+ *  - a linker or a seat is passed only between its blank and the end of its block, which isn't moved or written in between;
+ *  - one call at a time is made on a linker, and on a seat. Another thread may make the next call if a lock, a join or a seq_cst
+ *    atomic orders the two;
+ *  - texts, arrays and out places are valid for the call, also where their length is 0 (the pointer isn't null then), and an out
+ *    place is no part of the linker, of the seat, of what is read, or of another out place;
+ *  - no call is made from a signal handler, or in the forked child of a process with threads;
+ *  - malloc, realloc and free come from one allocator.
+ */
+#ifndef LINKD_H
+#define LINKD_H
+
+#include <stddef.h>
+#include <stdint.h>
+
+#ifdef __cplusplus
+extern "C" {
+#endif
+
+typedef struct linkd linkd;
+typedef struct linkd_seat linkd_seat;
+
+/* What a call answers: LINKD_DONE, why the linker refuses an event, or why it wasn't asked. Nothing has changed but where it was
+ * done; the sections named are those of the Java Virtual Machine Specification, SE 17. */
+enum linkd_status {
+    LINKD_DONE = 0,
+    LINKD_DEFINE = 1,          /* a class isn't defined (5.3.5): fault is a linkd_define_fault */
+    LINKD_UNKNOWN_CLASS = 2,
+    LINKD_NO_SUCH_PLACE = 3,   /* the class has no invocation there */
+    LINKD_NOT_LINKABLE = 4,    /* fault 1: it names an array type; 2: MethodHandle or VarHandle of java.lang.invoke */
+    LINKD_SITES_FULL = 5,
+    LINKD_CALL_SITE = 6,       /* fault is a linkd_call_site_fault */
+    LINKD_NOT_DYNAMIC = 7,     /* the site is no invokedynamic */
+    LINKD_ALREADY_BOUND = 8,   /* place is the call site that it is bound to */
+    LINKD_TYPE_MISMATCH = 9,
+    LINKD_STALE = 10,          /* place is the site whose link isn't the one from scratch now */
+    LINKD_NOT_READY = 11,      /* place is the site that has no link from scratch now */
+    LINKD_UNKNOWN_SITE = 12,   /* place is the number under which nothing was requested */
+    LINKD_REPEATED = 13,       /* place is the site that comes twice */
+    LINKD_BATCH_SIZE = 14,     /* no sites, or more than 256 */
+    LINKD_MEMORY = 15,         /* want of memory */
+    LINKD_DELEGATE = 16,       /* fault 1: unknown loader; 2: not recorded; 3: already recorded */
+    LINKD_LOADERS_FULL = 17,
+    LINKD_NO_CLASS_FILE = 32,  /* the bytes are no class file: fault is a linkd_class_fault */
+    LINKD_MALFORMED = 33,      /* a kind, type or target that is none, or a number that is too large */
+    LINKD_CLOSED = 34,         /* the linker isn't open, or the seat was never refreshed */
+    LINKD_OPEN_ALREADY = 35,
+    LINKD_TOO_SHORT = 36       /* the array is too short; the length that is wanted was written */
+};
+
+/* What an event made, or why it was refused; each number that says nothing is 0. */
+typedef struct linkd_told {
+    uint32_t number; /* of the loader, class, site, call site or switch point that the event made or found */
+    uint32_t fault;  /* why, more closely, by the status */
+    uint32_t place;  /* where, by the status or the fault */
+    uint32_t cause;  /* why, still more closely: of a class file's pool or code */
+    uint32_t at;     /* the pc of a fault of a code */
+} linkd_told;
+
+enum linkd_define_fault {
+    LINKD_UNKNOWN_LOADER = 1,
+    LINKD_ALREADY_RECORDED = 2,
+    LINKD_NAMES_ITSELF = 3,
+    LINKD_MISSING_PARENT = 4,
+    LINKD_SUPER_IS_INTERFACE = 5,
+    LINKD_FINAL_SUPER = 6,
+    LINKD_NOT_AN_INTERFACE = 7,
+    LINKD_INACCESSIBLE_PARENT = 8,
+    LINKD_SECOND_OBJECT = 9,
+    LINKD_CLASSES_FULL = 10
+};
+
+enum linkd_call_site_fault {
+    LINKD_UNKNOWN_CALL_SITE = 1,
+    LINKD_CONSTANT = 2,
+    LINKD_WRONG_TYPE = 3,
+    LINKD_UNKNOWN_METHOD = 4,
+    LINKD_NOT_STATIC = 5,
+    LINKD_UNKNOWN_SWITCH = 6,
+    LINKD_TOO_DEEP = 7,
+    LINKD_CALL_SITES_FULL = 8
+};
+
+/* Why bytes are no class file (chapter 4). */
+enum linkd_class_fault {
+    LINKD_TOO_LARGE = 1,
+    LINKD_BAD_MAGIC = 2,
+    LINKD_BAD_VERSION = 3,
+    LINKD_TRUNCATED = 4,
+    LINKD_POOL = 5,             /* cause 1: cut short; 2: a tag; 3: an index; 4: a text; 5: a descriptor; place is the entry */
+    LINKD_MODULE_FILE = 6,
+    LINKD_BAD_SUPER = 7,
+    LINKD_DUPLICATE_METHOD = 8, /* place is the method */
+    LINKD_TWO_CODES = 9,        /* place is the method */
+    LINKD_CODE = 10,            /* place is the method; cause 1: an opcode; 2: cut short; 3: a switch; 4: an operand; 5: layout */
+    LINKD_TRAILING_BYTES = 11,
+    LINKD_BAD_MEMBER = 12,      /* place is the member, fields and methods together */
+    LINKD_BAD_LINK = 13,        /* place is the number */
+    LINKD_BAD_NEST = 14
+};
+
+/* What a call comes to. */
+enum linkd_answer_kind {
+    LINKD_RUN = 0,          /* the method `value` of the class `class_number` runs */
+    LINKD_THROWS = 1,       /* value is a linkd_throwable */
+    LINKD_BAD_RECEIVER = 2, /* no object can be such a receiver here */
+    LINKD_UNLINKED = 3,     /* value is a linkd_unlinked */
+    LINKD_MISS = 4          /* a seat doesn't know: ask the linker */
+};
+
+enum linkd_throwable {
+    LINKD_NO_SUCH_METHOD_ERROR = 1,
+    LINKD_ILLEGAL_ACCESS_ERROR = 2,
+    LINKD_INCOMPATIBLE_CLASS_CHANGE_ERROR = 3,
+    LINKD_ABSTRACT_METHOD_ERROR = 4,
+    LINKD_NULL_POINTER_EXCEPTION = 5
+};
+
+enum linkd_unlinked {
+    LINKD_WANTS_NAMED = 1,       /* the class that the instruction names isn't there yet */
+    LINKD_WANTS_CALLER_HOST = 2, /* the nest host of the caller's class isn't */
+    LINKD_WANTS_METHOD_HOST = 3, /* the nest host of the method's class isn't */
+    LINKD_UNBOUND = 4,           /* an invokedynamic without a call site */
+    LINKD_GONE = 5,
+    LINKD_NO_SITE = 6
+};
+
+typedef struct linkd_call_answer {
+    uint32_t kind;         /* a linkd_answer_kind */
+    uint32_t class_number; /* 0 but for LINKD_RUN */
+    uint32_t value;
+} linkd_call_answer;
+
+enum linkd_link_kind {
+    LINKD_NONE = 0,            /* none is installed */
+    LINKD_FAULT = 1,           /* each call throws: row 0 has it */
+    LINKD_PLAIN = 2,           /* each call runs this method: row 0 */
+    LINKD_DIRECT = 3,          /* each call on an object comes to this: row 0 */
+    LINKD_VIRTUAL_TABLE = 4,   /* by the receiver's class: `count` rows */
+    LINKD_INTERFACE_TABLE = 5,
+    LINKD_MEGA = 6             /* too many classes for a table */
+};
+
+typedef struct linkd_row {
+    uint32_t receiver;     /* the class of the receiver, in a table; else 0 */
+    uint32_t kind;         /* LINKD_RUN or LINKD_THROWS */
+    uint32_t class_number; /* as in a linkd_call_answer */
+    uint32_t value;
+} linkd_row;
+
+typedef struct linkd_link {
+    uint32_t kind;  /* a linkd_link_kind */
+    uint32_t count; /* how many rows say something; the others are 0 */
+    linkd_row rows[8];
+} linkd_link;
+
+/* The null reference, as a receiver. */
+#define LINKD_NULL UINT32_C(0xffffffff)
+
+/* ---- a linker */
+
+size_t linkd_size(void);
+size_t linkd_align(void);
+void linkd_blank(linkd *at);
+
+/* Opens the linker, without classes; at most max_sites sites may be requested, 1 to 65,536 (else LINKD_MALFORMED). */
+uint32_t linkd_open(linkd *at, uint32_t max_sites);
+/* Lets all go that the linker has; it isn't open then. */
+void linkd_close(linkd *at);
+
+/* Events. Loader 0 is there from the start; all numbers are given from 0 on. */
+uint32_t linkd_new_loader(linkd *at, linkd_told *told);
+uint32_t linkd_define(linkd *at, uint32_t loader, const uint8_t *bytes, size_t length, linkd_told *told);
+/* The loader finds under the name the class that the loader `to` finds. */
+uint32_t linkd_delegate(linkd *at, uint32_t loader, const uint8_t *name, size_t name_length, uint32_t to, linkd_told *told);
+/* The invocation at the pc of the class's method, by its place among those that the class declares. */
+uint32_t linkd_request(linkd *at, uint32_t class_number, uint32_t method, uint32_t pc, linkd_told *told);
+/* kind 1: constant, 2: mutable, 3: volatile; type: a method descriptor; target: {"method":[class,index]} or
+ * {"guard":switch,"target":..,"fallback":..}, as JSON. */
+uint32_t linkd_new_call_site(linkd *at, uint32_t kind, const uint8_t *type, size_t type_length, const uint8_t *target,
+                             size_t target_length, linkd_told *told);
+uint32_t linkd_set_target(linkd *at, uint32_t call_site, const uint8_t *target, size_t target_length, linkd_told *told);
+uint32_t linkd_new_switch(linkd *at, linkd_told *told);
+uint32_t linkd_invalidate(linkd *at, const uint32_t *switches, size_t count, linkd_told *told);
+uint32_t linkd_bind(linkd *at, uint32_t site, uint32_t call_site, linkd_told *told);
+/* Links the sites from scratch, 1 to 256 of them, and installs their links: all of them or none. */
+uint32_t linkd_install(linkd *at, const uint32_t *sites, size_t count, linkd_told *told);
+
+/* The sites, rising, whose links the last accepted event removed: they are pending now. Takes no memory. */
+uint32_t linkd_dropped(linkd *at, uint32_t *out, size_t capacity, size_t *length);
+
+/* What a call comes to now, linked or not. Takes no memory. */
+uint32_t linkd_call(linkd *at, uint32_t site, uint32_t receiver, linkd_call_answer *answer);
+/* The link that is installed at the site. Takes no memory. */
+uint32_t linkd_link_of(linkd *at, uint32_t site, linkd_link *link);
+
+/* Any command of docs/FORMATS.md, as text. The answer is kept, and its length written; linkd_take copies it. On LINKD_MEMORY the
+ * command was obeyed, or nothing has changed. */
+uint32_t linkd_answer(linkd *at, const uint8_t *line, size_t line_length, size_t *length);
+uint32_t linkd_take(linkd *at, uint8_t *out, size_t capacity, size_t *length);
+
+/* ---- a seat */
+
+size_t linkd_seat_size(void);
+size_t linkd_seat_align(void);
+void linkd_seat_blank(linkd_seat *at);
+/* Gives the seat the linker's links and count of classes as they are now. Counts as a call on the seat and on the linker. */
+uint32_t linkd_seat_refresh(linkd_seat *at, linkd *from);
+/* What a call comes to by the links of the last refresh, at once. Takes no lock and no memory, and counts as a call on the seat
+ * alone, which may outlive the linker. */
+uint32_t linkd_seat_call(linkd_seat *at, uint32_t site, uint32_t receiver, linkd_call_answer *answer);
+/* Lets the seat's links go. */
+void linkd_seat_leave(linkd_seat *at);
+
+#ifdef __cplusplus
+}
+#endif
+#endif
