@@ -10,7 +10,7 @@ use Rattle.jl_cli.specs.declared.line_fault.LineFault.{LineFault}
 use Rattle.jl_cli.specs.declared.line_fault.LineFault.TheVariants.{TooLong, Device, Memory}
 use Rattle.jl_cli.specs.Devices.{one_more, HasRisen}
 use Rattle.jl_cli.specs.Lines.{newline, most_in_line, lines_of, NoNewline}
-use Rattle.jl_cli.specs.Sessions.{Session}
+use Rattle.jl_session.specs.Sessions.{Session}
 use Rattle.jl_cli.specs.Answers.{AreAnswers, LacksFirst, AnswersAll, AnswersFirst, AnswersRead, LongIf, LeftBy}
 use Rattle.jl_cli.specs.Progress.{Writes, Runs, LacksNext, StopsBy}
 use Rattle.jl_cli.proofs.LineLaws.{line_first, over_first, runs_first, runs_read, runs_write, runs_all}

@@ -10,7 +10,7 @@ use Rattle.jl_cli.specs.declared.words.WordsFault.TheVariants as words_fault
 use Rattle.jl_cli.specs.declared.words.Mode.{Mode}
 use Rattle.jl_cli.specs.declared.words.Mode.TheVariants.{Scan, Sketch, Run}
 use Rattle.jl_cli.specs.Statuses.{words_status, line_status, farm_status}
-use Rattle.jl_cli.specs.Sessions.{Session, new_session}
+use Rattle.jl_session.specs.Sessions.{Session, new_session}
 use Rattle.jl_cli.specs.Answers.{LongIf, LeftBy}
 use Rattle.jl_cli.specs.Farms.{job_of_each}
 

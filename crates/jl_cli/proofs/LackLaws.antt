@@ -1,79 +1,19 @@
--- What a session is where memory lacks for an answer.
-use Rattle.std.proofs.Common.{◌≡◌, refl, sym, subst, inl, inr, ℕ, List, Result, Ok, Err, IfOk, IfErr, OnErr, MatchResult}
+-- What a session is where memory lacks for the text of an answer.
+use Rattle.std.proofs.Common.{◌≡◌, refl, sym, subst, List, ℕ, Result, Ok, Err, MatchResult}
 use Rattle.std.specs.Result.{IsErrAnd}
-use Rattle.serde_json.specs.Data.{Data}
-use Rattle.jl_sketch.specs.Faults.{IsWritten}
-use Rattle.jl_sketch.specs.declared.sketch.Sketch.{Sketch}
-use Rattle.jl_types.specs.Event.{Event}
-use Rattle.jl_types.specs.declared.event.Reply.{Reply}
-use Rattle.jl_types.specs.declared.refusal.Refusal.{Refusal}
-use Rattle.jl_types.specs.Events.{verdict}
-use Rattle.jl_core.specs.State.{State, world_of, IsAccepted, IsApplied, IsRefused}
-use Rattle.jl_json.specs.declared.command.ClassSource.TheVariants as source
-use Rattle.jl_json.specs.NameReading.{name_text}
-use Rattle.jl_json.proofs.NameLaws.{spells}
-use Rattle.jl_json.specs.Replies.{reply_data}
-use Rattle.jl_json.specs.EventRefusals.{event_refusal_data}
 use Rattle.serde_json.specs.Written.{compact_text}
+use Rattle.jl_session.specs.Sessions.{IsSessionAnswer, Session, LacksAnswer}
+use Rattle.jl_session.proofs.LackLaws.{lacks_as}
 use Rattle.jl_cli.specs.declared.words.Mode.{Mode}
 use Rattle.jl_cli.specs.declared.words.Mode.TheVariants.{Run}
 use Rattle.jl_cli.specs.Answers.{IsAnswer}
-use Rattle.jl_cli.specs.Sessions.{IsSessionAnswer, Session, LacksAnswer, IsEventData, IsEventAnswer, IsFileDefined, IsDefineAnswer}
-
-pub on_err : {X E : Type 0} {P Q : Type 0} → (P → Q) → (r : Result X E) → OnErr r P → OnErr r Q
-on_err f (Ok x) h = tt
-on_err f (Err e) h = f h
-
-pub if_err : {X E : Type 0} {P : Type 0} → P → (r : Result X E) → OnErr r P
-if_err p (Ok x) = tt
-if_err p (Err e) = p
 
 pub match_err : {X E : Type 0} (P : X → Type 0) (R : E → Type 0) {Q : Type 0} (r : Result X E) → IsErrAnd r R → Q
     → MatchResult r P (λ _. Q)
 match_err P R (Ok x) is q = absurd is
 match_err P R (Err e) is q = q
 
--- where each of these answers gives one of those
-pub lacks_as : {A B : Type 0} (old new : Session) (P : A → Type 0) (Q : B → Type 0) → ((a : A) → P a → (b : B) × Q b)
-    → LacksAnswer old P new → LacksAnswer old Q new
-lacks_as old new P Q f (inl e) = inl e
-lacks_as old new P Q f (inr p) = inr (f p.0 p.1)
-
-some_data : (outcome : Result Reply Refusal) → (answer : Data) × IsEventData outcome answer
-some_data (Ok reply) = (reply_data reply, refl)
-some_data (Err r) = (event_refusal_data name_text r, (name_text, spells, refl))
-
-applied_by : (old new : State) (e : Event) (outcome : Result Reply Refusal) → IfOk outcome (IsAccepted old new e)
-    → IfErr outcome (IsRefused (verdict old.max_sites (world_of old) e)) → OnErr outcome (new ≡ old)
-    → IsApplied old e outcome new
-applied_by old new e (Ok reply) accepted refused unchanged = accepted
-applied_by old new e (Err r) accepted refused unchanged = (refused, unchanged)
-
--- the event came to its outcome, whatever is said of it
-pub event_lacks : (old new : Session) (e : Event) (outcome : Result Reply Refusal)
-    → IfOk outcome (IsAccepted old.core new.core e)
-    → IfErr outcome (IsRefused (verdict old.core.max_sites (world_of old.core) e))
-    → OnErr outcome (new.core ≡ old.core) → new.batches ≡ old.batches
-    → LacksAnswer old (λ answer. IsEventAnswer old e answer new) new
-event_lacks old new e outcome accepted refused unchanged same = inr (
-  (some_data outcome).0,
-  record {
-    outcome = outcome;
-    applied = applied_by old.core new.core e outcome accepted refused unchanged;
-    batches = same;
-    said = (some_data outcome).1;
-  },
-)
-
-pub sketch_lacks : (old new : Session) (loader : ℕ) (sketch : Sketch) (bytes : List ℕ) → IsWritten sketch bytes
-    → LacksAnswer old (λ answer. IsFileDefined old loader bytes answer new) new
-    → LacksAnswer old (λ answer. IsDefineAnswer old loader (source.Sketch sketch) answer new) new
-sketch_lacks old new loader sketch bytes written lacks =
-    lacks_as old new (λ answer. IsFileDefined old loader bytes answer new)
-    (λ answer. IsDefineAnswer old loader (source.Sketch sketch) answer new)
-    (λ answer said. (answer, inl (bytes, written, said))) lacks
-
--- the same of the texts
+-- the same of the text of an answer
 pub run_lacks : (mode : Mode) (old new : Session) (line : List ℕ) → mode ≡ Run
     → LacksAnswer old (λ answer. IsSessionAnswer old line answer new) new
     → LacksAnswer old (λ text. IsAnswer mode old line text new) new

@@ -1,9 +1,5 @@
 pub mod BufferLaws
-pub mod JsonLaws
 pub mod LackLaws
-pub mod HexLaws
-pub mod ScanLaws
-pub mod FloatLaws
 pub mod LineLaws
 pub mod FaultLaws
 pub mod NewlineLaws

@@ -10,7 +10,7 @@ use Rattle.std.specs.List.{flat_map, AllByRecursion}
 use Rattle.jl_cli.specs.declared.words.Mode.{Mode}
 use Rattle.jl_cli.specs.declared.line_fault.LineFault.{LineFault}
 use Rattle.jl_cli.specs.Lines.{newline, most_in_line, onto_first, lines_of, NoNewline, ended}
-use Rattle.jl_cli.specs.Sessions.{Session, LacksAnswer}
+use Rattle.jl_session.specs.Sessions.{Session, LacksAnswer}
 use Rattle.jl_cli.specs.Answers.{IsAnswer, AreAnswers, AreShort, AnswersAll, AnswersFirst, FirstIsLong, LacksFirst, LongIf, LeftBy}
 use Rattle.jl_cli.specs.Progress.{IsLine, Answered, Gathers, Writes, Runs, IsOver, LacksNext}
 

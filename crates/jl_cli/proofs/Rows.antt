@@ -1,14 +1,13 @@
 -- Worked rows, by computation.
-use Rattle.std.proofs.Common.{◌≡◌, [], ◌∷◌, refl, None, Some}
+use Rattle.std.proofs.Common.{◌≡◌, [], ◌∷◌, refl}
 use Rattle.std.specs.Prelude.{codes}
 use Rattle.hex.proofs.OnLiterals.{hex_on_literals}
 use Rattle.serde_json.proofs.OnLiterals.{serde_json_on_literals}
 use Rattle.jl_cli.specs.declared.words.Mode.TheVariants.{Scan}
 use Rattle.jl_cli.specs.Lines.{lines_of, ended}
-use Rattle.jl_cli.specs.Jsons.{bad_command}
-use Rattle.jl_cli.specs.Scans.{file_of}
+use Rattle.jl_session.specs.Jsons.{bad_command}
 use Rattle.jl_cli.specs.Answers.{IsAnswer, AreAnswers}
-use Rattle.jl_cli.specs.Sessions.{Session}
+use Rattle.jl_session.specs.Sessions.{Session}
 
 -- a newline at the end ends no further line
 lines_three : lines_of (codes "ab\n\nc") ≡ codes "ab" ∷ [] ∷ codes "c" ∷ []
@@ -23,19 +22,7 @@ lines_none : lines_of [] ≡ []
 unfolding lines_of
 lines_none = refl
 
--- hexadecimal of either case, and none
-hex_both : file_of (codes "cAFe") ≡ Some (0xca ∷ 0xfe ∷ [])
-unfolding hex_on_literals
-hex_both = refl
-
-hex_odd : file_of (codes "caf") ≡ None
-unfolding hex_on_literals
-hex_odd = refl
-
-hex_other : file_of (codes "cg") ≡ None
-unfolding hex_on_literals
-hex_other = refl
-
+-- two lines that are answered by the mode alone
 two_answers : (session : Session) → AreAnswers Scan session ([] ∷ codes "0g" ∷ []) (codes "{\"error\":\"BadCommand\"}\n{\"error\":\"BadCommand\"}\n") session
 unfolding hex_on_literals serde_json_on_literals
 two_answers session =

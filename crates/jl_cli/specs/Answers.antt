@@ -7,10 +7,10 @@ use Rattle.jl_cli.specs.declared.line_fault.LineFault.{LineFault}
 use Rattle.jl_cli.specs.declared.line_fault.LineFault.TheVariants.{TooLong, Memory}
 use Rattle.jl_cli.specs.declared.words.Mode.{Mode}
 use Rattle.jl_cli.specs.declared.words.Mode.TheVariants.{Scan, Sketch, Run}
-use Rattle.jl_cli.specs.Jsons.{IsTextOf}
-use Rattle.jl_cli.specs.Scans.{IsScanAnswer}
-use Rattle.jl_cli.specs.Sketches.{IsSketchAnswer}
-use Rattle.jl_cli.specs.Sessions.{Session, IsSessionAnswer, LacksAnswer}
+use Rattle.jl_session.specs.Jsons.{IsTextOf}
+use Rattle.jl_session.specs.Scans.{IsScanAnswer}
+use Rattle.jl_session.specs.Sketches.{IsSketchAnswer}
+use Rattle.jl_session.specs.Sessions.{Session, IsSessionAnswer, LacksAnswer}
 use Rattle.jl_cli.specs.Lines.{most_in_line, lines_of, NoNewline, ended}
 
 -- ---- all lines

@@ -5,10 +5,6 @@ pub mod Statuses
 pub mod Words
 pub mod CommandLine
 pub mod Lines
-pub mod Jsons
-pub mod Scans
-pub mod Sketches
-pub mod Sessions
 pub mod Answers
 pub mod Progress
 pub mod Farms

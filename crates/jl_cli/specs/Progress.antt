@@ -6,7 +6,7 @@ use Rattle.jl_cli.specs.declared.words.Mode.{Mode}
 use Rattle.jl_cli.specs.declared.line_fault.LineFault.{LineFault}
 use Rattle.jl_cli.specs.declared.line_fault.LineFault.TheVariants.{TooLong, Device, Memory}
 use Rattle.jl_cli.specs.Lines.{newline, most_in_line, NoNewline, ended}
-use Rattle.jl_cli.specs.Sessions.{Session, LacksAnswer}
+use Rattle.jl_session.specs.Sessions.{Session, LacksAnswer}
 use Rattle.jl_cli.specs.Answers.{IsAnswer, AreAnswers}
 
 -- the first newline stands at this place

@@ -4,21 +4,19 @@ ghost use Rattle.std.specs.Prelude.{◌≡◌, ◌<◌, ◌≤◌, ◌++◌, [],
 ghost use Rattle.std.specs.Prelude.{IfOk, OnOk, OnErr, MatchOption, MatchResult};
 ghost use Rattle.std.specs.Io.KnownBytes.{Appends};
 ghost use Rattle.jl_cli.specs.Devices.{CountsFailure};
-ghost use Rattle.jl_cli.specs.Jsons.{IsTextOf};
-ghost use Rattle.jl_cli.specs.Scans.{IsScanAnswer};
-ghost use Rattle.jl_cli.specs.Sketches.{IsSketchAnswer};
-ghost use Rattle.jl_cli.specs.Sessions.{IsSessionAnswer, LacksAnswer};
+ghost use Rattle.jl_session.specs.Jsons.{IsTextOf};
+ghost use Rattle.jl_session.specs.Scans.{IsScanAnswer};
+ghost use Rattle.jl_session.specs.Sketches.{IsSketchAnswer};
+ghost use Rattle.jl_session.specs.Sessions.{IsSessionAnswer, LacksAnswer};
 ghost use Rattle.jl_cli.specs.Answers.{IsAnswer};
 ghost use Rattle.jl_cli.specs.Lines.{newline, NoNewline, ended};
 ghost use Rattle.jl_cli.specs.Progress.{IsFirstNewline, Gathers, LacksNext};
 
 use crate::failed::Failed;
 use crate::line_buffer::MOST_IN_LINE;
-use crate::scan::add_scan_answer;
-use crate::session::Session;
 use crate::sink::Sink;
-use crate::sketch::sketch_answer;
 use crate::words::Mode;
+use jl_session::{Session, add_scan_answer, sketch_answer};
 use memchr::memchr;
 use std::alloc::{AllocError, Global};
 

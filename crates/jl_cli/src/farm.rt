@@ -8,10 +8,7 @@ ghost use Rattle.jl_types.specs.Entries.{events_of};
 ghost use Rattle.jl_cli.specs.Farms.{job_of_each};
 
 use crate::farm_fault::FarmLineFault;
-use crate::json_line::{bad_command, json_in};
 use crate::line_fault::LineFault;
-use crate::scan::fault_value;
-use crate::sketch::sketch_fault_value;
 use jl_classfile::read_class;
 use jl_farm::{Gate, JobOutcome, Report, run};
 use jl_json::{
@@ -19,6 +16,7 @@ use jl_json::{
 };
 use jl_names::Seq;
 use jl_server::{Caller, LinkServer, Name};
+use jl_session::{bad_command, fault_value, json_in, sketch_fault_value};
 use jl_sketch::write_class;
 use jl_types::{Event, LoaderId, SiteNo};
 use serde_json::{Value, json};

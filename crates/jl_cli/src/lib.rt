@@ -2,8 +2,7 @@
 //!
 //! Input and output are a [`Source`] and a [`Sink`], which count what failed. What is said of their
 //! bytes and counts stands in `specs/Devices`. What is answered stands in `specs/`, in reading
-//! order: `Lines`, `Jsons`, `Scans`, `Sketches`, `Sessions`, `Answers`; what words ask for, in
-//! `Words`. The JSON is that of jl_json.
+//! order: `Lines`, `Answers`; what words ask for, in `Words`. What one line is answered is that of jl_session.
 #![tactic(auto)]
 
 // Words.
@@ -15,13 +14,6 @@ mod fail_at;
 mod failed;
 mod sink;
 mod source;
-
-// The answer to a line.
-mod hexadecimal;
-mod json_line;
-mod scan;
-mod session;
-mod sketch;
 
 // Lines.
 mod answers;
@@ -41,7 +33,6 @@ pub use farm_fault::FarmLineFault;
 pub use farm_lines::run_farm;
 pub use line_fault::LineFault;
 pub use lines::{run_lines, run_lines_with};
-pub use session::Session;
 pub use sink::Sink;
 pub use source::Source;
 pub use words::{Mode, Words, WordsFault, read_words};

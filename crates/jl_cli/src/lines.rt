@@ -6,7 +6,7 @@ ghost use Rattle.std.specs.Io.KnownBytes.{Appends, Keeps, IsAtEnd};
 ghost use Rattle.jl_cli.specs.declared.line_fault.LineFault.TheVariants.{TooLong, Device};
 ghost use Rattle.jl_cli.specs.Devices.{one_more, HasRisen};
 ghost use Rattle.jl_cli.specs.Lines.{lines_of, NoNewline};
-ghost use Rattle.jl_cli.specs.Sessions.{new_session};
+ghost use Rattle.jl_session.specs.Sessions.{new_session};
 ghost use Rattle.jl_cli.specs.Answers.{AreAnswers, LacksFirst, AnswersAll, AnswersFirst, AnswersRead};
 ghost use Rattle.jl_cli.specs.Answers.{LongIf, LeftBy};
 ghost use Rattle.jl_cli.specs.Progress.{Writes, StopsBy};
@@ -14,10 +14,10 @@ ghost use Rattle.jl_cli.specs.Progress.{Writes, StopsBy};
 use crate::answers::Answers;
 use crate::line_buffer::LineBuffer;
 use crate::line_fault::LineFault;
-use crate::session::Session;
 use crate::sink::Sink;
 use crate::source::Source;
 use crate::words::Mode;
+use jl_session::Session;
 use std::alloc::Global;
 
 /// Answers what was read since a newline was last looked for, and drops the lines that were

@@ -37,4 +37,4 @@ pub use link_answer::{farm_value, link_value, links_value, outcome_value, prepar
 pub use refusal::Refusal;
 pub use reply::reply_value;
 pub use sketch::{each_sketch_is_read, no_other_sketch_keys, read_sketch};
-pub use target::{each_target_is_read, no_other_target_keys};
+pub use target::{each_target_is_read, no_other_target_keys, target_in};

@@ -59,7 +59,7 @@ fn guard_in(alloc: Global, value: &Value) -> Result<Option<Target>, AllocError>
 
 /// The target that the JSON is: a method alone, or a guard.
 #[cycle(target)]
-fn target_in(alloc: Global, value: &Value) -> Result<Option<Target>, AllocError>
+pub fn target_in(alloc: Global, value: &Value) -> Result<Option<Target>, AllocError>
     ensures { IfOk result (λ target. target ≡ target_in (view value.now)) }
 {
     match member_count(value) {

@@ -6,7 +6,7 @@ use Rattle.std.specs.Io.KnownBytes.{Keeps}
 use Rattle.std.proofs.KnownBytes.{Keeps-refl}
 use Rattle.jl_cli.specs.declared.line_fault.LineFault.TheVariants.{TooLong, Device, Memory}
 use Rattle.jl_cli.specs.Lines.{lines_of, ended}
-use Rattle.jl_cli.specs.Sessions.{Session}
+use Rattle.jl_session.specs.Sessions.{Session}
 use Rattle.jl_cli.specs.Answers.{AreAnswers, LacksFirst}
 use Rattle.jl_cli.proofs.FaultLaws.{exactly}
 use Rattle.jl_cli.proofs.LineLaws.{answers_last, answers_empty, lacks_last}

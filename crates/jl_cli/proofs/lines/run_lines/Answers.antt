@@ -1,7 +1,7 @@
 use Rattle.std.proofs.Common.{refl}
 use Rattle.jl_cli.specs.declared.line_fault.LineFault.TheVariants.{Memory}
 use Rattle.jl_cli.specs.Devices.{HasRisen}
-use Rattle.jl_cli.specs.Sessions.{new_session}
+use Rattle.jl_session.specs.Sessions.{new_session}
 use Rattle.jl_cli.proofs.FaultLaws.{all_of, whole_of, read_of, exactly, Whole, none_whole}
 use Rattle.jl_cli.proofs.lines.run_lines.Goals as goal
 

@@ -1,4 +1,5 @@
-use Rattle.jl_cli.proofs.LackLaws.{on_err, run_lacks}
+use Rattle.jl_session.proofs.LackLaws.{on_err}
+use Rattle.jl_cli.proofs.LackLaws.{run_lacks}
 use Rattle.jl_cli.proofs.answers.Answers.answer.Goals as goal
 
 pub returns-in-Run-clause-lacks : goal.returns-in-Run-clause-lacks

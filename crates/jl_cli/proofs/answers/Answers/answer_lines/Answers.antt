@@ -1,7 +1,7 @@
 use Rattle.std.proofs.Common.{◌≡◌, ◌∙◌, sym, ap, subst, refl, ◌+◌, [], ◌∷◌, ◌++◌, length}
 use Rattle.std.proofs.Common.{length-append, append-nil, arith}
 use Rattle.jl_cli.specs.declared.words.Mode.{Mode}
-use Rattle.jl_cli.specs.Sessions.{Session}
+use Rattle.jl_session.specs.Sessions.{Session}
 use Rattle.jl_cli.specs.Answers.{IsAnswer}
 use Rattle.jl_cli.specs.Lines.{NoNewline}
 use Rattle.jl_cli.specs.Progress.{IsLine}

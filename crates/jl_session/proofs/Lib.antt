@@ -1,0 +1,7 @@
+pub mod JsonLaws
+pub mod LackLaws
+pub mod HexLaws
+pub mod ScanLaws
+pub mod FloatLaws
+pub mod GrowLaws
+pub mod Rows

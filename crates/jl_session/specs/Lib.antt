@@ -1,0 +1,4 @@
+pub mod Jsons
+pub mod Scans
+pub mod Sketches
+pub mod Sessions
