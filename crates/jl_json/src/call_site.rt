@@ -43,7 +43,7 @@ fn kind_at(value: &Value, key: &str) -> Option<CallSiteKind>
 }
 
 /// Whether the text is a method descriptor (JVMS SE 17 §4.3.3).
-fn is_method_descriptor(text: &[u8]) -> bool
+pub fn is_method_descriptor(text: &[u8]) -> bool
     ensures { result ≡ is_method_descriptor text.now }
 {
     method_slots(text).is_some()

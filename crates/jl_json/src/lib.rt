@@ -27,7 +27,7 @@ mod sketch;
 mod target;
 
 pub use call_answer::answer_value;
-pub use call_site::types_are_descriptors;
+pub use call_site::{is_method_descriptor, types_are_descriptors};
 pub use class_answer::append_class;
 pub use command::{
     AskedEvent, ClassSource, Command, each_command_is_read, no_other_keys, read_command,

@@ -1,0 +1,241 @@
+//! Scripts, step by step.
+
+use crate::steps::{MOST, Numbers, Step, answer};
+use Step::*;
+use jl_host::{Linker, NULL, Seat};
+use std::alloc::Global;
+use std::process::Abort;
+
+/// A step, and the numbers that it is to come to.
+type StepRow = (Step, &'static [u32]);
+
+/// java/lang/Object, without methods.
+const OBJECT: &[u8] =
+    b"\xca\xfe\xba\xbe\x00\x00\x00\x3d\x00\x03\x01\x00\x10java/lang/Object\x07\x00\x01\x00\x21\x00\x02\x00\x00\x00\x00\x00\x00\x00\x00\x00\x00";
+
+/// A, below java/lang/Object, with a public f of the type ()V.
+const A: &[u8] =
+    b"\xca\xfe\xba\xbe\x00\x00\x00\x3d\x00\x08\x01\x00\x01A\x07\x00\x01\x01\x00\x10java/lang/Object\x07\x00\x03\x01\x00\x01f\x01\x00\x03()V\x01\x00\x04Code\x00\x21\x00\x02\x00\x04\x00\x00\x00\x00\x00\x01\x00\x01\x00\x05\x00\x06\x00\x01\x00\x07\x00\x00\x00\x0d\x00\x00\x00\x00\x00\x00\x00\x01\xb1\x00\x00\x00\x00\x00\x00";
+
+/// Whether the step comes to the numbers of the row, and zeros behind them.
+fn is_so(alloc: Global, linker: &mut Linker, seat: &mut Seat, row: &StepRow) -> bool {
+    let mut wanted: Numbers = [0; MOST];
+    for (place, number) in wanted.iter_mut().enumerate() {
+        if let Some(given) = row.1.get(place) {
+            *number = *given;
+        }
+    }
+    answer(alloc, linker, seat, &row.0) == wanted
+}
+
+/// Asserts each row, on a linker and a seat that were made just now.
+fn assert_rows(rt: &(impl Abort + AllocGlobal), rows: &[StepRow]) {
+    let mut linker = Linker::blank();
+    let mut seat = Seat::blank();
+    assert_each(rt, &mut linker, &mut seat, rows);
+}
+
+/// Asserts each row.
+fn assert_each(
+    rt: &(impl Abort + AllocGlobal),
+    linker: &mut Linker,
+    seat: &mut Seat,
+    rows: &[StepRow],
+) {
+    for row in rows {
+        assert!(rt; is_so(rt.alloc(), linker, seat, row), "{row:?}");
+    }
+}
+
+/// A with B below it, M that calls A.f, and C that overrides f.
+const OVERRIDING: &[StepRow] = &[
+    (Call(0, NULL), &[34, 9, 9, 9]),
+    (Open(0), &[33]),
+    (Open(65_537), &[33]),
+    (Open(65_536), &[0]),
+    (Open(1), &[35]),
+    (Dropped(4), &[0, 0, 9, 9, 9, 9]),
+    (Define(0, A), &[1, 0, 4]),
+    (Define(0, OBJECT), &[0, 0]),
+    (Define(0, A), &[0, 1]),
+    (Define(0, A), &[1, 0, 2]),
+    (Define(1, A), &[1, 0, 1]),
+    (
+        Says(
+            r#"{"do":"define","loader":0,"sketch":{"name":"B","super":"A","flags":33}}"#,
+            r#"{"class":2,"dropped":[]}"#,
+        ),
+        &[0, 0, 1],
+    ),
+    (
+        Says(
+            r#"{"do":"define","loader":0,"sketch":{"name":"M","super":"java/lang/Object","flags":33,"methods":[{"name":"run","type":"()V","flags":9,"calls":[{"kind":"invokevirtual","of":"A","name":"f","type":"()V"}]}]}}"#,
+            r#"{"class":3,"dropped":[]}"#,
+        ),
+        &[0, 0, 1],
+    ),
+    (TakeShort, &[36, 1, 9]),
+    (Request(3, 0, 0), &[0, 0]),
+    (Request(3, 0, 1), &[3]),
+    (Request(9, 0, 0), &[2]),
+    (Request(3, 65_536, 0), &[33]),
+    (LinkOf(0), &[0, 0, 0, 9, 9, 9, 9]),
+    (Refresh, &[0]),
+    (SeatCall(0, 1), &[0, 4]),
+    (Install(&[0]), &[0]),
+    (LinkOf(0), &[0, 3, 1, 0, 0, 1, 0]),
+    (SeatCall(0, 1), &[0, 4]),
+    (Refresh, &[0]),
+    (SeatCall(0, 1), &[0, 0, 1, 0]),
+    (SeatCall(0, NULL), &[0, 1, 0, 5]),
+    (SeatCall(0, 4), &[0, 4]),
+    (SeatCall(65_535, 1), &[0, 4]),
+    (SeatCall(70_000, 1), &[0, 4]),
+    (Call(0, 4), &[0, 2]),
+    (
+        Says(
+            r#"{"do":"define","loader":0,"sketch":{"name":"C","super":"A","flags":33,"methods":[{"name":"f","type":"()V","flags":1}]}}"#,
+            r#"{"class":4,"dropped":[0]}"#,
+        ),
+        &[0, 0, 1],
+    ),
+    (Dropped(0), &[36, 1, 9, 9, 9, 9]),
+    (Dropped(1), &[0, 1, 0, 9, 9, 9]),
+    (Dropped(3), &[0, 1, 0, 9, 9, 9]),
+    (Call(0, 4), &[0, 0, 4, 0]),
+    (SeatCall(0, 4), &[0, 4]),
+    (Refresh, &[0]),
+    (SeatCall(0, 4), &[0, 4]),
+    (SeatCall(0, 1), &[0, 4]),
+    (Install(&[0]), &[0]),
+    (LinkOf(0), &[0, 4, 3, 4, 0, 4, 0]),
+    (Refresh, &[0]),
+    (SeatCall(0, 4), &[0, 0, 4, 0]),
+    (SeatCall(0, 2), &[0, 0, 1, 0]),
+    (Install(&[]), &[14]),
+    (Install(&[0, 0]), &[13]),
+    (Install(&[0, 7]), &[12, 0, 0, 7]),
+    (Says("links", r#"{"error":"BadCommand"}"#), &[0, 0, 1]),
+    (Leave, &[0]),
+    (SeatCall(0, 4), &[34, 9, 9, 9]),
+    (Refresh, &[0]),
+    (Close, &[0]),
+    (Refresh, &[34]),
+    (SeatCall(0, 4), &[0, 0, 4, 0]),
+    (NewLoader, &[34]),
+    (LinkOf(0), &[34, 9, 1, 9, 9, 9, 9]),
+    (Dropped(1), &[34, 9, 9, 9, 9, 9]),
+    (Open(2), &[0]),
+    (Refresh, &[0]),
+    (SeatCall(0, 4), &[0, 4]),
+];
+
+#[test]
+fn overriding(rt: HostRuntime) {
+    assert_rows(&rt, OVERRIDING);
+}
+
+/// T with static m and n, and r with an invokedynamic; one that names a class that isn't there; and loaders.
+const CALL_SITES: &[StepRow] = &[
+    (Open(2), &[0]),
+    (Define(0, OBJECT), &[0, 0]),
+    (
+        Says(
+            r#"{"do":"define","loader":0,"sketch":{"name":"T","super":"java/lang/Object","flags":33,"methods":[{"name":"m","type":"()V","flags":9},{"name":"n","type":"()V","flags":9},{"name":"r","type":"()V","flags":9,"calls":[{"kind":"invokedynamic","name":"d","type":"()V"},{"kind":"invokestatic","of":"Z","name":"z","type":"()V"}]}]}}"#,
+            r#"{"class":1,"dropped":[]}"#,
+        ),
+        &[0, 0, 1],
+    ),
+    (Request(1, 2, 0), &[0, 0]),
+    (Request(1, 2, 5), &[0, 1]),
+    (Call(0, NULL), &[0, 3, 0, 4]),
+    (Call(1, NULL), &[0, 3, 0, 1]),
+    (Call(2, NULL), &[0, 3, 0, 6]),
+    (Install(&[1]), &[11, 0, 0, 1]),
+    (NewCallSite(2, "()V", r#"{"method":[1,0]}"#), &[0, 0]),
+    (NewCallSite(0, "()V", r#"{"method":[1,0]}"#), &[33]),
+    (NewCallSite(4, "()V", r#"{"method":[1,0]}"#), &[33]),
+    (NewCallSite(1, "V", r#"{"method":[1,0]}"#), &[33]),
+    (NewCallSite(1, "()V", r#"{"method":[1]}"#), &[33]),
+    (NewCallSite(1, "()V", r#"{"method":[1,9]}"#), &[6, 0, 4]),
+    (NewCallSite(1, "()V", r#"{"method":[1,1]}"#), &[0, 1]),
+    (SetTarget(1, r#"{"method":[1,0]}"#), &[6, 0, 2]),
+    (SetTarget(5, r#"{"method":[1,0]}"#), &[6, 0, 1]),
+    (SetTarget(0, "m"), &[33]),
+    (Bind(1, 0), &[7]),
+    (Bind(0, 0), &[0]),
+    (Bind(0, 1), &[8, 0, 0, 0]),
+    (Install(&[0]), &[0]),
+    (LinkOf(0), &[0, 2, 1, 0, 0, 1, 0]),
+    (Refresh, &[0]),
+    (SeatCall(0, 77), &[0, 0, 1, 0]),
+    (SetTarget(0, r#"{"method":[1,1]}"#), &[0]),
+    (Dropped(1), &[0, 1, 0, 9, 9, 9]),
+    (SeatCall(0, 77), &[0, 0, 1, 0]),
+    (Refresh, &[0]),
+    (SeatCall(0, 77), &[0, 4]),
+    (NewSwitch, &[0, 0]),
+    (NewSwitch, &[0, 1]),
+    (
+        SetTarget(
+            0,
+            r#"{"guard":0,"target":{"method":[1,0]},"fallback":{"method":[1,1]}}"#,
+        ),
+        &[0],
+    ),
+    (Install(&[0]), &[0]),
+    (Invalidate(&[1]), &[0]),
+    (Dropped(1), &[0, 0, 9, 9, 9, 9]),
+    (Invalidate(&[2]), &[6, 0, 6]),
+    (Invalidate(&[0, 1]), &[0]),
+    (Dropped(1), &[0, 1, 0, 9, 9, 9]),
+    (Call(0, NULL), &[0, 0, 1, 1]),
+    (NewLoader, &[0, 1]),
+    (Delegate(1, "java/lang/Object", 0), &[0]),
+    (Delegate(1, "java/lang/Object", 0), &[16, 0, 3]),
+    (Delegate(1, "Q", 0), &[16, 0, 2]),
+    (Delegate(2, "T", 0), &[16, 0, 1]),
+];
+
+#[test]
+fn call_sites(rt: HostRuntime) {
+    assert_rows(&rt, CALL_SITES);
+}
+
+/// Bytes that are no class file.
+const FILES: &[StepRow] = &[
+    (Open(1), &[0]),
+    (Define(0, b""), &[32, 0, 4]),
+    (Define(0, b"\xca\xfe\xba\xbf"), &[32, 0, 2]),
+    (
+        Define(0, b"\xca\xfe\xba\xbe\x00\x00\x00\x3e\x00\x01"),
+        &[32, 0, 3],
+    ),
+    (
+        Define(0, b"\xca\xfe\xba\xbe\x00\x00\x00\x3d"),
+        &[32, 0, 5, 0, 1],
+    ),
+    (
+        Define(0, b"\xca\xfe\xba\xbe\x00\x00\x00\x3d\x00\x02\x02"),
+        &[32, 0, 5, 1, 2],
+    ),
+    (
+        Define(
+            0,
+            b"\xca\xfe\xba\xbe\x00\x00\x00\x3d\x00\x02\x01\x00\x01\x00",
+        ),
+        &[32, 0, 5, 1, 4],
+    ),
+    (
+        Says(
+            r#"{"do":"define","loader":0,"hex":"cafebabe0000003e0001"}"#,
+            r#"{"refused":"BadVersion"}"#,
+        ),
+        &[0, 0, 1],
+    ),
+];
+
+#[test]
+fn files(rt: HostRuntime) {
+    assert_rows(&rt, FILES);
+}

@@ -1,0 +1,206 @@
+//! Steps on a linker and a seat, each with numbers for an answer.
+
+use jl_host::{CallAnswer, LinkShown, Linker, Row, Seat, Told};
+use std::alloc::Global;
+
+/// The most numbers of an answer.
+pub const MOST: usize = 8;
+
+/// What a step comes to: the status, and what was written; what nothing was written to is 9.
+pub type Numbers = [u32; MOST];
+
+/// A call on a linker or a seat.
+#[derive(Clone, Copy, Debug)]
+pub enum Step {
+    Open(u32),
+    Close,
+    NewLoader,
+    Define(u32, &'static [u8]),
+    Delegate(u32, &'static str, u32),
+    Request(u32, u32, u32),
+    NewCallSite(u32, &'static str, &'static str),
+    SetTarget(u32, &'static str),
+    NewSwitch,
+    Invalidate(&'static [u32]),
+    Bind(u32, u32),
+    Install(&'static [u32]),
+    /// The sites that went, copied to an array of so many.
+    Dropped(usize),
+    Call(u32, u32),
+    LinkOf(u32),
+    /// A line, and the text that it is to be answered.
+    Says(&'static str, &'static str),
+    /// The last answer, copied to an array that is too short for it.
+    TakeShort,
+    Refresh,
+    SeatCall(u32, u32),
+    Leave,
+}
+
+/// These numbers, and 0 behind them.
+fn numbers(first: &[u32]) -> Numbers {
+    let mut all = [0; MOST];
+    for (place, number) in all.iter_mut().enumerate() {
+        if let Some(given) = first.get(place) {
+            *number = *given;
+        }
+    }
+    all
+}
+
+/// What was told before anything is.
+fn untold() -> Told {
+    Told {
+        number: 9,
+        fault: 9,
+        place: 9,
+        cause: 9,
+        at: 9,
+    }
+}
+
+/// An event's status and what is told of it.
+fn told_numbers(status: u32, told: &Told) -> Numbers {
+    numbers(&[
+        status,
+        told.number,
+        told.fault,
+        told.place,
+        told.cause,
+        told.at,
+    ])
+}
+
+/// A call's status and its answer.
+fn call_numbers(status: u32, answer: &CallAnswer) -> Numbers {
+    numbers(&[status, answer.kind, answer.class_number, answer.value])
+}
+
+/// An answer before there is one.
+fn unanswered() -> CallAnswer {
+    CallAnswer {
+        kind: 9,
+        class_number: 9,
+        value: 9,
+    }
+}
+
+/// A link's status, its kind and count, and its last row that says something.
+fn link_numbers(linker: &mut Linker, site: u32) -> Numbers {
+    let row = Row {
+        receiver: 9,
+        kind: 9,
+        class_number: 9,
+        value: 9,
+    };
+    let mut link = LinkShown {
+        kind: 9,
+        count: 1,
+        rows: [row; 8],
+    };
+    let status = linker.link_of(site, &mut link);
+    let place = (link.count as usize).wrapping_sub(1);
+    let last = link.rows.get(place).copied().unwrap_or(row);
+    numbers(&[
+        status,
+        link.kind,
+        link.count,
+        last.receiver,
+        last.kind,
+        last.class_number,
+        last.value,
+    ])
+}
+
+/// The status, how many sites went, and the array's numbers.
+fn dropped_numbers(linker: &mut Linker, capacity: usize) -> Numbers {
+    let mut array = [9; 4];
+    let mut count = 9;
+    let room = capacity.min(4);
+    let status = linker.dropped(&mut array[..room], &mut count);
+    numbers(&[status, count as u32, array[0], array[1], array[2], array[3]])
+}
+
+/// The status, and 1 where the line is answered by this text, which is kept.
+fn said_numbers(alloc: Global, linker: &mut Linker, line: &str, text: &str) -> Numbers {
+    let mut count = 9;
+    let status = linker.answer(alloc, line.as_bytes(), &mut count);
+    let mut array = [0; 300];
+    let mut taken = 9;
+    let copied = linker.take(&mut array, &mut taken);
+    let is_said = taken == count && array.get(..taken) == Some(text.as_bytes());
+    numbers(&[status, copied, u32::from(is_said)])
+}
+
+/// The status of the last answer's copy to an array of one byte, whether its length is told, and that byte.
+fn short_numbers(linker: &mut Linker) -> Numbers {
+    let mut array = [9; 1];
+    let mut count = 0;
+    let status = linker.take(&mut array, &mut count);
+    numbers(&[status, u32::from(count > 1), u32::from(array[0])])
+}
+
+/// What an event comes to.
+fn event_numbers(alloc: Global, linker: &mut Linker, step: &Step) -> Numbers {
+    let mut told = untold();
+    let status = match step {
+        Step::NewLoader => linker.new_loader(alloc, &mut told),
+        Step::Define(loader, bytes) => linker.define(alloc, *loader, bytes, &mut told),
+        Step::Delegate(loader, name, to) => {
+            linker.delegate(alloc, *loader, name.as_bytes(), *to, &mut told)
+        }
+        Step::Request(class, method, pc) => {
+            linker.request(alloc, *class, *method, *pc, &mut told)
+        }
+        Step::NewSwitch => linker.new_switch(alloc, &mut told),
+        Step::Invalidate(switches) => linker.invalidate(alloc, switches, &mut told),
+        Step::Bind(site, call_site) => linker.bind(alloc, *site, *call_site, &mut told),
+        Step::Install(sites) => linker.install(alloc, sites, &mut told),
+        Step::NewCallSite(kind, ty, target) => {
+            linker.new_call_site(alloc, *kind, ty.as_bytes(), target.as_bytes(), &mut told)
+        }
+        Step::SetTarget(call_site, target) => {
+            linker.set_target(alloc, *call_site, target.as_bytes(), &mut told)
+        }
+        _ => 99,
+    };
+    told_numbers(status, &told)
+}
+
+/// What a step on the seat comes to.
+fn seat_numbers(alloc: Global, linker: &mut Linker, seat: &mut Seat, step: &Step) -> Numbers {
+    match step {
+        Step::Refresh => numbers(&[seat.refresh(alloc, linker)]),
+        Step::SeatCall(site, receiver) => {
+            let mut answer = unanswered();
+            let status = seat.call(*site, *receiver, &mut answer);
+            call_numbers(status, &answer)
+        }
+        Step::Leave => {
+            seat.leave();
+            numbers(&[])
+        }
+        _ => event_numbers(alloc, linker, step),
+    }
+}
+
+/// What the step comes to.
+pub fn answer(alloc: Global, linker: &mut Linker, seat: &mut Seat, step: &Step) -> Numbers {
+    match step {
+        Step::Open(max_sites) => numbers(&[linker.open(alloc, *max_sites)]),
+        Step::Close => {
+            linker.close();
+            numbers(&[])
+        }
+        Step::Dropped(capacity) => dropped_numbers(linker, *capacity),
+        Step::LinkOf(site) => link_numbers(linker, *site),
+        Step::Call(site, receiver) => {
+            let mut answer = unanswered();
+            let status = linker.call(*site, *receiver, &mut answer);
+            call_numbers(status, &answer)
+        }
+        Step::Says(line, text) => said_numbers(alloc, linker, line, text),
+        Step::TakeShort => short_numbers(linker),
+        _ => seat_numbers(alloc, linker, seat, step),
+    }
+}

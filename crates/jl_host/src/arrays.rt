@@ -1,0 +1,72 @@
+//! Arrays of a host.
+
+ghost use Rattle.std.specs.Prelude.{◌≡◌, ◌≤◌, ◌++◌, length, drop, IfOk};
+ghost use Rattle.jl_host.specs.Copies.{IsCopied};
+
+use crate::told::{DONE, TOO_SHORT};
+use jl_types::{SiteNo, SwitchId};
+use std::alloc::{AllocError, Global};
+
+/// The sites of these numbers. Want of memory is an error.
+pub(crate) fn sites_of(alloc: Global, numbers: &[u32]) -> Result<Vec<SiteNo>, AllocError>
+    ensures { IfOk result (λ sites. sites.items ≡ numbers.now) }
+{
+    let mut sites = Vec::with_capacity(alloc, numbers.len())?;
+    for number in numbers {
+        sites.push(SiteNo::new(*number))?;
+    }
+    Ok(sites)
+}
+
+/// The switch points of these numbers. Want of memory is an error.
+pub(crate) fn switches_of(alloc: Global, numbers: &[u32]) -> Result<Vec<SwitchId>, AllocError>
+    ensures { IfOk result (λ switches. switches.items ≡ numbers.now) }
+{
+    let mut switches = Vec::with_capacity(alloc, numbers.len())?;
+    for number in numbers {
+        switches.push(SwitchId::new(*number))?;
+    }
+    Ok(switches)
+}
+
+/// Copies the numbers of the sites to the front of the array, if they fit there, and tells how many there are.
+pub(crate) fn copy_sites(sites: &[SiteNo], out: &mut [u32], count: &mut usize) -> u32
+    ensures { IsCopied sites.now out.old result out.new count.new }
+{
+    *count = sites.len();
+    if sites.len() > out.len() {
+        return TOO_SHORT;
+    }
+    write_sites(sites, out);
+    DONE
+}
+
+/// Writes the numbers of the sites to the front of the array, where they fit.
+fn write_sites(sites: &[SiteNo], out: &mut [u32])
+    requires { length sites.now ≤ length out.old }
+    ensures { out.new ≡ sites.now ++ drop (length sites.now) out.old }
+{
+    for (place, site) in sites.iter().enumerate() {
+        out[place] = site.number();
+    }
+}
+
+/// Copies the text to the front of the array, if it fits there, and tells how long it is.
+pub(crate) fn copy_text(text: &[u8], out: &mut [u8], count: &mut usize) -> u32
+    ensures { IsCopied text.now out.old result out.new count.new }
+{
+    *count = text.len();
+    if text.len() > out.len() {
+        return TOO_SHORT;
+    }
+    write_text(text, out);
+    DONE
+}
+
+/// Writes the text to the front of the array, where it fits.
+fn write_text(text: &[u8], out: &mut [u8])
+    requires { length text.now ≤ length out.old }
+    ensures { out.new ≡ text.now ++ drop (length text.now) out.old }
+{
+    out[..text.len()].copy_from_slice(text);
+}

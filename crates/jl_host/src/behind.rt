@@ -1,0 +1,173 @@
+//! Links in shared pages, brought up to date where events have touched them.
+
+ghost use Rattle.std.specs.Prelude.{◌≡◌, ◌<◌, ◌≤◌, ◌==◌, ℕ, true, length, drop, replicate, slice_set, None, IfOk, OnOk, OnErr};
+ghost use Rattle.std.specs.List.{list_any};
+ghost use Rattle.jl_core.specs.Touched.{has};
+ghost use Rattle.jl_host.specs.Behind.{IsNow, IsBehind, installs_at, touched_by};
+
+use jl_core::{Accepted, Core, Entry};
+use jl_slots::Slots;
+use jl_types::{Link, SiteNo};
+use std::alloc::{AllocError, Global};
+use std::sync::Arc;
+
+/// How many sites there may be, in pages.
+const PAGES: usize = 256;
+
+/// The site's link or none, by the number of the site.
+pub(crate) type Links = Slots<Option<Link>>;
+
+/// No links. Want of memory is an error.
+pub(crate) fn no_links(alloc: Global) -> Result<Arc<Links>, AllocError>
+    ensures { IfOk result (λ links. links.value ≡ replicate 65536 None) }
+{
+    Ok(Arc::new(alloc, Slots::filled(alloc, None, PAGES)?)?)
+}
+
+/// Writes the link, or none, at the place.
+///
+/// # Errors
+///
+/// Want of memory. Nothing has changed then.
+fn put(links: &mut Arc<Links>, place: usize, link: Option<Link>) -> Result<(), AllocError>
+    requires { place < length links.old.value }
+    ensures ok { OnOk result (links.new.value ≡ slice_set links.old.value place link) }
+    ensures err { OnErr result (links.new.value ≡ links.old.value) }
+{
+    let slots = Arc::make_mut(links)?;
+    slots.set(place, link)
+}
+
+/// Writes the site's link as it is now.
+///
+/// # Errors
+///
+/// Want of memory. What was right is right.
+fn write_site(links: &mut Arc<Links>, core: &Core, site: SiteNo) -> Result<(), AllocError>
+    requires { length links.old.value ≡ 65536 }
+    ensures all { length links.new.value ≡ 65536 }
+    ensures kept { (s : ℕ) → IsNow core.now links.old.value s → IsNow core.now links.new.value s }
+    ensures written { OnOk result (site < 65536 → IsNow core.now links.new.value site) }
+{
+    let place = site.number() as usize;
+    if place >= 65_536 {
+        return Ok(());
+    }
+    put(links, place, core.links().get(site))
+}
+
+/// Writes the links of these sites as they are now.
+///
+/// # Errors
+///
+/// Want of memory. What was right is right.
+fn write_sites(links: &mut Arc<Links>, core: &Core, sites: &[SiteNo]) -> Result<(), AllocError>
+    requires { length links.old.value ≡ 65536 }
+    ensures all { length links.new.value ≡ 65536 }
+    ensures kept { (s : ℕ) → IsNow core.now links.old.value s → IsNow core.now links.new.value s }
+    ensures written { OnOk result ((s : ℕ) → s < 65536 → has s sites.now ≡ true → IsNow core.now links.new.value s) }
+{
+    for site in sites {
+        write_site(links, core, *site)?;
+    }
+    Ok(())
+}
+
+/// Writes the links of the sites of these rows as they are now.
+///
+/// # Errors
+///
+/// Want of memory. What was right is right.
+fn write_rows(
+    links: &mut Arc<Links>,
+    core: &Core,
+    rows: &[(SiteNo, Link)],
+) -> Result<(), AllocError>
+    requires { length links.old.value ≡ 65536 }
+    ensures all { length links.new.value ≡ 65536 }
+    ensures kept { (s : ℕ) → IsNow core.now links.old.value s → IsNow core.now links.new.value s }
+    ensures written { OnOk result ((s : ℕ) → s < 65536 → list_any (λ row. row.0 == s) rows.now ≡ true → IsNow core.now links.new.value s) }
+{
+    for row in rows {
+        write_site(links, core, row.0)?;
+    }
+    Ok(())
+}
+
+/// Writes the links of the sites that the event installs as they are now.
+///
+/// # Errors
+///
+/// Want of memory. What was right is right.
+fn write_installed(links: &mut Arc<Links>, core: &Core, event: &Accepted) -> Result<(), AllocError>
+    requires { length links.old.value ≡ 65536 }
+    ensures all { length links.new.value ≡ 65536 }
+    ensures kept { (s : ℕ) → IsNow core.now links.old.value s → IsNow core.now links.new.value s }
+    ensures written { OnOk result ((s : ℕ) → s < 65536 → installs_at s event.now ≡ true → IsNow core.now links.new.value s) }
+{
+    match event {
+        Accepted::Install(rows) => write_rows(links, core, rows.as_slice()),
+        _ => Ok(()),
+    }
+}
+
+/// Writes the links of the sites that the entry's event touched as they are now.
+///
+/// # Errors
+///
+/// Want of memory. What was right is right.
+fn write_entry(links: &mut Arc<Links>, core: &Core, entry: &Entry) -> Result<(), AllocError>
+    requires { length links.old.value ≡ 65536 }
+    ensures all { length links.new.value ≡ 65536 }
+    ensures kept { (s : ℕ) → IsNow core.now links.old.value s → IsNow core.now links.new.value s }
+    ensures written { OnOk result ((s : ℕ) → s < 65536 → touched_by s entry.now ≡ true → IsNow core.now links.new.value s) }
+{
+    write_sites(links, core, entry.reply.dropped.as_slice())?;
+    write_installed(links, core, &entry.event)
+}
+
+/// Writes the links of the sites that these entries' events touched as they are now.
+///
+/// # Errors
+///
+/// Want of memory. What was right is right.
+fn write_entries(links: &mut Arc<Links>, core: &Core, entries: &[Entry]) -> Result<(), AllocError>
+    requires { length links.old.value ≡ 65536 }
+    ensures all { length links.new.value ≡ 65536 }
+    ensures kept { (s : ℕ) → IsNow core.now links.old.value s → IsNow core.now links.new.value s }
+    ensures written { OnOk result ((s : ℕ) → s < 65536 → list_any (touched_by s) entries.now ≡ true → IsNow core.now links.new.value s) }
+{
+    for entry in entries {
+        write_entry(links, core, entry)?;
+    }
+    Ok(())
+}
+
+/// Brings the links up to date, which were so up to the `reached`-th event, and tells how many events there are.
+///
+/// # Errors
+///
+/// Want of memory. The links are behind the core as before.
+pub(crate) fn follow(
+    links: &mut Arc<Links>,
+    core: &Core,
+    reached: usize,
+) -> Result<usize, AllocError>
+    requires { IsBehind links.old.value reached core.now }
+    ensures still { IsBehind links.new.value reached core.now }
+    ensures done { IfOk result (λ n. n ≡ length core.now.log) }
+    ensures now { OnOk result ((s : ℕ) → s < 65536 → IsNow core.now links.new.value s) }
+{
+    let log = core.log();
+    let count = log.len();
+    write_entries(links, core, entries_from(log, reached))?;
+    Ok(count)
+}
+
+/// The entries from the place on.
+fn entries_from(log: &[Entry], place: usize) -> &[Entry]
+    requires { place ≤ length log.now }
+    ensures { result.now ≡ drop place log.now }
+{
+    &log[place..]
+}

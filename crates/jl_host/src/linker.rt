@@ -1,0 +1,313 @@
+//! The linker.
+
+ghost use Rattle.std.specs.Prelude.{◌≡◌, Some, None, option_map, IfOk, OnErr};
+ghost use Rattle.jl_host.specs.Seats.{seen_of};
+ghost use Rattle.jl_host.specs.Linkers.{IsOpen, IsNewLoader, IsDefine, IsDelegate, IsRequest, IsNewCallSite, IsSetTarget, IsNewSwitch, IsInvalidate};
+ghost use Rattle.jl_host.specs.Linkers.{IsBind, IsInstall, IsDropped, IsTake, IsCall, IsLinkOf, IsAnswer, kind_of, IfOpen, IsAsked, Opened as OpenedValue};
+
+use crate::arrays::{copy_sites, copy_text, sites_of, switches_of};
+use crate::opened::Opened;
+use crate::seen::Seen;
+use crate::shown::{CallAnswer, LinkShown, answer_shown, link_shown, recv_of};
+use crate::told::{CLOSED, DONE, MALFORMED, MEMORY, OPEN_ALREADY, Told, unasked};
+use jl_names::{Name, Seq};
+use jl_session::read_target;
+use jl_types::{CallSiteId, CallSiteKind, ClassId, Event, LoaderId, Place, SiteNo};
+use std::alloc::{AllocError, Global};
+use std::marker::Model;
+
+/// The most places that may be requested.
+const MOST_SITES: u32 = 65_536;
+
+/// A linker that is open, or isn't. A clause sees what stands behind it.
+pub struct Linker {
+    opened: Option<Opened>,
+}
+
+// Written out, since a derived drop is proved anew in each crate that lets one go.
+impl Drop for Linker {
+    fn drop(self) {
+        let Linker { opened: _opened } = self;
+    }
+}
+
+impl Model for Linker {
+    ghost use Rattle.std.specs.Prelude.{Option};
+    ghost use Rattle.std.specs.Coded.{codes};
+    ghost use Rattle.jl_types.specs.Means.TargetCode.{target_code};
+    ghost use Rattle.jl_host.specs.Linkers.{Opened};
+
+    ghost Value = { Option Opened };
+
+    ghost coded = { Prim.hlevel (codes, target_code) };
+
+    ghost view = { λ l. l.opened };
+}
+
+impl Linker {
+    /// One that isn't open.
+    pub fn blank() -> Linker
+        ensures { result ≡ None }
+    {
+        Linker { opened: None }
+    }
+
+    /// Opens it, without classes; so many places may be requested, 1 to 65,536. The status tells whether it was open already, no such
+    /// number may be, or memory lacks.
+    pub fn open(&mut self, alloc: Global, max_sites: u32) -> u32
+        ensures { IsOpen max_sites self.old result self.new }
+    {
+        if self.opened.is_some() {
+            return OPEN_ALREADY;
+        }
+        if max_sites == 0 || max_sites > MOST_SITES {
+            return MALFORMED;
+        }
+        match Opened::new(alloc, max_sites) {
+            Ok(opened) => {
+                self.opened = Some(opened);
+                DONE
+            }
+            Err(_) => MEMORY,
+        }
+    }
+
+    /// Lets all go that it has.
+    pub fn close(&mut self)
+        ensures { self.new ≡ None }
+    {
+        self.opened = None;
+    }
+
+    /// One loader more.
+    pub fn new_loader(&mut self, alloc: Global, told: &mut Told) -> u32
+        ensures { IsNewLoader self.old result told.new self.new }
+    {
+        self.ask(alloc, Event::NewLoader, told)
+    }
+
+    /// The loader defines the class that the bytes are (JVMS SE 17 §4, §5.3.5).
+    pub fn define(&mut self, alloc: Global, loader: u32, bytes: &[u8], told: &mut Told) -> u32
+        ensures { IsDefine loader bytes.now self.old result told.new self.new }
+    {
+        match &mut self.opened {
+            Some(opened) => opened.define(alloc, LoaderId::new(loader), bytes, told),
+            None => unasked(CLOSED, told),
+        }
+    }
+
+    /// The loader finds under the name the class that the loader `to` finds (§5.3).
+    pub fn delegate(
+        &mut self,
+        alloc: Global,
+        loader: u32,
+        name: &[u8],
+        to: u32,
+        told: &mut Told,
+    ) -> u32
+        ensures { IsDelegate loader name.now to self.old result told.new self.new }
+    {
+        let Some(opened) = &mut self.opened else {
+            return unasked(CLOSED, told);
+        };
+        let Ok(name) = Name::copied(alloc, name) else {
+            return unasked(MEMORY, told);
+        };
+        let event = Event::Delegate(LoaderId::new(loader), name, LoaderId::new(to));
+        opened.ask(alloc, event, told)
+    }
+
+    /// The invocation at the pc of a method is to be linked: the method's place is that among those that the class declares.
+    pub fn request(
+        &mut self,
+        alloc: Global,
+        class: u32,
+        method: u32,
+        pc: u32,
+        told: &mut Told,
+    ) -> u32
+        ensures { IsRequest class method pc self.old result told.new self.new }
+    {
+        let Some(opened) = &mut self.opened else {
+            return unasked(CLOSED, told);
+        };
+        let Ok(method) = u16::try_from(method) else {
+            return unasked(MALFORMED, told);
+        };
+        let class = ClassId::new(class);
+        opened.ask(alloc, Event::Request(Place { class, method, pc }), told)
+    }
+
+    /// One call site more: of this kind (1: constant, 2: mutable, 3: volatile), of this type, a method descriptor (§4.3.3), and with
+    /// this first target, as JSON.
+    pub fn new_call_site(
+        &mut self,
+        alloc: Global,
+        kind: u32,
+        ty: &[u8],
+        target: &[u8],
+        told: &mut Told,
+    ) -> u32
+        ensures { IsNewCallSite kind ty.now target.now self.old result told.new self.new }
+    {
+        let Some(opened) = &mut self.opened else {
+            return unasked(CLOSED, told);
+        };
+        let Ok(target) = read_target(alloc, target) else {
+            return unasked(MEMORY, told);
+        };
+        opened.new_call_site(alloc, kind_of(kind), ty, target, told)
+    }
+
+    /// The call site gets another target, as JSON.
+    pub fn set_target(
+        &mut self,
+        alloc: Global,
+        call_site: u32,
+        target: &[u8],
+        told: &mut Told,
+    ) -> u32
+        ensures { IsSetTarget call_site target.now self.old result told.new self.new }
+    {
+        let Some(opened) = &mut self.opened else {
+            return unasked(CLOSED, told);
+        };
+        let Ok(target) = read_target(alloc, target) else {
+            return unasked(MEMORY, told);
+        };
+        let Some(target) = target else {
+            return unasked(MALFORMED, told);
+        };
+        let event = Event::SetTarget(CallSiteId::new(call_site), target);
+        opened.ask(alloc, event, told)
+    }
+
+    /// One switch point more, valid.
+    pub fn new_switch(&mut self, alloc: Global, told: &mut Told) -> u32
+        ensures { IsNewSwitch self.old result told.new self.new }
+    {
+        self.ask(alloc, Event::NewSwitch, told)
+    }
+
+    /// The switch points become invalid for good.
+    pub fn invalidate(&mut self, alloc: Global, switches: &[u32], told: &mut Told) -> u32
+        ensures { IsInvalidate switches.now self.old result told.new self.new }
+    {
+        let Some(opened) = &mut self.opened else {
+            return unasked(CLOSED, told);
+        };
+        let Ok(switches) = switches_of(alloc, switches) else {
+            return unasked(MEMORY, told);
+        };
+        opened.ask(alloc, Event::Invalidate(Seq::of(switches)), told)
+    }
+
+    /// The invokedynamic's bootstrap method gave this call site (§6.5).
+    pub fn bind(&mut self, alloc: Global, site: u32, call_site: u32, told: &mut Told) -> u32
+        ensures { IsBind site call_site self.old result told.new self.new }
+    {
+        let event = Event::Bind(SiteNo::new(site), CallSiteId::new(call_site));
+        self.ask(alloc, event, told)
+    }
+
+    /// The sites are linked from scratch, 1 to 256 of them, and their links installed: all or none.
+    pub fn install(&mut self, alloc: Global, sites: &[u32], told: &mut Told) -> u32
+        ensures { IsInstall sites.now self.old result told.new self.new }
+    {
+        let Some(opened) = &mut self.opened else {
+            return unasked(CLOSED, told);
+        };
+        let Ok(sites) = sites_of(alloc, sites) else {
+            return unasked(MEMORY, told);
+        };
+        opened.install(alloc, sites.as_slice(), told)
+    }
+
+    /// Copies the sites, rising, whose links the last accepted event removed, and tells how many they are. Takes no memory.
+    pub fn dropped(&mut self, out: &mut [u32], count: &mut usize) -> u32
+        ensures { IsDropped self.old out.old count.old result out.new count.new self.new }
+    {
+        match &self.opened {
+            Some(opened) => copy_sites(opened.last_dropped(), out, count),
+            None => CLOSED,
+        }
+    }
+
+    /// What a call comes to now, linked or not. Takes no memory.
+    pub fn call(&mut self, site: u32, receiver: u32, answer: &mut CallAnswer) -> u32
+        ensures { IsCall site receiver self.old answer.old result answer.new self.new }
+    {
+        let Some(opened) = &self.opened else {
+            return CLOSED;
+        };
+        let found = opened.core().call(SiteNo::new(site), recv_of(receiver));
+        *answer = answer_shown(found);
+        DONE
+    }
+
+    /// The link that is installed at the site. Takes no memory.
+    pub fn link_of(&mut self, site: u32, link: &mut LinkShown) -> u32
+        ensures { IsLinkOf site self.old link.old result link.new self.new }
+    {
+        let Some(opened) = &self.opened else {
+            return CLOSED;
+        };
+        *link = link_shown(opened.core().links().get(SiteNo::new(site)));
+        DONE
+    }
+
+    /// Answers any command of a session, as text. The answer is kept, and its length told.
+    pub fn answer(&mut self, alloc: Global, line: &[u8], count: &mut usize) -> u32
+        ensures { IsAnswer line.now self.old count.old result count.new self.new }
+    {
+        match &mut self.opened {
+            Some(opened) => opened.answer(alloc, line, count),
+            None => CLOSED,
+        }
+    }
+
+    /// Copies the text of the last answer, and tells its length. Takes no memory.
+    pub fn take(&mut self, out: &mut [u8], count: &mut usize) -> u32
+        ensures { IsTake self.old out.old count.old result out.new count.new self.new }
+    {
+        match &self.opened {
+            Some(opened) => copy_text(opened.said(), out, count),
+            None => CLOSED,
+        }
+    }
+
+    /// Its links as they are now, and how many classes there are, where it is open. Want of memory is an error.
+    pub(crate) fn seen(&mut self, alloc: Global) -> Result<Option<Seen>, AllocError>
+        ensures same { self.new ≡ self.old }
+        ensures seen { IfOk result (λ seen. seen ≡ option_map (λ opened. seen_of opened.session.core) self.old) }
+        ensures open { OnErr result ((opened : OpenedValue) × (self.old ≡ Some opened)) }
+    {
+        let Some(opened) = &mut self.opened else {
+            return Ok(None);
+        };
+        let seen = opened.seen(alloc)?;
+        Ok(Some(seen))
+    }
+
+    /// Asks for the event, where it is open.
+    fn ask(&mut self, alloc: Global, event: Event, told: &mut Told) -> u32
+        ensures { IfOpen (IsAsked event) self.old result told.new self.new }
+    {
+        match &mut self.opened {
+            Some(opened) => opened.ask(alloc, event, told),
+            None => unasked(CLOSED, told),
+        }
+    }
+}
+
+/// The kind of call site of this number.
+fn kind_of(number: u32) -> Option<CallSiteKind>
+    ensures { result ≡ kind_of number }
+{
+    match number {
+        1 => Some(CallSiteKind::Constant),
+        2 => Some(CallSiteKind::Mutable),
+        3 => Some(CallSiteKind::Volatile),
+        _ => None,
+    }
+}

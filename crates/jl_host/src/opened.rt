@@ -1,0 +1,181 @@
+//! What stands behind a linker that is open.
+
+ghost use Rattle.std.specs.Prelude.{◌≡◌, ◌≤◌, ◌⊎◌, IfOk};
+ghost use Rattle.jl_host.specs.Numbers.{memory};
+ghost use Rattle.jl_host.specs.Linkers.{newly_opened, IsAsked, IsAskedIf, IsUnasked, call_site_of, IsDefined, IsInstalled, IsAnswered, last_dropped};
+ghost use Rattle.jl_host.specs.Seats.{seen_of};
+
+use crate::behind::{Links, follow, no_links};
+use crate::seen::Seen;
+use crate::told::{DONE, MALFORMED, MEMORY, Told, tell, tell_file, tell_unprepared, unasked};
+use jl_classfile::read_class;
+use jl_core::Core;
+use jl_json::is_method_descriptor;
+use jl_names::Name;
+use jl_session::Session;
+use jl_types::{CallSiteKind, Event, LoaderId, SiteNo, Target};
+use std::alloc::{AllocError, Global};
+use std::marker::Model;
+use std::sync::Arc;
+
+/// A session, the text of its last answer, and its links in pages that seats share, which are brought up to date when a seat asks. A
+/// clause sees the session and the text.
+pub(crate) struct Opened {
+    session: Session,
+    said: Vec<u8>,
+    /// The links but for the sites that were touched by the events from the `reached`-th on.
+    links: Arc<Links>,
+    reached: usize,
+}
+
+// Written out, since a derived drop is proved anew in each crate that lets one go.
+impl Drop for Opened {
+    fn drop(self) {
+        let Opened {
+            session: _session,
+            said: _said,
+            links: _links,
+            reached: _reached,
+        } = self;
+    }
+}
+
+impl Model for Opened {
+    ghost use Rattle.std.specs.Coded.{codes};
+    ghost use Rattle.jl_types.specs.Means.TargetCode.{target_code};
+    ghost use Rattle.jl_host.specs.Linkers.{Opened};
+    ghost use Rattle.jl_host.specs.Behind.{IsBehind};
+
+    ghost Value = { Opened };
+
+    ghost coded = { Prim.hlevel (codes, target_code) };
+
+    ghost view = { λ o. record { session = o.session; said = o.said.items } };
+
+    ghost invariant = { λ o. IsBehind o.links.value o.reached o.session.core };
+}
+
+impl Opened {
+    /// One without classes. Want of memory is an error.
+    pub(crate) fn new(alloc: Global, max_sites: u32) -> Result<Opened, AllocError>
+        requires some { 1 ≤ max_sites }
+        requires most { max_sites ≤ 65536 }
+        ensures { IfOk result (λ opened. opened ≡ newly_opened max_sites) }
+    {
+        Ok(Opened {
+            session: Session::with_sites(alloc, max_sites)?,
+            said: Vec::new(alloc),
+            links: no_links(alloc)?,
+            reached: 0,
+        })
+    }
+
+    /// The core.
+    pub(crate) fn core(&self) -> &Core
+        ensures { result.now ≡ self.now.session.core }
+    {
+        self.session.core()
+    }
+
+    /// The text of the last answer.
+    pub(crate) fn said(&self) -> &[u8]
+        ensures { result.now ≡ self.now.said }
+    {
+        self.said.as_slice()
+    }
+
+    /// Asks the core for the event.
+    pub(crate) fn ask(&mut self, alloc: Global, event: Event, told: &mut Told) -> u32
+        ensures { IsAsked event self.old result told.new self.new }
+    {
+        let outcome = self.session.submit(alloc, event);
+        tell(outcome, told)
+    }
+
+    /// Asks for the definition of the class that the bytes are.
+    pub(crate) fn define(
+        &mut self,
+        alloc: Global,
+        loader: LoaderId,
+        bytes: &[u8],
+        told: &mut Told,
+    ) -> u32
+        ensures { IsDefined loader bytes.now self.old result told.new self.new }
+    {
+        match read_class(alloc, bytes) {
+            Ok(file) => self.ask(alloc, Event::Define(loader, file), told),
+            Err(fault) => tell_file(fault, told),
+        }
+    }
+
+    /// Asks for a call site of this kind, with this type and this target, if these are all that.
+    pub(crate) fn new_call_site(
+        &mut self,
+        alloc: Global,
+        kind: Option<CallSiteKind>,
+        ty: &[u8],
+        target: Option<Target>,
+        told: &mut Told,
+    ) -> u32
+        ensures { IsAskedIf (call_site_of kind ty.now target) self.old result told.new self.new ⊎ IsUnasked memory self.old result told.new self.new }
+    {
+        let Some(kind) = kind else {
+            return unasked(MALFORMED, told);
+        };
+        let Some(target) = target else {
+            return unasked(MALFORMED, told);
+        };
+        if !is_method_descriptor(ty) {
+            return unasked(MALFORMED, told);
+        }
+        let Ok(ty) = Name::copied(alloc, ty) else {
+            return unasked(MEMORY, told);
+        };
+        self.ask(alloc, Event::NewCallSite(kind, ty, target), told)
+    }
+
+    /// Prepares the sites in the core as it is, and asks for the install of their links.
+    pub(crate) fn install(&mut self, alloc: Global, sites: &[SiteNo], told: &mut Told) -> u32
+        ensures { IsInstalled sites.now self.old result told.new self.new }
+    {
+        match self.session.core().prepare(alloc, sites) {
+            Ok(prepared) => self.ask(alloc, Event::Install(prepared.rows), told),
+            Err(fault) => tell_unprepared(fault, told),
+        }
+    }
+
+    /// What the last accepted event dropped. Takes no memory.
+    pub(crate) fn last_dropped(&self) -> &[SiteNo]
+        ensures { result.now ≡ last_dropped self.now.session.core }
+    {
+        match self.session.core().log().last() {
+            Some(entry) => entry.reply.dropped.as_slice(),
+            None => &[],
+        }
+    }
+
+    /// Answers a command, and keeps the text of the answer.
+    pub(crate) fn answer(&mut self, alloc: Global, line: &[u8], count: &mut usize) -> u32
+        ensures { IsAnswered line.now self.old count.old result count.new self.new }
+    {
+        match self.session.answer_text(alloc, line) {
+            Ok(text) => {
+                *count = text.len();
+                self.said = text;
+                DONE
+            }
+            Err(_) => MEMORY,
+        }
+    }
+
+    /// The links as they are now, and how many classes there are. Want of memory is an error.
+    pub(crate) fn seen(&mut self, alloc: Global) -> Result<Seen, AllocError>
+        ensures same { self.new ≡ self.old }
+        ensures seen { IfOk result (λ seen. seen ≡ seen_of self.old.session.core) }
+    {
+        let reached = follow(&mut self.links, self.session.core(), self.reached)?;
+        self.reached = reached;
+        let links = Arc::try_clone(&self.links)?;
+        Ok(Seen::new(links, self.session.core().class_count()))
+    }
+}

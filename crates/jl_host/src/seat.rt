@@ -1,0 +1,75 @@
+//! One thread's place to read.
+
+ghost use Rattle.std.specs.Prelude.{◌≡◌, None};
+ghost use Rattle.jl_host.specs.Seats.{IsRefresh, IsSeatCall};
+
+use crate::linker::Linker;
+use crate::seen::Seen;
+use crate::shown::{CallAnswer, fast_shown, recv_of};
+use crate::told::{CLOSED, DONE, MEMORY};
+use jl_types::SiteNo;
+use std::alloc::Global;
+use std::marker::Model;
+
+/// Links as they were at the last refresh, or none. A clause sees what was seen.
+pub struct Seat {
+    seen: Option<Seen>,
+}
+
+// Written out, since a derived drop is proved anew in each crate that lets one go.
+impl Drop for Seat {
+    fn drop(self) {
+        let Seat { seen: _seen } = self;
+    }
+}
+
+impl Model for Seat {
+    ghost use Rattle.std.specs.Prelude.{Option};
+    ghost use Rattle.jl_host.specs.Seats.{Seen};
+
+    ghost Value = { Option Seen };
+
+    ghost view = { λ s. s.seen };
+}
+
+impl Seat {
+    /// One that has seen nothing.
+    pub fn blank() -> Seat
+        ensures { result ≡ None }
+    {
+        Seat { seen: None }
+    }
+
+    /// Gives the seat the linker's links and its count of classes as they are now. After events it costs the list of pages once, and
+    /// a page for each in which a link changed; then the next seats share what was made. Want of memory leaves what the seat has.
+    pub fn refresh(&mut self, alloc: Global, linker: &mut Linker) -> u32
+        ensures { IsRefresh self.old linker.old result self.new linker.new }
+    {
+        match linker.seen(alloc) {
+            Ok(Some(seen)) => {
+                self.seen = Some(seen);
+                DONE
+            }
+            Ok(None) => CLOSED,
+            Err(_) => MEMORY,
+        }
+    }
+
+    /// Lets go what was seen.
+    pub fn leave(&mut self)
+        ensures { self.new ≡ None }
+    {
+        self.seen = None;
+    }
+
+    /// What a call comes to by what was seen, at once. Takes no lock and no memory.
+    pub fn call(&mut self, site: u32, receiver: u32, answer: &mut CallAnswer) -> u32
+        ensures { IsSeatCall site receiver self.old answer.old result answer.new self.new }
+    {
+        let Some(seen) = &self.seen else {
+            return CLOSED;
+        };
+        *answer = fast_shown(seen.answer(SiteNo::new(site), recv_of(receiver)));
+        DONE
+    }
+}

@@ -1,0 +1,256 @@
+//! Answers and links, as numbers.
+
+ghost use Rattle.std.specs.Prelude.{◌≡◌, ◌∷◌, [], map, get_or};
+ghost use Rattle.jl_host.specs.Showing as showing;
+
+use jl_types::{
+    Answer, ClassId, Fast, Link, MethodId, Missing, Outcome, Recv, Table, TableKind, Throwable,
+    Unlinked,
+};
+
+/// The number that stands for the null reference.
+pub const NULL: u32 = 0xffff_ffff;
+
+/// The most rows that a link shows.
+pub const MOST_ROWS: usize = 8;
+
+/// What a call comes to.
+#[repr(C)]
+#[derive(Clone, Copy, Debug, PartialEq, Eq)]
+pub struct CallAnswer {
+    /// 0: a method runs; 1: something is thrown; 2: no object can be such a receiver; 3: the site can't be linked; 4: it isn't known
+    /// at once.
+    pub kind: u32,
+    /// The class of the method that runs, else 0.
+    pub class_number: u32,
+    /// The place of that method among those of its class, or the number of what is thrown, or of why the site can't be linked.
+    pub value: u32,
+}
+
+/// A row of a link: what a call comes to on an object of this class.
+#[repr(C)]
+#[derive(Clone, Copy, Debug, PartialEq, Eq)]
+pub struct Row {
+    /// The class of the receiver in a table, else 0.
+    pub receiver: u32,
+    /// 0: a method runs; 1: something is thrown.
+    pub kind: u32,
+    /// As in a [`CallAnswer`].
+    pub class_number: u32,
+    /// As in a [`CallAnswer`].
+    pub value: u32,
+}
+
+/// A link, or none.
+#[repr(C)]
+#[derive(Clone, Copy, Debug)]
+pub struct LinkShown {
+    /// 0: none; 1: each call throws; 2: each call runs a method; 3: each call on an object comes to one outcome; 4 and 5: a table of
+    /// invokevirtual and of invokeinterface; 6: megamorphic.
+    pub kind: u32,
+    /// How many rows say something. The others are 0.
+    pub count: u32,
+    pub rows: [Row; MOST_ROWS],
+}
+
+/// The receiver of this number.
+pub(crate) fn recv_of(number: u32) -> Recv
+    ensures { result ≡ showing.recv_of number }
+{
+    if number == NULL {
+        Recv::Null
+    } else {
+        Recv::Of(ClassId::new(number))
+    }
+}
+
+/// The number of what is thrown.
+fn throwable_number(throwable: Throwable) -> u32
+    ensures { result ≡ showing.throwable_number throwable }
+{
+    match throwable {
+        Throwable::NoSuchMethodError => 1,
+        Throwable::IllegalAccessError => 2,
+        Throwable::IncompatibleClassChangeError => 3,
+        Throwable::AbstractMethodError => 4,
+        Throwable::NullPointerException => 5,
+    }
+}
+
+/// The number of why a site can't be linked.
+fn unlinked_number(reason: Unlinked) -> u32
+    ensures { result ≡ showing.unlinked_number reason }
+{
+    match reason {
+        Unlinked::NotReady(Missing::Named) => 1,
+        Unlinked::NotReady(Missing::CallerHost) => 2,
+        Unlinked::NotReady(Missing::MethodHost) => 3,
+        Unlinked::Unbound => 4,
+        Unlinked::Gone => 5,
+        Unlinked::NoSite => 6,
+    }
+}
+
+/// A call that runs the method.
+fn runs(method: MethodId) -> CallAnswer
+    ensures { result ≡ showing.runs method }
+{
+    CallAnswer {
+        kind: 0,
+        class_number: method.class.number(),
+        value: u32::from(method.index),
+    }
+}
+
+/// A call that comes to something else.
+fn otherwise(kind: u32, value: u32) -> CallAnswer
+    ensures { result ≡ showing.otherwise kind value }
+{
+    CallAnswer {
+        kind,
+        class_number: 0,
+        value,
+    }
+}
+
+/// An answer to a call, as numbers.
+pub(crate) fn answer_shown(answer: Answer) -> CallAnswer
+    ensures { result ≡ showing.answer_shown answer }
+{
+    match answer {
+        Answer::Run(method) => runs(method),
+        Answer::Throws(throwable) => otherwise(1, throwable_number(throwable)),
+        Answer::BadReceiver => otherwise(2, 0),
+        Answer::Unlinked(reason) => otherwise(3, unlinked_number(reason)),
+    }
+}
+
+/// An answer at once, as numbers.
+pub(crate) fn fast_shown(fast: Fast) -> CallAnswer
+    ensures { result ≡ showing.fast_shown fast }
+{
+    match fast {
+        Fast::Now(answer) => answer_shown(answer),
+        Fast::Miss | Fast::Closed => otherwise(4, 0),
+    }
+}
+
+/// A row that says nothing.
+fn no_row() -> Row
+    ensures { result ≡ showing.no_row }
+{
+    Row {
+        receiver: 0,
+        kind: 0,
+        class_number: 0,
+        value: 0,
+    }
+}
+
+/// The row of an outcome on objects of a class.
+fn row_of(receiver: u32, outcome: Outcome) -> Row
+    ensures { result ≡ showing.row_of receiver outcome }
+{
+    match outcome {
+        Outcome::Run(method) => Row {
+            receiver,
+            kind: 0,
+            class_number: method.class.number(),
+            value: u32::from(method.index),
+        },
+        Outcome::Throws(throwable) => Row {
+            receiver,
+            kind: 1,
+            class_number: 0,
+            value: throwable_number(throwable),
+        },
+    }
+}
+
+/// A link of no row.
+fn bare(kind: u32) -> LinkShown
+    ensures { result ≡ showing.with_rows kind [] }
+{
+    LinkShown {
+        kind,
+        count: 0,
+        rows: [no_row(); MOST_ROWS],
+    }
+}
+
+/// A link of one row.
+fn single(kind: u32, outcome: Outcome) -> LinkShown
+    ensures { result ≡ showing.with_rows kind (showing.row_of 0 outcome ∷ []) }
+{
+    let mut rows = [no_row(); MOST_ROWS];
+    rows[0] = row_of(0, outcome);
+    LinkShown {
+        kind,
+        count: 1,
+        rows,
+    }
+}
+
+/// The number of a table's kind.
+fn table_kind(kind: TableKind) -> u32
+    ensures { result ≡ showing.table_kind kind }
+{
+    match kind {
+        TableKind::Virtual => 4,
+        TableKind::Interface => 5,
+    }
+}
+
+/// The row at the place of a table, if there is one.
+fn row_at(entries: &[(ClassId, Outcome)], place: usize) -> Row
+    ensures { result ≡ get_or (map (λ row. showing.row_of row.0 row.1) entries.now) place showing.no_row }
+{
+    match entries.get(place) {
+        Some(entry) => row_of(entry.0.number(), entry.1),
+        None => no_row(),
+    }
+}
+
+/// A table, row by row.
+fn table_shown(kind: TableKind, table: &Table) -> LinkShown
+    ensures { result ≡ showing.with_rows (showing.table_kind kind) (map (λ row. showing.row_of row.0 row.1) table.now) }
+{
+    let entries = table.as_slice();
+    LinkShown {
+        kind: table_kind(kind),
+        count: entries.len().min(MOST_ROWS) as u32,
+        rows: [
+            row_at(entries, 0),
+            row_at(entries, 1),
+            row_at(entries, 2),
+            row_at(entries, 3),
+            row_at(entries, 4),
+            row_at(entries, 5),
+            row_at(entries, 6),
+            row_at(entries, 7),
+        ],
+    }
+}
+
+/// A site's link or none, as numbers.
+pub(crate) fn link_shown(link: Option<Link>) -> LinkShown
+    ensures { result ≡ showing.link_shown link }
+{
+    match link {
+        None => bare(0),
+        Some(link) => shown(&link),
+    }
+}
+
+/// A link as numbers.
+fn shown(link: &Link) -> LinkShown
+    ensures { result ≡ showing.shown link.now }
+{
+    match link {
+        Link::Fault(throwable) => single(1, Outcome::Throws(*throwable)),
+        Link::Plain(method) => single(2, Outcome::Run(*method)),
+        Link::Direct(outcome) => single(3, *outcome),
+        Link::Table(kind, table) => table_shown(*kind, table),
+        Link::Mega => bare(6),
+    }
+}

@@ -1,0 +1,2 @@
+-- A means of proof.
+pub mod Pages
