@@ -8,8 +8,9 @@
  *  - a linker or a seat is passed only between its blank and the end of its block, which isn't moved or written in between;
  *  - one call at a time is made on a linker, and on a seat. Another thread may make the next call if a lock, a join or a seq_cst
  *    atomic orders the two;
- *  - texts, arrays and out places are valid for the call, also where their length is 0 (the pointer isn't null then), and an out
- *    place is no part of the linker, of the seat, of what is read, or of another out place;
+ *  - texts, arrays and out places are valid for the call, also where their length is 0 (then, too, the pointer isn't null), and an
+ *    out place is no part of the linker, of the seat, of what is read, or of another out place;
+ *  - a linker is closed, and a seat left, before its block goes; both may be done more than once;
  *  - no call is made from a signal handler, or in the forked child of a process with threads;
  *  - malloc, realloc and free come from one allocator.
  */
@@ -54,7 +55,7 @@ enum linkd_status {
     LINKD_TOO_SHORT = 36       /* the array is too short; the length that is wanted was written */
 };
 
-/* What an event made, or why it was refused; each number that says nothing is 0. */
+/* What an event made, or why it was refused; each number that says nothing is 0. It is written whatever the status is. */
 typedef struct linkd_told {
     uint32_t number; /* of the loader, class, site, call site or switch point that the event made or found */
     uint32_t fault;  /* why, more closely, by the status */
@@ -134,7 +135,7 @@ enum linkd_unlinked {
 typedef struct linkd_call_answer {
     uint32_t kind;         /* a linkd_answer_kind */
     uint32_t class_number; /* 0 but for LINKD_RUN */
-    uint32_t value;
+    uint32_t value;        /* 0 for LINKD_BAD_RECEIVER and LINKD_MISS */
 } linkd_call_answer;
 
 enum linkd_link_kind {
@@ -156,7 +157,7 @@ typedef struct linkd_row {
 
 typedef struct linkd_link {
     uint32_t kind;  /* a linkd_link_kind */
-    uint32_t count; /* how many rows say something; the others are 0 */
+    uint32_t count; /* how many rows say something: 1 of a fault, a plain and a direct link; the others are 0 */
     linkd_row rows[8];
 } linkd_link;
 
@@ -189,19 +190,21 @@ uint32_t linkd_set_target(linkd *at, uint32_t call_site, const uint8_t *target, 
 uint32_t linkd_new_switch(linkd *at, linkd_told *told);
 uint32_t linkd_invalidate(linkd *at, const uint32_t *switches, size_t count, linkd_told *told);
 uint32_t linkd_bind(linkd *at, uint32_t site, uint32_t call_site, linkd_told *told);
-/* Links the sites from scratch, 1 to 256 of them, and installs their links: all of them or none. */
+/* Links the sites from scratch, 1 to 256 of them, and installs their links: all of them or none. LINKD_NOT_READY names the first that
+ * has no link now: a linkd_call there is LINKD_UNLINKED. */
 uint32_t linkd_install(linkd *at, const uint32_t *sites, size_t count, linkd_told *told);
 
-/* The sites, rising, whose links the last accepted event removed: they are pending now. Takes no memory. */
+/* The sites, rising, whose links the last accepted event removed, whichever event that was: they are pending now. As many as may be
+ * requested are always room enough. Takes no memory. */
 uint32_t linkd_dropped(linkd *at, uint32_t *out, size_t capacity, size_t *length);
 
 /* What a call comes to now, linked or not. Takes no memory. */
 uint32_t linkd_call(linkd *at, uint32_t site, uint32_t receiver, linkd_call_answer *answer);
-/* The link that is installed at the site. Takes no memory. */
+/* The link that is installed at the site, or LINKD_NONE, also where nothing was requested. Takes no memory. */
 uint32_t linkd_link_of(linkd *at, uint32_t site, linkd_link *link);
 
-/* Any command of docs/FORMATS.md, as text. The answer is kept, and its length written; linkd_take copies it. On LINKD_MEMORY the
- * command was obeyed, or nothing has changed. */
+/* Any command of docs/FORMATS.md, as text. The answer is kept until the next one, and its length written; linkd_take copies it. On
+ * LINKD_MEMORY the command was obeyed, or nothing has changed. What the command prepare prepares is kept until the linker is closed. */
 uint32_t linkd_answer(linkd *at, const uint8_t *line, size_t line_length, size_t *length);
 uint32_t linkd_take(linkd *at, uint8_t *out, size_t capacity, size_t *length);
 
@@ -212,10 +215,11 @@ size_t linkd_seat_align(void);
 void linkd_seat_blank(linkd_seat *at);
 /* Gives the seat the linker's links and count of classes as they are now. Counts as a call on the seat and on the linker. */
 uint32_t linkd_seat_refresh(linkd_seat *at, linkd *from);
-/* What a call comes to by the links of the last refresh, at once. Takes no lock and no memory, and counts as a call on the seat
+/* What a call comes to by the links of the last refresh, at once: of null, and of each object that may stand there. LINKD_MISS where
+ * the site had no link or a megamorphic one, or the receiver's class is newer. Takes no lock and no memory, and counts as a call on the seat
  * alone, which may outlive the linker. */
 uint32_t linkd_seat_call(linkd_seat *at, uint32_t site, uint32_t receiver, linkd_call_answer *answer);
-/* Lets the seat's links go. */
+/* Lets the seat's links go: it is as if it was never refreshed. Counts as a call on the seat alone. */
 void linkd_seat_leave(linkd_seat *at);
 
 #ifdef __cplusplus

@@ -1,0 +1,360 @@
+//! The C interface: `include/linkd.h` declares these functions, and says what a caller owes.
+//!
+//! A C program gives a block of `linkd_size()` bytes at a multiple of `linkd_align()`; it makes it a linker by `linkd_blank`, opens
+//! it, calls it, closes it, and has its block for itself again. A seat is one thread's place to read: by a refresh it takes the
+//! linker's links as they are, and then reads them while other threads use the linker. Each function is one call of jl_host, and says
+//! of what lies behind the handle what that call says of its value; `specs/Handle` says what lies there.
+#![tactic(auto)]
+
+ghost use Rattle.std.specs.Prelude.{◌≡◌, Option, None};
+ghost use types.Logic.{sem};
+ghost use Rattle.jl_host.specs.Linkers.{Opened, IsOpen, IsNewLoader, IsDefine, IsDelegate, IsRequest, IsNewCallSite, IsSetTarget, IsNewSwitch};
+ghost use Rattle.jl_host.specs.Linkers.{IsInvalidate, IsBind, IsInstall, IsDropped, IsCall, IsLinkOf, IsAnswer, IsTake};
+ghost use Rattle.jl_host.specs.Seats.{Seen, IsRefresh, IsSeatCall};
+ghost use Rattle.linkd_c.specs.Handle.{linker_at, linker_left, linker_room, linker_bytes, linker_multiple};
+ghost use Rattle.linkd_c.specs.Handle.{seat_at, seat_left, both_left, seat_room, seat_bytes, seat_multiple};
+
+use jl_host::{CallAnswer, LinkShown, Linker, Seat, Told};
+use std::alloc::Global;
+
+/// Shows that a value of the type may go from one thread to another.
+fn crosses<T: Send>() {}
+
+/// Linkers and seats may: this is refused where one of them may not.
+fn all_cross() {
+    crosses::<Linker>();
+    crosses::<Seat>();
+}
+
+/// What C sees of a linker: nothing.
+#[repr(C)]
+#[derive(Drop)]
+pub struct Linkd {
+    hidden: u8,
+}
+
+/// What C sees of a seat: nothing.
+#[repr(C)]
+#[derive(Drop)]
+pub struct LinkdSeat {
+    hidden: u8,
+}
+
+/// The bytes of a linker.
+#[unsafe(no_mangle)]
+pub extern "C" fn linkd_size() -> usize
+    ensures { result ≡ linker_bytes }
+{
+    std::mem::size_of::<Linker>()
+}
+
+/// The number that a linker's address is a multiple of.
+#[unsafe(no_mangle)]
+pub extern "C" fn linkd_align() -> usize
+    ensures { result ≡ linker_multiple }
+{
+    std::mem::align_of::<Linker>()
+}
+
+/// Makes a linker that isn't open of room for one.
+#[unsafe(no_mangle)]
+pub unsafe extern "C" fn linkd_blank(at: *mut Linkd)
+    requires* { sem 𝓛 (linker_room at) }
+    ensures* { sem 𝓛 (linker_at at None) }
+{
+    (at as *mut Linker).write(Linker::blank());
+}
+
+/// Lets all go that the linker has. It has no memory but its block then.
+#[unsafe(no_mangle)]
+pub unsafe extern "C" fn linkd_close(at: *mut Linkd)
+    ghost old: { Option Opened }
+    requires* { sem 𝓛 (linker_at at old) }
+    ensures* { sem 𝓛 (linker_left at (λ new. new ≡ None)) }
+{
+    (*(at as *mut Linker)).close();
+}
+
+/// Opens the linker, without classes; so many places may be requested.
+#[unsafe(no_mangle)]
+pub unsafe extern "C" fn linkd_open(alloc: Global, at: *mut Linkd, max_sites: u32) -> u32
+    ghost old: { Option Opened }
+    requires* { sem 𝓛 (linker_at at old) }
+    ensures* { sem 𝓛 (linker_left at (λ new. IsOpen max_sites old result new)) }
+{
+    (*(at as *mut Linker)).open(alloc, max_sites)
+}
+
+/// One loader more.
+#[unsafe(no_mangle)]
+pub unsafe extern "C" fn linkd_new_loader(alloc: Global, at: *mut Linkd, told: &mut Told) -> u32
+    ghost old: { Option Opened }
+    requires* { sem 𝓛 (linker_at at old) }
+    ensures* { sem 𝓛 (linker_left at (λ new. IsNewLoader old result told.new new)) }
+{
+    (*(at as *mut Linker)).new_loader(alloc, told)
+}
+
+/// The loader defines the class that the bytes are (JVMS SE 17 §4, §5.3.5).
+#[unsafe(no_mangle)]
+pub unsafe extern "C" fn linkd_define(
+    alloc: Global,
+    at: *mut Linkd,
+    loader: u32,
+    bytes: &[u8],
+    told: &mut Told,
+) -> u32
+    ghost old: { Option Opened }
+    requires* { sem 𝓛 (linker_at at old) }
+    ensures* { sem 𝓛 (linker_left at (λ new. IsDefine loader bytes.now old result told.new new)) }
+{
+    (*(at as *mut Linker)).define(alloc, loader, bytes, told)
+}
+
+/// The loader finds under the name the class that the loader `to` finds (§5.3).
+#[unsafe(no_mangle)]
+pub unsafe extern "C" fn linkd_delegate(
+    alloc: Global,
+    at: *mut Linkd,
+    loader: u32,
+    name: &[u8],
+    to: u32,
+    told: &mut Told,
+) -> u32
+    ghost old: { Option Opened }
+    requires* { sem 𝓛 (linker_at at old) }
+    ensures* { sem 𝓛 (linker_left at (λ new. IsDelegate loader name.now to old result told.new new)) }
+{
+    (*(at as *mut Linker)).delegate(alloc, loader, name, to, told)
+}
+
+/// The invocation at the pc of the class's method is to be linked.
+#[unsafe(no_mangle)]
+pub unsafe extern "C" fn linkd_request(
+    alloc: Global,
+    at: *mut Linkd,
+    class: u32,
+    method: u32,
+    pc: u32,
+    told: &mut Told,
+) -> u32
+    ghost old: { Option Opened }
+    requires* { sem 𝓛 (linker_at at old) }
+    ensures* { sem 𝓛 (linker_left at (λ new. IsRequest class method pc old result told.new new)) }
+{
+    (*(at as *mut Linker)).request(alloc, class, method, pc, told)
+}
+
+/// One call site more, of this kind, this type and with this first target (java.lang.invoke).
+#[unsafe(no_mangle)]
+pub unsafe extern "C" fn linkd_new_call_site(
+    alloc: Global,
+    at: *mut Linkd,
+    kind: u32,
+    ty: &[u8],
+    target: &[u8],
+    told: &mut Told,
+) -> u32
+    ghost old: { Option Opened }
+    requires* { sem 𝓛 (linker_at at old) }
+    ensures* { sem 𝓛 (linker_left at (λ new. IsNewCallSite kind ty.now target.now old result told.new new)) }
+{
+    (*(at as *mut Linker)).new_call_site(alloc, kind, ty, target, told)
+}
+
+/// The call site gets another target.
+#[unsafe(no_mangle)]
+pub unsafe extern "C" fn linkd_set_target(
+    alloc: Global,
+    at: *mut Linkd,
+    call_site: u32,
+    target: &[u8],
+    told: &mut Told,
+) -> u32
+    ghost old: { Option Opened }
+    requires* { sem 𝓛 (linker_at at old) }
+    ensures* { sem 𝓛 (linker_left at (λ new. IsSetTarget call_site target.now old result told.new new)) }
+{
+    (*(at as *mut Linker)).set_target(alloc, call_site, target, told)
+}
+
+/// One switch point more, valid.
+#[unsafe(no_mangle)]
+pub unsafe extern "C" fn linkd_new_switch(alloc: Global, at: *mut Linkd, told: &mut Told) -> u32
+    ghost old: { Option Opened }
+    requires* { sem 𝓛 (linker_at at old) }
+    ensures* { sem 𝓛 (linker_left at (λ new. IsNewSwitch old result told.new new)) }
+{
+    (*(at as *mut Linker)).new_switch(alloc, told)
+}
+
+/// The switch points become invalid for good.
+#[unsafe(no_mangle)]
+pub unsafe extern "C" fn linkd_invalidate(
+    alloc: Global,
+    at: *mut Linkd,
+    switches: &[u32],
+    told: &mut Told,
+) -> u32
+    ghost old: { Option Opened }
+    requires* { sem 𝓛 (linker_at at old) }
+    ensures* { sem 𝓛 (linker_left at (λ new. IsInvalidate switches.now old result told.new new)) }
+{
+    (*(at as *mut Linker)).invalidate(alloc, switches, told)
+}
+
+/// The invokedynamic's bootstrap method gave this call site (§6.5).
+#[unsafe(no_mangle)]
+pub unsafe extern "C" fn linkd_bind(
+    alloc: Global,
+    at: *mut Linkd,
+    site: u32,
+    call_site: u32,
+    told: &mut Told,
+) -> u32
+    ghost old: { Option Opened }
+    requires* { sem 𝓛 (linker_at at old) }
+    ensures* { sem 𝓛 (linker_left at (λ new. IsBind site call_site old result told.new new)) }
+{
+    (*(at as *mut Linker)).bind(alloc, site, call_site, told)
+}
+
+/// Links the sites from scratch and installs their links, all or none.
+#[unsafe(no_mangle)]
+pub unsafe extern "C" fn linkd_install(
+    alloc: Global,
+    at: *mut Linkd,
+    sites: &[u32],
+    told: &mut Told,
+) -> u32
+    ghost old: { Option Opened }
+    requires* { sem 𝓛 (linker_at at old) }
+    ensures* { sem 𝓛 (linker_left at (λ new. IsInstall sites.now old result told.new new)) }
+{
+    (*(at as *mut Linker)).install(alloc, sites, told)
+}
+
+/// Copies the sites whose links the last accepted event removed. Takes no memory.
+#[unsafe(no_mangle)]
+pub unsafe extern "C" fn linkd_dropped(at: *mut Linkd, out: &mut [u32], length: &mut usize) -> u32
+    ghost old: { Option Opened }
+    requires* { sem 𝓛 (linker_at at old) }
+    ensures* { sem 𝓛 (linker_left at (λ new. IsDropped old out.old length.old result out.new length.new new)) }
+{
+    (*(at as *mut Linker)).dropped(out, length)
+}
+
+/// What a call comes to now, linked or not. Takes no memory.
+#[unsafe(no_mangle)]
+pub unsafe extern "C" fn linkd_call(
+    at: *mut Linkd,
+    site: u32,
+    receiver: u32,
+    answer: &mut CallAnswer,
+) -> u32
+    ghost old: { Option Opened }
+    requires* { sem 𝓛 (linker_at at old) }
+    ensures* { sem 𝓛 (linker_left at (λ new. IsCall site receiver old answer.old result answer.new new)) }
+{
+    (*(at as *mut Linker)).call(site, receiver, answer)
+}
+
+/// The link that is installed at the site. Takes no memory.
+#[unsafe(no_mangle)]
+pub unsafe extern "C" fn linkd_link_of(at: *mut Linkd, site: u32, link: &mut LinkShown) -> u32
+    ghost old: { Option Opened }
+    requires* { sem 𝓛 (linker_at at old) }
+    ensures* { sem 𝓛 (linker_left at (λ new. IsLinkOf site old link.old result link.new new)) }
+{
+    (*(at as *mut Linker)).link_of(site, link)
+}
+
+/// Answers any command of a session, as text, and keeps the answer.
+#[unsafe(no_mangle)]
+pub unsafe extern "C" fn linkd_answer(
+    alloc: Global,
+    at: *mut Linkd,
+    line: &[u8],
+    length: &mut usize,
+) -> u32
+    ghost old: { Option Opened }
+    requires* { sem 𝓛 (linker_at at old) }
+    ensures* { sem 𝓛 (linker_left at (λ new. IsAnswer line.now old length.old result length.new new)) }
+{
+    (*(at as *mut Linker)).answer(alloc, line, length)
+}
+
+/// Copies the text of the last answer. Takes no memory.
+#[unsafe(no_mangle)]
+pub unsafe extern "C" fn linkd_take(at: *mut Linkd, out: &mut [u8], length: &mut usize) -> u32
+    ghost old: { Option Opened }
+    requires* { sem 𝓛 (linker_at at old) }
+    ensures* { sem 𝓛 (linker_left at (λ new. IsTake old out.old length.old result out.new length.new new)) }
+{
+    (*(at as *mut Linker)).take(out, length)
+}
+
+/// The bytes of a seat.
+#[unsafe(no_mangle)]
+pub extern "C" fn linkd_seat_size() -> usize
+    ensures { result ≡ seat_bytes }
+{
+    std::mem::size_of::<Seat>()
+}
+
+/// The number that a seat's address is a multiple of.
+#[unsafe(no_mangle)]
+pub extern "C" fn linkd_seat_align() -> usize
+    ensures { result ≡ seat_multiple }
+{
+    std::mem::align_of::<Seat>()
+}
+
+/// Makes a seat that has seen nothing of room for one.
+#[unsafe(no_mangle)]
+pub unsafe extern "C" fn linkd_seat_blank(at: *mut LinkdSeat)
+    requires* { sem 𝓛 (seat_room at) }
+    ensures* { sem 𝓛 (seat_at at None) }
+{
+    (at as *mut Seat).write(Seat::blank());
+}
+
+/// Gives the seat the linker's links and its count of classes as they are now.
+#[unsafe(no_mangle)]
+pub unsafe extern "C" fn linkd_seat_refresh(
+    alloc: Global,
+    at: *mut LinkdSeat,
+    from: *mut Linkd,
+) -> u32
+    ghost old: { Option Seen × Option Opened }
+    requires* seat { sem 𝓛 (seat_at at old.0) }
+    requires* linker { sem 𝓛 (linker_at from old.1) }
+    ensures* { sem 𝓛 (both_left at from (λ new. IsRefresh old.0 old.1 result new.0 new.1)) }
+{
+    (*(at as *mut Seat)).refresh(alloc, &mut *(from as *mut Linker))
+}
+
+/// What a call comes to by the links of the last refresh, at once. Takes no lock and no memory.
+#[unsafe(no_mangle)]
+pub unsafe extern "C" fn linkd_seat_call(
+    at: *mut LinkdSeat,
+    site: u32,
+    receiver: u32,
+    answer: &mut CallAnswer,
+) -> u32
+    ghost old: { Option Seen }
+    requires* { sem 𝓛 (seat_at at old) }
+    ensures* { sem 𝓛 (seat_left at (λ new. IsSeatCall site receiver old answer.old result answer.new new)) }
+{
+    (*(at as *mut Seat)).call(site, receiver, answer)
+}
+
+/// Lets go what the seat has seen. It has no memory but its block then.
+#[unsafe(no_mangle)]
+pub unsafe extern "C" fn linkd_seat_leave(at: *mut LinkdSeat)
+    ghost old: { Option Seen }
+    requires* { sem 𝓛 (seat_at at old) }
+    ensures* { sem 𝓛 (seat_left at (λ new. new ≡ None)) }
+{
+    (*(at as *mut Seat)).leave();
+}
