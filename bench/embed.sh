@@ -1,0 +1,99 @@
+#!/usr/bin/env bash
+# Tries the library for C: its archive beside its header, and hosts in C, C++ and Rust over classes that javac makes.
+#
+#     bench/embed.sh
+#
+# It builds the archive first, by `rt lib` in crates/linkd_c. It needs rt, cc, c++, ar, nm, rustc, valgrind, and java and javac of JAVA_HOME or
+# else of the PATH, of version 17 or later. ROUNDS (200) is how often the host in C plays its round. It ends with status 0 only where all is as
+# it must be.
+set -eu
+top=$(cd "$(dirname "$0")/.." && pwd)
+export LC_ALL=C
+if [ -n "${JAVA_HOME:-}" ]; then
+    PATH="$JAVA_HOME/bin:$PATH"
+fi
+work=$(mktemp -d)
+trap 'rm -rf "$work"' EXIT
+trap 'exit 130' INT TERM
+also="c++ rustc valgrind java javac"
+. "$top/bench/library.sh"
+host="$top/examples/host"
+
+echo "== the functions of the header, and those of the archive"
+sed -nE 's/^[a-z][a-z0-9_ ]* (linkd_[a-z_]*)\(.*/\1/p' "$top/include/linkd.h" | sort > "$work/declared"
+nm --defined-only -g "$work/liblinkd.a" | awk '$2 ~ /^[TW]$/ && $3 ~ /^linkd_/ { print $3 }' | sort > "$work/exported"
+diff "$work/declared" "$work/exported"
+test -s "$work/declared"
+
+echo "== the header as C99, as C++98 and as C++11"
+printf '#include "linkd.h"\n#include "linkd.h"\nint main(void) { return LINKD_DONE; }\n' > "$work/header.c"
+cp "$work/header.c" "$work/header.cpp"
+strict="-pedantic -Wall -Wextra -Werror -fsyntax-only"
+cc -std=c99 $strict -I"$top/include" "$work/header.c"
+c++ -std=c++98 $strict -Wno-long-long -I"$top/include" "$work/header.cpp"
+c++ -std=c++11 $strict -I"$top/include" "$work/header.cpp"
+
+echo "== each call, with its refusals"
+build_c "$work/statuses" "$top/bench/statuses.c"
+"$work/statuses"
+valgrind -q --leak-check=full --error-exitcode=99 "$work/statuses"
+
+echo "== the classes, and java/lang/Object of this JDK"
+mkdir "$work/classes"
+javac --release 17 -Xlint:all -d "$work/classes" "$host"/java/*.java
+# A class file of a later version is marked as one of Java 17.
+cat > "$work/Take.java" <<'JAVA'
+import java.io.InputStream;
+import java.nio.file.Files;
+import java.nio.file.Path;
+
+class Take {
+    public static void main(String[] words) throws Exception {
+        try (InputStream from = Object.class.getResourceAsStream("Object.class")) {
+            byte[] file = from.readAllBytes();
+            if (file[7] > 61) {
+                file[7] = 61;
+            }
+            Files.write(Path.of(words[0]), file);
+        }
+    }
+}
+JAVA
+java "$work/Take.java" "$work/classes/Object.class"
+java -cp "$work/classes" Main
+
+echo "== the host in C"
+build_c "$work/host_c" "$host/host.c"
+"$work/host_c" "$work/classes" Triangle "${ROUNDS:-200}"
+
+echo "== the host in C, under valgrind"
+valgrind -q --fair-sched=try --leak-check=full --show-leak-kinds=all --errors-for-leak-kinds=all --error-exitcode=99 \
+    "$work/host_c" "$work/classes" Triangle 4 > "$work/under.txt"
+tail -n 1 "$work/under.txt"
+
+echo "== the hosts in C++ and in Rust, which say the same"
+c++ -std=c++11 -O2 -Wall -Wextra -Werror -I"$top/include" -o "$work/host_cpp" "$host/host.cpp" "$work/liblinkd.a"
+rustc --edition 2021 -O -D warnings -o "$work/host_rs" "$host/host.rs" -C link-arg="$work/liblinkd.a"
+files=
+for name in Object Measured Shape Circle Square Triangle Main; do
+    files="$files $work/classes/$name.class"
+done
+# The invokeinterface of area, and the invokevirtual of doubled.
+for method in 1 2; do
+    "$work/host_cpp" $method 1 $files > "$work/by_cpp.txt"
+    "$work/host_rs" $method 1 $files > "$work/by_rs.txt"
+    cat "$work/by_cpp.txt"
+    diff "$work/by_cpp.txt" "$work/by_rs.txt"
+done
+valgrind -q --leak-check=full --error-exitcode=99 "$work/host_cpp" 1 1 $files > "$work/under.txt"
+diff "$work/under.txt" <("$work/host_rs" 1 1 $files)
+# A refusal ends both, and leaves nothing behind.
+for program in "valgrind -q --leak-check=full --error-exitcode=99 $work/host_cpp" "$work/host_rs"; do
+    status=0
+    $program 1 0 $files > "$work/refused.txt" 2>&1 || status=$?
+    if [ $status != 1 ]; then
+        echo "$program ends with status $status on a place without an invocation" >&2
+        exit 1
+    fi
+done
+echo "all as it must be"

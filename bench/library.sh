@@ -1,0 +1,30 @@
+# Builds crates/linkd_c, and the archive of it and of the toolchain's C code for the heap, as $work/liblinkd.a. Sourced, with $top the top of
+# the repository, $work a folder that goes away at the end, and maybe $also, more programs that are needed.
+
+# Compiles a C program, with the header and the archive.
+build_c() {
+    cc -std=c11 -O2 -Wall -Wextra -Werror -pthread -I"$top/include" -o "$1" "$2" "$work/liblinkd.a"
+}
+
+missing=
+for tool in cc ar nm rt ${also:-}; do
+    command -v "$tool" > /dev/null || missing="$missing $tool"
+done
+if [ -n "$missing" ]; then
+    echo "missing:$missing" >&2
+    exit 2
+fi
+# What is built already, and is of these sources, is taken as it is.
+if ! (cd "$top/crates/linkd_c" && rt lib) > "$work/lib.txt" 2>&1; then
+    tail -n 5 "$work/lib.txt" >&2
+    exit 1
+fi
+built="$top/crates/linkd_c/out/liblinkd_c.a"
+heap="$(dirname "$(rt doc)")/c/liblibc_c.a"
+if [ ! -f "$heap" ]; then
+    echo "the toolchain has no $heap" >&2
+    exit 2
+fi
+cp "$built" "$work/ours.a"
+cp "$heap" "$work/heap.a"
+(cd "$work" && printf 'create liblinkd.a\naddlib ours.a\naddlib heap.a\nsave\nend\n' | ar -M)

@@ -1,0 +1,240 @@
+/* Makes each call of the header, with most of its refusals, and looks at what is told. Where one isn't as it must be, it says the line and
+ * ends with status 1.
+ */
+#include "linkd.h"
+#include <stdio.h>
+#include <stdlib.h>
+#include <string.h>
+
+#define MUST(holds) must((holds) != 0, __LINE__, #holds)
+/* The status of an event, and what is told of it. */
+#define TELLS(call, status, number, fault, place) tells((call), (status), (number), (fault), (place), __LINE__, #call)
+
+static linkd *at;
+static linkd_told told;
+static linkd_link link;
+static linkd_call_answer answer;
+static uint32_t sites[257];
+static size_t length;
+
+static void must(int holds, int line, const char *what) {
+    if (!holds) {
+        fprintf(stderr, "statuses: line %d: %s\n", line, what);
+        exit(1);
+    }
+}
+
+static void tells(uint32_t is, uint32_t status, uint32_t number, uint32_t fault, uint32_t place, int line, const char *what) {
+    if (is != status || told.number != number || told.fault != fault || told.place != place) {
+        fprintf(stderr, "statuses: line %d: %s is %lu and tells %lu, %lu, %lu\n", line, what, (unsigned long)is, (unsigned long)told.number,
+                (unsigned long)told.fault, (unsigned long)told.place);
+        exit(1);
+    }
+}
+
+static void *block(size_t size, size_t align) {
+    if (align < sizeof(void *)) align = sizeof(void *);
+    void *is = aligned_alloc(align, (size + align - 1) / align * align);
+    MUST(is != NULL);
+    return is;
+}
+
+static const uint8_t *bytes(const char *text) { return (const uint8_t *)text; }
+
+/* Whether the command is answered so. */
+static int says(const char *line, const char *wanted) {
+    static uint8_t out[4096];
+    size_t taken = 0;
+    MUST(linkd_answer(at, bytes(line), strlen(line), &length) == LINKD_DONE && length <= sizeof out);
+    MUST(length == 0 || (linkd_take(at, out, length - 1, &taken) == LINKD_TOO_SHORT && taken == length));
+    MUST(linkd_take(at, out, sizeof out, &taken) == LINKD_DONE && taken == length);
+    return length == strlen(wanted) && memcmp(out, wanted, length) == 0;
+}
+
+static uint32_t call_site(uint32_t kind, const char *type, const char *target) {
+    return linkd_new_call_site(at, kind, bytes(type), strlen(type), bytes(target), strlen(target), &told);
+}
+
+static uint32_t set_target(uint32_t number, const char *target) { return linkd_set_target(at, number, bytes(target), strlen(target), &told); }
+
+static uint32_t delegate(uint32_t loader, const char *name, uint32_t to) {
+    return linkd_delegate(at, loader, bytes(name), strlen(name), to, &told);
+}
+
+static int comes_to(uint32_t status, uint32_t kind, uint32_t class_number, uint32_t value) {
+    return status == LINKD_DONE && answer.kind == kind && answer.class_number == class_number && answer.value == value;
+}
+
+static int row_is(const linkd_row *row, uint32_t receiver, uint32_t kind, uint32_t class_number, uint32_t value) {
+    return row->receiver == receiver && row->kind == kind && row->class_number == class_number && row->value == value;
+}
+
+/* Each call of a linker that isn't open. */
+static void closed(linkd_seat *seat) {
+    MUST(linkd_new_loader(at, &told) == LINKD_CLOSED);
+    MUST(linkd_define(at, 0, bytes("x"), 1, &told) == LINKD_CLOSED);
+    MUST(delegate(0, "A", 0) == LINKD_CLOSED);
+    MUST(linkd_request(at, 0, 0, 0, &told) == LINKD_CLOSED);
+    MUST(call_site(2, "()V", "{\"method\":[0,0]}") == LINKD_CLOSED);
+    MUST(set_target(0, "{\"method\":[0,0]}") == LINKD_CLOSED);
+    MUST(linkd_new_switch(at, &told) == LINKD_CLOSED);
+    MUST(linkd_invalidate(at, sites, 0, &told) == LINKD_CLOSED);
+    MUST(linkd_bind(at, 0, 0, &told) == LINKD_CLOSED);
+    MUST(linkd_install(at, sites, 1, &told) == LINKD_CLOSED);
+    MUST(linkd_dropped(at, sites, 256, &length) == LINKD_CLOSED);
+    MUST(linkd_call(at, 0, LINKD_NULL, &answer) == LINKD_CLOSED);
+    MUST(linkd_link_of(at, 0, &link) == LINKD_CLOSED);
+    MUST(linkd_answer(at, bytes("{\"do\":\"links\"}"), 14, &length) == LINKD_CLOSED);
+    MUST(linkd_take(at, (uint8_t *)sites, sizeof sites, &length) == LINKD_CLOSED);
+    MUST(linkd_seat_refresh(seat, at) == LINKD_CLOSED);
+}
+
+int main(void) {
+    static const uint8_t truncated[] = {0xca, 0xfe, 0xba}, no_magic[] = {1, 2, 3, 4, 0, 0, 0, 61}, newer[] = {0xca, 0xfe, 0xba, 0xbe, 0, 0, 0, 62};
+    linkd_seat *seat = block(linkd_seat_size(), linkd_seat_align());
+    at = block(linkd_size(), linkd_align());
+    linkd_seat_blank(seat);
+    linkd_blank(at);
+    closed(seat);
+    MUST(linkd_seat_call(seat, 0, LINKD_NULL, &answer) == LINKD_CLOSED);
+
+    MUST(linkd_open(at, 0) == LINKD_MALFORMED);
+    MUST(linkd_open(at, 65537) == LINKD_MALFORMED);
+    MUST(linkd_open(at, 3) == LINKD_DONE);
+    MUST(linkd_open(at, 3) == LINKD_OPEN_ALREADY);
+
+    /* Class files, and the classes: java/lang/Object 0, A 1, M 2, T 3. */
+    TELLS(linkd_define(at, 0, truncated, 3, &told), LINKD_NO_CLASS_FILE, 0, LINKD_TRUNCATED, 0);
+    TELLS(linkd_define(at, 0, no_magic, 8, &told), LINKD_NO_CLASS_FILE, 0, LINKD_BAD_MAGIC, 0);
+    TELLS(linkd_define(at, 0, newer, 8, &told), LINKD_NO_CLASS_FILE, 0, LINKD_BAD_VERSION, 0);
+    MUST(says("{}", "{\"error\":\"BadCommand\"}"));
+    MUST(says("{\"do\":\"define\",\"loader\":0,\"sketch\":{\"name\":\"java/lang/Object\",\"flags\":33}}", "{\"class\":0,\"dropped\":[]}"));
+    MUST(says("{\"do\":\"define\",\"loader\":0,\"sketch\":{\"name\":\"A\",\"super\":\"java/lang/Object\",\"flags\":33,\"methods\":["
+              "{\"name\":\"f\",\"type\":\"()V\",\"flags\":1}]}}",
+              "{\"class\":1,\"dropped\":[]}"));
+    MUST(says("{\"do\":\"define\",\"loader\":0,\"sketch\":{\"name\":\"M\",\"super\":\"java/lang/Object\",\"flags\":33,\"methods\":["
+              "{\"name\":\"run\",\"type\":\"()V\",\"flags\":9,\"calls\":["
+              "{\"kind\":\"invokevirtual\",\"of\":\"Z\",\"name\":\"f\",\"type\":\"()V\"},"
+              "{\"kind\":\"invokevirtual\",\"of\":\"A\",\"name\":\"f\",\"type\":\"()V\"},"
+              "{\"kind\":\"invokevirtual\",\"of\":\"[LA;\",\"name\":\"f\",\"type\":\"()V\"},"
+              "{\"kind\":\"invokevirtual\",\"of\":\"java/lang/invoke/MethodHandle\",\"name\":\"invoke\",\"type\":\"()V\"}]}]}}",
+              "{\"class\":2,\"dropped\":[]}"));
+    MUST(says("{\"do\":\"define\",\"loader\":0,\"sketch\":{\"name\":\"T\",\"super\":\"java/lang/Object\",\"flags\":33,\"methods\":["
+              "{\"name\":\"m\",\"type\":\"()V\",\"flags\":9},{\"name\":\"n\",\"type\":\"()V\",\"flags\":9},"
+              "{\"name\":\"r\",\"type\":\"()V\",\"flags\":9,\"calls\":[{\"kind\":\"invokedynamic\",\"name\":\"d\",\"type\":\"()V\"}]},"
+              "{\"name\":\"p\",\"type\":\"()I\",\"flags\":9}]}}",
+              "{\"class\":3,\"dropped\":[]}"));
+
+    /* Requests: Z.f 0, A.f 1, the invokedynamic 2. */
+    TELLS(linkd_request(at, 9, 0, 0, &told), LINKD_UNKNOWN_CLASS, 0, 0, 0);
+    TELLS(linkd_request(at, 2, 0, 1, &told), LINKD_NO_SUCH_PLACE, 0, 0, 0);
+    TELLS(linkd_request(at, 2, 65536, 0, &told), LINKD_MALFORMED, 0, 0, 0);
+    TELLS(linkd_request(at, 2, 0, 6, &told), LINKD_NOT_LINKABLE, 0, 1, 0);
+    TELLS(linkd_request(at, 2, 0, 9, &told), LINKD_NOT_LINKABLE, 0, 2, 0);
+    TELLS(linkd_request(at, 2, 0, 0, &told), LINKD_DONE, 0, 0, 0);
+    TELLS(linkd_request(at, 2, 0, 3, &told), LINKD_DONE, 1, 0, 0);
+    TELLS(linkd_request(at, 2, 0, 3, &told), LINKD_DONE, 1, 0, 0);
+    TELLS(linkd_request(at, 3, 2, 0, &told), LINKD_DONE, 2, 0, 0);
+    MUST(says("{\"do\":\"define\",\"loader\":0,\"sketch\":{\"name\":\"N\",\"super\":\"java/lang/Object\",\"flags\":33,\"methods\":["
+              "{\"name\":\"run\",\"type\":\"()V\",\"flags\":9,\"calls\":[{\"kind\":\"invokestatic\",\"of\":\"T\",\"name\":\"m\",\"type\":\"()V\"}]}]}}",
+              "{\"class\":4,\"dropped\":[]}"));
+    TELLS(linkd_request(at, 4, 0, 0, &told), LINKD_SITES_FULL, 0, 0, 0);
+
+    /* Call sites: a constant one 0, a guard 1, one of ()I 2. */
+    TELLS(call_site(4, "()V", "{\"method\":[3,0]}"), LINKD_MALFORMED, 0, 0, 0);
+    TELLS(call_site(2, "V", "{\"method\":[3,0]}"), LINKD_MALFORMED, 0, 0, 0);
+    TELLS(call_site(2, "()V", "{\"method\":3}"), LINKD_MALFORMED, 0, 0, 0);
+    TELLS(call_site(2, "()V", "{\"method\":[3,9]}"), LINKD_CALL_SITE, 0, LINKD_UNKNOWN_METHOD, 0);
+    TELLS(call_site(2, "()V", "{\"method\":[1,0]}"), LINKD_CALL_SITE, 0, LINKD_NOT_STATIC, 0);
+    TELLS(call_site(2, "()I", "{\"method\":[3,0]}"), LINKD_CALL_SITE, 0, LINKD_WRONG_TYPE, 0);
+    TELLS(call_site(2, "()V", "{\"guard\":0,\"target\":{\"method\":[3,0]},\"fallback\":{\"method\":[3,1]}}"), LINKD_CALL_SITE, 0,
+          LINKD_UNKNOWN_SWITCH, 0);
+    TELLS(call_site(1, "()V", "{\"method\":[3,0]}"), LINKD_DONE, 0, 0, 0);
+    TELLS(linkd_new_switch(at, &told), LINKD_DONE, 0, 0, 0);
+    TELLS(linkd_new_switch(at, &told), LINKD_DONE, 1, 0, 0);
+    TELLS(call_site(3, "()V", "{\"guard\":1,\"target\":{\"method\":[3,0]},\"fallback\":{\"method\":[3,1]}}"), LINKD_DONE, 1, 0, 0);
+    TELLS(call_site(2, "()I", "{\"method\":[3,3]}"), LINKD_DONE, 2, 0, 0);
+    TELLS(set_target(9, "{\"method\":[3,0]}"), LINKD_CALL_SITE, 0, LINKD_UNKNOWN_CALL_SITE, 0);
+    TELLS(set_target(0, "{\"method\":[3,1]}"), LINKD_CALL_SITE, 0, LINKD_CONSTANT, 0);
+    TELLS(set_target(1, "[]"), LINKD_MALFORMED, 0, 0, 0);
+    TELLS(linkd_bind(at, 9, 1, &told), LINKD_UNKNOWN_SITE, 0, 0, 9);
+    TELLS(linkd_bind(at, 1, 1, &told), LINKD_NOT_DYNAMIC, 0, 0, 0);
+    TELLS(linkd_bind(at, 2, 9, &told), LINKD_CALL_SITE, 0, LINKD_UNKNOWN_CALL_SITE, 0);
+    TELLS(linkd_bind(at, 2, 2, &told), LINKD_TYPE_MISMATCH, 0, 0, 0);
+
+    /* Installs. */
+    MUST(linkd_call(at, 2, LINKD_NULL, &answer) == LINKD_DONE && answer.kind == LINKD_UNLINKED && answer.value == LINKD_UNBOUND);
+    sites[0] = 2;
+    TELLS(linkd_install(at, sites, 1, &told), LINKD_NOT_READY, 0, 0, 2);
+    TELLS(linkd_bind(at, 2, 1, &told), LINKD_DONE, 0, 0, 0);
+    TELLS(linkd_bind(at, 2, 1, &told), LINKD_ALREADY_BOUND, 0, 0, 1);
+    TELLS(linkd_install(at, sites, 0, &told), LINKD_BATCH_SIZE, 0, 0, 0);
+    TELLS(linkd_install(at, sites, 257, &told), LINKD_BATCH_SIZE, 0, 0, 0);
+    sites[0] = 9;
+    TELLS(linkd_install(at, sites, 1, &told), LINKD_UNKNOWN_SITE, 0, 0, 9);
+    sites[0] = sites[1] = 1;
+    TELLS(linkd_install(at, sites, 2, &told), LINKD_REPEATED, 0, 0, 1);
+    MUST(linkd_link_of(at, 1, &link) == LINKD_DONE && link.kind == LINKD_NONE && link.count == 0);
+    sites[1] = 2;
+    TELLS(linkd_install(at, sites, 2, &told), LINKD_DONE, 0, 0, 0);
+    MUST(linkd_dropped(at, sites, 256, &length) == LINKD_DONE && length == 0);
+    MUST(linkd_link_of(at, 1, &link) == LINKD_DONE && link.kind == LINKD_DIRECT && row_is(&link.rows[0], 0, LINKD_RUN, 1, 0));
+    MUST(linkd_link_of(at, 2, &link) == LINKD_DONE && link.kind == LINKD_PLAIN && row_is(&link.rows[0], 0, LINKD_RUN, 3, 0));
+
+    /* Calls, and a seat behind an invalidation. */
+    MUST(comes_to(linkd_call(at, 1, LINKD_NULL, &answer), LINKD_THROWS, 0, LINKD_NULL_POINTER_EXCEPTION));
+    MUST(comes_to(linkd_call(at, 1, 1, &answer), LINKD_RUN, 1, 0));
+    MUST(linkd_call(at, 1, 0, &answer) == LINKD_DONE && answer.kind == LINKD_BAD_RECEIVER);
+    MUST(comes_to(linkd_call(at, 0, 1, &answer), LINKD_UNLINKED, 0, LINKD_WANTS_NAMED));
+    MUST(comes_to(linkd_call(at, 9, 1, &answer), LINKD_UNLINKED, 0, LINKD_NO_SITE));
+    MUST(linkd_seat_refresh(seat, at) == LINKD_DONE);
+    MUST(comes_to(linkd_seat_call(seat, 1, 1, &answer), LINKD_RUN, 1, 0));
+    MUST(comes_to(linkd_seat_call(seat, 1, LINKD_NULL, &answer), LINKD_THROWS, 0, LINKD_NULL_POINTER_EXCEPTION));
+    MUST(linkd_seat_call(seat, 1, 5, &answer) == LINKD_DONE && answer.kind == LINKD_MISS);
+    MUST(linkd_seat_call(seat, 0, LINKD_NULL, &answer) == LINKD_DONE && answer.kind == LINKD_MISS);
+    MUST(linkd_seat_call(seat, 9, LINKD_NULL, &answer) == LINKD_DONE && answer.kind == LINKD_MISS);
+    sites[0] = 1;
+    TELLS(linkd_invalidate(at, sites, 1, &told), LINKD_DONE, 0, 0, 0);
+    sites[0] = 7;
+    MUST(linkd_dropped(at, sites, 0, &length) == LINKD_TOO_SHORT && length == 1 && sites[0] == 7);
+    MUST(linkd_dropped(at, sites, 1, &length) == LINKD_DONE && length == 1 && sites[0] == 2);
+    MUST(comes_to(linkd_call(at, 2, LINKD_NULL, &answer), LINKD_RUN, 3, 1));
+    MUST(comes_to(linkd_seat_call(seat, 2, LINKD_NULL, &answer), LINKD_RUN, 3, 0));
+    MUST(linkd_seat_refresh(seat, at) == LINKD_DONE);
+    MUST(linkd_seat_call(seat, 2, LINKD_NULL, &answer) == LINKD_DONE && answer.kind == LINKD_MISS);
+    TELLS(linkd_install(at, sites, 1, &told), LINKD_DONE, 0, 0, 0);
+    TELLS(set_target(1, "{\"method\":[3,0]}"), LINKD_DONE, 0, 0, 0);
+    MUST(linkd_dropped(at, sites, 1, &length) == LINKD_DONE && length == 1 && sites[0] == 2);
+
+    /* A class that overrides, as 5. */
+    MUST(says("{\"do\":\"define\",\"loader\":0,\"sketch\":{\"name\":\"B\",\"super\":\"A\",\"flags\":33,\"methods\":["
+              "{\"name\":\"f\",\"type\":\"()V\",\"flags\":1}]}}",
+              "{\"class\":5,\"dropped\":[1]}"));
+    MUST(linkd_dropped(at, sites, 1, &length) == LINKD_DONE && length == 1 && sites[0] == 1);
+    TELLS(linkd_install(at, sites, 1, &told), LINKD_DONE, 0, 0, 0);
+    MUST(linkd_link_of(at, 1, &link) == LINKD_DONE && link.kind == LINKD_VIRTUAL_TABLE && link.count == 2);
+    MUST(row_is(&link.rows[0], 1, LINKD_RUN, 1, 0) && row_is(&link.rows[1], 5, LINKD_RUN, 5, 0) && row_is(&link.rows[7], 0, 0, 0, 0));
+    MUST(says("{\"do\":\"links\"}", "{\"links\":[[1,{\"kind\":\"virtual\",\"table\":[[1,{\"run\":[1,0]}],[5,{\"run\":[5,0]}]]}]]}"));
+
+    /* Loaders. */
+    TELLS(linkd_new_loader(at, &told), LINKD_DONE, 1, 0, 0);
+    TELLS(linkd_define(at, 9, no_magic, 8, &told), LINKD_NO_CLASS_FILE, 0, LINKD_BAD_MAGIC, 0);
+    TELLS(delegate(9, "A", 0), LINKD_DELEGATE, 0, 1, 0);
+    TELLS(delegate(1, "Z", 0), LINKD_DELEGATE, 0, 2, 0);
+    TELLS(delegate(1, "A", 0), LINKD_DONE, 0, 0, 0);
+    TELLS(delegate(1, "A", 0), LINKD_DELEGATE, 0, 3, 0);
+
+    linkd_close(at);
+    closed(seat);
+    linkd_close(at);
+    MUST(linkd_seat_call(seat, 1, 1, &answer) == LINKD_DONE);
+    linkd_seat_leave(seat);
+    MUST(linkd_seat_call(seat, 1, 1, &answer) == LINKD_CLOSED);
+    MUST(linkd_open(at, 65536) == LINKD_DONE);
+    MUST(linkd_seat_refresh(seat, at) == LINKD_DONE);
+    linkd_close(at);
+    linkd_seat_leave(seat);
+    free(seat);
+    free(at);
+    return 0;
+}

@@ -1,0 +1,4 @@
+/** What has an area. */
+interface Measured {
+    int area();
+}
