@@ -19,12 +19,12 @@ if ! (cd "$top/crates/linkd_c" && rt lib) > "$work/lib.txt" 2>&1; then
     tail -n 5 "$work/lib.txt" >&2
     exit 1
 fi
-built="$top/crates/linkd_c/out/liblinkd_c.a"
+archive="$top/crates/linkd_c/out/liblinkd_c.a"
 heap="$(dirname "$(rt doc)")/c/liblibc_c.a"
 if [ ! -f "$heap" ]; then
     echo "the toolchain has no $heap" >&2
     exit 2
 fi
-cp "$built" "$work/ours.a"
+cp "$archive" "$work/ours.a"
 cp "$heap" "$work/heap.a"
 (cd "$work" && printf 'create liblinkd.a\naddlib ours.a\naddlib heap.a\nsave\nend\n' | ar -M)

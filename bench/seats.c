@@ -280,10 +280,10 @@ static void measure_calls(void) {
     static const char *const words[] = {"a seat", "an array without a lock", "the array behind a mutex", "behind a read-write lock"};
     links = block(SITES * sizeof *links, sizeof(void *));
     for (uint32_t site = 0; site < SITES; site++) must(linkd_link_of(linker, site, &links[site]) == LINKD_DONE, "no link");
-    /* Each sixteenth site, scattered by a step that has no factor with them. */
+    /* Sites beside each other, scattered by a step that has no factor with them. */
     int tables = 0;
     for (uint32_t i = 0; i < CALLED; i++) {
-        uint32_t site = i * 2473 % CALLED * (SITES / CALLED) + 1;
+        uint32_t site = i * 2473 % CALLED + 1;
         bool of_a = (site - 1) / EACH % 2 == 0;
         called[i].site = site;
         called[i].receiver = of_a ? (i % 3 ? a : b) : (i % 3 ? c : d);

@@ -118,7 +118,8 @@ fn dropped_numbers(linker: &mut Linker, capacity: usize) -> Numbers {
     let mut count = 9;
     let room = capacity.min(4);
     let status = linker.dropped(&mut array[..room], &mut count);
-    numbers(&[status, count as u32, array[0], array[1], array[2], array[3]])
+    let count = u32::try_from(count).unwrap_or(99);
+    numbers(&[status, count, array[0], array[1], array[2], array[3]])
 }
 
 /// The status, and 1 where the line is answered by this text, which is kept.
