@@ -7,6 +7,8 @@ mod codes;
 #[cfg(test)]
 mod descriptors;
 #[cfg(test)]
+mod hostile;
+#[cfg(test)]
 mod names;
 #[cfg(test)]
 mod pools;
