@@ -237,6 +237,8 @@ enum PoolRow {
     Fault(u8, &'static [&'static [u8]], Option<PoolFault>),
     /// A method handle of this kind may refer to these, and to none of the other numbers from 0 on.
     Handle(u8, &'static [u8]),
+    /// An entry of these bytes, a number and these bytes may name these, and none of the other numbers from 0 on.
+    Names(&'static [u8], &'static [u8], &'static [u8]),
     /// Whether this constant may have its descriptor.
     Described(&'static [u8], bool),
     /// The pool that has each tag has none, wherever its bytes are cut.
@@ -351,6 +353,33 @@ fn is_described(alloc: Global, entry: &[u8], good: bool) -> bool {
     has_fault(alloc, 9, DESCRIPTORS, entry, fault)
 }
 
+/// Whether the entry may name what it names, which are entries of the right kinds or not, as is said.
+fn is_linked(alloc: Global, entry: &[u8], good: bool) -> bool {
+    match bytes_with(alloc, 9, DESCRIPTORS, entry) {
+        Ok(bytes) => (Pool::read(alloc, &bytes).err() == Some(PoolFault::BadIndex(8))) != good,
+        Err(_) => false,
+    }
+}
+
+/// Whether an entry of these bytes, this number and these bytes may name it or not, as is said.
+fn is_named(alloc: Global, front: &[u8], number: u8, back: &[u8], good: bool) -> bool {
+    match [front, &[0, number], back].concat(alloc) {
+        Ok(entry) => is_linked(alloc, &entry, good),
+        Err(_) => false,
+    }
+}
+
+/// Whether an entry of these bytes, a number and these bytes may name these, and none of the other numbers from 0 on: 8 is the
+/// entry itself, and 9 none.
+fn are_named(alloc: Global, front: &[u8], good: &[u8], back: &[u8]) -> bool {
+    for number in 0..10 {
+        if !is_named(alloc, front, number, back, good.contains(&number)) {
+            return false;
+        }
+    }
+    true
+}
+
 /// The InterfaceMethodref of A.f:()V.
 fn interface_method(alloc: Global) -> Result<Reference<Name>, AllocError> {
     Ok(Reference {
@@ -430,6 +459,7 @@ impl Row for PoolRow {
         match self {
             Fault(count, entries, fault) => has_fault(alloc, *count, entries, &[], *fault),
             Handle(kind, good) => are_handles(alloc, *kind, good),
+            Names(front, good, back) => are_named(alloc, front, good, back),
             Described(entry, good) => is_described(alloc, entry, *good),
             CutShort => is_each_cut(alloc),
             TwoBytes(bytes, found) => u2_at(bytes) == *found,
@@ -587,6 +617,34 @@ fn method_handles(rt: HostRuntime) {
     assert_rows(&rt, HANDLES);
 }
 
+/// Constants that name others, and which ones they may name: 1, 3, 4 and 6 are texts, 2 is a Class, 5 and 7 are each a NameAndType.
+const NAMED: &[PoolRow] = &[
+    // Class, String, MethodType, Module, Package.
+    Names(b"\x07", &[1, 3, 4, 6], b""),
+    Names(b"\x08", &[1, 3, 4, 6], b""),
+    Names(b"\x10", &[1, 3, 4, 6], b""),
+    Names(b"\x13", &[1, 3, 4, 6], b""),
+    Names(b"\x14", &[1, 3, 4, 6], b""),
+    // The name and the descriptor of a NameAndType.
+    Names(b"\x0c", &[1, 3, 4, 6], b"\x00\x04"),
+    Names(b"\x0c\x00\x03", &[1, 3, 4, 6], b""),
+    // The class and the NameAndType of a Fieldref, a Methodref and an InterfaceMethodref.
+    Names(b"\x09", &[2], b"\x00\x07"),
+    Names(b"\x09\x00\x02", &[5, 7], b""),
+    Names(b"\x0a", &[2], b"\x00\x05"),
+    Names(b"\x0a\x00\x02", &[5, 7], b""),
+    Names(b"\x0b", &[2], b"\x00\x05"),
+    Names(b"\x0b\x00\x02", &[5, 7], b""),
+    // The NameAndType of a Dynamic and an InvokeDynamic, whose other number isn't looked at.
+    Names(b"\x11\x00\x08", &[5, 7], b""),
+    Names(b"\x12\x00\x08", &[5, 7], b""),
+];
+
+#[test]
+fn named_entries(rt: HostRuntime) {
+    assert_rows(&rt, NAMED);
+}
+
 /// Constants with a method's descriptor, at 5, and with a field's, at 7 or 6, and whether they may have it.
 const DESCRIBED: &[PoolRow] = &[
     Described(b"\x10\x00\x04", true),
@@ -609,6 +667,97 @@ const DESCRIBED: &[PoolRow] = &[
 #[test]
 fn descriptors(rt: HostRuntime) {
     assert_rows(&rt, DESCRIBED);
+}
+
+/// Classes by their texts: a class name, or a descriptor that begins with a bracket; and texts of which no form is asked.
+const TEXTS: &[PoolRow] = &[
+    Fault(3, &[b"\x01\x00\x02[I", b"\x07\x00\x01"], None),
+    Fault(3, &[b"\x01\x00\x03[[D", b"\x07\x00\x01"], None),
+    Fault(3, &[b"\x01\x00\x04[LA;", b"\x07\x00\x01"], None),
+    Fault(
+        3,
+        &[b"\x01\x00\x03LA;", b"\x07\x00\x01"],
+        Some(PoolFault::BadDescriptor(2)),
+    ),
+    Fault(
+        3,
+        &[b"\x01\x00\x02[A", b"\x07\x00\x01"],
+        Some(PoolFault::BadDescriptor(2)),
+    ),
+    Fault(
+        3,
+        &[b"\x01\x00\x01[", b"\x07\x00\x01"],
+        Some(PoolFault::BadDescriptor(2)),
+    ),
+    Fault(
+        3,
+        &[b"\x01\x00\x02[V", b"\x07\x00\x01"],
+        Some(PoolFault::BadDescriptor(2)),
+    ),
+    Fault(
+        3,
+        &[b"\x01\x00\x04[()V", b"\x07\x00\x01"],
+        Some(PoolFault::BadDescriptor(2)),
+    ),
+    Fault(
+        3,
+        &[b"\x01\x00\x03[Ia", b"\x07\x00\x01"],
+        Some(PoolFault::BadDescriptor(2)),
+    ),
+    Fault(3, &[b"\x01\x00\x03a/b", b"\x07\x00\x01"], None),
+    Fault(
+        3,
+        &[b"\x01\x00\x03a.b", b"\x07\x00\x01"],
+        Some(PoolFault::BadDescriptor(2)),
+    ),
+    Fault(
+        3,
+        &[b"\x01\x00\x02a;", b"\x07\x00\x01"],
+        Some(PoolFault::BadDescriptor(2)),
+    ),
+    Fault(
+        3,
+        &[b"\x01\x00\x02a[", b"\x07\x00\x01"],
+        Some(PoolFault::BadDescriptor(2)),
+    ),
+    Fault(
+        3,
+        &[b"\x01\x00\x00", b"\x07\x00\x01"],
+        Some(PoolFault::BadDescriptor(2)),
+    ),
+    Fault(
+        3,
+        &[b"\x01\x00\x02/a", b"\x07\x00\x01"],
+        Some(PoolFault::BadDescriptor(2)),
+    ),
+    Fault(
+        3,
+        &[b"\x01\x00\x02a/", b"\x07\x00\x01"],
+        Some(PoolFault::BadDescriptor(2)),
+    ),
+    Fault(
+        3,
+        &[b"\x01\x00\x04a//b", b"\x07\x00\x01"],
+        Some(PoolFault::BadDescriptor(2)),
+    ),
+    // A String, a Module, a Package and the name of a NameAndType.
+    Fault(3, &[b"\x01\x00\x04a.b;", b"\x08\x00\x01"], None),
+    Fault(3, &[b"\x01\x00\x04a.b;", b"\x13\x00\x01"], None),
+    Fault(3, &[b"\x01\x00\x04a.b;", b"\x14\x00\x01"], None),
+    Fault(
+        4,
+        &[
+            b"\x01\x00\x04a.b;",
+            b"\x01\x00\x01I",
+            b"\x0c\x00\x01\x00\x02",
+        ],
+        None,
+    ),
+];
+
+#[test]
+fn texts(rt: HostRuntime) {
+    assert_rows(&rt, TEXTS);
 }
 
 /// What is read at the front of bytes, and copies.
