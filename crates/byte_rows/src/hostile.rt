@@ -70,6 +70,8 @@ enum HostileRow {
     Head(usize, ClassFault, Option<(u8, u8)>),
     /// With these four bytes for the high of its tableswitch the file has this fault.
     High([u8; 4], ClassFault),
+    /// With an attribute that nothing reads, so long that it has so many bytes, the first file has this fault, or none.
+    Sized(usize, Option<ClassFault>),
 }
 
 /// Why the bytes are no class file.
@@ -261,6 +263,24 @@ fn fault_with_high(alloc: Global, high: &[u8; 4]) -> Option<ClassFault> {
     }
 }
 
+/// The first file with an attribute that nothing reads, so long that it has so many bytes, 52 or more.
+fn sized(alloc: Global, len: usize) -> Result<Vec<u8>, AllocError> {
+    let info_len = len.saturating_sub(52);
+    let mut bytes = OBJECT[..44].to_vec(alloc)?;
+    bytes.extend_from_slice(&[0, 1, 0, 1])?;
+    bytes.extend_from_slice(&info_len.to_be_bytes()[4..])?;
+    bytes.resize(len, 0)?;
+    Ok(bytes)
+}
+
+/// The fault of that file.
+fn fault_of_size(alloc: Global, len: usize) -> Option<ClassFault> {
+    match sized(alloc, len) {
+        Ok(bytes) => fault_of(alloc, &bytes),
+        Err(_) => Some(ClassFault::Memory),
+    }
+}
+
 impl Row for HostileRow {
     fn is_so(&self, alloc: Global) -> bool {
         match self {
@@ -274,6 +294,7 @@ impl Row for HostileRow {
             }
             Head(place, fault, bounds) => is_head(alloc, *place, *fault, *bounds),
             High(high, fault) => fault_with_high(alloc, high) == Some(*fault),
+            Sized(len, fault) => fault_of_size(alloc, *len) == *fault,
         }
     }
 }
@@ -339,4 +360,16 @@ const SWITCHES: &[HostileRow] = &[
 #[test]
 fn changed_switches(rt: HostRuntime) {
     assert_rows(&rt, SWITCHES);
+}
+
+/// Files of the most bytes, and of one more.
+const SIZES: &[HostileRow] = &[
+    Sized(52, None),
+    Sized(1_000_000, None),
+    Sized(1_000_001, Some(ClassFault::TooLarge)),
+];
+
+#[test]
+fn sizes(rt: HostRuntime) {
+    assert_rows(&rt, SIZES);
 }
