@@ -5,7 +5,7 @@
     bench/hostile.py rows      writes the counts and digests of byte_rows, with their faults in full
 
 The reader follows docs/FORMATS.md and JVMS SE 17 chapter 4, pass after pass, and shares nothing with that of the crates: no text, no
-table, no order of work but the order of the faults. It takes about a minute.
+table, no order of work but that of the faults. It takes half a minute.
 """
 import sys
 from collections import Counter
@@ -442,7 +442,7 @@ def sites_of(pool, method, member):
 
 
 class Shown:
-    """What a class file shows, and the parts that are cut or kept."""
+    """What a class file shows, and the parts of which some are cut off."""
 
 
 def read_class(data):

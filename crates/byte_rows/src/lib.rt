@@ -1,5 +1,5 @@
-//! Tests of the crates that read and write bytes: worked rows of names, constant pools, codes and sketches. Nothing
-//! here is called by other crates.
+//! Tests of the crates that read and write bytes: worked rows of names, constant pools, codes and sketches, and of class
+//! files that are cut or changed. Nothing here is called by other crates.
 #![tactic(auto)]
 
 #[cfg(test)]
