@@ -55,8 +55,8 @@ fn change_both(bytes: &mut [u8], pair: &Pair) {
     change(bytes, pair.second, pair.second_by);
 }
 
-/// Whether the file, which stands here with one byte more behind it, is read as it must be with each other byte at this place. Where
-/// it isn't, the byte that was the first stays.
+/// Whether the file, which stands here with one byte more behind it, is read as it must be with each other byte at this place. At
+/// the first of which it isn't, the bytes are left as they are.
 fn is_each_read(alloc: Global, longer: &mut [u8], place: usize, tally: &mut Tally) -> bool {
     let Some(own) = longer.get(place).copied() else {
         return true;
@@ -73,8 +73,8 @@ fn is_each_read(alloc: Global, longer: &mut [u8], place: usize, tally: &mut Tall
     true
 }
 
-/// Whether the file, which stands here with one byte more behind it, is read as it must be with each other byte at each place. Where it
-/// isn't, the byte that was the first stays.
+/// Whether the file, which stands here with one byte more behind it, is read as it must be with each other byte at each place. At the
+/// first of which it isn't, the bytes are left as they are.
 pub(crate) fn are_singles_read(
     alloc: Global,
     longer: &mut [u8],
@@ -89,8 +89,8 @@ pub(crate) fn are_singles_read(
     true
 }
 
-/// Whether the file, which stands here with one byte more behind it, is read as it must be with each pair of bytes changed. Where it
-/// isn't, the pair that was the first stays.
+/// Whether the file, which stands here with one byte more behind it, is read as it must be with each pair of bytes changed. At the
+/// first of which it isn't, the bytes are left as they are.
 pub(crate) fn are_pairs_read(
     alloc: Global,
     longer: &mut [u8],
