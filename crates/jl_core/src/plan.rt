@@ -1,8 +1,8 @@
 //! A planned event, and the sites that it changes.
 
-ghost use Rattle.std.specs.Prelude.{◌≡◌, ◌≤◌, IfOk};
+ghost use Rattle.std.specs.Prelude.{◌≡◌, ◌≤◌, length, IfOk};
 ghost use Rattle.jl_types.specs.Event.{Event};
-ghost use Rattle.jl_core.specs.State.{events, IsAccepted};
+ghost use Rattle.jl_core.specs.State.{events, world_of, IsAccepted};
 ghost use Rattle.jl_core.specs.Works.{most_of_last};
 ghost use Rattle.jl_core.specs.Plans.{IsPlanned};
 
@@ -73,6 +73,13 @@ impl Planned {
         ensures { result.now ≡ self.now.slots }
     {
         self.slots.as_slice()
+    }
+
+    /// How many classes and interfaces there are after the event. Takes no memory.
+    pub fn class_count(&self) -> usize
+        ensures { result ≡ length (world_of self.now.after).classes.rows }
+    {
+        self.after.world().classes.class_count()
     }
 
     /// The core that the event leads to, what it is answered, and how much work it took.
