@@ -1,16 +1,27 @@
--- The link of what selects by its receiver, by what is kept of it.
-use Rattle.std.specs.Prelude.{◌≡◌, ℕ, ◌<◌, length, Some, Ok}
-use Rattle.std.proofs.Common.{sym, ap, ◌∙◌}
+-- The link of what selects by its receiver, and the answer of an invokespecial, by what is kept of it.
+use Rattle.std.specs.Prelude.{◌≡◌, ℕ, List, ◌<◌, length, Some, option_map, Ok, if◌then◌else◌}
+use Rattle.std.proofs.Common.{refl, sym, ap, ◌∙◌}
+use Rattle.std.proofs.Math.Bool.{and-true}
+use Rattle.std.proofs.lemmas.Option.{same_Some}
+use Rattle.jl_pool.specs.declared.reference.Reference.{Reference}
+use Rattle.jl_types.specs.declared.answer.Answer.TheVariants as answer
+use Rattle.jl_types.specs.declared.answer.Outcome.{Outcome}
+use Rattle.jl_types.specs.declared.answer.Recv.{Recv}
+use Rattle.jl_types.specs.declared.answer.Recv.TheVariants.{Null, Of}
 use Rattle.jl_types.specs.declared.ids.MethodId.{MethodId}
 use Rattle.jl_types.specs.declared.link.TableKind.{TableKind}
 use Rattle.jl_types.specs.declared.link.TableKind.TheVariants.{Virtual, Interface}
 use Rattle.jl_types.specs.World.{Classes}
-use Rattle.jl_types.specs.Sites.{Stage, Selects, Invocation}
+use Rattle.jl_types.specs.Members.{is_concrete}
+use Rattle.jl_types.specs.Resolution.{named_class}
+use Rattle.jl_types.specs.Selection.{special_outcome}
+use Rattle.jl_types.specs.Sites.{Stage, BySpecial, Selects, Invocation}
+use Rattle.jl_types.specs.Calls.{answered, answer_of, selected}
 use Rattle.jl_types.specs.Links.{outcome, link_of, link_by}
 use Rattle.jl_relink.specs.declared.selection.Selection.{Selection}
-use Rattle.jl_relink.specs.Rows.{outcome_of, selected_link}
+use Rattle.jl_relink.specs.Rows.{outcome_of, selected_link, special_answer}
 use Rattle.jl_relink.specs.Receivers.{IsSelection}
-use Rattle.jl_relink.specs.Stages.{selector_of, IsKept}
+use Rattle.jl_relink.specs.Stages.{selector_of, IsKept, IsSearch}
 
 module _ (cs : Classes) (named : ℕ) (m : MethodId) (i : Invocation) where
   abbrev kept : TableKind → Selection
@@ -39,3 +50,31 @@ selects_outcome cs stage s x r i e =
   where
     inside : (i j : Invocation) → Selects i ≡ Selects j → i ≡ j
     inside i j h = cc
+
+-- ---- an invokespecial
+
+module _ (cs : Classes) (d : ℕ) (ref : Reference (List ℕ)) (o : Outcome) (i : Invocation) (is : IsSearch cs d ref i)
+    (found : Some o ≡ option_map (λ named. special_outcome cs d named ref) (named_class cs d ref)) where
+  abbrev searching : Invocation
+  searching = record { selector = BySpecial; caller = d; named = i.named; ref = ref; method = i.method }
+
+  whole_search : i ≡ searching
+  whole_search = λ j. record { selector = is.selector j; caller = is.caller j; named = i.named; ref = is.reference j; method = i.method }
+
+  comes_to : o ≡ special_outcome cs d i.named ref
+  comes_to = same_Some o (special_outcome cs d i.named ref) (found ∙ ap (option_map (λ named. special_outcome cs d named ref)) is.names)
+
+  by_receiver : (recv : Recv) → special_answer cs o recv ≡ selected cs searching recv
+  by_receiver Null = refl
+  by_receiver (Of x) = λ j. if sym (and-true (is_concrete cs x)) j then answered (comes_to j) else answer.BadReceiver
+
+  search_answer_by : (recv : Recv) → special_answer cs o recv ≡ selected cs i recv
+  search_answer_by recv = by_receiver recv ∙ sym (ap (λ (i : Invocation). selected cs i recv) whole_search)
+
+-- it is answered by what it comes to for the class that its reference names
+pub search_answer : (cs : Classes) (d : ℕ) (ref : Reference (List ℕ)) (stage : Stage) (o : Outcome) (recv : Recv)
+    → (i : Invocation) × (stage ≡ Selects i) × IsSearch cs d ref i
+    → Some o ≡ option_map (λ named. special_outcome cs d named ref) (named_class cs d ref)
+    → special_answer cs o recv ≡ answer_of cs stage recv
+search_answer cs d ref stage o recv r found =
+    search_answer_by cs d ref o r.0 r.2 found recv ∙ sym (ap (λ (t : Stage). answer_of cs t recv) r.1)

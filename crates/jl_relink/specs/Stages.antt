@@ -1,9 +1,10 @@
 -- What the code keeps of what an invocation of a reference comes to before its receiver. A means of proof.
-use Rattle.std.specs.Prelude.{◌≡◌, ◌<◌, ℕ, List, length}
+use Rattle.std.specs.Prelude.{◌≡◌, ◌<◌, ℕ, List, length, Some}
 use Rattle.jl_pool.specs.declared.reference.Reference.{Reference}
 use Rattle.jl_types.specs.declared.link.TableKind.{TableKind}
 use Rattle.jl_types.specs.declared.link.TableKind.TheVariants.{Virtual, Interface}
 use Rattle.jl_types.specs.World.{Classes}
+use Rattle.jl_types.specs.Resolution.{named_class}
 use Rattle.jl_types.specs.Sites.{Selector, ByVirtual, ByInterface, BySpecial, Stage, Waits, Fails, Calls, Selects, Invocation}
 use Rattle.jl_relink.specs.declared.selection.Selection.{Selection}
 use Rattle.jl_relink.specs.declared.stage.Stage.{Stage as Kept}
@@ -19,18 +20,16 @@ pub record IsKept (s : Selection) (i : Invocation) : Type 0 where
   pub named : i.named ≡ s.named
   pub method : i.method ≡ s.method
 
--- the invocation is an invokespecial of the reference, in the caller's class d, and this class is named
-pub record IsSearch (cs : Classes) (d : ℕ) (ref : Reference (List ℕ)) (named : ℕ) (i : Invocation) : Type 0 where
+-- the invocation is an invokespecial of the reference, in the caller's class d, and its class is the one that the reference names
+pub record IsSearch (cs : Classes) (d : ℕ) (ref : Reference (List ℕ)) (i : Invocation) : Type 0 where
   pub selector : i.selector ≡ BySpecial
   pub caller : i.caller ≡ d
-  pub named_class : i.named ≡ named
+  pub names : named_class cs d ref ≡ Some i.named
   pub reference : i.ref ≡ ref
-  pub caller_there : d < length cs.rows
-  pub named_there : named < length cs.rows
 
 abbrev pub IsStage : Classes → ℕ → Reference (List ℕ) → Kept → Stage → Type 0
 IsStage cs d ref (kept.Waits reason) stage = stage ≡ Waits reason
 IsStage cs d ref (kept.Fails throwable) stage = stage ≡ Fails throwable
 IsStage cs d ref (kept.Calls m) stage = stage ≡ Calls m
 IsStage cs d ref (kept.Selects s) stage = (i : Invocation) × (stage ≡ Selects i) × IsKept s i × (s.named < length cs.rows)
-IsStage cs d ref (kept.Searches named) stage = (i : Invocation) × (stage ≡ Selects i) × IsSearch cs d ref named i
+IsStage cs d ref kept.Searches stage = (i : Invocation) × (stage ≡ Selects i) × IsSearch cs d ref i

@@ -15,7 +15,7 @@ use jl_hierarchy::Classes;
 use jl_names::LentName;
 use jl_pool::Reference;
 use jl_select::special;
-use jl_types::{Answer, ClassId, Outcome, Recv, SiteNo, TableKind, Throwable, Unlinked};
+use jl_types::{Answer, ClassId, Missing, Outcome, Recv, SiteNo, TableKind, Throwable, Unlinked};
 
 /// The answer to a call (JVMS SE 17 §6.5). It looks at no link. Takes no memory.
 pub fn dispatch(world: &World, site: SiteNo, recv: Recv) -> Answer
@@ -63,9 +63,10 @@ fn reference_answer(
         Stage::Fails(throwable) => Answer::Throws(throwable),
         Stage::Calls(method) => Answer::Run(method),
         Stage::Selects(selection) => selected_answer(classes, &selection, recv),
-        Stage::Searches(named) => {
-            special_answer(classes, special(classes, caller, named, reference), recv)
-        }
+        Stage::Searches => match special(classes, caller, reference) {
+            Some(outcome) => special_answer(classes, outcome, recv),
+            None => Answer::Unlinked(Unlinked::NotReady(Missing::Named)),
+        },
     }
 }
 

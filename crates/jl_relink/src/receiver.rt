@@ -151,6 +151,6 @@ fn selection_of_reference(
         Stage::Waits(_) => None,
         Stage::Fails(_) => None,
         Stage::Calls(_) => None,
-        Stage::Searches(_) => None,
+        Stage::Searches => None,
     }
 }

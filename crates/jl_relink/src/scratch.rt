@@ -16,7 +16,7 @@ use jl_hierarchy::Classes;
 use jl_names::LentName;
 use jl_pool::Reference;
 use jl_select::special_counted;
-use jl_types::{CallSiteId, ClassId, Link, SiteNo, Unlinked, Work};
+use jl_types::{CallSiteId, ClassId, Link, Missing, SiteNo, Unlinked, Work};
 
 /// The link of a site from scratch, or why it has none. Takes no memory.
 pub fn link_of(world: &World, site: SiteNo) -> Result<Link, Unlinked>
@@ -86,9 +86,10 @@ fn reference_link(
         Stage::Fails(throwable) => Ok(Link::Fault(throwable)),
         Stage::Calls(method) => Ok(Link::Plain(method)),
         Stage::Selects(selection) => Ok(selected_link(classes, &selection, work)),
-        Stage::Searches(named) => Ok(Link::Direct(special_counted(
-            classes, caller, named, reference, work,
-        ))),
+        Stage::Searches => match special_counted(classes, caller, reference, work) {
+            Some(outcome) => Ok(Link::Direct(outcome)),
+            None => Err(Unlinked::NotReady(Missing::Named)),
+        },
     }
 }
 

@@ -1,6 +1,6 @@
 //! What an invocation of a reference comes to before its receiver is looked at (JVMS SE 17 §6.5).
 
-ghost use Rattle.std.specs.Prelude.{◌≡◌, ◌<◌, ◌==◌, ◌&&◌, not, length};
+ghost use Rattle.std.specs.Prelude.{◌≡◌, ◌<◌, ◌==◌, ◌&&◌, Some, not, length};
 ghost use Rattle.jl_types.specs.Sites as sites;
 ghost use Rattle.jl_types.specs.Selection as selection;
 ghost use Rattle.jl_types.specs.Resolution as resolution;
@@ -26,8 +26,9 @@ pub(crate) enum Stage {
     Calls(MethodId),
     /// It selects by the receiver.
     Selects(Selection),
-    /// An invokespecial, whose reference names this class: it searches, and comes to the same for each receiver.
-    Searches(ClassId),
+    /// An invokespecial: it searches from the caller's class or the one that the reference names, and comes to the same for each
+    /// receiver.
+    Searches,
 }
 
 /// What an invocation of the reference comes to, in the caller's class.
@@ -55,8 +56,8 @@ fn by_kind(
     reference: &Reference<LentName<'_>>,
     resolved: &Resolved,
 ) -> Stage
-    requires caller { caller < length classes.now.rows }
-    requires named { resolved.now.named < length classes.now.rows }
+    requires named { resolution.named_class classes.now caller reference.now ≡ Some resolved.now.named }
+    requires there { resolved.now.named < length classes.now.rows }
     ensures { IsStage classes.now caller reference.now result (sites.by_kind classes.now kind caller reference.now resolved.now) }
 {
     match kind {
@@ -112,8 +113,7 @@ fn special_stage(
     reference: &Reference<LentName<'_>>,
     resolved: &Resolved,
 ) -> Stage
-    requires caller { caller < length classes.now.rows }
-    requires named { resolved.now.named < length classes.now.rows }
+    requires { resolution.named_class classes.now caller reference.now ≡ Some resolved.now.named }
     ensures { IsStage classes.now caller reference.now result (sites.by_kind classes.now Special caller reference.now resolved.now) }
 {
     if is_inherited_init(reference, resolved) {
@@ -122,7 +122,7 @@ fn special_stage(
     if classes.is_static(&resolved.method) {
         return Stage::Fails(Throwable::IncompatibleClassChangeError);
     }
-    Stage::Searches(resolved.named)
+    Stage::Searches
 }
 
 /// Whether an `<init>` of another class than the one that is named was found.

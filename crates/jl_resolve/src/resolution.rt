@@ -64,6 +64,7 @@ pub fn resolve_reference(
     reference: &Reference<LentName<'_>>,
 ) -> Result<Resolved, ResolveAnswer>
     ensures same { result ≡ resolution.resolved classes.now caller reference.now }
+    ensures named { IfOk result (λ resolved. resolution.named_class classes.now caller reference.now ≡ Some resolved.named) }
     ensures there { IfOk result (λ resolved. resolved.named < length classes.now.rows) }
     ensures caller { OnOk result (caller < length classes.now.rows) }
 {

@@ -1,7 +1,8 @@
 //! What an invokespecial comes to (JVMS SE 17 §6.5.invokespecial).
 
-ghost use Rattle.std.specs.Prelude.{◌≡◌, ◌+◌, ◌^◌, ◌<◌, not, length, IfSome};
+ghost use Rattle.std.specs.Prelude.{◌≡◌, ◌+◌, ◌^◌, ◌<◌, not, length, option_map, IfSome, MatchOption};
 ghost use Rattle.jl_types.specs.Members as members;
+ghost use Rattle.jl_types.specs.Resolution as resolution;
 ghost use Rattle.jl_types.specs.Selection as selection;
 ghost use Rattle.jl_select.specs.Walks.{own_passing};
 
@@ -9,13 +10,46 @@ use crate::selection::ending;
 use jl_hierarchy::{Classes, Sought};
 use jl_names::LentName;
 use jl_pool::Reference;
+use jl_resolve::named_class;
 use jl_types::{Chosen, ClassId, MethodId, Outcome, Work};
 
-/// What an invokespecial in the caller's class comes to, where its reference names this class or interface. Takes no memory.
+/// What an invokespecial of the reference comes to, in the caller's class. None where the caller isn't there, or its loader hasn't
+/// recorded the class or interface that the reference names. Takes no memory.
+pub fn special(
+    classes: &Classes,
+    caller: ClassId,
+    reference: &Reference<LentName<'_>>,
+) -> Option<Outcome>
+    ensures { result ≡ option_map (λ named. selection.special_outcome classes.now caller named reference.now)
+        (resolution.named_class classes.now caller reference.now) }
+{
+    let named = named_class(classes, caller, reference)?;
+    Some(special_outcome(classes, caller, named, reference))
+}
+
+/// The same with one tick where the class or interface is recorded, since this is a special search then, and with none where it
+/// isn't. Takes no memory.
+pub fn special_counted(
+    classes: &Classes,
+    caller: ClassId,
+    reference: &Reference<LentName<'_>>,
+    work: &mut Work,
+) -> Option<Outcome>
+    requires fits { work.old + 1 < 2 ^ 64 }
+    ensures outcome { result ≡ option_map (λ named. selection.special_outcome classes.now caller named reference.now)
+        (resolution.named_class classes.now caller reference.now) }
+    ensures ticks { MatchOption result (work.new ≡ work.old) (λ _. work.new ≡ work.old + 1) }
+{
+    let outcome = special(classes, caller, reference)?;
+    work.tick();
+    Some(outcome)
+}
+
+/// What it comes to where the reference names this class or interface.
 ///
 /// The search begins at the caller's direct superclass if a proper superclass of the caller is named and the method isn't
 /// `<init>`, and else at the named class.
-pub fn special(
+fn special_outcome(
     classes: &Classes,
     caller: ClassId,
     named: ClassId,
@@ -33,24 +67,6 @@ pub fn special(
             reference,
         ),
     )
-}
-
-/// The same with one tick: this is a special search. Takes no memory.
-pub fn special_counted(
-    classes: &Classes,
-    caller: ClassId,
-    named: ClassId,
-    reference: &Reference<LentName<'_>>,
-    work: &mut Work,
-) -> Outcome
-    requires caller { caller < length classes.now.rows }
-    requires named { named < length classes.now.rows }
-    requires fits { work.old + 1 < 2 ^ 64 }
-    ensures outcome { result ≡ selection.special_outcome classes.now caller named reference.now }
-    ensures ticks { work.new ≡ work.old + 1 }
-{
-    work.tick();
-    special(classes, caller, named, reference)
 }
 
 /// Where the search begins.

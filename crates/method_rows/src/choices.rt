@@ -2,7 +2,7 @@
 
 use crate::commands::{Command, reference};
 use jl_hierarchy::Classes;
-use jl_names::{LentName, Name};
+use jl_names::Name;
 use jl_pool::Reference;
 use jl_select::{can_override, chosen, runs_below, select, select_interface, special};
 use jl_types::{Chosen, ClassId, MethodId, Outcome};
@@ -101,32 +101,24 @@ fn interface_for(
     }
 }
 
-/// The outcome of an invokespecial, if there are such classes.
+/// The outcome of an invokespecial, if the reference could be made.
 fn special_for(
     alloc: Global,
     classes: &Classes,
     caller: ClassId,
-    named: ClassId,
     reference: Result<Reference<Name>, AllocError>,
 ) -> Result<String, AllocError> {
     match reference {
-        Ok(reference) => special_of(alloc, classes, caller, named, &reference.lent()),
+        Ok(reference) => special_of(alloc, special(classes, caller, &reference.lent())),
         Err(fault) => Err(fault),
     }
 }
 
-/// The same of a reference that was made.
-fn special_of(
-    alloc: Global,
-    classes: &Classes,
-    caller: ClassId,
-    named: ClassId,
-    reference: &Reference<LentName<'_>>,
-) -> Result<String, AllocError> {
-    if classes.has_class(caller) && classes.has_class(named) {
-        run_or_thrown(alloc, special(classes, caller, named, reference))
-    } else {
-        String::from_str(alloc, "no class")
+/// The same, or that there are no such classes.
+fn special_of(alloc: Global, outcome: Option<Outcome>) -> Result<String, AllocError> {
+    match outcome {
+        Some(outcome) => run_or_thrown(alloc, outcome),
+        None => String::from_str(alloc, "no class"),
     }
 }
 
@@ -168,12 +160,11 @@ pub(crate) fn choice(
             ClassId::new(*named),
             &method_id(*class, *index),
         ),
-        Command::Special(caller, named, name, ty) => special_for(
+        Command::Special(caller, owner, name, ty) => special_for(
             alloc,
             classes,
             ClassId::new(*caller),
-            ClassId::new(*named),
-            reference(alloc, false, "X", name, ty),
+            reference(alloc, false, owner, name, ty),
         ),
         _ => String::from_str(alloc, "no question"),
     }

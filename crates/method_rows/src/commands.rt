@@ -45,8 +45,8 @@ pub(crate) enum Command {
     RunsBelow(u32, u32, u16),
     /// What an invokeinterface comes to for a receiver of the first class, where the second one is named.
     Interface(u32, u32, u32, u16),
-    /// What an invokespecial comes to, where the second class is named.
-    Special(u32, u32, &'static str, &'static str),
+    /// What an invokespecial of a Methodref of this class, name and descriptor comes to.
+    Special(u32, &'static str, &'static str, &'static str),
 }
 
 /// The new loader's number, or why there is none.

@@ -1,5 +1,5 @@
-use Rattle.std.specs.Prelude.{ℕ, ◌<◌, length, Bool, if◌then◌else◌}
-use Rattle.std.proofs.Common.{refl, sym, ap, subst, ◌∙◌}
+use Rattle.std.specs.Prelude.{Bool, if◌then◌else◌}
+use Rattle.std.proofs.Common.{refl, sym, ap, ◌∙◌}
 use Rattle.jl_types.specs.declared.answer.Throwable.TheVariants.{NoSuchMethodError, IncompatibleClassChangeError}
 use Rattle.jl_types.specs.Members.{is_static}
 use Rattle.jl_types.specs.Resolution.{Resolved}
@@ -11,18 +11,10 @@ returns c =
     let cs = c.args.classes.now in
     let r = c.args.resolved.now in
     let i : Invocation = record { selector = BySpecial; caller = c.args.caller; named = r.named; ref = c.args.reference.now; method = r.method } in
-    let named = sym (ap (λ (r : Resolved). r.named) c.resolved.view_is) in
     let instance = sym (ap (λ (r : Resolved). is_static cs r.method) c.resolved.view_is) ∙ sym c.is_static.ensures ∙ c.if-is_static.false in (
       i,
       ap (λ (b : Bool). if b then Fails NoSuchMethodError else selecting cs BySpecial c.args.caller c.args.reference.now r)
           (sym c.is_inherited_init.ensures ∙ c.if-is_inherited_init.false)
           ∙ ap (λ (b : Bool). if b then Fails IncompatibleClassChangeError else Selects i) instance,
-      record {
-        selector = refl;
-        caller = refl;
-        named_class = named;
-        reference = refl;
-        caller_there = c.requires.caller;
-        named_there = subst (λ (n : ℕ). n < length cs.rows) named c.requires.named;
-      },
+      record { selector = refl; caller = refl; names = c.requires; reference = refl },
     )
