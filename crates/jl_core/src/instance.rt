@@ -1,12 +1,12 @@
 //! One instance of all that a core keeps.
 
-ghost use Rattle.std.specs.Prelude.{◌≡◌, ◌≤◌, ℕ, true, option_copied, slice_get, IsOk, IfOk, OnOk};
+ghost use Rattle.std.specs.Prelude.{◌≡◌, ◌≤◌, ℕ, true, length, option_copied, slice_get, IsOk, IfOk, OnOk};
 ghost use Rattle.jl_types.specs.Events.{verdict};
 ghost use Rattle.jl_types.specs.History.{installed};
 ghost use Rattle.jl_types.specs.Footprints.{bound};
 ghost use Rattle.jl_relink.specs.Laws.{IsInOrder};
 ghost use Rattle.jl_cache.specs.Links.{link_at};
-ghost use Rattle.jl_core.specs.State.{empty_core, events, world_of, IsAccepted};
+ghost use Rattle.jl_core.specs.State.{empty_core, events, world_of, AreAnswered, IsAccepted};
 ghost use Rattle.jl_core.specs.Logs.{shown, are_told};
 ghost use Rattle.jl_core.specs.Judging.{IsJudged, most_to_judge};
 ghost use Rattle.jl_core.specs.Replays.{IsBehind};
@@ -197,14 +197,16 @@ impl Instance {
 
     /// What there is to link.
     pub(crate) fn world(&self) -> &World
-        ensures { result.now ≡ world_of self.now }
+        ensures world { result.now ≡ world_of self.now }
+        ensures limit { length (world_of self.now).places ≤ self.now.max_sites }
     {
         &self.world
     }
 
     /// What there is to link, for one more who holds it. More holders than can be counted are an error.
     pub(crate) fn shared_world(&self) -> Result<Arc<World>, AllocError>
-        ensures { IfOk result (λ world. world.value ≡ world_of self.now) }
+        ensures world { IfOk result (λ world. world.value ≡ world_of self.now) }
+        ensures limit { length (world_of self.now).places ≤ self.now.max_sites }
     {
         Arc::try_clone(&self.world)
     }
@@ -220,6 +222,7 @@ impl Instance {
     pub(crate) fn log(&self) -> &[Entry]
         ensures told { are_told (world_of self.now).classes.rows result.now ≡ true }
         ensures events { shown (world_of self.now).classes.rows result.now ≡ self.now.log }
+        ensures answered { AreAnswered self.now }
     {
         self.log.as_slice()
     }

@@ -6,7 +6,7 @@ ghost use Rattle.jl_types.specs.Events.{verdict};
 ghost use Rattle.jl_types.specs.History.{installed};
 ghost use Rattle.jl_relink.specs.Preparations.{IsPreparation};
 ghost use Rattle.jl_cache.specs.Links.{link_at};
-ghost use Rattle.jl_core.specs.State.{State, empty_core, events, world_of, links_of, IsAccepted, IsRefused};
+ghost use Rattle.jl_core.specs.State.{State, empty_core, events, world_of, links_of, AreAnswered, IsAccepted, IsRefused};
 ghost use Rattle.jl_core.specs.Plans.{IsPlanned, IsAsPlanned};
 ghost use Rattle.jl_core.specs.Logs.{shown, are_told};
 ghost use Rattle.jl_core.specs.Works.{most_of_last};
@@ -189,9 +189,10 @@ impl Core {
         self.present.links()
     }
 
-    /// What there is to link. Takes no memory.
+    /// What there is to link. No more places are requested than may be. Takes no memory.
     pub fn world(&self) -> &World
-        ensures { result.now ≡ world_of self.now }
+        ensures world { result.now ≡ world_of self.now }
+        ensures limit { length (world_of self.now).places ≤ self.now.max_sites }
     {
         self.present.world()
     }
@@ -203,11 +204,12 @@ impl Core {
         self.world().classes.class_count()
     }
 
-    /// The accepted events in order, each with its reply. An entry of a definition names its class, which has the loader and the
-    /// file. Takes no memory.
+    /// The accepted events in order, each with its reply, which is what the events before it say. An entry of a definition names its
+    /// class, which has the loader and the file. Takes no memory.
     pub fn log(&self) -> &[Entry]
         ensures told { are_told (world_of self.now).classes.rows result.now ≡ true }
         ensures events { shown (world_of self.now).classes.rows result.now ≡ self.now.log }
+        ensures answered { AreAnswered self.now }
     {
         self.present.log()
     }
@@ -231,10 +233,11 @@ impl Core {
         self.links().list(alloc)
     }
 
-    /// The world as it is, with the count of the events that were accepted. It is not copied: an event that is to change it while
-    /// the snapshot holds it changes a copy. Want of memory is an error.
+    /// The world as it is, with the count of the events that were accepted. No more places are requested there than may be. It is not
+    /// copied: an event that is to change it while the snapshot holds it changes a copy. Want of memory is an error.
     pub fn snapshot(&self, _alloc: Global) -> Result<Snapshot, AllocError>
-        ensures { IfOk result (λ snapshot. snapshot ≡ record { world = world_of self.now; serial = length self.now.log }) }
+        ensures snapshot { IfOk result (λ snapshot. snapshot ≡ record { world = world_of self.now; serial = length self.now.log }) }
+        ensures limit { IfOk result (λ snapshot. length snapshot.world.places ≤ self.now.max_sites) }
     {
         Ok(Snapshot::sharing(self.present.shared_world()?, self.serial()))
     }
