@@ -52,15 +52,13 @@ next_table seat v x change book shown y is =
     (ap (λ (t : Content). length t.links) is ∙ length_written change.slots.items x.links.items)
     (λ s. subst IsShown (sym is) (shown s))
 
--- what is pending, where it is one change
-one_change : {A : Type 0} (xs ys : List A) (x : A) → length xs ≡ 0 → ys ≡ xs ++ x ∷ [] → ys ≡ x ∷ []
-one_change [] ys x none is = is
-one_change (y ∷ xs) ys x none is = absurd (omega (arith, none))
+-- what is pending, where one change was appended to nothing
+pub one_change : {A : Type 0} (xs ys : List A) (x y : A) → length xs ≡ 0 → ys ≡ xs ++ x ∷ [] → y ≡ x → ys ≡ y ∷ []
+one_change [] ys x y none is same = is ∙ ap (λ z. z ∷ []) (sym same)
+one_change (z ∷ xs) ys x y none is same = absurd (omega (arith, none))
 
--- a writer to which one change was appended
-pub next_pending : (seat : ℕ) (v : Option Tag) (x x' : Table) (old new : List Change) (change : Change) → x' ≡ x → length old ≡ 0 → new ≡ old ++ change ∷ []
+-- a writer of which one change is pending
+pub next_pending : (seat : ℕ) (v : Option Tag) (x : Table) (pending : List Change) (change : Change) → pending ≡ change ∷ []
     → change.list.reached.book ≡ x.list.reached.book → (IsShown (content x) → IsShown (changed (content x) change))
-    → (y : Table) → content y ≡ fold changed (content x') new → TurnsAt Ruled seat v x' y Publishes
-next_pending seat v x x' old new change same none pending book shown y is =
-    next_table seat v x' change (book ∙ ap (λ (t : Table). t.list.reached.book) (sym same)) (λ s. subst (λ (t : Table). IsShown (changed (content t) change)) (sym same) (shown (subst (λ (t : Table). IsShown (content t)) same s)))
-    y (is ∙ ap (fold changed (content x')) (one_change old new change none pending))
+    → (y : Table) → content y ≡ fold changed (content x) pending → TurnsAt Ruled seat v x y Publishes
+next_pending seat v x pending change one book shown y is = next_table seat v x change book shown y (is ∙ ap (fold changed (content x)) one)

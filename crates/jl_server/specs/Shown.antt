@@ -3,7 +3,9 @@ use Rattle.std.specs.Prelude.{◌≡◌, ℕ, List, length, Option, Some, None}
 use mathlib.Core.Option.{some}
 use Rattle.logbook.specs.Pages.{Book}
 use lib.ListN.{get_elem?}
-use Rattle.jl_types.specs.Entries.{IsLegal, written, table_of, classes_of}
+use Rattle.jl_types.specs.Entries.{Entry, IsLegal, written, table_of, classes_of}
+use Rattle.jl_core.specs.State.{world_of}
+use Rattle.jl_core.specs.Plans.{Plan}
 use Rattle.jl_server.specs.declared.mark.Tag.{Tag}
 use Rattle.jl_server.specs.declared.table.Table.{Table}
 use Rattle.jl_server.specs.declared.table.Change.{Change}
@@ -49,3 +51,10 @@ told v w = w
 abbrev pub server_of : Option Tag → Option (Book × ℕ)
 server_of None = None
 server_of (Some tag) = Some (tag.reached.book, tag.sites)
+
+-- the change that a planned event makes, where the list with its entry is this one of the history
+pub record IsChangeOf (b : Book) (plan : Plan) (entries : List Entry) (change : Change) : Type 0 where
+  pub slots : change.slots.items ≡ plan.slots
+  pub classes : change.classes ≡ length (world_of plan.after).classes.rows
+  pub log : change.list.reached.log ≡ entries
+  pub book : change.list.reached.book ≡ b

@@ -1,6 +1,6 @@
 //! What lies under the lock: a core, and the one writer of the published table.
 
-ghost use Rattle.std.specs.Prelude.{◌≡◌, true, [], ◌∷◌, ◌++◌, length, drop, IsOk, IfOk, IfErr, IfSome, if◌then◌else◌};
+ghost use Rattle.std.specs.Prelude.{◌≡◌, ◌≤◌, [], ◌∷◌, ◌++◌, true, length, drop, None, IsOk, IfOk, IfErr, IfSome, if◌then◌else◌};
 ghost use Rattle.jl_types.specs.declared.refusal.Refusal.TheVariants.{Memory};
 ghost use Rattle.jl_types.specs.Events.{verdict};
 ghost use Rattle.jl_types.specs.History.{world_after, installed_links};
@@ -8,9 +8,10 @@ ghost use Rattle.jl_types.specs.Entries.{IsLegal, events_of};
 ghost use Rattle.jl_core.specs.State.{IsAccepted, IsRefused, empty_core};
 ghost use Rattle.jl_core.specs.Plans.{IsPlanned, IsAsPlanned};
 ghost use Rattle.jl_server.specs.History.{core_of, entry_after, is_install, planned_entry};
+ghost use Rattle.jl_server.specs.Shown.{content, changed, IsShown, IsChangeOf};
 
 use crate::history::{Head, Name};
-use crate::publish::{TableWriter, publish_in};
+use crate::publish::{TableWriter, show_in};
 use crate::seen::Seen;
 use crate::table::Change;
 use jl_core::{Core, Planned};
@@ -18,6 +19,7 @@ use jl_relink::Snapshot;
 use jl_types::{Event, Link, Refusal, Reply, SiteNo};
 use std::alloc::{AllocError, Global};
 use std::marker::Model;
+use std::snapshot::Snapshot as Known;
 use std::sync::Wait;
 
 /// An accepted event's reply, the count of the accepted events up to it, and the list that it ends.
@@ -35,9 +37,9 @@ pub struct Denied<K: Name> {
     pub seen: Seen<K>,
 }
 
-/// What is to be published: the slots of an entry, and the list that it ends.
+/// What is to be published: the change that an entry makes, and the list that it ends.
 struct Next<K: Name> {
-    slots: Vec<(SiteNo, Option<Link>)>,
+    change: Change,
     list: Seen<K>,
 }
 
@@ -125,6 +127,7 @@ impl<K: Name, R: Wait + Drop> Book<K, R> {
     pub fn snapshot(&self, alloc: Global) -> Result<(Snapshot, Seen<K>), AllocError>
         ensures world { IfOk result (λ r. r.0 ≡ record { world = world_after (events_of self.now); serial = length self.now }) }
         ensures seen { IfOk result (λ r. r.1 ≡ self.now) }
+        ensures sites { IfOk result (λ r. length r.0.world.places ≤ K.max_sites) }
     {
         match self.core.snapshot(alloc) {
             Ok(snapshot) => Ok((snapshot, self.list.again())),
@@ -142,8 +145,8 @@ impl<K: Name, R: Wait + Drop> Book<K, R> {
         }
     }
 
-    /// One event, in one hold of the lock: it is planned, the sites that it changes are copied, and then, with all its room made,
-    /// it is added to the history, committed and published.
+    /// One event, in one hold of the lock: it is planned, the sites that it changes are copied, its entry is added to the history, and the
+    /// change is put into the table's queue, which is the last growth. Then it is committed and shown.
     ///
     /// # Errors
     ///
@@ -266,16 +269,18 @@ impl<K: Name, R: Wait + Drop> Book<K, R> {
         ensures refused { IfErr result (λ d. (d.refusal ≡ Memory) × (d.seen ≡ self.old) × (self.new ≡ self.old)) }
     {
         match self.next(alloc, &planned) {
-            Some(next) => Ok(self.publish(rt, planned, next, installs)),
+            Some(next) => self.publish(rt, planned, next, installs),
             None => Err(self.unmade(planned)),
         }
     }
 
-    /// The slots of what was planned, and the published list with its entry, which is added to the history. There is nothing where
-    /// there is no memory.
+    /// The change that what was planned makes in the table, and the published list with its entry, which is added to the history. There is
+    /// nothing where there is no memory.
     fn next(&self, alloc: Global, planned: &Planned) -> Option<Next<K>>
         requires { IsAsPlanned (core_of K.max_sites self.now) planned.now }
-        ensures { IfSome result (λ next. (next.slots.items ≡ planned.now.slots) × (next.list ≡ self.now ++ planned_entry planned.now ∷ [])) }
+        ensures list { IfSome result (λ next. next.list ≡ self.now ++ planned_entry planned.now ∷ []) }
+        ensures change { IfSome result (λ next. IsChangeOf K.book planned.now next.list next.change) }
+        ensures legal { IfSome result (λ next. IsLegal K.max_sites next.list) }
     {
         let Ok(slots) = copy(alloc, planned.slots()) else {
             return None;
@@ -284,37 +289,41 @@ impl<K: Name, R: Wait + Drop> Book<K, R> {
         if !list.add(&self.head, planned) {
             return None;
         }
-        Some(Next { slots, list })
+        let change = Change {
+            slots,
+            classes: planned.class_count(),
+            list: list.mark(),
+        };
+        Some(Next { change, list })
     }
 
-    /// Commits what was planned, and publishes it.
+    /// Commits and shows what was planned, whose entry ends the next list. Want of memory is the only refusal.
     fn publish<H: Wait>(
         &mut self,
         rt: &H,
         planned: Planned,
         next: Next<K>,
         installs: bool,
-    ) -> Receipt<K>
+    ) -> Result<Receipt<K>, Denied<K>>
         requires planned { IsAsPlanned (core_of K.max_sites self.old) planned }
         requires installs { installs ≡ is_install (planned_entry planned).event }
-        requires slots { next.slots.items ≡ planned.slots }
         requires list { next.list ≡ self.old ++ planned_entry planned ∷ [] }
-        ensures list { self.new ≡ self.old ++ planned_entry planned ∷ [] }
-        ensures reply { result.reply ≡ planned.reply }
-        ensures receipt { (result.seen ≡ self.new) × (result.serial ≡ length self.new) }
+        requires change { IsChangeOf K.book planned next.list next.change }
+        requires legal { IsLegal K.max_sites next.list }
+        ensures list { IfOk result (λ r. (self.new ≡ self.old ++ planned_entry planned ∷ []) × (r.reply ≡ planned.reply)) }
+        ensures receipt { IfOk result (λ r. (r.seen ≡ self.new) × (r.serial ≡ length self.new)) }
         ensures legal { IsLegal K.max_sites self.new }
+        ensures refused { IfErr result (λ d. (d.refusal ≡ Memory) × (d.seen ≡ self.old) × (self.new ≡ self.old)) }
     {
-        let Next { slots, list } = next;
-        let reply = self.core.commit(planned);
-        let change = Change {
-            slots,
-            classes: self.core.class_count(),
-            list: list.mark(),
-        };
-        publish_in(rt, &mut self.writer, change);
-        self.since = since_after(installs, self.since, &list);
-        self.list = list;
-        self.receipt(reply)
+        let Next { change, list } = next;
+        match commit_shown(rt, &mut self.core, &mut self.writer, planned, change) {
+            Some(reply) => {
+                self.since = since_after(installs, self.since, &list);
+                self.list = list;
+                Ok(self.receipt(reply))
+            }
+            None => Err(self.denied(Refusal::Memory)),
+        }
     }
 
     /// The receipt of the event that is the last of the published list.
@@ -350,6 +359,41 @@ impl<K: Name, R: Wait + Drop> Book<K, R> {
         self.denied(Refusal::Memory)
     }
 }
+
+/// Puts the change into the table's queue, which is the last growth of an event, and then commits what was planned and shows the change. Where
+/// the queue has no memory nothing has changed, and there is no reply.
+fn commit_shown<H: Wait>(
+    rt: &H,
+    core: &mut Core,
+    writer: &mut TableWriter,
+    planned: Planned,
+    change: Change,
+) -> Option<Reply>
+    requires planned { IsAsPlanned core.old planned }
+    requires settled { length (drop writer.old.behind writer.old.log.items) ≡ 0 }
+    requires same { change.list.reached.book ≡ writer.old.desk.shown.value.list.reached.book }
+    requires shown { IsShown (content writer.old.desk.shown.value) → IsShown (changed (content writer.old.desk.shown.value) change) }
+    ensures core { IfSome result (λ reply. (core.new ≡ planned.after) × (reply ≡ planned.reply)) }
+    ensures shown { IfSome result (λ _. content writer.new.desk.shown.value ≡ changed (content writer.old.desk.shown.value) change) }
+    ensures settled { length (drop writer.new.behind writer.new.log.items) ≡ 0 }
+    ensures refused { result ≡ None → (core.new ≡ core.old) × (writer.new.desk ≡ writer.old.desk) }
+{
+    let known = Known::of(&change);
+    match writer.append(change) {
+        Ok(()) => {
+            let reply = core.commit(planned);
+            show_in(rt, writer, known);
+            Some(reply)
+        }
+        Err(_change) => {
+            give_up(planned);
+            None
+        }
+    }
+}
+
+/// Lets what was planned go.
+fn give_up(_planned: Planned) {}
 
 /// Whether the event is an install.
 fn installs(event: &Event) -> bool

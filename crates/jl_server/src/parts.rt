@@ -110,8 +110,12 @@ impl Parts {
             callers,
         } = self;
         let (head, list) = history.named::<K>();
-        let writer = publish(&rt, writer, blank(alloc, &list));
-        let mut writer = publish(&rt, writer, blank(alloc, &list));
+        let Some(writer) = publish(&rt, writer, blank(alloc, &list)) else {
+            return Err(Unmade);
+        };
+        let Some(mut writer) = publish(&rt, writer, blank(alloc, &list)) else {
+            return Err(Unmade);
+        };
         let Ok(made) = make_callers(alloc, &mut writer, &list, callers) else {
             drop(writer.take(&rt));
             return Err(Unmade);

@@ -1,6 +1,6 @@
 //! The published table under its rule: what its writer does, and one caller's place at it.
 
-ghost use Rattle.std.specs.Prelude.{◌≡◌, [], ◌∷◌, ◌++◌, Some, drop, length, IfOk, IfErr};
+ghost use Rattle.std.specs.Prelude.{◌≡◌, [], ◌∷◌, Some, drop, length, IfOk, IfErr, IfSome};
 ghost use Rattle.left_right.specs.Sides.{view};
 ghost use Rattle.jl_server.specs.Shown.{content, changed, tag_of, IsShown, Knows};
 
@@ -11,6 +11,7 @@ use core::mem::replace_with;
 use crossbeam_utils::rule::{Outcome, Protocol};
 use left_right::reader::{Reader, Reading};
 use left_right::writer::Writer;
+use std::snapshot::Snapshot;
 use std::sync::Wait;
 
 /// The rule of the published table.
@@ -67,49 +68,54 @@ pub type TableReader = Reader<Table, Option<Tag>, Rule>;
 
 pub type TableReading = Reading<Table, Option<Tag>, Rule>;
 
-/// Publishes the change, which has the next list. It waits for those that still look at the table from before the last call.
-pub fn publish<R: Wait>(rt: &R, writer: TableWriter, change: Change) -> TableWriter
-    requires settled { length (drop writer.behind writer.log.items) ≡ 0 }
-    requires same { change.list.reached.book ≡ writer.desk.shown.value.list.reached.book }
-    requires shown { IsShown (content writer.desk.shown.value) → IsShown (changed (content writer.desk.shown.value) change) }
-    ensures shown { content result.desk.shown.value ≡ changed (content writer.desk.shown.value) change }
+/// Shows the change that was appended, which has the next list and is all that is pending. Takes no memory. It waits for those that still look
+/// at the table from before the last call.
+pub fn show<R: Wait>(rt: &R, writer: TableWriter, change: Snapshot<Change>) -> TableWriter
+    requires pending { drop writer.behind writer.log.items ≡ change.value ∷ [] }
+    requires same { change.value.list.reached.book ≡ writer.desk.shown.value.list.reached.book }
+    requires shown { IsShown (content writer.desk.shown.value) → IsShown (changed (content writer.desk.shown.value) change.value) }
+    ensures shown { content result.desk.shown.value ≡ changed (content writer.desk.shown.value) change.value }
     ensures settled { length (drop result.behind result.log.items) ≡ 0 }
     ensures known { view result.desk.place ≡ Some (tag_of (content result.desk.shown.value)) }
 {
-    let mut writer = writer;
-    append(rt, &mut writer, change);
+    let _ = change;
     let (writer, published) = writer.publish_as::<Publishing, R>(rt);
     published.unwrap();
     writer
 }
 
 /// The same, of a writer that is lent.
-pub fn publish_in<R: Wait>(rt: &R, writer: &mut TableWriter, change: Change)
-    requires settled { length (drop writer.old.behind writer.old.log.items) ≡ 0 }
-    requires same { change.list.reached.book ≡ writer.old.desk.shown.value.list.reached.book }
-    requires shown { IsShown (content writer.old.desk.shown.value) → IsShown (changed (content writer.old.desk.shown.value) change) }
-    ensures shown { content writer.new.desk.shown.value ≡ changed (content writer.old.desk.shown.value) change }
+pub fn show_in<R: Wait>(rt: &R, writer: &mut TableWriter, change: Snapshot<Change>)
+    requires pending { drop writer.old.behind writer.old.log.items ≡ change.value ∷ [] }
+    requires same { change.value.list.reached.book ≡ writer.old.desk.shown.value.list.reached.book }
+    requires shown { IsShown (content writer.old.desk.shown.value) → IsShown (changed (content writer.old.desk.shown.value) change.value) }
+    ensures shown { content writer.new.desk.shown.value ≡ changed (content writer.old.desk.shown.value) change.value }
     ensures settled { length (drop writer.new.behind writer.new.log.items) ≡ 0 }
     ensures known { view writer.new.desk.place ≡ Some (tag_of (content writer.new.desk.shown.value)) }
 {
     replace_with(writer, change, |writer, change| {
-        (publish(rt, writer, change), ())
+        (show(rt, writer, change), ())
     });
 }
 
-/// Appends the change. It tries until there is memory; the changes that were published when the writer was made left room.
-fn append<R: Wait>(rt: &R, writer: &mut TableWriter, change: Change)
-    ensures desk { writer.new.desk ≡ writer.old.desk }
-    ensures pending { drop writer.new.behind writer.new.log.items ≡ drop writer.old.behind writer.old.log.items ++ change ∷ [] }
+/// Publishes the change, which has the next list. Where there is no memory the table is at its end, and there is nothing.
+pub fn publish<R: Wait>(rt: &R, writer: TableWriter, change: Change) -> Option<TableWriter>
+    requires settled { length (drop writer.behind writer.log.items) ≡ 0 }
+    requires same { change.list.reached.book ≡ writer.desk.shown.value.list.reached.book }
+    requires shown { IsShown (content writer.desk.shown.value) → IsShown (changed (content writer.desk.shown.value) change) }
+    ensures shown { IfSome result (λ w. content w.desk.shown.value ≡ changed (content writer.desk.shown.value) change) }
+    ensures settled { IfSome result (λ w. length (drop w.behind w.log.items) ≡ 0) }
+    ensures known { IfSome result (λ w. view w.desk.place ≡ Some (tag_of (content w.desk.shown.value))) }
 {
-    let mut change = change;
-    for _ in rt.forever() {
-        match writer.append(change) {
-            Ok(()) => return,
-            Err(back) => change = back,
+    let mut writer = writer;
+    let known = Snapshot::of(&change);
+    match writer.append(change) {
+        Ok(()) => Some(show(rt, writer, known)),
+        Err(_change) => {
+            drop(writer.take(rt));
+            None
         }
     }
-    unreachable!()
 }
 
 /// Enters the table: what is found there is as it should be.

@@ -160,6 +160,7 @@ impl<K: Name> Caller<K> {
         ensures legal { IsLegal K.max_sites self.new }
         ensures seen { IfOk result (λ r. r.1 ≡ self.new) }
         ensures world { IfOk result (λ r. r.0 ≡ record { world = world_after (events_of self.new); serial = length self.new }) }
+        ensures sites { IfOk result (λ r. length r.0.world.places ≤ K.max_sites) }
         ensures unchanged { OnErr result (self.new ≡ self.old) }
     {
         let _serial = self.seen().serial();
@@ -230,6 +231,7 @@ fn snapshot_after<K: Name, H: Wait, R: Wait + Drop>(
 ) -> Result<(Snapshot, Seen<K>), AllocError>
     ensures seen { IfOk result (λ r. IsPrefix seen.now r.1 × IsLegal K.max_sites r.1) }
     ensures world { IfOk result (λ r. r.0 ≡ record { world = world_after (events_of r.1); serial = length r.1 }) }
+    ensures sites { IfOk result (λ r. length r.0.world.places ≤ K.max_sites) }
 {
     for _ in rt.forever() {
         let book = server.book.lock(rt);
