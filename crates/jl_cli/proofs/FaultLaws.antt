@@ -3,17 +3,19 @@ use Rattle.std.proofs.Common.{◌≡◌, ◌≢◌, ◌∙◌, sym, ap, subst, r
 use Rattle.std.proofs.Common.{length, append-nil, append_assoc, Option, Some, None, IfSome, Result, Ok, Err}
 use Rattle.std.proofs.Common.{IfErr, OnOk, arith}
 use Rattle.std.specs.Result.{IsErrAnd}
+use Rattle.std.specs.List.{flat_map}
 use Rattle.std.specs.Io.KnownBytes.{Keeps, Appends, Consumes, IsAtEnd}
-use Rattle.std.proofs.KnownBytes.{Appends-kept, Consumes-kept}
+use Rattle.std.proofs.lemmas.Grind.{flat_map-append}
+use Rattle.std.proofs.KnownBytes.{Appends-kept, Appends-trans, Consumes-kept, Consumes-trans}
 use Rattle.jl_cli.specs.declared.words.Mode.{Mode}
 use Rattle.jl_cli.specs.declared.line_fault.LineFault.{LineFault}
 use Rattle.jl_cli.specs.declared.line_fault.LineFault.TheVariants.{TooLong, Device, Memory}
 use Rattle.jl_cli.specs.Devices.{one_more, HasRisen}
-use Rattle.jl_cli.specs.Lines.{newline, most_in_line, lines_of, NoNewline}
+use Rattle.jl_cli.specs.Lines.{newline, most_in_line, lines_of, NoNewline, ended}
 use Rattle.jl_session.specs.Sessions.{Session}
-use Rattle.jl_cli.specs.Answers.{AreAnswers, LacksFirst, AnswersAll, AnswersFirst, AnswersRead, LongIf, LeftBy}
-use Rattle.jl_cli.specs.Progress.{Writes, Runs, LacksNext, StopsBy}
-use Rattle.jl_cli.proofs.LineLaws.{line_first, over_first, runs_first, runs_read, runs_write, runs_all}
+use Rattle.jl_cli.specs.Answers.{AreAnswers, LacksFirst, AnswersAll, AnswersFirst, AnswersRead, AnswersEarlier, LongIf, LeftBy}
+use Rattle.jl_cli.specs.Progress.{IsLine, Answered, Writes, Runs, LacksNext, StopsBy}
+use Rattle.jl_cli.proofs.LineLaws.{all_append, line_first, answers_append, read_lines, short_each, over_first, runs_first, runs_read, runs_write, runs_all}
 
 pub risen : (old new : ℕ) → new ≡ one_more old → HasRisen old new
 risen old new is = grind arith
@@ -244,3 +246,129 @@ pub read_of : (mode : Mode) (from fresh session : Session) (start now old new : 
     → IfSome start (λ input. AnswersRead mode fresh input now old new)
 read_of mode from fresh session None now old new is h = tt
 read_of mode from fresh session (Some xs) now old new is h = subst (λ (s : Session). AnswersRead mode s xs now old new) is h.0
+
+-- ---- want of memory
+
+-- what an error has, of a result that is this one
+pub err_at : {T : Type 0} (r : Result T LineFault) (f : LineFault) (P : LineFault → Type 0) → IfErr r P → r ≡ Err f → P f
+err_at (Ok x) f P h e = absurd cc
+err_at {T = T} (Err g) f P h e = subst P (err_is T g f e) h
+
+-- the lines are answered of which the newline had been read when this was left to read, and this session is left
+abbrev pub Earlier : Mode → Session → Session → Option (List ℕ) → Option (List ℕ) → Option (List ℕ) → Option (List ℕ) → Type 0
+Earlier mode from session start unread old new =
+    IfSome start (λ input. (earlier : AnswersEarlier mode from input unread old new)
+    × LacksFirst mode earlier.first.last earlier.first.after session)
+
+-- the first lines of a run, with those of what it then writes
+joined_first : (mode : Mode) (from last : Session) (xs ys bytes done output : List ℕ) (old mid new : Option (List ℕ))
+    (a : Answered mode from done output last) → Consumes (Some xs) (Some ys) (done ++ bytes) → Appends old mid output
+    → (w : Writes mode last bytes mid new)
+    → (first : AnswersFirst mode from xs old new) × (first.before ≡ a.lines ++ w.answered.lines)
+    × (first.after ≡ lines_of (w.left ++ ys)) × (first.last ≡ w.last)
+joined_first mode from last xs ys bytes done output old mid new a read written w = (
+  record {
+    before = a.lines ++ w.answered.lines;
+    after = lines_of (w.left ++ ys);
+    split = read_lines (done ++ w.done) w.left ys xs (a.lines ++ w.answered.lines)
+        (subst (Consumes (Some xs) (Some ys)) (ap (λ (l : List ℕ). done ++ l) w.split ∙ sym (append_assoc done w.done w.left)) read)
+        (ap (λ (l : List ℕ). l ++ w.done) a.whole ∙ ap (λ (l : List ℕ). flat_map ended a.lines ++ l) w.answered.whole
+        ∙ sym (flat_map-append ended a.lines w.answered.lines))
+        (all_append IsLine a.lines w.answered.lines a.each w.answered.each);
+    short = short_each (a.lines ++ w.answered.lines) (all_append IsLine a.lines w.answered.lines a.each w.answered.each);
+    output = output ++ w.output;
+    last = w.last;
+    answers = answers_append mode from last w.last a.lines w.answered.lines output w.output a.answers w.answered.answers;
+    written = Appends-trans old mid new output w.output written w.written;
+  },
+  refl,
+  refl,
+  refl,
+)
+
+piece_earlier : (mode : Mode) (from last session : Session) (start now then' : Option (List ℕ)) (held piece : List ℕ)
+    (old mid new : Option (List ℕ)) → Runs mode from last start now held old mid → NoNewline held → Consumes now then' piece
+    → (w : Writes mode last (held ++ piece) mid new) → LacksNext mode w.last w.left session
+    → Earlier mode from session start now old new
+piece_earlier mode from last session None now then' held piece old mid new r one consumed w lacks = tt
+piece_earlier mode from last session (Some xs) now None held piece old mid new r one consumed w lacks =
+    absurd (runs_read mode from last (Some xs) now None held piece old mid r consumed).read
+piece_earlier mode from last session (Some xs) now (Some ys) held piece old mid new r one consumed w lacks =
+    let read = subst (Consumes (Some xs) (Some ys)) (append_assoc r.done held piece)
+    (Consumes-trans (Some xs) now (Some ys) (r.done ++ held) piece r.read consumed) in
+    let first = joined_first mode from last xs ys (held ++ piece) r.done r.output old mid new r.answered read r.written w in (
+      record {
+        first = first.0;
+        lines = r.answered.lines;
+        tail = held;
+        read = subst (λ (l : List ℕ). Consumes (Some xs) now (l ++ held)) r.answered.whole r.read;
+        one = one;
+        more = w.answered.lines;
+        all = first.1;
+      },
+      subst (λ (s : Session). LacksFirst mode s first.0.after session) (sym first.3)
+          (subst (λ (ls : List (List ℕ)). LacksFirst mode w.last ls session) (sym first.2)
+          (stops Memory mode w.last session w.left ys lacks).1),
+    )
+
+-- memory lacked behind a read
+pub piece_memory : (mode other : Mode) (from last session : Session) (start now then' unread : Option (List ℕ))
+    (held piece bytes : List ℕ) (old mid new : Option (List ℕ)) → Runs mode from last start now held old mid → NoNewline held
+    → Consumes now then' piece → bytes ≡ held ++ piece → unread ≡ now → mode ≡ other
+    → (w : Writes mode last bytes mid new) × LacksNext mode w.last w.left session
+    → Earlier other from session start unread old new
+piece_memory mode other from last session start now then' unread held piece bytes old mid new r one consumed is left same h =
+    let p = subst (λ (l : List ℕ). (w : Writes mode last l mid new) × LacksNext mode w.last w.left session) is h in
+    subst (λ (m : Mode). Earlier m from session start unread old new) same
+    (subst (λ (u : Option (List ℕ)). Earlier mode from session start u old new) (sym left)
+    (piece_earlier mode from last session start now then' held piece old mid new r one consumed p.0 p.1))
+
+rest_earlier : (mode : Mode) (from last session : Session) (start now then' : Option (List ℕ)) (held piece : List ℕ)
+    (old mid new : Option (List ℕ)) → Runs mode from last start now held old mid → NoNewline held → Consumes now then' piece
+    → IsAtEnd then' → Keeps mid new → LacksFirst mode last (lines_of (held ++ piece)) session
+    → Earlier mode from session start now old new
+rest_earlier mode from last session None now then' held piece old mid new r one consumed end kept lacks = tt
+rest_earlier mode from last session (Some xs) now None held piece old mid new r one consumed end kept lacks =
+    absurd (runs_read mode from last (Some xs) now None held piece old mid r consumed).read
+rest_earlier mode from last session (Some xs) now (Some ys) held piece old mid new r one consumed end kept lacks =
+    let read = subst (Consumes (Some xs) (Some ys)) (append_assoc r.done held piece)
+    (Consumes-trans (Some xs) now (Some ys) (r.done ++ held) piece r.read consumed) in (
+      record {
+        first = record {
+          before = r.answered.lines;
+          after = lines_of ((held ++ piece) ++ ys);
+          split = read_lines r.done (held ++ piece) ys xs r.answered.lines read r.answered.whole r.answered.each;
+          short = short_each r.answered.lines r.answered.each;
+          output = r.output;
+          last = last;
+          answers = r.answered.answers;
+          written = Appends-kept old mid new r.output r.written kept;
+        };
+        lines = r.answered.lines;
+        tail = held;
+        read = subst (λ (l : List ℕ). Consumes (Some xs) now (l ++ held)) r.answered.whole r.read;
+        one = one;
+        more = [];
+        all = sym (append-nil r.answered.lines);
+      },
+      subst (λ (l : List ℕ). LacksFirst mode last (lines_of l) session) (sym (held_alone (Some ys) (held ++ piece) ys end refl)) lacks,
+    )
+
+-- memory lacked at the end of the input
+pub rest_memory : (mode other : Mode) (from last session : Session) (start now then' unread : Option (List ℕ))
+    (held piece bytes : List ℕ) (old mid new : Option (List ℕ)) → Runs mode from last start now held old mid → NoNewline held
+    → Consumes now then' piece → bytes ≡ held ++ piece → IsAtEnd then' → unread ≡ now → mode ≡ other
+    → Keeps mid new → LacksFirst mode last (lines_of bytes) session
+    → Earlier other from session start unread old new
+rest_memory mode other from last session start now then' unread held piece bytes old mid new r one consumed is end left same kept lacks =
+    subst (λ (m : Mode). Earlier m from session start unread old new) same
+    (subst (λ (u : Option (List ℕ)). Earlier mode from session start u old new) (sym left)
+    (rest_earlier mode from last session start now then' held piece old mid new r one consumed end kept
+    (subst (λ (l : List ℕ). LacksFirst mode last (lines_of l) session) is lacks)))
+
+-- of a run with a session that isn't looked at afterwards
+pub earlier_of : (mode : Mode) (from fresh session : Session) (start unread old new : Option (List ℕ)) → from ≡ fresh
+    → Earlier mode from session start unread old new → IfSome start (λ input. AnswersEarlier mode fresh input unread old new)
+earlier_of mode from fresh session None unread old new is h = tt
+earlier_of mode from fresh session (Some xs) unread old new is h =
+    subst (λ (s : Session). AnswersEarlier mode s xs unread old new) is h.0

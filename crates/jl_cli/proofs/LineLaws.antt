@@ -60,7 +60,7 @@ first_long b (c ∷ left) more h =
 -- ---- answers
 
 -- answers to lines, and then to more lines by the session that these leave
-answers_append : (mode : Mode) (from mid last : Session) (ls ms : List (List ℕ)) (o p : List ℕ)
+pub answers_append : (mode : Mode) (from mid last : Session) (ls ms : List (List ℕ)) (o p : List ℕ)
     → AreAnswers mode from ls o mid → AreAnswers mode mid ms p last → AreAnswers mode from (ls ++ ms) (o ++ p) last
 answers_append mode from mid last [] ms o p h k =
     subst (λ (s : Session). AreAnswers mode s ms (o ++ p) last) h.1
@@ -229,14 +229,14 @@ runs_write mode from last start now held old mid new r w = record {
 }
 
 -- what the run has read, and what it hasn't
-read_lines : (done held rest xs : List ℕ) (lines : List (List ℕ)) → xs ≡ (done ++ held) ++ rest
+pub read_lines : (done held rest xs : List ℕ) (lines : List (List ℕ)) → xs ≡ (done ++ held) ++ rest
     → done ≡ flat_map ended lines → AllByRecursion IsLine lines
     → lines_of xs ≡ lines ++ lines_of (held ++ rest)
 read_lines done held rest xs lines is whole each =
     ap lines_of (is ∙ (append_assoc done held rest ∙ ap (λ (l : List ℕ). l ++ (held ++ rest)) whole))
     ∙ lines_whole lines (held ++ rest) each
 
-short_each : (lines : List (List ℕ)) → AllByRecursion IsLine lines → AreShort lines
+pub short_each : (lines : List (List ℕ)) → AllByRecursion IsLine lines → AreShort lines
 short_each [] h = tt
 short_each (line ∷ lines) h = (h.0.short, short_each lines h.1)
 

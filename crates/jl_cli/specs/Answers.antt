@@ -71,6 +71,16 @@ pub record AnswersRead (mode : Mode) (from : Session) (input : List ℕ) (now ol
   pub answers : AreAnswers mode from before output last
   pub written : Appends old new output
 
+-- The first lines are answered, each of them whole, and among them all whose newline had been read when this was left to read.
+pub record AnswersEarlier (mode : Mode) (from : Session) (input : List ℕ) (unread old new : Option (List ℕ)) : Type 0 where
+  pub first : AnswersFirst mode from input old new
+  pub lines : List (List ℕ)
+  pub tail : List ℕ
+  pub read : Consumes (Some input) unread (flat_map ended lines ++ tail)
+  pub one : NoNewline tail
+  pub more : List (List ℕ)
+  pub all : first.before ≡ lines ++ more
+
 -- the first line is over the limit
 abbrev pub FirstIsLong : List (List ℕ) → Type 0
 FirstIsLong [] = ⊥

@@ -1,5 +1,5 @@
 -- What a source or sink that fails once holds, and what its calls come to.
-use Rattle.std.specs.Prelude.{◌≡◌, ℕ, Result}
+use Rattle.std.specs.Prelude.{◌≡◌, ℕ, List, Option, Result}
 use Rattle.std.specs.Result.{IsErr}
 use Rattle.jl_cli.specs.Devices.{one_more, CountsFailure}
 use Rattle.jl_cli.specs.declared.fail_at.FailAt.{FailAt}
@@ -7,6 +7,10 @@ use Rattle.jl_cli.specs.declared.fail_at.FailAt.{FailAt}
 -- the source or sink within
 abbrev pub inner_of : {T : Type 0} → FailAt T → T
 inner_of f = f.inner
+
+-- what was left to read before the last read
+abbrev pub before_of : {T : Type 0} → (T → Option (List ℕ)) → FailAt T → Option (List ℕ)
+before_of remaining f = remaining f.last.value
 
 -- the call that fails, counted from 1
 abbrev pub failing_of : {T : Type 0} → FailAt T → ℕ

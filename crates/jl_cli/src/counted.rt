@@ -6,12 +6,15 @@ use crate::failed::Failed;
 use crate::sink::Sink;
 use crate::source::Source;
 use std::io::{Read, Write};
+use std::snapshot::Snapshot;
 
 /// A reader or writer of std that counts its calls, and those that failed, up to 2^64 - 1, where a
 /// count stays. A writer is not flushed, so it should hold no bytes back.
-#[derive(Debug, Drop)]
+#[derive(Drop)]
 pub struct Counted<T> {
     inner: T,
+    /// What it was before the last read.
+    last: Snapshot<T>,
     calls: u64,
     failures: u64,
 }
@@ -25,6 +28,7 @@ impl<T> Counted<T> {
         ensures none { (calls_of result ≡ 0) × (failures_of result ≡ 0) }
     {
         Counted {
+            last: Snapshot::of(&inner),
             inner,
             calls: 0,
             failures: 0,
@@ -42,12 +46,15 @@ impl<T> Counted<T> {
 impl<T: Read> Source for Counted<T> {
     ghost remaining = { λ c. T.remaining c.inner };
 
+    ghost before = { λ c. T.remaining c.last.value };
+
     ghost reads = { λ c. c.calls };
 
     ghost failures = { λ c. c.failures };
 
     fn read_some(&mut self, buffer: &mut [u8]) -> Result<usize, Failed> {
         self.calls = self.calls.saturating_add(1);
+        self.last = Snapshot::of(&self.inner);
         match self.inner.read(buffer) {
             Ok(count) => Ok(count),
             Err(_) => {

@@ -4,18 +4,21 @@ ghost use Rattle.std.specs.Prelude.{◌≡◌, ◌<◌, length, IfOk};
 ghost use Rattle.std.specs.Io.{ReadsAtMost, WritesAtMost};
 ghost use Rattle.std.specs.Io.KnownBytes.{ReadConsumes, WriteAppends};
 ghost use Rattle.jl_cli.specs.Devices.{one_more, CountsFailure};
-ghost use Rattle.jl_cli.specs.FailAt.{inner_of, failing_of, calls_of, failures_of};
+ghost use Rattle.jl_cli.specs.FailAt.{inner_of, before_of, failing_of, calls_of, failures_of};
 ghost use Rattle.jl_cli.specs.FailAt.{IsFailing, CountsCall, FailsThere, FailsAsWithin};
 
 use crate::failed::Failed;
 use crate::sink::Sink;
 use crate::source::Source;
+use std::snapshot::Snapshot;
 
 /// For tests: a source or sink that fails at one call, and is otherwise the one within. It counts
 /// by itself.
-#[derive(Debug, Drop)]
+#[derive(Drop)]
 pub struct FailAt<T> {
     inner: T,
+    /// What it was before the last read.
+    last: Snapshot<T>,
     failing: u64,
     calls: u64,
     failures: u64,
@@ -29,6 +32,7 @@ impl<T> FailAt<T> {
         ensures none { (calls_of result ≡ 0) × (failures_of result ≡ 0) }
     {
         FailAt {
+            last: Snapshot::of(&inner),
             inner,
             failing,
             calls: 0,
@@ -47,6 +51,8 @@ impl<T> FailAt<T> {
 impl<T: Source> Source for FailAt<T> {
     ghost remaining = { λ f. T.remaining f.inner };
 
+    ghost before = { λ f. T.remaining f.last.value };
+
     ghost reads = { λ f. f.calls };
 
     ghost failures = { λ f. f.failures };
@@ -54,6 +60,7 @@ impl<T: Source> Source for FailAt<T> {
     fn read_some(&mut self, buffer: &mut [u8]) -> Result<usize, Failed>
         ensures room { ReadsAtMost result buffer.new }
         ensures bytes { ReadConsumes (T.remaining (inner_of self.old)) (T.remaining (inner_of self.new)) result buffer.new }
+        ensures before { before_of T.remaining self.new ≡ T.remaining (inner_of self.old) }
         ensures reads { calls_of self.new ≡ one_more (calls_of self.old) }
         ensures failures { CountsFailure (failures_of self.old) (failures_of self.new) result }
         ensures call { CountsCall self.old self.new }
@@ -63,6 +70,7 @@ impl<T: Source> Source for FailAt<T> {
         ensures read { ¬ IsFailing self.old → T.reads (inner_of self.new) ≡ one_more (T.reads (inner_of self.old)) }
     {
         self.calls = self.calls.saturating_add(1);
+        self.last = Snapshot::of(&self.inner);
         if self.calls == self.failing {
             self.failures = self.failures.saturating_add(1);
             return Err(Failed);

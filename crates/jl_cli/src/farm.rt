@@ -8,7 +8,6 @@ ghost use Rattle.jl_types.specs.Entries.{events_of};
 ghost use Rattle.jl_cli.specs.Farms.{job_of_each};
 
 use crate::farm_fault::FarmLineFault;
-use crate::line_fault::LineFault;
 use jl_classfile::read_class;
 use jl_farm::{Gate, JobOutcome, Report, run};
 use jl_json::{
@@ -106,8 +105,10 @@ impl<'a, K: Name, H: Wait, S: Wait + Drop> Foreman<'a, K, H, S> {
 
     /// One job for each requested site, in order.
     fn jobs(&mut self) -> Result<Vec<Seq<SiteNo>>, AllocError>
+        requires { K.max_sites ≤ 65536 }
         ensures own { IsPrefix self.old.caller self.new.caller }
         ensures jobs { IfOk result (λ jobs. jobs.items ≡ job_of_each (site_numbers (events_of self.new.caller))) }
+        ensures most { IfOk result (λ jobs. vec_len jobs ≤ 65536) }
     {
         let (snapshot, _seen) = self.caller.snapshot(self.rt, self.alloc, self.server)?;
         each_site(self.alloc, snapshot.world().site_count())
@@ -123,7 +124,9 @@ impl<'a, K: Name, H: Wait, S: Wait + Drop> Foreman<'a, K, H, S> {
 
 /// One job for each of so many sites, by rising number.
 fn each_site(alloc: Global, count: usize) -> Result<Vec<Seq<SiteNo>>, AllocError>
-    ensures { IfOk result (λ jobs. jobs.items ≡ job_of_each (range_with_len 0 count)) }
+    requires { count ≤ 65536 }
+    ensures jobs { IfOk result (λ jobs. jobs.items ≡ job_of_each (range_with_len 0 count)) }
+    ensures length { IfOk result (λ jobs. vec_len jobs ≡ count) }
 {
     let mut jobs = Vec::new(alloc);
     for number in 0..count {
@@ -135,11 +138,11 @@ fn each_site(alloc: Global, count: usize) -> Result<Vec<Seq<SiteNo>>, AllocError
 
 /// The job of one site.
 fn one_site(alloc: Global, number: usize) -> Result<Seq<SiteNo>, AllocError>
+    requires { number ≤ 65536 }
     ensures { IfOk result (λ job. job ≡ number ∷ []) }
 {
-    let number = u32::try_from(number).map_err(|_| AllocError)?;
     let mut sites = Vec::new(alloc);
-    sites.push(SiteNo::new(number))?;
+    sites.push(SiteNo::new(number as u32))?;
     Ok(Seq::of(sites))
 }
 
@@ -159,16 +162,14 @@ pub(crate) fn farm_text<
     H: Threads + Wait + Sync,
     S: Wait + Drop + Send + Sync,
 >(foreman: &mut Foreman<'_, K, H, S>, workers: Vec<Caller<K>>) -> Result<Vec<u8>, FarmLineFault>
-    requires { (1 ≤ vec_len workers) × (vec_len workers ≤ 16) }
+    requires workers { (1 ≤ vec_len workers) × (vec_len workers ≤ 16) }
+    requires sites { K.max_sites ≤ 65536 }
 {
     let mut workers = workers;
     for worker in &mut workers {
         worker.learn(foreman.caller.seen());
     }
     let jobs = foreman.jobs()?;
-    if jobs.len() > 65_536 {
-        return Err(FarmLineFault::Line(LineFault::Memory));
-    }
     let reports = match run(
         foreman.rt,
         foreman.alloc,

@@ -121,7 +121,8 @@ fn run_on<
     reader: &mut R,
     writer: &mut W,
 ) -> Result<(), FarmLineFault>
-    requires { (1 ≤ vec_len workers) × (vec_len workers ≤ 16) }
+    requires workers { (1 ≤ vec_len workers) × (vec_len workers ≤ 16) }
+    requires sites { K.max_sites ≤ 65536 }
 {
     answer_all(foreman, reader, writer)?;
     let mut text = farm_text(foreman, workers)?;
@@ -139,7 +140,7 @@ fn run_started<K: Name + Send + Sync, H: Threads + Wait + Sync, R: Source, W: Si
     writer: &mut W,
 ) -> Result<(), FarmLineFault>
     requires book { parts.book ≡ K.book }
-    requires sites { parts.max_sites ≡ K.max_sites }
+    requires sites { (parts.max_sites ≡ K.max_sites) × (parts.max_sites ≤ 65536) }
     requires callers { (2 ≤ parts.callers) × (parts.callers ≤ 17) }
 {
     let Ok((server, mut callers)) = parts.start::<K, &H>(alloc, rt) else {

@@ -71,6 +71,7 @@ impl LineBuffer {
         ensures end { IfOk result (λ n. n ≡ 0 → IsAtEnd (R.remaining reader.new)) }
         ensures err { OnErr result ((self.new ≡ self.old)
             × Keeps (R.remaining reader.old) (R.remaining reader.new)) }
+        ensures before { R.before reader.new ≡ R.remaining reader.old }
         ensures reads { R.reads reader.new ≡ one_more (R.reads reader.old) }
         ensures failures { CountsFailure (R.failures reader.old) (R.failures reader.new) result }
     {

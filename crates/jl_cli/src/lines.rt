@@ -3,11 +3,11 @@
 ghost use Rattle.std.specs.Prelude.{◌≡◌, ◌≢◌, ◌<◌, ◌≤◌, ◌-◌, ◌^◌, ◌⊎◌, List, ℕ, [], length, take};
 ghost use Rattle.std.specs.Prelude.{IfErr, IfSome, OnOk, IsErrOf};
 ghost use Rattle.std.specs.Io.KnownBytes.{Appends, Keeps, IsAtEnd};
-ghost use Rattle.jl_cli.specs.declared.line_fault.LineFault.TheVariants.{TooLong, Device};
+ghost use Rattle.jl_cli.specs.declared.line_fault.LineFault.TheVariants.{TooLong, Device, Memory};
 ghost use Rattle.jl_cli.specs.Devices.{one_more, HasRisen};
 ghost use Rattle.jl_cli.specs.Lines.{lines_of, NoNewline};
 ghost use Rattle.jl_session.specs.Sessions.{new_session};
-ghost use Rattle.jl_cli.specs.Answers.{AreAnswers, LacksFirst, AnswersAll, AnswersFirst, AnswersRead};
+ghost use Rattle.jl_cli.specs.Answers.{AreAnswers, LacksFirst, AnswersAll, AnswersFirst, AnswersRead, AnswersEarlier};
 ghost use Rattle.jl_cli.specs.Answers.{LongIf, LeftBy};
 ghost use Rattle.jl_cli.specs.Progress.{Writes, StopsBy};
 
@@ -105,6 +105,10 @@ fn answer_all<R: Source, W: Sink>(
         → IfSome (R.remaining reader.old) (λ text. (read : AnswersRead answers.old.mode session.old text
         (R.remaining reader.new) (W.contents writer.old) (W.contents writer.new))
         × (session.new ≡ read.last)) }
+    ensures memory { IsErrOf result LineFault.Memory
+        → IfSome (R.remaining reader.old) (λ text. (earlier : AnswersEarlier answers.old.mode session.old text
+        (R.before reader.new) (W.contents writer.old) (W.contents writer.new))
+        × LacksFirst answers.old.mode earlier.first.last earlier.first.after session.new) }
     ensures device { IsErrOf result LineFault.Device
         → HasRisen (R.failures reader.old) (R.failures reader.new)
         ⊎ (HasRisen (W.failures writer.old) (W.failures writer.new)
@@ -129,9 +133,10 @@ fn answer_all<R: Source, W: Sink>(
 ///
 /// - [`LineFault::TooLong`]: the next line has over 2,100,000 bytes without its newline.
 /// - [`LineFault::Device`]: a read or a write failed, or there were 2^64 - 1 reads.
-/// - [`LineFault::Memory`]: want of memory for the session, the buffers, or the answer to the next line.
+/// - [`LineFault::Memory`]: want of memory for the session, the buffers, or the answer to a line.
 ///
-/// But for a failed write the answers to all lines before were written whole.
+/// But for a failed write the answers to some first lines were written whole: to all before the one that is too long, to all whose
+/// newline was read where a read failed, and for want of memory at least to those whose newline came with an earlier read than the last one.
 pub fn run_lines<R: Source, W: Sink>(
     alloc: Global,
     mode: Mode,
@@ -154,6 +159,10 @@ pub fn run_lines<R: Source, W: Sink>(
         → ¬ HasRisen (W.failures writer.old) (W.failures writer.new)
         → IfSome (R.remaining reader.old) (λ input. AnswersRead mode new_session input
         (R.remaining reader.new) (W.contents writer.old) (W.contents writer.new)) }
+    // Where memory lacks after a read, these are at least all lines of which the newline came with an earlier one.
+    ensures memory { IsErrOf result LineFault.Memory → R.reads reader.new ≢ R.reads reader.old
+        → IfSome (R.remaining reader.old) (λ input. AnswersEarlier mode new_session input
+        (R.before reader.new) (W.contents writer.old) (W.contents writer.new)) }
     ensures device { IsErrOf result LineFault.Device
         → HasRisen (R.failures reader.old) (R.failures reader.new)
         ⊎ (HasRisen (W.failures writer.old) (W.failures writer.new)
@@ -191,6 +200,10 @@ pub fn run_lines_with<R: Source, W: Sink>(
         → IfSome (R.remaining reader.old) (λ input. (read : AnswersRead mode session.old input
         (R.remaining reader.new) (W.contents writer.old) (W.contents writer.new))
         × (session.new ≡ read.last)) }
+    ensures memory { IsErrOf result LineFault.Memory → R.reads reader.new ≢ R.reads reader.old
+        → IfSome (R.remaining reader.old) (λ input. (earlier : AnswersEarlier mode session.old input
+        (R.before reader.new) (W.contents writer.old) (W.contents writer.new))
+        × LacksFirst mode earlier.first.last earlier.first.after session.new) }
     ensures device { IsErrOf result LineFault.Device
         → HasRisen (R.failures reader.old) (R.failures reader.new)
         ⊎ (HasRisen (W.failures writer.old) (W.failures writer.new)

@@ -13,6 +13,9 @@ pub trait Source {
     // The bytes that reads give from here on, where they are known.
     ghost remaining: { Self → Option (List ℕ) } = { λ _. None };
 
+    // What was left to read before the last read, where that is known.
+    ghost before: { Self → Option (List ℕ) } = { λ _. None };
+
     // How many reads there were.
     ghost reads: { Self → ℕ };
 
@@ -28,6 +31,7 @@ pub trait Source {
     fn read_some(&mut self, buffer: &mut [u8]) -> Result<usize, Failed>
         ensures room { ReadsAtMost result buffer.new }
         ensures bytes { ReadConsumes (remaining self.old) (remaining self.new) result buffer.new }
+        ensures before { before self.new ≡ remaining self.old }
         ensures reads { reads self.new ≡ one_more (reads self.old) }
         ensures failures { CountsFailure (failures self.old) (failures self.new) result };
 }

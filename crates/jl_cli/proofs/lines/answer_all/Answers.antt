@@ -1,12 +1,14 @@
 use Rattle.std.proofs.Common.{◌≡◌, ◌∙◌, sym, ap, subst, refl, length, Err, arith}
 use Rattle.jl_cli.specs.declared.words.Mode.{Mode}
-use Rattle.jl_cli.specs.declared.line_fault.LineFault.TheVariants.{Device}
+use Rattle.jl_cli.specs.declared.line_fault.LineFault.{LineFault}
+use Rattle.jl_cli.specs.declared.line_fault.LineFault.TheVariants.{Device, Memory}
 use Rattle.jl_cli.specs.Devices.{one_more, HasRisen}
 use Rattle.jl_cli.specs.Lines.{NoNewline}
+use Rattle.jl_cli.specs.Progress.{StopsBy}
 use Rattle.jl_cli.proofs.LineLaws.{runs_write}
 use Rattle.jl_cli.proofs.FaultLaws.{risen, Whole, ends, piece_fault, rest_whole, rest_answered}
 use Rattle.jl_cli.proofs.FaultLaws.{runs_mode, runs_held, same_at_end, exactly, fault_is}
-use Rattle.jl_cli.proofs.FaultLaws.{runs_whole, runs_left}
+use Rattle.jl_cli.proofs.FaultLaws.{runs_whole, runs_left, err_at, piece_memory, rest_memory}
 use Rattle.std.proofs.KnownBytes.{Keeps-refl}
 use Rattle.jl_cli.proofs.lines.answer_all.Goals as goal
 
@@ -118,3 +120,34 @@ returns-clause-read g c = λ e none.
     runs_whole c.loop.answers.mode c.args.answers.now.mode _ _ _ (g.R.Source.remaining c.loop.reader)
     (g.R.Source.remaining c.loop.reader) c.loop.input _ _
     c.loop.invariant.ran c.loop.invariant.one (Keeps-refl (g.R.Source.remaining c.loop.reader)) c.loop.invariant.mode
+
+pub returns-in_err-read_from-clause-memory : goal.returns-in_err-read_from-clause-memory
+returns-in_err-read_from-clause-memory g c = λ e.
+    let clash : Device ≡ Memory = fault_is _ Device Memory c.from_residual.ensures.1 e in absurd cc
+
+pub returns-then-branch-eq0-clause-memory : goal.returns-then-branch-eq0-clause-memory
+returns-then-branch-eq0-clause-memory g c = λ e.
+    let more = c.in_ok-read_from.ensures.more in
+    let lacks = err_at c.answer_rest.result Memory _ c.answer_rest.ensures.whole e (λ d. absurd cc) in
+    rest_memory c.loop.answers.mode c.args.answers.now.mode c.args.session.now c.loop.session c.answer_rest.new.session
+    (g.R.Source.remaining c.args.reader.now) (g.R.Source.remaining c.loop.reader) (g.R.Source.remaining c.read_from.new.reader)
+    (g.R.Source.before c.read_from.new.reader) c.loop.input more.0 c.as_slice.result.now
+    (g.W.Sink.contents c.args.writer.now) (g.W.Sink.contents c.loop.writer) (g.W.Sink.contents c.answer_rest.new.writer)
+    c.loop.invariant.ran c.loop.invariant.one more.3 (c.as_slice.ensures.value ∙ more.2)
+    (c.in_ok-read_from.ensures.end c.if-branch-eq0.true) c.in_ok-read_from.ensures.before c.loop.invariant.mode lacks.0 lacks.2
+
+pub returns-in_err-answer_piece-clause-memory : goal.returns-in_err-answer_piece-clause-memory
+returns-in_err-answer_piece-clause-memory g c = λ e.
+    let more = c.in_ok-read_from.ensures.more in
+    let told = c.in_err-answer_piece.ensures in
+    let is : c.in_err-answer_piece.field-0.0 ≡ Memory = fault_is _ c.in_err-answer_piece.field-0.0 Memory
+    c.from_residual-in_err-answer_piece.ensures.1 e in
+    let stop = told.whole (λ d. let clash : Device ≡ Memory = sym d ∙ is in absurd cc) in
+    piece_memory c.loop.answers.mode c.args.answers.now.mode c.args.session.now c.loop.session c.answer_piece.new.session
+    (g.R.Source.remaining c.args.reader.now) (g.R.Source.remaining c.loop.reader) (g.R.Source.remaining c.read_from.new.reader)
+    (g.R.Source.before c.read_from.new.reader) c.loop.input more.0 c.read_from.new.self
+    (g.W.Sink.contents c.args.writer.now) (g.W.Sink.contents c.loop.writer) (g.W.Sink.contents c.answer_piece.new.writer)
+    c.loop.invariant.ran c.loop.invariant.one more.3 more.2 c.in_ok-read_from.ensures.before c.loop.invariant.mode (
+      stop.0,
+      subst (λ (f : LineFault). StopsBy f c.loop.answers.mode stop.0.last stop.0.left c.answer_piece.new.session) is stop.1,
+    )

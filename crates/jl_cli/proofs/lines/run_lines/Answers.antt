@@ -2,7 +2,7 @@ use Rattle.std.proofs.Common.{refl}
 use Rattle.jl_cli.specs.declared.line_fault.LineFault.TheVariants.{Memory}
 use Rattle.jl_cli.specs.Devices.{HasRisen}
 use Rattle.jl_session.specs.Sessions.{new_session}
-use Rattle.jl_cli.proofs.FaultLaws.{all_of, whole_of, read_of, exactly, Whole, none_whole}
+use Rattle.jl_cli.proofs.FaultLaws.{all_of, whole_of, read_of, exactly, Whole, none_whole, earlier_of}
 use Rattle.jl_cli.proofs.lines.run_lines.Goals as goal
 
 -- the session is a new one, and is dropped
@@ -35,3 +35,12 @@ returns-in_err-session-clause-whole g c =
     (g.W.Sink.contents c.args.writer.now) (g.W.Sink.contents c.args.writer.now)
     (HasRisen (g.W.Sink.failures c.args.writer.now) (g.W.Sink.failures c.args.writer.now)))
     c.from_residual.ensures.1 (none_whole _ _ _ _ _))
+
+pub returns-clause-memory : goal.returns-clause-memory
+returns-clause-memory g c = λ e read.
+    earlier_of c.args.mode _ _ c.run_lines_with.new.session (g.R.Source.remaining c.args.reader.now)
+    (g.R.Source.before c.run_lines_with.new.reader) (g.W.Sink.contents c.args.writer.now)
+    (g.W.Sink.contents c.run_lines_with.new.writer) c.in_ok-session.ensures (c.run_lines_with.ensures.memory e read)
+
+pub returns-in_err-session-clause-memory : goal.returns-in_err-session-clause-memory
+returns-in_err-session-clause-memory g c = λ e read. absurd (read refl)

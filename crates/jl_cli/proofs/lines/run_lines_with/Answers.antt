@@ -1,11 +1,11 @@
 use Rattle.std.specs.Prelude.{◌≡◌, IfSome, IfErr, OnOk, IsErrOf}
-use Rattle.std.proofs.Common.{subst}
+use Rattle.std.proofs.Common.{subst, refl}
 use Rattle.std.specs.Io.KnownBytes.{IsAtEnd}
 use Rattle.jl_cli.specs.declared.words.Mode.{Mode}
 use Rattle.jl_cli.specs.declared.line_fault.LineFault.TheVariants.{Device, Memory}
 use Rattle.jl_cli.specs.Devices.{HasRisen}
 use Rattle.jl_cli.specs.Answers.{AnswersAll, AnswersFirst, AnswersRead, LongIf, LeftBy}
-use Rattle.jl_cli.proofs.FaultLaws.{exactly, Whole, none_whole}
+use Rattle.jl_cli.proofs.FaultLaws.{exactly, Whole, none_whole, Earlier}
 use Rattle.jl_cli.proofs.lines.run_lines_with.Goals as goal
 
 -- the answers are in the mode that they were made in
@@ -53,3 +53,15 @@ returns-in_err-answers-clause-whole g c =
     (g.W.Sink.contents c.args.writer.now) (g.W.Sink.contents c.args.writer.now)
     (HasRisen (g.W.Sink.failures c.args.writer.now) (g.W.Sink.failures c.args.writer.now)))
     c.from_residual-in_err-answers.ensures.1 (none_whole _ _ _ _ _)
+
+pub returns-clause-memory : goal.returns-clause-memory
+returns-clause-memory g c = λ e read.
+    subst (λ (mode : Mode). Earlier mode c.args.session.now c.answer_all.new.session (g.R.Source.remaining c.args.reader.now)
+    (g.R.Source.before c.answer_all.new.reader) (g.W.Sink.contents c.args.writer.now) (g.W.Sink.contents c.answer_all.new.writer))
+    c.in_ok-answers.ensures.1 (c.answer_all.ensures.memory e)
+
+pub returns-in_err-input-clause-memory : goal.returns-in_err-input-clause-memory
+returns-in_err-input-clause-memory g c = λ e read. absurd (read refl)
+
+pub returns-in_err-answers-clause-memory : goal.returns-in_err-answers-clause-memory
+returns-in_err-answers-clause-memory g c = λ e read. absurd (read refl)
