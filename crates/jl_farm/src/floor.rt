@@ -86,15 +86,15 @@ impl<'a, K: Name, G: Gate, R: Wait, S: Wait + Drop> Floor<'a, K, G, R, S> {
     {
         self.gate.before_prepare(job);
         let outcome = match self.jobs.get(job) {
-            Some(sites) => self.outcome(caller, sites.as_slice()),
-            None => self.outcome(caller, &[]),
+            Some(sites) => self.outcome(caller, job, sites.as_slice()),
+            None => self.outcome(caller, job, &[]),
         };
         self.gate.after_install(job);
         Report { job, outcome }
     }
 
-    /// Prepares the sites in a snapshot, and installs their links.
-    fn outcome(&self, caller: &mut Caller<K>, sites: &[SiteNo]) -> JobOutcome<K>
+    /// Prepares the sites of the job in a snapshot, and installs their links.
+    fn outcome(&self, caller: &mut Caller<K>, job: usize, sites: &[SiteNo]) -> JobOutcome<K>
         ensures own { IsPrefix caller.old caller.new }
         ensures shown { IsShown K.max_sites caller.old sites.now result }
         ensures seen { HasSeen caller.new result }
@@ -103,7 +103,10 @@ impl<'a, K: Name, G: Gate, R: Wait, S: Wait + Drop> Floor<'a, K, G, R, S> {
             return JobOutcome::Memory;
         };
         match prepare(self.alloc, &snapshot, sites) {
-            Ok(prepared) => self.install(caller, sites, seen, prepared.rows),
+            Ok(prepared) => {
+                self.gate.before_install(job);
+                self.install(caller, sites, seen, prepared.rows)
+            }
             Err(fault) => match fault {
                 PrepareFault::NotReady(_) => JobOutcome::NotReady(seen),
                 PrepareFault::UnknownSite(_) => JobOutcome::Bad(seen),

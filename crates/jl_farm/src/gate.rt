@@ -5,6 +5,9 @@ pub trait Gate {
     /// The job is next to be prepared.
     fn before_prepare(&self, job: usize);
 
+    /// The job's links were looked up, and are next to be installed.
+    fn before_install(&self, _job: usize) {}
+
     /// The job has come to its outcome, be that an install or not.
     fn after_install(&self, job: usize);
 }
