@@ -13,7 +13,7 @@ const ANSWERS: &[u8] =
 
 /// Gives one byte at a time.
 #[derive(Debug, Drop)]
-struct ByteReader<'a>(&'a [u8]);
+pub(crate) struct ByteReader<'a>(pub(crate) &'a [u8]);
 
 impl Read for ByteReader<'_> {
     fn read(&mut self, buffer: &mut [u8]) -> io::Result<usize> {
@@ -30,9 +30,9 @@ impl Read for ByteReader<'_> {
 
 /// Takes at most so many bytes at a time.
 #[derive(Debug, Drop)]
-struct SlowWriter {
-    most: usize,
-    written: Vec<u8>,
+pub(crate) struct SlowWriter {
+    pub(crate) most: usize,
+    pub(crate) written: Vec<u8>,
 }
 
 impl Write for SlowWriter {

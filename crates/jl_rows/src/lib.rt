@@ -28,6 +28,8 @@ mod sketches;
 #[cfg(test)]
 mod standard;
 #[cfg(test)]
+mod streams;
+#[cfg(test)]
 mod tables;
 #[cfg(test)]
 mod two_faults;
