@@ -1,0 +1,28 @@
+#!/usr/bin/env bash
+# Refuses each growth in turn, and compares what is answered with what must be.
+#
+#     bench/growths.sh [GROWTHS [LINKD]]
+#
+# GROWTHS is the built crates/growths, and LINKD the built linkd; where neither is given, they are what `rt run` in the folder of each
+# leaves in out/, and with GROWTHS alone only that is run. For each n from 1 on a run has its n-th growth refused, until one meets no
+# refusal; then runs have all refused from the n-th on. growths.c says what a growth is, and growths.py what a run may answer. It prints
+# how many growths the watched calls take and how the runs ended. JOBS (2) is how many runs there are at a time; LINES=1 prints the
+# growths of each call. It ends with status 0 only where each run answered as it must; needs cc, python3 and the GNU C library.
+set -eu
+here=$(cd "$(dirname "$0")" && pwd)
+top=$(dirname "$here")
+if [ $# -gt 2 ]; then
+    sed -n '2,/^set/{/^#/s/^# \{0,1\}//p;}' "$0" >&2
+    exit 2
+fi
+if [ $# = 0 ]; then
+    set -- "$top/crates/growths/out/growths" "$top/crates/linkd/out/linkd"
+fi
+for program in "$@"; do
+    [ -f "$program" ] && [ -x "$program" ] || { echo "$program is no program" >&2; exit 2; }
+done
+work=$(mktemp -d)
+trap 'rm -rf "$work"' EXIT
+trap 'exit 130' INT TERM
+${CC:-cc} -O2 -Wall -Wextra -shared -fPIC -o "$work/growths.so" "$here/growths.c"
+python3 "$here/growths.py" "$work" "$@"

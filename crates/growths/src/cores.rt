@@ -1,0 +1,183 @@
+//! The calls of a core.
+
+use crate::deeds::{Ask, Change, event};
+use crate::marks::{SITES, add_core};
+use crate::told::{
+    Called, is_memory, tell_answer, tell_links, tell_refusal, tell_reply, tell_serial,
+    tell_unprepared,
+};
+use crate::watch::Watched;
+use jl_core::Core;
+use jl_relink::{Prepared, Snapshot};
+use jl_types::{ClassId, Event, Recv, SiteNo};
+use std::alloc::AllocError;
+use std::io;
+
+/// How an event is applied.
+#[derive(Clone, Copy)]
+pub(crate) enum Way {
+    /// After the one before.
+    Follows,
+    /// After a plan of the same event was dropped, so that all that the core keeps is copied.
+    Copies,
+    /// While snapshots hold its world and the one before, so that both instances that the core keeps are to change a copy.
+    Shares,
+}
+
+/// A core that is watched.
+#[derive(Drop)]
+pub(crate) struct OnCore {
+    core: Core,
+    way: Way,
+    /// The world before the last event, where snapshots are held.
+    held: Option<Snapshot>,
+}
+
+impl OnCore {
+    /// A core of no events. Want of memory is an error.
+    pub(crate) fn new(rt: &HostRuntime, way: Way) -> Result<OnCore, AllocError> {
+        Ok(OnCore {
+            core: Core::new(rt.alloc(), SITES)?,
+            way,
+            held: None,
+        })
+    }
+}
+
+/// Who is called on.
+pub(crate) fn receiver(class: Option<u32>) -> Recv {
+    match class {
+        Some(class) => Recv::Of(ClassId::new(class)),
+        None => Recv::Null,
+    }
+}
+
+/// Applies the event.
+fn apply(rt: &HostRuntime, core: &mut Core, called: Called, event: Event) -> io::Result<bool> {
+    match &core.apply(rt.alloc(), event) {
+        Ok(reply) => {
+            tell_reply(rt, called, reply)?;
+            Ok(false)
+        }
+        Err(refusal) => tell_refusal(rt, called, refusal),
+    }
+}
+
+/// Plans the event, and drops the plan. It gives whether memory lacked.
+fn plan(rt: &HostRuntime, core: &mut Core, event: Event) -> bool {
+    match &core.plan(rt.alloc(), event) {
+        Ok(_) => false,
+        Err(refusal) => is_memory(refusal),
+    }
+}
+
+/// Applies the event of the change.
+fn apply_change(
+    rt: &HostRuntime,
+    core: &mut Core,
+    called: Called,
+    change: &Change,
+) -> io::Result<bool> {
+    let event = event(rt.alloc(), change)?;
+    apply(rt, core, called, event)
+}
+
+/// The same after a plan of it was dropped.
+fn apply_planned(
+    rt: &HostRuntime,
+    core: &mut Core,
+    called: Called,
+    change: &Change,
+) -> io::Result<bool> {
+    let planned = event(rt.alloc(), change)?;
+    if plan(rt, core, planned) {
+        return Ok(true);
+    }
+    apply_change(rt, core, called, change)
+}
+
+/// The same while a snapshot holds the world and another one the world before, in whose place the first comes where the event is
+/// answered.
+fn apply_shared(
+    rt: &HostRuntime,
+    core: &mut Core,
+    held: &mut Option<Snapshot>,
+    called: Called,
+    change: &Change,
+) -> io::Result<bool> {
+    let snapshot = core.snapshot(rt.alloc())?;
+    let lacks = apply_change(rt, core, called, change)?;
+    if !lacks {
+        *held = Some(snapshot);
+    }
+    Ok(lacks)
+}
+
+/// The installed links.
+fn links(rt: &HostRuntime, core: &Core, called: Called) -> io::Result<bool> {
+    match &core.list_links(rt.alloc()) {
+        Ok(links) => {
+            tell_links(rt, called, links.as_slice())?;
+            Ok(false)
+        }
+        Err(_) => Ok(true),
+    }
+}
+
+/// A snapshot.
+fn snapshot(rt: &HostRuntime, core: &Core, called: Called) -> io::Result<bool> {
+    match &core.snapshot(rt.alloc()) {
+        Ok(snapshot) => {
+            tell_serial(rt, called, snapshot.serial())?;
+            Ok(false)
+        }
+        Err(_) => Ok(true),
+    }
+}
+
+/// A preparation of site 0.
+fn prepare(rt: &HostRuntime, core: &Core, called: Called) -> io::Result<bool> {
+    match &core.prepare(rt.alloc(), [SiteNo::new(0)].as_slice()) {
+        Ok(Prepared { serial: _, rows }) => {
+            tell_links(rt, called, rows.as_slice())?;
+            Ok(false)
+        }
+        Err(fault) => tell_unprepared(rt, called, fault),
+    }
+}
+
+/// A call of site 0.
+fn call(rt: &HostRuntime, core: &Core, called: Called, class: Option<u32>) -> io::Result<bool> {
+    let answer = core.call(SiteNo::new(0), receiver(class));
+    tell_answer(rt, called, &answer)?;
+    Ok(false)
+}
+
+impl Watched for OnCore {
+    fn name(&self) -> &'static str {
+        match self.way {
+            Way::Follows => "core",
+            Way::Copies => "core after a plan",
+            Way::Shares => "core beside snapshots",
+        }
+    }
+
+    fn mark(&mut self, _rt: &HostRuntime, text: &mut String) -> io::Result<()> {
+        add_core(text, &self.core)?;
+        Ok(())
+    }
+
+    fn ask(&mut self, rt: &HostRuntime, called: Called, ask: &Ask) -> io::Result<bool> {
+        match ask {
+            Ask::Apply(change) => match self.way {
+                Way::Follows => apply_change(rt, &mut self.core, called, change),
+                Way::Copies => apply_planned(rt, &mut self.core, called, change),
+                Way::Shares => apply_shared(rt, &mut self.core, &mut self.held, called, change),
+            },
+            Ask::Links => links(rt, &self.core, called),
+            Ask::Snapshot => snapshot(rt, &self.core, called),
+            Ask::Prepare => prepare(rt, &self.core, called),
+            Ask::Call(class) => call(rt, &self.core, called, *class),
+        }
+    }
+}

@@ -1,0 +1,51 @@
+//! The reading of class files.
+
+use crate::files::{A, B, C, M, OBJECT, T};
+use crate::told::{Called, tell_file, tell_memory};
+use jl_classfile::{ClassFault, read_class};
+use std::io::{self, ErrorKind};
+
+/// The files, with the names of their classes.
+const FILES: &[(&str, &[u8])] = &[
+    ("java/lang/Object", OBJECT),
+    ("A", A),
+    ("B", B),
+    ("M", M),
+    ("C", C),
+    ("T", T),
+];
+
+/// Reads the file, and prints what was read or why it wasn't. It gives whether memory lacked, which it doesn't print.
+fn read(rt: &HostRuntime, called: Called, bytes: &[u8]) -> io::Result<bool> {
+    match &read_class(rt.alloc(), bytes) {
+        Ok(file) => {
+            tell_file(rt, called, file)?;
+            Ok(false)
+        }
+        Err(ClassFault::Memory) => Ok(true),
+        Err(_) => Err(ErrorKind::InvalidData.into()),
+    }
+}
+
+/// Reads the file, and once more where memory lacked.
+fn watch(rt: &HostRuntime, deed: &'static str, bytes: &[u8]) -> io::Result<()> {
+    let called = Called {
+        of: "reading",
+        deed,
+    };
+    if read(rt, called, bytes)? {
+        tell_memory(rt, called)?;
+        if read(rt, called, bytes)? {
+            return Err(ErrorKind::OutOfMemory.into());
+        }
+    }
+    Ok(())
+}
+
+/// Reads each file.
+pub(crate) fn read_all(rt: &HostRuntime) -> io::Result<()> {
+    for (name, bytes) in FILES {
+        watch(rt, name, bytes)?;
+    }
+    Ok(())
+}

@@ -1,0 +1,94 @@
+//! Calls that may be answered Memory: what was there before is to be there afterwards, and the same call is to be answered then.
+
+use crate::deeds::{Ask, Deed};
+use crate::marks::blank;
+use crate::told::{Called, tell_memory, tell_state};
+use std::alloc::{AllocError, Global};
+use std::io::{self, ErrorKind};
+
+/// What is watched.
+pub(crate) trait Watched {
+    /// Whose calls these are, as it is printed.
+    fn name(&self) -> &'static str;
+
+    /// Adds all that is seen of the state.
+    fn mark(&mut self, rt: &HostRuntime, text: &mut String) -> io::Result<()>;
+
+    /// Asks, and prints the answer where it isn't Memory. It gives whether it is.
+    ///
+    /// # Errors
+    ///
+    /// Want of memory before the call, and a failed write.
+    fn ask(&mut self, rt: &HostRuntime, called: Called, ask: &Ask) -> io::Result<bool>;
+}
+
+/// Two texts of a state, with room.
+#[derive(Drop)]
+pub(crate) struct Marks {
+    before: String,
+    after: String,
+}
+
+impl Marks {
+    /// Two blank texts. Want of memory is an error.
+    pub(crate) fn new(alloc: Global) -> Result<Marks, AllocError> {
+        Ok(Marks {
+            before: blank(alloc)?,
+            after: blank(alloc)?,
+        })
+    }
+}
+
+/// Prints that memory lacked, and whether the state is as before, and asks once more.
+fn ask_again<W: Watched>(
+    rt: &HostRuntime,
+    watched: &mut W,
+    marks: &mut Marks,
+    called: Called,
+    ask: &Ask,
+) -> io::Result<()> {
+    tell_memory(rt, called)?;
+    marks.after.clear();
+    watched.mark(rt, &mut marks.after)?;
+    tell_state(rt, called, marks.before == marks.after)?;
+    if watched.ask(rt, called, ask)? {
+        return Err(ErrorKind::OutOfMemory.into());
+    }
+    Ok(())
+}
+
+/// Asks, and once more where memory lacked.
+fn watch<W: Watched>(
+    rt: &HostRuntime,
+    watched: &mut W,
+    marks: &mut Marks,
+    deed: &Deed,
+) -> io::Result<()> {
+    let called = Called {
+        of: watched.name(),
+        deed: deed.name,
+    };
+    marks.before.clear();
+    watched.mark(rt, &mut marks.before)?;
+    if watched.ask(rt, called, &deed.ask)? {
+        ask_again(rt, watched, marks, called, &deed.ask)?;
+    }
+    Ok(())
+}
+
+/// Asks one thing after another.
+///
+/// # Errors
+///
+/// Want of memory outside the calls, or a second time, and a failed write.
+pub(crate) fn watch_all<W: Watched>(
+    rt: &HostRuntime,
+    watched: &mut W,
+    deeds: &[Deed],
+) -> io::Result<()> {
+    let mut marks = Marks::new(rt.alloc())?;
+    for deed in deeds {
+        watch(rt, watched, &mut marks, deed)?;
+    }
+    Ok(())
+}
