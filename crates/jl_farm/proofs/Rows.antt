@@ -1,17 +1,21 @@
 -- Worked rows, by computation.
-use Rattle.std.proofs.Common.{◌≡◌, ◌<◌, ◌≤◌, ℕ, zero, suc, true, false, List, [], ◌∷◌, ◌++◌, map, length, get_or, refl, ap, ◌∙◌, sym, arith}
+use Rattle.std.proofs.Common.{◌≡◌, ◌<◌, ◌≤◌, ◌+◌, ◌==◌, ℕ, zero, suc, true, false, cond, List, [], ◌∷◌, ◌++◌, map, length, get_or, All, refl, ap, ◌∙◌, sym, arith}
+use Rattle.std.proofs.lemmas.Bool.Decides.{nat_tests}
 use mathlib.Core.List.{IsPrefix}
 use Rattle.jl_types.specs.declared.link.Link.{Link}
 use Rattle.jl_types.specs.Event.{Event}
-use Rattle.jl_types.specs.declared.event.EventOf.TheVariants.{Install, NewSwitch}
+use Rattle.jl_types.specs.declared.event.EventOf.TheVariants.{Install, NewLoader, NewSwitch}
 use Rattle.jl_types.specs.declared.event.Made.TheVariants.{Nothing}
 use Rattle.jl_types.specs.declared.event.Reply.{Reply}
 use Rattle.jl_types.specs.Entries.{Entry}
 use Rattle.jl_server.specs.declared.book.Receipt.{Receipt}
 use Rattle.jl_server.specs.History.{entry_after}
+use Rattle.jl_farm.specs.declared.report.Report.{Report}
+use Rattle.jl_farm.specs.declared.report.JobOutcome.{JobOutcome}
 use Rattle.jl_farm.specs.declared.report.JobOutcome.TheVariants.{Installed, Stale, NotReady, Bad, Memory}
-use Rattle.jl_farm.specs.Reports.{has_twice, sites_of, world_of, IsInstalled, IsShown}
+use Rattle.jl_farm.specs.Reports.{has_twice, sites_of, world_of, lists_of, names_install, installs_of, IsInstalled, IsShown, AreOfOneHistory, AreOfSameSites}
 use Rattle.jl_farm.specs.Work.{HasSeen}
+use Rattle.jl_farm.proofs.Installs.{last_same, rows_of, same_serial}
 
 -- no site, one, two equal ones and two different ones
 twice_none : has_twice [] ≡ false
@@ -74,19 +78,6 @@ module _ (K : Type 0) (max_sites : ℕ) (before : List Entry) where
   no_unready_of_none : (list : List Entry) → IsShown {K = K} max_sites before [] (NotReady list) → ⊥
   no_unready_of_none list shown = omega (arith, shown.unready.2)
 
--- lists with one last entry
-last_same : (e f : Entry) (xs ys : List Entry) → xs ++ e ∷ [] ≡ ys ++ f ∷ [] → e ≡ f
-last_same e f [] [] is = cc is
-last_same e f [] (y ∷ []) is = absurd (cc is)
-last_same e f [] (y ∷ z ∷ ys) is = absurd (cc is)
-last_same e f (x ∷ []) [] is = absurd (cc is)
-last_same e f (x ∷ w ∷ xs) [] is = absurd (cc is)
-last_same e f (x ∷ xs) (y ∷ ys) is = last_same e f xs ys (cc is)
-
-abbrev rows_of : Event → List (ℕ × Link)
-rows_of (Install rows) = rows
-rows_of _ = []
-
 module _ (K : Type 0) (max_sites : ℕ) (before earlier : List Entry) (receipt : Receipt K) where
   -- what the list ends with, by the report
   abbrev last_of : {sites : List ℕ} → IsInstalled max_sites before sites receipt → Entry
@@ -112,6 +103,9 @@ module _ (K : Type 0) (max_sites : ℕ) (before earlier : List Entry) (receipt :
 
 -- ---- what the caller that ran a job has seen
 
+abbrev one : List Entry
+one = quiet NewSwitch ∷ []
+
 module _ (K : Type 0) (list : List Entry) where
   saw_the_later_list : HasSeen {K = K} list (Stale [] list)
   saw_the_later_list = refl
@@ -123,9 +117,6 @@ module _ (K : Type 0) (list : List Entry) where
   nothing_of_want_of_memory = tt
 
   -- no other list than the one that the outcome names
-  abbrev one : List Entry
-  one = quiet NewSwitch ∷ []
-
   not_the_earlier_list : HasSeen {K = K} [] (Stale [] one) → ⊥
   not_the_earlier_list e = cc
 
@@ -137,3 +128,98 @@ module _ (K : Type 0) (list : List Entry) where
 
   no_other_when_installed : (receipt : Receipt K) → receipt.seen ≡ one → HasSeen [] (Installed receipt) → ⊥
   no_other_when_installed receipt is e = let clash : one ≡ [] = sym is ∙ e in cc
+
+-- ---- several reports
+
+abbrev first_event : List Entry → Event
+first_event [] = NewSwitch
+first_event (entry ∷ list) = entry.event
+
+module _ (K : Type 0) where
+  lists_of_installed : (receipt : Receipt K) → lists_of (Installed receipt) ≡ receipt.seen ∷ []
+  lists_of_installed receipt = refl
+
+  lists_of_stale : lists_of {K = K} (Stale [] one) ≡ [] ∷ one ∷ []
+  lists_of_stale = refl
+
+  lists_of_not_ready : lists_of {K = K} (NotReady one) ≡ one ∷ []
+  lists_of_not_ready = refl
+
+  lists_of_bad : lists_of {K = K} (Bad one) ≡ one ∷ []
+  lists_of_bad = refl
+
+  lists_of_memory : lists_of {K = K} Memory ≡ []
+  lists_of_memory = refl
+
+  abbrev of_job : ℕ → JobOutcome K → Report K
+  of_job job outcome = record { job = job; outcome = outcome }
+
+  -- lists that go on differently are of two histories
+  fork : (whole rest more : List Entry) → quiet NewSwitch ∷ rest ≡ whole → quiet NewLoader ∷ more ≡ whole → ⊥
+  fork whole rest more p q = let events : NewSwitch ≡ NewLoader = ap first_event (p ∙ sym q) in cc events
+
+  no_two_histories : AreOfOneHistory (of_job 0 (NotReady (quiet NewSwitch ∷ [])) ∷ of_job 1 (Bad (quiet NewLoader ∷ [])) ∷ []) → ⊥
+  no_two_histories history =
+      let p = history.begins 0 (of_job 0 Memory) (omega arith) 0 [] (omega arith) in
+      let q = history.begins 1 (of_job 0 Memory) (omega arith) 0 [] (omega arith) in
+      fork history.whole p.0 q.0 p.1 q.1
+
+  -- as are those of one job
+  no_two_histories_of_one_job : AreOfOneHistory (of_job 0 (Stale (quiet NewSwitch ∷ []) (quiet NewLoader ∷ [])) ∷ []) → ⊥
+  no_two_histories_of_one_job history =
+      let p = history.begins 0 (of_job 0 Memory) (omega arith) 0 [] (omega arith) in
+      let q = history.begins 0 (of_job 0 Memory) (omega arith) 1 [] (omega arith) in
+      fork history.whole p.0 q.0 p.1 q.1
+
+  -- the install of serial 3, and of no other
+  module _ (receipt : Receipt K) (third : receipt.serial ≡ 3) where
+    names_its_serial : names_install 3 (Installed receipt) ≡ true
+    names_its_serial = ap (λ n. n == 3) third
+
+    names_no_other : names_install 4 (Installed receipt) ≡ false
+    names_no_other = ap (λ n. n == 4) third
+
+    -- two reports of one install, and another one
+    counts_two : installs_of 3 (of_job 0 (Installed receipt) ∷ of_job 1 Memory ∷ of_job 2 (Installed receipt) ∷ []) ≡ 2
+    counts_two = ap (λ n. 0 + cond (n == 3) 1 0 + 0 + cond (n == 3) 1 0) third
+
+    counts_no_other : installs_of 4 (of_job 0 (Installed receipt) ∷ []) ≡ 0
+    counts_no_other = ap (λ n. 0 + cond (n == 4) 1 0) third
+
+  names_none_when_stale : names_install {K = K} 1 (Stale [] one) ≡ false
+  names_none_when_stale = refl
+
+  names_none_when_not_ready : names_install {K = K} 1 (NotReady one) ≡ false
+  names_none_when_not_ready = refl
+
+  names_none_when_bad : names_install {K = K} 1 (Bad one) ≡ false
+  names_none_when_bad = refl
+
+  names_none_of_memory : names_install {K = K} 0 Memory ≡ false
+  names_none_of_memory = refl
+
+  -- one install for the jobs of sites 5 and 7
+  no_install_for_both : (receipt : Receipt K) → AreOfSameSites ((5 ∷ []) ∷ (7 ∷ []) ∷ []) (of_job 0 (Installed receipt) ∷ of_job 1 (Installed receipt) ∷ []) → ⊥
+  no_install_for_both receipt same =
+      let own : (receipt.serial == receipt.serial) ≡ true = grind (arith, nat_tests) in
+      let clash = ap (λ (sites : List ℕ). get_or sites 0 0) (same receipt.serial 0 (of_job 0 Memory) (omega arith) 1 (of_job 0 Memory) (omega arith) own own) in
+      omega (arith, clash)
+
+  abbrev two : Receipt K → Receipt K → List (Report K)
+  two mine theirs = of_job 0 (Installed mine) ∷ of_job 1 (Installed theirs) ∷ []
+
+  -- two installs, each of its job
+  two_installs : (mine theirs : Receipt K) → mine.serial ≡ 3 → theirs.serial ≡ 4 → AreOfSameSites ((5 ∷ []) ∷ (7 ∷ []) ∷ []) (two mine theirs)
+  two_installs mine theirs third fourth serial = by_place
+    where
+      other : (mine.serial == serial) ≡ true → (theirs.serial == serial) ≡ true → ⊥
+      other is also = omega (arith, same_serial mine.serial serial is, same_serial theirs.serial serial also, third, fourth)
+
+      by_place : All (λ a. All (λ b. names_install serial a.outcome ≡ true → names_install serial b.outcome ≡ true → sites_of ((5 ∷ []) ∷ (7 ∷ []) ∷ []) a.job ≡ sites_of ((5 ∷ []) ∷ (7 ∷ []) ∷ []) b.job) (two mine theirs)) (two mine theirs)
+      by_place zero d lt zero e less is also = refl
+      by_place zero d lt (suc zero) e less is also = absurd (other is also)
+      by_place (suc zero) d lt zero e less is also = absurd (other also is)
+      by_place (suc zero) d lt (suc zero) e less is also = refl
+      by_place zero d lt (suc (suc j)) e less is also = absurd (omega (arith, less))
+      by_place (suc zero) d lt (suc (suc j)) e less is also = absurd (omega (arith, less))
+      by_place (suc (suc k)) d lt j e less is also = absurd (omega (arith, lt))

@@ -8,15 +8,16 @@ use Rattle.std.proofs.lemmas.List.Elements.{All-append}
 use mathlib.Core.List.{IsPrefix}
 use Rattle.crossbeam_queue.specs.Passes.{view}
 use Rattle.jl_types.specs.Entries.{Entry}
-use Rattle.jl_server.proofs.Beginnings.{prefix_self, prefix_trans}
+use Rattle.jl_server.proofs.Beginnings.{prefix_self, prefix_trans, prefix_length}
 use Rattle.jl_farm.specs.declared.line.Hand.{Hand}
 use Rattle.jl_farm.specs.declared.report.Report.{Report}
 use Rattle.jl_farm.specs.declared.worker.Worker.{Worker}
 use Rattle.jl_farm.specs.Queued.{hand, KnowsAll}
-use Rattle.jl_farm.specs.Reports.{IsShown, sites_of, IsReport, jobs_of}
-use Rattle.jl_farm.specs.Work.{Works, IsHired, HasReported, HasOne}
+use Rattle.jl_farm.specs.Reports.{IsShown, sites_of, IsReport, jobs_of, installs_of}
+use Rattle.jl_farm.specs.Work.{Works, HasSeen, IsHired, HasReported, HasOne}
 use Rattle.jl_farm.proofs.Outcomes.{shown_before}
 use Rattle.jl_farm.proofs.EachOnce.{each_once}
+use Rattle.jl_farm.proofs.Installs.{between_both, between_least, installs_both, once_each}
 
 -- ---- lists that are popped
 
@@ -66,18 +67,20 @@ module _ {K : Type 0} (n : ℕ) (jobs : List (List ℕ)) where
     turn = turn ∙ ap (hand (view old.turn).parts (view old.turn).put) (sym (append-nil (view old.turn).taken));
     own = subst (IsPrefix old.caller) (sym own) (prefix_self old.caller);
     shown = all_none (λ report. IsShown n old.caller (sites_of jobs report.job) report.outcome);
+    once = λ serial. omega (arith);
   }
 
   -- one job more
   pub works_one : (old new : Worker K) (report : Report K) → new.reports.items ≡ old.reports.items ++ report ∷ []
       → view new.turn ≡ hand (view old.turn).parts (view old.turn).put ((view old.turn).taken ++ report.job ∷ []) → IsPrefix old.caller new.caller
-      → IsShown n old.caller (sites_of jobs report.job) report.outcome → Works n jobs old new
-  works_one old new report reports turn own shown = record {
+      → IsShown n old.caller (sites_of jobs report.job) report.outcome → HasSeen new.caller report.outcome → Works n jobs old new
+  works_one old new report reports turn own shown seen = record {
     more = report ∷ [];
     reports = reports;
     turn = turn;
     own = own;
     shown = one;
+    once = λ serial. omega (arith, once_each n old.caller new.caller (sites_of jobs report.job) report.outcome serial shown seen);
   }
     where
       one : All (λ r. IsShown n old.caller (sites_of jobs r.job) r.outcome) (report ∷ [])
@@ -95,6 +98,13 @@ module _ {K : Type 0} (n : ℕ) (jobs : List (List ℕ)) where
     own = prefix_trans old.caller mid.caller new.caller a.own b.own;
     shown = All-append (λ r. IsShown n old.caller (sites_of jobs r.job) r.outcome) a.more b.more a.shown
         (λ k d lt. shown_before n old.caller mid.caller (sites_of jobs (get_or b.more k d).job) (get_or b.more k d).outcome a.own (b.shown k d lt));
+    once = λ serial. omega (
+      arith,
+      installs_both serial a.more b.more,
+      a.once serial,
+      b.once serial,
+      between_both (length old.caller) (length mid.caller) (length new.caller) serial (prefix_length old.caller mid.caller a.own) (prefix_length mid.caller new.caller b.own),
+    );
   }
 
   -- ---- workers
@@ -107,7 +117,11 @@ module _ {K : Type 0} (n : ℕ) (jobs : List (List ℕ)) where
     reported old new hired works =
         let start : view new.turn ≡ hand 1 [] (jobs_of works.more) = works.turn ∙ ap (λ (v : Hand). hand v.parts v.put (v.taken ++ jobs_of works.more)) hired.turn in
         let all : new.reports.items ≡ works.more = works.reports ∙ ap (λ rs. rs ++ works.more) hired.none in (
-          (ap (λ (v : Hand). v.parts) start, ap (λ (v : Hand). v.put) start),
+          (
+            ap (λ (v : Hand). v.parts) start,
+            ap (λ (v : Hand). v.put) start,
+            λ serial. omega (arith, ap (installs_of serial) all, works.once serial, between_least (length old.caller) (length new.caller) serial),
+          ),
           record {
             taken = ap (λ (v : Hand). v.taken) start ∙ ap jobs_of (sym all);
             shown = subst (All (IsReport n callers jobs)) (sym all) (reports_of old.caller works.more hired.own works.shown);

@@ -1,6 +1,6 @@
 -- What a report shows of its job, by the lists of accepted events that it names.
-use Rattle.std.specs.Prelude.{◌≡◌, ◌≢◌, ◌⊎◌, ◌<◌, ◌≤◌, ◌==◌, ◌||◌, ℕ, Bool, true, false, List, [], ◌∷◌, map, length, slice_get, unwrap_or, Any, Contains, IsErr}
-use Rattle.std.specs.List.{list_any}
+use Rattle.std.specs.Prelude.{◌≡◌, ◌≢◌, ◌⊎◌, ◌<◌, ◌≤◌, ◌==◌, ◌||◌, ℕ, Bool, true, false, List, [], ◌∷◌, map, length, slice_get, unwrap_or, All, Any, Contains, IsErr}
+use Rattle.std.specs.List.{list_any, count_by}
 use mathlib.Core.List.{IsPrefix}
 use Rattle.jl_types.specs.declared.link.Link.{Link}
 use Rattle.jl_types.specs.declared.event.EventOf.TheVariants.{Install}
@@ -74,3 +74,35 @@ pub record IsReport {K : Type 0} (max_sites : ℕ) (callers : List (List Entry))
   pub before : List Entry
   pub of_caller : Contains callers before
   pub shown : IsShown max_sites before (sites_of jobs report.job) report.outcome
+
+-- ---- several reports
+
+-- the lists that an outcome names
+abbrev pub lists_of : {K : Type 0} → JobOutcome K → List (List Entry)
+lists_of (Installed receipt) = receipt.seen ∷ []
+lists_of (Stale first second) = first ∷ second ∷ []
+lists_of (NotReady list) = list ∷ []
+lists_of (Bad list) = list ∷ []
+lists_of Memory = []
+
+-- All lists that the reports name begin one list.
+pub record AreOfOneHistory {K : Type 0} (reports : List (Report K)) : Type 0 where
+  pub whole : List Entry
+  pub begins : All (λ report. All (λ list. IsPrefix list whole) (lists_of report.outcome)) reports
+
+-- the outcome is the install of this serial
+abbrev pub names_install : {K : Type 0} → ℕ → JobOutcome K → Bool
+names_install serial (Installed receipt) = receipt.serial == serial
+names_install serial (Stale first second) = false
+names_install serial (NotReady list) = false
+names_install serial (Bad list) = false
+names_install serial Memory = false
+
+-- how many of the reports name the install of this serial
+abbrev pub installs_of : {K : Type 0} → ℕ → List (Report K) → ℕ
+installs_of serial reports = count_by (λ report. names_install serial report.outcome) reports
+
+-- two reports that name one install are of jobs of the same sites
+abbrev pub AreOfSameSites : {K : Type 0} → List (List ℕ) → List (Report K) → Type 0
+AreOfSameSites jobs reports =
+    (serial : ℕ) → All (λ a. All (λ b. names_install serial a.outcome ≡ true → names_install serial b.outcome ≡ true → sites_of jobs a.job ≡ sites_of jobs b.job) reports) reports

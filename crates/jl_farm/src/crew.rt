@@ -3,7 +3,7 @@
 ghost use Rattle.std.specs.Prelude.{◌≡◌, ◌<◌, ◌≤◌, ◌+◌, ◌-◌, ℕ, length, slice_index_or, All, IfOk, OnOk, vec_len};
 ghost use Rattle.crossbeam_queue.specs.Passes.{view, IsPassOf};
 ghost use Rattle.jl_farm.specs.Queued.{hand};
-ghost use Rattle.jl_farm.specs.Work.{IsHired, HasReported, HasOne};
+ghost use Rattle.jl_farm.specs.Work.{IsHired, HasReported, HasOne, HasTaken};
 
 use crate::line::{Line, Turn, one_more, take_over};
 use crate::worker::Worker;
@@ -83,6 +83,7 @@ pub(crate) fn gather<K: Name>(
     ensures lead { OnOk result (HasReported K.max_sites callers.now.value.items jobs.now lead.new) }
     ensures put { OnOk result ((view lead.new.turn).put ≡ (view lead.old.turn).put) }
     ensures parts { OnOk result ((view lead.new.turn).parts ≡ (view lead.old.turn).parts + vec_len crew) }
+    ensures taken { OnOk result (HasTaken (vec_len crew) lead.old lead.new) }
 {
     let mut crew = crew;
     while let Some(other) = crew.pop() {
@@ -107,6 +108,7 @@ fn take_in<K: Name>(
     ensures lead { OnOk result (HasReported K.max_sites callers.now.value.items jobs.now lead.new) }
     ensures put { OnOk result ((view lead.new.turn).put ≡ (view lead.old.turn).put) }
     ensures parts { OnOk result ((view lead.new.turn).parts ≡ (view lead.old.turn).parts + 1) }
+    ensures taken { OnOk result (HasTaken 1 lead.old lead.new) }
 {
     let Worker {
         caller: _caller,

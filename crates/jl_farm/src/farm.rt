@@ -3,8 +3,9 @@
 ghost use Rattle.std.specs.Prelude.{◌≡◌, ◌≤◌, ◌+◌, [], ℕ, true, false, All, IsOk, IfOk, IfErr, vec_len};
 ghost use Rattle.std.specs.List.{AllZip, sum_by, range_with_len};
 ghost use Rattle.std.specs.List.Sorted.{IsPermutation, IsNonDecreasingBy};
+ghost use mathlib.Core.List.{IsPrefix};
 ghost use Rattle.crossbeam_queue.specs.Passes.{view, IsPassOf};
-ghost use Rattle.jl_farm.specs.Reports.{IsReport, jobs_of};
+ghost use Rattle.jl_farm.specs.Reports.{IsReport, jobs_of, lists_of, installs_of, AreOfOneHistory, AreOfSameSites};
 ghost use Rattle.jl_farm.specs.Work.{Works, HasReported, HasOne, HasPart};
 
 use crate::crew::{at_once, gather, hire};
@@ -12,7 +13,7 @@ use crate::fault::FarmFault;
 use crate::floor::Floor;
 use crate::gate::Gate;
 use crate::line::{Turn, line_of, take_over};
-use crate::report::Report;
+use crate::report::{JobOutcome, Report};
 use crate::worker::Worker;
 use jl_names::Seq;
 use jl_server::{Caller, LinkServer, Name};
@@ -24,8 +25,9 @@ use std::thread;
 use std::thread::{JoinHandle, Threads};
 
 /// Runs the jobs, each once, by one worker for each caller: the job's sites are prepared in a snapshot of the server, and their links
-/// installed as one batch. There are 1 to 16 callers, and at most 65,536 jobs. Gives a report of each job, in the order of the jobs.
-/// Without jobs it makes no thread, takes no memory and gives no reports.
+/// installed as one batch. There are 1 to 16 callers, and at most 65,536 jobs. Gives a report of each job, in the order of the jobs. All
+/// lists of events that the reports name begin one list. Reports that name one install are of jobs of the same sites, and no more than there
+/// are workers. Without jobs it makes no thread, takes no memory and gives no reports.
 ///
 /// # Errors
 ///
@@ -48,6 +50,9 @@ pub fn run<
     requires jobs { vec_len jobs ≤ 65536 }
     ensures jobs { IfOk result (λ reports. jobs_of reports.items ≡ range_with_len 0 (vec_len jobs)) }
     ensures shown { IfOk result (λ reports. All (IsReport K.max_sites workers.items jobs.items) reports.items) }
+    ensures history { IfOk result (λ reports. AreOfOneHistory reports.items) }
+    ensures sites { IfOk result (λ reports. AreOfSameSites jobs.items reports.items) }
+    ensures installs { IfOk result (λ reports. (serial : ℕ) → installs_of serial reports.items ≤ vec_len workers) }
     ensures idle { vec_len jobs ≡ 0 → IsOk result }
 {
     if jobs.len() == 0 {
@@ -74,6 +79,9 @@ fn run_some<
     requires jobs { vec_len jobs ≤ 65536 }
     ensures jobs { IfOk result (λ reports. jobs_of reports.items ≡ range_with_len 0 (vec_len jobs)) }
     ensures shown { IfOk result (λ reports. All (IsReport K.max_sites workers.items jobs.items) reports.items) }
+    ensures history { IfOk result (λ reports. AreOfOneHistory reports.items) }
+    ensures sites { IfOk result (λ reports. AreOfSameSites jobs.items reports.items) }
+    ensures installs { IfOk result (λ reports. (serial : ℕ) → installs_of serial reports.items ≤ vec_len workers) }
 {
     if !has_thread(rt) {
         return Err(FarmFault::NoThread);
@@ -139,6 +147,8 @@ fn finish<K: Name, G: Gate, R: Wait, S: Wait + Drop>(
     requires crew { All (λ worker. IsPassOf floor.now.line.now worker.turn × HasOne worker × HasReported K.max_sites callers.now.value.items floor.now.jobs.now worker) crew.items }
     ensures weighs { IfOk result (λ reports. (weight : ℕ → ℕ) → sum_by weight (view turn).put ≡ sum_by weight (jobs_of reports.items)) }
     ensures shown { IfOk result (λ reports. All (IsReport K.max_sites callers.now.value.items floor.now.jobs.now) reports.items) }
+    ensures history { IfOk result (λ reports. AreOfOneHistory reports.items) }
+    ensures installs { IfOk result (λ reports. (serial : ℕ) → installs_of serial reports.items ≤ vec_len crew) }
 {
     let mut crew = crew;
     let Some(mut lead) = crew.pop() else {
@@ -148,11 +158,39 @@ fn finish<K: Name, G: Gate, R: Wait, S: Wait + Drop>(
     gather(callers, floor.jobs, floor.line, &mut lead, crew)?;
     floor.work(&mut lead)?;
     let Worker {
-        caller: _caller,
+        caller,
         turn: _turn,
         reports,
     } = lead;
+    learn_all(caller, reports.as_slice());
     Ok(reports)
+}
+
+/// Shows that all lists that the reports name begin one: what this caller has seen, once it has learnt each.
+fn learn_all<K: Name>(caller: Caller<K>, reports: &[Report<K>])
+    ensures { AreOfOneHistory reports.now }
+{
+    let mut caller = caller;
+    for report in reports {
+        learn(&mut caller, &report.outcome);
+    }
+}
+
+/// Learns the lists that the outcome names.
+fn learn<K: Name>(caller: &mut Caller<K>, outcome: &JobOutcome<K>)
+    ensures own { IsPrefix caller.old caller.new }
+    ensures named { All (λ list. IsPrefix list caller.new) (lists_of outcome.now) }
+{
+    match outcome {
+        JobOutcome::Installed(receipt) => caller.learn(&receipt.seen),
+        JobOutcome::Stale(first, second) => {
+            caller.learn(first);
+            caller.learn(second);
+        }
+        JobOutcome::NotReady(list) => caller.learn(list),
+        JobOutcome::Bad(list) => caller.learn(list),
+        JobOutcome::Memory => {}
+    }
 }
 
 /// The reports by rising job.

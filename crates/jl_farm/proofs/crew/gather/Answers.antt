@@ -1,7 +1,8 @@
-use Rattle.std.proofs.Common.{◌∙◌, All, subst, arith}
+use Rattle.std.proofs.Common.{◌∙◌, ◌+◌, All, refl, subst, arith, vec_len}
 use Rattle.crossbeam_queue.specs.Passes.{IsPassOf}
 use Rattle.jl_farm.specs.declared.worker.Worker.{Worker}
 use Rattle.jl_farm.specs.Work.{HasOne, HasReported}
+use Rattle.jl_farm.proofs.Installs.{taken_none, taken_more, taken_most}
 use Rattle.jl_farm.proofs.Shifts.{all_popped}
 use Rattle.jl_farm.proofs.crew.gather.Goals as goal
 
@@ -20,6 +21,16 @@ take_in-requires-clause-other g c =
     let P : Worker g.row.K.Denot → Type 0 = λ worker. IsPassOf c.args.line.now worker.turn × HasOne worker × HasReported g.K.Name.max_sites c.args.callers.now.value.items c.args.jobs.now worker in
     (all_popped P c.pop.new.self.items c.in-Some.other (subst (All P) c.in-Some.ensures.items c.loop-other.invariant.crew)).1.2
 
+pub loop-other-init : goal.loop-other-init
+loop-other-init g c = record {
+  turn = c.requires.turn;
+  lead = c.requires.lead;
+  crew = c.requires.crew;
+  put = refl;
+  parts = refl;
+  taken = (0, omega (arith), taken_none c.args.lead.now);
+}
+
 pub loop-other-preserved : goal.loop-other-preserved
 loop-other-preserved g c =
     let P : Worker g.row.K.Denot → Type 0 = λ worker. IsPassOf c.args.line.now worker.turn × HasOne worker × HasReported g.K.Name.max_sites c.args.callers.now.value.items c.args.jobs.now worker in
@@ -29,4 +40,10 @@ loop-other-preserved g c =
       crew = (all_popped P c.pop.new.self.items c.in-Some.other (subst (All P) c.in-Some.ensures.items c.loop-other.invariant.crew)).0;
       put = c.in_ok-take_in.ensures.put ∙ c.loop-other.invariant.put;
       parts = omega (arith, c.in_ok-take_in.ensures.parts, c.in-Some.ensures.cases, c.loop-other.invariant.parts);
+      taken = (c.loop-other.invariant.taken.0 + 1, omega (arith, c.in-Some.ensures.cases, c.loop-other.invariant.taken.1), taken_more _ _ _ _ c.loop-other.invariant.taken.2 c.in_ok-take_in.ensures.taken);
     }
+
+pub returns-clause-taken : goal.returns-clause-taken
+returns-clause-taken g c =
+    let taken = c.loop-other.invariant.taken in
+    taken_most taken.0 (vec_len c.args.crew) _ _ (omega (arith, taken.1)) taken.2

@@ -1,6 +1,6 @@
-use Rattle.std.proofs.Common.{◌≡◌, ◌+◌, All, vec_len}
+use Rattle.std.proofs.Common.{◌≡◌, ◌+◌, ℕ, All, vec_len}
 use Rattle.crossbeam_queue.specs.Passes.{view, IsPassOf}
-use Rattle.jl_farm.specs.Work.{HasReported, HasOne}
+use Rattle.jl_farm.specs.Work.{HasReported, HasOne, HasTaken}
 use Rattle.jl_farm.proofs.crew.gather.Given as goal
 
 -- the workers so far were taken in
@@ -11,6 +11,7 @@ invariant-loop-other g l = record {
   crew : All (λ worker. IsPassOf l.line worker.turn × HasOne worker × HasReported g.K.Name.max_sites l.callers.value.items l.jobs worker) l.crew.items;
   put : (view l.lead.turn).put ≡ (view l.fn.lead.turn).put;
   parts : (view l.lead.turn).parts + vec_len l.crew ≡ (view l.fn.lead.turn).parts + vec_len l.fn.crew;
+  taken : (others : ℕ) × (others + vec_len l.crew ≡ vec_len l.fn.crew) × HasTaken others l.fn.lead l.lead;
 }
 
 abbrev pub decreases-loop-other : goal.decreases-loop-other

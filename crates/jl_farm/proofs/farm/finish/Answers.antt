@@ -3,7 +3,10 @@ use Rattle.std.proofs.lemmas.List.{append-nil}
 use Rattle.crossbeam_queue.specs.Passes.{view, IsPassOf}
 use Rattle.jl_farm.specs.declared.line.Hand.{Hand}
 use Rattle.jl_farm.specs.declared.worker.Worker.{Worker}
+use Rattle.jl_farm.specs.Reports.{AreOfOneHistory}
 use Rattle.jl_farm.specs.Work.{HasOne, HasReported}
+use Rattle.jl_server.proofs.Beginnings.{prefix_length}
+use Rattle.jl_farm.proofs.Installs.{installs_at_most}
 use Rattle.jl_farm.proofs.Shifts.{all_popped, reported_turn, reported_more, all_taken}
 use Rattle.jl_farm.proofs.farm.finish.Goals as goal
 
@@ -31,3 +34,13 @@ returns-clause-weighs g c =
 
 pub returns-clause-shown : goal.returns-clause-shown
 returns-clause-shown g c = (reported_more _ _ _ _ _ c.in_ok-gather.ensures.lead c.work.ensures.works).shown
+
+pub returns-clause-history : goal.returns-clause-history
+returns-clause-history g c = subst (AreOfOneHistory {K = g.row.K.Denot}) c.as_slice.ensures.value c.learn_all.ensures
+
+pub returns-clause-installs : goal.returns-clause-installs
+returns-clause-installs g c =
+    let P : Worker g.row.K.Denot → Type 0 = λ worker. IsPassOf c.args.floor.now.line.now worker.turn × HasOne worker × HasReported g.K.Name.max_sites c.args.callers.now.value.items c.args.floor.now.jobs.now worker in
+    let one = (all_popped P c.pop.new.self.items c.in-Some.lead (subst (All P) c.in-Some.ensures.items c.requires.crew)).1.1 in
+    let works = c.work.ensures.works in
+    λ serial. omega (arith, c.in-Some.ensures.cases, installs_at_most _ _ _ _ _ _ serial (one.2 serial) c.in_ok-gather.ensures.taken works (prefix_length _ _ works.own))

@@ -1,12 +1,14 @@
-use Rattle.std.proofs.Common.{◌≡◌, ◌∙◌, List, ℕ, All, ap, sym, subst}
+use Rattle.std.proofs.Common.{◌≡◌, ◌∙◌, List, ℕ, All, ap, sym, subst, arith}
 use Rattle.std.specs.List.{range_with_len}
+use Rattle.std.proofs.lemmas.List.Elements.{length_all_zip}
 use Rattle.std.proofs.lemmas.List.Sorted.{All-permutation}
 use Rattle.crossbeam_queue.specs.Passes.{IsPassOf}
 use Rattle.jl_types.specs.Entries.{Entry}
 use Rattle.jl_farm.specs.declared.line.Hand.{Hand}
 use Rattle.jl_farm.specs.declared.worker.Worker.{Worker}
 use Rattle.jl_farm.specs.Reports.{IsReport}
-use Rattle.jl_farm.specs.Work.{IsHired}
+use Rattle.jl_farm.specs.Work.{IsHired, Works}
+use Rattle.jl_farm.proofs.Installs.{history_in_order, installs_in_order, same_sites}
 use Rattle.jl_farm.proofs.Shifts.{crew_reported, in_order}
 use Rattle.jl_farm.proofs.farm.run_some.Goals as goal
 
@@ -30,3 +32,16 @@ returns-clause-shown g c =
     let by_callers = subst (λ (cs : List (List Entry)). All (IsReport {K = g.row.K.Denot} n cs c.as_slice.result.now) c.in_ok-reports.reports.items) callers c.in_ok-reports.ensures.shown in
     let by_jobs = subst (λ (js : List (List ℕ)). All (IsReport {K = g.row.K.Denot} n c.args.workers.items js) c.in_ok-reports.reports.items) c.as_slice.ensures.value by_callers in
     All-permutation (IsReport n c.args.workers.items c.args.jobs.items) c.in_ok-reports.reports.items c.in_order.result.items c.in_order.ensures.all by_jobs
+
+pub returns-clause-history : goal.returns-clause-history
+returns-clause-history g c = history_in_order _ _ c.in_order.ensures.all c.in_ok-reports.ensures.history
+
+pub returns-clause-sites : goal.returns-clause-sites
+returns-clause-sites g c = same_sites g.K.Name.max_sites c.args.workers.items c.args.jobs.items _ (returns-clause-history g c) (returns-clause-shown g c)
+
+pub returns-clause-installs : goal.returns-clause-installs
+returns-clause-installs g c =
+    let R : Worker g.row.K.Denot → Worker g.row.K.Denot → Type 0 = λ old new. IsPassOf c.in_ok-line.line new.turn × Works g.K.Name.max_sites c.as_slice.result.now old new in
+    let same = length_all_zip R c.in_ok-crew.crew.items c.serve_all.new.crew.items c.serve_all.ensures in
+    λ serial.
+    omega (arith, installs_in_order serial _ _ c.in_order.ensures.all, c.in_ok-reports.ensures.installs serial, c.in_ok-crew.ensures.count, same, c.in_ok-crew.crew.ok.0, c.serve_all.new.crew.ok.0)
