@@ -92,7 +92,7 @@ impl Gate for Count {
 
 /// What a job came to, without the lists that show it.
 #[derive(Clone, Copy, Debug, PartialEq, Eq)]
-enum Kind {
+pub(crate) enum Kind {
     Installed,
     Stale,
     NotReady,
@@ -100,7 +100,7 @@ enum Kind {
     Memory,
 }
 
-fn kind_of<K: Name>(report: &Report<K>) -> Kind {
+pub(crate) fn kind_of<K: Name>(report: &Report<K>) -> Kind {
     match &report.outcome {
         JobOutcome::Installed(_) => Kind::Installed,
         JobOutcome::Stale(_, _) => Kind::Stale,
@@ -111,7 +111,7 @@ fn kind_of<K: Name>(report: &Report<K>) -> Kind {
 }
 
 /// A job by its sites' numbers, and what it is to come to.
-type Job = (&'static [u32], Kind);
+pub(crate) type Job = (&'static [u32], Kind);
 
 /// Jobs of every kind on the server that is set up here.
 const MIXED: &[Job] = &[
@@ -186,7 +186,7 @@ fn is_set_up<K: Name, R: Wait, S: Wait + Drop>(
 }
 
 /// The reports of a farm whose workers have learnt all that the caller has seen.
-fn reports_of<
+pub(crate) fn reports_of<
     K: Name + Send + Sync,
     G: Gate + Sync,
     R: Threads + Wait + Sync,

@@ -3,12 +3,20 @@
 #![tactic(auto)]
 
 #[cfg(test)]
+mod deeds;
+#[cfg(test)]
+mod definitions;
+#[cfg(test)]
 mod farms;
 #[cfg(test)]
 mod races;
 #[cfg(test)]
+mod replays;
+#[cfg(test)]
 mod rows;
 #[cfg(test)]
 mod servers;
+#[cfg(test)]
+mod stale;
 #[cfg(test)]
 mod storm;

@@ -50,21 +50,21 @@ struct Shared<'a, K: Server, R: Wait, S: Wait + Drop> {
 
 /// One thread's caller, the serials of its receipts, and how often something was not as it must be.
 #[derive(Drop)]
-struct Worker<K: Server> {
-    caller: Caller<K>,
-    serials: Vec<u64>,
-    wrong: u64,
+pub(crate) struct Worker<K: Server> {
+    pub(crate) caller: Caller<K>,
+    pub(crate) serials: Vec<u64>,
+    pub(crate) wrong: u64,
 }
 
 impl<K: Server> Worker<K> {
-    fn expect(&mut self, so: bool) {
+    pub(crate) fn expect(&mut self, so: bool) {
         if !so {
             self.wrong = self.wrong.saturating_add(1);
         }
     }
 
     /// Keeps the serial of an event, which comes after so many.
-    fn keep(&mut self, before: u64, serial: u64) {
+    pub(crate) fn keep(&mut self, before: u64, serial: u64) {
         let kept = self.serials.push(serial).is_ok();
         self.expect(kept && before < serial);
     }
@@ -79,7 +79,7 @@ fn told_by<K: Server>(answer: &Result<Receipt<K>, Denied<K>>) -> (u64, Made) {
 }
 
 /// Applies the event, and keeps its serial, which comes after all that the caller had seen. Gives what was made.
-fn applied<K: Server, R: Wait, S: Wait + Drop>(
+pub(crate) fn applied<K: Server, R: Wait, S: Wait + Drop>(
     rt: &R,
     alloc: Global,
     server: &LinkServer<K, S>,
@@ -302,7 +302,10 @@ fn all<K: Server + Send + Sync, R: Threads + Wait + Sync, S: Wait + Drop + Send 
     at_once(rt, &shared, workers);
 }
 
-fn employ<K: Server>(alloc: Global, callers: Vec<Caller<K>>) -> Result<Vec<Worker<K>>, AllocError> {
+pub(crate) fn employ<K: Server>(
+    alloc: Global,
+    callers: Vec<Caller<K>>,
+) -> Result<Vec<Worker<K>>, AllocError> {
     let mut workers = Vec::with_capacity(alloc, callers.len())?;
     for caller in callers {
         workers.push(Worker {
