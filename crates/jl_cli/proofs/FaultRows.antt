@@ -1,6 +1,8 @@
 -- Worked rows of what faults leave, of exit statuses, and of a farm's jobs.
-use Rattle.std.proofs.Common.{◌≡◌, ℕ, List, [], ◌∷◌, length, refl, inl, inr, arith}
+use Rattle.std.proofs.Common.{◌≡◌, ℕ, true, false, List, [], ◌∷◌, ◌++◌, length, Option, Some, refl, ap, sym, ◌∙◌, subst, inl, inr, arith, length-append}
+use Rattle.std.proofs.lemmas.List.{append-nil}
 use Rattle.std.specs.Prelude.{codes}
+use Rattle.std.specs.List.{flat_map}
 use Rattle.jl_types.specs.declared.link.Link.{Link}
 use Rattle.jl_farm.specs.declared.fault.FarmFault.TheVariants as farm_fault
 use Rattle.jl_core.specs.State.{empty_core}
@@ -11,7 +13,8 @@ use Rattle.jl_cli.specs.declared.words.Mode.{Mode}
 use Rattle.jl_cli.specs.declared.words.Mode.TheVariants.{Scan, Sketch, Run}
 use Rattle.jl_cli.specs.Statuses.{words_status, line_status, farm_status}
 use Rattle.jl_session.specs.Sessions.{Session, new_session}
-use Rattle.jl_cli.specs.Answers.{LongIf, LeftBy}
+use Rattle.jl_cli.specs.Lines.{newline, lines_of, NoNewline, ended}
+use Rattle.jl_cli.specs.Answers.{AreAnswers, AnswersEarlier, LongIf, LeftBy}
 use Rattle.jl_cli.specs.Farms.{job_of_each}
 
 -- ---- exit statuses
@@ -95,6 +98,52 @@ memory_leaves_sketch line after (inr said) = other_session said.1.1
 -- in the mode run the session may be as before, whatever the next line is
 memory_may_leave : (line : List ℕ) (after : List (List ℕ)) → LeftBy Memory Run new_session (line ∷ after) new_session
 memory_may_leave line after = inl refl
+
+-- ---- lines whose newline was read earlier
+
+module _ (from : Session) where
+  -- nothing is written of the line x and its newline, of which this was left to read
+  abbrev Nothing : Option (List ℕ) → Type 0
+  Nothing unread = AnswersEarlier Scan from (codes "x\n") unread (Some []) (Some [])
+
+  -- an answer to a line is something
+  no_answers : (lines : List (List ℕ)) (output : List ℕ) (last : Session) → AreAnswers Scan from lines output last → output ≡ [] → lines ≡ []
+  no_answers [] output last answers none = refl
+  no_answers (line ∷ lines) output last answers none =
+      absurd (omega (arith, ap length (sym answers.4 ∙ none), length-append (ended answers.0) answers.1, length-append answers.0 (newline ∷ [])))
+
+  one_newline : (lines more : List (List ℕ)) (tail : List ℕ) → lines ++ more ≡ [] → codes "x\n" ≡ (flat_map ended lines ++ tail) ++ [] → NoNewline tail → ⊥
+  one_newline [] more tail none read one =
+      let whole : codes "x\n" ≡ tail = read ∙ append-nil tail in
+      let last : true ≡ false = (subst NoNewline (sym whole) one).1.0 in cc last
+  one_newline (line ∷ lines) more tail none read one = absurd (cc none)
+
+  -- where all was read before, the line is answered
+  answered_when_read : Nothing (Some []) → ⊥
+  answered_when_read left =
+      one_newline left.lines left.more left.tail (sym left.all ∙ no_answers left.first.before left.first.output left.first.last left.first.answers (sym left.first.written)) left.read left.one
+
+  -- where its newline wasn't, it need not be
+  not_yet : Nothing (Some (newline ∷ []))
+  unfolding lines_of
+  not_yet = record {
+    first = record { before = []; after = codes "x" ∷ []; split = refl; short = tt; output = []; last = from; answers = (refl, refl); written = refl };
+    lines = [];
+    tail = codes "x";
+    read = refl;
+    one = (refl, tt);
+    more = [];
+    all = refl;
+  }
+
+  -- and of no line nothing is answered
+  nothing_of_no_line : (unread : Option (List ℕ)) (b : ℕ) → AnswersEarlier Scan from [] unread (Some []) (Some (b ∷ [])) → ⊥
+  unfolding lines_of
+  nothing_of_no_line unread b left = by_lines left.first.before left.first.after left.first.output left.first.last left.first.split left.first.answers left.first.written
+    where
+      by_lines : (before after : List (List ℕ)) (output : List ℕ) (last : Session) → [] ≡ before ++ after → AreAnswers Scan from before output last → b ∷ [] ≡ output → ⊥
+      by_lines [] after output last none answers written = let clash : b ∷ [] ≡ [] = written ∙ answers.0 in cc clash
+      by_lines (line ∷ before) after output last none answers written = cc none
 
 -- ---- a farm's jobs
 
