@@ -10,8 +10,11 @@ Of linkd, whose lines are answers, it is one of
 - ended with status 4, and its lines are the first answers, whole;
 - as without refusals.
 Where all growths are refused from one on, such lines may stand before the status 4, too.
+Which line of linkd wanted the memory is told by the growths of runs of the first lines alone: no line before it is answered Memory, and
+where the run ends with status 4 each of these is answered.
 """
 
+import bisect
 import collections
 import concurrent.futures
 import os
@@ -63,6 +66,14 @@ GUARDS = [
     '{"do":"invalidate","switches":[1]}',
     '{"do":"links"}',
 ]
+
+SCANS = [M, "00", "zz", M[:-2], M]
+SKETCHES = ['{"name":"java/lang/Object","flags":33}', "{}", '{"name":"B","super":"A","flags":33,"methods":[%s]}' % F,
+            '{"name":"T","super":"A","flags":33,"methods":[{"name":"r","type":"()V","flags":9,"calls":'
+            '[{"kind":"invokedynamic","name":"d","type":"()V"}]}]}', '{"name":"B","super":"A","flags":33}']
+
+# What linkd is run on, by its mode.
+MODES = [("run", "run, receivers", RECEIVERS), ("run", "run, guards", GUARDS), ("scan", "scan", SCANS), ("sketch", "sketch", SKETCHES)]
 
 # The watched calls of the table: the name of each among the lines of one core or server, and which of that name it is.
 TABLE = [("definition of M", "M", 0), ("definition of C", "C", 0), ("install of site 0", "install", 0),
@@ -154,6 +165,7 @@ class Lines:
 
     def __init__(self, program, lines):
         self.program, self.lines, self.known = program, lines, {}
+        self.growths = [program.run("".join(line + "\n" for line in lines[:count])).growths for count in range(len(lines) + 1)]
 
     def text(self, left_out=()):
         return "".join(line + "\n" for place, line in enumerate(self.lines) if place not in left_out)
@@ -167,10 +179,17 @@ class Lines:
             self.known[key] = run.lines
         return self.known[key]
 
-    def kind(self, run, how):
-        """What the run of linkd is, as watched_kind."""
+    def lacking(self, n):
+        """How many lines are answered without the n-th growth."""
+        return max(0, bisect.bisect_left(self.growths, n) - 1)
+
+    def kind(self, run, how, n):
+        """What the run of linkd is whose n-th growth was refused, as watched_kind."""
         memory = [place for place, line in enumerate(run.lines) if line == MEMORY]
         rest = [line for line in run.lines if line != MEMORY]
+        first = min([len(run.lines)] + memory)
+        if first != self.lacking(n) if how == "AT" and (run.status == 4 or memory) else first < self.lacking(n):
+            return None
         if run.status == 4:
             is_told = run.error == "linkd: out of memory\n" and (not memory or how == "FROM")
             return LACKS if is_told and is_first_of(rest, self.answers(memory)) else None
@@ -239,13 +258,13 @@ def sweep_watched(program):
 
 
 def sweep_script(program, name, lines):
-    """Sweeps linkd over the script."""
+    """Sweeps linkd over the lines."""
     script = Lines(program, lines)
     script.answers()
     for how in "AT", "FROM":
-        tally = Tally(f"linkd run, {name}, {how.lower()} the n-th", program.run(script.text()).growths)
+        tally = Tally(f"linkd {name}, {how.lower()} the n-th", program.run(script.text()).growths)
         for n, run in program.sweep(how, script.text()):
-            tally.add(n, run, script.kind(run, how))
+            tally.add(n, run, script.kind(run, how, n))
         yield tally
 
 
@@ -253,9 +272,8 @@ def main():
     folder, growths, *linkd = sys.argv[1:]
     tallies = list(sweep_watched(Program(folder, os.path.abspath(growths))))
     for path in linkd:
-        program = Program(folder, os.path.abspath(path), "run")
-        for name, lines in ("receivers", RECEIVERS), ("guards", GUARDS):
-            tallies += sweep_script(program, name, lines)
+        for mode, name, lines in MODES:
+            tallies += sweep_script(Program(folder, os.path.abspath(path), mode), name, lines)
     print(f"{'refused':38}{'growths':>8}{'runs':>8}{'Memory':>10}{LACKS:>10}{SAME:>10}{'faults':>8}")
     for tally in tallies:
         tally.tell()
