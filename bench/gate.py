@@ -1,0 +1,81 @@
+#!/usr/bin/env python3
+"""Runs the gate, and tells what its proofs, its tests and its wrong bodies take of the processors.
+
+    bench/gate.py [--anew] [NAME..]     as rt ci
+
+Its own lines come behind those of rt ci: seconds of processor of each crate's proof, of its tests' proof, and of its wrong bodies
+(where it has more than one, with the check that they begin with and the one behind them), then their sums in minutes, with the
+time by the clock. Tests and programs that are run count as runs. What an earlier run has proved takes nothing, so a whole measure
+wants --anew. RT_JOBS tasks run side by side; bind it by taskset to measure fewer processors.
+
+It loads rt itself and looks at the resources of each process that ends, by the task that started it.
+"""
+
+import collections
+import importlib.machinery
+import importlib.util
+import os
+import resource
+import shutil
+import subprocess
+import sys
+import threading
+import time
+
+task = threading.local()
+taken = collections.Counter()
+KINDS = {"proof": "proofs", "tests": "tests", "seed": "wrong bodies", "edits": "wrong bodies", "sound": "wrong bodies", "again": "wrong bodies"}
+
+
+def try_wait(self, flags):
+    """As subprocess has it, over wait4."""
+    try:
+        pid, status, used = os.wait4(self.pid, flags)
+    except ChildProcessError:
+        return self.pid, 0
+    if pid == self.pid:
+        taken[getattr(task, "key", ("", "runs"))] += used.ru_utime + used.ru_stime
+    return pid, status
+
+
+def measured(in_lanes):
+    def call_of(key, call):
+        def run(given, jobs):
+            task.key = key[0], KINDS[key[1]]
+            try:
+                return call(given, jobs)
+            finally:
+                del task.key
+
+        return run
+
+    return lambda tasks: in_lanes({key: (*it[:3], call_of(key, it[3])) for key, it in tasks.items()})
+
+
+def main(words):
+    path = os.path.realpath(shutil.which("rt"))
+    sys.path.insert(0, os.path.dirname(path))
+    loader = importlib.machinery.SourceFileLoader("rt", path)
+    rt = importlib.util.module_from_spec(importlib.util.spec_from_loader("rt", loader))
+    sys.modules["rt"] = rt
+    loader.exec_module(rt)
+    subprocess.Popen._try_wait = try_wait
+    rt.in_lanes = measured(rt.in_lanes)
+    begun = time.monotonic()
+    status = rt.main(["ci", *words])
+    clock = time.monotonic() - begun
+    sums = collections.Counter()
+    for (crate, kind), seconds in taken.items():
+        sums[kind] += seconds
+    own = resource.getrusage(resource.RUSAGE_SELF)
+    sums["runs"] += own.ru_utime + own.ru_stime
+    for (crate, kind), seconds in sorted(taken.items(), key=lambda it: -it[1]):
+        if crate and seconds >= 1:
+            print(f"gate: {seconds:7.1f} s  {kind}  {crate}")
+    told = ", ".join(f"{kind} {sums[kind] / 60:.1f}" for kind in ("proofs", "tests", "wrong bodies", "runs"))
+    print(f"gate: processor minutes: {told}, all {sum(sums.values()) / 60:.1f}; by the clock {clock / 60:.1f} minutes")
+    return status
+
+
+if __name__ == "__main__":
+    sys.exit(main(sys.argv[1:]))
