@@ -1,4 +1,4 @@
-//! Class files that are cut or changed by a byte.
+//! Class files that are cut, or changed where the fault follows from the place. The program `hostile` reads them with each byte changed.
 
 use crate::hostile::HostileRow::*;
 use crate::rows::{Row, assert_rows};
@@ -63,9 +63,6 @@ const SWITCH: &[u8] = &[
 enum HostileRow {
     /// The file is one, its pool ends here, and wherever it is cut it is too short.
     Cut(&'static [u8], usize),
-    /// Of the files with one other byte at one place so many are class files, and the faults of all, by place and then by
-    /// byte, have this digest.
-    Changed(&'static [u8], u32, u64),
     /// With each other byte at this place the file has this fault, but with a byte of these two or one between, none.
     Head(usize, ClassFault, Option<(u8, u8)>),
     /// With these four bytes for the high of its tableswitch the file has this fault.
@@ -99,84 +96,7 @@ fn is_cut(alloc: Global, file: &[u8], pool_end: usize) -> bool {
     fault_of(alloc, file).is_none()
 }
 
-// ---- changed
-
-/// A number for each fault of a pool.
-fn pool_number(fault: PoolFault) -> (u64, u16) {
-    match fault {
-        PoolFault::Truncated => (1, 0),
-        PoolFault::BadTag(number) => (2, number),
-        PoolFault::BadIndex(number) => (3, number),
-        PoolFault::BadUtf8(number) => (4, number),
-        PoolFault::BadDescriptor(number) => (5, number),
-        PoolFault::Memory => (6, 0),
-    }
-}
-
-/// A number for each fault of a code.
-fn code_number(fault: CodeFault) -> (u64, u16) {
-    match fault {
-        CodeFault::BadOpcode(pc) => (1, pc),
-        CodeFault::CutShort(pc) => (2, pc),
-        CodeFault::BadSwitch(pc) => (3, pc),
-        CodeFault::BadOperand(pc) => (4, pc),
-        CodeFault::BadLayout => (5, 0),
-        CodeFault::Memory => (6, 0),
-    }
-}
-
-/// Which fault of a class file it is, which one of its pool or code, the method, and the number that it tells.
-fn parts_of(fault: ClassFault) -> (u64, u64, u16, u32) {
-    match fault {
-        ClassFault::TooLarge => (1, 0, 0, 0),
-        ClassFault::BadMagic => (2, 0, 0, 0),
-        ClassFault::BadVersion => (3, 0, 0, 0),
-        ClassFault::Truncated => (4, 0, 0, 0),
-        ClassFault::Pool(fault) => {
-            let (inner, number) = pool_number(fault);
-            (5, inner, 0, u32::from(number))
-        }
-        ClassFault::ModuleFile => (6, 0, 0, 0),
-        ClassFault::BadSuper => (7, 0, 0, 0),
-        ClassFault::DuplicateMethod(method) => (8, 0, method, 0),
-        ClassFault::TwoCodes(method) => (9, 0, method, 0),
-        ClassFault::Code(method, fault) => {
-            let (inner, pc) = code_number(fault);
-            (10, inner, method, u32::from(pc))
-        }
-        ClassFault::TrailingBytes => (11, 0, 0, 0),
-        ClassFault::BadMember(member) => (12, 0, 0, member),
-        ClassFault::BadLink(number) => (13, 0, 0, u32::from(number)),
-        ClassFault::BadNest => (14, 0, 0, 0),
-        ClassFault::Memory => (15, 0, 0, 0),
-    }
-}
-
-/// A fault as one number, and 0 for none.
-fn word_of(fault: Option<ClassFault>) -> u64 {
-    let Some(fault) = fault else {
-        return 0;
-    };
-    let (kind, inner, method, number) = parts_of(fault);
-    kind << 56 | inner << 48 | u64::from(method) << 32 | u64::from(number)
-}
-
-/// What was read of changed files: how many are class files, and the digest of the faults, FNV-1a with the word of a fault
-/// in the place of a byte.
-#[derive(Clone, Copy, Debug, PartialEq, Eq)]
-struct Seen {
-    classes: u32,
-    digest: u64,
-}
-
-/// What was read, and this fault or none.
-fn with_fault(seen: Seen, fault: Option<ClassFault>) -> Seen {
-    let word = word_of(fault);
-    Seen {
-        classes: seen.classes.saturating_add(u32::from(word == 0)),
-        digest: (seen.digest ^ word).wrapping_mul(0x0000_0100_0000_01b3),
-    }
-}
+// ---- single bytes
 
 /// Puts a byte at a place.
 fn set(bytes: &mut [u8], place: usize, byte: u8) {
@@ -184,39 +104,6 @@ fn set(bytes: &mut [u8], place: usize, byte: u8) {
         *there = byte;
     }
 }
-
-/// What was read, and the file with each byte but its own at this place.
-fn changed_at(alloc: Global, bytes: &mut [u8], place: usize, own: u8, seen: Seen) -> Seen {
-    let mut seen = seen;
-    for byte in 0..=u8::MAX {
-        if byte != own {
-            set(bytes, place, byte);
-            seen = with_fault(seen, fault_of(alloc, bytes));
-        }
-    }
-    set(bytes, place, own);
-    seen
-}
-
-/// What is read of the file, whose bytes these are, with each other byte at each place.
-fn changed_all(alloc: Global, bytes: &mut [u8], file: &[u8]) -> Seen {
-    let mut seen = Seen {
-        classes: 0,
-        digest: 0xcbf2_9ce4_8422_2325,
-    };
-    for (place, own) in file.iter().enumerate() {
-        seen = changed_at(alloc, bytes, place, *own, seen);
-    }
-    seen
-}
-
-/// What is read of the file with each other byte at each place.
-fn changed(alloc: Global, file: &[u8]) -> Result<Seen, AllocError> {
-    let mut bytes = file.to_vec(alloc)?;
-    Ok(changed_all(alloc, &mut bytes, file))
-}
-
-// ---- single bytes
 
 /// The fault of the file with this byte at this place.
 fn fault_with(alloc: Global, file: &[u8], place: usize, byte: u8) -> Option<ClassFault> {
@@ -285,13 +172,6 @@ impl Row for HostileRow {
     fn is_so(&self, alloc: Global) -> bool {
         match self {
             Cut(file, pool_end) => is_cut(alloc, file, *pool_end),
-            Changed(file, classes, digest) => {
-                changed(alloc, file)
-                    == Ok(Seen {
-                        classes: *classes,
-                        digest: *digest,
-                    })
-            }
             Head(place, fault, bounds) => is_head(alloc, *place, *fault, *bounds),
             High(high, fault) => fault_with_high(alloc, high) == Some(*fault),
             Sized(len, fault) => fault_of_size(alloc, *len) == *fault,
@@ -311,21 +191,6 @@ const CUT: &[HostileRow] = &[
 #[test]
 fn cut_files(rt: HostRuntime) {
     assert_rows(&rt, CUT);
-}
-
-/// Each file, how many of its changes are class files, and the digest of the faults. The numbers are those that another
-/// reader gives, `bench/hostile.py rows`.
-const CHANGED: &[HostileRow] = &[
-    Changed(OBJECT, 334, 0x071d_5770_c00b_1aff),
-    Changed(A, 4677, 0xd86a_9693_e1d2_32e6),
-    Changed(M, 5254, 0x124e_3bc1_aa09_76e0),
-    Changed(IN, 3995, 0xc546_37c0_c4d2_f300),
-    Changed(SWITCH, 7374, 0xeeb3_6c38_55e6_1086),
-];
-
-#[test]
-fn changed_files(rt: HostRuntime) {
-    assert_rows(&rt, CHANGED);
 }
 
 /// The first file with another magic number or version: the majors 45 to 61 are read.

@@ -1,4 +1,4 @@
-//! A core beside a plain one, over events that a fixed generator draws.
+//! A core beside plain links, over events that a fixed generator draws.
 
 use crate::draws::{Draws, Numbers, drawn};
 use crate::plain::{Plain, SITES};
@@ -91,12 +91,12 @@ impl Counts {
     }
 
     /// Counts an event that was answered so, if it was refused.
-    fn refuse(&mut self, answer: &[u8]) {
-        if answer.starts_with(b"Err".as_slice()) {
+    fn refuse(&mut self, answer: &Result<Reply, Refusal>) {
+        if let Err(refusal) = answer {
             self.refusals = self.refusals.wrapping_add(1);
-        }
-        if answer.starts_with(b"Err(Stale".as_slice()) {
-            self.stale = self.stale.wrapping_add(1);
+            if let Refusal::Stale { .. } = refusal {
+                self.stale = self.stale.wrapping_add(1);
+            }
         }
     }
 
@@ -177,22 +177,7 @@ impl Script {
     }
 }
 
-/// How the answer prints.
-fn printed(alloc: Global, answer: &Result<Reply, Refusal>) -> Result<String, AllocError> {
-    format!(in alloc; "{answer:?}")
-}
-
-/// What the core answers.
-fn answer(alloc: Global, core: &mut Core, event: Event) -> Result<String, AllocError> {
-    printed(alloc, &core.apply(alloc, event))
-}
-
-/// What the plain core answers.
-fn plain_answer(alloc: Global, plain: &mut Plain, event: Event) -> Result<String, AllocError> {
-    printed(alloc, &plain.apply(alloc, event))
-}
-
-/// Whether the two cores have the same links.
+/// Whether the core has these links.
 fn have_same_links(core: &Core, plain: &Plain) -> bool {
     for (site, slot) in plain.links().iter().enumerate() {
         if core.links().get(SiteNo::new(number(site))) != *slot {
@@ -225,55 +210,59 @@ fn may_be_told(work: u64, before: &Before, entry: Option<&Entry>) -> bool {
     }
 }
 
-/// Asserts that both cores answer the event in the same way.
-fn assert_answers(
+/// Asserts that an accepted event has dropped the links that aren't those from scratch any more.
+fn assert_dropped(
     rt: &(impl Abort + AllocGlobal),
-    core: &mut Core,
+    world: &World,
     plain: &mut Plain,
-    counts: &mut Counts,
-    event: Event,
-    same: Event,
+    entry: &Entry,
 ) -> Result<(), AllocError> {
-    let number = core.log().len();
-    let text = answer(rt.alloc(), core, event)?;
-    let want = plain_answer(rt.alloc(), plain, same)?;
-    assert_eq!(rt; text.as_str(), want.as_str(), "after {number} events");
-    counts.refuse(text.as_bytes());
+    if let Accepted::Install(rows) = &entry.event {
+        plain.install(rows.as_slice());
+    }
+    let dropped = plain.drop_stale(rt.alloc(), world)?;
+    assert_eq!(rt; dropped.as_slice(), entry.reply.dropped.as_slice());
     Ok(())
 }
 
-/// Asserts that both cores have the same links after an event, and that it took no more work than it may.
-fn assert_state(rt: &impl Abort, core: &Core, plain: &Plain, script: &mut Script, before: &Before) {
+/// Asserts that the core has the plain links after an event, has told those that went, and took no more work than it may.
+fn assert_state(
+    rt: &(impl Abort + AllocGlobal),
+    core: &Core,
+    plain: &mut Plain,
+    script: &mut Script,
+    before: &Before,
+) -> Result<(), AllocError> {
     let number = before.accepted;
     let entry = core.log().get(number);
+    if let Some(entry) = entry {
+        assert_dropped(rt, core.world(), plain, entry)?;
+        script.accept(core.world(), entry);
+    }
     let work = core.last_work();
     assert!(rt; have_same_links(core, plain), "after {number} events");
     assert!(rt;
         may_be_told(work, before, entry),
         "work {work} after {number} events"
     );
-    if let Some(entry) = entry {
-        script.accept(core.world(), entry);
-    }
+    Ok(())
 }
 
-/// Asserts that both cores come to the same by the event.
-fn assert_same(
+/// Asserts the same of this event.
+fn assert_event(
     rt: &(impl Abort + AllocGlobal),
     core: &mut Core,
     plain: &mut Plain,
     script: &mut Script,
     event: Event,
-    same: Event,
 ) -> Result<(), AllocError> {
     let before = Before {
         accepted: core.log().len(),
         installed: plain.installed(),
         work: core.last_work(),
     };
-    assert_answers(rt, core, plain, &mut script.counts, event, same)?;
-    assert_state(rt, core, plain, script, &before);
-    Ok(())
+    script.counts.refuse(&core.apply(rt.alloc(), event));
+    assert_state(rt, core, plain, script, &before)
 }
 
 /// A site of an install, one of the last ones or any.
@@ -312,39 +301,7 @@ fn drawn_rows(
     Ok(rows)
 }
 
-/// Asserts that both cores come to the same by an install.
-fn assert_install(
-    rt: &(impl Abort + AllocGlobal),
-    core: &mut Core,
-    plain: &mut Plain,
-    script: &mut Script,
-) -> Result<(), AllocError> {
-    let rows = drawn_rows(rt.alloc(), core, script)?;
-    let same = Seq::of(rows.as_slice().to_vec(rt.alloc())?);
-    assert_same(
-        rt,
-        core,
-        plain,
-        script,
-        Event::Install(rows),
-        Event::Install(same),
-    )
-}
-
-/// Asserts that both cores come to the same by the step.
-fn assert_step(
-    rt: &(impl Abort + AllocGlobal),
-    core: &mut Core,
-    plain: &mut Plain,
-    script: &mut Script,
-    step: &Step,
-) -> Result<(), AllocError> {
-    let first = event(rt.alloc(), step)?;
-    let second = event(rt.alloc(), step)?;
-    assert_same(rt, core, plain, script, first, second)
-}
-
-/// Asserts that both cores come to the same by the event of this number.
+/// Asserts the same of the event of this number.
 fn assert_next(
     rt: &(impl Abort + AllocGlobal),
     core: &mut Core,
@@ -354,12 +311,15 @@ fn assert_next(
 ) -> Result<(), AllocError> {
     let numbers = script.numbers(core.world());
     match drawn(&mut script.draws, &core.world().classes, number, &numbers) {
-        Some(step) => assert_step(rt, core, plain, script, &step),
-        None => assert_install(rt, core, plain, script),
+        Some(step) => assert_event(rt, core, plain, script, event(rt.alloc(), &step)?),
+        None => {
+            let rows = drawn_rows(rt.alloc(), core, script)?;
+            assert_event(rt, core, plain, script, Event::Install(rows))
+        }
     }
 }
 
-/// Asserts that both cores come to the same by each event of these numbers.
+/// Asserts the same of each event of these numbers.
 fn assert_events(
     rt: &(impl Abort + AllocGlobal),
     core: &mut Core,
@@ -388,7 +348,7 @@ fn assert_kept(
     Ok(())
 }
 
-/// Asserts that both cores come to the same by each event, and that a snapshot stays as it was.
+/// Asserts the same of each event, and that a snapshot stays as it was.
 fn assert_all(
     rt: &(impl Abort + AllocGlobal),
     core: &mut Core,
@@ -413,14 +373,14 @@ fn assert_script(
     Ok(())
 }
 
-/// Asserts the same where there was no event before in either core.
+/// Asserts the same where there was no event before.
 fn assert_plain(rt: &(impl Abort + AllocGlobal), core: &mut Core) -> Result<(), AllocError> {
     let mut plain = Plain::new(rt.alloc())?;
     assert_script(rt, core, &mut plain)
 }
 
 #[test]
-fn comes_to_the_same_as_a_plain_core(rt: HostRuntime) -> Result<(), AllocError> {
+fn keeps_the_plain_links(rt: HostRuntime) -> Result<(), AllocError> {
     let mut core = Core::new(rt.alloc(), SITES)?;
     assert_plain(&rt, &mut core)
 }

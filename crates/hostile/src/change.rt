@@ -4,7 +4,24 @@ use crate::judge::is_read;
 use crate::tally::Tally;
 use std::alloc::Global;
 
-/// How many pairs of bytes of a file are changed.
+/// Which of the changes are made, by their numbers.
+#[derive(Clone, Copy, Debug, PartialEq, Eq)]
+pub(crate) enum Share {
+    All,
+    Tenth,
+}
+
+impl Share {
+    /// Whether the change of this number is among them.
+    fn has(self, number: usize) -> bool {
+        match self {
+            Share::All => true,
+            Share::Tenth => number % 10 == 0,
+        }
+    }
+}
+
+/// How many pairs of bytes of a file there are to be changed.
 const PAIRS: u32 = 100_000;
 
 /// The first state of the generator, for each file anew.
@@ -55,14 +72,20 @@ fn change_both(bytes: &mut [u8], pair: &Pair) {
     change(bytes, pair.second, pair.second_by);
 }
 
-/// Whether the file, which stands here with one byte more behind it, is read as it must be with each other byte at this place. At
-/// the first of which it isn't, the bytes are left as they are.
-fn is_each_read(alloc: Global, longer: &mut [u8], place: usize, tally: &mut Tally) -> bool {
+/// Whether the file, which stands here with one byte more behind it, is read as it must be with each other byte at this place whose
+/// sum with the place is in the share. At the first of which it isn't, the bytes are left as they are.
+fn is_each_read(
+    alloc: Global,
+    longer: &mut [u8],
+    place: usize,
+    share: Share,
+    tally: &mut Tally,
+) -> bool {
     let Some(own) = longer.get(place).copied() else {
         return true;
     };
     for byte in 0..=u8::MAX {
-        if byte != own {
+        if byte != own && share.has(place.wrapping_add(usize::from(byte))) {
             change(longer, place, own ^ byte);
             if !is_read(alloc, longer, tally) {
                 return false;
@@ -73,33 +96,38 @@ fn is_each_read(alloc: Global, longer: &mut [u8], place: usize, tally: &mut Tall
     true
 }
 
-/// Whether the file, which stands here with one byte more behind it, is read as it must be with each other byte at each place. At the
-/// first of which it isn't, the bytes are left as they are.
+/// Whether the file, which stands here with one byte more behind it, is read as it must be with each other byte at each place, as far
+/// as the share goes. At the first of which it isn't, the bytes are left as they are.
 pub(crate) fn are_singles_read(
     alloc: Global,
     longer: &mut [u8],
     len: usize,
+    share: Share,
     tally: &mut Tally,
 ) -> bool {
     for place in 0..len {
-        if !is_each_read(alloc, longer, place, tally) {
+        if !is_each_read(alloc, longer, place, share, tally) {
             return false;
         }
     }
     true
 }
 
-/// Whether the file, which stands here with one byte more behind it, is read as it must be with each pair of bytes changed. At the
-/// first of which it isn't, the bytes are left as they are.
+/// Whether the file, which stands here with one byte more behind it, is read as it must be with each pair of bytes changed whose
+/// number is in the share. At the first of which it isn't, the bytes are left as they are.
 pub(crate) fn are_pairs_read(
     alloc: Global,
     longer: &mut [u8],
     len: usize,
+    share: Share,
     tally: &mut Tally,
 ) -> bool {
     let mut state = SEED;
-    for _ in 0..PAIRS {
+    for number in 0..PAIRS {
         state = next(state);
+        if !share.has(number as usize) {
+            continue;
+        }
         let Some(pair) = pair_of(state, len) else {
             return true;
         };
