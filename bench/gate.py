@@ -3,10 +3,10 @@
 
     bench/gate.py [--anew] [NAME..]     as rt ci
 
-Its own lines come behind those of rt ci: seconds of processor of each crate's proof, of its tests' proof, and of its wrong bodies
-(where it has more than one, with the check that they begin with and the one behind them), then their sums in minutes, with the
-time by the clock. Tests and programs that are run count as runs. What an earlier run has proved takes nothing, so a whole measure
-wants --anew. RT_JOBS tasks run side by side; bind it by taskset to measure fewer processors.
+Its own lines begin with `gate:`: as each ends, the seconds of processor of a crate's proof, of its tests' proof, or of a wrong body
+(where a crate has more than one, of the check that they begin with and the one behind them, too); in the end the sums by crate and by
+kind, with the time by the clock. Tests and programs that are run count as runs. What an earlier run has proved takes nothing, so
+a whole measure wants --anew. RT_JOBS tasks run side by side; bind it by taskset to measure fewer processors.
 
 It loads rt itself and looks at the resources of each process that ends, by the task that started it.
 """
@@ -35,16 +35,19 @@ def try_wait(self, flags):
         return self.pid, 0
     if pid == self.pid:
         taken[getattr(task, "key", ("", "runs"))] += used.ru_utime + used.ru_stime
+        task.seconds = getattr(task, "seconds", 0) + used.ru_utime + used.ru_stime
     return pid, status
 
 
 def measured(in_lanes):
     def call_of(key, call):
         def run(given, jobs):
-            task.key = key[0], KINDS[key[1]]
+            task.key, task.seconds = (key[0], KINDS[key[1]]), 0
             try:
                 return call(given, jobs)
             finally:
+                if task.seconds >= 1:
+                    print(f"gate: {key[0]} {' '.join(map(str, key[1:]))}: {task.seconds:.1f} s", flush=True)
                 del task.key
 
         return run
