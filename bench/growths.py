@@ -67,13 +67,31 @@ GUARDS = [
     '{"do":"links"}',
 ]
 
+RETIREMENT = [
+    OBJECT,
+    '{"do":"define","loader":0,"sketch":{"name":"A","super":"java/lang/Object","flags":33,"methods":[%s]}}' % F,
+    '{"do":"loader"}',
+    '{"do":"delegate","loader":1,"name":"java/lang/Object","to":0}',
+    '{"do":"delegate","loader":1,"name":"A","to":0}',
+    '{"do":"define","loader":1,"sketch":{"name":"B","super":"A","flags":33}}',
+    '{"do":"define","loader":1,"hex":"%s"}' % M,
+    '{"do":"request","class":3,"method":0,"pc":0}',
+    '{"do":"prepare","sites":[0]}',
+    '{"do":"install","prepared":0}',
+    '{"do":"retire","loader":1}',
+    '{"do":"call","site":0,"recv":1}',
+    '{"do":"install","prepared":0}',
+    '{"do":"retire","loader":1}',
+]
+
 SCANS = [M, "00", "zz", M[:-2], M]
 SKETCHES = ['{"name":"java/lang/Object","flags":33}', "{}", '{"name":"B","super":"A","flags":33,"methods":[%s]}' % F,
             '{"name":"T","super":"A","flags":33,"methods":[{"name":"r","type":"()V","flags":9,"calls":'
             '[{"kind":"invokedynamic","name":"d","type":"()V"}]}]}', '{"name":"B","super":"A","flags":33}']
 
 # What linkd is run on, by its mode.
-MODES = [("run", "run, receivers", RECEIVERS), ("run", "run, guards", GUARDS), ("scan", "scan", SCANS), ("sketch", "sketch", SKETCHES)]
+MODES = [("run", "run, receivers", RECEIVERS), ("run", "run, guards", GUARDS), ("run", "run, retirement", RETIREMENT),
+         ("scan", "scan", SCANS), ("sketch", "sketch", SKETCHES)]
 
 # The watched calls of the table: the name of each among the lines of one core or server, and which of that name it is.
 TABLE = [("definition of M", "M", 0), ("definition of C", "C", 0), ("install of site 0", "install", 0),

@@ -80,6 +80,7 @@ static void closed(linkd_seat *seat) {
     MUST(linkd_new_switch(at, &told) == LINKD_CLOSED);
     MUST(linkd_invalidate(at, sites, 0, &told) == LINKD_CLOSED);
     MUST(linkd_bind(at, 0, 0, &told) == LINKD_CLOSED);
+    MUST(linkd_retire(at, 0, &told) == LINKD_CLOSED);
     MUST(linkd_install(at, sites, 1, &told) == LINKD_CLOSED);
     MUST(linkd_dropped(at, sites, 256, &length) == LINKD_CLOSED);
     MUST(linkd_call(at, 0, LINKD_NULL, &answer) == LINKD_CLOSED);
@@ -157,6 +158,8 @@ int main(void) {
     TELLS(set_target(9, "{\"method\":[3,0]}"), LINKD_CALL_SITE, 0, LINKD_UNKNOWN_CALL_SITE, 0);
     TELLS(set_target(0, "{\"method\":[3,1]}"), LINKD_CALL_SITE, 0, LINKD_CONSTANT, 0);
     TELLS(set_target(1, "[]"), LINKD_MALFORMED, 0, 0, 0);
+    TELLS(linkd_retire(at, 9, &told), LINKD_RETIRE, 0, LINKD_NO_LOADER, 0);
+    TELLS(linkd_retire(at, 0, &told), LINKD_RETIRE, 0, LINKD_FIRST_LOADER, 0);
     TELLS(linkd_bind(at, 9, 1, &told), LINKD_UNKNOWN_SITE, 0, 0, 9);
     TELLS(linkd_bind(at, 1, 1, &told), LINKD_NOT_DYNAMIC, 0, 0, 0);
     TELLS(linkd_bind(at, 2, 9, &told), LINKD_CALL_SITE, 0, LINKD_UNKNOWN_CALL_SITE, 0);

@@ -48,6 +48,7 @@ enum linkd_status {
     LINKD_MEMORY = 15,         /* want of memory */
     LINKD_DELEGATE = 16,       /* fault 1: unknown loader; 2: not recorded; 3: already recorded */
     LINKD_LOADERS_FULL = 17,
+    LINKD_RETIRE = 19,         /* fault is a linkd_retire_fault */
     LINKD_NO_CLASS_FILE = 32,  /* the bytes are no class file: fault is a linkd_class_fault */
     LINKD_MALFORMED = 33,      /* a kind, type or target that is none, or a number that is too large */
     LINKD_CLOSED = 34,         /* the linker isn't open, or the seat was never refreshed */
@@ -85,7 +86,16 @@ enum linkd_call_site_fault {
     LINKD_NOT_STATIC = 5,
     LINKD_UNKNOWN_SWITCH = 6,
     LINKD_TOO_DEEP = 7,
-    LINKD_CALL_SITES_FULL = 8
+    LINKD_CALL_SITES_FULL = 8,
+    LINKD_INVOKER_ORDER = 9 /* place is the call site that the target invokes */
+};
+
+enum linkd_retire_fault {
+    LINKD_NO_LOADER = 1,    /* never made, or retired */
+    LINKD_FIRST_LOADER = 2, /* loader 0 stays */
+    LINKD_INHERITED = 3,    /* place is the least class of another loader that has an ancestor in this one */
+    LINKD_RECORDED = 4,     /* place is the least other loader that records a class of this one */
+    LINKD_TARGETED = 5      /* place is the least call site whose target names a method of one of its classes */
 };
 
 /* Why bytes are no class file (chapter 4). */
@@ -182,14 +192,16 @@ uint32_t linkd_define(linkd *at, uint32_t loader, const uint8_t *bytes, size_t l
 uint32_t linkd_delegate(linkd *at, uint32_t loader, const uint8_t *name, size_t name_length, uint32_t to, linkd_told *told);
 /* The invocation at the pc of the class's method, by its place among those that the class declares. */
 uint32_t linkd_request(linkd *at, uint32_t class_number, uint32_t method, uint32_t pc, linkd_told *told);
-/* kind 1: constant, 2: mutable, 3: volatile; type: a method descriptor; target: {"method":[class,index]} or
- * {"guard":switch,"target":..,"fallback":..}, as JSON. */
+/* kind 1: constant, 2: mutable, 3: volatile; type: a method descriptor; target: {"method":[class,index]},
+ * {"guard":switch,"target":..,"fallback":..} or {"invoker":call_site}, as JSON. */
 uint32_t linkd_new_call_site(linkd *at, uint32_t kind, const uint8_t *type, size_t type_length, const uint8_t *target,
                              size_t target_length, linkd_told *told);
 uint32_t linkd_set_target(linkd *at, uint32_t call_site, const uint8_t *target, size_t target_length, linkd_told *told);
 uint32_t linkd_new_switch(linkd *at, linkd_told *told);
 uint32_t linkd_invalidate(linkd *at, const uint32_t *switches, size_t count, linkd_told *told);
 uint32_t linkd_bind(linkd *at, uint32_t site, uint32_t call_site, linkd_told *told);
+/* The loader goes, with the classes that it has defined and the sites in them: they are LINKD_GONE. No number is given again. */
+uint32_t linkd_retire(linkd *at, uint32_t loader, linkd_told *told);
 /* Links the sites from scratch, 1 to 256 of them, and installs their links: all of them or none. LINKD_NOT_READY names the first that
  * has no link now: a linkd_call there is LINKD_UNLINKED. */
 uint32_t linkd_install(linkd *at, const uint32_t *sites, size_t count, linkd_told *told);

@@ -23,6 +23,8 @@ pub(crate) enum Command {
     Site(CallSiteKind, &'static str, Shape),
     /// So many new mutable call sites of the type ()V, which run method 0 of class 1, and of which the last one answers.
     Sites(u32),
+    /// So many new mutable call sites of the type ()V, each of which runs what the one before runs, and of which the last one answers.
+    Chain(u32),
     /// Another target for the call site.
     SetTarget(u32, Shape),
     /// The method that the call site runs.
@@ -175,6 +177,22 @@ fn new_sites(
     Ok(last)
 }
 
+/// What so many new call sites are answered, each of which runs what the one before runs.
+fn chain(
+    alloc: Global,
+    classes: &Classes,
+    sites: &mut Sites,
+    count: u32,
+) -> Result<String, AllocError> {
+    let mut last = String::from_str(alloc, "None")?;
+    for _ in 0..count {
+        let before = u32::try_from(sites.call_site_count()).unwrap_or(0);
+        let shape = Shape::Invoker(before.saturating_sub(1));
+        last = new_site(alloc, classes, sites, CallSiteKind::Mutable, "()V", &shape)?;
+    }
+    Ok(last)
+}
+
 /// What the question is answered.
 fn told(alloc: Global, sites: &Sites, command: &Command) -> Result<String, AllocError> {
     match command {
@@ -203,6 +221,7 @@ fn answer(
         Command::Invalidate(numbers) => invalidate(alloc, sites, numbers),
         Command::Site(kind, ty, shape) => new_site(alloc, classes, sites, *kind, ty, shape),
         Command::Sites(count) => new_sites(alloc, classes, sites, *count),
+        Command::Chain(count) => chain(alloc, classes, sites, *count),
         Command::SetTarget(site, shape) => {
             let target = target(alloc, shape)?;
             change(

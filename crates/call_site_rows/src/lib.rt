@@ -8,6 +8,8 @@ mod faults;
 #[cfg(test)]
 mod guards;
 #[cfg(test)]
+mod invokers;
+#[cfg(test)]
 mod shapes;
 #[cfg(test)]
 mod sizes;

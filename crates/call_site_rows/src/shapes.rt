@@ -1,9 +1,10 @@
 //! Targets of rows.
 
-use jl_types::{ClassId, MethodId, SwitchId, Target};
+use jl_types::{CallSiteId, ClassId, MethodId, SwitchId, Target};
 use std::alloc::{AllocError, Global};
 
 /// A target. Its methods are those of class 1, by their numbers there.
+#[derive(Clone, Copy)]
 pub(crate) enum Shape {
     /// A method.
     Method(u16),
@@ -23,6 +24,16 @@ pub(crate) enum Shape {
     Tree(u32),
     /// A guard on point 0 of such a tree and a method.
     MoreThanTree(u32),
+    /// Whatever the call site runs.
+    Invoker(u32),
+    /// A guard on the point, of what two call sites run.
+    Invokers(u32, u32, u32),
+    /// A guard on the point, of what a call site runs and a method.
+    InvokerOr(u32, u32, u16),
+    /// A guard on the point, of a method and what a call site runs.
+    OrInvoker(u32, u16, u32),
+    /// So many guards on point 0, each the first part of the next one, round what a call site runs.
+    InvokerBelow(u32, u32),
 }
 
 /// The method of this number of class 1.
@@ -38,6 +49,11 @@ fn of_class(class: u32, index: u16) -> Target {
     })
 }
 
+/// Whatever the call site runs.
+fn invoker(site: u32) -> Target {
+    Target::invoker(CallSiteId::new(site))
+}
+
 /// The guard on the point.
 fn guard(alloc: Global, point: u32, first: Target, fallback: Target) -> Result<Target, AllocError> {
     let first = Box::new(alloc, first)?;
@@ -45,9 +61,9 @@ fn guard(alloc: Global, point: u32, first: Target, fallback: Target) -> Result<T
     Ok(Target::guard(SwitchId::new(point), first, fallback))
 }
 
-/// So many guards, each the first part of the next one.
-fn firsts(alloc: Global, guards: u32) -> Result<Target, AllocError> {
-    let mut target = method(0);
+/// So many guards, each the first part of the next one, round the target.
+fn firsts(alloc: Global, guards: u32, innermost: Target) -> Result<Target, AllocError> {
+    let mut target = innermost;
     for _ in 0..guards {
         target = guard(alloc, 0, target, method(0))?;
     }
@@ -89,12 +105,31 @@ pub(crate) fn target(alloc: Global, shape: &Shape) -> Result<Target, AllocError>
             let part = guard(alloc, *inner, method(*second), method(*last))?;
             guard(alloc, *point, method(*first), part)
         }
-        Shape::Firsts(guards) => firsts(alloc, *guards),
+        Shape::Firsts(guards) => firsts(alloc, *guards, method(0)),
         Shape::Fallbacks(guards) => fallbacks(alloc, *guards),
         Shape::Tree(levels) => tree(alloc, *levels),
         Shape::MoreThanTree(levels) => {
             let first = tree(alloc, *levels)?;
             guard(alloc, 0, first, method(0))
         }
+        _ => invoking(alloc, shape),
+    }
+}
+
+/// The target of this shape, which invokes call sites.
+fn invoking(alloc: Global, shape: &Shape) -> Result<Target, AllocError> {
+    match shape {
+        Shape::Invoker(site) => Ok(invoker(*site)),
+        Shape::Invokers(point, first, fallback) => {
+            guard(alloc, *point, invoker(*first), invoker(*fallback))
+        }
+        Shape::InvokerOr(point, site, fallback) => {
+            guard(alloc, *point, invoker(*site), method(*fallback))
+        }
+        Shape::OrInvoker(point, first, site) => {
+            guard(alloc, *point, method(*first), invoker(*site))
+        }
+        Shape::InvokerBelow(guards, site) => firsts(alloc, *guards, invoker(*site)),
+        _ => Ok(method(0)),
     }
 }

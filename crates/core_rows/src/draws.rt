@@ -218,11 +218,14 @@ impl Draws {
         let first = self.method();
         let second = self.method();
         let third = self.method();
-        match self.below(8) {
+        let invoked = self.below(4);
+        match self.below(12) {
             0 => Shape::Method(first),
             1..=3 => Shape::Guard(outer, first, second),
             4 => Shape::Behind(outer, first, inner, second, third),
-            _ => Shape::Within(outer, inner, first, second, third),
+            5..=7 => Shape::Within(outer, inner, first, second, third),
+            8..=9 => Shape::Invoker(invoked),
+            _ => Shape::InvokerOr(outer, invoked, first),
         }
     }
 
@@ -326,8 +329,9 @@ impl Draws {
     /// An event of loaders, classes and places.
     fn of_classes(&mut self, classes: &Classes, numbers: &Numbers) -> Step {
         match self.below(24) {
-            0 => Step::Loader,
-            1..=7 => self.delegation(numbers),
+            0 | 1 => Step::Loader,
+            2 => Step::Retire(self.loader(numbers)),
+            3..=7 => self.delegation(numbers),
             8..=14 => self.request(numbers),
             _ => self.definition(classes, numbers),
         }

@@ -16,7 +16,7 @@ use std::process::Abort;
 /// How many events are tried before a snapshot is taken, and while it is kept.
 const BEFORE: u32 = 500;
 
-const BEHIND: u32 = 1_500;
+const BEHIND: u32 = 5_500;
 
 /// How many events of a kind were accepted, how many were refused, and how many links went with what.
 #[derive(Clone, Copy, Debug)]
@@ -26,12 +26,14 @@ struct Counts {
     retargets: u32,
     invalidations: u32,
     installs: u32,
+    retirements: u32,
     refusals: u32,
     /// Refused installs of links that the sites don't have any more.
     stale: u32,
     dropped_by_definitions: u32,
     dropped_by_retargets: u32,
     dropped_by_invalidations: u32,
+    dropped_by_retirements: u32,
 }
 
 /// What is drawn, and what comes of it.
@@ -61,11 +63,13 @@ impl Counts {
             retargets: 0,
             invalidations: 0,
             installs: 0,
+            retirements: 0,
             refusals: 0,
             stale: 0,
             dropped_by_definitions: 0,
             dropped_by_retargets: 0,
             dropped_by_invalidations: 0,
+            dropped_by_retirements: 0,
         }
     }
 
@@ -86,6 +90,10 @@ impl Counts {
                 self.dropped_by_invalidations = self.dropped_by_invalidations.wrapping_add(dropped);
             }
             Accepted::Install(_) => self.installs = self.installs.wrapping_add(1),
+            Accepted::Retire(_) => {
+                self.retirements = self.retirements.wrapping_add(1);
+                self.dropped_by_retirements = self.dropped_by_retirements.wrapping_add(dropped);
+            }
             _ => {}
         }
     }
@@ -107,14 +115,16 @@ impl Counts {
             self.retargets,
             self.invalidations,
             self.installs,
+            self.retirements,
         ];
         let dropped = [
             self.dropped_by_definitions,
             self.dropped_by_retargets,
             self.dropped_by_invalidations,
+            self.dropped_by_retirements,
         ];
-        are_at_least(&changes, &[60, 50, 50, 300])
-            && are_at_least(&dropped, &[15, 30, 8])
+        are_at_least(&changes, &[60, 50, 50, 300, 8])
+            && are_at_least(&dropped, &[15, 30, 8, 4])
             && are_at_least(&[self.refusals, self.stale], &[500, 30])
     }
 }
@@ -196,7 +206,7 @@ struct Before {
 }
 
 /// Whether this work may be told after an event that has this entry, if it was accepted. Only definitions, targets and invalid
-/// points touch installed sites, one tick each.
+/// points touch installed sites, one tick each, and retirements, which look at all receivers that are left.
 fn may_be_told(work: u64, before: &Before, entry: Option<&Entry>) -> bool {
     match entry {
         Some(entry) => match &entry.event {
@@ -204,6 +214,7 @@ fn may_be_told(work: u64, before: &Before, entry: Option<&Entry>) -> bool {
             Accepted::Define(_, _) => work <= before.installed,
             Accepted::SetTarget(_, _) => work <= before.installed,
             Accepted::Invalidate(_) => work <= before.installed,
+            Accepted::Retire(_) => before.installed > 0 || work == 0,
             _ => work == 0,
         },
         None => work == before.work,

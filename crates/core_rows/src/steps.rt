@@ -25,7 +25,7 @@ pub(crate) struct ClassRow {
 /// A method, by its class and its number there.
 pub(crate) type MethodAt = (u32, u16);
 
-/// What a call site runs: methods, and guards by their switch points.
+/// What a call site runs: methods, guards by their switch points, and other call sites by their numbers.
 #[derive(Clone, Copy)]
 pub(crate) enum Shape {
     /// A method.
@@ -36,6 +36,10 @@ pub(crate) enum Shape {
     Behind(u32, MethodAt, u32, MethodAt, MethodAt),
     /// A guard of a guard of two methods, with a method as its fallback.
     Within(u32, u32, MethodAt, MethodAt, MethodAt),
+    /// Whatever a call site runs.
+    Invoker(u32),
+    /// A guard of what a call site runs and a method.
+    InvokerOr(u32, u32, MethodAt),
 }
 
 /// An event, but for installs.
@@ -59,6 +63,8 @@ pub(crate) enum Step {
     Invalidate(u32, u32),
     /// The site is bound to the call site.
     Bind(u32, u32),
+    /// The loader is retired.
+    Retire(u32),
 }
 
 /// What is read of the row's class file.
@@ -123,6 +129,11 @@ fn target(alloc: Global, shape: &Shape) -> Result<Target, AllocError> {
             let within = guard_of_methods(alloc, *inner, first, fallback)?;
             guard(alloc, *outer, within, method(behind))
         }
+        Shape::Invoker(site) => Ok(Target::invoker(CallSiteId::new(*site))),
+        Shape::InvokerOr(point, site, fallback) => {
+            let first = Target::invoker(CallSiteId::new(*site));
+            guard(alloc, *point, first, method(fallback))
+        }
     }
 }
 
@@ -175,6 +186,7 @@ pub(crate) fn event(alloc: Global, step: &Step) -> Result<Event, AllocError> {
         Step::Bind(site, call_site) => {
             Ok(Event::Bind(SiteNo::new(*site), CallSiteId::new(*call_site)))
         }
+        Step::Retire(loader) => Ok(Event::Retire(LoaderId::new(*loader))),
     }
 }
 

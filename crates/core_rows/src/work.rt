@@ -407,6 +407,73 @@ const BY_NEW_GUARDS: &[Row] = &[
     (Applied, Do(Invalidate(1, 1)), "[SiteNo(0)]", 1, 1),
 ];
 
+/// The first site is bound to a call site that runs what the other one runs, which the second site is bound to.
+const BY_INVOKED_TARGETS: &[Row] = &[
+    (Applied, Do(Define(0, OBJECT)), "[]", 0, 0),
+    (Applied, Do(Define(0, T)), "[]", 0, 0),
+    (Applied, Do(Request(1, 0)), "[]", 0, 0),
+    (Applied, Do(Request(1, 5)), "[]", 0, 0),
+    (Applied, Do(CallSite(Mutable, "()V", Method(N))), "[]", 0, 0),
+    (
+        Applied,
+        Do(CallSite(Mutable, "()V", Invoker(0))),
+        "[]",
+        0,
+        0,
+    ),
+    (Applied, Do(Bind(0, 1)), "[]", 0, 0),
+    (Applied, Do(Bind(1, 0)), "[]", 0, 0),
+    (Applied, Install(&[0, 1]), "[]", 2, 2),
+    // What the other call sites on the path run is part of the one evaluation.
+    (
+        Applied,
+        Do(Retarget(0, Method(O))),
+        "[SiteNo(0), SiteNo(1)]",
+        2,
+        2,
+    ),
+    (Applied, Install(&[0, 1]), "[]", 2, 2),
+    (Applied, Do(Retarget(0, Method(O))), "[]", 2, 2),
+    (Committed, Do(Retarget(1, Method(O))), "[]", 1, 1),
+    (Applied, Do(Retarget(0, Method(N))), "[SiteNo(1)]", 1, 1),
+    (Applied, Do(Retarget(1, Invoker(0))), "[SiteNo(0)]", 1, 1),
+    (
+        Applied,
+        Do(Retarget(0, Invoker(1))),
+        "CallSite(InvokerOrder(CallSiteId(1)))",
+        1,
+        1,
+    ),
+    (
+        Applied,
+        Do(CallSite(Mutable, "()V", Invoker(2))),
+        "CallSite(InvokerOrder(CallSiteId(2)))",
+        1,
+        1,
+    ),
+];
+
+/// An invoked call site behind a guard: once the point is invalid, the link doesn't rest on it.
+const BY_INVOKED_TARGETS_OFF_THE_PATH: &[Row] = &[
+    (Applied, Do(Define(0, OBJECT)), "[]", 0, 0),
+    (Applied, Do(Define(0, T)), "[]", 0, 0),
+    (Applied, Do(Request(1, 0)), "[]", 0, 0),
+    (Applied, Do(Point), "[]", 0, 0),
+    (Applied, Do(CallSite(Mutable, "()V", Method(N))), "[]", 0, 0),
+    (
+        Applied,
+        Do(CallSite(Mutable, "()V", InvokerOr(0, 0, N))),
+        "[]",
+        0,
+        0,
+    ),
+    (Applied, Do(Bind(0, 1)), "[]", 0, 0),
+    (Applied, Install(&[0]), "[]", 1, 1),
+    (Applied, Do(Invalidate(0, 0)), "[]", 1, 1),
+    (Applied, Do(Retarget(0, Method(O))), "[]", 0, 0),
+    (Applied, Do(Retarget(1, Invoker(0))), "[SiteNo(0)]", 1, 1),
+];
+
 /// The deed's event.
 fn deed_event(alloc: Global, core: &Core, deed: &Deed) -> Result<Event, AllocError> {
     match deed {
@@ -524,6 +591,12 @@ fn takes_one_evaluation_where_a_point_goes(rt: HostRuntime) -> Result<(), AllocE
 fn takes_one_evaluation_where_a_target_is_new(rt: HostRuntime) -> Result<(), AllocError> {
     assert_rows(&rt, BY_TARGETS)?;
     assert_rows(&rt, BY_NEW_GUARDS)
+}
+
+#[test]
+fn takes_one_evaluation_along_a_path(rt: HostRuntime) -> Result<(), AllocError> {
+    assert_rows(&rt, BY_INVOKED_TARGETS)?;
+    assert_rows(&rt, BY_INVOKED_TARGETS_OFF_THE_PATH)
 }
 
 /// Whether the step is accepted.

@@ -28,6 +28,8 @@ pub(crate) enum Command {
     /// A new mutable call site of the type ()V. Its target runs static methods of a class: guards with these points and methods, each in
     /// the fallback of the one before, and the last method.
     CallSite(u32, &'static [(u32, u16)], u16),
+    /// The same, where the last one is whatever a call site runs.
+    Invoker(u32, &'static [(u32, u16)], u32),
     /// The site is bound to the call site.
     Bind(u32, u32),
     /// The switch point becomes invalid.
@@ -130,9 +132,9 @@ fn chain(
     alloc: Global,
     class: u32,
     guards: &[(u32, u16)],
-    last: u16,
+    last: Target,
 ) -> Result<Target, AllocError> {
-    let mut target = method(class, last);
+    let mut target = last;
     for row in guards.iter().rev() {
         target = guard(alloc, class, row, target)?;
     }
@@ -270,7 +272,12 @@ fn answer(alloc: Global, world: &mut World, command: &Command) -> Result<String,
         Command::Request(class, pc) => requested(alloc, world, *class, *pc),
         Command::Point => point(alloc, world),
         Command::CallSite(class, guards, last) => {
-            let target = chain(alloc, *class, guards, *last)?;
+            let target = chain(alloc, *class, guards, method(*class, *last))?;
+            call_site(alloc, world, target)
+        }
+        Command::Invoker(class, guards, invoked) => {
+            let last = Target::invoker(CallSiteId::new(*invoked));
+            let target = chain(alloc, *class, guards, last)?;
             call_site(alloc, world, target)
         }
         Command::Bind(site, call_site) => {

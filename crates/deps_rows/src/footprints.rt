@@ -134,6 +134,45 @@ fn rests_on_receivers(rt: HostRuntime) -> Result<(), AllocError> {
     assert_rows(&rt, BY_RECEIVER)
 }
 
+/// The same class. Its invokedynamic is bound to call site 2, a guard before what 1 runs, which runs what 0 runs, a guard of two methods.
+const BY_INVOKED: &[(Command, &str)] = &[
+    (Object, "0"),
+    (
+        Caller(
+            "T",
+            &[],
+            &[Dynamic("d")],
+            &[("n", "()V", 9), ("o", "()V", 9), ("p", "()V", 9)],
+        ),
+        "1",
+    ),
+    (Request(1, 0), "0"),
+    (Point, "0"),
+    (Point, "1"),
+    (Point, "2"),
+    (CallSite(1, &[(1, 1)], 2), "0"),
+    (Invoker(1, &[], 0), "1"),
+    (Invoker(1, &[(2, 3)], 1), "2"),
+    (Invoker(1, &[], 3), "InvokerOrder(CallSiteId(3))"),
+    (Bind(0, 2), "bound"),
+    // No call site is invoked on the way to the guard's method.
+    (Footprint(0), "Target 2, Valid 2"),
+    (Ticks(0), "1"),
+    (Invalidate(2), "invalid"),
+    // Each call site on the path, and the valid point of the invoked one: one evaluation.
+    (Footprint(0), "Target 0, Target 1, Target 2, Valid 1"),
+    (Ticks(0), "1"),
+    (Invalidate(1), "invalid"),
+    (Footprint(0), "Target 0, Target 1, Target 2"),
+    (Ticks(0), "1"),
+    (Retargeted(0), "Target 0"),
+];
+
+#[test]
+fn rests_on_invoked_call_sites(rt: HostRuntime) -> Result<(), AllocError> {
+    assert_rows(&rt, BY_INVOKED)
+}
+
 #[test]
 fn rests_on_call_sites(rt: HostRuntime) -> Result<(), AllocError> {
     assert_rows(&rt, BY_CALL_SITE)

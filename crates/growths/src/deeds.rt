@@ -18,6 +18,14 @@ type MethodAt = (u32, u16);
 pub(crate) enum Change {
     /// Loader 0 defines the class of this file.
     Define(&'static [u8]),
+    /// A new loader.
+    Loader,
+    /// Loader 1 finds loader 0's class of this name.
+    Delegate(&'static str),
+    /// Loader 1 defines the class of this file.
+    DefineBeside(&'static [u8]),
+    /// Loader 1 is retired.
+    Retire,
     /// The request of the first place in the method.
     Request(MethodAt),
     /// A mutable call site of the type ()V: a guard on the switch point, of two methods.
@@ -181,6 +189,74 @@ pub(crate) const GUARDS: &[Deed] = &[
     },
 ];
 
+/// A site in a class of loader 1, on A.f, with A of loader 0 and B of loader 1 below it; and then the retirement of loader 1.
+pub(crate) const RETIREMENT: &[Deed] = &[
+    Deed {
+        name: "java/lang/Object",
+        ask: Ask::Apply(Change::Define(OBJECT)),
+    },
+    Deed {
+        name: "A",
+        ask: Ask::Apply(Change::Define(A)),
+    },
+    Deed {
+        name: "loader",
+        ask: Ask::Apply(Change::Loader),
+    },
+    Deed {
+        name: "delegation",
+        ask: Ask::Apply(Change::Delegate("java/lang/Object")),
+    },
+    Deed {
+        name: "delegation",
+        ask: Ask::Apply(Change::Delegate("A")),
+    },
+    Deed {
+        name: "B",
+        ask: Ask::Apply(Change::DefineBeside(B)),
+    },
+    Deed {
+        name: "M",
+        ask: Ask::Apply(Change::DefineBeside(M)),
+    },
+    Deed {
+        name: "request",
+        ask: Ask::Apply(Change::Request((3, 0))),
+    },
+    Deed {
+        name: "install",
+        ask: Ask::Apply(Change::InstallDirect((1, 0))),
+    },
+    Deed {
+        name: "links",
+        ask: Ask::Links,
+    },
+    Deed {
+        name: "snapshot",
+        ask: Ask::Snapshot,
+    },
+    Deed {
+        name: "retirement",
+        ask: Ask::Apply(Change::Retire),
+    },
+    Deed {
+        name: "links",
+        ask: Ask::Links,
+    },
+    Deed {
+        name: "call",
+        ask: Ask::Call(Some(1)),
+    },
+    Deed {
+        name: "install",
+        ask: Ask::Apply(Change::InstallDirect((1, 0))),
+    },
+    Deed {
+        name: "retirement",
+        ask: Ask::Apply(Change::Retire),
+    },
+];
+
 /// The method.
 fn method(at: MethodAt) -> MethodId {
     MethodId {
@@ -198,9 +274,15 @@ fn file(alloc: Global, bytes: &[u8]) -> io::Result<ClassFile> {
     }
 }
 
-/// The definition of the file's class by loader 0.
-fn definition(alloc: Global, bytes: &[u8]) -> io::Result<Event> {
-    Ok(Event::Define(LoaderId::new(0), file(alloc, bytes)?))
+/// The definition of the file's class by the loader.
+fn definition(alloc: Global, loader: u32, bytes: &[u8]) -> io::Result<Event> {
+    Ok(Event::Define(LoaderId::new(loader), file(alloc, bytes)?))
+}
+
+/// The delegation of the name by loader 1 to loader 0.
+fn delegation(alloc: Global, name: &str) -> Result<Event, AllocError> {
+    let name = Name::copied(alloc, name.as_bytes())?;
+    Ok(Event::Delegate(LoaderId::new(1), name, LoaderId::new(0)))
 }
 
 /// Another target of call site 0.
@@ -261,7 +343,8 @@ fn request(at: MethodAt) -> Event {
 /// Want of memory (ErrorKind::OutOfMemory), and a file that isn't read otherwise.
 pub(crate) fn event(alloc: Global, change: &Change) -> io::Result<Event> {
     match change {
-        Change::Define(bytes) => definition(alloc, bytes),
+        Change::Define(bytes) => definition(alloc, 0, bytes),
+        Change::DefineBeside(bytes) => definition(alloc, 1, bytes),
         other => Ok(small_event(alloc, other)?),
     }
 }
@@ -269,7 +352,10 @@ pub(crate) fn event(alloc: Global, change: &Change) -> io::Result<Event> {
 /// The event of a change that is no definition.
 fn small_event(alloc: Global, change: &Change) -> Result<Event, AllocError> {
     match change {
-        Change::Define(_) | Change::Switch => Ok(Event::NewSwitch),
+        Change::Define(_) | Change::DefineBeside(_) | Change::Switch => Ok(Event::NewSwitch),
+        Change::Loader => Ok(Event::NewLoader),
+        Change::Delegate(name) => delegation(alloc, name),
+        Change::Retire => Ok(Event::Retire(LoaderId::new(1))),
         Change::Request(at) => Ok(request(*at)),
         Change::CallSite(point, first, fallback) => {
             call_site(alloc, guard(alloc, *point, *first, *fallback)?)

@@ -18,7 +18,7 @@ mod told;
 mod watch;
 
 use cores::{OnCore, Way};
-use deeds::{Deed, GUARDS, RECEIVERS};
+use deeds::{Deed, GUARDS, RECEIVERS, RETIREMENT};
 use jl_server::{Caller, LinkServer, Name, Parts};
 use marks::SITES;
 use readings::read_all;
@@ -94,7 +94,8 @@ fn ask_all(rt: &HostRuntime, handle: &impl Wait, deeds: &[Deed]) -> io::Result<(
 fn call_all(rt: &HostRuntime, handle: &impl Wait) -> io::Result<()> {
     read_all(rt)?;
     ask_all(rt, handle, RECEIVERS)?;
-    ask_all(rt, handle, GUARDS)
+    ask_all(rt, handle, GUARDS)?;
+    ask_all(rt, handle, RETIREMENT)
 }
 
 fn main(rt: HostRuntime) -> ExitCode {

@@ -1,30 +1,33 @@
 -- What an event of call sites or switch points finds there that no fault speaks against.
-use Rattle.std.specs.Prelude.{◌≡◌, ℕ, ◌<◌, Bool, true, false, ◌&&◌, ◌||◌, nat_lt, nat_le, List, [], ◌∷◌, length, slice_get, Option, Some, None, if◌then◌else◌}
+use Rattle.std.specs.Prelude.{◌≡◌, ℕ, ◌<◌, Bool, true, false, not, ◌&&◌, ◌||◌, nat_lt, nat_le, List, [], ◌∷◌, length, slice_get, Option, Some, None, if◌then◌else◌}
 use Rattle.std.specs.Bool.{then_some}
 use Rattle.std.specs.List.{list_any}
 use Rattle.std.proofs.Common.{refl}
 use Rattle.std.proofs.lemmas.Bool.{and_from, leb-false, lt-ltb}
 use Rattle.std.proofs.lemmas.Option.{slice_get_within}
-use Rattle.jl_types.specs.declared.refusal.CallSiteFault.TheVariants.{UnknownSwitch, TooDeep, Full, Constant}
-use Rattle.jl_types.specs.Target.{Target, Method, Guard, depth}
+use Rattle.jl_types.specs.declared.refusal.CallSiteFault.TheVariants.{WrongType, UnknownSwitch, TooDeep, Full, Constant, InvokerOrder}
+use Rattle.jl_types.specs.Target.{Target, Method, Guard, Invoker, depth}
 use Rattle.jl_types.specs.World.{World, CallSite}
 use Rattle.jl_types.specs.Resolution.{first_of}
-use Rattle.jl_types.specs.Targets.{parts, part_fault, target_fault}
+use Rattle.jl_types.specs.Targets.{parts, invokes_type, part_fault, target_fault}
 use Rattle.jl_types.specs.Events.{is_constant, most_of_a_kind, new_call_site_fault, set_target_fault, invalidate_fault}
 use Rattle.jl_types.proofs.Firsts.{first_none, test_none}
-use Rattle.jl_callsites.specs.Known.{has_points}
+use Rattle.jl_callsites.specs.Known.{is_known}
 
-points_in_part : (w : World) (c : ℕ) (ty : List ℕ) (t : Target) → part_fault w c ty t ≡ None → has_points (length w.sites.switches) t ≡ true
+points_in_part : (w : World) (c : ℕ) (ty : List ℕ) (t : Target) → part_fault w c ty t ≡ None → is_known (length w.sites.switches) c t ≡ true
 points_in_part w c ty (Method m) e = refl
 points_in_part w c ty (Guard p first fallback) e =
     let n = length w.sites.switches in
     let guard = first_none (then_some (nat_le n p) UnknownSwitch) (part_fault w c ty first ∷ part_fault w c ty fallback ∷ []) e in
     let one = first_none (part_fault w c ty first) (part_fault w c ty fallback ∷ []) guard.1 in
-    and_from (nat_lt p n) (has_points n first && has_points n fallback) (lt-ltb p n (leb-false n p (test_none (nat_le n p) UnknownSwitch guard.0)))
-    (and_from (has_points n first) (has_points n fallback)
+    and_from (nat_lt p n) (is_known n c first && is_known n c fallback) (lt-ltb p n (leb-false n p (test_none (nat_le n p) UnknownSwitch guard.0)))
+    (and_from (is_known n c first) (is_known n c fallback)
     (points_in_part w c ty first one.0) (points_in_part w c ty fallback (first_none (part_fault w c ty fallback) [] one.1).0))
+points_in_part w c ty (Invoker d) e =
+    lt-ltb d c (leb-false c d (test_none (nat_le c d) (InvokerOrder d)
+    (first_none (then_some (nat_le c d) (InvokerOrder d)) (then_some (not (invokes_type w.sites ty d)) WrongType ∷ []) e).0))
 
-points_in_target : (w : World) (c : ℕ) (ty : List ℕ) (t : Target) → target_fault w c ty t ≡ None → has_points (length w.sites.switches) t ≡ true
+points_in_target : (w : World) (c : ℕ) (ty : List ℕ) (t : Target) → target_fault w c ty t ≡ None → is_known (length w.sites.switches) c t ≡ true
 points_in_target w c ty t e =
     points_in_part w c ty t (first_none (part_fault w c ty t) []
     (first_none (then_some (nat_lt 64 (depth t) || nat_lt 255 (parts t)) TooDeep) (part_fault w c ty t ∷ []) e).1).0
@@ -36,7 +39,7 @@ module _ (w : World) (ty : List ℕ) (t : Target) (e : new_call_site_fault w ty 
   pub site_room : length w.sites.call_sites < 65536
   site_room = leb-false 65536 (length w.sites.call_sites) (test_none (nat_le most_of_a_kind (length w.sites.call_sites)) Full faults.0)
 
-  pub site_points : has_points (length w.sites.switches) t ≡ true
+  pub site_points : is_known (length w.sites.switches) (length w.sites.call_sites) t ≡ true
   site_points = points_in_target w (length w.sites.call_sites) ty t (first_none (target_fault w (length w.sites.call_sites) ty t) [] faults.1).0
 
 module _ (w : World) (c : ℕ) (t : Target) where
@@ -44,11 +47,11 @@ module _ (w : World) (c : ℕ) (t : Target) where
   target_there None is e = cc
   target_there (Some site) is e = slice_get_within w.sites.call_sites c site is
 
-  pub target_points : (found : Option CallSite) → set_target_fault w c found t ≡ None → has_points (length w.sites.switches) t ≡ true
+  pub target_points : (found : Option CallSite) → set_target_fault w c found t ≡ None → is_known (length w.sites.switches) c t ≡ true
   target_points None e = cc
   target_points (Some site) e = unless_constant (is_constant site.kind) e
     where
-      unless_constant : (b : Bool) → (if b then Some Constant else target_fault w c site.ty t) ≡ None → has_points (length w.sites.switches) t ≡ true
+      unless_constant : (b : Bool) → (if b then Some Constant else target_fault w c site.ty t) ≡ None → is_known (length w.sites.switches) c t ≡ true
       unless_constant true h = cc
       unless_constant false h = points_in_target w c site.ty t h
 

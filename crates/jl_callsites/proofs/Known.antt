@@ -1,134 +1,230 @@
--- Every guard of a call site's target has its switch point, whatever changes, and which changes leave what runs as it was.
-use Rattle.std.specs.Prelude.{◌≡◌, ◌≢◌, ℕ, zero, suc, ◌<◌, ◌+◌, Bool, true, false, ◌&&◌, nat_lt, List, [], ◌∷◌, ◌++◌, length, slice_get, slice_set, Option, Some, None, option_map, if◌then◌else◌}
+-- Every guard of a call site's target has its switch point and every invoker its call site, whatever changes, and which changes leave
+-- what runs as it was.
+use Rattle.std.specs.Prelude.{◌≡◌, ◌≢◌, ℕ, zero, suc, ◌<◌, ◌≤◌, ◌+◌, Bool, true, false, ◌&&◌, nat_lt, List, [], ◌∷◌, ◌++◌, length, slice_get, slice_set, Option, Some, None, is_some, option_and_then, if◌then◌else◌}
 use Rattle.std.specs.Option.{option_map_or}
 use Rattle.std.proofs.Common.{refl, ap, sym, subst, ◌∙◌, arith, length-append}
-use Rattle.std.proofs.lemmas.Option.{same_Some}
-use Rattle.std.proofs.lemmas.Bool.{and_from, ltb-true, lt-ltb}
+use Rattle.std.proofs.lemmas.Option.{same_Some, slice_get_within}
+use Rattle.std.proofs.lemmas.List.{length-set}
+use Rattle.std.proofs.lemmas.Bool.{and_from, ltb-true, lt-ltb, both_ways}
 use Rattle.jl_types.specs.declared.target.CallSiteKind.{CallSiteKind}
-use Rattle.jl_types.specs.Target.{Target, Method, Guard}
+use Rattle.jl_types.specs.declared.key.Key.TheVariants as key
+use Rattle.jl_types.specs.Target.{Target, Method, Guard, Invoker}
 use Rattle.jl_types.specs.World.{Sites, CallSite}
-use Rattle.jl_types.specs.Targets.{is_valid, evaluated}
+use Rattle.jl_types.specs.Targets.{is_valid, run_by, run_below, evaluated, method_of}
+use Rattle.jl_types.specs.Footprints.{has_key, way_by, way_below, path}
 use Rattle.jl_types.specs.Events.{retargeted}
 use Rattle.jl_types.proofs.Bools.{first_test, second_test}
 use Rattle.jl_types.proofs.Lists.{before_end}
 use Rattle.jl_callsites.specs.Faults.{with_site, with_target, with_switch}
-use Rattle.jl_callsites.specs.Runs.{method_of}
-use Rattle.jl_callsites.specs.Known.{has_points, have_points, are_known, RunAsBefore, OthersRunAsBefore}
-use Rattle.jl_callsites.proofs.Worlds.{evaluated_same}
+use Rattle.jl_callsites.specs.Known.{is_known, all_known, are_known, RunAsBefore, OthersRunAsBefore}
+use Rattle.jl_callsites.proofs.Walks.{invoked_runs, on_path, on_target_way, all_invalid, known_invalid, target_walks, site_walks, kept_on}
 
 -- ---- all of them
 
-pub one_more_known : (n : ℕ) (sites : List CallSite) (site : CallSite) → have_points n sites ≡ true → has_points n site.target ≡ true → have_points n (sites ++ site ∷ []) ≡ true
-one_more_known n [] site h k = and_from (has_points n site.target) true k refl
-one_more_known n (s ∷ sites) site h k =
-    and_from (has_points n s.target) (have_points n (sites ++ site ∷ [])) (first_test (has_points n s.target) (have_points n sites) h)
-    (one_more_known n sites site (second_test (has_points n s.target) (have_points n sites) h) k)
+at_number : (points : ℕ) (t : Target) (a b : ℕ) → a ≡ b → is_known points a t ≡ true → is_known points b t ≡ true
+at_number points t a b same h = ap (λ n. is_known points n t) (sym same) ∙ h
 
-set_known : (n : ℕ) (sites : List CallSite) (c : ℕ) (site : CallSite) → have_points n sites ≡ true → has_points n site.target ≡ true → have_points n (slice_set sites c site) ≡ true
-set_known n [] c site h k = h
-set_known n (s ∷ sites) zero site h k = and_from (has_points n site.target) (have_points n sites) k (second_test (has_points n s.target) (have_points n sites) h)
-set_known n (s ∷ sites) (suc c) site h k =
-    and_from (has_points n s.target) (have_points n (slice_set sites c site)) (first_test (has_points n s.target) (have_points n sites) h)
-    (set_known n sites c site (second_test (has_points n s.target) (have_points n sites) h) k)
+more_known : (points n : ℕ) (sites : List CallSite) (site : CallSite) → all_known points n sites ≡ true → is_known points (n + length sites) site.target ≡ true
+    → all_known points n (sites ++ site ∷ []) ≡ true
+more_known points n [] site h k = and_from (is_known points n site.target) true (at_number points site.target (n + 0) n (omega arith) k) refl
+more_known points n (s ∷ sites) site h k =
+    and_from (is_known points n s.target) (all_known points (n + 1) (sites ++ site ∷ [])) (first_test (is_known points n s.target) (all_known points (n + 1) sites) h)
+    (more_known points (n + 1) sites site (second_test (is_known points n s.target) (all_known points (n + 1) sites) h)
+    (at_number points site.target (n + length (s ∷ sites)) ((n + 1) + length sites) (omega arith) k))
 
-pub retargeted_known : (n : ℕ) (sites : List CallSite) (c : ℕ) (t : Target) → have_points n sites ≡ true → has_points n t ≡ true → have_points n (retargeted sites c t) ≡ true
-retargeted_known n sites c t h k = by_site (slice_get sites c)
+pub one_more_known : (points : ℕ) (sites : List CallSite) (site : CallSite) → all_known points 0 sites ≡ true → is_known points (length sites) site.target ≡ true
+    → all_known points 0 (sites ++ site ∷ []) ≡ true
+one_more_known points sites site h k = more_known points 0 sites site h (at_number points site.target (length sites) (0 + length sites) (omega arith) k)
+
+set_known : (points n : ℕ) (sites : List CallSite) (c : ℕ) (site : CallSite) → all_known points n sites ≡ true → is_known points (n + c) site.target ≡ true
+    → all_known points n (slice_set sites c site) ≡ true
+set_known points n [] c site h k = h
+set_known points n (s ∷ sites) zero site h k =
+    and_from (is_known points n site.target) (all_known points (n + 1) sites) (at_number points site.target (n + 0) n (omega arith) k)
+    (second_test (is_known points n s.target) (all_known points (n + 1) sites) h)
+set_known points n (s ∷ sites) (suc c) site h k =
+    and_from (is_known points n s.target) (all_known points (n + 1) (slice_set sites c site)) (first_test (is_known points n s.target) (all_known points (n + 1) sites) h)
+    (set_known points (n + 1) sites c site (second_test (is_known points n s.target) (all_known points (n + 1) sites) h)
+    (at_number points site.target (n + suc c) ((n + 1) + c) (omega arith) k))
+
+pub retargeted_known : (points : ℕ) (sites : List CallSite) (c : ℕ) (t : Target) → all_known points 0 sites ≡ true → is_known points c t ≡ true
+    → all_known points 0 (retargeted sites c t) ≡ true
+retargeted_known points sites c t h k = by_site (slice_get sites c)
   where
-    by_site : (o : Option CallSite) → have_points n (option_map_or (λ site. slice_set sites c (record site { target = t })) o sites) ≡ true
+    by_site : (o : Option CallSite) → all_known points 0 (option_map_or (λ site. slice_set sites c (record site { target = t })) o sites) ≡ true
     by_site None = h
-    by_site (Some site) = set_known n sites c (record site { target = t }) h k
+    by_site (Some site) = set_known points 0 sites c (record site { target = t }) h (at_number points t c (0 + c) (omega arith) k)
 
-more_points : (n : ℕ) (t : Target) → has_points n t ≡ true → has_points (n + 1) t ≡ true
-more_points n (Method m) h = refl
-more_points n (Guard p first fallback) h =
-    let rest = second_test (nat_lt p n) (has_points n first && has_points n fallback) h in
-    let lt = ltb-true p n (first_test (nat_lt p n) (has_points n first && has_points n fallback) h) in
-    and_from (nat_lt p (n + 1)) (has_points (n + 1) first && has_points (n + 1) fallback) (lt-ltb p (n + 1) (omega arith))
-    (and_from (has_points (n + 1) first) (has_points (n + 1) fallback)
-    (more_points n first (first_test (has_points n first) (has_points n fallback) rest))
-    (more_points n fallback (second_test (has_points n first) (has_points n fallback) rest)))
+pub as_many_retargeted : (sites : List CallSite) (c : ℕ) (t : Target) → length (retargeted sites c t) ≡ length sites
+as_many_retargeted sites c t = by_site (slice_get sites c)
+  where
+    by_site : (o : Option CallSite) → length (option_map_or (λ site. slice_set sites c (record site { target = t })) o sites) ≡ length sites
+    by_site None = refl
+    by_site (Some site) = length-set sites c (record site { target = t })
 
-all_more_points : (n : ℕ) (sites : List CallSite) → have_points n sites ≡ true → have_points (n + 1) sites ≡ true
-all_more_points n [] h = refl
-all_more_points n (s ∷ sites) h =
-    and_from (has_points (n + 1) s.target) (have_points (n + 1) sites) (more_points n s.target (first_test (has_points n s.target) (have_points n sites) h))
-    (all_more_points n sites (second_test (has_points n s.target) (have_points n sites) h))
+more_points : (points c : ℕ) (t : Target) → is_known points c t ≡ true → is_known (points + 1) c t ≡ true
+more_points points c (Method m) h = refl
+more_points points c (Guard p first fallback) h =
+    let rest = second_test (nat_lt p points) (is_known points c first && is_known points c fallback) h in
+    let lt = ltb-true p points (first_test (nat_lt p points) (is_known points c first && is_known points c fallback) h) in
+    and_from (nat_lt p (points + 1)) (is_known (points + 1) c first && is_known (points + 1) c fallback) (lt-ltb p (points + 1) (omega arith))
+    (and_from (is_known (points + 1) c first) (is_known (points + 1) c fallback)
+    (more_points points c first (first_test (is_known points c first) (is_known points c fallback) rest))
+    (more_points points c fallback (second_test (is_known points c first) (is_known points c fallback) rest)))
+more_points points c (Invoker d) h = h
+
+all_more_points : (points n : ℕ) (sites : List CallSite) → all_known points n sites ≡ true → all_known (points + 1) n sites ≡ true
+all_more_points points n [] h = refl
+all_more_points points n (s ∷ sites) h =
+    and_from (is_known (points + 1) n s.target) (all_known (points + 1) (n + 1) sites)
+    (more_points points n s.target (first_test (is_known points n s.target) (all_known points (n + 1) sites) h))
+    (all_more_points points (n + 1) sites (second_test (is_known points n s.target) (all_known points (n + 1) sites) h))
 
 pub one_switch_more : (sites : Sites) → are_known sites ≡ true → are_known (with_switch sites) ≡ true
 one_switch_more sites h =
-    subst (λ n. have_points n sites.call_sites ≡ true) (sym (length-append sites.switches (true ∷ []))) (all_more_points (length sites.switches) sites.call_sites h)
+    subst (λ n. all_known n 0 sites.call_sites ≡ true) (sym (length-append sites.switches (true ∷ []))) (all_more_points (length sites.switches) 0 sites.call_sites h)
 
--- ---- what runs
+known_from : (points n : ℕ) (sites : List CallSite) (c : ℕ) (site : CallSite) → slice_get sites c ≡ Some site → all_known points n sites ≡ true
+    → is_known points (n + c) site.target ≡ true
+known_from points n [] c site e h = cc
+known_from points n (s ∷ sites) zero site e h =
+    at_number points site.target n (n + 0) (omega arith)
+    (ap (λ (t : CallSite). is_known points n t.target) (sym (same_Some s site e)) ∙ first_test (is_known points n s.target) (all_known points (n + 1) sites) h)
+known_from points n (s ∷ sites) (suc c) site e h =
+    at_number points site.target ((n + 1) + c) (n + suc c) (omega arith)
+    (known_from points (n + 1) sites c site e (second_test (is_known points n s.target) (all_known points (n + 1) sites) h))
 
-still_valid : (sites : Sites) (p : ℕ) → p < length sites.switches → is_valid (with_switch sites) p ≡ is_valid sites p
-still_valid sites p lt = ap (λ (o : Option Bool). option_map_or (λ valid. valid) o false) (before_end sites.switches true p lt)
+pub known_at : (points : ℕ) (sites : List CallSite) (c : ℕ) (site : CallSite) → slice_get sites c ≡ Some site → all_known points 0 sites ≡ true
+    → is_known points c site.target ≡ true
+known_at points sites c site e h = at_number points site.target (0 + c) c (omega arith) (known_from points 0 sites c site e h)
 
-evaluated_before : (sites : Sites) (t : Target) → has_points (length sites.switches) t ≡ true → evaluated (with_switch sites) t ≡ evaluated sites t
-evaluated_before sites (Method m) h = refl
-evaluated_before sites (Guard p first fallback) h = λ i.
-    if still_valid sites p (ltb-true p n (first_test (nat_lt p n) (has_points n first && has_points n fallback) h)) i
-    then evaluated_before sites first (first_test (has_points n first) (has_points n fallback) (second_test (nat_lt p n) (has_points n first && has_points n fallback) h)) i
-    else evaluated_before sites fallback (second_test (has_points n first) (has_points n fallback) (second_test (nat_lt p n) (has_points n first && has_points n fallback) h)) i
-  where
-    n : ℕ
-    n = length sites.switches
-
-known_at : (n : ℕ) (sites : List CallSite) (c : ℕ) (site : CallSite) → slice_get sites c ≡ Some site → have_points n sites ≡ true → has_points n site.target ≡ true
-known_at n [] c site e h = cc
-known_at n (s ∷ sites) zero site e h =
-    ap (λ (t : CallSite). has_points n t.target) (sym (same_Some s site e)) ∙ first_test (has_points n s.target) (have_points n sites) h
-known_at n (s ∷ sites) (suc c) site e h = known_at n sites c site e (second_test (has_points n s.target) (have_points n sites) h)
-
-pub switch_runs : (sites : Sites) → are_known sites ≡ true → RunAsBefore sites (with_switch sites)
-switch_runs sites h = record { same = λ c lt. by_site c (slice_get sites.call_sites c) refl }
-  where
-    by_site : (c : ℕ) (o : Option CallSite) → slice_get sites.call_sites c ≡ o
-        → option_map (λ s. evaluated (with_switch sites) s.target) o ≡ option_map (λ s. evaluated sites s.target) o
-    by_site c None e = refl
-    by_site c (Some site) e = ap Some (evaluated_before sites site.target (known_at (length sites.switches) sites.call_sites c site e h))
-
-pub site_runs : (sites : Sites) (kind : CallSiteKind) (ty : List ℕ) (t : Target) → RunAsBefore sites (with_site sites kind ty t)
-site_runs sites kind ty t = record {
-  same = λ c lt.
-      (λ i. option_map (λ s. evaluated_same (with_site sites kind ty t) sites refl s.target i) (slice_get (with_site sites kind ty t).call_sites c))
-      ∙ ap (option_map (λ s. evaluated sites s.target)) (before_end sites.call_sites (record { kind = kind; ty = ty; target = t }) c lt);
-}
-
-other_set : (sites : List CallSite) (c : ℕ) (site : CallSite) (d : ℕ) → d ≢ c → slice_get (slice_set sites c site) d ≡ slice_get sites d
-other_set [] c site d ne = refl
-other_set (s ∷ sites) zero site zero ne = absurd (ne refl)
-other_set (s ∷ sites) zero site (suc d) ne = refl
-other_set (s ∷ sites) (suc c) site zero ne = refl
-other_set (s ∷ sites) (suc c) site (suc d) ne = other_set sites c site d (λ e. ne (ap suc e))
-
-same_set : (sites : List CallSite) (c : ℕ) (site old : CallSite) → slice_get sites c ≡ Some old → slice_get (slice_set sites c site) c ≡ Some site
-same_set [] c site old e = cc
-same_set (s ∷ sites) zero site old e = refl
-same_set (s ∷ sites) (suc c) site old e = same_set sites c site old e
-
-pub others_run : (sites : Sites) (c : ℕ) (t : Target) → OthersRunAsBefore sites (with_target sites c t) c
-others_run sites c t = record {
-  same = λ d ne.
-      (λ i. option_map (λ s. evaluated_same (with_target sites c t) sites refl s.target i) (slice_get (with_target sites c t).call_sites d))
-      ∙ ap (option_map (λ s. evaluated sites s.target)) (by_site (slice_get sites.call_sites c) d ne);
-}
-  where
-    by_site : (o : Option CallSite) (d : ℕ) → d ≢ c
-        → slice_get (option_map_or (λ site. slice_set sites.call_sites c (record site { target = t })) o sites.call_sites) d ≡ slice_get sites.call_sites d
-    by_site None d ne = refl
-    by_site (Some site) d ne = other_set sites.call_sites c (record site { target = t }) d ne
+-- ---- each call site runs a method
 
 there_is : (c : ℕ) (sites : List CallSite) → c < length sites → slice_get sites c ≡ None → ⊥
 there_is c [] lt e = absurd (omega arith)
 there_is zero (s ∷ sites) lt e = cc
 there_is (suc c) (s ∷ sites) lt e = there_is c sites (omega arith) e
 
-pub target_runs : (sites : Sites) (c : ℕ) (t : Target) → c < length sites.call_sites → method_of (with_target sites c t) c ≡ Some (evaluated sites t)
+module _ (sites : Sites) (known : are_known sites ≡ true) where
+  part_runs : (n : ℕ) → ((c : ℕ) → c < n → is_some (run_below sites n c) ≡ true) → (t : Target) → is_known (length sites.switches) n t ≡ true
+      → is_some (run_by sites (run_below sites n) t) ≡ true
+  part_runs n earlier (Method m) h = refl
+  part_runs n earlier (Guard p first fallback) h =
+      let k = length sites.switches in
+      let rest = second_test (nat_lt p k) (is_known k n first && is_known k n fallback) h in
+      by_valid (is_valid sites p)
+      (part_runs n earlier first (first_test (is_known k n first) (is_known k n fallback) rest))
+      (part_runs n earlier fallback (second_test (is_known k n first) (is_known k n fallback) rest))
+    where
+      by_valid : (b : Bool) → is_some (run_by sites (run_below sites n) first) ≡ true → is_some (run_by sites (run_below sites n) fallback) ≡ true
+          → is_some (if b then run_by sites (run_below sites n) first else run_by sites (run_below sites n) fallback) ≡ true
+      by_valid true one two = one
+      by_valid false one two = two
+  part_runs n earlier (Invoker c) h = earlier c (ltb-true c n h)
+
+  row_runs : (c : ℕ) → c < length sites.call_sites → ((d : ℕ) → d < c → is_some (run_below sites c d) ≡ true) → is_some (method_of sites c) ≡ true
+  row_runs c lt earlier = by_row (slice_get sites.call_sites c) refl
+    where
+      by_row : (o : Option CallSite) → slice_get sites.call_sites c ≡ o → is_some (option_and_then (λ site. evaluated sites c site.target) o) ≡ true
+      by_row None at = absurd (there_is c sites.call_sites lt at)
+      by_row (Some site) at = part_runs c earlier site.target (known_at (length sites.switches) sites.call_sites c site at known)
+
+  all_run : (n : ℕ) → n ≤ length sites.call_sites → (c : ℕ) → c < n → is_some (method_of sites c) ≡ true
+  all_run zero le c lt = absurd (omega arith)
+  all_run (suc n) le c lt =
+      row_runs c (omega arith) (λ d less. ap is_some (invoked_runs sites c d less) ∙ all_run n (omega arith) d (omega arith))
+
+  -- where its switch points and earlier call sites are there
+  pub runs_some : (c : ℕ) → c < length sites.call_sites → is_some (method_of sites c) ≡ true
+  runs_some c lt = all_run (length sites.call_sites) (omega arith) c lt
+
+-- ---- what runs
+
+within : (sites : Sites) (p : ℕ) → is_valid sites p ≡ true → p < length sites.switches
+within sites p = by_switch (slice_get sites.switches p) refl
+  where
+    by_switch : (o : Option Bool) → slice_get sites.switches p ≡ o → option_map_or (λ valid. valid) o false ≡ true → p < length sites.switches
+    by_switch None is h = cc
+    by_switch (Some b) is h = slice_get_within sites.switches p b is
+
+still_valid : (sites : Sites) (p : ℕ) → p < length sites.switches → is_valid (with_switch sites) p ≡ is_valid sites p
+still_valid sites p lt = ap (λ (o : Option Bool). option_map_or (λ valid. valid) o false) (before_end sites.switches true p lt)
+
+-- one switch point more
+pub switch_walks : (sites : Sites) → are_known sites ≡ true → (c : ℕ)
+    → (method_of (with_switch sites) c ≡ method_of sites c) × (path (with_switch sites) c ≡ path sites c)
+switch_walks sites known c =
+    site_walks sites (with_switch sites)
+    (λ d site at. known_invalid sites (with_switch sites) (λ p lt e. still_valid sites p lt ∙ e) d site.target (known_at (length sites.switches) sites.call_sites d site at known))
+    c
+    (kept_on sites (with_switch sites) (c + 1) (path sites c) (on_path sites c) (λ d lt h. refl) (λ p valid h. still_valid sites p (within sites p valid) ∙ valid))
+
+pub switch_runs : (sites : Sites) → are_known sites ≡ true → RunAsBefore sites (with_switch sites)
+switch_runs sites known = record { same = λ c lt. (switch_walks sites known c).0 }
+
+-- one call site more
+pub site_more_walks : (sites : Sites) (kind : CallSiteKind) (ty : List ℕ) (t : Target) (c : ℕ) → c < length sites.call_sites
+    → (method_of (with_site sites kind ty t) c ≡ method_of sites c) × (path (with_site sites kind ty t) c ≡ path sites c)
+site_more_walks sites kind ty t c lt =
+    site_walks sites (with_site sites kind ty t)
+    (λ d site at. all_invalid sites (with_site sites kind ty t) (λ p e. e) site.target)
+    c
+    (kept_on sites (with_site sites kind ty t) (c + 1) (path sites c) (on_path sites c)
+    (λ d less h. before_end sites.call_sites (record { kind = kind; ty = ty; target = t }) d (omega arith)) (λ p valid h. valid))
+
+pub site_runs : (sites : Sites) (kind : CallSiteKind) (ty : List ℕ) (t : Target) → RunAsBefore sites (with_site sites kind ty t)
+site_runs sites kind ty t = record { same = λ c lt. (site_more_walks sites kind ty t c lt).0 }
+
+-- another target
+other_set : {A : Type 0} (xs : List A) (c : ℕ) (x : A) (d : ℕ) → d ≢ c → slice_get (slice_set xs c x) d ≡ slice_get xs d
+other_set [] c x d ne = refl
+other_set (y ∷ xs) zero x zero ne = absurd (ne refl)
+other_set (y ∷ xs) zero x (suc d) ne = refl
+other_set (y ∷ xs) (suc c) x zero ne = refl
+other_set (y ∷ xs) (suc c) x (suc d) ne = other_set xs c x d (λ e. ne (ap suc e))
+
+same_set : (sites : List CallSite) (c : ℕ) (site old : CallSite) → slice_get sites c ≡ Some old → slice_get (slice_set sites c site) c ≡ Some site
+same_set [] c site old e = cc
+same_set (s ∷ sites) zero site old e = refl
+same_set (s ∷ sites) (suc c) site old e = same_set sites c site old e
+
+other_row : (sites : Sites) (c : ℕ) (t : Target) (d : ℕ) → d ≢ c → slice_get (retargeted sites.call_sites c t) d ≡ slice_get sites.call_sites d
+other_row sites c t d ne = by_site (slice_get sites.call_sites c)
+  where
+    by_site : (o : Option CallSite)
+        → slice_get (option_map_or (λ site. slice_set sites.call_sites c (record site { target = t })) o sites.call_sites) d ≡ slice_get sites.call_sites d
+    by_site None = refl
+    by_site (Some site) = other_set sites.call_sites c (record site { target = t }) d ne
+
+-- of a call site that isn't on the way
+pub other_walks : (sites : Sites) (c : ℕ) (t : Target) (d : ℕ) → has_key (path sites d) (key.Target c) ≡ false
+    → (method_of (with_target sites c t) d ≡ method_of sites d) × (path (with_target sites c t) d ≡ path sites d)
+other_walks sites c t d none =
+    site_walks sites (with_target sites c t)
+    (λ e site at. all_invalid sites (with_target sites c t) (λ p off. off) site.target)
+    d
+    (kept_on sites (with_target sites c t) (d + 1) (path sites d) (on_path sites d)
+    (λ e less h. other_row sites c t e (λ is. both_ways (has_key (path sites d) (key.Target c)) none (ap (λ n. has_key (path sites d) (key.Target n)) (sym is) ∙ h)))
+    (λ p valid h. valid))
+
+pub others_run : (sites : Sites) (c : ℕ) (t : Target) → OthersRunAsBefore sites (with_target sites c t) c
+others_run sites c t = record { same = λ d none. (other_walks sites c t d none).0 }
+
+pub target_runs : (sites : Sites) (c : ℕ) (t : Target) → c < length sites.call_sites → method_of (with_target sites c t) c ≡ evaluated sites c t
 target_runs sites c t lt = by_site (slice_get sites.call_sites c) refl
   where
+    new : Sites
+    new = with_target sites c t
+
+    same : evaluated new c t ≡ evaluated sites c t
+    same =
+        (target_walks sites new (λ d site at. all_invalid sites new (λ p off. off) site.target) c t (all_invalid sites new (λ p off. off) t)
+        (kept_on sites new c (way_by sites (way_below sites c) t) (on_target_way sites c t)
+        (λ d less h. other_row sites c t d (λ is. absurd (omega arith))) (λ p valid h. valid))).runs
+
     by_site : (o : Option CallSite) → slice_get sites.call_sites c ≡ o
-        → option_map (λ s. evaluated (with_target sites c t) s.target) (slice_get (option_map_or (λ site. slice_set sites.call_sites c (record site { target = t })) o sites.call_sites) c) ≡ Some (evaluated sites t)
+        → option_and_then (λ s. evaluated new c s.target)
+        (slice_get (option_map_or (λ site. slice_set sites.call_sites c (record site { target = t })) o sites.call_sites) c) ≡ evaluated sites c t
     by_site None e = absurd (there_is c sites.call_sites lt e)
     by_site (Some site) e =
-        ap (option_map (λ s. evaluated (with_target sites c t) s.target)) (same_set sites.call_sites c (record site { target = t }) site e)
-        ∙ ap Some (evaluated_same (with_target sites c t) sites refl t)
+        ap (option_and_then (λ s. evaluated new c s.target)) (same_set sites.call_sites c (record site { target = t }) site e) ∙ same

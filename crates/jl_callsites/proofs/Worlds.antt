@@ -1,5 +1,5 @@
 -- The faults of call sites and switch points are those at any world of the same classes and sites.
-use Rattle.std.specs.Prelude.{◌≡◌, ℕ, Bool, true, false, nat_lt, nat_le, ◌||◌, List, [], ◌∷◌, length, slice_get, Option, Some, None, option_map, option_and_then, if◌then◌else◌}
+use Rattle.std.specs.Prelude.{◌≡◌, ℕ, Bool, true, false, nat_lt, nat_le, ◌||◌, List, [], ◌∷◌, length, slice_get, Option, Some, None, option_map, if◌then◌else◌}
 use Rattle.std.specs.Bool.{then_some}
 use Rattle.std.proofs.Common.{refl, ap, sym}
 use Rattle.jl_types.specs.declared.target.CallSiteKind.{CallSiteKind}
@@ -9,36 +9,35 @@ use Rattle.jl_types.specs.declared.refusal.CallSiteFault.{CallSiteFault}
 use Rattle.jl_types.specs.declared.refusal.CallSiteFault.TheVariants.{UnknownSwitch, TooDeep, Full, Constant}
 use Rattle.jl_types.specs.declared.refusal.Refusal.{Refusal}
 use Rattle.jl_types.specs.declared.refusal.Refusal.TheVariants.{CallSite}
-use Rattle.jl_types.specs.Target.{Target, Method, Guard, depth}
-use Rattle.jl_types.specs.World.{World, Sites, CallSite as CallSiteRow}
+use Rattle.jl_types.specs.Target.{Target, Method, Guard, Invoker, depth}
+use Rattle.jl_types.specs.World.{World, CallSite as CallSiteRow}
 use Rattle.jl_types.specs.Resolution.{first_of}
-use Rattle.jl_types.specs.Targets.{parts, part_fault, target_fault, is_valid, evaluated}
-use Rattle.jl_types.specs.Sites.{bound_to, call_site_of, by_call_site}
+use Rattle.jl_types.specs.Targets.{parts, part_fault, target_fault}
 use Rattle.jl_types.specs.Events.{unless, is_constant, most_of_a_kind, new_call_site_fault}
 use Rattle.jl_types.specs.Events as events
 use Rattle.jl_callsites.specs.Faults.{world_of, new_site_fault, set_target_fault, new_switch_fault, invalidate_fault, with_site, with_target, with_switch, with_invalid}
-use Rattle.jl_callsites.specs.Runs.{method_of, by_method}
 use Rattle.jl_callsites.specs.Laws.{ComesTo}
 
--- neither the number of the call site nor what else is in the world is looked at
-pub part_fault_same : (w : World) (c d : ℕ) (ty : List ℕ) (t : Target) → part_fault (world_of w.classes w.sites) c ty t ≡ part_fault w d ty t
-part_fault_same w c d ty (Method m) = refl
-part_fault_same w c d ty (Guard p first fallback) = λ i.
+-- what else is in the world isn't looked at
+pub part_fault_same : (w : World) (c : ℕ) (ty : List ℕ) (t : Target) → part_fault (world_of w.classes w.sites) c ty t ≡ part_fault w c ty t
+part_fault_same w c ty (Method m) = refl
+part_fault_same w c ty (Guard p first fallback) = λ i.
     first_of (
     then_some (nat_le (length w.sites.switches) p) UnknownSwitch
-    ∷ part_fault_same w c d ty first i
-    ∷ part_fault_same w c d ty fallback i
+    ∷ part_fault_same w c ty first i
+    ∷ part_fault_same w c ty fallback i
     ∷ [])
+part_fault_same w c ty (Invoker d) = refl
 
-pub target_fault_same : (w : World) (c d : ℕ) (ty : List ℕ) (t : Target) → target_fault (world_of w.classes w.sites) c ty t ≡ target_fault w d ty t
-target_fault_same w c d ty t = λ i.
-    first_of (then_some (nat_lt 64 (depth t) || nat_lt 255 (parts t)) TooDeep ∷ part_fault_same w c d ty t i ∷ [])
+pub target_fault_same : (w : World) (c : ℕ) (ty : List ℕ) (t : Target) → target_fault (world_of w.classes w.sites) c ty t ≡ target_fault w c ty t
+target_fault_same w c ty t = λ i.
+    first_of (then_some (nat_lt 64 (depth t) || nat_lt 255 (parts t)) TooDeep ∷ part_fault_same w c ty t i ∷ [])
 
 pub new_site_fault_same : (w : World) (ty : List ℕ) (t : Target) → new_site_fault w.classes w.sites ty t ≡ new_call_site_fault w ty t
 new_site_fault_same w ty t = λ i.
     first_of (
     then_some (nat_le most_of_a_kind (length w.sites.call_sites)) Full
-    ∷ target_fault_same w (length w.sites.call_sites) (length w.sites.call_sites) ty t i
+    ∷ target_fault_same w (length w.sites.call_sites) ty t i
     ∷ [])
 
 set_target_fault_at : (w : World) (c : ℕ) (t : Target) (site : Option CallSiteRow)
@@ -48,7 +47,7 @@ set_target_fault_at w c t (Some site) = constant_or (is_constant site.kind)
   where
     constant_or : (b : Bool) → (if b then Some Constant else target_fault (world_of w.classes w.sites) c site.ty t) ≡ (if b then Some Constant else target_fault w c site.ty t)
     constant_or true = refl
-    constant_or false = target_fault_same w c c site.ty t
+    constant_or false = target_fault_same w c site.ty t
 
 pub set_target_fault_same : (w : World) (c : ℕ) (t : Target) → set_target_fault w.classes w.sites c t ≡ events.set_target_fault w c (slice_get w.sites.call_sites c) t
 set_target_fault_same w c t = set_target_fault_at w c t (slice_get w.sites.call_sites c)
@@ -84,23 +83,3 @@ new_switch_comes_to max_sites w = record {
 pub invalidate_comes_to : (max_sites : ℕ) (w : World) (points : List ℕ)
     → ComesTo max_sites w (event.Invalidate points) (invalidate_fault w.sites points) made.Nothing (with_invalid w.sites points)
 invalidate_comes_to max_sites w points = record { verdict = refl; step = refl }
-
--- ---- what runs
-
-by_found : (w : World) (site : Option CallSiteRow) → by_call_site w site ≡ by_method (option_map (λ s. evaluated w.sites s.target) site)
-by_found w None = refl
-by_found w (Some site) = refl
-
-by_bound : (w : World) (c : Option ℕ) → by_call_site w (option_and_then (slice_get w.sites.call_sites) c) ≡ by_method (option_and_then (method_of w.sites) c)
-by_bound w None = refl
-by_bound w (Some c) = by_found w (slice_get w.sites.call_sites c)
-
--- an invokedynamic runs what the call site to which it is bound runs
-pub runs_bound : (w : World) (s : ℕ) → by_call_site w (call_site_of w s) ≡ by_method (option_and_then (method_of w.sites) (bound_to w s))
-runs_bound w s = by_bound w (bound_to w s)
-
--- what a target stands for depends on the switch points alone
-pub evaluated_same : (a b : Sites) → a.switches ≡ b.switches → (t : Target) → evaluated a t ≡ evaluated b t
-evaluated_same a b same (Method m) = refl
-evaluated_same a b same (Guard p first fallback) = λ i.
-    (if is_valid (record { call_sites = []; switches = same i }) p then evaluated_same a b same first i else evaluated_same a b same fallback i)

@@ -6,12 +6,12 @@ use Rattle.jl_code.specs.Codes.{begins_special}
 use Rattle.jl_types.specs.declared.ids.MethodId.{MethodId}
 use Rattle.jl_types.specs.declared.target.CallSiteKind.{CallSiteKind}
 use Rattle.jl_types.specs.declared.refusal.CallSiteFault.{CallSiteFault}
-use Rattle.jl_types.specs.declared.refusal.CallSiteFault.TheVariants.{Full, UnknownMethod, NotStatic, WrongType}
+use Rattle.jl_types.specs.declared.refusal.CallSiteFault.TheVariants.{Full, UnknownMethod, NotStatic, WrongType, InvokerOrder}
 use Rattle.jl_types.specs.Target.{Target}
 use Rattle.jl_types.specs.World.{World, Classes, Sites}
 use Rattle.jl_types.specs.Members.{method_test, is_static}
 use Rattle.jl_types.specs.Resolution.{first_of}
-use Rattle.jl_types.specs.Targets.{may_be_named, is_of_type}
+use Rattle.jl_types.specs.Targets.{may_be_named, is_of_type, invokes_type}
 use Rattle.jl_types.specs.Events.{most_of_a_kind, new_call_site_fault, retargeted, invalidated}
 use Rattle.jl_types.specs.Events as events
 
@@ -31,7 +31,7 @@ abbrev pub new_switch_fault : Sites → Option CallSiteFault
 new_switch_fault sites = then_some (nat_le most_of_a_kind (length sites.switches)) Full
 
 abbrev pub invalidate_fault : Sites → List ℕ → Option CallSiteFault
-invalidate_fault sites points = events.invalidate_fault (world_of (record { loaders = []; rows = [] }) sites) points
+invalidate_fault sites points = events.invalidate_fault (world_of (record { loaders = []; rows = []; retired = [] }) sites) points
 
 -- of a method alone
 abbrev pub method_fault : Classes → List ℕ → MethodId → Option CallSiteFault
@@ -39,6 +39,13 @@ method_fault cs ty m = first_of (
     then_some (not (may_be_named cs m)) UnknownMethod
     ∷ then_some (not (is_static cs m)) NotStatic
     ∷ then_some (not (is_of_type cs ty m)) WrongType
+    ∷ [])
+
+-- of an invoker alone, in a target of call site c
+abbrev pub invoker_fault : Sites → ℕ → List ℕ → ℕ → Option CallSiteFault
+invoker_fault sites c ty d = first_of (
+    then_some (nat_le c d) (InvokerOrder d)
+    ∷ then_some (not (invokes_type sites ty d)) WrongType
     ∷ [])
 
 abbrev pub has_plain_name : Classes → MethodId → Bool

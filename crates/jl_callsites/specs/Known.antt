@@ -1,26 +1,30 @@
--- Every guard of a call site's target has its switch point, and which changes leave what runs as it was.
-use Rattle.std.specs.Prelude.{◌≡◌, ◌≢◌, ℕ, ◌<◌, Bool, true, ◌&&◌, nat_lt, List, length}
-use Rattle.std.specs.List.{list_all}
-use Rattle.jl_types.specs.Target.{Target, Method, Guard}
+-- Every guard of a call site's target has its switch point, every invoker its call site, and which changes leave what runs as it was.
+use Rattle.std.specs.Prelude.{◌≡◌, ℕ, ◌<◌, ◌+◌, Bool, true, false, ◌&&◌, nat_lt, List, [], ◌∷◌, length}
+use Rattle.jl_types.specs.declared.key.Key.TheVariants as key
+use Rattle.jl_types.specs.Target.{Target, Method, Guard, Invoker}
 use Rattle.jl_types.specs.World.{CallSite, Sites}
-use Rattle.jl_callsites.specs.Runs.{method_of}
+use Rattle.jl_types.specs.Targets.{method_of}
+use Rattle.jl_types.specs.Footprints.{has_key, path}
 
--- the switch points of the target's guards are among the first so many
-abbrev pub has_points : ℕ → Target → Bool
-has_points n (Method m) = true
-has_points n (Guard p first fallback) = nat_lt p n && (has_points n first && has_points n fallback)
+-- the switch points of the target's guards are among the first so many, and its invokers are of call sites before this one
+abbrev pub is_known : ℕ → ℕ → Target → Bool
+is_known points c (Method m) = true
+is_known points c (Guard p first fallback) = nat_lt p points && (is_known points c first && is_known points c fallback)
+is_known points c (Invoker d) = nat_lt d c
 
-abbrev pub have_points : ℕ → List CallSite → Bool
-have_points n sites = list_all (λ site. has_points n site.target) sites
+-- the same of the targets of call sites with numbers from c on
+abbrev pub all_known : ℕ → ℕ → List CallSite → Bool
+all_known points c [] = true
+all_known points c (site ∷ sites) = is_known points c site.target && all_known points (c + 1) sites
 
--- the switch points of each call site's target are there
+-- the switch points of each call site's target are there, and it invokes call sites before it
 abbrev pub are_known : Sites → Bool
-are_known sites = have_points (length sites.switches) sites.call_sites
+are_known sites = all_known (length sites.switches) 0 sites.call_sites
 
 -- each call site that was there runs what it ran before
 pub record RunAsBefore (old new : Sites) : Type 0 where
   pub same : (c : ℕ) → c < length old.call_sites → method_of new c ≡ method_of old c
 
--- each call site but this one runs what it ran before
+-- each call site whose path doesn't go through this one runs what it ran before
 pub record OthersRunAsBefore (old new : Sites) (site : ℕ) : Type 0 where
-  pub same : (c : ℕ) → c ≢ site → method_of new c ≡ method_of old c
+  pub same : (c : ℕ) → has_key (path old c) (key.Target site) ≡ false → method_of new c ≡ method_of old c

@@ -3,7 +3,7 @@ use Rattle.std.specs.Prelude.{ℕ, ◌+◌, ◌*◌, Bool, List, refl}
 use Rattle.std.specs.Coded.{Coded, code_by, coded×, coded_ℕ, coded_bool, coded_list}
 use Rattle.jl_types.specs.declared.target.CallSiteKind.{CallSiteKind}
 use Rattle.jl_types.specs.contracts.target.CallSiteKind as kind
-use Rattle.jl_types.specs.Target.{Target, Method, Guard}
+use Rattle.jl_types.specs.Target.{Target, Method, Guard, Invoker}
 use Rattle.jl_types.specs.Means.TargetCode.{target_code}
 use Rattle.jl_types.specs.World.{CallSite, Sites}
 
@@ -11,6 +11,7 @@ use Rattle.jl_types.specs.World.{CallSite, Sites}
 abbrev pub turns_left : Target → ℕ
 turns_left (Method m) = 1
 turns_left (Guard p first fallback) = 2 * turns_left first + turns_left fallback + 1
+turns_left (Invoker c) = 1
 
 -- codes, by which a proof tells values apart
 abbrev pub call_site_code : Coded CallSite

@@ -7,8 +7,8 @@ ghost use Rattle.jl_types.specs.declared.refusal.OrMemory.TheVariants as or_memo
 ghost use Rattle.jl_types.specs.Events as events;
 ghost use Rattle.jl_types.specs.Targets as targets;
 ghost use Rattle.jl_callsites.specs.Faults as faults;
-ghost use Rattle.jl_callsites.specs.Runs.{method_of};
-ghost use Rattle.jl_callsites.specs.Known.{has_points, RunAsBefore, OthersRunAsBefore};
+ghost use Rattle.jl_types.specs.Targets.{method_of};
+ghost use Rattle.jl_callsites.specs.Known.{is_known, RunAsBefore, OthersRunAsBefore};
 
 use crate::call_site::CallSite;
 use crate::discard::discard_target;
@@ -26,8 +26,8 @@ impl Sites {
     ///
     /// `Full` where there are 65,536 call sites; `TooDeep` of a target that is deeper than 64 or has more than 255 parts; then
     /// the first fault of the target's parts, a guard before its parts and the first part before the fallback: `UnknownSwitch`
-    /// of a guard, and `UnknownMethod`, `NotStatic` and `WrongType` (WrongMethodTypeException) of a method; else want of memory.
-    /// Nothing has changed then.
+    /// of a guard, `UnknownMethod`, `NotStatic` and `WrongType` (WrongMethodTypeException) of a method, and `InvokerOrder` and
+    /// `WrongType` of an invoker; else want of memory. Nothing has changed then.
     pub fn new_site(
         &mut self,
         classes: &Classes,
@@ -65,7 +65,7 @@ impl Sites {
     ) -> Result<(), CallSiteFault>
         ensures accepted { OnOk result (faults.set_target_fault classes.now self.old site target ≡ None) }
         ensures ok { OnOk result (self.new ≡ faults.with_target self.old site target) }
-        ensures runs { OnOk result (method_of self.new site ≡ Some (targets.evaluated self.old target)) }
+        ensures runs { OnOk result (method_of self.new site ≡ targets.evaluated self.old site target) }
         ensures others { OnOk result (OthersRunAsBefore self.old self.new site) }
         ensures fault { IfErr result (λ f. faults.set_target_fault classes.now self.old site target ≡ Some f) }
         ensures err { OnErr result (self.new ≡ self.old) }
@@ -126,20 +126,20 @@ impl Sites {
         invalidate(self.switches.as_mut_slice(), points);
     }
 
-    /// The call site, which is there, runs this target from now on, whose switch points are there: the second half of
-    /// [`set_target`](Sites::set_target). Takes no memory.
+    /// The call site, which is there, runs this target from now on, whose switch points are there and which invokes earlier call
+    /// sites alone: the second half of [`set_target`](Sites::set_target). Takes no memory.
     pub fn put_target(&mut self, site: CallSiteId, target: Target)
         requires there { site < length self.old.call_sites }
-        requires known { has_points (length self.old.switches) target ≡ true }
+        requires known { is_known (length self.old.switches) site target ≡ true }
         ensures put { self.new ≡ faults.with_target self.old site target }
-        ensures runs { method_of self.new site ≡ Some (targets.evaluated self.old target) }
+        ensures runs { method_of self.new site ≡ targets.evaluated self.old site target }
         ensures others { OthersRunAsBefore self.old self.new site }
     {
         retarget_in(&mut self.call_sites, site, target);
     }
 
-    /// A new call site, by its number, where there are fewer than there may be, and whose target's switch points are there: the
-    /// second half of [`new_site`](Sites::new_site).
+    /// A new call site, by its number, where there are fewer than there may be, and whose target's switch points and invoked call
+    /// sites are there: the second half of [`new_site`](Sites::new_site).
     ///
     /// # Errors
     ///
@@ -151,7 +151,7 @@ impl Sites {
         target: Target,
     ) -> Result<CallSiteId, AllocError>
         requires room { length self.old.call_sites < 65536 }
-        requires known { has_points (length self.old.switches) target ≡ true }
+        requires known { is_known (length self.old.switches) (length self.old.call_sites) target ≡ true }
         ensures number { IfOk result (λ site. site ≡ length self.old.call_sites) }
         ensures ok { OnOk result (self.new ≡ faults.with_site self.old kind ty target) }
         ensures runs { OnOk result (RunAsBefore self.old self.new) }

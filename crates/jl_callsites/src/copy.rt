@@ -42,5 +42,6 @@ pub fn copy_target(alloc: Global, target: &Target) -> Result<Target, AllocError>
             let fallback = Box::new(alloc, copy_target(alloc, fallback)?)?;
             Ok(Target::guard(*point, first, fallback))
         }
+        Part::Invoker(site) => Ok(Target::invoker(*site)),
     }
 }

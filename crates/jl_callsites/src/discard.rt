@@ -6,7 +6,7 @@ ghost use Rattle.jl_callsites.specs.Means.{turns_left};
 use jl_types::{ClassId, MethodId, Part, SwitchId, Target};
 use std::mem;
 
-/// Lets the target go, however deep it is: its guards are turned until the first part of the one at the top is a method, so no
+/// Lets the target go, however deep it is: its guards are turned until the first part of the one at the top is no guard, so no
 /// call is as deep as the target, as it would be where a target is simply dropped. A refused target goes this way. Takes no
 /// memory.
 pub fn discard_target(target: Target) {
@@ -16,11 +16,12 @@ pub fn discard_target(target: Target) {
         match part {
             Part::Method(_) => return,
             Part::Guard(point, first, fallback) => rest = turned(point, first, fallback),
+            Part::Invoker(_) => return,
         }
     }
 }
 
-/// What is left of a guard of these parts: the fallback where the first part is a method; else the first part's own first one
+/// What is left of a guard of these parts: the fallback where the first part is no guard; else the first part's own first one
 /// before all that comes behind it.
 fn turned(point: SwitchId, first: Box<Target>, fallback: Box<Target>) -> Target
     ensures { turns_left result < 2 * turns_left first.value + turns_left fallback.value + 1 }
@@ -33,6 +34,7 @@ fn turned(point: SwitchId, first: Box<Target>, fallback: Box<Target>) -> Target
             *room = Target::guard(point, second, fallback);
             Target::guard(inner, first, room)
         }
+        Part::Invoker(_) => Box::into_inner(fallback),
     }
 }
 

@@ -1,8 +1,10 @@
-//! What a call site runs now (java.lang.invoke: CallSite, SwitchPoint.guardWithTest; JVMS SE 17 §6.5, invokedynamic).
+//! What a call site runs now (java.lang.invoke: CallSite, CallSite.dynamicInvoker, SwitchPoint.guardWithTest; JVMS SE 17 §6.5, invokedynamic).
 
 ghost use Rattle.std.specs.Prelude.{◌≡◌, ◌+◌, ◌^◌, ◌<◌, Some, length};
+ghost use Rattle.std.specs.Option.{option_copied};
 ghost use Rattle.jl_types.specs.Targets as targets;
-ghost use Rattle.jl_callsites.specs.Runs.{method_of};
+ghost use Rattle.jl_types.specs.Targets.{method_of};
+ghost use Rattle.jl_callsites.specs.Earlier.{earlier_target};
 
 use crate::sites::Sites;
 use jl_types::{CallSiteId, MethodId, Part, Target, Work};
@@ -13,7 +15,8 @@ impl Sites {
         requires { site < length self.now.call_sites }
         ensures { method_of self.now site ≡ Some result }
     {
-        self.evaluated(self.call_sites[site.number() as usize].target())
+        let _switches = self.known_switches();
+        self.method_of(site).unwrap()
     }
 
     /// The same with one tick: this is an evaluation of a call site. Takes no memory.
@@ -29,20 +32,22 @@ impl Sites {
 
     /// The method that the call site runs now, if there is such a call site. Takes no memory.
     pub fn method_of(&self, site: CallSiteId) -> Option<MethodId>
-        ensures { result ≡ method_of self.now site }
+        ensures { result ≡ targets.method_of self.now site }
     {
-        Some(self.evaluated(self.call_site_at(site)?.target()))
+        self.evaluated(site, self.call_site_at(site)?.target())
     }
 
-    /// The method that the target stands for now: at a guard the first part's while its switch point is valid, and then the
-    /// fallback's. It goes down one path of the target, and takes no memory.
-    pub fn evaluated(&self, target: &Target) -> MethodId
-        ensures { result ≡ targets.evaluated self.now target.now }
+    /// The method that the target, as one of this call site, stands for now: at a guard the first part's while its switch point is
+    /// valid, and then the fallback's; at an invoker what that call site runs, which has to come before this one. It goes down one
+    /// path of each target, and takes no memory.
+    pub fn evaluated(&self, site: CallSiteId, target: &Target) -> Option<MethodId>
+        ensures { result ≡ targets.evaluated self.now site target.now }
     {
+        let mut site = site;
         let mut target = target;
         loop {
             match &target.part {
-                Part::Method(method) => return *method,
+                Part::Method(method) => return Some(*method),
                 Part::Guard(point, first, fallback) => {
                     target = if self.is_valid(*point) {
                         first
@@ -50,7 +55,21 @@ impl Sites {
                         fallback
                     };
                 }
+                Part::Invoker(invoked) => {
+                    target = self.earlier_target(*invoked, site)?;
+                    site = *invoked;
+                }
             }
         }
+    }
+
+    /// The target of the invoked call site, if it comes before this one.
+    pub fn earlier_target(&self, invoked: CallSiteId, site: CallSiteId) -> Option<&Target>
+        ensures { option_copied result ≡ earlier_target self.now invoked site }
+    {
+        if invoked.number() >= site.number() {
+            return None;
+        }
+        Some(self.call_site_at(invoked)?.target())
     }
 }

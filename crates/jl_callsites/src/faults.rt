@@ -1,11 +1,11 @@
 //! Why a call site or a switch point isn't made or changed (java.lang.invoke).
 
-ghost use Rattle.std.specs.Prelude.{◌≡◌, ◌<◌, nat_le, true, false, None, Some, length};
+ghost use Rattle.std.specs.Prelude.{◌≡◌, ◌<◌, nat_le, nat_lt, true, false, None, Some, length};
 ghost use Rattle.std.specs.List.{list_any};
 ghost use Rattle.jl_types.specs.Targets as targets;
 ghost use Rattle.jl_callsites.specs.Faults as faults;
 ghost use Rattle.jl_callsites.specs.Faults.{world_of};
-ghost use Rattle.jl_callsites.specs.Known.{has_points};
+ghost use Rattle.jl_callsites.specs.Known.{is_known};
 
 use crate::sites::Sites;
 use crate::size::is_too_large;
@@ -26,12 +26,13 @@ impl Sites {
     ) -> Option<CallSiteFault>
         ensures first { result ≡ faults.new_site_fault classes.now self.now ty.now target.now }
         ensures room { result ≡ None → length self.now.call_sites < 65536 }
-        ensures known { result ≡ None → has_points (length self.now.switches) target.now ≡ true }
+        ensures known { result ≡ None → is_known (length self.now.switches) (length self.now.call_sites) target.now ≡ true }
     {
-        if self.call_site_count() >= MOST_OF_A_KIND {
+        let count = self.call_site_count();
+        if count >= MOST_OF_A_KIND {
             return Some(CallSiteFault::Full);
         }
-        self.target_fault(classes, ty, target)
+        self.target_fault(classes, CallSiteId::new(count as u32), ty, target)
     }
 
     /// Why the call site doesn't get this target. Takes no memory.
@@ -43,7 +44,7 @@ impl Sites {
     ) -> Option<CallSiteFault>
         ensures first { result ≡ faults.set_target_fault classes.now self.now site target.now }
         ensures there { result ≡ None → site < length self.now.call_sites }
-        ensures known { result ≡ None → has_points (length self.now.switches) target.now ≡ true }
+        ensures known { result ≡ None → is_known (length self.now.switches) site target.now ≡ true }
     {
         let Some(row) = self.call_site_at(site) else {
             return Some(CallSiteFault::UnknownCallSite);
@@ -51,7 +52,7 @@ impl Sites {
         if row.is_constant() {
             return Some(CallSiteFault::Constant);
         }
-        self.target_fault(classes, row.ty().as_slice(), target)
+        self.target_fault(classes, site, row.ty().as_slice(), target)
     }
 
     /// Why no switch point is made. Takes no memory.
@@ -86,21 +87,33 @@ impl Sites {
         points.iter().any(|point| point.number() as usize >= count)
     }
 
-    /// Why a call site of this type doesn't get this target: its size, and then its parts.
-    fn target_fault(&self, classes: &Classes, ty: &[u8], target: &Target) -> Option<CallSiteFault>
-        ensures first { result ≡ targets.target_fault (world_of classes.now self.now) 0 ty.now target.now }
-        ensures known { result ≡ None → has_points (length self.now.switches) target.now ≡ true }
+    /// Why the call site, of this type, doesn't get this target: its size, and then its parts.
+    fn target_fault(
+        &self,
+        classes: &Classes,
+        site: CallSiteId,
+        ty: &[u8],
+        target: &Target,
+    ) -> Option<CallSiteFault>
+        ensures first { result ≡ targets.target_fault (world_of classes.now self.now) site ty.now target.now }
+        ensures known { result ≡ None → is_known (length self.now.switches) site target.now ≡ true }
     {
         if is_too_large(target) {
             return Some(CallSiteFault::TooDeep);
         }
-        self.part_fault(classes, ty, target)
+        self.part_fault(classes, site, ty, target)
     }
 
     /// Why a part of a call site's target isn't taken: a guard before its parts, and the first part before the fallback.
-    fn part_fault(&self, classes: &Classes, ty: &[u8], target: &Target) -> Option<CallSiteFault>
-        ensures first { result ≡ targets.part_fault (world_of classes.now self.now) 0 ty.now target.now }
-        ensures known { result ≡ None → has_points (length self.now.switches) target.now ≡ true }
+    fn part_fault(
+        &self,
+        classes: &Classes,
+        site: CallSiteId,
+        ty: &[u8],
+        target: &Target,
+    ) -> Option<CallSiteFault>
+        ensures first { result ≡ targets.part_fault (world_of classes.now self.now) site ty.now target.now }
+        ensures known { result ≡ None → is_known (length self.now.switches) site target.now ≡ true }
     {
         match &target.part {
             Part::Method(method) => method_fault(classes, ty, method),
@@ -108,11 +121,41 @@ impl Sites {
                 if !self.has_switch(*point) {
                     return Some(CallSiteFault::UnknownSwitch);
                 }
-                match self.part_fault(classes, ty, first) {
+                match self.part_fault(classes, site, ty, first) {
                     Some(fault) => Some(fault),
-                    None => self.part_fault(classes, ty, fallback),
+                    None => self.part_fault(classes, site, ty, fallback),
                 }
             }
+            Part::Invoker(invoked) => self.invoker_fault(site, ty, *invoked),
+        }
+    }
+
+    /// Why the call site, of this type, doesn't run what the other one runs.
+    fn invoker_fault(
+        &self,
+        site: CallSiteId,
+        ty: &[u8],
+        invoked: CallSiteId,
+    ) -> Option<CallSiteFault>
+        ensures first { result ≡ faults.invoker_fault self.now site ty.now invoked }
+        ensures known { result ≡ None → nat_lt invoked site ≡ true }
+    {
+        if invoked.number() >= site.number() {
+            return Some(CallSiteFault::InvokerOrder(invoked));
+        }
+        if !self.invokes_type(ty, invoked) {
+            return Some(CallSiteFault::WrongType);
+        }
+        None
+    }
+
+    /// Whether there is such a call site, and it is of this type.
+    fn invokes_type(&self, ty: &[u8], site: CallSiteId) -> bool
+        ensures { result ≡ targets.invokes_type self.now ty.now site }
+    {
+        match self.call_site_at(site) {
+            Some(row) => row.ty().as_slice() == ty,
+            None => false,
         }
     }
 }
@@ -137,7 +180,7 @@ fn method_fault(classes: &Classes, ty: &[u8], method: &MethodId) -> Option<CallS
 fn may_be_named(classes: &Classes, method: &MethodId) -> bool
     ensures { result ≡ targets.may_be_named classes.now method.now }
 {
-    classes.has_class(method.class) && has_plain_name(classes, method)
+    classes.is_present(method.class) && has_plain_name(classes, method)
 }
 
 /// Whether the class has such a method, and its name doesn't begin with `<`.

@@ -6,9 +6,12 @@ ghost use Rattle.jl_types.specs.declared.event.Made.TheVariants as made;
 ghost use Rattle.jl_types.specs.declared.target.CallSiteKind.{CallSiteKind};
 ghost use Rattle.jl_types.specs.Target.{Target};
 ghost use Rattle.jl_types.specs.World.{World};
-ghost use Rattle.jl_types.specs.Sites.{by_call_site, call_site_of, bound_to};
+ghost use Rattle.jl_code.specs.declared.site.Kind.{Kind};
+ghost use Rattle.jl_code.specs.declared.site.Operand.TheVariants as operand;
+ghost use Rattle.jl_pool.specs.declared.reference.CallSiteSpecifier.{CallSiteSpecifier};
+ghost use Rattle.jl_types.specs.Targets.{method_of};
+ghost use Rattle.jl_types.specs.Sites.{by_method, by_operand, bound_to};
 ghost use Rattle.jl_callsites.specs.Faults as faults;
-ghost use Rattle.jl_callsites.specs.Runs.{method_of, by_method};
 ghost use Rattle.jl_callsites.specs.Laws.{ComesTo};
 
 /// What the events of call sites and switch points come to at a world: the changes of its classes and sites, whatever else is
@@ -30,6 +33,6 @@ pub fn events_of_call_sites()
 
 /// An invokedynamic runs what the call site runs to which it is bound (JVMS SE 17 §6.5).
 pub fn bound_sites_run()
-    ensures { (w : World) (s : ℕ) → by_call_site w (call_site_of w s)
+    ensures { (w : World) (s d : ℕ) (kind : Kind) (specifier : CallSiteSpecifier (List ℕ)) → by_operand w s d kind (operand.CallSite specifier)
         ≡ by_method (option_and_then (method_of w.sites) (bound_to w s)) }
 {}

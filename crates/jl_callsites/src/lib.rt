@@ -15,6 +15,7 @@ mod faults;
 mod laws;
 mod sites;
 mod size;
+mod targeted;
 
 pub use call_site::CallSite;
 pub use copy::copy_target;

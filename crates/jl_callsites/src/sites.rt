@@ -1,6 +1,6 @@
 //! The call sites and switch points.
 
-ghost use Rattle.std.specs.Prelude.{◌≡◌, true, length, slice_get, is_some, nat_lt};
+ghost use Rattle.std.specs.Prelude.{◌≡◌, ◌≤◌, true, length, slice_get, is_some, nat_lt};
 ghost use Rattle.std.specs.Option.{option_copied};
 ghost use Rattle.jl_types.specs.World.{nothing_yet};
 ghost use Rattle.jl_types.specs.Targets as targets;
@@ -38,10 +38,11 @@ impl Model for Sites {
 
     ghost view = { λ s. record { call_sites = s.call_sites.items; switches = s.switches.items } };
 
-    ghost use Rattle.std.specs.Prelude.{◌≡◌, true};
+    ghost use Rattle.std.specs.Prelude.{◌≡◌, ◌≤◌, true, length};
     ghost use Rattle.jl_callsites.specs.Known.{are_known};
 
-    ghost invariant = { λ s. are_known (record { call_sites = s.call_sites.items; switches = s.switches.items }) ≡ true };
+    ghost invariant = { λ s. (are_known (record { call_sites = s.call_sites.items; switches = s.switches.items }) ≡ true)
+        × (length s.call_sites.items ≤ 65536) };
 }
 
 impl Sites {
@@ -60,6 +61,15 @@ impl Sites {
         ensures { result ≡ length self.now.call_sites }
     {
         self.call_sites.as_slice().len()
+    }
+
+    /// How many call sites there are, which are as few as there may be. Takes no memory.
+    pub(crate) fn few_call_sites(&self) -> usize
+        ensures few { length self.now.call_sites ≤ 65536 }
+        ensures count { result ≡ length self.now.call_sites }
+    {
+        let _ = &self.switches;
+        self.call_site_count()
     }
 
     /// How many switch points there are: the number of the next one.

@@ -33,5 +33,6 @@ fn parts_left(target: &Target, levels: usize, parts: usize) -> Option<usize>
             let parts = parts_left(first, levels, parts)?;
             parts_left(fallback, levels, parts)
         }
+        Part::Invoker(_) => Some(parts),
     }
 }

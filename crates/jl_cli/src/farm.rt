@@ -76,6 +76,7 @@ impl<'a, K: Name, H: Wait, S: Wait + Drop> Foreman<'a, K, H, S> {
             AskedEvent::Invalidate(switches) => self.apply(Event::Invalidate(switches)),
             AskedEvent::Bind(site, call_site) => self.apply(Event::Bind(site, call_site)),
             AskedEvent::Install(_) => bad_command(self.alloc),
+            AskedEvent::Retire(loader) => self.apply(Event::Retire(loader)),
         }
     }
 

@@ -1,5 +1,5 @@
 -- The verdicts on events of call sites, switch points and bindings.
-use Rattle.std.specs.Prelude.{◌≡◌, ℕ, List, Option, Some, None, option_map, Result, Ok, IsOk, slice_get, length}
+use Rattle.std.specs.Prelude.{◌≡◌, ℕ, Bool, true, false, if◌then◌else◌, List, Option, Some, None, option_map, Result, Ok, IsOk, slice_get, length}
 use Rattle.std.proofs.Common.{refl, ap, sym, subst, ◌∙◌}
 use Rattle.jl_code.specs.declared.site.Operand.{Operand}
 use Rattle.jl_code.specs.declared.site.Operand.TheVariants as operand
@@ -12,9 +12,10 @@ use Rattle.jl_types.specs.declared.event.Made.TheVariants as made
 use Rattle.jl_types.specs.declared.target.CallSiteKind.{CallSiteKind}
 use Rattle.jl_types.specs.declared.refusal.CallSiteFault.{CallSiteFault}
 use Rattle.jl_types.specs.declared.refusal.Refusal.{Refusal}
-use Rattle.jl_types.specs.declared.refusal.Refusal.TheVariants.{AlreadyBound, CallSite}
+use Rattle.jl_types.specs.declared.refusal.Refusal.TheVariants.{AlreadyBound, CallSite, UnknownSite}
 use Rattle.jl_types.specs.Target.{Target}
 use Rattle.jl_types.specs.World.{World}
+use Rattle.jl_types.specs.Members.{is_present}
 use Rattle.jl_types.specs.Sites.{bound_to, invocation_at}
 use Rattle.jl_types.specs.Events.{unless, verdict, operand_fault, bind_at, bind_fault}
 use Rattle.jl_types.proofs.Firsts.{first_none}
@@ -49,7 +50,11 @@ free_to_bind w s c = by_place (slice_get w.places s)
 
     by_place : (o : Option Place) → bind_fault w s c o ≡ None → bound_to w s ≡ None
     by_place None e = cc
-    by_place (Some place) e = by_invocation (invocation_at w.classes place) e
+    by_place (Some place) e = by_class (is_present w.classes place.class) e
+      where
+        by_class : (b : Bool) → (if b then bind_at w s c (invocation_at w.classes place) else Some (UnknownSite s)) ≡ None → bound_to w s ≡ None
+        by_class true e = by_invocation (invocation_at w.classes place) e
+        by_class false e = cc
 
 -- what is accepted has no fault
 pub no_fault : (o : Option Refusal) (m : Made) → IsOk (unless o m) → o ≡ None

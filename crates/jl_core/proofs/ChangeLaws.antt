@@ -16,9 +16,10 @@ use Rattle.jl_types.specs.declared.refusal.Refusal.TheVariants as refusal
 use Rattle.jl_types.specs.Target.{Target}
 use Rattle.jl_types.specs.World.{World}
 use Rattle.jl_types.specs.Definitions.{define_fault, delegate_fault}
+use Rattle.jl_types.specs.Retirement.{retire_fault}
 use Rattle.jl_types.specs.Events.{unless, most_of_a_kind, new_call_site_fault, set_target_fault, invalidate_fault, bind_fault, install_fault}
 use Rattle.jl_types.proofs.Firsts.{test_none}
-use Rattle.jl_callsites.specs.Known.{has_points}
+use Rattle.jl_callsites.specs.Known.{is_known}
 use Rattle.jl_callsites.proofs.Accepted as free
 use Rattle.jl_core.specs.Changes.{IsAcceptable}
 use Rattle.jl_core.proofs.CallSiteLaws.{no_fault, given_so, none_of}
@@ -52,7 +53,7 @@ module _ (w : World) where
     pub site_room : length w.sites.call_sites < 65536
     site_room = free.site_room w ty t site_free
 
-    pub site_points : has_points (length w.sites.switches) t ≡ true
+    pub site_points : is_known (length w.sites.switches) (length w.sites.call_sites) t ≡ true
     site_points = free.site_points w ty t site_free
 
   module _ (c : ℕ) (t : Target) (ok : IsAcceptable w (event.SetTarget c t)) where
@@ -64,7 +65,7 @@ module _ (w : World) where
     pub target_there : c < length w.sites.call_sites
     target_there = free.target_there w c t (slice_get w.sites.call_sites c) refl target_free
 
-    pub target_points : has_points (length w.sites.switches) t ≡ true
+    pub target_points : is_known (length w.sites.switches) c t ≡ true
     target_points = free.target_points w c t (slice_get w.sites.call_sites c) target_free
 
   pub switch_room : IsAcceptable w event.NewSwitch → length w.sites.switches < 65536
@@ -83,3 +84,7 @@ module _ (w : World) where
 
   pub rows_free : (rows : List (ℕ × Link)) → IsAcceptable w (event.Install rows) → install_fault w rows ≡ None
   rows_free rows ok = no_fault (install_fault w rows) made.Nothing ok.1
+
+  pub retirement_free : (loader : ℕ) → IsAcceptable w (event.Retire loader) → retire_fault w loader ≡ None
+  retirement_free loader ok =
+      none_of refusal.Retire (retire_fault w loader) (no_fault (option_map refusal.Retire (retire_fault w loader)) made.Nothing ok.1)

@@ -14,7 +14,7 @@ use Rattle.jl_types.specs.Footprints.{footprint, most_by, most_for}
 use Rattle.jl_core.specs.Judging.{most_of_rows}
 use Rattle.jl_core.proofs.StepLaws.{few_of_range}
 
-few_by : (cs : Classes) → length cs.rows ≤ 65536 → (keys : List Key) → most_by cs keys ≤ 65536
+pub few_by : (cs : Classes) → length cs.rows ≤ 65536 → (keys : List Key) → most_by cs keys ≤ 65536
 few_by cs few [] = omega arith
 few_by cs few (key.Receivers c ∷ keys) =
     let le = few_of_range (λ x. is_concrete cs x && is_ancestor cs c x) (length cs.rows) in omega arith

@@ -29,6 +29,7 @@ rows_stay w event.NewSwitch c row is = is
 rows_stay w (event.Invalidate points) c row is = is
 rows_stay w (event.Bind site call_site) c row is = is
 rows_stay w (event.Install links) c row is = is
+rows_stay w (event.Retire loader) c row is = is
 
 -- ---- where the classes stay
 
@@ -52,6 +53,7 @@ module _ (rows more : List Class) (stay : (c : ℕ) (row : Class) → slice_get 
   event_still (event.Invalidate points) e = refl
   event_still (event.Bind site call_site) e = refl
   event_still (event.Install links) e = refl
+  event_still (event.Retire loader) e = refl
 
   some_event : (o : Option Event) (reply : Reply) → is_some {T = Event × Reply} (option_map (λ (e : Event). (e, reply)) o) ≡ true → is_some o ≡ true
   some_event None reply e = cc

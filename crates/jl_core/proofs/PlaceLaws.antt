@@ -1,7 +1,5 @@
 -- The request of a place.
-use Rattle.std.specs.Prelude.{◌≡◌, ℕ, ◌==◌, Bool, true, if◌then◌else◌, position, []}
-use Rattle.std.specs.Prelude.{length, slice_get, find, Option, Some, None, is_some, option_and_then, Err, IsOk}
-use Rattle.std.specs.Option.{option_map_or}
+use Rattle.std.specs.Prelude.{◌≡◌, ℕ, Bool, true, if◌then◌else◌, position, length, Option, Some, None, is_some, Err, IsOk}
 use Rattle.std.proofs.Common.{refl, ap, sym, subst, ◌∙◌}
 use Rattle.jl_code.specs.Site.{Site}
 use Rattle.jl_types.specs.declared.ids.Place.{Place}
@@ -11,30 +9,17 @@ use Rattle.jl_types.specs.declared.refusal.Refusal.TheVariants.{UnknownClass}
 use Rattle.jl_types.specs.declared.event.EventOf.TheVariants as event
 use Rattle.jl_types.specs.Members.{is_present}
 use Rattle.jl_types.specs.Events.{same_place, new_place_fault, request_place, if_invoked, unless, verdict}
-use Rattle.jl_types.specs.World.{Class, Classes, World}
+use Rattle.jl_types.specs.World.{World}
 use Rattle.jl_types.specs.Sites.{invocation_at}
-
--- the invocation at a place of a class
-abbrev in_row : Option Class → Place → Option Site
-in_row row place =
-    option_and_then (λ method. find (λ site. site.pc == place.pc) method.sites) (slice_get (option_map_or (λ row. row.file.methods) row []) place.method)
-
--- where there is an invocation, there is the class
-pub invoked_present : (cs : Classes) (place : Place) (site : Site) → invocation_at cs place ≡ Some site → is_present cs place.class ≡ true
-invoked_present cs place site e = by_row (slice_get cs.rows place.class) e
-  where
-    by_row : (row : Option Class) → in_row row place ≡ Some site → is_some row ≡ true
-    by_row None h = cc
-    by_row (Some row) h = refl
 
 -- ---- one place more
 
-pub accepted_so : (max_sites : ℕ) (w : World) (place : Place) (site : Site) (o : Option ℕ) → invocation_at w.classes place ≡ Some site
-    → position (same_place place) w.places ≡ o → (o ≡ None → new_place_fault max_sites w site ≡ None) → IsOk (verdict max_sites w (event.Request place))
-accepted_so max_sites w place site o e p free =
+pub accepted_so : (max_sites : ℕ) (w : World) (place : Place) (site : Site) (o : Option ℕ) → is_present w.classes place.class ≡ true
+    → invocation_at w.classes place ≡ Some site → position (same_place place) w.places ≡ o → (o ≡ None → new_place_fault max_sites w site ≡ None)
+    → IsOk (verdict max_sites w (event.Request place))
+accepted_so max_sites w place site o present e p free =
     subst IsOk
-    (sym (ap (λ (b : Bool). if b then if_invoked max_sites w place (invocation_at w.classes place) else Err UnknownClass)
-    (invoked_present w.classes place site e)
+    (sym (ap (λ (b : Bool). if b then if_invoked max_sites w place (invocation_at w.classes place) else Err UnknownClass) present
     ∙ ap (if_invoked max_sites w place) e
     ∙ ap (λ (o : Option ℕ). request_place max_sites w o site) p))
     (by_number o free)
@@ -47,10 +32,11 @@ pub some_not_none : (o : Option ℕ) → is_some o ≡ true → o ≡ None → �
 some_not_none None h e = cc
 some_not_none (Some n) h e = cc
 
-pub refused_new : (max_sites : ℕ) (w : World) (place : Place) (site : Site) (r : Refusal) → invocation_at w.classes place ≡ Some site
-    → position (same_place place) w.places ≡ None → new_place_fault max_sites w site ≡ Some r → verdict max_sites w (event.Request place) ≡ Err r
-refused_new max_sites w place site r e p f =
-    ap (λ (b : Bool). if b then if_invoked max_sites w place (invocation_at w.classes place) else Err UnknownClass) (invoked_present w.classes place site e)
+pub refused_new : (max_sites : ℕ) (w : World) (place : Place) (site : Site) (r : Refusal) → is_present w.classes place.class ≡ true
+    → invocation_at w.classes place ≡ Some site → position (same_place place) w.places ≡ None → new_place_fault max_sites w site ≡ Some r
+    → verdict max_sites w (event.Request place) ≡ Err r
+refused_new max_sites w place site r present e p f =
+    ap (λ (b : Bool). if b then if_invoked max_sites w place (invocation_at w.classes place) else Err UnknownClass) present
     ∙ ap (if_invoked max_sites w place) e
     ∙ ap (λ (o : Option ℕ). request_place max_sites w o site) p
     ∙ ap (λ (o : Option Refusal). unless o (made.Site (length w.places))) f

@@ -14,16 +14,17 @@ use Rattle.jl_types.specs.Events.{verdict, step}
 use Rattle.jl_types.specs.History.{installs, kept}
 use Rattle.jl_hierarchy.specs.Constancy as constancy
 use Rattle.jl_types.specs.declared.key.Key.{Key}
-use Rattle.jl_types.specs.Footprints.{footprint, keys}
+use Rattle.jl_types.specs.Footprints.{footprint, keys, retires}
 use Rattle.jl_cache.specs.Links.{link_at}
-use Rattle.jl_deps.specs.Indexes.{footprint_at, touched_by, IsIndex}
+use Rattle.jl_deps.specs.Indexes.{footprint_at, touched_by, AreRising, IsIndex}
 use Rattle.jl_settle.specs.Settling.{HasChanged, defined_by}
 use Rattle.jl_settle.proofs.SettleLaws.{other}
 use Rattle.jl_core.specs.Logs.{Accepted, event_of}
-use Rattle.jl_core.specs.Changes.{IsAcceptable, installs_at}
+use Rattle.jl_core.specs.Changes.{IsAcceptable, installs_at, retires_at}
 use Rattle.jl_core.specs.Replays.{IsNext, IsFurther, IsUntouched}
 use Rattle.jl_core.specs.Touched.{has}
 use Rattle.jl_core.proofs.CallSiteLaws.{no_fault, none_of}
+use Rattle.jl_core.proofs.RetireLaws.{retires_so, links_left, index_left, kept_left}
 use Rattle.jl_core.proofs.StepLaws.{none_touched}
 use Rattle.jl_core.proofs.PlanLaws.{installs_has}
 
@@ -74,6 +75,7 @@ module _ (rows : List Class) (e : Event) (s : ℕ) where
   installs_so (event.Invalidate points) is = as_event (event.Invalidate points) false is refl
   installs_so (event.Bind site c) is = as_event (event.Bind site c) false is refl
   installs_so (event.Install links) is = as_event (event.Install links) (installs_at s (event.Install links)) is refl
+  installs_so (event.Retire loader) is = as_event (event.Retire loader) false is refl
 
 -- an install changes no other sites
 pub install_untouched : (w : World) (rows : List Class) (index : List (ℕ × List Key)) (e : Event) (told : Accepted) (links : List (ℕ × Link))
@@ -84,11 +86,34 @@ install_untouched w rows index e told links is tells s none =
       ap (installs s) (sym same) ∙ installs_has s links ∙ none,
     )
 
+-- ---- what is left once retired sites were dropped
+
+pub further_left : (old ahead : World) (told : Accepted) (links left linked : List (ℕ × Link)) (index near far : List (ℕ × List Key))
+    → IsFurther old ahead told links linked index far → AreRising near
+    → ((s : ℕ) → link_at left s ≡ (if retires_at old told s then None else link_at links s))
+    → ((s : ℕ) → footprint_at near s ≡ (if retires_at old told s then None else footprint_at index s))
+    → IsFurther old ahead told left linked near far
+further_left old ahead told links left linked index near far further rising dropped taken = record {
+  next = further.next;
+  were_scratch = λ s l is. further.were_scratch s l (links_left old told links left index near dropped taken s l is).1;
+  order = further.order;
+  rising = rising;
+  indexed = index_left old told links left index near dropped taken further.indexed;
+  kept_so = λ s.
+      further.kept_so s
+      ∙ ap (λ (w : World). kept (installs s further.next.event) (link_at links s) (scratch w s)) further.next.step
+      ∙ kept_left old told links left index near dropped taken further.next.event
+      (λ t. retires_so old ahead.classes.rows further.next.event t told further.next.tells) s
+      ∙ ap (λ (w : World). kept (installs s further.next.event) (link_at left s) (scratch w s)) (sym further.next.step);
+  ahead_indexed = further.ahead_indexed;
+}
+
 -- ---- what is taken over
 
 module _ (old ahead : World) (told : Accepted) (links linked : List (ℕ × Link)) (index far : List (ℕ × List Key))
     (further : IsFurther old ahead told links linked index far) (sites : List ℕ)
-    (others : (s : ℕ) → has s sites ≡ false → IsUntouched old index further.next.event s) where
+    (others : (s : ℕ) → has s sites ≡ false → IsUntouched old index further.next.event s)
+    (left_there : (s : ℕ) (l : Link) → link_at links s ≡ Some l → retires old further.next.event s ≡ false) where
   abbrev e : Event
   e = further.next.event
 
@@ -98,6 +123,8 @@ module _ (old ahead : World) (told : Accepted) (links linked : List (ℕ × Link
     event = e;
     step = further.next.step;
     order = further.order;
+    accepted = further.next.accepted;
+    left = left_there;
     keys_are = refl;
     defined_is = refl;
     scratch = further.were_scratch;
@@ -128,3 +155,27 @@ module _ (old ahead : World) (told : Accepted) (links linked : List (ℕ × Link
           ≡ option_map (λ l. footprint ahead s) (if b then link_at linked s else link_at links s)
       by_site true is = further.ahead_indexed s
       by_site false is = sym (stays s is).1
+
+-- the same where the links of retired sites were dropped first
+module _ (old ahead : World) (told : Accepted) (links left linked : List (ℕ × Link)) (index near far : List (ℕ × List Key))
+    (further : IsFurther old ahead told links linked index far) (rising : AreRising near)
+    (dropped : (s : ℕ) → link_at left s ≡ (if retires_at old told s then None else link_at links s))
+    (taken : (s : ℕ) → footprint_at near s ≡ (if retires_at old told s then None else footprint_at index s))
+    (sites : List ℕ) (others : (s : ℕ) → has s sites ≡ false → IsUntouched old near further.next.event s) where
+  left_there : (s : ℕ) (l : Link) → link_at left s ≡ Some l → retires old further.next.event s ≡ false
+  left_there s l is =
+      retires_so old ahead.classes.rows further.next.event s told further.next.tells ∙ (links_left old told links left index near dropped taken s l is).0
+
+  module _ (after : List (ℕ × Link)) (took : (s : ℕ) → link_at after s ≡ (if has s sites then link_at linked s else link_at left s)) where
+    pub links_followed : (s : ℕ) → link_at after s ≡ link_at linked s
+    unfolding further_left
+    links_followed =
+        links_taken old ahead told left linked near far (further_left old ahead told links left linked index near far further rising dropped taken)
+        sites others left_there after took
+
+    pub index_followed : (farther : List (ℕ × List Key)) → ((s : ℕ) → footprint_at farther s ≡ (if has s sites then footprint_at far s else footprint_at near s))
+        → IsIndex ahead (link_at after) farther
+    unfolding further_left
+    index_followed farther put =
+        index_taken old ahead told left linked near far (further_left old ahead told links left linked index near far further rising dropped taken)
+        sites others left_there after took farther put

@@ -1,13 +1,13 @@
 -- What is left once the accepted event was performed.
-use Rattle.std.specs.Prelude.{◌≡◌, ℕ, suc, ◌+◌, ◌<◌, ◌≤◌, ◌^◌, ◌==◌, ◌&&◌, Bool, true, false, cond, List, [], ◌∷◌, length, map}
-use Rattle.std.specs.Prelude.{filter, Option, Some, None, is_some, is_none}
+use Rattle.std.specs.Prelude.{◌≡◌, ℕ, suc, ◌+◌, ◌<◌, ◌≤◌, ◌^◌, ◌==◌, ◌&&◌, not, Bool, true, false, cond, List, [], ◌∷◌, length, map}
+use Rattle.std.specs.Prelude.{filter, sum_by, slice_get, Option, Some, None, option_map, is_some, is_none}
 use Rattle.std.specs.List.{list_any, range_with_len}
 use Rattle.std.proofs.Common.{refl, ap, sym, subst, ◌∙◌, arith}
 use Rattle.std.proofs.lemmas.Option.{same_Some}
 use Rattle.std.proofs.lemmas.List.FromFn.{length-range_with_len}
 use Rattle.jl_types.specs.Event.{Event}
 use Rattle.jl_types.specs.declared.link.Link.{Link}
-use Rattle.jl_types.specs.World.{World}
+use Rattle.jl_types.specs.World.{Class, World}
 use Rattle.jl_types.specs.Links.{scratch}
 use Rattle.jl_types.specs.History.{kept}
 use Rattle.jl_types.specs.Events as events
@@ -16,23 +16,26 @@ use Rattle.jl_types.specs.declared.event.EventOf.TheVariants as event
 use Rattle.jl_types.proofs.InstalledLinks.{requested}
 use Rattle.jl_hierarchy.proofs.Rising.{one_rising, filter_rises}
 use Rattle.jl_types.specs.declared.key.Key.{Key}
-use Rattle.jl_types.specs.Footprints.{keys, meets, touches}
+use Rattle.jl_types.specs.Retirement.{retires_site}
+use Rattle.jl_types.specs.Footprints.{keys, meets, most_for, touches}
 use Rattle.jl_cache.specs.Links.{link_at, link_with}
 use Rattle.jl_deps.specs.Indexes.{IsIndex, touched_by}
 use Rattle.jl_types.proofs.BySite.{rises_of}
 use Rattle.jl_deps.proofs.IndexLaws.{touched_of}
 use Rattle.jl_deps.proofs.TouchLaws.{sites_rise}
 use Rattle.jl_deps.proofs.PointLaws.{in_range}
-use Rattle.jl_settle.specs.Settling.{HasChanged, kept_at, goes}
+use Rattle.jl_settle.specs.Settling.{HasChanged, kept_at, goes, most_asked}
+use Rattle.jl_settle.proofs.SettleLaws.{is_retirement, most_are}
 use Rattle.jl_core.specs.Logs.{Accepted, event_of}
-use Rattle.jl_core.specs.Changes.{IsAcceptable, class_of, installs_at, lost}
-use Rattle.jl_core.specs.Steps.{IsSound, IsLed}
+use Rattle.jl_core.specs.Changes.{IsAcceptable, class_of, installs_at, retires_at, lost}
+use Rattle.jl_core.specs.Steps.{IsSound, IsLed, most_to_settle, most_told}
 use Rattle.jl_core.specs.Touched.{has, AreTouched}
 use Rattle.jl_core.proofs.KeptLaws.{kept_once}
 use Rattle.jl_core.proofs.InstallLaws.{install_keeps}
 use Rattle.jl_core.proofs.ChangeLaws.{rows_free}
+use Rattle.jl_core.proofs.RetireLaws.{retires_so}
 
-no_more : {A : Type 0} (p : A → Bool) (xs : List A) → length (filter p xs) ≤ length xs
+pub no_more : {A : Type 0} (p : A → Bool) (xs : List A) → length (filter p xs) ≤ length xs
 no_more p [] = omega arith
 no_more {A = A} p (x ∷ xs) = by_test (p x) (no_more p xs)
   where
@@ -107,6 +110,7 @@ no_class event.NewSwitch other = refl
 no_class (event.Invalidate points) other = refl
 no_class (event.Bind s c) other = refl
 no_class (event.Install rows) other = refl
+no_class (event.Retire loader) other = refl
 
 pub no_install : (s : ℕ) (told : Accepted) → ((rows : List (ℕ × Link)) → told ≡ event.Install rows → ⊥) → installs_at s told ≡ false
 no_install s event.NewLoader other = refl
@@ -119,6 +123,26 @@ no_install s event.NewSwitch other = refl
 no_install s (event.Invalidate points) other = refl
 no_install s (event.Bind site c) other = refl
 no_install s (event.Install rows) other = absurd (other rows refl)
+no_install s (event.Retire loader) other = refl
+
+pub no_retired : (w : World) (s : ℕ) (told : Accepted) → ((loader : ℕ) → told ≡ event.Retire loader → ⊥) → retires_at w told s ≡ false
+no_retired w s event.NewLoader other = refl
+no_retired w s (event.Define loader c) other = refl
+no_retired w s (event.Delegate loader name to) other = refl
+no_retired w s (event.Request place) other = refl
+no_retired w s (event.NewCallSite kind ty target) other = refl
+no_retired w s (event.SetTarget c target) other = refl
+no_retired w s event.NewSwitch other = refl
+no_retired w s (event.Invalidate points) other = refl
+no_retired w s (event.Bind site c) other = refl
+no_retired w s (event.Install rows) other = refl
+no_retired w s (event.Retire loader) other = absurd (other loader refl)
+
+apart : (loader c k : ℕ) → ◌≡◌ {A = Accepted} (event.Define loader c) (event.Retire k) → ⊥
+apart loader c k e = cc
+
+pub define_retires_none : (loader c : ℕ) (told : Accepted) → told ≡ event.Define loader c → (k : ℕ) → told ≡ event.Retire k → ⊥
+define_retires_none loader c told is k same = apart loader c k (sym is ∙ same)
 
 pub define_installs_none : (loader c : ℕ) (told : Accepted) → told ≡ event.Define loader c → (rows : List (ℕ × Link)) → told ≡ event.Install rows → ⊥
 define_installs_none loader c told is rows same = apart (sym is ∙ same)
@@ -126,20 +150,101 @@ define_installs_none loader c told is rows same = apart (sym is ∙ same)
     apart : event.Define loader c ≡ event.Install rows → ⊥
     apart e = cc
 
+-- the event is no retirement where the log keeps none
+module _ (rows : List Class) (e : Event) where
+  as_no : (x : Event) → Some x ≡ Some e → is_retirement x ≡ false → is_retirement e ≡ false
+  as_no x is none = ap is_retirement (sym (same_Some x e is)) ∙ none
+
+  no_row : (loader : ℕ) (o : Option Class) → option_map (λ (row : Class). event.Define loader row.file) o ≡ Some e → is_retirement e ≡ false
+  no_row loader None is = absurd (cc is)
+  no_row loader (Some row) is = as_no (event.Define loader row.file) is refl
+
+  not_retirement : (told : Accepted) → event_of rows told ≡ Some e → ((loader : ℕ) → told ≡ event.Retire loader → ⊥) → is_retirement e ≡ false
+  not_retirement event.NewLoader is other = as_no event.NewLoader is refl
+  not_retirement (event.Define loader c) is other = no_row loader (slice_get rows c) is
+  not_retirement (event.Delegate loader name to) is other = as_no (event.Delegate loader name to) is refl
+  not_retirement (event.Request place) is other = as_no (event.Request place) is refl
+  not_retirement (event.NewCallSite kind ty target) is other = as_no (event.NewCallSite kind ty target) is refl
+  not_retirement (event.SetTarget c target) is other = as_no (event.SetTarget c target) is refl
+  not_retirement event.NewSwitch is other = as_no event.NewSwitch is refl
+  not_retirement (event.Invalidate points) is other = as_no (event.Invalidate points) is refl
+  not_retirement (event.Bind site c) is other = as_no (event.Bind site c) is refl
+  not_retirement (event.Install links) is other = as_no (event.Install links) is refl
+  not_retirement (event.Retire loader) is other = absurd (other loader refl)
+
+-- how many evaluations it takes is told by the event
+module _ (old new : World) (index : List (ℕ × List Key)) (e : Event) (ks : List Key) (step_is : new ≡ events.step old e) (keys_are : ks ≡ keys old e) where
+  as_many : (x : Event) → Some x ≡ Some e → length (touched_by index (keys old x)) ≡ most_to_settle old index x
+      → length (touched_by index ks) ≡ most_to_settle old index e
+  as_many x is one =
+      ap (λ (k : List Key). length (touched_by index k)) keys_are
+      ∙ ap (λ (y : Event). length (touched_by index (keys old y))) (sym (same_Some x e is))
+      ∙ one
+      ∙ ap (most_to_settle old index) (same_Some x e is)
+
+  row_many : (loader : ℕ) (o : Option Class) → option_map (λ (row : Class). event.Define loader row.file) o ≡ Some e
+      → length (touched_by index ks) ≡ most_to_settle old index e
+  row_many loader None is = absurd (cc is)
+  row_many loader (Some row) is = as_many (event.Define loader row.file) is refl
+
+  pub most_by_told : (told : Accepted) → event_of new.classes.rows told ≡ Some e → most_told new told index ks ≡ most_to_settle old index e
+  most_by_told event.NewLoader is = as_many event.NewLoader is refl
+  most_by_told (event.Define loader c) is = row_many loader (slice_get new.classes.rows c) is
+  most_by_told (event.Delegate loader name to) is = as_many (event.Delegate loader name to) is refl
+  most_by_told (event.Request place) is = as_many (event.Request place) is refl
+  most_by_told (event.NewCallSite kind ty target) is = as_many (event.NewCallSite kind ty target) is refl
+  most_by_told (event.SetTarget c target) is = as_many (event.SetTarget c target) is refl
+  most_by_told event.NewSwitch is = as_many event.NewSwitch is refl
+  most_by_told (event.Invalidate points) is = as_many (event.Invalidate points) is refl
+  most_by_told (event.Bind site c) is = as_many (event.Bind site c) is refl
+  most_by_told (event.Install links) is = as_many (event.Install links) is refl
+  most_by_told (event.Retire loader) is =
+      let same : event.Retire loader ≡ e = same_Some (event.Retire loader) e is in
+      let new_is : new ≡ events.step old (event.Retire loader) = step_is ∙ ap (events.step old) (sym same) in
+      let ks_are : ks ≡ keys old (event.Retire loader) = keys_are ∙ ap (keys old) (sym same) in
+      (λ i. sum_by (most_for (new_is i)) (filter (λ s. not (retires_site (new_is i) loader s)) (touched_by index (ks_are i))))
+      ∙ ap (most_to_settle old index) same
+
 -- ---- the event that was settled
 
 module _ (w : World) (ks : List Key) (told : Accepted) (links : List (ℕ × Link)) (index : List (ℕ × List Key)) (led : IsLed w ks told links index) where
-  pub has_changed : (defined : Option ℕ) → class_of told ≡ defined → HasChanged w ks defined (link_at links) index
-  has_changed defined is = record {
+  -- where no loader goes
+  pub has_changed : ((loader : ℕ) → told ≡ event.Retire loader → ⊥) → (defined : Option ℕ) → class_of told ≡ defined → HasChanged w ks defined (link_at links) index
+  has_changed other defined is = record {
     before = led.before;
     event = led.event;
     step = led.step;
     order = led.sound.order;
+    accepted = led.accepted;
+    left = λ s l linked. retires_so led.before w.classes.rows led.event s told led.tells ∙ no_retired led.before s told other;
     keys_are = led.keys_are;
     defined_is = sym is ∙ led.class_is;
     scratch = led.sound.scratch;
     index_is = led.sound.indexed;
   }
+
+  pub most_so : (other : (loader : ℕ) → told ≡ event.Retire loader → ⊥) (defined : Option ℕ) → class_of told ≡ defined
+      → sum_by (most_asked w defined) (touched_by index ks) ≡ length (touched_by index ks)
+  unfolding has_changed
+  most_so other defined is =
+      most_are w ks (link_at links) index led.sound.rising defined (has_changed other defined is) (not_retirement w.classes.rows led.event told led.tells other)
+
+  -- as many as are touched
+  pub most_of_told : (other : (loader : ℕ) → told ≡ event.Retire loader → ⊥) → most_told w told index ks ≡ length (touched_by index ks)
+  most_of_told other = by_told told other
+    where
+      by_told : (told : Accepted) → ((loader : ℕ) → told ≡ event.Retire loader → ⊥) → most_told w told index ks ≡ length (touched_by index ks)
+      by_told event.NewLoader other = refl
+      by_told (event.Define loader c) other = refl
+      by_told (event.Delegate loader name to) other = refl
+      by_told (event.Request place) other = refl
+      by_told (event.NewCallSite kind ty target) other = refl
+      by_told (event.SetTarget c target) other = refl
+      by_told event.NewSwitch other = refl
+      by_told (event.Invalidate points) other = refl
+      by_told (event.Bind site c) other = refl
+      by_told (event.Install rows) other = refl
+      by_told (event.Retire loader) other = absurd (other loader refl)
 
   pub fits : (work : ℕ) → work ≤ 16777216 → work + length (touched_by index ks) < 2 ^ 64
   fits work small =
@@ -148,6 +253,20 @@ module _ (w : World) (ks : List Key) (told : Accepted) (links : List (ℕ × Lin
       ap (λ (k : List Key). length (touched_by index k)) led.keys_are in
       let places = led.few in
       omega arith
+
+  pub fits_so : (other : (loader : ℕ) → told ≡ event.Retire loader → ⊥) (defined : Option ℕ) → class_of told ≡ defined → (work : ℕ) → work ≤ 16777216
+      → work + sum_by (most_asked w defined) (touched_by index ks) < 2 ^ 64
+  fits_so other defined is work small =
+      let most = most_so other defined is in
+      let few = fits work small in
+      omega (arith, most, few)
+
+  pub ticks_so : (other : (loader : ℕ) → told ≡ event.Retire loader → ⊥) (defined : Option ℕ) → class_of told ≡ defined → (work next : ℕ)
+      → next ≤ work + sum_by (most_asked w defined) (touched_by index ks) → next ≤ work + most_told w told index ks
+  ticks_so other defined is work next le =
+      let most = most_so other defined is in
+      let same = most_of_told other in
+      omega (arith, most, same, le)
 
   module _ (left : List (ℕ × Link)) (settled : (s : ℕ) → link_at left s ≡ kept_at w (link_at links) s) where
     pub links_kept : ((rows : List (ℕ × Link)) → told ≡ event.Install rows → ⊥)

@@ -1,5 +1,5 @@
 -- How many evaluations an event may take, by the index and by the events.
-use Rattle.std.specs.Prelude.{◌≡◌, ◌≤◌, ◌+◌, ℕ, List, [], ◌∷◌, ◌++◌, length, Option, option_map}
+use Rattle.std.specs.Prelude.{◌≡◌, ◌≤◌, ◌+◌, ℕ, not, List, [], ◌∷◌, ◌++◌, filter, sum_by, length, Option, option_map}
 use Rattle.std.proofs.Common.{refl, ap, sym, ◌∙◌, arith, append-nil, append_assoc}
 use Rattle.std.proofs.lemmas.List.{map-append}
 use Rattle.jl_types.specs.declared.link.Link.{Link}
@@ -7,9 +7,11 @@ use Rattle.jl_types.specs.Event.{Event}
 use Rattle.jl_types.specs.declared.event.EventOf.TheVariants as event
 use Rattle.jl_types.specs.declared.event.Reply.{Reply}
 use Rattle.jl_types.specs.World.{World}
+use Rattle.jl_types.specs.Retirement.{retires_site}
+use Rattle.jl_types.specs.Events.{step}
 use Rattle.jl_types.specs.History.{world_after, installed}
 use Rattle.jl_types.specs.declared.key.Key.{Key}
-use Rattle.jl_types.specs.Footprints.{bound, footprint, keys, touched}
+use Rattle.jl_types.specs.Footprints.{bound, footprint, keys, most_for, touched}
 use Rattle.jl_deps.specs.Indexes.{AreRising, IsIndex, touched_by}
 use Rattle.jl_deps.proofs.BoundLaws.{touched_are_bounded}
 use Rattle.jl_core.specs.State.{State, events, IsAccepted}
@@ -42,8 +44,17 @@ module _ (h : List Event) (w : World) (links : ℕ → Option Link) (index : Lis
   abbrev IsBounded : Event → Type 0
   IsBounded e = most_to_judge w e + most_to_settle w index e ≤ bound h e
 
-  by_touched : (e : Event) → length (touched_by index (keys w e)) ≡ length (touched h e) → 0 + most_to_settle w index e ≤ length (touched h e)
+  by_touched : (e : Event) → length (touched_by index (keys w e)) ≡ length (touched h e) → 0 + length (touched_by index (keys w e)) ≤ length (touched h e)
   by_touched e same = omega arith
+
+  retirement_so : (loader : ℕ) → most_to_settle w index (event.Retire loader) ≡ bound h (event.Retire loader)
+  retirement_so loader =
+      ap (λ (v : World). most_to_settle v index (event.Retire loader)) is_world
+      ∙ ap (λ (ts : List ℕ). sum_by (most_for (step (world_after h) (event.Retire loader))) (filter (λ s. not (retires_site (world_after h) loader s)) ts))
+      (touched_are_bounded h (event.Retire loader) index rising as_index)
+
+  as_much : (a b : ℕ) → a ≡ b → 0 + a ≤ b
+  as_much a b same = omega arith
 
   -- what it takes to judge the event and to settle it is bounded
   pub are_bounded : (e : Event) → IsBounded e
@@ -60,6 +71,7 @@ module _ (h : List Event) (w : World) (links : ℕ → Option Link) (index : Lis
       let none : length (touched_by index []) ≡ 0 = ap (λ (ts : List ℕ). length ts) (none_touched index) in
       let same = ap (λ (v : World). most_to_judge v (event.Install rows)) is_world in
       omega arith
+  are_bounded (event.Retire loader) = as_much (most_to_settle w index (event.Retire loader)) (bound h (event.Retire loader)) (retirement_so loader)
 
 -- of the events that led to a core
 pub most_of_accepted : (old new : State) (e : Event) (reply : Reply) → IsAccepted old new e reply → most_of_last (events new) ≡ bound (events old) e

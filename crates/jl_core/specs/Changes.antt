@@ -8,6 +8,7 @@ use Rattle.jl_types.specs.declared.event.Made.{Made}
 use Rattle.jl_types.specs.declared.event.Reply.{Reply}
 use Rattle.jl_types.specs.World.{World}
 use Rattle.jl_types.specs.Links.{scratch}
+use Rattle.jl_types.specs.Retirement.{retires_site}
 use Rattle.jl_types.specs.Events.{verdict, step}
 use Rattle.jl_types.specs.History.{installs, kept}
 use Rattle.jl_select.specs.Constancy.{IsConstant}
@@ -53,6 +54,11 @@ installs_at s _ = false
 -- of the first n sites, those that had a link before and have none after, rising
 abbrev pub lost : ℕ → List (ℕ × Link) → List (ℕ × Link) → List ℕ
 lost n before after = filter (λ s. is_some (link_at before s) && is_none (link_at after s)) (range_with_len 0 n)
+
+-- the accepted event retires site s
+abbrev pub retires_at : World → Accepted → ℕ → Bool
+retires_at w (event.Retire loader) s = retires_site w loader s
+retires_at w _ s = false
 
 -- ---- all of it
 

@@ -25,6 +25,7 @@ event_of rows event.NewSwitch = Some event.NewSwitch
 event_of rows (event.Invalidate points) = Some (event.Invalidate points)
 event_of rows (event.Bind s c) = Some (event.Bind s c)
 event_of rows (event.Install links) = Some (event.Install links)
+event_of rows (event.Retire loader) = Some (event.Retire loader)
 
 abbrev pub told : List Class → Entry → Option (Event × Reply)
 told rows entry = option_map (λ e. (e, entry.reply)) (event_of rows entry.event)

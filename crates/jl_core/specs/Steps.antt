@@ -1,12 +1,15 @@
 -- What one accepted event does to the world, the links, their index and the log, and how many evaluations it takes. A means of proof.
-use Rattle.std.specs.Prelude.{◌≡◌, ◌≤◌, ◌+◌, ℕ, List, length, Some}
+use Rattle.std.specs.Prelude.{◌≡◌, ◌≤◌, ◌+◌, ℕ, not, List, filter, sum_by, length, Some}
 use Rattle.jl_types.specs.declared.link.Link.{Link}
 use Rattle.jl_types.specs.Event.{Event}
+use Rattle.jl_types.specs.declared.event.EventOf.TheVariants as variant
 use Rattle.jl_types.specs.declared.event.Reply.{Reply}
 use Rattle.jl_types.specs.World.{World}
 use Rattle.jl_types.specs.Events as events
 use Rattle.jl_types.specs.declared.key.Key.{Key}
+use Rattle.jl_types.specs.Retirement.{retires_site}
 use Rattle.jl_types.specs.Footprints as footprints
+use Rattle.jl_types.specs.Footprints.{most_for}
 use Rattle.jl_relink.specs.Laws.{IsInOrder}
 use Rattle.jl_cache.specs.Links.{link_at}
 use Rattle.jl_deps.specs.Indexes.{AreRising, IsIndex, touched_by}
@@ -36,7 +39,15 @@ pub record IsLed (w : World) (keys : List Key) (told : Accepted) (links : List (
 
 -- what the index says of how many evaluations the event takes once it was judged
 abbrev pub most_to_settle : World → List (ℕ × List Key) → Event → ℕ
+most_to_settle w index (variant.Retire loader) =
+    sum_by (most_for (events.step w (variant.Retire loader)))
+    (filter (λ s. not (retires_site w loader s)) (touched_by index (footprints.keys w (variant.Retire loader))))
 most_to_settle w index e = length (touched_by index (footprints.keys w e))
+
+-- the same by what the log keeps of the event, which has led to the world
+abbrev pub most_told : World → Accepted → List (ℕ × List Key) → List Key → ℕ
+most_told w (variant.Retire loader) index keys = sum_by (most_for w) (filter (λ s. not (retires_site w loader s)) (touched_by index keys))
+most_told w _ index keys = length (touched_by index keys)
 
 pub record IsStep (old new : World) (before after : List (ℕ × Link)) (index further : List (ℕ × List Key)) (log more : List Entry) (e : Event) (work next : ℕ) (reply : Reply) : Type 0 where
   pub done : IsDone old new before after log more e reply

@@ -17,6 +17,9 @@ pub(crate) fn bind_refusal(world: &World, site: SiteNo, call_site: CallSiteId) -
     let Some(place) = world.places.get_index(site.number() as usize) else {
         return Some(Refusal::UnknownSite { site });
     };
+    if !world.classes.is_present(place.class) {
+        return Some(Refusal::UnknownSite { site });
+    }
     let Some(invocation) = invocation_at(&world.classes, place) else {
         return Some(Refusal::UnknownSite { site });
     };

@@ -129,3 +129,16 @@ pub(crate) fn add_binding(
     world.bindings.insert(site, call_site)?;
     Ok(())
 }
+
+/// The loader goes, with the classes that it has defined (JLS SE 17 §12.7).
+pub(crate) fn retire_loader(
+    world: &mut World,
+    alloc: Global,
+    loader: LoaderId,
+) -> Result<(), AllocError>
+    requires { IsAcceptable world.old (event.Retire loader) }
+    ensures { OnOk result (IsMoved world.old world.new (event.Retire loader) made.Nothing) }
+{
+    world.classes.retire(alloc, loader)?;
+    Ok(())
+}

@@ -61,5 +61,6 @@ fn copy_event(alloc: Global, event: &Accepted) -> Result<Accepted, AllocError>
         }
         Accepted::Bind(site, call_site) => Accepted::Bind(*site, *call_site),
         Accepted::Install(rows) => Accepted::Install(Seq::of(rows.as_slice().to_vec(alloc)?)),
+        Accepted::Retire(loader) => Accepted::Retire(*loader),
     })
 }

@@ -1,27 +1,30 @@
 //! An accepted event once more, in an instance that is behind. It is not judged again, nothing is evaluated, and no footprint is
 //! looked up: what the event changed is taken over from the instance ahead.
 
-ghost use Rattle.std.specs.Prelude.{◌≡◌, ◌≤◌, ◌++◌, ◌∷◌, [], ℕ, false, Some, length, IfOk, OnOk};
+ghost use Rattle.std.specs.Prelude.{◌≡◌, ◌≤◌, ◌++◌, ◌∷◌, [], ℕ, false, Some, None, length, IfOk, OnOk, if◌then◌else◌};
 ghost use Rattle.jl_types.specs.Event.{Event};
 ghost use Rattle.jl_types.specs.Footprints as footprints;
 ghost use Rattle.jl_cache.specs.Links.{link_at};
-ghost use Rattle.jl_deps.specs.Indexes.{IsIndex};
+ghost use Rattle.jl_deps.specs.Indexes.{footprint_at, IsIndex};
+ghost use Rattle.jl_core.specs.Changes.{retires_at};
 ghost use Rattle.jl_core.specs.Logs.{event_of};
 ghost use Rattle.jl_core.specs.Replays.{IsNext, IsFurther, IsUntouched};
 ghost use Rattle.jl_core.specs.Touched.{has};
 
 use crate::changes::{
     add_binding, add_call_site, add_delegation, add_loader, add_place, add_switch, put_invalid,
-    put_target,
+    put_target, retire_loader,
 };
 use crate::copy::copy_entry;
 use crate::log::{Accepted, Entry};
 use crate::slots::with_sites;
 use jl_cache::Cache;
-use jl_deps::{Index, Keys, keys_of_definition, keys_of_points, keys_of_target};
+use jl_deps::{
+    Index, Keys, keys_of_definition, keys_of_points, keys_of_retirement, keys_of_target,
+};
 use jl_names::Seq;
 use jl_relink::World;
-use jl_settle::take_over;
+use jl_settle::{forget, take_over};
 use jl_types::SiteNo;
 use std::alloc::{AllocError, Global};
 use std::sync::Arc;
@@ -46,6 +49,8 @@ pub(crate) fn follow(
     ensures index { OnOk result (IsIndex world_ahead.now.value (link_at links.new) index.new) }
     ensures log { OnOk result (log.new.items ≡ log.old.items ++ entry.now ∷ []) }
 {
+    forget_retired(alloc, world, links, index, &entry.event)?;
+    let _sites = index.len();
     let sites = changed_sites(alloc, world, world_ahead, index, &entry.event)?;
     follow_shared(world, alloc, world_ahead, &entry.event)?;
     take_over(
@@ -58,6 +63,29 @@ pub(crate) fn follow(
     )?;
     log.push(copy_entry(alloc, entry)?)?;
     Ok(())
+}
+
+/// Where the event retires a loader, the sites in its classes have no links and no footprints any more. Want of memory is an error.
+fn forget_retired(
+    alloc: Global,
+    world: &World,
+    links: &mut Cache,
+    index: &mut Index,
+    event: &Accepted,
+) -> Result<(), AllocError>
+    requires { length world.now.places ≤ 65536 }
+    ensures links { OnOk result ((s : ℕ) → link_at links.new s
+        ≡ (if retires_at world.now event.now s then None else link_at links.old s)) }
+    ensures index { OnOk result ((s : ℕ) → footprint_at index.new s
+        ≡ (if retires_at world.now event.now s then None else footprint_at index.old s)) }
+{
+    match event {
+        Accepted::Retire(loader) => {
+            forget(alloc, world, links, index, *loader)?;
+            Ok(())
+        }
+        _ => Ok(()),
+    }
 }
 
 /// The sites whose links and footprints the event may change. Want of memory is an error.
@@ -102,6 +130,7 @@ fn keys_told(
         }
         Accepted::SetTarget(site, _) => keys_of_target(alloc, *site),
         Accepted::Invalidate(points) => keys_of_points(alloc, &world.sites, points.as_slice()),
+        Accepted::Retire(loader) => keys_of_retirement(alloc, &world.classes, *loader),
         _ => Ok(Seq::of(Vec::new(alloc))),
     }
 }
@@ -169,5 +198,6 @@ fn follow_world(
         }
         Accepted::Bind(site, call_site) => add_binding(world, *site, *call_site),
         Accepted::Install(_) => Ok(()),
+        Accepted::Retire(loader) => retire_loader(world, alloc, *loader),
     }
 }

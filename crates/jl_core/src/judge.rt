@@ -6,6 +6,7 @@ ghost use Rattle.jl_types.specs.declared.event.EventOf.TheVariants as event;
 ghost use Rattle.jl_types.specs.declared.event.Made.{Made};
 ghost use Rattle.jl_types.specs.declared.refusal.Refusal.TheVariants as refusal;
 ghost use Rattle.jl_types.specs.Definitions.{delegate_fault};
+ghost use Rattle.jl_types.specs.Retirement.{retire_fault};
 ghost use Rattle.jl_types.specs.Events as events;
 ghost use Rattle.jl_types.specs.Events.{verdict};
 ghost use Rattle.jl_core.specs.Judging.{IsJudged, most_to_judge};
@@ -17,7 +18,7 @@ use jl_callsites::discard_target;
 use jl_classfile::ClassFile;
 use jl_hierarchy::Classes;
 use jl_relink::World;
-use jl_types::{CallSiteFault, Event, LoaderId, Refusal, Work};
+use jl_types::{CallSiteFault, Event, LoaderId, Refusal, RetireFault, Work};
 
 /// The event once more, if the world accepts it, and what it takes to tell: only the links of an install are looked up.
 ///
@@ -71,6 +72,7 @@ pub(crate) fn judged(
             let refusal = install_refusal(world, rows.as_slice(), work);
             unless(refusal, Event::Install(rows))
         }
+        Event::Retire(loader) => unless(retire_refusal(world, loader), Event::Retire(loader)),
     }
 }
 
@@ -130,6 +132,17 @@ fn delegation_refusal(
         Ok(_) => None,
         Err(fault) => Some(Refusal::Delegate(fault)),
     }
+}
+
+/// Why the loader can't go: its classes come before the targets of call sites.
+fn retire_refusal(world: &World, loader: LoaderId) -> Option<Refusal>
+    ensures { result ≡ option_map refusal.Retire (retire_fault world.now loader) }
+{
+    if let Some(fault) = world.classes.retire_fault(loader) {
+        return Some(Refusal::Retire(fault));
+    }
+    let site = world.sites.targeted(&world.classes, loader)?;
+    Some(Refusal::Retire(RetireFault::Targeted(site)))
 }
 
 /// The refusal that is this fault.

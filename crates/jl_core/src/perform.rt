@@ -1,13 +1,14 @@
 //! What an accepted event changes: the world, the installed links, their index and the log. Nothing is judged here.
 
-ghost use Rattle.std.specs.Prelude.{◌≡◌, ◌==◌, ◌&&◌, ◌+◌, ◌≤◌, ◌++◌, ◌∷◌, [], ℕ, length, IfOk, OnOk, is_some, is_none};
+ghost use Rattle.std.specs.Prelude.{◌≡◌, ◌==◌, ◌&&◌, ◌+◌, ◌≤◌, ◌++◌, ◌∷◌, [], ℕ, false, length, IfOk, OnOk, is_some, is_none};
 ghost use Rattle.std.specs.List.{list_any};
+ghost use Rattle.jl_types.specs.declared.event.EventOf.TheVariants as events;
 ghost use Rattle.jl_types.specs.Links.{scratch};
 ghost use Rattle.jl_types.specs.History.{kept};
 ghost use Rattle.jl_cache.specs.Links.{link_at};
-ghost use Rattle.jl_deps.specs.Indexes.{IsIndex, touched_by};
+ghost use Rattle.jl_deps.specs.Indexes.{IsIndex};
 ghost use Rattle.jl_core.specs.Changes.{IsAcceptable, installs_at};
-ghost use Rattle.jl_core.specs.Steps.{IsSound, IsLed, IsStep};
+ghost use Rattle.jl_core.specs.Steps.{IsSound, IsLed, IsStep, most_told};
 ghost use Rattle.jl_core.specs.Touched.{AreTouched};
 
 use crate::log::{Accepted, Entry};
@@ -16,8 +17,8 @@ use jl_cache::Cache;
 use jl_deps::{Index, keys_of};
 use jl_names::Seq;
 use jl_relink::World;
-use jl_settle::{install_rows, settle};
-use jl_types::{Event, Key, Made, Reply, SiteNo, Work};
+use jl_settle::{forget, install_rows, settle};
+use jl_types::{Event, Key, LoaderId, Made, Reply, SiteNo, Work};
 use std::alloc::{AllocError, Global};
 use std::sync::Arc;
 
@@ -66,7 +67,7 @@ fn relink(
     ensures index { OnOk result (IsIndex world.now (link_at links.new) index.new) }
     ensures lost { IfOk result (λ lost. (s : ℕ) → list_any (λ t. t == s) lost.items
         ≡ (is_some (link_at links.old s) && is_none (link_at links.new s))) }
-    ensures ticks { OnOk result (work.new ≤ work.old + length (touched_by index.old keys.now)) }
+    ensures ticks { OnOk result (work.new ≤ work.old + most_told world.now event.now index.old keys.now) }
 {
     match event {
         Accepted::Define(_, class) => {
@@ -77,11 +78,42 @@ fn relink(
             install_rows(alloc, world, links, index, rows.as_slice())?;
             Ok(Vec::new(alloc))
         }
+        Accepted::Retire(loader) => {
+            let lost = retire_links(alloc, world, links, index, keys, *loader, work)?;
+            Ok(lost)
+        }
         _ => {
             let lost = settle(alloc, world, links, index, keys, None, work)?;
             Ok(lost)
         }
     }
+}
+
+/// The same for a retirement: the links of the loader's sites are dropped without a look at them, and of the others those that the
+/// event touches are looked up.
+fn retire_links(
+    alloc: Global,
+    world: &World,
+    links: &mut Cache,
+    index: &mut Index,
+    keys: &[Key],
+    loader: LoaderId,
+    work: &mut Work,
+) -> Result<Vec<SiteNo>, AllocError>
+    requires led { IsLed world.now keys.now (events.Retire loader) links.old index.old }
+    requires small { work.old ≤ 16777216 }
+    ensures links { OnOk result ((s : ℕ) → link_at links.new s ≡ kept false (link_at links.old s) (scratch world.now s)) }
+    ensures index { OnOk result (IsIndex world.now (link_at links.new) index.new) }
+    ensures lost { IfOk result (λ lost. (s : ℕ) → list_any (λ t. t == s) lost.items
+        ≡ (is_some (link_at links.old s) && is_none (link_at links.new s))) }
+    ensures ticks { OnOk result (work.new ≤ work.old + most_told world.now (events.Retire loader) index.old keys.now) }
+{
+    let _classes = world.classes.count_in_order();
+    let mut gone = forget(alloc, world, links, index, loader)?;
+    let _sites = index.len();
+    let lost = settle(alloc, world, links, index, keys, None, work)?;
+    gone.extend_from_slice(lost.as_slice())?;
+    Ok(gone)
 }
 
 /// Keeps an event in the log that drops the links of these sites, and answers it. Want of memory is an error; the log is of no use

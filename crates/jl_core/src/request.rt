@@ -1,7 +1,8 @@
 //! Whether a place may be requested.
 
-ghost use Rattle.std.specs.Prelude.{◌≡◌, ◌≤◌, Some, Ok, Err, IfOk, IfErr};
+ghost use Rattle.std.specs.Prelude.{◌≡◌, ◌≤◌, true, Some, Ok, Err, IfOk, IfErr};
 ghost use Rattle.jl_code.specs.Site as site;
+ghost use Rattle.jl_types.specs.Members.{is_present};
 ghost use Rattle.jl_types.specs.Sites.{invocation_at};
 ghost use Rattle.jl_types.specs.Events as events;
 ghost use Rattle.jl_types.specs.Events.{verdict};
@@ -35,16 +36,16 @@ pub(crate) fn judged_request(world: &World, max_sites: u32, place: Place) -> Res
 fn refusal_if_new(world: &World, max_sites: u32, place: &Place) -> Result<Option<Refusal>, Refusal>
     ensures ok { IfOk result (λ refusal. (invocation : site.Site)
         × (invocation_at world.now.classes place.now ≡ Some invocation)
-        × (refusal ≡ events.new_place_fault max_sites world.now invocation)) }
+        × (refusal ≡ events.new_place_fault max_sites world.now invocation)
+        × (is_present world.now.classes place.now.class ≡ true)) }
     ensures err { IfErr result (λ r. verdict max_sites world.now (event.Request place.now) ≡ Err r) }
 {
+    if !world.classes.is_present(place.class) {
+        return Err(Refusal::UnknownClass);
+    }
     match invocation_at(&world.classes, place) {
         Some(invocation) => Ok(new_place_refusal(world, max_sites, &invocation)),
-        None => Err(if world.classes.has_class(place.class) {
-            Refusal::NoSuchPlace
-        } else {
-            Refusal::UnknownClass
-        }),
+        None => Err(Refusal::NoSuchPlace),
     }
 }
 

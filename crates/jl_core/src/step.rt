@@ -6,7 +6,7 @@ ghost use Rattle.jl_core.specs.Changes.{IsAcceptable, IsStepped};
 
 use crate::changes::{
     add_binding, add_call_site, add_class, add_delegation, add_loader, add_place, add_switch,
-    put_invalid, put_target,
+    put_invalid, put_target, retire_loader,
 };
 use crate::log::Accepted;
 use jl_classfile::ClassFile;
@@ -81,6 +81,7 @@ fn step_owned(
         Event::Invalidate(points) => Ok(invalidate(world, points)),
         Event::Bind(site, call_site) => bind(world, site, call_site),
         Event::Install(rows) => Ok((Accepted::Install(rows), Made::Nothing)),
+        Event::Retire(loader) => retire(world, alloc, loader),
     }
 }
 
@@ -175,4 +176,17 @@ fn bind(
 {
     add_binding(world, site, call_site)?;
     Ok((Accepted::Bind(site, call_site), Made::Nothing))
+}
+
+/// The same for a retirement.
+fn retire(
+    world: &mut World,
+    alloc: Global,
+    loader: LoaderId,
+) -> Result<(Accepted, Made), AllocError>
+    requires { IsAcceptable world.old (events.Retire loader) }
+    ensures { IfOk result (λ told. IsStepped world.old world.new (events.Retire loader) told.0 told.1) }
+{
+    retire_loader(world, alloc, loader)?;
+    Ok((Accepted::Retire(loader), Made::Nothing))
 }

@@ -5,3 +5,4 @@ pub mod TouchLaws
 pub mod IndexLaws
 pub mod BoundLaws
 pub mod ListLaws
+pub mod WayLaws

@@ -1,11 +1,13 @@
 //! What the link of a site rests on.
 
-ghost use Rattle.std.specs.Prelude.{◌≡◌, ◌++◌, ◌∷◌, [], map, length, IfOk, OnOk, option_to_list};
+ghost use Rattle.std.specs.Prelude.{◌≡◌, ◌++◌, [], ℕ, map, filter_map, IfOk, OnOk, option_to_list};
+ghost use Rattle.jl_hierarchy.specs.Kept.{Rises};
 ghost use Rattle.jl_types.specs.Resolution as resolution;
 ghost use Rattle.jl_types.specs.Sites as sites;
 ghost use Rattle.jl_types.specs.declared.key.Key.TheVariants as key;
 ghost use Rattle.jl_types.specs.Footprints as footprints;
-ghost use Rattle.jl_types.specs.Footprints.{of_stage, of_operand, path, among};
+ghost use Rattle.jl_types.specs.Footprints.{of_stage, of_operand, call_site_in, point_in, path};
+ghost use Rattle.jl_deps.specs.Ways.{has, way};
 
 use jl_callsites::Sites;
 use jl_code::{Kind, Operand, Site};
@@ -27,13 +29,16 @@ pub fn copy_footprint(alloc: Global, footprint: &Footprint) -> Result<Footprint,
     Ok(Seq::of(footprint.as_slice().to_vec(alloc)?))
 }
 
-/// What the link of the site rests on. No receiver is looked at, and nothing is evaluated. Want of memory is an error.
+/// What the link of the site rests on. No receiver is looked at, and no method is looked up. Want of memory is an error.
 pub fn footprint_of(alloc: Global, world: &World, site: SiteNo) -> Result<Footprint, AllocError>
     ensures { IfOk result (λ keys. keys ≡ footprints.footprint world.now site) }
 {
     let Some(place) = world.places.get_index(site.number() as usize) else {
         return Ok(Seq::of(Vec::new(alloc)));
     };
+    if !world.classes.is_present(place.class) {
+        return Ok(Seq::of(Vec::new(alloc)));
+    }
     match invocation_at(&world.classes, place) {
         Some(invocation) => of_invocation(alloc, world, site, place.class, &invocation),
         None => Ok(Seq::of(Vec::new(alloc))),
@@ -132,7 +137,7 @@ fn of_binding(
     }
 }
 
-/// The target of the call site, and the valid points on its path. Want of memory is an error.
+/// The targets of the call sites on the path of this one, and the valid points on it. Want of memory is an error.
 fn of_call_site(
     alloc: Global,
     sites: &Sites,
@@ -140,13 +145,25 @@ fn of_call_site(
 ) -> Result<Footprint, AllocError>
     ensures { IfOk result (λ keys. keys ≡ footprints.of_call_site sites.now call_site) }
 {
+    let mut call_sites = Vec::new(alloc);
+    let mut points = Vec::new(alloc);
+    push_path(sites, call_site, &mut call_sites, &mut points)?;
+    order_call_sites(&mut call_sites);
+    order_points(&mut points);
     let mut keys = Vec::new(alloc);
-    keys.push(Key::Target(call_site))?;
-    if let Some(found) = sites.call_site_at(call_site) {
-        let points = points_on(alloc, sites, found.target())?;
-        push_points(&mut keys, points.as_slice())?;
-    }
+    push_targets(&mut keys, call_sites.as_slice())?;
+    push_points(&mut keys, points.as_slice())?;
     Ok(Seq::of(keys))
+}
+
+/// Adds the targets of these call sites. Want of memory is an error.
+fn push_targets(keys: &mut Vec<Key>, call_sites: &[CallSiteId]) -> Result<(), AllocError>
+    ensures { OnOk result (keys.new.items ≡ keys.old.items ++ map key.Target call_sites.now) }
+{
+    for call_site in call_sites {
+        keys.push(Key::Target(*call_site))?;
+    }
+    Ok(())
 }
 
 /// Adds that these points are valid. Want of memory is an error.
@@ -159,21 +176,55 @@ pub(crate) fn push_points(keys: &mut Vec<Key>, points: &[SwitchId]) -> Result<()
     Ok(())
 }
 
-/// The valid points on the target's path, each once, by rising number. Want of memory is an error.
-fn points_on(alloc: Global, sites: &Sites, target: &Target) -> Result<Vec<SwitchId>, AllocError>
-    ensures { IfOk result (λ points. points.items ≡ among (length sites.now.switches) (path sites.now target.now)) }
+/// The call sites by rising number, each once.
+fn order_call_sites(call_sites: &mut Vec<CallSiteId>)
+    ensures rises { Rises call_sites.new.items }
+    ensures same { (c : ℕ) → has c call_sites.new.items ≡ has c call_sites.old.items }
 {
-    let mut points = Vec::new(alloc);
-    push_path(sites, target, &mut points)?;
-    points.sort_unstable();
-    points.dedup();
-    Ok(points)
+    call_sites.sort_unstable();
+    call_sites.dedup();
 }
 
-/// Adds the valid points on the target's path, in order. Want of memory is an error.
-fn push_path(sites: &Sites, target: &Target, points: &mut Vec<SwitchId>) -> Result<(), AllocError>
-    ensures { OnOk result (points.new.items ≡ points.old.items ++ path sites.now target.now) }
+/// The points by rising number, each once.
+fn order_points(points: &mut Vec<SwitchId>)
+    ensures rises { Rises points.new.items }
+    ensures same { (p : ℕ) → has p points.new.items ≡ has p points.old.items }
 {
+    points.sort_unstable();
+    points.dedup();
+}
+
+/// Adds the call sites on the path of this one, itself first, and the valid points on it, in order. Want of memory is an error.
+fn push_path(
+    sites: &Sites,
+    call_site: CallSiteId,
+    call_sites: &mut Vec<CallSiteId>,
+    points: &mut Vec<SwitchId>,
+) -> Result<(), AllocError>
+    ensures call_sites { OnOk result (call_sites.new.items
+        ≡ call_sites.old.items ++ filter_map call_site_in (path sites.now call_site)) }
+    ensures points { OnOk result (points.new.items ≡ points.old.items ++ filter_map point_in (path sites.now call_site)) }
+{
+    call_sites.push(call_site)?;
+    match sites.call_site_at(call_site) {
+        Some(found) => push_way(sites, call_site, found.target(), call_sites, points),
+        None => Ok(()),
+    }
+}
+
+/// Adds the call sites that a target of this one comes by, and the valid points, in order. Want of memory is an error.
+fn push_way(
+    sites: &Sites,
+    call_site: CallSiteId,
+    target: &Target,
+    call_sites: &mut Vec<CallSiteId>,
+    points: &mut Vec<SwitchId>,
+) -> Result<(), AllocError>
+    ensures call_sites { OnOk result (call_sites.new.items
+        ≡ call_sites.old.items ++ filter_map call_site_in (way sites.now call_site target.now)) }
+    ensures points { OnOk result (points.new.items ≡ points.old.items ++ filter_map point_in (way sites.now call_site target.now)) }
+{
+    let mut call_site = call_site;
     let mut target = target;
     loop {
         match &target.part {
@@ -185,6 +236,17 @@ fn push_path(sites: &Sites, target: &Target, points: &mut Vec<SwitchId>) -> Resu
                 } else {
                     target = fallback;
                 }
+            }
+            Part::Invoker(invoked) => {
+                if invoked.number() >= call_site.number() {
+                    return Ok(());
+                }
+                call_sites.push(*invoked)?;
+                let Some(found) = sites.call_site_at(*invoked) else {
+                    return Ok(());
+                };
+                target = found.target();
+                call_site = *invoked;
             }
         }
     }

@@ -3,6 +3,7 @@
 ghost use Rattle.std.specs.Prelude.{◌≡◌, ◌==◌, ◌||◌, ◌&&◌, ◌++◌, ◌∷◌, ℕ, [], map, length, IfOk, OnOk};
 ghost use Rattle.std.specs.List.{list_any};
 ghost use Rattle.jl_types.specs.Definitions as definitions;
+ghost use Rattle.jl_types.specs.Retirement.{losing_receivers};
 ghost use Rattle.jl_types.specs.Targets as targets;
 ghost use Rattle.jl_types.specs.declared.key.Key.TheVariants as key;
 ghost use Rattle.jl_types.specs.Footprints as footprints;
@@ -27,6 +28,7 @@ pub fn keys_of(alloc: Global, world: &World, event: &Event) -> Result<Keys, Allo
         Event::Define(loader, file) => keys_of_definition(alloc, &world.classes, *loader, file),
         Event::SetTarget(site, _) => keys_of_target(alloc, *site),
         Event::Invalidate(points) => keys_of_points(alloc, &world.sites, points.as_slice()),
+        Event::Retire(loader) => keys_of_retirement(alloc, &world.classes, *loader),
         _ => Ok(Seq::of(Vec::new(alloc))),
     }
 }
@@ -44,6 +46,20 @@ pub fn keys_of_definition(
     let gaining = classes.gaining_receiver(alloc, loader, file)?;
     let mut keys = Vec::with_capacity(alloc, gaining.len())?;
     push_receivers(&mut keys, &gaining)?;
+    Ok(Seq::of(keys))
+}
+
+/// What a retirement changes: the receivers of the ancestors of the loader's classes that objects may be of. Want of memory is an error.
+pub fn keys_of_retirement(
+    alloc: Global,
+    classes: &Classes,
+    loader: LoaderId,
+) -> Result<Keys, AllocError>
+    ensures { IfOk result (λ keys. keys ≡ map key.Receivers (losing_receivers classes.now loader)) }
+{
+    let losing = classes.losing_receivers(alloc, loader)?;
+    let mut keys = Vec::with_capacity(alloc, losing.len())?;
+    push_receivers(&mut keys, &losing)?;
     Ok(Seq::of(keys))
 }
 

@@ -1,6 +1,6 @@
 //! The laws of an index: contracts of functions that do nothing.
 
-ghost use Rattle.std.specs.Prelude.{◌≡◌, ◌==◌, ◌&&◌, ℕ, List, Option, Some, Ok, false, is_some};
+ghost use Rattle.std.specs.Prelude.{◌≡◌, ◌==◌, ◌&&◌, ℕ, List, Option, Some, Ok, IsOk, false, is_some};
 ghost use Rattle.std.specs.List.{list_any};
 ghost use Rattle.jl_types.specs.Event.{Event};
 ghost use Rattle.jl_types.specs.declared.link.Link.{Link};
@@ -9,19 +9,23 @@ ghost use Rattle.jl_types.specs.Links.{scratch};
 ghost use Rattle.jl_types.specs.History.{world_after, installed};
 ghost use Rattle.jl_types.specs.declared.key.Key.{Key};
 ghost use Rattle.jl_types.specs.Footprints as footprints;
-ghost use Rattle.jl_types.specs.Footprints.{touches, keys};
+ghost use Rattle.jl_types.specs.Events.{verdict};
+ghost use Rattle.jl_types.specs.Footprints.{touches, keys, retires};
 ghost use Rattle.jl_relink.specs.Laws.{IsInOrder};
 ghost use Rattle.jl_deps.specs.Indexes.{AreRising, IsIndex, StaysIndexed, touched_by};
 
 /// Where the index has the footprint of each site that has a link, which is the one from scratch, the sites that it gives for an
-/// event's keys are those that have a link and that the event touches, and nothing changes at any other site.
+/// event's keys are those that have a link and that the event touches, and nothing changes at any other site, where the event is
+/// accepted and retires no site that has a link.
 pub fn only_touched_sites_change()
     ensures touched { (w : World) (e : Event) (links : ℕ → Option Link) (index : List (ℕ × List Key)) → AreRising index
         → IsIndex w links index → (s : ℕ)
         → list_any (λ t. t == s) (touched_by index (keys w e)) ≡ (is_some (links s) && touches w e s) }
     ensures counted { (h : List Event) (e : Event) (index : List (ℕ × List Key)) → AreRising index
         → IsIndex (world_after h) (installed h) index → touched_by index (keys (world_after h) e) ≡ footprints.touched h e }
-    ensures others { (w : World) (e : Event) (links : ℕ → Option Link) (index : List (ℕ × List Key)) → IsInOrder w
-        → AreRising index → IsIndex w links index → ((s : ℕ) (l : Link) → links s ≡ Some l → scratch w s ≡ Ok l) → (s : ℕ)
+    ensures others { (max_sites : ℕ) (w : World) (e : Event) (links : ℕ → Option Link) (index : List (ℕ × List Key)) → IsInOrder w
+        → IsOk (verdict max_sites w e) → AreRising index → IsIndex w links index
+        → ((s : ℕ) (l : Link) → links s ≡ Some l → scratch w s ≡ Ok l)
+        → ((s : ℕ) (l : Link) → links s ≡ Some l → retires w e s ≡ false) → (s : ℕ)
         → list_any (λ t. t == s) (touched_by index (keys w e)) ≡ false → StaysIndexed w e links index s }
 {}

@@ -13,5 +13,7 @@ mod lists;
 
 pub use footprint::{Footprint, copy_footprint, footprint_of};
 pub use index::Index;
-pub use keys::{Keys, keys_of, keys_of_definition, keys_of_points, keys_of_target};
+pub use keys::{
+    Keys, keys_of, keys_of_definition, keys_of_points, keys_of_retirement, keys_of_target,
+};
 pub use laws::only_touched_sites_change;

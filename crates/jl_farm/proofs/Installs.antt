@@ -16,7 +16,7 @@ use Rattle.jl_farm.specs.declared.report.Report.{Report}
 use Rattle.jl_farm.specs.declared.report.JobOutcome.{JobOutcome}
 use Rattle.jl_farm.specs.declared.report.JobOutcome.TheVariants.{Installed, Stale, NotReady, Bad, Memory}
 use Rattle.jl_farm.specs.declared.worker.Worker.{Worker}
-use Rattle.jl_farm.specs.Reports.{sites_of, lists_of, names_install, installs_of, IsInstalled, IsShown, IsReport, AreOfOneHistory, AreOfSameSites}
+use Rattle.jl_farm.specs.Reports.{lists_of, names_install, installs_of, IsInstalled, IsShown, IsReport, AreOfOneHistory, AreOfSameSites}
 use Rattle.jl_farm.specs.Work.{between, HasSeen, HasOne, HasTaken, Works}
 
 -- ---- numbers between two numbers

@@ -1,5 +1,5 @@
 -- Definitions, delegations and new loaders leave what was there as it was.
-use Rattle.std.specs.Prelude.{◌≡◌, ℕ, zero, suc, ◌<◌, ◌&&◌, Bool, true, false, cond, List, []}
+use Rattle.std.specs.Prelude.{◌≡◌, ℕ, zero, suc, ◌<◌, ◌==◌, ◌&&◌, ◌||◌, not, Bool, true, false, cond, List, []}
 use Rattle.std.specs.Prelude.{◌∷◌, ◌++◌, length, find, slice_get, slice_set, Option, Some, None, option_map, option_and_then, if◌then◌else◌}
 use Rattle.std.specs.List.{list_any}
 use Rattle.std.specs.Option.{option_map_or}
@@ -9,13 +9,15 @@ use Rattle.std.proofs.lemmas.List.{append-nil}
 use Rattle.std.proofs.lemmas.Option.{same_Some, slice_get_within}
 use Rattle.jl_classfile.specs.Class.{ClassFile}
 use Rattle.jl_types.specs.World.{Class, Classes}
-use Rattle.jl_types.specs.Members.{recorded, lookup, share_package, is_concrete}
+use Rattle.jl_types.specs.Members.{is_retired, is_present, recorded, lookup, share_package, is_concrete}
 use Rattle.jl_types.specs.Ancestry.{AreOrdered, is_ancestor, receivers}
 use Rattle.jl_types.specs.Access.{nest_host, host_by, host_if_recorded, host_if_listed}
 use Rattle.jl_types.specs.Definitions.{class_made, with_record, defined}
 use Rattle.jl_types.proofs.Grown.{old_ancestors, receivers_after}
 use Rattle.jl_types.proofs.Lists.{before_end}
 use Rattle.jl_types.proofs.Orders.{IsGood, looked_up}
+use Rattle.jl_types.specs.Retirement.{retired}
+use Rattle.jl_types.proofs.Retiring.{retired_after, found_after}
 use Rattle.jl_hierarchy.specs.Constancy.{Stays, AddsReceiver}
 
 -- ---- records
@@ -56,44 +58,51 @@ loader_stays (x ∷ loaders) (suc k) name c h = loader_stays loaders k name c h
 
 -- ---- nest hosts
 
+not_true : (b : Bool) → not b ≡ true → b ≡ false
+not_true true e = cc
+not_true false e = refl
+
 module _ (old new : Classes) (good : IsGood old) (rows : (c : ℕ) → c < length old.rows → slice_get new.rows c ≡ slice_get old.rows c)
-    (records : (loader : ℕ) (name : List ℕ) (c : ℕ) → lookup old loader name ≡ Some c → lookup new loader name ≡ Some c) where
+    (records : (loader : ℕ) (name : List ℕ) (c : ℕ) → is_retired new loader ≡ false → lookup old loader name ≡ Some c → lookup new loader name ≡ Some c) where
   listed_stays : (m k : ℕ) (row : Class) → m < length old.rows → k < length old.rows → host_if_listed new m row k ≡ host_if_listed old m row k
   listed_stays m k row low lt =
       λ i. if option_map_or (λ a. option_map_or (share_package a) (rows k lt i) false) (rows m low i) false
       && option_map_or (λ host. list_any (bytes_eq row.file.name) host.file.nest_members) (rows k lt i) false then k else m
 
-  host_stays : (m h : ℕ) (row : Class) → m < length old.rows → (name : Option (List ℕ)) → host_by old m row name ≡ Some h → host_by new m row name ≡ Some h
-  host_stays m h row low None e = e
-  host_stays m h row low (Some name) e = by_record (lookup old row.loader name) refl e
+  host_stays : (m h : ℕ) (row : Class) → m < length old.rows → is_retired new row.loader ≡ false → (name : Option (List ℕ)) → host_by old m row name ≡ Some h
+      → host_by new m row name ≡ Some h
+  host_stays m h row low alive None e = e
+  host_stays m h row low alive (Some name) e = by_record (lookup old row.loader name) refl e
     where
       by_record : (o : Option ℕ) → lookup old row.loader name ≡ o → host_if_recorded old m row o ≡ Some h → host_if_recorded new m row (lookup new row.loader name) ≡ Some h
       by_record None is e = cc
       by_record (Some k) is e =
-          ap (host_if_recorded new m row) (records row.loader name k is)
+          ap (host_if_recorded new m row) (records row.loader name k alive is)
           ∙ ap Some (listed_stays m k row low (looked_up old good row.loader name k is))
           ∙ e
 
-  pub hosts_stay : (m h : ℕ) → nest_host old m ≡ Some h → nest_host new m ≡ Some h
-  hosts_stay m h e = by_row (slice_get old.rows m) refl e
+  pub hosts_stay : (m h : ℕ) → is_present new m ≡ true → nest_host old m ≡ Some h → nest_host new m ≡ Some h
+  hosts_stay m h present e = by_row (slice_get old.rows m) refl e
     where
       by_row : (o : Option Class) → slice_get old.rows m ≡ o → option_and_then (λ row. host_by old m row row.file.nest_host) o ≡ Some h → nest_host new m ≡ Some h
       by_row None is e = cc
       by_row (Some row) is e =
           let low = slice_get_within old.rows m row is in
           ap (option_and_then (λ r. host_by new m r r.file.nest_host)) (rows m low ∙ is)
-          ∙ host_stays m h row low row.file.nest_host e
+          ∙ host_stays m h row low
+          (not_true (is_retired new row.loader) (sym (ap (λ (o : Option Class). option_map_or (λ r. not (is_retired new r.loader)) o false) (rows m low ∙ is)) ∙ present))
+          row.file.nest_host e
 
 -- ---- the changes
 
 pub stays_defined : (cs : Classes) → IsGood cs → (loader : ℕ) (file : ClassFile) → Stays cs (defined cs loader file)
 stays_defined cs good loader file = record {
   rows = λ c row e. before_end cs.rows (class_made cs loader file) c (slice_get_within cs.rows c row e) ∙ e;
-  records = λ l name c h. with_record_stays cs.loaders loader file.name (length cs.rows) l name c h;
+  records = λ l name c alive h. with_record_stays cs.loaders loader file.name (length cs.rows) l name c h;
   ancestors = λ c lt. old_ancestors cs.rows good.ordered (class_made cs loader file) c lt;
   hosts =
       hosts_stay cs (defined cs loader file) good (λ c lt. before_end cs.rows (class_made cs loader file) c lt)
-      (λ l name c h. with_record_stays cs.loaders loader file.name (length cs.rows) l name c h);
+      (λ l name c alive h. with_record_stays cs.loaders loader file.name (length cs.rows) l name c h);
 }
 
 pub adds_receiver : (cs : Classes) → AreOrdered cs.rows → (loader : ℕ) (file : ClassFile) → AddsReceiver cs (defined cs loader file)
@@ -111,9 +120,9 @@ stays_recorded : (cs : Classes) → IsGood cs → (loaders : List (List (List �
     → Stays cs (record cs { loaders = loaders })
 stays_recorded cs good loaders h = record {
   rows = λ c row e. e;
-  records = h;
+  records = λ k name c alive e. h k name c e;
   ancestors = λ c lt. refl;
-  hosts = hosts_stay cs (record cs { loaders = loaders }) good (λ c lt. refl) h;
+  hosts = hosts_stay cs (record cs { loaders = loaders }) good (λ c lt. refl) (λ k name c alive e. h k name c e);
 }
 
 pub stays_with_record : (cs : Classes) → IsGood cs → (loader : ℕ) (name : List ℕ) (d : ℕ) → Stays cs (record cs { loaders = with_record cs.loaders loader name d })
@@ -122,3 +131,19 @@ stays_with_record cs good loader name d =
 
 pub stays_with_loader : (cs : Classes) → IsGood cs → Stays cs (record cs { loaders = cs.loaders ++ [] ∷ [] })
 stays_with_loader cs good = stays_recorded cs good (cs.loaders ++ [] ∷ []) (λ k name c h. loader_stays cs.loaders k name c h)
+
+-- a loader goes
+pub stays_retired : (cs : Classes) → IsGood cs → (loader : ℕ) → Stays cs (retired cs loader)
+stays_retired cs good loader = record {
+  rows = λ c row e. e;
+  records = found;
+  ancestors = λ c lt. refl;
+  hosts = hosts_stay cs (retired cs loader) good (λ c lt. refl) found;
+}
+  where
+    second : (a b : Bool) → (a || b) ≡ false → b ≡ false
+    second true b e = cc
+    second false b e = e
+
+    found : (k : ℕ) (name : List ℕ) (c : ℕ) → is_retired (retired cs loader) k ≡ false → lookup cs k name ≡ Some c → lookup (retired cs loader) k name ≡ Some c
+    found k name c alive e = found_after cs loader k name (second (is_retired cs k) (loader == k) (sym (retired_after cs loader k) ∙ alive)) ∙ e

@@ -17,7 +17,7 @@ use Rattle.jl_types.specs.declared.refusal.DefineFault.TheVariants.{UnknownLoade
 use Rattle.jl_types.specs.World.{Classes}
 use Rattle.jl_types.specs.Members.{lookup, is_interface}
 use Rattle.jl_types.specs.Resolution.{first_of}
-use Rattle.jl_types.specs.Definitions.{parent_names, named_test, is_open_parent, define_fault}
+use Rattle.jl_types.specs.Definitions.{is_unknown, parent_names, named_test, is_open_parent, define_fault}
 use Rattle.jl_hierarchy.specs.Faults.{first_faults, superclass_faults, first_place}
 use Rattle.jl_hierarchy.proofs.PrintLaws.{none_yet}
 
@@ -156,7 +156,7 @@ third_none (Some x) b c rest e = cc
 pub is_new : (cs : Classes) (loader : ℕ) (file : ClassFile) → define_fault cs loader file ≡ None → lookup cs loader file.name ≡ None
 is_new cs loader file e =
     none_yet (lookup cs loader file.name) (test_none (is_some (lookup cs loader file.name)) AlreadyRecorded (third_none
-    (then_some (nat_le (length cs.loaders) loader) UnknownLoader)
+    (then_some (is_unknown cs loader) UnknownLoader)
     (then_some (bytes_eq file.name object && not (loader == 0)) SecondObject)
     (then_some (is_some (lookup cs loader file.name)) AlreadyRecorded)
     (then_some (list_any (bytes_eq file.name) (parent_names file)) NamesItself ∷ from_missing cs loader file) e))

@@ -26,7 +26,7 @@ module _ (inside : Classes) (above below : List (List ℕ)) (kept : IsKept insid
   good = subst IsGood same (record { there = kept.there; ordered = kept.ordered })
 
   pub in_order : AreInOrder cs
-  in_order = subst AreInOrder same (record { there = kept.there; ordered = kept.ordered; object = kept.object })
+  in_order = subst AreInOrder same (record { there = kept.there; ordered = kept.ordered; object = kept.object; closed = kept.closed })
 
   pub there_here : (loader : ℕ) (name : List ℕ) (o : Option ℕ) → lookup cs loader name ≡ o → IfSome o (λ c. c < length cs.rows)
   there_here = found_there cs good

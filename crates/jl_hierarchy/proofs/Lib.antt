@@ -12,6 +12,9 @@ pub mod DefaultLaws
 pub mod Constancy
 pub mod PrintLaws
 pub mod Objects
+pub mod Closed
+pub mod LoaderGone
+pub mod Turns
 pub mod NewRecords
 pub mod Recents
 pub mod Lines

@@ -1,6 +1,6 @@
 -- What is kept once a class is defined.
-use Rattle.std.specs.Prelude.{◌≡◌, ℕ, zero, suc, ◌+◌, ◌<◌, ◌==◌, ◌||◌, ◌&&◌, Bool, true, false, cond, if◌then◌else◌}
-use Rattle.std.specs.Prelude.{List, [], ◌∷◌, ◌++◌, length, get_or, map, filter, is_some, slice_get, slice_set, Option, Some, None, All}
+use Rattle.std.specs.Prelude.{◌≡◌, ℕ, zero, suc, ◌+◌, ◌<◌, ◌==◌, ◌||◌, ◌&&◌, Bool, true, false, cond, if◌then◌else◌, not}
+use Rattle.std.specs.Prelude.{List, [], ◌∷◌, ◌++◌, length, get_or, map, filter, slice_get, slice_set, Option, Some, None, All}
 use Rattle.std.specs.List.{range_with_len}
 use Rattle.std.specs.Option.{option_map_or}
 use Rattle.std.proofs.Common.{refl, ap, sym, subst, ◌∙◌, arith, length-append}
@@ -12,7 +12,7 @@ use Rattle.std.proofs.lemmas.List.FromFn.{get_or-map-range_with_len, length-map-
 use Rattle.jl_classfile.specs.Class.{ClassFile}
 use Rattle.jl_classfile.specs.Conditions.{extends_object}
 use Rattle.jl_types.specs.World.{Class, Classes}
-use Rattle.jl_types.specs.Members.{numbers, is_concrete, is_concrete_row}
+use Rattle.jl_types.specs.Members.{numbers, is_retired, is_concrete, is_concrete_row}
 use Rattle.jl_types.specs.Ancestry.{is_ancestor, ancestors, receivers}
 use Rattle.jl_types.specs.Definitions.{class_made, defined, with_record, define_fault}
 use Rattle.jl_types.proofs.Ancestors.{ancestor_decides}
@@ -23,6 +23,7 @@ use Rattle.jl_hierarchy.specs.Constancy.{ObjectComesFirst}
 use Rattle.jl_hierarchy.specs.Kept.{IsKept, IsAppended}
 use Rattle.jl_hierarchy.proofs.FaultLaws.{has_room}
 use Rattle.jl_hierarchy.proofs.Objects.{first_defined}
+use Rattle.jl_hierarchy.proofs.Closed.{closed_defined, live_loader}
 use Rattle.jl_hierarchy.proofs.Rising.{has}
 
 map_range : {A : Type 0} (f g : ℕ → A) (a n : ℕ) → ((c : ℕ) → c < a + n → f c ≡ g c) → map f (range_with_len a n) ≡ map g (range_with_len a n)
@@ -47,7 +48,8 @@ has_chosen : (b : Bool) (i : ℕ) (xs : List ℕ) → has i (if b then xs else [
 has_chosen true i xs = refl
 has_chosen false i xs = refl
 
-module _ (cs : Classes) (over under : List (List ℕ)) (kept : IsKept cs over under) (loader : ℕ) (file : ClassFile) (room : length cs.rows < 65536) where
+module _ (cs : Classes) (over under : List (List ℕ)) (kept : IsKept cs over under) (loader : ℕ) (file : ClassFile) (room : length cs.rows < 65536)
+    (live : is_retired cs loader ≡ false) where
   abbrev n : ℕ
   n = length cs.rows
 
@@ -69,8 +71,10 @@ module _ (cs : Classes) (over under : List (List ℕ)) (kept : IsKept cs over un
   row_there : slice_get new.rows n ≡ Some row
   row_there = at_end cs.rows row
 
-  concrete : is_concrete new n ≡ is_concrete_row row
-  concrete = ap (λ (r : Option Class). is_some r && option_map_or is_concrete_row r false) row_there
+  concrete : is_retired cs loader ≡ false → is_concrete new n ≡ is_concrete_row row
+  concrete live =
+      ap (λ (r : Option Class). option_map_or (λ row. not (is_retired cs row.loader)) r false && option_map_or is_concrete_row r false) row_there
+      ∙ ap (λ (b : Bool). not b && is_concrete_row row) live
 
   module _ (proper : List ℕ) (listed : proper ++ n ∷ [] ≡ ancestors new.rows n) where
     ancestors_now : over ++ (proper ++ n ∷ []) ∷ [] ≡ map (ancestors new.rows) (numbers new)
@@ -124,7 +128,7 @@ module _ (cs : Classes) (over under : List (List ℕ)) (kept : IsKept cs over un
       one_list : (i : ℕ) → i < n → get_or lists' i [] ≡ receivers new i
       one_list i lt =
           appended.each i
-          ∙ (λ j. if (has_chosen (is_concrete_row row) i proper ∙ (λ k. sym concrete k && sym (is_below i lt) k)) j then old j ++ n ∷ [] else old j)
+          ∙ (λ j. if (has_chosen (is_concrete_row row) i proper ∙ (λ k. sym (concrete live) k && sym (is_below i lt) k)) j then old j ++ n ∷ [] else old j)
           ∙ by_test (is_concrete new n && is_ancestor new i n)
           ∙ sym (receivers_after cs kept.ordered loader file i)
         where
@@ -146,7 +150,7 @@ module _ (cs : Classes) (over under : List (List ℕ)) (kept : IsKept cs over un
       own_is : (if is_concrete_row row then n ∷ [] else []) ≡ receivers new n
       own_is =
           by_test (is_concrete_row row)
-          ∙ (λ j. cond (sym concrete j && sym itself j) (n ∷ []) [])
+          ∙ (λ j. cond (sym (concrete live) j && sym itself j) (n ∷ []) [])
           ∙ ap (λ (xs : List ℕ). xs ++ cond (is_concrete new n && is_ancestor new n n) (n ∷ []) []) (sym none_yet)
           ∙ sym (receivers_after cs kept.ordered loader file n)
         where
@@ -165,6 +169,7 @@ module _ (cs : Classes) (over under : List (List ℕ)) (kept : IsKept cs over un
         there = new_good.there;
         ordered = new_good.ordered;
         object = object;
+        closed = closed_defined cs good loader file kept.closed;
         few = let m = length-append cs.rows (row ∷ []) in omega arith;
         few_loaders = let m = as_many_loaders cs.loaders loader file.name n in let few = kept.few_loaders in omega arith;
         ancestors_kept = ancestors_now;
@@ -187,23 +192,25 @@ module _ (cs : Classes) (over under : List (List ℕ)) (kept : IsKept cs over un
   abbrev with_row : Classes
   with_row = defined cs row.loader row.file
 
-  pub classes_are : (loaders' : List (List (List ℕ × ℕ))) (rows' : List Class) → loaders' ≡ with_record cs.loaders row.loader name class → rows' ≡ cs.rows ++ row ∷ []
-      → ◌≡◌ {A = Classes} (record { loaders = loaders'; rows = rows' }) with_row
-  classes_are loaders' rows' l r = λ i. record {
+  pub classes_are : (loaders' : List (List (List ℕ × ℕ))) (rows' : List Class) (retired' : List ℕ)
+      → loaders' ≡ with_record cs.loaders row.loader name class → rows' ≡ cs.rows ++ row ∷ [] → retired' ≡ cs.retired
+      → ◌≡◌ {A = Classes} (record { loaders = loaders'; rows = rows'; retired = retired' }) with_row
+  classes_are loaders' rows' retired' l r t = λ i. record {
     loaders = (l ∙ (λ j. with_record cs.loaders row.loader (name_is j) (class_is j))) i;
     rows = (r ∙ (λ j. cs.rows ++ made j ∷ [])) i;
+    retired = t i;
   }
 
-  pub kept_all : (loaders' : List (List (List ℕ × ℕ))) (rows' : List Class) (above' below' : List (List ℕ))
-      → loaders' ≡ with_record cs.loaders row.loader name class → rows' ≡ cs.rows ++ row ∷ []
+  pub kept_all : (loaders' : List (List (List ℕ × ℕ))) (rows' : List Class) (retired' : List ℕ) (above' below' : List (List ℕ))
+      → loaders' ≡ with_record cs.loaders row.loader name class → rows' ≡ cs.rows ++ row ∷ [] → retired' ≡ cs.retired
       → above' ≡ over ++ (proper ++ class ∷ []) ∷ [] → below' ≡ front ++ own ∷ []
-      → IsKept (record { loaders = loaders'; rows = rows' }) above' below'
-  kept_all loaders' rows' above' below' l r a b =
-      kept_as (record { loaders = loaders'; rows = rows' }) with_row above' (over ++ (proper ++ length cs.rows ∷ []) ∷ [])
+      → IsKept (record { loaders = loaders'; rows = rows'; retired = retired' }) above' below'
+  kept_all loaders' rows' retired' above' below' l r t a b =
+      kept_as (record { loaders = loaders'; rows = rows'; retired = retired' }) with_row above' (over ++ (proper ++ length cs.rows ∷ []) ∷ [])
       below' (front ++ (if is_concrete_row (class_made cs row.loader row.file) then length cs.rows ∷ [] else []) ∷ [])
-      (classes_are loaders' rows' l r) (a ∙ (λ i. over ++ (proper ++ class_is i ∷ []) ∷ []))
+      (classes_are loaders' rows' retired' l r t) (a ∙ (λ i. over ++ (proper ++ class_is i ∷ []) ∷ []))
       (b ∙ (λ i. front ++ (own_is ∙ (λ j. if is_concrete_row (made j) then length cs.rows ∷ [] else [])) i ∷ []))
-      (kept_now cs over under kept row.loader row.file (has_room cs row.loader row.file none) proper
+      (kept_now cs over under kept row.loader row.file (has_room cs row.loader row.file none) (live_loader cs row.loader row.file none) proper
       (listed ∙ (λ i. ancestors (cs.rows ++ made i ∷ []) (length cs.rows))) front
       (subst (λ k. IsAppended (if k then proper else []) (length cs.rows) under front) (concrete_is ∙ ap is_concrete_row made)
       (subst (λ k. IsAppended (if concrete then proper else []) k under front) class_is appended))

@@ -12,8 +12,8 @@ use Rattle.std.proofs.lemmas.Slice.Eq.{bytes_eq-Decides}
 use Rattle.jl_classfile.specs.Class.{ClassFile}
 use Rattle.jl_classfile.specs.Conditions.{has_flag, object, extends_object, INTERFACE}
 use Rattle.jl_types.specs.World.{Class, Classes}
-use Rattle.jl_types.specs.Members.{recorded, lookup, is_interface}
-use Rattle.jl_types.specs.Definitions.{class_made, parent_names, with_record, defined, define_fault}
+use Rattle.jl_types.specs.Members.{is_retired, recorded, lookup, is_interface}
+use Rattle.jl_types.specs.Definitions.{is_unknown, class_made, parent_names, with_record, defined, define_fault}
 use Rattle.jl_types.specs.Resolution.{first_of}
 use Rattle.jl_types.specs.declared.refusal.DefineFault.TheVariants.{UnknownLoader, SecondObject, MissingParent}
 use Rattle.jl_types.proofs.Firsts.{test_none}
@@ -147,13 +147,19 @@ module _ (cs : Classes) (first : ObjectComesFirst cs) (loader : ℕ) (file : Cla
   abbrev new : Classes
   new = defined cs loader file
 
-  first_ones : (then_some (nat_le (length cs.loaders) loader) UnknownLoader ≡ None)
+  first_ones : (then_some (is_unknown cs loader) UnknownLoader ≡ None)
       × (then_some (bytes_eq file.name object && not (loader == 0)) SecondObject ≡ None)
       × (option_map MissingParent (find (λ name. is_none (lookup cs loader name)) (parent_names file)) ≡ None)
   first_ones = some_none _ _ _ _ _ _ none
 
   loader_there : loader < length cs.loaders
-  loader_there = leb-false (length cs.loaders) loader (test_none (nat_le (length cs.loaders) loader) UnknownLoader first_ones.0)
+  loader_there =
+      leb-false (length cs.loaders) loader
+      (first_part (nat_le (length cs.loaders) loader) (is_retired cs loader) (test_none (is_unknown cs loader) UnknownLoader first_ones.0))
+    where
+      first_part : (a b : Bool) → (a || b) ≡ false → a ≡ false
+      first_part true b e = cc
+      first_part false b e = refl
 
   no_second : (bytes_eq file.name object && not (loader == 0)) ≡ false
   no_second = test_none (bytes_eq file.name object && not (loader == 0)) SecondObject first_ones.1

@@ -1,10 +1,10 @@
--- What definitions, delegations and new loaders leave as it was.
-use Rattle.std.specs.Prelude.{◌≡◌, ℕ, ◌<◌, ◌&&◌, Bool, true, List, [], ◌∷◌, ◌++◌, length, slice_get, Some, None, is_some, if◌then◌else◌}
+-- What definitions, delegations, new loaders and retirements leave as it was.
+use Rattle.std.specs.Prelude.{◌≡◌, ℕ, ◌<◌, ◌&&◌, Bool, true, false, List, [], ◌∷◌, ◌++◌, length, slice_get, Some, None, is_some, if◌then◌else◌}
 use Rattle.std.specs.List.{AllByRecursion}
 use Rattle.jl_classfile.specs.Class.{ClassFile}
 use Rattle.jl_classfile.specs.Conditions.{object}
 use Rattle.jl_types.specs.World.{Class, Classes}
-use Rattle.jl_types.specs.Members.{lookup, is_concrete, is_interface}
+use Rattle.jl_types.specs.Members.{lookup, is_retired, is_present, is_concrete, is_interface}
 use Rattle.jl_types.specs.Ancestry.{is_ancestor, AreOrdered}
 use Rattle.jl_types.specs.Ancestry as ancestry
 use Rattle.jl_types.specs.Access.{nest_host}
@@ -19,19 +19,27 @@ pub record ObjectComesFirst (cs : Classes) : Type 0 where
   pub recorded : (loader : ℕ) → has_object cs loader ≡ true → has_object cs 0 ≡ true
   pub interfaces : (c : ℕ) → is_interface cs c ≡ true → has_object cs 0 ≡ true
 
+-- What is present rests on what is present: loader 0 is, and so are the ancestors of present classes and what present loaders have
+-- recorded.
+pub record IsClosed (cs : Classes) : Type 0 where
+  pub first : is_retired cs 0 ≡ false
+  pub ancestors : (a x : ℕ) → is_ancestor cs a x ≡ true → is_present cs x ≡ true → is_present cs a ≡ true
+  pub records : (loader : ℕ) (name : List ℕ) (c : ℕ) → is_retired cs loader ≡ false → lookup cs loader name ≡ Some c → is_present cs c ≡ true
+
 -- The order in which there come to be classes: what loaders have recorded is there, each class's parents were defined before it,
--- and java/lang/Object comes first.
+-- java/lang/Object comes first, and what is present rests on what is present.
 pub record AreInOrder (cs : Classes) : Type 0 where
   pub there : AllByRecursion (AllByRecursion (λ r. r.1 < length cs.rows)) cs.loaders
   pub ordered : AreOrdered cs.rows
   pub object : ObjectComesFirst cs
+  pub closed : IsClosed cs
 
--- each class stays, with its ancestors, what a loader has recorded stays, and a nest host that is known
+-- each class stays, with its ancestors, and of what isn't retired what a loader has recorded and a nest host that is known
 pub record Stays (old new : Classes) : Type 0 where
   pub rows : (c : ℕ) (row : Class) → slice_get old.rows c ≡ Some row → slice_get new.rows c ≡ Some row
-  pub records : (loader : ℕ) (name : List ℕ) (c : ℕ) → lookup old loader name ≡ Some c → lookup new loader name ≡ Some c
+  pub records : (loader : ℕ) (name : List ℕ) (c : ℕ) → is_retired new loader ≡ false → lookup old loader name ≡ Some c → lookup new loader name ≡ Some c
   pub ancestors : (c : ℕ) → c < length old.rows → ancestry.ancestors new.rows c ≡ ancestry.ancestors old.rows c
-  pub hosts : (c host : ℕ) → nest_host old c ≡ Some host → nest_host new c ≡ Some host
+  pub hosts : (c host : ℕ) → is_present new c ≡ true → nest_host old c ≡ Some host → nest_host new c ≡ Some host
 
 -- the class that is added comes last among the receivers of those that are above it, where objects may be of it, and all
 -- other receivers stay

@@ -1,6 +1,6 @@
 -- The faults of a definition as they are tested: before the parents are looked up, and those of the superclass alone. A means
 -- of proof.
-use Rattle.std.specs.Prelude.{ℕ, ◌+◌, Bool, true, false, not, ◌&&◌, ◌||◌, ◌==◌, nat_le, List, [], ◌∷◌, length, slice_get, Option, Some, None, option_map, option_and_then, option_to_list, is_some}
+use Rattle.std.specs.Prelude.{ℕ, ◌+◌, Bool, true, false, not, ◌&&◌, ◌||◌, ◌==◌, List, [], ◌∷◌, slice_get, Option, Some, None, option_map, option_and_then, option_to_list, is_some}
 use Rattle.std.specs.List.{list_any}
 use Rattle.std.specs.Bool.{then_some}
 use Rattle.std.specs.Str.{bytes_eq}
@@ -11,11 +11,11 @@ use Rattle.jl_types.specs.declared.refusal.DefineFault.{DefineFault}
 use Rattle.jl_types.specs.declared.refusal.DefineFault.TheVariants.{UnknownLoader, SecondObject, AlreadyRecorded, NamesItself, SuperIsInterface, FinalSuper}
 use Rattle.jl_types.specs.World.{Class, Classes}
 use Rattle.jl_types.specs.Members.{lookup, is_interface}
-use Rattle.jl_types.specs.Definitions.{parent_names, named_test, is_final}
+use Rattle.jl_types.specs.Definitions.{is_unknown, parent_names, named_test, is_final}
 
 abbrev pub first_faults : Classes → ℕ → ClassFile → List (Option DefineFault)
 first_faults cs loader file =
-    then_some (nat_le (length cs.loaders) loader) UnknownLoader
+    then_some (is_unknown cs loader) UnknownLoader
     ∷ then_some (bytes_eq file.name object && not (loader == 0)) SecondObject
     ∷ then_some (is_some (lookup cs loader file.name)) AlreadyRecorded
     ∷ then_some (list_any (bytes_eq file.name) (parent_names file)) NamesItself

@@ -5,7 +5,7 @@ use Rattle.smallvec.specs.SmallVec.{SmallVec, HasRoomFor}
 use Rattle.jl_types.specs.World.{Classes}
 use Rattle.jl_types.specs.Members.{numbers, recorded}
 use Rattle.jl_types.specs.Ancestry.{AreOrdered, ancestors, receivers}
-use Rattle.jl_hierarchy.specs.Constancy.{ObjectComesFirst}
+use Rattle.jl_hierarchy.specs.Constancy.{ObjectComesFirst, IsClosed}
 
 -- the names of a map, each with its number
 abbrev pub named : {A : Type 0} → List (Vec ℕ A × ℕ) → List (List ℕ × ℕ)
@@ -21,11 +21,12 @@ abbrev pub lists : List (SmallVec ℕ) → List (List ℕ)
 lists vectors = map (λ v. v.items) vectors
 
 -- Of each class its ancestors and its receivers are kept. What loaders have recorded is there, and parents come first, as
--- java/lang/Object does.
+-- java/lang/Object does. What is present rests on what is present.
 pub record IsKept (cs : Classes) (above below : List (List ℕ)) : Type 0 where
   pub there : AllByRecursion (AllByRecursion (λ r. r.1 < length cs.rows)) cs.loaders
   pub ordered : AreOrdered cs.rows
   pub object : ObjectComesFirst cs
+  pub closed : IsClosed cs
   pub few : length cs.rows ≤ 65536
   pub few_loaders : length cs.loaders ≤ 1024
   pub ancestors_kept : above ≡ map (ancestors cs.rows) (numbers cs)

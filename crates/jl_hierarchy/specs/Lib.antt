@@ -5,3 +5,4 @@ pub mod Faults
 pub mod Defaults
 pub mod Prints
 pub mod Redeclared
+pub mod Retiring

@@ -13,7 +13,7 @@ use Rattle.jl_hierarchy.specs.Prints.{print_of_method}
 
 -- what is said of classes hangs on these alone
 abbrev pub of_rows : List Class → Classes
-of_rows rows = record { loaders = []; rows = rows }
+of_rows rows = record { loaders = []; rows = rows; retired = [] }
 
 -- the marks that are kept: of a class with a print, and of classes of which every print is marked, a test for each number
 abbrev pub Marked : Type 0

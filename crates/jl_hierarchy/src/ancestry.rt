@@ -37,18 +37,18 @@ impl Classes {
         ancestor != class && self.is_ancestor(ancestor, class)
     }
 
-    /// Whether objects may be of the class: it is neither an interface nor abstract.
+    /// Whether objects may be of the class: it is neither an interface nor abstract, and its loader isn't retired.
     pub fn is_concrete(&self, class: ClassId) -> bool
         ensures { result ≡ members.is_concrete self.now class }
     {
         match self.class_at(class) {
-            Some(row) => is_concrete(row),
+            Some(row) => is_concrete(row) && !self.is_retired(row.loader()),
             None => false,
         }
     }
 
-    /// The classes that objects may be of which are of the class: those that are neither an interface nor abstract and have
-    /// it among their ancestors.
+    /// The classes that objects may be of which are of the class: those that are neither an interface nor abstract nor retired
+    /// and have it among their ancestors.
     pub fn receivers(&self, class: ClassId) -> &[ClassId]
         requires { class < length self.now.rows }
         ensures { result.now ≡ ancestry.receivers self.now class }

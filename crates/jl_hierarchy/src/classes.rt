@@ -12,6 +12,7 @@ use crate::loader::Loader;
 use crate::marks::Marks;
 use crate::receiving::Receivers;
 use crate::row::Row;
+use indexmap::IndexSet;
 use jl_paged::Paged;
 use jl_types::{Class, ClassId, LoaderId};
 use std::alloc::{AllocError, Global};
@@ -29,6 +30,8 @@ pub struct Classes {
     pub(crate) above: Paged<Kin>,
     /// Of each class its receivers, rising.
     pub(crate) below: Vec<Receivers>,
+    /// The retired loaders, in the order in which they went.
+    pub(crate) retired: IndexSet<LoaderId>,
     /// Of each class the methods that it sees and a proper subclass declares again. There may be more.
     pub(crate) marks: Arc<Marks>,
     /// Whether each ancestor of a class that isn't an interface is one of its superclasses.
@@ -43,6 +46,7 @@ impl Drop for Classes {
             rows: _rows,
             above: _above,
             below: _below,
+            retired: _retired,
             marks: _marks,
             are_lines: _are_lines,
         } = self;
@@ -56,9 +60,9 @@ impl Model for Classes {
 
     ghost Value = { Classes };
 
-    ghost view = { λ c. record { loaders = c.loaders.items; rows = c.rows.items } };
+    ghost view = { λ c. record { loaders = c.loaders.items; rows = c.rows.items; retired = c.retired.keys } };
 
-    ghost invariant = { λ c. IsKept (record { loaders = c.loaders.items; rows = c.rows.items }) c.above.items (lists c.below.items)
+    ghost invariant = { λ c. IsKept (record { loaders = c.loaders.items; rows = c.rows.items; retired = c.retired.keys }) c.above.items (lists c.below.items)
         × IsIndexed c.rows.items c.marks.value c.are_lines };
 }
 
@@ -74,6 +78,7 @@ impl Classes {
             rows: Paged::new(alloc),
             above: Paged::new(alloc),
             below: Vec::new(alloc),
+            retired: IndexSet::new(alloc),
             marks: Arc::new(alloc, Marks::new(alloc))?,
             are_lines: true,
         })
@@ -113,9 +118,9 @@ impl Classes {
         self.class_count()
     }
 
-    /// Whether there is a class of this number.
+    /// Whether a class of this number was defined, be it retired or not.
     pub fn has_class(&self, class: ClassId) -> bool
-        ensures { result ≡ members.is_present self.now class }
+        ensures { result ≡ members.has_class self.now class }
     {
         self.class_at(class).is_some()
     }

@@ -20,6 +20,7 @@ impl Classes {
             rows: self.rows.copy(alloc)?,
             above: self.above.copy(alloc)?,
             below: copy_below(alloc, self.below.as_slice())?,
+            retired: self.retired.clone()?,
             marks: Arc::try_clone(&self.marks)?,
             are_lines: self.are_lines,
         })

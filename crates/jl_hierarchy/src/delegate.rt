@@ -1,6 +1,6 @@
 //! New loaders, and delegation (JVMS SE 17 §5.3).
 
-ghost use Rattle.std.specs.Prelude.{◌≡◌, ◌↔◌, nat_le, ℕ, ◌<◌, ◌≤◌, ◌++◌, ◌∷◌, [], Some, None, Err, length, IfOk, IfErr, OnOk, OnErr};
+ghost use Rattle.std.specs.Prelude.{false, ◌≡◌, ◌↔◌, nat_le, ℕ, ◌<◌, ◌≤◌, ◌++◌, ◌∷◌, [], Some, None, Err, length, IfOk, IfErr, OnOk, OnErr};
 ghost use Rattle.jl_types.specs.declared.refusal.DelegateFault.{DelegateFault};
 ghost use Rattle.jl_types.specs.declared.refusal.OrMemory.TheVariants as or_memory;
 ghost use Rattle.jl_types.specs.Definitions as definitions;
@@ -141,7 +141,7 @@ impl Classes {
         requires loader { loader < length self.old.loaders }
         requires fresh { members.lookup self.old loader name.now ≡ None }
         requires there { class < length self.old.rows }
-        requires recorded { (to : ℕ) × (members.lookup self.old to name.now ≡ Some class) }
+        requires recorded { (to : ℕ) × (members.is_retired self.old to ≡ false) × (members.lookup self.old to name.now ≡ Some class) }
         ensures ok { OnOk result (self.new ≡ record self.old { loaders = definitions.with_record self.old.loaders loader name.now class }) }
         ensures in_order { OnOk result (AreInOrder self.old) }
         ensures stays { OnOk result (Stays self.old self.new) }
@@ -163,6 +163,7 @@ impl Classes {
         name: &[u8],
         to: LoaderId,
     ) -> Result<ClassId, DelegateFault>
+        ensures alive { OnOk result (members.is_retired self.now to ≡ false) }
         ensures found { IfOk result (λ class. members.lookup self.now to name.now ≡ Some class) }
         ensures fresh { OnOk result (members.lookup self.now loader name.now ≡ None) }
         ensures loader { OnOk result (loader < length self.now.loaders) }
@@ -170,8 +171,7 @@ impl Classes {
         ensures accepted { OnOk result (definitions.delegate_fault self.now loader name.now to ≡ None) }
         ensures fault { IfErr result (λ f. definitions.delegate_fault self.now loader name.now to ≡ Some f) }
     {
-        let count = self.loaders.len();
-        if loader.number() as usize >= count || to.number() as usize >= count {
+        if self.lacks_loader(loader) || self.lacks_loader(to) {
             return Err(DelegateFault::UnknownLoader);
         }
         let Some(class) = self.lookup(to, name) else {

@@ -62,7 +62,7 @@ impl Classes {
     fn first_fault(&self, loader: LoaderId, file: &ClassFile) -> Option<DefineFault>
         ensures { result ≡ first_of (first_faults self.now loader file.now) }
     {
-        if loader.number() as usize >= self.loaders.len() {
+        if self.lacks_loader(loader) {
             return Some(DefineFault::UnknownLoader);
         }
         let name = file.name().as_slice();

@@ -91,11 +91,18 @@ impl Classes {
             ≡ (if members.is_concrete (definitions.defined self.now loader file.now) (length self.now.rows)
             then ancestry.ancestors (definitions.defined self.now loader file.now).rows (length self.now.rows) else [])) }
     {
-        if !is_concrete_file(file) {
+        if !self.makes_receiver(loader, file) {
             return Ok(Vec::new(alloc));
         }
         let gaining = self.ancestors_if_defined(alloc, loader, file)?;
         Ok(gaining)
+    }
+
+    /// Whether objects may be of the class that the loader would make of the file.
+    fn makes_receiver(&self, loader: LoaderId, file: &ClassFile) -> bool
+        ensures { result ≡ members.is_concrete (definitions.defined self.now loader file.now) (length self.now.rows) }
+    {
+        is_concrete_file(file) && !self.is_retired(loader)
     }
 
     /// The ancestors, by rising number, of the class that the loader would make of the file, and itself as the last. Want of

@@ -23,6 +23,7 @@ mod nests;
 mod object;
 mod receiving;
 mod redeclared;
+mod retire;
 mod row;
 mod sought;
 mod upward;

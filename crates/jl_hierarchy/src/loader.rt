@@ -1,11 +1,16 @@
 //! What one loader finds by name.
 
 ghost use Rattle.std.specs.Prelude.{◌≡◌, ◌<◌, ◌++◌, ◌∷◌, [], true, None, length, slice_get, option_and_then, IfOk, OnOk, OnErr};
+ghost use Rattle.std.specs.List.{list_any};
 ghost use Rattle.jl_types.specs.Members.{recorded};
 ghost use Rattle.jl_types.specs.Definitions.{with_record};
 ghost use Rattle.jl_hierarchy.specs.Kept.{are_new};
+ghost use Rattle.jl_hierarchy.specs.Retiring.{is_row_of};
 
+use crate::retire::is_row_of;
+use crate::row::Row;
 use indexmap::IndexMap;
+use jl_paged::Paged;
 use jl_types::{ClassId, LoaderId};
 use std::alloc::{AllocError, Global};
 use std::marker::Model;
@@ -54,6 +59,13 @@ impl Loader {
     {
         let recent = &self.recent;
         self.older.get(name).or_else(|| recent.get(name))
+    }
+
+    /// Whether one of the classes that are recorded is of the loader.
+    pub(crate) fn has_one_of(&self, rows: &Paged<Row>, loader: LoaderId) -> bool
+        ensures { result ≡ list_any (λ r. is_row_of rows.now.items loader r.1) self.now }
+    {
+        self.older.has_one_of(rows, loader) || self.recent.has_one_of(rows, loader)
     }
 
     /// The same loader once more, which both share. Too many copies are an error.
@@ -192,6 +204,21 @@ impl Records {
         ensures { result ≡ recorded name.now self.now }
     {
         self.records.get(name).copied()
+    }
+
+    /// Whether one of the classes is of the loader.
+    fn has_one_of(&self, rows: &Paged<Row>, loader: LoaderId) -> bool
+        ensures { result ≡ list_any (λ r. is_row_of rows.now.items loader r.1) self.now }
+    {
+        let _count = self.records.len();
+        let mut place = 0;
+        while let Some((_, class)) = self.records.get_index(place) {
+            if is_row_of(rows, loader, *class) {
+                return true;
+            }
+            place += 1;
+        }
+        false
     }
 
     /// How many names there are.

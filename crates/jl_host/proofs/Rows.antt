@@ -11,6 +11,7 @@ use Rattle.jl_types.specs.declared.refusal.CallSiteFault.TheVariants as site
 use Rattle.jl_types.specs.declared.refusal.NotLinkable.TheVariants.{ArrayReceiver, PolymorphicSignature}
 use Rattle.jl_types.specs.declared.refusal.PrepareFault.TheVariants as preparation
 use Rattle.jl_types.specs.declared.refusal.Refusal.TheVariants as refusal
+use Rattle.jl_types.specs.declared.refusal.RetireFault.TheVariants as retirement
 use Rattle.jl_types.specs.declared.answer.Answer.TheVariants as answer
 use Rattle.jl_types.specs.declared.answer.Fast.TheVariants.{Now, Miss}
 use Rattle.jl_types.specs.declared.answer.Missing.TheVariants.{Named, CallerHost, MethodHost}
@@ -37,8 +38,9 @@ statuses = refl
 
 refusals : map status_of_refusal (refusal.Define definition.Full ∷ refusal.UnknownClass ∷ refusal.NoSuchPlace ∷ refusal.NotLinkable ArrayReceiver ∷ refusal.SitesFull
     ∷ refusal.CallSite site.Full ∷ refusal.NotDynamic ∷ refusal.AlreadyBound 0 ∷ refusal.TypeMismatch ∷ refusal.Stale 0 link.Mega ∷ refusal.NotReady 0 ∷ refusal.UnknownSite 0
-    ∷ refusal.Repeated 0 ∷ refusal.BatchSize ∷ refusal.Memory ∷ refusal.Delegate delegation.NotRecorded ∷ refusal.LoadersFull ∷ [])
-    ≡ 1 ∷ 2 ∷ 3 ∷ 4 ∷ 5 ∷ 6 ∷ 7 ∷ 8 ∷ 9 ∷ 10 ∷ 11 ∷ 12 ∷ 13 ∷ 14 ∷ 15 ∷ 16 ∷ 17 ∷ []
+    ∷ refusal.Repeated 0 ∷ refusal.BatchSize ∷ refusal.Memory ∷ refusal.Delegate delegation.NotRecorded ∷ refusal.LoadersFull
+    ∷ refusal.Retire retirement.FirstLoader ∷ [])
+    ≡ 1 ∷ 2 ∷ 3 ∷ 4 ∷ 5 ∷ 6 ∷ 7 ∷ 8 ∷ 9 ∷ 10 ∷ 11 ∷ 12 ∷ 13 ∷ 14 ∷ 15 ∷ 16 ∷ 17 ∷ 19 ∷ []
 refusals = refl
 
 unprepared : map status_of_unprepared (preparation.NotReady 0 ∷ preparation.UnknownSite 0 ∷ preparation.Repeated 0 ∷ preparation.BatchSize ∷ preparation.Memory ∷ [])
@@ -52,8 +54,9 @@ definitions : map define_number (definition.UnknownLoader ∷ definition.Already
     ≡ 1 ∷ 2 ∷ 3 ∷ 4 ∷ 5 ∷ 6 ∷ 7 ∷ 8 ∷ 9 ∷ 10 ∷ []
 definitions = refl
 
-call_sites : map call_site_number (site.UnknownCallSite ∷ site.Constant ∷ site.WrongType ∷ site.UnknownMethod ∷ site.NotStatic ∷ site.UnknownSwitch ∷ site.TooDeep ∷ site.Full ∷ [])
-    ≡ 1 ∷ 2 ∷ 3 ∷ 4 ∷ 5 ∷ 6 ∷ 7 ∷ 8 ∷ []
+call_sites : map call_site_number (site.UnknownCallSite ∷ site.Constant ∷ site.WrongType ∷ site.UnknownMethod ∷ site.NotStatic ∷ site.UnknownSwitch ∷ site.TooDeep ∷ site.Full
+    ∷ site.InvokerOrder 7 ∷ [])
+    ≡ 1 ∷ 2 ∷ 3 ∷ 4 ∷ 5 ∷ 6 ∷ 7 ∷ 8 ∷ 9 ∷ []
 call_sites = refl
 
 delegations : map delegate_number (delegation.UnknownLoader ∷ delegation.NotRecorded ∷ delegation.AlreadyRecorded ∷ []) ≡ 1 ∷ 2 ∷ 3 ∷ []
@@ -76,9 +79,9 @@ five told = told.number ∷ told.fault ∷ told.place ∷ told.cause ∷ told.at
 told_events : map five (told_of_reply (record { made = made.Class 7; dropped = 3 ∷ [] }) ∷ told_of_refusal (refusal.Define definition.FinalSuper)
     ∷ told_of_refusal (refusal.NotLinkable PolymorphicSignature) ∷ told_of_refusal (refusal.CallSite site.TooDeep) ∷ told_of_refusal (refusal.Delegate delegation.AlreadyRecorded)
     ∷ told_of_refusal (refusal.AlreadyBound 7) ∷ told_of_refusal (refusal.Stale 7 link.Mega) ∷ told_of_refusal (refusal.NotReady 7) ∷ told_of_refusal (refusal.UnknownSite 7)
-    ∷ told_of_refusal (refusal.Repeated 7) ∷ told_of_refusal refusal.SitesFull ∷ told_of_unprepared (preparation.NotReady 7) ∷ [])
+    ∷ told_of_refusal (refusal.Repeated 7) ∷ told_of_refusal refusal.SitesFull ∷ told_of_unprepared (preparation.NotReady 7) ∷ told_of_refusal (refusal.CallSite (site.InvokerOrder 7)) ∷ [])
     ≡ (7 ∷ 0 ∷ 0 ∷ 0 ∷ 0 ∷ []) ∷ (0 ∷ 6 ∷ 0 ∷ 0 ∷ 0 ∷ []) ∷ (0 ∷ 2 ∷ 0 ∷ 0 ∷ 0 ∷ []) ∷ (0 ∷ 7 ∷ 0 ∷ 0 ∷ 0 ∷ []) ∷ (0 ∷ 3 ∷ 0 ∷ 0 ∷ 0 ∷ []) ∷ (0 ∷ 0 ∷ 7 ∷ 0 ∷ 0 ∷ [])
-    ∷ (0 ∷ 0 ∷ 7 ∷ 0 ∷ 0 ∷ []) ∷ (0 ∷ 0 ∷ 7 ∷ 0 ∷ 0 ∷ []) ∷ (0 ∷ 0 ∷ 7 ∷ 0 ∷ 0 ∷ []) ∷ (0 ∷ 0 ∷ 7 ∷ 0 ∷ 0 ∷ []) ∷ (0 ∷ 0 ∷ 0 ∷ 0 ∷ 0 ∷ []) ∷ (0 ∷ 0 ∷ 7 ∷ 0 ∷ 0 ∷ []) ∷ []
+    ∷ (0 ∷ 0 ∷ 7 ∷ 0 ∷ 0 ∷ []) ∷ (0 ∷ 0 ∷ 7 ∷ 0 ∷ 0 ∷ []) ∷ (0 ∷ 0 ∷ 7 ∷ 0 ∷ 0 ∷ []) ∷ (0 ∷ 0 ∷ 7 ∷ 0 ∷ 0 ∷ []) ∷ (0 ∷ 0 ∷ 0 ∷ 0 ∷ 0 ∷ []) ∷ (0 ∷ 0 ∷ 7 ∷ 0 ∷ 0 ∷ []) ∷ (0 ∷ 9 ∷ 7 ∷ 0 ∷ 0 ∷ []) ∷ []
 told_events = refl
 
 told_files : map (λ f. five (told_of_file f)) (file.TooLarge ∷ file.BadMagic ∷ file.BadVersion ∷ file.Truncated ∷ file.Pool pool.Truncated ∷ file.Pool (pool.BadTag 9)

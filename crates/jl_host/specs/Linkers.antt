@@ -132,6 +132,9 @@ IsInvalidate points = IfOpenWithMemory (IsAsked (event.Invalidate points))
 abbrev pub IsBind : ℕ → ℕ → Option Opened → ℕ → Told → Option Opened → Type 0
 IsBind s c = IfOpen (IsAsked (event.Bind s c))
 
+abbrev pub IsRetire : ℕ → Option Opened → ℕ → Told → Option Opened → Type 0
+IsRetire loader = IfOpen (IsAsked (event.Retire loader))
+
 -- by what the preparation of the sites came to
 abbrev pub IsInstallOf : Result Prepared PrepareFault → Opened → ℕ → Told → Opened → Type 0
 IsInstallOf (Ok prepared) old status told new = IsAsked (event.Install prepared.rows) old status told new

@@ -60,6 +60,7 @@ status_of_refusal refusal.BatchSize = 14
 status_of_refusal refusal.Memory = memory
 status_of_refusal (refusal.Delegate fault) = 16
 status_of_refusal refusal.LoadersFull = 17
+status_of_refusal (refusal.Retire fault) = 19
 
 abbrev pub define_number : DefineFault → ℕ
 define_number definition.UnknownLoader = 1
@@ -82,6 +83,12 @@ call_site_number site.NotStatic = 5
 call_site_number site.UnknownSwitch = 6
 call_site_number site.TooDeep = 7
 call_site_number site.Full = 8
+call_site_number (site.InvokerOrder c) = 9
+
+-- the call site that a fault is about, if any
+abbrev pub invoked_in : CallSiteFault → ℕ
+invoked_in (site.InvokerOrder c) = c
+invoked_in _ = 0
 
 abbrev pub delegate_number : DelegateFault → ℕ
 delegate_number delegation.UnknownLoader = 1

@@ -9,10 +9,12 @@ use Rattle.jl_classfile.specs.declared.fault.ClassFault.TheVariants as file
 use Rattle.jl_types.specs.declared.event.Reply.{Reply}
 use Rattle.jl_types.specs.declared.refusal.PrepareFault.{PrepareFault}
 use Rattle.jl_types.specs.declared.refusal.PrepareFault.TheVariants as preparation
+use Rattle.jl_types.specs.declared.refusal.RetireFault.{RetireFault}
+use Rattle.jl_types.specs.declared.refusal.RetireFault.TheVariants as retirement
 use Rattle.jl_types.specs.declared.refusal.Refusal.{Refusal}
 use Rattle.jl_types.specs.declared.refusal.Refusal.TheVariants as refusal
 use Rattle.jl_host.specs.declared.told.Told.{Told}
-use Rattle.jl_host.specs.Numbers.{done, status_of_refusal, define_number, call_site_number, delegate_number, not_linkable_number, number_of}
+use Rattle.jl_host.specs.Numbers.{done, status_of_refusal, define_number, call_site_number, invoked_in, delegate_number, not_linkable_number, number_of}
 
 abbrev pub nothing : Told
 nothing = record { number = 0; fault = 0; place = 0; cause = 0; at = 0 }
@@ -31,10 +33,17 @@ at_place fault place = record { number = 0; fault = fault; place = place; cause 
 abbrev pub told_of_reply : Reply → Told
 told_of_reply reply = record { number = number_of reply.made; fault = 0; place = 0; cause = 0; at = 0 }
 
+abbrev pub told_of_retirement : RetireFault → Told
+told_of_retirement retirement.UnknownLoader = with_fault 1
+told_of_retirement retirement.FirstLoader = with_fault 2
+told_of_retirement (retirement.Inherited c) = at_place 3 c
+told_of_retirement (retirement.Recorded loader) = at_place 4 loader
+told_of_retirement (retirement.Targeted c) = at_place 5 c
+
 abbrev pub told_of_refusal : Refusal → Told
 told_of_refusal (refusal.Define fault) = with_fault (define_number fault)
 told_of_refusal (refusal.NotLinkable reason) = with_fault (not_linkable_number reason)
-told_of_refusal (refusal.CallSite fault) = with_fault (call_site_number fault)
+told_of_refusal (refusal.CallSite fault) = at_place (call_site_number fault) (invoked_in fault)
 told_of_refusal (refusal.Delegate fault) = with_fault (delegate_number fault)
 told_of_refusal (refusal.AlreadyBound c) = with_place c
 told_of_refusal (refusal.Stale s link) = with_place s
@@ -49,6 +58,7 @@ told_of_refusal refusal.TypeMismatch = nothing
 told_of_refusal refusal.BatchSize = nothing
 told_of_refusal refusal.Memory = nothing
 told_of_refusal refusal.LoadersFull = nothing
+told_of_refusal (refusal.Retire fault) = told_of_retirement fault
 
 -- by what the event came to
 abbrev pub status_of : Result Reply Refusal → ℕ

@@ -3,7 +3,7 @@
 ghost use Rattle.std.specs.Prelude.{◌≡◌, Some, None, option_map, IfOk, OnErr};
 ghost use Rattle.jl_host.specs.Seats.{seen_of};
 ghost use Rattle.jl_host.specs.Linkers.{IsOpen, IsNewLoader, IsDefine, IsDelegate, IsRequest, IsNewCallSite, IsSetTarget, IsNewSwitch, IsInvalidate};
-ghost use Rattle.jl_host.specs.Linkers.{IsBind, IsInstall, IsDropped, IsTake, IsCall, IsLinkOf, IsAnswer, kind_of, IfOpen, IsAsked, Opened as OpenedValue};
+ghost use Rattle.jl_host.specs.Linkers.{IsBind, IsRetire, IsInstall, IsDropped, IsTake, IsCall, IsLinkOf, IsAnswer, kind_of, IfOpen, IsAsked, Opened as OpenedValue};
 
 use crate::arrays::{copy_sites, copy_text, sites_of, switches_of};
 use crate::opened::Opened;
@@ -208,6 +208,13 @@ impl Linker {
     {
         let event = Event::Bind(SiteNo::new(site), CallSiteId::new(call_site));
         self.ask(alloc, event, told)
+    }
+
+    /// The loader goes, with the classes that it has defined and the sites in them (JLS SE 17 §12.7).
+    pub fn retire(&mut self, alloc: Global, loader: u32, told: &mut Told) -> u32
+        ensures { IsRetire loader self.old result told.new self.new }
+    {
+        self.ask(alloc, Event::Retire(LoaderId::new(loader)), told)
     }
 
     /// The sites are linked from scratch, 1 to 256 of them, and their links installed: all or none.

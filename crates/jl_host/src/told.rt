@@ -9,6 +9,7 @@ use jl_code::CodeFault;
 use jl_pool::PoolFault;
 use jl_types::{
     CallSiteFault, DefineFault, DelegateFault, Made, NotLinkable, PrepareFault, Refusal, Reply,
+    RetireFault,
 };
 
 /// The status of a call that did what was asked.
@@ -72,6 +73,17 @@ impl Told {
         }
     }
 
+    /// One with a fault and a place.
+    fn at_place(fault: u32, place: u32) -> Told
+        ensures { result ≡ telling.at_place fault place }
+    {
+        Told {
+            fault,
+            place,
+            ..Told::nothing()
+        }
+    }
+
     /// One with a place.
     fn place(place: u32) -> Told
         ensures { result ≡ telling.with_place place }
@@ -129,6 +141,7 @@ fn status_of_refusal(refusal: &Refusal) -> u32
         Refusal::Memory => 15,
         Refusal::Delegate(_) => 16,
         Refusal::LoadersFull => 17,
+        Refusal::Retire(_) => 19,
     }
 }
 
@@ -163,6 +176,17 @@ fn call_site_number(fault: &CallSiteFault) -> u32
         CallSiteFault::UnknownSwitch => 6,
         CallSiteFault::TooDeep => 7,
         CallSiteFault::Full => 8,
+        CallSiteFault::InvokerOrder(_) => 9,
+    }
+}
+
+/// The call site that a call site's fault is about, if any.
+fn invoked_in(fault: &CallSiteFault) -> u32
+    ensures { result ≡ numbers.invoked_in fault.now }
+{
+    match fault {
+        CallSiteFault::InvokerOrder(invoked) => invoked.number(),
+        _ => 0,
     }
 }
 
@@ -187,6 +211,30 @@ fn not_linkable_number(reason: &NotLinkable) -> u32
     }
 }
 
+/// What is told of a call site's fault.
+fn told_of_call_site(fault: &CallSiteFault) -> Told
+    ensures { result ≡ telling.at_place (numbers.call_site_number fault.now) (numbers.invoked_in fault.now) }
+{
+    Told {
+        fault: call_site_number(fault),
+        place: invoked_in(fault),
+        ..Told::nothing()
+    }
+}
+
+/// What is told of a loader that isn't retired.
+fn told_of_retirement(fault: &RetireFault) -> Told
+    ensures { result ≡ telling.told_of_retirement fault.now }
+{
+    match fault {
+        RetireFault::UnknownLoader => Told::fault(1),
+        RetireFault::FirstLoader => Told::fault(2),
+        RetireFault::Inherited(class) => Told::at_place(3, class.number()),
+        RetireFault::Recorded(loader) => Told::at_place(4, loader.number()),
+        RetireFault::Targeted(call_site) => Told::at_place(5, call_site.number()),
+    }
+}
+
 /// What is told of a refusal.
 fn told_of_refusal(refusal: &Refusal) -> Told
     ensures { result ≡ telling.told_of_refusal refusal.now }
@@ -194,7 +242,7 @@ fn told_of_refusal(refusal: &Refusal) -> Told
     match refusal {
         Refusal::Define(fault) => Told::fault(define_number(fault)),
         Refusal::NotLinkable(reason) => Told::fault(not_linkable_number(reason)),
-        Refusal::CallSite(fault) => Told::fault(call_site_number(fault)),
+        Refusal::CallSite(fault) => told_of_call_site(fault),
         Refusal::Delegate(fault) => Told::fault(delegate_number(fault)),
         Refusal::AlreadyBound(call_site) => Told::place(call_site.number()),
         Refusal::Stale { site, .. } => Told::place(site.number()),
@@ -209,6 +257,7 @@ fn told_of_refusal(refusal: &Refusal) -> Told
         Refusal::BatchSize => Told::nothing(),
         Refusal::Memory => Told::nothing(),
         Refusal::LoadersFull => Told::nothing(),
+        Refusal::Retire(fault) => told_of_retirement(fault),
     }
 }
 

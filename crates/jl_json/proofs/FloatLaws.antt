@@ -14,15 +14,19 @@ use Rattle.jl_types.specs.declared.event.Made.TheVariants as made
 use Rattle.jl_types.specs.declared.event.Reply.{Reply}
 use Rattle.jl_types.specs.declared.link.Link.{Link}
 use Rattle.jl_types.specs.declared.link.Link.TheVariants as link
+use Rattle.jl_types.specs.declared.refusal.CallSiteFault.{CallSiteFault}
+use Rattle.jl_types.specs.declared.refusal.CallSiteFault.TheVariants as call_site
 use Rattle.jl_types.specs.declared.refusal.DefineFault.{DefineFault}
 use Rattle.jl_types.specs.declared.refusal.DefineFault.TheVariants as define
 use Rattle.jl_types.specs.declared.refusal.PrepareFault.{PrepareFault}
 use Rattle.jl_types.specs.declared.refusal.PrepareFault.TheVariants as prepare
 use Rattle.jl_types.specs.declared.refusal.Refusal.{Refusal}
 use Rattle.jl_types.specs.declared.refusal.Refusal.TheVariants as refusal
+use Rattle.jl_types.specs.declared.refusal.RetireFault.{RetireFault}
+use Rattle.jl_types.specs.declared.refusal.RetireFault.TheVariants as retire
 use Rattle.jl_json.specs.CallAnswers.{unlinked_data, answer_data}
 use Rattle.jl_json.specs.ClassAnswers.{number_data}
-use Rattle.jl_json.specs.EventRefusals.{define_refusal_data, event_refusal_data, prepare_refusal_data}
+use Rattle.jl_json.specs.EventRefusals.{call_site_refusal_data, define_refusal_data, event_refusal_data, prepare_refusal_data, retire_refusal_data}
 use Rattle.jl_json.specs.LinkAnswers.{outcome_data, table_row_data, link_data}
 use Rattle.jl_json.specs.LinkAnswers.{site_link_data, site_links_data, links_data, prepared_data}
 use Rattle.jl_json.specs.Refusals as plain
@@ -113,6 +117,18 @@ reply_floats reply = made_floats reply.made _ (numbers_floats reply.dropped)
 
 -- ---- refused events and preparations
 
+call_site_floats : (fault : CallSiteFault) → has_float (call_site_refusal_data fault) ≡ false
+unfolding call_site_refusal_data
+call_site_floats call_site.UnknownCallSite = refl
+call_site_floats call_site.Constant = refl
+call_site_floats call_site.WrongType = refl
+call_site_floats call_site.UnknownMethod = refl
+call_site_floats call_site.NotStatic = refl
+call_site_floats call_site.UnknownSwitch = refl
+call_site_floats call_site.TooDeep = refl
+call_site_floats call_site.Full = refl
+call_site_floats (call_site.InvokerOrder invoked) = refl
+
 module _ (text_of : List ℕ → List ℕ) where
   define_floats : (fault : DefineFault) → has_float (define_refusal_data text_of fault) ≡ false
   unfolding define_refusal_data
@@ -127,6 +143,14 @@ module _ (text_of : List ℕ → List ℕ) where
   define_floats define.SecondObject = refl
   define_floats define.Full = refl
 
+  retire_floats : (fault : RetireFault) → has_float (retire_refusal_data fault) ≡ false
+  unfolding retire_refusal_data
+  retire_floats retire.UnknownLoader = refl
+  retire_floats retire.FirstLoader = refl
+  retire_floats (retire.Inherited class) = refl
+  retire_floats (retire.Recorded loader) = refl
+  retire_floats (retire.Targeted call_site) = refl
+
   pub event_refusal_floats : (r : Refusal) → has_float (event_refusal_data text_of r) ≡ false
   unfolding event_refusal_data
   event_refusal_floats (refusal.Define fault) = define_floats fault
@@ -135,7 +159,7 @@ module _ (text_of : List ℕ → List ℕ) where
   event_refusal_floats refusal.NoSuchPlace = refl
   event_refusal_floats (refusal.NotLinkable reason) = refl
   event_refusal_floats refusal.SitesFull = refl
-  event_refusal_floats (refusal.CallSite fault) = refl
+  event_refusal_floats (refusal.CallSite fault) = call_site_floats fault
   event_refusal_floats refusal.NotDynamic = refl
   event_refusal_floats (refusal.AlreadyBound bound) = refl
   event_refusal_floats refusal.TypeMismatch = refl
@@ -146,6 +170,7 @@ module _ (text_of : List ℕ → List ℕ) where
   event_refusal_floats refusal.Memory = refl
   event_refusal_floats (refusal.Delegate fault) = refl
   event_refusal_floats refusal.LoadersFull = refl
+  event_refusal_floats (refusal.Retire fault) = retire_floats fault
 
 pub prepare_refusal_floats : (fault : PrepareFault) → has_float (prepare_refusal_data fault) ≡ false
 unfolding prepare_refusal_data

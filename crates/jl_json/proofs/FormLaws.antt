@@ -12,11 +12,11 @@ use Rattle.serde_json.specs.Data.{Data}
 use Rattle.serde_json.specs.View.{items_of}
 use Rattle.jl_types.specs.declared.answer.Recv.{Recv}
 use Rattle.jl_types.specs.declared.answer.Recv.TheVariants.{Null, Of}
-use Rattle.jl_types.specs.declared.event.EventOf.TheVariants.{NewLoader, Define, Delegate, Request, Install}
+use Rattle.jl_types.specs.declared.event.EventOf.TheVariants.{NewLoader, Define, Delegate, Request, Install, Retire}
 use Rattle.jl_types.specs.declared.event.EventOf.TheVariants.{NewCallSite, SetTarget, NewSwitch, Invalidate, Bind}
 use Rattle.jl_types.specs.declared.target.CallSiteKind.{CallSiteKind}
 use Rattle.jl_types.specs.declared.target.CallSiteKind.TheVariants.{Constant, Mutable, Volatile}
-use Rattle.jl_types.specs.Target.{Target, Method, Guard}
+use Rattle.jl_types.specs.Target.{Target, Method, Guard, Invoker}
 use Rattle.jl_names.specs.MethodTypes.{IsMethodDescriptor}
 use Rattle.jl_pool.specs.Reading.Forms.{method_slots}
 use Rattle.jl_pool.proofs.FormLaws.{SlotsAre, method_slots-is}
@@ -27,7 +27,7 @@ use Rattle.jl_sketch.specs.declared.sketch.Sketch.{Sketch as SketchOf}
 use Rattle.jl_json.specs.ClassAnswers.{number_data}
 use Rattle.jl_json.specs.Members.{below, number_in, each_in, ◌>>=◌}
 use Rattle.jl_json.specs.Sketches.{name_in, sketch_of}
-use Rattle.jl_json.specs.Targets.{guard, target_in, target_under}
+use Rattle.jl_json.specs.Targets.{guard, method_or_invoker, target_in, target_under}
 use Rattle.jl_json.specs.Commands.{AskedEvent, recv_in, kind_in, is_method_descriptor, method_type, command_of}
 use Rattle.jl_json.specs.CommandForms.{recv_data, kind_name, target_data, event_data, command_data}
 use Rattle.jl_json.specs.CommandForms.{IsReceiver, IsTarget, IsEvent, IsCommand}
@@ -67,10 +67,10 @@ type_again ty is = some_slots ty (method_slots ty) (method_slots-is ty) is
 
 abbrev class_of_next : ℕ → Option ℕ → Option Target
 class_of_next index class =
-    option_map Method (class >>= (λ c. below (2 ^ 16) index >>= (λ i. Some (record { class = c; index = i }))))
+    method_or_invoker (class >>= (λ c. below (2 ^ 16) index >>= (λ i. Some (record { class = c; index = i })))) None
 
 abbrev index_next : ℕ → Option ℕ → Option Target
-index_next class index = option_map Method (index >>= (λ i. Some (record { class = class; index = i })))
+index_next class index = method_or_invoker (index >>= (λ i. Some (record { class = class; index = i }))) None
 
 abbrev guard_next : Target → Target → Option ℕ → Option Target
 guard_next first fallback switch = guard switch (target_in (target_data first)) (target_in (target_data fallback))
@@ -86,6 +86,7 @@ target_again (Guard p first fallback) h =
     ap (guard_next first fallback) (within (2 ^ 32) p h.0)
     ∙ ap (first_next p fallback) (target_again first h.1)
     ∙ ap (guard (Some p) (Some first)) (target_again fallback h.2)
+target_again (Invoker c) h = ap (method_or_invoker None) (within (2 ^ 32) c h)
 
 -- ---- commands
 
@@ -174,6 +175,7 @@ event_again written (Request place) h = ap (option_map Apply)
     ∙ ap (method_next place.pc place.class) (within (2 ^ 16) place.method h.1)
     ∙ ap (pc_next place.class place.method) (within (2 ^ 32) place.pc h.2))
 event_again written (Install batch) h = ap (option_map Apply) (ap (option_map Install) (within (2 ^ 32) batch h))
+event_again written (Retire loader) h = ap (option_map Apply) (ap (option_map Retire) (within (2 ^ 32) loader h))
 event_again written (NewCallSite kind ty target) h = ap (option_map Apply)
     (ap (kind_next written target) (kind_again kind)
     ∙ ap (type_next kind target) h.0

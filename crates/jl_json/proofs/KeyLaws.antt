@@ -20,7 +20,7 @@ use Rattle.serde_json.specs.Data.{Data, null, boolean, number, string, array, ob
 use Rattle.serde_json.specs.Find.{get, get_member, as_str}
 use Rattle.jl_names.proofs.Tests.{by_test}
 use Rattle.jl_types.specs.declared.answer.Recv.TheVariants.{Null}
-use Rattle.jl_types.specs.declared.event.EventOf.TheVariants.{NewLoader, Define, Delegate, Request, Install}
+use Rattle.jl_types.specs.declared.event.EventOf.TheVariants.{NewLoader, Define, Delegate, Request, Install, Retire}
 use Rattle.jl_types.specs.declared.event.EventOf.TheVariants.{NewCallSite, SetTarget, NewSwitch, Invalidate, Bind}
 use Rattle.jl_json.specs.declared.command.Command.{Command}
 use Rattle.jl_json.specs.declared.command.Command.TheVariants.{Apply, Prepare, Call, Links}
@@ -30,7 +30,7 @@ use Rattle.jl_json.specs.Members.{number_in, number_at, text_at, list_in, member
 use Rattle.jl_json.specs.Sketches.{name_in, name_at, sketch_of}
 use Rattle.jl_json.specs.Targets.{target_in, target_at}
 use Rattle.jl_json.specs.Commands.{numbers_at, file_at, recv_in, kind_in, kind_at, method_type, method_type_at, source_of}
-use Rattle.jl_json.specs.Commands.{define_of, delegate_of, request_of, prepare_of, install_of, call_of, call_on_of}
+use Rattle.jl_json.specs.Commands.{define_of, delegate_of, request_of, prepare_of, install_of, retire_of, call_of, call_on_of}
 use Rattle.jl_json.specs.Commands.{new_call_site_of, set_target_of, invalidate_of, bind_of}
 use Rattle.jl_json.specs.Commands.{AskedEvent, by_call_site_word, by_event_word, by_word, command_of}
 use Rattle.jl_json.specs.CommandForms.{event_data, command_data}
@@ -229,6 +229,14 @@ install_keys sketch ms a count asked e = mapped Install (number_at (2 ^ 32) (cod
     (named_alone (codes "do" ∷ codes "prepared" ∷ []) ms ((refl, tt), (tt, tt)) count
     (asked, (number_found (2 ^ 32) (codes "prepared") ms batch is, tt))))
 
+retire_keys : (sketch : Data) (ms : Members) (a : AskedEvent) → member_count ms ≡ 2 → Has (member_keys ms) (codes "do")
+    → retire_of (object ms) ≡ Some a → IsEventForm sketch ms a
+unfolding event_data
+retire_keys sketch ms a count asked e = mapped Retire (number_at (2 ^ 32) (codes "loader") (object ms)) a e
+    (λ loader is made. subst (IsEventForm sketch ms) made
+    (named_alone (codes "do" ∷ codes "loader" ∷ []) ms ((refl, tt), (tt, tt)) count
+    (asked, (number_found (2 ^ 32) (codes "loader") ms loader is, tt))))
+
 loader_keys : (sketch : Data) (ms : Members) (a : AskedEvent) → member_count ms ≡ 1 → Has (member_keys ms) (codes "do")
     → NewLoader ≡ a → IsEventForm sketch ms a
 unfolding event_data
@@ -383,7 +391,9 @@ event_word_keys sketch word ms a asked e =
     (λ n is. request_keys sketch ms a n asked is) (λ e4.
     here_or_on (bytes_eq word (codes "install")) (member_count ms) 2 _ _ a e4
     (λ n is. install_keys sketch ms a n asked is) (λ e5.
-    call_site_word_keys sketch word ms a asked e5)))))
+    here_or_on (bytes_eq word (codes "retire")) (member_count ms) 2 _ _ a e5
+    (λ n is. retire_keys sketch ms a n asked is) (λ e6.
+    call_site_word_keys sketch word ms a asked e6))))))
 
 applied_keys : (sketch : Data) (word : List ℕ) (ms : Members) (c : Command) → Has (member_keys ms) (codes "do")
     → option_map Apply (by_event_word word (member_count ms) (object ms)) ≡ Some c → IsForm sketch ms c

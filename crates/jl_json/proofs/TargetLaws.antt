@@ -16,9 +16,10 @@ use Rattle.serde_json.specs.Data.{depth, members_depth}
 use Rattle.serde_json.specs.Find.{get, get_member, as_array, as_object}
 use Rattle.serde_json.specs.View.{items_view}
 use Rattle.serde_json.specs.declared.value.Value.{Value}
-use Rattle.jl_types.specs.Target.{Target, Method, Guard}
+use Rattle.jl_types.specs.declared.ids.MethodId.{MethodId}
+use Rattle.jl_types.specs.Target.{Target, Method, Guard, Invoker}
 use Rattle.jl_json.specs.Members.{number_at, member_count, member_keys, keys_of, AreAmong, ◌>>=◌}
-use Rattle.jl_json.specs.Targets.{method_pair, method_at, guard, object_target, target_in, target_under, target_at}
+use Rattle.jl_json.specs.Targets.{method_pair, method_at, guard, method_or_invoker, object_target, target_in, target_under, target_at}
 use Rattle.jl_json.specs.CommandForms.{target_data}
 use Rattle.jl_names.proofs.Tests.{by_test}
 use Rattle.jl_json.proofs.KeyLaws.{next_found, number_found, named_alone, mapped}
@@ -109,12 +110,23 @@ less_deep key (object ms) part e = omega (arith, depth_of key ms part (sym e))
 abbrev IsForm : Members → Target → Type 0
 IsForm ms t = AreAmong (member_keys ms) (keys_of (target_data t))
 
+invoker_keys : (ms : Members) (t : Target) → member_count ms ≡ 1
+    → option_map Invoker (number_at (2 ^ 32) (codes "invoker") (object ms)) ≡ Some t → IsForm ms t
+invoker_keys ms t count e = mapped Invoker (number_at (2 ^ 32) (codes "invoker") (object ms)) t e
+    (λ c is made. subst (IsForm ms) made
+    (named_alone (codes "invoker" ∷ []) ms (tt, tt) count (number_found (2 ^ 32) (codes "invoker") ms c is, tt)))
+
 method_keys : (ms : Members) (t : Target) → member_count ms ≡ 1
-    → option_map Method (method_at (codes "method") (object ms)) ≡ Some t → IsForm ms t
-method_keys ms t count e = mapped Method (method_at (codes "method") (object ms)) t e
-    (λ m is made. subst (IsForm ms) made
-    (named_alone (codes "method" ∷ []) ms (tt, tt) count
-    (next_found (λ d. as_array d >>= method_pair) (codes "method") ms m is, tt)))
+    → method_or_invoker (method_at (codes "method") (object ms)) (number_at (2 ^ 32) (codes "invoker") (object ms)) ≡ Some t → IsForm ms t
+method_keys ms t count e = by_method (method_at (codes "method") (object ms)) refl e
+  where
+    by_method : (o : Option MethodId) → method_at (codes "method") (object ms) ≡ o
+        → method_or_invoker o (number_at (2 ^ 32) (codes "invoker") (object ms)) ≡ Some t → IsForm ms t
+    by_method None is e = invoker_keys ms t count e
+    by_method (Some m) is e =
+        subst (IsForm ms) (same_Some (Method m) t e)
+        (named_alone (codes "method" ∷ []) ms (tt, tt) count
+        (next_found (λ d. as_array d >>= method_pair) (codes "method") ms m is, tt))
 
 guard_keys : (ms : Members) (t : Target) → member_count ms ≡ 3
     → guard (number_at (2 ^ 32) (codes "guard") (object ms)) (target_at (codes "target") (object ms))

@@ -8,7 +8,7 @@ use Rattle.serde_json.specs.Find.{get, as_object}
 use Rattle.jl_names.specs.MethodTypes.{IsMethodDescriptor}
 use Rattle.jl_pool.specs.Reading.Forms.{method_slots}
 use Rattle.jl_pool.proofs.FormLaws.{SlotsAre, method_slots-is}
-use Rattle.jl_types.specs.declared.event.EventOf.TheVariants.{NewCallSite, Install, Invalidate}
+use Rattle.jl_types.specs.declared.event.EventOf.TheVariants.{NewCallSite, Install, Invalidate, Retire}
 use Rattle.jl_types.specs.declared.target.CallSiteKind.{CallSiteKind}
 use Rattle.jl_types.specs.Target.{Target}
 use Rattle.jl_json.specs.declared.command.Command.{Command}
@@ -115,7 +115,9 @@ event_word_typed word count d =
     (either IsTyped (is_asked word count (codes "request") 4) _ _ (request_typed d)
     (either IsTyped (is_asked word count (codes "install") 2) _ _
     (of_one IsTyped Install (number_at (2 ^ 32) (codes "prepared") d) (λ batch. tt))
-    (call_site_word_typed word count d)))))
+    (either IsTyped (is_asked word count (codes "retire") 2) _ _
+    (of_one IsTyped Retire (number_at (2 ^ 32) (codes "loader") d) (λ loader. tt))
+    (call_site_word_typed word count d))))))
 
 applied : (o : Option AskedEvent) → IfSome o IsTyped → IfSome (option_map Apply o) HasTyped
 applied None is = tt

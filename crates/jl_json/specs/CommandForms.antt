@@ -7,13 +7,13 @@ use Rattle.hex.specs.Hex.{encode_lower, IsBytes}
 use Rattle.serde_json.specs.Data.{Data, null, string, object, no_members, member}
 use Rattle.jl_types.specs.declared.answer.Recv.{Recv}
 use Rattle.jl_types.specs.declared.answer.Recv.TheVariants.{Null, Of}
-use Rattle.jl_types.specs.declared.event.EventOf.TheVariants.{NewLoader, Define, Delegate, Request, Install}
+use Rattle.jl_types.specs.declared.event.EventOf.TheVariants.{NewLoader, Define, Delegate, Request, Install, Retire}
 use Rattle.jl_types.specs.declared.event.EventOf.TheVariants.{NewCallSite, SetTarget, NewSwitch, Invalidate, Bind}
 use Rattle.jl_types.specs.declared.ids.MethodId.{MethodId}
 use Rattle.jl_types.specs.declared.ids.Place.{Place}
 use Rattle.jl_types.specs.declared.target.CallSiteKind.{CallSiteKind}
 use Rattle.jl_types.specs.declared.target.CallSiteKind.TheVariants.{Constant, Mutable, Volatile}
-use Rattle.jl_types.specs.Target.{Target, Method, Guard}
+use Rattle.jl_types.specs.Target.{Target, Method, Guard, Invoker}
 use Rattle.jl_names.specs.MethodTypes.{IsMethodDescriptor}
 use Rattle.jl_json.specs.declared.command.Command.{Command}
 use Rattle.jl_json.specs.declared.command.Command.TheVariants.{Apply, Prepare, Call, Links}
@@ -39,6 +39,7 @@ target_data (Guard p first fallback) =
     object (member (codes "fallback") (target_data fallback)
     (member (codes "guard") (number_data p)
     (member (codes "target") (target_data first) no_members)))
+target_data (Invoker c) = single (codes "invoker") (number_data c)
 
 unfoldable pub event_data : Data → AskedEvent → Data
 event_data written NewLoader = single (codes "do") (string (codes "loader"))
@@ -63,6 +64,9 @@ event_data written (Request place) =
 event_data written (Install batch) =
     object (member (codes "do") (string (codes "install"))
     (member (codes "prepared") (number_data batch) no_members))
+event_data written (Retire loader) =
+    object (member (codes "do") (string (codes "retire"))
+    (member (codes "loader") (number_data loader) no_members))
 event_data written (NewCallSite kind ty target) =
     object (member (codes "do") (string (codes "callsite"))
     (member (codes "kind") (string (kind_name kind))
@@ -108,6 +112,7 @@ IsMethodId m = (m.class < 2 ^ 32) × (m.index < 2 ^ 16)
 abbrev pub IsTarget : Target → Type 0
 IsTarget (Method m) = IsMethodId m
 IsTarget (Guard p first fallback) = (p < 2 ^ 32) × IsTarget first × IsTarget fallback
+IsTarget (Invoker c) = c < 2 ^ 32
 
 abbrev pub IsEvent : Data → AskedEvent → Type 0
 IsEvent written NewLoader = ⊤
@@ -116,6 +121,7 @@ IsEvent written (Define loader (Sketch s)) = (loader < 2 ^ 32) × (sketch_of wri
 IsEvent written (Delegate loader name to) = (loader < 2 ^ 32) × (to < 2 ^ 32) × (name_in written ≡ Some name)
 IsEvent written (Request place) = IsPlace place
 IsEvent written (Install batch) = batch < 2 ^ 32
+IsEvent written (Retire loader) = loader < 2 ^ 32
 IsEvent written (NewCallSite kind ty target) =
     (name_in written ≡ Some ty) × IsMethodDescriptor ty × IsTarget target
 IsEvent written (SetTarget call_site target) = (call_site < 2 ^ 32) × IsTarget target

@@ -10,7 +10,7 @@ use Rattle.serde_json.specs.Find.{get, as_null, as_object}
 use Rattle.jl_types.specs.declared.answer.Recv.{Recv}
 use Rattle.jl_types.specs.declared.answer.Recv.TheVariants.{Null, Of}
 use Rattle.jl_types.specs.declared.event.EventOf.{EventOf}
-use Rattle.jl_types.specs.declared.event.EventOf.TheVariants.{NewLoader, Define, Delegate, Request, Install}
+use Rattle.jl_types.specs.declared.event.EventOf.TheVariants.{NewLoader, Define, Delegate, Request, Install, Retire}
 use Rattle.jl_types.specs.declared.event.EventOf.TheVariants.{NewCallSite, SetTarget, NewSwitch, Invalidate, Bind}
 use Rattle.jl_types.specs.declared.target.CallSiteKind.{CallSiteKind}
 use Rattle.jl_types.specs.declared.target.CallSiteKind.TheVariants.{Constant, Mutable, Volatile}
@@ -94,6 +94,9 @@ request_of d = do
 abbrev pub install_of : Data → Option AskedEvent
 install_of d = option_map Install (number_at (2 ^ 32) (codes "prepared") d)
 
+abbrev pub retire_of : Data → Option AskedEvent
+retire_of d = option_map Retire (number_at (2 ^ 32) (codes "loader") d)
+
 abbrev pub new_call_site_of : Data → Option AskedEvent
 new_call_site_of d = do
   kind ← kind_at (codes "kind") d
@@ -154,6 +157,7 @@ by_event_word word count d =
     else if bytes_eq word (codes "delegate") && (count == 4) then delegate_of d
     else if bytes_eq word (codes "request") && (count == 4) then request_of d
     else if bytes_eq word (codes "install") && (count == 2) then install_of d
+    else if bytes_eq word (codes "retire") && (count == 2) then retire_of d
     else by_call_site_word word count d
 
 -- the command of this word, in an object of this many members

@@ -14,6 +14,8 @@ use Rattle.jl_types.specs.declared.refusal.PrepareFault.{PrepareFault}
 use Rattle.jl_types.specs.declared.refusal.PrepareFault.TheVariants as prepare
 use Rattle.jl_types.specs.declared.refusal.Refusal.{Refusal}
 use Rattle.jl_types.specs.declared.refusal.Refusal.TheVariants as refusal
+use Rattle.jl_types.specs.declared.refusal.RetireFault.{RetireFault}
+use Rattle.jl_types.specs.declared.refusal.RetireFault.TheVariants as retire
 use Rattle.jl_json.specs.ClassAnswers.{number_data, name_data}
 use Rattle.jl_json.specs.LinkAnswers.{single, link_data}
 use Rattle.jl_json.specs.Names.{SpellsNames}
@@ -40,22 +42,40 @@ refused_bound fault call_site =
     object (member (codes "callsite") (number_data call_site)
     (member (codes "refused") (string fault) no_members))
 
+abbrev pub refused_class : List ℕ → ℕ → Data
+refused_class fault class =
+    object (member (codes "class") (number_data class)
+    (member (codes "refused") (string fault) no_members))
+
+abbrev pub refused_loader : List ℕ → ℕ → Data
+refused_loader fault loader =
+    object (member (codes "loader") (number_data loader)
+    (member (codes "refused") (string fault) no_members))
+
 -- ---- faults within events
+
+unfoldable pub retire_refusal_data : RetireFault → Data
+retire_refusal_data retire.UnknownLoader = refused (codes "Retire.UnknownLoader")
+retire_refusal_data retire.FirstLoader = refused (codes "Retire.FirstLoader")
+retire_refusal_data (retire.Inherited class) = refused_class (codes "Retire.Inherited") class
+retire_refusal_data (retire.Recorded loader) = refused_loader (codes "Retire.Recorded") loader
+retire_refusal_data (retire.Targeted call_site) = refused_bound (codes "Retire.Targeted") call_site
 
 abbrev pub delegate_name : DelegateFault → List ℕ
 delegate_name delegate.UnknownLoader = codes "Delegate.UnknownLoader"
 delegate_name delegate.NotRecorded = codes "Delegate.NotRecorded"
 delegate_name delegate.AlreadyRecorded = codes "Delegate.AlreadyRecorded"
 
-abbrev pub call_site_name : CallSiteFault → List ℕ
-call_site_name call_site.UnknownCallSite = codes "CallSite.UnknownCallSite"
-call_site_name call_site.Constant = codes "CallSite.Constant"
-call_site_name call_site.WrongType = codes "CallSite.WrongType"
-call_site_name call_site.UnknownMethod = codes "CallSite.UnknownMethod"
-call_site_name call_site.NotStatic = codes "CallSite.NotStatic"
-call_site_name call_site.UnknownSwitch = codes "CallSite.UnknownSwitch"
-call_site_name call_site.TooDeep = codes "CallSite.TooDeep"
-call_site_name call_site.Full = codes "CallSite.Full"
+unfoldable pub call_site_refusal_data : CallSiteFault → Data
+call_site_refusal_data call_site.UnknownCallSite = refused (codes "CallSite.UnknownCallSite")
+call_site_refusal_data call_site.Constant = refused (codes "CallSite.Constant")
+call_site_refusal_data call_site.WrongType = refused (codes "CallSite.WrongType")
+call_site_refusal_data call_site.UnknownMethod = refused (codes "CallSite.UnknownMethod")
+call_site_refusal_data call_site.NotStatic = refused (codes "CallSite.NotStatic")
+call_site_refusal_data call_site.UnknownSwitch = refused (codes "CallSite.UnknownSwitch")
+call_site_refusal_data call_site.TooDeep = refused (codes "CallSite.TooDeep")
+call_site_refusal_data call_site.Full = refused (codes "CallSite.Full")
+call_site_refusal_data (call_site.InvokerOrder invoked) = refused_bound (codes "CallSite.InvokerOrder") invoked
 
 abbrev pub not_linkable_name : NotLinkable → List ℕ
 not_linkable_name not_linkable.ArrayReceiver = codes "NotLinkable.ArrayReceiver"
@@ -89,7 +109,7 @@ module _ (text_of : List ℕ → List ℕ) where
   event_refusal_data refusal.NoSuchPlace = refused (codes "NoSuchPlace")
   event_refusal_data (refusal.NotLinkable reason) = refused (not_linkable_name reason)
   event_refusal_data refusal.SitesFull = refused (codes "SitesFull")
-  event_refusal_data (refusal.CallSite fault) = refused (call_site_name fault)
+  event_refusal_data (refusal.CallSite fault) = call_site_refusal_data fault
   event_refusal_data refusal.NotDynamic = refused (codes "NotDynamic")
   event_refusal_data (refusal.AlreadyBound bound) = refused_bound (codes "AlreadyBound") bound
   event_refusal_data refusal.TypeMismatch = refused (codes "TypeMismatch")
@@ -101,6 +121,7 @@ module _ (text_of : List ℕ → List ℕ) where
   event_refusal_data refusal.Memory = refused (codes "Memory")
   event_refusal_data (refusal.Delegate fault) = refused (delegate_name fault)
   event_refusal_data refusal.LoadersFull = refused (codes "LoadersFull")
+  event_refusal_data (refusal.Retire fault) = retire_refusal_data fault
 
 -- the answer, with each name spelled
 abbrev pub IsRefusalData : Refusal → Data → Type 0

@@ -6,7 +6,7 @@ use Rattle.serde_json.specs.Data.{Data, null, boolean, number, string, array, ob
 use Rattle.serde_json.specs.Data.{Items, no_items, item, Members, no_members, member}
 use Rattle.serde_json.specs.Find.{get, as_array}
 use Rattle.jl_types.specs.declared.ids.MethodId.{MethodId}
-use Rattle.jl_types.specs.Target.{Target, Method, Guard}
+use Rattle.jl_types.specs.Target.{Target, Method, Guard, Invoker}
 use Rattle.jl_json.specs.Members.{◌>>=◌, number_in, number_at, member_count}
 
 -- ---- methods
@@ -35,10 +35,15 @@ guard switch first fallback = do
   u ← fallback
   Some (Guard p t u)
 
--- an object of this many members: a method alone, or a guard with what its two targets are
+-- of a method, if it is there, or of the call site that is invoked
+abbrev pub method_or_invoker : Option MethodId → Option ℕ → Option Target
+method_or_invoker (Some m) call_site = Some (Method m)
+method_or_invoker None call_site = option_map Invoker call_site
+
+-- an object of this many members: a method or an invoked call site alone, or a guard with what its two targets are
 abbrev pub object_target : ℕ → Data → Option Target → Option Target → Option Target
 object_target count d first fallback =
-    if count == 1 then option_map Method (method_at (codes "method") d)
+    if count == 1 then method_or_invoker (method_at (codes "method") d) (number_at (2 ^ 32) (codes "invoker") d)
     else if count == 3 then guard (number_at (2 ^ 32) (codes "guard") d) first fallback
     else None
 

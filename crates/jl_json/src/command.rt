@@ -6,7 +6,7 @@ ghost use Rattle.serde_json.specs.Find.{as_object};
 ghost use Rattle.serde_json.specs.View.{view};
 ghost use Rattle.jl_json.specs.Members.{number_in, number_at, text_at, member_count, keys_of, AreAmong};
 ghost use Rattle.jl_json.specs.Commands.{file_at, recv_in, source_of};
-ghost use Rattle.jl_json.specs.Commands.{define_of, delegate_of, request_of, install_of, prepare_of, call_of};
+ghost use Rattle.jl_json.specs.Commands.{define_of, delegate_of, request_of, install_of, retire_of, prepare_of, call_of};
 ghost use Rattle.jl_json.specs.Commands.{call_on_of, by_event_word, by_word, command_of};
 ghost use Rattle.jl_json.specs.CommandForms.{IsCommand, command_data};
 ghost use Rattle.jl_json.specs.declared.command.Command.{Command};
@@ -182,6 +182,14 @@ fn install(value: &Value) -> Option<AskedEvent>
     Some(AskedEvent::Install(prepared))
 }
 
+/// The event that retires a loader.
+fn retire(value: &Value) -> Option<AskedEvent>
+    ensures { result ≡ retire_of (view value.now) }
+{
+    let loader = number_at(value, "loader")?;
+    Some(AskedEvent::Retire(LoaderId::new(loader)))
+}
+
 /// The command to prepare links.
 fn prepare(alloc: Global, value: &Value) -> Result<Option<Command>, AllocError>
     ensures { IfOk result (λ command. command ≡ prepare_of (view value.now)) }
@@ -232,6 +240,7 @@ fn event_of_word(
         ("delegate", 4) => delegate(alloc, value),
         ("request", 4) => Ok(request(value)),
         ("install", 2) => Ok(install(value)),
+        ("retire", 2) => Ok(retire(value)),
         _ => call_site_event(alloc, value, word, count),
     }
 }

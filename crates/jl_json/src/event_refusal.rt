@@ -3,9 +3,7 @@
 ghost use Rattle.std.specs.Prelude.{◌≡◌, IfOk};
 ghost use Rattle.serde_json.specs.View.{view};
 ghost use Rattle.jl_json.specs.NameReading.{name_text};
-ghost use Rattle.jl_json.specs.EventRefusals.{refused, refused_at, refused_bound, refused_for};
-ghost use Rattle.jl_json.specs.EventRefusals.{refused_name, delegate_name, call_site_name};
-ghost use Rattle.jl_json.specs.EventRefusals.{not_linkable_name, define_refusal_data};
+ghost use Rattle.jl_json.specs.EventRefusals.{refused, refused_at, refused_bound, refused_for, refused_name, delegate_name, call_site_refusal_data, not_linkable_name, define_refusal_data, refused_class, refused_loader, retire_refusal_data};
 ghost use Rattle.jl_json.specs.EventRefusals.{event_refusal_data, IsRefusalData};
 ghost use Rattle.jl_json.specs.EventRefusals.{prepare_refusal_data};
 
@@ -13,8 +11,8 @@ use crate::link_answer::link_value;
 use crate::text::text_of;
 use jl_names::Name;
 use jl_types::{
-    CallSiteFault, CallSiteId, DefineFault, DelegateFault, Link, NotLinkable, PrepareFault,
-    Refusal, SiteNo,
+    CallSiteFault, CallSiteId, ClassId, DefineFault, DelegateFault, Link, LoaderId, NotLinkable,
+    PrepareFault, Refusal, RetireFault, SiteNo,
 };
 use serde_json::{Value, json};
 use std::alloc::{AllocError, Global};
@@ -56,6 +54,22 @@ fn refused_bound_value(alloc: Global, fault: &str, bound: CallSiteId) -> Result<
     json!(in alloc; {"callsite": bound, "refused": fault})
 }
 
+/// A fault about a class.
+fn refused_class_value(alloc: Global, fault: &str, class: ClassId) -> Result<Value, AllocError>
+    ensures { IfOk result (λ v. view v ≡ refused_class fault.now class) }
+{
+    let class = class.number();
+    json!(in alloc; {"class": class, "refused": fault})
+}
+
+/// A fault about a loader.
+fn refused_loader_value(alloc: Global, fault: &str, loader: LoaderId) -> Result<Value, AllocError>
+    ensures { IfOk result (λ v. view v ≡ refused_loader fault.now loader) }
+{
+    let loader = loader.number();
+    json!(in alloc; {"loader": loader, "refused": fault})
+}
+
 /// A fault about a name.
 fn refused_name_value(alloc: Global, fault: &str, name: &Name) -> Result<Value, AllocError>
     ensures { IfOk result (λ v. view v ≡ refused_name name_text fault.now name.now) }
@@ -75,19 +89,23 @@ fn delegate_fault(fault: DelegateFault) -> &'static str
     }
 }
 
-/// The name of the fault.
-fn call_site_fault(fault: CallSiteFault) -> &'static str
-    ensures { result.now ≡ call_site_name fault }
+/// The answer that a call site or a switch point isn't made or changed.
+#[tactic(auto, unfolding(crate::specs::EventRefusals::call_site_refusal_data))]
+fn call_site_refusal_value(alloc: Global, fault: CallSiteFault) -> Result<Value, AllocError>
+    ensures { IfOk result (λ v. view v ≡ call_site_refusal_data fault) }
 {
     match fault {
-        CallSiteFault::UnknownCallSite => "CallSite.UnknownCallSite",
-        CallSiteFault::Constant => "CallSite.Constant",
-        CallSiteFault::WrongType => "CallSite.WrongType",
-        CallSiteFault::UnknownMethod => "CallSite.UnknownMethod",
-        CallSiteFault::NotStatic => "CallSite.NotStatic",
-        CallSiteFault::UnknownSwitch => "CallSite.UnknownSwitch",
-        CallSiteFault::TooDeep => "CallSite.TooDeep",
-        CallSiteFault::Full => "CallSite.Full",
+        CallSiteFault::UnknownCallSite => refused_value(alloc, "CallSite.UnknownCallSite"),
+        CallSiteFault::Constant => refused_value(alloc, "CallSite.Constant"),
+        CallSiteFault::WrongType => refused_value(alloc, "CallSite.WrongType"),
+        CallSiteFault::UnknownMethod => refused_value(alloc, "CallSite.UnknownMethod"),
+        CallSiteFault::NotStatic => refused_value(alloc, "CallSite.NotStatic"),
+        CallSiteFault::UnknownSwitch => refused_value(alloc, "CallSite.UnknownSwitch"),
+        CallSiteFault::TooDeep => refused_value(alloc, "CallSite.TooDeep"),
+        CallSiteFault::Full => refused_value(alloc, "CallSite.Full"),
+        CallSiteFault::InvokerOrder(invoked) => {
+            refused_bound_value(alloc, "CallSite.InvokerOrder", invoked)
+        }
     }
 }
 
@@ -126,8 +144,22 @@ fn define_refusal_value(alloc: Global, fault: &DefineFault) -> Result<Value, All
     }
 }
 
+/// The answer that a loader isn't retired.
+#[tactic(auto, unfolding(crate::specs::EventRefusals::retire_refusal_data))]
+fn retire_refusal_value(alloc: Global, fault: RetireFault) -> Result<Value, AllocError>
+    ensures { IfOk result (λ v. view v ≡ retire_refusal_data fault) }
+{
+    match fault {
+        RetireFault::UnknownLoader => refused_value(alloc, "Retire.UnknownLoader"),
+        RetireFault::FirstLoader => refused_value(alloc, "Retire.FirstLoader"),
+        RetireFault::Inherited(class) => refused_class_value(alloc, "Retire.Inherited", class),
+        RetireFault::Recorded(loader) => refused_loader_value(alloc, "Retire.Recorded", loader),
+        RetireFault::Targeted(site) => refused_bound_value(alloc, "Retire.Targeted", site),
+    }
+}
+
 /// The answer that an event is refused: the name of the fault, behind the name of the fault that it
-/// is within, and the name, call site, site or link that it is about.
+/// is within, and the name, class, loader, call site, site or link that it is about.
 ///
 /// # Errors
 ///
@@ -149,7 +181,7 @@ fn refusal_value(alloc: Global, refusal: &Refusal) -> Result<Value, AllocError>
         Refusal::NoSuchPlace => refused_value(alloc, "NoSuchPlace"),
         Refusal::NotLinkable(reason) => refused_value(alloc, not_linkable(*reason)),
         Refusal::SitesFull => refused_value(alloc, "SitesFull"),
-        Refusal::CallSite(fault) => refused_value(alloc, call_site_fault(*fault)),
+        Refusal::CallSite(fault) => call_site_refusal_value(alloc, *fault),
         Refusal::NotDynamic => refused_value(alloc, "NotDynamic"),
         Refusal::AlreadyBound(bound) => refused_bound_value(alloc, "AlreadyBound", *bound),
         Refusal::TypeMismatch => refused_value(alloc, "TypeMismatch"),
@@ -161,6 +193,7 @@ fn refusal_value(alloc: Global, refusal: &Refusal) -> Result<Value, AllocError>
         Refusal::Memory => refused_value(alloc, "Memory"),
         Refusal::Delegate(fault) => refused_value(alloc, delegate_fault(*fault)),
         Refusal::LoadersFull => refused_value(alloc, "LoadersFull"),
+        Refusal::Retire(fault) => retire_refusal_value(alloc, *fault),
     }
 }
 

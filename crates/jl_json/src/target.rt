@@ -5,11 +5,11 @@ ghost use Rattle.serde_json.specs.Data.{Data};
 ghost use Rattle.serde_json.specs.View.{view, items_view};
 ghost use Rattle.jl_types.specs.Target.{Target};
 ghost use Rattle.jl_json.specs.Members.{number_at, keys_of, AreAmong};
-ghost use Rattle.jl_json.specs.Targets.{method_pair, method_at, guard, target_in, target_at};
+ghost use Rattle.jl_json.specs.Targets.{method_pair, method_at, guard, method_or_invoker, target_in, target_at};
 ghost use Rattle.jl_json.specs.CommandForms.{target_data, IsTarget};
 
 use crate::command::{index_in, member_count, number_at, number_in};
-use jl_types::{ClassId, MethodId, SwitchId, Target};
+use jl_types::{CallSiteId, ClassId, MethodId, SwitchId, Target};
 use serde_json::Value;
 use std::alloc::{AllocError, Global};
 
@@ -57,13 +57,27 @@ fn guard_in(alloc: Global, value: &Value) -> Result<Option<Target>, AllocError>
     Ok(Some(Target::guard(point, first, fallback)))
 }
 
-/// The target that the JSON is: a method alone, or a guard.
+/// The target of a method, if it is there, or of the call site that is invoked.
+fn method_or_invoker(value: &Value) -> Option<Target>
+    ensures { result ≡ method_or_invoker (method_at (codes "method") (view value.now))
+        (number_at (2 ^ 32) (codes "invoker") (view value.now)) }
+{
+    match method_at(value, "method") {
+        Some(method) => Some(Target::method(method)),
+        None => {
+            let site = number_at(value, "invoker")?;
+            Some(Target::invoker(CallSiteId::new(site)))
+        }
+    }
+}
+
+/// The target that the JSON is: a method or an invoked call site alone, or a guard.
 #[cycle(target)]
 pub fn target_in(alloc: Global, value: &Value) -> Result<Option<Target>, AllocError>
     ensures { IfOk result (λ target. target ≡ target_in (view value.now)) }
 {
     match member_count(value) {
-        Some(1) => Ok(method_at(value, "method").map(Target::method)),
+        Some(1) => Ok(method_or_invoker(value)),
         Some(3) => guard_in(alloc, value),
         _ => Ok(None),
     }

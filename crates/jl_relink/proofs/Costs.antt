@@ -1,6 +1,6 @@
 -- A site that a new target or an invalidation touches is an invokedynamic, whose link takes one evaluation.
 use Rattle.std.specs.Prelude.{◌≡◌, ◌≢◌, ℕ, Bool, true, false, List, [], ◌∷◌, map, slice_get, Option, Some, None, if◌then◌else◌}
-use Rattle.std.proofs.Common.{refl, inl, inr}
+use Rattle.std.proofs.Common.{inl, inr}
 use Rattle.std.proofs.lemmas.Bool.{or_cases, or_left, or_right}
 use Rattle.std.proofs.lemmas.Cmp.{nat_eq_equiv}
 use Rattle.jl_code.specs.declared.site.Kind.{Kind}
@@ -11,13 +11,14 @@ use Rattle.jl_types.specs.declared.ids.Place.{Place}
 use Rattle.jl_types.specs.Event.{Event}
 use Rattle.jl_types.specs.declared.event.EventOf.TheVariants as event
 use Rattle.jl_types.specs.World.{Sites, World}
-use Rattle.jl_types.specs.Members.{is_private}
+use Rattle.jl_types.specs.Members.{is_present, is_private}
 use Rattle.jl_types.specs.Sites.{Selector, ByVirtual, ByInterface, BySpecial, Invocation, Stage, Waits, Fails, Calls, Selects, invocation_at, bound_to, by_operand}
 use Rattle.jl_types.specs.Events.{step}
-use Rattle.jl_types.specs.Entries.{defines}
 use Rattle.jl_types.specs.declared.key.Key.{Key}
 use Rattle.jl_types.specs.declared.key.Key.TheVariants as key
-use Rattle.jl_types.specs.Footprints.{same_key, has_key, meets, of_selector, of_stage, of_binding, of_operand, of_invocation, of_place, footprint, still_valid, touches, most_by, most_for}
+use Rattle.jl_types.specs.Footprints.{same_key, has_key, meets, of_selector, of_stage, of_operand, of_invocation, of_place, footprint, still_valid, touches, most_by, most_for}
+use Rattle.jl_relink.proofs.WayKeys.{binding_takes_one}
+use Rattle.jl_relink.specs.Laws.{changes_receivers}
 use Rattle.jl_relink.proofs.Untouched.{same_key_is}
 
 same_itself : (k : Key) → same_key k k ≡ true
@@ -58,13 +59,9 @@ module _ (w : World) (sites : Sites) (s : ℕ) (k : Key) (other : IsOther k) whe
   by_stage (Calls m) h = cc
   by_stage (Selects i) h = by_selector i i.selector h
 
-  by_binding : (o : Option ℕ) → most_by w.classes (of_binding sites o) ≡ 1
-  by_binding None = refl
-  by_binding (Some c) = refl
-
   of_kind : (d : ℕ) (kind : Kind) (o : Operand (List ℕ)) → has_key (of_operand w s d kind o) k ≡ true → most_by w.classes (of_operand after s d kind o) ≡ 1
   of_kind d kind (operand.Method ref) h = absurd (by_stage (by_operand w s d kind (operand.Method ref)) h)
-  of_kind d kind (operand.CallSite specifier) h = by_binding (bound_to w s)
+  of_kind d kind (operand.CallSite specifier) h = binding_takes_one w.classes sites (bound_to w s)
 
   by_invocation : (d : ℕ) (o : Option Site) → has_key (of_invocation w s d o) k ≡ true → most_by w.classes (of_invocation after s d o) ≡ 1
   by_invocation d None h = cc
@@ -72,7 +69,12 @@ module _ (w : World) (sites : Sites) (s : ℕ) (k : Key) (other : IsOther k) whe
 
   by_place : (o : Option Place) → has_key (of_place w s o) k ≡ true → most_by w.classes (of_place after s o) ≡ 1
   by_place None h = cc
-  by_place (Some place) h = by_invocation place.class (invocation_at w.classes place) h
+  by_place (Some place) h = by_class (is_present w.classes place.class) h
+    where
+      by_class : (b : Bool) → has_key (if b then of_invocation w s place.class (invocation_at w.classes place) else []) k ≡ true
+          → most_by w.classes (if b then of_invocation after s place.class (invocation_at w.classes place) else []) ≡ 1
+      by_class true h = by_invocation place.class (invocation_at w.classes place) h
+      by_class false h = cc
 
   takes_one : has_key (footprint w s) k ≡ true → most_for after s ≡ 1
   takes_one h = by_place (slice_get w.places s) h
@@ -88,7 +90,7 @@ of_points (p ∷ ps) k h = elim (or_cases (same_key (key.Valid p) k) (has_key (m
   | inr more ↦ of_points ps k more
 ]
 
-pub takes_one_evaluation : (w : World) (e : Event) (s : ℕ) → defines e ≡ false → touches w e s ≡ true → most_for (step w e) s ≡ 1
+pub takes_one_evaluation : (w : World) (e : Event) (s : ℕ) → changes_receivers e ≡ false → touches w e s ≡ true → most_for (step w e) s ≡ 1
 takes_one_evaluation w event.NewLoader s plain h = absurd (no_keys (footprint w s) h)
 takes_one_evaluation w (event.Define loader file) s plain h = cc
 takes_one_evaluation w (event.Delegate loader name to) s plain h = absurd (no_keys (footprint w s) h)
@@ -109,3 +111,4 @@ takes_one_evaluation w (event.Invalidate points) s plain h =
     takes_one w (step w (event.Invalidate points)).sites s r.0 (of_points (still_valid w.sites points) r.0 r.2) r.1
 takes_one_evaluation w (event.Bind n c) s plain h = absurd (no_keys (footprint w s) h)
 takes_one_evaluation w (event.Install rows) s plain h = absurd (no_keys (footprint w s) h)
+takes_one_evaluation w (event.Retire loader) s plain h = cc

@@ -1,5 +1,5 @@
--- After accepted events classes came in order, and each guard has its switch point.
-use Rattle.std.specs.Prelude.{◌≡◌, ℕ, zero, suc, true, false, List, [], ◌∷◌, ◌++◌, fold, take, length, slice_get, Option, Some, None, option_map, IsOk}
+-- After accepted events classes came in order, and each guard has its switch point and each invoker its call site.
+use Rattle.std.specs.Prelude.{◌≡◌, ℕ, zero, suc, true, false, List, [], ◌∷◌, ◌++◌, fold, take, length, slice_get, Option, Some, None, IsOk}
 use Rattle.std.specs.List.{list_all}
 use Rattle.std.specs.Option.{option_map_or}
 use Rattle.std.proofs.Common.{refl, ap, sym, subst, ◌∙◌}
@@ -7,35 +7,31 @@ use Rattle.jl_classfile.specs.Class.{ClassFile}
 use Rattle.jl_classfile.specs.Conditions.{extends_object}
 use Rattle.jl_types.specs.Event.{Event}
 use Rattle.jl_types.specs.declared.event.EventOf.TheVariants as event
-use Rattle.jl_types.specs.declared.event.Made.{Made}
-use Rattle.jl_types.specs.declared.refusal.Refusal.{Refusal}
-use Rattle.jl_types.specs.declared.refusal.Refusal.TheVariants.{Define, CallSite}
+use Rattle.jl_types.specs.declared.refusal.Refusal.TheVariants.{Define, CallSite, Retire}
 use Rattle.jl_types.specs.World.{World, nothing_yet}
-use Rattle.jl_types.specs.Members.{lookup}
+use Rattle.jl_types.specs.Members.{is_present, lookup}
 use Rattle.jl_types.specs.Definitions.{define_fault, with_record, delegated}
-use Rattle.jl_types.specs.Events.{unless, new_call_site_fault, set_target_fault, verdict, step}
+use Rattle.jl_types.specs.Retirement.{retire_fault}
+use Rattle.jl_types.specs.Events.{new_call_site_fault, set_target_fault, verdict, step}
 use Rattle.jl_types.specs.History.{world_after}
 use Rattle.jl_types.proofs.Bools.{first_test, second_test}
 use Rattle.jl_types.proofs.Places.{world_more}
-use Rattle.jl_types.proofs.Orders.{IsGood, looked_up, recorded_below, defined_good, with_loader}
-use Rattle.jl_hierarchy.specs.Constancy.{has_object, AreInOrder}
+use Rattle.jl_types.proofs.Lists.{all_set}
+use Rattle.jl_types.proofs.Orders.{AreBelow, IsGood, looked_up, recorded_below, defined_good, with_loader}
+use Rattle.jl_hierarchy.specs.Constancy.{has_object, IsClosed, AreInOrder}
+use Rattle.jl_hierarchy.proofs.LoaderGone.{first_retired}
 use Rattle.jl_hierarchy.proofs.Objects.{first_with_record, first_with_loader, first_defined}
-use Rattle.jl_callsites.specs.Known.{have_points}
+use Rattle.jl_callsites.specs.Known.{all_known}
 use Rattle.jl_callsites.proofs.Accepted.{site_points, target_points}
 use Rattle.jl_callsites.proofs.Known.{one_more_known, retargeted_known, one_switch_more}
 use Rattle.jl_types.specs.declared.link.Link.{Link}
 use Rattle.jl_types.specs.History.{Settled}
 use Rattle.jl_types.proofs.Installed.{settled_now}
-use Rattle.jl_types.specs.Footprints.{touches}
+use Rattle.jl_types.specs.Footprints.{retires, touches}
 use Rattle.jl_relink.specs.Laws.{IsInOrder, has_read_file, AreAccepted, SiteStays}
+use Rattle.jl_relink.proofs.Closing.{no_fault, free_classes, closed_after}
 use Rattle.jl_relink.proofs.KeyLaws.{untouched_stays}
 use Rattle.jl_relink.proofs.Paths.{invalidated_length}
-
--- ---- no fault
-
-no_fault : {A : Type 0} (F : A → Refusal) (o : Option A) (m : Made) → IsOk (unless (option_map F o) m) → o ≡ None
-no_fault F None m h = refl
-no_fault F (Some f) m h = cc
 
 -- ---- one event
 
@@ -49,20 +45,23 @@ module _ (max_sites : ℕ) (w : World) (order : IsInOrder w) where
         there = more.there;
         ordered = more.ordered;
         object = first_defined w.classes order.classes.object loader file (no_fault Define (define_fault w.classes loader file) _ accepted) read;
+        closed = closed_after w order.classes max_sites (event.Define loader file) accepted;
       }
 
-  of_delegate : (loader : ℕ) (name : List ℕ) (to : ℕ) → AreInOrder (delegated w.classes loader name to)
+  of_delegate : (loader : ℕ) (name : List ℕ) (to : ℕ) → IsClosed (delegated w.classes loader name to) → AreInOrder (delegated w.classes loader name to)
   of_delegate loader name to = by_found (lookup w.classes to name) refl
     where
       by_found : (o : Option ℕ) → lookup w.classes to name ≡ o
+          → IsClosed (record w.classes { loaders = option_map_or (with_record w.classes.loaders loader name) o w.classes.loaders })
           → AreInOrder (record w.classes { loaders = option_map_or (with_record w.classes.loaders loader name) o w.classes.loaders })
-      by_found None is = order.classes
-      by_found (Some c) is =
+      by_found None is closed = order.classes
+      by_found (Some c) is closed =
           let good : IsGood w.classes = record { there = order.classes.there; ordered = order.classes.ordered } in
           record {
             there = recorded_below (length w.classes.rows) w.classes.loaders loader name c good.there (looked_up w.classes good to name c is);
             ordered = order.classes.ordered;
             object = first_with_record w.classes order.classes.object to loader name c is;
+            closed = closed;
           }
 
   in_order_after : (e : Event) → IsOk (verdict max_sites w e) → has_read_file e ≡ true → IsInOrder (step w e)
@@ -71,11 +70,15 @@ module _ (max_sites : ℕ) (w : World) (order : IsInOrder w) where
       there = with_loader (length w.classes.rows) w.classes.loaders order.classes.there;
       ordered = order.classes.ordered;
       object = first_with_loader w.classes order.classes.object;
+      closed = closed_after w order.classes max_sites event.NewLoader accepted;
     };
     points = order.points;
   }
   in_order_after (event.Define loader file) accepted read = record { classes = of_define loader file accepted read; points = order.points }
-  in_order_after (event.Delegate loader name to) accepted read = record { classes = of_delegate loader name to; points = order.points }
+  in_order_after (event.Delegate loader name to) accepted read = record {
+    classes = of_delegate loader name to (closed_after w order.classes max_sites (event.Delegate loader name to) accepted);
+    points = order.points;
+  }
   in_order_after (event.Request place) accepted read = record { classes = order.classes; points = order.points }
   in_order_after (event.NewCallSite kind ty t) accepted read = record {
     classes = order.classes;
@@ -92,10 +95,19 @@ module _ (max_sites : ℕ) (w : World) (order : IsInOrder w) where
   in_order_after event.NewSwitch accepted read = record { classes = order.classes; points = one_switch_more w.sites order.points }
   in_order_after (event.Invalidate points) accepted read = record {
     classes = order.classes;
-    points = ap (λ n. have_points n w.sites.call_sites) (invalidated_length w.sites.switches points) ∙ order.points;
+    points = ap (λ n. all_known n 0 w.sites.call_sites) (invalidated_length w.sites.switches points) ∙ order.points;
   }
   in_order_after (event.Bind s c) accepted read = record { classes = order.classes; points = order.points }
   in_order_after (event.Install rows) accepted read = record { classes = order.classes; points = order.points }
+  in_order_after (event.Retire loader) accepted read = record {
+    classes = record {
+      there = all_set (AreBelow (length w.classes.rows)) w.classes.loaders loader [] tt order.classes.there;
+      ordered = order.classes.ordered;
+      object = first_retired w.classes loader (free_classes w loader (no_fault Retire (retire_fault w loader) _ accepted)) order.classes.object;
+      closed = closed_after w order.classes max_sites (event.Retire loader) accepted;
+    };
+    points = order.points;
+  }
 
 -- ---- all events
 
@@ -110,7 +122,16 @@ from max_sites (e ∷ h) w order each files =
 
 at_first : IsInOrder nothing_yet
 at_first = record {
-  classes = record { there = (tt, tt); ordered = λ c row e. cc; object = record { recorded = λ l h. none l h; interfaces = λ c h. cc } };
+  classes = record {
+    there = (tt, tt);
+    ordered = λ c row e. cc;
+    object = record { recorded = λ l h. none l h; interfaces = λ c h. cc };
+    closed = record {
+      first = refl;
+      ancestors = λ a x h present. cc;
+      records = λ l name c live found. nothing l name c found;
+    };
+  };
   points = refl;
 }
   where
@@ -118,11 +139,15 @@ at_first = record {
     none zero h = h
     none (suc l) h = cc
 
+    nothing : (l : ℕ) (name : List ℕ) (c : ℕ) → lookup nothing_yet.classes l name ≡ Some c → is_present nothing_yet.classes c ≡ true
+    nothing zero name c h = cc
+    nothing (suc l) name c h = cc
+
 pub accepted_in_order : (max_sites : ℕ) (h : List Event) → AreAccepted max_sites h → IsInOrder (world_after h)
 accepted_in_order max_sites h all = from max_sites h nothing_yet at_first all.each all.files
 
-pub settled_stays : (max_sites : ℕ) (h : List Event) (e : Event) (s : ℕ) (l : Link) → AreAccepted max_sites h → Settled h s l
-    → touches (world_after h) e s ≡ false → SiteStays (world_after h) (world_after (h ++ e ∷ [])) s l
-settled_stays max_sites h e s l all settled none =
+pub settled_stays : (max_sites : ℕ) (h : List Event) (e : Event) (s : ℕ) (l : Link) → AreAccepted max_sites h → IsOk (verdict max_sites (world_after h) e) → Settled h s l
+    → retires (world_after h) e s ≡ false → touches (world_after h) e s ≡ false → SiteStays (world_after h) (world_after (h ++ e ∷ [])) s l
+settled_stays max_sites h e s l all accepted settled left none =
     subst (λ (w : World). SiteStays (world_after h) w s l) (sym (world_more h e))
-    (untouched_stays (world_after h) (accepted_in_order max_sites h all) e s l none (settled_now h s l settled))
+    (untouched_stays max_sites (world_after h) (accepted_in_order max_sites h all) e s l accepted left none (settled_now h s l settled))

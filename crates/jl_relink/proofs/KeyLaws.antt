@@ -1,8 +1,7 @@
 -- An event that changes nothing of what a site's link rests on leaves the link, and what it rests on.
-use Rattle.std.specs.Prelude.{◌≡◌, ◌≢◌, ℕ, ◌<◌, ◌==◌, ◌&&◌, ◌||◌, Bool, true, false, cond, List, [], ◌∷◌, ◌++◌, length, map, slice_get, Option, Some, None, option_map, Ok, if◌then◌else◌}
+use Rattle.std.specs.Prelude.{◌≡◌, ℕ, ◌<◌, ◌==◌, ◌&&◌, ◌||◌, Bool, true, false, cond, List, [], ◌∷◌, ◌++◌, length, map, slice_get, Option, Some, None, option_and_then, Ok, if◌then◌else◌, ◌≢◌, IsOk}
 use Rattle.std.proofs.Common.{refl, ap, sym, ◌∙◌}
-use Rattle.std.proofs.lemmas.Bool.{or_left, both_ways}
-use Rattle.std.proofs.lemmas.Bool.Decides.{Decides-eqb}
+use Rattle.std.proofs.lemmas.Bool.{both_ways}
 use Rattle.std.proofs.lemmas.Cmp.{nat_eq_equiv}
 use Rattle.std.proofs.lemmas.Option.{slice_get_within}
 use Rattle.jl_classfile.specs.Class.{ClassFile}
@@ -15,9 +14,9 @@ use Rattle.jl_types.specs.World.{Classes, CallSite, Sites, World}
 use Rattle.jl_types.specs.Members.{lookup, is_concrete}
 use Rattle.jl_types.specs.Ancestry.{ancestors, is_ancestor, receivers}
 use Rattle.jl_types.specs.Definitions.{defined}
-use Rattle.jl_types.specs.Targets.{evaluated}
+use Rattle.jl_types.specs.Targets.{evaluated, method_of}
 use Rattle.jl_types.specs.Links.{scratch}
-use Rattle.jl_types.specs.Events.{step}
+use Rattle.jl_types.specs.Events.{verdict, step}
 use Rattle.jl_types.proofs.Bools.{any-map}
 use Rattle.jl_types.proofs.Grown.{among_ancestors, receivers_after}
 use Rattle.jl_types.proofs.Orders.{IsGood, defined_good}
@@ -27,12 +26,14 @@ use Rattle.jl_resolve.proofs.Constancy.{settled_stays}
 use Rattle.jl_resolve.proofs.Later.{step_stays}
 use Rattle.jl_select.specs.Constancy.{IsConstant}
 use Rattle.jl_select.proofs.Constancy.{selected_stays, outcomes_stay}
-use Rattle.jl_callsites.specs.Runs.{method_of}
 use Rattle.jl_types.specs.declared.key.Key.{Key}
 use Rattle.jl_types.specs.declared.key.Key.TheVariants as key
-use Rattle.jl_types.specs.Footprints.{same_key, has_key, of_call_site, of_class, footprint, keys, touches}
+use Rattle.jl_types.specs.Footprints.{same_key, has_key, path, of_call_site, of_class, footprint, keys, touches, retires}
+use Rattle.jl_hierarchy.specs.Constancy.{IsClosed}
 use Rattle.jl_relink.specs.Laws.{IsInOrder, SiteStays}
+use Rattle.jl_relink.proofs.Closing.{ordered_after, closed_after, still_present, receivers_stay as receivers_left_stay}
 use Rattle.jl_relink.proofs.Staying.{bound_before, requested_stays}
+use Rattle.jl_relink.proofs.WayKeys.{rests_on_target}
 use Rattle.jl_relink.proofs.Paths.{RunsOn, site_runs_on, target_runs_on, switch_runs_on, invalid_runs_on}
 use Rattle.jl_relink.proofs.Untouched.{IsLater, apart, site_keeps}
 
@@ -45,11 +46,11 @@ module _ (w : World) (order : IsInOrder w) where
   recorded : RecordsObject w.classes
   recorded c is = is_there (lookup w.classes 0 object) (order.classes.object.interfaces c is)
 
-  pub constant : (e : Event) → IsConstant w.classes (step w e).classes
-  constant e = record {
-    resolved = settled_stays w.classes (step w e).classes (step_stays w good e) good recorded;
+  pub constant : (e : Event) → IsClosed (step w e).classes → IsConstant w.classes (step w e).classes
+  constant e closed = record {
+    resolved = settled_stays w.classes (step w e).classes (step_stays w good e) good (ordered_after w order.classes e) closed recorded;
     chosen = selected_stays w.classes (step w e).classes (step_stays w good e) good;
-    outcomes = outcomes_stay w.classes (step w e).classes (step_stays w good e) good recorded;
+    outcomes = outcomes_stay w.classes (step w e).classes (step_stays w good e) good closed.first recorded;
   }
 
   -- ---- call sites
@@ -57,7 +58,7 @@ module _ (w : World) (order : IsInOrder w) where
   there : (c : ℕ) (m : MethodId) → method_of w.sites c ≡ Some m → c < length w.sites.call_sites
   there c m = by_site (slice_get w.sites.call_sites c) refl
     where
-      by_site : (o : Option CallSite) → slice_get w.sites.call_sites c ≡ o → option_map (λ site. evaluated w.sites site.target) o ≡ Some m → c < length w.sites.call_sites
+      by_site : (o : Option CallSite) → slice_get w.sites.call_sites c ≡ o → option_and_then (λ site. evaluated w.sites c site.target) o ≡ Some m → c < length w.sites.call_sites
       by_site None is e = cc
       by_site (Some site) is e = slice_get_within w.sites.call_sites c site is
 
@@ -102,101 +103,122 @@ module _ (w : World) (order : IsInOrder w) where
     of_rows : (after : World) → (later : IsLater w after s) → ((c : ℕ) → receivers after.classes c ≡ receivers w.classes c) → scratch w s ≡ Ok l → SiteStays w after s l
     of_rows after later same e = let one = site_keeps w after s later (λ c h. same c) l e in record { link = one.0; rests_on = one.1 }
 
-    untouched : (e : Event) → touches w e s ≡ false → scratch w s ≡ Ok l → SiteStays w (step w e) s l
-    untouched event.NewLoader none =
+    untouched : (m : ℕ) (e : Event) → IsOk (verdict m w e) → retires w e s ≡ false → touches w e s ≡ false → scratch w s ≡ Ok l → SiteStays w (step w e) s l
+    untouched m event.NewLoader accepted left none =
         of_rows (step w event.NewLoader) (record {
           good = good;
           stays = step_stays w good event.NewLoader;
-          constant = constant event.NewLoader;
+          constant = constant event.NewLoader (closed_after w order.classes m event.NewLoader accepted);
+          present = λ place at is. still_present w order.classes event.NewLoader s place at left is;
           places = λ place e. e;
           bindings = λ c e. e;
           runs = λ c listed m run. (run, refl);
         }) (λ c. refl)
-    untouched (event.Define loader file) none = λ e.
+    untouched m (event.Define loader file) accepted left none = λ e.
         let one = site_keeps w (step w (event.Define loader file)) s (record {
           good = good;
           stays = step_stays w good (event.Define loader file);
-          constant = constant (event.Define loader file);
+          constant = constant (event.Define loader file) (closed_after w order.classes m (event.Define loader file) accepted);
+          present = λ place at is. still_present w order.classes (event.Define loader file) s place at left is;
           places = λ place e. e;
           bindings = λ c e. e;
           runs = λ c listed m run. (run, refl);
         }) (λ c h. receivers_stay loader file c (apart (footprint w s) (keys w (event.Define loader file)) (key.Receivers c) none h)) l e in
         record { link = one.0; rests_on = one.1 }
-    untouched (event.Delegate loader name to) none =
+    untouched m (event.Delegate loader name to) accepted left none =
         of_rows (step w (event.Delegate loader name to)) (record {
           good = good;
           stays = step_stays w good (event.Delegate loader name to);
-          constant = constant (event.Delegate loader name to);
+          constant = constant (event.Delegate loader name to) (closed_after w order.classes m (event.Delegate loader name to) accepted);
+          present = λ place at is. still_present w order.classes (event.Delegate loader name to) s place at left is;
           places = λ place e. e;
           bindings = λ c e. e;
           runs = λ c listed m run. (run, refl);
         }) (λ c. refl)
-    untouched (event.Request place) none =
+    untouched m (event.Request place) accepted left none =
         of_rows (step w (event.Request place)) (record {
           good = good;
           stays = step_stays w good (event.Request place);
-          constant = constant (event.Request place);
+          constant = constant (event.Request place) (closed_after w order.classes m (event.Request place) accepted);
+          present = λ place at is. still_present w order.classes (event.Request place) s place at left is;
           places = λ p e. requested_stays w.places place s p e;
           bindings = λ c e. e;
           runs = λ c listed m run. (run, refl);
         }) (λ c. refl)
-    untouched (event.NewCallSite kind ty t) none =
+    untouched m (event.NewCallSite kind ty t) accepted left none =
         of_rows (step w (event.NewCallSite kind ty t)) (record {
           good = good;
           stays = step_stays w good (event.NewCallSite kind ty t);
-          constant = constant (event.NewCallSite kind ty t);
+          constant = constant (event.NewCallSite kind ty t) (closed_after w order.classes m (event.NewCallSite kind ty t) accepted);
+          present = λ place at is. still_present w order.classes (event.NewCallSite kind ty t) s place at left is;
           places = λ p e. e;
           bindings = λ c e. e;
-          runs = λ c listed m run. as_before _ c m (site_runs_on w.sites kind ty t order.points c (there c m run)) run;
+          runs = λ c listed m run. as_before _ c m (site_runs_on w.sites kind ty t c (there c m run)) run;
         }) (λ c. refl)
-    untouched (event.SetTarget d t) none =
+    untouched m (event.SetTarget d t) accepted left none =
         of_rows (step w (event.SetTarget d t)) (record {
           good = good;
           stays = step_stays w good (event.SetTarget d t);
-          constant = constant (event.SetTarget d t);
+          constant = constant (event.SetTarget d t) (closed_after w order.classes m (event.SetTarget d t) accepted);
+          present = λ place at is. still_present w order.classes (event.SetTarget d t) s place at left is;
           places = λ p e. e;
           bindings = λ c e. e;
-          runs = λ c listed m run. as_before _ c m (target_runs_on w.sites d t order.points c (other c listed)) run;
+          runs = λ c listed m run. as_before _ c m (target_runs_on w.sites d t c (other c listed (has_key (path w.sites c) (key.Target d)) refl)) run;
         }) (λ c. refl)
       where
-        other : (c : ℕ) → ((k : Key) → has_key (of_call_site w.sites c) k ≡ true → has_key (footprint w s) k ≡ true) → c ≢ d
-        other c listed same =
-            let inside = listed (key.Target c) (or_left (c == c) _ (nat_eq_equiv.refl c)) in
-            both_ways (d == c) (or_first (d == c) (apart (footprint w s) (key.Target d ∷ []) (key.Target c) none inside))
-            ((Decides-eqb d c).1 (sym same))
+        other : (c : ℕ) → ((k : Key) → has_key (of_call_site w.sites c) k ≡ true → has_key (footprint w s) k ≡ true) → (b : Bool) → has_key (path w.sites c) (key.Target d) ≡ b → b ≡ false
+        other c listed false is = refl
+        other c listed true is =
+            let inside = listed (key.Target d) (rests_on_target w.sites c d is) in
+            absurd (both_ways (d == d) (or_first (d == d) (apart (footprint w s) (key.Target d ∷ []) (key.Target d) none inside)) (nat_eq_equiv.refl d))
           where
             or_first : (b : Bool) → (b || false) ≡ false → b ≡ false
             or_first true h = cc
             or_first false h = refl
-    untouched event.NewSwitch none =
+    untouched m event.NewSwitch accepted left none =
         of_rows (step w event.NewSwitch) (record {
           good = good;
           stays = step_stays w good event.NewSwitch;
-          constant = constant event.NewSwitch;
+          constant = constant event.NewSwitch (closed_after w order.classes m event.NewSwitch accepted);
+          present = λ place at is. still_present w order.classes event.NewSwitch s place at left is;
           places = λ p e. e;
           bindings = λ c e. e;
           runs = λ c listed m run. as_before _ c m (switch_runs_on w.sites order.points c) run;
         }) (λ c. refl)
-    untouched (event.Invalidate points) none =
+    untouched m (event.Invalidate points) accepted left none =
         of_rows (step w (event.Invalidate points)) (record {
           good = good;
           stays = step_stays w good (event.Invalidate points);
-          constant = constant (event.Invalidate points);
+          constant = constant (event.Invalidate points) (closed_after w order.classes m (event.Invalidate points) accepted);
+          present = λ place at is. still_present w order.classes (event.Invalidate points) s place at left is;
           places = λ p e. e;
           bindings = λ c e. e;
           runs = λ c listed m run.
               as_before _ c m (invalid_runs_on w.sites points order.points c (λ k h. apart (footprint w s) (keys w (event.Invalidate points)) k none (listed k h))) run;
         }) (λ c. refl)
-    untouched (event.Bind n d) none =
+    untouched m (event.Bind n d) accepted left none =
         of_rows (step w (event.Bind n d)) (record {
           good = good;
           stays = step_stays w good (event.Bind n d);
-          constant = constant (event.Bind n d);
+          constant = constant (event.Bind n d) (closed_after w order.classes m (event.Bind n d) accepted);
+          present = λ place at is. still_present w order.classes (event.Bind n d) s place at left is;
           places = λ p e. e;
           bindings = λ c e. bound_before w.bindings (n, d) s c e;
           runs = λ c listed m run. (run, refl);
         }) (λ c. refl)
-    untouched (event.Install rows) none = λ e. record { link = e; rests_on = refl }
+    untouched m (event.Install rows) accepted left none = λ e. record { link = e; rests_on = refl }
+    untouched m (event.Retire loader) accepted left none = λ e.
+        let one = site_keeps w (step w (event.Retire loader)) s (record {
+          good = good;
+          stays = step_stays w good (event.Retire loader);
+          constant = constant (event.Retire loader) (closed_after w order.classes m (event.Retire loader) accepted);
+          present = λ place at is. still_present w order.classes (event.Retire loader) s place at left is;
+          places = λ place e. e;
+          bindings = λ c e. e;
+          runs = λ c listed m run. (run, refl);
+        }) (λ c h. receivers_left_stay w.classes good.ordered loader c (apart (footprint w s) (keys w (event.Retire loader)) (key.Receivers c) none h)) l e in
+        record { link = one.0; rests_on = one.1 }
 
-pub untouched_stays : (w : World) → IsInOrder w → (e : Event) (s : ℕ) (l : Link) → touches w e s ≡ false → scratch w s ≡ Ok l → SiteStays w (step w e) s l
-untouched_stays w order e s l none = untouched w order s l e none
+pub untouched_stays : (max_sites : ℕ) (w : World) → IsInOrder w → (e : Event) (s : ℕ) (l : Link) → IsOk (verdict max_sites w e) → retires w e s ≡ false → touches w e s ≡ false
+    → scratch w s ≡ Ok l → SiteStays w (step w e) s l
+untouched_stays max_sites w order e s l accepted left none = untouched w order s l max_sites e accepted left none

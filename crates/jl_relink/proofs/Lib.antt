@@ -4,8 +4,10 @@ pub mod BatchLaws
 pub mod Bindings
 pub mod Loaders
 pub mod Staying
+pub mod WayKeys
 pub mod Paths
 pub mod Untouched
+pub mod Closing
 pub mod KeyLaws
 pub mod InOrder
 pub mod OneReceiver

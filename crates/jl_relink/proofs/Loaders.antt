@@ -134,7 +134,7 @@ module _ (old : Classes) (loaders : List (List (List ℕ × ℕ))) where
 
     constant_by_lookups : IsConstant old new
     constant_by_lookups = record {
-      resolved = record { resolved = λ d ref settled. resolved_same d ref };
+      resolved = record { resolved = λ d ref present settled. resolved_same d ref };
       chosen = record { chosen = λ x r there at. chosen_same x r };
       outcomes = record {
         virtual = λ x r there at. virtual_same x r;

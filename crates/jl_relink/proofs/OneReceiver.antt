@@ -32,6 +32,7 @@ use Rattle.jl_types.specs.Footprints.{same_key, has_key, meets, of_selector, of_
 use Rattle.jl_relink.specs.Laws.{IsInOrder, OneMore}
 use Rattle.jl_relink.proofs.Untouched.{same_key_is, IsLater, AreThere, SiteKeeps, map_same, site_stays, outcome_same, receivers_there}
 use Rattle.jl_resolve.proofs.Later.{step_stays}
+use Rattle.jl_hierarchy.proofs.Closed.{closed_defined, present_still}
 use Rattle.jl_relink.proofs.KeyLaws.{good, constant}
 
 -- ---- links of rows
@@ -115,7 +116,8 @@ module _ (w : World) (order : IsInOrder w) (loader : ℕ) (file : ClassFile) (s 
   later = record {
     good = good w order;
     stays = step_stays w (good w order) (event.Define loader file);
-    constant = constant w order (event.Define loader file);
+    constant = constant w order (event.Define loader file) (closed_defined w.classes (good w order) loader file order.classes.closed);
+    present = λ place at is. present_still w.classes (good w order) loader file place.class is;
     places = λ place e. e;
     bindings = λ c e. e;
     runs = λ c listed m run. (run, refl);

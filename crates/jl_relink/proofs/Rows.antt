@@ -56,6 +56,13 @@ no_link_stays = record { stays = λ s l e. cc }
 one_link_differs : ¬ LinksStay (bound (target.Method m)) (SetTarget 0 (target.Method n))
 one_link_differs h = let e : 1 ≡ 0 = ap runs_number (h.stays 0 (Plain m) refl) in omega (arith, e)
 
+-- site 0 is bound to a call site that runs what another one runs
+abbrev invoking : World
+invoking = world_after (begun ++ NewCallSite Mutable (codes "()V") (target.Method m) ∷ NewCallSite Mutable (codes "()V") (target.Invoker 0) ∷ Bind 0 1 ∷ [])
+
+invoked_link_differs : ¬ SiteStays invoking (step invoking (SetTarget 0 (target.Method n))) 0 (Plain m)
+invoked_link_differs h = let e : 1 ≡ 0 = ap runs_number h.link in omega (arith, e)
+
 -- ---- one receiver more
 
 abbrev object : Event
@@ -180,6 +187,15 @@ pointless = record nothing_yet {
 no_such_point : ¬ IsInOrder pointless
 no_such_point h = let e = h.points in cc
 
+-- a call site that runs whatever it runs itself
+abbrev circular : World
+circular = record nothing_yet {
+  sites = record { call_sites = record { kind = Mutable; ty = codes "()V"; target = target.Invoker 0 } ∷ []; switches = [] };
+}
+
+no_earlier_call_site : ¬ IsInOrder circular
+no_earlier_call_site h = let e = h.points in cc
+
 -- a name with a class that there isn't
-no_such_class : ¬ IsInOrder (record nothing_yet { classes = record { loaders = ((codes "A", 0) ∷ []) ∷ []; rows = [] } })
+no_such_class : ¬ IsInOrder (record nothing_yet { classes = record { loaders = ((codes "A", 0) ∷ []) ∷ []; rows = []; retired = [] } })
 no_such_class h = let few : 0 < 0 = h.classes.there.0.0 in omega (arith, few)

@@ -1,10 +1,10 @@
 -- A link that there is stays where resolution and selection do, call sites run what they ran, and places and bindings stay.
 use Rattle.std.specs.Prelude.{◌||◌, ◌≡◌, ℕ, ◌<◌, ◌==◌, not, ◌&&◌, Bool, true, false, cond, List, [], ◌∷◌, ◌++◌, length, map, find, slice_get}
-use Rattle.std.specs.Prelude.{Option, Some, None, option_map, option_and_then, Result, Ok, Err, is_some, if◌then◌else◌}
+use Rattle.std.specs.Prelude.{Option, Some, None, option_map, option_and_then, Result, Ok, Err, if◌then◌else◌}
 use Rattle.std.specs.List.{list_any}
 use Rattle.std.specs.Option.{option_map_or}
 use Rattle.std.specs.Bool.{beq}
-use Rattle.std.proofs.Common.{refl, ap, sym, subst, ◌∙◌}
+use Rattle.std.proofs.Common.{refl, ap, subst, ◌∙◌}
 use Rattle.std.proofs.lemmas.Option.{slice_get_within}
 use Rattle.jl_pool.specs.declared.reference.Reference.{Reference}
 use Rattle.jl_classfile.specs.Conditions.{has_flag, PUBLIC}
@@ -26,24 +26,22 @@ use Rattle.jl_types.specs.declared.link.TableKind.TheVariants as table
 use Rattle.jl_types.specs.declared.target.CallSiteKind.{CallSiteKind}
 use Rattle.jl_types.specs.Target.{Target}
 use Rattle.jl_types.specs.World.{Class, Classes, CallSite, Sites, World}
-use Rattle.jl_types.specs.Members.{is_present, is_private, is_static, is_interface, share_package}
+use Rattle.jl_types.specs.Members.{is_retired, is_present, is_private, is_static, is_interface, share_package}
 use Rattle.jl_types.specs.Ancestry.{receivers}
 use Rattle.jl_types.specs.Access.{is_accessible_class}
 use Rattle.jl_types.specs.Resolution.{Resolved, resolved, resolved_at, naming, named_class, found, if_accessible}
 use Rattle.jl_types.specs.Selection.{is_init}
 use Rattle.jl_types.specs.Sites.{Selector, ByVirtual, ByInterface, BySpecial, Invocation, Waits, Fails, Calls, Selects}
-use Rattle.jl_types.specs.Sites.{selecting, by_kind, by_resolution, by_call_site, bound_to, call_site_of, invocation_at, by_operand, stage_of, stage_at}
-use Rattle.jl_types.specs.Targets.{evaluated}
+use Rattle.jl_types.specs.Sites.{selecting, by_kind, by_resolution, by_method, bound_to, bound_method, invocation_at, by_operand, stage_of, stage_at}
+use Rattle.jl_types.specs.Targets.{evaluated, method_of}
 use Rattle.jl_types.specs.Links.{outcome_by, table_rows, table_or_mega, virtual_link, link_by, link_of, scratch}
 use Rattle.jl_types.specs.Events.{same_place, requested, step}
 use Rattle.jl_types.proofs.Accepting.{linked}
-use Rattle.jl_types.proofs.Lists.{before_end}
+use Rattle.jl_types.proofs.Lists.{before_end, passes_within}
 use Rattle.jl_resolve.specs.Constancy.{is_settled}
 use Rattle.jl_select.specs.Constancy.{IsConstant}
 use Rattle.jl_select.proofs.Constancy.{constant_itself}
-use Rattle.jl_callsites.specs.Runs.{method_of, by_method}
 use Rattle.jl_callsites.specs.Known.{RunAsBefore}
-use Rattle.jl_callsites.proofs.Worlds.{runs_bound}
 use Rattle.jl_callsites.proofs.Known.{site_runs}
 use Rattle.jl_relink.specs.Laws.{LinksStay}
 use Rattle.jl_relink.proofs.Loaders.{virtual_same, interface_same, loader_constant}
@@ -51,11 +49,7 @@ use Rattle.jl_relink.proofs.Loaders.{virtual_same, interface_same, loader_consta
 -- ---- what is there
 
 pub present_there : (cs : Classes) (c : ℕ) → is_present cs c ≡ true → c < length cs.rows
-present_there cs c = by_row (slice_get cs.rows c) refl
-  where
-    by_row : (o : Option Class) → slice_get cs.rows c ≡ o → is_some o ≡ true → c < length cs.rows
-    by_row None is e = cc
-    by_row (Some row) is e = slice_get_within cs.rows c row is
+present_there cs c = passes_within (λ (row : Class). not (is_retired cs row.loader)) cs.rows c
 
 -- a class that is accessible is there
 pub accessible_there : (cs : Classes) (d c : ℕ) → is_accessible_class cs d c ≡ true → c < length cs.rows
@@ -94,7 +88,7 @@ named_there cs d ref r = by_class (named_class cs d ref)
 method_there : (sites : Sites) (c : ℕ) (m : MethodId) → method_of sites c ≡ Some m → c < length sites.call_sites
 method_there sites c m = by_site (slice_get sites.call_sites c) refl
   where
-    by_site : (o : Option CallSite) → slice_get sites.call_sites c ≡ o → option_map (λ site. evaluated sites site.target) o ≡ Some m → c < length sites.call_sites
+    by_site : (o : Option CallSite) → slice_get sites.call_sites c ≡ o → option_and_then (λ site. evaluated sites c site.target) o ≡ Some m → c < length sites.call_sites
     by_site None is e = cc
     by_site (Some site) is e = slice_get_within sites.call_sites c site is
 
@@ -118,7 +112,7 @@ module _ (old : Classes) (loaders : List (List (List ℕ × ℕ))) (constant : I
     link_same ByInterface = ap (table_or_mega table.Interface) rows_same
     link_same BySpecial = ap Direct (constant.outcomes.special i.caller i.named i.ref caller there)
 
-  module _ (d : ℕ) (ref : Reference (List ℕ)) (caller : d < length old.rows) where
+  module _ (d : ℕ) (ref : Reference (List ℕ)) (caller : d < length old.rows) (present : is_present old d ≡ true) where
     module _ (r : Resolved) (there : r.named < length old.rows) where
       abbrev invoking : Selector → Invocation
       invoking selector = record { selector = selector; caller = d; named = r.named; ref = ref; method = r.method }
@@ -149,7 +143,7 @@ module _ (old : Classes) (loaders : List (List (List ℕ × ℕ))) (constant : I
       kind_same Dynamic = refl
 
     resolution_stays : (r : Result Resolved ResolveAnswer) → resolved old d ref ≡ r → is_settled r ≡ true → resolved new d ref ≡ r
-    resolution_stays r is settled = constant.resolved.resolved d ref (ap is_settled is ∙ settled) ∙ is
+    resolution_stays r is settled = constant.resolved.resolved d ref present (ap is_settled is ∙ settled) ∙ is
 
     method_stays : (kind : Kind) (l : Link) → link_of old (by_resolution old kind d ref (resolved old d ref)) ≡ Ok l
         → link_of new (by_resolution new kind d ref (resolved new d ref)) ≡ Ok l
@@ -174,27 +168,26 @@ module _ (w : World) (loaders : List (List (List ℕ × ℕ))) (places : List Pl
   module _ (constant : IsConstant w.classes after.classes) (runs : RunAsBefore w.sites sites)
       (place_stays : (s : ℕ) (place : Place) → slice_get w.places s ≡ Some place → slice_get places s ≡ Some place)
       (binding_stays : (s c : ℕ) → bound_to w s ≡ Some c → bound_to after s ≡ Some c) (s : ℕ) (l : Link) where
-    call_site_stays : link_of w.classes (by_call_site w (call_site_of w s)) ≡ Ok l → link_of after.classes (by_call_site after (call_site_of after s)) ≡ Ok l
-    call_site_stays h = by_binding (bound_to w s) refl (ap (link_of w.classes) (sym (runs_bound w s)) ∙ h)
+    call_site_stays : link_of w.classes (by_method (bound_method w s)) ≡ Ok l → link_of after.classes (by_method (bound_method after s)) ≡ Ok l
+    call_site_stays h = by_binding (bound_to w s) refl h
       where
         by_run : (c : ℕ) → bound_to w s ≡ Some c → (o : Option MethodId) → method_of w.sites c ≡ o → link_of w.classes (by_method o) ≡ Ok l
-            → link_of after.classes (by_call_site after (call_site_of after s)) ≡ Ok l
+            → link_of after.classes (by_method (bound_method after s)) ≡ Ok l
         by_run c is None run e = cc
         by_run c is (Some m) run e =
             ap (link_of after.classes)
-            (runs_bound after s
-            ∙ ap (λ (o : Option ℕ). by_method (option_and_then (method_of sites) o)) (binding_stays s c is)
+            (ap (λ (o : Option ℕ). by_method (option_and_then (method_of sites) o)) (binding_stays s c is)
             ∙ ap by_method (runs.same c (method_there w.sites c m run) ∙ run))
             ∙ e
 
         by_binding : (o : Option ℕ) → bound_to w s ≡ o → link_of w.classes (by_method (option_and_then (method_of w.sites) o)) ≡ Ok l
-            → link_of after.classes (by_call_site after (call_site_of after s)) ≡ Ok l
+            → link_of after.classes (by_method (bound_method after s)) ≡ Ok l
         by_binding None is e = cc
         by_binding (Some c) is e = by_run c is (method_of w.sites c) refl e
 
-    module _ (d : ℕ) (there : d < length w.classes.rows) where
+    module _ (d : ℕ) (there : d < length w.classes.rows) (present : is_present w.classes d ≡ true) where
       operand_stays : (kind : Kind) (o : Operand (List ℕ)) → link_of w.classes (by_operand w s d kind o) ≡ Ok l → link_of after.classes (by_operand after s d kind o) ≡ Ok l
-      operand_stays kind (operand.Method ref) e = method_stays w.classes loaders constant d ref there kind l e
+      operand_stays kind (operand.Method ref) e = method_stays w.classes loaders constant d ref there present kind l e
       operand_stays kind (operand.CallSite specifier) e = call_site_stays e
 
       invocation_stays : (o : Option Site) → link_of w.classes (stage_of w s d o) ≡ Ok l → link_of after.classes (stage_of after s d o) ≡ Ok l
@@ -208,7 +201,7 @@ module _ (w : World) (loaders : List (List (List ℕ × ℕ))) (places : List Pl
             → link_of w.classes (if b then stage_of w s place.class (invocation_at w.classes place) else Waits Gone) ≡ Ok l
             → link_of after.classes (if b then stage_of after s place.class (invocation_at w.classes place) else Waits Gone) ≡ Ok l
         by_class false is e = cc
-        by_class true is e = invocation_stays place.class (present_there w.classes place.class is) (invocation_at w.classes place) e
+        by_class true is e = invocation_stays place.class (present_there w.classes place.class is) is (invocation_at w.classes place) e
 
     pub link_stays : scratch w s ≡ Ok l → scratch after s ≡ Ok l
     link_stays = by_place (slice_get w.places s) refl

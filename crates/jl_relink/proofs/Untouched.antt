@@ -1,12 +1,11 @@
 -- What a linked site comes to before its receiver stays through every event, and so do its link and its footprint where the event
 -- changes nothing of what the link rests on.
 use Rattle.std.specs.Prelude.{◌≡◌, ℕ, zero, suc, ◌+◌, ◌<◌, ◌≤◌, ◌==◌, not, ◌&&◌, ◌||◌, Bool, true, false, List, [], ◌∷◌, length, map, filter_map, find, slice_get}
-use Rattle.std.specs.Prelude.{Option, Some, None, option_and_then, Result, Ok, Err, IfSome, is_some, if◌then◌else◌, ⊤}
+use Rattle.std.specs.Prelude.{Option, Some, None, option_and_then, Result, Ok, Err, IfSome, if◌then◌else◌, ⊤}
 use Rattle.std.specs.List.{AllByRecursion, range_with_len}
-use Rattle.std.specs.Option.{option_map_or}
 use Rattle.std.specs.Bool.{beq}
 use Rattle.std.proofs.Common.{refl, ap, sym, subst, ◌∙◌, arith, inl, inr}
-use Rattle.std.proofs.lemmas.Bool.{or_cases, both_ways}
+use Rattle.std.proofs.lemmas.Bool.{or_cases}
 use Rattle.std.proofs.lemmas.Bool.Decides.{Decides-eqb}
 use Rattle.std.proofs.lemmas.Cmp.{nat_eq_equiv}
 use Rattle.jl_pool.specs.declared.reference.Reference.{Reference}
@@ -33,20 +32,20 @@ use Rattle.jl_types.specs.Resolution.{Resolved, resolved, resolved_at, by_access
 use Rattle.jl_types.specs.Access.{Access, Allowed, Denied, NotKnown}
 use Rattle.jl_types.specs.Selection.{is_init, virtual_outcome}
 use Rattle.jl_types.specs.Sites.{Selector, ByVirtual, ByInterface, BySpecial, Invocation, Stage, Waits, Fails, Calls, Selects}
-use Rattle.jl_types.specs.Sites.{selecting, by_kind, by_resolution, by_call_site, bound_to, call_site_of, invocation_at, by_operand, stage_of, stage_at, stage}
+use Rattle.jl_types.specs.Sites.{selecting, by_kind, by_resolution, by_method, bound_to, bound_method, invocation_at, by_operand, stage_of, stage_at, stage}
 use Rattle.jl_types.specs.Links.{outcome_by, table_rows, table_or_mega, virtual_link, link_by, link_of, scratch}
 use Rattle.jl_types.proofs.Accepting.{linked}
 use Rattle.jl_types.proofs.Orders.{IsGood}
 use Rattle.jl_hierarchy.specs.Constancy.{Stays}
 use Rattle.jl_resolve.specs.Constancy.{is_settled}
-use Rattle.jl_resolve.proofs.Unchanged.{IsThere, IsOfThere, first_there, first_of_there, row_stays, method_stays, static_stays, private_stays, all_filter}
+use Rattle.jl_resolve.proofs.Unchanged.{IsThere, IsOfThere, first_there, first_of_there, method_stays, static_stays, private_stays, all_filter}
 use Rattle.jl_resolve.proofs.Unchanged.{declared_there, candidates_there, defaults_there, upward_there, declared_in_object_there}
 use Rattle.jl_select.specs.Constancy.{IsConstant}
-use Rattle.jl_callsites.specs.Runs.{method_of, by_method}
-use Rattle.jl_callsites.proofs.Worlds.{runs_bound}
+use Rattle.jl_types.specs.Targets.{method_of}
 use Rattle.jl_types.specs.declared.key.Key.{Key}
 use Rattle.jl_types.specs.declared.key.Key.TheVariants as key
-use Rattle.jl_types.specs.Footprints.{same_key, has_key, meets, points_of, of_selector, of_stage, of_call_site, of_binding, of_operand, of_invocation, of_place, footprint}
+use Rattle.jl_types.specs.Footprints.{same_key, has_key, meets, of_selector, of_stage, of_call_site, of_binding, of_operand, of_invocation, of_place, footprint}
+use Rattle.jl_relink.proofs.WayKeys.{no_receivers_of}
 use Rattle.jl_relink.proofs.Staying.{present_there, accessible_there, named_there}
 
 -- ---- lists
@@ -188,9 +187,9 @@ module _ (old new : Classes) (stays : Stays old new) (good : IsGood old) where
           by_test false = selecting_stays BySpecial
       kind_stays Dynamic = record { there = tt; same = λ settled. refl }
 
-    module _ (constant : IsConstant old new) where
+    module _ (present : is_present new d ≡ true) (constant : IsConstant old new) where
       resolution_stays : (r : Result Resolved ResolveAnswer) → resolved old d ref ≡ r → is_settled r ≡ true → resolved new d ref ≡ r
-      resolution_stays r is settled = constant.resolved.resolved d ref (ap is_settled is ∙ settled) ∙ is
+      resolution_stays r is settled = constant.resolved.resolved d ref present (ap is_settled is ∙ settled) ∙ is
 
       reference_stays : (kind : Kind) → StageStays old (by_resolution old kind d ref (resolved old d ref)) (by_resolution new kind d ref (resolved new d ref))
       reference_stays kind = by_answer (resolved old d ref) refl
@@ -239,13 +238,14 @@ apart (first ∷ footprint) keys k none has =
 
 -- ---- a site
 
--- What is at a place, and to which call site an invokedynamic is bound, stays; the call site that an invokedynamic rests on runs what
--- it ran, by the same way.
+-- What is at a place, and to which call site an invokedynamic is bound, stays, and the site isn't retired; the call site that an
+-- invokedynamic rests on runs what it ran, by the same way.
 pub record IsLater (w after : World) (s : ℕ) : Type 0 where
   pub good : IsGood w.classes
   pub stays : Stays w.classes after.classes
   pub constant : IsConstant w.classes after.classes
   pub places : (place : Place) → slice_get w.places s ≡ Some place → slice_get after.places s ≡ Some place
+  pub present : (place : Place) → slice_get w.places s ≡ Some place → is_present w.classes place.class ≡ true → is_present after.classes place.class ≡ true
   pub bindings : (c : ℕ) → bound_to w s ≡ Some c → bound_to after s ≡ Some c
   pub runs : (c : ℕ) → ((k : Key) → has_key (of_call_site w.sites c) k ≡ true → has_key (footprint w s) k ≡ true) → (m : MethodId)
       → method_of w.sites c ≡ Some m → (method_of after.sites c ≡ Some m) × (of_call_site after.sites c ≡ of_call_site w.sites c)
@@ -253,11 +253,7 @@ pub record IsLater (w after : World) (s : ℕ) : Type 0 where
 -- an invokedynamic looks at no receivers
 no_receivers : (sites : Sites) (o : Option ℕ) (c : ℕ) → has_key (of_binding sites o) (key.Receivers c) ≡ true → ⊥
 no_receivers sites None c h = cc
-no_receivers sites (Some d) c h = none (option_map_or (points_of sites) (slice_get sites.call_sites d) []) h
-  where
-    none : (ps : List ℕ) → has_key (map key.Valid ps) (key.Receivers c) ≡ true → ⊥
-    none [] h = cc
-    none (p ∷ ps) h = none ps h
+no_receivers sites (Some d) c h = absurd (no_receivers_of sites d c h)
 
 -- The site's stage and footprint stay, unless it waits. Its footprint has what its stage rests on, and no more where it selects by
 -- the receiver.
@@ -314,68 +310,53 @@ module _ (w after : World) (s : ℕ) (later : IsLater w after s) where
     by_binding None is = record { there = tt; chosen = λ i e. cc; rests = λ k h. cc; looks = λ d h. absurd (no_receivers w.sites (bound_to w s) d h); same = λ settled. cc; keys = λ settled. cc }
     by_binding (Some c) is = by_run c is (method_of w.sites c) refl
 
-    call_site_stays : SiteKeeps w after (by_call_site w (call_site_of w s)) (by_call_site after (call_site_of after s))
+    call_site_stays : SiteKeeps w after (by_method (bound_method w s)) (by_method (bound_method after s))
         (of_binding w.sites (bound_to w s)) (of_binding after.sites (bound_to after s))
-    call_site_stays =
-        subst (λ (t : Stage). SiteKeeps w after t (by_call_site after (call_site_of after s)) (of_binding w.sites (bound_to w s)) (of_binding after.sites (bound_to after s)))
-        (sym (runs_bound w s))
-        (subst (λ (t : Stage). SiteKeeps w after (by_method (option_and_then (method_of w.sites) (bound_to w s))) t
-        (of_binding w.sites (bound_to w s)) (of_binding after.sites (bound_to after s)))
-        (sym (runs_bound after s)) (by_binding (bound_to w s) refl))
+    call_site_stays = by_binding (bound_to w s) refl
 
-  operand_stays : (d : ℕ) → IsThere w.classes d → (kind : Kind) (o : Operand (List ℕ))
+  operand_stays : (d : ℕ) → IsThere w.classes d → is_present after.classes d ≡ true → (kind : Kind) (o : Operand (List ℕ))
       → ((k : Key) → has_key (of_operand w s d kind o) k ≡ true → has_key (footprint w s) k ≡ true)
       → SiteKeeps w after (by_operand w s d kind o) (by_operand after s d kind o) (of_operand w s d kind o) (of_operand after s d kind o)
-  operand_stays d there kind (operand.Method ref) listed =
+  operand_stays d there present kind (operand.Method ref) listed =
       by_reference (by_resolution w.classes kind d ref (resolved w.classes d ref)) (by_resolution after.classes kind d ref (resolved after.classes d ref))
-      (reference_stays w.classes after.classes later.stays later.good d ref there later.constant kind)
-  operand_stays d there kind (operand.CallSite specifier) listed = call_site_stays listed
+      (reference_stays w.classes after.classes later.stays later.good d ref there present later.constant kind)
+  operand_stays d there present kind (operand.CallSite specifier) listed = call_site_stays listed
 
-  invocation_stays : (d : ℕ) → IsThere w.classes d → (o : Option Site)
+  invocation_stays : (d : ℕ) → IsThere w.classes d → is_present after.classes d ≡ true → (o : Option Site)
       → ((k : Key) → has_key (of_invocation w s d o) k ≡ true → has_key (footprint w s) k ≡ true)
       → SiteKeeps w after (stage_of w s d o) (stage_of after s d o) (of_invocation w s d o) (of_invocation after s d o)
-  invocation_stays d there None listed = record { there = tt; chosen = λ i e. cc; rests = λ k h. cc; looks = λ d h. cc; same = λ settled. refl; keys = λ settled. refl }
-  invocation_stays d there (Some site) listed = operand_stays d there site.kind site.operand listed
+  invocation_stays d there present None listed = record { there = tt; chosen = λ i e. cc; rests = λ k h. cc; looks = λ d h. cc; same = λ settled. refl; keys = λ settled. refl }
+  invocation_stays d there present (Some site) listed = operand_stays d there present site.kind site.operand listed
 
   place_stays : (place : Place) → slice_get w.places s ≡ Some place
       → SiteKeeps w after (stage_at w s (Some place)) (stage_at after s (Some place)) (of_place w s (Some place)) (of_place after s (Some place))
   place_stays place at = by_class (is_present w.classes place.class) refl
     where
-      none_of_absent : (d : ℕ) (o : Option Class) → slice_get w.classes.rows place.class ≡ o → is_some o ≡ false
-          → has_key (of_place w s (Some place)) (key.Receivers d) ≡ true → ⊥
-      none_of_absent d (Some row) is e h = cc
-      none_of_absent d None is e h =
-          both_ways (has_key (of_place w s (Some place)) (key.Receivers d))
-          (ap (λ (o : Option Class). has_key (of_invocation w s place.class (option_and_then (λ (method : Method). find (λ site. site.pc == place.pc) method.sites)
-          (slice_get (option_map_or (λ (row : Class). row.file.methods) o []) place.method))) (key.Receivers d)) is
-          ∙ by_index place.method)
-          h
-        where
-          by_index : (n : ℕ) → has_key (of_invocation w s place.class (option_and_then (λ (method : Method). find (λ site. site.pc == place.pc) method.sites)
-              (slice_get [] n))) (key.Receivers d) ≡ false
-          by_index zero = refl
-          by_index (suc n) = refl
-
       by_class : (b : Bool) → is_present w.classes place.class ≡ b
           → SiteKeeps w after (if b then stage_of w s place.class (invocation_at w.classes place) else Waits Gone) (stage_at after s (Some place))
-          (of_place w s (Some place)) (of_place after s (Some place))
-      by_class false is = record { there = tt; chosen = λ i e. cc; rests = λ k h. cc; looks = λ d h. absurd (none_of_absent d (slice_get w.classes.rows place.class) refl is h); same = λ settled. cc; keys = λ settled. cc }
+          (if b then of_invocation w s place.class (invocation_at w.classes place) else []) (of_place after s (Some place))
+      by_class false is = record { there = tt; chosen = λ i e. cc; rests = λ k h. cc; looks = λ d h. cc; same = λ settled. cc; keys = λ settled. cc }
       by_class true is =
           let there = present_there w.classes place.class is in
-          let row = row_stays w.classes after.classes later.stays later.good place.class there in
+          let now = later.present place at is in
           let methods = method_stays w.classes after.classes later.stays later.good (record { class = place.class; index = place.method }) there in
-          let one = invocation_stays place.class there (invocation_at w.classes place) (λ k h. ap (λ (o : Option Place). has_key (of_place w s o) k) at ∙ h) in
+          let one = invocation_stays place.class there now (invocation_at w.classes place)
+          (λ k h.
+          ap (λ (o : Option Place). has_key (of_place w s o) k) at
+          ∙ ap (λ (b : Bool). has_key (if b then of_invocation w s place.class (invocation_at w.classes place) else []) k) is
+          ∙ h) in
           record {
             there = one.there;
             chosen = one.chosen;
             rests = one.rests;
             looks = one.looks;
             same = λ settled.
-                ap (λ (b : Bool). if b then stage_of after s place.class (invocation_at after.classes place) else Waits Gone) (ap is_some row ∙ is)
+                ap (λ (b : Bool). if b then stage_of after s place.class (invocation_at after.classes place) else Waits Gone) now
                 ∙ ap (λ (o : Option Method). stage_of after s place.class (option_and_then (λ method. find (λ site. site.pc == place.pc) method.sites) o)) methods
                 ∙ one.same settled;
             keys = λ settled.
-                ap (λ (o : Option Method). of_invocation after s place.class (option_and_then (λ method. find (λ site. site.pc == place.pc) method.sites) o)) methods
+                ap (λ (b : Bool). if b then of_invocation after s place.class (invocation_at after.classes place) else []) now
+                ∙ ap (λ (o : Option Method). of_invocation after s place.class (option_and_then (λ method. find (λ site. site.pc == place.pc) method.sites) o)) methods
                 ∙ one.keys settled;
           }
 

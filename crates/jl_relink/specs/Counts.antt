@@ -1,10 +1,12 @@
 -- How many receivers the link of a selection looks at. A means of proof.
-use Rattle.std.specs.Prelude.{ℕ, List, [], ◌∷◌, slice_get, Option, option_and_then, if◌then◌else◌}
+use Rattle.std.specs.Prelude.{ℕ, List, [], ◌∷◌, Option, option_and_then, if◌then◌else◌}
 use Rattle.jl_types.specs.declared.link.TableKind.{TableKind}
 use Rattle.jl_types.specs.declared.link.TableKind.TheVariants.{Virtual, Interface}
 use Rattle.jl_types.specs.declared.key.Key.{Key}
 use Rattle.jl_types.specs.declared.key.Key.TheVariants as key
-use Rattle.jl_types.specs.World.{Classes, CallSite, Sites}
+use Rattle.jl_types.specs.declared.ids.MethodId.{MethodId}
+use Rattle.jl_types.specs.World.{Classes, Sites}
+use Rattle.jl_types.specs.Targets.{method_of}
 use Rattle.jl_types.specs.Members.{is_private}
 use Rattle.jl_types.specs.Footprints.{most_by}
 use Rattle.jl_relink.specs.declared.selection.Selection.{Selection}
@@ -16,5 +18,6 @@ keys_by cs s Interface = key.Receivers s.named ∷ []
 abbrev pub most_of : Classes → Selection → ℕ
 most_of cs s = most_by cs (keys_by cs s s.kind)
 
-abbrev pub call_site_at : Sites → Option ℕ → Option CallSite
-call_site_at sites binding = option_and_then (slice_get sites.call_sites) binding
+-- what runs of a call site to which an invokedynamic is bound, or of none
+abbrev pub method_at : Sites → Option ℕ → Option MethodId
+method_at sites binding = option_and_then (method_of sites) binding

@@ -1,5 +1,5 @@
 -- Which events change no link, and what a link rests on.
-use Rattle.std.specs.Prelude.{◌≡◌, ◌≢◌, ℕ, length, Bool, true, List, take, slice_get, Some, Ok, IsOk}
+use Rattle.std.specs.Prelude.{◌≡◌, ◌≢◌, ℕ, length, Bool, true, false, List, take, slice_get, Some, Ok, IsOk}
 use Rattle.std.specs.List.{list_all}
 use Rattle.jl_classfile.specs.Conditions.{extends_object}
 use Rattle.jl_types.specs.Event.{Event}
@@ -19,7 +19,7 @@ use Rattle.jl_types.specs.Footprints.{footprint, stays_with}
 pub record LinksStay (w : World) (e : Event) : Type 0 where
   pub stays : (s : ℕ) (l : Link) → scratch w s ≡ Ok l → scratch (step w e) s ≡ Ok l
 
--- the classes came in order, and each guard has its switch point
+-- the classes came in order, and each guard has its switch point and each invoker its call site
 pub record IsInOrder (w : World) : Type 0 where
   pub classes : AreInOrder w.classes
   pub points : are_known w.sites ≡ true
@@ -50,3 +50,9 @@ has_read_file _ = true
 pub record AreAccepted (max_sites : ℕ) (h : List Event) : Type 0 where
   pub each : (n : ℕ) (e : Event) → slice_get h n ≡ Some e → IsOk (verdict max_sites (world_after (take n h)) e)
   pub files : list_all has_read_file h ≡ true
+
+-- the event changes which classes are receivers
+abbrev pub changes_receivers : Event → Bool
+changes_receivers (event.Define loader file) = true
+changes_receivers (event.Retire loader) = true
+changes_receivers _ = false

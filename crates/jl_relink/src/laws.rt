@@ -1,13 +1,12 @@
 //! The laws of links: each is the contract of a function that does nothing.
 
-ghost use Rattle.std.specs.Prelude.{◌≡◌, ℕ, ◌++◌, ◌∷◌, [], List, Ok, true, false};
+ghost use Rattle.std.specs.Prelude.{◌≡◌, ℕ, ◌++◌, ◌∷◌, [], List, Ok, IsOk, true, false};
 ghost use Rattle.jl_types.specs.Event.{Event};
 ghost use Rattle.jl_types.specs.declared.event.EventOf.TheVariants as event;
 ghost use Rattle.jl_types.specs.declared.ids.Place.{Place};
 ghost use Rattle.jl_types.specs.declared.link.Link.{Link};
 ghost use Rattle.jl_types.specs.declared.target.CallSiteKind.{CallSiteKind};
-ghost use Rattle.jl_types.specs.Entries.{defines};
-ghost use Rattle.jl_types.specs.Events.{step};
+ghost use Rattle.jl_types.specs.Events.{verdict, step};
 ghost use Rattle.jl_types.specs.History.{world_after, Settled};
 ghost use Rattle.jl_types.specs.Links.{scratch};
 ghost use Rattle.jl_classfile.specs.Class.{ClassFile};
@@ -15,8 +14,8 @@ ghost use Rattle.jl_types.specs.Target.{Target};
 ghost use Rattle.jl_types.specs.World.{World};
 ghost use Rattle.jl_callsites.specs.Known.{RunAsBefore};
 ghost use Rattle.jl_select.specs.Constancy.{IsConstant};
-ghost use Rattle.jl_types.specs.Footprints.{touches, most_for};
-ghost use Rattle.jl_relink.specs.Laws.{LinksStay, IsInOrder, SiteStays, OneMore, AreAccepted};
+ghost use Rattle.jl_types.specs.Footprints.{retires, touches, most_for};
+ghost use Rattle.jl_relink.specs.Laws.{LinksStay, IsInOrder, SiteStays, OneMore, AreAccepted, changes_receivers};
 
 /// The events that change no link: a site that has a link has the same one afterwards. Of a delegation that is so where what
 /// was resolved and selected stays, and of a new switch point where each call site runs what it ran before.
@@ -32,16 +31,17 @@ pub fn links_stay()
     ensures install { (w : World) (rows : List (ℕ × Link)) → LinksStay w (event.Install rows) }
 {}
 
-/// An event that changes nothing of what a site's link rests on leaves the link, and what it rests on: after accepted events
-/// that of a settled site, and in any world whose classes came in order that of a site that has one.
+/// An accepted event that changes nothing of what a site's link rests on, and doesn't retire the site, leaves the link, and what it
+/// rests on: after accepted events that of a settled site, and in any world whose classes came in order that of a site that has one.
 pub fn untouched_links_stay()
-    ensures settled { (max_sites : ℕ) (h : List Event) (e : Event) (s : ℕ) (l : Link) → AreAccepted max_sites h → Settled h s l
+    ensures settled { (max_sites : ℕ) (h : List Event) (e : Event) (s : ℕ) (l : Link) → AreAccepted max_sites h
+        → IsOk (verdict max_sites (world_after h) e) → Settled h s l → retires (world_after h) e s ≡ false
         → touches (world_after h) e s ≡ false → SiteStays (world_after h) (world_after (h ++ e ∷ [])) s l }
-    ensures linked { (w : World) (e : Event) (s : ℕ) (l : Link) → IsInOrder w → touches w e s ≡ false → scratch w s ≡ Ok l
-        → SiteStays w (step w e) s l }
+    ensures linked { (max_sites : ℕ) (w : World) (e : Event) (s : ℕ) (l : Link) → IsInOrder w → IsOk (verdict max_sites w e)
+        → retires w e s ≡ false → touches w e s ≡ false → scratch w s ≡ Ok l → SiteStays w (step w e) s l }
 {}
 
-/// After accepted events classes came in order, and each guard has its switch point.
+/// After accepted events classes came in order, and each guard has its switch point and each invoker its call site.
 pub fn accepted_events_are_in_order()
     ensures { (max_sites : ℕ) (h : List Event) → AreAccepted max_sites h → IsInOrder (world_after h) }
 {}
@@ -53,7 +53,7 @@ pub fn one_receiver_more()
         → touches w (event.Define loader file) s ≡ true → scratch w s ≡ Ok l → OneMore w loader file s l }
 {}
 
-/// A site that an event other than a definition touches takes one evaluation afterwards.
+/// A site that an event other than a definition or a retirement touches takes one evaluation afterwards.
 pub fn touched_sites_take_one_evaluation()
-    ensures { (w : World) (e : Event) (s : ℕ) → defines e ≡ false → touches w e s ≡ true → most_for (step w e) s ≡ 1 }
+    ensures { (w : World) (e : Event) (s : ℕ) → changes_receivers e ≡ false → touches w e s ≡ true → most_for (step w e) s ≡ 1 }
 {}

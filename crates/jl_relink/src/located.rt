@@ -27,7 +27,7 @@ pub(crate) fn locate(world: &World, site: SiteNo) -> Result<Located<'_>, Unlinke
     let Some(place) = world.places.get_index(site.number() as usize) else {
         return Err(Unlinked::NoSite);
     };
-    if !world.classes.has_class(place.class) {
+    if !world.classes.is_present(place.class) {
         return Err(Unlinked::Gone);
     }
     match invocation_at(&world.classes, place) {

@@ -4,8 +4,8 @@ ghost use Rattle.std.specs.Prelude.{◌≡◌, ◌+◌, ◌^◌, ◌<◌, ◌≤
 ghost use Rattle.jl_types.specs.Resolution as resolution;
 ghost use Rattle.jl_types.specs.Sites as sites;
 ghost use Rattle.jl_types.specs.Links as links;
-ghost use Rattle.jl_types.specs.Footprints.{of_stage, of_operand, of_binding, most_by, most_for};
-ghost use Rattle.jl_relink.specs.Counts.{call_site_at};
+ghost use Rattle.jl_types.specs.Footprints.{of_stage, of_operand, most_by, most_for};
+ghost use Rattle.jl_relink.specs.Counts.{method_at};
 
 use crate::link::selected_link;
 use crate::located::{Located, locate};
@@ -99,9 +99,9 @@ fn binding_link(
     binding: Option<CallSiteId>,
     work: &mut Work,
 ) -> Result<Link, Unlinked>
-    requires fits { work.old + most_by world.now.classes (of_binding world.now.sites binding) < 2 ^ 64 }
-    ensures link { result ≡ links.link_of world.now.classes (sites.by_call_site world.now (call_site_at world.now.sites binding)) }
-    ensures ticks { work.new ≤ work.old + most_by world.now.classes (of_binding world.now.sites binding) }
+    requires fits { work.old + 1 < 2 ^ 64 }
+    ensures link { result ≡ links.link_of world.now.classes (sites.by_method (method_at world.now.sites binding)) }
+    ensures ticks { work.new ≤ work.old + 1 }
 {
     let Some(call_site) = binding else {
         return Err(Unlinked::Unbound);

@@ -3,7 +3,6 @@
 ghost use Rattle.std.specs.Prelude.{◌≡◌, length, IfOk};
 ghost use Rattle.jl_types.specs.World.{World, nothing_yet};
 ghost use Rattle.jl_types.specs.Sites as sites;
-ghost use Rattle.jl_callsites.specs.Runs.{by_method};
 
 use indexmap::{IndexMap, IndexSet};
 use jl_callsites::Sites;
@@ -91,7 +90,7 @@ impl World {
 
     /// The method that the invokedynamic runs now, where it is bound. Takes no memory.
     pub(crate) fn bound_method(&self, site: SiteNo) -> Option<MethodId>
-        ensures { sites.by_call_site self.now (sites.call_site_of self.now site) ≡ by_method result }
+        ensures { result ≡ sites.bound_method self.now site }
     {
         self.sites.method_of(self.bound_to(site)?)
     }

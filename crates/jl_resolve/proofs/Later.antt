@@ -12,10 +12,10 @@ use Rattle.jl_types.specs.History.{world_after}
 use Rattle.jl_types.proofs.Places.{world_more}
 use Rattle.jl_types.proofs.Orders.{IsGood, world_good}
 use Rattle.jl_hierarchy.specs.Constancy.{Stays}
-use Rattle.jl_hierarchy.proofs.Constancy.{stays_defined, stays_with_record, stays_with_loader}
+use Rattle.jl_hierarchy.proofs.Constancy.{stays_defined, stays_with_record, stays_with_loader, stays_retired}
 
 stays_itself : (cs : Classes) → Stays cs cs
-stays_itself cs = record { rows = λ c row e. e; records = λ l name c h. h; ancestors = λ c lt. refl; hosts = λ c host h. h }
+stays_itself cs = record { rows = λ c row e. e; records = λ l name c alive h. h; ancestors = λ c lt. refl; hosts = λ c host present h. h }
 
 delegated_stays : (cs : Classes) → IsGood cs → (loader : ℕ) (name : List ℕ) (to : ℕ) → Stays cs (delegated cs loader name to)
 delegated_stays cs good loader name to = by_found (lookup cs to name)
@@ -36,6 +36,7 @@ step_stays w good event.NewSwitch = stays_itself w.classes
 step_stays w good (event.Invalidate points) = stays_itself w.classes
 step_stays w good (event.Bind s c) = stays_itself w.classes
 step_stays w good (event.Install rows) = stays_itself w.classes
+step_stays w good (event.Retire loader) = stays_retired w.classes good loader
 
 pub later_stays : (h : List Event) (e : Event) → Stays (world_after h).classes (world_after (h ++ e ∷ [])).classes
 later_stays h e =

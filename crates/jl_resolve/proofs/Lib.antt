@@ -1,3 +1,4 @@
 pub mod Unchanged
+pub mod Present
 pub mod Constancy
 pub mod Later

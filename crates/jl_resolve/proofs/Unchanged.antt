@@ -10,7 +10,7 @@ use Rattle.jl_classfile.specs.Class.{Method}
 use Rattle.jl_classfile.specs.Conditions.{object, has_flag, PUBLIC, PRIVATE, PROTECTED, STATIC, INTERFACE, ABSTRACT}
 use Rattle.jl_types.specs.declared.ids.MethodId.{MethodId}
 use Rattle.jl_types.specs.World.{Class, Classes}
-use Rattle.jl_types.specs.Members.{class_test, is_interface, share_package, same_package, lookup, methods_of, method_at, method_test, is_called, declared}
+use Rattle.jl_types.specs.Members.{class_test, is_retired, is_interface, share_package, same_package, lookup, methods_of, method_at, method_test, is_called, declared}
 use Rattle.jl_types.specs.Members.{is_public, is_private, is_protected, is_static, is_abstract, is_package_private}
 use Rattle.jl_types.specs.Ancestry.{parents, is_ancestor_within, is_ancestor, is_proper_ancestor, superclasses_within, superclasses}
 use Rattle.jl_types.specs.Ancestry.{is_subclass, is_proper_subclass, ancestors, superinterfaces}
@@ -298,10 +298,10 @@ module _ (old new : Classes) (stays : Stays old new) (good : IsGood old) where
         first_there (IsOfThere old) (filter (is_of_interfaces old) (option_to_list (in_object name ty old)))
         (all_filter (IsOfThere old) (is_of_interfaces old) (option_to_list (in_object name ty old)) (all_option (IsOfThere old) (in_object name ty old) in_object_there))
 
-    pub declared_in_object_stays : (o : ℕ) → lookup old 0 object ≡ Some o → declared_in_object new name ty ≡ declared_in_object old name ty
-    declared_in_object_stays o is =
+    pub declared_in_object_stays : is_retired new 0 ≡ false → (o : ℕ) → lookup old 0 object ≡ Some o → declared_in_object new name ty ≡ declared_in_object old name ty
+    declared_in_object_stays first o is =
         ap (λ (m : Option MethodId). first_element (filter (is_of_interfaces new) (option_to_list m)))
-        (ap (option_and_then (declared new name ty)) (stays.records 0 object o is)
+        (ap (option_and_then (declared new name ty)) (stays.records 0 object o first is)
         ∙ declared_stays name ty o (looked_up old good 0 object o is)
         ∙ sym (ap (option_and_then (declared old name ty)) is))
         ∙ ap first_element

@@ -1,11 +1,11 @@
--- What was resolved stays so when classes are added.
+-- What was resolved stays so when classes are added, and when others are retired.
 use Rattle.std.specs.Prelude.{◌≡◌, ℕ, Bool, true, false, List, Some, Result, Ok, Err}
 use Rattle.jl_pool.specs.declared.reference.Reference.{Reference}
 use Rattle.jl_classfile.specs.Conditions.{object}
 use Rattle.jl_types.specs.declared.answer.ResolveAnswer.{ResolveAnswer}
 use Rattle.jl_types.specs.declared.answer.ResolveAnswer.TheVariants.{NotReady, Fault}
 use Rattle.jl_types.specs.World.{Classes}
-use Rattle.jl_types.specs.Members.{is_interface, lookup}
+use Rattle.jl_types.specs.Members.{is_present, is_interface, lookup}
 use Rattle.jl_types.specs.Resolution as resolution
 
 -- resolution came to a method or failed, and waits for no class
@@ -18,7 +18,7 @@ is_settled (Err (NotReady missing)) = false
 abbrev pub RecordsObject : Classes → Type 0
 RecordsObject cs = (c : ℕ) → is_interface cs c ≡ true → (o : ℕ) × (lookup cs 0 object ≡ Some o)
 
--- what a reference resolves to for a caller stays, once it waits for no class
+-- what a reference resolves to for a caller that isn't retired stays, once it waits for no class
 pub record SettledStays (old new : Classes) : Type 0 where
-  pub resolved : (d : ℕ) (ref : Reference (List ℕ))
+  pub resolved : (d : ℕ) (ref : Reference (List ℕ)) → is_present new d ≡ true
       → is_settled (resolution.resolved old d ref) ≡ true → resolution.resolved new d ref ≡ resolution.resolved old d ref

@@ -20,6 +20,8 @@ mod input;
 #[cfg(test)]
 mod lines;
 #[cfg(test)]
+mod retirement;
+#[cfg(test)]
 mod runs;
 #[cfg(test)]
 mod scans;

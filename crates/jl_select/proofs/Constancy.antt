@@ -13,14 +13,14 @@ use Rattle.jl_types.specs.declared.answer.Chosen.{Chosen}
 use Rattle.jl_types.specs.declared.answer.Chosen.TheVariants.{Method as Picked, Several, Nothing}
 use Rattle.jl_types.specs.declared.answer.Throwable.TheVariants.{IllegalAccessError, IncompatibleClassChangeError, AbstractMethodError}
 use Rattle.jl_types.specs.World.{Classes}
-use Rattle.jl_types.specs.Members.{methods_of, method_at, is_called, declared, lookup, is_interface, is_private, is_static}
-use Rattle.jl_types.specs.Ancestry.{superclass_of, superclasses, is_proper_subclass}
+use Rattle.jl_types.specs.Members.{is_retired, methods_of, method_at, is_called, declared, lookup, is_interface, is_private, is_static}
+use Rattle.jl_types.specs.Ancestry.{AreOrdered, superclass_of, superclasses, is_proper_subclass}
 use Rattle.jl_types.specs.Resolution.{first_of, first_element, declared_in_object, defaults}
 use Rattle.jl_types.specs.Overriding.{are_alike, is_visible, classes_between, methods_in, can_override_within, can_override}
 use Rattle.jl_types.specs.Selection.{found_or, overriding, chosen_of, chosen, ending, virtual_outcome, interface_ending, interface_outcome}
 use Rattle.jl_types.specs.Selection.{is_init, special_start, instance_methods, special_in_class, special_in_interface, special_found, special_choice, special_outcome}
 use Rattle.jl_types.proofs.Orders.{IsGood}
-use Rattle.jl_hierarchy.specs.Constancy.{AreInOrder, Stays}
+use Rattle.jl_hierarchy.specs.Constancy.{AreInOrder, IsClosed, Stays}
 use Rattle.jl_hierarchy.proofs.Objects.{is_there}
 use Rattle.jl_resolve.specs.Constancy.{RecordsObject}
 use Rattle.jl_resolve.proofs.Constancy.{settled_stays}
@@ -195,8 +195,8 @@ module _ (old new : Classes) (stays : Stays old new) (good : IsGood old) where
         ap (λ (ms : List MethodId). first_element (instance_methods new ms)) (upward_stays old new stays good name ty c there)
         ∙ ap first_element (instance_stays (filter_map (declared old name ty) (superclasses old c)) (upward_there old new stays good name ty c there))
 
-    in_interface_stays : (o : ℕ) → lookup old 0 object ≡ Some o → special_in_interface new name ty c ≡ special_in_interface old name ty c
-    in_interface_stays o is = λ i. first_of (first_element (own_stays i) ∷ declared_in_object_stays old new stays good name ty o is i ∷ [])
+    in_interface_stays : is_retired new 0 ≡ false → (o : ℕ) → lookup old 0 object ≡ Some o → special_in_interface new name ty c ≡ special_in_interface old name ty c
+    in_interface_stays first o is = λ i. first_of (first_element (own_stays i) ∷ declared_in_object_stays old new stays good name ty first o is i ∷ [])
 
     special_found_there : IfSome (special_found old name ty c) (IsOfThere old)
     special_found_there = by_kind (is_interface old c)
@@ -207,15 +207,15 @@ module _ (old new : Classes) (stays : Stays old new) (good : IsGood old) where
             (instance_there (option_to_list (declared old name ty c)) own_there, (declared_in_object_there old new stays good name ty, tt))
         by_kind false = instance_there (filter_map (declared old name ty) (superclasses old c)) (upward_there old new stays good name ty c there)
 
-    special_found_stays : RecordsObject old → special_found new name ty c ≡ special_found old name ty c
-    special_found_stays recorded =
+    special_found_stays : is_retired new 0 ≡ false → RecordsObject old → special_found new name ty c ≡ special_found old name ty c
+    special_found_stays first recorded =
         ap (λ (b : Bool). if b then special_in_interface new name ty c else special_in_class new name ty c) (interface_stays old new stays good c there)
         ∙ by_kind (is_interface old c) refl
       where
         by_kind : (b : Bool) → is_interface old c ≡ b
             → (if b then special_in_interface new name ty c else special_in_class new name ty c)
             ≡ (if b then special_in_interface old name ty c else special_in_class old name ty c)
-        by_kind true e = let o = recorded c e in in_interface_stays o.0 o.1
+        by_kind true e = let o = recorded c e in in_interface_stays first o.0 o.1
         by_kind false e = in_class_stays
 
   module _ (ref : Reference (List ℕ)) where
@@ -225,10 +225,10 @@ module _ (old new : Classes) (stays : Stays old new) (good : IsGood old) where
         found_or_there old (special_found old ref.name ref.ty c) (defaults old ref.name ref.ty c) (special_found_there ref.name ref.ty c at)
         (defaults_there old new stays good ref.name ref.ty c at)
 
-    special_choice_stays : RecordsObject old → (o : Option ℕ) → IfSome o (IsThere old) → special_choice new ref o ≡ special_choice old ref o
-    special_choice_stays recorded None at = refl
-    special_choice_stays recorded (Some c) at =
-        λ i. found_or (special_found_stays ref.name ref.ty c at recorded i) (defaults_stay old new stays good ref.name ref.ty c at i)
+    special_choice_stays : is_retired new 0 ≡ false → RecordsObject old → (o : Option ℕ) → IfSome o (IsThere old) → special_choice new ref o ≡ special_choice old ref o
+    special_choice_stays first recorded None at = refl
+    special_choice_stays first recorded (Some c) at =
+        λ i. found_or (special_found_stays ref.name ref.ty c at first recorded i) (defaults_stay old new stays good ref.name ref.ty c at i)
 
     module _ (d named : ℕ) (caller : IsThere old d) (there : IsThere old named) where
       special_start_there : IfSome (special_start old d named ref) (IsThere old)
@@ -243,11 +243,11 @@ module _ (old new : Classes) (stays : Stays old new) (good : IsGood old) where
           λ i. if not (is_init ref.name) && (not (interface_stays old new stays good named there i) && proper_subclass_stays old new stays good d named caller i)
           then option_and_then (λ row. row.superclass) (row_stays old new stays good d caller i) else Some named
 
-      pub special_outcome_stays : RecordsObject old → special_outcome new d named ref ≡ special_outcome old d named ref
-      special_outcome_stays recorded =
+      pub special_outcome_stays : is_retired new 0 ≡ false → RecordsObject old → special_outcome new d named ref ≡ special_outcome old d named ref
+      special_outcome_stays first recorded =
           let start = special_start old d named ref in
           ap (λ (o : Option ℕ). ending new (special_choice new ref o)) special_start_stays
-          ∙ ap (ending new) (special_choice_stays recorded start special_start_there)
+          ∙ ap (ending new) (special_choice_stays first recorded start special_start_there)
           ∙ ending_stays (special_choice old ref start) (special_choice_there start special_start_there)
 
 -- what was selected stays
@@ -255,27 +255,27 @@ pub selected_stays : (old new : Classes) → Stays old new → IsGood old → Ch
 selected_stays old new stays good = record { chosen = λ x r there at. chosen_stays old new stays good x r there at }
 
 -- and what the instructions make of it, where each interface came after java/lang/Object
-pub outcomes_stay : (old new : Classes) → Stays old new → IsGood old → RecordsObject old → OutcomesStay old new
-outcomes_stay old new stays good recorded = record {
+pub outcomes_stay : (old new : Classes) → Stays old new → IsGood old → is_retired new 0 ≡ false → RecordsObject old → OutcomesStay old new
+outcomes_stay old new stays good first recorded = record {
   virtual = λ x r there at. virtual_outcome_stays old new stays good x r there at;
   interface = λ x named r there at. interface_outcome_stays old new stays good x r there at named;
-  special = λ d named ref caller there. special_outcome_stays old new stays good ref d named caller there recorded;
+  special = λ d named ref caller there. special_outcome_stays old new stays good ref d named caller there first recorded;
 }
 
 -- all of this, where java/lang/Object comes first
-pub constant : (old new : Classes) → AreInOrder old → Stays old new → IsConstant old new
-constant old new order stays =
+pub constant : (old new : Classes) → AreInOrder old → Stays old new → AreOrdered new.rows → IsClosed new → IsConstant old new
+constant old new order stays ordered closed =
     let good : IsGood old = record { there = order.there; ordered = order.ordered } in
     let recorded : RecordsObject old = λ c is. is_there (lookup old 0 object) (order.object.interfaces c is) in
     record {
-      resolved = settled_stays old new stays good recorded;
+      resolved = settled_stays old new stays good ordered closed recorded;
       chosen = selected_stays old new stays good;
-      outcomes = outcomes_stay old new stays good recorded;
+      outcomes = outcomes_stay old new stays good closed.first recorded;
     }
 
 pub constant_itself : (cs : Classes) → IsConstant cs cs
 constant_itself cs = record {
-  resolved = record { resolved = λ d ref settled. refl };
+  resolved = record { resolved = λ d ref present settled. refl };
   chosen = record { chosen = λ x r there at. refl };
   outcomes = record { virtual = λ x r there at. refl; interface = λ x named r there at. refl; special = λ d named ref there at. refl };
 }

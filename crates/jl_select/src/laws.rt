@@ -3,6 +3,7 @@
 ghost use Rattle.std.specs.Prelude.{◌++◌, ◌∷◌, [], List};
 ghost use Rattle.jl_types.specs.Event.{Event};
 ghost use Rattle.jl_types.specs.History.{world_after};
+ghost use Rattle.jl_hierarchy.specs.Constancy.{IsClosed};
 ghost use Rattle.jl_resolve.specs.Constancy.{RecordsObject};
 ghost use Rattle.jl_select.specs.Constancy.{ChosenStays, OutcomesStay};
 
@@ -12,8 +13,8 @@ pub fn what_was_selected_stays()
 {}
 
 /// So does what invokevirtual, invokeinterface and invokespecial make of it, where java/lang/Object was recorded by loader 0
-/// before there was an interface.
+/// before there was an interface, and what is present still rests on what is present.
 pub fn outcomes_stay()
-    ensures { (h : List Event) (e : Event) → RecordsObject (world_after h).classes
+    ensures { (h : List Event) (e : Event) → RecordsObject (world_after h).classes → IsClosed (world_after (h ++ e ∷ [])).classes
         → OutcomesStay (world_after h).classes (world_after (h ++ e ∷ [])).classes }
 {}

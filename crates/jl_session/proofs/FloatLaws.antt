@@ -71,6 +71,7 @@ asked_event_floats old (event.SetTarget call_site target) answer new is = event_
 asked_event_floats old event.NewSwitch answer new is = event_floats is.outcome answer is.said
 asked_event_floats old (event.Invalidate switches) answer new is = event_floats is.outcome answer is.said
 asked_event_floats old (event.Bind site call_site) answer new is = event_floats is.outcome answer is.said
+asked_event_floats old (event.Retire loader) answer new is = event_floats is.outcome answer is.said
 asked_event_floats old (event.Install batch) answer new is = install_floats (slice_get old.batches batch) old answer new is
 
 command_floats : (old : Session) (asked : Command) (answer : Data) (new : Session)

@@ -68,6 +68,7 @@ asked_event_grows old (event.SetTarget call_site target) answer new is = event_g
 asked_event_grows old event.NewSwitch answer new is = event_grows old _ answer new is
 asked_event_grows old (event.Invalidate switches) answer new is = event_grows old _ answer new is
 asked_event_grows old (event.Bind site call_site) answer new is = event_grows old _ answer new is
+asked_event_grows old (event.Retire loader) answer new is = event_grows old _ answer new is
 asked_event_grows old (event.Install batch) answer new is = install_grows (slice_get old.batches batch) old answer new is
 
 command_grows : (old : Session) (asked : Command) (answer : Data) (new : Session)

@@ -97,6 +97,7 @@ IsAskedEventAnswer old (event.SetTarget call_site target) answer new = IsEventAn
 IsAskedEventAnswer old event.NewSwitch answer new = IsEventAnswer old event.NewSwitch answer new
 IsAskedEventAnswer old (event.Invalidate switches) answer new = IsEventAnswer old (event.Invalidate switches) answer new
 IsAskedEventAnswer old (event.Bind site call_site) answer new = IsEventAnswer old (event.Bind site call_site) answer new
+IsAskedEventAnswer old (event.Retire loader) answer new = IsEventAnswer old (event.Retire loader) answer new
 IsAskedEventAnswer old (event.Install batch) answer new =
     MatchOption (slice_get old.batches batch) ((answer ≡ bad_command) × (new ≡ old))
     (λ rows. IsEventAnswer old (event.Install rows) answer new)

@@ -169,6 +169,7 @@ impl Session {
             AskedEvent::Invalidate(switches) => self.apply(alloc, Event::Invalidate(switches)),
             AskedEvent::Bind(site, call_site) => self.apply(alloc, Event::Bind(site, call_site)),
             AskedEvent::Install(batch) => self.install(alloc, batch),
+            AskedEvent::Retire(loader) => self.apply(alloc, Event::Retire(loader)),
         }
     }
 

@@ -1,2 +1,3 @@
 pub mod SettleLaws
 pub mod Rows
+pub mod ForgetLaws

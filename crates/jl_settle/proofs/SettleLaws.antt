@@ -1,5 +1,5 @@
 -- What is left once the touched sites were looked at.
-use Rattle.std.specs.Prelude.{◌≡◌, ℕ, suc, ◌+◌, ◌<◌, ◌==◌, ◌&&◌, ◌||◌, Bool, true, false, List, [], ◌∷◌, ◌++◌, not, zero, drop, map, length, Option, Some, None, option_map, Result, Ok, Err, is_some, is_none, IfSome, OnOk, if◌then◌else◌}
+use Rattle.std.specs.Prelude.{◌≡◌, ℕ, suc, ◌+◌, ◌<◌, ◌==◌, ◌&&◌, ◌||◌, Bool, true, false, List, [], ◌∷◌, ◌++◌, not, zero, drop, take, get_or, sum_by, map, length, Option, Some, None, option_map, Result, Ok, Err, is_some, is_none, IfSome, OnOk, if◌then◌else◌}
 use Rattle.std.specs.List.{AllByRecursion}
 use Rattle.std.specs.Bool.{one_answer}
 use Rattle.std.proofs.Common.{refl, ap, sym, subst, ◌∙◌, arith, add-one, length-append}
@@ -7,6 +7,8 @@ use Rattle.std.proofs.lemmas.Bool.{or_left, or_right}
 use Rattle.std.proofs.lemmas.Cmp.{nat_eq_equiv}
 use Rattle.std.proofs.lemmas.Option.{same_Some}
 use Rattle.std.proofs.lemmas.Bool.Decides.{Decides-eqb}
+use Rattle.std.proofs.lemmas.List.{take_more}
+use Rattle.std.proofs.lemmas.List.Sums.{sum_by-cons, sum_by_push}
 use Rattle.std.proofs.lemmas.List.Folds.{list_any-append}
 use Rattle.jl_classfile.specs.Class.{ClassFile}
 use Rattle.jl_types.specs.declared.answer.Unlinked.{Unlinked}
@@ -20,18 +22,17 @@ use Rattle.jl_types.specs.declared.key.Key.{Key}
 use Rattle.jl_types.specs.Links.{outcome, scratch}
 use Rattle.jl_types.specs.Sites.{stage}
 use Rattle.jl_types.specs.Events.{step}
-use Rattle.jl_types.specs.Entries.{defines}
 use Rattle.jl_types.specs.History.{is_link, kept}
 use Rattle.jl_types.specs.Footprints.{footprint, most_for, stays_with, touches}
 use Rattle.jl_hierarchy.proofs.Rising.{has}
-use Rattle.jl_relink.specs.Laws.{OneMore}
+use Rattle.jl_relink.specs.Laws.{OneMore, changes_receivers}
 use Rattle.jl_relink.specs.Receivers.{TellsStay}
 use Rattle.jl_relink.proofs.OneReceiver.{one_more}
 use Rattle.jl_relink.proofs.Costs.{takes_one_evaluation}
 use Rattle.jl_cache.specs.Links.{link_with}
 use Rattle.jl_deps.specs.Indexes.{footprint_at, AreRising, IsIndex, StaysIndexed, touched_by}
 use Rattle.jl_deps.proofs.IndexLaws.{touched_of, others_stay}
-use Rattle.jl_settle.specs.Settling.{kept_at, goes, defined_by, HasChanged, IsTold, MayBeAsked}
+use Rattle.jl_settle.specs.Settling.{kept_at, goes, defined_by, HasChanged, IsTold, MayBeAsked, most_asked}
 
 -- ---- loops over sites
 
@@ -62,6 +63,10 @@ rest_of P (x ∷ xs) (suc i) h = rest_of P xs i h
 pub all_rest : (P : ℕ → Type 0) (xs : List ℕ) (i : ℕ) → AllByRecursion P (drop i xs) → AllByRecursion P (drop (i + 1) xs)
 all_rest P xs i h = rw add-one (rest_of P xs i h)
 
+pub sum_more : (f : ℕ → ℕ) (xs : List ℕ) (i x : ℕ) → i < length xs → x ≡ get_or xs i x → sum_by f (take (i + 1) xs) ≡ sum_by f (take i xs) + f x
+sum_more f xs i x lt is =
+    ap (sum_by f) (take_more xs i x lt ∙ ap (λ (y : ℕ). take i xs ++ y ∷ []) (sym is)) ∙ sum_by_push f (take i xs) x
+
 -- ---- what is kept
 
 none_kept : (r : Result Link Unlinked) → kept false None r ≡ None
@@ -91,7 +96,7 @@ module _ (world : World) (keys : List Key) (defined : Option ℕ) (links : ℕ �
       → (kept_at world links s ≡ links s) × (option_map (λ l. footprint world s) (links s) ≡ footprint_at index s)
   other s none =
       let stays : StaysIndexed changed.before changed.event links index s =
-      others_stay changed.before changed.event links index rising changed.index_is changed.order changed.scratch s
+      others_stay changed.before changed.event links index rising changed.index_is changed.accepted.0 changed.order changed.accepted.1 changed.scratch changed.left s
       (ap (λ (k : List Key). has s (touched_by index k)) (sym changed.keys_are) ∙ none)
       in (
         ap (λ (w : World). kept_at w links s) changed.step ∙ stays.link,
@@ -166,17 +171,23 @@ told_kept l (Ok now) = same_turned now l ∙ by_test (same_link l now)
     by_test true = refl
     by_test false = refl
 
-not_defined : (w : World) (e : Event) → None ≡ defined_by w e → defines e ≡ false
-not_defined w event.NewLoader is = refl
-not_defined w (event.Define loader file) is = cc
-not_defined w (event.Delegate loader name to) is = refl
-not_defined w (event.Request place) is = refl
-not_defined w (event.NewCallSite kind ty target) is = refl
-not_defined w (event.SetTarget c target) is = refl
-not_defined w event.NewSwitch is = refl
-not_defined w (event.Invalidate points) is = refl
-not_defined w (event.Bind s c) is = refl
-not_defined w (event.Install rows) is = refl
+-- the event retires a loader
+abbrev pub is_retirement : Event → Bool
+is_retirement (event.Retire loader) = true
+is_retirement _ = false
+
+not_defined : (w : World) (e : Event) → None ≡ defined_by w e → is_retirement e ≡ false → changes_receivers e ≡ false
+not_defined w event.NewLoader is other = refl
+not_defined w (event.Define loader file) is other = cc
+not_defined w (event.Delegate loader name to) is other = refl
+not_defined w (event.Request place) is other = refl
+not_defined w (event.NewCallSite kind ty target) is other = refl
+not_defined w (event.SetTarget c target) is other = refl
+not_defined w event.NewSwitch is other = refl
+not_defined w (event.Invalidate points) is other = refl
+not_defined w (event.Bind s c) is other = refl
+not_defined w (event.Install rows) is other = refl
+not_defined w (event.Retire loader) is other = cc
 
 -- the event is the definition of this class
 pub record IsDefinition (w : World) (e : Event) (x : ℕ) : Type 0 where
@@ -196,15 +207,31 @@ definition w event.NewSwitch x is = cc
 definition w (event.Invalidate points) x is = cc
 definition w (event.Bind s c) x is = cc
 definition w (event.Install rows) x is = cc
+definition w (event.Retire loader) x is = cc
 
 module _ (world : World) (keys : List Key) (links : ℕ → Option Link) (index : List (ℕ × List Key)) (rising : AreRising index) where
-  -- each touched site takes one evaluation
-  each_one : HasChanged world keys None links index → AllByRecursion (MayBeAsked world None links) (touched_by index keys)
-  each_one changed =
-      all_of (MayBeAsked world None links) (touched_by index keys) (λ s inside.
+  -- each touched site takes one evaluation, where no loader goes
+  as_many : (f : ℕ → ℕ) (xs : List ℕ) → AllByRecursion (λ s. f s ≡ 1) xs → sum_by f xs ≡ length xs
+  as_many f [] all = refl
+  as_many f (x ∷ xs) all =
+      let split = sum_by-cons f x xs in
+      let one = all.0 in
+      let rest = as_many f xs all.1 in
+      omega (arith, split, one, rest)
+
+  pub most_are : (defined : Option ℕ) → (changed : HasChanged world keys defined links index) → is_retirement changed.event ≡ false
+      → sum_by (most_asked world defined) (touched_by index keys) ≡ length (touched_by index keys)
+  most_are (Some x) changed other = as_many (most_asked world (Some x)) (touched_by index keys) (always (touched_by index keys))
+    where
+      always : (xs : List ℕ) → AllByRecursion (λ s. most_asked world (Some x) s ≡ 1) xs
+      always [] = tt
+      always (x ∷ xs) = (refl, always xs)
+  most_are None changed other =
+      as_many (most_asked world None) (touched_by index keys)
+      (all_of (λ s. most_for world s ≡ 1) (touched_by index keys) (λ s inside.
       ap (λ (w : World). most_for w s) changed.step
-      ∙ takes_one_evaluation changed.before changed.event s (not_defined changed.before changed.event changed.defined_is)
-      (second (is_some (links s)) (touches changed.before changed.event s) (is_touched world keys None links index changed rising s inside)))
+      ∙ takes_one_evaluation changed.before changed.event s (not_defined changed.before changed.event changed.defined_is other)
+      (second (is_some (links s)) (touches changed.before changed.event s) (is_touched world keys None links index changed rising s inside))))
 
   module _ (x : ℕ) (changed : HasChanged world keys (Some x) links index) where
     is_definition : IsDefinition changed.before changed.event x
@@ -264,7 +291,7 @@ pub each_asked : (world : World) (keys : List Key) (defined : Option ℕ) (links
     → HasChanged world keys defined links index → AreRising index → (sites : List ℕ) → sites ≡ touched_by index keys
     → AllByRecursion (MayBeAsked world defined links) sites
 each_asked world keys None links index changed rising sites are =
-    subst (AllByRecursion (MayBeAsked world None links)) (sym are) (each_one world keys links index rising changed)
+    all_of (MayBeAsked world None links) sites (λ s inside. tt)
 each_asked world keys (Some x) links index changed rising sites are =
     subst (AllByRecursion (MayBeAsked world (Some x) links)) (sym are) (each_told world keys links index rising x changed)
 

@@ -1,11 +1,11 @@
 -- What is left of the links and the index once an event has changed the world.
-use Rattle.std.specs.Prelude.{◌≡◌, ℕ, Bool, false, length, ◌&&◌, List, Option, Some, None, Ok, is_some, is_none}
+use Rattle.std.specs.Prelude.{◌≡◌, ℕ, Bool, false, length, ◌&&◌, List, Option, Some, None, Ok, IsOk, is_some, is_none, ⊤}
 use Rattle.jl_types.specs.Event.{Event}
 use Rattle.jl_types.specs.declared.event.EventOf.TheVariants as event
 use Rattle.jl_types.specs.declared.link.Link.{Link}
 use Rattle.jl_types.specs.World.{World}
 use Rattle.jl_types.specs.Links.{scratch}
-use Rattle.jl_types.specs.Events.{step}
+use Rattle.jl_types.specs.Events.{verdict, step}
 use Rattle.jl_types.specs.History.{kept}
 use Rattle.jl_types.specs.declared.key.Key.{Key}
 use Rattle.jl_types.specs.Footprints as footprints
@@ -27,13 +27,15 @@ abbrev pub defined_by : World → Event → Option ℕ
 defined_by w (event.Define loader file) = Some (length w.classes.rows)
 defined_by w _ = None
 
--- An event with these keys, which defined this class or none, led to the world. Before it each link was the one from scratch, the index
--- that of the links, and the world in order.
+-- An accepted event with these keys, which defined this class or none, and retired no site that has a link, led to the world. Before it
+-- each link was the one from scratch, the index that of the links, and the world in order.
 pub record HasChanged (world : World) (keys : List Key) (defined : Option ℕ) (links : ℕ → Option Link) (index : List (ℕ × List Key)) : Type 0 where
   pub before : World
   pub event : Event
   pub step : world ≡ step before event
   pub order : IsInOrder before
+  pub accepted : (max_sites : ℕ) × IsOk (verdict max_sites before event)
+  pub left : (s : ℕ) (l : Link) → links s ≡ Some l → footprints.retires before event s ≡ false
   pub keys_are : keys ≡ footprints.keys before event
   pub defined_is : defined ≡ defined_by before event
   pub scratch : (s : ℕ) (l : Link) → links s ≡ Some l → scratch before s ≡ Ok l
@@ -47,7 +49,12 @@ pub record IsTold (w : World) (x : ℕ) (links : ℕ → Option Link) (s : ℕ) 
   pub is : links s ≡ Some link
   pub told : (stays : Bool) → TellsStay w s link x stays → stays ≡ is_some (kept false (Some link) (scratch w s))
 
--- whether its link stays is known by one evaluation: that of the class that was defined, or that of the link
+-- whether its link stays is known: by the class that was defined, or by the link from scratch
 abbrev pub MayBeAsked : World → Option ℕ → (ℕ → Option Link) → ℕ → Type 0
 MayBeAsked w (Some x) links s = IsTold w x links s
-MayBeAsked w None links s = most_for w s ≡ 1
+MayBeAsked w None links s = ⊤
+
+-- how many evaluations that takes
+abbrev pub most_asked : World → Option ℕ → ℕ → ℕ
+most_asked w (Some x) s = 1
+most_asked w None s = most_for w s

@@ -5,10 +5,12 @@
 #![tactic(auto)]
 
 mod follow;
+mod forgetting;
 mod install;
 mod lost;
 mod settling;
 
 pub use follow::take_over;
+pub use forgetting::forget;
 pub use install::install_rows;
 pub use settling::settle;

@@ -1,12 +1,12 @@
 //! Which links an event took.
 
-ghost use Rattle.std.specs.Prelude.{◌≡◌, ◌==◌, ◌&&◌, ◌||◌, ◌+◌, ◌^◌, ◌<◌, ◌≤◌, ℕ, length, false, Some, is_some, IfOk, IfSome, OnOk};
+ghost use Rattle.std.specs.Prelude.{◌≡◌, ◌==◌, ◌&&◌, ◌||◌, ◌+◌, ◌^◌, ◌<◌, ◌≤◌, ℕ, length, sum_by, false, Some, is_some, IfOk, IfSome, OnOk};
 ghost use Rattle.std.specs.List.{AllByRecursion, list_any};
 ghost use Rattle.jl_types.specs.Links.{scratch};
 ghost use Rattle.jl_types.specs.History.{kept};
 ghost use Rattle.jl_types.specs.Footprints.{most_for};
 ghost use Rattle.jl_cache.specs.Links.{link_at};
-ghost use Rattle.jl_settle.specs.Settling.{goes, MayBeAsked};
+ghost use Rattle.jl_settle.specs.Settling.{goes, MayBeAsked, most_asked};
 
 use jl_cache::Cache;
 use jl_relink::{World, link_counted, stays_with_receiver};
@@ -24,8 +24,8 @@ pub(crate) fn lost_among(
 ) -> Result<Vec<SiteNo>, AllocError>
     requires there { IfSome defined.now (λ x. x < length world.now.classes.rows) }
     requires each { AllByRecursion (MayBeAsked world.now defined.now (link_at links.now)) sites.now }
-    requires fits { work.old + length sites.now < 2 ^ 64 }
-    ensures ticks { OnOk result (work.new ≤ work.old + length sites.now) }
+    requires fits { work.old + sum_by (most_asked world.now defined.now) sites.now < 2 ^ 64 }
+    ensures ticks { OnOk result (work.new ≤ work.old + sum_by (most_asked world.now defined.now) sites.now) }
     ensures lost { IfOk result (λ lost. (s : ℕ) → list_any (λ t. t == s) lost.items
         ≡ (list_any (λ t. t == s) sites.now && goes world.now (link_at links.now) s)) }
 {
@@ -38,7 +38,7 @@ pub(crate) fn lost_among(
 }
 
 /// Adds the site, if so. Want of memory is an error.
-fn push_if(sites: &mut Vec<SiteNo>, goes: bool, site: SiteNo) -> Result<(), AllocError>
+pub(crate) fn push_if(sites: &mut Vec<SiteNo>, goes: bool, site: SiteNo) -> Result<(), AllocError>
     ensures { OnOk result ((s : ℕ) → list_any (λ t. t == s) sites.new.items
         ≡ (list_any (λ t. t == s) sites.old.items || ((site == s) && goes))) }
 {
@@ -58,8 +58,8 @@ fn is_lost(
 ) -> bool
     requires there { IfSome defined.now (λ x. x < length world.now.classes.rows) }
     requires asked { MayBeAsked world.now defined.now (link_at links.now) site }
-    requires fits { work.old + 1 < 2 ^ 64 }
-    ensures ticks { work.new ≤ work.old + 1 }
+    requires fits { work.old + most_asked world.now defined.now site < 2 ^ 64 }
+    ensures ticks { work.new ≤ work.old + most_asked world.now defined.now site }
     ensures lost { result ≡ goes world.now (link_at links.now) site }
 {
     let Some(link) = links.get(site) else {

@@ -1,11 +1,11 @@
 //! The links and the index once the world has changed.
 
-ghost use Rattle.std.specs.Prelude.{◌≡◌, ◌==◌, ◌+◌, ◌^◌, ◌<◌, ◌≤◌, ℕ, true, false, length, None, option_map, is_some, IfOk, OnOk, if◌then◌else◌};
+ghost use Rattle.std.specs.Prelude.{◌≡◌, ◌==◌, ◌+◌, ◌^◌, ◌<◌, ◌≤◌, ℕ, true, false, sum_by, None, option_map, is_some, IfOk, OnOk, if◌then◌else◌};
 ghost use Rattle.std.specs.List.{list_any};
 ghost use Rattle.jl_types.specs.Footprints.{footprint};
 ghost use Rattle.jl_cache.specs.Links.{link_at};
 ghost use Rattle.jl_deps.specs.Indexes.{footprint_at, IsIndex, touched_by};
-ghost use Rattle.jl_settle.specs.Settling.{kept_at, goes, HasChanged};
+ghost use Rattle.jl_settle.specs.Settling.{kept_at, goes, HasChanged, most_asked};
 
 use crate::lost::lost_among;
 use jl_cache::Cache;
@@ -15,7 +15,7 @@ use jl_types::{ClassId, Key, SiteNo, Work};
 use std::alloc::{AllocError, Global};
 
 /// Drops the links that aren't those from scratch any more, once an event with these keys has changed the world, and brings the index
-/// up to date. It evaluates one link for each site that the event touches, and looks at no others; where the event defined a class, it
+/// up to date. It evaluates the link of each site that the event touches, and looks at no others; where the event defined a class, it
 /// asks of a touched site what a call runs on an object of this class alone. It gives the sites whose links went.
 ///
 /// # Errors
@@ -31,8 +31,8 @@ pub fn settle(
     work: &mut Work,
 ) -> Result<Vec<SiteNo>, AllocError>
     requires changed { HasChanged world.now keys.now defined (link_at links.old) index.old }
-    requires fits { work.old + length (touched_by index.old keys.now) < 2 ^ 64 }
-    ensures ticks { OnOk result (work.new ≤ work.old + length (touched_by index.old keys.now)) }
+    requires fits { work.old + sum_by (most_asked world.now defined) (touched_by index.old keys.now) < 2 ^ 64 }
+    ensures ticks { OnOk result (work.new ≤ work.old + sum_by (most_asked world.now defined) (touched_by index.old keys.now)) }
     ensures links { OnOk result ((s : ℕ) → link_at links.new s ≡ kept_at world.now (link_at links.old) s) }
     ensures index { OnOk result (IsIndex world.now (link_at links.new) index.new) }
     ensures lost { IfOk result (λ lost. (s : ℕ) → list_any (λ t. t == s) lost.items ≡ goes world.now (link_at links.old) s) }
@@ -76,7 +76,7 @@ fn reindex(
 }
 
 /// Takes these sites out of the index.
-fn remove_all(index: &mut Index, sites: &[SiteNo])
+pub(crate) fn remove_all(index: &mut Index, sites: &[SiteNo])
     ensures { (s : ℕ) → footprint_at index.new s ≡ (if list_any (λ t. t == s) sites.now then None else footprint_at index.old s) }
 {
     for site in sites {

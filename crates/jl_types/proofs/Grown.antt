@@ -1,5 +1,5 @@
 -- What one class more leaves as it is: the ancestors of the others, and the receivers among them.
-use Rattle.std.specs.Prelude.{◌≡◌, ℕ, zero, suc, ◌+◌, ◌<◌, ◌≤◌, ◌==◌, Bool, true, false, ◌||◌, ◌&&◌, is_some, List, [], ◌∷◌}
+use Rattle.std.specs.Prelude.{◌≡◌, ℕ, zero, suc, ◌+◌, ◌<◌, ◌≤◌, ◌==◌, Bool, true, false, not, ◌||◌, ◌&&◌, List, [], ◌∷◌}
 use Rattle.std.specs.Prelude.{◌++◌, length, filter, slice_get, Option, Some, None, if◌then◌else◌}
 use Rattle.std.specs.List.{AllByRecursion, list_any, range_with_len}
 use Rattle.std.specs.Option.{option_map_or}
@@ -11,7 +11,7 @@ use Rattle.std.proofs.lemmas.Bool.{or_cases}
 use Rattle.std.proofs.lemmas.Cmp.{nat_eq_equiv}
 use Rattle.jl_classfile.specs.Class.{ClassFile}
 use Rattle.jl_types.specs.World.{Class, Classes}
-use Rattle.jl_types.specs.Members.{is_concrete, is_concrete_row}
+use Rattle.jl_types.specs.Members.{is_retired, is_concrete, is_concrete_row}
 use Rattle.jl_types.specs.Ancestry.{parents, AreOrdered, IsAncestor, itself, over, is_ancestor_within, is_ancestor, ancestors, receivers}
 use Rattle.jl_types.specs.Definitions.{class_made, defined}
 use Rattle.jl_types.proofs.Bools.{any-filter, any-filter-at, any-range-from}
@@ -82,7 +82,7 @@ module _ (cs : Classes) (o : AreOrdered cs.rows) (loader : ℕ) (file : ClassFil
   passes k c x = is_concrete k x && is_ancestor k c x
 
   old_concrete : (x : ℕ) → x < length cs.rows → is_concrete new x ≡ is_concrete cs x
-  old_concrete x lt = ap (λ (r : Option Class). is_some r && option_map_or is_concrete_row r false) (before_end cs.rows (class_made cs loader file) x lt)
+  old_concrete x lt = ap (λ (r : Option Class). option_map_or (λ row. not (is_retired cs row.loader)) r false && option_map_or is_concrete_row r false) (before_end cs.rows (class_made cs loader file) x lt)
 
   old_passes : (c x : ℕ) → x < length cs.rows → passes new c x ≡ passes cs c x
   old_passes c x lt = λ i. old_concrete x lt i && old_within cs.rows o (class_made cs loader file) c (x + 1) x lt i

@@ -19,5 +19,6 @@ pub mod Places
 pub mod Written
 pub mod Emptied
 pub mod ClassCounts
+pub mod Retiring
 pub mod BySite
 pub mod Crossing

@@ -140,6 +140,10 @@ step_good w event.NewSwitch good = good
 step_good w (event.Invalidate points) good = good
 step_good w (event.Bind s c) good = good
 step_good w (event.Install rows) good = good
+step_good w (event.Retire loader) good = record {
+  there = all_set (AreBelow (length w.classes.rows)) w.classes.loaders loader [] tt good.there;
+  ordered = good.ordered;
+}
 
 fold_good : (h : List Event) (w : World) → IsGood w.classes → IsGood ((fold step w h).classes)
 fold_good [] w good = good

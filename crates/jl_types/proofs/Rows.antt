@@ -18,6 +18,8 @@ pub mod Targets
 pub mod Installs
 pub mod Entries
 pub mod Footprints
+pub mod Invokers
 pub mod Statics
 pub mod Requests
 pub mod Fast
+pub mod Retirement

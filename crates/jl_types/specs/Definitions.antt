@@ -11,7 +11,7 @@ use Rattle.jl_types.specs.declared.refusal.DefineFault.TheVariants as define
 use Rattle.jl_types.specs.declared.refusal.DelegateFault.{DelegateFault}
 use Rattle.jl_types.specs.declared.refusal.DelegateFault.TheVariants as delegate
 use Rattle.jl_types.specs.World.{Class, Classes}
-use Rattle.jl_types.specs.Members.{lookup, class_test, is_interface, share_package}
+use Rattle.jl_types.specs.Members.{lookup, class_test, is_retired, is_interface, share_package}
 use Rattle.jl_types.specs.Resolution.{first_of}
 
 abbrev pub FINAL : ℕ
@@ -29,6 +29,10 @@ class_made cs loader file = record {
   superclass = option_and_then (lookup cs loader) file.superclass;
   interfaces = filter_map (lookup cs loader) file.interfaces;
 }
+
+-- there was never such a loader, or it is retired
+abbrev pub is_unknown : Classes → ℕ → Bool
+is_unknown cs loader = nat_le (length cs.loaders) loader || is_retired cs loader
 
 -- ---- why a class isn't defined
 
@@ -50,7 +54,7 @@ is_open_parent cs loader file name = named_test (is_open_to cs (class_made cs lo
 -- the first fault; of one kind, the superclass's comes first, and then those of the superinterfaces in order
 abbrev pub define_fault : Classes → ℕ → ClassFile → Option DefineFault
 define_fault cs loader file = first_of (
-    then_some (nat_le (length cs.loaders) loader) define.UnknownLoader
+    then_some (is_unknown cs loader) define.UnknownLoader
     ∷ then_some (bytes_eq file.name object && not (loader == 0)) define.SecondObject
     ∷ then_some (is_some (lookup cs loader file.name)) define.AlreadyRecorded
     ∷ then_some (list_any (bytes_eq file.name) (parent_names file)) define.NamesItself
@@ -78,7 +82,7 @@ defined cs loader file = record cs {
 
 abbrev pub delegate_fault : Classes → ℕ → List ℕ → ℕ → Option DelegateFault
 delegate_fault cs loader name to = first_of (
-    then_some (nat_le (length cs.loaders) loader || nat_le (length cs.loaders) to) delegate.UnknownLoader
+    then_some (is_unknown cs loader || is_unknown cs to) delegate.UnknownLoader
     ∷ then_some (is_none (lookup cs to name)) delegate.NotRecorded
     ∷ then_some (is_some (lookup cs loader name)) delegate.AlreadyRecorded
     ∷ [])

@@ -22,7 +22,7 @@ use Rattle.jl_types.specs.declared.refusal.NotLinkable.TheVariants.{ArrayReceive
 use Rattle.jl_types.specs.declared.refusal.SitesFault.{SitesFault}
 use Rattle.jl_types.specs.declared.refusal.SitesFault.TheVariants as sites
 use Rattle.jl_types.specs.declared.refusal.Refusal.{Refusal}
-use Rattle.jl_types.specs.declared.refusal.Refusal.TheVariants.{Define, UnknownClass, NoSuchPlace, NotLinkable, SitesFull, CallSite, NotDynamic, AlreadyBound, TypeMismatch, Stale, NotReady, UnknownSite, Repeated, BatchSize, Delegate, LoadersFull}
+use Rattle.jl_types.specs.declared.refusal.Refusal.TheVariants.{Define, UnknownClass, NoSuchPlace, NotLinkable, SitesFull, CallSite, NotDynamic, AlreadyBound, TypeMismatch, Stale, NotReady, UnknownSite, Repeated, BatchSize, Delegate, LoadersFull, Retire}
 use Rattle.jl_types.specs.Means.SameLink.{same_link}
 use Rattle.jl_types.specs.World.{World, Classes, CallSite as CallSiteRow}
 use Rattle.jl_types.specs.Target.{Target}
@@ -33,6 +33,7 @@ use Rattle.jl_types.specs.Sites.{invocation_at, bound_to}
 use Rattle.jl_types.specs.Links.{scratch}
 use Rattle.jl_types.specs.Batches.{is_bad_size, sites_fault}
 use Rattle.jl_types.specs.Definitions.{define_fault, defined, delegate_fault, delegated}
+use Rattle.jl_types.specs.Retirement.{retire_fault, retired}
 
 -- the first refusal, else what the event gives a number to
 abbrev pub unless : Option Refusal → Made → Result Made Refusal
@@ -128,7 +129,8 @@ bind_at w s c (Some site) = operand_fault w s c site.operand
 
 abbrev pub bind_fault : World → ℕ → ℕ → Option Place → Option Refusal
 bind_fault w s c None = Some (UnknownSite s)
-bind_fault w s c (Some place) = bind_at w s c (invocation_at w.classes place)
+bind_fault w s c (Some place) =
+    if is_present w.classes place.class then bind_at w s c (invocation_at w.classes place) else Some (UnknownSite s)
 
 -- ---- an install
 
@@ -176,6 +178,7 @@ verdict max_sites w event.NewSwitch =
 verdict max_sites w (event.Invalidate points) = unless (option_map CallSite (invalidate_fault w points)) made.Nothing
 verdict max_sites w (event.Bind s c) = unless (bind_fault w s c (slice_get w.places s)) made.Nothing
 verdict max_sites w (event.Install rows) = unless (install_fault w rows) made.Nothing
+verdict max_sites w (event.Retire loader) = unless (option_map Retire (retire_fault w loader)) made.Nothing
 
 -- ---- the world after an event
 
@@ -200,3 +203,4 @@ step w event.NewSwitch = with_switches w (w.sites.switches ++ true ∷ [])
 step w (event.Invalidate points) = with_switches w (invalidated w.sites.switches points)
 step w (event.Bind s c) = record w { bindings = w.bindings ++ (s, c) ∷ [] }
 step w (event.Install rows) = w
+step w (event.Retire loader) = with_classes w (retired w.classes loader)

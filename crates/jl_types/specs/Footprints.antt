@@ -1,6 +1,6 @@
 -- What a site's link from scratch rests on that an event may change (selective recompilation: Chambers, Dean and Grove 1995), which of that
 -- an event changes, and how many evaluations an event may take.
-use Rattle.std.specs.Prelude.{ℕ, Bool, true, false, ◌&&◌, ◌==◌, List, [], ◌∷◌, map, filter, sum_by, length, slice_get, Option, Some, None, is_some, if◌then◌else◌}
+use Rattle.std.specs.Prelude.{ℕ, zero, suc, ◌+◌, Bool, true, false, ◌&&◌, ◌==◌, List, [], ◌∷◌, ◌++◌, map, filter, filter_map, sum_by, length, slice_get, Option, Some, None, is_some, if◌then◌else◌, not}
 use Rattle.std.specs.List.{list_any, range_with_len}
 use Rattle.std.specs.Option.{option_map_or}
 use Rattle.jl_code.specs.declared.site.Kind.{Kind}
@@ -15,13 +15,15 @@ use Rattle.jl_types.specs.declared.answer.Outcome.TheVariants.{Run, Throws}
 use Rattle.jl_types.specs.declared.link.Link.{Link}
 use Rattle.jl_types.specs.declared.link.Link.TheVariants.{Fault, Plain, Direct, Table, Mega}
 use Rattle.jl_types.specs.Links.{runs}
-use Rattle.jl_types.specs.World.{World, Classes, CallSite, Sites}
-use Rattle.jl_types.specs.Target.{Target, Method, Guard}
-use Rattle.jl_types.specs.Members.{is_concrete, is_private}
+use Rattle.jl_types.specs.World.{World, Classes, Sites, CallSite}
+use Rattle.jl_types.specs.Target.{Target, Method, Guard, Invoker}
+use Rattle.jl_types.specs.Members.{is_concrete, is_private, is_present}
 use Rattle.jl_types.specs.Ancestry.{ancestors, receivers}
 use Rattle.jl_types.specs.Targets.{is_valid}
 use Rattle.jl_types.specs.Sites.{Selector, ByVirtual, ByInterface, BySpecial, Invocation, Stage, Waits, Fails, Calls, Selects, invocation_at, bound_to, by_operand}
 use Rattle.jl_types.specs.Definitions.{defined}
+use Rattle.jl_types.specs.Retirement.{losing_receivers, retires_site}
+use Rattle.jl_types.specs.Events.{step}
 use Rattle.jl_types.specs.History.{world_after, installed, site_numbers}
 use Rattle.jl_types.specs.declared.key.Key.{Key}
 use Rattle.jl_types.specs.declared.key.Key.TheVariants as key
@@ -55,21 +57,42 @@ of_stage cs (Fails throwable) = []
 of_stage cs (Calls m) = []
 of_stage cs (Selects i) = of_selector cs i i.selector
 
--- the valid points that an evaluation of the target comes by, in order
-abbrev pub path : Sites → Target → List ℕ
-path sites (Method m) = []
-path sites (Guard p first fallback) = if is_valid sites p then p ∷ path sites first else path sites fallback
+-- the call sites and the valid points that an evaluation of the target comes by, in order, where that of a call site comes by these
+abbrev pub way_by : Sites → (ℕ → List Key) → Target → List Key
+way_by sites ways (Method m) = []
+way_by sites ways (Guard p first fallback) =
+    if is_valid sites p then key.Valid p ∷ way_by sites ways first else way_by sites ways fallback
+way_by sites ways (Invoker c) = ways c
 
--- these of so many points, each once, rising
+-- what an evaluation of call site c comes by, if it is one of the first n: itself, and what its target does over those before it
+abbrev pub way_below : Sites → ℕ → ℕ → List Key
+way_below sites zero c = []
+way_below sites (suc n) c =
+    if n == c then key.Target c ∷ option_map_or (λ site. way_by sites (way_below sites n) site.target) (slice_get sites.call_sites c) []
+    else way_below sites n c
+
+-- what an evaluation of call site c comes by, in order: call sites and valid points
+abbrev pub path : Sites → ℕ → List Key
+path sites c =
+    key.Target c ∷ option_map_or (λ site. way_by sites (way_below sites c) site.target) (slice_get sites.call_sites c) []
+
+abbrev pub call_site_in : Key → Option ℕ
+call_site_in (key.Target c) = Some c
+call_site_in _ = None
+
+abbrev pub point_in : Key → Option ℕ
+point_in (key.Valid p) = Some p
+point_in _ = None
+
+-- these of so many numbers, each once, rising
 abbrev pub among : ℕ → List ℕ → List ℕ
 among n points = filter (λ p. list_any (λ q. q == p) points) (range_with_len 0 n)
 
-abbrev pub points_of : Sites → CallSite → List ℕ
-points_of sites site = among (length sites.switches) (path sites site.target)
-
--- the target of the call site, and the valid points on its path
+-- the targets of the call sites on the path of this one, and the valid points on it
 abbrev pub of_call_site : Sites → ℕ → List Key
-of_call_site sites c = key.Target c ∷ map key.Valid (option_map_or (points_of sites) (slice_get sites.call_sites c) [])
+of_call_site sites c =
+    map key.Target (among (c + 1) (filter_map call_site_in (path sites c)))
+    ++ map key.Valid (among (length sites.switches) (filter_map point_in (path sites c)))
 
 abbrev pub of_binding : Sites → Option ℕ → List Key
 of_binding sites None = []
@@ -86,7 +109,8 @@ of_invocation w s d (Some site) = of_operand w s d site.kind site.operand
 
 abbrev pub of_place : World → ℕ → Option Place → List Key
 of_place w s None = []
-of_place w s (Some place) = of_invocation w s place.class (invocation_at w.classes place)
+of_place w s (Some place) =
+    if is_present w.classes place.class then of_invocation w s place.class (invocation_at w.classes place) else []
 
 -- what the link of site s rests on
 abbrev pub footprint : World → ℕ → List Key
@@ -106,6 +130,7 @@ abbrev pub keys : World → Event → List Key
 keys w (event.Define loader file) = of_class (defined w.classes loader file) (length w.classes.rows)
 keys w (event.SetTarget c t) = key.Target c ∷ []
 keys w (event.Invalidate points) = map key.Valid (still_valid w.sites points)
+keys w (event.Retire loader) = map key.Receivers (losing_receivers w.classes loader)
 keys w _ = []
 
 -- the event changes something of what the link of site s rests on
@@ -128,9 +153,20 @@ most_for w s = most_by w.classes (footprint w s)
 abbrev pub touched : List Event → Event → List ℕ
 touched h e = filter (λ s. is_some (installed h s) && touches (world_after h) e s) (site_numbers h)
 
--- an install looks up the link of each row, and any other event compares those of the touched sites, with one evaluation each
+-- the event retires the site
+abbrev pub retires : World → Event → ℕ → Bool
+retires w (event.Retire loader) s = retires_site w loader s
+retires w _ s = false
+
+-- the touched sites that the event doesn't retire
+abbrev pub left_touched : List Event → Event → List ℕ
+left_touched h e = filter (λ s. not (retires (world_after h) e s)) (touched h e)
+
+-- An install looks up the link of each row, and a retirement those of the touched sites that are left, by the receivers that are
+-- left. Any other event compares those of the touched sites, with one evaluation each.
 abbrev pub bound : List Event → Event → ℕ
 bound h (event.Install rows) = sum_by (λ row. most_for (world_after h) row.0) rows
+bound h (event.Retire loader) = sum_by (most_for (step (world_after h) (event.Retire loader))) (left_touched h (event.Retire loader))
 bound h e = length (touched h e)
 
 -- ---- one receiver more

@@ -13,6 +13,7 @@ pub mod Sites
 pub mod Links
 pub mod Calls
 pub mod Definitions
+pub mod Retirement
 pub mod Batches
 pub mod Event
 pub mod Events

@@ -1,7 +1,7 @@
 -- What a class and its methods show: flags (JVMS 4.1, 4.6), names, and where the loader finds a class by name (5.3).
 use Rattle.std.specs.Prelude.{ℕ, Bool, false, not, ◌&&◌, ◌==◌, List, [], Option, find, position, slice_get, option_map, option_and_then, is_some, length}
 use Rattle.std.specs.Option.{option_map_or}
-use Rattle.std.specs.List.{range_with_len}
+use Rattle.std.specs.List.{list_any, range_with_len}
 use Rattle.jl_names.specs.ClassNames.{package_of}
 use Rattle.jl_classfile.specs.Class.{Method}
 use Rattle.std.specs.Str.{bytes_eq}
@@ -11,12 +11,20 @@ use Rattle.jl_types.specs.World.{Class, Classes}
 
 -- ---- a class
 
-abbrev pub is_present : Classes → ℕ → Bool
-is_present cs c = is_some (slice_get cs.rows c)
+-- a class of this number was defined
+abbrev pub has_class : Classes → ℕ → Bool
+has_class cs c = is_some (slice_get cs.rows c)
 
 -- the test of the class of this number, and no where there is none
 abbrev pub class_test : (Class → Bool) → Classes → ℕ → Bool
 class_test test cs c = option_map_or test (slice_get cs.rows c) false
+
+abbrev pub is_retired : Classes → ℕ → Bool
+is_retired cs loader = list_any (λ k. k == loader) cs.retired
+
+-- a class of this number was defined, and its defining loader isn't retired
+abbrev pub is_present : Classes → ℕ → Bool
+is_present cs c = class_test (λ row. not (is_retired cs row.loader)) cs c
 
 abbrev pub is_interface : Classes → ℕ → Bool
 is_interface cs c = class_test (λ row. has_flag row.file.flags INTERFACE) cs c

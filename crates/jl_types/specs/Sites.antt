@@ -14,11 +14,11 @@ use Rattle.jl_types.specs.declared.answer.ResolveAnswer.{ResolveAnswer}
 use Rattle.jl_types.specs.declared.answer.ResolveAnswer.TheVariants as resolve
 use Rattle.jl_types.specs.declared.answer.Unlinked.{Unlinked}
 use Rattle.jl_types.specs.declared.answer.Unlinked.TheVariants.{NotReady, Unbound, Gone, NoSite}
-use Rattle.jl_types.specs.World.{World, Classes, CallSite}
+use Rattle.jl_types.specs.World.{World, Classes}
 use Rattle.jl_types.specs.Members.{is_present, method_at, is_static}
 use Rattle.jl_types.specs.Resolution.{Resolved, resolved}
 use Rattle.jl_types.specs.Selection.{is_init}
-use Rattle.jl_types.specs.Targets.{evaluated}
+use Rattle.jl_types.specs.Targets.{method_of}
 
 -- the instructions that select by the receiver
 pub data Selector : Type 0 where
@@ -67,16 +67,17 @@ by_resolution cs kind d ref (Err (resolve.NotReady missing)) = Waits (NotReady m
 by_resolution cs kind d ref (Err (resolve.Fault throwable)) = Fails throwable
 by_resolution cs kind d ref (Ok r) = by_kind cs kind d ref r
 
--- invokedynamic runs the target of the call site to which it is bound
-abbrev pub by_call_site : World → Option CallSite → Stage
-by_call_site w None = Waits Unbound
-by_call_site w (Some site) = Calls (evaluated w.sites site.target)
+-- invokedynamic runs what the call site runs to which it is bound
+abbrev pub by_method : Option MethodId → Stage
+by_method None = Waits Unbound
+by_method (Some m) = Calls m
 
 abbrev pub bound_to : World → ℕ → Option ℕ
 bound_to w s = option_map (λ b. b.1) (find (λ b. b.0 == s) w.bindings)
 
-abbrev pub call_site_of : World → ℕ → Option CallSite
-call_site_of w s = option_and_then (slice_get w.sites.call_sites) (bound_to w s)
+-- the method that the call site runs now to which s is bound
+abbrev pub bound_method : World → ℕ → Option MethodId
+bound_method w s = option_and_then (method_of w.sites) (bound_to w s)
 
 -- ---- a site
 
@@ -88,7 +89,7 @@ invocation_at cs place =
 
 abbrev pub by_operand : World → ℕ → ℕ → Kind → Operand (List ℕ) → Stage
 by_operand w s d kind (operand.Method ref) = by_resolution w.classes kind d ref (resolved w.classes d ref)
-by_operand w s d kind (operand.CallSite specifier) = by_call_site w (call_site_of w s)
+by_operand w s d kind (operand.CallSite specifier) = by_method (bound_method w s)
 
 abbrev pub stage_of : World → ℕ → ℕ → Option Site → Stage
 stage_of w s d None = Waits NoSite

@@ -16,6 +16,7 @@ pub record Class : Type 0 where
 pub record Classes : Type 0 where
   pub loaders : List (List (List ℕ × ℕ))  -- of each loader, the names under which it finds classes, each with its class
   pub rows : List Class  -- the classes and interfaces, in order of definition
+  pub retired : List ℕ  -- the loaders that are retired: they are gone, and so are the classes that they have defined
 
 pub record CallSite : Type 0 where
   pub kind : CallSiteKind
@@ -35,7 +36,7 @@ pub record World : Type 0 where
 -- one loader that has found nothing
 abbrev pub nothing_yet : World
 nothing_yet = record {
-  classes = record { loaders = [] ∷ []; rows = [] };
+  classes = record { loaders = [] ∷ []; rows = []; retired = [] };
   places = [];
   bindings = [];
   sites = record { call_sites = []; switches = [] };

@@ -51,7 +51,7 @@ pub enum Unlinked {
     NotReady(Missing),
     /// An invokedynamic to which no call site is bound.
     Unbound,
-    /// The site's class is no more.
+    /// The site's class is retired.
     Gone,
     /// No place was requested under this number.
     NoSite,

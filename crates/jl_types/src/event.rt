@@ -34,6 +34,8 @@ pub enum EventOf<D, I> {
     Bind(SiteNo, CallSiteId),
     /// Sites get the links that they are to have.
     Install(I),
+    /// The loader goes, with the classes that it has defined and the sites in them (JLS SE 17 §12.7).
+    Retire(LoaderId),
 }
 
 /// What changes the classes, sites and links: a definition carries the file of the class, an install the sites with their

@@ -1,6 +1,6 @@
 //! The laws of the definitions: each is the contract of a function that does nothing.
 
-ghost use Rattle.std.specs.Prelude.{◌≡◌, ◌↔◌, ◌<◌, ◌≤◌, ◌++◌, ◌∷◌, [], ℕ, List, Some, None, Ok, Err, true, false, take, length, slice_get, find, filter, ◌==◌, ◌&&◌, Decides, AllPairs, Contains};
+ghost use Rattle.std.specs.Prelude.{◌≡◌, ◌↔◌, ◌<◌, ◌≤◌, ◌++◌, ◌∷◌, [], ℕ, List, Some, None, Ok, Err, true, false, take, length, slice_get, find, filter, not, ◌==◌, ◌&&◌, Decides, AllPairs, Contains};
 ghost use Rattle.std.specs.List.{list_any};
 ghost use Rattle.std.specs.Option.{option_map_or};
 ghost use Rattle.jl_types.specs.declared.ids.MethodId.{MethodId};
@@ -17,11 +17,13 @@ ghost use Rattle.jl_types.specs.declared.link.TableKind.{TableKind};
 ghost use Rattle.jl_types.specs.Event.{Event};
 ghost use Rattle.jl_types.specs.declared.event.EventOf.TheVariants as event;
 ghost use Rattle.jl_types.specs.declared.event.Made.TheVariants as made;
-ghost use Rattle.jl_types.specs.Events.{Accepts, verdict};
+ghost use Rattle.jl_types.specs.declared.answer.Unlinked.TheVariants.{Gone};
+ghost use Rattle.jl_types.specs.Events.{Accepts, verdict, step};
 ghost use Rattle.jl_types.specs.World.{Class, Classes, World};
-ghost use Rattle.jl_types.specs.Members.{is_concrete, is_package_private};
+ghost use Rattle.jl_types.specs.Members.{is_concrete, is_package_private, is_present, lookup};
 ghost use Rattle.jl_classfile.specs.Class.{ClassFile};
 ghost use Rattle.jl_types.specs.Definitions.{defined};
+ghost use Rattle.jl_types.specs.Retirement.{is_of, retired, retires_site};
 ghost use Rattle.jl_types.specs.Ancestry.{AreOrdered, IsAncestor, is_ancestor, ancestors, receivers, superclasses};
 ghost use Rattle.jl_types.specs.Overriding.{CanOverride, are_alike, can_override, is_visible, IsBridged};
 ghost use Rattle.jl_types.specs.Sites.{Invocation, Selects, stage};
@@ -157,6 +159,19 @@ pub fn slots_are_the_links()
 pub fn dropped_are_the_empty_slots()
     ensures { (max_sites : ℕ) (h : List Event) (entry : Entry) → IsEntry max_sites h entry
         → entry.reply.dropped ≡ emptied entry.slots }
+{}
+
+/// A retirement takes the loader's classes out of all lists of receivers, and leaves the sites in them without a link for good. No
+/// other loader finds less than before.
+pub fn a_loader_less()
+    ensures receivers { (cs : Classes) (loader c : ℕ)
+        → receivers (retired cs loader) c ≡ filter (λ x. not (is_of cs loader x)) (receivers cs c) }
+    ensures present { (cs : Classes) (loader c : ℕ)
+        → is_present (retired cs loader) c ≡ (is_present cs c && not (is_of cs loader c)) }
+    ensures lookups { (cs : Classes) (loader k : ℕ) (name : List ℕ) → (loader == k) ≡ false
+        → lookup (retired cs loader) k name ≡ lookup cs k name }
+    ensures gone { (w : World) (loader s : ℕ) → retires_site w loader s ≡ true
+        → scratch (step w (event.Retire loader)) s ≡ Err Gone }
 {}
 
 /// There are as many classes after a list as events of it define one.

@@ -2,7 +2,7 @@
 //!
 //! What a link is, and what a call comes to, stands in `specs/`, in reading order: `Target`, `World`, `Members`,
 //! `Ancestry`, `Access`, `Resolution`, `Overriding`, `Selection`, `Targets`, `Sites`, `Links`, `Calls`, `Definitions`,
-//! `Batches`, `Event`, `Events`, `Preparation`, `History`, `Entries`, `Footprints`, `Fast`. The laws about them are the contracts
+//! `Retirement`, `Batches`, `Event`, `Events`, `Preparation`, `History`, `Entries`, `Footprints`, `Fast`. The laws about them are the contracts
 //! of the functions of `laws`.
 #![tactic(auto)]
 
@@ -42,8 +42,8 @@ pub use event::{Event, EventOf, Made, Reply};
 pub use ids::{MethodId, Place};
 pub use key::Key;
 pub use laws::{
-    accepted_installs, ancestors_are_listed, ancestors_of_ancestors, beginnings_are_legal,
-    definitions_are_the_classes, dropped_are_the_empty_slots, each_site_once,
+    a_loader_less, accepted_installs, ancestors_are_listed, ancestors_of_ancestors,
+    beginnings_are_legal, definitions_are_the_classes, dropped_are_the_empty_slots, each_site_once,
     links_give_the_answers, one_class_more, one_event_more, overriding_in_one_walk,
     overriding_is_decided, parents_come_first, settled_links, slots_are_the_links,
     superclasses_upward, unlinked_calls,
@@ -52,7 +52,7 @@ pub use link::{Link, TableKind, same_link};
 pub use loader_id::LoaderId;
 pub use refusal::{
     CallSiteFault, DefineFault, DelegateFault, NotLinkable, OrMemory, PrepareFault, Refusal,
-    SitesFault,
+    RetireFault, SitesFault,
 };
 pub use site_no::SiteNo;
 pub use switch_id::SwitchId;

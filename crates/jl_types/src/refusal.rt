@@ -5,7 +5,9 @@ ghost use Rattle.jl_types.specs.declared.refusal.OrMemory.TheVariants as or_memo
 ghost use Rattle.jl_types.specs.declared.refusal.Refusal.TheVariants as refusal;
 
 use crate::call_site_id::CallSiteId;
+use crate::class_id::ClassId;
 use crate::link::Link;
+use crate::loader_id::LoaderId;
 use crate::site_no::SiteNo;
 use jl_names::Name;
 use std::alloc::{AllocError, AllocFailed};
@@ -13,7 +15,7 @@ use std::alloc::{AllocError, AllocFailed};
 /// Why a class isn't defined (JVMS SE 17 §5.3.5).
 #[derive(Debug, Drop)]
 pub enum DefineFault {
-    /// There is no such loader.
+    /// There is no such loader, or it is retired.
     UnknownLoader,
     /// The loader has recorded a class under this name.
     AlreadyRecorded,
@@ -38,12 +40,27 @@ pub enum DefineFault {
 /// Why a loader doesn't record a class of another one.
 #[derive(Clone, Copy, Debug, PartialEq, Eq)]
 pub enum DelegateFault {
-    /// There is no such loader, one of the two.
+    /// There is no such loader, or it is retired, one of the two.
     UnknownLoader,
     /// The other loader has recorded no class under the name.
     NotRecorded,
     /// The loader has recorded a class under the name, be it the same one.
     AlreadyRecorded,
+}
+
+/// Why a loader isn't retired.
+#[derive(Clone, Copy, Debug, PartialEq, Eq)]
+pub enum RetireFault {
+    /// There is no such loader, or it is retired.
+    UnknownLoader,
+    /// Loader 0 stays.
+    FirstLoader,
+    /// This class of another loader has an ancestor in it.
+    Inherited(ClassId),
+    /// This other loader records a class of it.
+    Recorded(LoaderId),
+    /// The target of this call site names a method of one of its classes.
+    Targeted(CallSiteId),
 }
 
 /// Why a call site or a switch point isn't made or changed (java.lang.invoke).
@@ -55,7 +72,7 @@ pub enum CallSiteFault {
     Constant,
     /// A method's type isn't the call site's (WrongMethodTypeException).
     WrongType,
-    /// There is no such method, or its name begins with `<`.
+    /// There is no such method, or its class is retired, or its name begins with `<`.
     UnknownMethod,
     /// The method isn't static.
     NotStatic,
@@ -65,6 +82,8 @@ pub enum CallSiteFault {
     TooDeep,
     /// There are 65,536 of them.
     Full,
+    /// The target invokes this call site, which doesn't come before the one that gets the target.
+    InvokerOrder(CallSiteId),
 }
 
 /// Why a change isn't made.
@@ -90,7 +109,7 @@ pub enum NotLinkable {
 pub enum Refusal {
     /// A class isn't defined.
     Define(DefineFault),
-    /// There is no such class.
+    /// There is no such class, or it is retired.
     UnknownClass,
     /// The class has no invocation at the place.
     NoSuchPlace,
@@ -110,7 +129,7 @@ pub enum Refusal {
     Stale { site: SiteNo, present: Link },
     /// The site has no link from scratch now.
     NotReady { site: SiteNo },
-    /// No place was requested under this number.
+    /// No place was requested under this number; or, where the site is to be bound, its class is retired.
     UnknownSite { site: SiteNo },
     /// The site comes twice.
     Repeated { site: SiteNo },
@@ -122,6 +141,8 @@ pub enum Refusal {
     Delegate(DelegateFault),
     /// There are 1,024 loaders.
     LoadersFull,
+    /// A loader isn't retired.
+    Retire(RetireFault),
 }
 
 /// Why the sites of a batch aren't taken, be they prepared or installed.

@@ -3,6 +3,7 @@
 ghost use Rattle.std.specs.Prelude.{◌≡◌};
 ghost use Rattle.jl_types.specs.Target as target;
 
+use crate::call_site_id::CallSiteId;
 use crate::ids::MethodId;
 use crate::switch_id::SwitchId;
 use std::marker::Model;
@@ -31,6 +32,8 @@ pub enum Part {
     Method(MethodId),
     /// The first while the switch point is valid, and then the second (java.lang.invoke.SwitchPoint.guardWithTest).
     Guard(SwitchId, Box<Target>, Box<Target>),
+    /// Whatever the call site runs (java.lang.invoke.CallSite.dynamicInvoker).
+    Invoker(CallSiteId),
 }
 
 impl Model for Target {
@@ -68,6 +71,15 @@ impl Target {
     {
         Target {
             part: Part::Guard(point, first, fallback),
+        }
+    }
+
+    /// The target that runs whatever the call site runs (CallSite.dynamicInvoker).
+    pub fn invoker(site: CallSiteId) -> Target
+        ensures { result ≡ target.Invoker site }
+    {
+        Target {
+            part: Part::Invoker(site),
         }
     }
 }

@@ -179,40 +179,38 @@ fn refused_within_events(rt: HostRuntime) -> Result<(), AllocError> {
     )
 }
 
-/// Faults of call sites, and how they are answered.
-const CALL_SITE_FAULTS: &[(CallSiteFault, &str)] = &[
-    (
-        CallSiteFault::UnknownCallSite,
-        r#"{"refused":"CallSite.UnknownCallSite"}"#,
-    ),
-    (
-        CallSiteFault::Constant,
-        r#"{"refused":"CallSite.Constant"}"#,
-    ),
-    (
-        CallSiteFault::WrongType,
-        r#"{"refused":"CallSite.WrongType"}"#,
-    ),
-    (
-        CallSiteFault::UnknownMethod,
-        r#"{"refused":"CallSite.UnknownMethod"}"#,
-    ),
-    (
-        CallSiteFault::NotStatic,
-        r#"{"refused":"CallSite.NotStatic"}"#,
-    ),
-    (
-        CallSiteFault::UnknownSwitch,
-        r#"{"refused":"CallSite.UnknownSwitch"}"#,
-    ),
-    (CallSiteFault::TooDeep, r#"{"refused":"CallSite.TooDeep"}"#),
-    (CallSiteFault::Full, r#"{"refused":"CallSite.Full"}"#),
+/// The fault of a call site in this row: the last one is of a target that invokes call site 7.
+fn call_site_fault(row: usize) -> CallSiteFault {
+    match row {
+        0 => CallSiteFault::UnknownCallSite,
+        1 => CallSiteFault::Constant,
+        2 => CallSiteFault::WrongType,
+        3 => CallSiteFault::UnknownMethod,
+        4 => CallSiteFault::NotStatic,
+        5 => CallSiteFault::UnknownSwitch,
+        6 => CallSiteFault::TooDeep,
+        7 => CallSiteFault::Full,
+        _ => CallSiteFault::InvokerOrder(CallSiteId::new(7)),
+    }
+}
+
+/// How these are answered.
+const CALL_SITE_FAULTS: &[&str] = &[
+    r#"{"refused":"CallSite.UnknownCallSite"}"#,
+    r#"{"refused":"CallSite.Constant"}"#,
+    r#"{"refused":"CallSite.WrongType"}"#,
+    r#"{"refused":"CallSite.UnknownMethod"}"#,
+    r#"{"refused":"CallSite.NotStatic"}"#,
+    r#"{"refused":"CallSite.UnknownSwitch"}"#,
+    r#"{"refused":"CallSite.TooDeep"}"#,
+    r#"{"refused":"CallSite.Full"}"#,
+    r#"{"callsite":7,"refused":"CallSite.InvokerOrder"}"#,
 ];
 
 #[test]
 fn refused_call_sites(rt: HostRuntime) -> Result<(), AllocError> {
-    for (fault, want) in CALL_SITE_FAULTS {
-        assert_refusal(&rt, EventRefusal::CallSite(*fault), want)?;
+    for (row, want) in CALL_SITE_FAULTS.iter().enumerate() {
+        assert_refusal(&rt, EventRefusal::CallSite(call_site_fault(row)), want)?;
     }
     Ok(())
 }

@@ -113,6 +113,14 @@ const CALL_SITES: &[(&str, &str)] = &[
         r#"{"target":{"guard":1,"target":{"guard":2,"target":{"method":[0,0]},"fallback":{"method":[0,1]}},"fallback":{"method":[0,2]}},"callsite":0,"do":"target"}"#,
         r#"Some(Apply(SetTarget(CallSiteId(0), Target { part: Guard(SwitchId(1), Target { part: Guard(SwitchId(2), Target { part: Method(MethodId { class: ClassId(0), index: 0 }) }, Target { part: Method(MethodId { class: ClassId(0), index: 1 }) }) }, Target { part: Method(MethodId { class: ClassId(0), index: 2 }) }) })))"#,
     ),
+    (
+        r#"{"do":"target","callsite":3,"target":{"invoker":2}}"#,
+        r#"Some(Apply(SetTarget(CallSiteId(3), Target { part: Invoker(CallSiteId(2)) })))"#,
+    ),
+    (
+        r#"{"do":"callsite","kind":"constant","type":"()V","target":{"fallback":{"invoker":4294967295},"guard":0,"target":{"invoker":0}}}"#,
+        r#"Some(Apply(NewCallSite(Constant, Name { bytes: b"()V" }, Target { part: Guard(SwitchId(0), Target { part: Invoker(CallSiteId(0)) }, Target { part: Invoker(CallSiteId(4294967295)) }) })))"#,
+    ),
     // Of equal keys the last one.
     (
         r#"{"do":"target","callsite":0,"target":{"method":0,"method":[0,1]}}"#,
@@ -139,6 +147,14 @@ const CALL_SITES: &[(&str, &str)] = &[
 
 /// Values that are none of these commands.
 const NO_CALL_SITES: &[&str] = &[
+    // Invokers.
+    r#"{"do":"target","callsite":1,"target":{"invoker":[0]}}"#,
+    r#"{"do":"target","callsite":1,"target":{"invoker":-1}}"#,
+    r#"{"do":"target","callsite":1,"target":{"invoker":4294967296}}"#,
+    r#"{"do":"target","callsite":1,"target":{"invoker":0,"method":[0,1]}}"#,
+    r#"{"do":"target","callsite":1,"target":{"Invoker":0}}"#,
+    r#"{"do":"target","callsite":1,"target":{"callsite":0}}"#,
+    r#"{"do":"target","callsite":1,"target":{"guard":0,"target":{"invoker":0},"fallback":0}}"#,
     r#"{"do":"callsite","kind":"mutable","type":"()V"}"#,
     r#"{"do":"callsite","kind":"mutable","type":"()V","target":{"method":[0,1]},"site":0}"#,
     r#"{"do":"callsite","kind":"mutable","type":"()V","to":{"method":[0,1]}}"#,

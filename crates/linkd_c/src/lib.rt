@@ -9,7 +9,7 @@
 ghost use Rattle.std.specs.Prelude.{◌≡◌, Option, None};
 ghost use types.Logic.{sem};
 ghost use Rattle.jl_host.specs.Linkers.{Opened, IsOpen, IsNewLoader, IsDefine, IsDelegate, IsRequest, IsNewCallSite, IsSetTarget, IsNewSwitch};
-ghost use Rattle.jl_host.specs.Linkers.{IsInvalidate, IsBind, IsInstall, IsDropped, IsCall, IsLinkOf, IsAnswer, IsTake};
+ghost use Rattle.jl_host.specs.Linkers.{IsInvalidate, IsBind, IsRetire, IsInstall, IsDropped, IsCall, IsLinkOf, IsAnswer, IsTake};
 ghost use Rattle.jl_host.specs.Seats.{Seen, IsRefresh, IsSeatCall};
 ghost use Rattle.linkd_c.specs.Handle.{linker_at, linker_left, linker_room, linker_bytes, linker_multiple};
 ghost use Rattle.linkd_c.specs.Handle.{seat_at, seat_left, both_left, seat_room, seat_bytes, seat_multiple};
@@ -217,6 +217,21 @@ pub unsafe extern "C" fn linkd_bind(
     ensures* { sem 𝓛 (linker_left at (λ new. IsBind site call_site old result told.new new)) }
 {
     (*(at as *mut Linker)).bind(alloc, site, call_site, told)
+}
+
+/// The loader goes, with the classes that it has defined and the sites in them (JLS SE 17 §12.7).
+#[unsafe(no_mangle)]
+pub unsafe extern "C" fn linkd_retire(
+    alloc: Global,
+    at: *mut Linkd,
+    loader: u32,
+    told: &mut Told,
+) -> u32
+    ghost old: { Option Opened }
+    requires* { sem 𝓛 (linker_at at old) }
+    ensures* { sem 𝓛 (linker_left at (λ new. IsRetire loader old result told.new new)) }
+{
+    (*(at as *mut Linker)).retire(alloc, loader, told)
 }
 
 /// Links the sites from scratch and installs their links, all or none.

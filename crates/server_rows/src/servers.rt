@@ -5,6 +5,7 @@ use jl_names::Seq;
 use jl_relink::{Prepared, Snapshot, prepare};
 use jl_server::{Caller, LinkServer, Name};
 use jl_types::{Answer, ClassId, Event, Fast, Link, LoaderId, MethodId, Place, Recv, SiteNo};
+use row_files::named;
 use std::alloc::Global;
 use std::sync::Wait;
 
@@ -44,15 +45,20 @@ pub(crate) fn is_accepted<K: Name, R: Wait, S: Wait + Drop>(
     caller.apply(rt, alloc, server, event).is_ok()
 }
 
-/// The definition of the hexadecimal text's class by loader 0.
-pub(crate) fn definition(alloc: Global, text: &str) -> Option<Event> {
+/// The definition of the hexadecimal text's class by the loader.
+fn definition_by(alloc: Global, loader: u32, text: &str) -> Option<Event> {
     let Ok(file) = hex::decode(alloc, text) else {
         return None;
     };
     match read_class(alloc, &file) {
-        Ok(file) => Some(Event::Define(LoaderId::new(0), file)),
+        Ok(file) => Some(Event::Define(LoaderId::new(loader), file)),
         Err(_) => None,
     }
+}
+
+/// The same by loader 0.
+pub(crate) fn definition(alloc: Global, text: &str) -> Option<Event> {
+    definition_by(alloc, 0, text)
 }
 
 /// Whether the caller defines the class of the hexadecimal text.
@@ -63,10 +69,43 @@ pub(crate) fn is_defined<K: Name, R: Wait, S: Wait + Drop>(
     caller: &mut Caller<K>,
     text: &str,
 ) -> bool {
-    match definition(alloc, text) {
+    is_defined_by(rt, alloc, server, caller, 0, text)
+}
+
+/// The same by this loader.
+pub(crate) fn is_defined_by<K: Name, R: Wait, S: Wait + Drop>(
+    rt: &R,
+    alloc: Global,
+    server: &LinkServer<K, S>,
+    caller: &mut Caller<K>,
+    loader: u32,
+    text: &str,
+) -> bool {
+    match definition_by(alloc, loader, text) {
         Some(event) => is_accepted(rt, alloc, server, caller, event),
         None => false,
     }
+}
+
+/// Whether the caller lets loader 1 find the classes of these names that loader 0 finds.
+pub(crate) fn are_delegated<K: Name, R: Wait, S: Wait + Drop>(
+    rt: &R,
+    alloc: Global,
+    server: &LinkServer<K, S>,
+    caller: &mut Caller<K>,
+    names: &[&str],
+) -> bool {
+    let mut all = true;
+    for name in names {
+        all = match named(alloc, name) {
+            Ok(name) => {
+                let event = Event::Delegate(LoaderId::new(1), name, LoaderId::new(0));
+                is_accepted(rt, alloc, server, caller, event) && all
+            }
+            Err(_) => false,
+        };
+    }
+    all
 }
 
 /// Whether the caller defines the classes of the hexadecimal texts, one after another.

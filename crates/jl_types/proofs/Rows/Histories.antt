@@ -45,7 +45,7 @@ prepared = refl
 abbrev install : Event
 install = Install ((0, Direct (Run (first 1))) ∷ [])
 
-abbrev linked : List Event
+abbrev pub linked : List Event
 linked = before ++ install ∷ []
 
 is_installed : installed linked 0 ≡ Some (Direct (Run (first 1)))

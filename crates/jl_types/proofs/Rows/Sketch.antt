@@ -40,7 +40,7 @@ records_from loader n (row ∷ rows) =
     if row.loader == loader then (row.file.name, n) ∷ records_from loader (n + 1) rows else records_from loader (n + 1) rows
 
 abbrev pub classes : List Class → Classes
-classes rows = record { loaders = records_from 0 0 rows ∷ records_from 1 0 rows ∷ []; rows = rows }
+classes rows = record { loaders = records_from 0 0 rows ∷ records_from 1 0 rows ∷ []; rows = rows; retired = [] }
 
 -- the first method of the class
 abbrev pub first : ℕ → MethodId

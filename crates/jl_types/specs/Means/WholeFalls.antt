@@ -10,3 +10,4 @@ use Rattle.jl_types.specs.Means.Whole.{whole}
 pub part_le_depth : (p : Part) → max (deep-Part p) 0 ≤ depth (whole p)
 part_le_depth (part.Method m) = omega arith
 part_le_depth (part.Guard p first fallback) = omega arith
+part_le_depth (part.Invoker c) = omega arith

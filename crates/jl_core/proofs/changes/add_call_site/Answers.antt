@@ -5,7 +5,7 @@ use Rattle.jl_types.specs.World.{World}
 use Rattle.jl_types.specs.Events.{new_call_site_fault}
 use Rattle.jl_types.specs.declared.event.Made.TheVariants as made
 use Rattle.jl_types.specs.declared.refusal.Refusal.TheVariants.{CallSite}
-use Rattle.jl_callsites.specs.Known.{has_points}
+use Rattle.jl_callsites.specs.Known.{is_known}
 use Rattle.jl_select.specs.Constancy.{IsConstant}
 use Rattle.jl_select.proofs.Constancy.{constant_itself}
 use Rattle.jl_core.proofs.ChangeLaws.{site_room, site_points, made_so}
@@ -18,8 +18,8 @@ add_site-requires-clause-room c =
 
 pub add_site-requires-clause-known : goal.add_site-requires-clause-known
 add_site-requires-clause-known c =
-    subst (λ (w : World). has_points (length w.sites.switches) c.in_ok-target.target ≡ true) (sym c.world.view_is)
-    (subst (λ (t : Target). has_points (length c.args.world.now.sites.switches) t ≡ true) (sym c.in_ok-target.ensures)
+    subst (λ (w : World). is_known (length w.sites.switches) (length w.sites.call_sites) c.in_ok-target.target ≡ true) (sym c.world.view_is)
+    (subst (λ (t : Target). is_known (length c.args.world.now.sites.switches) (length c.args.world.now.sites.call_sites) t ≡ true) (sym c.in_ok-target.ensures)
     (site_points c.args.world.now c.args.kind c.args.ty.now c.args.target.now c.requires))
 
 pub returns : goal.returns

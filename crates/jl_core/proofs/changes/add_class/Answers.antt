@@ -5,8 +5,8 @@ use Rattle.jl_types.specs.Definitions.{define_fault}
 use Rattle.jl_types.specs.declared.event.Made.TheVariants as made
 use Rattle.jl_types.specs.declared.refusal.Refusal.TheVariants.{Define}
 use Rattle.jl_select.specs.Constancy.{IsConstant}
-use Rattle.jl_select.proofs.Constancy.{constant}
 use Rattle.jl_core.proofs.ChangeLaws.{definition_free, made_so}
+use Rattle.jl_core.proofs.ConstantLaws.{constant_defined}
 use Rattle.jl_core.proofs.changes.add_class.Goals as goal
 
 pub add-requires : goal.add-requires
@@ -23,5 +23,6 @@ returns-clause-moved c =
           (made.Class c.in_ok-class.class) (ap (λ n. made.Class n) count);
       step = search rules;
       constant = subst (λ (w : World). IsConstant w.classes c.add.new.self) c.world.view_is
-          (constant c.world.inside.classes c.add.new.self c.in_ok-class.ensures.in_order c.in_ok-class.ensures.stays);
+          (constant_defined c.world.inside.classes c.in_ok-class.ensures.in_order c.add.new.self c.in_ok-class.ensures.stays
+          c.args.loader c.args.file c.in_ok-class.ensures.ok);
     }

@@ -5,8 +5,8 @@ use Rattle.jl_types.specs.World.{World}
 use Rattle.jl_types.specs.declared.event.Made.TheVariants as made
 use Rattle.jl_types.specs.declared.refusal.Refusal.TheVariants.{LoadersFull}
 use Rattle.jl_select.specs.Constancy.{IsConstant}
-use Rattle.jl_select.proofs.Constancy.{constant}
 use Rattle.jl_core.proofs.ChangeLaws.{loader_room, made_so}
+use Rattle.jl_core.proofs.ConstantLaws.{constant_with_loader}
 use Rattle.jl_core.proofs.changes.add_loader.Goals as goal
 
 pub add_loader-requires : goal.add_loader-requires
@@ -21,5 +21,5 @@ returns c =
           (made.Loader c.in_ok-loader.loader) (ap (λ n. made.Loader n) count);
       step = search rules;
       constant = subst (λ (w : World). IsConstant w.classes c.add_loader.new.self) c.world.view_is
-          (constant c.world.inside.classes c.add_loader.new.self c.in_ok-loader.ensures.in_order c.in_ok-loader.ensures.stays);
+          (constant_with_loader c.world.inside.classes c.in_ok-loader.ensures.in_order c.add_loader.new.self c.in_ok-loader.ensures.stays c.in_ok-loader.ensures.ok);
     }

@@ -5,7 +5,7 @@ use Rattle.jl_types.specs.World.{World}
 use Rattle.jl_types.specs.Events.{set_target_fault}
 use Rattle.jl_types.specs.declared.event.Made.TheVariants as made
 use Rattle.jl_types.specs.declared.refusal.Refusal.TheVariants.{CallSite}
-use Rattle.jl_callsites.specs.Known.{has_points}
+use Rattle.jl_callsites.specs.Known.{is_known}
 use Rattle.jl_select.specs.Constancy.{IsConstant}
 use Rattle.jl_select.proofs.Constancy.{constant_itself}
 use Rattle.jl_core.proofs.ChangeLaws.{target_there, target_points, made_so}
@@ -18,8 +18,8 @@ put_target-requires-clause-there c =
 
 pub put_target-requires-clause-known : goal.put_target-requires-clause-known
 put_target-requires-clause-known c =
-    subst (λ (w : World). has_points (length w.sites.switches) c.in_ok-target.target ≡ true) (sym c.world.view_is)
-    (subst (λ (t : Target). has_points (length c.args.world.now.sites.switches) t ≡ true) (sym c.in_ok-target.ensures)
+    subst (λ (w : World). is_known (length w.sites.switches) c.args.site c.in_ok-target.target ≡ true) (sym c.world.view_is)
+    (subst (λ (t : Target). is_known (length c.args.world.now.sites.switches) c.args.site t ≡ true) (sym c.in_ok-target.ensures)
     (target_points c.args.world.now c.args.site c.args.target.now c.requires))
 
 pub returns : goal.returns

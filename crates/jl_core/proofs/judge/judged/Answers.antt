@@ -57,3 +57,8 @@ pub returns-in-Install-clause-judged : goal.returns-in-Install-clause-judged
 returns-in-Install-clause-judged c =
     as_judged c.args.max_sites c.args.world.now c.args.event (event.Install c.in-Install.rows) c.install_refusal-refusal.result _ made.Nothing
     c.unless-in-Install.result c.in-Install.is refl (search rules) (c.unless-in-Install.ensures made.Nothing)
+
+pub returns-in-Retire-clause-judged : goal.returns-in-Retire-clause-judged
+returns-in-Retire-clause-judged c =
+    as_judged c.args.max_sites c.args.world.now c.args.event (event.Retire c.in-Retire.loader) c.retire_refusal.result _ made.Nothing
+    c.unless-in-Retire.result c.in-Retire.is refl c.retire_refusal.ensures (c.unless-in-Retire.ensures made.Nothing)

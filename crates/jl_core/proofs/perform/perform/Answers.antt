@@ -1,15 +1,15 @@
-use Rattle.std.specs.Prelude.{◌≡◌, ◌+◌, ◌≤◌, List, length}
-use Rattle.std.proofs.Common.{rules, sym, subst, ◌∙◌}
+use Rattle.std.specs.Prelude.{◌≡◌, ℕ, ◌+◌, ◌≤◌}
+use Rattle.std.proofs.Common.{rules, ap, sym, subst, ◌∙◌}
 use Rattle.jl_types.specs.declared.event.Made.{Made}
-use Rattle.jl_types.specs.declared.key.Key.{Key}
 use Rattle.jl_types.specs.World.{World}
 use Rattle.jl_types.specs.Links.{scratch}
 use Rattle.jl_types.specs.History.{kept}
 use Rattle.jl_types.specs.Footprints.{keys}
 use Rattle.jl_cache.specs.Links.{link_at}
-use Rattle.jl_deps.specs.Indexes.{IsIndex, touched_by}
+use Rattle.jl_deps.specs.Indexes.{IsIndex}
 use Rattle.jl_core.specs.Changes.{IsMoved}
-use Rattle.jl_core.proofs.StepLaws.{lost_are}
+use Rattle.jl_core.specs.Steps.{most_told}
+use Rattle.jl_core.proofs.StepLaws.{lost_are, most_by_told}
 use Rattle.jl_core.proofs.ReplayLaws.{installs_so}
 use Rattle.jl_core.proofs.perform.perform.Goals as goal
 
@@ -29,5 +29,9 @@ returns c =
         logged = record { accepted = c.in_ok-event.event; is = c.in_ok-event.ensures.tells; last = c.in_ok-reply.ensures.last };
       };
       indexed = subst (λ (w : World). IsIndex w (link_at c.relink.new.links) c.relink.new.index) c.deref-2.ensures c.in_ok-lost.ensures.index;
-      ticks = subst (λ (k : List Key). c.relink.new.work ≤ c.args.work.now + length (touched_by c.args.index.now k)) same c.in_ok-lost.ensures.ticks;
+      ticks = subst (λ (n : ℕ). c.relink.new.work ≤ c.args.work.now + n)
+          (ap (λ (w : World). most_told w c.in_ok-event.event c.args.index.now c.as_slice.result.now) c.deref-2.ensures
+          ∙ most_by_told c.args.world.now.value c.step.new.world.value c.args.index.now c.args.event c.as_slice.result.now
+          c.in_ok-event.ensures.moved.step same c.in_ok-event.event c.in_ok-event.ensures.tells)
+          c.in_ok-lost.ensures.ticks;
     }

@@ -1,21 +1,33 @@
-use Rattle.std.specs.Prelude.{ℕ, List, Some}
-use Rattle.std.proofs.Common.{ap, ◌∙◌}
+use Rattle.std.specs.Prelude.{ℕ, ◌+◌, ◌≤◌, Bool, List, Some}
+use Rattle.std.proofs.Common.{ap, sym, subst, ◌∙◌}
 use Rattle.jl_types.specs.declared.link.Link.{Link}
+use Rattle.jl_types.specs.Links.{scratch}
+use Rattle.jl_types.specs.History.{kept}
 use Rattle.jl_hierarchy.proofs.Rising.{has}
 use Rattle.jl_cache.specs.Links.{link_at, link_with}
-use Rattle.jl_core.specs.Changes.{class_of}
-use Rattle.jl_core.proofs.StepLaws.{has_changed, fits, no_class, define_installs_none, links_kept, links_lost, was_index, links_installed, none_lost}
+use Rattle.jl_core.specs.Logs.{Accepted}
+use Rattle.jl_core.specs.Changes.{class_of, installs_at}
+use Rattle.jl_core.specs.Steps.{IsLed, most_told}
+use Rattle.jl_core.proofs.StepLaws.{has_changed, fits_so, ticks_so, no_class, define_installs_none, define_retires_none}
+use Rattle.jl_core.proofs.StepLaws.{links_kept, links_lost, was_index, links_installed, none_lost}
 use Rattle.jl_core.proofs.perform.relink.Goals as goal
 
 pub settle-requires-clause-changed : goal.settle-requires-clause-changed
 settle-requires-clause-changed c =
     has_changed c.args.world.now c.args.keys.now c.args.event.now c.args.links.now c.args.index.now c.requires.led
-    (Some c.in-Define.class) (ap class_of c.in-Define.is)
+    (define_retires_none c.in-Define.field-0 c.in-Define.class c.args.event.now c.in-Define.is) (Some c.in-Define.class) (ap class_of c.in-Define.is)
 
 pub settle-requires-clause-fits : goal.settle-requires-clause-fits
 settle-requires-clause-fits c =
-    fits c.args.world.now c.args.keys.now c.args.event.now c.args.links.now c.args.index.now c.requires.led
+    fits_so c.args.world.now c.args.keys.now c.args.event.now c.args.links.now c.args.index.now c.requires.led
+    (define_retires_none c.in-Define.field-0 c.in-Define.class c.args.event.now c.in-Define.is) (Some c.in-Define.class) (ap class_of c.in-Define.is)
     c.args.work.now c.requires.small
+
+pub returns-in_ok-lost-in-Define-clause-ticks : goal.returns-in_ok-lost-in-Define-clause-ticks
+returns-in_ok-lost-in-Define-clause-ticks c =
+    ticks_so c.args.world.now c.args.keys.now c.args.event.now c.args.links.now c.args.index.now c.requires.led
+    (define_retires_none c.in-Define.field-0 c.in-Define.class c.args.event.now c.in-Define.is) (Some c.in-Define.class) (ap class_of c.in-Define.is)
+    c.args.work.now c.settle.new.work c.in_ok-lost-in-Define.ensures.ticks
 
 pub returns-in_ok-lost-in-Define-clause-links : goal.returns-in_ok-lost-in-Define-clause-links
 returns-in_ok-lost-in-Define-clause-links c =
@@ -49,10 +61,17 @@ returns-in_ok-install_rows-in-Install-clause-lost c = λ s.
 
 pub settle-requires-in_default : goal.settle-requires-in_default
 settle-requires-in_default c = record {
-  changed = has_changed c.args.world.now c.args.keys.now c.args.event.now c.args.links.now c.args.index.now c.requires.led _
-      (no_class c.args.event.now c.in_default.not-Define);
-  fits = fits c.args.world.now c.args.keys.now c.args.event.now c.args.links.now c.args.index.now c.requires.led c.args.work.now c.requires.small;
+  changed = has_changed c.args.world.now c.args.keys.now c.args.event.now c.args.links.now c.args.index.now c.requires.led
+      c.in_default.not-Retire _ (no_class c.args.event.now c.in_default.not-Define);
+  fits = fits_so c.args.world.now c.args.keys.now c.args.event.now c.args.links.now c.args.index.now c.requires.led
+      c.in_default.not-Retire _ (no_class c.args.event.now c.in_default.not-Define) c.args.work.now c.requires.small;
 }
+
+pub returns-in_ok-lost-in_default-clause-ticks : goal.returns-in_ok-lost-in_default-clause-ticks
+returns-in_ok-lost-in_default-clause-ticks c =
+    ticks_so c.args.world.now c.args.keys.now c.args.event.now c.args.links.now c.args.index.now c.requires.led
+    c.in_default.not-Retire _ (no_class c.args.event.now c.in_default.not-Define) c.args.work.now c.settle-in_default.new.work
+    c.in_ok-lost-in_default.ensures.ticks
 
 pub returns-in_ok-lost-in_default-clause-links : goal.returns-in_ok-lost-in_default-clause-links
 returns-in_ok-lost-in_default-clause-links c =
@@ -64,3 +83,17 @@ returns-in_ok-lost-in_default-clause-lost c = λ s.
     c.in_ok-lost-in_default.ensures.lost s
     ∙ links_lost c.args.world.now c.args.keys.now c.args.event.now c.args.links.now c.args.index.now c.requires.led
     c.settle-in_default.new.links c.in_ok-lost-in_default.ensures.links s
+
+pub retire_links-requires-clause-led : goal.retire_links-requires-clause-led
+retire_links-requires-clause-led c =
+    subst (λ (told : Accepted). IsLed c.args.world.now c.args.keys.now told c.args.links.now c.args.index.now) c.in-Retire.is c.requires.led
+
+pub returns-in_ok-lost-in-Retire-clause-links : goal.returns-in_ok-lost-in-Retire-clause-links
+returns-in_ok-lost-in-Retire-clause-links c = λ s.
+    c.in_ok-lost-in-Retire.ensures.links s
+    ∙ ap (λ (b : Bool). kept b (link_at c.args.links.now s) (scratch c.args.world.now s)) (sym (ap (installs_at s) c.in-Retire.is))
+
+pub returns-in_ok-lost-in-Retire-clause-ticks : goal.returns-in_ok-lost-in-Retire-clause-ticks
+returns-in_ok-lost-in-Retire-clause-ticks c =
+    subst (λ (told : Accepted). c.retire_links.new.work ≤ c.args.work.now + most_told c.args.world.now told c.args.index.now c.args.keys.now)
+    (sym c.in-Retire.is) c.in_ok-lost-in-Retire.ensures.ticks

@@ -12,7 +12,10 @@ pub returns : goal.returns
 returns g c =
     let cs = c.args.classes.now in
     IfOk-then c.collect.result _ _ c.collect.ensures (λ v h.
-    let chain = rw (c.map.ensures.base, c.map.ensures.f, c.enumerate.ensures.base, c.enumerate.ensures.offset, c.with_min_len.ensures.base) at h.1 in
+    let mapped = rw (c.map.ensures.base, c.map.ensures.f) at h.1 in
+    let counted = rw c.enumerate.ensures.base at mapped in
+    let placed = rw c.enumerate.ensures.offset at counted in
+    let chain = rw c.with_min_len.ensures.base at placed in
     let seen = chain.1.0 in
     let each = subst (λ l. AllZip (λ (s : ℕ × Bor Pair) row. row ≡ looked_up cs s.1.now) l h.0) chain.1.2
     (AllZip-weaken _ (λ (s : ℕ × Bor Pair) row. row ≡ looked_up cs s.1.now) (λ s row e. e) chain.0 h.0 chain.2) in

@@ -7,13 +7,15 @@ use Rattle.jl_callsites.proofs.sites.Sites.add_switch.Goals as goal
 
 pub invariant_of-self-2 : goal.invariant_of-self-2
 invariant_of-self-2 c =
-    let inside : Sites = record { call_sites = c.self.inside.call_sites.items; switches = c.self.inside.switches.items } in
-    subst (λ (switches : List Bool). are_known (record { call_sites = c.self.inside.call_sites.items; switches = switches }) ≡ true)
-    (sym c.in_ok-push.ensures.items) (one_switch_more inside c.self.invariant)
+    let inside : Sites = record { call_sites = c.self.inside.call_sites.items; switches = c.self.inside.switches.items } in (
+      subst (λ (switches : List Bool). are_known (record { call_sites = c.self.inside.call_sites.items; switches = switches }) ≡ true)
+          (sym c.in_ok-push.ensures.items) (one_switch_more inside c.self.invariant.0),
+      c.self.invariant.1,
+    )
 
 pub returns-clause-runs : goal.returns-clause-runs
 returns-clause-runs c =
     let inside : Sites = record { call_sites = c.self.inside.call_sites.items; switches = c.self.inside.switches.items } in
     subst (λ (old : Sites). RunAsBefore old (record { call_sites = c.self.inside.call_sites.items; switches = c.push.new.self.items })) c.self.view_is
     (subst (λ (switches : List Bool). RunAsBefore inside (record { call_sites = c.self.inside.call_sites.items; switches = switches }))
-    (sym c.in_ok-push.ensures.items) (switch_runs inside c.self.invariant))
+    (sym c.in_ok-push.ensures.items) (switch_runs inside c.self.invariant.0))

@@ -1,24 +1,28 @@
-use Rattle.std.specs.Prelude.{◌≡◌, ◌<◌, true, length, List, Some}
-use Rattle.std.proofs.Common.{sym, subst}
+use Rattle.std.specs.Prelude.{◌≡◌, ◌<◌, true, length, List}
+use Rattle.std.proofs.Common.{sym, subst, ap, ◌∙◌, arith}
 use Rattle.jl_types.specs.World.{Sites, CallSite}
 use Rattle.jl_types.specs.Targets as targets
-use Rattle.jl_callsites.specs.Runs.{method_of}
-use Rattle.jl_callsites.specs.Known.{have_points, has_points, OthersRunAsBefore}
-use Rattle.jl_callsites.proofs.Known.{retargeted_known, target_runs, others_run}
+use Rattle.jl_types.specs.Targets.{method_of}
+use Rattle.jl_callsites.specs.Known.{all_known, is_known, OthersRunAsBefore}
+use Rattle.jl_callsites.proofs.Known.{retargeted_known, as_many_retargeted, target_runs, others_run}
 use Rattle.jl_callsites.proofs.sites.Sites.put_target.Goals as goal
 
 pub invariant_of-self : goal.invariant_of-self
 invariant_of-self c =
-    let n = length c.self.inside.switches.items in
-    subst (λ (sites : List CallSite). have_points n sites ≡ true) (sym c.retarget_in.ensures)
-    (retargeted_known n c.self.inside.call_sites.items c.args.site c.args.target c.self.invariant
-    (subst (λ (old : Sites). has_points (length old.switches) c.args.target ≡ true) (sym c.self.view_is) c.requires.known))
+    let n = length c.self.inside.switches.items in (
+      subst (λ (sites : List CallSite). all_known n 0 sites ≡ true) (sym c.retarget_in.ensures)
+          (retargeted_known n c.self.inside.call_sites.items c.args.site c.args.target c.self.invariant.0
+          (subst (λ (old : Sites). is_known (length old.switches) c.args.site c.args.target ≡ true) (sym c.self.view_is) c.requires.known)),
+      (let few = c.self.invariant.1 in
+          let same = ap length c.retarget_in.ensures ∙ as_many_retargeted c.self.inside.call_sites.items c.args.site c.args.target in
+          omega (arith, few, same)),
+    )
 
 pub returns-clause-runs : goal.returns-clause-runs
 returns-clause-runs c =
     let inside : Sites = record { call_sites = c.self.inside.call_sites.items; switches = c.self.inside.switches.items } in
-    subst (λ (old : Sites). method_of (record { call_sites = c.retarget_in.new.call_sites.items; switches = c.self.inside.switches.items }) c.args.site ≡ Some (targets.evaluated old c.args.target)) c.self.view_is
-    (subst (λ (sites : List CallSite). method_of (record { call_sites = sites; switches = c.self.inside.switches.items }) c.args.site ≡ Some (targets.evaluated inside c.args.target))
+    subst (λ (old : Sites). method_of (record { call_sites = c.retarget_in.new.call_sites.items; switches = c.self.inside.switches.items }) c.args.site ≡ targets.evaluated old c.args.site c.args.target) c.self.view_is
+    (subst (λ (sites : List CallSite). method_of (record { call_sites = sites; switches = c.self.inside.switches.items }) c.args.site ≡ targets.evaluated inside c.args.site c.args.target)
     (sym c.retarget_in.ensures)
     (target_runs inside c.args.site c.args.target (subst (λ (old : Sites). c.args.site < length old.call_sites) (sym c.self.view_is) c.requires.there)))
 

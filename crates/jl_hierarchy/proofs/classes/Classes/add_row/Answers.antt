@@ -32,10 +32,10 @@ record_in-requires-clause-fresh c =
 
 pub invariant_of-self-in_err-record_in : goal.invariant_of-self-in_err-record_in
 invariant_of-self-in_err-record_in c = (
-  kept_as (record { loaders = c.record_in.new.loaders.items; rows = c.reserve_all.new.rows.items })
-      (record { loaders = c.self.inside.loaders.items; rows = c.self.inside.rows.items })
+  kept_as (record { loaders = c.record_in.new.loaders.items; rows = c.reserve_all.new.rows.items; retired = c.self.inside.retired.keys })
+      (record { loaders = c.self.inside.loaders.items; rows = c.self.inside.rows.items; retired = c.self.inside.retired.keys })
       c.reserve_all.new.above.items c.self.inside.above.items (lists c.reserve_all.new.below.items) (lists c.self.inside.below.items)
-      (λ i. record { loaders = c.in_err-record_in.ensures.err i; rows = c.in_ok-reserve_all.ensures.rows i })
+      (λ i. record { loaders = c.in_err-record_in.ensures.err i; rows = c.in_ok-reserve_all.ensures.rows i; retired = c.self.inside.retired.keys })
       c.in_ok-reserve_all.ensures.above c.in_ok-reserve_all.ensures.below c.self.invariant.0,
   subst (λ (rows : List Class). IsIndexed rows c.add_marks.new.shared.value c.self.inside.are_lines) (sym c.in_ok-reserve_all.ensures.rows)
       (still_indexed c.self.inside.rows.items c.self.inside.marks.value c.add_marks.new.shared.value
@@ -44,10 +44,10 @@ invariant_of-self-in_err-record_in c = (
 
 pub invariant_of-self-in_err-add_marks : goal.invariant_of-self-in_err-add_marks
 invariant_of-self-in_err-add_marks c = (
-  kept_as (record { loaders = c.self.inside.loaders.items; rows = c.reserve_all.new.rows.items })
-      (record { loaders = c.self.inside.loaders.items; rows = c.self.inside.rows.items })
+  kept_as (record { loaders = c.self.inside.loaders.items; rows = c.reserve_all.new.rows.items; retired = c.self.inside.retired.keys })
+      (record { loaders = c.self.inside.loaders.items; rows = c.self.inside.rows.items; retired = c.self.inside.retired.keys })
       c.reserve_all.new.above.items c.self.inside.above.items (lists c.reserve_all.new.below.items) (lists c.self.inside.below.items)
-      (λ i. record { loaders = c.self.inside.loaders.items; rows = c.in_ok-reserve_all.ensures.rows i })
+      (λ i. record { loaders = c.self.inside.loaders.items; rows = c.in_ok-reserve_all.ensures.rows i; retired = c.self.inside.retired.keys })
       c.in_ok-reserve_all.ensures.above c.in_ok-reserve_all.ensures.below c.self.invariant.0,
   subst (λ (rows : List Class). IsIndexed rows c.add_marks.new.shared.value c.self.inside.are_lines) (sym c.in_ok-reserve_all.ensures.rows)
       (still_indexed c.self.inside.rows.items c.self.inside.marks.value c.add_marks.new.shared.value
@@ -106,8 +106,8 @@ invariant_of-self-2 c =
           g.is_concrete g.ancestors.items g.own.items c.in_ok-name.name.items class c.push_all.ensures.below.0
           c.in_ok-growth.ensures.concrete c.in_ok-growth.ensures.all c.in_ok-growth.ensures.own c.in_ok-name.ensures (numbered c)
           (subst (λ ls. IsAppended (if g.is_concrete then g.ancestors.items else []) class ls c.push_all.ensures.below.0) c.in_ok-reserve_all.ensures.below c.push_all.ensures.below.1)
-          c.record_in.new.loaders.items c.push_all.new.rows.items c.push_all.new.above.items (lists c.push_all.new.below.items)
-          (loaders_are c) (rows_are c)
+          c.record_in.new.loaders.items c.push_all.new.rows.items c.self.inside.retired.keys c.push_all.new.above.items (lists c.push_all.new.below.items)
+          (loaders_are c) (rows_are c) (λ i. (c.self.view_is i).retired)
           (c.push_all.ensures.above ∙ ap (λ (ls : List (List ℕ)). ls ++ (g.ancestors.items ++ class ∷ []) ∷ []) c.in_ok-reserve_all.ensures.above)
           c.push_all.ensures.below.2,
       subst (λ (rows : List Class). IsIndexed rows c.add_marks.new.shared.value (lines_now c)) (sym (rows_are c))
@@ -126,10 +126,11 @@ invariant_of-self-2 c =
 
 -- the classes afterwards
 made : (c : goal.After-push_all)
-    → ◌≡◌ {A = Classes} (record { loaders = c.record_in.new.loaders.items; rows = c.push_all.new.rows.items }) (defined c.args.self.now c.args.row.loader c.args.row.file)
+    → ◌≡◌ {A = Classes} (record { loaders = c.record_in.new.loaders.items; rows = c.push_all.new.rows.items; retired = c.self.inside.retired.keys }) (defined c.args.self.now c.args.row.loader c.args.row.file)
 made c = λ i. record {
   loaders = (loaders_are c ∙ (λ j. with_record c.args.self.now.loaders c.args.row.loader (c.in_ok-name.ensures j) (numbered c j))) i;
   rows = (rows_are c ∙ (λ j. c.args.self.now.rows ++ c.requires.made j ∷ [])) i;
+  retired = (c.self.view_is i).retired;
 }
 
 pub returns-clause-stays : goal.returns-clause-stays

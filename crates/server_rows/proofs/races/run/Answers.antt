@@ -11,7 +11,8 @@ use Rattle.jl_server.specs.contracts.server.LinkServer as LinkServer
 use Rattle.jl_server.proofs.Crossing.{server_sync}
 use Rattle.jl_server.proofs.seen.Seen.TheSendSync as of_seen
 use Rattle.server_rows.specs.contracts.races.Track as Track
-use Rattle.server_rows.proofs.races.race.Goals as goal
+use Rattle.server_rows.proofs.races.Race.TheSendSync as of_race
+use Rattle.server_rows.proofs.races.run.Goals as goal
 
 module _ (ℓ : NamedLft) (K R S : RattleType) (g : name.Ghosts K.Denot) where
   track_sync : IsSync R → IsSend S → IsSync (Track.the_row ℓ K R S g)
@@ -23,7 +24,7 @@ module _ (ℓ : NamedLft) (K R S : RattleType) (g : name.Ghosts K.Denot) where
           search sendable depth 9,
           (
             shr_sync ℓ.mir ℓ.lft (LinkServer.the_row K S g) (server_sync K S g s),
-            (search (of_seen.the_send, sendable, of_std) depth 12, tt),
+            (search (of_race.the_sync, sendable, of_std) depth 12, (search (of_seen.the_send, sendable, of_std) depth 12, tt)),
           ),
         ),
       ) in

@@ -1,0 +1,108 @@
+-- The links and the index once a loader is retired.
+use Rattle.std.specs.Prelude.{◌≡◌, ℕ, ◌+◌, ◌*◌, ◌<◌, ◌≤◌, ◌^◌, ◌==◌, ◌&&◌, ◌||◌, not, Bool, true, false, List, [], ◌∷◌, ◌++◌, filter, sum_by, length, None, is_some, is_none, if◌then◌else◌}
+use Rattle.std.proofs.Common.{refl, ap, sym, subst, ◌∙◌, arith}
+use Rattle.std.proofs.lemmas.Option.{same_Some}
+use Rattle.jl_types.specs.declared.link.Link.{Link}
+use Rattle.jl_types.specs.declared.event.EventOf.TheVariants as event
+use Rattle.jl_types.specs.World.{World}
+use Rattle.jl_types.specs.Links.{scratch}
+use Rattle.jl_types.specs.Retirement.{retires_site}
+use Rattle.jl_types.specs.Events.{step}
+use Rattle.jl_types.specs.History.{installs, kept}
+use Rattle.jl_types.specs.declared.key.Key.{Key}
+use Rattle.jl_types.specs.Footprints.{footprint, keys, most_for}
+use Rattle.jl_cache.specs.Links.{link_at}
+use Rattle.jl_deps.specs.Indexes.{footprint_at, touched_by, AreRising}
+use Rattle.jl_settle.specs.Settling.{HasChanged, kept_at, goes, most_asked}
+use Rattle.jl_core.specs.Changes.{retires_at}
+use Rattle.jl_core.specs.Steps.{IsLed, most_told}
+use Rattle.jl_core.specs.Touched.{has}
+use Rattle.jl_core.proofs.RetireLaws.{retires_so, links_left, index_left, kept_left, touched_left, few_in_sum, lost_or_gone}
+use Rattle.jl_core.proofs.StepLaws.{few_touched, no_more}
+use Rattle.jl_core.proofs.InstallCounts.{few_by}
+
+has_both : (s : ℕ) (xs ys : List ℕ) → has s (xs ++ ys) ≡ (has s xs || has s ys)
+has_both s [] ys = refl
+has_both s (x ∷ xs) ys = ap (λ (b : Bool). (x == s) || b) (has_both s xs ys) ∙ sym (or_assoc (x == s) (has s xs) (has s ys))
+  where
+    or_assoc : (a b c : Bool) → ((a || b) || c) ≡ (a || (b || c))
+    or_assoc true b c = refl
+    or_assoc false b c = refl
+
+module _ (w : World) (ks : List Key) (loader : ℕ) (links : List (ℕ × Link)) (index : List (ℕ × List Key))
+    (led : IsLed w ks (event.Retire loader) links index) where
+  same_event : event.Retire loader ≡ led.event
+  same_event = same_Some (event.Retire loader) led.event led.tells
+
+  same_world : w ≡ step led.before (event.Retire loader)
+  same_world = led.step ∙ ap (step led.before) (sym same_event)
+
+  -- no place more
+  pub few_places : length w.places ≤ 65536
+  few_places = subst (λ (v : World). length v.places ≤ 65536) (sym same_world) led.few
+
+  same_site : (s : ℕ) → retires_site w loader s ≡ retires_at led.before (event.Retire loader) s
+  same_site s = ap (λ (v : World). retires_site v loader s) same_world
+
+  no_install : (s : ℕ) → installs s led.event ≡ false
+  no_install s = ap (installs s) (sym same_event)
+
+  module _ (left : List (ℕ × Link)) (near : List (ℕ × List Key)) (rising : AreRising near)
+      (dropped : (s : ℕ) → link_at left s ≡ (if retires_site w loader s then None else link_at links s))
+      (taken : (s : ℕ) → footprint_at near s ≡ (if retires_site w loader s then None else footprint_at index s)) where
+    dropped_then : (s : ℕ) → link_at left s ≡ (if retires_at led.before (event.Retire loader) s then None else link_at links s)
+    dropped_then s = dropped s ∙ ap (λ (b : Bool). if b then None else link_at links s) (same_site s)
+
+    taken_then : (s : ℕ) → footprint_at near s ≡ (if retires_at led.before (event.Retire loader) s then None else footprint_at index s)
+    taken_then s = taken s ∙ ap (λ (b : Bool). if b then None else footprint_at index s) (same_site s)
+
+    pub has_retired : HasChanged w ks None (link_at left) near
+    has_retired = record {
+      before = led.before;
+      event = led.event;
+      step = led.step;
+      order = led.sound.order;
+      accepted = led.accepted;
+      left = λ s l linked.
+          retires_so led.before w.classes.rows led.event s (event.Retire loader) led.tells
+          ∙ (links_left led.before (event.Retire loader) links left index near dropped_then taken_then s l linked).0;
+      keys_are = led.keys_are;
+      defined_is = led.class_is;
+      scratch = λ s l linked. led.sound.scratch s l (links_left led.before (event.Retire loader) links left index near dropped_then taken_then s l linked).1;
+      index_is = index_left led.before (event.Retire loader) links left index near dropped_then taken_then led.sound.indexed;
+    }
+
+    touched_are : touched_by near ks ≡ filter (λ s. not (retires_site w loader s)) (touched_by index ks)
+    touched_are = touched_left (retires_site w loader) index near ks led.sound.rising rising taken
+
+    pub fits_left : length w.classes.rows ≤ 65536 → (work : ℕ) → work ≤ 16777216 → work + sum_by (most_asked w None) (touched_by near ks) < 2 ^ 64
+    fits_left few work small =
+        let sum : sum_by (most_asked w None) (touched_by near ks) ≤ length (touched_by near ks) * 65536 =
+        few_in_sum (most_for w) (λ s. few_by w.classes few (footprint w s)) (touched_by near ks) in
+        let fewer : length (touched_by near ks) ≤ length (touched_by index ks) =
+        subst (λ (ts : List ℕ). length ts ≤ length (touched_by index ks)) (sym touched_are) (no_more (λ s. not (retires_site w loader s)) (touched_by index ks)) in
+        let some = few_touched led.before links index led.sound led.event in
+        let same : length (touched_by index ks) ≡ length (touched_by index (keys led.before led.event)) =
+        ap (λ (k : List Key). length (touched_by index k)) led.keys_are in
+        let places = led.few in
+        omega (arith, sum, fewer, some, same, places)
+
+    -- as many are looked at as the event says
+    pub ticks_left : (work next : ℕ) → next ≤ work + sum_by (most_asked w None) (touched_by near ks) → next ≤ work + most_told w (event.Retire loader) index ks
+    ticks_left work next le = subst (λ (ts : List ℕ). next ≤ work + sum_by (most_for w) ts) touched_are le
+
+    module _ (after : List (ℕ × Link)) (settled : (s : ℕ) → link_at after s ≡ kept_at w (link_at left) s) where
+      pub links_retired : (s : ℕ) → link_at after s ≡ kept false (link_at links s) (scratch w s)
+      links_retired s =
+          settled s
+          ∙ (λ i. kept (sym (no_install s) i) (link_at left s) (scratch (led.step i) s))
+          ∙ sym (kept_left led.before (event.Retire loader) links left index near dropped_then taken_then led.event
+          (λ t. retires_so led.before w.classes.rows led.event t (event.Retire loader) led.tells) s)
+          ∙ (λ i. kept (no_install s i) (link_at links s) (scratch (sym led.step i) s))
+
+      pub lost_retired : (gone lost : List ℕ) → ((s : ℕ) → has s gone ≡ (retires_site w loader s && is_some (link_at links s)))
+          → ((s : ℕ) → has s lost ≡ goes w (link_at left) s) → (s : ℕ) → has s (gone ++ lost) ≡ (is_some (link_at links s) && is_none (link_at after s))
+      lost_retired gone lost gone_are lost_are s =
+          has_both s gone lost
+          ∙ (λ i. gone_are s i || lost_are s i)
+          ∙ lost_or_gone (retires_site w loader s) (link_at links s) (link_at left s) (link_at after s) (scratch w s) (dropped s) (settled s)

@@ -1,0 +1,15 @@
+use Rattle.std.proofs.Common.{ap, sym, ◌∙◌, arith}
+use Rattle.jl_types.specs.Retirement as retirement
+use Rattle.jl_hierarchy.proofs.Turns.{found_later}
+use Rattle.jl_hierarchy.proofs.classes.Classes.first_heir.Goals as goal
+
+pub loop-number-preserved : goal.loop-number-preserved
+loop-number-preserved c =
+    let lt = c.loop-number-test.true in
+    record {
+      within = omega (arith, lt);
+      same =
+          c.loop-number.invariant.same
+          ∙ found_later (retirement.inherits_from c.args.self.now c.args.loader) c.loop-number.number c.count_in_order-count.result lt
+          (ap (retirement.inherits_from c.args.self.now c.args.loader) (sym c.new-class.ensures) ∙ sym c.inherits_from.ensures ∙ c.if-inherits_from.false);
+    }

@@ -1,0 +1,34 @@
+use Rattle.std.specs.Prelude.{◌≡◌, ◌==◌, ◌<◌, length, false, List, [], ◌∷◌, ◌++◌, None, map, filter, not}
+use Rattle.std.specs.List.{list_any}
+use Rattle.std.proofs.Common.{refl, sym, subst, ◌∙◌}
+use Rattle.jl_types.specs.World.{Classes}
+use Rattle.jl_types.specs.Retirement.{classes_fault, retired}
+use Rattle.jl_hierarchy.specs.Kept.{lists}
+use Rattle.jl_hierarchy.specs.Retiring.{is_row_of}
+use Rattle.jl_hierarchy.proofs.KeptLaws.{in_order}
+use Rattle.jl_hierarchy.proofs.NewClass.{kept_as}
+use Rattle.jl_hierarchy.proofs.LoaderGone.{kept_retired, is_live, is_made}
+use Rattle.jl_hierarchy.proofs.classes.Classes.retire.Goals as goal
+
+pub mark_retired-requires : goal.mark_retired-requires
+mark_retired-requires c =
+    subst (λ (k : Classes). list_any (λ l. l == c.args.loader) k.retired ≡ false) (sym c.self.view_is) (is_live c.args.self.now c.args.loader c.requires)
+
+pub empty_in-requires-clause-there : goal.empty_in-requires-clause-there
+empty_in-requires-clause-there c = subst (λ (k : Classes). c.args.loader < length k.loaders) (sym c.self.view_is) (is_made c.args.self.now c.args.loader c.requires)
+
+pub invariant_of-self-2 : goal.invariant_of-self-2
+invariant_of-self-2 c =
+    let inside : Classes = record { loaders = c.self.inside.loaders.items; rows = c.self.inside.rows.items; retired = c.self.inside.retired.keys } in (
+      kept_as (record { loaders = c.empty_in.new.loaders.items; rows = c.self.inside.rows.items; retired = c.mark_retired.new.retired.keys })
+          (retired inside c.args.loader) c.self.inside.above.items c.self.inside.above.items (lists c.drop_all_receivers.new.below.items)
+          (map (filter (λ x. not (is_row_of c.self.inside.rows.items c.args.loader x))) (lists c.self.inside.below.items))
+          (λ i. record { loaders = c.empty_in.ensures i; rows = c.self.inside.rows.items; retired = c.in_ok-mark_retired.ensures.ok i })
+          refl c.drop_all_receivers.ensures
+          (kept_retired inside c.args.loader (subst (λ (k : Classes). classes_fault k c.args.loader ≡ None) (sym c.self.view_is) c.requires)
+          c.self.inside.above.items (lists c.self.inside.below.items) c.self.invariant.0),
+      c.self.invariant.1,
+    )
+
+pub returns-clause-in_order : goal.returns-clause-in_order
+returns-clause-in_order c = in_order _ _ _ c.self.invariant.0 c.args.self.now c.self.view_is

@@ -1,0 +1,281 @@
+//! The retirement of a loader with the classes that it has defined (JLS SE 17 §12.7).
+
+ghost use Rattle.std.specs.Prelude.{◌≡◌, ◌<◌, ◌≤◌, ◌&&◌, ◌==◌, ◌++◌, ◌∷◌, None, find, not, map, filter, length, slice_get, slice_set, [], OnOk, OnErr, IfOk, false, if◌then◌else◌};
+ghost use Rattle.std.specs.Option.{option_map_or};
+ghost use Rattle.jl_types.specs.Ancestry as ancestry;
+ghost use Rattle.std.specs.List.{list_any, range_with_len};
+ghost use Rattle.jl_types.specs.Members as members;
+ghost use Rattle.jl_types.specs.Definitions as definitions;
+ghost use Rattle.jl_types.specs.Retirement as retirement;
+ghost use Rattle.jl_hierarchy.specs.Constancy.{AreInOrder};
+ghost use Rattle.jl_hierarchy.specs.Kept.{lists};
+ghost use Rattle.jl_hierarchy.specs.Retiring.{is_row_of};
+
+use crate::classes::Classes;
+use crate::loader::Loader;
+use crate::receiving::Receivers;
+use crate::row::Row;
+use indexmap::IndexSet;
+use jl_paged::Paged;
+use jl_types::{ClassId, LoaderId, RetireFault};
+use std::alloc::{AllocError, Global};
+
+impl Classes {
+    /// Whether the loader is retired.
+    pub fn is_retired(&self, loader: LoaderId) -> bool
+        ensures { result ≡ members.is_retired self.now loader }
+    {
+        let _ = &self.rows;
+        self.retired.contains(&loader)
+    }
+
+    /// Whether a class of this number was defined, and its loader isn't retired.
+    pub fn is_present(&self, class: ClassId) -> bool
+        ensures { result ≡ members.is_present self.now class }
+    {
+        match self.class_at(class) {
+            Some(row) => !self.is_retired(row.loader()),
+            None => false,
+        }
+    }
+
+    /// Whether there was never such a loader, or it is retired.
+    pub(crate) fn lacks_loader(&self, loader: LoaderId) -> bool
+        ensures { result ≡ definitions.is_unknown self.now loader }
+    {
+        loader.number() as usize >= self.loaders.len() || self.is_retired(loader)
+    }
+
+    /// Whether the loader has defined the class.
+    pub fn is_of(&self, loader: LoaderId, class: ClassId) -> bool
+        ensures { result ≡ retirement.is_of self.now loader class }
+    {
+        match self.class_at(class) {
+            Some(row) => row.loader() == loader,
+            None => false,
+        }
+    }
+
+    /// Why the loader can't go, by the classes alone: a walk over the ancestors of all classes, and over all that loaders record. Takes
+    /// no memory.
+    pub fn retire_fault(&self, loader: LoaderId) -> Option<RetireFault>
+        ensures { result ≡ retirement.classes_fault self.now loader }
+    {
+        if self.lacks_loader(loader) {
+            return Some(RetireFault::UnknownLoader);
+        }
+        if loader.number() == 0 {
+            return Some(RetireFault::FirstLoader);
+        }
+        if let Some(class) = self.first_heir(loader) {
+            return Some(RetireFault::Inherited(class));
+        }
+        if let Some(other) = self.first_recorder(loader) {
+            return Some(RetireFault::Recorded(other));
+        }
+        None
+    }
+
+    /// The least present class of another loader that has an ancestor of this one.
+    fn first_heir(&self, loader: LoaderId) -> Option<ClassId>
+        ensures { result ≡ find (retirement.inherits_from self.now loader) (members.numbers self.now) }
+    {
+        let count = self.count_in_order();
+        let mut number = 0;
+        while number < count {
+            let class = ClassId::new(number as u32);
+            if self.inherits_from(loader, class) {
+                return Some(class);
+            }
+            number += 1;
+        }
+        None
+    }
+
+    /// Whether the class is a present one of another loader, and has an ancestor of this one.
+    fn inherits_from(&self, loader: LoaderId, class: ClassId) -> bool
+        requires { class < length self.now.rows }
+        ensures { result ≡ retirement.inherits_from self.now loader class }
+    {
+        self.is_present(class) && self.inherits_if_other(loader, class)
+    }
+
+    /// Whether the class is one of another loader, and has an ancestor of this one.
+    fn inherits_if_other(&self, loader: LoaderId, class: ClassId) -> bool
+        requires { class < length self.now.rows }
+        ensures { result ≡ (not (retirement.is_of self.now loader class) && list_any (retirement.is_of self.now loader) (ancestry.ancestors self.now.rows class)) }
+    {
+        !self.is_of(loader, class) && self.has_one_of(loader, self.ancestors(class))
+    }
+
+    /// Whether the loader has defined one of the classes.
+    fn has_one_of(&self, loader: LoaderId, classes: &[ClassId]) -> bool
+        ensures { result ≡ list_any (retirement.is_of self.now loader) classes.now }
+    {
+        classes.iter().any(|class| self.is_of(loader, *class))
+    }
+
+    /// The least other loader, a present one, that records a class of this one.
+    fn first_recorder(&self, loader: LoaderId) -> Option<LoaderId>
+        ensures { result ≡ find (retirement.records_from self.now loader) (range_with_len 0 (length self.now.loaders)) }
+    {
+        let count = self.loader_count();
+        let mut number = 0;
+        while number < count {
+            let other = LoaderId::new(number as u32);
+            if self.records_from(loader, other) {
+                return Some(other);
+            }
+            number += 1;
+        }
+        None
+    }
+
+    /// How many loaders there are, retired ones among them.
+    fn loader_count(&self) -> usize
+        ensures few { length self.now.loaders ≤ 1024 }
+        ensures count { result ≡ length self.now.loaders }
+    {
+        let _ = &self.rows;
+        self.loaders.len()
+    }
+
+    /// Whether the other loader is another one, a present one, and records a class of this one.
+    fn records_from(&self, loader: LoaderId, other: LoaderId) -> bool
+        ensures { result ≡ retirement.records_from self.now loader other }
+    {
+        other != loader && self.records_if_present(loader, other)
+    }
+
+    /// Whether the other loader is present, and records a class of this one.
+    fn records_if_present(&self, loader: LoaderId, other: LoaderId) -> bool
+        ensures { result ≡ (not (members.is_retired self.now other)
+            && option_map_or (list_any (λ r. retirement.is_of self.now loader r.1)) (slice_get self.now.loaders other) false) }
+    {
+        !self.is_retired(other) && self.records_any(loader, other)
+    }
+
+    /// Whether the other loader records a class of this one.
+    fn records_any(&self, loader: LoaderId, other: LoaderId) -> bool
+        ensures { result ≡ option_map_or (list_any (λ r. retirement.is_of self.now loader r.1)) (slice_get self.now.loaders other) false }
+    {
+        match self.loaders.get(other.number() as usize) {
+            Some(records) => records.has_one_of(&self.rows, loader),
+            None => false,
+        }
+    }
+
+    /// The classes that lose a receiver where the loader goes, by rising number. Want of memory is an error.
+    pub fn losing_receivers(
+        &self,
+        alloc: Global,
+        loader: LoaderId,
+    ) -> Result<Vec<ClassId>, AllocError>
+        ensures { IfOk result (λ losing. losing.items ≡ retirement.losing_receivers self.now loader) }
+    {
+        let count = self.count_in_order();
+        let mut losing = Vec::new(alloc);
+        let mut number = 0;
+        while number < count {
+            let class = ClassId::new(number as u32);
+            let loses = self.has_one_of(loader, self.receivers(class));
+            push_if(&mut losing, loses, class)?;
+            number += 1;
+        }
+        Ok(losing)
+    }
+
+    /// The loader goes, with all that it has defined and all that it finds, where nothing speaks against it: it finds nothing any
+    /// more, and its classes are no receivers. Their numbers aren't given again.
+    ///
+    /// # Errors
+    ///
+    /// Want of memory. Nothing has changed then.
+    pub fn retire(&mut self, alloc: Global, loader: LoaderId) -> Result<(), AllocError>
+        requires { retirement.classes_fault self.old loader ≡ None }
+        ensures ok { OnOk result (self.new ≡ retirement.retired self.old loader) }
+        ensures in_order { OnOk result (AreInOrder self.old) }
+        ensures err { OnErr result (self.new ≡ self.old) }
+    {
+        let bare = Loader::new(alloc)?;
+        mark_retired(&mut self.retired, loader)?;
+        empty_in(&mut self.loaders, loader, bare);
+        drop_all_receivers(&self.rows, &mut self.below, loader);
+        Ok(())
+    }
+}
+
+/// Adds the class, if so. Want of memory is an error.
+fn push_if(classes: &mut Vec<ClassId>, is_one: bool, class: ClassId) -> Result<(), AllocError>
+    ensures { OnOk result (classes.new.items ≡ classes.old.items ++ (if is_one then class ∷ [] else [])) }
+{
+    if is_one {
+        classes.push(class)?;
+    }
+    Ok(())
+}
+
+/// The loader, which isn't among them, is behind the retired ones.
+///
+/// # Errors
+///
+/// Want of memory. Nothing has changed then.
+fn mark_retired(retired: &mut IndexSet<LoaderId>, loader: LoaderId) -> Result<(), AllocError>
+    requires { list_any (λ k. k == loader) retired.old.keys ≡ false }
+    ensures ok { OnOk result (retired.new.keys ≡ retired.old.keys ++ loader ∷ []) }
+    ensures err { OnErr result (retired.new.keys ≡ retired.old.keys) }
+{
+    retired.insert(loader)?;
+    Ok(())
+}
+
+/// The loader finds nothing any more.
+fn empty_in(loaders: &mut Vec<Loader>, loader: LoaderId, bare: Loader)
+    requires there { loader < length loaders.old.items }
+    requires bare { bare ≡ [] }
+    ensures { loaders.new.items ≡ slice_set loaders.old.items loader [] }
+{
+    empty(loaders.as_mut_slice(), loader, bare);
+}
+
+/// Takes the classes of the loader out of all lists of receivers.
+fn drop_all_receivers(rows: &Paged<Row>, below: &mut Vec<Receivers>, loader: LoaderId)
+    ensures { lists below.new.items ≡ map (filter (λ x. not (is_row_of rows.now.items loader x))) (lists below.old.items) }
+{
+    drop_receivers(rows, below.as_mut_slice(), loader);
+}
+
+/// The same in a slice.
+fn empty(loaders: &mut [Loader], loader: LoaderId, bare: Loader)
+    requires there { loader < length loaders.old }
+    requires bare { bare ≡ [] }
+    ensures { loaders.new ≡ slice_set loaders.old loader [] }
+{
+    loaders[loader.number() as usize] = bare;
+}
+
+/// The same in a slice.
+fn drop_receivers(rows: &Paged<Row>, below: &mut [Receivers], loader: LoaderId)
+    ensures { lists below.new ≡ map (filter (λ x. not (is_row_of rows.now.items loader x))) (lists below.old) }
+{
+    for place in 0..below.len() {
+        drop_from(rows, &mut below[place], loader);
+    }
+}
+
+/// Takes the classes of the loader out of the list.
+fn drop_from(rows: &Paged<Row>, receivers: &mut Receivers, loader: LoaderId)
+    ensures { receivers.new.items ≡ filter (λ x. not (is_row_of rows.now.items loader x)) receivers.old.items }
+{
+    receivers.retain(|class| !is_row_of(rows, loader, *class));
+}
+
+/// Whether the loader has defined the class.
+pub(crate) fn is_row_of(rows: &Paged<Row>, loader: LoaderId, class: ClassId) -> bool
+    ensures { result ≡ is_row_of rows.now.items loader class }
+{
+    match rows.get(class.number() as usize) {
+        Some(row) => row.class().loader() == loader,
+        None => false,
+    }
+}
