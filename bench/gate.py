@@ -21,10 +21,22 @@ import subprocess
 import sys
 import threading
 import time
+from concurrent.futures import ThreadPoolExecutor
 
-task = threading.local()
-taken = collections.Counter()
+plain_submit = ThreadPoolExecutor.submit
 KINDS = {"proof": "proofs", "tests": "tests", "seed": "wrong bodies", "edits": "wrong bodies", "sound": "wrong bodies", "again": "wrong bodies"}
+
+
+class Task:
+    """A task of the gate, and the seconds of processor that it took so far."""
+
+    def __init__(self, name, kind):
+        self.name, self.kind, self.seconds = name, kind, 0
+
+
+RUNS = Task("", "runs")
+here = threading.local()
+tasks = [RUNS]
 
 
 def try_wait(self, flags):
@@ -34,21 +46,31 @@ def try_wait(self, flags):
     except ChildProcessError:
         return self.pid, 0
     if pid == self.pid:
-        taken[getattr(task, "key", ("", "runs"))] += used.ru_utime + used.ru_stime
-        task.seconds = getattr(task, "seconds", 0) + used.ru_utime + used.ru_stime
+        getattr(here, "task", RUNS).seconds += used.ru_utime + used.ru_stime
     return pid, status
+
+
+def submit(self, call, /, *given, **named):
+    """As an executor has it, but that the thread works for the same task."""
+    task = getattr(here, "task", RUNS)
+
+    def run(*given, **named):
+        here.task = task
+        return call(*given, **named)
+
+    return plain_submit(self, run, *given, **named)
 
 
 def measured(in_lanes):
     def call_of(key, call):
         def run(given, jobs):
-            task.key, task.seconds = (key[0], KINDS[key[1]]), 0
+            here.task = Task(key[0], KINDS[key[1]])
+            tasks.append(here.task)
             try:
                 return call(given, jobs)
             finally:
-                if task.seconds >= 1:
-                    print(f"gate: {key[0]} {' '.join(map(str, key[1:]))}: {task.seconds:.1f} s", flush=True)
-                del task.key
+                if here.task.seconds >= 1:
+                    print(f"gate: {here.task.seconds:7.1f} s  {key[0]} {' '.join(map(str, key[1:]))}", flush=True)
 
         return run
 
@@ -63,20 +85,22 @@ def main(words):
     sys.modules["rt"] = rt
     loader.exec_module(rt)
     subprocess.Popen._try_wait = try_wait
+    ThreadPoolExecutor.submit = submit
     rt.in_lanes = measured(rt.in_lanes)
     begun = time.monotonic()
     status = rt.main(["ci", *words])
     clock = time.monotonic() - begun
-    sums = collections.Counter()
-    for (crate, kind), seconds in taken.items():
-        sums[kind] += seconds
     own = resource.getrusage(resource.RUSAGE_SELF)
-    sums["runs"] += own.ru_utime + own.ru_stime
-    for (crate, kind), seconds in sorted(taken.items(), key=lambda it: -it[1]):
-        if crate and seconds >= 1:
-            print(f"gate: {seconds:7.1f} s  {kind}  {crate}")
-    told = ", ".join(f"{kind} {sums[kind] / 60:.1f}" for kind in ("proofs", "tests", "wrong bodies", "runs"))
-    print(f"gate: processor minutes: {told}, all {sum(sums.values()) / 60:.1f}; by the clock {clock / 60:.1f} minutes")
+    RUNS.seconds += own.ru_utime + own.ru_stime
+    sums, kinds = collections.Counter(), collections.Counter()
+    for task in tasks:
+        sums[task.name, task.kind] += task.seconds
+        kinds[task.kind] += task.seconds
+    for (name, kind), seconds in sums.most_common():
+        if name and seconds >= 1:
+            print(f"gate: {seconds:7.1f} s  {kind} of {name}")
+    told = ", ".join(f"{kind} {kinds[kind] / 60:.1f}" for kind in ("proofs", "tests", "wrong bodies", "runs"))
+    print(f"gate: processor minutes: {told}, all {sum(kinds.values()) / 60:.1f}; by the clock {clock / 60:.1f} minutes")
     return status
 
 
