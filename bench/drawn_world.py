@@ -1,4 +1,4 @@
-"""The plain model of `linkd run` with which bench/drawn.py compares a program: what each line is answered, by the rules alone."""
+"""The plain model of `linkd run` with which bench/drawn.py compares a program: what each line is answered, by the documented rules."""
 import functools
 import json
 
