@@ -9,7 +9,7 @@ import java.util.List;
 import java.util.Map;
 
 /**
- * Class files of a hierarchy, for the program hierarchy_bench, and what a JVM takes for the same.
+ * Class files of a hierarchy, for the program crates/bench, and what a JVM takes for the same.
  *
  * <p>{@code Hierarchy lines SHAPE COUNT} writes java/lang/Object and the classes as lines of hexadecimal. {@code
  * Hierarchy jvm SHAPE COUNT} has a loader of its own define them, 3,000 at a time, and then asks of each class 32 times

@@ -331,7 +331,7 @@ final class Linking {
         writePlaces();
     }
 
-    /** The requested places for {@code link_bench}, a line each. */
+    /** The requested places for {@code bench link}, a line each. */
     private void writePlaces() throws IOException {
         List<String> lines = new ArrayList<>();
         for (Place place : sites) {

@@ -10,7 +10,7 @@ import java.util.Random;
 import java.util.Set;
 
 /**
- * Made-up classes, some of which declare methods of their superclasses again, for the program link_bench: {@code Redeclaring SHAPE
+ * Made-up classes, some of which declare methods of their superclasses again, for the program crates/bench: {@code Redeclaring SHAPE
  * COUNT} writes java/lang/Object, the classes, and Caller, which calls {@code Class0.f} by an invokevirtual, as lines of
  * hexadecimal, and the place of that call. The shapes are
  *

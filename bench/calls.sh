@@ -5,11 +5,11 @@
 #     bench/calls.sh [CALLS]     calls of each thread (4,000,000, if unset)
 #
 # Of each it prints nanoseconds of wall time a call and thread, the least of five runs less a run of no calls; needs rustc and the
-# program crates/call_bench (`rt run` in its folder leaves it as out/call_bench).
+# program crates/bench (`rt run` in its folder leaves it as out/bench).
 set -eu
 top=$(cd "$(dirname "$0")/.." && pwd)
 calls=${1:-4000000}
-bench="$top/crates/call_bench/out/call_bench"
+bench="$top/crates/bench/out/bench"
 work=$(mktemp -d)
 trap 'rm -rf "$work"' EXIT
 rustc --edition 2021 -O -o "$work/tables" "$top/bench/Tables.rs"
@@ -33,10 +33,10 @@ each() {
 
 for threads in 1 2 4; do
     for writes in 0 1; do
-        none=$(least "$bench" 65536 "$threads" 0 0 "$writes")
-        some=$(least "$bench" 65536 "$threads" "$calls" 0 "$writes")
+        none=$(least "$bench" call 65536 "$threads" 0 0 "$writes")
+        some=$(least "$bench" call 65536 "$threads" "$calls" 0 "$writes")
         echo "$threads threads, call, $writes writing: $(each "$some" "$none" "$calls")"
-        some=$(least "$bench" 65536 "$threads" "$calls" 0 "$writes" 1)
+        some=$(least "$bench" call 65536 "$threads" "$calls" 0 "$writes" 1)
         echo "$threads threads, call_all, $writes writing: $(each "$some" "$none" "$calls")"
     done
     for table in atomic mutex-array mutex-map rwlock-map; do
@@ -46,7 +46,7 @@ for threads in 1 2 4; do
     done
 done
 for sites in 1024 65536; do
-    none=$(least "$bench" "$sites" 1 0 0 0)
-    some=$(least "$bench" "$sites" 1 0 20000 0)
+    none=$(least "$bench" call "$sites" 1 0 0 0)
+    some=$(least "$bench" call "$sites" 1 0 20000 0)
     echo "an event that changes one slot, $sites sites: $(each "$some" "$none" 20000)"
 done

@@ -5,6 +5,7 @@
     bench/drawn.py --script FILE    writes 2,000 lines to FILE and the model's answers to FILE.answers; it needs no program
 
     --events N, --seed S            so many lines; the number with which the generator begins, one more at each start
+    --after FILE                    what is drawn comes after the commands of this file
     --without invokers,retire       draws none of these, for a program that lacks them
 
 The model follows docs/FORMATS.md and JVMS SE 17 (5.3.5, 5.4.3 to 5.4.6, 6.5) and shares nothing with the crates: plain functions
@@ -14,6 +15,7 @@ line, its number and both answers are printed; or, where there are 20,000 lines 
 each limit none was answered in some way that the rules have and that lines can bring about. The model takes half a minute.
 """
 import argparse
+import json
 import subprocess
 import sys
 from collections import Counter
@@ -412,9 +414,10 @@ class Tally:
     def rows(self, world, lines):
         return [self.row(world, line) for line in lines]
 
-    def drawn_rows(self, seed, events, without):
+    def drawn_rows(self, seed, events, without, first=()):
         world = World()
-        return self.rows(world, Draws(seed, world, without).lines(events))
+        begun = [(line, text_of(world.answer(json.loads(line)))) for line in first]
+        return begun + self.rows(world, Draws(seed, world, without).lines(events))
 
     def tell(self, missing):
         print(f"{self.lines} lines, of which {self.changes} changed what is installed")
@@ -444,12 +447,13 @@ def write(path, rows):
 def main():
     parser = argparse.ArgumentParser(description=__doc__, formatter_class=argparse.RawDescriptionHelpFormatter)
     parser.add_argument("program", nargs="?")
-    for word, kind, default in (("script", str, None), ("events", int, 20000), ("seed", int, 1), ("without", str, "")):
+    for word, kind, default in (("script", str, None), ("after", str, None), ("events", int, 20000), ("seed", int, 1), ("without", str, "")):
         parser.add_argument("--" + word, type=kind, default=default)
     given = parser.parse_args()
     without, tally = given.without.split(","), Tally()
     if given.script:
-        return write(given.script, tally.drawn_rows(given.seed, min(given.events, START), without))
+        first = open(given.after).read().splitlines() if given.after else ()
+        return write(given.script, tally.drawn_rows(given.seed, min(given.events, START), without, first))
     if not given.program:
         parser.error("name the program, or a file for --script")
     for number in range(0, given.events, START):

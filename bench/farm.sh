@@ -1,7 +1,7 @@
 #!/usr/bin/env bash
 # Jobs a second of a farm by 1, 2 and 4 workers, of 1 and of 64 sites each.
 #
-#     bench/farm.sh LINKD FARM      the built linkd and crates/farm_bench
+#     bench/farm.sh LINKD BENCH      the built linkd and crates/bench
 #
 # The world is every class of the JDK (JAVA_HOME, else java of the PATH), or, where there is none or JDK=0, 26,000 small classes. 65,536 of
 # its invocations, spread evenly, are requested, if they may be. Each number is the most of RUNS (3) runs, by the wall clock of the farm
@@ -10,7 +10,7 @@
 set -eu
 here=$(cd "$(dirname "$0")" && pwd)
 linkd=$(realpath "${1:?the built linkd}")
-farm=$(realpath "${2:?the built farm_bench}")
+bench=$(realpath "${2:?the built crates/bench}")
 scratch=$(mktemp -d)
 trap 'rm -rf "$scratch"' EXIT
 data=${KEEP:-$scratch}
@@ -72,7 +72,7 @@ for sites in 1 64; do
     for workers in 1 2 4; do
         most=0
         for _ in $(seq "${RUNS:-3}"); do
-            "$farm" "$workers" "$sites" < "$data/input.txt" > "$data/said.txt" 2> "$data/times.txt"
+            "$bench" farm "$workers" "$sites" < "$data/input.txt" > "$data/said.txt" 2> "$data/times.txt"
             rate=$(rate_of "")
             if [ "$rate" -gt "$most" ]; then most=$rate; fi
         done
@@ -81,7 +81,7 @@ for sites in 1 64; do
     most=0
     for _ in $(seq "${RUNS:-3}"); do
         for one in 1 2 3 4; do
-            "$farm" 1 "$sites" < "$data/input.txt" > "$data/said$one.txt" 2> "$data/times$one.txt" &
+            "$bench" farm 1 "$sites" < "$data/input.txt" > "$data/said$one.txt" 2> "$data/times$one.txt" &
         done
         wait
         rate=$(($(rate_of 1) + $(rate_of 2) + $(rate_of 3) + $(rate_of 4)))

@@ -5,7 +5,7 @@
 #     bench/jdk.sh --speed       only how fast ASM reads the same files
 #     bench/jdk.sh --reader PROGRAM
 #                                only read_class beside ASM, in turn, and what read class files take; PROGRAM is the built
-#                                read_bench. TURNS (7) is how often each is run. It needs GNU time.
+#                                crates/bench. TURNS (7) is how often each is run. It needs GNU time.
 #
 # JAVA_HOME chooses the JDK (else java of the PATH). RUNS (3) is how often the scan is timed. JAVAP=n has javap read
 # each n-th class, as a third opinion. SPEED=0 leaves out ASM's speed. AS=61 writes that version into each file, for a
@@ -29,9 +29,9 @@ middle() {
     sort -n "$1" | awk '{ t[NR] = $1 } END { print t[int((NR + 1) / 2)] }'
 }
 
-# The most memory of a run of read_bench that keeps the class files of these lines, in KB.
+# The most memory of a run that keeps the class files of these lines, in KB.
 kept() {
-    env time -f %M -o "$work/most" "$program" keep < "$1" > "$work/kept"
+    env time -f %M -o "$work/most" "$program" read keep < "$1" > "$work/kept"
     cat "$work/most"
 }
 
@@ -49,7 +49,7 @@ reader() {
     : > "$work/ours"
     : > "$work/theirs"
     for turn in $(seq "${TURNS:-7}"); do
-        "$program" < "$data/classes.hex" 2> "$work/passes" > "$work/totals"
+        "$program" read < "$data/classes.hex" 2> "$work/passes" > "$work/totals"
         middle "$work/passes" >> "$work/ours"
         run_java AsmSpeed 6 10 | awk -v b="$bytes" '/pass 10/ { for (i = 1; i <= NF; i++) if ($i == "MB") print b / 1e3 / $(i - 1) }' >> "$work/theirs"
         echo "turn $turn: read_class $(tail -n 1 "$work/ours") ms, ASM $(tail -n 1 "$work/theirs") ms"

@@ -1,9 +1,9 @@
 #!/usr/bin/env bash
 # Has `linkd run` define every class of the JDK and link 65,536 invocations, times it, and looks at what it answers.
 #
-#     bench/links.sh PROGRAM [LINK_BENCH]      PROGRAM is the built linkd, LINK_BENCH the built link_bench
+#     bench/links.sh PROGRAM [BENCH]      PROGRAM is the built linkd, BENCH the built crates/bench
 #
-# LINK_BENCH defines the same classes, requests the same places, looks up all links from scratch and installs them, without JSON.
+# BENCH defines the same classes, requests the same places, looks up all links from scratch and installs them, without JSON.
 # JAVA_HOME chooses the JDK (else java of the PATH). RUNS (3) is how often the definitions are timed. SPEED=0 leaves out
 # ASM's speed and the JVM's. AS=61 writes that version into each file, for a JDK whose class files are newer than the
 # reader takes. KEEP=DIR keeps the lines, commands and answers there, and sites.txt, a line for each requested site.
@@ -12,7 +12,7 @@ here=$(cd "$(dirname "$0")" && pwd)
 . "$here/common.sh"
 
 if [ $# != 1 ] && [ $# != 2 ]; then usage; fi
-link_bench=${2:-}
+bench=${2:-}
 take_program "$1"
 data=${KEEP:-$work}
 mkdir -p "$data"
@@ -64,10 +64,10 @@ echo "== linkd run, all of it"
 status=0
 run_java Links run "$program" "$data" || status=1
 
-if [ -n "$link_bench" ] && [ $status = 0 ]; then
+if [ -n "$bench" ] && [ $status = 0 ]; then
     echo "== the same links without JSON, times in microseconds"
     cat "$data/ordered.hex" "$data/places.txt" > "$data/input.txt"
-    for _ in $(seq "${RUNS:-3}"); do "$link_bench" < "$data/input.txt"; done
+    for _ in $(seq "${RUNS:-3}"); do "$bench" link < "$data/input.txt"; done
 fi
 
 if [ "${SPEED:-1}" = 1 ]; then

@@ -1,7 +1,7 @@
 #!/usr/bin/env bash
 # Times made-up classes that declare methods of their superclasses again, and the link of a call of the first one's method.
 #
-#     bench/redeclared.sh LINK_BENCH [OTHER]      LINK_BENCH is the built link_bench, OTHER another build of it
+#     bench/redeclared.sh BENCH [OTHER]      BENCH is the built crates/bench, OTHER another build of it
 #
 # JAVA_HOME chooses the JDK (else java of the PATH). Prints the definitions' microseconds and the least of four rounds of links.
 set -eu
@@ -14,7 +14,7 @@ for one in "$@"; do
     for shape in 'chain 1000' 'chain 2000' 'chain 4000' 'beside 1000' 'beside 2000' 'beside 4000' 'own 2000' 'own 4000' \
         'apart 1000' 'apart 2000' 'pair 15000' 'pair 30000' 'prints 15000' 'prints 30000'; do
         run_java Redeclaring $shape > "$work/lines"
-        "$program" < "$work/lines" > "$work/out" 2> "$work/times"
+        "$program" link < "$work/lines" > "$work/out" 2> "$work/times"
         awk -v shape="$shape" '
             /definitions/ { defining = $4 }
             /^links/ { if (!linking || $6 < linking) linking = $6 }

@@ -4,16 +4,16 @@
 #     bench/wide.sh [ROUNDS]     rounds of each (20, if unset); the least time of a round counts
 #
 # Of each world it prints how the receivers stand to each other, the sites, the receivers of each, and the nanoseconds of `prepare` and of
-# `prepare_wide`. It needs the program crates/wide_bench (`rt run` in its folder leaves it as out/wide_bench).
+# `prepare_wide`. It needs the program crates/bench (`rt run` in its folder leaves it as out/bench).
 set -eu
 top=$(cd "$(dirname "$0")/.." && pwd)
 rounds=${1:-20}
-bench="$top/crates/wide_bench/out/wide_bench"
+bench="$top/crates/bench/out/bench"
 
 # the name of a shape, its number, the sites and the receivers
 world() {
     printf '%s, %s sites, %s receivers: ' "$1" "$3" "$4"
-    "$bench" "$2" "$3" "$4" "$rounds"
+    "$bench" wide "$2" "$3" "$4" "$rounds"
 }
 
 world 'subclasses without a method, and one beside them with one' 4 256 64

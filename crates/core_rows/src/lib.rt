@@ -6,17 +6,11 @@ mod caches;
 #[cfg(test)]
 mod cores;
 #[cfg(test)]
-mod draws;
-#[cfg(test)]
 mod events;
 #[cfg(test)]
 mod logs;
 #[cfg(test)]
-mod plain;
-#[cfg(test)]
 mod plans;
-#[cfg(test)]
-mod script;
 #[cfg(test)]
 mod snapshots;
 #[cfg(test)]

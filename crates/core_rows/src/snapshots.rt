@@ -1,12 +1,14 @@
 //! Snapshots that are kept while events come.
 
 use crate::events::{A, M, OBJECT, assert_defined, first, install, is_accepted, request};
-use crate::plain::SITES;
 use jl_core::Core;
 use jl_relink::{Snapshot, World, link_of};
 use jl_types::{Link, Outcome, SiteNo};
 use std::alloc::AllocError;
 use std::process::Abort;
+
+/// How many sites there may be.
+const SITES: u32 = 64;
 
 /// Whether each site has the same link from scratch in both worlds.
 fn have_same_links(one: &World, other: &World) -> bool {
@@ -20,7 +22,7 @@ fn have_same_links(one: &World, other: &World) -> bool {
 }
 
 /// Whether as much is seen in both worlds: as many classes, places and switch points, and the same links.
-pub(crate) fn are_same(one: &World, other: &World) -> bool {
+fn are_same(one: &World, other: &World) -> bool {
     one.classes.class_count() == other.classes.class_count()
         && one.site_count() == other.site_count()
         && one.sites.switch_count() == other.sites.switch_count()

@@ -49,8 +49,6 @@ pub(crate) enum Step {
     Loader,
     /// The loader defines the class.
     Define(u32, &'static ClassRow),
-    /// The loader finds the other one's class of this name.
-    Delegate(u32, &'static str, u32),
     /// The request of a place in the first method of the class.
     Request(u32, u32),
     /// A new call site of this type.
@@ -63,8 +61,6 @@ pub(crate) enum Step {
     Invalidate(u32, u32),
     /// The site is bound to the call site.
     Bind(u32, u32),
-    /// The loader is retired.
-    Retire(u32),
 }
 
 /// What is read of the row's class file.
@@ -162,18 +158,11 @@ fn invalidation(alloc: Global, first: u32, second: u32) -> Result<Event, AllocEr
     Ok(Event::Invalidate(Seq::of(points)))
 }
 
-/// The delegation of the name to the other loader.
-fn delegation(alloc: Global, loader: u32, name: &str, to: u32) -> Result<Event, AllocError> {
-    let name = named(alloc, name)?;
-    Ok(Event::Delegate(LoaderId::new(loader), name, LoaderId::new(to)))
-}
-
 /// The step's event.
 pub(crate) fn event(alloc: Global, step: &Step) -> Result<Event, AllocError> {
     match step {
         Step::Loader => Ok(Event::NewLoader),
         Step::Define(loader, row) => definition(alloc, *loader, row),
-        Step::Delegate(loader, name, to) => delegation(alloc, *loader, name, *to),
         Step::Request(class, pc) => Ok(Event::Request(Place {
             class: ClassId::new(*class),
             method: 0,
@@ -186,7 +175,6 @@ pub(crate) fn event(alloc: Global, step: &Step) -> Result<Event, AllocError> {
         Step::Bind(site, call_site) => {
             Ok(Event::Bind(SiteNo::new(*site), CallSiteId::new(*call_site)))
         }
-        Step::Retire(loader) => Ok(Event::Retire(LoaderId::new(*loader))),
     }
 }
 

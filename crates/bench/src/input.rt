@@ -1,0 +1,55 @@
+//! Class files, a line of hexadecimal each, and places, a line of class, method and pc each.
+
+use jl_types::{ClassId, Place};
+use std::alloc::{AllocError, Global};
+use std::io::{self, BufRead, BufReader};
+
+/// The class files and the places, in order. A line that is neither is left out.
+#[derive(Drop)]
+pub(crate) struct Input {
+    pub(crate) files: Vec<Vec<u8>>,
+    pub(crate) places: Vec<Place>,
+}
+
+impl Input {
+    /// All lines of the standard input.
+    pub(crate) fn read(rt: &HostRuntime) -> io::Result<Self> {
+        let alloc = rt.alloc();
+        let mut input = Input {
+            files: Vec::new(alloc),
+            places: Vec::new(alloc),
+        };
+        for line in BufReader::new(alloc, rt.reader())?.lines(alloc) {
+            input.add_line(alloc, line?.as_str())?;
+        }
+        Ok(input)
+    }
+
+    /// Adds what the line is. Want of memory is an error.
+    fn add_line(&mut self, alloc: Global, line: &str) -> Result<(), AllocError> {
+        if let Some(place) = place(line) {
+            self.places.push(place)?;
+        } else if let Ok(bytes) = hex::decode(alloc, line) {
+            self.files.push(bytes)?;
+        }
+        Ok(())
+    }
+}
+
+/// The number that the word is, if it is one.
+fn number(word: Option<&str>) -> Option<u32> {
+    word?.parse::<u32>().ok()
+}
+
+/// The place of a line.
+fn place(line: &str) -> Option<Place> {
+    let mut words = line.split(' ');
+    let class = number(words.next())?;
+    let method = number(words.next())?;
+    let pc = number(words.next())?;
+    Some(Place {
+        class: ClassId::new(class),
+        method: u16::try_from(method).ok()?,
+        pc,
+    })
+}

@@ -1,9 +1,0 @@
-use mir.Syntax.{named}
-use denote.Param.{param}
-use Rattle.call_bench.proofs.Crossing.{common_sync}
-use Rattle.call_bench.proofs.all.Goals as goal
-
-pub at_once-requires-sync-T : goal.at_once-requires-sync-T
-at_once-requires-sync-T g c κs = λ _. record {
-  shared = (common_sync (record { mir = named 0; lft = _ }) (param 0 g.row.K) (param 1 g.row.R) (param 2 g.row.S) g.K.Name c.type_bounds.sync-R c.type_bounds.send-S).shared;
-}

@@ -1,6 +1,0 @@
-use Rattle.std.proofs.Common.{◌≡◌, length}
-use Rattle.call_bench.proofs.calls_together.Given as goal
-
--- there is a place for each answer
-abbrev pub invariant-loop : goal.invariant-loop
-invariant-loop g l = length l.rows ≡ length l.found
