@@ -3,7 +3,7 @@
 ghost use Rattle.std.specs.Prelude.{◌≡◌};
 
 use crate::servers::{A, OBJECT, definition, method, object_of, request, runs};
-use crate::storm::{Worker, applied, employ};
+use crate::workers::{Worker, applied, employ};
 use jl_classfile::ClassFile;
 use jl_names::Seq;
 use jl_relink::{Prepared, Snapshot, dispatch, prepare};

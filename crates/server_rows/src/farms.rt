@@ -132,14 +132,19 @@ const READY: &[Job] = &[
     (&[2], Kind::Installed),
 ];
 
+/// The sites of these numbers.
+pub(crate) fn numbered(alloc: Global, numbers: &[u32]) -> Result<Vec<SiteNo>, AllocError> {
+    let mut sites = Vec::new(alloc);
+    for number in numbers {
+        sites.push(SiteNo::new(*number))?;
+    }
+    Ok(sites)
+}
+
 fn jobs_of(alloc: Global, rows: &[Job]) -> Result<Vec<Seq<SiteNo>>, AllocError> {
     let mut jobs = Vec::new(alloc);
     for (numbers, _kind) in rows {
-        let mut sites = Vec::new(alloc);
-        for number in *numbers {
-            sites.push(SiteNo::new(*number))?;
-        }
-        jobs.push(Seq::of(sites))?;
+        jobs.push(Seq::of(numbered(alloc, numbers)?))?;
     }
     Ok(jobs)
 }

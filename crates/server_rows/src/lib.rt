@@ -19,4 +19,4 @@ mod servers;
 #[cfg(test)]
 mod stale;
 #[cfg(test)]
-mod storm;
+mod workers;

@@ -1,17 +1,21 @@
-//! A storm of retargets that is replayed: what four threads did at once is done once more by one core, in the order of the serials.
+//! A storm of retargets that is replayed: what four threads did at once, and then a farm while one thread retargets, is done once more by
+//! one core, in the order of the serials.
 
 ghost use Rattle.std.specs.Prelude.{◌≡◌};
 
 use crate::deeds::{Deed, SET_UP, event_of, rows, turned};
+use crate::farms::{numbered, reports_of};
+use crate::stale::{JOBS, are_installed_or_stale};
 use jl_core::Core;
+use jl_farm::{Gate, JobOutcome, Report};
 use jl_relink::{Prepared, prepare};
 use jl_server::{Caller, Denied, LinkServer, Name, Parts, Receipt};
-use jl_types::{Link, Refusal, Reply, SiteNo};
+use jl_types::{Event, Link, Refusal, Reply, SiteNo};
 use rounds::{Round, at_once};
 use std::alloc::{AllocError, Global};
 use std::marker::Brand;
-use std::sync::Wait;
 use std::sync::atomic::{AtomicU64, Ordering};
+use std::sync::{Mutex, Wait};
 use std::thread;
 use std::thread::Threads;
 
@@ -27,11 +31,22 @@ const ROUNDS: u32 = 1000;
 /// So often all threads meet, and those that install do so once while the others wait.
 const STRETCH: u32 = 100;
 
+/// The threads of the storm, one that retargets while the farm runs, and the workers of the farm.
+const CALLERS: usize = 8;
+
+/// What was done.
+#[derive(Clone, Copy)]
+enum Done {
+    Deed(Deed),
+    /// The install of the job at this place, by the farm.
+    Job(usize),
+}
+
 /// An event that was accepted, and what it was answered.
 #[derive(Drop)]
 struct Told {
     serial: u64,
-    deed: Deed,
+    done: Done,
     reply: Reply,
 }
 
@@ -68,7 +83,7 @@ impl<K: Name> Teller<K> {
         let later = self.last() < serial;
         let told = Told {
             serial,
-            deed: *deed,
+            done: Done::Deed(*deed),
             reply,
         };
         let kept = self.told.push(told).is_ok();
@@ -298,9 +313,27 @@ fn is_reply(answer: &Result<Reply, Refusal>, reply: &Reply) -> bool {
     }
 }
 
+/// The install of the job's sites with the links that the core prepares.
+fn install_of(alloc: Global, core: &Core, job: usize) -> Option<Event> {
+    let (numbers, _kind) = JOBS.get(job)?;
+    let sites = numbered(alloc, numbers).ok()?;
+    match core.prepare(alloc, sites.as_slice()) {
+        Ok(Prepared { serial: _, rows }) => Some(Event::Install(rows)),
+        Err(_) => None,
+    }
+}
+
+/// The event, made again.
+fn event_again(alloc: Global, core: &Core, done: &Done) -> Option<Event> {
+    match done {
+        Done::Deed(deed) => event_of(alloc, deed),
+        Done::Job(job) => install_of(alloc, core, *job),
+    }
+}
+
 /// Whether the core accepts the event, and answers it as it was answered.
 fn is_again(alloc: Global, core: &mut Core, told: &Told) -> bool {
-    match event_of(alloc, &told.deed) {
+    match event_again(alloc, core, &told.done) {
         Some(event) => is_reply(&core.apply(alloc, event), &told.reply),
         None => false,
     }
@@ -342,14 +375,14 @@ struct Tally {
 
 impl Tally {
     fn add(&mut self, told: &Told) {
-        match told.deed {
-            Deed::Retarget(..) => {
+        match told.done {
+            Done::Deed(Deed::Retarget(..)) => {
                 self.retargets = self.retargets.saturating_add(1);
                 if !told.reply.dropped.as_slice().is_empty() {
                     self.losses = self.losses.saturating_add(1);
                 }
             }
-            Deed::Install(_) => self.installs = self.installs.saturating_add(1),
+            Done::Deed(Deed::Install(_)) => self.installs = self.installs.saturating_add(1),
             _ => {}
         }
     }
@@ -392,6 +425,110 @@ fn is_replayed<K: Name, R: Wait, S: Wait + Drop>(
     has_links(rt, alloc, server, caller, serial, links.as_slice()) && same
 }
 
+/// A gate that retargets one call site after another by the thread of the first job, until all others are done.
+#[derive(Drop)]
+struct Meanwhile<'a, K: Name, R: Wait, S: Wait + Drop> {
+    rt: &'a R,
+    alloc: Global,
+    server: &'a LinkServer<K, S>,
+    teller: Mutex<Teller<K>>,
+    /// How many jobs have come to their outcome.
+    ended: AtomicU64,
+}
+
+impl<'a, K: Name, R: Wait, S: Wait + Drop> Meanwhile<'a, K, R, S> {
+    /// Retargets the call site of this round.
+    fn retarget(&self, round: u32) {
+        let mut teller = self.teller.lock(self.rt);
+        tell(
+            self.rt,
+            self.alloc,
+            self.server,
+            &mut teller,
+            &turned(round),
+        );
+    }
+
+    /// Whether all jobs but the first one are done.
+    fn are_others_done(&self) -> bool {
+        self.ended.load(Ordering::SeqCst).saturating_add(1) >= JOBS.len() as u64
+    }
+}
+
+impl<'a, K: Name, R: Wait, S: Wait + Drop> Gate for Meanwhile<'a, K, R, S> {
+    fn before_prepare(&self, job: usize) {
+        if job > 0 {
+            return;
+        }
+        let mut round = 0u32;
+        for _ in self.rt.forever() {
+            self.retarget(round);
+            if self.are_others_done() {
+                break;
+            }
+            round = round.wrapping_add(1);
+        }
+    }
+
+    fn after_install(&self, _job: usize) {
+        self.ended.fetch_add(1, Ordering::SeqCst);
+    }
+}
+
+/// Keeps the event by which the job was installed, if it was.
+fn keep_job<K: Name>(all: &mut Vec<Told>, report: Report<K>) -> Result<(), AllocError> {
+    let Report { job, outcome } = report;
+    if let JobOutcome::Installed(receipt) = outcome {
+        let Receipt {
+            serial,
+            reply,
+            seen: _seen,
+        } = receipt;
+        all.push(Told {
+            serial,
+            done: Done::Job(job),
+            reply,
+        })?;
+    }
+    Ok(())
+}
+
+/// Keeps the events of all reports.
+fn keep_jobs<K: Name>(all: &mut Vec<Told>, reports: Vec<Report<K>>) -> Result<(), AllocError> {
+    for report in reports {
+        keep_job(all, report)?;
+    }
+    Ok(())
+}
+
+/// Runs the farm's jobs while one thread retargets, and keeps all events. Whether each job was installed or is stale, and no retarget was
+/// refused.
+fn farmed<K: Name + Send + Sync, R: Threads + Wait + Sync, S: Wait + Drop + Send + Sync>(
+    rt: &R,
+    alloc: Global,
+    server: &LinkServer<K, S>,
+    first: &Caller<K>,
+    teller: Teller<K>,
+    workers: Vec<Caller<K>>,
+    all: &mut Vec<Told>,
+) -> Result<bool, AllocError> {
+    let gate = Meanwhile {
+        rt,
+        alloc,
+        server,
+        teller: Mutex::new(teller),
+        ended: AtomicU64::new(0),
+    };
+    let Ok(reports) = reports_of(rt, alloc, server, first, workers, &gate, JOBS) else {
+        return Ok(false);
+    };
+    let so = are_installed_or_stale(reports.as_slice());
+    keep_jobs(all, reports)?;
+    let mut teller = gate.teller.lock(rt);
+    all.append(&mut teller.told)?;
+    Ok(so && teller.wrong == 0)
+}
+
 /// The storm, of which all is kept by rising serial. There is nothing where something went wrong.
 fn told_by_all<K: Name + Send + Sync, R: Threads + Wait + Sync, S: Wait + Drop + Send + Sync>(
     rt: &R,
@@ -411,22 +548,52 @@ fn told_by_all<K: Name + Send + Sync, R: Threads + Wait + Sync, S: Wait + Drop +
     }
 }
 
+/// The storm, then the farm, and then all of it once more by one core.
 fn is_so<K: Name + Send + Sync, R: Threads + Wait + Sync, S: Wait + Drop + Send + Sync>(
     rt: &R,
     alloc: Global,
     server: &LinkServer<K, S>,
     tellers: &mut [Teller<K>],
+    teller: Teller<K>,
+    workers: Vec<Caller<K>>,
 ) -> bool {
-    let Some(all) = told_by_all(rt, alloc, server, tellers) else {
+    let Some(mut all) = told_by_all(rt, alloc, server, tellers) else {
         return false;
     };
-    match tellers.first_mut() {
-        Some(first) => {
-            Tally::of(all.as_slice()).is_enough()
-                && is_replayed(rt, alloc, server, &mut first.caller, all.as_slice())
+    let Some(first) = tellers.first_mut() else {
+        return false;
+    };
+    let is_enough = Tally::of(all.as_slice()).is_enough();
+    let Ok(is_farmed) = farmed(rt, alloc, server, &first.caller, teller, workers, &mut all) else {
+        return false;
+    };
+    all.sort_unstable_by_key(|told| told.serial);
+    is_enough && is_farmed && is_replayed(rt, alloc, server, &mut first.caller, all.as_slice())
+}
+
+/// So many of the callers, or all that there are.
+fn taken<K: Name>(
+    alloc: Global,
+    callers: &mut Vec<Caller<K>>,
+    count: usize,
+) -> Result<Vec<Caller<K>>, AllocError> {
+    let mut taken = Vec::new(alloc);
+    for _ in 0..count {
+        if let Some(caller) = callers.pop() {
+            taken.push(caller)?;
         }
-        None => false,
     }
+    Ok(taken)
+}
+
+/// The tellers of the storm, the one that retargets while the farm runs, and the workers.
+fn parted<K: Name>(
+    alloc: Global,
+    mut callers: Vec<Caller<K>>,
+) -> Result<(Vec<Teller<K>>, Vec<Teller<K>>, Vec<Caller<K>>), AllocError> {
+    let first = taken(alloc, &mut callers, THREADS as usize)?;
+    let second = taken(alloc, &mut callers, 1)?;
+    Ok((employ(alloc, first)?, employ(alloc, second)?, callers))
 }
 
 fn storm<K: Name + Send + Sync, R: Threads + Wait + Sync>(
@@ -440,14 +607,17 @@ fn storm<K: Name + Send + Sync, R: Threads + Wait + Sync>(
     let Ok((server, callers)) = parts.start::<K, &R>(alloc, rt) else {
         return false;
     };
-    let Ok(mut tellers) = employ(alloc, callers) else {
+    let Ok((mut tellers, mut others, workers)) = parted(alloc, callers) else {
         return false;
     };
-    is_so(rt, alloc, &server, tellers.as_mut_slice())
+    match others.pop() {
+        Some(teller) => is_so(rt, alloc, &server, tellers.as_mut_slice(), teller, workers),
+        None => false,
+    }
 }
 
 fn is_over<R: Threads + Wait + Sync>(rt: &R, alloc: Global) -> bool {
-    match Parts::new(alloc, MOST_SITES, 4) {
+    match Parts::new(alloc, MOST_SITES, CALLERS) {
         Ok(parts) => storm::<Brand, R>(rt, alloc, parts),
         Err(_) => false,
     }

@@ -179,11 +179,15 @@ fn snapshots<K: Name, R: Wait, S: Wait + Drop>(
     first: &mut Caller<K>,
     second: &mut Caller<K>,
 ) -> bool {
-    is_snapshot(rt, alloc, server, second, 0)
+    let begun = is_snapshot(rt, alloc, server, second, 0)
         && is_defined(rt, alloc, server, first, OBJECT)
-        && is_defined(rt, alloc, server, first, A)
-        && is_snapshot(rt, alloc, server, first, 2)
+        && is_defined(rt, alloc, server, first, A);
+    second.learn(first.seen());
+    begun
+        && second.seen().serial() == 2
         && is_snapshot(rt, alloc, server, second, 2)
+        && is_defined(rt, alloc, server, first, C)
+        && is_snapshot(rt, alloc, server, second, 3)
 }
 
 fn refuses<K: Name, R: Wait, S: Wait + Drop>(

@@ -83,19 +83,22 @@ const BETWEEN: &[Row] = &[
     },
 ];
 
-/// Eight jobs that share sites, each installed or stale, while the thread of the first one retargets. It is done after all of that.
+/// A job that is held until all others are done, and eight that share sites.
+pub(crate) const JOBS: &[Job] = &[
+    (&[0], Kind::Installed),
+    (&[0], Kind::Installed),
+    (&[1], Kind::Installed),
+    (&[2], Kind::Installed),
+    (&[3], Kind::Installed),
+    (&[0, 1], Kind::Installed),
+    (&[3, 2], Kind::Installed),
+    (&[3, 2, 1, 0], Kind::Installed),
+    (&[1, 3], Kind::Installed),
+];
+
+/// Each of the eight is installed or stale, while the thread of the first job retargets. That one is done after all of it.
 const DURING: Row = Row {
-    jobs: &[
-        (&[0], Kind::Installed),
-        (&[0], Kind::Installed),
-        (&[1], Kind::Installed),
-        (&[2], Kind::Installed),
-        (&[3], Kind::Installed),
-        (&[0, 1], Kind::Installed),
-        (&[3, 2], Kind::Installed),
-        (&[3, 2, 1, 0], Kind::Installed),
-        (&[1, 3], Kind::Installed),
-    ],
+    jobs: JOBS,
     turns: Turns::During(0),
     linked: None,
 };
@@ -227,6 +230,11 @@ fn are_of<K: Name>(reports: &[Report<K>], row: &Row) -> bool {
         all = all && report.job == place && is_kind;
     }
     all
+}
+
+/// Whether each of the jobs was installed, by an event of its own, or is stale, but for the first one, which was installed.
+pub(crate) fn are_installed_or_stale<K: Name>(reports: &[Report<K>]) -> bool {
+    are_of(reports, &DURING) && have_own_events(reports)
 }
 
 /// Whether the reports are as the row says, with an event for each job that was installed.
