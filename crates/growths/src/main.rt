@@ -1,6 +1,7 @@
-//! Makes calls that take memory, and prints what each is answered: readings of class files, and the events, links, snapshots and
-//! preparations of a core and of a link server. A call that is answered Memory is printed as such, with whether all that is seen of
-//! the state is as it was before, and is made once more. A reading has no state.
+//! Makes calls that take memory, and prints what each is answered: readings of class files, the events, links, snapshots and
+//! preparations of a core and of a link server, the parts of a server for many callers, and a preparation by several threads. A call that
+//! is answered Memory is printed as such, with whether all that is seen of the state is as it was before, and is made once more. A
+//! reading has no state, nor have the last two.
 //!
 //! The exit status is 0 where all calls were answered, 4 where memory lacked outside them or twice in a row, and 1 where a line
 //! wasn't printed or a class file wasn't read.
@@ -11,6 +12,7 @@ ghost use Rattle.std.specs.Prelude.{◌≡◌};
 mod cores;
 mod deeds;
 mod files;
+mod fresh;
 mod marks;
 mod readings;
 mod servers;
@@ -19,6 +21,7 @@ mod watch;
 
 use cores::{OnCore, Way};
 use deeds::{Deed, GUARDS, RECEIVERS, RETIREMENT};
+use fresh::{make_parts, prepare_in_threads};
 use jl_server::{Caller, LinkServer, Name, Parts};
 use marks::SITES;
 use readings::read_all;
@@ -27,6 +30,7 @@ use std::io::{self, ErrorKind};
 use std::marker::Brand;
 use std::process::ExitCode;
 use std::sync::Wait;
+use std::thread::Threads;
 use watch::watch_all;
 
 /// Asks a core.
@@ -91,8 +95,10 @@ fn ask_all(rt: &HostRuntime, handle: &impl Wait, deeds: &[Deed]) -> io::Result<(
 }
 
 /// All calls.
-fn call_all(rt: &HostRuntime, handle: &impl Wait) -> io::Result<()> {
+fn call_all(rt: &HostRuntime, handle: &(impl Threads + Wait + Sync)) -> io::Result<()> {
     read_all(rt)?;
+    make_parts(rt, handle)?;
+    prepare_in_threads(rt, handle)?;
     ask_all(rt, handle, RECEIVERS)?;
     ask_all(rt, handle, GUARDS)?;
     ask_all(rt, handle, RETIREMENT)

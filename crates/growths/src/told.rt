@@ -27,6 +27,12 @@ pub(crate) fn tell_state(rt: &HostRuntime, called: Called, as_before: bool) -> i
     }
 }
 
+/// Prints how many callers there are.
+pub(crate) fn tell_count(rt: &HostRuntime, called: Called, callers: usize) -> io::Result<()> {
+    let Called { of, deed } = called;
+    println!(rt; "{of}: {deed}: {callers} callers")
+}
+
 /// Prints the reply.
 pub(crate) fn tell_reply(rt: &HostRuntime, called: Called, reply: &Reply) -> io::Result<()> {
     let Called { of, deed } = called;
@@ -45,6 +51,19 @@ pub(crate) fn tell_links(
 ) -> io::Result<()> {
     let Called { of, deed } = called;
     println!(rt; "{of}: {deed}: {links:?}")
+}
+
+/// Prints the link of a site.
+pub(crate) fn tell_row(rt: &HostRuntime, called: Called, row: &(SiteNo, Link)) -> io::Result<()> {
+    let Called { of, deed } = called;
+    let (site, link) = row;
+    match link {
+        Link::Table(kind, table) => {
+            let rows = table.as_slice();
+            println!(rt; "{of}: {deed}: {site:?}, {kind:?} {rows:?}")
+        }
+        link => println!(rt; "{of}: {deed}: {site:?}, {link:?}"),
+    }
 }
 
 /// Prints the count of events in a snapshot.
