@@ -1,14 +1,17 @@
 """What runs may answer of which one growth, or all from one on, are refused. For growths.sh, which says how it is used.
 
-Of crates/growths, whose lines are WHOSE: CALL: ANSWER, a run is one of
-- as without refusals, with two lines more before the answer of a call: that it was answered Memory, and that all is as before (a reading
-  of a class file has the first alone);
+Of crates/growths and of linker.c, whose lines are WHOSE: CALL: ANSWER, a run is one of
+- as without refusals, with two lines more before the answer of a call: that it was answered Memory, and that all is as before (a call
+  that has no state before has the first alone);
 - ended with status 4, and its lines are the first ones of a run without refusals;
 - as without refusals: the refused growth had no effect on the answers.
 Of linkd, whose lines are answers, it is one of
 - one line is {"refused":"Memory"}, and the others are as in a run without refusals of the lines without that one;
 - ended with status 4, and its lines are the first answers, whole;
 - as without refusals.
+Of linkd farm, whose last line tells links and reports, it may also be one where
+- the reports of some jobs are "Memory", their sites have no links, and all else is as without refusals;
+- it ended with status 1 behind all answers, and has no last line.
 Where all growths are refused from one on, such lines may stand before the status 4, too.
 Which line of linkd wanted the memory is told by the growths of runs of the first lines alone: no line before it is answered Memory, and
 where the run ends with status 4 each of these is answered.
@@ -17,6 +20,7 @@ where the run ends with status 4 each of these is answered.
 import bisect
 import collections
 import concurrent.futures
+import json
 import os
 import subprocess
 import sys
@@ -89,9 +93,25 @@ SKETCHES = ['{"name":"java/lang/Object","flags":33}', "{}", '{"name":"B","super"
             '{"name":"T","super":"A","flags":33,"methods":[{"name":"r","type":"()V","flags":9,"calls":'
             '[{"kind":"invokedynamic","name":"d","type":"()V"}]}]}', '{"name":"B","super":"A","flags":33}']
 
-# What linkd is run on, by its mode.
+# What a farm obeys: a site on A.f with three receivers below it, and one bound to a call site, whose switch points become invalid.
+FARM = RECEIVERS[:5] + [RECEIVERS[7], GUARDS[1]] + [
+    '{"do":"request","class":5,"method":2,"pc":0}',
+    '{"do":"switch"}',
+    '{"do":"callsite","kind":"mutable","type":"()V","target":'
+    '{"guard":0,"target":{"method":[5,0]},"fallback":{"method":[5,0]}}}',
+    '{"do":"bind","site":1,"callsite":0}',
+    '{"do":"invalidate","switches":[0]}',
+    '{"do":"switch"}',
+    '{"do":"target","callsite":0,"target":{"guard":1,"target":{"method":[5,0]},"fallback":{"method":[5,1]}}}',
+    '{"do":"invalidate","switches":[1]}',
+]
+
+# What linkd is run on, by its words.
 MODES = [("run", "run, receivers", RECEIVERS), ("run", "run, guards", GUARDS), ("run", "run, retirement", RETIREMENT),
-         ("scan", "scan", SCANS), ("sketch", "sketch", SKETCHES)]
+         ("scan", "scan", SCANS), ("sketch", "sketch", SKETCHES), ("farm --workers 1", "farm of one worker", FARM),
+         ("farm --workers 4", "farm of four workers", FARM)]
+# The calls of which nothing is there before.
+STATELESS = ("reading: ", "parts: ", "snapshot: ")
 
 # The watched calls of the table: the name of each among the lines of one core or server, and which of that name it is.
 TABLE = [("definition of M", "M", 0), ("definition of C", "C", 0), ("install of site 0", "install", 0),
@@ -153,7 +173,7 @@ def is_of_memory(line):
 def are_of_one(memory):
     """Whether the lines say of one call that it was answered Memory and, but for a reading, that all is as before."""
     call = called(memory[0])
-    want = [f"{call}: Memory\n"] + ([] if call.startswith("reading: ") else [f"{call}: as before\n"])
+    want = [f"{call}: Memory\n"] + ([] if call.startswith(STATELESS) else [f"{call}: as before\n"])
     return memory == want
 
 
@@ -183,6 +203,7 @@ class Lines:
 
     def __init__(self, program, lines):
         self.program, self.lines, self.known = program, lines, {}
+        self.is_farm = "farm" in program.words
         self.growths = [program.run("".join(line + "\n" for line in lines[:count])).growths for count in range(len(lines) + 1)]
 
     def text(self, left_out=()):
@@ -192,7 +213,7 @@ class Lines:
         key = tuple(left_out)
         if key not in self.known:
             run = self.program.run(self.text(left_out))
-            if run.status != 0 or len(run.lines) != len(self.lines) - len(left_out):
+            if run.status != 0 or len(run.lines) != len(self.lines) - len(left_out) + self.is_farm:
                 sys.exit(f"linkd ends with {run.status} without refusals")
             self.known[key] = run.lines
         return self.known[key]
@@ -206,6 +227,8 @@ class Lines:
         memory = [place for place, line in enumerate(run.lines) if line == MEMORY]
         rest = [line for line in run.lines if line != MEMORY]
         first = min([len(run.lines)] + memory)
+        if self.is_farm:
+            return self.farm_kind(run, how, memory, rest)
         if first != self.lacking(n) if how == "AT" and (run.status == 4 or memory) else first < self.lacking(n):
             return None
         if run.status == 4:
@@ -216,6 +239,29 @@ class Lines:
         if rest != self.answers(memory):
             return None
         return MEMORY if memory else SAME
+
+
+    def farm_kind(self, run, how, memory, rest):
+        """The same of linkd farm. Which line wanted the memory isn't told by its growths, since the farm's come after them."""
+        whole = self.answers(memory)
+        if run.status in (1, 4) and (not memory or how == "FROM"):
+            is_told = run.error == ("linkd: out of memory\n" if run.status == 4 else "linkd: farm failed\n")
+            is_behind_all = run.status == 4 or len(rest) == len(whole) - 1
+            return LACKS if is_told and is_behind_all and is_first_of(rest, whole[:-1]) else None
+        if run.status != 0 or run.error or len(rest) != len(whole) or rest[:-1] != whole[:-1]:
+            return None
+        if how == "AT" and len(memory) > 1:
+            return None
+        if rest[-1] == whole[-1]:
+            return MEMORY if memory else SAME
+        return MEMORY if is_without_jobs(json.loads(rest[-1]), json.loads(whole[-1])) else None
+
+
+def is_without_jobs(told, whole):
+    """Whether the farm's last line is this one, but that some jobs lacked memory. Job n is of site n here."""
+    lacking = [job for job, report in enumerate(told["reports"]) if report == "Memory"]
+    reports = ["Memory" if job in lacking else report for job, report in enumerate(whole["reports"])]
+    return told == {"links": [row for row in whole["links"] if row[0] not in lacking], "reports": reports}
 
 
 class Tally:
@@ -248,7 +294,7 @@ def tell_calls(whole, alone, together):
     """Prints the growths of the watched calls, by core and server."""
     reading = next(place for place, line in enumerate(whole) if called(line) == "reading: M")
     print("growths of the reading of M:", cell(reading, alone, together))
-    owners = list(dict.fromkeys(line.split(": ")[0] for line in whole if not line.startswith("reading: ")))
+    owners = list(dict.fromkeys(line.split(": ")[0] for line in whole if not line.startswith(STATELESS)))
     print(f"\n{'growths':22}" + "".join(f"{owner:>26}" for owner in owners))
     for name, call, which in TABLE:
         places = [[place for place, line in enumerate(whole) if called(line) == f"{owner}: {call}"][which] for owner in owners]
@@ -259,20 +305,21 @@ def tell_calls(whole, alone, together):
             print(f"{cell(place, alone, together):>22}  {line}", end="")
 
 
-def sweep_watched(program):
-    """Sweeps crates/growths, and prints the growths of its calls."""
+def sweep_watched(program, name, tells_calls):
+    """Sweeps crates/growths or linker.c, and maybe prints the growths of its calls."""
     whole = program.run()
     if whole.status != 0 or whole.refused or any(map(is_of_memory, whole.lines)):
-        sys.exit(f"crates/growths ends with {whole.status} without refusals")
+        sys.exit(f"{name} ends with {whole.status} without refusals")
     calls = {"AT": collections.Counter(), "FROM": collections.Counter()}
     for how, counts in calls.items():
-        tally = Tally(f"growths, {how.lower()} the n-th", whole.growths)
+        tally = Tally(f"{name}, {how.lower()} the n-th", whole.growths)
         for n, run in program.sweep(how):
             kind, place = watched_kind(run, whole.lines, how)
             tally.add(n, run, kind)
             counts[place] += 1
         yield tally
-    tell_calls(whole.lines, *calls.values())
+    if tells_calls:
+        tell_calls(whole.lines, *calls.values())
 
 
 def sweep_script(program, name, lines):
@@ -287,11 +334,13 @@ def sweep_script(program, name, lines):
 
 
 def main():
-    folder, growths, *linkd = sys.argv[1:]
-    tallies = list(sweep_watched(Program(folder, os.path.abspath(growths))))
-    for path in linkd:
-        for mode, name, lines in MODES:
-            tallies += sweep_script(Program(folder, os.path.abspath(path), mode), name, lines)
+    folder, growths, *others = sys.argv[1:]
+    tallies = list(sweep_watched(Program(folder, os.path.abspath(growths)), "growths", True))
+    for path in others[:1]:
+        for words, name, lines in MODES:
+            tallies += sweep_script(Program(folder, os.path.abspath(path), *words.split()), name, lines)
+    for path in others[1:]:
+        tallies += sweep_watched(Program(folder, os.path.abspath(path)), "linker", False)
     print(f"{'refused':38}{'growths':>8}{'runs':>8}{'Memory':>10}{LACKS:>10}{SAME:>10}{'faults':>8}")
     for tally in tallies:
         tally.tell()

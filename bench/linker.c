@@ -1,0 +1,153 @@
+/* Makes calls of a linker that take memory, and prints what each is told, as crates/growths does of a core: a call that is told LINKD_MEMORY is
+ * printed as such, with whether all that is seen of the linker is as it was before, and is made once more. Its own memory is static, so that
+ * each growth is the library's. The exit status is 0 where all calls were told something else, 4 where memory lacked twice in a row, and
+ * 1 where a line wasn't printed.
+ */
+#include "linkd.h"
+#include <stdio.h>
+#include <stdlib.h>
+#include <string.h>
+
+enum { SITES = 2, CLASSES = 6, BYTES = 512 };
+
+/* The class files: java/lang/Object; A with the method f; B below A; M, which calls A.f; C below A, which declares f again; and T with the static
+ * methods m, n and r, of which r has an invokedynamic. */
+static const char *const FILES[CLASSES] = {
+    "cafebabe0000003d00030100106a6176612f6c616e672f4f626a6563740700010021000200000000000000000000",
+    "cafebabe0000003d0008010001410700010100106a6176612f6c616e672f4f626a65637407000301000166010003282956010004436f646500210002"
+    "0004000000000001000100050006000100070000000d0000000000000001b1000000000000",
+    "cafebabe0000003d000501000142070001010001410700030021000200040000000000000000",
+    "cafebabe0000003d000d0100014d0700010100106a6176612f6c616e672f4f626a65637407000301000372756e010003282956010004436f64650100"
+    "0141070008010001660c000a00060a0009000b00210002000400000000000100090005000600010007000000100000000000000004b6000cb1000000"
+    "000000",
+    "cafebabe0000003d0008010001430700010100014107000301000166010003282956010004436f646500210002000400000000000100010005000600"
+    "0100070000000d0000000000000001b1000000000000",
+    "cafebabe0000003d000d010001540700010100106a6176612f6c616e672f4f626a6563740700030100016d010003282956010004436f64650100016e"
+    "01000172010001640c000a0006120000000b002100020004000000000003000900050006000100070000000d0000000000000001b100000000000900"
+    "080006000100070000000d0000000000000001b10000000000090009000600010007000000120000000000000006ba000c0000b1000000000000"
+};
+
+static const char GUARD[] = "{\"guard\":0,\"target\":{\"method\":[5,0]},\"fallback\":{\"method\":[5,1]}}";
+static const char OTHER[] = "{\"method\":[5,1]}";
+
+static union { unsigned char bytes[1 << 16]; long double aligned; } linker_block, seat_block;
+static linkd *at;
+static linkd_seat *seat;
+static linkd_told told;
+
+/* All that is seen of a linker and of its seat. */
+struct seen {
+    uint32_t dropped[SITES], links, length;
+    linkd_link link[SITES];
+    linkd_call_answer answer[SITES][CLASSES + 1], at_seat[SITES][CLASSES + 1];
+};
+
+static void look(struct seen *seen) {
+    size_t length = 0;
+    memset(seen, 0, sizeof *seen);
+    linkd_dropped(at, seen->dropped, SITES, &length);
+    seen->length = (uint32_t)length;
+    for (uint32_t site = 0; site < SITES; site++) {
+        linkd_link_of(at, site, &seen->link[site]);
+        seen->links += seen->link[site].kind != LINKD_NONE;
+        for (uint32_t of = 0; of <= CLASSES; of++) {
+            uint32_t receiver = of == CLASSES ? LINKD_NULL : of;
+            linkd_call(at, site, receiver, &seen->answer[site][of]);
+            linkd_seat_call(seat, site, receiver, &seen->at_seat[site][of]);
+        }
+    }
+}
+
+/* ---- what is asked */
+
+static uint32_t define(uint32_t loader, int file) {
+    static uint8_t bytes[BYTES];
+    size_t length = strlen(FILES[file]) / 2;
+    for (size_t i = 0; i < length; i++) {
+        unsigned byte;
+        sscanf(FILES[file] + 2 * i, "%2x", &byte);
+        bytes[i] = (uint8_t)byte;
+    }
+    return linkd_define(at, loader, bytes, length, &told);
+}
+
+static uint32_t delegate(const char *name) { return linkd_delegate(at, 1, (const uint8_t *)name, strlen(name), 0, &told); }
+
+static uint32_t call_site(const char *target) {
+    return linkd_new_call_site(at, 2, (const uint8_t *)"()V", 3, (const uint8_t *)target, strlen(target), &told);
+}
+
+static uint32_t install(uint32_t site) { return linkd_install(at, &site, 1, &told); }
+
+static uint32_t invalidate(uint32_t number) { return linkd_invalidate(at, &number, 1, &told); }
+
+static uint32_t open_linker(void) { return linkd_open(at, SITES); }
+static uint32_t object(void) { return define(0, 0); }
+static uint32_t a(void) { return define(0, 1); }
+static uint32_t b(void) { return define(0, 2); }
+static uint32_t m(void) { return define(0, 3); }
+static uint32_t request_m(void) { return linkd_request(at, 3, 0, 0, &told); }
+static uint32_t install_0(void) { return install(0); }
+static uint32_t refresh(void) { return linkd_seat_refresh(seat, at); }
+static uint32_t loader(void) { return linkd_new_loader(at, &told); }
+static uint32_t delegate_object(void) { return delegate("java/lang/Object"); }
+static uint32_t delegate_a(void) { return delegate("A"); }
+static uint32_t c(void) { return define(1, 4); }
+static uint32_t t(void) { return define(0, 5); }
+static uint32_t request_t(void) { return linkd_request(at, 5, 2, 0, &told); }
+static uint32_t switch_point(void) { return linkd_new_switch(at, &told); }
+static uint32_t guarded(void) { return call_site(GUARD); }
+static uint32_t bind(void) { return linkd_bind(at, 1, 0, &told); }
+static uint32_t install_1(void) { return install(1); }
+static uint32_t invalidation(void) { return invalidate(0); }
+static uint32_t retarget(void) { return linkd_set_target(at, 0, (const uint8_t *)OTHER, strlen(OTHER), &told); }
+static uint32_t retire(void) { return linkd_retire(at, 1, &told); }
+
+static const struct {
+    const char *name;
+    uint32_t (*ask)(void);
+} DEEDS[] = {
+    {"open", open_linker}, {"java/lang/Object", object}, {"A", a}, {"B", b}, {"M", m}, {"request", request_m}, {"install", install_0},
+    {"seat", refresh}, {"loader", loader}, {"delegation", delegate_object}, {"delegation", delegate_a}, {"C", c}, {"install", install_0},
+    {"T", t}, {"request", request_t}, {"switch point", switch_point}, {"call site", guarded}, {"bind", bind}, {"install", install_1},
+    {"seat", refresh}, {"invalidation", invalidation}, {"install", install_1}, {"target", retarget}, {"retirement", retire}, {"seat", refresh},
+};
+
+static void print_dropped(void) {
+    uint32_t dropped[SITES];
+    size_t length = 0;
+    if (linkd_dropped(at, dropped, SITES, &length) == LINKD_DONE)
+        for (size_t i = 0; i < length; i++)
+            printf(" %lu", (unsigned long)dropped[i]);
+    putchar('\n');
+}
+
+int main(void) {
+    static struct seen before, after;
+    if (linkd_size() > sizeof linker_block.bytes || linkd_seat_size() > sizeof seat_block.bytes) return 1;
+    at = (linkd *)(void *)linker_block.bytes;
+    seat = (linkd_seat *)(void *)seat_block.bytes;
+    linkd_blank(at);
+    linkd_seat_blank(seat);
+    setvbuf(stdout, NULL, _IONBF, 0);
+    for (size_t i = 0; i < sizeof DEEDS / sizeof *DEEDS; i++) {
+        const char *name = DEEDS[i].name;
+        look(&before);
+        memset(&told, 0, sizeof told);
+        uint32_t status = DEEDS[i].ask();
+        if (status == LINKD_MEMORY) {
+            printf("linker: %s: Memory\n", name);
+            look(&after);
+            printf("linker: %s: %s\n", name, memcmp(&before, &after, sizeof before) == 0 ? "as before" : "CHANGED");
+            memset(&told, 0, sizeof told);
+            status = DEEDS[i].ask();
+            if (status == LINKD_MEMORY) return 4;
+        }
+        printf("linker: %s: status %lu, number %lu, fault %lu, dropped", name, (unsigned long)status, (unsigned long)told.number,
+               (unsigned long)told.fault);
+        print_dropped();
+    }
+    linkd_seat_leave(seat);
+    linkd_close(at);
+    return ferror(stdout) != 0;
+}
