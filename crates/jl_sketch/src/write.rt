@@ -23,6 +23,7 @@ use crate::check::{first_without_code, has_code, is_long_sketch};
 use crate::constants::{Constants, Entry};
 use crate::fault::SketchFault;
 use crate::sketch::{Call, Sketch, SketchMethod};
+use byteorder::{BigEndian, ByteOrder};
 use jl_classfile::{CODE, ClassFault, NEST_HOST, NEST_MEMBERS, read_class};
 use jl_names::{Name, method_slots};
 use std::alloc::{AllocError, Global};
@@ -34,14 +35,18 @@ const MOST_CONSTANTS: usize = 65_534;
 fn push_u2(out: &mut Vec<u8>, number: usize) -> Result<(), AllocError>
     ensures { OnOk result (out.new.items ≡ out.old.items ++ u2 number) }
 {
-    out.extend_from_slice(&number.to_be_bytes()[6..])
+    let mut bytes = [0; 8];
+    BigEndian::write_u64(&mut bytes, number as u64);
+    out.extend_from_slice(&bytes[6..])
 }
 
 /// Appends the lowest four bytes of a number, the highest first.
 fn push_u4(out: &mut Vec<u8>, number: usize) -> Result<(), AllocError>
     ensures { OnOk result (out.new.items ≡ out.old.items ++ u4 number) }
 {
-    out.extend_from_slice(&number.to_be_bytes()[4..])
+    let mut bytes = [0; 8];
+    BigEndian::write_u64(&mut bytes, number as u64);
+    out.extend_from_slice(&bytes[4..])
 }
 
 // ---- constants
