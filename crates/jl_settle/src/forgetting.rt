@@ -1,6 +1,6 @@
 //! The sites of a loader that goes.
 
-ghost use Rattle.std.specs.Prelude.{◌≡◌, ◌≤◌, ◌==◌, ◌&&◌, ℕ, None, is_some, length, IfOk, OnOk, if◌then◌else◌};
+ghost use Rattle.std.specs.Prelude.{◌≡◌, ◌≤◌, ◌==◌, ◌&&◌, ℕ, None, is_some, length, IfOk, OnOk, OnErr, if◌then◌else◌};
 ghost use Rattle.std.specs.List.{list_any};
 ghost use Rattle.jl_types.specs.Retirement.{retires_site};
 ghost use Rattle.jl_cache.specs.Links.{link_at};
@@ -34,6 +34,8 @@ pub fn forget(
         ≡ (if retires_site world.now loader s then None else footprint_at index.old s)) }
     ensures lost { IfOk result (λ lost. (s : ℕ) → list_any (λ t. t == s) lost.items
         ≡ (retires_site world.now loader s && is_some (link_at links.old s))) }
+    ensures links_err { OnErr result (links.new ≡ links.old) }
+    ensures index_err { OnErr result (index.new ≡ index.old) }
 {
     let sites = sites_of(alloc, world, loader)?;
     let lost = linked_among(alloc, links, sites.as_slice())?;
