@@ -12,7 +12,7 @@ use Rattle.std.proofs.lemmas.Cmp.{nat_eq_equiv}
 use Rattle.jl_types.proofs.Bools.{or_none}
 use Rattle.jl_hierarchy.proofs.Rising.{other_number, above_at}
 use Rattle.jl_hierarchy.proofs.KeptLaws.{get_or-lists}
-use Rattle.jl_hierarchy.specs.Kept.{HasRoom, Rises, IsAppended, lists}
+use Rattle.jl_hierarchy.specs.Kept.{HasRoom, Rises, AreChanged, lists}
 
 -- ---- one list is changed
 
@@ -42,11 +42,11 @@ with_own n old new own e =
     (ap (λ (k : ℕ). take k (new ++ drop (length new) old)) (sym e) ∙ take-append_seam new (drop (length new) old))
     ∙ map-append (λ (v : SmallVec ℕ). v.items) new (own ∷ [])
 
--- ---- a class is appended to one list more
+-- ---- one list more is changed
 
 -- what the list at c comes to
-abbrev pub grown : List ℕ → ℕ → List (List ℕ) → ℕ → List ℕ
-grown classes x old c = if list_any (λ k. k == c) classes then get_or old c [] ++ x ∷ [] else get_or old c []
+abbrev changed : List ℕ → (List ℕ → List ℕ) → List (List ℕ) → ℕ → List ℕ
+changed classes f old c = if list_any (λ k. k == c) classes then f (get_or old c []) else get_or old c []
 
 -- what a test over one class more comes to
 has_more : (classes : List ℕ) (n c d : ℕ) → n < length classes
@@ -86,9 +86,9 @@ not_before (x ∷ classes) (suc n) d r lt =
     ap (λ (b : Bool). b || list_any (λ k. k == get_or classes n d) (take n classes)) (other_number x (get_or classes n d) (above_any x classes n d r.0 (omega arith)))
     ∙ not_before classes n d r.1 (omega arith)
 
-module _ (classes : List ℕ) (x : ℕ) (old : List (List ℕ)) (below : List (SmallVec ℕ)) (n d : ℕ) (r : Rises classes) (lt : n < length classes)
-    (h : IsAppended (take n classes) x old (lists below)) (v : SmallVec ℕ) (w : SmallVec ℕ)
-    (there : get_or classes n d < length below) (e : v.items ≡ (get_or below (get_or classes n d) w).items ++ x ∷ []) where
+module _ (classes : List ℕ) (f : List ℕ → List ℕ) (old : List (List ℕ)) (below : List (SmallVec ℕ)) (n d : ℕ) (r : Rises classes) (lt : n < length classes)
+    (h : AreChanged (take n classes) f old (lists below)) (v : SmallVec ℕ) (w : SmallVec ℕ)
+    (there : get_or classes n d < length below) (e : v.items ≡ f (get_or below (get_or classes n d) w).items) where
   abbrev at : ℕ
   at = get_or classes n d
 
@@ -96,33 +96,33 @@ module _ (classes : List ℕ) (x : ℕ) (old : List (List ℕ)) (below : List (S
   lists_set = map-set (λ (u : SmallVec ℕ). u.items) below at v
 
   abbrev with : Bool → ℕ → List ℕ
-  with b c = if b then get_or old c [] ++ x ∷ [] else get_or old c []
+  with b c = if b then f (get_or old c []) else get_or old c []
 
   there_too : at < length (lists below)
   there_too = let m = length-map below (λ (u : SmallVec ℕ). u.items) in omega arith
 
-  at_place : get_or (lists (slice_set below at v)) at [] ≡ grown (take (n + 1) classes) x old at
+  at_place : get_or (lists (slice_set below at v)) at [] ≡ changed (take (n + 1) classes) f old at
   at_place =
       ap (λ (ls : List (List ℕ)). get_or ls at []) lists_set
       ∙ get_or-set_same (lists below) at v.items [] there_too
       ∙ e
-      ∙ ap (λ (l : List ℕ). l ++ x ∷ []) (sym (get_or-lists below at w) ∙ same_default (lists below) at w.items [] there_too ∙ h.each at
+      ∙ ap f (sym (get_or-lists below at w) ∙ same_default (lists below) at w.items [] there_too ∙ h.each at
       ∙ ap (λ b. with b at) (not_before classes n d r lt))
       ∙ sym (ap (λ b. with b at) (has_more classes n at d lt ∙ ap (λ b. b || (at == at)) (not_before classes n d r lt) ∙ nat_eq_equiv.refl at))
 
-  here : (c : ℕ) → (at == c) ≡ true → get_or (lists (slice_set below at v)) c [] ≡ grown (take (n + 1) classes) x old c
-  here c is = subst (λ k. get_or (lists (slice_set below at v)) k [] ≡ grown (take (n + 1) classes) x old k) ((Decides-eqb at c).0 is) at_place
+  here : (c : ℕ) → (at == c) ≡ true → get_or (lists (slice_set below at v)) c [] ≡ changed (take (n + 1) classes) f old c
+  here c is = subst (λ k. get_or (lists (slice_set below at v)) k [] ≡ changed (take (n + 1) classes) f old k) ((Decides-eqb at c).0 is) at_place
 
-  elsewhere : (c : ℕ) → (at == c) ≡ false → get_or (lists (slice_set below at v)) c [] ≡ grown (take (n + 1) classes) x old c
+  elsewhere : (c : ℕ) → (at == c) ≡ false → get_or (lists (slice_set below at v)) c [] ≡ changed (take (n + 1) classes) f old c
   elsewhere c is =
       ap (λ (ls : List (List ℕ)). get_or ls c []) lists_set
       ∙ get_or-set_other (lists below) at c v.items [] (λ same. both_ways (at == c) is ((Decides-eqb at c).1 (sym same)))
       ∙ h.each c
       ∙ sym (ap (λ b. with b c) (has_more classes n c d lt ∙ ap (λ b. list_any (λ k. k == c) (take n classes) || b) is ∙ or_none (list_any (λ k. k == c) (take n classes))))
 
-  pub appended_more : IsAppended (take (n + 1) classes) x old (lists (slice_set below at v))
-  appended_more = record { many = ap length lists_set ∙ length-set (lists below) at v.items ∙ h.many; each = λ c. by_test c (at == c) refl }
+  pub changed_more : AreChanged (take (n + 1) classes) f old (lists (slice_set below at v))
+  changed_more = record { many = ap length lists_set ∙ length-set (lists below) at v.items ∙ h.many; each = λ c. by_test c (at == c) refl }
     where
-      by_test : (c : ℕ) (b : Bool) → (at == c) ≡ b → get_or (lists (slice_set below at v)) c [] ≡ grown (take (n + 1) classes) x old c
+      by_test : (c : ℕ) (b : Bool) → (at == c) ≡ b → get_or (lists (slice_set below at v)) c [] ≡ changed (take (n + 1) classes) f old c
       by_test c true is = here c is
       by_test c false is = elsewhere c is

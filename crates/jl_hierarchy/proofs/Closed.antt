@@ -1,5 +1,5 @@
 -- What is present rests on what is present, through every change.
-use Rattle.std.specs.Prelude.{◌≡◌, ℕ, zero, suc, ◌+◌, ◌<◌, ◌≤◌, ◌==◌, Bool, true, false, cond, not, ◌&&◌, ◌||◌, List, [], ◌∷◌, ◌++◌, filter_map, find, length, slice_get, slice_set}
+use Rattle.std.specs.Prelude.{◌≡◌, ℕ, zero, suc, ◌+◌, ◌<◌, ◌==◌, Bool, true, false, cond, not, ◌&&◌, ◌||◌, List, [], ◌∷◌, ◌++◌, filter_map, find, length, slice_get, slice_set}
 use Rattle.std.specs.Prelude.{Option, Some, None, option_map, option_and_then, option_to_list, nat_le}
 use Rattle.std.specs.Option.{option_map_or}
 use Rattle.std.specs.List.{AllByRecursion, cons_option, list_any}
@@ -228,7 +228,7 @@ module _ (cs : Classes) (good : IsGood cs) (loader : ℕ) (file : ClassFile) whe
 
 -- ---- a loader less
 
-any_recorded : (p : ℕ → Bool) (name : List ℕ) (c : ℕ) (records : List (List ℕ × ℕ)) → recorded name records ≡ Some c → p c ≡ true → list_any (λ r. p r.1) records ≡ true
+pub any_recorded : (p : ℕ → Bool) (name : List ℕ) (c : ℕ) (records : List (List ℕ × ℕ)) → recorded name records ≡ Some c → p c ≡ true → list_any (λ r. p r.1) records ≡ true
 any_recorded p name c [] e is = cc
 any_recorded p name c (r ∷ records) e is = by_test (bytes_eq r.0 name) e (λ e. any_recorded p name c records e is)
   where

@@ -9,7 +9,7 @@ use Rattle.jl_types.specs.Members.{lookup}
 use Rattle.jl_types.specs.Ancestry.{ancestors, receivers}
 use Rattle.jl_types.proofs.Orders.{IsGood, looked_up}
 use Rattle.jl_hierarchy.specs.Constancy.{AreInOrder}
-use Rattle.jl_hierarchy.specs.Kept.{IsKept, lists}
+use Rattle.jl_hierarchy.specs.Kept.{IsKept, AreRecorded, lists}
 
 found_there : (cs : Classes) → IsGood cs → (loader : ℕ) (name : List ℕ) (o : Option ℕ) → lookup cs loader name ≡ o → IfSome o (λ c. c < length cs.rows)
 found_there cs good loader name None e = tt
@@ -27,6 +27,9 @@ module _ (inside : Classes) (above below : List (List ℕ)) (kept : IsKept insid
 
   pub in_order : AreInOrder cs
   in_order = subst AreInOrder same (record { there = kept.there; ordered = kept.ordered; object = kept.object; closed = kept.closed })
+
+  pub own_here : AreRecorded cs
+  own_here = subst AreRecorded same kept.own
 
   pub there_here : (loader : ℕ) (name : List ℕ) (o : Option ℕ) → lookup cs loader name ≡ o → IfSome o (λ c. c < length cs.rows)
   there_here = found_there cs good

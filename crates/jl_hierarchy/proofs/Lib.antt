@@ -13,6 +13,7 @@ pub mod Constancy
 pub mod PrintLaws
 pub mod Objects
 pub mod Closed
+pub mod OwnRecords
 pub mod LoaderGone
 pub mod Turns
 pub mod NewRecords

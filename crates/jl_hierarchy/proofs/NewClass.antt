@@ -24,6 +24,7 @@ use Rattle.jl_hierarchy.specs.Kept.{IsKept, IsAppended}
 use Rattle.jl_hierarchy.proofs.FaultLaws.{has_room}
 use Rattle.jl_hierarchy.proofs.Objects.{first_defined}
 use Rattle.jl_hierarchy.proofs.Closed.{closed_defined, live_loader}
+use Rattle.jl_hierarchy.proofs.OwnRecords.{own_defined}
 use Rattle.jl_hierarchy.proofs.Rising.{has}
 
 map_range : {A : Type 0} (f g : ℕ → A) (a n : ℕ) → ((c : ℕ) → c < a + n → f c ≡ g c) → map f (range_with_len a n) ≡ map g (range_with_len a n)
@@ -48,8 +49,8 @@ has_chosen : (b : Bool) (i : ℕ) (xs : List ℕ) → has i (if b then xs else [
 has_chosen true i xs = refl
 has_chosen false i xs = refl
 
-module _ (cs : Classes) (over under : List (List ℕ)) (kept : IsKept cs over under) (loader : ℕ) (file : ClassFile) (room : length cs.rows < 65536)
-    (live : is_retired cs loader ≡ false) where
+module _ (cs : Classes) (over under : List (List ℕ)) (kept : IsKept cs over under) (loader : ℕ) (file : ClassFile)
+    (none : define_fault cs loader file ≡ None) where
   abbrev n : ℕ
   n = length cs.rows
 
@@ -61,6 +62,9 @@ module _ (cs : Classes) (over under : List (List ℕ)) (kept : IsKept cs over un
 
   good : IsGood cs
   good = record { there = kept.there; ordered = kept.ordered }
+
+  live : is_retired cs loader ≡ false
+  live = live_loader cs loader file none
 
   pub new_good : IsGood new
   new_good = defined_good cs good loader file
@@ -170,7 +174,8 @@ module _ (cs : Classes) (over under : List (List ℕ)) (kept : IsKept cs over un
         ordered = new_good.ordered;
         object = object;
         closed = closed_defined cs good loader file kept.closed;
-        few = let m = length-append cs.rows (row ∷ []) in omega arith;
+        own = own_defined cs good kept.own loader file none;
+        few = let m = length-append cs.rows (row ∷ []) in let room = has_room cs loader file none in omega arith;
         few_loaders = let m = as_many_loaders cs.loaders loader file.name n in let few = kept.few_loaders in omega arith;
         ancestors_kept = ancestors_now;
         receivers_kept = receivers_now;
@@ -210,7 +215,7 @@ module _ (cs : Classes) (over under : List (List ℕ)) (kept : IsKept cs over un
       below' (front ++ (if is_concrete_row (class_made cs row.loader row.file) then length cs.rows ∷ [] else []) ∷ [])
       (classes_are loaders' rows' retired' l r t) (a ∙ (λ i. over ++ (proper ++ class_is i ∷ []) ∷ []))
       (b ∙ (λ i. front ++ (own_is ∙ (λ j. if is_concrete_row (made j) then length cs.rows ∷ [] else [])) i ∷ []))
-      (kept_now cs over under kept row.loader row.file (has_room cs row.loader row.file none) (live_loader cs row.loader row.file none) proper
+      (kept_now cs over under kept row.loader row.file none proper
       (listed ∙ (λ i. ancestors (cs.rows ++ made i ∷ []) (length cs.rows))) front
       (subst (λ k. IsAppended (if k then proper else []) (length cs.rows) under front) (concrete_is ∙ ap is_concrete_row made)
       (subst (λ k. IsAppended (if concrete then proper else []) k under front) class_is appended))

@@ -1,15 +1,15 @@
--- Walks over ranges and over lists that are changed place by place.
-use Rattle.std.specs.Prelude.{◌≡◌, ℕ, zero, suc, ◌+◌, ◌-◌, ◌<◌, ◌≤◌, Bool, true, false, cond, ◌||◌, List, [], ◌∷◌, ◌++◌, find, filter, map, drop, length, get_or, slice_get, slice_set, Some, None, if◌then◌else◌, nat_eq, ◌==◌}
+-- Walks over ranges and over lists.
+use Rattle.std.specs.Prelude.{◌≡◌, ℕ, suc, ◌+◌, ◌-◌, ◌<◌, ◌≤◌, Bool, true, false, cond, ◌||◌, List, [], ◌∷◌, ◌++◌, find, filter, drop, take, length, get_or, slice_get, Some, None, if◌then◌else◌, nat_eq, ◌==◌}
 use Rattle.std.specs.List.{list_any, range_with_len}
 use Rattle.std.specs.List.Retain.{RetainsInTurn}
 use Rattle.std.proofs.Common.{refl, ap, sym, subst, ◌∙◌, arith, Vec}
-use Rattle.smallvec.specs.SmallVec.{SmallVec}
 use Rattle.std.proofs.lemmas.Cmp.{nat_eq_equiv}
-use Rattle.std.proofs.lemmas.List.{map-set}
+use Rattle.std.proofs.lemmas.List.{take_more}
+use Rattle.std.proofs.lemmas.List.Elements.{filter-append}
+use Rattle.jl_types.specs.World.{Class}
 use Rattle.jl_types.proofs.Lists.{left_at}
-use Rattle.jl_hierarchy.specs.Kept.{lists, named}
-use Rattle.jl_hierarchy.specs.Retiring.{turned}
-use Rattle.jl_hierarchy.proofs.KeptLaws.{get_or-lists}
+use Rattle.jl_hierarchy.specs.Kept.{named}
+use Rattle.jl_hierarchy.specs.Retiring.{is_row_of, own_recorded}
 
 grouped : {A : Type 0} (xs ys zs : List A) → (xs ++ ys) ++ zs ≡ xs ++ (ys ++ zs)
 grouped [] ys zs = refl
@@ -37,6 +37,32 @@ pub any_next : {A : Type 0} (p : ℕ → Bool) (entries : List (Vec ℕ A × ℕ
     → list_any (λ r. p r.1) (named (drop n entries)) ≡ (p c || list_any (λ r. p r.1) (named (drop (n + 1) entries)))
 any_next p entries n key c e = ap (λ es. list_any (λ r. p r.1) (named es)) (left_at entries n (key, c) (sym e))
 
+-- those of the loader from this place on, by the first
+pub own_next : {A : Type 0} (rows : List Class) (loader : ℕ) (entries : List (Vec ℕ A × ℕ)) (n : ℕ) (key : Vec ℕ A) (c : ℕ) (xs : List ℕ) → Some (key, c) ≡ slice_get entries n
+    → (xs ++ (if is_row_of rows loader c then c ∷ [] else [])) ++ own_recorded rows loader (named (drop (n + 1) entries)) ≡ xs ++ own_recorded rows loader (named (drop n entries))
+own_next rows loader entries n key c xs e =
+    grouped xs (if is_row_of rows loader c then c ∷ [] else []) (own_recorded rows loader (named (drop (n + 1) entries)))
+    ∙ ap (λ (ys : List ℕ). xs ++ ys) (by_test (is_row_of rows loader c) (own_recorded rows loader (named (drop (n + 1) entries))))
+    ∙ sym (ap (λ es. xs ++ own_recorded rows loader (named es)) (left_at entries n (key, c) (sym e)))
+  where
+    by_test : (b : Bool) (ys : List ℕ) → (if b then c ∷ [] else []) ++ ys ≡ cond b (c ∷ ys) ys
+    by_test true ys = refl
+    by_test false ys = refl
+
+-- ---- filters
+
+-- a filter of one element more
+pub filtered_more : (p : ℕ → Bool) (xs : List ℕ) (n x : ℕ) → n < length xs → x ≡ get_or xs n x
+    → filter p (take (n + 1) xs) ≡ filter p (take n xs) ++ (if p x then x ∷ [] else [])
+filtered_more p xs n x lt is =
+    ap (filter p) (take_more xs n x lt ∙ ap (λ (y : ℕ). take n xs ++ y ∷ []) (sym is))
+    ∙ filter-append p (take n xs) (x ∷ [])
+    ∙ ap (λ (ys : List ℕ). filter p (take n xs) ++ ys) (by_test (p x))
+  where
+    by_test : (b : Bool) → cond b (x ∷ []) [] ≡ (if b then x ∷ [] else [])
+    by_test true = refl
+    by_test false = refl
+
 -- ---- ranges
 
 module _ (p : ℕ → Bool) (a n : ℕ) where
@@ -63,52 +89,3 @@ module _ (p : ℕ → Bool) (a n : ℕ) where
 
   pub found_never : n ≤ a → find p (range_with_len a (n - a)) ≡ None
   found_never le = ap (find p) (none_of_rest le)
-
-  pub kept_next : (xs all : List ℕ) (b : Bool) → a < n → p a ≡ b → xs ++ filter p (range_with_len a (n - a)) ≡ all
-      → (xs ++ (if b then a ∷ [] else [])) ++ filter p rest ≡ all
-  kept_next xs all b lt is e =
-      grouped xs (if b then a ∷ [] else []) (filter p rest)
-      ∙ ap (λ (ys : List ℕ). xs ++ ys) (by_test b ∙ sym (ap (filter p) (first_of_rest lt) ∙ ap (λ (b : Bool). cond b (a ∷ filter p rest) (filter p rest)) is))
-      ∙ e
-    where
-      by_test : (b : Bool) → (if b then a ∷ [] else []) ++ filter p rest ≡ cond b (a ∷ filter p rest) (filter p rest)
-      by_test true = refl
-      by_test false = refl
-
-  pub kept_all : (xs all : List ℕ) → n ≤ a → xs ++ filter p (range_with_len a (n - a)) ≡ all → xs ≡ all
-  kept_all xs all le e = sym (ap (λ (ys : List ℕ). xs ++ ys) (ap (filter p) (none_of_rest le)) ∙ no_more xs) ∙ e
-    where
-      no_more : (xs : List ℕ) → xs ++ [] ≡ xs
-      no_more [] = refl
-      no_more (x ∷ xs) = ap (λ (ys : List ℕ). x ∷ ys) (no_more xs)
-
--- ---- lists
-
-module _ {A : Type 0} (f : A → A) where
-  at_turn : (n : ℕ) (xs : List A) (d : A) → get_or (turned f n xs) n d ≡ get_or xs n d
-  at_turn zero xs d = refl
-  at_turn (suc n) [] d = refl
-  at_turn (suc n) (x ∷ xs) d = at_turn n xs d
-
-  one_turn : (n : ℕ) (xs : List A) (d : A) → n < length xs → slice_set (turned f n xs) n (f (get_or xs n d)) ≡ turned f (suc n) xs
-  one_turn n [] d lt = absurd (omega (arith, lt))
-  one_turn zero (x ∷ xs) d lt = refl
-  one_turn (suc n) (x ∷ xs) d lt = ap (λ (ys : List A). f x ∷ ys) (one_turn n xs d (omega (arith, lt)))
-
-  pub all_turned : (n : ℕ) (xs : List A) → length xs ≤ n → turned f n xs ≡ map f xs
-  all_turned zero [] le = refl
-  all_turned zero (x ∷ xs) le = absurd (omega (arith, le))
-  all_turned (suc n) [] le = refl
-  all_turned (suc n) (x ∷ xs) le = ap (λ (ys : List A). f x ∷ ys) (all_turned n xs (omega (arith, le)))
-
--- the lists of which one more is changed
-pub list_turned : (f : List ℕ → List ℕ) (below : List (SmallVec ℕ)) (old : List (List ℕ)) (n : ℕ) (v d : SmallVec ℕ) → lists below ≡ turned f n old → n < length old
-    → v.items ≡ f (get_or below n d).items → lists (slice_set below n v) ≡ turned f (n + 1) old
-list_turned f below old n v d are lt is =
-    map-set (λ (u : SmallVec ℕ). u.items) below n v
-    ∙ (λ i. slice_set (are i) n ((is ∙ ap f (sym (get_or-lists below n d) ∙ ap (λ (ls : List (List ℕ)). get_or ls n d.items) are ∙ at_turn f n old d.items)) i))
-    ∙ one_turn f n old d.items lt
-    ∙ ap (λ k. turned f k old) up
-  where
-    up : suc n ≡ n + 1
-    up = omega arith

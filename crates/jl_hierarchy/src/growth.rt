@@ -145,7 +145,7 @@ impl Classes {
     }
 
     /// The ancestors of these classes, each once, by rising number. Want of memory is an error.
-    fn joined_ancestors(
+    pub(crate) fn joined_ancestors(
         &self,
         alloc: Global,
         classes: &[ClassId],

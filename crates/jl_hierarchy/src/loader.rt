@@ -5,9 +5,9 @@ ghost use Rattle.std.specs.List.{list_any};
 ghost use Rattle.jl_types.specs.Members.{recorded};
 ghost use Rattle.jl_types.specs.Definitions.{with_record};
 ghost use Rattle.jl_hierarchy.specs.Kept.{are_new};
-ghost use Rattle.jl_hierarchy.specs.Retiring.{is_row_of};
+ghost use Rattle.jl_hierarchy.specs.Retiring.{is_row_of, own_recorded};
 
-use crate::retire::is_row_of;
+use crate::retire::{is_row_of, push_if};
 use crate::row::Row;
 use indexmap::IndexMap;
 use jl_paged::Paged;
@@ -66,6 +66,19 @@ impl Loader {
         ensures { result ≡ list_any (λ r. is_row_of rows.now.items loader r.1) self.now }
     {
         self.older.has_one_of(rows, loader) || self.recent.has_one_of(rows, loader)
+    }
+
+    /// Adds the classes that are recorded and of the loader behind these. Want of memory is an error.
+    pub(crate) fn add_own(
+        &self,
+        rows: &Paged<Row>,
+        loader: LoaderId,
+        own: &mut Vec<ClassId>,
+    ) -> Result<(), AllocError>
+        ensures { OnOk result (own.new.items ≡ own.old.items ++ own_recorded rows.now.items loader self.now) }
+    {
+        self.older.add_own(rows, loader, own)?;
+        self.recent.add_own(rows, loader, own)
     }
 
     /// The same loader once more, which both share. Too many copies are an error.
@@ -219,6 +232,25 @@ impl Records {
             place += 1;
         }
         false
+    }
+
+    /// Adds the classes of the loader behind these. Want of memory is an error.
+    fn add_own(
+        &self,
+        rows: &Paged<Row>,
+        loader: LoaderId,
+        own: &mut Vec<ClassId>,
+    ) -> Result<(), AllocError>
+        ensures { OnOk result (own.new.items ≡ own.old.items ++ own_recorded rows.now.items loader self.now) }
+    {
+        let _count = self.records.len();
+        let mut place = 0;
+        while let Some((_, class)) = self.records.get_index(place) {
+            let is_one = is_row_of(rows, loader, *class);
+            push_if(own, is_one, *class)?;
+            place += 1;
+        }
+        Ok(())
     }
 
     /// How many names there are.

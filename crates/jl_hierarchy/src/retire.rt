@@ -1,6 +1,6 @@
 //! The retirement of a loader with the classes that it has defined (JLS SE 17 §12.7).
 
-ghost use Rattle.std.specs.Prelude.{◌≡◌, ◌<◌, ◌≤◌, ◌&&◌, ◌==◌, ◌++◌, ◌∷◌, None, find, not, map, filter, length, slice_get, slice_set, [], OnOk, OnErr, IfOk, false, if◌then◌else◌};
+ghost use Rattle.std.specs.Prelude.{◌≡◌, ◌<◌, ◌≤◌, ◌&&◌, ◌==◌, ◌++◌, ◌∷◌, ℕ, None, All, find, not, filter, length, slice_get, slice_set, [], OnOk, OnErr, IfOk, false, if◌then◌else◌};
 ghost use Rattle.std.specs.Option.{option_map_or};
 ghost use Rattle.jl_types.specs.Ancestry as ancestry;
 ghost use Rattle.std.specs.List.{list_any, range_with_len};
@@ -8,8 +8,8 @@ ghost use Rattle.jl_types.specs.Members as members;
 ghost use Rattle.jl_types.specs.Definitions as definitions;
 ghost use Rattle.jl_types.specs.Retirement as retirement;
 ghost use Rattle.jl_hierarchy.specs.Constancy.{AreInOrder};
-ghost use Rattle.jl_hierarchy.specs.Kept.{lists};
-ghost use Rattle.jl_hierarchy.specs.Retiring.{is_row_of};
+ghost use Rattle.jl_hierarchy.specs.Kept.{AreChanged, Rises, lists};
+ghost use Rattle.jl_hierarchy.specs.Retiring.{is_row_of, own_recorded, without};
 
 use crate::classes::Classes;
 use crate::loader::Loader;
@@ -18,6 +18,7 @@ use crate::row::Row;
 use indexmap::IndexSet;
 use jl_paged::Paged;
 use jl_types::{ClassId, LoaderId, RetireFault};
+use smallvec::SmallVec;
 use std::alloc::{AllocError, Global};
 
 impl Classes {
@@ -165,7 +166,8 @@ impl Classes {
         }
     }
 
-    /// The classes that lose a receiver where the loader goes, by rising number. Want of memory is an error.
+    /// The classes that lose a receiver where the loader goes, by rising number: a walk over what the loader has recorded, and over
+    /// the ancestors of its own classes. Want of memory is an error.
     pub fn losing_receivers(
         &self,
         alloc: Global,
@@ -173,20 +175,53 @@ impl Classes {
     ) -> Result<Vec<ClassId>, AllocError>
         ensures { IfOk result (λ losing. losing.items ≡ retirement.losing_receivers self.now loader) }
     {
-        let count = self.count_in_order();
-        let mut losing = Vec::new(alloc);
-        let mut number = 0;
-        while number < count {
-            let class = ClassId::new(number as u32);
-            let loses = self.has_one_of(loader, self.receivers(class));
-            push_if(&mut losing, loses, class)?;
-            number += 1;
-        }
+        let _ = &self.rows;
+        let own = self.own_classes(alloc, loader)?;
+        let concrete = self.concrete_among(alloc, &own)?;
+        let losing = self.joined_ancestors(alloc, &concrete)?;
         Ok(losing)
     }
 
+    /// The classes that the loader has defined, in the order in which it recorded them, and none of a retired one: a walk over what it
+    /// has recorded. Want of memory is an error.
+    fn own_classes(&self, alloc: Global, loader: LoaderId) -> Result<Vec<ClassId>, AllocError>
+        ensures { IfOk result (λ own. (c : ℕ) → list_any (λ k. k == c) own.items
+            ≡ (members.is_present self.now c && retirement.is_of self.now loader c)) }
+    {
+        let _ = &self.rows;
+        if self.is_retired(loader) {
+            return Ok(Vec::new(alloc));
+        }
+        let own = self.own_recorded(alloc, loader)?;
+        Ok(own)
+    }
+
+    /// The classes that the loader has recorded and defined. Want of memory is an error.
+    fn own_recorded(&self, alloc: Global, loader: LoaderId) -> Result<Vec<ClassId>, AllocError>
+        ensures { IfOk result (λ own. own.items ≡ option_map_or (own_recorded self.now.rows loader) (slice_get self.now.loaders loader) []) }
+    {
+        let mut own = Vec::new(alloc);
+        if let Some(records) = self.loaders.get(loader.number() as usize) {
+            records.add_own(&self.rows, loader, &mut own)?;
+        }
+        Ok(own)
+    }
+
+    /// Those of the classes that objects may be of. Want of memory is an error.
+    fn concrete_among(&self, alloc: Global, classes: &[ClassId]) -> Result<Vec<ClassId>, AllocError>
+        ensures { IfOk result (λ concrete. concrete.items ≡ filter (members.is_concrete self.now) classes.now) }
+    {
+        let mut concrete = Vec::new(alloc);
+        for class in classes {
+            let is_one = self.is_concrete(*class);
+            push_if(&mut concrete, is_one, *class)?;
+        }
+        Ok(concrete)
+    }
+
     /// The loader goes, with all that it has defined and all that it finds, where nothing speaks against it: it finds nothing any
-    /// more, and its classes are no receivers. Their numbers aren't given again.
+    /// more, and its classes are no receivers. Their numbers aren't given again. A walk over what the loader has recorded, and over the
+    /// receivers of the ancestors of its own classes; every growth comes before the first change, or is it.
     ///
     /// # Errors
     ///
@@ -197,16 +232,21 @@ impl Classes {
         ensures in_order { OnOk result (AreInOrder self.old) }
         ensures err { OnErr result (self.new ≡ self.old) }
     {
+        let losing = self.losing_receivers(alloc, loader)?;
         let bare = Loader::new(alloc)?;
         mark_retired(&mut self.retired, loader)?;
         empty_in(&mut self.loaders, loader, bare);
-        drop_all_receivers(&self.rows, &mut self.below, loader);
+        drop_own_receivers(alloc, &self.rows, &mut self.below, loader, &losing);
         Ok(())
     }
 }
 
 /// Adds the class, if so. Want of memory is an error.
-fn push_if(classes: &mut Vec<ClassId>, is_one: bool, class: ClassId) -> Result<(), AllocError>
+pub(crate) fn push_if(
+    classes: &mut Vec<ClassId>,
+    is_one: bool,
+    class: ClassId,
+) -> Result<(), AllocError>
     ensures { OnOk result (classes.new.items ≡ classes.old.items ++ (if is_one then class ∷ [] else [])) }
 {
     if is_one {
@@ -238,11 +278,19 @@ fn empty_in(loaders: &mut Vec<Loader>, loader: LoaderId, bare: Loader)
     empty(loaders.as_mut_slice(), loader, bare);
 }
 
-/// Takes the classes of the loader out of all lists of receivers.
-fn drop_all_receivers(rows: &Paged<Row>, below: &mut Vec<Receivers>, loader: LoaderId)
-    ensures { lists below.new.items ≡ map (filter (λ x. not (is_row_of rows.now.items loader x))) (lists below.old.items) }
+/// Takes the classes of the loader out of the receivers of each of these.
+fn drop_own_receivers(
+    alloc: Global,
+    rows: &Paged<Row>,
+    below: &mut Vec<Receivers>,
+    loader: LoaderId,
+    losing: &[ClassId],
+)
+    requires there { All (λ c. c < length below.old.items) losing.now }
+    requires rising { Rises losing.now }
+    ensures { AreChanged losing.now (without rows.now.items loader) (lists below.old.items) (lists below.new.items) }
 {
-    drop_receivers(rows, below.as_mut_slice(), loader);
+    drop_receivers(alloc, rows, below.as_mut_slice(), loader, losing);
 }
 
 /// The same in a slice.
@@ -255,17 +303,35 @@ fn empty(loaders: &mut [Loader], loader: LoaderId, bare: Loader)
 }
 
 /// The same in a slice.
-fn drop_receivers(rows: &Paged<Row>, below: &mut [Receivers], loader: LoaderId)
-    ensures { lists below.new ≡ map (filter (λ x. not (is_row_of rows.now.items loader x))) (lists below.old) }
+fn drop_receivers(
+    alloc: Global,
+    rows: &Paged<Row>,
+    below: &mut [Receivers],
+    loader: LoaderId,
+    losing: &[ClassId],
+)
+    requires there { All (λ c. c < length below.old) losing.now }
+    requires rising { Rises losing.now }
+    ensures { AreChanged losing.now (without rows.now.items loader) (lists below.old) (lists below.new) }
 {
-    for place in 0..below.len() {
-        drop_from(rows, &mut below[place], loader);
+    for class in losing {
+        drop_from(alloc, rows, &mut below[class.number() as usize], loader);
+    }
+}
+
+/// Takes the classes of the loader out of the list, which keeps no room where nothing is left.
+fn drop_from(alloc: Global, rows: &Paged<Row>, receivers: &mut Receivers, loader: LoaderId)
+    ensures { receivers.new.items ≡ without rows.now.items loader receivers.old.items }
+{
+    retain_others(rows, receivers, loader);
+    if receivers.is_empty() {
+        *receivers = SmallVec::new(alloc);
     }
 }
 
 /// Takes the classes of the loader out of the list.
-fn drop_from(rows: &Paged<Row>, receivers: &mut Receivers, loader: LoaderId)
-    ensures { receivers.new.items ≡ filter (λ x. not (is_row_of rows.now.items loader x)) receivers.old.items }
+fn retain_others(rows: &Paged<Row>, receivers: &mut Receivers, loader: LoaderId)
+    ensures { receivers.new.items ≡ without rows.now.items loader receivers.old.items }
 {
     receivers.retain(|class| !is_row_of(rows, loader, *class));
 }

@@ -3,7 +3,7 @@ use Rattle.smallvec.specs.SmallVec.{HasRoomFor}
 use Rattle.std.proofs.Common.{ap, sym, subst, ◌∙◌, arith}
 use Rattle.std.proofs.lemmas.Bool.Decides.{Decides-eqb}
 use Rattle.jl_hierarchy.specs.Kept.{IsAppended, lists}
-use Rattle.jl_hierarchy.proofs.Appending.{appended_more, room_set, rises_at}
+use Rattle.jl_hierarchy.proofs.Appending.{changed_more, room_set, rises_at}
 use Rattle.jl_hierarchy.proofs.receiving.append_to_each.Goals as goal
 
 pub push_reserved-requires : goal.push_reserved-requires
@@ -32,7 +32,7 @@ loop-to-preserved c =
     let is = c.number.ensures ∙ c.to-item.is in (
       subst (λ m. IsAppended (take (c.loop-to.to-index + 1) c.args.classes.now) c.args.class (lists c.args.below.now) (lists (slice_set c.loop-to.below m new)))
           (sym is)
-          (appended_more c.args.classes.now c.args.class (lists c.args.below.now) c.loop-to.below c.loop-to.to-index c.to-item.result c.requires.rising
+          (changed_more c.args.classes.now (λ xs. xs ++ c.args.class ∷ []) (lists c.args.below.now) c.loop-to.below c.loop-to.to-index c.to-item.result c.requires.rising
           c.loop-to-test.true c.loop-to.invariant.0 new list (inside c)
           (c.push_reserved.ensures.items ∙ ap (λ m. (get_or c.loop-to.below m list).items ++ c.args.class ∷ []) is)),
       λ k d le lt. room_set c.loop-to.below c.number.result (get_or c.args.classes.now k d) new (let low = inside c in omega arith)

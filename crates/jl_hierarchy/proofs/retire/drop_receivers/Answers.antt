@@ -1,21 +1,19 @@
-use Rattle.std.specs.Prelude.{ℕ, filter, not}
-use Rattle.std.proofs.Common.{◌∙◌, arith}
-use Rattle.std.proofs.lemmas.List.{length-map}
-use Rattle.smallvec.specs.SmallVec.{SmallVec}
-use Rattle.jl_hierarchy.specs.Kept.{lists}
-use Rattle.jl_hierarchy.specs.Retiring.{is_row_of}
-use Rattle.jl_hierarchy.proofs.Turns.{list_turned, all_turned}
+use Rattle.std.specs.Prelude.{◌+◌, get_or, slice_set, take}
+use Rattle.std.proofs.Common.{ap, sym, subst, ◌∙◌, arith}
+use Rattle.jl_hierarchy.specs.Kept.{AreChanged, lists}
+use Rattle.jl_hierarchy.specs.Retiring.{without}
+use Rattle.jl_hierarchy.proofs.Appending.{changed_more}
 use Rattle.jl_hierarchy.proofs.retire.drop_receivers.Goals as goal
 
-pub loop-place-preserved : goal.loop-place-preserved
-loop-place-preserved c =
-    let many = length-map c.args.below.now (λ (v : SmallVec ℕ). v.items) in
-    list_turned (filter (λ x. not (is_row_of c.args.rows.now.items c.args.loader x))) c.loop-place.below (lists c.args.below.now) c.loop-place.place
-    c.drop_from.new.receivers c.index-below-place.result c.loop-place.invariant (let lt = c.loop-place-test.true in omega (arith, lt, many)) c.drop_from.ensures
-
-pub returns : goal.returns
-returns c =
-    let many = length-map c.args.below.now (λ (v : SmallVec ℕ). v.items) in
-    c.loop-place.invariant
-    ∙ all_turned (filter (λ x. not (is_row_of c.args.rows.now.items c.args.loader x))) c.loop-place.place (lists c.args.below.now)
-    (let done = c.loop-place-test.false in omega (arith, done, many))
+pub loop-class-preserved : goal.loop-class-preserved
+loop-class-preserved c =
+    let list = c.index-below-number.result in
+    let new = c.drop_from.new.receivers in
+    let is = c.number.ensures ∙ c.class-item.is in
+    let low = c.requires.there c.loop-class.class-index c.class-item.result c.loop-class-test.true in
+    let many = c.loop-class.auto.below in
+    subst (λ m. AreChanged (take (c.loop-class.class-index + 1) c.args.losing.now) (without c.args.rows.now.items c.args.loader) (lists c.args.below.now) (lists (slice_set c.loop-class.below m new)))
+    (sym is)
+    (changed_more c.args.losing.now (without c.args.rows.now.items c.args.loader) (lists c.args.below.now) c.loop-class.below c.loop-class.class-index c.class-item.result
+    c.requires.rising c.loop-class-test.true c.loop-class.invariant new list (omega (arith, low, many))
+    (c.drop_from.ensures ∙ ap (λ m. without c.args.rows.now.items c.args.loader (get_or c.loop-class.below m list).items) is))

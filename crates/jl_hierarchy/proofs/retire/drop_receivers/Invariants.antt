@@ -1,8 +1,8 @@
-use Rattle.std.proofs.Common.{◌≡◌, filter, not}
-use Rattle.jl_hierarchy.specs.Kept.{lists}
-use Rattle.jl_hierarchy.specs.Retiring.{is_row_of, turned}
+use Rattle.std.specs.Prelude.{take}
+use Rattle.jl_hierarchy.specs.Kept.{AreChanged, lists}
+use Rattle.jl_hierarchy.specs.Retiring.{without}
 use Rattle.jl_hierarchy.proofs.retire.drop_receivers.Given as goal
 
--- the lists before this place are done
-abbrev pub invariant-loop-place : goal.invariant-loop-place
-invariant-loop-place l = lists l.below ≡ turned (filter (λ x. not (is_row_of l.rows.items l.loader x))) l.place (lists l.fn.below)
+-- the lists of the classes so far are done
+abbrev pub invariant-loop-class : goal.invariant-loop-class
+invariant-loop-class l = AreChanged (take l.class-index l.fn.losing) (without l.rows.items l.loader) (lists l.fn.below) (lists l.below)

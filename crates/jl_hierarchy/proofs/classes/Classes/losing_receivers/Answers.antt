@@ -1,23 +1,24 @@
-use Rattle.std.specs.Prelude.{◌≡◌, ℕ, List, ◌∷◌, [], ◌++◌, filter, ◌-◌, ◌+◌, if◌then◌else◌}
-use Rattle.std.specs.List.{list_any, range_with_len}
-use Rattle.std.proofs.Common.{ap, sym, ◌∙◌, arith}
-use Rattle.jl_types.specs.Ancestry as ancestry
-use Rattle.jl_types.specs.Retirement as retirement
-use Rattle.jl_hierarchy.proofs.Turns.{kept_next}
+use Rattle.std.specs.Prelude.{◌<◌, length, All, filter}
+use Rattle.std.specs.List.{list_any}
+use Rattle.std.proofs.Common.{ap, sym, subst, ◌∙◌}
+use Rattle.jl_types.specs.Members.{is_concrete}
+use Rattle.jl_types.specs.Ancestry.{is_ancestor}
+use Rattle.jl_hierarchy.proofs.KeptLaws.{good}
+use Rattle.jl_hierarchy.proofs.OwnRecords.{own_there, losing_are}
 use Rattle.jl_hierarchy.proofs.classes.Classes.losing_receivers.Goals as goal
 
-pub loop-number-preserved : goal.loop-number-preserved
-loop-number-preserved c =
-    let lt = c.loop-number-test.true in
-    record {
-      within = omega (arith, lt);
-      all =
-          ap (λ (xs : List ℕ). xs ++ filter (λ k. list_any (retirement.is_of c.args.self.now c.args.loader) (ancestry.receivers c.args.self.now k))
-          (range_with_len (c.loop-number.number + 1) (c.count_in_order-count.result - (c.loop-number.number + 1))))
-          (c.in_ok-push_if.ensures ∙ (λ i. c.loop-number.losing.items ++ (if c.has_one_of-loses.result then c.new-class.ensures i ∷ [] else [])))
-          ∙ kept_next (λ k. list_any (retirement.is_of c.args.self.now c.args.loader) (ancestry.receivers c.args.self.now k)) c.loop-number.number
-          c.count_in_order-count.result c.loop-number.losing.items _ c.has_one_of-loses.result lt
-          (sym (c.has_one_of-loses.ensures
-          ∙ ap (list_any (retirement.is_of c.args.self.now c.args.loader)) (c.receivers.ensures ∙ ap (ancestry.receivers c.args.self.now) c.new-class.ensures)))
-          c.loop-number.invariant.all;
-    }
+pub joined_ancestors-requires-clause-there : goal.joined_ancestors-requires-clause-there
+joined_ancestors-requires-clause-there c =
+    subst (All (λ p. p < length c.args.self.now.rows)) (sym c.deref-2.ensures.value)
+    (own_there c.args.self.now (good _ _ _ c.self.invariant.0 c.args.self.now c.self.view_is).ordered c.args.loader
+    c.in_ok-own.own.items c.in_ok-concrete.concrete.items c.in_ok-own.ensures (c.in_ok-concrete.ensures ∙ ap (filter (is_concrete c.args.self.now)) c.deref.ensures.value))
+
+pub joined_ancestors-requires-clause-ordered : goal.joined_ancestors-requires-clause-ordered
+joined_ancestors-requires-clause-ordered c = (good _ _ _ c.self.invariant.0 c.args.self.now c.self.view_is).ordered
+
+pub returns : goal.returns
+returns c =
+    losing_are c.args.self.now (good _ _ _ c.self.invariant.0 c.args.self.now c.self.view_is).ordered c.args.loader
+    c.in_ok-own.own.items c.in_ok-concrete.concrete.items c.in_ok-own.ensures (c.in_ok-concrete.ensures ∙ ap (filter (is_concrete c.args.self.now)) c.deref.ensures.value)
+    c.in_ok-losing.losing.items c.in_ok-losing.ensures.rising
+    (λ a. c.in_ok-losing.ensures.members a ∙ ap (list_any (λ p. is_ancestor c.args.self.now a p)) c.deref-2.ensures.value)
