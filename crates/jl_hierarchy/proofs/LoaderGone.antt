@@ -80,7 +80,8 @@ module _ (cs : Classes) (loader : ℕ) (none : classes_fault cs loader ≡ None)
         ∙ by_test (loses i) refl
       where
         was : get_or below i [] ≡ receivers cs i
-        was = ap (λ (ls : List (List ℕ)). get_or ls i []) kept.receivers_kept ∙ get_or-map-range_with_len (receivers cs) 0 (length cs.rows) i i [] lt (omega arith)
+        was = ap (λ (ls : List (List ℕ)). get_or ls i []) kept.receivers_kept
+            ∙ get_or-map-range_with_len (receivers cs) 0 (length cs.rows) i i [] lt (omega arith)
 
         there : has i (numbers cs) ≡ true
         there = any-range-from (λ k. k == i) 0 (length cs.rows) i (omega arith) (omega (arith, lt)) (nat_eq_equiv.refl i)
@@ -94,7 +95,8 @@ module _ (cs : Classes) (loader : ℕ) (none : classes_fault cs loader ≡ None)
     receivers_now =
         let many = changed.many ∙ ap length kept.receivers_kept ∙ length-map-range_with_len (receivers cs) 0 (length cs.rows) in
         ext_get_or [] below' (map (receivers new) (numbers new)) (many ∙ sym (length-map-range_with_len (receivers new) 0 (length cs.rows)))
-        (λ i lt. one_list i (omega (arith, lt, many)) ∙ sym (get_or-map-range_with_len (receivers new) 0 (length cs.rows) i i [] (omega (arith, lt, many)) (omega arith)))
+        (λ i lt. one_list i (omega (arith, lt, many))
+        ∙ sym (get_or-map-range_with_len (receivers new) 0 (length cs.rows) i i [] (omega (arith, lt, many)) (omega arith)))
 
     pub kept_retired : IsKept new above below'
     kept_retired = record {

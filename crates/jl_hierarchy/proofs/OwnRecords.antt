@@ -9,6 +9,7 @@ use Rattle.std.proofs.Common.{refl, ap, sym, subst, ◌∙◌, arith, inl, inr, 
 use Rattle.std.proofs.lemmas.Bool.{both_ways, leb-false, or_cases, or_right}
 use Rattle.std.proofs.lemmas.Bool.Decides.{Decides-eqb}
 use Rattle.std.proofs.lemmas.Cmp.{nat_eq_equiv}
+use Rattle.std.proofs.lemmas.Map.Views.{any-filter_same}
 use Rattle.std.proofs.lemmas.Option.{same_Some, slice_get_within}
 use Rattle.std.proofs.lemmas.Slice.Eq.{bytes_eq-Decides}
 use Rattle.jl_classfile.specs.Class.{ClassFile}
@@ -32,6 +33,14 @@ use Rattle.jl_hierarchy.proofs.Constancy.{stays_defined, stays_with_record, stay
 use Rattle.jl_hierarchy.proofs.FaultLaws.{is_new}
 use Rattle.jl_hierarchy.proofs.Rising.{has, one_rising, filter_rises}
 
+first_of_both : (a b : Bool) → (a || b) ≡ false → a ≡ false
+first_of_both true b e = cc
+first_of_both false b e = refl
+
+and_none : (b : Bool) → (b && false) ≡ false
+and_none true = refl
+and_none false = refl
+
 -- ---- through every change
 
 module _ (cs : Classes) (good : IsGood cs) (own : AreRecorded cs) where
@@ -46,10 +55,6 @@ module _ (cs : Classes) (good : IsGood cs) (own : AreRecorded cs) where
   own_retired loader c row at alive =
       (stays_retired cs good loader).records row.loader row.file.name c alive
       (own c row at (first_of_both (is_retired cs row.loader) (loader == row.loader) (sym (retired_after cs loader row.loader) ∙ alive)))
-    where
-      first_of_both : (a b : Bool) → (a || b) ≡ false → a ≡ false
-      first_of_both true b e = cc
-      first_of_both false b e = refl
 
 -- a name that isn't recorded is found once it is
 recorded_last : (name : List ℕ) (n : ℕ) (records : List (List ℕ × ℕ)) → recorded name records ≡ None → recorded name (records ++ (name, n) ∷ []) ≡ Some n
@@ -63,14 +68,16 @@ recorded_last name n (r ∷ records) none = by_test (bytes_eq r.0 name) none (re
     by_test false none rest = rest none
 
 found_last : (loaders : List (List (List ℕ × ℕ))) (loader : ℕ) (name : List ℕ) (n : ℕ) → loader < length loaders
-    → option_and_then (recorded name) (slice_get loaders loader) ≡ None → option_and_then (recorded name) (slice_get (with_record loaders loader name n) loader) ≡ Some n
+    → option_and_then (recorded name) (slice_get loaders loader) ≡ None
+    → option_and_then (recorded name) (slice_get (with_record loaders loader name n) loader) ≡ Some n
 found_last [] loader name n lt none = absurd (omega arith)
 found_last (records ∷ loaders) zero name n lt none = recorded_last name n records none
 found_last (records ∷ loaders) (suc loader) name n lt none =
     behind (slice_get loaders loader) refl ∙ found_last loaders loader name n (omega arith) none
   where
     behind : (o : Option (List (List ℕ × ℕ))) → slice_get loaders loader ≡ o
-        → option_and_then (recorded name) (slice_get (option_map_or (λ rs. slice_set (records ∷ loaders) (suc loader) (rs ++ (name, n) ∷ [])) o (records ∷ loaders)) (suc loader))
+        → option_and_then (recorded name)
+        (slice_get (option_map_or (λ rs. slice_set (records ∷ loaders) (suc loader) (rs ++ (name, n) ∷ [])) o (records ∷ loaders)) (suc loader))
         ≡ option_and_then (recorded name) (slice_get (option_map_or (λ rs. slice_set loaders loader (rs ++ (name, n) ∷ [])) o loaders) loader)
     behind None e = refl
     behind (Some rs) e = refl
@@ -84,10 +91,6 @@ module _ (cs : Classes) (good : IsGood cs) (own : AreRecorded cs) (loader : ℕ)
       leb-false (length cs.loaders) loader
       (first_of_both (nat_le (length cs.loaders) loader) (is_retired cs loader)
       (test_none (is_unknown cs loader) UnknownLoader (first_none (then_some (is_unknown cs loader) UnknownLoader) _ none).0))
-    where
-      first_of_both : (a b : Bool) → (a || b) ≡ false → a ≡ false
-      first_of_both true b e = cc
-      first_of_both false b e = refl
 
   pub own_defined : AreRecorded new
   own_defined c row at alive = by_number (length cs.rows == c) refl
@@ -116,26 +119,7 @@ module _ (cs : Classes) (good : IsGood cs) (own : AreRecorded cs) (loader : ℕ)
 -- ---- the loader's own classes
 
 pub has_filtered : (p : ℕ → Bool) (c : ℕ) (xs : List ℕ) → has c (filter p xs) ≡ (p c && has c xs)
-has_filtered p c [] = sym (nothing (p c))
-  where
-    nothing : (b : Bool) → (b && false) ≡ false
-    nothing true = refl
-    nothing false = refl
-has_filtered p c (x ∷ xs) = by_test (p x) refl (has_filtered p c xs)
-  where
-    same_test : (x == c) ≡ true → p x ≡ p c
-    same_test e = ap p ((Decides-eqb x c).0 e)
-
-    joined : (b d e : Bool) → (x == c) ≡ e → p x ≡ b → has c (filter p xs) ≡ (p c && d) → has c (cond b (x ∷ filter p xs) (filter p xs)) ≡ (p c && (e || d))
-    joined true d true same is rest =
-        ap (λ (b : Bool). b || has c (filter p xs)) same ∙ sym (ap (λ (b : Bool). b && (true || d)) (sym (same_test same) ∙ is))
-    joined true d false same is rest = ap (λ (b : Bool). b || has c (filter p xs)) same ∙ rest
-    joined false d true same is rest =
-        rest ∙ ap (λ (b : Bool). b && d) (sym (same_test same) ∙ is) ∙ sym (ap (λ (b : Bool). b && (true || d)) (sym (same_test same) ∙ is))
-    joined false d false same is rest = rest
-
-    by_test : (b : Bool) → p x ≡ b → has c (filter p xs) ≡ (p c && has c xs) → has c (cond b (x ∷ filter p xs) (filter p xs)) ≡ (p c && ((x == c) || has c xs))
-    by_test b is rest = joined b (has c xs) (x == c) refl is rest
+has_filtered p c xs = any-filter_same (λ k. k == c) p (p c) (λ k is. ap p ((Decides-eqb k c).0 is)) xs
 
 has_place : (xs : List ℕ) (k d : ℕ) → k < length xs → has (get_or xs k d) xs ≡ true
 has_place [] k d lt = absurd (omega arith)
@@ -146,7 +130,8 @@ has_place (x ∷ xs) (suc k) d lt = or_right (x == get_or xs k d) (has (get_or x
 filtered_there : (p : ℕ → Bool) (n : ℕ) (xs : List ℕ) → xs ≡ filter p (range_with_len 0 n) → (k d : ℕ) → k < length xs → get_or xs k d < n
 filtered_there p n xs e k d lt =
     let c = get_or xs k d in
-    let low : c < 0 + n = in_range 0 n c (second_test (p c) (has c (range_with_len 0 n)) (sym (ap (has c) e ∙ has_filtered p c (range_with_len 0 n)) ∙ has_place xs k d lt)) in
+    let low : c < 0 + n = in_range 0 n c
+    (second_test (p c) (has c (range_with_len 0 n)) (sym (ap (has c) e ∙ has_filtered p c (range_with_len 0 n)) ∙ has_place xs k d lt)) in
     omega (arith, low)
   where
     in_range : (a n c : ℕ) → has c (range_with_len a n) ≡ true → c < a + n
@@ -166,13 +151,10 @@ module _ (cs : Classes) (own : AreRecorded cs) (loader : ℕ) where
     where
       by_same : (l : ℕ) (b : Bool) → (l == loader) ≡ b → (not (is_retired cs l) && b) ≡ false
       by_same l true same = ap (λ (b : Bool). not b && true) (ap (is_retired cs) ((Decides-eqb l loader).0 same) ∙ gone)
-      by_same l false same = nothing (not (is_retired cs l))
-        where
-          nothing : (b : Bool) → (b && false) ≡ false
-          nothing true = refl
-          nothing false = refl
+      by_same l false same = and_none (not (is_retired cs l))
 
-      by_row : (o : Option Class) → (option_map_or (λ row. not (is_retired cs row.loader)) o false && option_map_or (λ row. row.loader == loader) o false) ≡ false
+      by_row : (o : Option Class)
+          → (option_map_or (λ row. not (is_retired cs row.loader)) o false && option_map_or (λ row. row.loader == loader) o false) ≡ false
       by_row None = refl
       by_row (Some row) = by_same row.loader (row.loader == loader) refl
 
@@ -180,7 +162,8 @@ module _ (cs : Classes) (own : AreRecorded cs) (loader : ℕ) where
   found_own : is_retired cs loader ≡ false → (c : ℕ) → is_of cs loader c ≡ true → (row : Class) × (lookup cs loader row.file.name ≡ Some c)
   found_own alive c is = by_row (slice_get cs.rows c) refl is
     where
-      by_row : (o : Option Class) → slice_get cs.rows c ≡ o → option_map_or (λ row. row.loader == loader) o false ≡ true → (row : Class) × (lookup cs loader row.file.name ≡ Some c)
+      by_row : (o : Option Class) → slice_get cs.rows c ≡ o → option_map_or (λ row. row.loader == loader) o false ≡ true
+          → (row : Class) × (lookup cs loader row.file.name ≡ Some c)
       by_row None at is = cc
       by_row (Some row) at is =
           let same = (Decides-eqb row.loader loader).0 is in
@@ -189,7 +172,8 @@ module _ (cs : Classes) (own : AreRecorded cs) (loader : ℕ) where
   present_own : is_retired cs loader ≡ false → (c : ℕ) → is_of cs loader c ≡ true → is_present cs c ≡ true
   present_own alive c is = by_row (slice_get cs.rows c) is
     where
-      by_row : (o : Option Class) → option_map_or (λ row. row.loader == loader) o false ≡ true → option_map_or (λ row. not (is_retired cs row.loader)) o false ≡ true
+      by_row : (o : Option Class) → option_map_or (λ row. row.loader == loader) o false ≡ true
+          → option_map_or (λ row. not (is_retired cs row.loader)) o false ≡ true
       by_row None is = cc
       by_row (Some row) is = ap not (ap (is_retired cs) ((Decides-eqb row.loader loader).0 is) ∙ alive)
 
@@ -197,7 +181,8 @@ module _ (cs : Classes) (own : AreRecorded cs) (loader : ℕ) where
   pub own_are : is_retired cs loader ≡ false → (c : ℕ) → has c (option_map_or (own_recorded cs.rows loader) (slice_get cs.loaders loader) []) ≡ is_own c
   own_are alive c = by_test (is_of cs loader c) refl
     where
-      among : is_of cs loader c ≡ true → (o : Option (List (List ℕ × ℕ))) → slice_get cs.loaders loader ≡ o → has c (option_map_or (own_recorded cs.rows loader) o []) ≡ true
+      among : is_of cs loader c ≡ true → (o : Option (List (List ℕ × ℕ))) → slice_get cs.loaders loader ≡ o
+          → has c (option_map_or (own_recorded cs.rows loader) o []) ≡ true
       among is None at = let found = found_own alive c is in absurd (none_found (sym (ap (option_and_then (recorded found.0.file.name)) at) ∙ found.1))
         where
           none_found : ◌≡◌ {A = Option ℕ} None (Some c) → ⊥
@@ -214,13 +199,10 @@ module _ (cs : Classes) (own : AreRecorded cs) (loader : ℕ) where
       not_among other (Some records) =
           has_filtered (is_of cs loader) c (map (λ r. r.1) records) ∙ ap (λ (b : Bool). b && has c (map (λ r. r.1) records)) other
 
-      nothing : (b : Bool) → (b && false) ≡ false
-      nothing true = refl
-      nothing false = refl
-
       by_test : (b : Bool) → is_of cs loader c ≡ b → has c (option_map_or (own_recorded cs.rows loader) (slice_get cs.loaders loader) []) ≡ is_own c
       by_test true is = among is (slice_get cs.loaders loader) refl ∙ sym (λ i. present_own alive c is i && is i)
-      by_test false other = not_among other (slice_get cs.loaders loader) ∙ sym (nothing (is_present cs c)) ∙ ap (λ (b : Bool). is_present cs c && b) (sym other)
+      by_test false other =
+          not_among other (slice_get cs.loaders loader) ∙ sym (and_none (is_present cs c)) ∙ ap (λ (b : Bool). is_present cs c && b) (sym other)
 
 -- ---- what loses a receiver
 
@@ -256,7 +238,8 @@ module _ (cs : Classes) (o : AreOrdered cs.rows) (loader : ℕ) (own concrete : 
       let mine : (is_present cs p && is_of cs loader p) ≡ true = sym (own_is p) ∙ second_test (is_concrete cs p) (has p own) both in
       let lt = there p (first_test (is_present cs p) (is_of cs loader p) mine) in
       let le = above cs.rows o a ((ancestor_decides cs o a p).0 one.2) in
-      any-filter-at loses (λ k. k == a) a (numbers cs) (any-range-from (λ k. k == a) 0 (length cs.rows) a (omega arith) (omega (arith, lt, le)) (nat_eq_equiv.refl a))
+      any-filter-at loses (λ k. k == a) a (numbers cs)
+      (any-range-from (λ k. k == a) 0 (length cs.rows) a (omega arith) (omega (arith, lt, le)) (nat_eq_equiv.refl a))
       (any-filter-at (λ x. is_concrete cs x && is_ancestor cs a x) (is_of cs loader) p (numbers cs)
       (any-range-from (λ k. k == p) 0 (length cs.rows) p (omega arith) (omega (arith, lt)) (nat_eq_equiv.refl p))
       (λ i. concrete' i && one.2 i) (second_test (is_present cs p) (is_of cs loader p) mine))
@@ -272,13 +255,15 @@ module _ (cs : Classes) (o : AreOrdered cs.rows) (loader : ℕ) (own concrete : 
       (ap (has p) concrete_is ∙ has_filtered (is_concrete cs) p own
       ∙ (λ i. concrete' i && (own_is p ∙ (λ j. first_test (is_present cs p) _ concrete' j && one.passes j)) i))
 
-  pub losing_are : (joined : List ℕ) → Rises joined → ((a : ℕ) → has a joined ≡ list_any (λ p. is_ancestor cs a p) concrete) → joined ≡ losing_receivers cs loader
+  pub losing_are : (joined : List ℕ) → Rises joined → ((a : ℕ) → has a joined ≡ list_any (λ p. is_ancestor cs a p) concrete)
+      → joined ≡ losing_receivers cs loader
   losing_are joined rises members =
       one_rising joined (losing_receivers cs loader) rises (filter_rises loses 0 (length cs.rows))
       (λ a. members a ∙ one_answer (list_any (λ p. is_ancestor cs a p) concrete) (has a (losing_receivers cs loader)) (λ e. e, λ e. e) (back a, on a))
 
 -- those that lose a receiver are there, and rise
-pub losing_there : (cs : Classes) (loader : ℕ) (losing : List ℕ) → losing ≡ losing_receivers cs loader → (k d : ℕ) → k < length losing → get_or losing k d < length cs.rows
+pub losing_there : (cs : Classes) (loader : ℕ) (losing : List ℕ) → losing ≡ losing_receivers cs loader
+    → (k d : ℕ) → k < length losing → get_or losing k d < length cs.rows
 losing_there cs loader losing e = filtered_there (λ c. list_any (is_of cs loader) (receivers cs c)) (length cs.rows) losing e
 
 pub losing_rises : (cs : Classes) (loader : ℕ) (losing : List ℕ) → losing ≡ losing_receivers cs loader → Rises losing

@@ -38,8 +38,10 @@ pub any_next : {A : Type 0} (p : ℕ → Bool) (entries : List (Vec ℕ A × ℕ
 any_next p entries n key c e = ap (λ es. list_any (λ r. p r.1) (named es)) (left_at entries n (key, c) (sym e))
 
 -- those of the loader from this place on, by the first
-pub own_next : {A : Type 0} (rows : List Class) (loader : ℕ) (entries : List (Vec ℕ A × ℕ)) (n : ℕ) (key : Vec ℕ A) (c : ℕ) (xs : List ℕ) → Some (key, c) ≡ slice_get entries n
-    → (xs ++ (if is_row_of rows loader c then c ∷ [] else [])) ++ own_recorded rows loader (named (drop (n + 1) entries)) ≡ xs ++ own_recorded rows loader (named (drop n entries))
+pub own_next : {A : Type 0} (rows : List Class) (loader : ℕ) (entries : List (Vec ℕ A × ℕ)) (n : ℕ) (key : Vec ℕ A) (c : ℕ) (xs : List ℕ)
+    → Some (key, c) ≡ slice_get entries n
+    → (xs ++ (if is_row_of rows loader c then c ∷ [] else [])) ++ own_recorded rows loader (named (drop (n + 1) entries))
+    ≡ xs ++ own_recorded rows loader (named (drop n entries))
 own_next rows loader entries n key c xs e =
     grouped xs (if is_row_of rows loader c then c ∷ [] else []) (own_recorded rows loader (named (drop (n + 1) entries)))
     ∙ ap (λ (ys : List ℕ). xs ++ ys) (by_test (is_row_of rows loader c) (own_recorded rows loader (named (drop (n + 1) entries))))

@@ -32,7 +32,8 @@ loop-to-preserved c =
     let is = c.number.ensures ∙ c.to-item.is in (
       subst (λ m. IsAppended (take (c.loop-to.to-index + 1) c.args.classes.now) c.args.class (lists c.args.below.now) (lists (slice_set c.loop-to.below m new)))
           (sym is)
-          (changed_more c.args.classes.now (λ xs. xs ++ c.args.class ∷ []) (lists c.args.below.now) c.loop-to.below c.loop-to.to-index c.to-item.result c.requires.rising
+          (changed_more c.args.classes.now (λ xs. xs ++ c.args.class ∷ []) (lists c.args.below.now) c.loop-to.below c.loop-to.to-index c.to-item.result
+          c.requires.rising
           c.loop-to-test.true c.loop-to.invariant.0 new list (inside c)
           (c.push_reserved.ensures.items ∙ ap (λ m. (get_or c.loop-to.below m list).items ++ c.args.class ∷ []) is)),
       λ k d le lt. room_set c.loop-to.below c.number.result (get_or c.args.classes.now k d) new (let low = inside c in omega arith)
