@@ -8,7 +8,7 @@ use crate::work::Deed::*;
 use crate::work::Way::*;
 use jl_core::Core;
 use jl_types::CallSiteKind::Mutable;
-use jl_types::{Event, Link, Reply};
+use jl_types::{Event, Link, Reply, Work};
 use row_files::CallRow::*;
 use std::alloc::{AllocError, Global};
 use std::process::Abort;
@@ -167,8 +167,8 @@ const BY_CLASSES: &[Row] = &[
     (Applied, Do(Define(0, B)), "[]", 0, 0),
     (Applied, Do(Define(0, M)), "[]", 0, 0),
     (Applied, Do(Request(3, 0)), "[]", 0, 0),
-    // A and B are the receivers, and no subclass of A has an f of its own, so that neither is looked at.
-    (Applied, Install(&[0]), "[]", 0, 0),
+    // A and B are the receivers. No subclass of A has an f of its own, and one selection tells of both.
+    (Applied, Install(&[0]), "[]", 1, 2),
     (Applied, Do(Request(3, 3)), "[]", 0, 0),
     // What a refused event took isn't told, but what the last accepted one did.
     (
@@ -204,8 +204,8 @@ const BY_CLASSES_THAT_CHANGE_NOTHING: &[Row] = &[
     (Applied, Do(Define(0, A)), "[]", 0, 0),
     (Applied, Do(Define(0, M)), "[]", 0, 0),
     (Applied, Do(Request(2, 0)), "[]", 0, 0),
-    (Applied, Install(&[0]), "[]", 0, 0),
-    (Applied, Do(Define(0, B)), "[]", 0, 0),
+    (Applied, Install(&[0]), "[]", 1, 1),
+    (Applied, Do(Define(0, B)), "[]", 1, 1),
     (Applied, Do(Point), "[]", 0, 0),
     (Applied, Do(Define(0, C)), "[SiteNo(0)]", 1, 1),
 ];
@@ -244,10 +244,28 @@ const BY_PLANS: &[Row] = &[
     (Committed, Do(Point), "[]", 0, 0),
 ];
 
+/// What comes before a plan that comes to nothing.
+const BEFORE_PLANS: &[Row] = &[
+    (Applied, Do(Define(0, OBJECT)), "[]", 0, 0),
+    (Applied, Do(Define(0, A)), "[]", 0, 0),
+    (Applied, Do(Define(0, M)), "[]", 0, 0),
+    (Applied, Do(Request(2, 0)), "[]", 0, 0),
+];
+
+/// What is planned and comes to nothing, with the work that it takes: a plan that is dropped, and events that are refused. A is the one
+/// receiver of the site.
+const PLANNED: &[(Deed, u64)] = &[
+    (Install(&[0]), 1),
+    (Do(Define(0, B)), 0),
+    (Wrong(0), 1),
+    (Install(&[0, 0]), 0),
+    (Do(Define(0, A)), 0),
+];
+
 /// M's first call, beside a thousand sites.
 const BESIDE_A_THOUSAND: &[Row] = &[
     (Applied, Do(Request(3, 0)), "[]", 0, 0),
-    (Applied, Install(&[1000]), "[]", 0, 0),
+    (Applied, Install(&[1000]), "[]", 1, 2),
     (Applied, Do(Define(0, ALONE)), "[]", 0, 0),
     (Applied, Do(Define(0, C)), "[SiteNo(1000)]", 1, 1),
     (Applied, Do(Define(0, D)), "[]", 0, 0),
@@ -577,6 +595,36 @@ fn takes_one_walk_at_a_site_of_an_ancestor(rt: HostRuntime) -> Result<(), AllocE
 #[test]
 fn takes_over_the_work_of_a_plan(rt: HostRuntime) -> Result<(), AllocError> {
     assert_rows(&rt, BY_PLANS)
+}
+
+/// How much work the plan of the event takes, be the event refused or not.
+fn work_of(alloc: Global, core: &mut Core, event: Event) -> u64 {
+    let mut work = Work::new();
+    match &core.plan_counted(alloc, event, &mut work) {
+        Ok(plan) => plan.work(),
+        Err(_) => work.ticks(),
+    }
+}
+
+/// Asserts that each plan takes the work that it says, and leaves what the last accepted event took.
+fn assert_planned(
+    rt: &(impl Abort + AllocGlobal),
+    core: &mut Core,
+    rows: &[(Deed, u64)],
+) -> Result<(), AllocError> {
+    for (deed, work) in rows {
+        let event = deed_event(rt.alloc(), core, deed)?;
+        assert_eq!(rt; work_of(rt.alloc(), core, event), *work);
+        assert_eq!(rt; core.last_work(), 0);
+    }
+    Ok(())
+}
+
+#[test]
+fn tells_the_work_of_what_is_not_accepted(rt: HostRuntime) -> Result<(), AllocError> {
+    let mut core = Core::new(rt.alloc(), 2)?;
+    assert_each(&rt, &mut core, BEFORE_PLANS)?;
+    assert_planned(&rt, &mut core, PLANNED)
 }
 
 #[test]

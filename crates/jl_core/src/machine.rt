@@ -1,9 +1,11 @@
 //! The event machine.
 
-ghost use Rattle.std.specs.Prelude.{◌≡◌, ◌≤◌, ℕ, true, length, IsOk, IfOk, IfErr, OnErr};
+ghost use Rattle.std.specs.Prelude.{◌≡◌, ◌≤◌, ◌⊎◌, ℕ, true, length, IsOk, IfOk, IfErr, OnOk, OnErr};
+ghost use Rattle.jl_types.specs.declared.refusal.Refusal.TheVariants.{Memory};
 ghost use Rattle.jl_types.specs.Calls as calls;
 ghost use Rattle.jl_types.specs.Events.{verdict};
 ghost use Rattle.jl_types.specs.History.{installed};
+ghost use Rattle.jl_types.specs.Footprints.{bound};
 ghost use Rattle.jl_relink.specs.Preparations.{IsPreparation};
 ghost use Rattle.jl_cache.specs.Links.{link_at};
 ghost use Rattle.jl_core.specs.State.{State, empty_core, events, world_of, links_of, AreAnswered, IsAccepted, IsRefused};
@@ -31,7 +33,7 @@ use std::mem;
 pub struct Core {
     present: Instance,
     next: Option<Instance>,
-    /// How many selection walks, special searches and evaluations of call sites the last event took.
+    /// How many selections, special searches and evaluations of call sites the last event took.
     last_work: u64,
 }
 
@@ -106,8 +108,30 @@ impl Core {
         ensures unchanged { self.new ≡ self.old }
     {
         let mut work = Work::new();
-        let event = self.present.judged(event, &mut work)?;
-        let planned = self.plan_accepted(alloc, event, &mut work)?;
+        self.plan_counted(alloc, event, &mut work)
+    }
+
+    /// As [`plan`](Core::plan), and counts the selections, special searches and evaluations of call sites that it takes: no more than the
+    /// event may take where it is accepted, and those of a refused event, too.
+    ///
+    /// # Errors
+    ///
+    /// Those of [`plan`](Core::plan).
+    pub fn plan_counted(
+        &mut self,
+        alloc: Global,
+        event: Event,
+        work: &mut Work,
+    ) -> Result<Planned, Refusal>
+        requires nothing_yet { work.old ≡ 0 }
+        ensures planned { IfOk result (IsPlanned self.old event) }
+        ensures refused { IfErr result (IsRefused (verdict self.old.max_sites (world_of self.old) event)) }
+        ensures unchanged { self.new ≡ self.old }
+        ensures ticks { OnOk result (work.new ≤ bound (events self.old) event) }
+        ensures refused_ticks { IfErr result (λ refusal. (refusal ≡ Memory) ⊎ (work.new ≤ bound (events self.old) event)) }
+    {
+        let event = self.present.judged(event, work)?;
+        let planned = self.plan_accepted(alloc, event, work)?;
         Ok(planned)
     }
 
@@ -135,6 +159,7 @@ impl Core {
         requires small { work.old ≤ 16777216 }
         ensures planned { IfOk result (IsPlanned self.old event) }
         ensures unchanged { self.new ≡ self.old }
+        ensures ticks { OnOk result (work.new ≤ bound (events self.old) event) }
     {
         let next = self.take_next(alloc)?;
         let (next, reply) = next.perform(alloc, event, work)?;
@@ -166,7 +191,8 @@ impl Core {
         }
     }
 
-    /// How many selection walks, special searches and evaluations of call sites the last accepted event took. A refused event and a
+    /// How many selections, special searches and evaluations of call sites the last accepted event took. A selection counts one for each
+    /// receiver that is looked at, and one where no receiver has to be, since no subclass redeclares the method. A refused event and a
     /// plan that was dropped leave it. Takes no memory.
     pub fn last_work(&self) -> u64
         ensures { result ≤ most_of_last (events self.now) }

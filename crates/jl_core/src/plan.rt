@@ -18,7 +18,7 @@ pub struct Planned {
     after: Instance,
     reply: Reply,
     slots: Vec<(SiteNo, Option<Link>)>,
-    /// How many selection walks, special searches and evaluations of call sites the event took.
+    /// How many selections, special searches and evaluations of call sites the event took.
     work: u64,
 }
 
@@ -73,6 +73,15 @@ impl Planned {
         ensures { result.now ≡ self.now.slots }
     {
         self.slots.as_slice()
+    }
+
+    /// How many selections, special searches and evaluations of call sites the event took, which is what
+    /// [`last_work`](crate::Core::last_work) tells once it is committed. Takes no memory.
+    pub fn work(&self) -> u64
+        ensures { result ≤ most_of_last (events self.now.after) }
+    {
+        let _after = &self.after;
+        self.work
     }
 
     /// How many classes and interfaces there are after the event. Takes no memory.

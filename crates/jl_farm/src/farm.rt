@@ -14,6 +14,7 @@ use crate::floor::Floor;
 use crate::gate::Gate;
 use crate::line::{Turn, line_of, take_over};
 use crate::report::{JobOutcome, Report};
+use crate::told::Gated;
 use crate::worker::Worker;
 use jl_names::Seq;
 use jl_server::{Caller, LinkServer, Name};
@@ -94,7 +95,7 @@ fn run_some<
         alloc,
         server,
         jobs: jobs.as_slice(),
-        gate,
+        gate: Gated::new(gate),
         line: &line,
     };
     serve_all(rt, &floor, &mut crew);

@@ -12,6 +12,7 @@ mod floor;
 mod gate;
 mod line;
 mod report;
+mod told;
 mod worker;
 
 pub use farm::run;

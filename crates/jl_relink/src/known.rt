@@ -1,6 +1,6 @@
 //! What every receiver of an invocation comes to, where that is known without a look at each.
 
-ghost use Rattle.std.specs.Prelude.{◌≡◌, ◌<◌, ◌==◌, ℕ, true, not, length};
+ghost use Rattle.std.specs.Prelude.{◌≡◌, ◌<◌, ◌≤◌, ◌==◌, ℕ, true, not, length};
 ghost use Rattle.jl_types.specs.declared.answer.Outcome.TheVariants.{Run};
 ghost use Rattle.jl_types.specs.declared.link.Link.TheVariants.{Direct};
 ghost use Rattle.jl_types.specs.declared.link.TableKind.TheVariants.{Virtual};
@@ -16,7 +16,8 @@ use jl_types::{ClassId, TableKind};
 /// looked at.
 pub(crate) fn all_run(classes: &Classes, selection: &Selection) -> bool
     requires { selection.now.named < length classes.now.rows }
-    ensures { result ≡ true → link_by_rows selection.now.kind
+    ensures some { result ≡ true → 1 ≤ length (ancestry.receivers classes.now selection.now.named) }
+    ensures link { result ≡ true → link_by_rows selection.now.kind
         (rows_of classes.now selection.now (ancestry.receivers classes.now selection.now.named)) ≡ Direct (Run selection.now.method) }
 {
     has_receiver(classes, selection.named) && each_runs(classes, selection)

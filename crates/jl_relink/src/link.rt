@@ -16,7 +16,8 @@ use jl_types::{ClassId, Link, Outcome, TableKind, Work};
 
 /// The link of the invocation: Direct where an invokevirtual's method is private or its receivers run one same method, else
 /// a table of up to eight receivers, else Mega. It takes one tick at most for each receiver that it looks at, and one of a
-/// private method. No receiver is looked at where it is known that no subclass redeclares the method.
+/// private method. No receiver is looked at where it is known that no subclass redeclares the method; that is one selection for
+/// all of them, and takes one tick.
 pub(crate) fn selected_link(classes: &Classes, selection: &Selection, work: &mut Work) -> Link
     requires named { selection.now.named < length classes.now.rows }
     requires fits { work.old + most_of classes.now selection.now < 2 ^ 64 }
@@ -29,6 +30,7 @@ pub(crate) fn selected_link(classes: &Classes, selection: &Selection, work: &mut
                 return Link::Direct(outcome_counted(classes, selection, selection.named, work));
             }
             if all_run(classes, selection) {
+                work.tick();
                 return Link::Direct(Outcome::Run(selection.method));
             }
             virtual_link(

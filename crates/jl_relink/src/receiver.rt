@@ -62,8 +62,8 @@ fn runs_at(
     }
 }
 
-/// Whether the invocation runs this method on an object of this class: without a tick where it is known that every receiver runs
-/// the method that is resolved, and that is this one, and else with one at most.
+/// Whether the invocation runs this method on an object of this class, with one tick at most: it takes one, too, where it is known
+/// that every receiver runs the method that is resolved, and that is this one.
 fn receiver_runs(
     classes: &Classes,
     selection: &Selection,
@@ -78,6 +78,7 @@ fn receiver_runs(
     ensures ticks { work.new ≤ work.old + 1 }
 {
     if is_known_to_run(classes, selection, receiver, method) {
+        work.tick();
         return true;
     }
     runs(outcome_counted(classes, selection, receiver, work), method)

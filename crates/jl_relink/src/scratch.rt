@@ -1,4 +1,4 @@
-//! The link of a site from scratch (JVMS SE 17 §6.5), where each selection walk, special search and evaluation is counted.
+//! The link of a site from scratch (JVMS SE 17 §6.5), where each selection, special search and evaluation is counted.
 
 ghost use Rattle.std.specs.Prelude.{◌≡◌, ◌+◌, ◌^◌, ◌<◌, ◌≤◌};
 ghost use Rattle.jl_types.specs.Resolution as resolution;
@@ -27,8 +27,8 @@ pub fn link_of(world: &World, site: SiteNo) -> Result<Link, Unlinked>
     link_counted(world, site, &mut work)
 }
 
-/// The same with one tick at most for each receiver that it looks at, and one where it looks at none: each selection walk, special
-/// search and evaluation of a call site takes one. Takes no memory.
+/// The same with one tick at most for each receiver that it looks at, and one where it looks at none: each selection, special search
+/// and evaluation of a call site takes one. Takes no memory.
 pub fn link_counted(world: &World, site: SiteNo, work: &mut Work) -> Result<Link, Unlinked>
     requires fits { work.old + most_for world.now site < 2 ^ 64 }
     ensures link { result ≡ links.scratch world.now site }

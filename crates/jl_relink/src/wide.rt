@@ -21,9 +21,11 @@ use std::thread::Threads;
 /// How many pairs a thread of its own looks at, at the least: making one takes some 30 microseconds.
 const LEAST_PIECE: usize = 512;
 
-/// What is told of each pair of a site and a receiver that is looked at, by the thread that looks.
+/// What is told of each pair of a site and a receiver that is looked at, by the thread that looks. A site lists no pair where its link
+/// is known without a look at each receiver: by their count, at an invokeinterface with more than eight, or by the marks of classes,
+/// at an invokevirtual whose method no subclass redeclares.
 pub trait Probe {
-    /// The pair at this place is looked at. The pairs are numbered from 0 on, by the order of the sites, and those of one site by
+    /// The pair at this place is looked at, once. The pairs are numbered from 0 on, by the order of the sites, and those of one site by
     /// rising class of the receiver.
     fn at(&self, place: usize);
 }
@@ -39,8 +41,8 @@ impl Probe for Silent {
 /// [`prepare`](crate::prepare) gives, with as many threads as there are processors. Nothing is installed.
 ///
 /// It lists the pairs of a site and a receiver of all sites whose links depend on what their receivers come to, and looks at
-/// them in threads. An invokeinterface with more than eight receivers has no pair, nor has an invokevirtual whose method is known
-/// to be redeclared by no subclass.
+/// them in threads. It lists no pair of an invokeinterface with more than eight receivers, whose link is known by their count, nor of an
+/// invokevirtual whose method no subclass redeclares, whose link is known by the marks of classes.
 ///
 /// It pays where `prepare` looks at many receivers: where all of a site's run one method, which another subclass declares again, 256
 /// sites with 64 to 2,048 receivers each, at some 0.04 microseconds a receiver, were 1.2 to 2.7 times as fast on four processors that

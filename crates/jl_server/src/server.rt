@@ -219,7 +219,10 @@ fn step_after<K: Name, H: Wait, R: Wait + Drop>(
     ensures refused { IfErr result (λ d. IsRefused (verdict K.max_sites (world_after (events_of d.seen)) event) d.refusal) }
 {
     seen.begins(book.list());
-    book.step_judged(rt, alloc, event, judged)
+    match judged {
+        Some(list) => book.step_judged(rt, alloc, event, list),
+        None => book.step(rt, alloc, event),
+    }
 }
 
 /// A snapshot of the book after this list.

@@ -3,7 +3,7 @@
 use crate::worlds::{SITES, Shape, WITHOUT_LINK, sites, snapshot};
 use jl_relink::{Prepared, Probe, Snapshot, prepare, prepare_wide, prepare_wide_seen};
 use jl_types::{Link, Outcome, PrepareFault, SiteNo, TableKind};
-use std::alloc::Global;
+use std::alloc::{AllocError, Global};
 use std::sync::atomic::{AtomicU64, Ordering};
 use std::test::Fail;
 use std::thread::Threads;
@@ -26,6 +26,7 @@ const ROWS: &[Row] = &[
     (Shape::Chain, 64, Kind::Direct, 0),
     (Shape::Beside, 64, Kind::Direct, 16_384),
     (Shape::Own, 64, Kind::Mega, 16_384),
+    (Shape::Own, 3, Kind::Virtual, 768),
     (Shape::Own, 8, Kind::Virtual, 2_048),
     (Shape::Own, 9, Kind::Mega, 2_304),
     (Shape::Implementers, 8, Kind::Interface, 2_048),
@@ -33,15 +34,59 @@ const ROWS: &[Row] = &[
     (Shape::Implementers, 64, Kind::Mega, 0),
 ];
 
-/// Counts the pairs.
+/// So many pairs and more may be looked at by several threads.
+const WIDE: u64 = 1_024;
+
+/// What was told of one place.
 #[derive(Drop)]
-struct Count {
-    pairs: AtomicU64,
+struct Place {
+    times: AtomicU64,
+    /// How many places were told before.
+    turn: AtomicU64,
 }
 
-impl Probe for Count {
-    fn at(&self, _place: usize) {
-        self.pairs.fetch_add(1, Ordering::SeqCst);
+/// Keeps each place that it is told, and how many it is told.
+#[derive(Drop)]
+struct Places {
+    places: Vec<Place>,
+    told: AtomicU64,
+}
+
+impl Places {
+    /// Has room for so many places. Want of memory is an error.
+    fn new(alloc: Global, count: u64) -> Result<Places, AllocError> {
+        let mut places = Vec::new(alloc);
+        for _ in 0..count {
+            places.push(Place {
+                times: AtomicU64::new(0),
+                turn: AtomicU64::new(0),
+            })?;
+        }
+        Ok(Places {
+            places,
+            told: AtomicU64::new(0),
+        })
+    }
+
+    /// Whether it was told as many places as it has room for, each of them once; in their order where one thread looks at all.
+    fn are_each_once(&self) -> bool {
+        let count = self.places.len() as u64;
+        let mut all = self.told.load(Ordering::SeqCst) == count;
+        for (number, place) in self.places.iter().enumerate() {
+            let in_turn = place.turn.load(Ordering::SeqCst) == number as u64;
+            all = all && place.times.load(Ordering::SeqCst) == 1 && (in_turn || count >= WIDE);
+        }
+        all
+    }
+}
+
+impl Probe for Places {
+    fn at(&self, place: usize) {
+        let turn = self.told.fetch_add(1, Ordering::SeqCst);
+        if let Some(place) = self.places.get(place) {
+            place.times.fetch_add(1, Ordering::SeqCst);
+            place.turn.store(turn, Ordering::SeqCst);
+        }
     }
 }
 
@@ -84,7 +129,7 @@ fn gives(prepared: Result<Prepared, PrepareFault>, alone: &Prepared) -> bool {
     }
 }
 
-/// Whether both forms give these rows, and look at so many pairs.
+/// Whether both forms give these rows, and look at so many pairs, at each once.
 fn both_give(
     rt: &(impl Threads + Sync),
     alloc: Global,
@@ -93,12 +138,14 @@ fn both_give(
     alone: &Prepared,
     pairs: u64,
 ) -> bool {
-    let count = Count {
-        pairs: AtomicU64::new(0),
+    let Ok(places) = Places::new(alloc, pairs) else {
+        return false;
     };
-    let seen = gives(prepare_wide_seen(rt, alloc, snapshot, sites, &count), alone);
-    let looked = count.pairs.load(Ordering::SeqCst) == pairs;
-    seen && looked && gives(prepare_wide(rt, alloc, snapshot, sites), alone)
+    let seen = gives(
+        prepare_wide_seen(rt, alloc, snapshot, sites, &places),
+        alone,
+    );
+    seen && places.are_each_once() && gives(prepare_wide(rt, alloc, snapshot, sites), alone)
 }
 
 /// The same of all sites of a snapshot, whose links are of this kind.
@@ -181,13 +228,13 @@ fn all_fail(
     sites: &[SiteNo],
     fault: &PrepareFault,
 ) -> bool {
-    let count = Count {
-        pairs: AtomicU64::new(0),
+    let Ok(none) = Places::new(alloc, 0) else {
+        return false;
     };
     fails(prepare(alloc, snapshot, sites), fault)
         && fails(prepare_wide(rt, alloc, snapshot, sites), fault)
-        && fails(prepare_wide_seen(rt, alloc, snapshot, sites, &count), fault)
-        && count.pairs.load(Ordering::SeqCst) == 0
+        && fails(prepare_wide_seen(rt, alloc, snapshot, sites, &none), fault)
+        && none.are_each_once()
 }
 
 /// Whether all forms refuse so many sites from 0 on, and this one more.

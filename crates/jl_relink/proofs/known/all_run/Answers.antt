@@ -8,8 +8,8 @@ use Rattle.jl_relink.proofs.OneForAll.{one_for_all}
 use Rattle.jl_relink.proofs.RowLaws.{one_run}
 use Rattle.jl_relink.proofs.known.all_run.Goals as goal
 
-pub returns-then-has_receiver : goal.returns-then-has_receiver
-returns-then-has_receiver c told =
+pub returns-then-has_receiver-clause-link : goal.returns-then-has_receiver-clause-link
+returns-then-has_receiver-clause-link c told =
     let cs = c.args.classes.now in
     let s = c.args.selection.now in
     let xs = receivers cs s.named in
