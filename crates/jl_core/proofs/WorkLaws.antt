@@ -73,6 +73,26 @@ module _ (h : List Event) (w : World) (links : ℕ → Option Link) (index : Lis
       omega arith
   are_bounded (event.Retire loader) = as_much (most_to_settle w index (event.Retire loader)) (bound h (event.Retire loader)) (retirement_so loader)
 
+-- what it takes to judge an event is no more than it may take
+at_least_none : (n : ℕ) → 0 ≤ n
+at_least_none n = omega arith
+
+no_more : (a b : ℕ) → a ≡ b → a ≤ b
+no_more a b same = omega arith
+
+pub judged_in_bound : (h : List Event) (e : Event) → most_to_judge (world_after h) e ≤ bound h e
+judged_in_bound h event.NewLoader = at_least_none (bound h event.NewLoader)
+judged_in_bound h (event.Define loader file) = at_least_none (bound h (event.Define loader file))
+judged_in_bound h (event.Delegate loader name to) = at_least_none (bound h (event.Delegate loader name to))
+judged_in_bound h (event.Request place) = at_least_none (bound h (event.Request place))
+judged_in_bound h (event.NewCallSite kind ty target) = at_least_none (bound h (event.NewCallSite kind ty target))
+judged_in_bound h (event.SetTarget c target) = at_least_none (bound h (event.SetTarget c target))
+judged_in_bound h event.NewSwitch = at_least_none (bound h event.NewSwitch)
+judged_in_bound h (event.Invalidate points) = at_least_none (bound h (event.Invalidate points))
+judged_in_bound h (event.Bind s c) = at_least_none (bound h (event.Bind s c))
+judged_in_bound h (event.Install rows) = no_more (most_to_judge (world_after h) (event.Install rows)) (bound h (event.Install rows)) refl
+judged_in_bound h (event.Retire loader) = at_least_none (bound h (event.Retire loader))
+
 -- of the events that led to a core
 pub most_of_accepted : (old new : State) (e : Event) (reply : Reply) → IsAccepted old new e reply → most_of_last (events new) ≡ bound (events old) e
 most_of_accepted old new e reply led =
