@@ -288,9 +288,9 @@ module _ (cs : Classes) (ordered : AreOrdered cs.rows) (closed : IsClosed cs) (l
       parts true b e = cc
       parts false b e = (refl, e)
 
-      -- what another present loader has recorded isn't of the loader
-      not_of : (k : ℕ) (name : List ℕ) (c : ℕ) → is_retired cs k ≡ false → (loader == k) ≡ false → lookup cs k name ≡ Some c → is_of cs loader c ≡ false
-      not_of k name c alive other e = by_records (slice_get cs.loaders k) refl e
+      -- what another loader has recorded isn't of the loader
+      not_of : (k : ℕ) (name : List ℕ) (c : ℕ) → (loader == k) ≡ false → lookup cs k name ≡ Some c → is_of cs loader c ≡ false
+      not_of k name c other e = by_records (slice_get cs.loaders k) refl e
         where
           by_records : (o : Option (List (List ℕ × ℕ))) → slice_get cs.loaders k ≡ o → option_and_then (recorded name) o ≡ Some c → is_of cs loader c ≡ false
           by_records None at e = cc
@@ -298,7 +298,7 @@ module _ (cs : Classes) (ordered : AreOrdered cs.rows) (closed : IsClosed cs) (l
             where
               records_it : is_of cs loader c ≡ true → records_from cs loader k ≡ true
               records_it is =
-                  (λ i. not ((nat_eq_equiv.symm k loader ∙ other) i) && (not (alive i) && option_map_or (list_any (λ r. is_of cs loader r.1)) (at i) false))
+                  (λ i. not ((nat_eq_equiv.symm k loader ∙ other) i) && option_map_or (list_any (λ r. is_of cs loader r.1)) (at i) false)
                   ∙ any_recorded (is_of cs loader) name c records e is
 
               by_test : (b : Bool) → is_of cs loader c ≡ b → b ≡ false
@@ -306,4 +306,4 @@ module _ (cs : Classes) (ordered : AreOrdered cs.rows) (closed : IsClosed cs) (l
               by_test false is = refl
 
       by_loader : (k : ℕ) (name : List ℕ) (c : ℕ) → (is_retired cs k ≡ false) × ((loader == k) ≡ false) → lookup cs k name ≡ Some c → is_present left c ≡ true
-      by_loader k name c alive e = stays_present c (closed.records k name c alive.0 e) (not_of k name c alive.0 alive.1 e)
+      by_loader k name c alive e = stays_present c (closed.records k name c alive.0 e) (not_of k name c alive.1 e)

@@ -116,7 +116,7 @@ impl Classes {
         classes.iter().any(|class| self.is_of(loader, *class))
     }
 
-    /// The least other loader, a present one, that records a class of this one.
+    /// The least other loader that records a class of this one: a present one, since a retired one records nothing.
     fn first_recorder(&self, loader: LoaderId) -> Option<LoaderId>
         ensures { result ≡ find (retirement.records_from self.now loader) (range_with_len 0 (length self.now.loaders)) }
     {
@@ -141,19 +141,11 @@ impl Classes {
         self.loaders.len()
     }
 
-    /// Whether the other loader is another one, a present one, and records a class of this one.
+    /// Whether the other loader is another one, and records a class of this one.
     fn records_from(&self, loader: LoaderId, other: LoaderId) -> bool
         ensures { result ≡ retirement.records_from self.now loader other }
     {
-        other != loader && self.records_if_present(loader, other)
-    }
-
-    /// Whether the other loader is present, and records a class of this one.
-    fn records_if_present(&self, loader: LoaderId, other: LoaderId) -> bool
-        ensures { result ≡ (not (members.is_retired self.now other)
-            && option_map_or (list_any (λ r. retirement.is_of self.now loader r.1)) (slice_get self.now.loaders other) false) }
-    {
-        !self.is_retired(other) && self.records_any(loader, other)
+        other != loader && self.records_any(loader, other)
     }
 
     /// Whether the other loader records a class of this one.

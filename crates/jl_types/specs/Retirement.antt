@@ -7,7 +7,7 @@ use Rattle.jl_types.specs.declared.refusal.RetireFault.{RetireFault}
 use Rattle.jl_types.specs.declared.refusal.RetireFault.TheVariants.{UnknownLoader, FirstLoader, Inherited, Recorded, Targeted}
 use Rattle.jl_types.specs.Target.{Target, Method, Guard, Invoker}
 use Rattle.jl_types.specs.World.{World, Classes, CallSite}
-use Rattle.jl_types.specs.Members.{class_test, is_present, is_retired, numbers}
+use Rattle.jl_types.specs.Members.{class_test, is_present, numbers}
 use Rattle.jl_types.specs.Ancestry.{ancestors, receivers}
 use Rattle.jl_types.specs.Resolution.{first_of}
 use Rattle.jl_types.specs.Definitions.{is_unknown}
@@ -22,10 +22,9 @@ is_of cs loader c = class_test (λ row. row.loader == loader) cs c
 abbrev pub inherits_from : Classes → ℕ → ℕ → Bool
 inherits_from cs loader x = is_present cs x && (not (is_of cs loader x) && list_any (is_of cs loader) (ancestors cs.rows x))
 
--- k is another present loader, and records a class of this one
+-- k is another loader, and records a class of this one; a retired one records none
 abbrev pub records_from : Classes → ℕ → ℕ → Bool
-records_from cs loader k =
-    not (k == loader) && (not (is_retired cs k) && option_map_or (list_any (λ r. is_of cs loader r.1)) (slice_get cs.loaders k) false)
+records_from cs loader k = not (k == loader) && option_map_or (list_any (λ r. is_of cs loader r.1)) (slice_get cs.loaders k) false
 
 -- the target names a method of a class of the loader, be it on a side that isn't taken
 abbrev pub names_from : Classes → ℕ → Target → Bool
