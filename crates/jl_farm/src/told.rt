@@ -22,6 +22,7 @@ pub(crate) enum Moment {
 
 /// A job of which the gate is told: that it is next to be prepared, that its links are next to be installed, if they are, and its end. Who
 /// is to look at the job's sites is handed this, and its report is made of this alone, so that the end is told behind the outcome.
+#[derive(Drop)]
 pub(crate) struct Told<'a, G: Gate> {
     gate: &'a G,
     job: usize,
@@ -63,7 +64,11 @@ impl<'a, G: Gate> Told<'a, G> {
         ensures job { result.job ≡ self.job }
         ensures outcome { result.outcome ≡ outcome }
     {
-        let Told { gate, job, .. } = self;
+        let Told {
+            gate,
+            job,
+            last: _last,
+        } = self;
         gate.after_install(job);
         Report { job, outcome }
     }

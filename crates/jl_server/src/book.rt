@@ -164,30 +164,11 @@ impl<K: Name, R: Wait + Drop> Book<K, R> {
         ensures refused { IfErr result (λ d. IsRefused (verdict K.max_sites (world_after (events_of self.old)) event) d.refusal) }
         ensures denied { IfErr result (λ d. (d.seen ≡ self.old) × (self.new ≡ self.old)) }
     {
-        self.step_known(rt, alloc, event, None)
-    }
-
-    /// The same, of an event that is accepted after the judged list. Where nothing but installs came since, it isn't judged again.
-    pub(crate) fn step_judged<'a, H: Wait>(
-        &'a mut self,
-        rt: &H,
-        alloc: Global,
-        event: Event,
-        judged: &'a Seen<K>,
-    ) -> Result<Receipt<K>, Denied<K>>
-        requires { IsOk (verdict K.max_sites (world_after (events_of judged.now)) event) }
-        ensures accepted { IfOk result (λ r. IsAccepted (core_of K.max_sites self.old) (core_of K.max_sites self.new) event r.reply) }
-        ensures entry { IfOk result (λ r. self.new ≡ self.old ++ entry_after self.old event r.reply ∷ []) }
-        ensures receipt { IfOk result (λ r. (r.seen ≡ self.new) × (r.serial ≡ length self.new)) }
-        ensures legal { IsLegal K.max_sites self.new }
-        ensures refused { IfErr result (λ d. IsRefused (verdict K.max_sites (world_after (events_of self.old)) event) d.refusal) }
-        ensures denied { IfErr result (λ d. (d.seen ≡ self.old) × (self.new ≡ self.old)) }
-    {
-        self.step_known(rt, alloc, event, Some(judged))
+        self.step_judged(rt, alloc, event, None)
     }
 
     /// The same, of an event that is accepted after the judged list, where there is one.
-    fn step_known<'a, H: Wait>(
+    pub(crate) fn step_judged<'a, H: Wait>(
         &'a mut self,
         rt: &H,
         alloc: Global,

@@ -220,7 +220,7 @@ fn step_after<K: Name, H: Wait, R: Wait + Drop>(
 {
     seen.begins(book.list());
     match judged {
-        Some(list) => book.step_judged(rt, alloc, event, list),
+        Some(_) => book.step_judged(rt, alloc, event, judged),
         None => book.step(rt, alloc, event),
     }
 }

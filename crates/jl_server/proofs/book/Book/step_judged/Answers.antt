@@ -8,7 +8,7 @@ use Rattle.jl_types.specs.History.{world_after}
 use Rattle.jl_core.specs.State.{IsAccepted, IsRefused}
 use Rattle.jl_server.specs.History.{core_of, entry_after, is_install, planned_entry}
 use Rattle.jl_server.proofs.Logs.{accepted_next, entry_exact, event_planned, memory_refused}
-use Rattle.jl_server.proofs.book.Book.step_known.Goals as goal
+use Rattle.jl_server.proofs.book.Book.step_judged.Goals as goal
 
 for_ok : {X E : Type 0} {P Q : X → Type 0} → ((x : X) → P x → Q x) → (r : Result X E) → IfOk r P → IfOk r Q
 for_ok f (Ok x) h = f x h
