@@ -70,9 +70,10 @@ const BY_RECEIVER: &[(Command, &str)] = &[
     ),
     (Defined("C", 1057, "B", &["I"]), ""),
     (Defined("J", 1537, OBJECT, &["I"]), ""),
-    // No subclass redeclares A.f, so no receiver is walked; a private method is selected once, and no class implements I yet.
-    (Ticks(0), "0"),
-    (Ticks(1), "0"),
+    // No subclass redeclares A.f, so one selection tells of all receivers; a private method is selected once, and no class implements I
+    // yet.
+    (Ticks(0), "1"),
+    (Ticks(1), "1"),
     (Ticks(2), "1"),
     (Ticks(3), "0"),
     // No walk at invokestatic, a search at invokespecial, nothing where linking fails.
@@ -80,8 +81,8 @@ const BY_RECEIVER: &[(Command, &str)] = &[
     (Ticks(5), "1"),
     (Ticks(6), "0"),
     (Ticks(8), "0"),
-    // The link is Direct: an object of B runs A.f, too, which takes no walk, and one of X has no f. A table never stays.
-    (Stays(0, 2), "true 0"),
+    // The link is Direct: an object of B runs A.f, too, and one of X has no f, each by one selection. A table never stays.
+    (Stays(0, 2), "true 1"),
     (Stays(0, 4), "false 1"),
     (
         Class("C", 33, "B", &["I"], &[("f", "()V", 1), ("g", "()V", 1)]),

@@ -124,6 +124,8 @@ struct Turner<'a, K: Name, R: Wait, S: Wait + Drop> {
     turned: AtomicU64,
     /// How many were not.
     refused: AtomicU64,
+    /// How many jobs were told to have come to their outcome while each of their sites had a link.
+    linked: AtomicU64,
 }
 
 impl<'a, K: Name, R: Wait, S: Wait + Drop> Turner<'a, K, R, S> {
@@ -148,6 +150,24 @@ impl<'a, K: Name, R: Wait, S: Wait + Drop> Turner<'a, K, R, S> {
                 break;
             }
             round = round.wrapping_add(1);
+        }
+    }
+
+    /// Whether each site of the job has a link.
+    fn is_linked(&self, job: usize) -> bool {
+        let mut caller = self.caller.lock(self.rt);
+        match &self.server.links(self.rt, self.alloc, &mut caller) {
+            Ok(list) => have_links(list.rows.as_slice(), self.row.jobs, job),
+            Err(_) => false,
+        }
+    }
+
+    /// Whether as many jobs were told to have come to their outcome with links as were installed, where no link goes meanwhile: an
+    /// installed job has its links when this is told, and another one has none.
+    fn has_told_links(&self, installed: u64) -> bool {
+        match self.row.turns {
+            Turns::During(_) => true,
+            _ => self.linked.load(Ordering::SeqCst) == installed,
         }
     }
 
@@ -178,9 +198,46 @@ impl<'a, K: Name, R: Wait, S: Wait + Drop> Gate for Turner<'a, K, R, S> {
         }
     }
 
-    fn after_install(&self, _job: usize) {
+    fn after_install(&self, job: usize) {
+        if self.is_linked(job) {
+            self.linked.fetch_add(1, Ordering::SeqCst);
+        }
         self.done.fetch_add(1, Ordering::SeqCst);
     }
+}
+
+/// Whether the site of this number has a link.
+fn has_link(links: &[(SiteNo, Link)], number: u32) -> bool {
+    let mut has = false;
+    for link in links {
+        has = has || link.0.number() == number;
+    }
+    has
+}
+
+/// Whether each site of this job has a link.
+fn have_links(links: &[(SiteNo, Link)], jobs: &[Job], job: usize) -> bool {
+    let Some(row) = jobs.get(job) else {
+        return false;
+    };
+    let mut all = true;
+    for number in row.0 {
+        all = all && has_link(links, *number);
+    }
+    all
+}
+
+/// How many jobs were installed.
+fn installed<K: Name, F>(reports: &Result<Vec<Report<K>>, F>) -> u64 {
+    let mut count = 0u64;
+    if let Ok(reports) = reports {
+        for report in reports {
+            if serial_of(report).is_some() {
+                count = count.saturating_add(1);
+            }
+        }
+    }
+    count
 }
 
 /// The serial of the event by which the job was installed, if it was.
@@ -264,11 +321,10 @@ fn is_turned<K: Name + Send + Sync, R: Threads + Wait + Sync, S: Wait + Drop + S
         done: AtomicU64::new(0),
         turned: AtomicU64::new(0),
         refused: AtomicU64::new(0),
+        linked: AtomicU64::new(0),
     };
-    let so = are_told(
-        &reports_of(rt, alloc, server, first, workers, &gate, row.jobs),
-        row,
-    );
+    let reports = reports_of(rt, alloc, server, first, workers, &gate, row.jobs);
+    let so = are_told(&reports, row) && gate.has_told_links(installed(&reports));
     so && gate.has_turned()
 }
 

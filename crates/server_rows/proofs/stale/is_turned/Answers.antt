@@ -30,7 +30,10 @@ module _ (ℓ : NamedLft) (K R S : RattleType) (g : name.Ghosts K.Denot) where
                 search (shr_sync, of_rows.the_sync, sendable, of_std) depth 12,
                 (
                   search (sendable, of_std) depth 12,
-                  (search (sendable, of_std) depth 12, (search (sendable, of_std) depth 12, tt)),
+                  (
+                    search (sendable, of_std) depth 12,
+                    (search (sendable, of_std) depth 12, (search (sendable, of_std) depth 12, tt)),
+                  ),
                 ),
               ),
             ),
