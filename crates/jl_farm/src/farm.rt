@@ -14,7 +14,6 @@ use crate::floor::Floor;
 use crate::gate::Gate;
 use crate::line::{Turn, line_of, take_over};
 use crate::report::{JobOutcome, Report};
-use crate::told::Gated;
 use crate::worker::Worker;
 use jl_names::Seq;
 use jl_server::{Caller, LinkServer, Name};
@@ -95,7 +94,7 @@ fn run_some<
         alloc,
         server,
         jobs: jobs.as_slice(),
-        gate: Gated::new(gate),
+        gate,
         line: &line,
     };
     serve_all(rt, &floor, &mut crew);

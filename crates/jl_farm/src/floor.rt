@@ -5,7 +5,6 @@ ghost use mathlib.Core.List.{IsPrefix};
 ghost use Rattle.crossbeam_queue.specs.Passes.{view, IsPassOf};
 ghost use Rattle.jl_types.specs.Entries.{IsLegal};
 ghost use Rattle.jl_types.specs.Preparation.{prepare_fault, ArePrepared};
-ghost use Rattle.jl_farm.specs.declared.told.Moment.TheVariants.{BeforePrepare};
 ghost use Rattle.jl_farm.specs.Queued.{KnowsAll};
 ghost use Rattle.jl_farm.specs.Reports.{IsShown, sites_of, world_of};
 ghost use Rattle.jl_farm.specs.Work.{Works, HasPart, HasSeen, refused_as};
@@ -14,7 +13,6 @@ use crate::crew::Shift;
 use crate::gate::Gate;
 use crate::line::{Line, next_job};
 use crate::report::{JobOutcome, Report};
-use crate::told::{Gated, Told};
 use crate::worker::Worker;
 use jl_names::Seq;
 use jl_relink::prepare;
@@ -30,7 +28,7 @@ pub(crate) struct Floor<'a, K: Name, G: Gate, R: Wait, S: Wait + Drop> {
     pub(crate) alloc: Global,
     pub(crate) server: &'a LinkServer<K, S>,
     pub(crate) jobs: &'a [Seq<SiteNo>],
-    pub(crate) gate: Gated<'a, G>,
+    pub(crate) gate: &'a G,
     pub(crate) line: &'a Line,
 }
 
@@ -86,23 +84,17 @@ impl<'a, K: Name, G: Gate, R: Wait, S: Wait + Drop> Floor<'a, K, G, R, S> {
         ensures shown { IsShown K.max_sites caller.old (sites_of self.now.jobs.now job) result.outcome }
         ensures seen { HasSeen caller.new result.outcome }
     {
-        let mut told = self.gate.before_prepare(job);
+        self.gate.before_prepare(job);
         let outcome = match self.jobs.get(job) {
-            Some(sites) => self.outcome(caller, &mut told, sites.as_slice()),
-            None => self.outcome(caller, &mut told, &[]),
+            Some(sites) => self.outcome(caller, job, sites.as_slice()),
+            None => self.outcome(caller, job, &[]),
         };
-        told.after_install(outcome)
+        self.gate.after_install(job);
+        Report { job, outcome }
     }
 
-    /// Prepares the sites of the job in a snapshot, and installs their links. The gate was told that it is next to be prepared.
-    fn outcome(
-        &self,
-        caller: &mut Caller<K>,
-        told: &mut Told<'a, G>,
-        sites: &[SiteNo],
-    ) -> JobOutcome<K>
-        requires { told.old.last ≡ BeforePrepare }
-        ensures job { told.new.job ≡ told.old.job }
+    /// Prepares the sites of the job in a snapshot, and installs their links.
+    fn outcome(&self, caller: &mut Caller<K>, job: usize, sites: &[SiteNo]) -> JobOutcome<K>
         ensures own { IsPrefix caller.old caller.new }
         ensures shown { IsShown K.max_sites caller.old sites.now result }
         ensures seen { HasSeen caller.new result }
@@ -112,7 +104,7 @@ impl<'a, K: Name, G: Gate, R: Wait, S: Wait + Drop> Floor<'a, K, G, R, S> {
         };
         match prepare(self.alloc, &snapshot, sites) {
             Ok(prepared) => {
-                told.before_install();
+                self.gate.before_install(job);
                 self.install(caller, sites, seen, prepared.rows)
             }
             Err(fault) => match fault {

@@ -12,7 +12,6 @@ mod floor;
 mod gate;
 mod line;
 mod report;
-mod told;
 mod worker;
 
 pub use farm::run;
