@@ -157,7 +157,7 @@ impl<'a, K: Name, R: Wait, S: Wait + Drop> Turner<'a, K, R, S> {
     fn is_linked(&self, job: usize) -> bool {
         let mut caller = self.caller.lock(self.rt);
         match &self.server.links(self.rt, self.alloc, &mut caller) {
-            Ok(list) => have_links(list.rows.as_slice(), self.row.jobs, job),
+            Ok(list) => has_links(list.rows.as_slice(), self.row.jobs, job),
             Err(_) => false,
         }
     }
@@ -169,6 +169,11 @@ impl<'a, K: Name, R: Wait, S: Wait + Drop> Turner<'a, K, R, S> {
             Turns::During(_) => true,
             _ => self.linked.load(Ordering::SeqCst) == installed,
         }
+    }
+
+    /// Whether the reports are as the row says, and each job was told to be done when it had its links, or had come to something else.
+    fn is_told<F>(&self, reports: &Result<Vec<Report<K>>, F>) -> bool {
+        are_told(reports, self.row) && self.has_told_links(installed(reports))
     }
 
     /// Whether it has retargeted where the row says so, and each time was accepted.
@@ -215,16 +220,21 @@ fn has_link(links: &[(SiteNo, Link)], number: u32) -> bool {
     has
 }
 
-/// Whether each site of this job has a link.
-fn have_links(links: &[(SiteNo, Link)], jobs: &[Job], job: usize) -> bool {
-    let Some(row) = jobs.get(job) else {
-        return false;
-    };
+/// Whether each site of these numbers has a link.
+fn have_links(links: &[(SiteNo, Link)], numbers: &[u32]) -> bool {
     let mut all = true;
-    for number in row.0 {
+    for number in numbers {
         all = all && has_link(links, *number);
     }
     all
+}
+
+/// Whether each site of this job has a link.
+fn has_links(links: &[(SiteNo, Link)], jobs: &[Job], job: usize) -> bool {
+    match jobs.get(job) {
+        Some((numbers, _kind)) => have_links(links, numbers),
+        None => false,
+    }
 }
 
 /// How many jobs were installed.
@@ -323,8 +333,7 @@ fn is_turned<K: Name + Send + Sync, R: Threads + Wait + Sync, S: Wait + Drop + S
         refused: AtomicU64::new(0),
         linked: AtomicU64::new(0),
     };
-    let reports = reports_of(rt, alloc, server, first, workers, &gate, row.jobs);
-    let so = are_told(&reports, row) && gate.has_told_links(installed(&reports));
+    let so = gate.is_told(&reports_of(rt, alloc, server, first, workers, &gate, row.jobs));
     so && gate.has_turned()
 }
 
