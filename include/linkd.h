@@ -27,8 +27,9 @@ extern "C" {
 typedef struct linkd linkd;
 typedef struct linkd_seat linkd_seat;
 
-/* What a call answers: LINKD_DONE, why the linker refuses an event, or why it wasn't asked. Nothing has changed but where it was
- * done; the sections named are those of the Java Virtual Machine Specification, SE 17. */
+/* What a call answers: LINKD_DONE, why the linker refuses an event, or why it wasn't asked. But where it was done the linker and the
+ * seat are as before, unless linkd_answer lacks memory (see there). The sections named are those of the Java Virtual Machine
+ * Specification, SE 17. */
 enum linkd_status {
     LINKD_DONE = 0,
     LINKD_DEFINE = 1,          /* a class isn't defined (5.3.5): fault is a linkd_define_fault */

@@ -1,4 +1,4 @@
--- Worked rows of what faults leave, of exit statuses, and of a farm's jobs.
+-- Worked rows of what faults leave, of how the program ends, and of a farm's jobs.
 use Rattle.std.proofs.Common.{◌≡◌, ℕ, true, false, List, [], ◌∷◌, ◌++◌, length, Option, Some, refl, ap, sym, ◌∙◌, subst, inl, inr, arith, length-append}
 use Rattle.std.proofs.lemmas.List.{append-nil}
 use Rattle.std.specs.Prelude.{codes}
@@ -11,32 +11,61 @@ use Rattle.jl_cli.specs.declared.farm_fault.FarmLineFault.TheVariants.{Line, Far
 use Rattle.jl_cli.specs.declared.words.WordsFault.TheVariants as words_fault
 use Rattle.jl_cli.specs.declared.words.Mode.{Mode}
 use Rattle.jl_cli.specs.declared.words.Mode.TheVariants.{Scan, Sketch, Run}
-use Rattle.jl_cli.specs.Statuses.{words_status, line_status, farm_status}
+use Rattle.jl_cli.specs.declared.ending.Ending.TheVariants.{InputEnded}
+use Rattle.jl_cli.specs.Endings.{status_of, line_of, words_end, lines_end, farm_end}
 use Rattle.jl_session.specs.Sessions.{Session, new_session}
 use Rattle.jl_cli.specs.Lines.{newline, lines_of, NoNewline, ended}
 use Rattle.jl_cli.specs.Answers.{AreAnswers, AnswersEarlier, LongIf, LeftBy}
 use Rattle.jl_cli.specs.Farms.{job_of_each}
 
--- ---- exit statuses
+-- ---- how the program ends
 
-long_status : line_status TooLong ≡ 2
-long_status = refl
+-- the words that ask for nothing
+bad_words_end : status_of (words_end words_fault.BadWords) ≡ 1
+bad_words_end = refl
 
-device_status : line_status Device ≡ 3
-device_status = refl
+bad_words_line : line_of (words_end words_fault.BadWords) ≡ codes "linkd: bad words\n"
+bad_words_line = refl
 
-memory_status : line_status Memory ≡ 4
-memory_status = refl
+words_memory_end : status_of (words_end words_fault.Memory) ≡ 4
+words_memory_end = refl
 
-words_statuses : words_status words_fault.BadWords ∷ words_status words_fault.Memory ∷ [] ≡ 1 ∷ 4 ∷ []
-words_statuses = refl
+-- lines, and a farm's lines as they
+long_end : status_of (lines_end TooLong) ≡ 2
+long_end = refl
 
--- a farm's lines have the statuses of lines, and a farm that failed has its own
-farm_line_statuses : farm_status (Line TooLong) ∷ farm_status (Line Device) ∷ farm_status (Line Memory) ∷ [] ≡ 2 ∷ 3 ∷ 4 ∷ []
-farm_line_statuses = refl
+long_line : line_of (lines_end TooLong) ≡ codes "linkd: line too long\n"
+long_line = refl
 
-farm_statuses : farm_status (Farm farm_fault.NoThread) ∷ farm_status (Farm farm_fault.Memory) ∷ [] ≡ 1 ∷ 1 ∷ []
-farm_statuses = refl
+device_end : status_of (lines_end Device) ≡ 3
+device_end = refl
+
+device_line : line_of (lines_end Device) ≡ codes "linkd: input or output failed\n"
+device_line = refl
+
+memory_end : status_of (lines_end Memory) ≡ 4
+memory_end = refl
+
+memory_line : line_of (lines_end Memory) ≡ codes "linkd: out of memory\n"
+memory_line = refl
+
+farm_line_ends : farm_end (Line TooLong) ∷ farm_end (Line Device) ∷ farm_end (Line Memory) ∷ []
+    ≡ lines_end TooLong ∷ lines_end Device ∷ lines_end Memory ∷ []
+farm_line_ends = refl
+
+-- a farm that failed
+failed_farm_ends : status_of (farm_end (Farm farm_fault.NoThread)) ∷ status_of (farm_end (Farm farm_fault.Memory)) ∷ [] ≡ 1 ∷ 1 ∷ []
+failed_farm_ends = refl
+
+failed_farm_line : line_of (farm_end (Farm farm_fault.NoThread)) ≡ codes "linkd: farm failed\n"
+failed_farm_line = refl
+
+-- an input that ended
+input_end : status_of InputEnded ≡ 0
+input_end = refl
+
+input_line : line_of InputEnded ≡ []
+input_line = refl
 
 -- ---- a line that is too long
 

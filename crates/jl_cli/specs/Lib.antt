@@ -1,7 +1,7 @@
 pub mod Devices
 pub mod Counted
 pub mod FailAt
-pub mod Statuses
+pub mod Endings
 pub mod Words
 pub mod CommandLine
 pub mod Lines

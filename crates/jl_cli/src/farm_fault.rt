@@ -1,4 +1,4 @@
-//! Why a farm over lines ends before its reports are written.
+//! Why a farm over lines ends before its last line is written.
 
 ghost use Rattle.std.specs.Prelude.{◌≡◌};
 ghost use Rattle.jl_cli.specs.declared.line_fault.LineFault.TheVariants as line_fault;
@@ -8,31 +8,14 @@ use crate::failed::Failed;
 use crate::line_fault::LineFault;
 use jl_farm::FarmFault;
 use std::alloc::{AllocError, AllocFailed};
-use thiserror::Error;
 
-/// Why a farm over lines ends before its reports are written.
-#[derive(Clone, Copy, Debug, PartialEq, Eq, Error)]
+/// Why a farm over lines ends before its last line is written.
+#[derive(Clone, Copy, Debug, PartialEq, Eq)]
 pub enum FarmLineFault {
-    /// The lines ended before the input did.
-    #[error("{0}")]
+    /// Why no more lines are answered, or why the last line of the farm could not be made or written.
     Line(LineFault),
     /// There are no reports.
-    #[error("farm failed")]
     Farm(FarmFault),
-}
-
-impl FarmLineFault {
-    ghost use Rattle.jl_cli.specs.Statuses.{farm_status};
-
-    /// The exit status of the program.
-    pub fn status(self) -> u8
-        ensures { result ≡ farm_status self }
-    {
-        match self {
-            FarmLineFault::Line(fault) => fault.status(),
-            FarmLineFault::Farm(_) => 1,
-        }
-    }
 }
 
 impl From<LineFault> for FarmLineFault {

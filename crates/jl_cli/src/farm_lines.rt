@@ -164,9 +164,10 @@ fn run_started<K: Name + Send + Sync, H: Threads + Wait + Sync, R: Source, W: Si
 ///
 /// # Errors
 ///
-/// - [`FarmLineFault::Line`]: why no more lines are answered, as in the mode run; want of memory for the server is one, too. The answers
-///   to all lines before were written whole, but for a failed write.
-/// - [`FarmLineFault::Farm`]: the farm has no reports. The answers to all lines were written.
+/// - [`FarmLineFault::Line`]: why no more lines are answered, as in the mode run, and there is no last line; want of memory for the
+///   server or for the last line, or a failed write of it, is one, too. The answers to all lines before were written whole, but for a
+///   failed write.
+/// - [`FarmLineFault::Farm`]: the farm has no reports. The answers to all lines were written, and no last line.
 pub fn run_farm<H: Threads + Wait + Sync, R: Source, W: Sink>(
     rt: &H,
     alloc: Global,

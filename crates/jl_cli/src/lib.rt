@@ -2,7 +2,8 @@
 //!
 //! Input and output are a [`Source`] and a [`Sink`], which count what failed. What is said of their
 //! bytes and counts stands in `specs/Devices`. What is answered stands in `specs/`, in reading
-//! order: `Lines`, `Answers`; what words ask for, in `Words`. What one line is answered is that of jl_session.
+//! order: `Lines`, `Answers`; what words ask for, in `Words`; how the program ends, in `Endings`. What one
+//! line is answered is that of jl_session.
 #![tactic(auto)]
 
 // Words.
@@ -26,7 +27,11 @@ mod farm;
 mod farm_fault;
 mod farm_lines;
 
+// The end.
+mod ending;
+
 pub use counted::Counted;
+pub use ending::Ending;
 pub use fail_at::FailAt;
 pub use failed::Failed;
 pub use farm_fault::FarmLineFault;

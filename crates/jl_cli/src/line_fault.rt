@@ -5,31 +5,16 @@ ghost use Rattle.jl_cli.specs.declared.line_fault.LineFault.TheVariants.{Device,
 
 use crate::failed::Failed;
 use std::alloc::{AllocError, AllocFailed};
-use thiserror::Error;
 
 /// Why a run over lines ends before its input does.
-#[derive(Clone, Copy, Debug, PartialEq, Eq, Error)]
+#[derive(Clone, Copy, Debug, PartialEq, Eq)]
 pub enum LineFault {
     /// A line has over 2,100,000 bytes without its newline.
-    #[error("line too long")]
-    TooLong = 2,
+    TooLong,
     /// A read or a write failed.
-    #[error("input or output failed")]
-    Device = 3,
+    Device,
     /// Want of memory for a line or its answer.
-    #[error("out of memory")]
-    Memory = 4,
-}
-
-impl LineFault {
-    ghost use Rattle.jl_cli.specs.Statuses.{line_status};
-
-    /// The exit status of the program.
-    pub fn status(self) -> u8
-        ensures { result ≡ line_status self }
-    {
-        self as u8
-    }
+    Memory,
 }
 
 impl From<Failed> for LineFault {

@@ -12,7 +12,6 @@ ghost use Rattle.jl_cli.specs.CommandLine.{mode_of, count_of, asked_by};
 use clap::error::ErrorKind;
 use clap::{Arg, ArgAction, ArgMatches, Command, Error as ClapError, value_parser};
 use std::alloc::{AllocError, Global};
-use thiserror::Error;
 
 /// How lines are answered.
 #[derive(Clone, Copy, Debug, PartialEq, Eq)]
@@ -35,28 +34,12 @@ pub enum Words {
 }
 
 /// Why words ask for nothing.
-#[derive(Clone, Copy, Debug, PartialEq, Eq, Error)]
+#[derive(Clone, Copy, Debug, PartialEq, Eq)]
 pub enum WordsFault {
     /// No subcommand, an unknown one, or other words than it takes; a call for help is so too.
-    #[error("bad words")]
     BadWords,
     /// Want of memory.
-    #[error("out of memory")]
     Memory,
-}
-
-impl WordsFault {
-    ghost use Rattle.jl_cli.specs.Statuses.{words_status};
-
-    /// The exit status of the program.
-    pub fn status(self) -> u8
-        ensures { result ≡ words_status self }
-    {
-        match self {
-            WordsFault::BadWords => 1,
-            WordsFault::Memory => 4,
-        }
-    }
 }
 
 impl From<AllocError> for WordsFault {

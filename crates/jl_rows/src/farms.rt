@@ -87,6 +87,54 @@ fn reports_what_waits_for_a_class(rt: HostRuntime) -> Result<(), Fail> {
     )
 }
 
+/// class P { public static void run() { virtual A.f; virtual Z.z } }
+const P: &str =
+    r#"{"do":"define","loader":0,"sketch":{"name":"P","super":"java/lang/Object","flags":33,"methods":[{"name":"run","type":"()V","flags":9,"calls":[{"kind":"invokevirtual","of":"A","name":"f","type":"()V"},{"kind":"invokevirtual","of":"Z","name":"z","type":"()V"}]}]}}"#;
+
+/// Requests the call of A.f in P, and that of Z.z.
+const ASKS_F: &str = r#"{"do":"request","class":2,"method":0,"pc":0}"#;
+
+const ASKS_Z: &str = r#"{"do":"request","class":2,"method":0,"pc":3}"#;
+
+/// Asserts that farms answer these requests in P, of which the first becomes site 0, and then write this last line.
+fn assert_requests(
+    rt: &(impl Abort + AllocGlobal + Threads + Wait + Sync),
+    requests: [&str; 2],
+    last: &str,
+) -> Result<(), Fail> {
+    let [first, second] = requests;
+    assert_farm_run(
+        rt,
+        [
+            (OBJECT, r#"{"class":0,"dropped":[]}"#),
+            (A, r#"{"class":1,"dropped":[]}"#),
+            (P, r#"{"class":2,"dropped":[]}"#),
+            (first, r#"{"dropped":[],"site":0}"#),
+            (second, r#"{"dropped":[],"site":1}"#),
+        ]
+        .as_slice(),
+        last,
+    )
+}
+
+#[test]
+fn reports_what_waits_behind_what_is_linked(rt: HostRuntime) -> Result<(), Fail> {
+    assert_requests(
+        &rt,
+        [ASKS_F, ASKS_Z],
+        r#"{"links":[[0,{"direct":{"run":[1,0]}}]],"reports":["Installed","NotReady"]}"#,
+    )
+}
+
+#[test]
+fn reports_what_is_linked_behind_what_waits(rt: HostRuntime) -> Result<(), Fail> {
+    assert_requests(
+        &rt,
+        [ASKS_Z, ASKS_F],
+        r#"{"links":[[1,{"direct":{"run":[1,0]}}]],"reports":["NotReady","Installed"]}"#,
+    )
+}
+
 #[test]
 fn has_no_job_of_an_empty_input(rt: HostRuntime) -> Result<(), Fail> {
     assert_farms(&rt, "", "{\"links\":[],\"reports\":[]}\n")

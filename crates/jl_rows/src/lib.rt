@@ -10,6 +10,10 @@ mod classes;
 #[cfg(test)]
 mod devices;
 #[cfg(test)]
+mod endings;
+#[cfg(test)]
+mod farm_ends;
+#[cfg(test)]
 mod farms;
 #[cfg(test)]
 mod faults;

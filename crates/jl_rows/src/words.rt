@@ -1,6 +1,6 @@
 //! The words of the program.
 
-use jl_cli::{LineFault, Mode, Words, WordsFault, read_words};
+use jl_cli::{Mode, Words, WordsFault, read_words};
 use std::alloc::{AllocError, Global};
 
 /// Command lines, and what their words ask for.
@@ -98,35 +98,4 @@ fn takes_its_subcommands(rt: HostRuntime) {
     for (line, expected) in LINES {
         assert!(rt; asks_for(rt.alloc(), line, *expected), "at {line:?}");
     }
-}
-
-/// Whether the fault of words is shown as this text.
-fn shows_words_fault(alloc: Global, fault: WordsFault, text: &str) -> bool {
-    match fault.to_string(alloc) {
-        Ok(shown) => shown.as_str() == text,
-        Err(_) => false,
-    }
-}
-
-/// Whether the fault of lines is shown as this text.
-fn shows_line_fault(alloc: Global, fault: LineFault, text: &str) -> bool {
-    match fault.to_string(alloc) {
-        Ok(shown) => shown.as_str() == text,
-        Err(_) => false,
-    }
-}
-
-#[test]
-fn has_statuses_and_texts(rt: HostRuntime) {
-    let alloc = rt.alloc();
-    assert!(rt; WordsFault::BadWords.status() == 1);
-    assert!(rt; shows_words_fault(alloc, WordsFault::BadWords, "bad words"));
-    assert!(rt; WordsFault::Memory.status() == 4);
-    assert!(rt; shows_words_fault(alloc, WordsFault::Memory, "out of memory"));
-    assert!(rt; LineFault::TooLong.status() == 2);
-    assert!(rt; shows_line_fault(alloc, LineFault::TooLong, "line too long"));
-    assert!(rt; LineFault::Device.status() == 3);
-    assert!(rt; shows_line_fault(alloc, LineFault::Device, "input or output failed"));
-    assert!(rt; LineFault::Memory.status() == 4);
-    assert!(rt; shows_line_fault(alloc, LineFault::Memory, "out of memory"));
 }
