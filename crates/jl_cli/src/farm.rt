@@ -3,9 +3,10 @@
 ghost use Rattle.std.specs.Prelude.{◌≡◌, ◌≤◌, [], ◌∷◌, IfOk, vec_len};
 ghost use Rattle.std.specs.List.{range_with_len};
 ghost use mathlib.Core.List.{IsPrefix};
+ghost use Rattle.serde_json.specs.View.{view};
 ghost use Rattle.jl_types.specs.History.{site_numbers};
 ghost use Rattle.jl_types.specs.Entries.{events_of};
-ghost use Rattle.jl_cli.specs.Farms.{job_of_each};
+ghost use Rattle.jl_cli.specs.Farms.{job_of_each, outcome_name, reports_data};
 
 use crate::farm_fault::FarmLineFault;
 use jl_classfile::read_class;
@@ -109,6 +110,7 @@ impl<'a, K: Name, H: Wait, S: Wait + Drop> Foreman<'a, K, H, S> {
         requires { K.max_sites ≤ 65536 }
         ensures own { IsPrefix self.old.caller self.new.caller }
         ensures jobs { IfOk result (λ jobs. jobs.items ≡ job_of_each (site_numbers (events_of self.new.caller))) }
+        ensures numbers { IfOk result (λ jobs. range_with_len 0 (vec_len jobs) ≡ site_numbers (events_of self.new.caller)) }
         ensures most { IfOk result (λ jobs. vec_len jobs ≤ 65536) }
     {
         let (snapshot, _seen) = self.caller.snapshot(self.rt, self.alloc, self.server)?;
@@ -187,7 +189,9 @@ pub(crate) fn farm_text<
 }
 
 /// The name of what a job came to.
-fn name_of<K: Name>(outcome: &JobOutcome<K>) -> &'static str {
+fn name_of<K: Name>(outcome: &JobOutcome<K>) -> &'static str
+    ensures { result.now ≡ outcome_name outcome.now }
+{
     match outcome {
         JobOutcome::Installed(_) => "Installed",
         JobOutcome::Stale(_, _) => "Stale",
@@ -198,7 +202,10 @@ fn name_of<K: Name>(outcome: &JobOutcome<K>) -> &'static str {
 }
 
 /// The names of what jobs came to, in order.
-fn reports_value<K: Name>(alloc: Global, reports: &[Report<K>]) -> Result<Value, AllocError> {
+#[tactic(auto, unfolding(crate::specs::Farms::reports_data))]
+fn reports_value<K: Name>(alloc: Global, reports: &[Report<K>]) -> Result<Value, AllocError>
+    ensures { IfOk result (λ v. view v ≡ reports_data reports.now) }
+{
     let mut names = Vec::new(alloc);
     for report in reports {
         let name = name_of(&report.outcome);
