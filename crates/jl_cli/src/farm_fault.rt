@@ -8,13 +8,16 @@ use crate::failed::Failed;
 use crate::line_fault::LineFault;
 use jl_farm::FarmFault;
 use std::alloc::{AllocError, AllocFailed};
+use thiserror::Error;
 
 /// Why a farm over lines ends before its last line is written.
-#[derive(Clone, Copy, Debug, PartialEq, Eq)]
+#[derive(Clone, Copy, Debug, PartialEq, Eq, Error)]
 pub enum FarmLineFault {
     /// Why no more lines are answered, or why the last line of the farm could not be made or written.
+    #[error("{0}")]
     Line(LineFault),
     /// There are no reports.
+    #[error("farm failed")]
     Farm(FarmFault),
 }
 

@@ -5,16 +5,20 @@ ghost use Rattle.jl_cli.specs.declared.line_fault.LineFault.TheVariants.{Device,
 
 use crate::failed::Failed;
 use std::alloc::{AllocError, AllocFailed};
+use thiserror::Error;
 
 /// Why a run over lines ends before its input does.
-#[derive(Clone, Copy, Debug, PartialEq, Eq)]
+#[derive(Clone, Copy, Debug, PartialEq, Eq, Error)]
 pub enum LineFault {
     /// A line has over 2,100,000 bytes without its newline.
-    TooLong,
+    #[error("line too long")]
+    TooLong = 2,
     /// A read or a write failed.
-    Device,
+    #[error("input or output failed")]
+    Device = 3,
     /// Want of memory for a line or its answer.
-    Memory,
+    #[error("out of memory")]
+    Memory = 4,
 }
 
 impl From<Failed> for LineFault {

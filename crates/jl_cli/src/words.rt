@@ -12,6 +12,7 @@ ghost use Rattle.jl_cli.specs.CommandLine.{mode_of, count_of, asked_by};
 use clap::error::ErrorKind;
 use clap::{Arg, ArgAction, ArgMatches, Command, Error as ClapError, value_parser};
 use std::alloc::{AllocError, Global};
+use thiserror::Error;
 
 /// How lines are answered.
 #[derive(Clone, Copy, Debug, PartialEq, Eq)]
@@ -34,11 +35,13 @@ pub enum Words {
 }
 
 /// Why words ask for nothing.
-#[derive(Clone, Copy, Debug, PartialEq, Eq)]
+#[derive(Clone, Copy, Debug, PartialEq, Eq, Error)]
 pub enum WordsFault {
     /// No subcommand, an unknown one, or other words than it takes; a call for help is so too.
+    #[error("bad words")]
     BadWords,
     /// Want of memory.
+    #[error("out of memory")]
     Memory,
 }
 

@@ -4,6 +4,7 @@ use crate::devices::SlowWriter;
 use jl_cli::{Counted, Ending, FailAt, FarmLineFault, LineFault, WordsFault};
 use jl_farm::FarmFault;
 use std::alloc::Global;
+use std::fmt::Display;
 use std::process::Abort;
 
 /// Ways to end, each with its status and its text.
@@ -53,6 +54,33 @@ fn has_its_status_though_nobody_hears(rt: HostRuntime) {
             "{ending:?}"
         );
     }
+}
+
+/// Whether the fault's text is what the line says behind the program's name.
+fn is_said(alloc: Global, fault: impl Display, ending: Ending) -> bool {
+    match format!(in alloc; "linkd: {fault}\n") {
+        Ok(line) => line.as_str() == ending.line(),
+        Err(_) => false,
+    }
+}
+
+#[test]
+fn is_said_by_the_fault(rt: HostRuntime) {
+    let alloc = rt.alloc();
+    for fault in [LineFault::TooLong, LineFault::Device, LineFault::Memory] {
+        assert!(rt;
+            is_said(alloc, fault, Ending::of_lines(Err(fault))),
+            "{fault}"
+        );
+    }
+    for fault in [WordsFault::BadWords, WordsFault::Memory] {
+        assert!(rt; is_said(alloc, fault, Ending::from(fault)), "{fault}");
+    }
+    let fault = FarmLineFault::Farm(FarmFault::NoThread);
+    assert!(rt;
+        is_said(alloc, fault, Ending::of_farm(Err(fault))),
+        "{fault}"
+    );
 }
 
 /// Asserts how a run of lines ends the program, and how a farm does, by the same fault.
