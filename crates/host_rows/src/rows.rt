@@ -244,3 +244,137 @@ const FILES: &[StepRow] = &[
 fn files(rt: HostRuntime) {
     assert_rows(&rt, FILES);
 }
+
+/// The session of the README, by lines alone.
+const SESSION: &[StepRow] = &[
+    (Open(65_536), &[0]),
+    (
+        Says(
+            r#"{"do":"define","loader":0,"sketch":{"name":"java/lang/Object","flags":33}}"#,
+            r#"{"class":0,"dropped":[]}"#,
+        ),
+        &[0, 0, 1],
+    ),
+    (
+        Says(
+            r#"{"do":"define","loader":0,"sketch":{"name":"A","super":"java/lang/Object","flags":33,"methods":[{"name":"f","type":"()V","flags":1}]}}"#,
+            r#"{"class":1,"dropped":[]}"#,
+        ),
+        &[0, 0, 1],
+    ),
+    (
+        Says(
+            r#"{"do":"define","loader":0,"sketch":{"name":"B","super":"A","flags":33}}"#,
+            r#"{"class":2,"dropped":[]}"#,
+        ),
+        &[0, 0, 1],
+    ),
+    (
+        Says(
+            r#"{"do":"define","loader":0,"sketch":{"name":"M","super":"java/lang/Object","flags":33,"methods":[{"name":"run","type":"()V","flags":9,"calls":[{"kind":"invokevirtual","of":"A","name":"f","type":"()V"}]}]}}"#,
+            r#"{"class":3,"dropped":[]}"#,
+        ),
+        &[0, 0, 1],
+    ),
+    (
+        Says(
+            r#"{"do":"request","class":3,"method":0,"pc":0}"#,
+            r#"{"dropped":[],"site":0}"#,
+        ),
+        &[0, 0, 1],
+    ),
+    (
+        Says(
+            r#"{"do":"prepare","sites":[0]}"#,
+            r#"{"prepared":0,"rows":[[0,{"direct":{"run":[1,0]}}]]}"#,
+        ),
+        &[0, 0, 1],
+    ),
+    (
+        Says(r#"{"do":"install","prepared":0}"#, r#"{"dropped":[]}"#),
+        &[0, 0, 1],
+    ),
+    (
+        Says(
+            r#"{"do":"define","loader":0,"sketch":{"name":"C","super":"A","flags":33,"methods":[{"name":"f","type":"()V","flags":1}]}}"#,
+            r#"{"class":4,"dropped":[0]}"#,
+        ),
+        &[0, 0, 1],
+    ),
+    (
+        Says(r#"{"do":"call","site":0,"recv":4}"#, r#"{"run":[4,0]}"#),
+        &[0, 0, 1],
+    ),
+    (
+        Says(
+            r#"{"do":"install","prepared":0}"#,
+            r#"{"present":{"kind":"virtual","table":[[1,{"run":[1,0]}],[2,{"run":[1,0]}],[4,{"run":[4,0]}]]},"refused":"Stale","site":0}"#,
+        ),
+        &[0, 0, 1],
+    ),
+];
+
+#[test]
+fn session(rt: HostRuntime) {
+    assert_rows(&rt, SESSION);
+}
+
+/// Loader 1 with W, which calls A.f; then loader 2 with T, which has a static m, and loader 3 with U below T.
+const RETIREMENT: &[StepRow] = &[
+    (Retire(1), &[34]),
+    (Open(2), &[0]),
+    (Retire(0), &[19, 0, 2]),
+    (Retire(1), &[19, 0, 1]),
+    (Define(0, OBJECT), &[0, 0]),
+    (Define(0, A), &[0, 1]),
+    (NewLoader, &[0, 1]),
+    (Delegate(1, "java/lang/Object", 0), &[0]),
+    (Delegate(1, "A", 0), &[0]),
+    (
+        Says(
+            r#"{"do":"define","loader":1,"sketch":{"name":"W","super":"java/lang/Object","flags":33,"methods":[{"name":"run","type":"()V","flags":9,"calls":[{"kind":"invokevirtual","of":"A","name":"f","type":"()V"}]}]}}"#,
+            r#"{"class":2,"dropped":[]}"#,
+        ),
+        &[0, 0, 1],
+    ),
+    (Request(2, 0, 0), &[0, 0]),
+    (Install(&[0]), &[0]),
+    (LinkOf(0), &[0, 3, 1, 0, 0, 1, 0]),
+    (Retire(1), &[0]),
+    (Dropped(1), &[0, 1, 0, 9, 9, 9]),
+    (LinkOf(0), &[0, 0, 0, 9, 9, 9, 9]),
+    (Call(0, 1), &[0, 3, 0, 5]),
+    (Request(2, 0, 0), &[2]),
+    (Install(&[0]), &[11]),
+    (Retire(1), &[19, 0, 1]),
+    (NewLoader, &[0, 2]),
+    (Delegate(2, "java/lang/Object", 0), &[0]),
+    (
+        Says(
+            r#"{"do":"define","loader":2,"sketch":{"name":"T","super":"java/lang/Object","flags":33,"methods":[{"name":"m","type":"()V","flags":9}]}}"#,
+            r#"{"class":3,"dropped":[]}"#,
+        ),
+        &[0, 0, 1],
+    ),
+    (NewCallSite(2, "()V", r#"{"method":[3,0]}"#), &[0, 0]),
+    (Retire(2), &[19, 0, 5, 0]),
+    (NewLoader, &[0, 3]),
+    (Delegate(3, "java/lang/Object", 0), &[0]),
+    (Delegate(3, "T", 2), &[0]),
+    (Retire(2), &[19, 0, 4, 3]),
+    (
+        Says(
+            r#"{"do":"define","loader":3,"sketch":{"name":"U","super":"T","flags":33}}"#,
+            r#"{"class":4,"dropped":[]}"#,
+        ),
+        &[0, 0, 1],
+    ),
+    (Retire(2), &[19, 0, 3, 4]),
+    (Retire(3), &[0]),
+    (Retire(2), &[19, 0, 5, 0]),
+];
+
+#[test]
+fn retirement(rt: HostRuntime) {
+    assert_rows(&rt, RETIREMENT);
+}

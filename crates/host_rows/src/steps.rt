@@ -23,6 +23,7 @@ pub enum Step {
     NewSwitch,
     Invalidate(&'static [u32]),
     Bind(u32, u32),
+    Retire(u32),
     Install(&'static [u32]),
     /// The sites that went, copied to an array of so many.
     Dropped(usize),
@@ -156,6 +157,7 @@ fn event_numbers(alloc: Global, linker: &mut Linker, step: &Step) -> Numbers {
         Step::NewSwitch => linker.new_switch(alloc, &mut told),
         Step::Invalidate(switches) => linker.invalidate(alloc, switches, &mut told),
         Step::Bind(site, call_site) => linker.bind(alloc, *site, *call_site, &mut told),
+        Step::Retire(loader) => linker.retire(alloc, *loader, &mut told),
         Step::Install(sites) => linker.install(alloc, sites, &mut told),
         Step::NewCallSite(kind, ty, target) => {
             linker.new_call_site(alloc, *kind, ty.as_bytes(), target.as_bytes(), &mut told)

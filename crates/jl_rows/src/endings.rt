@@ -57,7 +57,7 @@ fn has_its_status_though_nobody_hears(rt: HostRuntime) {
 }
 
 /// Whether the fault's text is what the line says behind the program's name.
-fn is_said(alloc: Global, fault: impl Display, ending: Ending) -> bool {
+fn is_said(alloc: Global, fault: impl Display + Drop, ending: Ending) -> bool {
     match format!(in alloc; "linkd: {fault}\n") {
         Ok(line) => line.as_str() == ending.line(),
         Err(_) => false,
