@@ -4,7 +4,8 @@
 #     bench/touched.sh PROGRAM       PROGRAM is a built linkd
 #
 # EVENTS (60,000, at most 65,000) is how many definitions are timed, and ten times as many new targets and invalidations. Each time is that
-# of a run with them less that of the same run without, by processor, the least of five. It needs GNU time.
+# of a run with them less that of the same run without, by processor, the least of five. It ends with status 0 only where events that touch no
+# site take at most MOST (1.5) times as long behind the links. It needs GNU time.
 set -eu
 program=${1:?a built linkd}
 events=${EVENTS:-60000}
@@ -69,6 +70,7 @@ if grep -q refused "$work/answers"; then
     grep -m 3 refused "$work/answers" >&2
     exit 1
 fi
+status=0
 linked=$(seconds "$work/linked")
 bare=$(seconds "$work/bare")
 echo "65,536 sites: $bare s requested, $linked s with their links"
@@ -82,9 +84,10 @@ for kind in java/lang/Object target invalidate; do
     behind=$(seconds "$work/all")
     cat "$work/bare" "$work/more" > "$work/all"
     alone=$(seconds "$work/all")
-    awk -v kind="$kind" -v n="$count" -v a="$behind" -v b="$linked" -v c="$alone" -v d="$bare" 'BEGIN {
+    awk -v kind="$kind" -v n="$count" -v a="$behind" -v b="$linked" -v c="$alone" -v d="$bare" -v most="${MOST:-1.5}" 'BEGIN {
         printf "%d of %s: %.2f and %.2f, ratio %.2f\n", n, kind == "java/lang/Object" ? "define" : kind, a - b, c - d, (a - b) / (c - d)
-    }'
+        exit ((a - b) / (c - d) > most)
+    }' || status=1
 done
 
 echo "== 256 definitions that touch so many sites, a definition"
@@ -95,3 +98,4 @@ for row in "D 1" "C 64" "B 4096"; do
     behind=$(seconds "$work/all")
     awk -v n="$2" -v a="$behind" -v b="$linked" 'BEGIN { printf "%d: %.3f ms\n", n, 1000 * (a - b) / 256 }'
 done
+exit $status
