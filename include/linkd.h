@@ -229,8 +229,8 @@ void linkd_seat_blank(linkd_seat *at);
 /* Gives the seat the linker's links and count of classes as they are now. Counts as a call on the seat and on the linker. */
 uint32_t linkd_seat_refresh(linkd_seat *at, linkd *from);
 /* What a call comes to by the links of the last refresh, at once: of null, and of each object that may stand there. LINKD_MISS where
- * the site had no link or a megamorphic one, or the receiver's class is newer. Takes no lock and no memory, and counts as a call on the seat
- * alone, which may outlive the linker. */
+ * the site had no link or a megamorphic one, or its link looks at the receiver, whose class is newer. Takes no lock and no memory, and
+ * counts as a call on the seat alone, which may outlive the linker. */
 uint32_t linkd_seat_call(linkd_seat *at, uint32_t site, uint32_t receiver, linkd_call_answer *answer);
 /* Lets the seat's links go: it is as if it was never refreshed. Counts as a call on the seat alone. */
 void linkd_seat_leave(linkd_seat *at);
