@@ -1,7 +1,7 @@
 #!/usr/bin/env python3
-"""Judges the changed class files of crates/hostile by a reader of its own.
+"""Judges the changed class files of crates/trial_files by a reader of its own.
 
-    bench/hostile.py           writes what crates/hostile must print, which reads a tenth of them
+    bench/hostile.py           writes what crates/trial_files must print, which reads a tenth of them
     bench/hostile.py all       writes what it must print with the word `all`
 
 The reader follows docs/FORMATS.md and JVMS SE 17 chapter 4, pass after pass, and shares nothing with that of the crates: no text, no

@@ -1,8 +1,8 @@
 #!/usr/bin/env bash
-# Reads all the changed class files of crates/hostile, of which the gate reads a tenth, and compares what the program prints with what
+# Reads all the changed class files of crates/trial_files, of which the gate reads a tenth, and compares what the program prints with what
 # a reader of its own judges (bench/hostile.py).
 #
-#     bench/hostile.sh crates/hostile/out/hostile
+#     bench/hostile.sh crates/trial_files/out/trial_files
 #
 # The gate leaves the program there. The status is 0 where both print the same.
 set -eu

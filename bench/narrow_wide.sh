@@ -1,5 +1,5 @@
 #!/usr/bin/env bash
-# Tries a wrong body that no clause refuses: a `prepare_wide` that looks at all pairs in one thread. The tests of crates/wide_rows must
+# Tries a wrong body that no clause refuses: a `prepare_wide` that looks at all pairs in one thread. The tests of crates/rows_wide must
 # refuse it.
 #
 #     bench/narrow_wide.sh
@@ -18,7 +18,7 @@ if cmp -s "$wide" "$top/crates/jl_relink/src/wide.rt"; then
     echo 'LEAST_PIECE stands nowhere' >&2
     exit 2
 fi
-cd "$copy/crates/wide_rows"
+cd "$copy/crates/rows_wide"
 rt try --test > tests.txt 2>&1 || true
 grep '^test ' tests.txt || { tail -n 20 tests.txt >&2; exit 2; }
 if grep -q '^test gates::first_waits_for_last \.\.\. ok$' tests.txt || ! grep -q '^test result: FAILED\. 3 passed; 1 failed;' tests.txt; then

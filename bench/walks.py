@@ -490,6 +490,23 @@ def imports(source, export, body):
     ]
 
 
+def narrow(line, most=160):
+    """The line, as several where it is longer: an import as two, another one where the fewest brackets are open, the last of such places."""
+    if len(line) <= most:
+        return [line]
+    if line.startswith('use '):
+        at = line.rindex(', ', 0, most - 1)
+        return [line[:at] + '}', *narrow(line[: line.index('{') + 1] + line[at + 2 :], most)]
+    margin = len(line) - len(line.lstrip())
+    places, depth = [], 0
+    for at, letter in enumerate(line[:most]):
+        depth += (letter in '([{') - (letter in ')]}')
+        if letter == ' ' and at > margin + 20 and line[at + 1] not in '=:' and not line[:at].endswith(('→', '⊛', '∷', '=')):
+            places.append((depth, -at))
+    at = -min(places)[1]
+    return [line[:at], *narrow(' ' * (margin + 4) + line[at + 1 :], most)]
+
+
 def write(source, export):
     body = blank_walk(export) if export.is_blank else Walk(export).text()
     body += ')' * (body.count('(') - body.count(')'))
@@ -497,7 +514,8 @@ def write(source, export):
     text = [f'-- {what}', *imports(source, export, body), '', f'pub {export.name}_spec : {{M : Type 1}} → statement M', f'{export.name}_spec 𝓤 𝓛 𝓜 𝓡 wired =', body]
     path = CRATE / 'proofs' / export.name / 'Proof.antt'
     path.parent.mkdir(parents=True, exist_ok=True)
-    path.write_text('\n'.join(text) + '\n')
+    lines = '\n'.join(text).split('\n')
+    path.write_text('\n'.join(short for line in lines for short in narrow(line)) + '\n')
 
 
 def main(names):

@@ -5,15 +5,15 @@
 ghost use Rattle.std.specs.Prelude.{◌≡◌};
 
 use crate::number_or;
-use jl_classfile::ClassFile;
+use jl_class::ClassFile;
 use jl_names::{Name, Seq};
 use jl_server::{Caller, LinkServer, Name as Server, Parts};
 use jl_types::{
     CallSiteId, CallSiteKind, ClassId, Event, Fast, Link, LoaderId, MethodId, Place, Recv, SiteNo,
     Target,
 };
-use rounds::{Round, at_once};
-use row_files::{CallRow, MethodRow, OBJECT, calling, class};
+use rows_files::{CallRow, MethodRow, OBJECT, calling, class};
+use rows_threads::{Round, at_once};
 use std::alloc::{AllocError, Global};
 use std::io;
 use std::marker::Brand;

@@ -5,7 +5,8 @@
 //! of them once and keeps what was read and nothing else, so that the most memory of the run tells what class files take.
 
 use crate::files::files;
-use jl_classfile::{ClassFile, read_class};
+use jl_class::ClassFile;
+use jl_classfile::read_class;
 use std::alloc::Global;
 use std::io::{self, BufRead, BufReader};
 use std::time::Instant;

@@ -5,11 +5,11 @@
 use crate::number_or;
 use jl_relink::{Snapshot, prepare, prepare_wide};
 use jl_types::SiteNo;
+use rows_wide::worlds::{Shape, sites, snapshot};
 use std::alloc::Global;
 use std::io;
 use std::thread::Threads;
 use std::time::{Clock, Instant};
-use wide_rows::worlds::{Shape, sites, snapshot};
 
 /// The least time of so many rounds, in nanoseconds.
 fn least(

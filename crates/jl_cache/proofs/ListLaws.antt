@@ -1,5 +1,6 @@
 -- How long rising lists of links are, and which they are.
-use Rattle.std.specs.Prelude.{◌≡◌, ℕ, zero, suc, ◌+◌, ◌<◌, ◌≤◌, ◌==◌, ◌⊎◌, Bool, true, false, List, [], ◌∷◌, length, Option, Some, None, option_map, if◌then◌else◌}
+use Rattle.std.specs.Prelude.{◌≡◌, ℕ, zero, suc, ◌+◌, ◌<◌, ◌≤◌, ◌==◌, ◌⊎◌, Bool, true, false, List, [], ◌∷◌, length, Option, Some, None, option_map}
+use Rattle.std.specs.Prelude.{if◌then◌else◌}
 use Rattle.std.specs.List.{AllByRecursion, cons_option}
 use Rattle.std.proofs.Common.{refl, ap, sym, subst, ◌∙◌, arith, inl, inr}
 use Rattle.std.proofs.lemmas.Bool.Decides.{Decides-eqb}
@@ -20,7 +21,8 @@ shorter (x ∷ xs) (y ∷ ys) h k e = by_order (cases_order x.0 y.0) (shorter xs
     tails same s l is = by_test (x.0 == s) refl
       where
         by_test : (b : Bool) → (x.0 == s) ≡ b → link_at ys s ≡ Some l
-        by_test true at = absurd (no_value l (sym is ∙ none_below s xs (subst (λ n. AllByRecursion (λ (r : ℕ × Link). n < r.0) xs) ((Decides-eqb x.0 s).0 at) h.0)))
+        by_test true at = absurd
+            (no_value l (sym is ∙ none_below s xs (subst (λ n. AllByRecursion (λ (r : ℕ × Link). n < r.0) xs) ((Decides-eqb x.0 s).0 at) h.0)))
         by_test false at =
             let other : ¬ (x.0 ≡ s) = λ there. both_ways (x.0 == s) at ((Decides-eqb x.0 s).1 there) in
             sym (other_there y.0 s y.1 ys (λ there. other (same ∙ there))) ∙ e s l (other_there x.0 s x.1 xs other ∙ is)
@@ -30,7 +32,8 @@ shorter (x ∷ xs) (y ∷ ys) h k e = by_order (cases_order x.0 y.0) (shorter xs
       where
         by_test : (b : Bool) → (y.0 == s) ≡ b → link_at ys s ≡ Some l
         by_test true at =
-            absurd (no_value l (sym is ∙ none_below s (x ∷ xs) (subst (λ n. AllByRecursion (λ (r : ℕ × Link). n < r.0) (x ∷ xs)) ((Decides-eqb y.0 s).0 at) (lt, wider y.0 x.0 xs lt h.0))))
+            absurd (no_value l (sym is ∙ none_below s (x ∷ xs) (subst (λ n. AllByRecursion (λ (r : ℕ × Link). n < r.0) (x ∷ xs)) ((Decides-eqb y.0 s).0 at)
+            (lt, wider y.0 x.0 xs lt h.0))))
         by_test false at = sym (other_there y.0 s y.1 ys (λ there. both_ways (y.0 == s) at ((Decides-eqb y.0 s).1 there))) ∙ e s l is
 
     by_order : ((x.0 ≡ y.0) ⊎ ((x.0 < y.0) ⊎ (y.0 < x.0))) → (((s : ℕ) (l : Link) → link_at xs s ≡ Some l → link_at ys s ≡ Some l) → length xs ≤ length ys)
@@ -41,7 +44,8 @@ shorter (x ∷ xs) (y ∷ ys) h k e = by_order (cases_order x.0 y.0) (shorter xs
     by_order (inr (inr gt)) rest later = let le = later (behind gt) in omega arith
 
 -- one from which some sites are left out is no longer
-pub no_longer : (xs ys : List (ℕ × Link)) → Rises xs → Rises ys → (gone : ℕ → Bool) → ((s : ℕ) → link_at xs s ≡ (if gone s then None else link_at ys s)) → length xs ≤ length ys
+pub no_longer : (xs ys : List (ℕ × Link)) → Rises xs → Rises ys → (gone : ℕ → Bool) → ((s : ℕ) → link_at xs s ≡ (if gone s then None else link_at ys s))
+    → length xs ≤ length ys
 no_longer xs ys h k gone e = shorter xs ys h k (λ s l is. by_test s l (gone s) (sym (e s) ∙ is))
   where
     by_test : (s : ℕ) (l : Link) → (b : Bool) → (if b then None else link_at ys s) ≡ Some l → link_at ys s ≡ Some l
@@ -82,8 +86,10 @@ module _ (f : ℕ → Option Link) where
         by_place (inr (inr gt)) rest = absurd (omega arith)
 
 -- a rising list is that of the links of its sites
-pub rows_are : (links : List (ℕ × Link)) → Rises links → (end : ℕ) → ((s : ℕ) (l : Link) → link_at links s ≡ Some l → s < end) → rows (link_at links) 0 end ≡ links
-rows_are links h end within = same_values (rows (link_at links) 0 end) links (rows_rise (link_at links) 0 end) h (λ s. found_from (link_at links) end within 0 end (omega arith) s (omega arith))
+pub rows_are : (links : List (ℕ × Link)) → Rises links → (end : ℕ) → ((s : ℕ) (l : Link) → link_at links s ≡ Some l → s < end)
+    → rows (link_at links) 0 end ≡ links
+rows_are links h end within = same_values (rows (link_at links) 0 end) links (rows_rise (link_at links) 0 end) h
+    (λ s. found_from (link_at links) end within 0 end (omega arith) s (omega arith))
 
 -- a rising list is that of a function by which each site has its link
 pub rows_found : (links : List (ℕ × Link)) → AreRising links → (f : ℕ → Option Link) (n : ℕ) → ((s : ℕ) → link_at links s ≡ f s)

@@ -46,18 +46,22 @@ rises_from_sorted (row ∷ rows) h k = (
 -- the link that is found in a list is the first one of the site
 found_in_list : (rows : List (ℕ × Link)) (s : ℕ) → link_at rows s ≡ lookup (λ k. s == k) rows
 found_in_list [] s = refl
-found_in_list (row ∷ rows) s = found_first row.0 s row.1 rows ∙ ap (λ (b : Bool). if b then Some row.1 else link_at rows s) (nat_eq_equiv.symm row.0 s) ∙ by_test (s == row.0) (found_in_list rows s)
+found_in_list (row ∷ rows) s = found_first row.0 s row.1 rows ∙ ap (λ (b : Bool). if b then Some row.1 else link_at rows s) (nat_eq_equiv.symm row.0 s)
+    ∙ by_test (s == row.0) (found_in_list rows s)
   where
-    by_test : (b : Bool) → link_at rows s ≡ lookup (λ k. s == k) rows → (if b then Some row.1 else link_at rows s) ≡ cond b (Some row.1) (lookup (λ k. s == k) rows)
+    by_test : (b : Bool) → link_at rows s ≡ lookup (λ k. s == k) rows → (if b then Some row.1 else link_at rows s) ≡ cond b (Some row.1)
+        (lookup (λ k. s == k) rows)
     by_test true e = refl
     by_test false e = e
 
 module _ (entries rows : List (ℕ × Link)) (moved : IsPermutation entries rows) (apart : IsDistinct (λ a b. a == b) (keys_of entries)) where
   rows_apart : IsDistinct (λ a b. a == b) (keys_of rows)
-  rows_apart = IsDistinct-IsPermutation (λ a b. a == b) nat_eq_equiv.symm (keys_of entries) (keys_of rows) (IsPermutation-map (λ (r : ℕ × Link). r.0) entries rows moved) apart
+  rows_apart = IsDistinct-IsPermutation (λ a b. a == b) nat_eq_equiv.symm (keys_of entries) (keys_of rows)
+      (IsPermutation-map (λ (r : ℕ × Link). r.0) entries rows moved) apart
 
   goes : (s : ℕ) (l : Link) → lookup (λ k. s == k) entries ≡ Some l → lookup (λ k. s == k) rows ≡ Some l
-  goes s l e = lookup-from_Contains nat_eq_equiv s l rows rows_apart (Contains-permutation entries rows (s, l) moved (Contains-from_lookup (λ x y. (Decides-eqb x y).0) s l entries e))
+  goes s l e = lookup-from_Contains nat_eq_equiv s l rows rows_apart (Contains-permutation entries rows (s, l) moved
+      (Contains-from_lookup (λ x y. (Decides-eqb x y).0) s l entries e))
 
   comes : (s : ℕ) (l : Link) → lookup (λ k. s == k) rows ≡ Some l → lookup (λ k. s == k) entries ≡ Some l
   comes s l e =

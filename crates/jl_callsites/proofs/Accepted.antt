@@ -1,16 +1,17 @@
 -- What an event of call sites or switch points finds there that no fault speaks against.
-use Rattle.std.specs.Prelude.{◌≡◌, ℕ, ◌<◌, Bool, true, false, not, ◌&&◌, ◌||◌, nat_lt, nat_le, List, [], ◌∷◌, length, slice_get, Option, Some, None, if◌then◌else◌}
+use Rattle.std.specs.Prelude.{◌≡◌, ℕ, ◌<◌, Bool, true, false, not, ◌&&◌, ◌||◌, nat_lt, nat_le, List, [], ◌∷◌, length, slice_get, Option, Some, None}
+use Rattle.std.specs.Prelude.{if◌then◌else◌}
 use Rattle.std.specs.Bool.{then_some}
 use Rattle.std.specs.List.{list_any}
 use Rattle.std.proofs.Common.{refl}
 use Rattle.std.proofs.lemmas.Bool.{and_from, leb-false, lt-ltb}
 use Rattle.std.proofs.lemmas.Option.{slice_get_within}
 use Rattle.jl_types.specs.declared.refusal.CallSiteFault.TheVariants.{WrongType, UnknownSwitch, TooDeep, Full, Constant, InvokerOrder}
-use Rattle.jl_types.specs.Target.{Target, Method, Guard, Invoker, depth}
-use Rattle.jl_types.specs.World.{World, CallSite}
-use Rattle.jl_types.specs.Resolution.{first_of}
-use Rattle.jl_types.specs.Targets.{parts, invokes_type, part_fault, target_fault}
-use Rattle.jl_types.specs.Events.{is_constant, most_of_a_kind, new_call_site_fault, set_target_fault, invalidate_fault}
+use Rattle.jl_types.specs.Values.Target.{Target, Method, Guard, Invoker, depth}
+use Rattle.jl_types.specs.Values.World.{World, CallSite}
+use Rattle.jl_types.specs.Linkage.Resolution.{first_of}
+use Rattle.jl_types.specs.Linkage.Targets.{parts, invokes_type, part_fault, target_fault}
+use Rattle.jl_types.specs.Happenings.Events.{is_constant, most_of_a_kind, new_call_site_fault, set_target_fault, invalidate_fault}
 use Rattle.jl_types.proofs.Firsts.{first_none, test_none}
 use Rattle.jl_callsites.specs.Known.{is_known}
 
@@ -33,7 +34,8 @@ points_in_target w c ty t e =
     (first_none (then_some (nat_lt 64 (depth t) || nat_lt 255 (parts t)) TooDeep) (part_fault w c ty t ∷ []) e).1).0
 
 module _ (w : World) (ty : List ℕ) (t : Target) (e : new_call_site_fault w ty t ≡ None) where
-  faults : (then_some (nat_le most_of_a_kind (length w.sites.call_sites)) Full ≡ None) × (first_of (target_fault w (length w.sites.call_sites) ty t ∷ []) ≡ None)
+  faults : (then_some (nat_le most_of_a_kind (length w.sites.call_sites)) Full ≡ None)
+      × (first_of (target_fault w (length w.sites.call_sites) ty t ∷ []) ≡ None)
   faults = first_none (then_some (nat_le most_of_a_kind (length w.sites.call_sites)) Full) (target_fault w (length w.sites.call_sites) ty t ∷ []) e
 
   pub site_room : length w.sites.call_sites < 65536

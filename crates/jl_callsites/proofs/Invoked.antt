@@ -3,9 +3,9 @@ use Rattle.std.specs.Prelude.{◌≡◌, ℕ, ◌<◌, nat_lt, Bool, true, false
 use Rattle.std.proofs.Common.{refl, ap, sym, ◌∙◌}
 use Rattle.std.proofs.lemmas.Bool.{ltb-true, ltb-false}
 use Rattle.std.proofs.lemmas.Option.{same_Some}
-use Rattle.jl_types.specs.Target.{Target}
-use Rattle.jl_types.specs.World.{Sites, CallSite}
-use Rattle.jl_types.specs.Targets.{run_below, evaluated}
+use Rattle.jl_types.specs.Values.Target.{Target}
+use Rattle.jl_types.specs.Values.World.{Sites, CallSite}
+use Rattle.jl_types.specs.Linkage.Targets.{run_below, evaluated}
 use Rattle.jl_callsites.specs.Earlier.{earlier_target}
 use Rattle.jl_callsites.proofs.Walks.{invoked_runs, later_runs}
 use Rattle.jl_callsites.proofs.Turns.{turns_at, fewer_turns}
@@ -25,7 +25,8 @@ module _ (sites : Sites) (d c : ℕ) where
       by_row lt None at e = cc
       by_row lt (Some row) at e = record { row = row; at = at; target = same_Some row.target u e; before = lt }
 
-      by_order : (b : Bool) → nat_lt d c ≡ b → (if b then option_map (λ site. site.target) (slice_get sites.call_sites d) else None) ≡ Some u → IsEarlier sites d c u
+      by_order : (b : Bool) → nat_lt d c ≡ b → (if b then option_map (λ site. site.target) (slice_get sites.call_sites d) else None) ≡ Some u
+          → IsEarlier sites d c u
       by_order true is e = by_row (ltb-true d c is) (slice_get sites.call_sites d) refl e
       by_order false is e = cc
 
@@ -46,6 +47,7 @@ module _ (sites : Sites) (d c : ℕ) where
       by_row lt None at e = invoked_runs sites c d lt ∙ ap (option_and_then (λ site. evaluated sites d site.target)) at
       by_row lt (Some row) at e = cc
 
-      by_order : (b : Bool) → nat_lt d c ≡ b → (if b then option_map (λ site. site.target) (slice_get sites.call_sites d) else None) ≡ None → run_below sites c d ≡ None
+      by_order : (b : Bool) → nat_lt d c ≡ b → (if b then option_map (λ site. site.target) (slice_get sites.call_sites d) else None) ≡ None
+          → run_below sites c d ≡ None
       by_order true is e = by_row (ltb-true d c is) (slice_get sites.call_sites d) refl e
       by_order false is e = later_runs sites c d (ltb-false d c is)

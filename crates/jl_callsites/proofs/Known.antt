@@ -1,6 +1,7 @@
 -- Every guard of a call site's target has its switch point and every invoker its call site, whatever changes, and which changes leave
 -- what runs as it was.
-use Rattle.std.specs.Prelude.{◌≡◌, ◌≢◌, ℕ, zero, suc, ◌<◌, ◌≤◌, ◌+◌, Bool, true, false, ◌&&◌, nat_lt, List, [], ◌∷◌, ◌++◌, length, slice_get, slice_set, Option, Some, None, is_some, option_and_then, if◌then◌else◌}
+use Rattle.std.specs.Prelude.{◌≡◌, ◌≢◌, ℕ, zero, suc, ◌<◌, ◌≤◌, ◌+◌, Bool, true, false, ◌&&◌, nat_lt, List, [], ◌∷◌, ◌++◌, length, slice_get}
+use Rattle.std.specs.Prelude.{slice_set, Option, Some, None, is_some, option_and_then, if◌then◌else◌}
 use Rattle.std.specs.Option.{option_map_or}
 use Rattle.std.proofs.Common.{refl, ap, sym, subst, ◌∙◌, arith, length-append}
 use Rattle.std.proofs.lemmas.Option.{same_Some, slice_get_within}
@@ -8,11 +9,11 @@ use Rattle.std.proofs.lemmas.List.{length-set}
 use Rattle.std.proofs.lemmas.Bool.{and_from, ltb-true, lt-ltb, both_ways}
 use Rattle.jl_types.specs.declared.target.CallSiteKind.{CallSiteKind}
 use Rattle.jl_types.specs.declared.key.Key.TheVariants as key
-use Rattle.jl_types.specs.Target.{Target, Method, Guard, Invoker}
-use Rattle.jl_types.specs.World.{Sites, CallSite}
-use Rattle.jl_types.specs.Targets.{is_valid, run_by, run_below, evaluated, method_of}
-use Rattle.jl_types.specs.Footprints.{has_key, way_by, way_below, path}
-use Rattle.jl_types.specs.Events.{retargeted}
+use Rattle.jl_types.specs.Values.Target.{Target, Method, Guard, Invoker}
+use Rattle.jl_types.specs.Values.World.{Sites, CallSite}
+use Rattle.jl_types.specs.Linkage.Targets.{is_valid, run_by, run_below, evaluated, method_of}
+use Rattle.jl_types.specs.Happenings.Footprints.{has_key, way_by, way_below, path}
+use Rattle.jl_types.specs.Happenings.Events.{retargeted}
 use Rattle.jl_types.proofs.Bools.{first_test, second_test}
 use Rattle.jl_types.proofs.Lists.{before_end}
 use Rattle.jl_callsites.specs.Faults.{with_site, with_target, with_switch}
@@ -28,11 +29,13 @@ more_known : (points n : ℕ) (sites : List CallSite) (site : CallSite) → all_
     → all_known points n (sites ++ site ∷ []) ≡ true
 more_known points n [] site h k = and_from (is_known points n site.target) true (at_number points site.target (n + 0) n (omega arith) k) refl
 more_known points n (s ∷ sites) site h k =
-    and_from (is_known points n s.target) (all_known points (n + 1) (sites ++ site ∷ [])) (first_test (is_known points n s.target) (all_known points (n + 1) sites) h)
+    and_from (is_known points n s.target) (all_known points (n + 1) (sites ++ site ∷ []))
+    (first_test (is_known points n s.target) (all_known points (n + 1) sites) h)
     (more_known points (n + 1) sites site (second_test (is_known points n s.target) (all_known points (n + 1) sites) h)
     (at_number points site.target (n + length (s ∷ sites)) ((n + 1) + length sites) (omega arith) k))
 
-pub one_more_known : (points : ℕ) (sites : List CallSite) (site : CallSite) → all_known points 0 sites ≡ true → is_known points (length sites) site.target ≡ true
+pub one_more_known : (points : ℕ) (sites : List CallSite) (site : CallSite) → all_known points 0 sites ≡ true
+    → is_known points (length sites) site.target ≡ true
     → all_known points 0 (sites ++ site ∷ []) ≡ true
 one_more_known points sites site h k = more_known points 0 sites site h (at_number points site.target (length sites) (0 + length sites) (omega arith) k)
 
@@ -43,7 +46,8 @@ set_known points n (s ∷ sites) zero site h k =
     and_from (is_known points n site.target) (all_known points (n + 1) sites) (at_number points site.target (n + 0) n (omega arith) k)
     (second_test (is_known points n s.target) (all_known points (n + 1) sites) h)
 set_known points n (s ∷ sites) (suc c) site h k =
-    and_from (is_known points n s.target) (all_known points (n + 1) (slice_set sites c site)) (first_test (is_known points n s.target) (all_known points (n + 1) sites) h)
+    and_from (is_known points n s.target) (all_known points (n + 1) (slice_set sites c site))
+    (first_test (is_known points n s.target) (all_known points (n + 1) sites) h)
     (set_known points (n + 1) sites c site (second_test (is_known points n s.target) (all_known points (n + 1) sites) h)
     (at_number points site.target (n + suc c) ((n + 1) + c) (omega arith) k))
 
@@ -82,7 +86,8 @@ all_more_points points n (s ∷ sites) h =
 
 pub one_switch_more : (sites : Sites) → are_known sites ≡ true → are_known (with_switch sites) ≡ true
 one_switch_more sites h =
-    subst (λ n. all_known n 0 sites.call_sites ≡ true) (sym (length-append sites.switches (true ∷ []))) (all_more_points (length sites.switches) 0 sites.call_sites h)
+    subst (λ n. all_known n 0 sites.call_sites ≡ true) (sym (length-append sites.switches (true ∷ [])))
+    (all_more_points (length sites.switches) 0 sites.call_sites h)
 
 known_from : (points n : ℕ) (sites : List CallSite) (c : ℕ) (site : CallSite) → slice_get sites c ≡ Some site → all_known points n sites ≡ true
     → is_known points (n + c) site.target ≡ true
@@ -155,9 +160,11 @@ pub switch_walks : (sites : Sites) → are_known sites ≡ true → (c : ℕ)
     → (method_of (with_switch sites) c ≡ method_of sites c) × (path (with_switch sites) c ≡ path sites c)
 switch_walks sites known c =
     site_walks sites (with_switch sites)
-    (λ d site at. known_invalid sites (with_switch sites) (λ p lt e. still_valid sites p lt ∙ e) d site.target (known_at (length sites.switches) sites.call_sites d site at known))
+    (λ d site at. known_invalid sites (with_switch sites) (λ p lt e. still_valid sites p lt ∙ e) d site.target
+    (known_at (length sites.switches) sites.call_sites d site at known))
     c
-    (kept_on sites (with_switch sites) (c + 1) (path sites c) (on_path sites c) (λ d lt h. refl) (λ p valid h. still_valid sites p (within sites p valid) ∙ valid))
+    (kept_on sites (with_switch sites) (c + 1) (path sites c) (on_path sites c) (λ d lt h. refl) (λ p valid h. still_valid sites p (within sites p valid)
+    ∙ valid))
 
 pub switch_runs : (sites : Sites) → are_known sites ≡ true → RunAsBefore sites (with_switch sites)
 switch_runs sites known = record { same = λ c lt. (switch_walks sites known c).0 }
@@ -204,7 +211,8 @@ other_walks sites c t d none =
     (λ e site at. all_invalid sites (with_target sites c t) (λ p off. off) site.target)
     d
     (kept_on sites (with_target sites c t) (d + 1) (path sites d) (on_path sites d)
-    (λ e less h. other_row sites c t e (λ is. both_ways (has_key (path sites d) (key.Target c)) none (ap (λ n. has_key (path sites d) (key.Target n)) (sym is) ∙ h)))
+    (λ e less h. other_row sites c t e (λ is. both_ways (has_key (path sites d) (key.Target c)) none (ap (λ n. has_key (path sites d) (key.Target n)) (sym is)
+    ∙ h)))
     (λ p valid h. valid))
 
 pub others_run : (sites : Sites) (c : ℕ) (t : Target) → OthersRunAsBefore sites (with_target sites c t) c

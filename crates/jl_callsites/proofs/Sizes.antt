@@ -1,8 +1,8 @@
 -- No target is of no depth or without parts.
 use Rattle.std.specs.Prelude.{◌<◌}
 use Rattle.std.proofs.Common.{arith}
-use Rattle.jl_types.specs.Target.{Target, Method, Guard, Invoker, depth}
-use Rattle.jl_types.specs.Targets.{parts}
+use Rattle.jl_types.specs.Values.Target.{Target, Method, Guard, Invoker, depth}
+use Rattle.jl_types.specs.Linkage.Targets.{parts}
 
 pub depth_some : (t : Target) → 0 < depth t
 depth_some (Method m) = omega arith

@@ -2,8 +2,8 @@
 use Rattle.std.specs.Prelude.{◌≡◌, ℕ, zero, suc, ◌+◌, ◌<◌, ◌≤◌, List, [], ◌∷◌, slice_get, Some}
 use Rattle.std.proofs.Common.{ap, arith}
 use Rattle.std.proofs.lemmas.Option.{same_Some}
-use Rattle.jl_types.specs.Target.{Target, depth}
-use Rattle.jl_types.specs.World.{Sites, CallSite}
+use Rattle.jl_types.specs.Values.Target.{Target, depth}
+use Rattle.jl_types.specs.Values.World.{Sites, CallSite}
 use Rattle.jl_callsites.proofs.Sizes.{depth_some}
 
 -- the depths of the targets of the first n call sites

@@ -9,10 +9,10 @@ use Rattle.std.proofs.lemmas.Bool.Decides.{Decides-eqb}
 use Rattle.std.proofs.lemmas.Cmp.{nat_eq_equiv}
 use Rattle.jl_types.specs.declared.key.Key.{Key}
 use Rattle.jl_types.specs.declared.key.Key.TheVariants as key
-use Rattle.jl_types.specs.Target.{Target, Method, Guard, Invoker}
-use Rattle.jl_types.specs.World.{Sites, CallSite}
-use Rattle.jl_types.specs.Targets.{is_valid, run_by, run_below, method_of}
-use Rattle.jl_types.specs.Footprints.{has_key, way_by, way_below, path}
+use Rattle.jl_types.specs.Values.Target.{Target, Method, Guard, Invoker}
+use Rattle.jl_types.specs.Values.World.{Sites, CallSite}
+use Rattle.jl_types.specs.Linkage.Targets.{is_valid, run_by, run_below, method_of}
+use Rattle.jl_types.specs.Happenings.Footprints.{has_key, way_by, way_below, path}
 use Rattle.jl_types.proofs.Bools.{first_test, second_test}
 use Rattle.jl_callsites.specs.Known.{is_known}
 
@@ -32,7 +32,8 @@ module _ (sites : Sites) where
   invoked_runs (suc n) c lt = by_number (n == c) refl (invoked_runs n c)
     where
       by_number : (b : Bool) → (n == c) ≡ b → (c < n → run_below sites n c ≡ method_of sites c)
-          → (if b then option_and_then (λ site. run_by sites (run_below sites n) site.target) (slice_get sites.call_sites c) else run_below sites n c) ≡ method_of sites c
+          → (if b then option_and_then (λ site. run_by sites (run_below sites n) site.target) (slice_get sites.call_sites c) else run_below sites n c)
+          ≡ method_of sites c
       by_number true is rest =
           ap (λ k. option_and_then (λ site. run_by sites (run_below sites k) site.target) (slice_get sites.call_sites c)) ((Decides-eqb n c).0 is)
       by_number false is rest = rest (less_or_same c n lt is)
@@ -43,9 +44,11 @@ module _ (sites : Sites) where
   invoked_way (suc n) c lt = by_number (n == c) refl (invoked_way n c)
     where
       by_number : (b : Bool) → (n == c) ≡ b → (c < n → way_below sites n c ≡ path sites c)
-          → (if b then key.Target c ∷ option_map_or (λ site. way_by sites (way_below sites n) site.target) (slice_get sites.call_sites c) [] else way_below sites n c) ≡ path sites c
+          → (if b then key.Target c ∷ option_map_or (λ site. way_by sites (way_below sites n) site.target) (slice_get sites.call_sites c) [] else way_below
+          sites n c) ≡ path sites c
       by_number true is rest =
-          ap (λ k. key.Target c ∷ option_map_or (λ site. way_by sites (way_below sites k) site.target) (slice_get sites.call_sites c) []) ((Decides-eqb n c).0 is)
+          ap (λ k. key.Target c ∷ option_map_or (λ site. way_by sites (way_below sites k) site.target) (slice_get sites.call_sites c) [])
+          ((Decides-eqb n c).0 is)
       by_number false is rest = rest (less_or_same c n lt is)
 
   -- no invoker stands for anything where its call site doesn't come before
@@ -63,7 +66,8 @@ module _ (sites : Sites) where
   later_way (suc n) c le = by_number (n == c) refl (later_way n c (omega arith))
     where
       by_number : (b : Bool) → (n == c) ≡ b → way_below sites n c ≡ []
-          → (if b then key.Target c ∷ option_map_or (λ site. way_by sites (way_below sites n) site.target) (slice_get sites.call_sites c) [] else way_below sites n c) ≡ []
+          → (if b then key.Target c ∷ option_map_or (λ site. way_by sites (way_below sites n) site.target) (slice_get sites.call_sites c) [] else way_below
+          sites n c) ≡ []
       by_number true is rest = let same = (Decides-eqb n c).0 is in absurd (omega arith)
       by_number false is rest = rest
 
@@ -82,7 +86,8 @@ module _ (sites : Sites) where
   on_more n m le (key.Target c ∷ ks) h = (let lt = h.0 in omega arith, on_more n m le ks h.1)
   on_more n m le (key.Valid p ∷ ks) h = (h.0, on_more n m le ks h.1)
 
-  on_part : (n : ℕ) → ((c : ℕ) → AllByRecursion (IsOn sites n) (way_below sites n c)) → (t : Target) → AllByRecursion (IsOn sites n) (way_by sites (way_below sites n) t)
+  on_part : (n : ℕ) → ((c : ℕ) → AllByRecursion (IsOn sites n) (way_below sites n c)) → (t : Target)
+      → AllByRecursion (IsOn sites n) (way_by sites (way_below sites n) t)
   on_part n earlier (Method m) = tt
   on_part n earlier (Guard p first fallback) = by_valid (is_valid sites p) refl (on_part n earlier first) (on_part n earlier fallback)
     where
@@ -107,7 +112,8 @@ module _ (sites : Sites) where
     where
       by_number : (b : Bool) → (n == c) ≡ b → ((d : ℕ) → AllByRecursion (IsOn sites n) (way_below sites n d))
           → AllByRecursion (IsOn sites (suc n))
-          (if b then key.Target c ∷ option_map_or (λ site. way_by sites (way_below sites n) site.target) (slice_get sites.call_sites c) [] else way_below sites n c)
+          (if b then key.Target c ∷ option_map_or (λ site. way_by sites (way_below sites n) site.target) (slice_get sites.call_sites c) [] else way_below sites
+          n c)
       by_number true is rest = let same = (Decides-eqb n c).0 is in (omega arith, on_more n (suc n) (omega arith) _ (on_target n c rest))
       by_number false is rest = on_more n (suc n) (omega arith) (way_below sites n c) (rest c)
 
@@ -240,25 +246,33 @@ module _ (old new : Sites) where
             let r = row_walks n c rest on.0 on.1 in
             record {
               runs =
-                  ap (λ (b : Bool). if b then option_and_then (λ site. run_by new (run_below new n) site.target) (slice_get new.call_sites c) else run_below new n c) is
+                  ap (λ (b : Bool). if b then option_and_then (λ site. run_by new (run_below new n) site.target)
+                  (slice_get new.call_sites c) else run_below new n c) is
                   ∙ r.runs
-                  ∙ sym (ap (λ (b : Bool). if b then option_and_then (λ site. run_by old (run_below old n) site.target) (slice_get old.call_sites c) else run_below old n c) is);
+                  ∙ sym (ap (λ (b : Bool). if b then option_and_then (λ site. run_by old (run_below old n) site.target)
+                  (slice_get old.call_sites c) else run_below old n c) is);
               way =
-                  ap (λ (b : Bool). if b then key.Target c ∷ option_map_or (λ site. way_by new (way_below new n) site.target) (slice_get new.call_sites c) [] else way_below new n c) is
+                  ap (λ (b : Bool). if b then key.Target c ∷ option_map_or (λ site. way_by new (way_below new n) site.target)
+                  (slice_get new.call_sites c) [] else way_below new n c) is
                   ∙ ap (λ (ks : List Key). key.Target c ∷ ks) r.way
-                  ∙ sym (ap (λ (b : Bool). if b then key.Target c ∷ option_map_or (λ site. way_by old (way_below old n) site.target) (slice_get old.call_sites c) [] else way_below old n c) is);
+                  ∙ sym (ap (λ (b : Bool). if b then key.Target c ∷ option_map_or (λ site. way_by old (way_below old n) site.target)
+                  (slice_get old.call_sites c) [] else way_below old n c) is);
             }
         by_number false is rest on =
             let e = rest c on in
             record {
               runs =
-                  ap (λ (b : Bool). if b then option_and_then (λ site. run_by new (run_below new n) site.target) (slice_get new.call_sites c) else run_below new n c) is
+                  ap (λ (b : Bool). if b then option_and_then (λ site. run_by new (run_below new n) site.target)
+                  (slice_get new.call_sites c) else run_below new n c) is
                   ∙ e.runs
-                  ∙ sym (ap (λ (b : Bool). if b then option_and_then (λ site. run_by old (run_below old n) site.target) (slice_get old.call_sites c) else run_below old n c) is);
+                  ∙ sym (ap (λ (b : Bool). if b then option_and_then (λ site. run_by old (run_below old n) site.target)
+                  (slice_get old.call_sites c) else run_below old n c) is);
               way =
-                  ap (λ (b : Bool). if b then key.Target c ∷ option_map_or (λ site. way_by new (way_below new n) site.target) (slice_get new.call_sites c) [] else way_below new n c) is
+                  ap (λ (b : Bool). if b then key.Target c ∷ option_map_or (λ site. way_by new (way_below new n) site.target)
+                  (slice_get new.call_sites c) [] else way_below new n c) is
                   ∙ e.way
-                  ∙ sym (ap (λ (b : Bool). if b then key.Target c ∷ option_map_or (λ site. way_by old (way_below old n) site.target) (slice_get old.call_sites c) [] else way_below old n c) is);
+                  ∙ sym (ap (λ (b : Bool). if b then key.Target c ∷ option_map_or (λ site. way_by old (way_below old n) site.target)
+                  (slice_get old.call_sites c) [] else way_below old n c) is);
             }
 
     -- a target of call site c

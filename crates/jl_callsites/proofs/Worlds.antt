@@ -9,13 +9,14 @@ use Rattle.jl_types.specs.declared.refusal.CallSiteFault.{CallSiteFault}
 use Rattle.jl_types.specs.declared.refusal.CallSiteFault.TheVariants.{UnknownSwitch, TooDeep, Full, Constant}
 use Rattle.jl_types.specs.declared.refusal.Refusal.{Refusal}
 use Rattle.jl_types.specs.declared.refusal.Refusal.TheVariants.{CallSite}
-use Rattle.jl_types.specs.Target.{Target, Method, Guard, Invoker, depth}
-use Rattle.jl_types.specs.World.{World, CallSite as CallSiteRow}
-use Rattle.jl_types.specs.Resolution.{first_of}
-use Rattle.jl_types.specs.Targets.{parts, part_fault, target_fault}
-use Rattle.jl_types.specs.Events.{unless, is_constant, most_of_a_kind, new_call_site_fault}
-use Rattle.jl_types.specs.Events as events
-use Rattle.jl_callsites.specs.Faults.{world_of, new_site_fault, set_target_fault, new_switch_fault, invalidate_fault, with_site, with_target, with_switch, with_invalid}
+use Rattle.jl_types.specs.Values.Target.{Target, Method, Guard, Invoker, depth}
+use Rattle.jl_types.specs.Values.World.{World, CallSite as CallSiteRow}
+use Rattle.jl_types.specs.Linkage.Resolution.{first_of}
+use Rattle.jl_types.specs.Linkage.Targets.{parts, part_fault, target_fault}
+use Rattle.jl_types.specs.Happenings.Events.{unless, is_constant, most_of_a_kind, new_call_site_fault}
+use Rattle.jl_types.specs.Happenings.Events as events
+use Rattle.jl_callsites.specs.Faults.{world_of, new_site_fault, set_target_fault, new_switch_fault, invalidate_fault, with_site, with_target}
+use Rattle.jl_callsites.specs.Faults.{with_switch, with_invalid}
 use Rattle.jl_callsites.specs.Laws.{ComesTo}
 
 -- what else is in the world isn't looked at
@@ -45,11 +46,13 @@ set_target_fault_at : (w : World) (c : ℕ) (t : Target) (site : Option CallSite
 set_target_fault_at w c t None = refl
 set_target_fault_at w c t (Some site) = constant_or (is_constant site.kind)
   where
-    constant_or : (b : Bool) → (if b then Some Constant else target_fault (world_of w.classes w.sites) c site.ty t) ≡ (if b then Some Constant else target_fault w c site.ty t)
+    constant_or : (b : Bool) → (if b then Some Constant else target_fault (world_of w.classes w.sites) c site.ty t)
+        ≡ (if b then Some Constant else target_fault w c site.ty t)
     constant_or true = refl
     constant_or false = target_fault_same w c site.ty t
 
-pub set_target_fault_same : (w : World) (c : ℕ) (t : Target) → set_target_fault w.classes w.sites c t ≡ events.set_target_fault w c (slice_get w.sites.call_sites c) t
+pub set_target_fault_same : (w : World) (c : ℕ) (t : Target) → set_target_fault w.classes w.sites c t ≡ events.set_target_fault w c
+    (slice_get w.sites.call_sites c) t
 set_target_fault_same w c t = set_target_fault_at w c t (slice_get w.sites.call_sites c)
 
 -- ---- the events
@@ -59,7 +62,8 @@ refused F true f = refl
 refused F false f = refl
 
 pub new_site_comes_to : (max_sites : ℕ) (w : World) (kind : CallSiteKind) (ty : List ℕ) (t : Target)
-    → ComesTo max_sites w (event.NewCallSite kind ty t) (new_site_fault w.classes w.sites ty t) (made.CallSite (length w.sites.call_sites)) (with_site w.sites kind ty t)
+    → ComesTo max_sites w (event.NewCallSite kind ty t) (new_site_fault w.classes w.sites ty t) (made.CallSite (length w.sites.call_sites))
+    (with_site w.sites kind ty t)
 new_site_comes_to max_sites w kind ty t = record {
   verdict = ap (λ f. unless (option_map CallSite f) (made.CallSite (length w.sites.call_sites))) (sym (new_site_fault_same w ty t));
   step = refl;

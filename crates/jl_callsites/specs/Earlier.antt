@@ -1,7 +1,7 @@
 -- The target of a call site that comes before another one.
 use Rattle.std.specs.Prelude.{ℕ, nat_lt, slice_get, Option, None, option_map, if◌then◌else◌}
-use Rattle.jl_types.specs.Target.{Target}
-use Rattle.jl_types.specs.World.{Sites}
+use Rattle.jl_types.specs.Values.Target.{Target}
+use Rattle.jl_types.specs.Values.World.{Sites}
 
 -- of call site d, if there is one and it comes before c
 abbrev pub earlier_target : Sites → ℕ → ℕ → Option Target

@@ -2,18 +2,18 @@
 -- at bindings, so a world of these classes and sites stands for each that has them.
 use Rattle.std.specs.Prelude.{ℕ, Bool, true, not, nat_le, List, [], ◌∷◌, ◌++◌, length, slice_get, Option}
 use Rattle.std.specs.Bool.{then_some}
-use Rattle.jl_code.specs.Codes.{begins_special}
+use Rattle.jl_class.specs.Special.{begins_special}
 use Rattle.jl_types.specs.declared.ids.MethodId.{MethodId}
 use Rattle.jl_types.specs.declared.target.CallSiteKind.{CallSiteKind}
 use Rattle.jl_types.specs.declared.refusal.CallSiteFault.{CallSiteFault}
 use Rattle.jl_types.specs.declared.refusal.CallSiteFault.TheVariants.{Full, UnknownMethod, NotStatic, WrongType, InvokerOrder}
-use Rattle.jl_types.specs.Target.{Target}
-use Rattle.jl_types.specs.World.{World, Classes, Sites}
-use Rattle.jl_types.specs.Members.{method_test, is_static}
-use Rattle.jl_types.specs.Resolution.{first_of}
-use Rattle.jl_types.specs.Targets.{may_be_named, is_of_type, invokes_type}
-use Rattle.jl_types.specs.Events.{most_of_a_kind, new_call_site_fault, retargeted, invalidated}
-use Rattle.jl_types.specs.Events as events
+use Rattle.jl_types.specs.Values.Target.{Target}
+use Rattle.jl_types.specs.Values.World.{World, Classes, Sites}
+use Rattle.jl_types.specs.Values.Members.{method_test, is_static}
+use Rattle.jl_types.specs.Linkage.Resolution.{first_of}
+use Rattle.jl_types.specs.Linkage.Targets.{may_be_named, is_of_type, invokes_type}
+use Rattle.jl_types.specs.Happenings.Events.{most_of_a_kind, new_call_site_fault, retargeted, invalidated}
+use Rattle.jl_types.specs.Happenings.Events as events
 
 -- a world of these classes and sites, with no requested place and no binding
 abbrev pub world_of : Classes → Sites → World

@@ -1,10 +1,10 @@
 -- Every guard of a call site's target has its switch point, every invoker its call site, and which changes leave what runs as it was.
 use Rattle.std.specs.Prelude.{◌≡◌, ℕ, ◌<◌, ◌+◌, Bool, true, false, ◌&&◌, nat_lt, List, [], ◌∷◌, length}
 use Rattle.jl_types.specs.declared.key.Key.TheVariants as key
-use Rattle.jl_types.specs.Target.{Target, Method, Guard, Invoker}
-use Rattle.jl_types.specs.World.{CallSite, Sites}
-use Rattle.jl_types.specs.Targets.{method_of}
-use Rattle.jl_types.specs.Footprints.{has_key, path}
+use Rattle.jl_types.specs.Values.Target.{Target, Method, Guard, Invoker}
+use Rattle.jl_types.specs.Values.World.{CallSite, Sites}
+use Rattle.jl_types.specs.Linkage.Targets.{method_of}
+use Rattle.jl_types.specs.Happenings.Footprints.{has_key, path}
 
 -- the switch points of the target's guards are among the first so many, and its invokers are of call sites before this one
 abbrev pub is_known : ℕ → ℕ → Target → Bool

@@ -3,9 +3,9 @@ use Rattle.std.specs.Prelude.{ℕ, ◌+◌, ◌*◌, Bool, List, refl}
 use Rattle.std.specs.Coded.{Coded, code_by, coded×, coded_ℕ, coded_bool, coded_list}
 use Rattle.jl_types.specs.declared.target.CallSiteKind.{CallSiteKind}
 use Rattle.jl_types.specs.contracts.target.CallSiteKind as kind
-use Rattle.jl_types.specs.Target.{Target, Method, Guard, Invoker}
+use Rattle.jl_types.specs.Values.Target.{Target, Method, Guard, Invoker}
 use Rattle.jl_types.specs.Means.TargetCode.{target_code}
-use Rattle.jl_types.specs.World.{CallSite, Sites}
+use Rattle.jl_types.specs.Values.World.{CallSite, Sites}
 
 -- how often a target is turned at most until nothing is left of it
 abbrev pub turns_left : Target → ℕ

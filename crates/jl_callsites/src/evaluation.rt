@@ -2,8 +2,8 @@
 
 ghost use Rattle.std.specs.Prelude.{◌≡◌, ◌+◌, ◌^◌, ◌<◌, Some, length};
 ghost use Rattle.std.specs.Option.{option_copied};
-ghost use Rattle.jl_types.specs.Targets as targets;
-ghost use Rattle.jl_types.specs.Targets.{method_of};
+ghost use Rattle.jl_types.specs.Linkage.Targets as targets;
+ghost use Rattle.jl_types.specs.Linkage.Targets.{method_of};
 ghost use Rattle.jl_callsites.specs.Earlier.{earlier_target};
 
 use crate::sites::Sites;

@@ -2,14 +2,14 @@
 
 ghost use Rattle.std.specs.Prelude.{◌≡◌, ◌<◌, nat_le, nat_lt, true, false, None, Some, length};
 ghost use Rattle.std.specs.List.{list_any};
-ghost use Rattle.jl_types.specs.Targets as targets;
+ghost use Rattle.jl_types.specs.Linkage.Targets as targets;
 ghost use Rattle.jl_callsites.specs.Faults as faults;
 ghost use Rattle.jl_callsites.specs.Faults.{world_of};
 ghost use Rattle.jl_callsites.specs.Known.{is_known};
 
 use crate::sites::Sites;
 use crate::size::is_too_large;
-use jl_code::begins_special;
+use jl_class::begins_special;
 use jl_hierarchy::Classes;
 use jl_types::{CallSiteFault, CallSiteId, MethodId, Part, SwitchId, Target};
 

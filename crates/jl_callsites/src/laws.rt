@@ -4,13 +4,13 @@ ghost use Rattle.std.specs.Prelude.{◌≡◌, ℕ, List, length, option_and_the
 ghost use Rattle.jl_types.specs.declared.event.EventOf.TheVariants as event;
 ghost use Rattle.jl_types.specs.declared.event.Made.TheVariants as made;
 ghost use Rattle.jl_types.specs.declared.target.CallSiteKind.{CallSiteKind};
-ghost use Rattle.jl_types.specs.Target.{Target};
-ghost use Rattle.jl_types.specs.World.{World};
-ghost use Rattle.jl_code.specs.declared.site.Kind.{Kind};
-ghost use Rattle.jl_code.specs.declared.site.Operand.TheVariants as operand;
+ghost use Rattle.jl_types.specs.Values.Target.{Target};
+ghost use Rattle.jl_types.specs.Values.World.{World};
+ghost use Rattle.jl_class.specs.declared.site.Kind.{Kind};
+ghost use Rattle.jl_class.specs.declared.site.Operand.TheVariants as operand;
 ghost use Rattle.jl_pool.specs.declared.reference.CallSiteSpecifier.{CallSiteSpecifier};
-ghost use Rattle.jl_types.specs.Targets.{method_of};
-ghost use Rattle.jl_types.specs.Sites.{by_method, by_operand, bound_to};
+ghost use Rattle.jl_types.specs.Linkage.Targets.{method_of};
+ghost use Rattle.jl_types.specs.Linkage.Stages.{by_method, by_operand, bound_to};
 ghost use Rattle.jl_callsites.specs.Faults as faults;
 ghost use Rattle.jl_callsites.specs.Laws.{ComesTo};
 

@@ -1,8 +1,8 @@
 //! Call sites and switch points (java.lang.invoke: CallSite, SwitchPoint): what each call site runs now, and every change of
 //! either.
 //!
-//! The contract of each question is its definition in jl_types (`specs/Targets`), and that of each change is its fault and its
-//! step there (`specs/Events`). A fault looks at classes, call sites and switch points alone; `specs/Faults` says it over
+//! The contract of each question is its definition in jl_types (`Targets`), and that of each change is its fault and its
+//! step there (`Events`). A fault looks at classes, call sites and switch points alone; `specs/Faults` says it over
 //! these, and the laws of `laws` lead back to whole worlds. `specs/Means` is a means of proof.
 #![tactic(auto)]
 

@@ -2,8 +2,8 @@
 
 ghost use Rattle.std.specs.Prelude.{◌≡◌, ◌≤◌, true, length, slice_get, is_some, nat_lt};
 ghost use Rattle.std.specs.Option.{option_copied};
-ghost use Rattle.jl_types.specs.World.{nothing_yet};
-ghost use Rattle.jl_types.specs.Targets as targets;
+ghost use Rattle.jl_types.specs.Values.World.{nothing_yet};
+ghost use Rattle.jl_types.specs.Linkage.Targets as targets;
 ghost use Rattle.jl_callsites.specs.Known.{are_known};
 
 use crate::call_site::CallSite;
@@ -29,7 +29,7 @@ impl Drop for Sites {
 }
 
 impl Model for Sites {
-    ghost use Rattle.jl_types.specs.World.{Sites};
+    ghost use Rattle.jl_types.specs.Values.World.{Sites};
     ghost use Rattle.jl_callsites.specs.Means.{sites_code};
 
     ghost Value = { Sites };

@@ -1,8 +1,8 @@
 //! How large a target may be.
 
 ghost use Rattle.std.specs.Prelude.{◌≡◌, ◌<◌, ◌≤◌, ◌+◌, ◌||◌, nat_lt, None, IfSome};
-ghost use Rattle.jl_types.specs.Target.{depth};
-ghost use Rattle.jl_types.specs.Targets.{parts as parts_of};
+ghost use Rattle.jl_types.specs.Values.Target.{depth};
+ghost use Rattle.jl_types.specs.Linkage.Targets.{parts as parts_of};
 
 use jl_types::{Part, Target};
 

@@ -6,8 +6,8 @@ use Rattle.jl_classfile.specs.declared.body.Member.{Member}
 use Rattle.jl_classfile.specs.declared.body.Body.{Body}
 use Rattle.jl_pool.specs.Numbers.{u2, counted}
 use Rattle.jl_classfile.specs.Layouts.{attribute_text, member_text, body_text, AttributeSized, Countable, MemberSized, BodySized}
-use Rattle.jl_pool.specs.Reading.Fields.{number_at}
-use Rattle.jl_classfile.specs.Reading.Bodies.{counted_at, attribute_at, member_at, pair_of, numbers_at, lists_at, body_of, body_at}
+use Rattle.jl_pool.specs.Means.Fields.{number_at}
+use Rattle.jl_classfile.specs.Means.Bodies.{counted_at, attribute_at, member_at, pair_of, numbers_at, lists_at, body_of, body_at}
 use Rattle.jl_pool.proofs.Fields.{Takes, u2_takes, u2_again}
 use Rattle.jl_names.proofs.Tests.{map-some}
 use Rattle.jl_classfile.proofs.ListLaws.{Taker, Again, counted-takes, counted-again, pair_text, Both, pair-takes, pair-again}
@@ -42,24 +42,28 @@ lists-takes : Taker lists_at lists_text ListsSized
 lists-takes =
     let attributes = counted-takes attribute_at attribute_text AttributeSized attribute-takes in
     let members = counted-takes member_at member_text MemberSized member-takes in
-    pair-takes (counted_at (number_at 2)) (pair_of (counted_at member_at) (pair_of (counted_at member_at) (counted_at attribute_at))) (counted u2) members_text (Countable IsNumber) MembersSized
+    pair-takes (counted_at (number_at 2)) (pair_of (counted_at member_at) (pair_of (counted_at member_at) (counted_at attribute_at))) (counted u2) members_text
+    (Countable IsNumber) MembersSized
     (counted-takes (number_at 2) u2 IsNumber u2_takes)
     (pair-takes (counted_at member_at) (pair_of (counted_at member_at) (counted_at attribute_at)) (counted member_text)
     (pair_text (counted member_text) (counted attribute_text)) (Countable MemberSized)
     (Both (Countable MemberSized) (Countable AttributeSized)) members
-    (pair-takes (counted_at member_at) (counted_at attribute_at) (counted member_text) (counted attribute_text) (Countable MemberSized) (Countable AttributeSized)
+    (pair-takes (counted_at member_at) (counted_at attribute_at) (counted member_text) (counted attribute_text) (Countable MemberSized)
+    (Countable AttributeSized)
     members attributes))
 
 lists-again : Again lists_at lists_text ListsSized
 lists-again =
     let attributes = counted-again attribute_at attribute_text AttributeSized attribute-again in
     let members = counted-again member_at member_text MemberSized member-again in
-    pair-again (counted_at (number_at 2)) (pair_of (counted_at member_at) (pair_of (counted_at member_at) (counted_at attribute_at))) (counted u2) members_text (Countable IsNumber) MembersSized
+    pair-again (counted_at (number_at 2)) (pair_of (counted_at member_at) (pair_of (counted_at member_at) (counted_at attribute_at))) (counted u2) members_text
+    (Countable IsNumber) MembersSized
     (counted-again (number_at 2) u2 IsNumber u2_again)
     (pair-again (counted_at member_at) (pair_of (counted_at member_at) (counted_at attribute_at)) (counted member_text)
     (pair_text (counted member_text) (counted attribute_text)) (Countable MemberSized)
     (Both (Countable MemberSized) (Countable AttributeSized)) members
-    (pair-again (counted_at member_at) (counted_at attribute_at) (counted member_text) (counted attribute_text) (Countable MemberSized) (Countable AttributeSized)
+    (pair-again (counted_at member_at) (counted_at attribute_at) (counted member_text) (counted attribute_text) (Countable MemberSized)
+    (Countable AttributeSized)
     members attributes))
 
 abbrev Bodies : Type 0
@@ -72,13 +76,23 @@ abbrev BodiesSized : Bodies → Type 0
 BodiesSized = Both (Both IsNumber (Both IsNumber IsNumber)) ListsSized
 
 bodies-takes : Taker (pair_of numbers_at lists_at) bodies_text BodiesSized
-bodies-takes = pair-takes numbers_at lists_at (pair_text u2 (pair_text u2 u2)) lists_text (Both IsNumber (Both IsNumber IsNumber)) ListsSized numbers-takes lists-takes
+bodies-takes = pair-takes numbers_at lists_at (pair_text u2 (pair_text u2 u2)) lists_text (Both IsNumber (Both IsNumber IsNumber)) ListsSized numbers-takes
+    lists-takes
 
 bodies-again : Again (pair_of numbers_at lists_at) bodies_text BodiesSized
-bodies-again = pair-again numbers_at lists_at (pair_text u2 (pair_text u2 u2)) lists_text (Both IsNumber (Both IsNumber IsNumber)) ListsSized numbers-again lists-again
+bodies-again = pair-again numbers_at lists_at (pair_text u2 (pair_text u2 u2)) lists_text (Both IsNumber (Both IsNumber IsNumber)) ListsSized numbers-again
+    lists-again
 
 sized : (y : Bodies) → BodiesSized y → BodySized (body_of y)
-sized y h = record { flags = h.0.0; this_class = h.0.1.0; super_class = h.0.1.1; interfaces = h.1.0; fields = h.1.1.0; methods = h.1.1.1.0; attributes = h.1.1.1.1 }
+sized y h = record {
+  flags = h.0.0;
+  this_class = h.0.1.0;
+  super_class = h.0.1.1;
+  interfaces = h.1.0;
+  fields = h.1.1.0;
+  methods = h.1.1.1.0;
+  attributes = h.1.1.1.1;
+}
 
 pub body-takes : Taker body_at body_text BodySized
 unfolding body_at

@@ -11,8 +11,8 @@ use Rattle.jl_classfile.specs.Layouts.{Layout}
 use Rattle.jl_classfile.specs.Parts.{Parts}
 use Rattle.jl_classfile.specs.Conditions.{codes_of, IsClassNumber, HoldsHost, HoldsMembers, Nest, HasCode, HaveCodes}
 use Rattle.jl_classfile.specs.ClassFiles.{IsClass, pool_of}
-use Rattle.jl_pool.specs.Reading.Fields.{number_at}
-use Rattle.jl_classfile.specs.Reading.Bodies.{counted_at}
+use Rattle.jl_pool.specs.Means.Fields.{number_at}
+use Rattle.jl_classfile.specs.Means.Bodies.{counted_at}
 use Rattle.jl_pool.proofs.Fields.{some_is, u2_again}
 use Rattle.jl_pool.proofs.PoolLaws.{u2_one}
 use Rattle.jl_classfile.proofs.ListLaws.{counted-again}
@@ -89,7 +89,8 @@ one_class bytes p q h k =
     let nest : Nest p.layout.major (pool_of p.layout) p.layout.body q.nest_host q.nest_members =
     subst (λ (l : Layout). Nest l.major (pool_of l) l.body q.nest_host q.nest_members) (sym layouts) k.nest
     in
-    let kept : HaveCodes (pool_of p.layout) p.layout.body.methods q.codes = subst (λ (l : Layout). HaveCodes (pool_of l) l.body.methods q.codes) (sym layouts) k.codes in
+    let kept : HaveCodes (pool_of p.layout) p.layout.body.methods q.codes =
+    subst (λ (l : Layout). HaveCodes (pool_of l) l.body.methods q.codes) (sym layouts) k.codes in
     let codes = one_have (pool_of p.layout) p.layout.body.methods p.codes q.codes h.codes kept in
     let hosts = one_host (pool_of p.layout) _ p.nest_host q.nest_host h.nest.host_holds nest.host_holds in
     let members = one_members (pool_of p.layout) _ p.nest_members q.nest_members h.nest.members_hold nest.members_hold in

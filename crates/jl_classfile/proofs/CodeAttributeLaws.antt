@@ -9,8 +9,8 @@ use Rattle.jl_classfile.specs.declared.body.Attribute.{Attribute}
 use Rattle.jl_pool.specs.Numbers.{u2, u4, counted}
 use Rattle.jl_classfile.specs.Layouts.{attribute_text, AttributeSized, Countable}
 use Rattle.jl_classfile.specs.CodeAttributes.{HoldsCode}
-use Rattle.jl_pool.specs.Reading.Fields.{◌>>=◌, number_at, bytes_at}
-use Rattle.jl_classfile.specs.Reading.Bodies.{counted_at, attribute_at, if_filled, behind_code, code_in}
+use Rattle.jl_pool.specs.Means.Fields.{◌>>=◌, number_at, bytes_at}
+use Rattle.jl_classfile.specs.Means.Bodies.{counted_at, attribute_at, if_filled, behind_code, code_in}
 use Rattle.jl_pool.proofs.Fields.{IsBytes, bind_some, some_is, u2_takes, u2_again, u4_takes, u4_again, bytes_takes, bytes_again}
 use Rattle.jl_classfile.proofs.PartLaws.{attribute-takes, attribute-again}
 use Rattle.jl_classfile.proofs.ListLaws.{counted-takes, counted-again}
@@ -20,7 +20,8 @@ use Rattle.jl_classfile.proofs.ListLaws.{counted-takes, counted-again}
 in_range : (n : ℕ) → 1 ≤ n → n ≤ 65535 → ((eqb n 0) || nat_lt 65535 n) ≡ false
 in_range n some few = grind (arith, nat_tests)
 
-behind_again : (code : List ℕ) (exceptions : ℕ) (table : List ℕ) (attributes : List Attribute) → exceptions < 2 ^ 16 → length table ≡ 8 * exceptions → Countable AttributeSized attributes
+behind_again : (code : List ℕ) (exceptions : ℕ) (table : List ℕ) (attributes : List Attribute) → exceptions < 2 ^ 16 → length table ≡ 8 * exceptions
+    → Countable AttributeSized attributes
     → behind_code (code, u2 exceptions ++ (table ++ counted attribute_text attributes)) ≡ Some code
 behind_again code exceptions table attributes size rows sized =
     let all =
@@ -29,7 +30,8 @@ behind_again code exceptions table attributes size rows sized =
     in
     ap (λ (o : Option (ℕ × List ℕ)). o >>= λ n. bytes_at (8 * n.0) n.1 >>= λ t. counted_at attribute_at t.1 >>= λ a. if_filled code a.1)
     (u2_again exceptions (table ++ counted attribute_text attributes) size)
-    ∙ ap (λ (o : Option (List ℕ × List ℕ)). o >>= λ t. counted_at attribute_at t.1 >>= λ a. if_filled code a.1) (bytes_again (8 * exceptions) table (counted attribute_text attributes) rows)
+    ∙ ap (λ (o : Option (List ℕ × List ℕ)). o >>= λ t. counted_at attribute_at t.1 >>= λ a. if_filled code a.1)
+    (bytes_again (8 * exceptions) table (counted attribute_text attributes) rows)
     ∙ ap (λ (o : Option (List Attribute × List ℕ)). o >>= λ a. if_filled code a.1) all
 
 abbrev if_length : ℕ × List ℕ → Option (List ℕ)
@@ -91,7 +93,8 @@ held_takes info code fits e =
     let x_is = u2_takes b.0.1 x.0 b_is.0.bytes_left x.1 in
     let t_is = bytes_takes (8 * x.0.0) x.0.1 t.0 x_is.0.bytes_left t.1 in
     let a_is = counted-takes attribute_at attribute_text AttributeSized attribute-takes t.0.1 a.0 t_is.0.bytes_left a.1 in
-    let table_end : t.0.1 ≡ counted attribute_text a.0.0 = a_is.0.parts ∙ ap (λ (r : List ℕ). counted attribute_text a.0.0 ++ r) filled.1 ∙ append-nil (counted attribute_text a.0.0) in
+    let table_end : t.0.1 ≡ counted attribute_text a.0.0 = a_is.0.parts ∙ ap (λ (r : List ℕ). counted attribute_text a.0.0 ++ r) filled.1
+    ∙ append-nil (counted attribute_text a.0.0) in
     subst (λ (c : List ℕ). HoldsCode info c) filled.0
     (record {
       max_stack = s.0.0;
@@ -100,7 +103,8 @@ held_takes info code fits e =
       table = t.0.0;
       attributes = a.0.0;
       spelled =
-          spelled_by info s.0.0 l.0.0 n.0.0 x.0.0 b.0.0 t.0.0 (counted attribute_text a.0.0) s.0.1 l.0.1 n.0.1 b.0.1 x.0.1 t.0.1 s_is.0.parts l_is.0.parts n_is.0.parts
+          spelled_by info s.0.0 l.0.0 n.0.0 x.0.0 b.0.0 t.0.0 (counted attribute_text a.0.0) s.0.1 l.0.1 n.0.1 b.0.1 x.0.1 t.0.1 s_is.0.parts l_is.0.parts
+          n_is.0.parts
           (sym b_is.1) b_is.0.parts x_is.0.parts t_is.0.parts table_end;
       max_stack_size = s_is.1;
       max_locals_size = l_is.1;

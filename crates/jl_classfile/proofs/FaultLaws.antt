@@ -12,18 +12,21 @@ use Rattle.jl_code.specs.declared.instruction.Instruction.{Instruction}
 use Rattle.jl_code.specs.declared.code_fault.CodeFault.{CodeFault}
 use Rattle.jl_code.specs.declared.code_fault.CodeFault.TheVariants as code
 use Rattle.jl_classfile.specs.declared.fault.ClassFault.{ClassFault}
-use Rattle.jl_classfile.specs.declared.fault.ClassFault.TheVariants.{TooLarge, BadMagic, BadVersion, Truncated, Pool as InPool, ModuleFile, BadSuper, DuplicateMethod}
+use Rattle.jl_classfile.specs.declared.fault.ClassFault.TheVariants.{TooLarge, BadMagic, BadVersion, Truncated, Pool as InPool, ModuleFile, BadSuper}
+use Rattle.jl_classfile.specs.declared.fault.ClassFault.TheVariants.{DuplicateMethod}
 use Rattle.jl_classfile.specs.declared.fault.ClassFault.TheVariants.{TwoCodes, Code, TrailingBytes, BadMember, BadLink, BadNest}
 use Rattle.jl_pool.specs.Pools.{Pool, pool_text, IsSoundPool}
 use Rattle.jl_code.specs.Codes.{code_bytes, IsCode}
 use Rattle.jl_classfile.specs.Layouts.{Layout, body_text, head_text, file_text, IsLayout}
 use Rattle.jl_classfile.specs.CodeAttributes.{IsCodeOf}
 use Rattle.jl_classfile.specs.Parts.{Parts}
-use Rattle.jl_classfile.specs.Conditions.{IsVersion, Links, Members, ClassAttributeLinks, Nest, HasCode, HaveCodes, class_numbers, IsClassNumber, super_fits, is_module}
+use Rattle.jl_classfile.specs.Conditions.{IsVersion, Links, Members, ClassAttributeLinks, Nest, HasCode, HaveCodes, class_numbers, IsClassNumber}
+use Rattle.jl_classfile.specs.Conditions.{super_fits, is_module}
 use Rattle.jl_classfile.specs.Conditions.{IsTextNumber, member_numbers, MemberLinks, FieldFits, MethodFits, is_interface, same_method, no_twins, codes_of}
 use Rattle.jl_classfile.specs.ClassFiles.{most_bytes, pool_of, IsClass}
 use Rattle.jl_pool.specs.Faults.{PoolStands, IsPoolFault}
-use Rattle.jl_classfile.specs.Faults.{SizeFault, HeadFault, PoolPass, LayoutFault, LinksFault, MembersFault, AttributesFault, IsCodeFault, CodesFault, Pass, LaidFault, FailsWith, IsFault}
+use Rattle.jl_classfile.specs.Faults.{SizeFault, HeadFault, PoolPass, LayoutFault, LinksFault, MembersFault, AttributesFault, IsCodeFault, CodesFault}
+use Rattle.jl_classfile.specs.Faults.{Pass, LaidFault, FailsWith, IsFault}
 use Rattle.jl_classfile.specs.Faults.{Sizing, Heading, Pooling, Laying, Linking, Membership, Attribution, Coding}
 use Rattle.jl_classfile.proofs.AllLaws.{All-place, All-among}
 use Rattle.jl_pool.proofs.PoolFaultLaws.{no_pool_fault}
@@ -91,9 +94,11 @@ and_both : (a b : Bool) → IsTrue (a && b) → IsTrue a × IsTrue b
 and_both true b h = (refl, h)
 and_both false b h = absurd cc
 
-not_twin : (p : Pool) (m : Member) (ms : List Member) (j : ℕ) (n : Member) → IsTrue (not (list_any (same_method p m) ms)) → slice_get ms j ≡ Some n → ¬ IsTrue (same_method p m n)
+not_twin : (p : Pool) (m : Member) (ms : List Member) (j : ℕ) (n : Member) → IsTrue (not (list_any (same_method p m) ms)) → slice_get ms j ≡ Some n
+    → ¬ IsTrue (same_method p m n)
 not_twin p m [] j n h e = absurd cc
-not_twin p m (k ∷ ms) zero n h e = let same : k ≡ n = cc in subst (λ (x : Member). ¬ IsTrue (same_method p m x)) same (or_not (same_method p m k) (list_any (same_method p m) ms) h).0
+not_twin p m (k ∷ ms) zero n h e = let same : k ≡ n = cc in subst (λ (x : Member). ¬ IsTrue (same_method p m x)) same
+    (or_not (same_method p m k) (list_any (same_method p m) ms) h).0
 not_twin p m (k ∷ ms) (suc j) n h e = not_twin p m ms j n (or_not (same_method p m k) (list_any (same_method p m) ms) h).1 e
 
 -- a later one is none of those before the list
@@ -102,8 +107,10 @@ twin_before : (p : Pool) (earlier ms : List Member) (j i : ℕ) (a b : Member) �
 twin_before p earlier [] j i a b h ea eb = absurd cc
 twin_before p earlier (m ∷ ms) j zero a b h ea eb =
     let same : m ≡ b = cc in
-    subst (λ (x : Member). ¬ IsTrue (same_method p x a)) same (not_twin p m earlier j a (and_both (not (list_any (same_method p m) earlier)) (no_twins p (m ∷ earlier) ms) h).0 ea)
-twin_before p earlier (m ∷ ms) j (suc i) a b h ea eb = twin_before p (m ∷ earlier) ms (suc j) i a b (and_both (not (list_any (same_method p m) earlier)) (no_twins p (m ∷ earlier) ms) h).1 ea eb
+    subst (λ (x : Member). ¬ IsTrue (same_method p x a)) same (not_twin p m earlier j a
+    (and_both (not (list_any (same_method p m) earlier)) (no_twins p (m ∷ earlier) ms) h).0 ea)
+twin_before p earlier (m ∷ ms) j (suc i) a b h ea eb = twin_before p (m ∷ earlier) ms (suc j) i a b
+    (and_both (not (list_any (same_method p m) earlier)) (no_twins p (m ∷ earlier) ms) h).1 ea eb
 
 twin_within : (p : Pool) (earlier ms : List Member) (j i : ℕ) (a b : Member) → IsTrue (no_twins p earlier ms) → j < i → slice_get ms j ≡ Some a
     → slice_get ms i ≡ Some b → ¬ IsTrue (same_method p b a)
@@ -115,7 +122,8 @@ twin_within p earlier (m ∷ ms) (suc j) (suc i) a b h lt ea eb =
     twin_within p (m ∷ earlier) ms j i a b (and_both (not (list_any (same_method p m) earlier)) (no_twins p (m ∷ earlier) ms) h).1 (omega arith) ea eb
 
 pub no_members : (p : Pool) (b : Body) (f : ClassFault) → Members p b → ¬ MembersFault p b f
-no_members p b (BadLink n) h = λ fault. fault.3 (All-among (IsTextNumber p) (member_numbers fault.0) n (All-among (MemberLinks p) (b.fields ++ b.methods) fault.0 h.links fault.1) fault.2)
+no_members p b (BadLink n) h = λ fault. fault.3 (All-among (IsTextNumber p) (member_numbers fault.0) n
+    (All-among (MemberLinks p) (b.fields ++ b.methods) fault.0 h.links fault.1) fault.2)
 no_members p b (BadMember k) h = λ fault. elim fault [
   | inl x ↦ x.2 (All-place (FieldFits p) b.fields k x.0 h.fields x.1)
   | inr x ↦ x.4 (All-place (MethodFits p (is_interface b)) b.methods x.0 x.1 h.methods x.3)
@@ -149,10 +157,14 @@ code_at p (k ∷ ms) (c ∷ codes) (suc i) m h e = code_at p ms codes i m h.1 e
 
 no_code_fault : (p : Pool) (info : List ℕ) (is : List Instruction) (f : CodeFault) → IsCodeOf p info is → f ≢ code.Memory → ¬ IsCodeFault p info f
 no_code_fault p info is code.BadLayout h m = λ none. none (code_bytes is) h.holds
-no_code_fault p info is (code.BadOpcode pc) h m = λ x. no_scan p x.0 is (code.BadOpcode pc) (subst (λ (b : List ℕ). IsCode p b is) (one_held info (code_bytes is) x.0 h.holds x.1) h.code) m x.2
-no_code_fault p info is (code.CutShort pc) h m = λ x. no_scan p x.0 is (code.CutShort pc) (subst (λ (b : List ℕ). IsCode p b is) (one_held info (code_bytes is) x.0 h.holds x.1) h.code) m x.2
-no_code_fault p info is (code.BadSwitch pc) h m = λ x. no_scan p x.0 is (code.BadSwitch pc) (subst (λ (b : List ℕ). IsCode p b is) (one_held info (code_bytes is) x.0 h.holds x.1) h.code) m x.2
-no_code_fault p info is (code.BadOperand pc) h m = λ x. no_scan p x.0 is (code.BadOperand pc) (subst (λ (b : List ℕ). IsCode p b is) (one_held info (code_bytes is) x.0 h.holds x.1) h.code) m x.2
+no_code_fault p info is (code.BadOpcode pc) h m = λ x. no_scan p x.0 is (code.BadOpcode pc)
+    (subst (λ (b : List ℕ). IsCode p b is) (one_held info (code_bytes is) x.0 h.holds x.1) h.code) m x.2
+no_code_fault p info is (code.CutShort pc) h m = λ x. no_scan p x.0 is (code.CutShort pc)
+    (subst (λ (b : List ℕ). IsCode p b is) (one_held info (code_bytes is) x.0 h.holds x.1) h.code) m x.2
+no_code_fault p info is (code.BadSwitch pc) h m = λ x. no_scan p x.0 is (code.BadSwitch pc)
+    (subst (λ (b : List ℕ). IsCode p b is) (one_held info (code_bytes is) x.0 h.holds x.1) h.code) m x.2
+no_code_fault p info is (code.BadOperand pc) h m = λ x. no_scan p x.0 is (code.BadOperand pc)
+    (subst (λ (b : List ℕ). IsCode p b is) (one_held info (code_bytes is) x.0 h.holds x.1) h.code) m x.2
 no_code_fault p info is code.Memory h m = λ x. m refl
 
 one_of_it : (p : Pool) (a : Attribute) (c : Option (List Instruction)) (f : CodeFault) → HasCode p (a ∷ []) c → f ≢ code.Memory → ¬ IsCodeFault p a.info f
@@ -169,15 +181,18 @@ no_codes p b codes _ h = λ x. x
 
 pub no_pass : (bytes : List ℕ) (p : Parts) (pass : Pass) (f : ClassFault) → IsClass bytes p → ¬ FailsWith pass bytes f
 no_pass bytes p Sizing f h = no_size bytes f h.few
-no_pass bytes p Heading f h = no_head bytes (pool_text p.layout.constants ++ body_text p.layout.body) p.layout.minor p.layout.major f h.spelled h.laid.minor h.laid.major h.version
+no_pass bytes p Heading f h = no_head bytes (pool_text p.layout.constants ++ body_text p.layout.body) p.layout.minor p.layout.major f h.spelled h.laid.minor
+    h.laid.major h.version
 no_pass bytes p Pooling f h =
-    no_pool bytes (pool_text p.layout.constants ++ body_text p.layout.body) p.layout.minor p.layout.major p.layout.constants (body_text p.layout.body) f h.spelled
+    no_pool bytes (pool_text p.layout.constants ++ body_text p.layout.body) p.layout.minor p.layout.major p.layout.constants
+    (body_text p.layout.body) f h.spelled
     (record { bytes = refl; written = h.laid.pool }) h.pool
 no_pass bytes p Laying f h = no_layout bytes p.layout f h.spelled h.laid
 no_pass bytes p Linking f h = laid_here LinksFault bytes p.layout f h.spelled h.laid (no_links p.layout.major (pool_of p.layout) p.layout.body f h.links)
 no_pass bytes p Membership f h = laid_here (λ major. MembersFault) bytes p.layout f h.spelled h.laid (no_members (pool_of p.layout) p.layout.body f h.members)
 no_pass bytes p Attribution f h =
-    laid_here AttributesFault bytes p.layout f h.spelled h.laid (no_attributes p.layout.major (pool_of p.layout) p.layout.body p.nest_host p.nest_members f h.attributes h.nest)
+    laid_here AttributesFault bytes p.layout f h.spelled h.laid (no_attributes p.layout.major (pool_of p.layout) p.layout.body p.nest_host p.nest_members f
+    h.attributes h.nest)
 no_pass bytes p Coding f h = laid_here (λ major. CodesFault) bytes p.layout f h.spelled h.laid (no_codes (pool_of p.layout) p.layout.body p.codes f h.codes)
 
 pub no_fault : (bytes : List ℕ) (p : Parts) (f : ClassFault) → IsClass bytes p → ¬ IsFault bytes f

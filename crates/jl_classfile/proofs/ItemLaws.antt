@@ -3,14 +3,15 @@ use Rattle.std.proofs.Common.{◌≡◌, ℕ, suc, ◌+◌, ◌-◌, ◌<◌, �
 use Rattle.std.proofs.lemmas.List.{append-nil}
 use Rattle.std.specs.Prelude.{option_map, true}
 use Rattle.std.specs.Option.{is_some, option_map_or}
-use Rattle.jl_pool.specs.Reading.Fields.{◌>>=◌}
-use Rattle.jl_classfile.specs.Reading.Bodies.{Reader, with_front, items_at}
+use Rattle.jl_pool.specs.Means.Fields.{◌>>=◌}
+use Rattle.jl_classfile.specs.Means.Bodies.{Reader, with_front, items_at}
 
 front_twice : {X : Type 0} (a b : List X) (r : Option (List X × List ℕ)) → with_front a (with_front b r) ≡ with_front (a ++ b) r
 front_twice {X = X} a b None = refl
 front_twice {X = X} a b (Some x) = ap (λ (xs : List X). Some (xs, x.1)) (sym (append_assoc a b x.0))
 
-items-suc : {X : Type 0} (item : Reader X) (n : ℕ) (bytes : List ℕ) → items_at item (suc n) bytes ≡ (item bytes >>= λ x. with_front (x.0 ∷ []) (items_at item n x.1))
+items-suc : {X : Type 0} (item : Reader X) (n : ℕ) (bytes : List ℕ) → items_at item
+    (suc n) bytes ≡ (item bytes >>= λ x. with_front (x.0 ∷ []) (items_at item n x.1))
 unfolding items_at
 items-suc item n bytes = refl
 
@@ -21,11 +22,13 @@ items-zero item bytes = refl
 less_one : (n k : ℕ) → k < n → n - k ≡ suc (n - (k + 1))
 less_one n k h = omega arith
 
-items-step : {X : Type 0} (item : Reader X) (n k : ℕ) (rest : List ℕ) → k < n → items_at item (n - k) rest ≡ (item rest >>= λ x. with_front (x.0 ∷ []) (items_at item (n - (k + 1)) x.1))
+items-step : {X : Type 0} (item : Reader X) (n k : ℕ) (rest : List ℕ) → k < n
+    → items_at item (n - k) rest ≡ (item rest >>= λ x. with_front (x.0 ∷ []) (items_at item (n - (k + 1)) x.1))
 items-step item n k rest h = ap (λ (m : ℕ). items_at item m rest) (less_one n k h) ∙ items-suc item (n - (k + 1)) rest
 
 -- one more was read
-pub items-more : {X : Type 0} (item : Reader X) (n k : ℕ) (front : List X) (rest after : List ℕ) (x : X) (all : Option (List X × List ℕ)) → k < n → item rest ≡ Some (x, after)
+pub items-more : {X : Type 0} (item : Reader X) (n k : ℕ) (front : List X) (rest after : List ℕ) (x : X) (all : Option (List X × List ℕ)) → k < n
+    → item rest ≡ Some (x, after)
     → with_front front (items_at item (n - k) rest) ≡ all → with_front (front ++ x ∷ []) (items_at item (n - (k + 1)) after) ≡ all
 items-more {X = X} item n k front rest after x all h e so_far =
     sym (front_twice front (x ∷ []) (items_at item (n - (k + 1)) after))
@@ -87,11 +90,13 @@ behind_one : {X : Type 0} (x : X) (read : Option (List X × List ℕ)) → is_so
 behind_one x None there = absurd cc
 behind_one x (Some y) there = (refl, refl)
 
-items-first : {X : Type 0} (item : Reader X) (n : ℕ) (bytes : List ℕ) → 1 ≤ n → items_at item n bytes ≡ (item bytes >>= λ x. with_front (x.0 ∷ []) (items_at item (n - 1) x.1))
+items-first : {X : Type 0} (item : Reader X) (n : ℕ) (bytes : List ℕ) → 1 ≤ n
+    → items_at item n bytes ≡ (item bytes >>= λ x. with_front (x.0 ∷ []) (items_at item (n - 1) x.1))
 items-first item n bytes h = let next : n ≡ suc (n - 1) = omega arith in ap (λ (m : ℕ). items_at item m bytes) next ∙ items-suc item (n - 1) bytes
 
 -- one stands in front of the others
-pub one-more : {X : Type 0} (item : Reader X) (n : ℕ) (bytes after : List ℕ) (x : X) → 1 ≤ n → item bytes ≡ Some (x, after) → is_some (items_at item n bytes) ≡ true
+pub one-more : {X : Type 0} (item : Reader X) (n : ℕ) (bytes after : List ℕ) (x : X) → 1 ≤ n → item bytes ≡ Some (x, after)
+    → is_some (items_at item n bytes) ≡ true
     → (is_some (items_at item (n - 1) after) ≡ true) × (list_of (items_at item n bytes) ≡ x ∷ list_of (items_at item (n - 1) after))
 one-more {X = X} item n bytes after x h e there =
     let all = items-first item n bytes h ∙ ap (λ (o : Option (X × List ℕ)). o >>= λ y. with_front (y.0 ∷ []) (items_at item (n - 1) y.1)) e in

@@ -3,10 +3,10 @@ use Rattle.std.proofs.Common.{◌≡◌, ℕ, ◌<◌, ◌^◌, List, [], ◌++�
 use Rattle.std.proofs.lemmas.List.{append-nil}
 use Rattle.jl_pool.specs.declared.constant.Constant.{Constant}
 use Rattle.jl_classfile.specs.declared.body.Body.{Body}
-use Rattle.jl_pool.specs.Numbers.{u2, u4}
+use Rattle.jl_pool.specs.Numbers.{u2}
 use Rattle.jl_pool.specs.Pools.{pool_text}
 use Rattle.jl_classfile.specs.Layouts.{Layout, body_text, head_text, file_text, IsLayout, BodySized}
-use Rattle.jl_classfile.specs.Reading.Bodies.{body_at}
+use Rattle.jl_classfile.specs.Means.Bodies.{body_at}
 use Rattle.jl_pool.proofs.Fields.{some_is}
 use Rattle.jl_pool.proofs.PoolLaws.{u2_one, u4_one, one_pool}
 use Rattle.jl_classfile.proofs.BodyLaws.{body-again}
@@ -15,9 +15,6 @@ body_one : (a b : Body) (x y : List ℕ) → BodySized a → BodySized b → bod
 body_one a b x y ha hb e =
     let pairs : (a, x) ≡ (b, y) = some_is (a, x) (b, y) (sym (body-again a x ha) ∙ ap body_at e ∙ body-again b y hb) in
     (ap (λ (p : Body × List ℕ). p.0) pairs, ap (λ (p : Body × List ℕ). p.1) pairs)
-
-head_apart : (minor major : ℕ) (x : List ℕ) → head_text minor major ++ x ≡ u4 0xcafebabe ++ (u2 minor ++ (u2 major ++ x))
-head_apart minor major x = refl
 
 pub record SameHead (a b c d : ℕ) (x y : List ℕ) : Type 0 where
   pub minor : a ≡ c
@@ -47,7 +44,8 @@ made l = refl
 pub layout_one : (l m : Layout) (x y : List ℕ) → IsLayout l → IsLayout m → file_text l ++ x ≡ file_text m ++ y → (l ≡ m) × (x ≡ y)
 layout_one l m x y hl hm e =
     let heads =
-    head_one l.minor l.major m.minor m.major (pool_text l.constants ++ (body_text l.body ++ x)) (pool_text m.constants ++ (body_text m.body ++ y)) hl.minor hl.major
+    head_one l.minor l.major m.minor m.major (pool_text l.constants ++ (body_text l.body ++ x)) (pool_text m.constants
+    ++ (body_text m.body ++ y)) hl.minor hl.major
     hm.minor hm.major (sym (file_apart l x) ∙ e ∙ file_apart m y)
     in
     let pools =

@@ -6,22 +6,29 @@ use Rattle.std.proofs.lemmas.List.Elements.{Contains-append_left, Contains-appen
 use Rattle.jl_names.proofs.Tests.{All-both}
 use Rattle.jl_classfile.specs.declared.body.Body.{Body}
 use Rattle.jl_pool.specs.Pools.{Pool, class_at}
-use Rattle.jl_classfile.specs.Conditions.{superclass_numbers, class_numbers, IsClassNumber, is_object, is_interface, is_module, super_fits, extends_object, Links}
+use Rattle.jl_classfile.specs.Conditions.{superclass_numbers, class_numbers, IsClassNumber, is_object, is_interface, is_module, super_fits, Links}
+use Rattle.jl_class.specs.Flags.{extends_object}
 
 pub at_superclass : (b : Body) (n : ℕ) → Contains (superclass_numbers b.super_class) n → Contains (class_numbers b) n
 at_superclass b n c =
-    Contains-append_right (b.this_class ∷ []) (superclass_numbers b.super_class ++ b.interfaces) n (Contains-append_left (superclass_numbers b.super_class) b.interfaces n c)
+    Contains-append_right (b.this_class ∷ []) (superclass_numbers b.super_class ++ b.interfaces) n
+    (Contains-append_left (superclass_numbers b.super_class) b.interfaces n c)
 
 pub at_interface : (b : Body) (n : ℕ) → Contains b.interfaces n → Contains (class_numbers b) n
 at_interface b n c =
-    Contains-append_right (b.this_class ∷ []) (superclass_numbers b.super_class ++ b.interfaces) n (Contains-append_right (superclass_numbers b.super_class) b.interfaces n c)
+    Contains-append_right (b.this_class ∷ []) (superclass_numbers b.super_class ++ b.interfaces) n
+    (Contains-append_right (superclass_numbers b.super_class) b.interfaces n c)
 
 pub tested : (major : ℕ) (p : Pool) (b : Body) → is_module major b ≡ false → IsClassNumber p b.this_class
     → AllByRecursion (IsClassNumber p) (superclass_numbers b.super_class) → All (IsClassNumber p) b.interfaces
     → super_fits p b ≡ true → Links major p b
 tested major p b no_module this super interfaces fits = record {
   no_module = no_module;
-  classes = (this, All-both (IsClassNumber p) (superclass_numbers b.super_class) b.interfaces super (recursion_from_All (IsClassNumber p) b.interfaces interfaces));
+  classes = (
+    this,
+    All-both (IsClassNumber p) (superclass_numbers b.super_class) b.interfaces super
+        (recursion_from_All (IsClassNumber p) b.interfaces interfaces),
+  );
   super = fits;
 }
 

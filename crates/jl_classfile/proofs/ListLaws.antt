@@ -3,8 +3,8 @@ use Rattle.std.proofs.Common.{◌≡◌, ℕ, zero, suc, List, [], ◌∷◌, �
 use Rattle.std.specs.List.{flat_map, AllByRecursion}
 use Rattle.jl_pool.specs.Numbers.{u2, counted}
 use Rattle.jl_classfile.specs.Layouts.{Countable}
-use Rattle.jl_pool.specs.Reading.Fields.{◌>>=◌, number_at}
-use Rattle.jl_classfile.specs.Reading.Bodies.{Reader, with_front, items_at, counted_at, pair_of}
+use Rattle.jl_pool.specs.Means.Fields.{◌>>=◌, number_at}
+use Rattle.jl_classfile.specs.Means.Bodies.{Reader, with_front, items_at, counted_at, pair_of}
 use Rattle.jl_pool.proofs.Fields.{IsBytes, Takes, takes, bind_some, some_is, u2_takes, u2_again}
 
 -- ---- what a reader of one item has to do
@@ -31,7 +31,8 @@ items-takes : {X : Type 0} (item : Reader X) (text : X → List ℕ) (IsSo : X �
     → (n : ℕ) (bytes : List ℕ) (y : List X × List ℕ) → IsBytes bytes → items_at item n bytes ≡ Some y → ItemsTaken text IsSo bytes n y
 unfolding items_at
 items-takes {X = X} item text IsSo taker zero bytes y fits e =
-    subst (λ (z : List X × List ℕ). ItemsTaken text IsSo bytes 0 z) (some_is ([], bytes) y e) (record { taken = takes bytes [] bytes fits refl; each = tt; so_many = refl })
+    subst (λ (z : List X × List ℕ). ItemsTaken text IsSo bytes 0 z) (some_is ([], bytes) y e)
+    (record { taken = takes bytes [] bytes fits refl; each = tt; so_many = refl })
 items-takes {X = X} item text IsSo taker (suc n) bytes y fits e =
     let a = bind_some (item bytes) (λ x. with_front (x.0 ∷ []) (items_at item n x.1)) y e in
     let t = taker bytes a.0 fits a.1 in
@@ -58,7 +59,8 @@ items-again {X = X} item text IsSo again (x ∷ xs) rest h =
 
 -- ---- items behind their count
 
-pub counted-takes : {X : Type 0} (item : Reader X) (text : X → List ℕ) (IsSo : X → Type 0) → Taker item text IsSo → Taker (counted_at item) (counted text) (Countable IsSo)
+pub counted-takes : {X : Type 0} (item : Reader X) (text : X → List ℕ) (IsSo : X → Type 0) → Taker item text IsSo
+    → Taker (counted_at item) (counted text) (Countable IsSo)
 counted-takes {X = X} item text IsSo taker bytes y fits e =
     let n = bind_some (number_at 2 bytes) (λ n. items_at item n.0 n.1) y e in
     let s = u2_takes bytes n.0 fits n.1 in
@@ -74,7 +76,8 @@ counted-takes {X = X} item text IsSo taker bytes y fits e =
       record { count = omega (arith, t.so_many, s.1); each = t.each },
     )
 
-pub counted-again : {X : Type 0} (item : Reader X) (text : X → List ℕ) (IsSo : X → Type 0) → Again item text IsSo → Again (counted_at item) (counted text) (Countable IsSo)
+pub counted-again : {X : Type 0} (item : Reader X) (text : X → List ℕ) (IsSo : X → Type 0) → Again item text IsSo
+    → Again (counted_at item) (counted text) (Countable IsSo)
 counted-again {X = X} item text IsSo again xs rest h =
     ap (λ (b : List ℕ). counted_at item b) (append_assoc (u2 (length xs)) (flat_map text xs) rest)
     ∙ ap (λ (o : Option (ℕ × List ℕ)). o >>= λ n. items_at item n.0 n.1) (u2_again (length xs) (flat_map text xs ++ rest) h.count)
@@ -96,8 +99,14 @@ pair-takes {X = X} {Y = Y} first second text_x text_y IsX IsY takes_x takes_y by
     let b = bind_some (second a.0.1) (λ y. Some ((a.0.0, y.0), y.1)) p a.2 in
     let s = takes_x bytes a.0 fits a.1 in
     let t = takes_y a.0.1 b.0 s.0.bytes_left b.1 in
-    subst (λ (q : (X × Y) × List ℕ). Takes bytes (text_x q.0.0 ++ text_y q.0.1) q.1 × (IsX q.0.0 × IsY q.0.1)) (some_is ((a.0.0, b.0.0), b.0.1) p b.2)
-    (record { parts = s.0.parts ∙ ap (λ (r : List ℕ). text_x a.0.0 ++ r) t.0.parts ∙ sym (append_assoc (text_x a.0.0) (text_y b.0.0) b.0.1); bytes_left = t.0.bytes_left }, (s.1, t.1))
+    subst (λ (q : (X × Y) × List ℕ). Takes bytes (text_x q.0.0 ++ text_y q.0.1) q.1 × (IsX q.0.0 × IsY q.0.1)) (some_is ((a.0.0, b.0.0), b.0.1) p b.2) (
+      record {
+        parts = s.0.parts ∙ ap (λ (r : List ℕ). text_x a.0.0 ++ r) t.0.parts
+            ∙ sym (append_assoc (text_x a.0.0) (text_y b.0.0) b.0.1);
+        bytes_left = t.0.bytes_left;
+      },
+      (s.1, t.1),
+    )
 
 pub pair-again : {X Y : Type 0} (first : Reader X) (second : Reader Y) (text_x : X → List ℕ) (text_y : Y → List ℕ) (IsX : X → Type 0) (IsY : Y → Type 0)
     → Again first text_x IsX → Again second text_y IsY

@@ -14,7 +14,7 @@ use Rattle.jl_names.proofs.Tests.{All-both}
 use Rattle.jl_pool.specs.Pools.{Pool}
 use Rattle.jl_classfile.specs.Conditions.{FieldFits, MethodFits}
 use Rattle.jl_classfile.specs.Conditions.{MemberLinks, codes_of, is_interface, Members}
-use Rattle.jl_classfile.specs.Reading.Members.{is_at, FieldTested, MethodTested, IsFieldFault, IsMethodFault, IsTwin, IsFirstTwin}
+use Rattle.jl_classfile.specs.Means.Members.{is_at, FieldTested, MethodTested, IsFieldFault, IsMethodFault, IsTwin, IsFirstTwin}
 use Rattle.jl_classfile.proofs.TwinLaws.{distinct_unless, twin_at}
 
 contains_at : {X : Type 0} (xs : List X) (i : ℕ) (x : X) → slice_get xs i ≡ Some x → Contains xs x
@@ -25,7 +25,8 @@ field_fault pool b i m (BadLink n) e x = (m, Contains-append_left b.fields b.met
 field_fault pool b i m (BadMember k) e x = inl (m, ap (λ (j : ℕ). slice_get b.fields j) x.0 ∙ e, x.1)
 field_fault pool b i m _ e x = absurd x
 
-method_fault : (pool : Pool) (b : Body) (found : Option ℕ) (i : ℕ) (m : Member) (f : ClassFault) → MatchOption found ((k : ℕ) → ¬ IsTwin pool b.methods k) (IsFirstTwin pool b.methods)
+method_fault : (pool : Pool) (b : Body) (found : Option ℕ) (i : ℕ) (m : Member) (f : ClassFault)
+    → MatchOption found ((k : ℕ) → ¬ IsTwin pool b.methods k) (IsFirstTwin pool b.methods)
     → slice_get b.methods i ≡ Some m → IsMethodFault pool (is_interface b) (length b.fields + i) i (is_at found i) m f → MembersFault pool b f
 method_fault pool b found i m (BadLink n) t e x = (m, Contains-append_right b.fields b.methods m (contains_at b.methods i m e), x.0, x.1)
 method_fault pool b found i m (BadMember k) t e x = inr (i, m, x.0, e, x.1)
@@ -38,7 +39,8 @@ method_fault pool b found i m _ t e x = absurd x
 members_hold : (pool : Pool) (b : Body) (found : Option ℕ) → All (FieldTested pool) b.fields → All (MethodTested pool (is_interface b)) b.methods
     → MatchOption found ((k : ℕ) → ¬ IsTwin pool b.methods k) (IsFirstTwin pool b.methods) → IfSome found (λ t. length b.methods ≤ t) → Members pool b
 members_hold pool b found fields methods t past = record {
-  links = All-both (MemberLinks pool) b.fields b.methods (of_fields b.fields (recursion_from_All (FieldTested pool) b.fields fields)) (of_methods b.methods tested);
+  links = All-both (MemberLinks pool) b.fields b.methods (of_fields b.fields (recursion_from_All (FieldTested pool) b.fields fields))
+      (of_methods b.methods tested);
   fields = fitting b.fields (recursion_from_All (FieldTested pool) b.fields fields);
   methods = fitted b.methods tested;
   distinct = distinct_unless pool b.methods found t past;
@@ -67,17 +69,15 @@ members_hold pool b found fields methods t past = record {
   coded [] h = tt
   coded (m ∷ ms) h = (h.0.one_code, coded ms h.1)
 
-pub members_of : (pool : Pool) (b : Body) (found : Option ℕ) (fields methods : List Member) (interface : Bool) → fields ≡ b.fields → methods ≡ b.methods → interface ≡ is_interface b
+pub members_of : (pool : Pool) (b : Body) (found : Option ℕ) (fields methods : List Member) (interface : Bool) → fields ≡ b.fields → methods ≡ b.methods
+    → interface ≡ is_interface b
     → All (FieldTested pool) fields → All (MethodTested pool interface) methods
     → MatchOption found ((k : ℕ) → ¬ IsTwin pool methods k) (IsFirstTwin pool methods) → IfSome found (λ t. length methods ≤ t) → Members pool b
 members_of pool b found fields methods interface ef em ei fs ms t past =
     members_hold pool b found (subst (λ (xs : List Member). All (FieldTested pool) xs) ef fs)
     (subst (λ (i : Bool). All (MethodTested pool i) b.methods) ei (subst (λ (xs : List Member). All (MethodTested pool interface) xs) em ms))
-    (subst (λ (xs : List Member). MatchOption found ((k : ℕ) → ¬ IsTwin pool xs k) (IsFirstTwin pool xs)) em t) (subst (λ (xs : List Member). IfSome found (λ t. length xs ≤ t)) em past)
-
-pub field_fault_of : (pool : Pool) (b : Body) (fields : List Member) (f : ClassFault) → fields ≡ b.fields
-    → (i : ℕ) × (m : Member) × (slice_get fields i ≡ Some m) × IsFieldFault pool i m f → MembersFault pool b f
-field_fault_of pool b fields f ef x = field_fault pool b x.0 x.1 f (ap (λ (xs : List Member). slice_get xs x.0) (sym ef) ∙ x.2) x.3
+    (subst (λ (xs : List Member). MatchOption found ((k : ℕ) → ¬ IsTwin pool xs k) (IsFirstTwin pool xs)) em t)
+    (subst (λ (xs : List Member). IfSome found (λ t. length xs ≤ t)) em past)
 
 pub method_fault_of : (pool : Pool) (b : Body) (found : Option ℕ) (fields methods : List Member) (interface : Bool) (f : ClassFault) → fields ≡ b.fields
     → methods ≡ b.methods → interface ≡ is_interface b

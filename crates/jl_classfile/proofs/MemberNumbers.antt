@@ -16,17 +16,12 @@ All-names : (P : ℕ → Type 0) (attributes : List Attribute) → AllByRecursio
 All-names P [] h = tt
 All-names P (a ∷ more) h = (h.0, All-names P more h.1)
 
-pub member_links : (pool : Pool) (m : Member) → IsTextNumber pool m.name → IsTextNumber pool m.descriptor → AllByRecursion (λ a. IsTextNumber pool a.name) m.attributes → MemberLinks pool m
+pub member_links : (pool : Pool) (m : Member) → IsTextNumber pool m.name → IsTextNumber pool m.descriptor
+    → AllByRecursion (λ a. IsTextNumber pool a.name) m.attributes → MemberLinks pool m
 member_links pool m name descriptor attributes = (name, (descriptor, All-names (IsTextNumber pool) m.attributes attributes))
 
 Contains-here : {X : Type 0} (x : X) (xs : List X) → Contains (x ∷ xs) x
 Contains-here x xs = (0, omega arith, refl)
-
-pub at_name : (m : Member) → Contains (member_numbers m) m.name
-at_name m = Contains-here m.name (m.descriptor ∷ map (λ a. a.name) m.attributes)
-
-pub at_descriptor : (m : Member) → Contains (member_numbers m) m.descriptor
-at_descriptor m = Contains-append_right (m.name ∷ []) (m.descriptor ∷ map (λ a. a.name) m.attributes) m.descriptor (Contains-here m.descriptor (map (λ a. a.name) m.attributes))
 
 get_or-names : (xs : List Attribute) (k : ℕ) (a : Attribute) → k < length xs → get_or (map (λ x. x.name) xs) k a.name ≡ (get_or xs k a).name
 get_or-names xs k a h = get_or-map (λ (x : Attribute). x.name) xs k a

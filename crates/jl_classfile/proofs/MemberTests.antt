@@ -10,9 +10,10 @@ use Rattle.jl_names.specs.ClassNames.{is_unqualified}
 use Rattle.jl_names.specs.Descriptors.{IsFieldDescriptor}
 use Rattle.jl_classfile.specs.declared.body.Member.{Member}
 use Rattle.jl_pool.specs.Pools.{Pool, text_at}
-use Rattle.jl_classfile.specs.Conditions.{has_flag, STATIC, one_if, is_method_name, flags_fit, TakesFew, FieldFits, MethodFits}
-use Rattle.jl_pool.specs.Reading.Forms.{is_field, method_slots}
-use Rattle.jl_classfile.specs.Reading.Members.{on_text, field_fits, takes_few, method_fits}
+use Rattle.jl_classfile.specs.Conditions.{one_if, is_method_name, flags_fit, TakesFew, FieldFits, MethodFits}
+use Rattle.jl_class.specs.Flags.{has_flag, STATIC}
+use Rattle.jl_pool.specs.Means.Forms.{is_field, method_slots}
+use Rattle.jl_classfile.specs.Means.Members.{on_text, field_fits, takes_few, method_fits}
 use Rattle.jl_pool.proofs.FormLaws.{is_field-is, SlotsAre, method_slots-is, one_slots}
 
 decides_on : (test : List ℕ → Bool) (IsKind : List ℕ → Type 0) → ((text : List ℕ) → Decides (test text) (IsKind text)) → (text : Option (List ℕ))
@@ -43,12 +44,14 @@ few_test flags n e = grind (arith, nat_tests)
 
 takes_few-is : (flags : ℕ) (text : List ℕ) → Decides (takes_few flags text) (TakesFew flags text)
 takes_few-is flags text = by_slots (method_slots text) (method_slots-is text) where
-  by_slots : (found : Option ℕ) → SlotsAre text found → Decides (option_map_or (λ n. nat_le (n + one_if (not (has_flag flags STATIC))) 255) found false) (TakesFew flags text)
+  by_slots : (found : Option ℕ) → SlotsAre text found → Decides (option_map_or (λ n. nat_le (n + one_if (not (has_flag flags STATIC))) 255) found false)
+      (TakesFew flags text)
   by_slots None none = told-decides false (λ few. none (few.0, (let low = few.1 in omega (arith, low)), few.2))
   by_slots (Some n) h = (
     λ e. (n, few_is flags n e, h.takes),
     λ few.
-        subst (λ (k : ℕ). nat_le (k + one_if (not (has_flag flags STATIC))) 255 ≡ true) (sym (one_slots text n few.0 h.takes few.2)) (few_test flags few.0 few.1),
+        subst (λ (k : ℕ). nat_le (k + one_if (not (has_flag flags STATIC))) 255 ≡ true) (sym (one_slots text n few.0 h.takes few.2))
+        (few_test flags few.0 few.1),
   )
 
 pub method_fits-is : (pool : Pool) (interface : Bool) (m : Member) → Decides (method_fits pool interface m) (MethodFits pool interface m)
@@ -57,5 +60,6 @@ method_fits-is pool interface m =
     let descriptor = text_at pool m.descriptor in
     Decides-like (method_fits pool interface m) (λ p. record { name = p.0.0; descriptor = p.1; flags = p.0.1 }) (λ f. ((f.name, f.flags), f.descriptor))
     (Decides-and (on_text is_method_name name && on_text (flags_fit interface m.flags) name) (on_text (takes_few m.flags) descriptor)
-    (Decides-and (on_text is_method_name name) (on_text (flags_fit interface m.flags) name) (decides_so is_method_name name) (decides_so (flags_fit interface m.flags) name))
+    (Decides-and (on_text is_method_name name) (on_text (flags_fit interface m.flags) name) (decides_so is_method_name name)
+    (decides_so (flags_fit interface m.flags) name))
     (decides_on (takes_few m.flags) (TakesFew m.flags) (takes_few-is m.flags) descriptor))

@@ -1,32 +1,31 @@
 -- A fault of a pass is the first where no earlier pass fails.
-use Rattle.std.proofs.Common.{◌≡◌, ◌≢◌, ℕ, ◌<◌, ◌≤◌, true, false, List, [], ◌∷◌, ◌++◌, length, drop, Option, Some, None, Result, Ok}
+use Rattle.std.proofs.Common.{◌≡◌, ◌≢◌, ℕ, ◌<◌, ◌≤◌, true, false, List, [], ◌∷◌, ◌++◌, length, Option, Some, None, Result, Ok}
 use Rattle.std.proofs.Common.{Err, refl, sym, ap, subst, ◌∙◌, arith}
 use Rattle.std.specs.Prelude.{◌==◌, IfOk, IfErr}
 use Rattle.std.specs.List.{Contains}
 use Rattle.std.proofs.lemmas.Bool.Decides.{nat_tests}
 use Rattle.std.proofs.lemmas.List.{append-nil}
-use Rattle.std.proofs.Math.Seq.{drop-append_seam}
 use Rattle.jl_classfile.specs.declared.body.Attribute.{Attribute}
 use Rattle.jl_classfile.specs.declared.body.Body.{Body}
 use Rattle.jl_classfile.specs.declared.body.Broken.{Broken}
 use Rattle.jl_classfile.specs.declared.body.Broken.TheVariants as broken
-use Rattle.jl_classfile.specs.Class.{ClassFile}
-use Rattle.jl_pool.specs.declared.constant.Constant.{Constant}
+use Rattle.jl_class.specs.Class.{ClassFile}
 use Rattle.jl_pool.specs.declared.pool_fault.PoolFault.{PoolFault}
 use Rattle.jl_pool.specs.declared.pool_fault.PoolFault.TheVariants as pool
 use Rattle.jl_classfile.specs.declared.fault.ClassFault.{ClassFault}
 use Rattle.jl_classfile.specs.declared.fault.ClassFault.TheVariants.{TooLarge, Truncated, TrailingBytes, BadLink, BadNest, Memory}
 use Rattle.jl_classfile.specs.Parts.{Parts}
-use Rattle.jl_pool.specs.Pools.{Pool, places, pool_text, IsSoundPool}
+use Rattle.jl_pool.specs.Pools.{Pool, pool_text}
 use Rattle.jl_classfile.specs.Layouts.{Layout, head_text, body_text, file_text, BodySized, IsLayout}
 use Rattle.jl_classfile.specs.Conditions.{IsTextNumber, Links, Members, ClassAttributeLinks, Nest}
 use Rattle.jl_classfile.specs.ClassFiles.{most_bytes, pool_of, IsClass}
 use Rattle.jl_classfile.specs.Shown.{shown}
-use Rattle.jl_pool.specs.Faults.{PoolStands, IsPoolFault}
-use Rattle.jl_classfile.specs.Faults.{Pass, SizeFault, HeadFault, PoolPass, LayoutFault, LinksFault, MembersFault, AttributesFault, CodesFault, LaidFault, FailsWith, rank, IsFault}
+use Rattle.jl_pool.specs.Faults.{IsPoolFault}
+use Rattle.jl_classfile.specs.Faults.{Pass, SizeFault, HeadFault, PoolPass, LayoutFault, LinksFault, MembersFault, AttributesFault, CodesFault}
+use Rattle.jl_classfile.specs.Faults.{LaidFault, FailsWith, rank, IsFault}
 use Rattle.jl_classfile.specs.Faults.{Sizing, Heading, Pooling, Laying, Linking, Membership, Attribution, Coding}
-use Rattle.jl_classfile.specs.Reading.Bodies.{body_at, Stops}
-use Rattle.jl_classfile.specs.Reading.Passes.{fault_of_pool, fault_of_broken, HasHead, HasPool, Lies, BodyShown}
+use Rattle.jl_classfile.specs.Means.Bodies.{body_at, Stops}
+use Rattle.jl_classfile.specs.Means.Passes.{fault_of_pool, fault_of_broken, HasHead, HasPool, Lies, BodyShown}
 use Rattle.jl_classfile.proofs.FaultLaws.{no_size, no_head, no_pool, no_layout, laid_here, no_links, no_members, no_attributes}
 use Rattle.jl_classfile.proofs.MemberNumbers.{contains_name}
 use Rattle.jl_pool.proofs.PoolLaws.{one_pool}
@@ -70,7 +69,8 @@ head_first bytes f few fault = record {
   pass = Heading;
   fails = fault;
   first =
-      before bytes 2 (omega arith) (λ lt g. no_size bytes g few) (high 2 2 (omega arith)) (high 3 2 (omega arith)) (high 4 2 (omega arith)) (high 5 2 (omega arith))
+      before bytes 2 (omega arith) (λ lt g. no_size bytes g few) (high 2 2 (omega arith)) (high 3 2 (omega arith)) (high 4 2 (omega arith))
+      (high 5 2 (omega arith))
       (high 6 2 (omega arith)) (high 7 2 (omega arith));
 }
 
@@ -79,7 +79,8 @@ pub pool_first : (bytes text : List ℕ) (major : ℕ) (f : PoolFault) → lengt
 pool_first bytes text major f few head fault other = record {
   pass = Pooling;
   fails = passed f fault other;
-  first = before bytes 3 (omega arith) (λ lt g. no_size bytes g few) (λ lt g. no_head bytes text head.minor major g head.spelled head.minor_size head.major_size head.version)
+  first = before bytes 3 (omega arith) (λ lt g. no_size bytes g few) (λ lt g. no_head bytes text head.minor major g head.spelled head.minor_size head.major_size
+      head.version)
       (high 3 3 (omega arith)) (high 4 3 (omega arith)) (high 5 3 (omega arith)) (high 6 3 (omega arith)) (high 7 3 (omega arith));
 } where
   passed : (f : PoolFault) → IsPoolFault text f → fault_of_pool f ≢ Memory → PoolPass bytes (fault_of_pool f)
@@ -92,26 +93,12 @@ pool_first bytes text major f few head fault other = record {
 
 -- ---- the layout
 
-pub has_pool : (bytes text behind : List ℕ) (major used : ℕ) (p : Pool) → length bytes ≤ most_bytes → HasHead bytes text major
-    → (cs : List Constant) × (left : List ℕ) × PoolStands text cs left × IsSoundPool cs × (p ≡ places cs) × (used ≡ length (pool_text cs))
-    → behind ≡ drop used text → HasPool bytes major p behind
-has_pool bytes text behind major used p few head h rest = record {
-  few = few;
-  text = text;
-  head = head;
-  constants = h.0;
-  stands = subst (λ (l : List ℕ). PoolStands text h.0 l) (sym left) h.2;
-  sound = h.3;
-  pool_is = h.4;
-} where
-  left : behind ≡ h.1
-  left = rest ∙ ap (λ (n : ℕ). drop n text) h.5 ∙ ap (λ (t : List ℕ). drop (length (pool_text h.0)) t) h.2.bytes ∙ drop-append_seam (pool_text h.0) h.1
-
 laying_first : (bytes : List ℕ) (major : ℕ) (p : Pool) (left : List ℕ) (f : ClassFault) → HasPool bytes major p left → LayoutFault bytes f → IsFault bytes f
 laying_first bytes major p left f h fault = record {
   pass = Laying;
   fails = fault;
-  first = before bytes 4 (omega arith) (λ lt g. no_size bytes g h.few) (λ lt g. no_head bytes h.text h.head.minor major g h.head.spelled h.head.minor_size h.head.major_size h.head.version)
+  first = before bytes 4 (omega arith) (λ lt g. no_size bytes g h.few)
+      (λ lt g. no_head bytes h.text h.head.minor major g h.head.spelled h.head.minor_size h.head.major_size h.head.version)
       (λ lt g. no_pool bytes h.text h.head.minor major h.constants left g h.head.spelled h.stands h.sound) (high 4 4 (omega arith)) (high 5 4 (omega arith))
       (high 6 4 (omega arith)) (high 7 4 (omega arith));
 }
@@ -119,7 +106,8 @@ laying_first bytes major p left f h fault = record {
 layout_of : (bytes : List ℕ) (major : ℕ) (p : Pool) (left : List ℕ) → HasPool bytes major p left → Body → Layout
 layout_of bytes major p left h b = record { minor = h.head.minor; major = major; constants = h.constants; body = b }
 
-laid_of : (bytes : List ℕ) (major : ℕ) (p : Pool) (left : List ℕ) (h : HasPool bytes major p left) (b : Body) → BodySized b → IsLayout (layout_of bytes major p left h b)
+laid_of : (bytes : List ℕ) (major : ℕ) (p : Pool) (left : List ℕ) (h : HasPool bytes major p left) (b : Body) → BodySized b
+    → IsLayout (layout_of bytes major p left h b)
 unfolding layout_of
 laid_of bytes major p left h b sized = record { minor = h.head.minor_size; major = h.head.major_size; pool = h.stands.written; body = sized }
 
@@ -152,7 +140,13 @@ broken_first bytes major p left broken.Memory h stops other = absurd (other refl
 pub trailing_first : (bytes : List ℕ) (major : ℕ) (p : Pool) (left : List ℕ) (b : Body) (rest : List ℕ) → HasPool bytes major p left
     → BodySized b × (left ≡ body_text b ++ rest) → rest ≢ [] → IsFault bytes TrailingBytes
 trailing_first bytes major p left b rest h body more =
-    laying_first bytes major p left TrailingBytes h (layout_of bytes major p left h b, rest, laid_of bytes major p left h b body.0, more, spelled_of bytes major p left h b rest body.1)
+    laying_first bytes major p left TrailingBytes h (
+      layout_of bytes major p left h b,
+      rest,
+      laid_of bytes major p left h b body.0,
+      more,
+      spelled_of bytes major p left h b rest body.1,
+    )
 
 pub lies : (bytes : List ℕ) (major : ℕ) (p : Pool) (left : List ℕ) (b : Body) (rest : List ℕ) → HasPool bytes major p left
     → BodySized b × (left ≡ body_text b ++ rest) → rest ≡ [] → Lies bytes major p b
@@ -176,17 +170,20 @@ lies bytes major p left b rest h body none = record {
 
 module _ (bytes : List ℕ) (major : ℕ) (p : Pool) (b : Body) (h : Lies bytes major p b) where
   here : (Fault : ℕ → Pool → Body → Type 0) → Fault major p b → Fault h.layout.major (pool_of h.layout) h.layout.body
-  here Fault x = subst (λ (c : Body). Fault h.layout.major (pool_of h.layout) c) h.body_is (subst (λ (q : Pool). Fault h.layout.major q b) h.pool_is (subst (λ (n : ℕ). Fault n p b) h.major_is x))
+  here Fault x = subst (λ (c : Body). Fault h.layout.major (pool_of h.layout) c) h.body_is
+      (subst (λ (q : Pool). Fault h.layout.major q b) h.pool_is (subst (λ (n : ℕ). Fault n p b) h.major_is x))
 
   at_size : (g : ClassFault) → ¬ SizeFault bytes g
   at_size g = no_size bytes g h.few
 
   at_head : (g : ClassFault) → ¬ HeadFault bytes g
-  at_head g = no_head bytes (pool_text h.layout.constants ++ body_text h.layout.body) h.layout.minor h.layout.major g h.spelled h.laid.minor h.laid.major h.version
+  at_head g = no_head bytes (pool_text h.layout.constants ++ body_text h.layout.body) h.layout.minor h.layout.major g h.spelled h.laid.minor h.laid.major
+      h.version
 
   at_pool : (g : ClassFault) → ¬ PoolPass bytes g
   at_pool g =
-      no_pool bytes (pool_text h.layout.constants ++ body_text h.layout.body) h.layout.minor h.layout.major h.layout.constants (body_text h.layout.body) g h.spelled
+      no_pool bytes (pool_text h.layout.constants ++ body_text h.layout.body) h.layout.minor h.layout.major h.layout.constants
+      (body_text h.layout.body) g h.spelled
       (record { bytes = refl; written = h.laid.pool }) h.sound
 
   at_layout : (g : ClassFault) → ¬ LayoutFault bytes g
@@ -196,30 +193,35 @@ module _ (bytes : List ℕ) (major : ℕ) (p : Pool) (b : Body) (h : Lies bytes 
   at_links links g = laid_here LinksFault bytes h.layout g h.spelled h.laid (no_links h.layout.major (pool_of h.layout) h.layout.body g (here Links links))
 
   at_members : Members p b → (g : ClassFault) → ¬ LaidFault (λ n. MembersFault) bytes g
-  at_members members g = laid_here (λ n. MembersFault) bytes h.layout g h.spelled h.laid (no_members (pool_of h.layout) h.layout.body g (here (λ n. Members) members))
+  at_members members g = laid_here (λ n. MembersFault) bytes h.layout g h.spelled h.laid
+      (no_members (pool_of h.layout) h.layout.body g (here (λ n. Members) members))
 
   pub links_first : (f : ClassFault) → LinksFault major p b f → IsFault bytes f
   links_first f fault = record {
     pass = Linking;
     fails = (h.layout, h.laid, h.spelled, here (λ n q c. LinksFault n q c f) fault);
-    first = before bytes 5 (omega arith) (λ lt. at_size) (λ lt. at_head) (λ lt. at_pool) (λ lt. at_layout) (high 5 5 (omega arith)) (high 6 5 (omega arith)) (high 7 5 (omega arith));
+    first = before bytes 5 (omega arith) (λ lt. at_size) (λ lt. at_head) (λ lt. at_pool) (λ lt. at_layout) (high 5 5 (omega arith)) (high 6 5 (omega arith))
+        (high 7 5 (omega arith));
   }
 
   pub members_first : (f : ClassFault) → Links major p b → MembersFault p b f → IsFault bytes f
   members_first f links fault = record {
     pass = Membership;
     fails = (h.layout, h.laid, h.spelled, here (λ n q c. MembersFault q c f) fault);
-    first = before bytes 6 (omega arith) (λ lt. at_size) (λ lt. at_head) (λ lt. at_pool) (λ lt. at_layout) (λ lt. at_links links) (high 6 6 (omega arith)) (high 7 6 (omega arith));
+    first = before bytes 6 (omega arith) (λ lt. at_size) (λ lt. at_head) (λ lt. at_pool) (λ lt. at_layout) (λ lt. at_links links) (high 6 6 (omega arith))
+        (high 7 6 (omega arith));
   }
 
   pub attributes_first : (f : ClassFault) → Links major p b → Members p b → AttributesFault major p b f → IsFault bytes f
   attributes_first f links members fault = record {
     pass = Attribution;
     fails = (h.layout, h.laid, h.spelled, here (λ n q c. AttributesFault n q c f) fault);
-    first = before bytes 7 (omega arith) (λ lt. at_size) (λ lt. at_head) (λ lt. at_pool) (λ lt. at_layout) (λ lt. at_links links) (λ lt. at_members members) (high 7 7 (omega arith));
+    first = before bytes 7 (omega arith) (λ lt. at_size) (λ lt. at_head) (λ lt. at_pool) (λ lt. at_layout) (λ lt. at_links links) (λ lt. at_members members)
+        (high 7 7 (omega arith));
   }
 
-module _ (bytes : List ℕ) (major : ℕ) (p : Pool) (b : Body) (h : Lies bytes major p b) (host : Option ℕ) (members_of : Option (List ℕ)) (nest : Nest major p b host members_of) where
+module _ (bytes : List ℕ) (major : ℕ) (p : Pool) (b : Body) (h : Lies bytes major p b) (host : Option ℕ) (members_of : Option (List ℕ))
+    (nest : Nest major p b host members_of) where
   nest_here : Nest h.layout.major (pool_of h.layout) h.layout.body host members_of
   nest_here = here bytes major p b h (λ n q c. Nest n q c host members_of) nest
 
@@ -232,11 +234,13 @@ module _ (bytes : List ℕ) (major : ℕ) (p : Pool) (b : Body) (h : Lies bytes 
   codes_first f links members attributes fault = record {
     pass = Coding;
     fails = (h.layout, h.laid, h.spelled, here bytes major p b h (λ n q c. CodesFault q c f) fault);
-    first = before bytes 8 (omega arith) (λ lt. at_size bytes major p b h) (λ lt. at_head bytes major p b h) (λ lt. at_pool bytes major p b h) (λ lt. at_layout bytes major p b h)
+    first = before bytes 8 (omega arith) (λ lt. at_size bytes major p b h) (λ lt. at_head bytes major p b h) (λ lt. at_pool bytes major p b h)
+        (λ lt. at_layout bytes major p b h)
         (λ lt. at_links bytes major p b h links) (λ lt. at_members bytes major p b h members) (λ lt. at_attributes attributes);
   }
 
-  pub class_is : (file : ClassFile) → Links major p b → Members p b → ClassAttributeLinks p b → BodyShown p b host members_of file → (x : Parts) × IsClass bytes x × (file ≡ shown x)
+  pub class_is : (file : ClassFile) → Links major p b → Members p b → ClassAttributeLinks p b → BodyShown p b host members_of file → (x : Parts)
+      × IsClass bytes x × (file ≡ shown x)
   class_is file links members attributes s =
       let there : BodyShown (pool_of h.layout) h.layout.body host members_of file = here bytes major p b h (λ n q c. BodyShown q c host members_of file) s in (
         record { layout = h.layout; codes = there.codes; nest_host = host; nest_members = members_of },
@@ -268,7 +272,8 @@ pub has_more : (xs : List ℕ) → false ≡ (length xs == 0) → xs ≢ []
 has_more [] e = absurd cc
 has_more (x ∷ xs) e = λ none. absurd cc
 
-pub attributes_fault : (major : ℕ) (p : Pool) (b : Body) (f : ClassFault) → (a : Attribute) × (f ≡ BadLink a.name) × Contains b.attributes a × ¬ IsTextNumber p a.name
+pub attributes_fault : (major : ℕ) (p : Pool) (b : Body) (f : ClassFault) → (a : Attribute) × (f ≡ BadLink a.name) × Contains b.attributes a
+    × ¬ IsTextNumber p a.name
     → AttributesFault major p b f
 attributes_fault major p b f x = subst (λ (g : ClassFault). AttributesFault major p b g) (sym x.1) (contains_name b.attributes x.0 x.2, x.3)
 
@@ -276,9 +281,11 @@ pub nest_fault : (major : ℕ) (p : Pool) (b : Body) (f : ClassFault) → f ≢ 
     → (f ≢ Memory → (f ≡ BadNest) × ((host : Option ℕ) (members : Option (List ℕ)) → ¬ Nest major p b host members)) → AttributesFault major p b f
 nest_fault major p b f other h = let x = h other in subst (λ (g : ClassFault). AttributesFault major p b g) (sym x.0) x.1
 
-module _ (bytes : List ℕ) (major : ℕ) (p : Pool) (b : Body) (h : Lies bytes major p b) (links : Links major p b) (members : Members p b) (attributes : ClassAttributeLinks p b)
+module _ (bytes : List ℕ) (major : ℕ) (p : Pool) (b : Body) (h : Lies bytes major p b) (links : Links major p b) (members : Members p b)
+    (attributes : ClassAttributeLinks p b)
     (host : Option ℕ) (members_of : Option (List ℕ)) (nest : Nest major p b host members_of) where
-  pub classes_are : (r : Result ClassFile ClassFault) → IfOk r (BodyShown p b host members_of) → IfOk r (λ file. (x : Parts) × IsClass bytes x × (file ≡ shown x))
+  pub classes_are : (r : Result ClassFile ClassFault) → IfOk r (BodyShown p b host members_of)
+      → IfOk r (λ file. (x : Parts) × IsClass bytes x × (file ≡ shown x))
   classes_are (Ok file) s = class_is bytes major p b h host members_of nest file links members attributes s
   classes_are (Err f) s = tt
 

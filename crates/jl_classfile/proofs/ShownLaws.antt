@@ -1,22 +1,20 @@
 -- What a class file shows of its methods.
-use Rattle.std.proofs.Common.{◌≡◌, ◌≢◌, ℕ, ◌≤◌, List, [], ◌∷◌, ◌++◌, length, Option, Some, None, refl, sym, ap, subst, ◌∙◌, suc}
-use Rattle.std.proofs.Common.{◌+◌, ◌-◌, ◌<◌, true, get_or, map, take, drop, length-append, take-append-drop, arith}
-use Rattle.std.specs.Prelude.{slice_get, slice_range, nat_le, codes}
+use Rattle.std.proofs.Common.{◌≡◌, ◌≢◌, ℕ, ◌≤◌, List, [], ◌∷◌, ◌++◌, length, Option, Some, refl, sym, ap, subst, ◌∙◌, suc}
+use Rattle.std.proofs.Common.{◌+◌, ◌-◌, ◌<◌, true, get_or, map, take, drop, length-append, arith}
+use Rattle.std.specs.Prelude.{slice_range, nat_le, codes}
 use Rattle.std.specs.List.{list_all}
-use Rattle.std.proofs.Math.Seq.{take-suc, take_all, take-append-le, drop-append-le, drop-append_seam}
+use Rattle.std.proofs.Math.Seq.{take-suc, take-append-le, drop-append-le}
 use Rattle.std.proofs.lemmas.Bool.{le-leb, leb-true}
-use Rattle.std.proofs.lemmas.List.{append-nil, map-append, length-drop, length-map}
+use Rattle.std.proofs.lemmas.List.{map-append, length-drop, length-map}
 use Rattle.std.proofs.lemmas.List.Folds.{list_all-append}
 use Rattle.jl_pool.proofs.FormLaws.{and_true}
-use Rattle.jl_code.specs.Site.{Site}
-use Rattle.jl_code.specs.declared.site.KeptSite.{KeptSite}
-use Rattle.jl_code.specs.Kept.{is_named, site_in, Adds}
-use Rattle.jl_classfile.specs.declared.class.KeptMethod.{KeptMethod}
-use Rattle.jl_classfile.specs.Kept.{method_in, is_ranged}
+use Rattle.jl_class.specs.declared.site.KeptSite.{KeptSite}
+use Rattle.jl_class.specs.Kept.{is_named, site_in}
+use Rattle.jl_class.specs.declared.class.KeptMethod.{KeptMethod}
+use Rattle.jl_class.specs.Kept.{method_in, is_ranged}
 use Rattle.jl_classfile.specs.declared.body.Attribute.{Attribute}
 use Rattle.jl_classfile.specs.declared.body.Member.{Member}
-use Rattle.jl_classfile.specs.declared.body.Body.{Body}
-use Rattle.jl_classfile.specs.Class.{Method}
+use Rattle.jl_class.specs.Class.{Method}
 use Rattle.jl_code.specs.declared.instruction.Instruction.{Instruction}
 use Rattle.jl_code.specs.declared.code_fault.CodeFault.{CodeFault}
 use Rattle.jl_code.specs.declared.code_fault.CodeFault.TheVariants as code
@@ -27,14 +25,11 @@ use Rattle.jl_code.specs.Codes.{IsCode, sites_from}
 use Rattle.jl_classfile.specs.CodeAttributes.{HoldsCode, IsCodeOf}
 use Rattle.jl_classfile.specs.Conditions.{codes_of, HasCode, HaveCodes}
 use Rattle.jl_code.specs.Faults.{IsScanFault}
-use Rattle.jl_classfile.specs.Faults.{CodesFault}
-use Rattle.jl_classfile.specs.Shown.{text_or_nothing, shown_method, shown_methods}
-use Rattle.jl_classfile.specs.Reading.Passes.{fault_of_code, IsMethodFault, SitesShown, MethodShown, MethodsShown, SitesAdded, MethodAdded, MethodsKept}
+use Rattle.jl_classfile.specs.Shown.{shown_method, shown_methods}
+use Rattle.jl_class.specs.Kept.{text_or_nothing}
+use Rattle.jl_classfile.specs.Means.Passes.{fault_of_code, IsMethodFault, SitesShown, MethodShown, MethodsShown, MethodAdded, MethodsKept}
 
 -- ---- one method
-
-pub sites_none : (p : Pool) (m : Member) → codes_of p m ≡ [] → SitesShown p m []
-sites_none p m e = record { code = None; has = subst (λ (l : List Attribute). HasCode p l None) (sym e) tt; shown = refl }
 
 -- the method has this Code attribute and no other
 pub record HasInfo (p : Pool) (m : Member) (info : List ℕ) : Type 0 where
@@ -42,17 +37,23 @@ pub record HasInfo (p : Pool) (m : Member) (info : List ℕ) : Type 0 where
   pub only : codes_of p m ≡ attribute ∷ []
   pub is : attribute.info ≡ info
 
-pub has_info : (p : Pool) (m : Member) (a : Attribute) (more : List Attribute) (info : List ℕ) → length (codes_of p m) ≤ 1 → codes_of p m ≡ a ∷ more → info ≡ a.info → HasInfo p m info
+pub has_info : (p : Pool) (m : Member) (a : Attribute) (more : List Attribute) (info : List ℕ) → length (codes_of p m) ≤ 1 → codes_of p m ≡ a ∷ more
+    → info ≡ a.info → HasInfo p m info
 has_info p m a [] info few e is = record { attribute = a; only = e; is = sym is }
 has_info p m a (b ∷ more) info few e is = absurd (omega (arith, few, ap length e))
 
 code_of : (p : Pool) (info bytes : List ℕ) (is : List Instruction) → HoldsCode info bytes → IsCode p bytes is → IsCodeOf p info is
-code_of p info bytes is holds c = record { holds = subst (λ (t : List ℕ). HoldsCode info t) c.bytes_are holds; code = subst (λ (t : List ℕ). IsCode p t is) c.bytes_are c }
+code_of p info bytes is holds c = record {
+  holds = subst (λ (t : List ℕ). HoldsCode info t) c.bytes_are holds;
+  code = subst (λ (t : List ℕ). IsCode p t is) c.bytes_are c;
+}
 
-pub sites_some : (p : Pool) (m : Member) (info bytes : List ℕ) (is : List Instruction) → HasInfo p m info → HoldsCode info bytes → IsCode p bytes is → SitesShown p m (sites_from p 0 is)
+pub sites_some : (p : Pool) (m : Member) (info bytes : List ℕ) (is : List Instruction) → HasInfo p m info → HoldsCode info bytes → IsCode p bytes is
+    → SitesShown p m (sites_from p 0 is)
 sites_some p m info bytes is h holds c = record {
   code = Some is;
-  has = subst (λ (l : List Attribute). HasCode p l (Some is)) (sym h.only) (subst (λ (t : List ℕ). IsCodeOf p t is) (sym h.is) (code_of p info bytes is holds c));
+  has = subst (λ (l : List Attribute). HasCode p l (Some is)) (sym h.only)
+      (subst (λ (t : List ℕ). IsCodeOf p t is) (sym h.is) (code_of p info bytes is holds c));
   shown = refl;
 }
 
@@ -64,56 +65,43 @@ pub bad_code : (p : Pool) (m : Member) (index : ℕ) (info bytes : List ℕ) (f 
     → IsMethodFault p index m (fault_of_code index f)
 bad_code p m index info bytes code.Memory h holds fault = tt
 bad_code p m index info bytes code.BadLayout h holds fault = absurd fault
-bad_code p m index info bytes (code.BadOpcode pc) h holds fault = (h.attribute, refl, h.only, (λ e. absurd cc), (bytes, subst (λ (t : List ℕ). HoldsCode t bytes) (sym h.is) holds, fault))
-bad_code p m index info bytes (code.BadSwitch pc) h holds fault = (h.attribute, refl, h.only, (λ e. absurd cc), (bytes, subst (λ (t : List ℕ). HoldsCode t bytes) (sym h.is) holds, fault))
-bad_code p m index info bytes (code.CutShort pc) h holds fault = (h.attribute, refl, h.only, (λ e. absurd cc), (bytes, subst (λ (t : List ℕ). HoldsCode t bytes) (sym h.is) holds, fault))
-bad_code p m index info bytes (code.BadOperand pc) h holds fault = (h.attribute, refl, h.only, (λ e. absurd cc), (bytes, subst (λ (t : List ℕ). HoldsCode t bytes) (sym h.is) holds, fault))
+bad_code p m index info bytes (code.BadOpcode pc) h holds fault = (
+  h.attribute,
+  refl,
+  h.only,
+  (λ e. absurd cc),
+  (bytes, subst (λ (t : List ℕ). HoldsCode t bytes) (sym h.is) holds, fault),
+)
+bad_code p m index info bytes (code.BadSwitch pc) h holds fault = (
+  h.attribute,
+  refl,
+  h.only,
+  (λ e. absurd cc),
+  (bytes, subst (λ (t : List ℕ). HoldsCode t bytes) (sym h.is) holds, fault),
+)
+bad_code p m index info bytes (code.CutShort pc) h holds fault = (
+  h.attribute,
+  refl,
+  h.only,
+  (λ e. absurd cc),
+  (bytes, subst (λ (t : List ℕ). HoldsCode t bytes) (sym h.is) holds, fault),
+)
+bad_code p m index info bytes (code.BadOperand pc) h holds fault = (
+  h.attribute,
+  refl,
+  h.only,
+  (λ e. absurd cc),
+  (bytes, subst (λ (t : List ℕ). HoldsCode t bytes) (sym h.is) holds, fault),
+)
 
 -- ---- what is kept of a method, over the sites of those before it and its own
 
-nothing_added : (p : Pool) (sites : List KeptSite) → Adds p sites sites []
-nothing_added p sites = record { made = []; behind = sym (append-nil sites); kept = record { named = refl; shown = refl } }
-
-pub added_none : (p : Pool) (m : Member) (sites : List KeptSite) → codes_of p m ≡ [] → SitesAdded p m sites sites
-added_none p m sites e = ([], sites_none p m e, nothing_added p sites)
-
--- the invocations that were added are those of the range
-range_is : (p : Pool) (before made : List KeptSite) → slice_range (before ++ made) (length before) (length (before ++ made)) ≡ made
-range_is p before made =
-    rw (drop-append_seam before made, length-append before made) (take_all (length before + length made - length before) made (omega arith))
-
 ranged : (before made : List KeptSite) (flags name ty : ℕ)
     → is_ranged (length (before ++ made)) (record { flags = flags; name = name; ty = ty; from = length before; to = length (before ++ made) }) ≡ true
-ranged before made flags name ty = rw (le-leb (length before) (length (before ++ made)) (omega (arith, length-append before made)), le-leb (length (before ++ made)) (length (before ++ made)) (omega arith)) refl
-
-pub method_added : (p : Pool) (m : Member) (before after : List KeptSite) → SitesAdded p m before after
-    → MethodAdded p m before after (record { flags = m.flags; name = m.name; ty = m.descriptor; from = length before; to = length after })
-method_added p m before after a =
-    let made = a.2.made in
-    subst
-    (λ (l : List KeptSite). MethodAdded p m before l (record { flags = m.flags; name = m.name; ty = m.descriptor; from = length before; to = length l }))
-    (sym a.2.behind)
-    (record {
-      made = made;
-      behind = refl;
-      named = a.2.kept.named;
-      ranged = ranged before made m.flags m.name m.descriptor;
-      shown = record {
-        code = a.1.code;
-        has = a.1.has;
-        shown =
-            ap (λ (l : List Site). record { flags = m.flags; name = text_or_nothing p m.name; ty = text_or_nothing p m.descriptor; sites = l })
-            (ap (λ (l : List KeptSite). map (site_in p) l) (range_is p before made) ∙ a.2.kept.shown ∙ a.1.shown);
-      };
-    })
-
--- the invocations of a range name something where all do
-pub named_range : (p : Pool) (sites : List KeptSite) (from to : ℕ) → list_all (is_named p) sites ≡ true → list_all (is_named p) (slice_range sites from to) ≡ true
-named_range p sites from to h = (halves (to - from) (drop from sites) (halves from sites h).1).0 where
-  halves : (n : ℕ) (l : List KeptSite) → list_all (is_named p) l ≡ true → (list_all (is_named p) (take n l) ≡ true) × (list_all (is_named p) (drop n l) ≡ true)
-  halves n l all =
-      and_true (list_all (is_named p) (take n l)) (list_all (is_named p) (drop n l))
-      (sym (list_all-append (is_named p) (take n l) (drop n l)) ∙ ap (λ (x : List KeptSite). list_all (is_named p) x) (take-append-drop n l) ∙ all)
+ranged before made flags name ty = rw (
+  le-leb (length before) (length (before ++ made)) (omega (arith, length-append before made)),
+  le-leb (length (before ++ made)) (length (before ++ made)) (omega arith),
+) refl
 
 -- ---- what is kept of earlier methods stays, when sites are added
 
@@ -173,10 +161,12 @@ pub one_more_shown : (p : Pool) (ms : List Member) (methods : List Method) (m : 
 one_more_shown p ms methods m method s k = record {
   codes = s.codes ++ k.code ∷ [];
   have = have_more p ms s.codes m k.code s.have k.has;
-  shown = ap (λ (l : List Method). l ++ method ∷ []) s.shown ∙ ap (λ (x : Method). shown_methods p ms s.codes ++ x ∷ []) k.shown ∙ sym (shown_more p ms s.codes m k.code s.have);
+  shown = ap (λ (l : List Method). l ++ method ∷ []) s.shown ∙ ap (λ (x : Method). shown_methods p ms s.codes ++ x ∷ []) k.shown
+      ∙ sym (shown_more p ms s.codes m k.code s.have);
 }
 
-pub methods_step : (p : Pool) (ms : List Member) (methods : List Method) (i : ℕ) (d : Member) (method : Method) → i < length ms → MethodsShown p (take i ms) methods
+pub methods_step : (p : Pool) (ms : List Member) (methods : List Method) (i : ℕ) (d : Member) (method : Method) → i < length ms
+    → MethodsShown p (take i ms) methods
     → MethodShown p (get_or ms i d) method
     → MethodsShown p (take (i + 1) ms) (methods ++ method ∷ [])
 methods_step p ms methods i d method h s k =
@@ -189,15 +179,19 @@ methods_step p ms methods i d method h s k =
 pub none_kept : (p : Pool) → MethodsKept p [] [] []
 none_kept p = record { kept = record { named = refl; ranged = refl }; shown = none_shown p }
 
-pub as_many_kept : (p : Pool) (ms : List Member) (sites : List KeptSite) (methods : List KeptMethod) → MethodsKept p ms sites methods → length methods ≡ length ms
+pub as_many_kept : (p : Pool) (ms : List Member) (sites : List KeptSite) (methods : List KeptMethod) → MethodsKept p ms sites methods
+    → length methods ≡ length ms
 as_many_kept p ms sites methods s = sym (length-map methods (method_in p sites)) ∙ as_many p ms (map (method_in p sites) methods) s.shown
 
-pub kept_step : (p : Pool) (ms : List Member) (before after : List KeptSite) (methods : List KeptMethod) (i : ℕ) (d : Member) (method : KeptMethod) → i < length ms
-    → MethodsKept p (take i ms) before methods → MethodAdded p (get_or ms i d) before after method → MethodsKept p (take (i + 1) ms) after (methods ++ method ∷ [])
+pub kept_step : (p : Pool) (ms : List Member) (before after : List KeptSite) (methods : List KeptMethod) (i : ℕ) (d : Member) (method : KeptMethod)
+    → i < length ms
+    → MethodsKept p (take i ms) before methods → MethodAdded p (get_or ms i d) before after method
+    → MethodsKept p (take (i + 1) ms) after (methods ++ method ∷ [])
 kept_step p ms before after methods i d method h s a =
     let stay = methods_stay p before a.made methods s.kept.ranged in
     let after_stay : (map (method_in p after) methods ≡ map (method_in p before) methods) × (list_all (is_ranged (length after)) methods ≡ true) =
-    subst (λ (l : List KeptSite). (map (method_in p l) methods ≡ map (method_in p before) methods) × (list_all (is_ranged (length l)) methods ≡ true)) (sym a.behind) stay
+    subst (λ (l : List KeptSite). (map (method_in p l) methods ≡ map (method_in p before) methods) × (list_all (is_ranged (length l)) methods ≡ true))
+    (sym a.behind) stay
     in
     record {
       kept = record {
@@ -209,10 +203,3 @@ kept_step p ms before after methods i d method h s a =
           (sym (map-append (method_in p after) methods (method ∷ []) ∙ ap (λ (l : List Method). l ++ method_in p after method ∷ []) after_stay.0))
           (methods_step p ms (map (method_in p before) methods) i d (method_in p after method) h s.shown a.shown);
     }
-
-pub codes_fault : (p : Pool) (b : Body) (f : ClassFault) → f ≢ Memory → (i : ℕ) × (m : Member) × (slice_get b.methods i ≡ Some m) × IsMethodFault p i m f → CodesFault p b f
-codes_fault p b (Code i f) h x =
-    let e = ap (λ (j : ℕ). slice_get b.methods j) x.3.1 ∙ x.2 in
-    (x.1, x.3.0, e, x.3.2, x.3.3, x.3.4)
-codes_fault p b Memory h x = absurd (h refl)
-codes_fault p b _ h x = absurd x.3

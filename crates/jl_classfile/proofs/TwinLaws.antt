@@ -10,7 +10,8 @@ use Rattle.std.specs.Borrow.{Bor}
 use Rattle.std.specs.Str.{bytes_eq}
 use Rattle.std.proofs.lemmas.Option.{slice_get-map, slice_get-get_or, slice_get_within, get_or_from_slice_get}
 use Rattle.std.proofs.lemmas.List.Sorted.{IsPermutation-sym, IsNonDecreasingBy-from_sort}
-use Rattle.std.proofs.lemmas.Map.Keys.{IsDistinct-IsPermutation, IsDistinct-from_apart, apart_from_distinct, sorted_from_strictly_increasing, below_from_sorted, IsStrictlyIncreasing-from_distinct}
+use Rattle.std.proofs.lemmas.Map.Keys.{IsDistinct-IsPermutation, IsDistinct-from_apart, apart_from_distinct, sorted_from_strictly_increasing}
+use Rattle.std.proofs.lemmas.Map.Keys.{below_from_sorted, IsStrictlyIncreasing-from_distinct}
 use Rattle.std.proofs.lemmas.Bool.{cases_lt, eqb-false}
 use Rattle.std.proofs.Math.Seq.{take-append_seam}
 use Rattle.std.proofs.lemmas.Bool.Decides.{nat_tests}
@@ -19,7 +20,7 @@ use Rattle.jl_names.specs.Repeats.{NameOneText, SameTexts, IsRepeat, NoRepeat, I
 use Rattle.jl_classfile.specs.declared.body.Member.{Member}
 use Rattle.jl_pool.specs.Pools.{Pool, text_at}
 use Rattle.jl_classfile.specs.Conditions.{is_text, same_place_text, same_method, no_twins}
-use Rattle.jl_classfile.specs.Reading.Members.{is_at, IsTwin, IsFirstTwin, IsTextAt, AreTexts, print_onto, print_of}
+use Rattle.jl_classfile.specs.Means.Members.{is_at, IsTwin, IsFirstTwin, IsTextAt, AreTexts, print_onto, print_of}
 use Rattle.jl_pool.proofs.FormLaws.{and_true}
 
 -- ---- the texts of a pool, kept for the methods so far
@@ -32,7 +33,8 @@ Kept texts pool ms i = (k : ℕ) (m : Member) → k < i → slice_get ms k ≡ S
 abbrev Stays : List (Option (Bor (List ℕ))) → List (Option (Bor (List ℕ))) → Pool → Type 0
 Stays old new pool = (n : ℕ) → IsTextAt old pool n → IsTextAt new pool n
 
-pub keep_more : (old mid new : List (Option (Bor (List ℕ)))) (pool : Pool) (ms : List Member) (i : ℕ) (m : Member) → i < length ms → m ≡ get_or ms i m → Kept old pool ms i
+pub keep_more : (old mid new : List (Option (Bor (List ℕ)))) (pool : Pool) (ms : List Member) (i : ℕ) (m : Member) → i < length ms → m ≡ get_or ms i m
+    → Kept old pool ms i
     → Stays old mid pool → IsTextAt mid pool m.name → Stays mid new pool → IsTextAt new pool m.descriptor → Kept new pool ms (i + 1)
 keep_more old mid new pool ms i m within item kept first name second descriptor k n lt e = elim (cases_lt k i) [
   | inl before ↦ let was = kept k n before e in (second n.name (first n.name was.0), second n.descriptor (first n.descriptor was.1))
@@ -54,7 +56,8 @@ filled {X = X} n old new e = ap (λ (k : ℕ). take k (new ++ drop (length new) 
 
 -- ---- one name and one descriptor
 
-placed : (pool : Pool) (n : ℕ) (t : List ℕ) (u : Option (List ℕ)) → text_at pool n ≡ u → option_map_or (λ x. bytes_eq x t) u false ≡ true → text_at pool n ≡ Some t
+placed : (pool : Pool) (n : ℕ) (t : List ℕ) (u : Option (List ℕ)) → text_at pool n ≡ u → option_map_or (λ x. bytes_eq x t) u false ≡ true
+    → text_at pool n ≡ Some t
 placed pool n t None e h = absurd cc
 placed pool n t (Some x) e h = e ∙ ap (λ (y : List ℕ). Some y) ((bytes_eq-Decides x t).0 h)
 
@@ -92,7 +95,8 @@ module _ (texts : List (Option (Bor (List ℕ)))) (pool : Pool) (ms : List Membe
   paired : (i : ℕ) (m : Member) → slice_get ms i ≡ Some m → slice_get pairs i ≡ Some (signature m)
   paired i m e = pair_at i ∙ ap (λ (o : Option Member). option_map signature o) e
 
-  unpaired : (i : ℕ) (p : ℕ × ℕ) (o : Option Member) → slice_get ms i ≡ o → option_map signature o ≡ Some p → (m : Member) × (slice_get ms i ≡ Some m) × (signature m ≡ p)
+  unpaired : (i : ℕ) (p : ℕ × ℕ) (o : Option Member) → slice_get ms i ≡ o → option_map signature o ≡ Some p → (m : Member) × (slice_get ms i ≡ Some m)
+      × (signature m ≡ p)
   unpaired i p None e h = absurd cc
   unpaired i p (Some m) e h = (m, e, cc)
 
@@ -135,7 +139,8 @@ module _ (texts : List (Option (Bor (List ℕ)))) (pool : Pool) (ms : List Membe
         same = rw (names, descriptors) refl;
       }
 
-  pub twins_of : (found : Option ℕ) → MatchOption found (NoRepeat texts pairs) (IsFirstRepeat texts pairs) → MatchOption found ((i : ℕ) → ¬ IsTwin pool ms i) (IsFirstTwin pool ms)
+  pub twins_of : (found : Option ℕ) → MatchOption found (NoRepeat texts pairs) (IsFirstRepeat texts pairs)
+      → MatchOption found ((i : ℕ) → ¬ IsTwin pool ms i) (IsFirstTwin pool ms)
   twins_of None none = λ i t. none i (twin_repeats i t)
   twins_of (Some i) f = record { twin = repeat_twins i f.repeat; first = λ k lt t. f.first k lt (twin_repeats k t) }
 
@@ -160,7 +165,8 @@ distinct_if_rising xs ys true moved sorted h =
 distinct_if_rising xs ys false moved sorted h = (
   λ e. absurd cc,
   λ distinct.
-      let up = IsStrictlyIncreasing-from_distinct ys (IsNonDecreasingBy-from_sort (λ x. x) ys sorted) (IsDistinct-IsPermutation nat_eq flips xs ys moved distinct) in
+      let up = IsStrictlyIncreasing-from_distinct ys (IsNonDecreasingBy-from_sort (λ x. x) ys sorted)
+      (IsDistinct-IsPermutation nat_eq flips xs ys moved distinct) in
       let below = up h.0 h.1 in
       let test = h.2 0 in
       absurd grind (arith, nat_tests),
@@ -174,7 +180,8 @@ same_print pool a b e =
     ap₂ (λ (n d : Option (List ℕ)). print_onto (print_onto 0 n) d) (name.one ∙ sym name.other) (descriptor.one ∙ sym descriptor.other)
 
 -- methods of distinct prints have no twins
-pub no_twins_if_distinct : (pool : Pool) (ms : List Member) (prints : List ℕ) → prints ≡ map (print_of pool) ms → IsDistinct nat_eq prints → (i : ℕ) → ¬ IsTwin pool ms i
+pub no_twins_if_distinct : (pool : Pool) (ms : List Member) (prints : List ℕ) → prints ≡ map (print_of pool) ms → IsDistinct nat_eq prints → (i : ℕ)
+    → ¬ IsTwin pool ms i
 no_twins_if_distinct pool ms prints are distinct i t =
     let print_at : (k : ℕ) (m : Member) → slice_get ms k ≡ Some m → slice_get prints k ≡ Some (print_of pool m) =
     λ k m e.
@@ -209,11 +216,14 @@ Fresh pool earlier ms =
 
 distinct_from : (pool : Pool) (earlier ms : List Member) → Fresh pool earlier ms → IsTrue (no_twins pool earlier ms)
 distinct_from pool earlier [] h = refl
-distinct_from pool earlier (m ∷ ms) h = none_and (list_any (same_method pool m) earlier) (no_twins pool (m ∷ earlier) ms) (h zero m refl).0 (distinct_from pool (m ∷ earlier) ms later) where
-  later : Fresh pool (m ∷ earlier) ms
-  later i n e =
-      let there = h (suc i) n e in
-      (neither (same_method pool n m) (list_any (same_method pool n) earlier) (there.1 zero m (omega arith) refl) there.0, λ j a lt ea. there.1 (suc j) a (omega (arith, lt)) ea)
+distinct_from pool earlier (m ∷ ms) h = none_and (list_any (same_method pool m) earlier) (no_twins pool (m ∷ earlier) ms) (h zero m refl).0
+    (distinct_from pool (m ∷ earlier) ms later) where
+      later : Fresh pool (m ∷ earlier) ms
+      later i n e =
+          let there = h (suc i) n e in (
+            neither (same_method pool n m) (list_any (same_method pool n) earlier) (there.1 zero m (omega arith) refl) there.0,
+            λ j a lt ea. there.1 (suc j) a (omega (arith, lt)) ea,
+          )
 
 distinct : (pool : Pool) (ms : List Member) → ((i : ℕ) → ¬ IsTwin pool ms i) → IsTrue (no_twins pool [] ms)
 distinct pool ms none =

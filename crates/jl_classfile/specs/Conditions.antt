@@ -1,5 +1,6 @@
 -- What the parts of a class file have to meet beyond their layout (JVMS 4.1, 4.5 to 4.9).
-use Rattle.std.specs.Prelude.{◌≡◌, ℕ, ◌+◌, ◌<◌, ◌≤◌, ◌^◌, Bool, true, false, not, ◌==◌, ◌&&◌, ◌||◌, nat_le, if◌then◌else◌, IsTrue, IsFalse, IsSome, List, [], ◌∷◌, ◌++◌, length, filter, map, codes, Option, Some, None, ⊤, bit_and, MatchOption, IfSome}
+use Rattle.std.specs.Prelude.{◌≡◌, ℕ, ◌+◌, ◌<◌, ◌≤◌, ◌^◌, Bool, true, false, not, ◌==◌, ◌&&◌, ◌||◌, nat_le, if◌then◌else◌, IsTrue, IsFalse, IsSome}
+use Rattle.std.specs.Prelude.{List, [], ◌∷◌, ◌++◌, length, filter, map, codes, Option, Some, None, ⊤, MatchOption, IfSome}
 use Rattle.std.specs.Option.{option_map_or}
 use Rattle.std.specs.List.{list_any, AllByRecursion}
 use Rattle.std.specs.Str.{bytes_eq}
@@ -13,35 +14,7 @@ use Rattle.jl_code.specs.declared.instruction.Instruction.{Instruction}
 use Rattle.jl_pool.specs.Numbers.{u2, counted}
 use Rattle.jl_pool.specs.Pools.{Pool, text_at, class_at, has_angle}
 use Rattle.jl_classfile.specs.CodeAttributes.{IsCodeOf}
-
--- ---- flags (JVMS 4.1, 4.6)
-
-abbrev pub has_flag : ℕ → ℕ → Bool
-has_flag flags flag = not (bit_and flags flag == 0)
-
-abbrev pub PUBLIC : ℕ
-PUBLIC = 0x0001
-
-abbrev pub PRIVATE : ℕ
-PRIVATE = 0x0002
-
-abbrev pub PROTECTED : ℕ
-PROTECTED = 0x0004
-
-abbrev pub STATIC : ℕ
-STATIC = 0x0008
-
-abbrev pub NATIVE : ℕ
-NATIVE = 0x0100
-
-abbrev pub INTERFACE : ℕ
-INTERFACE = 0x0200
-
-abbrev pub ABSTRACT : ℕ
-ABSTRACT = 0x0400
-
-abbrev pub MODULE : ℕ
-MODULE = 0x8000
+use Rattle.jl_class.specs.Flags.{has_flag, object, PUBLIC, PRIVATE, PROTECTED, STATIC, INTERFACE, ABSTRACT, MODULE}
 
 -- ---- versions (JVMS 4.1)
 
@@ -52,9 +25,6 @@ pub record IsVersion (minor major : ℕ) : Type 0 where
   pub plain : 56 ≤ major → minor ≡ 0
 
 -- ---- the class and its superclasses (JVMS 4.1)
-
-abbrev pub object : List ℕ
-object = codes "java/lang/Object"
 
 -- a Class entry with a class name
 abbrev pub IsClassNumber : Pool → ℕ → Type 0
@@ -79,10 +49,6 @@ abbrev pub super_fits : Pool → Body → Bool
 super_fits pool b =
     if b.super_class == 0 then is_object pool b.this_class && not (is_interface b)
     else (not (is_object pool b.this_class) && (not (is_interface b) || is_object pool b.super_class))
-
--- these are no interface's flags, or the superclass is java/lang/Object
-abbrev pub extends_object : ℕ → Option (List ℕ) → Bool
-extends_object flags superclass = not (has_flag flags INTERFACE) || option_map_or (λ text. bytes_eq text object) superclass false
 
 abbrev pub is_module : ℕ → Body → Bool
 is_module major b = has_flag b.flags MODULE && nat_le 53 major

@@ -5,7 +5,8 @@ use Rattle.jl_pool.specs.declared.pool_fault.PoolFault.TheVariants as pool
 use Rattle.jl_code.specs.declared.code_fault.CodeFault.{CodeFault}
 use Rattle.jl_code.specs.declared.code_fault.CodeFault.TheVariants as code
 use Rattle.jl_classfile.specs.declared.fault.ClassFault.{ClassFault}
-use Rattle.jl_classfile.specs.declared.fault.ClassFault.TheVariants.{TooLarge, BadMagic, BadVersion, Truncated, Pool as InPool, ModuleFile, BadSuper, DuplicateMethod, TwoCodes, Code, TrailingBytes, BadMember, BadLink, BadNest}
+use Rattle.jl_classfile.specs.declared.fault.ClassFault.TheVariants.{TooLarge, BadMagic, BadVersion, Truncated, Pool as InPool, ModuleFile, BadSuper}
+use Rattle.jl_classfile.specs.declared.fault.ClassFault.TheVariants.{DuplicateMethod, TwoCodes, Code, TrailingBytes, BadMember, BadLink, BadNest}
 use Rattle.jl_pool.specs.Numbers.{u4}
 use Rattle.jl_pool.specs.Pools.{Pool}
 use Rattle.jl_pool.specs.Faults.{IsPoolFault}
@@ -15,7 +16,8 @@ use Rattle.jl_classfile.specs.declared.body.Member.{Member}
 use Rattle.jl_classfile.specs.declared.body.Body.{Body}
 use Rattle.jl_classfile.specs.Layouts.{Layout, head_text, file_text, IsLayout}
 use Rattle.jl_classfile.specs.CodeAttributes.{HoldsCode}
-use Rattle.jl_classfile.specs.Conditions.{IsVersion, is_interface, class_numbers, IsClassNumber, super_fits, is_module, IsTextNumber, member_numbers, FieldFits, MethodFits, same_method, codes_of, Nest}
+use Rattle.jl_classfile.specs.Conditions.{IsVersion, is_interface, class_numbers, IsClassNumber, super_fits, is_module, IsTextNumber, member_numbers}
+use Rattle.jl_classfile.specs.Conditions.{FieldFits, MethodFits, same_method, codes_of, Nest}
 use Rattle.jl_classfile.specs.ClassFiles.{most_bytes, pool_of}
 
 -- ---- 1: size

@@ -3,8 +3,6 @@ pub mod CodeAttributes
 pub mod Parts
 pub mod Conditions
 pub mod ClassFiles
-pub mod Class
 pub mod Shown
-pub mod Kept
 pub mod Faults
-pub mod Reading
+pub mod Means

@@ -2,17 +2,14 @@
 use Rattle.std.specs.Prelude.{ℕ, List, [], ◌∷◌, map, Option, Some, None}
 use Rattle.std.specs.Option.{option_and_then, unwrap_or}
 use Rattle.jl_classfile.specs.declared.body.Member.{Member}
-use Rattle.jl_classfile.specs.Class.{ClassFile, Method}
+use Rattle.jl_class.specs.Class.{ClassFile, Method}
 use Rattle.jl_code.specs.declared.instruction.Instruction.{Instruction}
-use Rattle.jl_code.specs.Site.{Site}
-use Rattle.jl_pool.specs.Pools.{Pool, text_at, class_at}
+use Rattle.jl_class.specs.Site.{Site}
+use Rattle.jl_pool.specs.Pools.{Pool, class_at}
 use Rattle.jl_code.specs.Codes.{sites_from}
 use Rattle.jl_classfile.specs.Parts.{Parts}
 use Rattle.jl_classfile.specs.ClassFiles.{pool_of}
-
--- the text at a number, and nothing where there is none
-abbrev pub text_or_nothing : Pool → ℕ → List ℕ
-text_or_nothing pool n = unwrap_or (text_at pool n) []
+use Rattle.jl_class.specs.Kept.{text_or_nothing}
 
 abbrev pub name_or_nothing : Pool → ℕ → List ℕ
 name_or_nothing pool n = unwrap_or (class_at pool n) []

@@ -5,11 +5,11 @@ ghost use Rattle.std.specs.List.{AllByRecursion};
 ghost use Rattle.jl_classfile.specs.declared.fault.ClassFault.TheVariants.{BadLink};
 ghost use Rattle.jl_classfile.specs.Conditions.{is_object, is_interface, is_module, super_fits, superclass_numbers, IsClassNumber, Links};
 ghost use Rattle.jl_classfile.specs.Faults.{LinksFault};
-ghost use Rattle.jl_classfile.specs.Reading.Passes.{IsBadLink};
+ghost use Rattle.jl_classfile.specs.Means.Passes.{IsBadLink};
 
 use crate::body::Body;
 use crate::fault::ClassFault;
-use crate::flags::{INTERFACE, MODULE, has_flag};
+use jl_class::{INTERFACE, MODULE, has_flag};
 use jl_pool::Pool;
 
 const OBJECT: &[u8] = b"java/lang/Object";

@@ -1,25 +1,28 @@
 //! Fields and methods: their names, descriptors, flags and attributes.
 
-ghost use Rattle.std.specs.Prelude.{◌≡◌, ◌<◌, ◌+◌, ◌^◌, ◌≤◌, ◌≢◌, ◌∷◌, [], ◌&&◌, ℕ, List, Some, not, map, length, codes, slice_get, true, false, option_map, IfSome, All, OnOk, IfOk, IfErr, MatchBool, MatchOption};
-ghost use Rattle.std.specs.Option.{option_map_or, option_and_then};
-ghost use Rattle.std.specs.List.{AllByRecursion, Contains, list_any};
+ghost use Rattle.std.specs.Prelude.{◌≡◌, ◌<◌, ◌+◌, ◌^◌, ◌≤◌, ◌≢◌, ◌∷◌, [], ◌&&◌, ℕ, List, Some, not, length, slice_get, true, false};
+ghost use Rattle.std.specs.Prelude.{IfSome, All, OnOk, IfErr, MatchBool, MatchOption};
+ghost use Rattle.std.specs.Option.{option_map_or};
+ghost use Rattle.std.specs.List.{AllByRecursion, Contains};
 ghost use Rattle.std.specs.Str.{byte};
 ghost use Rattle.std.specs.Prelude.{◌==◌, ◌||◌, nat_le};
 ghost use Rattle.jl_names.specs.ClassNames.{is_unqualified};
 ghost use Rattle.jl_classfile.specs.declared.body.Attribute.{Attribute};
 ghost use Rattle.jl_classfile.specs.declared.fault.ClassFault.TheVariants.{BadLink, Memory};
-ghost use Rattle.jl_pool.specs.Pools.{text_of, text_at};
-ghost use Rattle.jl_classfile.specs.Conditions.{has_flag, PUBLIC, PRIVATE, PROTECTED, STATIC, one_if, IsTextNumber, is_method_name, are_method_flags, flags_fit, attributes_of, is_text, Members};
+ghost use Rattle.jl_pool.specs.Pools.{text_at};
+ghost use Rattle.jl_classfile.specs.Conditions.{one_if, IsTextNumber, is_method_name, are_method_flags, flags_fit, attributes_of, is_text, Members};
+ghost use Rattle.jl_class.specs.Flags.{has_flag, PUBLIC, PRIVATE, PROTECTED, STATIC};
 ghost use Rattle.jl_classfile.specs.declared.body.Member.{Member};
 ghost use Rattle.jl_classfile.specs.Faults.{MembersFault};
-ghost use Rattle.jl_pool.specs.Reading.Forms.{form_of, is_field};
-ghost use Rattle.jl_classfile.specs.Reading.Members.{on_text, field_fits, takes_few, method_fits, is_at, FieldTested, MethodTested, IsFieldFault, IsMethodFault, IsTwin, IsFirstTwin, IsTextAt, AreTexts};
+ghost use Rattle.jl_pool.specs.Means.Forms.{form_of, is_field};
+ghost use Rattle.jl_classfile.specs.Means.Members.{on_text, field_fits, takes_few, method_fits, is_at, FieldTested, MethodTested, IsFieldFault};
+ghost use Rattle.jl_classfile.specs.Means.Members.{IsMethodFault};
 
 use crate::body::{Attribute, Attributes, Body, Member};
 use crate::fault::ClassFault;
-use crate::flags::{ABSTRACT, PRIVATE, PROTECTED, PUBLIC, STATIC, has_flag};
 use crate::links::is_interface;
 use crate::twin::{first_twin, is_at};
+use jl_class::{ABSTRACT, PRIVATE, PROTECTED, PUBLIC, STATIC, has_flag};
 use jl_pool::{Constant, Form, Pool};
 use std::alloc::Global;
 
@@ -51,7 +54,7 @@ pub fn check_attribute_names(pool: &Pool, attributes: &Attributes<'_>) -> Result
 }
 
 /// Whether a name without a reserved byte stands at a number, or no text.
-#[tactic(auto, unfolding(crate::specs::Reading::Members::form_of))]
+#[tactic(auto, unfolding(crate::specs::Means::Members::form_of))]
 fn is_unqualified_at(pool: &Pool, number: u16) -> bool
     ensures { result ≡ on_text is_unqualified (text_at pool.now number) }
 {
@@ -62,7 +65,7 @@ fn is_unqualified_at(pool: &Pool, number: u16) -> bool
 }
 
 /// Whether a field's descriptor stands at a number, or no text.
-#[tactic(auto, unfolding(crate::specs::Reading::Members::form_of))]
+#[tactic(auto, unfolding(crate::specs::Means::Members::form_of))]
 fn is_field_at(pool: &Pool, number: u16) -> bool
     ensures { result ≡ on_text is_field (text_at pool.now number) }
 {
@@ -80,7 +83,7 @@ fn field_fits(pool: &Pool, field: &Member<'_>) -> bool
 }
 
 /// Whether a method may be called so: `<` and `>` stand in `<init>` and `<clinit>` alone (§4.2.2).
-#[tactic(auto, unfolding(crate::specs::Reading::Members::form_of))]
+#[tactic(auto, unfolding(crate::specs::Means::Members::form_of))]
 fn is_method_name(name: &[u8], form: Form) -> bool
     requires { form ≡ form_of name.now }
     ensures { result ≡ is_method_name name.now }
@@ -119,9 +122,10 @@ fn slots_fit(flags: u16, form: Form) -> bool
 }
 
 /// Whether the name and flags of a method may be so. `<clinit>` may have any flags.
-#[tactic(auto, unfolding(crate::specs::Reading::Members::form_of))]
+#[tactic(auto, unfolding(crate::specs::Means::Members::form_of))]
 fn name_fits(pool: &Pool, interface: bool, method: &Member<'_>) -> bool
-    ensures { result ≡ (on_text is_method_name (text_at pool.now method.now.name) && on_text (flags_fit interface method.now.flags) (text_at pool.now method.now.name)) }
+    ensures { result ≡ (on_text is_method_name (text_at pool.now method.now.name)
+        && on_text (flags_fit interface method.now.flags) (text_at pool.now method.now.name)) }
 {
     match (pool.utf8(method.name), pool.form(method.name)) {
         (Some(name), Some(form)) => {
@@ -134,7 +138,7 @@ fn name_fits(pool: &Pool, interface: bool, method: &Member<'_>) -> bool
 }
 
 /// Whether the descriptor of a method may be so.
-#[tactic(auto, unfolding(crate::specs::Reading::Members::form_of))]
+#[tactic(auto, unfolding(crate::specs::Means::Members::form_of))]
 fn descriptor_fits(pool: &Pool, method: &Member<'_>) -> bool
     ensures { result ≡ on_text (takes_few method.now.flags) (text_at pool.now method.now.descriptor) }
 {
@@ -255,7 +259,8 @@ fn check_methods(
     requires few_methods { length methods.now < 2 ^ 16 }
     ensures ok { OnOk result (All (MethodTested pool.now interface) methods.now) }
     ensures no_twin { OnOk result (IfSome twin (λ t. length methods.now ≤ t)) }
-    ensures fault { IfErr result (λ f. (i : ℕ) × (m : Member) × (slice_get methods.now i ≡ Some m) × IsMethodFault pool.now interface (fields + i) i (is_at twin i) m f) }
+    ensures fault { IfErr result (λ f. (i : ℕ) × (m : Member) × (slice_get methods.now i ≡ Some m)
+        × IsMethodFault pool.now interface (fields + i) i (is_at twin i) m f) }
 {
     for (i, method) in methods.iter().enumerate() {
         let is_twin = is_at(twin, i);

@@ -1,9 +1,9 @@
 //! The nest attributes of a class.
 
-ghost use Rattle.std.specs.Prelude.{◌≡◌, ◌≢◌, ◌≤◌, ℕ, List, Option, option_map, codes, length, All, IfOk, IfErr, MatchBool, MatchOption};
+ghost use Rattle.std.specs.Prelude.{◌≡◌, ◌≢◌, ◌≤◌, ℕ, List, Option, option_map, length, All, IfOk, IfErr, MatchBool, MatchOption};
 ghost use Rattle.jl_classfile.specs.declared.fault.ClassFault.TheVariants.{BadNest, Memory};
 ghost use Rattle.jl_classfile.specs.Conditions.{IsClassNumber, IsHost, AreMembers, attributes_of, Nest};
-ghost use Rattle.jl_classfile.specs.Reading.Nests.{IsOnly, Holds};
+ghost use Rattle.jl_classfile.specs.Means.Nests.{IsOnly, Holds};
 
 use crate::body::{Attributes, Body, Broken, counted_at};
 use crate::fault::ClassFault;
@@ -92,7 +92,8 @@ fn held_by(
     attributes: &Attributes<'_>,
 ) -> Result<NestNumbers, ClassFault>
     ensures ok { IfOk result (λ n. Holds pool.now attributes.now n.host n.members) }
-    ensures fault { IfErr result (λ f. f ≢ Memory → (f ≡ BadNest) × ((host : Option ℕ) (members : Option (List ℕ)) → ¬ Holds pool.now attributes.now host members)) }
+    ensures fault { IfErr result (λ f. f ≢ Memory → (f ≡ BadNest) × ((host : Option ℕ) (members : Option (List ℕ))
+        → ¬ Holds pool.now attributes.now host members)) }
 {
     let host = only_called(pool, NEST_HOST, attributes)?;
     let members = only_called(pool, NEST_MEMBERS, attributes)?;
@@ -124,7 +125,8 @@ pub fn nest_of(
     body: &Body<'_>,
 ) -> Result<NestNumbers, ClassFault>
     ensures ok { IfOk result (λ n. Nest major pool.now body.now n.host n.members) }
-    ensures fault { IfErr result (λ f. f ≢ Memory → (f ≡ BadNest) × ((host : Option ℕ) (members : Option (List ℕ)) → ¬ Nest major pool.now body.now host members)) }
+    ensures fault { IfErr result (λ f. f ≢ Memory → (f ≡ BadNest) × ((host : Option ℕ) (members : Option (List ℕ))
+        → ¬ Nest major pool.now body.now host members)) }
 {
     if major < 55 {
         return Ok(NestNumbers {

@@ -11,15 +11,15 @@ ghost use Rattle.jl_classfile.specs.Faults.{HeadFault, CodesFault, IsFault};
 ghost use Rattle.jl_pool.specs.Pools.{class_at};
 ghost use Rattle.jl_classfile.specs.Shown.{shown, name_or_nothing};
 ghost use Rattle.jl_classfile.specs.Conditions.{IsVersion, codes_of, super_fits};
-ghost use Rattle.jl_classfile.specs.Reading.Passes.{HasHead, fault_of_code, IsMethodFault, SitesAdded, MethodAdded, MethodsKept, BodyShown, HasPool, Lies};
+ghost use Rattle.jl_classfile.specs.Means.Passes.{HasHead, fault_of_code, IsMethodFault, SitesAdded, MethodAdded, MethodsKept, BodyShown, HasPool, Lies};
 
 use crate::body::{Body, Member, body_at, code_in};
-use crate::class::{ClassFile, KeptMethod};
 use crate::fault::ClassFault;
 use crate::links::check_links;
 use crate::member::{CODE, check_attribute_names, check_members, first_called};
 use crate::nest::{NestNumbers, nest_of};
-use jl_code::{CodeFault, KeptSite, scan};
+use jl_class::{ClassFile, KeptMethod, KeptSite};
+use jl_code::{CodeFault, scan};
 use jl_names::{Name, Seq};
 use jl_pool::{Pool, PoolFault, u2_at, u4_at};
 use std::alloc::{AllocError, Global};
@@ -31,7 +31,7 @@ const MAGIC: u32 = 0xcafe_babe;
 
 impl From<PoolFault> for ClassFault {
     ghost use Rattle.std.specs.Prelude.{◌≡◌};
-    ghost use Rattle.jl_classfile.specs.Reading.Passes.{fault_of_pool};
+    ghost use Rattle.jl_classfile.specs.Means.Passes.{fault_of_pool};
 
     ghost from_gives = { λ fault f. f ≡ fault_of_pool fault };
 

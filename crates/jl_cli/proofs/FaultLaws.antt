@@ -14,7 +14,7 @@ use Rattle.jl_cli.specs.Devices.{one_more, HasRisen}
 use Rattle.jl_cli.specs.Lines.{newline, most_in_line, lines_of, NoNewline, ended}
 use Rattle.jl_session.specs.Sessions.{Session}
 use Rattle.jl_cli.specs.Answers.{AreAnswers, LacksFirst, AnswersAll, AnswersFirst, AnswersRead, AnswersEarlier, LongIf, LeftBy}
-use Rattle.jl_cli.specs.Progress.{IsLine, Answered, Writes, Runs, LacksNext, StopsBy}
+use Rattle.jl_cli.specs.Means.Progress.{IsLine, Answered, Writes, Runs, LacksNext, StopsBy}
 use Rattle.jl_cli.proofs.LineLaws.{all_append, line_first, answers_append, read_lines, short_each, over_first, runs_first, runs_read, runs_write, runs_all}
 
 pub risen : (old new : ℕ) → new ≡ one_more old → HasRisen old new

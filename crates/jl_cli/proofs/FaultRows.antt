@@ -16,7 +16,7 @@ use Rattle.jl_cli.specs.Endings.{status_of, line_of, words_end, lines_end, farm_
 use Rattle.jl_session.specs.Sessions.{Session, new_session}
 use Rattle.jl_cli.specs.Lines.{newline, lines_of, NoNewline, ended}
 use Rattle.jl_cli.specs.Answers.{AreAnswers, AnswersEarlier, LongIf, LeftBy}
-use Rattle.jl_cli.specs.Farms.{job_of_each}
+use Rattle.jl_cli.specs.Means.Farms.{job_of_each}
 
 -- ---- how the program ends
 
@@ -150,7 +150,8 @@ module _ (from : Session) where
   -- where all was read before, the line is answered
   answered_when_read : Nothing (Some []) → ⊥
   answered_when_read left =
-      one_newline left.lines left.more left.tail (sym left.all ∙ no_answers left.first.before left.first.output left.first.last left.first.answers (sym left.first.written)) left.read left.one
+      one_newline left.lines left.more left.tail (sym left.all ∙ no_answers left.first.before left.first.output left.first.last left.first.answers
+      (sym left.first.written)) left.read left.one
 
   -- where its newline wasn't, it need not be
   not_yet : Nothing (Some (newline ∷ []))
@@ -168,9 +169,11 @@ module _ (from : Session) where
   -- and of no line nothing is answered
   nothing_of_no_line : (unread : Option (List ℕ)) (b : ℕ) → AnswersEarlier Scan from [] unread (Some []) (Some (b ∷ [])) → ⊥
   unfolding lines_of
-  nothing_of_no_line unread b left = by_lines left.first.before left.first.after left.first.output left.first.last left.first.split left.first.answers left.first.written
+  nothing_of_no_line unread b left = by_lines left.first.before left.first.after left.first.output left.first.last left.first.split left.first.answers
+      left.first.written
     where
-      by_lines : (before after : List (List ℕ)) (output : List ℕ) (last : Session) → [] ≡ before ++ after → AreAnswers Scan from before output last → b ∷ [] ≡ output → ⊥
+      by_lines : (before after : List (List ℕ)) (output : List ℕ) (last : Session) → [] ≡ before ++ after → AreAnswers Scan from before output last → b
+          ∷ [] ≡ output → ⊥
       by_lines [] after output last none answers written = let clash : b ∷ [] ≡ [] = written ∙ answers.0 in cc clash
       by_lines (line ∷ before) after output last none answers written = cc none
 

@@ -12,7 +12,7 @@ use Rattle.jl_cli.specs.declared.line_fault.LineFault.{LineFault}
 use Rattle.jl_cli.specs.Lines.{newline, most_in_line, onto_first, lines_of, NoNewline, ended}
 use Rattle.jl_session.specs.Sessions.{Session, LacksAnswer}
 use Rattle.jl_cli.specs.Answers.{IsAnswer, AreAnswers, AreShort, AnswersAll, AnswersFirst, FirstIsLong, LacksFirst, LongIf, LeftBy}
-use Rattle.jl_cli.specs.Progress.{IsLine, Answered, Gathers, Writes, Runs, IsOver, LacksNext}
+use Rattle.jl_cli.specs.Means.Progress.{IsLine, Answered, Gathers, Writes, Runs, IsOver, LacksNext}
 
 pub all_append : {A : Type 0} (P : A → Type 0) (xs ys : List A) → AllByRecursion P xs → AllByRecursion P ys
     → AllByRecursion P (xs ++ ys)

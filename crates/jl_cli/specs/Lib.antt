@@ -3,8 +3,6 @@ pub mod Counted
 pub mod FailAt
 pub mod Endings
 pub mod Words
-pub mod CommandLine
 pub mod Lines
 pub mod Answers
-pub mod Progress
-pub mod Farms
+pub mod Means

@@ -10,7 +10,7 @@ ghost use Rattle.jl_session.specs.Sketches.{IsSketchAnswer};
 ghost use Rattle.jl_session.specs.Sessions.{IsSessionAnswer, LacksAnswer};
 ghost use Rattle.jl_cli.specs.Answers.{IsAnswer};
 ghost use Rattle.jl_cli.specs.Lines.{newline, NoNewline, ended};
-ghost use Rattle.jl_cli.specs.Progress.{IsFirstNewline, Gathers, LacksNext};
+ghost use Rattle.jl_cli.specs.Means.Progress.{IsFirstNewline, Gathers, LacksNext};
 
 use crate::failed::Failed;
 use crate::line_buffer::MOST_IN_LINE;

@@ -4,9 +4,9 @@ ghost use Rattle.std.specs.Prelude.{◌≡◌, ◌≤◌, [], ◌∷◌, IfOk, v
 ghost use Rattle.std.specs.List.{range_with_len};
 ghost use mathlib.Core.List.{IsPrefix};
 ghost use Rattle.serde_json.specs.View.{view};
-ghost use Rattle.jl_types.specs.History.{site_numbers};
-ghost use Rattle.jl_types.specs.Entries.{events_of};
-ghost use Rattle.jl_cli.specs.Farms.{job_of_each, outcome_name, reports_data};
+ghost use Rattle.jl_types.specs.Happenings.History.{site_numbers};
+ghost use Rattle.jl_types.specs.Happenings.Entries.{events_of};
+ghost use Rattle.jl_cli.specs.Means.Farms.{job_of_each, outcome_name, reports_data};
 
 use crate::farm_fault::FarmLineFault;
 use jl_classfile::read_class;
@@ -26,14 +26,14 @@ use std::thread::Threads;
 
 /// A link server, and the caller by which commands are applied to it.
 #[derive(Drop)]
-pub(crate) struct Foreman<'a, K: Name, H: Wait, S: Wait + Drop> {
+pub(crate) struct FarmSession<'a, K: Name, H: Wait, S: Wait + Drop> {
     pub(crate) rt: &'a H,
     pub(crate) alloc: Global,
     pub(crate) server: &'a LinkServer<K, S>,
     pub(crate) caller: Caller<K>,
 }
 
-impl<'a, K: Name, H: Wait, S: Wait + Drop> Foreman<'a, K, H, S> {
+impl<'a, K: Name, H: Wait, S: Wait + Drop> FarmSession<'a, K, H, S> {
     /// The text of the answer to a line: a command in JSON, or none. Preparations, installs, calls and lists of links are none here.
     pub(crate) fn answer_text(&mut self, line: &[u8]) -> Result<Vec<u8>, AllocError> {
         let answer = self.answer(line)?;
@@ -164,19 +164,19 @@ pub(crate) fn farm_text<
     K: Name + Send + Sync,
     H: Threads + Wait + Sync,
     S: Wait + Drop + Send + Sync,
->(foreman: &mut Foreman<'_, K, H, S>, workers: Vec<Caller<K>>) -> Result<Vec<u8>, FarmLineFault>
+>(session: &mut FarmSession<'_, K, H, S>, workers: Vec<Caller<K>>) -> Result<Vec<u8>, FarmLineFault>
     requires workers { (1 ≤ vec_len workers) × (vec_len workers ≤ 16) }
     requires sites { K.max_sites ≤ 65536 }
 {
     let mut workers = workers;
     for worker in &mut workers {
-        worker.learn(foreman.caller.seen());
+        worker.learn(session.caller.seen());
     }
-    let jobs = foreman.jobs()?;
+    let jobs = session.jobs()?;
     let reports = match run(
-        foreman.rt,
-        foreman.alloc,
-        foreman.server,
+        session.rt,
+        session.alloc,
+        session.server,
         jobs,
         workers,
         &Open,
@@ -184,8 +184,8 @@ pub(crate) fn farm_text<
         Ok(reports) => reports,
         Err(fault) => return Err(FarmLineFault::Farm(fault)),
     };
-    let answer = foreman.last_value(reports.as_slice())?;
-    Ok(answer.to_vec(foreman.alloc)?)
+    let answer = session.last_value(reports.as_slice())?;
+    Ok(answer.to_vec(session.alloc)?)
 }
 
 /// The name of what a job came to.
@@ -202,7 +202,7 @@ fn name_of<K: Name>(outcome: &JobOutcome<K>) -> &'static str
 }
 
 /// The names of what jobs came to, in order.
-#[tactic(auto, unfolding(crate::specs::Farms::reports_data))]
+#[tactic(auto, unfolding(crate::specs::Means::Farms::reports_data))]
 fn reports_value<K: Name>(alloc: Global, reports: &[Report<K>]) -> Result<Value, AllocError>
     ensures { IfOk result (λ v. view v ≡ reports_data reports.now) }
 {

@@ -4,7 +4,7 @@ ghost use Rattle.std.specs.Prelude.{◌≡◌, ◌<◌, ◌≤◌, length, take,
 ghost use Rattle.jl_cli.specs.Lines.{NoNewline};
 
 use crate::answers::{first_line, write_all};
-use crate::farm::{Foreman, farm_text};
+use crate::farm::{FarmSession, farm_text};
 use crate::farm_fault::FarmLineFault;
 use crate::line_buffer::LineBuffer;
 use crate::line_fault::LineFault;
@@ -21,18 +21,18 @@ const MOST_SITES: u32 = 65_536;
 
 /// Adds the answer to a line.
 fn answer<K: Name, H: Wait, S: Wait + Drop>(
-    foreman: &mut Foreman<'_, K, H, S>,
+    session: &mut FarmSession<'_, K, H, S>,
     line: &[u8],
     output: &mut Vec<u8>,
 ) -> Result<(), AllocError> {
-    let mut text = foreman.answer_text(line)?;
+    let mut text = session.answer_text(line)?;
     text.push(b'\n')?;
     output.extend_from_slice(&text)
 }
 
 /// Adds the answer to each whole line of the text, in which no newline stands before `searched`. Tells how many bytes these lines have.
 fn answer_lines<K: Name, H: Wait, S: Wait + Drop>(
-    foreman: &mut Foreman<'_, K, H, S>,
+    session: &mut FarmSession<'_, K, H, S>,
     text: &[u8],
     searched: usize,
     output: &mut Vec<u8>,
@@ -44,7 +44,7 @@ fn answer_lines<K: Name, H: Wait, S: Wait + Drop>(
     let mut rest = text;
     let mut searched = searched;
     while let Some((line, behind)) = first_line(rest, searched) {
-        answer(foreman, line, output)?;
+        answer(session, line, output)?;
         rest = behind;
         searched = 0;
     }
@@ -54,7 +54,7 @@ fn answer_lines<K: Name, H: Wait, S: Wait + Drop>(
 /// Answers what was read since a newline was last looked for, and drops the lines that were answered. The answers are written, also
 /// those before a fault.
 fn answer_piece<K: Name, H: Wait, S: Wait + Drop, W: Sink>(
-    foreman: &mut Foreman<'_, K, H, S>,
+    session: &mut FarmSession<'_, K, H, S>,
     input: &mut LineBuffer,
     searched: usize,
     output: &mut Vec<u8>,
@@ -65,7 +65,7 @@ fn answer_piece<K: Name, H: Wait, S: Wait + Drop, W: Sink>(
     ensures none { OnOk result (NoNewline input.new) }
     ensures room { OnOk result (length input.new < 2100001) }
 {
-    let answered = answer_lines(foreman, input.as_slice(), searched, output);
+    let answered = answer_lines(session, input.as_slice(), searched, output);
     write_all(writer, output)?;
     output.clear();
     let used = answered?;
@@ -78,13 +78,13 @@ fn answer_piece<K: Name, H: Wait, S: Wait + Drop, W: Sink>(
 
 /// Answers what stands behind the last newline, if anything does.
 fn answer_rest<K: Name, H: Wait, S: Wait + Drop, W: Sink>(
-    foreman: &mut Foreman<'_, K, H, S>,
+    session: &mut FarmSession<'_, K, H, S>,
     rest: &[u8],
     output: &mut Vec<u8>,
     writer: &mut W,
 ) -> Result<(), LineFault> {
     if !rest.is_empty() {
-        answer(foreman, rest, output)?;
+        answer(session, rest, output)?;
     }
     write_all(writer, output)?;
     Ok(())
@@ -92,18 +92,18 @@ fn answer_rest<K: Name, H: Wait, S: Wait + Drop, W: Sink>(
 
 /// Answers each line of what is read, in order, to its end.
 fn answer_all<K: Name, H: Wait, S: Wait + Drop, R: Source, W: Sink>(
-    foreman: &mut Foreman<'_, K, H, S>,
+    session: &mut FarmSession<'_, K, H, S>,
     reader: &mut R,
     writer: &mut W,
 ) -> Result<(), LineFault> {
-    let mut input = LineBuffer::new(foreman.alloc)?;
-    let mut output = Vec::new(foreman.alloc);
+    let mut input = LineBuffer::new(session.alloc)?;
+    let mut output = Vec::new(session.alloc);
     for _ in 0..u64::MAX {
         let searched = input.as_slice().len();
         if input.read_from(reader)? == 0 {
-            return answer_rest(foreman, input.as_slice(), &mut output, writer);
+            return answer_rest(session, input.as_slice(), &mut output, writer);
         }
-        answer_piece(foreman, &mut input, searched, &mut output, writer)?;
+        answer_piece(session, &mut input, searched, &mut output, writer)?;
     }
     Err(LineFault::Device)
 }
@@ -116,7 +116,7 @@ fn run_on<
     R: Source,
     W: Sink,
 >(
-    foreman: &mut Foreman<'_, K, H, S>,
+    session: &mut FarmSession<'_, K, H, S>,
     workers: Vec<Caller<K>>,
     reader: &mut R,
     writer: &mut W,
@@ -124,8 +124,8 @@ fn run_on<
     requires workers { (1 ≤ vec_len workers) × (vec_len workers ≤ 16) }
     requires sites { K.max_sites ≤ 65536 }
 {
-    answer_all(foreman, reader, writer)?;
-    let mut text = farm_text(foreman, workers)?;
+    answer_all(session, reader, writer)?;
+    let mut text = farm_text(session, workers)?;
     text.push(b'\n')?;
     write_all(writer, &text)?;
     Ok(())
@@ -149,13 +149,13 @@ fn run_started<K: Name + Send + Sync, H: Threads + Wait + Sync, R: Source, W: Si
     let Some(caller) = callers.pop() else {
         unreachable!()
     };
-    let mut foreman = Foreman {
+    let mut session = FarmSession {
         rt,
         alloc,
         server: &server,
         caller,
     };
-    run_on(&mut foreman, callers, reader, writer)
+    run_on(&mut session, callers, reader, writer)
 }
 
 /// Answers each line of the input, in order, to its end, as the mode run does, but by a link server; preparations, installs, calls and

@@ -9,7 +9,7 @@ ghost use Rattle.jl_cli.specs.Lines.{lines_of, NoNewline};
 ghost use Rattle.jl_session.specs.Sessions.{new_session};
 ghost use Rattle.jl_cli.specs.Answers.{AreAnswers, LacksFirst, AnswersAll, AnswersFirst, AnswersRead, AnswersEarlier};
 ghost use Rattle.jl_cli.specs.Answers.{LongIf, LeftBy};
-ghost use Rattle.jl_cli.specs.Progress.{Writes, StopsBy};
+ghost use Rattle.jl_cli.specs.Means.Progress.{Writes, StopsBy};
 
 use crate::answers::Answers;
 use crate::line_buffer::LineBuffer;

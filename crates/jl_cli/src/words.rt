@@ -6,8 +6,8 @@ ghost use Rattle.clap.specs.Words.{app_of, found_of, kind_of, one_text, rule_of,
 ghost use Rattle.clap.specs.declared.error.kind.ErrorKind.TheVariants.{OutOfMemory};
 ghost use Rattle.jl_cli.specs.declared.words.WordsFault.TheVariants.{BadWords, Memory};
 ghost use Rattle.jl_cli.specs.Words.{AskFor, AskForNothing};
-ghost use Rattle.jl_cli.specs.CommandLine.{with_scan, with_sketch, with_run, linkd, workers, farm};
-ghost use Rattle.jl_cli.specs.CommandLine.{mode_of, count_of, asked_by};
+ghost use Rattle.jl_cli.specs.Means.CommandLine.{with_scan, with_sketch, with_run, linkd, workers, farm};
+ghost use Rattle.jl_cli.specs.Means.CommandLine.{mode_of, count_of, asked_by};
 
 use clap::error::ErrorKind;
 use clap::{Arg, ArgAction, ArgMatches, Command, Error as ClapError, value_parser};

@@ -16,7 +16,7 @@ use Rattle.jl_pool.specs.Pools.{Pool}
 use Rattle.jl_code.specs.Instructions.{instruction_text, MayStand}
 use Rattle.jl_code.specs.Codes.{code_bytes, MayStandFrom, OperandFits, IsCode}
 use Rattle.jl_code.specs.Faults.{Runs, begins_opcode, IsBadSwitch, IsScanFault}
-use Rattle.jl_code.specs.Reading.Instructions.{instruction_at}
+use Rattle.jl_code.specs.Means.Instructions.{instruction_at}
 use Rattle.jl_code.proofs.OpcodeLaws.{begins_plain, begins_invocation, begins_wide, begins_table, begins_look_up}
 use Rattle.jl_code.proofs.InstructionLaws.{instruction_again, nothing_stands, bad_again}
 use Rattle.jl_code.proofs.CodeLaws.{text-some}
@@ -41,9 +41,23 @@ abbrev bad : Result (Instruction × List ℕ) Stop
 bad = Err Switch
 
 -- instructions at the front of a code are its own
-front : (pc : ℕ) (is js : List Instruction) (left : List ℕ) → MayStandFrom pc is → MayStandFrom pc js → code_bytes is ≡ code_bytes js ++ left → Front pc is js left
-front pc is [] left hi hj e = record { more = is; all = refl; text = sym e; stand = subst (λ (n : ℕ). MayStandFrom n is) (let same : pc ≡ pc + 0 = omega arith in same) hi }
-front pc [] (j ∷ js) left hi hj e = absurd (omega (arith, ap length e, length-append (instruction_text j ++ code_bytes js) left, length-append (instruction_text j) (code_bytes js), text-some j))
+front : (pc : ℕ) (is js : List Instruction) (left : List ℕ) → MayStandFrom pc is → MayStandFrom pc js → code_bytes is ≡ code_bytes js ++ left
+    → Front pc is js left
+front pc is [] left hi hj e = record {
+  more = is;
+  all = refl;
+  text = sym e;
+  stand = subst (λ (n : ℕ). MayStandFrom n is)
+      (let same : pc ≡ pc + 0 = omega arith in same) hi;
+}
+front pc [] (j ∷ js) left hi hj e =
+    absurd (omega (
+      arith,
+      ap length e,
+      length-append (instruction_text j ++ code_bytes js) left,
+      length-append (instruction_text j) (code_bytes js),
+      text-some j,
+    ))
 front pc (i ∷ is) (j ∷ js) left hi hj e =
     let both : found (i, code_bytes is) ≡ found (j, code_bytes js ++ left) =
     sym (instruction_again pc i (code_bytes is) hi.0)
@@ -91,7 +105,8 @@ no_operand : (p : Pool) (pc : ℕ) (i : Instruction) (rest : List ℕ) (more : L
     → MayStandFrom pc more → MayStand pc i → AllByRecursion (OperandFits p) more → ¬ OperandFits p i → ⊥
 no_operand p pc i rest [] e stand m fits not_so = absurd (omega (arith, ap length e, length-append (instruction_text i) rest, text-some i))
 no_operand p pc i rest (k ∷ more) e stand m fits not_so =
-    let both : found (i, rest) ≡ found (k, code_bytes more) = sym (instruction_again pc i rest m) ∙ ap (instruction_at pc) e ∙ instruction_again pc k (code_bytes more) stand.0 in
+    let both : found (i, rest) ≡ found (k, code_bytes more) = sym (instruction_again pc i rest m) ∙ ap (instruction_at pc) e
+    ∙ instruction_again pc k (code_bytes more) stand.0 in
     let pairs = ok_is {E = Stop} (i, rest) (k, code_bytes more) both in
     not_so (subst (λ (x : Instruction). OperandFits p x) (sym (ap (λ (x : Instruction × List ℕ). x.0) pairs)) fits.0)
 
@@ -140,7 +155,8 @@ one_list pc [] [] hi hj e = refl
 one_list pc [] (j ∷ js) hi hj e = absurd (omega (arith, ap length e, length-append (instruction_text j) (code_bytes js), text-some j))
 one_list pc (i ∷ is) [] hi hj e = absurd (omega (arith, ap length e, length-append (instruction_text i) (code_bytes is), text-some i))
 one_list pc (i ∷ is) (j ∷ js) hi hj e =
-    let both : found (i, code_bytes is) ≡ found (j, code_bytes js) = sym (instruction_again pc i (code_bytes is) hi.0) ∙ ap (instruction_at pc) e ∙ instruction_again pc j (code_bytes js) hj.0 in
+    let both : found (i, code_bytes is) ≡ found (j, code_bytes js) = sym (instruction_again pc i (code_bytes is) hi.0) ∙ ap (instruction_at pc) e
+    ∙ instruction_again pc j (code_bytes js) hj.0 in
     let pairs = ok_is {E = Stop} (i, code_bytes is) (j, code_bytes js) both in
     let first : i ≡ j = ap (λ (p : Instruction × List ℕ). p.0) pairs in
     let more =

@@ -11,13 +11,13 @@ use Rattle.jl_code.specs.declared.code_fault.CodeFault.TheVariants.{BadOpcode, C
 use Rattle.jl_code.specs.declared.instruction.Instruction.{Instruction}
 use Rattle.jl_code.specs.declared.instruction.Instruction.TheVariants.{Plain, Wide, Invoke, TableSwitch, LookupSwitch}
 use Rattle.jl_code.specs.declared.instruction.Stop.TheVariants.{Cut, Opcode, Switch}
-use Rattle.jl_code.specs.Site.{Site}
+use Rattle.jl_class.specs.Site.{Site}
 use Rattle.jl_pool.specs.Pools.{Pool}
 use Rattle.jl_code.specs.Instructions.{instruction_text, MayStand}
 use Rattle.jl_code.specs.Codes.{code_bytes, MayStandFrom, site_at, sites_from, OperandFits, IsCode}
 use Rattle.jl_code.specs.Faults.{Runs, IsScanFault}
-use Rattle.jl_code.specs.Reading.Instructions.{instruction_at}
-use Rattle.jl_code.specs.Reading.Sites.{IsSiteFault}
+use Rattle.jl_code.specs.Means.Instructions.{instruction_at}
+use Rattle.jl_code.specs.Means.Sites.{IsSiteFault}
 use Rattle.jl_pool.proofs.Fields.{IsBytes}
 use Rattle.jl_code.proofs.InstructionLaws.{instruction_again, instruction_takes, instruction_cut, instruction_unknown, instruction_bad}
 
@@ -36,7 +36,8 @@ Scanned-none pool code fits = record { is = []; bytes_are = refl; places = tt; o
 bytes-push : (is : List Instruction) (i : Instruction) → code_bytes (is ++ i ∷ []) ≡ code_bytes is ++ instruction_text i
 bytes-push is i = flat_map-append instruction_text is (i ∷ []) ∙ ap (λ (x : List ℕ). code_bytes is ++ x) (append-nil (instruction_text i))
 
-places-push : (pc at : ℕ) (is : List Instruction) (i : Instruction) → at ≡ pc + length (code_bytes is) → MayStandFrom pc is → MayStand at i → MayStandFrom pc (is ++ i ∷ [])
+places-push : (pc at : ℕ) (is : List Instruction) (i : Instruction) → at ≡ pc + length (code_bytes is) → MayStandFrom pc is → MayStand at i
+    → MayStandFrom pc (is ++ i ∷ [])
 places-push pc at [] i e h m = (subst (λ (n : ℕ). MayStand n i) (let same : at ≡ pc = omega (arith, e) in same) m, tt)
 places-push pc at (j ∷ is) i e h m =
     (h.0, places-push (pc + length (instruction_text j)) at is i (omega (arith, e, length-append (instruction_text j) (code_bytes is))) h.1 m)
@@ -45,7 +46,8 @@ sites-push : (pool : Pool) (pc at : ℕ) (is : List Instruction) (i : Instructio
     → sites_from pool pc (is ++ i ∷ []) ≡ sites_from pool pc is ++ site_at pool at i
 sites-push pool pc at [] i e = append-nil (site_at pool pc i) ∙ ap (λ (n : ℕ). site_at pool n i) (let same : pc ≡ at = omega (arith, e) in same)
 sites-push pool pc at (j ∷ is) i e =
-    ap (λ (x : List Site). site_at pool pc j ++ x) (sites-push pool (pc + length (instruction_text j)) at is i (omega (arith, e, length-append (instruction_text j) (code_bytes is))))
+    ap (λ (x : List Site). site_at pool pc j ++ x) (sites-push pool (pc + length (instruction_text j)) at is i
+    (omega (arith, e, length-append (instruction_text j) (code_bytes is))))
     ∙ sym (append_assoc (site_at pool pc j) (sites_from pool (pc + length (instruction_text j)) is) (site_at pool at i))
 
 pub place_of : (pool : Pool) (code rest : List ℕ) (sites : List Site) (s : Scanned pool code rest sites) → length code - length rest ≡ length (code_bytes s.is)
@@ -81,7 +83,8 @@ Scanned-done pool code rest sites s none = (
   s.sites_are,
 )
 
-runs : (pool : Pool) (code rest : List ℕ) (sites : List Site) (at : ℕ) (s : Scanned pool code rest sites) → at ≡ length code - length rest → Runs code s.is at rest
+runs : (pool : Pool) (code rest : List ℕ) (sites : List Site) (at : ℕ) (s : Scanned pool code rest sites) → at ≡ length code - length rest
+    → Runs code s.is at rest
 runs pool code rest sites at s place = record { bytes_are = s.bytes_are; places = s.places; place = omega (arith, place, place_of pool code rest sites s) }
 
 pub Scanned-unknown : (pool : Pool) (code rest : List ℕ) (sites : List Site) (at : ℕ) → at ≡ length code - length rest → Scanned pool code rest sites
@@ -109,7 +112,8 @@ Scanned-cut pool code (b ∷ rest) sites at place s some e =
       λ i after m h. absurd (let read = ap (instruction_at at) h ∙ instruction_again at i after m in cc),
     )
 
-pub Scanned-operand : (pool : Pool) (code rest after : List ℕ) (sites : List Site) (at : ℕ) (i : Instruction) (f : CodeFault) → at ≡ length code - length rest → Scanned pool code rest sites
+pub Scanned-operand : (pool : Pool) (code rest after : List ℕ) (sites : List Site) (at : ℕ) (i : Instruction) (f : CodeFault) → at ≡ length code - length rest
+    → Scanned pool code rest sites
     → instruction_at at rest ≡ Ok (i, after) → IsSiteFault pool at i f → IsScanFault pool code f
 Scanned-operand pool code rest after sites at i (BadOperand here) place s e bad =
     let t = instruction_takes at rest (i, after) s.bytes_left e in

@@ -5,11 +5,11 @@ use Rattle.jl_code.specs.declared.instruction.Instruction.TheVariants.{Plain, Wi
 use Rattle.jl_code.specs.declared.instruction.Stop.{Stop}
 use Rattle.jl_code.specs.declared.instruction.Stop.TheVariants.{Cut, Opcode, Switch}
 use Rattle.jl_pool.specs.Numbers.{u2}
-use Rattle.jl_code.specs.Known.{plain_opcodes, wide_opcodes, invocations}
+use Rattle.jl_code.specs.Known.{plain_opcodes, wide_opcodes, invoke_rows}
 use Rattle.jl_code.specs.Instructions.{operands_in, tail_in}
 use Rattle.jl_code.specs.Faults.{begins_opcode}
-use Rattle.jl_pool.specs.Reading.Fields.{◌>>=◌, number_at, bytes_at}
-use Rattle.jl_code.specs.Reading.Instructions.{or_cut, invocation_at, plain_at, by_row, fixed_at, wide_by_row, wide_at}
+use Rattle.jl_pool.specs.Means.Fields.{◌>>=◌, number_at, bytes_at}
+use Rattle.jl_code.specs.Means.Instructions.{or_cut, invocation_at, plain_at, by_row, fixed_at, wide_by_row, wide_at}
 use Rattle.jl_pool.proofs.Fields.{IsBytes, IsBytes-rest, Takes, bind_some, some_is, u2_takes, u2_again, bytes_takes, bytes_again}
 use Rattle.jl_code.proofs.StopLaws.{Read, found, stopped, Spelled, or_cut-ok, or_cut-err}
 use Rattle.jl_code.proofs.OpcodeLaws.{one_table, IsFixed, unknown, begins_plain, begins_invocation, begins_wide, begins_unknown}
@@ -19,19 +19,21 @@ use Rattle.jl_code.proofs.OpcodeLaws.{one_table, IsFixed, unknown, begins_plain,
 plain_again : (opcode : ℕ) (operands rest : List ℕ) → plain_at opcode (length operands) (operands ++ rest) ≡ Some (Plain opcode operands, rest)
 plain_again opcode operands rest = rw (bytes_again (length operands) operands rest refl) refl
 
-invocation_again : (opcode number : ℕ) (tail rest : List ℕ) → number < 2 ^ 16 → invocation_at opcode (length tail) ((u2 number ++ tail) ++ rest) ≡ Some (Invoke opcode number tail, rest)
+invocation_again : (opcode number : ℕ) (tail rest : List ℕ) → number < 2 ^ 16
+    → invocation_at opcode (length tail) ((u2 number ++ tail) ++ rest) ≡ Some (Invoke opcode number tail, rest)
 invocation_again opcode number tail rest size =
-    ap (λ (b : List ℕ). invocation_at opcode (length tail) b) (append_assoc (u2 number) tail rest) ∙ rw (u2_again number (tail ++ rest) size, bytes_again (length tail) tail rest refl) refl
+    ap (λ (b : List ℕ). invocation_at opcode (length tail) b) (append_assoc (u2 number) tail rest)
+    ∙ rw (u2_again number (tail ++ rest) size, bytes_again (length tail) tail rest refl) refl
 
 pub fixed_again-plain : (opcode : ℕ) (operands rest : List ℕ) → operands_in plain_opcodes opcode ≡ Some (length operands)
     → fixed_at opcode (operands ++ rest) ≡ found (Plain opcode operands, rest)
 unfolding fixed_at
 fixed_again-plain opcode operands rest row =
-    ap (λ (o : Option ℕ). by_row o (tail_in invocations opcode) opcode (operands ++ rest)) row
+    ap (λ (o : Option ℕ). by_row o (tail_in invoke_rows opcode) opcode (operands ++ rest)) row
     ∙ ap (λ (t : Option ℕ). by_row (Some (length operands)) t opcode (operands ++ rest)) (one_table opcode (length operands) row)
     ∙ ap or_cut (plain_again opcode operands rest)
 
-pub fixed_again-invocation : (opcode number : ℕ) (tail rest : List ℕ) → tail_in invocations opcode ≡ Some (length tail) → number < 2 ^ 16
+pub fixed_again-invocation : (opcode number : ℕ) (tail rest : List ℕ) → tail_in invoke_rows opcode ≡ Some (length tail) → number < 2 ^ 16
     → fixed_at opcode ((u2 number ++ tail) ++ rest) ≡ found (Invoke opcode number tail, rest)
 unfolding fixed_at
 fixed_again-invocation opcode number tail rest row size =
@@ -49,7 +51,7 @@ plain_takes pc opcode count bytes x fits row e =
     subst (λ (y : Read). Spelled pc (opcode ∷ bytes) y.0 y.1) (some_is (Plain opcode b.0.0, b.0.1) x b.2)
     (record { taken = prepend opcode bytes b.0.0 b.0.1 t.0; stands = row ∙ ap (λ (n : ℕ). Some n) (sym t.1) })
 
-invocation_takes : (pc opcode tail : ℕ) (bytes : List ℕ) (x : Read) → IsBytes bytes → tail_in invocations opcode ≡ Some tail
+invocation_takes : (pc opcode tail : ℕ) (bytes : List ℕ) (x : Read) → IsBytes bytes → tail_in invoke_rows opcode ≡ Some tail
     → invocation_at opcode tail bytes ≡ Some x → Spelled pc (opcode ∷ bytes) x.0 x.1
 invocation_takes pc opcode tail bytes x fits row e =
     let n = bind_some (number_at 2 bytes) (λ n. bytes_at tail n.1 >>= λ t. Some (Invoke opcode n.0 t.0, t.1)) x e in
@@ -65,12 +67,12 @@ invocation_takes pc opcode tail bytes x fits row e =
 
 -- by the tables
 by_tables : {P : Type 0} (opcode : ℕ) (bytes : List ℕ) (r : Result Read Stop)
-    → ((tail : ℕ) → tail_in invocations opcode ≡ Some tail → or_cut (invocation_at opcode tail bytes) ≡ r → P)
+    → ((tail : ℕ) → tail_in invoke_rows opcode ≡ Some tail → or_cut (invocation_at opcode tail bytes) ≡ r → P)
     → ((count : ℕ) → operands_in plain_opcodes opcode ≡ Some count → or_cut (plain_at opcode count bytes) ≡ r → P)
-    → (operands_in plain_opcodes opcode ≡ None → tail_in invocations opcode ≡ None → stopped Opcode ≡ r → P) → fixed_at opcode bytes ≡ r → P
+    → (operands_in plain_opcodes opcode ≡ None → tail_in invoke_rows opcode ≡ None → stopped Opcode ≡ r → P) → fixed_at opcode bytes ≡ r → P
 unfolding fixed_at
-by_tables {P} opcode bytes r invoke plain none e = by (operands_in plain_opcodes opcode) (tail_in invocations opcode) refl refl e where
-  by : (operands tail : Option ℕ) → operands_in plain_opcodes opcode ≡ operands → tail_in invocations opcode ≡ tail → by_row operands tail opcode bytes ≡ r → P
+by_tables {P} opcode bytes r invoke plain none e = by (operands_in plain_opcodes opcode) (tail_in invoke_rows opcode) refl refl e where
+  by : (operands tail : Option ℕ) → operands_in plain_opcodes opcode ≡ operands → tail_in invoke_rows opcode ≡ tail → by_row operands tail opcode bytes ≡ r → P
   by (Some count) (Some tail) o t e = invoke tail t e
   by None (Some tail) o t e = invoke tail t e
   by (Some count) None o t e = plain count o e
@@ -124,13 +126,18 @@ wide_some pc opcode count bytes x fits row e =
     let b = bind_some (bytes_at count bytes) (λ o. Some (Wide opcode o.0, o.1)) x e in
     let t = bytes_takes count bytes b.0 fits b.1 in
     subst (λ (y : Read). Spelled pc (196 ∷ opcode ∷ bytes) y.0 y.1) (some_is (Wide opcode b.0.0, b.0.1) x b.2)
-    (record { taken = prepend 196 (opcode ∷ bytes) (opcode ∷ b.0.0) b.0.1 (prepend opcode bytes b.0.0 b.0.1 t.0); stands = row ∙ ap (λ (n : ℕ). Some n) (sym t.1) })
+    (record {
+      taken = prepend 196 (opcode ∷ bytes) (opcode ∷ b.0.0) b.0.1 (prepend opcode bytes b.0.0 b.0.1 t.0);
+      stands = row
+          ∙ ap (λ (n : ℕ). Some n) (sym t.1);
+    })
 
 pub wide_takes : (pc : ℕ) (bytes : List ℕ) (x : Read) → IsBytes bytes → wide_at bytes ≡ found x → Spelled pc (196 ∷ bytes) x.0 x.1
 unfolding wide_at
 wide_takes pc [] x fits e = absurd (let clash : stopped Cut ≡ found x = e in cc)
 wide_takes pc (opcode ∷ bytes) x fits e = by_wide_table opcode bytes (found x)
-    (λ count row e. wide_some pc opcode count bytes x (IsBytes-rest opcode bytes fits) row (or_cut-ok (bytes_at count bytes >>= λ o. Some (Wide opcode o.0, o.1)) x e))
+    (λ count row e. wide_some pc opcode count bytes x (IsBytes-rest opcode bytes fits) row
+    (or_cut-ok (bytes_at count bytes >>= λ o. Some (Wide opcode o.0, o.1)) x e))
     (λ o e. absurd (let clash : stopped Opcode ≡ found x = e in cc))
     e
 

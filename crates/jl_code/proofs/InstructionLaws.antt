@@ -8,12 +8,14 @@ use Rattle.jl_code.specs.declared.instruction.Stop.TheVariants.{Cut, Opcode, Swi
 use Rattle.jl_pool.specs.Numbers.{u2}
 use Rattle.jl_code.specs.Instructions.{instruction_text, MayStand}
 use Rattle.jl_code.specs.Faults.{begins_opcode, IsBadSwitch}
-use Rattle.jl_code.specs.Reading.Instructions.{fixed_at, wide_at, table_switch_at, lookup_switch_at, instruction_at}
+use Rattle.jl_code.specs.Means.Instructions.{fixed_at, wide_at, table_switch_at, lookup_switch_at, instruction_at}
 use Rattle.jl_pool.proofs.Fields.{IsBytes, IsBytes-rest}
 use Rattle.jl_code.proofs.StopLaws.{Read, found, stopped, Spelled}
 use Rattle.jl_code.proofs.OpcodeLaws.{IsFixed, fixed-plain, fixed-invocation, begins_table, begins_look_up}
-use Rattle.jl_code.proofs.FixedLaws.{fixed_again-plain, fixed_again-invocation, fixed_takes, fixed_cut, fixed_unknown, fixed_no_switch, wide_again, wide_takes, wide_cut, wide_unknown, wide_no_switch}
-use Rattle.jl_code.proofs.SwitchLaws.{table_text, table_again, table_bad_again, table_takes, table_bad, table_no_opcode, look_up_text, look_up_again, look_up_bad_again}
+use Rattle.jl_code.proofs.FixedLaws.{fixed_again-plain, fixed_again-invocation, fixed_takes, fixed_cut, fixed_unknown, fixed_no_switch, wide_again}
+use Rattle.jl_code.proofs.FixedLaws.{wide_takes, wide_cut, wide_unknown, wide_no_switch}
+use Rattle.jl_code.proofs.SwitchLaws.{table_text, table_again, table_bad_again, table_takes, table_bad, table_no_opcode, look_up_text, look_up_again}
+use Rattle.jl_code.proofs.SwitchLaws.{look_up_bad_again}
 use Rattle.jl_code.proofs.SwitchLaws.{look_up_takes, look_up_bad, look_up_no_opcode}
 
 first_fixed : (pc opcode : ℕ) (bytes : List ℕ) → IsFixed opcode → instruction_at pc (opcode ∷ bytes) ≡ fixed_at opcode bytes
@@ -22,13 +24,15 @@ first_fixed pc opcode bytes fixed = rw (fixed.no_table, fixed.no_look_up, fixed.
 
 pub instruction_again : (pc : ℕ) (i : Instruction) (rest : List ℕ) → MayStand pc i → instruction_at pc (instruction_text i ++ rest) ≡ Ok (i, rest)
 unfolding instruction_at
-instruction_again pc (Plain opcode operands) rest m = first_fixed pc opcode (operands ++ rest) (fixed-plain opcode (length operands) m) ∙ fixed_again-plain opcode operands rest m
+instruction_again pc (Plain opcode operands) rest m = first_fixed pc opcode (operands ++ rest) (fixed-plain opcode (length operands) m)
+    ∙ fixed_again-plain opcode operands rest m
 instruction_again pc (Invoke opcode number tail) rest m =
     first_fixed pc opcode ((u2 number ++ tail) ++ rest) (fixed-invocation opcode (length tail) m.0) ∙ fixed_again-invocation opcode number tail rest m.0 m.1
 instruction_again pc (Wide opcode operands) rest m = wide_again opcode operands rest m
 instruction_again pc (TableSwitch padding default low high offsets) rest m =
     ap (instruction_at pc) (table_text padding default low high offsets rest) ∙ table_again pc padding default low high offsets rest m
-instruction_again pc (LookupSwitch padding default count pairs) rest m = ap (instruction_at pc) (look_up_text padding default count pairs rest) ∙ look_up_again pc padding default count pairs rest m
+instruction_again pc (LookupSwitch padding default count pairs) rest m = ap (instruction_at pc) (look_up_text padding default count pairs rest)
+    ∙ look_up_again pc padding default count pairs rest m
 
 pub nothing_stands : (pc : ℕ) → instruction_at pc [] ≢ Err Switch
 unfolding instruction_at
@@ -52,7 +56,8 @@ unfolding instruction_at
 instruction_takes pc [] x fits e = absurd (let clash : stopped Cut ≡ found x = e in cc)
 instruction_takes pc (opcode ∷ bytes) x fits e =
     let behind = IsBytes-rest opcode bytes fits in
-    by_first (λ first. Spelled pc (first ∷ bytes) x.0 x.1) pc opcode bytes (found x) (table_takes pc bytes x behind) (look_up_takes pc bytes x behind) (wide_takes pc bytes x behind)
+    by_first (λ first. Spelled pc (first ∷ bytes) x.0 x.1) pc opcode bytes (found x) (table_takes pc bytes x behind) (look_up_takes pc bytes x behind)
+    (wide_takes pc bytes x behind)
     (λ fixed. fixed_takes pc opcode bytes x behind) e
 
 -- ---- where none stands
@@ -72,7 +77,8 @@ pub record IsCut (pc : ℕ) (left : List ℕ) : Type 0 where
 pub instruction_cut : (pc opcode : ℕ) (bytes : List ℕ) → instruction_at pc (opcode ∷ bytes) ≡ Err Cut → IsCut pc (opcode ∷ bytes)
 instruction_cut pc opcode bytes e = record {
   begins =
-      by_first (λ first. begins_opcode (first ∷ bytes) ≡ true) pc opcode bytes (stopped Cut) (λ t. begins_table bytes) (λ l. begins_look_up bytes) (wide_cut bytes)
+      by_first (λ first. begins_opcode (first ∷ bytes) ≡ true) pc opcode bytes (stopped Cut) (λ t. begins_table bytes) (λ l. begins_look_up bytes)
+      (wide_cut bytes)
       (λ fixed. fixed_cut opcode bytes) e;
   no_switch = λ s. let clash : stopped Cut ≡ stopped Switch = sym e ∙ bad_again pc (opcode ∷ bytes) s in cc;
 }

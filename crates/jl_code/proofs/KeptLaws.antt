@@ -1,20 +1,22 @@
 -- What a scan keeps of the invocations, behind what was there.
-use Rattle.std.proofs.Common.{◌≡◌, ℕ, ◌-◌, Bool, true, false, cond, eqb, List, [], ◌∷◌, ◌++◌, length, map, Option, Some, Ok, refl, sym, ap, subst, ◌∙◌, append_assoc}
-use Rattle.std.specs.Prelude.{option_to_list, option_map, find, take, ◌==◌}
+use Rattle.std.proofs.Common.{◌≡◌, ℕ, ◌-◌, true, eqb, List, [], ◌∷◌, ◌++◌, length, Option, Some, Ok, refl, sym, ap, subst}
+use Rattle.std.proofs.Common.{◌∙◌, append_assoc}
+use Rattle.std.specs.Prelude.{option_to_list, take, ◌==◌}
 use Rattle.std.specs.List.{list_all}
 use Rattle.std.proofs.lemmas.List.{append-nil, map-append}
 use Rattle.std.proofs.lemmas.List.Folds.{list_all-append}
 use Rattle.std.proofs.Math.Seq.{take-append_seam}
 use Rattle.jl_code.specs.declared.instruction.Instruction.{Instruction}
-use Rattle.jl_code.specs.declared.site.KeptSite.{KeptSite}
-use Rattle.jl_code.specs.declared.site.Operand.{Operand}
-use Rattle.jl_code.specs.Site.{Site}
+use Rattle.jl_class.specs.declared.site.KeptSite.{KeptSite}
+use Rattle.jl_class.specs.declared.site.Operand.{Operand}
+use Rattle.jl_class.specs.Site.{Site}
 use Rattle.jl_pool.specs.Pools.{Pool}
-use Rattle.jl_code.specs.Codes.{operand_at, kind_of, site_list, site_at, sites_from, OperandFits, IsCode}
-use Rattle.jl_code.specs.Kept.{is_named, site_in, IsKeptOf, Adds}
-use Rattle.jl_code.specs.Reading.Instructions.{instruction_at}
+use Rattle.jl_code.specs.Codes.{kind_of, site_list, site_at, sites_from, OperandFits, IsCode}
+use Rattle.jl_class.specs.Operands.{operand_at}
+use Rattle.jl_code.specs.Kept.{IsKeptOf, Adds}
+use Rattle.jl_class.specs.Kept.{is_named, site_in}
+use Rattle.jl_code.specs.Means.Instructions.{instruction_at}
 use Rattle.jl_pool.proofs.Fields.{IsBytes}
-use Rattle.jl_pool.proofs.FormLaws.{and_true}
 use Rattle.jl_code.proofs.CodeLaws.{Scanned, Scanned-none, Scanned-more, Scanned-done}
 
 -- ---- one invocation
@@ -26,7 +28,8 @@ kept_one pool pc opcode number o e = record { named = rw e refl; shown = rw e re
 pub kept_none : (pool : Pool) → IsKeptOf pool [] []
 kept_none pool = record { named = refl; shown = refl }
 
-both_named : (pool : Pool) (xs ys : List KeptSite) → list_all (is_named pool) xs ≡ true → list_all (is_named pool) ys ≡ true → list_all (is_named pool) (xs ++ ys) ≡ true
+both_named : (pool : Pool) (xs ys : List KeptSite) → list_all (is_named pool) xs ≡ true → list_all (is_named pool) ys ≡ true
+    → list_all (is_named pool) (xs ++ ys) ≡ true
 both_named pool xs ys h k = list_all-append (is_named pool) xs ys ∙ rw (h, k) refl
 
 pub kept_both : (pool : Pool) (xs ys : List KeptSite) (a b : List Site) → IsKeptOf pool xs a → IsKeptOf pool ys b → IsKeptOf pool (xs ++ ys) (a ++ b)
@@ -50,7 +53,8 @@ KeptSoFar-none pool code before fits = record {
   scanned = Scanned-none pool code fits;
 }
 
-pub KeptSoFar-more : (pool : Pool) (code rest after : List ℕ) (before now : List KeptSite) (at : ℕ) (i : Instruction) (site : Option KeptSite) → at ≡ length code - length rest
+pub KeptSoFar-more : (pool : Pool) (code rest after : List ℕ) (before now : List KeptSite) (at : ℕ) (i : Instruction) (site : Option KeptSite)
+    → at ≡ length code - length rest
     → KeptSoFar pool code rest before now → instruction_at at rest ≡ Ok (i, after)
     → OperandFits pool i × IsKeptOf pool (option_to_list site) (site_at pool at i) → KeptSoFar pool code after before (now ++ option_to_list site)
 KeptSoFar-more pool code rest after before now at i site place s e found = record {
@@ -66,26 +70,6 @@ pub KeptSoFar-done : (pool : Pool) (code rest : List ℕ) (before now : List Kep
 KeptSoFar-done pool code rest before now s none =
     let d = Scanned-done pool code rest s.sites s.scanned none in
     (d.0, d.1, record { made = s.made; behind = s.behind; kept = subst (λ (l : List Site). IsKeptOf pool s.made l) d.2 s.kept })
-
--- ---- the first one at a place
-
-pub found_in : (pool : Pool) (kept : List KeptSite) (pc : ℕ) → find (λ site. site.pc == pc) (map (site_in pool) kept) ≡ option_map (site_in pool) (find (λ site. site.pc == pc) kept)
-found_in pool [] pc = refl
-found_in pool (s ∷ kept) pc = by (s.pc == pc) (found_in pool kept pc) where
-  by : (here : Bool) → find (λ site. site.pc == pc) (map (site_in pool) kept) ≡ option_map (site_in pool) (find (λ site. site.pc == pc) kept)
-      → cond here (Some (site_in pool s)) (find (λ site. site.pc == pc) (map (site_in pool) kept)) ≡ option_map (site_in pool) (cond here (Some s) (find (λ site. site.pc == pc) kept))
-  by true e = refl
-  by false e = e
-
-pub found_named : (pool : Pool) (kept : List KeptSite) (pc : ℕ) (found : KeptSite) → list_all (is_named pool) kept ≡ true → find (λ site. site.pc == pc) kept ≡ Some found
-    → is_named pool found ≡ true
-found_named pool [] pc found h e = absurd cc
-found_named pool (s ∷ kept) pc found h e = by (s.pc == pc) (and_true (is_named pool s) (list_all (is_named pool) kept) h) (found_named pool kept pc found) e where
-  by : (here : Bool) → (is_named pool s ≡ true) × (list_all (is_named pool) kept ≡ true)
-      → (list_all (is_named pool) kept ≡ true → find (λ site. site.pc == pc) kept ≡ Some found → is_named pool found ≡ true)
-      → cond here (Some s) (find (λ site. site.pc == pc) kept) ≡ Some found → is_named pool found ≡ true
-  by true h later e = (let same : s ≡ found = cc in subst (λ (x : KeptSite). is_named pool x ≡ true) same h.0)
-  by false h later e = later h.1 e
 
 -- ---- what was there is left
 

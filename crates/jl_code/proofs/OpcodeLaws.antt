@@ -2,7 +2,7 @@
 use Rattle.std.proofs.Common.{◌≡◌, ℕ, Bool, true, false, eqb, List, [], ◌∷◌, Option, Some, None, refl, sym, ap, subst, ◌∙◌}
 use Rattle.std.specs.Prelude.{is_some}
 use Rattle.std.proofs.lemmas.Bool.{or_right, eqb-true, ne_eqb}
-use Rattle.jl_code.specs.Known.{plain_opcodes, wide_opcodes, invocations}
+use Rattle.jl_code.specs.Known.{plain_opcodes, wide_opcodes, invoke_rows}
 use Rattle.jl_code.specs.Instructions.{operands_in, tail_in}
 use Rattle.jl_code.specs.Faults.{is_opcode, begins_opcode}
 
@@ -17,17 +17,18 @@ either P n opcode here next = by (eqb n opcode) refl where
   by false e = next e
 
 -- the opcodes of invocations
-invocation_is : (P : ℕ → Type 0) (opcode tail : ℕ) → tail_in invocations opcode ≡ Some tail → P 182 → P 183 → P 184 → P 185 → P 186 → P opcode
+invocation_is : (P : ℕ → Type 0) (opcode tail : ℕ) → tail_in invoke_rows opcode ≡ Some tail → P 182 → P 183 → P 184 → P 185 → P 186 → P opcode
 invocation_is P opcode tail e p182 p183 p184 p185 p186 =
     either P 182 opcode p182 (λ a. either P 183 opcode p183 (λ b. either P 184 opcode p184 (λ c. either P 185 opcode p185 (λ d. either P 186 opcode p186 (λ f.
-    absurd (let none : tail_in invocations opcode ≡ None = rw (a, b, c, d, f) refl in let clash : Some tail ≡ None = sym e ∙ none in cc))))))
+    absurd (let none : tail_in invoke_rows opcode ≡ None = rw (a, b, c, d, f) refl in let clash : Some tail ≡ None = sym e ∙ none in cc))))))
 
 -- no opcode is in both tables
-pub one_table : (opcode k : ℕ) → operands_in plain_opcodes opcode ≡ Some k → tail_in invocations opcode ≡ None
-one_table opcode k e = by (tail_in invocations opcode) refl where
-  by : (t : Option ℕ) → tail_in invocations opcode ≡ t → tail_in invocations opcode ≡ None
+pub one_table : (opcode k : ℕ) → operands_in plain_opcodes opcode ≡ Some k → tail_in invoke_rows opcode ≡ None
+one_table opcode k e = by (tail_in invoke_rows opcode) refl where
+  by : (t : Option ℕ) → tail_in invoke_rows opcode ≡ t → tail_in invoke_rows opcode ≡ None
   by None t = t
-  by (Some tail) t = absurd (let none = invocation_is (λ n. operands_in plain_opcodes n ≡ None) opcode tail t refl refl refl refl refl in let clash : Some k ≡ None = sym e ∙ none in cc)
+  by (Some tail) t = absurd (let none = invocation_is (λ n. operands_in plain_opcodes n ≡ None) opcode tail t refl refl refl refl refl in
+      let clash : Some k ≡ None = sym e ∙ none in cc)
 
 -- an opcode that is no switch's and no wide
 pub record IsFixed (opcode : ℕ) : Type 0 where
@@ -42,20 +43,20 @@ fixed-plain opcode k e = record {
   no_wide = is_not (operands_in plain_opcodes) opcode 196 k e refl;
 }
 
-pub fixed-invocation : (opcode k : ℕ) → tail_in invocations opcode ≡ Some k → IsFixed opcode
+pub fixed-invocation : (opcode k : ℕ) → tail_in invoke_rows opcode ≡ Some k → IsFixed opcode
 fixed-invocation opcode k e = record {
-  no_table = is_not (tail_in invocations) opcode 170 k e refl;
-  no_look_up = is_not (tail_in invocations) opcode 171 k e refl;
-  no_wide = is_not (tail_in invocations) opcode 196 k e refl;
+  no_table = is_not (tail_in invoke_rows) opcode 170 k e refl;
+  no_look_up = is_not (tail_in invoke_rows) opcode 171 k e refl;
+  no_wide = is_not (tail_in invoke_rows) opcode 196 k e refl;
 }
 
 known-plain : (opcode k : ℕ) → operands_in plain_opcodes opcode ≡ Some k → is_opcode opcode ≡ true
 known-plain opcode k e = rw e refl
 
-known-invocation : (opcode k : ℕ) → tail_in invocations opcode ≡ Some k → is_opcode opcode ≡ true
+known-invocation : (opcode k : ℕ) → tail_in invoke_rows opcode ≡ Some k → is_opcode opcode ≡ true
 known-invocation opcode k e = rw e (or_right (is_some (operands_in plain_opcodes opcode)) true refl)
 
-pub unknown : (opcode : ℕ) → IsFixed opcode → operands_in plain_opcodes opcode ≡ None → tail_in invocations opcode ≡ None → is_opcode opcode ≡ false
+pub unknown : (opcode : ℕ) → IsFixed opcode → operands_in plain_opcodes opcode ≡ None → tail_in invoke_rows opcode ≡ None → is_opcode opcode ≡ false
 unknown opcode fixed operands tail = rw (operands, tail, fixed.no_table, fixed.no_look_up, fixed.no_wide) refl
 
 -- an opcode that is known, and is no wide
@@ -66,8 +67,8 @@ begins_known opcode known no_wide (c ∷ more) = rw (known, no_wide) refl
 pub begins_plain : (opcode k : ℕ) → operands_in plain_opcodes opcode ≡ Some k → (more : List ℕ) → begins_opcode (opcode ∷ more) ≡ true
 begins_plain opcode k e = begins_known opcode (known-plain opcode k e) (is_not (operands_in plain_opcodes) opcode 196 k e refl)
 
-pub begins_invocation : (opcode k : ℕ) → tail_in invocations opcode ≡ Some k → (more : List ℕ) → begins_opcode (opcode ∷ more) ≡ true
-begins_invocation opcode k e = begins_known opcode (known-invocation opcode k e) (is_not (tail_in invocations) opcode 196 k e refl)
+pub begins_invocation : (opcode k : ℕ) → tail_in invoke_rows opcode ≡ Some k → (more : List ℕ) → begins_opcode (opcode ∷ more) ≡ true
+begins_invocation opcode k e = begins_known opcode (known-invocation opcode k e) (is_not (tail_in invoke_rows) opcode 196 k e refl)
 
 pub begins_wide : (opcode k : ℕ) → operands_in wide_opcodes opcode ≡ Some k → (more : List ℕ) → begins_opcode (196 ∷ opcode ∷ more) ≡ true
 begins_wide opcode k e more = rw e refl

@@ -1,5 +1,6 @@
 -- Plain instructions are skipped by the table of their lengths.
-use Rattle.std.proofs.Common.{◌≡◌, ◌≢◌, ℕ, suc, ◌+◌, ◌-◌, ◌<◌, ◌≤◌, List, [], ◌∷◌, ◌++◌, length, take, drop, map, get_or, Option, Some, None, refl, sym, ap, subst, ◌∙◌, append_assoc, length-append, arith}
+use Rattle.std.proofs.Common.{◌≡◌, ◌≢◌, ℕ, suc, ◌+◌, ◌-◌, ◌<◌, ◌≤◌, List, [], ◌∷◌, ◌++◌, length, take, drop, map, get_or, Option, Some, None, refl}
+use Rattle.std.proofs.Common.{sym, ap, subst, ◌∙◌, append_assoc, length-append, arith}
 use Rattle.std.specs.List.{AllByRecursion, range_with_len}
 use Rattle.std.specs.Option.{option_map_or}
 use Rattle.std.proofs.lemmas.Grind.{flat_map-append}
@@ -9,13 +10,13 @@ use Rattle.jl_names.proofs.Tests.{All-both}
 use Rattle.jl_code.specs.declared.instruction.Instruction.{Instruction}
 use Rattle.jl_code.specs.declared.instruction.Instruction.TheVariants.{Plain}
 use Rattle.jl_code.specs.declared.plain.TheConstants.{LENGTHS}
-use Rattle.jl_code.specs.Site.{Site}
-use Rattle.jl_code.specs.declared.site.KeptSite.{KeptSite}
+use Rattle.jl_class.specs.Site.{Site}
+use Rattle.jl_class.specs.declared.site.KeptSite.{KeptSite}
 use Rattle.jl_pool.specs.Pools.{Pool}
 use Rattle.jl_code.specs.Known.{plain_opcodes}
 use Rattle.jl_code.specs.Instructions.{instruction_text, operands_in}
 use Rattle.jl_code.specs.Codes.{code_bytes}
-use Rattle.jl_code.specs.Reading.Plain.{plain_length, IsPlain, IsBehindPlain}
+use Rattle.jl_code.specs.Means.Plain.{plain_length, IsPlain, IsBehindPlain}
 use Rattle.jl_code.proofs.InstructionLaws.{instruction_again}
 use Rattle.jl_code.proofs.CodeLaws.{Scanned, Scanned-more}
 use Rattle.jl_code.proofs.KeptLaws.{KeptSoFar}

@@ -5,12 +5,14 @@ use Rattle.std.specs.Prelude.{codes, map, replicate}
 use Rattle.std.specs.List.{range_with_len}
 use Rattle.jl_pool.specs.declared.constant.Constant.TheVariants.{Utf8, Class, Methodref, InterfaceMethodref, NameAndType, InvokeDynamic}
 use Rattle.jl_pool.specs.Pools.{Pool, places, has_tag}
-use Rattle.jl_code.specs.declared.site.Kind.TheVariants.{Virtual, Special, Static, Interface, Dynamic}
-use Rattle.jl_code.specs.declared.site.Operand.TheVariants.{Method, CallSite}
+use Rattle.jl_class.specs.declared.site.Kind.TheVariants.{Virtual, Special, Static, Interface, Dynamic}
+use Rattle.jl_class.specs.declared.site.Operand.TheVariants.{Method, CallSite}
 use Rattle.jl_code.specs.declared.instruction.Instruction.TheVariants.{Plain, Wide, Invoke, TableSwitch, LookupSwitch}
-use Rattle.jl_code.specs.Known.{plain_opcodes, wide_opcodes, invocations}
-use Rattle.jl_code.specs.Instructions.{operands_in, invocation_in, tail_in, instruction_text, from_least, Pads, IsTableSwitch, IsLookupSwitch}
-use Rattle.jl_code.specs.Codes.{kind_of, operand_at, begins_special, may_name, tail_of, most_slots, sites_from}
+use Rattle.jl_code.specs.Known.{plain_opcodes, wide_opcodes, invoke_rows}
+use Rattle.jl_code.specs.Instructions.{operands_in, invoke_row_in, tail_in, instruction_text, from_least, Pads, IsTableSwitch, IsLookupSwitch}
+use Rattle.jl_code.specs.Codes.{kind_of, may_name, tail_of, most_slots, sites_from}
+use Rattle.jl_class.specs.Operands.{operand_at}
+use Rattle.jl_class.specs.Special.{begins_special}
 use Rattle.jl_code.specs.Faults.{is_opcode, begins_opcode}
 
 -- ---- how many bytes stand behind each opcode
@@ -40,7 +42,7 @@ fixed_lengths : map (operands_in plain_opcodes) (range_with_len 0 256) ≡ opera
 fixed_lengths = refl
 
 -- behind the two bytes of the number
-invocation_lengths : map (tail_in invocations) (range_with_len 0 256)
+invocation_lengths : map (tail_in invoke_rows) (range_with_len 0 256)
     ≡ replicate 182 None ++ (Some 0 ∷ Some 0 ∷ Some 0 ∷ Some 2 ∷ Some 2 ∷ []) ++ replicate 69 None
 invocation_lengths = refl
 
@@ -135,11 +137,12 @@ kinds = refl
 
 -- 1 A, 2 its Class, 3 f, 4 ()V, 5 their NameAndType, and of these 6 a Methodref, 7 an InterfaceMethodref, 8 an InvokeDynamic
 abbrev pool : Pool
-pool = places (Utf8 (codes "A") ∷ Class 1 ∷ Utf8 (codes "f") ∷ Utf8 (codes "()V") ∷ NameAndType 3 4 ∷ Methodref 2 5 ∷ InterfaceMethodref 2 5 ∷ InvokeDynamic 9 5 ∷ [])
+pool = places (Utf8 (codes "A") ∷ Class 1 ∷ Utf8 (codes "f") ∷ Utf8 (codes "()V") ∷ NameAndType 3 4 ∷ Methodref 2 5 ∷ InterfaceMethodref 2 5 ∷ InvokeDynamic 9 5
+    ∷ [])
 
 -- whether the instruction may name the Class, the Methodref, the InterfaceMethodref and the InvokeDynamic
 abbrev may_be : ℕ → List (Option Bool)
-may_be opcode = map (λ n. Rattle.std.specs.Prelude.option_map (λ row. has_tag pool row.tags n) (invocation_in invocations opcode)) (2 ∷ 6 ∷ 7 ∷ 8 ∷ [])
+may_be opcode = map (λ n. Rattle.std.specs.Prelude.option_map (λ row. has_tag pool row.tags n) (invoke_row_in invoke_rows opcode)) (2 ∷ 6 ∷ 7 ∷ 8 ∷ [])
 
 tags : map may_be (182 ∷ 183 ∷ 184 ∷ 185 ∷ 186 ∷ [])
     ≡ (Some false ∷ Some true ∷ Some false ∷ Some false ∷ [])

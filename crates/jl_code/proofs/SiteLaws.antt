@@ -9,15 +9,16 @@ use Rattle.std.proofs.lemmas.Slice.Eq.{bytes_eq-Decides}
 use Rattle.jl_names.specs.MethodTypes.{TakesSlots}
 use Rattle.jl_pool.specs.declared.constant.Constant.{Constant}
 use Rattle.jl_pool.specs.declared.constant.Constant.TheVariants.{Methodref, InterfaceMethodref, InvokeDynamic}
-use Rattle.jl_code.specs.declared.site.Operand.{Operand}
-use Rattle.jl_code.specs.declared.site.Operand.TheVariants.{Method, CallSite}
-use Rattle.jl_code.specs.Known.{Invocation, invocations}
+use Rattle.jl_class.specs.declared.site.Operand.{Operand}
+use Rattle.jl_class.specs.declared.site.Operand.TheVariants.{Method, CallSite}
+use Rattle.jl_code.specs.Known.{InvokeRow, invoke_rows}
 use Rattle.jl_pool.specs.Constants.{tag}
 use Rattle.jl_pool.specs.Pools.{Pool, constant_at, Signed, both, reference, signed_at, class_text_at, reference_of, call_site_of}
-use Rattle.jl_code.specs.Instructions.{invocation_in}
-use Rattle.jl_code.specs.Codes.{either_operand, operand_name, operand_type, may_name, most_slots, tail_of, Invokes}
-use Rattle.jl_pool.specs.Reading.Forms.{method_slots}
-use Rattle.jl_code.specs.Reading.Sites.{may_name_tag, fits, signed_fits, names_method, is_invoked_of, is_invoked}
+use Rattle.jl_code.specs.Instructions.{invoke_row_in}
+use Rattle.jl_code.specs.Codes.{operand_name, operand_type, may_name, most_slots, tail_of, Invokes}
+use Rattle.jl_class.specs.Operands.{either_operand}
+use Rattle.jl_pool.specs.Means.Forms.{method_slots}
+use Rattle.jl_code.specs.Means.Sites.{may_name_tag, fits, signed_fits, names_method, is_invoked_of, is_invoked}
 use Rattle.jl_pool.proofs.FormLaws.{and_true, SlotsAre, method_slots-is, one_slots}
 
 -- ---- tests
@@ -53,7 +54,7 @@ module _ (pool : Pool) (opcode number : ℕ) (tail : List ℕ) where
   invokes : (c : Constant) (o : Operand (List ℕ)) → constant_at pool number ≡ Some c → may_name_tag opcode (tag c) ≡ true
       → either_operand (reference_of pool c) (call_site_of pool c) ≡ Some o → signed_fits opcode tail (Some (signed o)) ≡ true → Invokes pool opcode number tail
   invokes c o is may there e =
-      let row = mapped (λ row. list_any (λ t. t == tag c) row.tags) (invocation_in invocations opcode) may in
+      let row = mapped (λ row. list_any (λ t. t == tag c) row.tags) (invoke_row_in invoke_rows opcode) may in
       let counted = mapped (fits opcode tail (operand_name o)) (method_slots (operand_type o)) e in
       let named = and_true (may_name opcode (operand_name o)) (nat_le counted.0 (most_slots opcode) && bytes_eq tail (tail_of opcode counted.0)) counted.2 in
       let few = and_true (nat_le counted.0 (most_slots opcode)) (bytes_eq tail (tail_of opcode counted.0)) named.1 in
@@ -77,7 +78,8 @@ module _ (pool : Pool) (opcode number : ℕ) (tail : List ℕ) where
   method_named itf (Some owner) (Some s) e = (Method (reference itf owner s), refl, e)
 
   call_site_named : (bootstrap : ℕ) (s : Option Signed) → signed_fits opcode tail s ≡ true
-      → (o : Operand (List ℕ)) × (option_map CallSite (option_map (λ s. record { bootstrap = bootstrap; name = s.name; ty = s.ty }) s) ≡ Some o) × (signed_fits opcode tail (Some (signed o)) ≡ true)
+      → (o : Operand (List ℕ)) × (option_map CallSite (option_map (λ s. record { bootstrap = bootstrap; name = s.name; ty = s.ty }) s) ≡ Some o)
+      × (signed_fits opcode tail (Some (signed o)) ≡ true)
   call_site_named bootstrap None e = absurd cc
   call_site_named bootstrap (Some s) e = (CallSite (record { bootstrap = bootstrap; name = s.name; ty = s.ty }), refl, e)
 
@@ -136,7 +138,8 @@ module _ (pool : Pool) (opcode number : ℕ) (tail : List ℕ) where
         → option_map_or (is_invoked_of pool opcode tail) c false ≡ true
     by None tagged e = absurd cc
     by (Some c) tagged e =
-        constant_found c h.operand (ap (λ (r : Option Invocation). option_map_or (λ q. list_any (λ t. t == tag c) q.tags) r false) h.found ∙ tagged) (is_signed h) e
+        constant_found c h.operand (ap (λ (r : Option InvokeRow). option_map_or (λ q. list_any (λ t. t == tag c) q.tags) r false) h.found ∙ tagged)
+        (is_signed h) e
 
   pub invoked-false : is_invoked pool opcode number tail ≡ false → ¬ Invokes pool opcode number tail
   invoked-false e = λ h. absurd (let clash : true ≡ false = sym (invoked-all h) ∙ e in cc)

@@ -4,7 +4,7 @@ use Rattle.jl_code.specs.declared.instruction.Instruction.{Instruction}
 use Rattle.jl_code.specs.declared.instruction.Stop.{Stop}
 use Rattle.jl_code.specs.declared.instruction.Stop.TheVariants.{Cut, Opcode, Switch}
 use Rattle.jl_code.specs.Instructions.{instruction_text, MayStand}
-use Rattle.jl_code.specs.Reading.Instructions.{or_cut, with_part}
+use Rattle.jl_code.specs.Means.Instructions.{or_cut, with_part}
 use Rattle.jl_pool.proofs.Fields.{Takes}
 
 -- an instruction and what comes after it
@@ -33,7 +33,8 @@ pub or_cut-err : (o : Option Read) (s : Stop) → or_cut o ≡ stopped s → s �
 or_cut-err None s e = cc
 or_cut-err (Some y) s e = absurd cc
 
-pub with_part-some : {X : Type 0} (o : Option X) (next : X → Result Read Stop) (r : Result Read Stop) → r ≢ stopped Cut → with_part o next ≡ r → (x : X) × (o ≡ Some x) × (next x ≡ r)
+pub with_part-some : {X : Type 0} (o : Option X) (next : X → Result Read Stop) (r : Result Read Stop) → r ≢ stopped Cut → with_part o next ≡ r → (x : X)
+    × (o ≡ Some x) × (next x ≡ r)
 with_part-some None next r some e = absurd (some (sym e))
 with_part-some (Some x) next r some e = (x, refl, e)
 

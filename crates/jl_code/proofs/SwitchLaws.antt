@@ -8,8 +8,8 @@ use Rattle.jl_code.specs.declared.instruction.Stop.TheVariants.{Cut, Opcode, Swi
 use Rattle.jl_pool.specs.Numbers.{u4}
 use Rattle.jl_code.specs.Instructions.{instruction_text, from_least, Pads, IsTableSwitch, IsLookupSwitch}
 use Rattle.jl_code.specs.Faults.{IsBadSwitch}
-use Rattle.jl_pool.specs.Reading.Fields.{◌>>=◌, number_at, bytes_at}
-use Rattle.jl_code.specs.Reading.Instructions.{with_part, padding_at, head_at, offsets_at, table_switch_at, pairs_at, lookup_switch_at}
+use Rattle.jl_pool.specs.Means.Fields.{◌>>=◌, number_at, bytes_at}
+use Rattle.jl_code.specs.Means.Instructions.{with_part, padding_at, head_at, offsets_at, table_switch_at, pairs_at, lookup_switch_at}
 use Rattle.jl_pool.proofs.Fields.{IsBytes, Takes, bind_some, some_is, u4_takes, u4_again, bytes_takes, bytes_again}
 use Rattle.jl_code.proofs.StopLaws.{Read, found, stopped, Spelled, with_part-some, ok_some, other_some, guarded-ok, guarded-bad, guarded-opcode}
 
@@ -39,7 +39,8 @@ record IsHead (pc : ℕ) (bytes padding : List ℕ) (default number : ℕ) (rest
   default_size : default < 2 ^ 32
   number_size : number < 2 ^ 32
 
-three_parts : (bytes one after two left three rest : List ℕ) → bytes ≡ one ++ after → after ≡ two ++ left → left ≡ three ++ rest → bytes ≡ one ++ (two ++ (three ++ rest))
+three_parts : (bytes one after two left three rest : List ℕ) → bytes ≡ one ++ after → after ≡ two ++ left → left ≡ three ++ rest → bytes ≡ one
+    ++ (two ++ (three ++ rest))
 three_parts bytes one after two left three rest e f g = e ∙ ap (λ (y : List ℕ). one ++ y) (f ∙ ap (λ (y : List ℕ). two ++ y) g)
 
 head_takes : (pc : ℕ) (bytes : List ℕ) (x : (List ℕ × ℕ × ℕ) × List ℕ) → IsBytes bytes → head_at pc bytes ≡ Some x → IsHead pc bytes x.0.0 x.0.1 x.0.2 x.1
@@ -51,7 +52,8 @@ head_takes pc bytes x fits e =
     let s = padding_takes pc bytes p.0 fits p.1 in
     let t = u4_takes p.0.1 d.0 s.0.bytes_left d.1 in
     let u = u4_takes d.0.1 n.0 t.0.bytes_left n.1 in
-    subst (λ (y : (List ℕ × ℕ × ℕ) × List ℕ). IsHead pc bytes y.0.0 y.0.1 y.0.2 y.1) {x = ((p.0.0, d.0.0, n.0.0), n.0.1)} (some_is ((p.0.0, d.0.0, n.0.0), n.0.1) x n.2)
+    subst (λ (y : (List ℕ × ℕ × ℕ) × List ℕ). IsHead pc bytes y.0.0 y.0.1 y.0.2 y.1) {x = ((p.0.0, d.0.0, n.0.0), n.0.1)}
+    (some_is ((p.0.0, d.0.0, n.0.0), n.0.1) x n.2)
     (record {
       parts = three_parts bytes p.0.0 p.0.1 (u4 d.0.0) d.0.1 (u4 n.0.0) n.0.1 s.0.parts t.0.parts u.0.parts;
       bytes_left = u.0.bytes_left;
@@ -109,10 +111,12 @@ offsets_again padding default low high least most offsets rest l h order count =
 pub table_again : (pc : ℕ) (padding : List ℕ) (default low high : ℕ) (offsets rest : List ℕ) → IsTableSwitch pc padding default low high offsets
     → table_switch_at pc (padding ++ (u4 default ++ (u4 low ++ (u4 high ++ (offsets ++ rest))))) ≡ found (TableSwitch padding default low high offsets, rest)
 table_again pc padding default low high offsets rest m =
-    table_reads pc padding default default low high (offsets ++ rest) m.pads (u4_again default (u4 low ++ (u4 high ++ (offsets ++ rest))) m.default_size) m.low_size m.high_size
+    table_reads pc padding default default low high (offsets ++ rest) m.pads (u4_again default (u4 low ++ (u4 high ++ (offsets ++ rest))) m.default_size)
+    m.low_size m.high_size
     ∙ offsets_again padding default low high (from_least low) (from_least high) offsets rest refl refl m.order m.count
 
-pub table_bad_again : (pc : ℕ) (padding : List ℕ) (default low high : ℕ) (rest : List ℕ) → Pads padding pc → low < 2 ^ 32 → high < 2 ^ 32 → from_least high < from_least low
+pub table_bad_again : (pc : ℕ) (padding : List ℕ) (default low high : ℕ) (rest : List ℕ) → Pads padding pc → low < 2 ^ 32 → high < 2 ^ 32
+    → from_least high < from_least low
     → table_switch_at pc (padding ++ (u4 default ++ (u4 low ++ (u4 high ++ rest)))) ≡ stopped Switch
 table_bad_again pc padding default low high rest pads low_size high_size bad =
     let d = some_number default (u4 low ++ (u4 high ++ rest)) in
@@ -160,7 +164,8 @@ spelled_table : (pc : ℕ) (bytes : List ℕ) (x : Read) → HasTable pc bytes (
 spelled_table pc bytes x h =
     let least = from_least h.low in
     let most = from_least h.high in
-    let g = guarded-ok (ltb most least) (bytes_at (4 * (most - least + 1)) h.rest >>= λ o. Some (TableSwitch h.padding h.default h.low h.high o.0, o.1)) x h.gives in
+    let g = guarded-ok (ltb most least) (bytes_at (4 * (most - least + 1)) h.rest >>= λ o. Some (TableSwitch h.padding h.default h.low h.high o.0, o.1)) x
+    h.gives in
     let b = bind_some (bytes_at (4 * (most - least + 1)) h.rest) (λ o. Some (TableSwitch h.padding h.default h.low h.high o.0, o.1)) x g.1 in
     let o = bytes_takes (4 * (most - least + 1)) h.rest b.0 h.bytes_left b.1 in
     subst (λ (y : Read). Spelled pc (170 ∷ bytes) y.0 y.1) (some_is (TableSwitch h.padding h.default h.low h.high b.0.0, b.0.1) x b.2)
@@ -189,8 +194,20 @@ bad_table pc bytes h =
     let bad =
     guarded-bad (ltb (from_least h.high) (from_least h.low))
     (bytes_at (4 * (from_least h.high - from_least h.low + 1)) h.rest >>= λ o. Some (TableSwitch h.padding h.default h.low h.high o.0, o.1)) h.gives
-    in
-    (h.padding, h.default, h.rest, h.pads, inl (h.low, h.high, ap (λ (y : List ℕ). 170 ∷ y) h.parts, h.low_size, h.high_size, ltb-true (from_least h.high) (from_least h.low) bad))
+    in (
+      h.padding,
+      h.default,
+      h.rest,
+      h.pads,
+      inl (
+        h.low,
+        h.high,
+        ap (λ (y : List ℕ). 170 ∷ y) h.parts,
+        h.low_size,
+        h.high_size,
+        ltb-true (from_least h.high) (from_least h.low) bad,
+      ),
+    )
 
 pub table_bad : (pc : ℕ) (bytes : List ℕ) → IsBytes bytes → table_switch_at pc bytes ≡ stopped Switch → IsBadSwitch pc (170 ∷ bytes)
 table_bad pc bytes fits e = bad_table pc bytes (has_table pc bytes (stopped Switch) fits (other_some Switch (λ e. absurd cc)) e)
@@ -217,7 +234,8 @@ look_up_reads pc padding default read count rest pads d size =
 pub look_up_again : (pc : ℕ) (padding : List ℕ) (default count : ℕ) (pairs rest : List ℕ) → IsLookupSwitch pc padding default count pairs
     → lookup_switch_at pc (padding ++ (u4 default ++ (u4 count ++ (pairs ++ rest)))) ≡ found (LookupSwitch padding default count pairs, rest)
 look_up_again pc padding default count pairs rest m =
-    look_up_reads pc padding default default count (pairs ++ rest) m.pads (u4_again default (u4 count ++ (pairs ++ rest)) m.default_size) (let below = m.not_negative in omega arith)
+    look_up_reads pc padding default default count (pairs ++ rest) m.pads (u4_again default (u4 count ++ (pairs ++ rest)) m.default_size)
+    (let below = m.not_negative in omega arith)
     ∙ rw (lt-leb (2 ^ 31) count m.not_negative, bytes_again (8 * count) pairs rest m.sizes) refl
 
 pub look_up_bad_again : (pc : ℕ) (padding : List ℕ) (default count : ℕ) (rest : List ℕ) → Pads padding pc → count < 2 ^ 32 → 2 ^ 31 ≤ count

@@ -1,20 +1,21 @@
 -- A code: instructions one after another, and its invocations (JVMS 4.7.3, 4.9.1).
-use Rattle.std.specs.Prelude.{◌≡◌, ℕ, ◌+◌, ◌≤◌, Bool, false, not, ◌==◌, ◌&&◌, ◌||◌, if◌then◌else◌, IsTrue, List, [], ◌∷◌, ◌++◌, length, codes, Option, Some, None, ⊤, option_map}
+use Rattle.std.specs.Prelude.{◌≡◌, ℕ, ◌+◌, ◌≤◌, Bool, not, ◌==◌, ◌&&◌, ◌||◌, if◌then◌else◌, IsTrue, List, [], ◌∷◌, ◌++◌, length, codes, Option}
+use Rattle.std.specs.Prelude.{Some, None, ⊤}
 use Rattle.std.specs.List.{flat_map, AllByRecursion}
-use Rattle.std.specs.Str.{byte, bytes_eq}
+use Rattle.std.specs.Str.{bytes_eq}
 use Rattle.jl_names.specs.MethodTypes.{TakesSlots}
-use Rattle.jl_pool.specs.declared.reference.Reference.{Reference}
-use Rattle.jl_pool.specs.declared.reference.CallSiteSpecifier.{CallSiteSpecifier}
-use Rattle.jl_code.specs.declared.site.Kind.{Kind}
-use Rattle.jl_code.specs.declared.site.Kind.TheVariants.{Virtual, Special, Static, Interface, Dynamic}
-use Rattle.jl_code.specs.declared.site.Operand.{Operand}
-use Rattle.jl_code.specs.declared.site.Operand.TheVariants.{Method, CallSite}
-use Rattle.jl_code.specs.Site.{Site}
-use Rattle.jl_code.specs.Known.{Invocation, invocations}
-use Rattle.jl_pool.specs.Pools.{Pool, has_tag, reference_at, call_site_at}
+use Rattle.jl_class.specs.declared.site.Kind.{Kind}
+use Rattle.jl_class.specs.declared.site.Kind.TheVariants.{Virtual, Special, Static, Interface, Dynamic}
+use Rattle.jl_class.specs.declared.site.Operand.{Operand}
+use Rattle.jl_class.specs.declared.site.Operand.TheVariants.{Method, CallSite}
+use Rattle.jl_class.specs.Site.{Site}
+use Rattle.jl_code.specs.Known.{InvokeRow, invoke_rows}
+use Rattle.jl_pool.specs.Pools.{Pool, has_tag}
 use Rattle.jl_code.specs.declared.instruction.Instruction.{Instruction}
 use Rattle.jl_code.specs.declared.instruction.Instruction.TheVariants.{Invoke}
-use Rattle.jl_code.specs.Instructions.{instruction_text, MayStand, invocation_in}
+use Rattle.jl_code.specs.Instructions.{instruction_text, MayStand, invoke_row_in}
+use Rattle.jl_class.specs.Operands.{operand_at}
+use Rattle.jl_class.specs.Special.{begins_special}
 
 abbrev pub code_bytes : List Instruction → List ℕ
 code_bytes instructions = flat_map instruction_text instructions
@@ -30,14 +31,6 @@ abbrev pub kind_of : ℕ → Kind
 kind_of opcode =
     if opcode == 182 then Virtual else (if opcode == 183 then Special else (if opcode == 184 then Static
     else (if opcode == 185 then Interface else Dynamic)))
-
-abbrev pub either_operand : Option (Reference (List ℕ)) → Option (CallSiteSpecifier (List ℕ)) → Option (Operand (List ℕ))
-either_operand (Some r) s = Some (Method r)
-either_operand None s = option_map CallSite s
-
--- what the number of an invocation names: a method, or else a call site
-abbrev pub operand_at : Pool → ℕ → Option (Operand (List ℕ))
-operand_at pool n = either_operand (reference_at pool n) (call_site_at pool n)
 
 abbrev pub site_list : ℕ → ℕ → Option (Operand (List ℕ)) → List Site
 site_list pc opcode None = []
@@ -62,10 +55,6 @@ abbrev pub operand_type : Operand (List ℕ) → List ℕ
 operand_type (Method r) = r.ty
 operand_type (CallSite c) = c.ty
 
-abbrev pub begins_special : List ℕ → Bool
-begins_special [] = false
-begins_special (b ∷ bs) = b == byte "<"
-
 -- no method whose name begins with < is invoked, but <init> by invokespecial
 abbrev pub may_name : ℕ → List ℕ → Bool
 may_name opcode name = not (begins_special name) || ((opcode == 183) && bytes_eq name (codes "<init>"))
@@ -80,8 +69,8 @@ most_slots opcode = if (opcode == 184) || (opcode == 186) then 255 else 254
 
 -- what an invocation names, and the bytes behind it
 pub record Invokes (pool : Pool) (opcode number : ℕ) (tail : List ℕ) : Type 0 where
-  pub row : Invocation
-  pub found : invocation_in invocations opcode ≡ Some row
+  pub row : InvokeRow
+  pub found : invoke_row_in invoke_rows opcode ≡ Some row
   pub tagged : IsTrue (has_tag pool row.tags number)
   pub operand : Operand (List ℕ)
   pub there : operand_at pool number ≡ Some operand

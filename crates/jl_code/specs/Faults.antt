@@ -6,7 +6,7 @@ use Rattle.jl_pool.specs.Pools.{Pool}
 use Rattle.jl_code.specs.declared.code_fault.CodeFault.{CodeFault}
 use Rattle.jl_code.specs.declared.code_fault.CodeFault.TheVariants as code
 use Rattle.jl_code.specs.declared.instruction.Instruction.{Instruction}
-use Rattle.jl_code.specs.Known.{plain_opcodes, wide_opcodes, invocations}
+use Rattle.jl_code.specs.Known.{plain_opcodes, wide_opcodes, invoke_rows}
 use Rattle.jl_code.specs.Instructions.{instruction_text, MayStand, Pads, operands_in, tail_in, from_least}
 use Rattle.jl_code.specs.Codes.{code_bytes, MayStandFrom, OperandFits}
 
@@ -18,7 +18,7 @@ pub record Runs (bytes : List ℕ) (instructions : List Instruction) (pc : ℕ) 
 
 -- an instruction begins so: of a fixed length, an invocation, tableswitch, lookupswitch, or wide
 abbrev pub is_opcode : ℕ → Bool
-is_opcode b = is_some (operands_in plain_opcodes b) || (is_some (tail_in invocations b) || ((b == 170) || ((b == 171) || (b == 196))))
+is_opcode b = is_some (operands_in plain_opcodes b) || (is_some (tail_in invoke_rows b) || ((b == 170) || ((b == 171) || (b == 196))))
 
 abbrev pub begins_opcode : List ℕ → Bool
 begins_opcode [] = true
@@ -28,7 +28,8 @@ begins_opcode (b ∷ c ∷ rest) = is_opcode b && (not (b == 196) || is_some (op
 -- a switch stands there as far as the numbers that give its size, and they can't be
 abbrev pub IsBadSwitch : ℕ → List ℕ → Type 0
 IsBadSwitch pc left = (padding : List ℕ) × (default : ℕ) × (rest : List ℕ) × Pads padding pc
-    × (((low : ℕ) × (high : ℕ) × (left ≡ 170 ∷ (padding ++ (u4 default ++ (u4 low ++ (u4 high ++ rest))))) × (low < 2 ^ 32) × (high < 2 ^ 32) × (from_least high < from_least low))
+    × (((low : ℕ) × (high : ℕ) × (left ≡ 170 ∷ (padding ++ (u4 default ++ (u4 low ++ (u4 high ++ rest))))) × (low < 2 ^ 32) × (high < 2 ^ 32)
+    × (from_least high < from_least low))
     ⊎ ((pairs : ℕ) × (left ≡ 171 ∷ (padding ++ (u4 default ++ (u4 pairs ++ rest)))) × (pairs < 2 ^ 32) × (2 ^ 31 ≤ pairs)))
 
 -- why the bytes are no code; BadLayout is no fault of theirs
@@ -37,6 +38,7 @@ IsScanFault p bytes (code.BadOpcode pc) = (is : List Instruction) × (left : Lis
 IsScanFault p bytes (code.BadSwitch pc) = (is : List Instruction) × (left : List ℕ) × Runs bytes is pc left × IsTrue (begins_opcode left) × IsBadSwitch pc left
 IsScanFault p bytes (code.CutShort pc) = (is : List Instruction) × (left : List ℕ) × Runs bytes is pc left × (left ≢ [])
     × IsTrue (begins_opcode left) × ¬ IsBadSwitch pc left × ((i : Instruction) (rest : List ℕ) → MayStand pc i → left ≢ instruction_text i ++ rest)
-IsScanFault p bytes (code.BadOperand pc) = (is : List Instruction) × (i : Instruction) × (rest : List ℕ) × Runs bytes is pc (instruction_text i ++ rest) × MayStand pc i × ¬ OperandFits p i
+IsScanFault p bytes (code.BadOperand pc) = (is : List Instruction) × (i : Instruction) × (rest : List ℕ) × Runs bytes is pc (instruction_text i ++ rest)
+    × MayStand pc i × ¬ OperandFits p i
 IsScanFault p bytes code.BadLayout = ⊥
 IsScanFault p bytes code.Memory = ⊤

@@ -1,10 +1,11 @@
 -- Instructions and their texts (JVMS 6.5).
-use Rattle.std.specs.Prelude.{◌≡◌, ℕ, ◌+◌, ◌*◌, ◌-◌, ◌<◌, ◌≤◌, ◌^◌, ◌%◌, Bool, ◌==◌, ◌&&◌, nat_le, nat_lt, if◌then◌else◌, List, [], ◌∷◌, ◌++◌, length, Option, Some, None}
+use Rattle.std.specs.Prelude.{◌≡◌, ℕ, ◌+◌, ◌*◌, ◌-◌, ◌<◌, ◌≤◌, ◌^◌, ◌%◌, Bool, ◌==◌, ◌&&◌, nat_le, nat_lt, if◌then◌else◌, List, [], ◌∷◌, ◌++◌, length}
+use Rattle.std.specs.Prelude.{Option, Some, None}
 use Rattle.std.specs.Option.{option_map_or}
 use Rattle.jl_code.specs.declared.instruction.Instruction.{Instruction}
 use Rattle.jl_code.specs.declared.instruction.Instruction.TheVariants.{Plain, Wide, Invoke, TableSwitch, LookupSwitch}
 use Rattle.jl_pool.specs.Numbers.{u1, u2, u4}
-use Rattle.jl_code.specs.Known.{Opcodes, plain_opcodes, wide_opcodes, Invocation, invocations}
+use Rattle.jl_code.specs.Known.{Opcodes, plain_opcodes, wide_opcodes, InvokeRow, invoke_rows}
 
 abbrev pub instruction_text : Instruction → List ℕ
 instruction_text (Plain opcode operands) = u1 opcode ++ operands
@@ -24,12 +25,12 @@ operands_in [] opcode = None
 operands_in (row ∷ rows) opcode = if holds_opcode opcode row then Some row.operands else operands_in rows opcode
 
 -- the row of an invocation
-abbrev pub invocation_in : List Invocation → ℕ → Option Invocation
-invocation_in [] opcode = None
-invocation_in (row ∷ rows) opcode = if row.opcode == opcode then Some row else invocation_in rows opcode
+abbrev pub invoke_row_in : List InvokeRow → ℕ → Option InvokeRow
+invoke_row_in [] opcode = None
+invoke_row_in (row ∷ rows) opcode = if row.opcode == opcode then Some row else invoke_row_in rows opcode
 
-abbrev pub tail_in : List Invocation → ℕ → Option ℕ
-tail_in rows opcode = option_map_or (λ row. Some row.tail) (invocation_in rows opcode) None
+abbrev pub tail_in : List InvokeRow → ℕ → Option ℕ
+tail_in rows opcode = option_map_or (λ row. Some row.tail) (invoke_row_in rows opcode) None
 
 -- 32 bits as a number with sign, counted up from the least
 abbrev pub from_least : ℕ → ℕ
@@ -60,6 +61,6 @@ pub record IsLookupSwitch (pc : ℕ) (padding : List ℕ) (default count : ℕ) 
 abbrev pub MayStand : ℕ → Instruction → Type 0
 MayStand pc (Plain opcode operands) = operands_in plain_opcodes opcode ≡ Some (length operands)
 MayStand pc (Wide opcode operands) = operands_in wide_opcodes opcode ≡ Some (length operands)
-MayStand pc (Invoke opcode number tail) = (tail_in invocations opcode ≡ Some (length tail)) × (number < 2 ^ 16)
+MayStand pc (Invoke opcode number tail) = (tail_in invoke_rows opcode ≡ Some (length tail)) × (number < 2 ^ 16)
 MayStand pc (TableSwitch padding default low high offsets) = IsTableSwitch pc padding default low high offsets
 MayStand pc (LookupSwitch padding default count pairs) = IsLookupSwitch pc padding default count pairs

@@ -44,13 +44,13 @@ abbrev pub wide_opcodes : List Opcodes
 wide_opcodes = opcodes 21 25 2 ∷ opcodes 54 58 2 ∷ opcodes 169 169 2 ∷ opcodes 132 132 4 ∷ []
 
 -- invocations: the opcode, the tags of what it may name, and how many bytes come behind the number
-pub record Invocation : Type 0 where
+pub record InvokeRow : Type 0 where
   pub opcode : ℕ
   pub tags : List ℕ
   pub tail : ℕ
 
-abbrev pub invocations : List Invocation
-invocations =
+abbrev pub invoke_rows : List InvokeRow
+invoke_rows =
     record { opcode = 182; tags = 10 ∷ []; tail = 0 }
     ∷ record { opcode = 183; tags = 10 ∷ 11 ∷ []; tail = 0 }
     ∷ record { opcode = 184; tags = 10 ∷ 11 ∷ []; tail = 0 }

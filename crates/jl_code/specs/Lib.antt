@@ -1,7 +1,6 @@
 pub mod Known
 pub mod Instructions
-pub mod Site
 pub mod Codes
 pub mod Kept
 pub mod Faults
-pub mod Reading
+pub mod Means

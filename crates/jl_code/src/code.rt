@@ -6,19 +6,20 @@ ghost use Rattle.std.specs.Option.{option_and_then};
 ghost use Rattle.std.specs.Str.{bytes_eq};
 ghost use Rattle.jl_code.specs.declared.instruction.Instruction.{Instruction};
 ghost use Rattle.jl_pool.specs.Pools.{Pool, text_at, signed_at};
-ghost use Rattle.jl_pool.specs.Reading.Forms.{method_slots};
+ghost use Rattle.jl_pool.specs.Means.Forms.{method_slots};
 ghost use Rattle.jl_code.specs.declared.code_fault.CodeFault.{CodeFault};
 ghost use Rattle.jl_code.specs.declared.code_fault.CodeFault.TheVariants.{Memory};
-ghost use Rattle.jl_code.specs.declared.site.KeptSite.{KeptSite};
+ghost use Rattle.jl_class.specs.declared.site.KeptSite.{KeptSite};
 ghost use Rattle.jl_code.specs.Kept.{IsKeptOf, Adds};
-ghost use Rattle.jl_code.specs.Codes.{kind_of, begins_special, may_name, most_slots, tail_of, site_at, sites_from, OperandFits, IsCode};
+ghost use Rattle.jl_code.specs.Codes.{kind_of, may_name, most_slots, tail_of, site_at, sites_from, OperandFits, IsCode};
+ghost use Rattle.jl_class.specs.Special.{begins_special};
 ghost use Rattle.jl_code.specs.Faults.{IsScanFault};
-ghost use Rattle.jl_code.specs.Reading.Sites.{may_name_tag, signed_fits, names_method, is_invoked, IsSiteFault};
+ghost use Rattle.jl_code.specs.Means.Sites.{may_name_tag, signed_fits, names_method, is_invoked, IsSiteFault};
 
 use crate::code_fault::CodeFault;
 use crate::instruction::{Instruction, Stop, instruction_at};
 use crate::plain::behind_plain;
-use crate::site::{KeptSite, Kind};
+use jl_class::{KeptSite, Kind, begins_special};
 use jl_pool::{Constant, Pool};
 
 /// The kind of an invocation.
@@ -44,16 +45,6 @@ fn may_name_tag(opcode: u8, tag: u8) -> bool
         185 => tag == 11,
         186 => tag == 18,
         _ => false,
-    }
-}
-
-/// Whether the name is that of a class or an object initializer (JVMS SE 17 §2.9): it begins with `<`. Takes no memory.
-pub fn begins_special(name: &[u8]) -> bool
-    ensures { result ≡ begins_special name.now }
-{
-    match name {
-        [first, ..] => *first == b'<',
-        [] => false,
     }
 }
 
@@ -171,7 +162,8 @@ fn site_of(
 /// names; or want of memory. `BadLayout` is none of them.
 pub fn scan(code: &[u8], pool: &Pool, sites: &mut Vec<KeptSite>) -> Result<(), CodeFault>
     requires { length code.now < 2 ^ 16 }
-    ensures ok { OnOk result ((is : List Instruction) × IsCode pool.now code.now is × Adds pool.now sites.old.items sites.new.items (sites_from pool.now 0 is)) }
+    ensures ok { OnOk result ((is : List Instruction) × IsCode pool.now code.now is
+        × Adds pool.now sites.old.items sites.new.items (sites_from pool.now 0 is)) }
     ensures fault { IfErr result (IsScanFault pool.now code.now) }
     ensures unchanged { IfErr result (λ fault. sites.new.items ≡ sites.old.items) }
 {
@@ -188,7 +180,8 @@ pub fn scan(code: &[u8], pool: &Pool, sites: &mut Vec<KeptSite>) -> Result<(), C
 /// The same; an error may have added some.
 fn scan_onto(code: &[u8], pool: &Pool, sites: &mut Vec<KeptSite>) -> Result<(), CodeFault>
     requires { length code.now < 2 ^ 16 }
-    ensures ok { OnOk result ((is : List Instruction) × IsCode pool.now code.now is × Adds pool.now sites.old.items sites.new.items (sites_from pool.now 0 is)) }
+    ensures ok { OnOk result ((is : List Instruction) × IsCode pool.now code.now is
+        × Adds pool.now sites.old.items sites.new.items (sites_from pool.now 0 is)) }
     ensures fault { IfErr result (IsScanFault pool.now code.now) }
     ensures behind { (made : List KeptSite) × (sites.new.items ≡ sites.old.items ++ made) }
 {
@@ -217,5 +210,6 @@ pub fn one_code()
 
 /// No code has a fault.
 pub fn no_fault_in_a_code()
-    ensures { (pool : Pool) (bytes : List ℕ) (is : List Instruction) (fault : CodeFault) → IsCode pool bytes is → fault ≢ Memory → ¬ IsScanFault pool bytes fault }
+    ensures { (pool : Pool) (bytes : List ℕ) (is : List Instruction) (fault : CodeFault) → IsCode pool bytes is → fault ≢ Memory
+        → ¬ IsScanFault pool bytes fault }
 {}

@@ -8,8 +8,6 @@ mod code;
 mod code_fault;
 mod instruction;
 mod plain;
-mod site;
 
-pub use code::{begins_special, no_fault_in_a_code, one_code, scan};
+pub use code::{no_fault_in_a_code, one_code, scan};
 pub use code_fault::CodeFault;
-pub use site::{KeptSite, Kind, Operand, Site, Sites};

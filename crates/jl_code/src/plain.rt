@@ -1,10 +1,7 @@
 //! Plain instructions: of a fixed length, and no invocations.
 
 ghost use Rattle.std.specs.Prelude.{◌≡◌, ◌+◌, ◌<◌, length, IfSome};
-ghost use Rattle.std.specs.Option.{option_map_or};
-ghost use Rattle.jl_code.specs.Known.{plain_opcodes};
-ghost use Rattle.jl_code.specs.Instructions.{operands_in};
-ghost use Rattle.jl_code.specs.Reading.Plain.{plain_length, IsBehindPlain};
+ghost use Rattle.jl_code.specs.Means.Plain.{plain_length, IsBehindPlain};
 
 /// How many bytes a plain instruction takes, by its opcode (JVMS SE 17 §6.5), and 0 where none has it.
 static LENGTHS: [u8; 256] = [

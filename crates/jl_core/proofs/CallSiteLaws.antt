@@ -1,11 +1,11 @@
 -- The verdicts on events of call sites, switch points and bindings.
 use Rattle.std.specs.Prelude.{◌≡◌, ℕ, Bool, true, false, if◌then◌else◌, List, Option, Some, None, option_map, Result, Ok, IsOk, slice_get, length}
 use Rattle.std.proofs.Common.{refl, ap, sym, subst, ◌∙◌}
-use Rattle.jl_code.specs.declared.site.Operand.{Operand}
-use Rattle.jl_code.specs.declared.site.Operand.TheVariants as operand
-use Rattle.jl_code.specs.Site.{Site}
+use Rattle.jl_class.specs.declared.site.Operand.{Operand}
+use Rattle.jl_class.specs.declared.site.Operand.TheVariants as operand
+use Rattle.jl_class.specs.Site.{Site}
 use Rattle.jl_types.specs.declared.ids.Place.{Place}
-use Rattle.jl_types.specs.Event.{Event}
+use Rattle.jl_types.specs.Happenings.Event.{Event}
 use Rattle.jl_types.specs.declared.event.EventOf.TheVariants as event
 use Rattle.jl_types.specs.declared.event.Made.{Made}
 use Rattle.jl_types.specs.declared.event.Made.TheVariants as made
@@ -13,15 +13,15 @@ use Rattle.jl_types.specs.declared.target.CallSiteKind.{CallSiteKind}
 use Rattle.jl_types.specs.declared.refusal.CallSiteFault.{CallSiteFault}
 use Rattle.jl_types.specs.declared.refusal.Refusal.{Refusal}
 use Rattle.jl_types.specs.declared.refusal.Refusal.TheVariants.{AlreadyBound, CallSite, UnknownSite}
-use Rattle.jl_types.specs.Target.{Target}
-use Rattle.jl_types.specs.World.{World}
-use Rattle.jl_types.specs.Members.{is_present}
-use Rattle.jl_types.specs.Sites.{bound_to, invocation_at}
-use Rattle.jl_types.specs.Events.{unless, verdict, operand_fault, bind_at, bind_fault}
+use Rattle.jl_types.specs.Values.Target.{Target}
+use Rattle.jl_types.specs.Values.World.{World}
+use Rattle.jl_types.specs.Values.Members.{is_present}
+use Rattle.jl_types.specs.Linkage.Stages.{bound_to, invocation_at}
+use Rattle.jl_types.specs.Happenings.Events.{unless, verdict, operand_fault, bind_at, bind_fault}
 use Rattle.jl_types.proofs.Firsts.{first_none}
 use Rattle.jl_callsites.specs.Faults.{new_site_fault, set_target_fault}
 use Rattle.jl_callsites.proofs.Worlds.{new_site_comes_to, set_target_comes_to}
-use Rattle.jl_core.specs.Judging.{IsJudged}
+use Rattle.jl_core.specs.Means.Judging.{IsJudged}
 
 module _ (w : World) (kind : CallSiteKind) (ty : List ℕ) (t : Target) where
   pub new_site_verdict : (o : Option CallSiteFault) → new_site_fault w.classes w.sites ty t ≡ o

@@ -4,7 +4,7 @@ use Rattle.std.specs.Bool.{then_some}
 use Rattle.std.specs.List.{list_any}
 use Rattle.std.proofs.Common.{refl, ap, sym, ◌∙◌}
 use Rattle.std.proofs.lemmas.Bool.{leb-false}
-use Rattle.jl_classfile.specs.Class.{ClassFile}
+use Rattle.jl_class.specs.Class.{ClassFile}
 use Rattle.jl_types.specs.declared.event.EventOf.TheVariants as event
 use Rattle.jl_types.specs.declared.event.Made.{Made}
 use Rattle.jl_types.specs.declared.event.Made.TheVariants as made
@@ -13,15 +13,15 @@ use Rattle.jl_types.specs.declared.target.CallSiteKind.{CallSiteKind}
 use Rattle.jl_types.specs.declared.refusal.CallSiteFault.TheVariants.{Full}
 use Rattle.jl_types.specs.declared.refusal.Refusal.{Refusal}
 use Rattle.jl_types.specs.declared.refusal.Refusal.TheVariants as refusal
-use Rattle.jl_types.specs.Target.{Target}
-use Rattle.jl_types.specs.World.{World}
-use Rattle.jl_types.specs.Definitions.{define_fault, delegate_fault}
-use Rattle.jl_types.specs.Retirement.{retire_fault}
-use Rattle.jl_types.specs.Events.{unless, most_of_a_kind, new_call_site_fault, set_target_fault, invalidate_fault, bind_fault, install_fault}
+use Rattle.jl_types.specs.Values.Target.{Target}
+use Rattle.jl_types.specs.Values.World.{World}
+use Rattle.jl_types.specs.Happenings.Definitions.{define_fault, delegate_fault}
+use Rattle.jl_types.specs.Happenings.Retirement.{retire_fault}
+use Rattle.jl_types.specs.Happenings.Events.{unless, most_of_a_kind, new_call_site_fault, set_target_fault, invalidate_fault, bind_fault, install_fault}
 use Rattle.jl_types.proofs.Firsts.{test_none}
 use Rattle.jl_callsites.specs.Known.{is_known}
 use Rattle.jl_callsites.proofs.Accepted as free
-use Rattle.jl_core.specs.Changes.{IsAcceptable}
+use Rattle.jl_core.specs.Means.Changes.{IsAcceptable}
 use Rattle.jl_core.proofs.CallSiteLaws.{no_fault, given_so, none_of}
 
 -- what the event is answered is what it makes, at each limit at which it is accepted

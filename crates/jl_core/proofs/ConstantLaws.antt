@@ -1,11 +1,11 @@
 -- What stays constant through an accepted change of the classes.
 use Rattle.std.specs.Prelude.{◌≡◌, ℕ, List, [], ◌∷◌, ◌++◌, None}
 use Rattle.std.proofs.Common.{sym, subst}
-use Rattle.jl_classfile.specs.Class.{ClassFile}
-use Rattle.jl_types.specs.World.{Classes}
-use Rattle.jl_types.specs.Ancestry.{AreOrdered}
-use Rattle.jl_types.specs.Definitions.{defined, delegate_fault, delegated}
-use Rattle.jl_types.specs.Retirement.{classes_fault, retired}
+use Rattle.jl_class.specs.Class.{ClassFile}
+use Rattle.jl_types.specs.Values.World.{Classes}
+use Rattle.jl_types.specs.Values.Ancestry.{AreOrdered}
+use Rattle.jl_types.specs.Happenings.Definitions.{defined, delegate_fault, delegated}
+use Rattle.jl_types.specs.Happenings.Retirement.{classes_fault, retired}
 use Rattle.jl_types.proofs.Orders.{IsGood, defined_good}
 use Rattle.jl_hierarchy.specs.Constancy.{AreInOrder, IsClosed, Stays}
 use Rattle.jl_hierarchy.proofs.Constancy.{stays_retired}

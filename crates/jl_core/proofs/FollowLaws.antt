@@ -6,13 +6,13 @@ use Rattle.std.proofs.Common.{refl, ap, sym, subst, ◌∙◌, arith}
 use Rattle.std.proofs.lemmas.List.{map-append}
 use Rattle.std.proofs.lemmas.Option.{same_Some}
 use Rattle.jl_types.specs.declared.link.Link.{Link}
-use Rattle.jl_types.specs.Event.{Event}
+use Rattle.jl_types.specs.Happenings.Event.{Event}
 use Rattle.jl_types.specs.declared.event.Reply.{Reply}
-use Rattle.jl_types.specs.World.{Class, World}
-use Rattle.jl_types.specs.Links.{scratch}
-use Rattle.jl_types.specs.Events.{verdict, step}
-use Rattle.jl_types.specs.History.{world_after, installed, installs, kept, dropped}
-use Rattle.jl_types.specs.History as history
+use Rattle.jl_types.specs.Values.World.{Class, World}
+use Rattle.jl_types.specs.Linkage.Links.{scratch}
+use Rattle.jl_types.specs.Happenings.Events.{verdict, step}
+use Rattle.jl_types.specs.Happenings.History.{world_after, installed, installs, kept, dropped}
+use Rattle.jl_types.specs.Happenings.History as history
 use Rattle.jl_types.proofs.OneMore.{installed_step}
 use Rattle.jl_types.proofs.Places.{accepted_of, world_more}
 use Rattle.jl_types.specs.declared.key.Key.{Key}
@@ -22,7 +22,7 @@ use Rattle.jl_deps.specs.Indexes.{AreRising, IsIndex}
 use Rattle.jl_core.specs.declared.log.Entry.{Entry}
 use Rattle.jl_core.specs.State.{State, events, world_of, AreAnswered}
 use Rattle.jl_core.specs.Logs.{event_of, told, are_told, shown, IsLogged}
-use Rattle.jl_core.specs.Replays.{IsBehind, IsNext, IsFurther}
+use Rattle.jl_core.specs.Means.Replays.{IsBehind, IsNext, IsFurther}
 use Rattle.jl_core.proofs.LogLaws.{length_told}
 use Rattle.jl_core.proofs.HistoryLaws.{core_of, IsExact, exact_links, shown_further, told_further}
 

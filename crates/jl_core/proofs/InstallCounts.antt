@@ -4,14 +4,14 @@ use Rattle.std.proofs.Common.{arith}
 use Rattle.std.proofs.lemmas.Bool.Decides.{nat_tests}
 use Rattle.std.proofs.lemmas.List.Sums.{sum_by-cons}
 use Rattle.jl_types.specs.declared.link.Link.{Link}
-use Rattle.jl_types.specs.World.{Classes, World}
-use Rattle.jl_types.specs.Members.{is_concrete}
-use Rattle.jl_types.specs.Ancestry.{is_ancestor}
-use Rattle.jl_types.specs.Batches.{is_bad_size}
+use Rattle.jl_types.specs.Values.World.{Classes, World}
+use Rattle.jl_types.specs.Values.Members.{is_concrete}
+use Rattle.jl_types.specs.Values.Ancestry.{is_ancestor}
+use Rattle.jl_types.specs.Happenings.Batches.{is_bad_size}
 use Rattle.jl_types.specs.declared.key.Key.{Key}
 use Rattle.jl_types.specs.declared.key.Key.TheVariants as key
-use Rattle.jl_types.specs.Footprints.{footprint, most_by, most_for}
-use Rattle.jl_core.specs.Judging.{most_of_rows}
+use Rattle.jl_types.specs.Happenings.Footprints.{footprint, most_by, most_for}
+use Rattle.jl_core.specs.Means.Judging.{most_of_rows}
 use Rattle.jl_core.proofs.StepLaws.{few_of_range}
 
 pub few_by : (cs : Classes) → length cs.rows ≤ 65536 → (keys : List Key) → most_by cs keys ≤ 65536

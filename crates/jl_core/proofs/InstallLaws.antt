@@ -7,19 +7,19 @@ use Rattle.std.proofs.lemmas.Bool.Decides.{Decides-eqb}
 use Rattle.std.proofs.lemmas.Option.{same_Some}
 use Rattle.jl_types.specs.declared.link.Link.{Link}
 use Rattle.jl_types.specs.declared.answer.Unlinked.{Unlinked}
-use Rattle.jl_types.specs.Means.SameLink.{same_link}
+use Rattle.jl_types.specs.Linkage.Links.{same_link}
 use Rattle.jl_types.specs.declared.refusal.Refusal.TheVariants as refusal
-use Rattle.jl_types.specs.World.{World}
-use Rattle.jl_types.specs.Resolution.{first_of}
-use Rattle.jl_types.specs.Links.{scratch}
-use Rattle.jl_types.specs.Batches.{is_bad_size, sites_fault}
-use Rattle.jl_types.specs.Events.{of_sites, row_fault, install_fault}
-use Rattle.jl_types.specs.History.{kept}
+use Rattle.jl_types.specs.Values.World.{World}
+use Rattle.jl_types.specs.Linkage.Resolution.{first_of}
+use Rattle.jl_types.specs.Linkage.Links.{scratch}
+use Rattle.jl_types.specs.Happenings.Batches.{is_bad_size, sites_fault}
+use Rattle.jl_types.specs.Happenings.Events.{of_sites, row_fault, install_fault}
+use Rattle.jl_types.specs.Happenings.History.{kept}
 use Rattle.jl_types.proofs.Firsts.{first_none}
 use Rattle.jl_types.proofs.Accepting.{linked, good_link}
 use Rattle.jl_cache.specs.Links.{link_at, link_with}
-use Rattle.jl_core.specs.Judging.{row_faults}
-use Rattle.jl_core.specs.Changes.{AreScratch}
+use Rattle.jl_core.specs.Means.Judging.{row_faults}
+use Rattle.jl_core.specs.Means.Changes.{AreScratch}
 use Rattle.jl_core.proofs.KeptLaws.{kept_same, kept_once}
 
 module _ (w : World) (s : ℕ) where

@@ -5,13 +5,13 @@ use Rattle.std.proofs.Common.{refl, ap, ◌∙◌}
 use Rattle.std.proofs.lemmas.Option.{slice_get_within}
 use Rattle.std.proofs.lemmas.List.Elements.{filter_map-append}
 use Rattle.std.proofs.lemmas.List.Folds.{list_all-append}
-use Rattle.jl_classfile.specs.Class.{ClassFile}
-use Rattle.jl_types.specs.Event.{Event}
+use Rattle.jl_class.specs.Class.{ClassFile}
+use Rattle.jl_types.specs.Happenings.Event.{Event}
 use Rattle.jl_types.specs.declared.event.EventOf.TheVariants as event
 use Rattle.jl_types.specs.declared.event.Reply.{Reply}
-use Rattle.jl_types.specs.World.{Class, Classes, World}
-use Rattle.jl_types.specs.Events.{step}
-use Rattle.jl_types.specs.Definitions.{class_made, defined}
+use Rattle.jl_types.specs.Values.World.{Class, Classes, World}
+use Rattle.jl_types.specs.Happenings.Events.{step}
+use Rattle.jl_types.specs.Happenings.Definitions.{class_made, defined}
 use Rattle.jl_types.proofs.Lists.{before_end, at_end}
 use Rattle.jl_core.specs.Logs.{Accepted}
 use Rattle.jl_core.specs.declared.log.Entry.{Entry}

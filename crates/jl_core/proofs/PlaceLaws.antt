@@ -1,16 +1,16 @@
 -- The request of a place.
 use Rattle.std.specs.Prelude.{◌≡◌, ℕ, Bool, true, if◌then◌else◌, position, length, Option, Some, None, is_some, Err, IsOk}
 use Rattle.std.proofs.Common.{refl, ap, sym, subst, ◌∙◌}
-use Rattle.jl_code.specs.Site.{Site}
+use Rattle.jl_class.specs.Site.{Site}
 use Rattle.jl_types.specs.declared.ids.Place.{Place}
 use Rattle.jl_types.specs.declared.event.Made.TheVariants as made
 use Rattle.jl_types.specs.declared.refusal.Refusal.{Refusal}
 use Rattle.jl_types.specs.declared.refusal.Refusal.TheVariants.{UnknownClass}
 use Rattle.jl_types.specs.declared.event.EventOf.TheVariants as event
-use Rattle.jl_types.specs.Members.{is_present}
-use Rattle.jl_types.specs.Events.{same_place, new_place_fault, request_place, if_invoked, unless, verdict}
-use Rattle.jl_types.specs.World.{World}
-use Rattle.jl_types.specs.Sites.{invocation_at}
+use Rattle.jl_types.specs.Values.Members.{is_present}
+use Rattle.jl_types.specs.Happenings.Events.{same_place, new_place_fault, request_place, if_invoked, unless, verdict}
+use Rattle.jl_types.specs.Values.World.{World}
+use Rattle.jl_types.specs.Linkage.Stages.{invocation_at}
 
 -- ---- one place more
 

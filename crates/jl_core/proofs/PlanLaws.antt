@@ -5,13 +5,13 @@ use Rattle.std.proofs.Common.{refl, ap, sym, ◌∙◌, arith}
 use Rattle.std.proofs.lemmas.List.{map-append}
 use Rattle.std.proofs.lemmas.Option.{same_Some, slice_get_within}
 use Rattle.jl_types.specs.declared.link.Link.{Link}
-use Rattle.jl_types.specs.Event.{Event}
+use Rattle.jl_types.specs.Happenings.Event.{Event}
 use Rattle.jl_types.specs.declared.event.EventOf.TheVariants as event
 use Rattle.jl_types.specs.declared.event.Reply.{Reply}
-use Rattle.jl_types.specs.World.{Class}
-use Rattle.jl_types.specs.Events.{verdict}
-use Rattle.jl_types.specs.History.{installed, installs, dropped}
-use Rattle.jl_types.specs.Entries.{slots_changed}
+use Rattle.jl_types.specs.Values.World.{Class}
+use Rattle.jl_types.specs.Happenings.Events.{verdict}
+use Rattle.jl_types.specs.Happenings.History.{installed, installs, dropped}
+use Rattle.jl_types.specs.Happenings.Entries.{slots_changed}
 use Rattle.jl_types.proofs.Lists.{at_end}
 use Rattle.jl_types.proofs.Places.{accepted_of}
 use Rattle.jl_cache.specs.Links.{link_at}
@@ -19,7 +19,7 @@ use Rattle.jl_core.specs.Logs.{Accepted}
 use Rattle.jl_core.specs.declared.log.Entry.{Entry}
 use Rattle.jl_core.specs.State.{State, events, world_of, IsAccepted}
 use Rattle.jl_core.specs.Logs.{event_of, are_told, shown}
-use Rattle.jl_core.specs.Touched.{has, touched_by, AreTouched, slot_at}
+use Rattle.jl_core.specs.Means.Touched.{has, touched_by, AreTouched, slot_at}
 use Rattle.jl_core.proofs.LogLaws.{length_told}
 use Rattle.jl_core.proofs.FollowLaws.{told_at, event_told, no_more}
 use Rattle.jl_core.proofs.SlotLaws.{slots_are}

@@ -3,26 +3,26 @@ use Rattle.std.specs.Prelude.{◌≡◌, ℕ, Bool, true, false, List, map, Opti
 use Rattle.std.proofs.Common.{refl, ap, sym, subst, ◌∙◌}
 use Rattle.std.proofs.lemmas.Option.{same_Some}
 use Rattle.jl_types.specs.declared.link.Link.{Link}
-use Rattle.jl_types.specs.Event.{Event}
+use Rattle.jl_types.specs.Happenings.Event.{Event}
 use Rattle.jl_types.specs.declared.event.EventOf.TheVariants as event
 use Rattle.jl_types.specs.declared.event.Made.TheVariants as made
 use Rattle.jl_types.specs.declared.refusal.Refusal.TheVariants.{Define}
-use Rattle.jl_types.specs.World.{Class, World}
-use Rattle.jl_types.specs.Definitions.{define_fault}
-use Rattle.jl_types.specs.Links.{scratch}
-use Rattle.jl_types.specs.Events.{verdict, step}
-use Rattle.jl_types.specs.History.{installs, kept}
+use Rattle.jl_types.specs.Values.World.{Class, World}
+use Rattle.jl_types.specs.Happenings.Definitions.{define_fault}
+use Rattle.jl_types.specs.Linkage.Links.{scratch}
+use Rattle.jl_types.specs.Happenings.Events.{verdict, step}
+use Rattle.jl_types.specs.Happenings.History.{installs, kept}
 use Rattle.jl_hierarchy.specs.Constancy as constancy
 use Rattle.jl_types.specs.declared.key.Key.{Key}
-use Rattle.jl_types.specs.Footprints.{footprint, keys, retires}
+use Rattle.jl_types.specs.Happenings.Footprints.{footprint, keys, retires}
 use Rattle.jl_cache.specs.Links.{link_at}
 use Rattle.jl_deps.specs.Indexes.{footprint_at, touched_by, AreRising, IsIndex}
 use Rattle.jl_settle.specs.Settling.{HasChanged, defined_by}
 use Rattle.jl_settle.proofs.SettleLaws.{other}
 use Rattle.jl_core.specs.Logs.{Accepted, event_of}
-use Rattle.jl_core.specs.Changes.{IsAcceptable, installs_at, retires_at}
-use Rattle.jl_core.specs.Replays.{IsNext, IsFurther, IsUntouched}
-use Rattle.jl_core.specs.Touched.{has}
+use Rattle.jl_core.specs.Means.Changes.{IsAcceptable, installs_at, retires_at}
+use Rattle.jl_core.specs.Means.Replays.{IsNext, IsFurther, IsUntouched}
+use Rattle.jl_core.specs.Means.Touched.{has}
 use Rattle.jl_core.proofs.CallSiteLaws.{no_fault, none_of}
 use Rattle.jl_core.proofs.RetireLaws.{retires_so, links_left, index_left, kept_left}
 use Rattle.jl_core.proofs.StepLaws.{none_touched}
@@ -173,7 +173,8 @@ module _ (old ahead : World) (told : Accepted) (links left linked : List (ℕ ×
         links_taken old ahead told left linked near far (further_left old ahead told links left linked index near far further rising dropped taken)
         sites others left_there after took
 
-    pub index_followed : (farther : List (ℕ × List Key)) → ((s : ℕ) → footprint_at farther s ≡ (if has s sites then footprint_at far s else footprint_at near s))
+    pub index_followed : (farther : List (ℕ × List Key))
+        → ((s : ℕ) → footprint_at farther s ≡ (if has s sites then footprint_at far s else footprint_at near s))
         → IsIndex ahead (link_at after) farther
     unfolding further_left
     index_followed farther put =

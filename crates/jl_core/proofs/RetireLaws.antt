@@ -1,5 +1,6 @@
 -- Which sites an event retires, and what is left of the links and the index once these were dropped.
-use Rattle.std.specs.Prelude.{◌≡◌, ℕ, ◌*◌, ◌+◌, ◌≤◌, ◌<◌, ◌==◌, ◌&&◌, ◌||◌, not, Bool, true, false, cond, List, [], ◌∷◌, filter, sum_by, length, Option, Some, None, option_map, Result, Ok, Err, is_some, is_none, slice_get, if◌then◌else◌}
+use Rattle.std.specs.Prelude.{◌≡◌, ℕ, ◌*◌, ◌+◌, ◌≤◌, ◌<◌, ◌==◌, ◌&&◌, ◌||◌, not, Bool, true, false, cond, List, [], ◌∷◌, filter, sum_by, length}
+use Rattle.std.specs.Prelude.{Option, Some, None, option_map, Result, Ok, Err, is_some, is_none, slice_get, if◌then◌else◌}
 use Rattle.std.specs.Option.{option_map_or}
 use Rattle.std.proofs.Common.{refl, ap, sym, ◌∙◌, arith}
 use Rattle.std.proofs.lemmas.Bool.Decides.{Decides-eqb}
@@ -8,24 +9,24 @@ use Rattle.std.proofs.lemmas.Option.{same_Some}
 use Rattle.jl_types.specs.declared.answer.Unlinked.{Unlinked}
 use Rattle.jl_types.specs.declared.answer.Unlinked.TheVariants.{Gone}
 use Rattle.jl_types.specs.declared.link.Link.{Link}
-use Rattle.jl_types.specs.Event.{Event}
+use Rattle.jl_types.specs.Happenings.Event.{Event}
 use Rattle.jl_types.specs.declared.event.EventOf.TheVariants as event
-use Rattle.jl_types.specs.World.{Class, World}
-use Rattle.jl_types.specs.Links.{scratch}
-use Rattle.jl_types.specs.Events.{step}
-use Rattle.jl_types.specs.History.{installs, kept}
+use Rattle.jl_types.specs.Values.World.{Class, World}
+use Rattle.jl_types.specs.Linkage.Links.{scratch}
+use Rattle.jl_types.specs.Happenings.Events.{step}
+use Rattle.jl_types.specs.Happenings.History.{installs, kept}
 use Rattle.jl_types.specs.declared.key.Key.{Key}
-use Rattle.jl_types.specs.Footprints.{footprint, meets, retires}
+use Rattle.jl_types.specs.Happenings.Footprints.{footprint, meets, retires}
 use Rattle.jl_types.proofs.BySite.{rises_of}
 use Rattle.jl_types.proofs.Retiring.{gone_after}
-use Rattle.jl_hierarchy.specs.Kept.{Rises}
+use Rattle.jl_hierarchy.specs.Means.Kept.{Rises}
 use Rattle.jl_hierarchy.proofs.Rising.{has, one_rising}
 use Rattle.jl_resolve.proofs.Unchanged.{all_filter}
 use Rattle.jl_cache.specs.Links.{link_at}
 use Rattle.jl_deps.specs.Indexes.{footprint_at, touched_by, AreRising, IsIndex}
 use Rattle.jl_deps.proofs.TouchLaws.{passing, sites_rise}
 use Rattle.jl_core.specs.Logs.{Accepted, event_of}
-use Rattle.jl_core.specs.Changes.{retires_at}
+use Rattle.jl_core.specs.Means.Changes.{retires_at}
 
 -- ---- what is retired
 
@@ -150,7 +151,8 @@ touched_left retired index near keys rising rising_near taken =
     ∙ ap (λ (b : Bool). not (retired s) && b) (sym (passing (λ f. meets f keys) s index (rises_of index rising)))
     ∙ sym (has_filter (λ t. not (retired t)) (touched_by index keys) s))
   where
-    by_test : (b : Bool) (o : Option (List Key)) → option_map_or (λ f. meets f keys) (if b then None else o) false ≡ (not b && option_map_or (λ f. meets f keys) o false)
+    by_test : (b : Bool) (o : Option (List Key)) → option_map_or (λ f. meets f keys) (if b then None else o) false ≡ (not b
+        && option_map_or (λ f. meets f keys) o false)
     by_test true o = refl
     by_test false o = refl
 

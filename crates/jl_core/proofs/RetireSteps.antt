@@ -1,22 +1,23 @@
 -- The links and the index once a loader is retired.
-use Rattle.std.specs.Prelude.{◌≡◌, ℕ, ◌+◌, ◌*◌, ◌<◌, ◌≤◌, ◌^◌, ◌==◌, ◌&&◌, ◌||◌, not, Bool, true, false, List, [], ◌∷◌, ◌++◌, filter, sum_by, length, None, is_some, is_none, if◌then◌else◌}
+use Rattle.std.specs.Prelude.{◌≡◌, ℕ, ◌+◌, ◌*◌, ◌<◌, ◌≤◌, ◌^◌, ◌==◌, ◌&&◌, ◌||◌, not, Bool, true, false, List, [], ◌∷◌, ◌++◌, filter, sum_by, length}
+use Rattle.std.specs.Prelude.{None, is_some, is_none, if◌then◌else◌}
 use Rattle.std.proofs.Common.{refl, ap, sym, subst, ◌∙◌, arith}
 use Rattle.std.proofs.lemmas.Option.{same_Some}
 use Rattle.jl_types.specs.declared.link.Link.{Link}
 use Rattle.jl_types.specs.declared.event.EventOf.TheVariants as event
-use Rattle.jl_types.specs.World.{World}
-use Rattle.jl_types.specs.Links.{scratch}
-use Rattle.jl_types.specs.Retirement.{retires_site}
-use Rattle.jl_types.specs.Events.{step}
-use Rattle.jl_types.specs.History.{installs, kept}
+use Rattle.jl_types.specs.Values.World.{World}
+use Rattle.jl_types.specs.Linkage.Links.{scratch}
+use Rattle.jl_types.specs.Happenings.Retirement.{retires_site}
+use Rattle.jl_types.specs.Happenings.Events.{step}
+use Rattle.jl_types.specs.Happenings.History.{installs, kept}
 use Rattle.jl_types.specs.declared.key.Key.{Key}
-use Rattle.jl_types.specs.Footprints.{footprint, keys, most_for}
+use Rattle.jl_types.specs.Happenings.Footprints.{footprint, keys, most_for}
 use Rattle.jl_cache.specs.Links.{link_at}
 use Rattle.jl_deps.specs.Indexes.{footprint_at, touched_by, AreRising}
 use Rattle.jl_settle.specs.Settling.{HasChanged, kept_at, goes, most_asked}
-use Rattle.jl_core.specs.Changes.{retires_at}
-use Rattle.jl_core.specs.Steps.{IsLed, most_told}
-use Rattle.jl_core.specs.Touched.{has}
+use Rattle.jl_core.specs.Means.Changes.{retires_at}
+use Rattle.jl_core.specs.Means.Steps.{IsLed, most_told}
+use Rattle.jl_core.specs.Means.Touched.{has}
 use Rattle.jl_core.proofs.RetireLaws.{retires_so, links_left, index_left, kept_left, touched_left, few_in_sum, lost_or_gone}
 use Rattle.jl_core.proofs.StepLaws.{few_touched, no_more}
 use Rattle.jl_core.proofs.InstallCounts.{few_by}
@@ -80,7 +81,8 @@ module _ (w : World) (ks : List Key) (loader : ℕ) (links : List (ℕ × Link))
         let sum : sum_by (most_asked w None) (touched_by near ks) ≤ length (touched_by near ks) * 65536 =
         few_in_sum (most_for w) (λ s. few_by w.classes few (footprint w s)) (touched_by near ks) in
         let fewer : length (touched_by near ks) ≤ length (touched_by index ks) =
-        subst (λ (ts : List ℕ). length ts ≤ length (touched_by index ks)) (sym touched_are) (no_more (λ s. not (retires_site w loader s)) (touched_by index ks)) in
+        subst (λ (ts : List ℕ). length ts ≤ length (touched_by index ks)) (sym touched_are) (no_more (λ s. not (retires_site w loader s)) (touched_by index ks))
+        in
         let some = few_touched led.before links index led.sound led.event in
         let same : length (touched_by index ks) ≡ length (touched_by index (keys led.before led.event)) =
         ap (λ (k : List Key). length (touched_by index k)) led.keys_are in

@@ -3,12 +3,12 @@ use Rattle.std.specs.Prelude.{◌≡◌, true, false, [], ◌∷◌, Some, None,
 use Rattle.std.proofs.Common.{refl, inl}
 use Rattle.jl_types.specs.declared.event.EventOf.TheVariants as event
 use Rattle.jl_types.specs.declared.event.Made.TheVariants as made
-use Rattle.jl_types.specs.Event.{Event}
+use Rattle.jl_types.specs.Happenings.Event.{Event}
 use Rattle.jl_types.specs.declared.event.Reply.{Reply}
 use Rattle.jl_types.specs.declared.refusal.Refusal.TheVariants.{CallSite}
 use Rattle.jl_types.specs.declared.refusal.CallSiteFault.TheVariants.{UnknownSwitch}
-use Rattle.jl_types.specs.Footprints.{bound}
-use Rattle.jl_types.specs.World.{Class, nothing_yet}
+use Rattle.jl_types.specs.Happenings.Footprints.{bound}
+use Rattle.jl_types.specs.Values.World.{Class, nothing_yet}
 use Rattle.jl_select.proofs.Constancy.{constant_itself}
 use Rattle.jl_relink.proofs.Loaders.{loader_constant}
 use Rattle.jl_core.specs.declared.log.Entry.{Entry}

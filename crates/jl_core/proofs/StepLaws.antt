@@ -5,19 +5,19 @@ use Rattle.std.specs.List.{list_any, range_with_len}
 use Rattle.std.proofs.Common.{refl, ap, sym, subst, ◌∙◌, arith}
 use Rattle.std.proofs.lemmas.Option.{same_Some}
 use Rattle.std.proofs.lemmas.List.FromFn.{length-range_with_len}
-use Rattle.jl_types.specs.Event.{Event}
+use Rattle.jl_types.specs.Happenings.Event.{Event}
 use Rattle.jl_types.specs.declared.link.Link.{Link}
-use Rattle.jl_types.specs.World.{Class, World}
-use Rattle.jl_types.specs.Links.{scratch}
-use Rattle.jl_types.specs.History.{kept}
-use Rattle.jl_types.specs.Events as events
-use Rattle.jl_types.specs.Events.{install_fault}
+use Rattle.jl_types.specs.Values.World.{Class, World}
+use Rattle.jl_types.specs.Linkage.Links.{scratch}
+use Rattle.jl_types.specs.Happenings.History.{kept}
+use Rattle.jl_types.specs.Happenings.Events as events
+use Rattle.jl_types.specs.Happenings.Events.{install_fault}
 use Rattle.jl_types.specs.declared.event.EventOf.TheVariants as event
 use Rattle.jl_types.proofs.InstalledLinks.{requested}
 use Rattle.jl_hierarchy.proofs.Rising.{one_rising, filter_rises}
 use Rattle.jl_types.specs.declared.key.Key.{Key}
-use Rattle.jl_types.specs.Retirement.{retires_site}
-use Rattle.jl_types.specs.Footprints.{keys, meets, most_for, touches}
+use Rattle.jl_types.specs.Happenings.Retirement.{retires_site}
+use Rattle.jl_types.specs.Happenings.Footprints.{keys, meets, most_for, touches}
 use Rattle.jl_cache.specs.Links.{link_at, link_with}
 use Rattle.jl_deps.specs.Indexes.{IsIndex, touched_by}
 use Rattle.jl_types.proofs.BySite.{rises_of}
@@ -27,9 +27,9 @@ use Rattle.jl_deps.proofs.PointLaws.{in_range}
 use Rattle.jl_settle.specs.Settling.{HasChanged, kept_at, goes, most_asked}
 use Rattle.jl_settle.proofs.SettleLaws.{is_retirement, most_are}
 use Rattle.jl_core.specs.Logs.{Accepted, event_of}
-use Rattle.jl_core.specs.Changes.{IsAcceptable, class_of, installs_at, retires_at, lost}
-use Rattle.jl_core.specs.Steps.{IsSound, IsLed, most_to_settle, most_told}
-use Rattle.jl_core.specs.Touched.{has, AreTouched}
+use Rattle.jl_core.specs.Means.Changes.{IsAcceptable, class_of, installs_at, retires_at, lost}
+use Rattle.jl_core.specs.Means.Steps.{IsSound, IsLed, most_to_settle, most_told}
+use Rattle.jl_core.specs.Means.Touched.{has, AreTouched}
 use Rattle.jl_core.proofs.KeptLaws.{kept_once}
 use Rattle.jl_core.proofs.InstallLaws.{install_keeps}
 use Rattle.jl_core.proofs.ChangeLaws.{rows_free}
@@ -209,7 +209,8 @@ module _ (old new : World) (index : List (ℕ × List Key)) (e : Event) (ks : Li
 
 module _ (w : World) (ks : List Key) (told : Accepted) (links : List (ℕ × Link)) (index : List (ℕ × List Key)) (led : IsLed w ks told links index) where
   -- where no loader goes
-  pub has_changed : ((loader : ℕ) → told ≡ event.Retire loader → ⊥) → (defined : Option ℕ) → class_of told ≡ defined → HasChanged w ks defined (link_at links) index
+  pub has_changed : ((loader : ℕ) → told ≡ event.Retire loader → ⊥) → (defined : Option ℕ) → class_of told ≡ defined
+      → HasChanged w ks defined (link_at links) index
   has_changed other defined is = record {
     before = led.before;
     event = led.event;

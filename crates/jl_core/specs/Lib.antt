@@ -4,8 +4,4 @@ pub mod Logs
 pub mod Plans
 pub mod Headline
 pub mod Works
-pub mod Judging
-pub mod Changes
-pub mod Steps
-pub mod Replays
-pub mod Touched
+pub mod Means

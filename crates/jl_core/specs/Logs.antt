@@ -1,12 +1,12 @@
 -- What the entries of a log tell.
 use Rattle.std.specs.Prelude.{◌≡◌, ℕ, Bool, List, [], ◌∷◌, ◌++◌, filter_map, slice_get, Option, Some, option_map, is_some}
 use Rattle.std.specs.List.{list_all}
-use Rattle.jl_types.specs.Event.{Event}
+use Rattle.jl_types.specs.Happenings.Event.{Event}
 use Rattle.jl_types.specs.declared.event.EventOf.{EventOf}
 use Rattle.jl_types.specs.declared.event.EventOf.TheVariants as event
 use Rattle.jl_types.specs.declared.link.Link.{Link}
 use Rattle.jl_types.specs.declared.event.Reply.{Reply}
-use Rattle.jl_types.specs.World.{Class}
+use Rattle.jl_types.specs.Values.World.{Class}
 use Rattle.jl_core.specs.declared.log.Entry.{Entry}
 
 -- what a log keeps of an event: a definition carries the number of its class

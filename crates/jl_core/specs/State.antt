@@ -2,15 +2,15 @@
 -- installed (polymorphic inline caches: Hölzle, Chambers and Ungar 1991) is what these events come to.
 use Rattle.std.specs.Prelude.{◌≡◌, ◌⊎◌, ℕ, List, [], ◌∷◌, ◌++◌, map, take, slice_get, Some, Result, Ok, Err, IsOk}
 use Rattle.jl_types.specs.declared.link.Link.{Link}
-use Rattle.jl_types.specs.Event.{Event}
+use Rattle.jl_types.specs.Happenings.Event.{Event}
 use Rattle.jl_types.specs.declared.event.Made.{Made}
 use Rattle.jl_types.specs.declared.event.Reply.{Reply}
 use Rattle.jl_types.specs.declared.refusal.Refusal.{Refusal}
 use Rattle.jl_types.specs.declared.refusal.Refusal.TheVariants.{Memory}
-use Rattle.jl_types.specs.World.{World}
-use Rattle.jl_types.specs.Events.{verdict}
-use Rattle.jl_types.specs.History.{world_after, installed_links}
-use Rattle.jl_types.specs.History as history
+use Rattle.jl_types.specs.Values.World.{World}
+use Rattle.jl_types.specs.Happenings.Events.{verdict}
+use Rattle.jl_types.specs.Happenings.History.{world_after, installed_links}
+use Rattle.jl_types.specs.Happenings.History as history
 use Rattle.jl_select.specs.Constancy.{IsConstant}
 
 pub record State : Type 0 where
@@ -34,7 +34,8 @@ links_of core = installed_links (events core)
 
 -- each event was answered as those before it say
 abbrev pub AreAnswered : State → Type 0
-AreAnswered core = (n : ℕ) (e : Event) (reply : Reply) → slice_get core.log n ≡ Some (e, reply) → history.reply core.max_sites (take n (events core)) e ≡ Ok reply
+AreAnswered core = (n : ℕ) (e : Event) (reply : Reply) → slice_get core.log n ≡ Some (e, reply)
+    → history.reply core.max_sites (take n (events core)) e ≡ Ok reply
 
 -- ---- one event
 

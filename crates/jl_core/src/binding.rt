@@ -1,10 +1,10 @@
 //! Why an invokedynamic isn't bound (JVMS SE 17 §6.5).
 
 ghost use Rattle.std.specs.Prelude.{◌≡◌, slice_get};
-ghost use Rattle.jl_code.specs.declared.site.Operand.TheVariants as operand;
-ghost use Rattle.jl_types.specs.Events as events;
+ghost use Rattle.jl_class.specs.declared.site.Operand.TheVariants as operand;
+ghost use Rattle.jl_types.specs.Happenings.Events as events;
 
-use jl_code::Operand;
+use jl_class::Operand;
 use jl_names::LentName;
 use jl_pool::CallSiteSpecifier;
 use jl_relink::{World, invocation_at};

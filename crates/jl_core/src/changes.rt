@@ -4,10 +4,10 @@
 ghost use Rattle.std.specs.Prelude.{◌≡◌, ◌≤◌, length, IfOk, OnOk};
 ghost use Rattle.jl_types.specs.declared.event.EventOf.TheVariants as event;
 ghost use Rattle.jl_types.specs.declared.event.Made.TheVariants as made;
-ghost use Rattle.jl_core.specs.Changes.{IsAcceptable, IsMoved};
+ghost use Rattle.jl_core.specs.Means.Changes.{IsAcceptable, IsMoved};
 
 use jl_callsites::copy_target;
-use jl_classfile::ClassFile;
+use jl_class::ClassFile;
 use jl_names::Name;
 use jl_relink::World;
 use jl_types::{CallSiteId, CallSiteKind, ClassId, LoaderId, Place, SiteNo, SwitchId, Target};

@@ -2,14 +2,14 @@
 //! looked up: what the event changed is taken over from the instance ahead.
 
 ghost use Rattle.std.specs.Prelude.{◌≡◌, ◌≤◌, ◌++◌, ◌∷◌, [], ℕ, false, Some, None, length, IfOk, OnOk, if◌then◌else◌};
-ghost use Rattle.jl_types.specs.Event.{Event};
-ghost use Rattle.jl_types.specs.Footprints as footprints;
+ghost use Rattle.jl_types.specs.Happenings.Event.{Event};
+ghost use Rattle.jl_types.specs.Happenings.Footprints as footprints;
 ghost use Rattle.jl_cache.specs.Links.{link_at};
 ghost use Rattle.jl_deps.specs.Indexes.{footprint_at, IsIndex};
-ghost use Rattle.jl_core.specs.Changes.{retires_at};
+ghost use Rattle.jl_core.specs.Means.Changes.{retires_at};
 ghost use Rattle.jl_core.specs.Logs.{event_of};
-ghost use Rattle.jl_core.specs.Replays.{IsNext, IsFurther, IsUntouched};
-ghost use Rattle.jl_core.specs.Touched.{has};
+ghost use Rattle.jl_core.specs.Means.Replays.{IsNext, IsFurther, IsUntouched};
+ghost use Rattle.jl_core.specs.Means.Touched.{has};
 
 use crate::changes::{
     add_binding, add_call_site, add_delegation, add_loader, add_place, add_switch, put_invalid,

@@ -1,9 +1,9 @@
 //! What an install is refused for.
 
 ghost use Rattle.std.specs.Prelude.{◌≡◌, ◌+◌, ◌^◌, ◌<◌, ◌≤◌, length};
-ghost use Rattle.jl_types.specs.Resolution.{first_of};
-ghost use Rattle.jl_types.specs.Events as events;
-ghost use Rattle.jl_core.specs.Judging.{row_faults, most_of_rows};
+ghost use Rattle.jl_types.specs.Linkage.Resolution.{first_of};
+ghost use Rattle.jl_types.specs.Happenings.Events as events;
+ghost use Rattle.jl_core.specs.Means.Judging.{row_faults, most_of_rows};
 
 use jl_relink::{World, is_bad_size, link_counted, sites_fault};
 use jl_types::{Link, Refusal, SiteNo, Work};

@@ -1,15 +1,15 @@
 //! One instance of all that a core keeps.
 
 ghost use Rattle.std.specs.Prelude.{◌≡◌, ◌≤◌, ℕ, true, length, option_copied, slice_get, IsOk, IfOk, OnOk};
-ghost use Rattle.jl_types.specs.Events.{verdict};
-ghost use Rattle.jl_types.specs.History.{installed};
-ghost use Rattle.jl_types.specs.Footprints.{bound};
+ghost use Rattle.jl_types.specs.Happenings.Events.{verdict};
+ghost use Rattle.jl_types.specs.Happenings.History.{installed};
+ghost use Rattle.jl_types.specs.Happenings.Footprints.{bound};
 ghost use Rattle.jl_relink.specs.Laws.{IsInOrder};
 ghost use Rattle.jl_cache.specs.Links.{link_at};
 ghost use Rattle.jl_core.specs.State.{empty_core, events, world_of, AreAnswered, IsAccepted};
 ghost use Rattle.jl_core.specs.Logs.{shown, are_told};
-ghost use Rattle.jl_core.specs.Judging.{IsJudged, most_to_judge};
-ghost use Rattle.jl_core.specs.Replays.{IsBehind};
+ghost use Rattle.jl_core.specs.Means.Judging.{IsJudged, most_to_judge};
+ghost use Rattle.jl_core.specs.Means.Replays.{IsBehind};
 
 use crate::copy::copy_log;
 use crate::follow::follow;
@@ -51,7 +51,7 @@ impl Model for Instance {
     ghost use Rattle.std.specs.Prelude.{◌≡◌, ◌≤◌, ℕ, true, length};
     ghost use Rattle.std.specs.Coded.{codes};
     ghost use Rattle.jl_types.specs.Means.TargetCode.{target_code};
-    ghost use Rattle.jl_types.specs.History.{installed};
+    ghost use Rattle.jl_types.specs.Happenings.History.{installed};
     ghost use Rattle.jl_cache.specs.Links.{link_at};
     ghost use Rattle.jl_deps.specs.Indexes.{IsIndex};
     ghost use Rattle.jl_core.specs.State.{State, events, world_of, AreAnswered};

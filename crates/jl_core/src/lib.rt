@@ -1,7 +1,7 @@
 //! The event machine: the accepted events with their replies, what they leave to link, and the links that they leave installed.
 //!
 //! What an event is answered, what the world is after a list of events, and which links such a list leaves installed is defined
-//! in jl_types (`specs/Events`, `specs/History`). `specs/State` says what a core is and what an event does to it, `specs/Plans`
+//! in jl_types (`Events`, `History`). `specs/State` says what a core is and what an event does to it, `specs/Plans`
 //! what a planned event is, and `specs/Logs` how a log tells the events. The other definitions here are means of proof.
 #![tactic(auto)]
 

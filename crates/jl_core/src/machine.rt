@@ -2,17 +2,17 @@
 
 ghost use Rattle.std.specs.Prelude.{◌≡◌, ◌≤◌, ◌⊎◌, ℕ, true, length, IsOk, IfOk, IfErr, OnOk, OnErr};
 ghost use Rattle.jl_types.specs.declared.refusal.Refusal.TheVariants.{Memory};
-ghost use Rattle.jl_types.specs.Calls as calls;
-ghost use Rattle.jl_types.specs.Events.{verdict};
-ghost use Rattle.jl_types.specs.History.{installed};
-ghost use Rattle.jl_types.specs.Footprints.{bound};
+ghost use Rattle.jl_types.specs.Linkage.Calls as calls;
+ghost use Rattle.jl_types.specs.Happenings.Events.{verdict};
+ghost use Rattle.jl_types.specs.Happenings.History.{installed};
+ghost use Rattle.jl_types.specs.Happenings.Footprints.{bound};
 ghost use Rattle.jl_relink.specs.Preparations.{IsPreparation};
 ghost use Rattle.jl_cache.specs.Links.{link_at};
 ghost use Rattle.jl_core.specs.State.{State, empty_core, events, world_of, links_of, AreAnswered, IsAccepted, IsRefused};
 ghost use Rattle.jl_core.specs.Plans.{IsPlanned, IsAsPlanned};
 ghost use Rattle.jl_core.specs.Logs.{shown, are_told};
 ghost use Rattle.jl_core.specs.Works.{most_of_last};
-ghost use Rattle.jl_core.specs.Judging.{most_to_judge};
+ghost use Rattle.jl_core.specs.Means.Judging.{most_to_judge};
 
 use crate::instance::Instance;
 use crate::log::Entry;
@@ -53,7 +53,7 @@ impl Model for Core {
     ghost use Rattle.std.specs.Coded.{codes};
     ghost use Rattle.jl_types.specs.Means.TargetCode.{target_code};
     ghost use Rattle.jl_core.specs.State.{State, events};
-    ghost use Rattle.jl_core.specs.Replays.{IsBehind};
+    ghost use Rattle.jl_core.specs.Means.Replays.{IsBehind};
     ghost use Rattle.jl_core.specs.Works.{most_of_last};
 
     ghost Value = { State };

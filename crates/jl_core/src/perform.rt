@@ -3,13 +3,13 @@
 ghost use Rattle.std.specs.Prelude.{◌≡◌, ◌==◌, ◌&&◌, ◌+◌, ◌≤◌, ◌++◌, ◌∷◌, [], ℕ, false, length, IfOk, OnOk, is_some, is_none};
 ghost use Rattle.std.specs.List.{list_any};
 ghost use Rattle.jl_types.specs.declared.event.EventOf.TheVariants as events;
-ghost use Rattle.jl_types.specs.Links.{scratch};
-ghost use Rattle.jl_types.specs.History.{kept};
+ghost use Rattle.jl_types.specs.Linkage.Links.{scratch};
+ghost use Rattle.jl_types.specs.Happenings.History.{kept};
 ghost use Rattle.jl_cache.specs.Links.{link_at};
 ghost use Rattle.jl_deps.specs.Indexes.{IsIndex};
-ghost use Rattle.jl_core.specs.Changes.{IsAcceptable, installs_at};
-ghost use Rattle.jl_core.specs.Steps.{IsSound, IsLed, IsStep, most_told};
-ghost use Rattle.jl_core.specs.Touched.{AreTouched};
+ghost use Rattle.jl_core.specs.Means.Changes.{IsAcceptable, installs_at};
+ghost use Rattle.jl_core.specs.Means.Steps.{IsSound, IsLed, IsStep, most_told};
+ghost use Rattle.jl_core.specs.Means.Touched.{AreTouched};
 
 use crate::log::{Accepted, Entry};
 use crate::step::step;

@@ -1,7 +1,7 @@
 //! A planned event, and the sites that it changes.
 
 ghost use Rattle.std.specs.Prelude.{◌≡◌, ◌≤◌, length, IfOk};
-ghost use Rattle.jl_types.specs.Event.{Event};
+ghost use Rattle.jl_types.specs.Happenings.Event.{Event};
 ghost use Rattle.jl_core.specs.State.{events, world_of, IsAccepted};
 ghost use Rattle.jl_core.specs.Works.{most_of_last};
 ghost use Rattle.jl_core.specs.Plans.{IsPlanned};

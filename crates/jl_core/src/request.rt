@@ -1,15 +1,15 @@
 //! Whether a place may be requested.
 
 ghost use Rattle.std.specs.Prelude.{◌≡◌, ◌≤◌, true, Some, Ok, Err, IfOk, IfErr};
-ghost use Rattle.jl_code.specs.Site as site;
-ghost use Rattle.jl_types.specs.Members.{is_present};
-ghost use Rattle.jl_types.specs.Sites.{invocation_at};
-ghost use Rattle.jl_types.specs.Events as events;
-ghost use Rattle.jl_types.specs.Events.{verdict};
+ghost use Rattle.jl_class.specs.Site as site;
+ghost use Rattle.jl_types.specs.Values.Members.{is_present};
+ghost use Rattle.jl_types.specs.Linkage.Stages.{invocation_at};
+ghost use Rattle.jl_types.specs.Happenings.Events as events;
+ghost use Rattle.jl_types.specs.Happenings.Events.{verdict};
 ghost use Rattle.jl_types.specs.declared.event.EventOf.TheVariants as event;
-ghost use Rattle.jl_core.specs.Judging.{IsJudged};
+ghost use Rattle.jl_core.specs.Means.Judging.{IsJudged};
 
-use jl_code::{Operand, Site};
+use jl_class::{Operand, Site};
 use jl_names::LentName;
 use jl_relink::{World, invocation_at};
 use jl_types::{Event, NotLinkable, Place, Refusal};

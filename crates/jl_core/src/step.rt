@@ -2,14 +2,14 @@
 
 ghost use Rattle.std.specs.Prelude.{◌≡◌, ◌≤◌, length, IfOk};
 ghost use Rattle.jl_types.specs.declared.event.EventOf.TheVariants as events;
-ghost use Rattle.jl_core.specs.Changes.{IsAcceptable, IsStepped};
+ghost use Rattle.jl_core.specs.Means.Changes.{IsAcceptable, IsStepped};
 
 use crate::changes::{
     add_binding, add_call_site, add_class, add_delegation, add_loader, add_place, add_switch,
     put_invalid, put_target, retire_loader,
 };
 use crate::log::Accepted;
-use jl_classfile::ClassFile;
+use jl_class::ClassFile;
 use jl_names::{Name, Seq};
 use jl_relink::World;
 use jl_types::{CallSiteId, CallSiteKind, Event, LoaderId, Made, Place, SiteNo, SwitchId, Target};

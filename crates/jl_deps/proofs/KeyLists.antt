@@ -7,9 +7,9 @@ use Rattle.indexmap.specs.IndexMap.{IndexMap, get}
 use Rattle.indexmap.specs.IndexSet.{IndexSet}
 use Rattle.jl_types.specs.declared.key.Key.{Key}
 use Rattle.jl_types.specs.declared.key.Key.TheVariants as key
-use Rattle.jl_types.specs.Footprints.{same_key, has_key}
+use Rattle.jl_types.specs.Happenings.Footprints.{same_key, has_key}
 use Rattle.jl_relink.proofs.Untouched.{same_key_is}
-use Rattle.jl_deps.specs.Lists.{key_eq, listed, AreListed}
+use Rattle.jl_deps.specs.Means.Lists.{key_eq, listed, AreListed}
 
 pub key_same : (k j : Key) → key_eq k j ≡ same_key k j
 key_same (key.Receivers c) (key.Receivers d) = refl
@@ -42,7 +42,8 @@ has_front (key ∷ keys) (suc n) k h = by_key (same_key key k) (has_front keys n
     by_key false on h = on h
 
 -- what isn't among the keys is listed as before, where the first so many of them are listed
-pub others_listed : (keys : List Key) (n : ℕ) (k : Key) (b now old : Bool) → now ≡ ((b && has_key (take n keys) k) || old) → (b && has_key keys k) ≡ false → now ≡ old
+pub others_listed : (keys : List Key) (n : ℕ) (k : Key) (b now old : Bool) → now ≡ ((b && has_key (take n keys) k) || old) → (b && has_key keys k) ≡ false
+    → now ≡ old
 others_listed keys n k true now old is h = is ∙ ap (λ (d : Bool). d || old) (has_front keys n k h)
 others_listed keys n k false now old is h = is
 

@@ -1,5 +1,6 @@
 -- The footprints of a map, entry by entry.
-use Rattle.std.specs.Prelude.{◌≡◌, ℕ, zero, suc, ◌+◌, ◌++◌, ◌==◌, ◌||◌, Bool, true, false, cond, List, [], ◌∷◌, map, take, Option, Some, None, if◌then◌else◌, slice_get}
+use Rattle.std.specs.Prelude.{◌≡◌, ℕ, zero, suc, ◌+◌, ◌++◌, ◌==◌, ◌||◌, Bool, true, false, cond, List, [], ◌∷◌, map, take, Option, Some, None}
+use Rattle.std.specs.Prelude.{if◌then◌else◌, slice_get}
 use Rattle.std.specs.List.{list_any}
 use Rattle.std.specs.Map.{lookup}
 use Rattle.std.proofs.Common.{refl, ap, sym, ◌∙◌}
@@ -26,7 +27,8 @@ absent s (e ∷ entries) h = by_tests (e.0 == s) refl (list_any (λ t. t == s) (
 
 -- ---- entry by entry
 
-names_append : (xs ys : List (ℕ × List Key)) → map (λ (e : ℕ × List Key). e.0) (xs ++ ys) ≡ map (λ (e : ℕ × List Key). e.0) xs ++ map (λ (e : ℕ × List Key). e.0) ys
+names_append : (xs ys : List (ℕ × List Key)) → map (λ (e : ℕ × List Key). e.0) (xs ++ ys) ≡ map (λ (e : ℕ × List Key). e.0) xs
+    ++ map (λ (e : ℕ × List Key). e.0) ys
 names_append [] ys = refl
 names_append (x ∷ xs) ys = λ i. x.0 ∷ names_append xs ys i
 
@@ -37,7 +39,8 @@ pub entry_more : (entries : List (ℕ × List Key)) (place : ℕ) (site : ℕ) (
     → next ≡ (if list_any (λ t. t == s) (map (λ e. e.0) (take (place + 1) entries)) then lookup (λ t. s == t) entries else None)
 entry_more entries place site keys next now s at value last before =
     last ∙ by_site (site == s) refl
-    ∙ ap (λ (b : Bool). if b then lookup (λ t. s == t) entries else None) (sym (list_any-append (λ t. t == s) (map (λ (e : ℕ × List Key). e.0) (take place entries)) (site ∷ [])))
+    ∙ ap (λ (b : Bool). if b then lookup (λ t. s == t) entries else None)
+    (sym (list_any-append (λ t. t == s) (map (λ (e : ℕ × List Key). e.0) (take place entries)) (site ∷ [])))
     ∙ ap (λ (ts : List ℕ). if list_any (λ t. t == s) ts then lookup (λ t. s == t) entries else None)
     (sym (names_append (take place entries) ((site, keys) ∷ [])) ∙ ap (map (λ (e : ℕ × List Key). e.0)) (sym more))
   where
@@ -55,7 +58,8 @@ entry_more entries place site keys next now s at value last before =
     either false = refl
 
     by_site : (b : Bool) → (site == s) ≡ b
-        → (if b then Some keys else now) ≡ (if list_any (λ t. t == s) (map (λ (e : ℕ × List Key). e.0) (take place entries)) || (b || false) then lookup (λ t. s == t) entries else None)
+        → (if b then Some keys else now) ≡ (if list_any (λ t. t == s) (map (λ (e : ℕ × List Key). e.0) (take place entries))
+        || (b || false) then lookup (λ t. s == t) entries else None)
     by_site true is =
         sym value ∙ ap (λ (n : ℕ). lookup (λ t. n == t) entries) ((Decides-eqb site s).0 is)
         ∙ by_tests (list_any (λ t. t == s) (map (λ (e : ℕ × List Key). e.0) (take place entries)))
@@ -75,6 +79,7 @@ all_entries entries place now s at before =
     ∙ ap (λ (es : List (ℕ × List Key)). if list_any (λ t. t == s) (map (λ e. e.0) es) then lookup (λ t. s == t) entries else None) (past entries place (sym at))
     ∙ by_test (list_any (λ t. t == s) (map (λ e. e.0) entries)) refl
   where
-    by_test : (b : Bool) → list_any (λ t. t == s) (map (λ e. e.0) entries) ≡ b → (if b then lookup (λ t. s == t) entries else None) ≡ lookup (λ t. s == t) entries
+    by_test : (b : Bool) → list_any (λ t. t == s) (map (λ e. e.0) entries) ≡ b
+        → (if b then lookup (λ t. s == t) entries else None) ≡ lookup (λ t. s == t) entries
     by_test true is = refl
     by_test false is = sym (absent s entries is)

@@ -6,11 +6,11 @@ use Rattle.std.specs.Map.{lookup}
 use Rattle.std.proofs.Common.{refl, ap, sym, ◌∙◌, arith}
 use Rattle.std.proofs.lemmas.Bool.Decides.{Decides-eqb}
 use Rattle.std.proofs.lemmas.Cmp.{nat_eq_equiv}
-use Rattle.jl_hierarchy.specs.Kept as kept
+use Rattle.jl_hierarchy.specs.Means.Kept as kept
 use Rattle.jl_hierarchy.proofs.Rising.{has, none_up_to}
 use Rattle.jl_types.specs.declared.key.Key.{Key}
 use Rattle.jl_types.specs.declared.key.Key.TheVariants as key
-use Rattle.jl_types.specs.Footprints.{same_key, has_key, meets}
+use Rattle.jl_types.specs.Happenings.Footprints.{same_key, has_key, meets}
 use Rattle.jl_deps.specs.Indexes.{touched_by}
 use Rattle.jl_types.specs.Means.BySite.{by_site}
 use Rattle.jl_types.specs.Means.BySite.{value_at}

@@ -2,11 +2,11 @@
 use Rattle.std.specs.Prelude.{◌≡◌, ℕ, ◌<◌, ◌≤◌, List, [], ◌∷◌, ◌++◌, filter_map, slice_get, Option, Some, None}
 use Rattle.std.specs.Option.{option_map_or}
 use Rattle.std.proofs.Common.{ap, sym, ◌∙◌, append-nil, append_assoc}
-use Rattle.jl_types.specs.Target.{Invoker}
-use Rattle.jl_types.specs.World.{Sites, CallSite}
+use Rattle.jl_types.specs.Values.Target.{Invoker}
+use Rattle.jl_types.specs.Values.World.{Sites, CallSite}
 use Rattle.jl_types.specs.declared.key.Key.{Key}
 use Rattle.jl_types.specs.declared.key.Key.TheVariants as key
-use Rattle.jl_types.specs.Footprints.{call_site_in, point_in}
+use Rattle.jl_types.specs.Happenings.Footprints.{call_site_in, point_in}
 use Rattle.jl_callsites.proofs.Walks.{invoked_way, later_way}
 use Rattle.jl_deps.specs.Ways.{way}
 

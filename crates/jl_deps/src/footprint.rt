@@ -1,16 +1,16 @@
 //! What the link of a site rests on.
 
 ghost use Rattle.std.specs.Prelude.{◌≡◌, ◌++◌, [], ℕ, map, filter_map, IfOk, OnOk, option_to_list};
-ghost use Rattle.jl_hierarchy.specs.Kept.{Rises};
-ghost use Rattle.jl_types.specs.Resolution as resolution;
-ghost use Rattle.jl_types.specs.Sites as sites;
+ghost use Rattle.jl_hierarchy.specs.Means.Kept.{Rises};
+ghost use Rattle.jl_types.specs.Linkage.Resolution as resolution;
+ghost use Rattle.jl_types.specs.Linkage.Stages as stages;
 ghost use Rattle.jl_types.specs.declared.key.Key.TheVariants as key;
-ghost use Rattle.jl_types.specs.Footprints as footprints;
-ghost use Rattle.jl_types.specs.Footprints.{of_stage, of_operand, call_site_in, point_in, path};
+ghost use Rattle.jl_types.specs.Happenings.Footprints as footprints;
+ghost use Rattle.jl_types.specs.Happenings.Footprints.{of_stage, of_operand, call_site_in, point_in, path};
 ghost use Rattle.jl_deps.specs.Ways.{has, way};
 
 use jl_callsites::Sites;
-use jl_code::{Kind, Operand, Site};
+use jl_class::{Kind, Operand, Site};
 use jl_hierarchy::Classes;
 use jl_names::{LentName, Seq};
 use jl_pool::Reference;
@@ -82,7 +82,7 @@ fn looked_at(
     caller: ClassId,
     reference: &Reference<LentName<'_>>,
 ) -> Option<ClassId>
-    ensures { of_stage classes.now (sites.by_resolution classes.now kind caller reference.now
+    ensures { of_stage classes.now (stages.by_resolution classes.now kind caller reference.now
         (resolution.resolved classes.now caller reference.now)) ≡ map key.Receivers (option_to_list result) }
 {
     match resolve_reference(classes, caller, reference) {
@@ -99,7 +99,7 @@ fn looked_at_by(
     reference: &Reference<LentName<'_>>,
     resolved: &Resolved,
 ) -> Option<ClassId>
-    ensures { of_stage classes.now (sites.by_kind classes.now kind caller reference.now resolved.now)
+    ensures { of_stage classes.now (stages.by_kind classes.now kind caller reference.now resolved.now)
         ≡ map key.Receivers (option_to_list result) }
 {
     match kind {

@@ -1,8 +1,8 @@
 //! The dependency index: which sites' links rest on what, and what an event changes of that (selective recompilation:
 //! Chambers, Dean and Grove 1995).
 //!
-//! What a link rests on and what an event changes is defined in jl_types (`specs/Footprints`). `specs/Indexes` says what an index
-//! has; `specs/Lists` is a means of proof.
+//! What a link rests on and what an event changes is defined in jl_types (`Footprints`). `specs/Indexes` says what an index
+//! has; `specs/Means` is a means of proof.
 #![tactic(auto)]
 
 mod footprint;

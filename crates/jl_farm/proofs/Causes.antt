@@ -1,5 +1,6 @@
 -- Why a preparation or an install is refused, in terms of its sites.
-use Rattle.std.proofs.Common.{◌≡◌, ◌≢◌, ◌⊎◌, ◌<◌, ◌≤◌, ◌==◌, ◌||◌, ℕ, zero, suc, Bool, true, false, nat_lt, nat_le, if◌then◌else◌, List, [], ◌∷◌, map, length, Option, Some, None, option_map, Result, Ok, Err, Any, get_or, refl, ap, sym, ◌∙◌, subst, inl, inr, arith}
+use Rattle.std.proofs.Common.{◌≡◌, ◌≢◌, ◌⊎◌, ◌<◌, ◌≤◌, ◌==◌, ◌||◌, ℕ, zero, suc, Bool, true, false, nat_lt, nat_le, if◌then◌else◌, List, [], ◌∷◌, map}
+use Rattle.std.proofs.Common.{length, Option, Some, None, option_map, Result, Ok, Err, Any, get_or, refl, ap, sym, ◌∙◌, subst, inl, inr, arith}
 use Rattle.std.specs.Prelude.{IsErr}
 use Rattle.std.specs.Bool.{then_some}
 use Rattle.std.specs.List.{AllByRecursion, list_any}
@@ -13,12 +14,12 @@ use Rattle.jl_types.specs.declared.refusal.PrepareFault.{PrepareFault}
 use Rattle.jl_types.specs.declared.refusal.SitesFault.{SitesFault}
 use Rattle.jl_types.specs.declared.refusal.SitesFault.TheVariants.{Unknown, Repeated}
 use Rattle.jl_types.specs.Means.SameLink.{link_decides}
-use Rattle.jl_types.specs.World.{World}
-use Rattle.jl_types.specs.Resolution.{first_of}
-use Rattle.jl_types.specs.Links.{scratch}
-use Rattle.jl_types.specs.Batches.{is_bad_size, sites_fault}
-use Rattle.jl_types.specs.Preparation.{link_fault, ArePrepared}
-use Rattle.jl_types.specs.Events.{row_fault}
+use Rattle.jl_types.specs.Values.World.{World}
+use Rattle.jl_types.specs.Linkage.Resolution.{first_of}
+use Rattle.jl_types.specs.Linkage.Links.{scratch}
+use Rattle.jl_types.specs.Happenings.Batches.{is_bad_size, sites_fault}
+use Rattle.jl_types.specs.Happenings.Preparation.{link_fault, ArePrepared}
+use Rattle.jl_types.specs.Happenings.Events.{row_fault}
 use Rattle.jl_farm.specs.Reports.{has_twice, IsNoBatch}
 
 any_here : {X : Type 0} (P : X → Type 0) (x : X) (xs : List X) → P x → Any P (x ∷ xs)
@@ -52,7 +53,8 @@ site_cause false true u r rest f e = inr (inl (refl, cc))
 site_cause false false u r (Some g) f e = inr (inr e)
 site_cause false false u r None f e = cc
 
-no_site_cause : (b c : Bool) (u r : SitesFault) (rest : Option SitesFault) → first_of (then_some b u ∷ then_some c r ∷ rest ∷ []) ≡ None → (b ≡ false) × (rest ≡ None)
+no_site_cause : (b c : Bool) (u r : SitesFault) (rest : Option SitesFault) → first_of (then_some b u ∷ then_some c r ∷ rest ∷ []) ≡ None → (b ≡ false)
+    × (rest ≡ None)
 no_site_cause true c u r rest e = cc
 no_site_cause false true u r rest e = cc
 no_site_cause false false u r (Some g) e = cc
@@ -85,7 +87,8 @@ meets_more s earlier (u ∷ all) h = by_place (any_cases (Meets (s ∷ earlier))
     by_test true is h = inl (ap (λ (b : Bool). b || list_any (λ t. t == s) all) (eq-eqb u s (sym (eqb-true s u is))))
     by_test false is h = inr (any_here (Meets earlier) u all h)
 
-    by_place : Meets (s ∷ earlier) u ⊎ Any (Meets (s ∷ earlier)) all → (Any (Meets (s ∷ earlier)) all → (list_any (λ t. t == s) all ≡ true) ⊎ Any (Meets earlier) all) → Found
+    by_place : Meets (s ∷ earlier) u ⊎ Any (Meets (s ∷ earlier)) all → (Any (Meets (s ∷ earlier)) all → (list_any (λ t. t == s) all ≡ true)
+        ⊎ Any (Meets earlier) all) → Found
     by_place (inl h) more = by_test (s == u) refl h
     by_place (inr h) more = elim (more h) [ inl e ↦ inl (or_true (u == s) (list_any (λ t. t == s) all) e) | inr t ↦ inr (any_there (Meets earlier) u all t) ]
 
@@ -111,7 +114,8 @@ module _ (w : World) where
       ]
       by_rest (inr (inr h)) = inr (inr (or_true (list_any (λ t. t == s) all) (has_twice all) h))
 
-      by_cause : ((nat_le (length w.places) s ≡ true) × (f ≡ Unknown s)) ⊎ (((list_any (λ t. t == s) earlier ≡ true) × (f ≡ Repeated s)) ⊎ (sites_fault w (s ∷ earlier) all ≡ Some f))
+      by_cause : ((nat_le (length w.places) s ≡ true) × (f ≡ Unknown s))
+          ⊎ (((list_any (λ t. t == s) earlier ≡ true) × (f ≡ Repeated s)) ⊎ (sites_fault w (s ∷ earlier) all ≡ Some f))
           → (sites_fault w (s ∷ earlier) all ≡ Some f → IsFound (s ∷ earlier) all) → IsFound earlier (s ∷ all)
       by_cause (inl h) more = inl (any_here Unrequested s all (leb-true (length w.places) s h.0))
       by_cause (inr (inl h)) more = inr (inl (any_here (Meets earlier) s all h.0))
@@ -130,7 +134,8 @@ module _ (w : World) where
       by_found (inr (inr h)) = inr (inr h)
 
   pub no_batch_by_size : (sites : List ℕ) → is_bad_size (length sites) ≡ true → IsNoBatch w sites
-  no_batch_by_size sites e = inl ((Decides-or (length sites == 0) (nat_lt 256 (length sites)) (Decides-eqb (length sites) 0) (Decides-ltb 256 (length sites))).0 e)
+  no_batch_by_size sites e = inl ((Decides-or (length sites == 0) (nat_lt 256 (length sites)) (Decides-eqb (length sites) 0) (Decides-ltb 256 (length sites))).0
+      e)
 
   -- without a fault all sites are requested
   all_requested : (earlier all : List ℕ) → sites_fault w earlier all ≡ None → AllByRecursion (λ s. s < length w.places) all
@@ -143,7 +148,8 @@ module _ (w : World) where
   Unready s = (s < length w.places) × IsErr (scratch w s)
 
   -- the first site without a link
-  first_unready : (all : List ℕ) (f : PrepareFault) → AllByRecursion (λ s. s < length w.places) all → first_of (map (λ s. link_fault s (scratch w s)) all) ≡ Some f → Any Unready all
+  first_unready : (all : List ℕ) (f : PrepareFault) → AllByRecursion (λ s. s < length w.places) all
+      → first_of (map (λ s. link_fault s (scratch w s)) all) ≡ Some f → Any Unready all
   first_unready [] f requested e = cc
   first_unready (s ∷ all) f requested e = by_link (scratch w s) refl e (first_unready all f requested.1)
     where
@@ -152,11 +158,13 @@ module _ (w : World) where
       by_link (Ok l) is e more = any_there Unready s all (more e)
       by_link (Err reason) is e more = any_here Unready s all (requested.0, subst IsErr (sym is) refl)
 
-  pub unready_by_fault : (sites : List ℕ) (f : PrepareFault) → sites_fault w [] sites ≡ None → first_of (map (λ s. link_fault s (scratch w s)) sites) ≡ Some f → Any Unready sites
+  pub unready_by_fault : (sites : List ℕ) (f : PrepareFault) → sites_fault w [] sites ≡ None → first_of (map (λ s. link_fault s (scratch w s)) sites) ≡ Some f
+      → Any Unready sites
   unready_by_fault sites f none e = first_unready sites f (all_requested [] sites none) e
 
   -- the first row with another link than now, of rows that were prepared in the world v
-  pub stale_by_fault : (v : World) (sites : List ℕ) (rows : List (ℕ × Link)) (f : Refusal) → ArePrepared v sites rows → first_of (map (λ row. row_fault row.0 row.1 (scratch w row.0)) rows) ≡ Some f
+  pub stale_by_fault : (v : World) (sites : List ℕ) (rows : List (ℕ × Link)) (f : Refusal) → ArePrepared v sites rows
+      → first_of (map (λ row. row_fault row.0 row.1 (scratch w row.0)) rows) ≡ Some f
       → Any (λ s. scratch v s ≢ scratch w s) sites
   stale_by_fault v [] [] f prepared e = cc
   stale_by_fault v [] (row ∷ rows) f prepared e = absurd prepared
@@ -172,7 +180,8 @@ module _ (w : World) where
       by_fault None is e more = any_there Differs s sites (more e)
       by_fault (Some g) is e more = any_here Differs s sites (λ same.
           let now : scratch w row.0 ≡ Ok row.1 = ap (scratch w) prepared.0.0 ∙ sym same ∙ prepared.0.1 in
-          let fine = ap (row_fault row.0 row.1) now ∙ ap (λ (b : Bool). if b then None else Some (refusal.Stale row.0 row.1)) ((link_decides row.1 row.1).1 refl) in cc (fine, is))
+          let fine = ap (row_fault row.0 row.1) now ∙ ap (λ (b : Bool). if b then None else Some (refusal.Stale row.0 row.1))
+          ((link_decides row.1 row.1).1 refl) in cc (fine, is))
 
 -- the prepared rows are of the sites, in order
 pub prepared_sites : (v : World) (sites : List ℕ) (rows : List (ℕ × Link)) → ArePrepared v sites rows → map (λ row. row.0) rows ≡ sites
@@ -182,7 +191,8 @@ prepared_sites v (s ∷ sites) [] prepared = absurd prepared
 prepared_sites v (s ∷ sites) (row ∷ rows) prepared = λ i. prepared.0.0 i ∷ prepared_sites v sites rows prepared.1 i
 
 -- prepared rows have no fault in the world in which they were prepared
-pub no_row_fault : (v : World) (sites : List ℕ) (rows : List (ℕ × Link)) → ArePrepared v sites rows → first_of (map (λ row. row_fault row.0 row.1 (scratch v row.0)) rows) ≡ None
+pub no_row_fault : (v : World) (sites : List ℕ) (rows : List (ℕ × Link)) → ArePrepared v sites rows
+    → first_of (map (λ row. row_fault row.0 row.1 (scratch v row.0)) rows) ≡ None
 no_row_fault v [] [] prepared = refl
 no_row_fault v [] (row ∷ rows) prepared = absurd prepared
 no_row_fault v (s ∷ sites) [] prepared = absurd prepared

@@ -10,12 +10,12 @@ use Rattle.jl_names.proofs.seq.Seq.TheSendSync as of_lists
 use Rattle.jl_server.specs.declared.history.Name as name
 use Rattle.jl_server.specs.contracts.server.LinkServer as LinkServer
 use Rattle.jl_server.proofs.Crossing.{server_sync}
-use Rattle.jl_farm.specs.contracts.floor.Floor as Floor
+use Rattle.jl_farm.specs.contracts.shared.Shared as Shared
 
 module _ (ℓ : NamedLft) (K G R S : RattleType) (g : name.Ghosts K.Denot) where
-  pub floor_sync : IsSync G → IsSync R → IsSend S → IsSync (Floor.the_row ℓ K G R S g)
+  pub floor_sync : IsSync G → IsSync R → IsSend S → IsSync (Shared.the_row ℓ K G R S g)
   floor_sync gate r s =
-      let O = Floor.the_type ℓ K G R S g in
+      let O = Shared.the_type ℓ K G R S g in
       let all : AllSync (declared.fields O) = (
         search shr_sync depth 5,
         (

@@ -36,9 +36,15 @@ module _ {X : Type 0} (key : X → ℕ) where
   rows_past : (a : ℕ) (xs : List X) → ((k : ℕ) (d : X) → k < length xs → a < key (get_or xs k d)) → sum_by (up_to a) (map key xs) ≡ 0
   rows_past a [] h = refl
   rows_past a (x ∷ xs) h =
-      omega (arith, sum_by-cons (up_to a) (key x) (map key xs), up_to_none a (key x) (h 0 x (omega arith)), rows_past a xs (λ k d lt. h (suc k) d (omega arith)))
+      omega (
+        arith,
+        sum_by-cons (up_to a) (key x) (map key xs),
+        up_to_none a (key x) (h 0 x (omega arith)),
+        rows_past a xs (λ k d lt. h (suc k) d (omega arith)),
+      )
 
-  pub each_once : (n from : ℕ) (xs : List X) → IsNonDecreasingBy key xs → ((weight : ℕ → ℕ) → sum_by weight (range_with_len from n) ≡ sum_by weight (map key xs)) → map key xs ≡ range_with_len from n
+  pub each_once : (n from : ℕ) (xs : List X) → IsNonDecreasingBy key xs
+      → ((weight : ℕ → ℕ) → sum_by weight (range_with_len from n) ≡ sum_by weight (map key xs)) → map key xs ≡ range_with_len from n
   each_once zero from [] up same = refl
   each_once zero from (x ∷ xs) up same = absurd (omega (arith, same (λ _. 1), sum_by-cons (λ (_ : ℕ). 1) (key x) (map key xs)))
   each_once (suc n) from [] up same = absurd (omega (arith, same (λ _. 1), sum_by-cons (λ (_ : ℕ). 1) from (range_with_len (from + 1) n)))
@@ -46,10 +52,17 @@ module _ {X : Type 0} (key : X → ℕ) where
       let left = λ (weight : ℕ → ℕ). sum_by-cons weight from (range_with_len (from + 1) n) in
       let right = λ (weight : ℕ → ℕ). sum_by-cons weight (key x) (map key xs) in
       let least : from ≤ key x = below_some from (key x)
-      (omega (arith, same (below from), left (below from), right (below from), below_none from from (omega arith), range_below from (from + 1) n (omega arith))) in
+      (omega (arith, same (below from), left (below from), right (below from), below_none from from (omega arith), range_below from (from + 1) n (omega arith)))
+      in
       let most : key x ≤ from = elim (cases_lt from (key x)) [
         | inr h ↦ h
-        | inl lt ↦ absurd (omega (arith, same (up_to from), left (up_to from), up_to_self from, rows_past from (x ∷ xs) (λ k d inside. let rises = up 0 k d (omega arith) inside in omega arith)))
+        | inl lt ↦ absurd (omega (
+          arith,
+          same (up_to from),
+          left (up_to from),
+          up_to_self from,
+          rows_past from (x ∷ xs) (λ k d inside. let rises = up 0 k d (omega arith) inside in omega arith),
+        ))
       ] in
       let is : key x ≡ from = omega arith in
       let rest = each_once n (from + 1) xs (IsNonDecreasingBy-drop key 1 (x ∷ xs) up)

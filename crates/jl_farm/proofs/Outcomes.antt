@@ -1,5 +1,6 @@
 -- What a job came to is shown by the lists that its report names.
-use Rattle.std.proofs.Common.{◌≡◌, ◌⊎◌, ◌<◌, ℕ, Bool, true, false, List, [], ◌∷◌, map, length, Option, Some, None, Result, Ok, Err, Any, refl, ap, sym, ◌∙◌, subst, inl, inr, arith}
+use Rattle.std.proofs.Common.{◌≡◌, ◌⊎◌, ◌<◌, ℕ, Bool, true, false, List, [], ◌∷◌, map, length, Option, Some, None, Result, Ok, Err, Any, refl, ap}
+use Rattle.std.proofs.Common.{sym, ◌∙◌, subst, inl, inr, arith}
 use Rattle.std.specs.Prelude.{option_map, IsOk, IsErr}
 use Rattle.std.specs.Bool.{then_some}
 use Rattle.std.proofs.lemmas.List.{length-map}
@@ -15,16 +16,16 @@ use Rattle.jl_types.specs.declared.refusal.PrepareFault.{PrepareFault}
 use Rattle.jl_types.specs.declared.refusal.PrepareFault.TheVariants as fault
 use Rattle.jl_types.specs.declared.refusal.SitesFault.{SitesFault}
 use Rattle.jl_types.specs.declared.refusal.SitesFault.TheVariants as sites
-use Rattle.jl_types.specs.Means.SameLink.{same_link}
-use Rattle.jl_types.specs.World.{World}
-use Rattle.jl_types.specs.Resolution.{first_of}
-use Rattle.jl_types.specs.Links.{scratch}
-use Rattle.jl_types.specs.Batches.{is_bad_size, sites_fault}
-use Rattle.jl_types.specs.Preparation.{link_fault, prepare_fault, ready_fault, ArePrepared}
-use Rattle.jl_types.specs.Preparation as preparation
-use Rattle.jl_types.specs.Events.{row_fault, install_fault, unless, verdict}
-use Rattle.jl_types.specs.Events as events
-use Rattle.jl_types.specs.Entries.{Entry, IsLegal}
+use Rattle.jl_types.specs.Linkage.Links.{same_link}
+use Rattle.jl_types.specs.Values.World.{World}
+use Rattle.jl_types.specs.Linkage.Resolution.{first_of}
+use Rattle.jl_types.specs.Linkage.Links.{scratch}
+use Rattle.jl_types.specs.Happenings.Batches.{is_bad_size, sites_fault}
+use Rattle.jl_types.specs.Happenings.Preparation.{link_fault, prepare_fault, ready_fault, ArePrepared}
+use Rattle.jl_types.specs.Happenings.Preparation as preparation
+use Rattle.jl_types.specs.Happenings.Events.{row_fault, install_fault, unless, verdict}
+use Rattle.jl_types.specs.Happenings.Events as events
+use Rattle.jl_types.specs.Happenings.Entries.{Entry, IsLegal}
 use Rattle.jl_relink.specs.Preparations.{Snapshot, IsPreparation}
 use Rattle.jl_core.specs.State.{IsRefused}
 use Rattle.jl_server.proofs.Beginnings.{prefix_self, prefix_trans, prefix_length}
@@ -33,8 +34,9 @@ use Rattle.jl_server.specs.History.{EndsWith}
 use Rattle.jl_farm.specs.declared.report.JobOutcome.{JobOutcome}
 use Rattle.jl_farm.specs.declared.report.JobOutcome.TheVariants as outcome
 use Rattle.jl_farm.specs.Reports.{world_of, ComesAfter, IsNoBatch, IsShown, IsStale, IsRefusedBatch, IsInstalled}
-use Rattle.jl_farm.specs.Work.{refused_as, HasSeen}
-use Rattle.jl_farm.proofs.Causes.{batch_cause, no_batch_cause, no_row_fault, no_batch_by_size, no_batch_by_sites, unready_by_fault, stale_by_fault, prepared_sites}
+use Rattle.jl_farm.specs.Means.Work.{refused_as, HasSeen}
+use Rattle.jl_farm.proofs.Causes.{batch_cause, no_batch_cause, no_row_fault, no_batch_by_size, no_batch_by_sites, unready_by_fault, stale_by_fault}
+use Rattle.jl_farm.proofs.Causes.{prepared_sites}
 
 -- ---- what a caller had seen before
 
@@ -42,7 +44,8 @@ comes_after : (n : ℕ) (start later list : List Entry) → IsPrefix start later
 comes_after n start later list p h = (prefix_trans start later list p h.0, h.1)
 
 -- what is shown after a list is shown after each beginning of it
-pub shown_before : {K : Type 0} (n : ℕ) (start later : List Entry) (of : List ℕ) (o : JobOutcome K) → IsPrefix start later → IsShown n later of o → IsShown n start of o
+pub shown_before : {K : Type 0} (n : ℕ) (start later : List Entry) (of : List ℕ) (o : JobOutcome K) → IsPrefix start later → IsShown n later of o
+    → IsShown n start of o
 shown_before n start later of (outcome.Installed receipt) p h = record {
   after = comes_after n start later receipt.seen p h.after;
   longer = omega (arith, prefix_length start later p, h.longer);
@@ -95,7 +98,8 @@ module _ (w : World) (of : List ℕ) where
   why_refused f e = by_cause (batch_cause fault.BatchSize preparation.of_sites (is_bad_size (length of)) (sites_fault w [] of) (ready_fault w of) f e)
     where
       by_cause : ((is_bad_size (length of) ≡ true) × (f ≡ fault.BatchSize))
-          ⊎ (((x : SitesFault) × (sites_fault w [] of ≡ Some x) × (f ≡ preparation.of_sites x)) ⊎ ((sites_fault w [] of ≡ None) × (ready_fault w of ≡ Some f))) → IsWhy w of f
+          ⊎ (((x : SitesFault) × (sites_fault w [] of ≡ Some x) × (f ≡ preparation.of_sites x)) ⊎ ((sites_fault w [] of ≡ None) × (ready_fault w of ≡ Some f)))
+          → IsWhy w of f
       by_cause (inl h) = subst (IsWhy w of) (sym h.1) (no_batch_by_size w of h.0)
       by_cause (inr (inl h)) = subst (IsWhy w of) (sym h.2) (why_sites h.0 h.1)
       by_cause (inr (inr h)) = let kind = ready_kind of f h.1 in subst (IsWhy w of) (sym kind.1) (unready_by_fault w of f h.0 h.1)
@@ -132,7 +136,8 @@ row_kind w (row ∷ rows) r e = by_link (scratch w row.0) e (row_kind w rows r)
     More : Type 0
     More = first_of (map (λ row. row_fault row.0 row.1 (scratch w row.0)) rows) ≡ Some r → Kind
 
-    by_same : (now : Link) (b : Bool) → same_link now row.1 ≡ b → first_of (row_fault row.0 row.1 (Ok now) ∷ map (λ row. row_fault row.0 row.1 (scratch w row.0)) rows) ≡ Some r → More → Kind
+    by_same : (now : Link) (b : Bool) → same_link now row.1 ≡ b → first_of (row_fault row.0 row.1 (Ok now)
+        ∷ map (λ row. row_fault row.0 row.1 (scratch w row.0)) rows) ≡ Some r → More → Kind
     by_same now true is e more = more (rw is at e)
     by_same now false is e more = inl (row.0, now, let f = rw is at e in cc)
 
@@ -173,12 +178,14 @@ module _ (K : Type 0) (n : ℕ) (first second : List Entry) (of : List ℕ) (row
       by_kind (inr h) = subst Shown (sym h.1) (stale r e)
 
   by_fault : (r : Refusal) → install_fault (world_of second) rows ≡ Some r → Shown r
-  by_fault r e = by_cause (batch_cause refusal.BatchSize events.of_sites (is_bad_size (length rows)) (sites_fault (world_of second) [] (map (λ row. row.0) rows))
+  by_fault r e = by_cause (batch_cause refusal.BatchSize events.of_sites (is_bad_size (length rows))
+      (sites_fault (world_of second) [] (map (λ row. row.0) rows))
       (first_of (map (λ row. row_fault row.0 row.1 (scratch (world_of second) row.0)) rows)) r e)
     where
       by_cause : ((is_bad_size (length rows) ≡ true) × (r ≡ refusal.BatchSize))
           ⊎ (((x : SitesFault) × (sites_fault (world_of second) [] (map (λ row. row.0) rows) ≡ Some x) × (r ≡ events.of_sites x))
-          ⊎ ((sites_fault (world_of second) [] (map (λ row. row.0) rows) ≡ None) × (first_of (map (λ row. row_fault row.0 row.1 (scratch (world_of second) row.0)) rows) ≡ Some r))) → Shown r
+          ⊎ ((sites_fault (world_of second) [] (map (λ row. row.0) rows) ≡ None)
+          × (first_of (map (λ row. row_fault row.0 row.1 (scratch (world_of second) row.0)) rows) ≡ Some r))) → Shown r
       by_cause (inl h) = subst Shown (sym h.1) (by_size h.0)
       by_cause (inr (inl h)) = subst Shown (sym h.2) (by_sites h.0 h.1)
       by_cause (inr (inr h)) = by_row r h.1
@@ -207,7 +214,8 @@ accepted_prepared n list before of rows is none prepared =
     (subst (λ (o : Option Refusal). IsOk (unless o made.Nothing)) (sym (no_install_fault (world_of before) of rows none prepared)) refl)
 
 pub installed : {K : Type 0} (n : ℕ) (before after : List Entry) (of : List ℕ) (rows : List (ℕ × Link)) (receipt : Receipt K)
-    → ArePrepared (world_of before) of rows → (receipt.seen ≡ after) × (receipt.serial ≡ length after) → IsPrefix before after → IsLegal n after → length before < length after
+    → ArePrepared (world_of before) of rows → (receipt.seen ≡ after) × (receipt.serial ≡ length after) → IsPrefix before after → IsLegal n after
+    → length before < length after
     → EndsWith after (Install rows) receipt.reply → IsInstalled n before of receipt
 installed n before after of rows receipt prepared is own legal longer last = record {
   after = (subst (IsPrefix before) (sym is.0) own, subst (IsLegal n) (sym is.0) legal);
@@ -219,13 +227,16 @@ installed n before after of rows receipt prepared is own legal longer last = rec
 }
 
 pub not_installed : {K : Type 0} (n : ℕ) (before after first second : List Entry) (of : List ℕ) (rows : List (ℕ × Link)) (r : Refusal) (o : JobOutcome K)
-    → o ≡ refused_as first second r → first ≡ before → second ≡ after → ArePrepared (world_of before) of rows → IsLegal n before → IsPrefix before after → IsLegal n after
+    → o ≡ refused_as first second r → first ≡ before → second ≡ after → ArePrepared (world_of before) of rows → IsLegal n before → IsPrefix before after
+    → IsLegal n after
     → IsRefused (verdict n (world_of after) (Install rows)) r → IsShown n before of o
 not_installed {K = K} n before after first second of rows r o is first_is second_is prepared legal more also refused =
-    subst (IsShown n before of) (sym (is ∙ (λ i. refused_as (first_is i) (second_is i) r))) (shown_refused K n before after of rows prepared legal more also r refused)
+    subst (IsShown n before of) (sym (is ∙ (λ i. refused_as (first_is i) (second_is i) r)))
+    (shown_refused K n before after of rows prepared legal more also r refused)
 
 -- the caller of a refused install has seen the list after which it was refused
-pub refusal_seen : {K : Type 0} (list first second : List Entry) (r : Refusal) (o : JobOutcome K) → o ≡ refused_as first second r → second ≡ list → HasSeen list o
+pub refusal_seen : {K : Type 0} (list first second : List Entry) (r : Refusal) (o : JobOutcome K) → o ≡ refused_as first second r → second ≡ list
+    → HasSeen list o
 refusal_seen {K = K} list first second r o is same = subst (HasSeen list) (sym is) (by_refusal r)
   where
     by_refusal : (x : Refusal) → HasSeen {K = K} list (refused_as first second x)

@@ -1,20 +1,21 @@
 -- Worked rows, by computation.
-use Rattle.std.proofs.Common.{◌≡◌, ◌<◌, ◌≤◌, ◌+◌, ◌==◌, ℕ, zero, suc, true, false, cond, List, [], ◌∷◌, ◌++◌, map, length, get_or, All, refl, ap, ◌∙◌, sym, arith}
+use Rattle.std.proofs.Common.{◌≡◌, ◌<◌, ◌≤◌, ◌+◌, ◌==◌, ℕ, zero, suc, true, false, cond, List, [], ◌∷◌, ◌++◌, map, length, get_or, All, refl, ap, ◌∙◌}
+use Rattle.std.proofs.Common.{sym, arith}
 use Rattle.std.proofs.lemmas.Bool.Decides.{nat_tests}
 use mathlib.Core.List.{IsPrefix}
 use Rattle.jl_types.specs.declared.link.Link.{Link}
-use Rattle.jl_types.specs.Event.{Event}
+use Rattle.jl_types.specs.Happenings.Event.{Event}
 use Rattle.jl_types.specs.declared.event.EventOf.TheVariants.{Install, NewLoader, NewSwitch}
 use Rattle.jl_types.specs.declared.event.Made.TheVariants.{Nothing}
 use Rattle.jl_types.specs.declared.event.Reply.{Reply}
-use Rattle.jl_types.specs.Entries.{Entry}
+use Rattle.jl_types.specs.Happenings.Entries.{Entry}
 use Rattle.jl_server.specs.declared.book.Receipt.{Receipt}
 use Rattle.jl_server.specs.History.{entry_after}
 use Rattle.jl_farm.specs.declared.report.Report.{Report}
 use Rattle.jl_farm.specs.declared.report.JobOutcome.{JobOutcome}
 use Rattle.jl_farm.specs.declared.report.JobOutcome.TheVariants.{Installed, Stale, NotReady, Bad, Memory}
 use Rattle.jl_farm.specs.Reports.{has_twice, sites_of, world_of, lists_of, names_install, installs_of, IsInstalled, IsShown, AreOfOneHistory, AreOfSameSites}
-use Rattle.jl_farm.specs.Work.{HasSeen}
+use Rattle.jl_farm.specs.Means.Work.{HasSeen}
 use Rattle.jl_farm.proofs.Installs.{last_same, rows_of, same_serial}
 
 -- no site, one, two equal ones and two different ones
@@ -91,9 +92,11 @@ module _ (K : Type 0) (max_sites : ℕ) (before earlier : List Entry) (receipt :
       other (ap (λ (e : Entry). map (λ row. row.0) (rows_of e.event)) same ∙ shown.of_sites)
 
   -- as of site 1 where site 0 was installed
-  no_installed_next : (link : Link) → receipt.seen ≡ earlier ++ quiet (Install ((0, link) ∷ [])) ∷ [] → IsShown max_sites before (1 ∷ []) (Installed receipt) → ⊥
+  no_installed_next : (link : Link) → receipt.seen ≡ earlier ++ quiet (Install ((0, link) ∷ [])) ∷ [] → IsShown max_sites before (1 ∷ []) (Installed receipt)
+      → ⊥
   no_installed_next link ends =
-      no_installed_other ((0, link) ∷ []) (1 ∷ []) ends (λ same. let clash : ◌≡◌ {A = ℕ} 0 1 = ap (λ (sites : List ℕ). get_or sites 0 5) same in omega (arith, clash))
+      no_installed_other ((0, link) ∷ []) (1 ∷ []) ends (λ same. let clash : ◌≡◌ {A = ℕ} 0 1 = ap (λ (sites : List ℕ). get_or sites 0 5) same in
+      omega (arith, clash))
 
   -- nor after another event
   no_installed_switch : (sites : List ℕ) → receipt.seen ≡ earlier ++ quiet NewSwitch ∷ [] → IsShown max_sites before sites (Installed receipt) → ⊥
@@ -215,7 +218,8 @@ module _ (K : Type 0) where
       other : (mine.serial == serial) ≡ true → (theirs.serial == serial) ≡ true → ⊥
       other is also = omega (arith, same_serial mine.serial serial is, same_serial theirs.serial serial also, third, fourth)
 
-      by_place : All (λ a. All (λ b. names_install serial a.outcome ≡ true → names_install serial b.outcome ≡ true → sites_of ((5 ∷ []) ∷ (7 ∷ []) ∷ []) a.job ≡ sites_of ((5 ∷ []) ∷ (7 ∷ []) ∷ []) b.job) (two mine theirs)) (two mine theirs)
+      by_place : All (λ a. All (λ b. names_install serial a.outcome ≡ true → names_install serial b.outcome ≡ true
+          → sites_of ((5 ∷ []) ∷ (7 ∷ []) ∷ []) a.job ≡ sites_of ((5 ∷ []) ∷ (7 ∷ []) ∷ []) b.job) (two mine theirs)) (two mine theirs)
       by_place zero d lt zero e less is also = refl
       by_place zero d lt (suc zero) e less is also = absurd (other is also)
       by_place (suc zero) d lt zero e less is also = absurd (other also is)

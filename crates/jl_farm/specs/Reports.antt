@@ -1,13 +1,14 @@
 -- What a report shows of its job, by the lists of accepted events that it names.
-use Rattle.std.specs.Prelude.{◌≡◌, ◌≢◌, ◌⊎◌, ◌<◌, ◌≤◌, ◌==◌, ◌||◌, ℕ, Bool, true, false, List, [], ◌∷◌, map, length, slice_get, unwrap_or, All, Any, Contains, IsErr}
+use Rattle.std.specs.Prelude.{◌≡◌, ◌≢◌, ◌⊎◌, ◌<◌, ◌≤◌, ◌==◌, ◌||◌, ℕ, Bool, true, false, List, [], ◌∷◌, map, length, slice_get, unwrap_or, All, Any}
+use Rattle.std.specs.Prelude.{Contains, IsErr}
 use Rattle.std.specs.List.{list_any, count_by}
 use mathlib.Core.List.{IsPrefix}
 use Rattle.jl_types.specs.declared.link.Link.{Link}
 use Rattle.jl_types.specs.declared.event.EventOf.TheVariants.{Install}
-use Rattle.jl_types.specs.World.{World}
-use Rattle.jl_types.specs.Links.{scratch}
-use Rattle.jl_types.specs.History.{world_after}
-use Rattle.jl_types.specs.Entries.{Entry, IsLegal, events_of}
+use Rattle.jl_types.specs.Values.World.{World}
+use Rattle.jl_types.specs.Linkage.Links.{scratch}
+use Rattle.jl_types.specs.Happenings.History.{world_after}
+use Rattle.jl_types.specs.Happenings.Entries.{Entry, IsLegal, events_of}
 use Rattle.jl_server.specs.declared.book.Receipt.{Receipt}
 use Rattle.jl_server.specs.History.{EndsWith}
 use Rattle.jl_farm.specs.declared.report.Report.{Report}
@@ -105,4 +106,5 @@ installs_of serial reports = count_by (λ report. names_install serial report.ou
 -- two reports that name one install are of jobs of the same sites
 abbrev pub AreOfSameSites : {K : Type 0} → List (List ℕ) → List (Report K) → Type 0
 AreOfSameSites jobs reports =
-    (serial : ℕ) → All (λ a. All (λ b. names_install serial a.outcome ≡ true → names_install serial b.outcome ≡ true → sites_of jobs a.job ≡ sites_of jobs b.job) reports) reports
+    (serial : ℕ) → All (λ a. All (λ b. names_install serial a.outcome ≡ true → names_install serial b.outcome ≡ true
+    → sites_of jobs a.job ≡ sites_of jobs b.job) reports) reports

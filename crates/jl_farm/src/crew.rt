@@ -2,10 +2,10 @@
 
 ghost use Rattle.std.specs.Prelude.{◌≡◌, ◌<◌, ◌≤◌, ◌+◌, ◌-◌, ℕ, length, slice_index_or, All, IfOk, OnOk, vec_len};
 ghost use Rattle.crossbeam_queue.specs.Passes.{view, IsPassOf};
-ghost use Rattle.jl_farm.specs.Queued.{hand};
-ghost use Rattle.jl_farm.specs.Work.{IsHired, HasReported, HasOne, HasTaken};
+ghost use Rattle.jl_farm.specs.Means.Queued.{pass_view};
+ghost use Rattle.jl_farm.specs.Means.Work.{IsHired, HasReported, HasOne, HasTaken};
 
-use crate::line::{Line, Turn, one_more, take_over};
+use crate::job_queue::{JobPass, JobQueue, one_more, take_over};
 use crate::worker::Worker;
 use jl_names::Seq;
 use jl_server::{Caller, Name};
@@ -17,15 +17,15 @@ use std::thread::{Threads, for_each_mut};
 /// A worker of each caller. Want of memory is an error.
 pub(crate) fn hire<K: Name>(
     alloc: Global,
-    line: &Line,
-    turn: &mut Turn,
+    queue: &JobQueue,
+    pass: &mut JobPass,
     callers: Vec<Caller<K>>,
 ) -> Result<Vec<Worker<K>>, AllocError>
-    requires turn { IsPassOf line.now turn.old }
-    requires parts { vec_len callers < (view turn.old).parts }
-    ensures turn { OnOk result (IsPassOf line.now turn.new) }
-    ensures left { OnOk result (view turn.new ≡ hand ((view turn.old).parts - vec_len callers) (view turn.old).put (view turn.old).taken) }
-    ensures crew { IfOk result (λ crew. All (λ worker. IsHired callers.items worker × IsPassOf line.now worker.turn) crew.items) }
+    requires pass { IsPassOf queue.now pass.old }
+    requires parts { vec_len callers < (view pass.old).parts }
+    ensures pass { OnOk result (IsPassOf queue.now pass.new) }
+    ensures left { OnOk result (view pass.new ≡ pass_view ((view pass.old).parts - vec_len callers) (view pass.old).put (view pass.old).taken) }
+    ensures crew { IfOk result (λ crew. All (λ worker. IsHired callers.items worker × IsPassOf queue.now worker.pass) crew.items) }
     ensures count { IfOk result (λ crew. vec_len crew ≡ vec_len callers) }
 {
     let mut callers = callers;
@@ -33,7 +33,7 @@ pub(crate) fn hire<K: Name>(
     while let Some(caller) = callers.pop() {
         let worker = Worker {
             caller,
-            turn: one_more(line, turn),
+            pass: one_more(queue, pass),
             reports: Vec::new(alloc),
         };
         crew.push(worker)?;
@@ -42,7 +42,7 @@ pub(crate) fn hire<K: Name>(
 }
 
 /// What each of several threads does with what is its own.
-pub(crate) trait Shift<W> {
+pub(crate) trait Task<W> {
     ghost accepts: { Self → W → Type 0 };
 
     ghost leaves: { Self → W → W → Type 0 };
@@ -54,7 +54,7 @@ pub(crate) trait Shift<W> {
 
 /// Does it in a thread for each worker, and comes back once all have. Where no thread can be made, what it would have done is done
 /// here.
-pub(crate) fn at_once<T: Shift<W> + Sync, W: Send, R: Threads + Sync>(
+pub(crate) fn at_once<T: Task<W> + Sync, W: Send, R: Threads + Sync>(
     rt: &R,
     shift: &T,
     workers: &mut [W],
@@ -72,22 +72,23 @@ pub(crate) fn at_once<T: Shift<W> + Sync, W: Send, R: Threads + Sync>(
 pub(crate) fn gather<K: Name>(
     callers: &Snapshot<Vec<Caller<K>>>,
     jobs: &[Seq<SiteNo>],
-    line: &Line,
+    queue: &JobQueue,
     lead: &mut Worker<K>,
     crew: Vec<Worker<K>>,
 ) -> Result<(), AllocError>
-    requires turn { IsPassOf line.now lead.old.turn }
+    requires pass { IsPassOf queue.now lead.old.pass }
     requires lead { HasReported K.max_sites callers.now.value.items jobs.now lead.old }
-    requires crew { All (λ worker. IsPassOf line.now worker.turn × HasOne worker × HasReported K.max_sites callers.now.value.items jobs.now worker) crew.items }
-    ensures turn { OnOk result (IsPassOf line.now lead.new.turn) }
+    requires crew { All (λ worker. IsPassOf queue.now worker.pass × HasOne worker
+        × HasReported K.max_sites callers.now.value.items jobs.now worker) crew.items }
+    ensures pass { OnOk result (IsPassOf queue.now lead.new.pass) }
     ensures lead { OnOk result (HasReported K.max_sites callers.now.value.items jobs.now lead.new) }
-    ensures put { OnOk result ((view lead.new.turn).put ≡ (view lead.old.turn).put) }
-    ensures parts { OnOk result ((view lead.new.turn).parts ≡ (view lead.old.turn).parts + vec_len crew) }
+    ensures put { OnOk result ((view lead.new.pass).put ≡ (view lead.old.pass).put) }
+    ensures parts { OnOk result ((view lead.new.pass).parts ≡ (view lead.old.pass).parts + vec_len crew) }
     ensures taken { OnOk result (HasTaken (vec_len crew) lead.old lead.new) }
 {
     let mut crew = crew;
     while let Some(other) = crew.pop() {
-        take_in(callers, jobs, line, lead, other)?;
+        take_in(callers, jobs, queue, lead, other)?;
     }
     Ok(())
 }
@@ -96,26 +97,26 @@ pub(crate) fn gather<K: Name>(
 fn take_in<K: Name>(
     callers: &Snapshot<Vec<Caller<K>>>,
     jobs: &[Seq<SiteNo>],
-    line: &Line,
+    queue: &JobQueue,
     lead: &mut Worker<K>,
     other: Worker<K>,
 ) -> Result<(), AllocError>
-    requires turns { IsPassOf line.now lead.old.turn × IsPassOf line.now other.turn }
+    requires turns { IsPassOf queue.now lead.old.pass × IsPassOf queue.now other.pass }
     requires lead { HasReported K.max_sites callers.now.value.items jobs.now lead.old }
     requires one { HasOne other }
     requires other { HasReported K.max_sites callers.now.value.items jobs.now other }
-    ensures turn { OnOk result (IsPassOf line.now lead.new.turn) }
+    ensures pass { OnOk result (IsPassOf queue.now lead.new.pass) }
     ensures lead { OnOk result (HasReported K.max_sites callers.now.value.items jobs.now lead.new) }
-    ensures put { OnOk result ((view lead.new.turn).put ≡ (view lead.old.turn).put) }
-    ensures parts { OnOk result ((view lead.new.turn).parts ≡ (view lead.old.turn).parts + 1) }
+    ensures put { OnOk result ((view lead.new.pass).put ≡ (view lead.old.pass).put) }
+    ensures parts { OnOk result ((view lead.new.pass).parts ≡ (view lead.old.pass).parts + 1) }
     ensures taken { OnOk result (HasTaken 1 lead.old lead.new) }
 {
     let Worker {
         caller: _caller,
-        turn,
+        pass,
         mut reports,
     } = other;
     lead.reports.append(&mut reports)?;
-    take_over(line, &mut lead.turn, turn);
+    take_over(queue, &mut lead.pass, pass);
     Ok(())
 }

@@ -6,14 +6,14 @@ ghost use Rattle.std.specs.List.Sorted.{IsPermutation, IsNonDecreasingBy};
 ghost use mathlib.Core.List.{IsPrefix};
 ghost use Rattle.crossbeam_queue.specs.Passes.{view, IsPassOf};
 ghost use Rattle.jl_farm.specs.Reports.{IsReport, jobs_of, lists_of, installs_of, AreOfOneHistory, AreOfSameSites};
-ghost use Rattle.jl_farm.specs.Work.{Works, HasReported, HasOne, HasPart};
+ghost use Rattle.jl_farm.specs.Means.Work.{Works, HasReported, HasOne, HasPart};
 
 use crate::crew::{at_once, gather, hire};
 use crate::fault::FarmFault;
-use crate::floor::Floor;
 use crate::gate::Gate;
-use crate::line::{Turn, line_of, take_over};
+use crate::job_queue::{JobPass, queue_of, take_over};
 use crate::report::{JobOutcome, Report};
+use crate::shared::Shared;
 use crate::worker::Worker;
 use jl_names::Seq;
 use jl_server::{Caller, LinkServer, Name};
@@ -87,18 +87,18 @@ fn run_some<
         return Err(FarmFault::NoThread);
     }
     let callers = Snapshot::of(&workers);
-    let (line, mut turn) = line_of(rt, alloc, jobs.len())?;
-    let mut crew = hire(alloc, &line, &mut turn, workers)?;
-    let floor = Floor {
+    let (queue, mut pass) = queue_of(rt, alloc, jobs.len())?;
+    let mut crew = hire(alloc, &queue, &mut pass, workers)?;
+    let floor = Shared {
         rt,
         alloc,
         server,
         jobs: jobs.as_slice(),
         gate,
-        line: &line,
+        queue: &queue,
     };
     serve_all(rt, &floor, &mut crew);
-    let reports = finish(&floor, &callers, turn, crew)?;
+    let reports = finish(&floor, &callers, pass, crew)?;
     Ok(in_order(reports))
 }
 
@@ -127,9 +127,9 @@ fn serve_all<
     G: Gate + Sync,
     R: Threads + Wait + Sync,
     S: Wait + Drop + Send + Sync,
->(rt: &R, floor: &Floor<'_, K, G, R, S>, crew: &mut Vec<Worker<K>>)
-    requires { All (λ worker. IsPassOf floor.now.line.now worker.turn × HasPart worker) crew.old.items }
-    ensures { AllZip (λ old new. IsPassOf floor.now.line.now new.turn × Works K.max_sites floor.now.jobs.now old new) crew.old.items crew.new.items }
+>(rt: &R, floor: &Shared<'_, K, G, R, S>, crew: &mut Vec<Worker<K>>)
+    requires { All (λ worker. IsPassOf floor.now.queue.now worker.pass × HasPart worker) crew.old.items }
+    ensures { AllZip (λ old new. IsPassOf floor.now.queue.now new.pass × Works K.max_sites floor.now.jobs.now old new) crew.old.items crew.new.items }
 {
     at_once(rt, floor, crew.as_mut_slice());
 }
@@ -137,15 +137,16 @@ fn serve_all<
 /// All reports, once nothing is queued. The last worker takes over what the others took, and runs what they may have left for want of
 /// memory.
 fn finish<K: Name, G: Gate, R: Wait, S: Wait + Drop>(
-    floor: &Floor<'_, K, G, R, S>,
+    floor: &Shared<'_, K, G, R, S>,
     callers: &Snapshot<Vec<Caller<K>>>,
-    turn: Turn,
+    pass: JobPass,
     crew: Vec<Worker<K>>,
 ) -> Result<Vec<Report<K>>, AllocError>
-    requires turn { IsPassOf floor.now.line.now turn × ((view turn).taken ≡ []) }
-    requires parts { ((view turn).parts + vec_len crew ≡ 1024) × (1 ≤ vec_len crew) }
-    requires crew { All (λ worker. IsPassOf floor.now.line.now worker.turn × HasOne worker × HasReported K.max_sites callers.now.value.items floor.now.jobs.now worker) crew.items }
-    ensures weighs { IfOk result (λ reports. (weight : ℕ → ℕ) → sum_by weight (view turn).put ≡ sum_by weight (jobs_of reports.items)) }
+    requires pass { IsPassOf floor.now.queue.now pass × ((view pass).taken ≡ []) }
+    requires parts { ((view pass).parts + vec_len crew ≡ 1024) × (1 ≤ vec_len crew) }
+    requires crew { All (λ worker. IsPassOf floor.now.queue.now worker.pass × HasOne worker
+        × HasReported K.max_sites callers.now.value.items floor.now.jobs.now worker) crew.items }
+    ensures weighs { IfOk result (λ reports. (weight : ℕ → ℕ) → sum_by weight (view pass).put ≡ sum_by weight (jobs_of reports.items)) }
     ensures shown { IfOk result (λ reports. All (IsReport K.max_sites callers.now.value.items floor.now.jobs.now) reports.items) }
     ensures history { IfOk result (λ reports. AreOfOneHistory reports.items) }
     ensures installs { IfOk result (λ reports. (serial : ℕ) → installs_of serial reports.items ≤ vec_len crew) }
@@ -154,12 +155,12 @@ fn finish<K: Name, G: Gate, R: Wait, S: Wait + Drop>(
     let Some(mut lead) = crew.pop() else {
         unreachable!()
     };
-    take_over(floor.line, &mut lead.turn, turn);
-    gather(callers, floor.jobs, floor.line, &mut lead, crew)?;
+    take_over(floor.queue, &mut lead.pass, pass);
+    gather(callers, floor.jobs, floor.queue, &mut lead, crew)?;
     floor.work(&mut lead)?;
     let Worker {
         caller,
-        turn: _turn,
+        pass: _turn,
         reports,
     } = lead;
     learn_all(caller, reports.as_slice());

@@ -1,6 +1,6 @@
 //! Workers.
 
-use crate::line::Turn;
+use crate::job_queue::JobPass;
 use crate::report::Report;
 use jl_server::{Caller, Name};
 
@@ -8,6 +8,6 @@ use jl_server::{Caller, Name};
 #[derive(Drop)]
 pub(crate) struct Worker<K: Name> {
     pub(crate) caller: Caller<K>,
-    pub(crate) turn: Turn,
+    pub(crate) pass: JobPass,
     pub(crate) reports: Vec<Report<K>>,
 }

@@ -5,10 +5,10 @@ use Rattle.std.specs.List.Sorted.{IsBinarySearchResult}
 use Rattle.std.specs.Ordering.{nat_cmp}
 use Rattle.std.proofs.Common.{ap, sym, subst, ◌∙◌}
 use Rattle.std.proofs.lemmas.List.Sorted.{searched}
-use Rattle.jl_types.specs.World.{Classes}
-use Rattle.jl_types.specs.Ancestry.{AreOrdered, ancestors, is_ancestor, is_ancestor_within}
+use Rattle.jl_types.specs.Values.World.{Classes}
+use Rattle.jl_types.specs.Values.Ancestry.{AreOrdered, ancestors, is_ancestor, is_ancestor_within}
 use Rattle.jl_types.proofs.Grown.{among_ancestors}
-use Rattle.jl_hierarchy.specs.Kept.{Rises}
+use Rattle.jl_hierarchy.specs.Means.Kept.{Rises}
 use Rattle.jl_hierarchy.proofs.Rising.{has, filter_rises, rising_at, has_at, split_none}
 
 -- a search in a rising list finds the numbers that are there

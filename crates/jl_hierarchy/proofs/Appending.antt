@@ -1,5 +1,6 @@
 -- The lists of receivers, as one of them is changed.
-use Rattle.std.specs.Prelude.{◌≡◌, ℕ, zero, suc, ◌+◌, ◌<◌, ◌==◌, ◌||◌, Bool, true, false, if◌then◌else◌, List, [], ◌∷◌, ◌++◌, length, get_or, slice_set, take, drop}
+use Rattle.std.specs.Prelude.{◌≡◌, ℕ, zero, suc, ◌+◌, ◌<◌, ◌==◌, ◌||◌, Bool, true, false, if◌then◌else◌, List, [], ◌∷◌, ◌++◌, length, get_or}
+use Rattle.std.specs.Prelude.{slice_set, take, drop}
 use Rattle.std.specs.List.{list_any, AllByRecursion}
 use Rattle.smallvec.specs.SmallVec.{SmallVec, HasRoomFor}
 use Rattle.std.proofs.Common.{refl, ap, sym, subst, ◌∙◌, arith}
@@ -12,7 +13,7 @@ use Rattle.std.proofs.lemmas.Cmp.{nat_eq_equiv}
 use Rattle.jl_types.proofs.Bools.{or_none}
 use Rattle.jl_hierarchy.proofs.Rising.{other_number, above_at}
 use Rattle.jl_hierarchy.proofs.KeptLaws.{get_or-lists}
-use Rattle.jl_hierarchy.specs.Kept.{HasRoom, Rises, AreChanged, lists}
+use Rattle.jl_hierarchy.specs.Means.Kept.{HasRoom, Rises, AreChanged, lists}
 
 -- ---- one list is changed
 
@@ -32,7 +33,8 @@ room_set below i c v lt room old d = by_test (i == c) refl
     by_test true e =
         subst (λ k. HasRoomFor (get_or (slice_set below i v) k d) 1) ((Decides-eqb i c).0 e)
         (subst (λ (w : SmallVec ℕ). HasRoomFor w 1) (sym (get_or-set_same below i v d lt)) (room e))
-    by_test false e = subst (λ (w : SmallVec ℕ). HasRoomFor w 1) (sym (get_or-set_other below i c v d (λ same. both_ways (i == c) e ((Decides-eqb i c).1 (sym same))))) (old e d)
+    by_test false e = subst (λ (w : SmallVec ℕ). HasRoomFor w 1)
+        (sym (get_or-set_other below i c v d (λ same. both_ways (i == c) e ((Decides-eqb i c).1 (sym same))))) (old e d)
 
 -- the lists that were written in place, and one behind them
 pub with_own : (n : ℕ) (old new : List (SmallVec ℕ)) (own : SmallVec ℕ) → length new ≡ n
@@ -83,7 +85,8 @@ not_before : (classes : List ℕ) (n d : ℕ) → Rises classes → n < length c
 not_before [] n d r lt = absurd (omega arith)
 not_before (x ∷ classes) zero d r lt = refl
 not_before (x ∷ classes) (suc n) d r lt =
-    ap (λ (b : Bool). b || list_any (λ k. k == get_or classes n d) (take n classes)) (other_number x (get_or classes n d) (above_any x classes n d r.0 (omega arith)))
+    ap (λ (b : Bool). b || list_any (λ k. k == get_or classes n d) (take n classes))
+    (other_number x (get_or classes n d) (above_any x classes n d r.0 (omega arith)))
     ∙ not_before classes n d r.1 (omega arith)
 
 module _ (classes : List ℕ) (f : List ℕ → List ℕ) (old : List (List ℕ)) (below : List (SmallVec ℕ)) (n d : ℕ) (r : Rises classes) (lt : n < length classes)
@@ -118,7 +121,8 @@ module _ (classes : List ℕ) (f : List ℕ → List ℕ) (old : List (List ℕ)
       ap (λ (ls : List (List ℕ)). get_or ls c []) lists_set
       ∙ get_or-set_other (lists below) at c v.items [] (λ same. both_ways (at == c) is ((Decides-eqb at c).1 (sym same)))
       ∙ h.each c
-      ∙ sym (ap (λ b. with b c) (has_more classes n c d lt ∙ ap (λ b. list_any (λ k. k == c) (take n classes) || b) is ∙ or_none (list_any (λ k. k == c) (take n classes))))
+      ∙ sym (ap (λ b. with b c) (has_more classes n c d lt ∙ ap (λ b. list_any (λ k. k == c) (take n classes) || b) is
+      ∙ or_none (list_any (λ k. k == c) (take n classes))))
 
   pub changed_more : AreChanged (take (n + 1) classes) f old (lists (slice_set below at v))
   changed_more = record { many = ap length lists_set ∙ length-set (lists below) at v.items ∙ h.many; each = λ c. by_test c (at == c) refl }

@@ -3,10 +3,10 @@ use Rattle.std.specs.Prelude.{◌≡◌, ℕ, length, ◌<◌, ◌==◌, Bool, t
 use Rattle.std.specs.List.{list_any}
 use Rattle.std.specs.Option.{option_map_or}
 use Rattle.std.proofs.Common.{refl, ap, sym, ◌∙◌, add-one}
-use Rattle.jl_types.specs.World.{Class, Classes}
-use Rattle.jl_types.specs.Members.{declared}
-use Rattle.jl_types.specs.Ancestry.{superclasses, superclass_of, is_subclass, AreOrdered}
-use Rattle.jl_types.specs.Resolution.{declared_upward}
+use Rattle.jl_types.specs.Values.World.{Class, Classes}
+use Rattle.jl_types.specs.Values.Members.{declared}
+use Rattle.jl_types.specs.Values.Ancestry.{superclasses, superclass_of, is_subclass, AreOrdered}
+use Rattle.jl_types.specs.Linkage.Resolution.{declared_upward}
 use Rattle.jl_types.proofs.Ancestors.{superclasses_is, superclass_below}
 use Rattle.jl_types.proofs.Lists.{element_at}
 
@@ -26,11 +26,13 @@ module _ (cs : Classes) (o : AreOrdered cs.rows) (c : ℕ) where
   pub chain_above : (s : ℕ) → superclass_of cs c ≡ Some s → superclasses cs c ≡ c ∷ superclasses cs s
   chain_above s e = let r = row_of s e in superclasses_is cs o c r.0 r.1 ∙ ap (λ (p : Option ℕ). c ∷ option_map_or (superclasses cs) p []) r.2
 
-  pub found_above : (name ty : List ℕ) (s : ℕ) → declared cs name ty c ≡ None → superclass_of cs c ≡ Some s → declared_upward cs name ty c ≡ declared_upward cs name ty s
+  pub found_above : (name ty : List ℕ) (s : ℕ) → declared cs name ty c ≡ None → superclass_of cs c ≡ Some s
+      → declared_upward cs name ty c ≡ declared_upward cs name ty s
   found_above name ty s d e = rw (chain_above s e, d) refl
 
 -- of a class that is there
-pub chain_there : (cs : Classes) → AreOrdered cs.rows → (c : ℕ) → c < length cs.rows → superclasses cs c ≡ c ∷ option_map_or (superclasses cs) (superclass_of cs c) []
+pub chain_there : (cs : Classes) → AreOrdered cs.rows → (c : ℕ) → c < length cs.rows → superclasses cs c ≡ c
+    ∷ option_map_or (superclasses cs) (superclass_of cs c) []
 chain_there cs o c h =
     let r = element_at cs.rows c h in
     superclasses_is cs o c r.0 r.1 ∙ sym (ap (λ (row : Option Class). c ∷ option_map_or (superclasses cs) (option_and_then (λ r. r.superclass) row) []) r.1)

@@ -1,5 +1,6 @@
 -- What is present rests on what is present, through every change.
-use Rattle.std.specs.Prelude.{◌≡◌, ℕ, zero, suc, ◌+◌, ◌<◌, ◌==◌, Bool, true, false, cond, not, ◌&&◌, ◌||◌, List, [], ◌∷◌, ◌++◌, filter_map, find, length, slice_get, slice_set}
+use Rattle.std.specs.Prelude.{◌≡◌, ℕ, zero, suc, ◌+◌, ◌<◌, ◌==◌, Bool, true, false, cond, not, ◌&&◌, ◌||◌, List, [], ◌∷◌, ◌++◌, filter_map, find}
+use Rattle.std.specs.Prelude.{length, slice_get, slice_set}
 use Rattle.std.specs.Prelude.{Option, Some, None, option_map, option_and_then, option_to_list, nat_le}
 use Rattle.std.specs.Option.{option_map_or}
 use Rattle.std.specs.List.{AllByRecursion, cons_option, list_any}
@@ -10,13 +11,13 @@ use Rattle.std.proofs.lemmas.Bool.{both_ways}
 use Rattle.std.proofs.lemmas.Bool.Decides.{Decides-eqb}
 use Rattle.std.proofs.lemmas.Cmp.{nat_eq_equiv}
 use Rattle.std.proofs.lemmas.Option.{same_Some, slice_get_within}
-use Rattle.jl_classfile.specs.Class.{ClassFile}
+use Rattle.jl_class.specs.Class.{ClassFile}
 use Rattle.jl_types.specs.declared.refusal.DefineFault.TheVariants.{UnknownLoader}
-use Rattle.jl_types.specs.World.{Class, Classes}
-use Rattle.jl_types.specs.Members.{is_retired, is_present, recorded, lookup}
-use Rattle.jl_types.specs.Ancestry.{AreOrdered, IsAncestor, itself, over, is_ancestor, is_parent, parents, ancestors}
-use Rattle.jl_types.specs.Definitions.{class_made, defined, with_record, define_fault, is_unknown}
-use Rattle.jl_types.specs.Retirement.{is_of, inherits_from, records_from, classes_fault, retired}
+use Rattle.jl_types.specs.Values.World.{Class, Classes}
+use Rattle.jl_types.specs.Values.Members.{is_retired, is_present, recorded, lookup}
+use Rattle.jl_types.specs.Values.Ancestry.{AreOrdered, IsAncestor, itself, over, is_ancestor, is_parent, parents, ancestors}
+use Rattle.jl_types.specs.Happenings.Definitions.{class_made, defined, with_record, define_fault, is_unknown}
+use Rattle.jl_types.specs.Happenings.Retirement.{is_of, inherits_from, records_from, classes_fault, retired}
 use Rattle.jl_types.proofs.Ancestors.{ancestor_decides}
 use Rattle.jl_types.proofs.Firsts.{first_none, test_none}
 use Rattle.jl_types.proofs.Grown.{among_ancestors, old_within}
@@ -44,7 +45,8 @@ any_at p y (z ∷ xs) is h = by_same (z == y) refl h (any_at p y xs is)
     always true = refl
     always false = refl
 
-    by_same : (b : Bool) → (z == y) ≡ b → (b || list_any (λ k. k == y) xs) ≡ true → (list_any (λ k. k == y) xs ≡ true → list_any p xs ≡ true) → (p z || list_any p xs) ≡ true
+    by_same : (b : Bool) → (z == y) ≡ b → (b || list_any (λ k. k == y) xs) ≡ true → (list_any (λ k. k == y) xs ≡ true → list_any p xs ≡ true)
+        → (p z || list_any p xs) ≡ true
     by_same true same h rest = ap (λ (b : Bool). b || list_any p xs) (ap p ((Decides-eqb z y).0 same) ∙ is)
     by_same false same h rest = ap (λ (b : Bool). p z || b) (rest h) ∙ always (p z)
 
@@ -69,7 +71,8 @@ module _ (cs : Classes) (loader : ℕ) (P : ℕ → Type 0) (found : (name : Lis
       by_first (Some c) h rest = (h c refl, rest)
 
   parents_so : (file : ClassFile) → AllByRecursion P (parents (class_made cs loader file))
-  parents_so file = one_so (option_and_then (lookup cs loader) file.superclass) (by_name file.superclass) (filter_map (lookup cs loader) file.interfaces) (all_so file.interfaces)
+  parents_so file = one_so (option_and_then (lookup cs loader) file.superclass) (by_name file.superclass) (filter_map (lookup cs loader) file.interfaces)
+      (all_so file.interfaces)
 
 -- ---- records
 
@@ -78,7 +81,8 @@ one_record : (records : List (List ℕ × ℕ)) (name other : List ℕ) (d c : �
     → (recorded name records ≡ Some c) ⊎ (d ≡ c)
 one_record [] name other d c e = by_test (bytes_eq other name) e
   where
-    by_test : (b : Bool) → option_map (λ (r : List ℕ × ℕ). r.1) (cond b (Some (other, d)) None) ≡ Some c → (option_map (λ (r : List ℕ × ℕ). r.1) None ≡ Some c) ⊎ (d ≡ c)
+    by_test : (b : Bool) → option_map (λ (r : List ℕ × ℕ). r.1) (cond b (Some (other, d)) None) ≡ Some c → (option_map (λ (r : List ℕ × ℕ). r.1) None ≡ Some c)
+        ⊎ (d ≡ c)
     by_test true e = inr (same_Some d c e)
     by_test false e = cc
 one_record (r ∷ records) name other d c e = by_test (bytes_eq r.0 name) e (one_record records name other d c)
@@ -104,7 +108,8 @@ with_set : (loaders : List (List (List ℕ × ℕ))) (l k : ℕ) (records : List
     → (option_and_then (recorded name) (slice_get loaders k) ≡ Some c) ⊎ ((d ≡ c) × (l ≡ k))
 with_set [] l k records name other d c is e = cc
 with_set (x ∷ loaders) zero zero records name other d c is e =
-    at_first_loader x name d c (subst (λ (rs : List (List ℕ × ℕ)). (recorded name rs ≡ Some c) ⊎ (d ≡ c)) (sym (same_Some x records is)) (one_record records name other d c e))
+    at_first_loader x name d c (subst (λ (rs : List (List ℕ × ℕ)). (recorded name rs ≡ Some c) ⊎ (d ≡ c)) (sym (same_Some x records is))
+    (one_record records name other d c e))
 with_set (x ∷ loaders) zero (suc k) records name other d c is e = inl e
 with_set (x ∷ loaders) (suc l) zero records name other d c is e = inl e
 with_set (x ∷ loaders) (suc l) (suc k) records name other d c is e =
@@ -154,7 +159,8 @@ closed_with_loader cs closed = record {
 -- a loader that defines a class isn't retired
 pub live_loader : (cs : Classes) (loader : ℕ) (file : ClassFile) → define_fault cs loader file ≡ None → is_retired cs loader ≡ false
 live_loader cs loader file none =
-    second (nat_le (length cs.loaders) loader) (is_retired cs loader) (test_none (is_unknown cs loader) UnknownLoader (first_none (then_some (is_unknown cs loader) UnknownLoader) _ none).0)
+    second (nat_le (length cs.loaders) loader) (is_retired cs loader) (test_none (is_unknown cs loader) UnknownLoader
+    (first_none (then_some (is_unknown cs loader) UnknownLoader) _ none).0)
   where
     second : (a b : Bool) → (a || b) ≡ false → b ≡ false
     second true b e = cc
@@ -228,7 +234,8 @@ module _ (cs : Classes) (good : IsGood cs) (loader : ℕ) (file : ClassFile) whe
 
 -- ---- a loader less
 
-pub any_recorded : (p : ℕ → Bool) (name : List ℕ) (c : ℕ) (records : List (List ℕ × ℕ)) → recorded name records ≡ Some c → p c ≡ true → list_any (λ r. p r.1) records ≡ true
+pub any_recorded : (p : ℕ → Bool) (name : List ℕ) (c : ℕ) (records : List (List ℕ × ℕ)) → recorded name records ≡ Some c → p c ≡ true
+    → list_any (λ r. p r.1) records ≡ true
 any_recorded p name c [] e is = cc
 any_recorded p name c (r ∷ records) e is = by_test (bytes_eq r.0 name) e (λ e. any_recorded p name c records e is)
   where
@@ -281,7 +288,8 @@ module _ (cs : Classes) (ordered : AreOrdered cs.rows) (closed : IsClosed cs) (l
     ancestors = λ a x up present.
         let was = left_present x present in
         stays_present a (closed.ancestors a x up was.0) (none_above a x up was.0 was.1);
-    records = λ k name c alive e. by_loader k name c (parts (is_retired cs k) (loader == k) (sym (retired_after cs loader k) ∙ alive)) (found_before cs loader k name c e);
+    records = λ k name c alive e. by_loader k name c (parts (is_retired cs k) (loader == k) (sym (retired_after cs loader k) ∙ alive))
+        (found_before cs loader k name c e);
   }
     where
       parts : (a b : Bool) → (a || b) ≡ false → (a ≡ false) × (b ≡ false)

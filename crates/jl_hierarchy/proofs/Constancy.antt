@@ -7,16 +7,16 @@ use Rattle.std.specs.Str.{bytes_eq}
 use Rattle.std.proofs.Common.{refl, ap, sym, ◌∙◌}
 use Rattle.std.proofs.lemmas.List.{append-nil}
 use Rattle.std.proofs.lemmas.Option.{same_Some, slice_get_within}
-use Rattle.jl_classfile.specs.Class.{ClassFile}
-use Rattle.jl_types.specs.World.{Class, Classes}
-use Rattle.jl_types.specs.Members.{is_retired, is_present, recorded, lookup, share_package, is_concrete}
-use Rattle.jl_types.specs.Ancestry.{AreOrdered, is_ancestor, receivers}
-use Rattle.jl_types.specs.Access.{nest_host, host_by, host_if_recorded, host_if_listed}
-use Rattle.jl_types.specs.Definitions.{class_made, with_record, defined}
+use Rattle.jl_class.specs.Class.{ClassFile}
+use Rattle.jl_types.specs.Values.World.{Class, Classes}
+use Rattle.jl_types.specs.Values.Members.{is_retired, is_present, recorded, lookup, share_package, is_concrete}
+use Rattle.jl_types.specs.Values.Ancestry.{AreOrdered, is_ancestor, receivers}
+use Rattle.jl_types.specs.Linkage.Access.{nest_host, host_by, host_if_recorded, host_if_listed}
+use Rattle.jl_types.specs.Happenings.Definitions.{class_made, with_record, defined}
 use Rattle.jl_types.proofs.Grown.{old_ancestors, receivers_after}
 use Rattle.jl_types.proofs.Lists.{before_end}
 use Rattle.jl_types.proofs.Orders.{IsGood, looked_up}
-use Rattle.jl_types.specs.Retirement.{retired}
+use Rattle.jl_types.specs.Happenings.Retirement.{retired}
 use Rattle.jl_types.proofs.Retiring.{retired_after, found_after}
 use Rattle.jl_hierarchy.specs.Constancy.{Stays, AddsReceiver}
 
@@ -34,7 +34,8 @@ module _ (name : List ℕ) (c : ℕ) (e : List ℕ × ℕ) where
       by_test false rest h = rest h
 
   set_stays : (records : List (List ℕ × ℕ)) (loaders : List (List (List ℕ × ℕ))) (l k : ℕ) → slice_get loaders l ≡ Some records
-      → option_and_then (recorded name) (slice_get loaders k) ≡ Some c → option_and_then (recorded name) (slice_get (slice_set loaders l (records ++ e ∷ [])) k) ≡ Some c
+      → option_and_then (recorded name) (slice_get loaders k) ≡ Some c
+      → option_and_then (recorded name) (slice_get (slice_set loaders l (records ++ e ∷ [])) k) ≡ Some c
   set_stays records [] l k is h = cc
   set_stays records (x ∷ loaders) zero zero is h = recorded_stays records (sym (ap (recorded name) (same_Some x records is)) ∙ h)
   set_stays records (x ∷ loaders) zero (suc k) is h = h
@@ -42,11 +43,13 @@ module _ (name : List ℕ) (c : ℕ) (e : List ℕ × ℕ) where
   set_stays records (x ∷ loaders) (suc l) (suc k) is h = set_stays records loaders l k is h
 
 pub with_record_stays : (loaders : List (List (List ℕ × ℕ))) (loader : ℕ) (recorded_name : List ℕ) (d k : ℕ) (name : List ℕ) (c : ℕ)
-    → option_and_then (recorded name) (slice_get loaders k) ≡ Some c → option_and_then (recorded name) (slice_get (with_record loaders loader recorded_name d) k) ≡ Some c
+    → option_and_then (recorded name) (slice_get loaders k) ≡ Some c → option_and_then (recorded name)
+    (slice_get (with_record loaders loader recorded_name d) k) ≡ Some c
 with_record_stays loaders loader recorded_name d k name c h = by_loader (slice_get loaders loader) refl
   where
     by_loader : (o : Option (List (List ℕ × ℕ))) → slice_get loaders loader ≡ o
-        → option_and_then (recorded name) (slice_get (option_map_or (λ records. slice_set loaders loader (records ++ (recorded_name, d) ∷ [])) o loaders) k) ≡ Some c
+        → option_and_then (recorded name) (slice_get (option_map_or (λ records. slice_set loaders loader (records ++ (recorded_name, d) ∷ [])) o loaders) k)
+        ≡ Some c
     by_loader None is = h
     by_loader (Some records) is = set_stays name c (recorded_name, d) records loaders loader k is h
 
@@ -74,7 +77,8 @@ module _ (old new : Classes) (good : IsGood old) (rows : (c : ℕ) → c < lengt
   host_stays m h row low alive None e = e
   host_stays m h row low alive (Some name) e = by_record (lookup old row.loader name) refl e
     where
-      by_record : (o : Option ℕ) → lookup old row.loader name ≡ o → host_if_recorded old m row o ≡ Some h → host_if_recorded new m row (lookup new row.loader name) ≡ Some h
+      by_record : (o : Option ℕ) → lookup old row.loader name ≡ o → host_if_recorded old m row o ≡ Some h
+          → host_if_recorded new m row (lookup new row.loader name) ≡ Some h
       by_record None is e = cc
       by_record (Some k) is e =
           ap (host_if_recorded new m row) (records row.loader name k alive is)
@@ -84,13 +88,15 @@ module _ (old new : Classes) (good : IsGood old) (rows : (c : ℕ) → c < lengt
   pub hosts_stay : (m h : ℕ) → is_present new m ≡ true → nest_host old m ≡ Some h → nest_host new m ≡ Some h
   hosts_stay m h present e = by_row (slice_get old.rows m) refl e
     where
-      by_row : (o : Option Class) → slice_get old.rows m ≡ o → option_and_then (λ row. host_by old m row row.file.nest_host) o ≡ Some h → nest_host new m ≡ Some h
+      by_row : (o : Option Class) → slice_get old.rows m ≡ o → option_and_then (λ row. host_by old m row row.file.nest_host) o ≡ Some h
+          → nest_host new m ≡ Some h
       by_row None is e = cc
       by_row (Some row) is e =
           let low = slice_get_within old.rows m row is in
           ap (option_and_then (λ r. host_by new m r r.file.nest_host)) (rows m low ∙ is)
           ∙ host_stays m h row low
-          (not_true (is_retired new row.loader) (sym (ap (λ (o : Option Class). option_map_or (λ r. not (is_retired new r.loader)) o false) (rows m low ∙ is)) ∙ present))
+          (not_true (is_retired new row.loader) (sym (ap (λ (o : Option Class). option_map_or (λ r. not (is_retired new r.loader)) o false) (rows m low ∙ is))
+          ∙ present))
           row.file.nest_host e
 
 -- ---- the changes
@@ -125,7 +131,8 @@ stays_recorded cs good loaders h = record {
   hosts = hosts_stay cs (record cs { loaders = loaders }) good (λ c lt. refl) (λ k name c alive e. h k name c e);
 }
 
-pub stays_with_record : (cs : Classes) → IsGood cs → (loader : ℕ) (name : List ℕ) (d : ℕ) → Stays cs (record cs { loaders = with_record cs.loaders loader name d })
+pub stays_with_record : (cs : Classes) → IsGood cs → (loader : ℕ) (name : List ℕ) (d : ℕ)
+    → Stays cs (record cs { loaders = with_record cs.loaders loader name d })
 stays_with_record cs good loader name d =
     stays_recorded cs good (with_record cs.loaders loader name d) (λ k other c h. with_record_stays cs.loaders loader name d k other c h)
 

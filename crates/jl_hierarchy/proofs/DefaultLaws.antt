@@ -4,11 +4,11 @@ use Rattle.std.specs.Prelude.{filter, filter_map, cond, Option, Some, None, opti
 use Rattle.std.specs.List.{list_any, cons_option}
 use Rattle.std.proofs.Common.{refl, ap, sym, ◌∙◌}
 use Rattle.jl_types.specs.declared.ids.MethodId.{MethodId}
-use Rattle.jl_types.specs.World.{Classes}
-use Rattle.jl_types.specs.Members.{declared, is_abstract, is_called, methods_of}
-use Rattle.jl_types.specs.Ancestry.{ancestors, is_proper_ancestor}
-use Rattle.jl_types.specs.Resolution.{candidates, defaults}
-use Rattle.jl_hierarchy.specs.Defaults.{if_passes, is_inherited, is_other_interface, candidate_at, is_redeclared, redeclares, is_default, default_at}
+use Rattle.jl_types.specs.Values.World.{Classes}
+use Rattle.jl_types.specs.Values.Members.{declared, is_abstract, is_called, methods_of}
+use Rattle.jl_types.specs.Values.Ancestry.{ancestors, is_proper_ancestor}
+use Rattle.jl_types.specs.Linkage.Resolution.{candidates, defaults}
+use Rattle.jl_hierarchy.specs.Means.Defaults.{if_passes, is_inherited, is_other_interface, candidate_at, is_redeclared, redeclares, is_default, default_at}
 
 -- ---- filters, joined
 
@@ -23,7 +23,8 @@ module _ {A B : Type 0} where
       by_test rest y true e = ap (λ (ys : List B). y ∷ ys) e
       by_test rest y false e = e
 
-      by_found : (rest : List B) (o : Option B) → filter p (filter_map f xs) ≡ rest → filter p (cons_option o (filter_map f xs)) ≡ cons_option (option_and_then (if_passes p) o) rest
+      by_found : (rest : List B) (o : Option B) → filter p (filter_map f xs) ≡ rest
+          → filter p (cons_option o (filter_map f xs)) ≡ cons_option (option_and_then (if_passes p) o) rest
       by_found rest None e = e
       by_found rest (Some y) e = by_test rest y (p y) e
 
@@ -32,7 +33,8 @@ module _ {A B : Type 0} where
   passing_found f q [] = refl
   passing_found f q (x ∷ xs) = by_test _ (q x) (passing_found f q xs)
     where
-      by_test : (rest : List B) (b : Bool) → filter_map f (filter q xs) ≡ rest → filter_map f (cond b (x ∷ filter q xs) (filter q xs)) ≡ cons_option (if b then f x else None) rest
+      by_test : (rest : List B) (b : Bool) → filter_map f (filter q xs) ≡ rest
+          → filter_map f (cond b (x ∷ filter q xs) (filter q xs)) ≡ cons_option (if b then f x else None) rest
       by_test rest true e = ap (λ (ys : List B). cons_option (f x) ys) e
       by_test rest false e = e
 
@@ -40,7 +42,8 @@ both_filters : {A : Type 0} (p q : A → Bool) (xs : List A) → filter p (filte
 both_filters {A = A} p q [] = refl
 both_filters {A = A} p q (x ∷ xs) = by_tests _ (p x) (q x) refl (both_filters p q xs)
   where
-    by_tests : (rest : List A) (a b : Bool) → p x ≡ a → filter p (filter q xs) ≡ rest → filter p (cond b (x ∷ filter q xs) (filter q xs)) ≡ cond (a && b) (x ∷ rest) rest
+    by_tests : (rest : List A) (a b : Bool) → p x ≡ a → filter p (filter q xs) ≡ rest
+        → filter p (cond b (x ∷ filter q xs) (filter q xs)) ≡ cond (a && b) (x ∷ rest) rest
     by_tests rest true true e h = rw e (ap (λ (ys : List A). x ∷ ys) h)
     by_tests rest true false e h = h
     by_tests rest false true e h = rw e h

@@ -10,15 +10,16 @@ use Rattle.jl_types.proofs.Firsts.{test_none, first_none}
 use Rattle.std.proofs.lemmas.Grind.{common_steps}
 use Rattle.std.proofs.lemmas.List.Folds.{find_at}
 use Rattle.std.proofs.lemmas.Option.{slice_get_past}
-use Rattle.jl_classfile.specs.Class.{ClassFile}
-use Rattle.jl_classfile.specs.Conditions.{object}
+use Rattle.jl_class.specs.Class.{ClassFile}
+use Rattle.jl_class.specs.Flags.{object}
 use Rattle.jl_types.specs.declared.refusal.DefineFault.{DefineFault}
-use Rattle.jl_types.specs.declared.refusal.DefineFault.TheVariants.{UnknownLoader, SecondObject, AlreadyRecorded, NamesItself, MissingParent, NotAnInterface, InaccessibleParent, Full}
-use Rattle.jl_types.specs.World.{Classes}
-use Rattle.jl_types.specs.Members.{lookup, is_interface}
-use Rattle.jl_types.specs.Resolution.{first_of}
-use Rattle.jl_types.specs.Definitions.{is_unknown, parent_names, named_test, is_open_parent, define_fault}
-use Rattle.jl_hierarchy.specs.Faults.{first_faults, superclass_faults, first_place}
+use Rattle.jl_types.specs.declared.refusal.DefineFault.TheVariants.{UnknownLoader, SecondObject, AlreadyRecorded, NamesItself, MissingParent}
+use Rattle.jl_types.specs.declared.refusal.DefineFault.TheVariants.{NotAnInterface, InaccessibleParent, Full}
+use Rattle.jl_types.specs.Values.World.{Classes}
+use Rattle.jl_types.specs.Values.Members.{lookup, is_interface}
+use Rattle.jl_types.specs.Linkage.Resolution.{first_of}
+use Rattle.jl_types.specs.Happenings.Definitions.{is_unknown, parent_names, named_test, is_open_parent, define_fault}
+use Rattle.jl_hierarchy.specs.Means.Faults.{first_faults, superclass_faults, first_place}
 use Rattle.jl_hierarchy.proofs.PrintLaws.{none_yet}
 
 first_here : {A : Type 0} (p : A → Bool) (x : A) (xs : List A) → p x ≡ true → position p (x ∷ xs) ≡ Some 0
@@ -94,13 +95,15 @@ module _ (cs : Classes) (loader : ℕ) (file : ClassFile) where
         → define_fault cs loader file ≡ Some (MissingParent name)
     missing_is i name e h =
         missing_next
-        ∙ ap (λ o. first_of (option_map MissingParent o ∷ superclass_faults cs loader file ++ from_interfaces)) (found_at is_missing (parent_names file) i name e h)
+        ∙ ap (λ o. first_of (option_map MissingParent o ∷ superclass_faults cs loader file ++ from_interfaces))
+        (found_at is_missing (parent_names file) i name e h)
 
     module _ (missing : position is_missing (parent_names file) ≡ None) where
       superclass_next : define_fault cs loader file ≡ first_of (superclass_faults cs loader file ++ from_interfaces)
       superclass_next =
           missing_next
-          ∙ ap (λ o. first_of (option_map MissingParent o ∷ superclass_faults cs loader file ++ from_interfaces)) (none_at is_missing (parent_names file) missing)
+          ∙ ap (λ o. first_of (option_map MissingParent o ∷ superclass_faults cs loader file ++ from_interfaces))
+          (none_at is_missing (parent_names file) missing)
 
       pub superclass_is : (f : DefineFault) → first_of (superclass_faults cs loader file) ≡ Some f → define_fault cs loader file ≡ Some f
       superclass_is f e = superclass_next ∙ before (superclass_faults cs loader file) from_interfaces f e
@@ -111,7 +114,8 @@ module _ (cs : Classes) (loader : ℕ) (file : ClassFile) where
 
         pub interface_is : (i : ℕ) (name : List ℕ) → position is_none_such file.interfaces ≡ Some i → slice_get file.interfaces i ≡ Some name
             → define_fault cs loader file ≡ Some (NotAnInterface name)
-        interface_is i name e h = interfaces_next ∙ ap (λ o. first_of (option_map NotAnInterface o ∷ from_closed)) (found_at is_none_such file.interfaces i name e h)
+        interface_is i name e h = interfaces_next ∙ ap (λ o. first_of (option_map NotAnInterface o ∷ from_closed))
+            (found_at is_none_such file.interfaces i name e h)
 
         module _ (interfaces : position is_none_such file.interfaces ≡ None) where
           closed_next : define_fault cs loader file ≡ first_of from_closed
@@ -119,7 +123,8 @@ module _ (cs : Classes) (loader : ℕ) (file : ClassFile) where
 
           pub closed_is : (i : ℕ) (name : List ℕ) → position is_closed (parent_names file) ≡ Some i → slice_get (parent_names file) i ≡ Some name
               → define_fault cs loader file ≡ Some (InaccessibleParent name)
-          closed_is i name e h = closed_next ∙ ap (λ o. first_of (option_map InaccessibleParent o ∷ from_full)) (found_at is_closed (parent_names file) i name e h)
+          closed_is i name e h = closed_next ∙ ap (λ o. first_of (option_map InaccessibleParent o ∷ from_full))
+              (found_at is_closed (parent_names file) i name e h)
 
           module _ (closed : position is_closed (parent_names file) ≡ None) where
             full_next : define_fault cs loader file ≡ first_of from_full

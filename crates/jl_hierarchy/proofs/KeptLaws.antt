@@ -4,12 +4,12 @@ use Rattle.smallvec.specs.SmallVec.{SmallVec}
 use Rattle.std.proofs.Common.{refl, ap, subst, sym, ◌∙◌, arith}
 use Rattle.std.proofs.lemmas.List.FromFn.{get_or-map-range_with_len, length-map-range_with_len}
 use Rattle.std.proofs.lemmas.List.{length-map}
-use Rattle.jl_types.specs.World.{Classes}
-use Rattle.jl_types.specs.Members.{lookup}
-use Rattle.jl_types.specs.Ancestry.{ancestors, receivers}
+use Rattle.jl_types.specs.Values.World.{Classes}
+use Rattle.jl_types.specs.Values.Members.{lookup}
+use Rattle.jl_types.specs.Values.Ancestry.{ancestors, receivers}
 use Rattle.jl_types.proofs.Orders.{IsGood, looked_up}
 use Rattle.jl_hierarchy.specs.Constancy.{AreInOrder}
-use Rattle.jl_hierarchy.specs.Kept.{IsKept, AreRecorded, lists}
+use Rattle.jl_hierarchy.specs.Means.Kept.{IsKept, AreRecorded, lists}
 
 found_there : (cs : Classes) → IsGood cs → (loader : ℕ) (name : List ℕ) (o : Option ℕ) → lookup cs loader name ≡ o → IfSome o (λ c. c < length cs.rows)
 found_there cs good loader name None e = tt
@@ -43,7 +43,8 @@ module _ (inside : Classes) (above below : List (List ℕ)) (kept : IsKept insid
   -- as many lists of ancestors as classes
   pub many_above : (lists : List (List ℕ)) → lists ≡ above → length lists ≡ length cs.rows
   many_above lists whole =
-      ap length (whole ∙ kept.ancestors_kept) ∙ length-map-range_with_len (ancestors inside.rows) 0 (length inside.rows) ∙ ap (λ (k : Classes). length k.rows) same
+      ap length (whole ∙ kept.ancestors_kept) ∙ length-map-range_with_len (ancestors inside.rows) 0 (length inside.rows)
+      ∙ ap (λ (k : Classes). length k.rows) same
 
   module _ (slice : List (List ℕ)) (whole : slice ≡ above) (at c : ℕ) (number : at ≡ c) (lt : c < length cs.rows) where
     pub above_here : at < length slice
@@ -52,7 +53,8 @@ module _ (inside : Classes) (above below : List (List ℕ)) (kept : IsKept insid
     pub ancestors_here : (d : List ℕ) → get_or slice at d ≡ ancestors cs.rows c
     ancestors_here d =
         ap (λ (xs : List (List ℕ)). get_or xs at d) (whole ∙ kept.ancestors_kept)
-        ∙ get_or-map-range_with_len (ancestors inside.rows) 0 (length inside.rows) at c d (let n = ap (λ (k : Classes). length k.rows) same in omega arith) (omega arith)
+        ∙ get_or-map-range_with_len (ancestors inside.rows) 0 (length inside.rows) at c d (let n = ap (λ (k : Classes). length k.rows) same in omega arith)
+        (omega arith)
         ∙ ap (λ (k : Classes). ancestors k.rows c) same
 
   module _ (slice : List (SmallVec ℕ)) (whole : lists slice ≡ below) (at c : ℕ) (number : at ≡ c) (lt : c < length cs.rows) where
@@ -63,5 +65,6 @@ module _ (inside : Classes) (above below : List (List ℕ)) (kept : IsKept insid
     receivers_here d =
         sym (get_or-lists slice at d)
         ∙ ap (λ (xs : List (List ℕ)). get_or xs at d.items) (whole ∙ kept.receivers_kept)
-        ∙ get_or-map-range_with_len (receivers inside) 0 (length inside.rows) at c d.items (let n = ap (λ (k : Classes). length k.rows) same in omega arith) (omega arith)
+        ∙ get_or-map-range_with_len (receivers inside) 0 (length inside.rows) at c d.items (let n = ap (λ (k : Classes). length k.rows) same in omega arith)
+        (omega arith)
         ∙ ap (λ (k : Classes). receivers k c) same

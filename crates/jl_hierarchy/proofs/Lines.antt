@@ -1,5 +1,6 @@
 -- What is said of each class on a line of superclasses, from the top down.
-use Rattle.std.specs.Prelude.{◌≡◌, ℕ, zero, suc, ◌+◌, ◌<◌, ◌≤◌, ◌==◌, ◌||◌, length, Bool, true, false, ◌⊎◌, List, [], ◌∷◌, ◌++◌, take, get_or, slice_get, Option, Some, None, option_and_then, option_to_list, IfSome}
+use Rattle.std.specs.Prelude.{◌≡◌, ℕ, zero, suc, ◌+◌, ◌<◌, ◌≤◌, ◌==◌, ◌||◌, length, Bool, true, false, ◌⊎◌, List, [], ◌∷◌, ◌++◌, take, get_or}
+use Rattle.std.specs.Prelude.{slice_get, Option, Some, None, option_and_then, option_to_list, IfSome}
 use Rattle.std.specs.List.{list_any}
 use Rattle.std.specs.Option.{option_map_or}
 use Rattle.std.proofs.Common.{refl, ap, sym, subst, ◌∙◌, arith, inl, inr}
@@ -9,10 +10,11 @@ use Rattle.std.proofs.lemmas.Bool.Decides.{Decides-eqb}
 use Rattle.std.proofs.lemmas.Option.{same_Some, slice_get_within, slice_get_cases, slice_get-get_or}
 use Rattle.std.proofs.lemmas.List.{take_more, take_all}
 use Rattle.std.proofs.lemmas.List.Folds.{list_any-append}
-use Rattle.jl_classfile.specs.Class.{Method}
-use Rattle.jl_types.specs.World.{Class, Classes}
-use Rattle.jl_types.specs.Members.{is_interface}
-use Rattle.jl_types.specs.Ancestry.{IsAncestor, itself, over, parents, is_parent, is_ancestor, superclasses_within, superclasses, superclass_of, is_subclass, AreOrdered}
+use Rattle.jl_class.specs.Class.{Method}
+use Rattle.jl_types.specs.Values.World.{Class, Classes}
+use Rattle.jl_types.specs.Values.Members.{is_interface}
+use Rattle.jl_types.specs.Values.Ancestry.{IsAncestor, itself, over, parents, is_parent, is_ancestor, superclasses_within, superclasses}
+use Rattle.jl_types.specs.Values.Ancestry.{superclass_of, is_subclass, AreOrdered}
 use Rattle.jl_types.proofs.Ancestors.{superclasses_is, ancestor_decides, of_ancestors}
 use Rattle.jl_hierarchy.proofs.Chains.{next_below, chain_above}
 use Rattle.jl_hierarchy.specs.declared.marks.Mark.{Mark}
@@ -252,7 +254,8 @@ still_told cs p found new kept s (inr above) = inr above
 
 -- what these marks tell of a list of methods
 abbrev pub AreTold : Classes → ℕ → List Mark → List Method → Type 0
-AreTold cs superclass marks ms = (s p : ℕ) → has_method p ms ≡ true → is_subclass cs superclass s ≡ true → sees_print cs p s ≡ true → IsTold cs p (is_listed marks) s
+AreTold cs superclass marks ms = (s p : ℕ) → has_method p ms ≡ true → is_subclass cs superclass s ≡ true → sees_print cs p s ≡ true
+    → IsTold cs p (is_listed marks) s
 
 -- one method more
 pub told_more : (cs : Classes) (superclass : ℕ) (methods : List Method) (found new : List Mark) (place : ℕ) (method : Method) (print : ℕ)
@@ -267,7 +270,8 @@ told_more cs superclass methods found new place method print here is kept (Some 
     told : AreTold cs superclass new (take (place + 1) methods)
     told s p h on seen =
         let within = slice_get_within methods place method here in
-        let at : get_or methods place method ≡ method = same_Some (get_or methods place method) method (sym (slice_get-get_or methods place method within) ∙ here) in
+        let at : get_or methods place method ≡ method = same_Some (get_or methods place method) method (sym (slice_get-get_or methods place method within)
+        ∙ here) in
         let split : (has_method p (take place methods) || ((print_of_method method == p) || false)) ≡ true =
         sym
         (ap (has_method p) (take_more methods place method within)

@@ -1,5 +1,6 @@
 -- What is kept once a loader goes.
-use Rattle.std.specs.Prelude.{◌≡◌, ℕ, ◌<◌, ◌==◌, ◌||◌, nat_le, Bool, true, false, cond, if◌then◌else◌, not, ◌&&◌, List, [], ◌∷◌, map, filter, length, get_or, is_some}
+use Rattle.std.specs.Prelude.{◌≡◌, ℕ, ◌<◌, ◌==◌, ◌||◌, nat_le, Bool, true, false, cond, if◌then◌else◌, not, ◌&&◌, List, [], ◌∷◌, map, filter, length}
+use Rattle.std.specs.Prelude.{get_or, is_some}
 use Rattle.std.specs.Prelude.{None}
 use Rattle.std.proofs.Common.{refl, ap, sym, ◌∙◌, arith}
 use Rattle.std.specs.List.{list_any}
@@ -7,17 +8,17 @@ use Rattle.std.proofs.lemmas.Cmp.{nat_eq_equiv}
 use Rattle.std.proofs.lemmas.List.{ext_get_or, length-set}
 use Rattle.std.proofs.lemmas.List.FromFn.{get_or-map-range_with_len, length-map-range_with_len}
 use Rattle.std.proofs.lemmas.Bool.{leb-false}
-use Rattle.jl_classfile.specs.Conditions.{object}
-use Rattle.jl_types.specs.World.{Classes}
-use Rattle.jl_types.specs.Members.{is_retired, numbers, lookup}
-use Rattle.jl_types.specs.Ancestry.{receivers}
-use Rattle.jl_types.specs.Retirement.{is_of, classes_fault, losing_receivers, retired}
+use Rattle.jl_class.specs.Flags.{object}
+use Rattle.jl_types.specs.Values.World.{Classes}
+use Rattle.jl_types.specs.Values.Members.{is_retired, numbers, lookup}
+use Rattle.jl_types.specs.Values.Ancestry.{receivers}
+use Rattle.jl_types.specs.Happenings.Retirement.{is_of, classes_fault, losing_receivers, retired}
 use Rattle.jl_types.proofs.Bools.{any-range-from}
 use Rattle.jl_types.proofs.Lists.{all_set}
 use Rattle.jl_types.proofs.Orders.{AreBelow}
 use Rattle.jl_types.proofs.Retiring.{is_free, receivers_left, found_before, found_after}
 use Rattle.jl_hierarchy.specs.Constancy.{has_object, ObjectComesFirst}
-use Rattle.jl_hierarchy.specs.Kept.{IsKept, AreChanged}
+use Rattle.jl_hierarchy.specs.Means.Kept.{IsKept, AreChanged}
 use Rattle.jl_hierarchy.specs.Retiring.{without}
 use Rattle.jl_hierarchy.proofs.Closed.{closed_retired}
 use Rattle.jl_hierarchy.proofs.Objects.{is_there}

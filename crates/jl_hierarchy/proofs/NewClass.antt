@@ -9,18 +9,18 @@ use Rattle.std.proofs.lemmas.Cmp.{nat_eq_equiv}
 use Rattle.std.proofs.lemmas.List.{ext_get_or, length-set, append-nil}
 use Rattle.std.proofs.lemmas.List.Folds.{list_any-append}
 use Rattle.std.proofs.lemmas.List.FromFn.{get_or-map-range_with_len, length-map-range_with_len, map-range_with_len_more}
-use Rattle.jl_classfile.specs.Class.{ClassFile}
-use Rattle.jl_classfile.specs.Conditions.{extends_object}
-use Rattle.jl_types.specs.World.{Class, Classes}
-use Rattle.jl_types.specs.Members.{numbers, is_retired, is_concrete, is_concrete_row}
-use Rattle.jl_types.specs.Ancestry.{is_ancestor, ancestors, receivers}
-use Rattle.jl_types.specs.Definitions.{class_made, defined, with_record, define_fault}
+use Rattle.jl_class.specs.Class.{ClassFile}
+use Rattle.jl_class.specs.Flags.{extends_object}
+use Rattle.jl_types.specs.Values.World.{Class, Classes}
+use Rattle.jl_types.specs.Values.Members.{numbers, is_retired, is_concrete, is_concrete_row}
+use Rattle.jl_types.specs.Values.Ancestry.{is_ancestor, ancestors, receivers}
+use Rattle.jl_types.specs.Happenings.Definitions.{class_made, defined, with_record, define_fault}
 use Rattle.jl_types.proofs.Ancestors.{ancestor_decides}
 use Rattle.jl_types.proofs.Grown.{above, among_ancestors, old_ancestors, receivers_after}
 use Rattle.jl_types.proofs.Lists.{at_end}
 use Rattle.jl_types.proofs.Orders.{IsGood, defined_good}
 use Rattle.jl_hierarchy.specs.Constancy.{ObjectComesFirst}
-use Rattle.jl_hierarchy.specs.Kept.{IsKept, IsAppended}
+use Rattle.jl_hierarchy.specs.Means.Kept.{IsKept, IsAppended}
 use Rattle.jl_hierarchy.proofs.FaultLaws.{has_room}
 use Rattle.jl_hierarchy.proofs.Objects.{first_defined}
 use Rattle.jl_hierarchy.proofs.Closed.{closed_defined, live_loader}
@@ -149,7 +149,8 @@ module _ (cs : Classes) (over under : List (List ℕ)) (kept : IsKept cs over un
       lists_are : lists' ≡ map (receivers new) (range_with_len 0 n)
       lists_are =
           ext_get_or [] lists' (map (receivers new) (range_with_len 0 n)) (as_many ∙ sym (length-map-range_with_len (receivers new) 0 n))
-          (λ i lt. one_list i (let m = as_many in omega arith) ∙ sym (get_or-map-range_with_len (receivers new) 0 n i i [] (let m = as_many in omega arith) (omega arith)))
+          (λ i lt. one_list i (let m = as_many in omega arith) ∙ sym (get_or-map-range_with_len (receivers new) 0 n i i [] (let m = as_many in omega arith)
+          (omega arith)))
 
       own_is : (if is_concrete_row row then n ∷ [] else []) ≡ receivers new n
       own_is =
@@ -182,7 +183,8 @@ module _ (cs : Classes) (over under : List (List ℕ)) (kept : IsKept cs over un
       }
 
 -- the classes with what is kept, by way of equal parts
-pub kept_as : (cs cs' : Classes) (over over' under under' : List (List ℕ)) → cs ≡ cs' → over ≡ over' → under ≡ under' → IsKept cs' over' under' → IsKept cs over under
+pub kept_as : (cs cs' : Classes) (over over' under under' : List (List ℕ)) → cs ≡ cs' → over ≡ over' → under ≡ under' → IsKept cs' over' under'
+    → IsKept cs over under
 kept_as cs cs' over over' under under' e f g kept =
     subst (λ (k : Classes). IsKept k over under) (sym e) (subst (λ o. IsKept cs' o under) (sym f) (subst (λ u. IsKept cs' over' u) (sym g) kept))
 

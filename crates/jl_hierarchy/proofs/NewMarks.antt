@@ -1,5 +1,6 @@
 -- What is marked once a class is defined.
-use Rattle.std.specs.Prelude.{◌≡◌, ℕ, zero, suc, ◌+◌, ◌<◌, ◌≤◌, ◌==◌, ◌||◌, Bool, IfSome, true, false, List, [], ◌∷◌, ◌++◌, length, slice_get, Option, Some, None}
+use Rattle.std.specs.Prelude.{◌≡◌, ℕ, zero, suc, ◌+◌, ◌<◌, ◌≤◌, ◌==◌, ◌||◌, Bool, IfSome, true, false, List, [], ◌∷◌, ◌++◌, length, slice_get, Option}
+use Rattle.std.specs.Prelude.{Some, None}
 use Rattle.std.specs.List.{list_any, AllByRecursion}
 use Rattle.std.specs.Option.{option_map_or}
 use Rattle.std.proofs.Common.{refl, ap, sym, subst, ◌∙◌, arith, inl, inr}
@@ -8,16 +9,17 @@ use Rattle.std.proofs.Math.Arith.{lt_of_le-ne}
 use Rattle.std.proofs.lemmas.Bool.Decides.{Decides-eqb}
 use Rattle.std.proofs.lemmas.List.Folds.{list_any-append}
 use Rattle.std.proofs.lemmas.Option.{slice_get_within}
-use Rattle.jl_classfile.specs.Conditions.{has_flag, INTERFACE}
-use Rattle.jl_types.specs.World.{Class, Classes}
-use Rattle.jl_types.specs.Members.{is_interface}
-use Rattle.jl_types.specs.Ancestry.{IsAncestor, itself, over, superclasses_within, superclasses, is_ancestor, is_subclass, ancestors, AreOrdered}
+use Rattle.jl_class.specs.Flags.{has_flag, INTERFACE}
+use Rattle.jl_types.specs.Values.World.{Class, Classes}
+use Rattle.jl_types.specs.Values.Members.{is_interface}
+use Rattle.jl_types.specs.Values.Ancestry.{IsAncestor, itself, over, superclasses_within, superclasses, is_ancestor, is_subclass, ancestors, AreOrdered}
 use Rattle.jl_types.proofs.Ancestors.{superclass_below, superclasses_is, ancestor_decides}
 use Rattle.jl_types.proofs.Grown.{above, among_ancestors, old_within}
 use Rattle.jl_types.proofs.Lists.{before_end, at_end}
 use Rattle.jl_types.proofs.Orders.{none_behind}
 use Rattle.jl_hierarchy.specs.declared.marks.Mark.{Mark}
-use Rattle.jl_hierarchy.specs.Redeclared.{of_rows, Marked, is_listed, is_marked, has_method, declares_print, sees_print, line_above, line_from, is_above, is_on, AreMarked, AreLines, IsIndexed, IsTold}
+use Rattle.jl_hierarchy.specs.Redeclared.{of_rows, Marked, is_listed, is_marked, has_method, declares_print, sees_print, line_above, line_from}
+use Rattle.jl_hierarchy.specs.Redeclared.{is_above, is_on, AreMarked, AreLines, IsIndexed, IsTold}
 
 module _ (rows : List Class) (row : Class) (ordered : AreOrdered (rows ++ row ∷ [])) where
   abbrev n : ℕ
@@ -72,7 +74,8 @@ module _ (rows : List Class) (row : Class) (ordered : AreOrdered (rows ++ row �
   declares_stays : (p c : ℕ) → c < n → declares_print (of_rows more) p c ≡ declares_print (of_rows rows) p c
   declares_stays p c there = λ i. has_method p (option_map_or (λ r. r.file.methods) (before c there i) [])
 
-  any_stays : (p : ℕ) (xs : List ℕ) → AllByRecursion (λ x. x < n) xs → list_any (declares_print (of_rows more) p) xs ≡ list_any (declares_print (of_rows rows) p) xs
+  any_stays : (p : ℕ) (xs : List ℕ) → AllByRecursion (λ x. x < n) xs → list_any (declares_print (of_rows more) p) xs ≡ list_any
+      (declares_print (of_rows rows) p) xs
   any_stays p [] all = refl
   any_stays p (x ∷ xs) all = λ i. declares_stays p x all.0 i || any_stays p xs all.1 i
 
@@ -106,7 +109,7 @@ module _ (rows : List Class) (row : Class) (ordered : AreOrdered (rows ++ row �
   own_line : superclasses (of_rows more) n ≡ n ∷ line_above (of_rows rows) row
   own_line = superclasses_is (of_rows more) ordered n row (at_end rows row) ∙ ap (λ (xs : List ℕ). n ∷ xs) (above_stays n row (at_end rows row))
 
-  module _ (marks new : Marked) (are_lines still_lines : Bool) (old : IsIndexed rows marks are_lines)
+  module _ (marks new : Marked) (are_superclass_chains still_lines : Bool) (old : IsIndexed rows marks are_superclass_chains)
       (kept : (s p : ℕ) → is_marked marks s p ≡ true → is_marked new s p ≡ true)
       (told : (s p : ℕ) → has_method p row.file.methods ≡ true → is_on s (line_above (of_rows rows) row) ≡ true
       → sees_print (of_rows rows) p s ≡ true → IsTold (of_rows rows) p (is_marked new) s) where
@@ -149,9 +152,10 @@ module _ (rows : List Class) (row : Class) (ordered : AreOrdered (rows ++ row �
             by_place : (b : Bool) → (d == n) ≡ b → is_marked new s p ≡ true
             by_place true is = by_new s p d ((Decides-eqb d n).0 is) apart below declares sees_it
             by_place false other =
-                by_old s p d (lt_of_le-ne (none_behind rows row r d e) (λ same. both_ways (d == n) other ((Decides-eqb d n).1 same))) apart below declares sees_it
+                by_old s p d (lt_of_le-ne (none_behind rows row r d e) (λ same. both_ways (d == n) other ((Decides-eqb d n).1 same))) apart below declares
+                sees_it
 
-    module _ (proper : List ℕ) (listed : proper ++ n ∷ [] ≡ ancestors more n) (still : still_lines ≡ true → are_lines ≡ true)
+    module _ (proper : List ℕ) (listed : proper ++ n ∷ [] ≡ ancestors more n) (still : still_lines ≡ true → are_superclass_chains ≡ true)
         (line : still_lines ≡ true → (a : ℕ) → is_on a proper ≡ true → is_interface (of_rows rows) a ≡ false
         → is_above (of_rows rows) row a ≡ true) where
       from_above : still_lines ≡ true → (a : ℕ) → is_interface (of_rows rows) a ≡ false → (o : Option ℕ)
@@ -178,7 +182,8 @@ module _ (rows : List Class) (row : Class) (ordered : AreOrdered (rows ++ row �
             | inl is ↦ is
             | inr last ↦ elim (or_cases (n == a) false last) [ inl is ↦ absurd (both_ways (n == a) apart is) | inr other ↦ cc ]
           ] in
-          ap (is_on a) own_line ∙ or_right (n == a) (is_on a (line_above (of_rows rows) row)) (from_above known a (plain_before a lt plain) row.superclass (line known a on (plain_before a lt plain)))
+          ap (is_on a) own_line ∙ or_right (n == a) (is_on a (line_above (of_rows rows) row))
+          (from_above known a (plain_before a lt plain) row.superclass (line known a on (plain_before a lt plain)))
 
       of_old : still_lines ≡ true → (x a : ℕ) → x < n → is_ancestor (of_rows more) a x ≡ true → a ≤ x → is_interface (of_rows more) a ≡ false
           → is_subclass (of_rows more) x a ≡ true
@@ -207,10 +212,10 @@ module _ (rows : List Class) (row : Class) (ordered : AreOrdered (rows ++ row �
       }
 
 -- more marks, and lines that may not be known any more
-pub still_indexed : (rows : List Class) (marks new : Marked) (are_lines still_lines : Bool) → IsIndexed rows marks are_lines
-    → ((s p : ℕ) → is_marked marks s p ≡ true → is_marked new s p ≡ true) → (still_lines ≡ true → are_lines ≡ true)
+pub still_indexed : (rows : List Class) (marks new : Marked) (are_superclass_chains still_lines : Bool) → IsIndexed rows marks are_superclass_chains
+    → ((s p : ℕ) → is_marked marks s p ≡ true → is_marked new s p ≡ true) → (still_lines ≡ true → are_superclass_chains ≡ true)
     → IsIndexed rows new still_lines
-still_indexed rows marks new are_lines still_lines old kept still = record {
+still_indexed rows marks new are_superclass_chains still_lines old kept still = record {
   marked = λ s p above seen. kept s p (old.marked s p above seen);
   lines = λ known. old.lines (still known);
 }

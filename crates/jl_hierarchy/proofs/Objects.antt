@@ -1,5 +1,6 @@
 -- java/lang/Object comes first.
-use Rattle.std.specs.Prelude.{◌≡◌, ◌⊎◌, ℕ, zero, suc, ◌<◌, ◌==◌, ◌&&◌, ◌||◌, Bool, true, false, cond, not, nat_le, is_some, is_none, List, [], ◌∷◌, ◌++◌, length, find, slice_get, slice_set}
+use Rattle.std.specs.Prelude.{◌≡◌, ◌⊎◌, ℕ, zero, suc, ◌<◌, ◌==◌, ◌&&◌, ◌||◌, Bool, true, false, cond, not, nat_le, is_some, is_none, List, [], ◌∷◌}
+use Rattle.std.specs.Prelude.{◌++◌, length, find, slice_get, slice_set}
 use Rattle.std.specs.Prelude.{Option, Some, None, option_map, option_and_then, option_to_list}
 use Rattle.std.specs.Bool.{then_some}
 use Rattle.std.specs.Option.{option_map_or}
@@ -9,12 +10,12 @@ use Rattle.std.proofs.lemmas.Bool.{leb-false}
 use Rattle.std.proofs.lemmas.Bool.Decides.{Decides-eqb}
 use Rattle.std.proofs.lemmas.Option.{same_Some}
 use Rattle.std.proofs.lemmas.Slice.Eq.{bytes_eq-Decides}
-use Rattle.jl_classfile.specs.Class.{ClassFile}
-use Rattle.jl_classfile.specs.Conditions.{has_flag, object, extends_object, INTERFACE}
-use Rattle.jl_types.specs.World.{Class, Classes}
-use Rattle.jl_types.specs.Members.{is_retired, recorded, lookup, is_interface}
-use Rattle.jl_types.specs.Definitions.{is_unknown, class_made, parent_names, with_record, defined, define_fault}
-use Rattle.jl_types.specs.Resolution.{first_of}
+use Rattle.jl_class.specs.Class.{ClassFile}
+use Rattle.jl_class.specs.Flags.{has_flag, object, extends_object, INTERFACE}
+use Rattle.jl_types.specs.Values.World.{Class, Classes}
+use Rattle.jl_types.specs.Values.Members.{is_retired, recorded, lookup, is_interface}
+use Rattle.jl_types.specs.Happenings.Definitions.{is_unknown, class_made, parent_names, with_record, defined, define_fault}
+use Rattle.jl_types.specs.Linkage.Resolution.{first_of}
 use Rattle.jl_types.specs.declared.refusal.DefineFault.TheVariants.{UnknownLoader, SecondObject, MissingParent}
 use Rattle.jl_types.proofs.Firsts.{test_none}
 use Rattle.jl_types.proofs.Lists.{before_end, at_end}
@@ -136,7 +137,8 @@ first_with_loader cs first =
 -- an interface's superclass is java/lang/Object
 named_object : (flags : ℕ) (superclass : Option (List ℕ)) → extends_object flags superclass ≡ true → has_flag flags INTERFACE ≡ true
     → superclass ≡ Some object
-named_object flags superclass extends is = by_superclass superclass (sym (ap (λ (b : Bool). not b || option_map_or (λ text. bytes_eq text object) superclass false) is) ∙ extends)
+named_object flags superclass extends is =
+    by_superclass superclass (sym (ap (λ (b : Bool). not b || option_map_or (λ text. bytes_eq text object) superclass false) is) ∙ extends)
   where
     by_superclass : (o : Option (List ℕ)) → option_map_or (λ text. bytes_eq text object) o false ≡ true → o ≡ Some object
     by_superclass None e = cc
@@ -203,7 +205,8 @@ module _ (cs : Classes) (first : ObjectComesFirst cs) (loader : ℕ) (file : Cla
           by_place : (c : ℕ) → is_interface new c ≡ true → (c ≡ length cs.rows) ⊎ (c < length cs.rows) → has_object cs 0 ≡ true
           by_place c is (inr lt) =
               first.interfaces c
-              (sym (ap (λ (o : Option Class). option_map_or (λ row. has_flag row.file.flags INTERFACE) o false) (before_end cs.rows (class_made cs loader file) c lt)) ∙ is)
+              (sym (ap (λ (o : Option Class). option_map_or (λ row. has_flag row.file.flags INTERFACE) o false)
+              (before_end cs.rows (class_made cs loader file) c lt)) ∙ is)
           by_place c is (inl same) =
               let flag : has_flag file.flags INTERFACE ≡ true =
               sym (ap (λ (o : Option Class). option_map_or (λ row. has_flag row.file.flags INTERFACE) o false)

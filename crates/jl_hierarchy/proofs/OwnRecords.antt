@@ -1,5 +1,6 @@
 -- A class of a loader that isn't retired stands in that loader's records, through every change; what is found by them.
-use Rattle.std.specs.Prelude.{◌≡◌, ℕ, zero, suc, ◌+◌, ◌<◌, ◌==◌, ◌||◌, ◌&&◌, Bool, true, false, cond, not, nat_le, List, [], ◌∷◌, ◌++◌, map, filter, find, length, get_or, slice_get, slice_set}
+use Rattle.std.specs.Prelude.{◌≡◌, ℕ, zero, suc, ◌+◌, ◌<◌, ◌==◌, ◌||◌, ◌&&◌, Bool, true, false, cond, not, nat_le, List, [], ◌∷◌, ◌++◌, map, filter}
+use Rattle.std.specs.Prelude.{find, length, get_or, slice_get, slice_set}
 use Rattle.std.specs.Prelude.{Option, Some, None, option_map, option_and_then}
 use Rattle.std.specs.Bool.{one_answer, then_some}
 use Rattle.std.specs.List.{list_any, range_with_len}
@@ -12,13 +13,13 @@ use Rattle.std.proofs.lemmas.Cmp.{nat_eq_equiv}
 use Rattle.std.proofs.lemmas.Map.Views.{any-filter_same}
 use Rattle.std.proofs.lemmas.Option.{same_Some, slice_get_within}
 use Rattle.std.proofs.lemmas.Slice.Eq.{bytes_eq-Decides}
-use Rattle.jl_classfile.specs.Class.{ClassFile}
+use Rattle.jl_class.specs.Class.{ClassFile}
 use Rattle.jl_types.specs.declared.refusal.DefineFault.TheVariants.{UnknownLoader}
-use Rattle.jl_types.specs.World.{Class, Classes}
-use Rattle.jl_types.specs.Members.{is_retired, is_present, is_concrete, recorded, lookup, numbers}
-use Rattle.jl_types.specs.Ancestry.{AreOrdered, is_ancestor, receivers}
-use Rattle.jl_types.specs.Definitions.{class_made, with_record, defined, define_fault, is_unknown}
-use Rattle.jl_types.specs.Retirement.{is_of, losing_receivers, retired}
+use Rattle.jl_types.specs.Values.World.{Class, Classes}
+use Rattle.jl_types.specs.Values.Members.{is_retired, is_present, is_concrete, recorded, lookup, numbers}
+use Rattle.jl_types.specs.Values.Ancestry.{AreOrdered, is_ancestor, receivers}
+use Rattle.jl_types.specs.Happenings.Definitions.{class_made, with_record, defined, define_fault, is_unknown}
+use Rattle.jl_types.specs.Happenings.Retirement.{is_of, losing_receivers, retired}
 use Rattle.jl_types.proofs.Ancestors.{ancestor_decides}
 use Rattle.jl_types.proofs.Bools.{any-filter, any-filter-at, any-map, any-range-from, first_test, second_test}
 use Rattle.jl_types.proofs.Firsts.{first_none, test_none}
@@ -26,7 +27,7 @@ use Rattle.jl_types.proofs.Grown.{above}
 use Rattle.jl_types.proofs.Lists.{at_end, before_end, passes_within}
 use Rattle.jl_types.proofs.Orders.{IsGood}
 use Rattle.jl_types.proofs.Retiring.{retired_after}
-use Rattle.jl_hierarchy.specs.Kept.{AreRecorded, Rises}
+use Rattle.jl_hierarchy.specs.Means.Kept.{AreRecorded, Rises}
 use Rattle.jl_hierarchy.specs.Retiring.{own_recorded}
 use Rattle.jl_hierarchy.proofs.Closed.{any_recorded, any_at}
 use Rattle.jl_hierarchy.proofs.Constancy.{stays_defined, stays_with_record, stays_with_loader, stays_retired}

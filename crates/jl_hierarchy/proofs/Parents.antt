@@ -15,12 +15,12 @@ use Rattle.std.proofs.lemmas.List.Sorted.{Contains-permutation, IsPermutation-sy
 use Rattle.std.proofs.lemmas.List.Kept.{Contains-dedup_nat, Contains-from_dedup}
 use Rattle.std.proofs.lemmas.Map.Keys.{IsStrictlyIncreasing-dedup, sorted_from_strictly_increasing}
 use Rattle.std.proofs.lemmas.Map.Views.{list_any-from_Contains, Contains-from_any}
-use Rattle.jl_types.specs.World.{Class, Classes}
-use Rattle.jl_types.specs.Ancestry.{parents, AreOrdered, is_ancestor, is_ancestor_within, ancestors}
+use Rattle.jl_types.specs.Values.World.{Class, Classes}
+use Rattle.jl_types.specs.Values.Ancestry.{parents, AreOrdered, is_ancestor, is_ancestor_within, ancestors}
 use Rattle.jl_types.proofs.Ancestors.{ancestor_decides, above_is}
 use Rattle.jl_types.proofs.Grown.{among_ancestors, above, old_within}
 use Rattle.jl_types.proofs.Lists.{at_end, before_end}
-use Rattle.jl_hierarchy.specs.Kept.{Rises}
+use Rattle.jl_hierarchy.specs.Means.Kept.{Rises}
 use Rattle.jl_hierarchy.proofs.Rising.{has, one_rising, rising_of, filter_rises}
 
 -- ---- sorted, each once

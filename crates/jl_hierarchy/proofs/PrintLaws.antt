@@ -1,5 +1,6 @@
 -- The place of a method by the sorted prints of all.
-use Rattle.std.specs.Prelude.{◌≡◌, ℕ, zero, suc, ◌+◌, ◌<◌, ◌≤◌, Bool, true, false, not, ◌&&◌, ◌||◌, ◌==◌, cond, drop, List, ◌∷◌, [], length, get_or, slice_get, filter, find, position, option_map, Option, Some, None, is_some, ◌++◌}
+use Rattle.std.specs.Prelude.{◌≡◌, ℕ, zero, suc, ◌+◌, ◌<◌, ◌≤◌, Bool, true, false, not, ◌&&◌, ◌||◌, ◌==◌, cond, drop, List, ◌∷◌, [], length, get_or}
+use Rattle.std.specs.Prelude.{slice_get, filter, find, position, option_map, Option, Some, None, is_some, ◌++◌}
 use Rattle.std.specs.List.{position_from, list_any, AllWithin}
 use Rattle.std.specs.List.Sorted.{IsNonDecreasingBy, IsStableByKey}
 use Rattle.std.specs.Option.{option_map_or}
@@ -8,13 +9,14 @@ use Rattle.std.specs.Str.{bytes_eq}
 use Rattle.std.proofs.lemmas.Bool.{both_ways}
 use Rattle.std.proofs.lemmas.List.Folds.{list_any_at}
 use Rattle.std.proofs.lemmas.Option.{same_Some, slice_get_within, slice_get-get_or}
-use Rattle.std.proofs.Common.{Less, Equal, Greater, refl, ap, sym, ◌∙◌, subst, arith, append_assoc, append-nil, get_or-drop, ltb, le-ltb, ne_eqb, eq-eqb, ltb-true, ltb-false, ap₂}
+use Rattle.std.proofs.Common.{Less, Equal, Greater, refl, ap, sym, ◌∙◌, subst, arith, append_assoc, append-nil, get_or-drop, ltb, le-ltb, ne_eqb}
+use Rattle.std.proofs.Common.{eq-eqb, ltb-true, ltb-false, ap₂}
 use Rattle.std.proofs.lemmas.List.{length-drop, get_or_default}
 use Rattle.std.proofs.lemmas.Iterator.Adapters.{position_from-zero}
 use Rattle.std.proofs.lemmas.Slice.Eq.{bytes_eq-Decides}
 use Rattle.jl_names.proofs.Tests.{by_test}
-use Rattle.jl_classfile.specs.Class.{Method}
-use Rattle.jl_types.specs.Members.{is_called}
+use Rattle.jl_class.specs.Class.{Method}
+use Rattle.jl_types.specs.Values.Members.{is_called}
 use Rattle.jl_types.proofs.Lists.{left_at, none_left}
 use Rattle.jl_hierarchy.specs.declared.row.Printed.{Printed}
 use Rattle.jl_hierarchy.specs.Prints.{print_of, print_of_method, printed_from, has_print, AreSorted}
@@ -55,7 +57,8 @@ ties_equal a b = by_test (ltb a b)
     sides x y z p q r s = ap₂ (λ (u v : Bool). not u && not v) (answers_less a b ∙ p) (answers_less b a ∙ q) ∙ s ∙ sym r
 
 -- a stable sort by prints leaves those of one print as they were
-pub same_of_print : (xs ys : List Printed) → IsStableByKey (λ (e : Printed). e.print) nat_cmp xs ys → (p : ℕ) → filter (has_print p) ys ≡ filter (has_print p) xs
+pub same_of_print : (xs ys : List Printed) → IsStableByKey (λ (e : Printed). e.print) nat_cmp xs ys → (p : ℕ)
+    → filter (has_print p) ys ≡ filter (has_print p) xs
 same_of_print xs ys stable p =
     subst (λ (test : Printed → Bool). filter test ys ≡ filter test xs) (λ i e. ties_equal p e.print i) (stable (record { print = p; place = 0 }))
 

@@ -1,5 +1,6 @@
 -- Recent records behind older ones.
-use Rattle.std.specs.Prelude.{◌≡◌, ℕ, Bool, true, false, ◌&&◌, List, [], ◌∷◌, ◌++◌, Vec, Option, None, Some, option_map, is_none, MatchOption, Result, Ok, Err, OnOk, OnErr}
+use Rattle.std.specs.Prelude.{◌≡◌, ℕ, Bool, true, false, ◌&&◌, List, [], ◌∷◌, ◌++◌, Vec, Option, None, Some, option_map, is_none, MatchOption, Result}
+use Rattle.std.specs.Prelude.{Ok, Err, OnOk, OnErr}
 use Rattle.std.specs.Option.{option_or}
 use Rattle.std.specs.Str.{bytes_eq}
 use Rattle.indexmap.specs.IndexMap.{insert_entry, insert_all}
@@ -7,8 +8,8 @@ use Rattle.indexmap.specs.Layout.{hash_map}
 use Rattle.std.proofs.Common.{refl, ap, sym, ◌∙◌, subst, append_assoc}
 use Rattle.std.proofs.lemmas.List.{append-nil}
 use Rattle.std.proofs.lemmas.List.Folds.{find-append}
-use Rattle.jl_types.specs.Members.{recorded}
-use Rattle.jl_hierarchy.specs.Kept.{named, are_new}
+use Rattle.jl_types.specs.Values.Members.{recorded}
+use Rattle.jl_hierarchy.specs.Means.Kept.{named, are_new}
 use Rattle.jl_hierarchy.proofs.Records.{new_entry}
 
 -- what is recorded under the name is what the older ones have, or else what the recent ones have
@@ -65,6 +66,7 @@ left_by P (Ok x) new more same ok err p q = subst P (sym ok) p
 left_by P (Err e) new more same ok err p q = subst P (sym err) q
 
 -- what the first has, or else what the second one has
-pub or_else_is : {Q : Type 0} (first second result : Option ℕ) → MatchOption first Q (λ x. result ≡ Some x) → (Q → result ≡ second) → result ≡ option_or first second
+pub or_else_is : {Q : Type 0} (first second result : Option ℕ) → MatchOption first Q (λ x. result ≡ Some x) → (Q → result ≡ second)
+    → result ≡ option_or first second
 or_else_is None second result here there = there here
 or_else_is (Some x) second result here there = here

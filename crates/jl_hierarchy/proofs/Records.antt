@@ -1,5 +1,6 @@
 -- What a loader finds by name, as its map has it.
-use Rattle.std.specs.Prelude.{◌≡◌, ℕ, Bool, true, false, cond, List, [], ◌∷◌, ◌++◌, Vec, find, None, option_map, option_and_then, Some, length, get_or, slice_get, slice_set, ◌<◌}
+use Rattle.std.specs.Prelude.{◌≡◌, ℕ, Bool, true, false, cond, List, [], ◌∷◌, ◌++◌, Vec, find, None, option_map, option_and_then, Some, length}
+use Rattle.std.specs.Prelude.{get_or, slice_get, slice_set, ◌<◌}
 use Rattle.std.specs.Bool.{one_answer}
 use Rattle.std.specs.List.{AllZip, each_same}
 use Rattle.std.specs.Vec.{vec_len}
@@ -12,9 +13,9 @@ use Rattle.std.proofs.lemmas.Bool.Decides.{Decides-like}
 use Rattle.std.proofs.lemmas.Slice.Eq.{bytes_eq-Decides}
 use Rattle.std.specs.Option.{option_map_or}
 use Rattle.std.proofs.lemmas.Option.{slice_get-get_or}
-use Rattle.jl_types.specs.Members.{recorded}
-use Rattle.jl_types.specs.Definitions.{with_record}
-use Rattle.jl_hierarchy.specs.Kept.{named}
+use Rattle.jl_types.specs.Values.Members.{recorded}
+use Rattle.jl_types.specs.Happenings.Definitions.{with_record}
+use Rattle.jl_hierarchy.specs.Means.Kept.{named}
 
 same_turned : (a b : List ℕ) → bytes_eq a b ≡ bytes_eq b a
 same_turned a b = one_answer (bytes_eq a b) (bytes_eq b a) (bytes_eq-Decides a b) (Decides-like (bytes_eq b a) sym sym (bytes_eq-Decides b a))
@@ -47,7 +48,8 @@ new_entry m key v e =
     ∙ named_end m.entries (key, v)
 
 -- the loader's records with one more, in their place
-module _ (loaders : List (List (List ℕ × ℕ))) (loader : ℕ) (records d : List (List ℕ × ℕ)) (lt : loader < length loaders) (is : records ≡ get_or loaders loader d) where
+module _ (loaders : List (List (List ℕ × ℕ))) (loader : ℕ) (records d : List (List ℕ × ℕ)) (lt : loader < length loaders)
+    (is : records ≡ get_or loaders loader d) where
   there : slice_get loaders loader ≡ Some records
   there = slice_get-get_or loaders loader d lt ∙ ap Some (sym is)
 

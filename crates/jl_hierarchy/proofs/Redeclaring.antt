@@ -1,5 +1,6 @@
 -- What no mark tells.
-use Rattle.std.specs.Prelude.{◌≡◌, ℕ, ◌==◌, ◌⊎◌, Bool, true, false, List, [], ◌∷◌, get_or, position, slice_get, is_some, Option, Some, None, option_map, filter_map}
+use Rattle.std.specs.Prelude.{◌≡◌, ℕ, ◌==◌, ◌⊎◌, Bool, true, false, List, [], ◌∷◌, get_or, position, slice_get, is_some, Option, Some, None}
+use Rattle.std.specs.Prelude.{option_map, filter_map}
 use Rattle.std.specs.List.{list_any, cons_option}
 use Rattle.std.specs.Option.{option_map_or}
 use Rattle.std.proofs.Common.{refl, ap, sym, ◌∙◌, inl, inr, eq-eqb}
@@ -7,12 +8,12 @@ use Rattle.std.proofs.lemmas.Bool.{or_left, or_right, both_ways}
 use Rattle.std.proofs.lemmas.List.Quantifiers.{position-Some}
 use Rattle.std.proofs.lemmas.Option.{slice_get-get_or, slice_get_within, same_Some}
 use Rattle.std.proofs.lemmas.List.Folds.{list_any_at}
-use Rattle.jl_classfile.specs.Class.{Method}
-use Rattle.jl_types.specs.World.{Class, Classes}
-use Rattle.jl_types.specs.Members.{declared, is_called}
+use Rattle.jl_class.specs.Class.{Method}
+use Rattle.jl_types.specs.Values.World.{Class, Classes}
+use Rattle.jl_types.specs.Values.Members.{declared, is_called}
 use Rattle.jl_types.specs.declared.ids.MethodId.{MethodId}
-use Rattle.jl_types.specs.Ancestry.{superclasses}
-use Rattle.jl_types.specs.Resolution.{first_element}
+use Rattle.jl_types.specs.Values.Ancestry.{superclasses}
+use Rattle.jl_types.specs.Linkage.Resolution.{first_element}
 use Rattle.jl_hierarchy.specs.Prints.{print_of, print_of_method}
 use Rattle.jl_hierarchy.specs.Redeclared.{Marked, is_marked, has_method, declares_print, sees, AreMarked, IsNotRedeclared}
 use Rattle.jl_hierarchy.proofs.PrintLaws.{called_print}
@@ -43,7 +44,8 @@ module _ (cs : Classes) (name ty : List ℕ) where
       by_place (Some k) e = inr (called_has_print name ty methods k e)
 
   -- what sees the texts sees their print
-  any_declares : (xs : List ℕ) → is_some (first_element (filter_map (declared cs name ty) xs)) ≡ true → list_any (declares_print cs (print_of name ty)) xs ≡ true
+  any_declares : (xs : List ℕ) → is_some (first_element (filter_map (declared cs name ty) xs)) ≡ true
+      → list_any (declares_print cs (print_of name ty)) xs ≡ true
   any_declares [] h = cc
   any_declares (x ∷ xs) h = elim (by_declared x) [
     | inl none ↦

@@ -7,7 +7,7 @@ use Rattle.std.specs.Cmp.{nat_cmp_is}
 use Rattle.std.specs.declared.cmp.Ordering.TheVariants.{Less, Equal, Greater}
 use Rattle.std.proofs.Common.{refl, ap, sym, subst, ◌∙◌, arith, inl, inr}
 use Rattle.std.proofs.lemmas.Bool.Decides.{Decides-eqb}
-use Rattle.jl_hierarchy.specs.Kept.{Rises}
+use Rattle.jl_hierarchy.specs.Means.Kept.{Rises}
 use Rattle.std.proofs.lemmas.Bool.{or_right, both_ways}
 use Rattle.std.proofs.lemmas.Cmp.{nat_eq_equiv}
 
@@ -37,7 +37,8 @@ none_up_to x a (y ∷ xs) h le =
 
 head_alike : (x y : ℕ) (xs ys : List ℕ) → AllByRecursion (λ z. y < z) ys → (has x (x ∷ xs) ≡ has x (y ∷ ys)) → x < y → ⊥
 head_alike x y xs ys above same lt =
-    both_ways (has x (x ∷ xs)) (same ∙ ap (λ (b : Bool). b || has x ys) (turned_number y x lt) ∙ none_up_to y x ys above (omega arith)) (ap (λ (b : Bool). b || has x xs) (nat_eq_equiv.refl x))
+    both_ways (has x (x ∷ xs)) (same ∙ ap (λ (b : Bool). b || has x ys) (turned_number y x lt) ∙ none_up_to y x ys above (omega arith))
+    (ap (λ (b : Bool). b || has x xs) (nat_eq_equiv.refl x))
 
 compare : (x y : ℕ) → (x < y) ⊎ ((x ≡ y) ⊎ (y < x))
 compare zero zero = inr (inl refl)

@@ -1,14 +1,15 @@
 -- Walks over ranges and over lists.
-use Rattle.std.specs.Prelude.{◌≡◌, ℕ, suc, ◌+◌, ◌-◌, ◌<◌, ◌≤◌, Bool, true, false, cond, ◌||◌, List, [], ◌∷◌, ◌++◌, find, filter, drop, take, length, get_or, slice_get, Some, None, if◌then◌else◌, nat_eq, ◌==◌}
+use Rattle.std.specs.Prelude.{◌≡◌, ℕ, suc, ◌+◌, ◌-◌, ◌<◌, ◌≤◌, Bool, true, false, cond, ◌||◌, List, [], ◌∷◌, ◌++◌, find, filter, drop, take, length}
+use Rattle.std.specs.Prelude.{get_or, slice_get, Some, None, if◌then◌else◌, nat_eq, ◌==◌}
 use Rattle.std.specs.List.{list_any, range_with_len}
 use Rattle.std.specs.List.Retain.{RetainsInTurn}
 use Rattle.std.proofs.Common.{refl, ap, sym, subst, ◌∙◌, arith, Vec}
 use Rattle.std.proofs.lemmas.Cmp.{nat_eq_equiv}
 use Rattle.std.proofs.lemmas.List.{take_more}
 use Rattle.std.proofs.lemmas.List.Elements.{filter-append}
-use Rattle.jl_types.specs.World.{Class}
+use Rattle.jl_types.specs.Values.World.{Class}
 use Rattle.jl_types.proofs.Lists.{left_at}
-use Rattle.jl_hierarchy.specs.Kept.{named}
+use Rattle.jl_hierarchy.specs.Means.Kept.{named}
 use Rattle.jl_hierarchy.specs.Retiring.{is_row_of, own_recorded}
 
 grouped : {A : Type 0} (xs ys zs : List A) → (xs ++ ys) ++ zs ≡ xs ++ (ys ++ zs)

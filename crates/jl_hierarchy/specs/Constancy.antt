@@ -1,14 +1,14 @@
 -- What definitions, delegations, new loaders and retirements leave as it was.
 use Rattle.std.specs.Prelude.{◌≡◌, ℕ, ◌<◌, ◌&&◌, Bool, true, false, List, [], ◌∷◌, ◌++◌, length, slice_get, Some, None, is_some, if◌then◌else◌}
 use Rattle.std.specs.List.{AllByRecursion}
-use Rattle.jl_classfile.specs.Class.{ClassFile}
-use Rattle.jl_classfile.specs.Conditions.{object}
-use Rattle.jl_types.specs.World.{Class, Classes}
-use Rattle.jl_types.specs.Members.{lookup, is_retired, is_present, is_concrete, is_interface}
-use Rattle.jl_types.specs.Ancestry.{is_ancestor, AreOrdered}
-use Rattle.jl_types.specs.Ancestry as ancestry
-use Rattle.jl_types.specs.Access.{nest_host}
-use Rattle.jl_types.specs.Definitions.{define_fault, defined}
+use Rattle.jl_class.specs.Class.{ClassFile}
+use Rattle.jl_class.specs.Flags.{object}
+use Rattle.jl_types.specs.Values.World.{Class, Classes}
+use Rattle.jl_types.specs.Values.Members.{lookup, is_retired, is_present, is_concrete, is_interface}
+use Rattle.jl_types.specs.Values.Ancestry.{is_ancestor, AreOrdered}
+use Rattle.jl_types.specs.Values.Ancestry as ancestry
+use Rattle.jl_types.specs.Linkage.Access.{nest_host}
+use Rattle.jl_types.specs.Happenings.Definitions.{define_fault, defined}
 
 -- the loader has recorded java/lang/Object
 abbrev pub has_object : Classes → ℕ → Bool

@@ -1,8 +1,6 @@
 -- What the classes keep beside their definition: a means of proof.
-pub mod Kept
 pub mod Constancy
-pub mod Faults
-pub mod Defaults
 pub mod Prints
 pub mod Redeclared
 pub mod Retiring
+pub mod Means

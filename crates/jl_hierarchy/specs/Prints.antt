@@ -1,8 +1,8 @@
 -- The prints of names and descriptors. `Called` is what contracts say; the rest is a means of proof.
 use Rattle.std.specs.Prelude.{◌≡◌, ℕ, ◌+◌, Bool, ◌==◌, List, [], ◌∷◌, filter}
 use Rattle.std.specs.List.Sorted.{IsNonDecreasingBy}
-use Rattle.jl_names.specs.Reading.Prints.{print_from}
-use Rattle.jl_classfile.specs.Class.{Method}
+use Rattle.jl_names.specs.Means.Prints.{print_from}
+use Rattle.jl_class.specs.Class.{Method}
 use Rattle.jl_hierarchy.specs.declared.row.Printed.{Printed}
 
 -- a name and a descriptor (JVMS 4.6)

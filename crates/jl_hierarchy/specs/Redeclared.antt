@@ -3,11 +3,11 @@
 use Rattle.std.specs.Prelude.{◌≡◌, ℕ, ◌==◌, ◌&&◌, ◌||◌, ◌⊎◌, Bool, true, false, List, [], get_or, slice_get, is_some, Option, None}
 use Rattle.std.specs.List.{list_any}
 use Rattle.std.specs.Option.{option_map_or}
-use Rattle.jl_classfile.specs.Class.{Method}
-use Rattle.jl_types.specs.World.{Class, Classes}
-use Rattle.jl_types.specs.Members.{is_interface, declared}
-use Rattle.jl_types.specs.Ancestry.{is_ancestor, is_subclass, superclasses}
-use Rattle.jl_types.specs.Resolution.{declared_upward}
+use Rattle.jl_class.specs.Class.{Method}
+use Rattle.jl_types.specs.Values.World.{Class, Classes}
+use Rattle.jl_types.specs.Values.Members.{is_interface, declared}
+use Rattle.jl_types.specs.Values.Ancestry.{is_ancestor, is_subclass, superclasses}
+use Rattle.jl_types.specs.Linkage.Resolution.{declared_upward}
 use Rattle.jl_hierarchy.specs.declared.marks.Mark.{Mark}
 use Rattle.jl_hierarchy.specs.Prints.{print_of_method}
 
@@ -82,9 +82,9 @@ IsTold cs p told s = (told s p ≡ true) ⊎ IsRedeclared cs p s
 abbrev pub AreLines : List Class → Type 0
 AreLines rows = (x a : ℕ) → is_ancestor (of_rows rows) a x ≡ true → is_interface (of_rows rows) a ≡ false → is_subclass (of_rows rows) x a ≡ true
 
-pub record IsIndexed (rows : List Class) (marks : Marked) (are_lines : Bool) : Type 0 where
+pub record IsIndexed (rows : List Class) (marks : Marked) (are_superclass_chains : Bool) : Type 0 where
   pub marked : AreMarked rows marks
-  pub lines : are_lines ≡ true → AreLines rows
+  pub lines : are_superclass_chains ≡ true → AreLines rows
 
 -- no proper subclass of the class declares such a method
 abbrev pub IsNotRedeclared : Classes → List ℕ → List ℕ → ℕ → Type 0

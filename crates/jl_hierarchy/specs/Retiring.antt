@@ -1,7 +1,7 @@
 -- Which classes a loader has defined, by the rows alone, and lists without them. A means of proof.
 use Rattle.std.specs.Prelude.{ℕ, ◌==◌, Bool, false, not, List, filter, map, slice_get}
 use Rattle.std.specs.Option.{option_map_or}
-use Rattle.jl_types.specs.World.{Class}
+use Rattle.jl_types.specs.Values.World.{Class}
 
 abbrev pub is_row_of : List Class → ℕ → ℕ → Bool
 is_row_of rows loader c = option_map_or (λ row. row.loader == loader) (slice_get rows c) false

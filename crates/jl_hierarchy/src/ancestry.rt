@@ -1,9 +1,9 @@
 //! Ancestors and receivers, which are kept.
 
 ghost use Rattle.std.specs.Prelude.{◌≡◌, ◌<◌, length};
-ghost use Rattle.jl_types.specs.Members as members;
-ghost use Rattle.jl_types.specs.Ancestry as ancestry;
-ghost use Rattle.jl_types.specs.Ancestry.{AreOrdered};
+ghost use Rattle.jl_types.specs.Values.Members as members;
+ghost use Rattle.jl_types.specs.Values.Ancestry as ancestry;
+ghost use Rattle.jl_types.specs.Values.Ancestry.{AreOrdered};
 
 use crate::classes::Classes;
 use crate::receiving::is_concrete;

@@ -2,14 +2,14 @@
 
 ghost use Rattle.std.specs.Prelude.{◌≡◌, ◌<◌, ◌≤◌, length, slice_get, IfSome, IfOk};
 ghost use Rattle.std.specs.Option.{option_copied};
-ghost use Rattle.jl_types.specs.World.{nothing_yet};
-ghost use Rattle.jl_types.specs.Members as members;
-ghost use Rattle.jl_types.specs.Ancestry.{AreOrdered};
+ghost use Rattle.jl_types.specs.Values.World.{nothing_yet};
+ghost use Rattle.jl_types.specs.Values.Members as members;
+ghost use Rattle.jl_types.specs.Values.Ancestry.{AreOrdered};
 ghost use Rattle.jl_hierarchy.specs.Constancy.{AreInOrder};
 
-use crate::kin::Kin;
+use crate::ancestor_list::AncestorList;
 use crate::loader::Loader;
-use crate::marks::Marks;
+use crate::marks::Redeclared;
 use crate::receiving::Receivers;
 use crate::row::Row;
 use indexmap::IndexSet;
@@ -27,15 +27,15 @@ pub struct Classes {
     pub(crate) loaders: Vec<Loader>,
     pub(crate) rows: Paged<Row>,
     /// Of each class its ancestors, rising, itself the last. They never change.
-    pub(crate) above: Paged<Kin>,
+    pub(crate) above: Paged<AncestorList>,
     /// Of each class its receivers, rising.
     pub(crate) below: Vec<Receivers>,
     /// The retired loaders, in the order in which they went.
     pub(crate) retired: IndexSet<LoaderId>,
     /// Of each class the methods that it sees and a proper subclass declares again. There may be more.
-    pub(crate) marks: Arc<Marks>,
+    pub(crate) marks: Arc<Redeclared>,
     /// Whether each ancestor of a class that isn't an interface is one of its superclasses.
-    pub(crate) are_lines: bool,
+    pub(crate) are_superclass_chains: bool,
 }
 
 // Written out, since a derived drop is proved anew in each crate that lets one go.
@@ -48,14 +48,14 @@ impl Drop for Classes {
             below: _below,
             retired: _retired,
             marks: _marks,
-            are_lines: _are_lines,
+            are_superclass_chains: _are_lines,
         } = self;
     }
 }
 
 impl Model for Classes {
-    ghost use Rattle.jl_types.specs.World.{Classes};
-    ghost use Rattle.jl_hierarchy.specs.Kept.{IsKept, lists};
+    ghost use Rattle.jl_types.specs.Values.World.{Classes};
+    ghost use Rattle.jl_hierarchy.specs.Means.Kept.{IsKept, lists};
     ghost use Rattle.jl_hierarchy.specs.Redeclared.{IsIndexed};
 
     ghost Value = { Classes };
@@ -63,7 +63,7 @@ impl Model for Classes {
     ghost view = { λ c. record { loaders = c.loaders.items; rows = c.rows.items; retired = c.retired.keys } };
 
     ghost invariant = { λ c. IsKept (record { loaders = c.loaders.items; rows = c.rows.items; retired = c.retired.keys }) c.above.items (lists c.below.items)
-        × IsIndexed c.rows.items c.marks.value c.are_lines };
+        × IsIndexed c.rows.items c.marks.value c.are_superclass_chains };
 }
 
 impl Classes {
@@ -79,8 +79,8 @@ impl Classes {
             above: Paged::new(alloc),
             below: Vec::new(alloc),
             retired: IndexSet::new(alloc),
-            marks: Arc::new(alloc, Marks::new(alloc))?,
-            are_lines: true,
+            marks: Arc::new(alloc, Redeclared::new(alloc))?,
+            are_superclass_chains: true,
         })
     }
 

@@ -1,7 +1,7 @@
 //! A copy of the classes.
 
 ghost use Rattle.std.specs.Prelude.{◌≡◌, IfOk};
-ghost use Rattle.jl_hierarchy.specs.Kept.{lists};
+ghost use Rattle.jl_hierarchy.specs.Means.Kept.{lists};
 
 use crate::classes::Classes;
 use crate::loader::Loader;
@@ -22,7 +22,7 @@ impl Classes {
             below: copy_below(alloc, self.below.as_slice())?,
             retired: self.retired.clone()?,
             marks: Arc::try_clone(&self.marks)?,
-            are_lines: self.are_lines,
+            are_superclass_chains: self.are_superclass_chains,
         })
     }
 }

@@ -1,26 +1,18 @@
 //! Superinterface methods (JVMS SE 17 §5.4.3.3).
 
 ghost use Rattle.std.specs.Prelude.{◌≡◌, ◌<◌, length};
-ghost use Rattle.jl_types.specs.Resolution as resolution;
-ghost use Rattle.jl_types.specs.Resolution.{candidates, defaults, first_element, pick};
-ghost use Rattle.jl_hierarchy.specs.Defaults as by_ancestor;
+ghost use Rattle.jl_types.specs.Linkage.Resolution as resolution;
+ghost use Rattle.jl_types.specs.Linkage.Resolution.{candidates, defaults, first_element, pick};
+ghost use Rattle.jl_hierarchy.specs.Means.Defaults as by_ancestor;
 
 use crate::classes::Classes;
 use crate::sought::Sought;
-use jl_classfile::{PRIVATE, STATIC, has_flag};
+use jl_class::{PRIVATE, STATIC, has_flag};
 use jl_types::{Chosen, ClassId, MethodId};
 
 impl Classes {
-    /// The method of this name and descriptor of the superinterface of least number, among those that superinterfaces of the
-    /// class declare and that are neither private nor static.
-    pub fn first_candidate(&self, class: ClassId, name: &[u8], ty: &[u8]) -> Option<MethodId>
-        requires { class < length self.now.rows }
-        ensures { result ≡ first_element (candidates self.now name.now ty.now class) }
-    {
-        self.first_candidate_by(class, &Sought::of(name, ty))
-    }
-
-    /// The same of a name and a descriptor that are sought in many classes.
+    /// The method of the name and the descriptor that are sought of the superinterface of least number, among those that superinterfaces
+    /// of the class declare and that are neither private nor static.
     pub fn first_candidate_by(&self, class: ClassId, sought: &Sought<'_>) -> Option<MethodId>
         requires { class < length self.now.rows }
         ensures { result ≡ first_element (candidates self.now sought.now.name sought.now.ty class) }
@@ -33,16 +25,8 @@ impl Classes {
         None
     }
 
-    /// The one maximally-specific superinterface method of this name and descriptor that isn't abstract, or that there are
-    /// several or none.
-    pub fn default_method(&self, class: ClassId, name: &[u8], ty: &[u8]) -> Chosen
-        requires { class < length self.now.rows }
-        ensures { result ≡ pick (defaults self.now name.now ty.now class) }
-    {
-        self.default_by(class, &Sought::of(name, ty))
-    }
-
-    /// The same of a name and a descriptor that are sought in many classes.
+    /// The one maximally-specific superinterface method of the name and the descriptor that are sought that isn't abstract, or that there
+    /// are several or none.
     pub fn default_by(&self, class: ClassId, sought: &Sought<'_>) -> Chosen
         requires { class < length self.now.rows }
         ensures { result ≡ pick (defaults self.now sought.now.name sought.now.ty class) }

@@ -4,23 +4,23 @@ ghost use Rattle.std.specs.Prelude.{◌≡◌, ◌<◌, ◌^◌, ◌++◌, ◌�
 ghost use Rattle.std.specs.Vec.{vec_len, vec_capacity};
 ghost use Rattle.jl_types.specs.declared.refusal.DefineFault.{DefineFault};
 ghost use Rattle.jl_types.specs.declared.refusal.OrMemory.TheVariants as or_memory;
-ghost use Rattle.jl_types.specs.Members as members;
-ghost use Rattle.jl_types.specs.Ancestry as ancestry;
-ghost use Rattle.jl_types.specs.Definitions as definitions;
-ghost use Rattle.jl_classfile.specs.Conditions.{extends_object};
+ghost use Rattle.jl_types.specs.Values.Members as members;
+ghost use Rattle.jl_types.specs.Values.Ancestry as ancestry;
+ghost use Rattle.jl_types.specs.Happenings.Definitions as definitions;
+ghost use Rattle.jl_class.specs.Flags.{extends_object};
 ghost use Rattle.jl_hierarchy.specs.Constancy.{AreInOrder, Stays, AddsReceiver};
-ghost use Rattle.jl_hierarchy.specs.Kept.{HasRoom, Rises, IsAppended, lists};
+ghost use Rattle.jl_hierarchy.specs.Means.Kept.{HasRoom, Rises, IsAppended, lists};
 ghost use Rattle.jl_hierarchy.specs.Redeclared.{has_method, sees_print, line_above, is_above, is_listed, is_on, IsTold};
 
+use crate::ancestor_list::AncestorList;
 use crate::classes::Classes;
-use crate::kin::Kin;
 use crate::loader::record_in;
 use crate::marks::{Mark, add_marks};
 use crate::receiving::{
     Receivers, append_to_each, is_concrete, own_receivers, receiving, reserve_each,
 };
 use crate::row::Row;
-use jl_classfile::ClassFile;
+use jl_class::ClassFile;
 use jl_paged::Paged;
 use jl_types::{ClassId, DefineFault, LoaderId, OrMemory};
 use std::alloc::{AllocError, Global};
@@ -33,7 +33,7 @@ pub(crate) struct Growth {
     /// The ancestors but the class itself, by rising number.
     ancestors: Vec<ClassId>,
     /// The ancestors with the class itself.
-    kin: Kin,
+    with_itself: AncestorList,
     /// The receivers of the class: itself or none.
     own: Receivers,
     /// What is marked of the superclasses. None, where every method is to be marked at each ancestor.
@@ -135,7 +135,7 @@ impl Classes {
         )?;
         add_marks(&mut self.marks, &growth.marks, &growth.ancestors)?;
         record_in(&mut self.loaders, loader, name, class)?;
-        self.are_lines &= growth.is_line;
+        self.are_superclass_chains &= growth.is_line;
         push_all(
             &mut self.rows,
             &mut self.above,
@@ -155,7 +155,7 @@ impl Classes {
             ≡ ancestry.ancestors (self.now.rows ++ row ∷ []) (length self.now.rows)) }
         ensures rising { IfOk result (λ growth. Rises growth.ancestors.items) }
         ensures there { IfOk result (λ growth. All (λ a. a < length self.now.rows) growth.ancestors.items) }
-        ensures kin { IfOk result (λ growth. growth.kin ≡ growth.ancestors.items ++ length self.now.rows ∷ []) }
+        ensures with_itself { IfOk result (λ growth. growth.with_itself ≡ growth.ancestors.items ++ length self.now.rows ∷ []) }
         ensures own { IfOk result (λ growth. growth.own.items
             ≡ (if members.is_concrete_row row then length self.now.rows ∷ [] else [])) }
         ensures marks { IfOk result (λ growth. IfSome growth.marks (λ marks. (s p : ℕ) → has_method p row.file.methods ≡ true
@@ -169,7 +169,7 @@ impl Classes {
         let class = ClassId::new(self.rows.len() as u32);
         let is_concrete = is_concrete(row.class());
         let ancestors = self.proper_ancestors(alloc, row.class())?;
-        let kin = Kin::of(alloc, &ancestors, class)?;
+        let with_itself = AncestorList::of(alloc, &ancestors, class)?;
         let own = own_receivers(alloc, is_concrete, class)?;
         let marks = self.marks_of(alloc, row.class())?;
         let is_line = self.is_line(row.class());
@@ -177,7 +177,7 @@ impl Classes {
             row,
             is_concrete,
             ancestors,
-            kin,
+            with_itself,
             own,
             marks,
             is_line,
@@ -197,7 +197,7 @@ fn name_of(alloc: Global, row: &Row) -> Result<Vec<u8>, AllocError>
 fn reserve_all(
     alloc: Global,
     rows: &mut Paged<Row>,
-    above: &mut Paged<Kin>,
+    above: &mut Paged<AncestorList>,
     below: &mut Vec<Receivers>,
     receiving: &[ClassId],
 ) -> Result<(), AllocError>
@@ -220,7 +220,7 @@ fn reserve_all(
 /// Adds a class behind the others, all of which have room for it.
 fn push_all(
     rows: &mut Paged<Row>,
-    above: &mut Paged<Kin>,
+    above: &mut Paged<AncestorList>,
     below: &mut Vec<Receivers>,
     growth: Growth,
     class: ClassId,
@@ -229,7 +229,7 @@ fn push_all(
     requires above_room { above.old.room ≡ true }
     requires few { (length rows.old.items < 2 ^ 32) × (length above.old.items < 2 ^ 32) }
     requires below_room { vec_len below.old < vec_capacity below.old }
-    requires kin { growth.kin ≡ growth.ancestors.items ++ class ∷ [] }
+    requires with_itself { growth.with_itself ≡ growth.ancestors.items ++ class ∷ [] }
     requires there { All (λ c. c < length below.old.items) (if growth.is_concrete then growth.ancestors.items else []) }
     requires rising { Rises (if growth.is_concrete then growth.ancestors.items else []) }
     requires room { All (HasRoom below.old.items) (if growth.is_concrete then growth.ancestors.items else []) }
@@ -243,7 +243,7 @@ fn push_all(
         row,
         is_concrete,
         ancestors,
-        kin,
+        with_itself,
         own,
         marks: _marks,
         is_line: _is_line,
@@ -254,6 +254,6 @@ fn push_all(
         class,
     );
     below.push_reserved(own);
-    above.push_reserved(kin);
+    above.push_reserved(with_itself);
     rows.push_reserved(row);
 }

@@ -1,17 +1,18 @@
 //! Why a class isn't defined (JVMS SE 17 §5.3.5).
 
-ghost use Rattle.std.specs.Prelude.{◌≡◌, ◌==◌, ◌&&◌, ◌||◌, not, nat_le, is_some, is_none, option_map, Some, None, length, position, List, IfOk, IfErr, IfSome, OnOk, ◌+◌, ◌<◌, ◌^◌};
+ghost use Rattle.std.specs.Prelude.{◌≡◌, ◌==◌, ◌&&◌, ◌||◌, not, nat_le, is_some, is_none, option_map, Some, None, length, position, List, IfOk};
+ghost use Rattle.std.specs.Prelude.{IfErr, IfSome, OnOk, ◌+◌, ◌<◌, ◌^◌};
 ghost use Rattle.std.specs.List.{list_any};
 ghost use Rattle.std.specs.Option.{option_copied};
 ghost use Rattle.std.specs.Str.{bytes_eq};
-ghost use Rattle.jl_types.specs.Members as members;
-ghost use Rattle.jl_types.specs.Definitions as definitions;
-ghost use Rattle.jl_types.specs.Resolution.{first_of};
-ghost use Rattle.jl_hierarchy.specs.Faults.{first_faults, superclass_faults, is_open_row, named_class, first_place};
+ghost use Rattle.jl_types.specs.Values.Members as members;
+ghost use Rattle.jl_types.specs.Happenings.Definitions as definitions;
+ghost use Rattle.jl_types.specs.Linkage.Resolution.{first_of};
+ghost use Rattle.jl_hierarchy.specs.Means.Faults.{first_faults, superclass_faults, is_open_row, named_class, first_place};
 
 use crate::classes::Classes;
 use crate::nests::is_among;
-use jl_classfile::{ClassFile, FINAL, INTERFACE, PUBLIC, has_flag};
+use jl_class::{ClassFile, FINAL, INTERFACE, PUBLIC, has_flag};
 use jl_names::{Name, package_of};
 use jl_types::{Class, DefineFault, LoaderId};
 

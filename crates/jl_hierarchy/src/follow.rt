@@ -1,8 +1,8 @@
 //! Classes that follow others, class by class.
 
 ghost use Rattle.std.specs.Prelude.{◌≡◌, None, true, IfOk, OnOk, OnErr};
-ghost use Rattle.jl_types.specs.Definitions as definitions;
-ghost use Rattle.jl_classfile.specs.Conditions.{extends_object};
+ghost use Rattle.jl_types.specs.Happenings.Definitions as definitions;
+ghost use Rattle.jl_class.specs.Flags.{extends_object};
 ghost use Rattle.jl_hierarchy.specs.Constancy.{IsNext};
 
 use crate::classes::Classes;

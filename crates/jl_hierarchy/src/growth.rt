@@ -1,17 +1,17 @@
 //! What the definition of a class adds.
 
 ghost use Rattle.std.specs.Prelude.{◌≡◌, ◌==◌, ◌<◌, ◌++◌, ◌∷◌, [], ℕ, length, filter_map, option_and_then, true, All, IfOk, OnOk, if◌then◌else◌};
-ghost use Rattle.jl_classfile.specs.Conditions.{extends_object};
-ghost use Rattle.jl_types.specs.Members as members;
+ghost use Rattle.jl_class.specs.Flags.{extends_object};
+ghost use Rattle.jl_types.specs.Values.Members as members;
 ghost use Rattle.std.specs.List.{flat_map, list_any};
-ghost use Rattle.jl_types.specs.Ancestry as ancestry;
-ghost use Rattle.jl_types.specs.Ancestry.{AreOrdered};
-ghost use Rattle.jl_hierarchy.specs.Kept.{Rises};
-ghost use Rattle.jl_types.specs.Definitions as definitions;
+ghost use Rattle.jl_types.specs.Values.Ancestry as ancestry;
+ghost use Rattle.jl_types.specs.Values.Ancestry.{AreOrdered};
+ghost use Rattle.jl_hierarchy.specs.Means.Kept.{Rises};
+ghost use Rattle.jl_types.specs.Happenings.Definitions as definitions;
 
 use crate::classes::Classes;
 use crate::receiving::is_concrete_file;
-use jl_classfile::ClassFile;
+use jl_class::ClassFile;
 use jl_names::{Name, Seq};
 use jl_types::{Class, ClassId, LoaderId};
 use std::alloc::{AllocError, Global};

@@ -1,11 +1,12 @@
 //! The classes that are defined, by their loaders (JVMS SE 17 §5.3): what a loader finds by name, packages, nests, ancestors,
 //! receivers and declarations.
 //!
-//! The contract of each question is its definition in jl_types (`specs/Members`, `Ancestry`, `Access` and `Resolution`), and
-//! that of a definition or a delegation is its fault and its step there (`specs/Definitions`). What a class and those above and
-//! below it declare is said in `specs/Redeclared`. `specs/Kept`, `Prints`, `Faults` and `Defaults` are means of proof.
+//! The contract of each question is its definition in jl_types (`Members`, `Ancestry`, `Access` and `Resolution`), and
+//! that of a definition or a delegation is its fault and its step there (`Definitions`). What a class and those above and
+//! below it declare is said in `specs/Redeclared`. `specs/Prints`, `Retiring` and `Means` are means of proof.
 #![tactic(auto)]
 
+mod ancestor_list;
 mod ancestry;
 mod classes;
 mod copy;
@@ -15,7 +16,6 @@ mod delegate;
 mod faults;
 mod follow;
 mod growth;
-mod kin;
 mod loader;
 mod marks;
 mod members;

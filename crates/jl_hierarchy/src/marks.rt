@@ -18,12 +18,12 @@ pub(crate) struct Mark {
 
 /// Marks, each once, and by number the classes of which every method is marked. A clause sees both lists.
 #[derive(Drop)]
-pub(crate) struct Marks {
+pub(crate) struct Redeclared {
     marks: IndexSet<Mark>,
     every: Vec<bool>,
 }
 
-impl Model for Marks {
+impl Model for Redeclared {
     ghost use Rattle.jl_hierarchy.specs.Redeclared.{Marked};
 
     ghost Value = { Marked };
@@ -31,23 +31,23 @@ impl Model for Marks {
     ghost view = { λ m. (m.marks.keys, m.every.items) };
 }
 
-impl Clone for Marks {
+impl Clone for Redeclared {
     ghost is_clone = { λ marks copy. copy ≡ marks };
 
-    fn clone(&self) -> Result<Marks, AllocError> {
-        Ok(Marks {
+    fn clone(&self) -> Result<Redeclared, AllocError> {
+        Ok(Redeclared {
             marks: self.marks.clone()?,
             every: self.every.clone()?,
         })
     }
 }
 
-impl Marks {
+impl Redeclared {
     /// No marks.
     pub(crate) fn new(alloc: Global) -> Self
         ensures { result ≡ ([], []) }
     {
-        Marks {
+        Redeclared {
             marks: IndexSet::new(alloc),
             every: Vec::new(alloc),
         }
@@ -118,7 +118,7 @@ fn set(every: &mut [bool], number: usize)
 /// Adds the marks, where they aren't there; where none are given, marks every method at each of these classes. Marks that others
 /// hold, too, are copied before the first that is new. Want of memory is an error; some of them are added then.
 pub(crate) fn add_marks(
-    shared: &mut Arc<Marks>,
+    shared: &mut Arc<Redeclared>,
     marks: &Option<Vec<Mark>>,
     classes: &[ClassId],
 ) -> Result<(), AllocError>
@@ -133,7 +133,7 @@ pub(crate) fn add_marks(
 }
 
 /// Adds these marks. Want of memory is an error; some of them are added then.
-fn add_each(shared: &mut Arc<Marks>, marks: &[Mark]) -> Result<(), AllocError>
+fn add_each(shared: &mut Arc<Redeclared>, marks: &[Mark]) -> Result<(), AllocError>
     ensures kept { (s p : ℕ) → is_marked shared.old.value s p ≡ true → is_marked shared.new.value s p ≡ true }
     ensures added { OnOk result ((s p : ℕ) → is_listed marks.now s p ≡ true → is_marked shared.new.value s p ≡ true) }
 {
@@ -144,7 +144,7 @@ fn add_each(shared: &mut Arc<Marks>, marks: &[Mark]) -> Result<(), AllocError>
 }
 
 /// Adds the mark, where it isn't there. Want of memory is an error; nothing has changed then.
-fn add_mark(shared: &mut Arc<Marks>, mark: Mark) -> Result<(), AllocError>
+fn add_mark(shared: &mut Arc<Redeclared>, mark: Mark) -> Result<(), AllocError>
     ensures kept { (s p : ℕ) → is_marked shared.old.value s p ≡ true → is_marked shared.new.value s p ≡ true }
     ensures added { OnOk result ((s p : ℕ) → tells s p mark ≡ true → is_marked shared.new.value s p ≡ true) }
 {
@@ -156,7 +156,7 @@ fn add_mark(shared: &mut Arc<Marks>, mark: Mark) -> Result<(), AllocError>
 }
 
 /// Marks every method at each of these classes. Want of memory is an error; some of them are done then.
-fn add_every(shared: &mut Arc<Marks>, classes: &[ClassId]) -> Result<(), AllocError>
+fn add_every(shared: &mut Arc<Redeclared>, classes: &[ClassId]) -> Result<(), AllocError>
     ensures kept { (s p : ℕ) → is_marked shared.old.value s p ≡ true → is_marked shared.new.value s p ≡ true }
     ensures added { OnOk result ((s p : ℕ) → is_on s classes.now ≡ true → is_marked shared.new.value s p ≡ true) }
 {
@@ -167,7 +167,7 @@ fn add_every(shared: &mut Arc<Marks>, classes: &[ClassId]) -> Result<(), AllocEr
 }
 
 /// Marks every method at the class, where they aren't. Want of memory is an error.
-fn add_every_mark(shared: &mut Arc<Marks>, class: ClassId) -> Result<(), AllocError>
+fn add_every_mark(shared: &mut Arc<Redeclared>, class: ClassId) -> Result<(), AllocError>
     ensures kept { (s p : ℕ) → is_marked shared.old.value s p ≡ true → is_marked shared.new.value s p ≡ true }
     ensures added { OnOk result ((p : ℕ) → is_marked shared.new.value class p ≡ true) }
 {

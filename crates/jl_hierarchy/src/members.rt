@@ -1,15 +1,15 @@
 //! Superclasses and methods of a class. A class or a method that isn't there has no flag.
 
 ghost use Rattle.std.specs.Prelude.{◌≡◌, ◌&&◌, not};
-ghost use Rattle.jl_classfile.specs.Conditions as conditions;
-ghost use Rattle.jl_types.specs.Members as members;
-ghost use Rattle.jl_types.specs.Ancestry as ancestry;
-ghost use Rattle.jl_types.specs.Ancestry.{AreOrdered};
+ghost use Rattle.jl_class.specs.Flags as conditions;
+ghost use Rattle.jl_types.specs.Values.Members as members;
+ghost use Rattle.jl_types.specs.Values.Ancestry as ancestry;
+ghost use Rattle.jl_types.specs.Values.Ancestry.{AreOrdered};
 
 use crate::classes::Classes;
 use crate::row::methods_of;
 use crate::sought::Sought;
-use jl_classfile::{ABSTRACT, INTERFACE, Method, PRIVATE, PROTECTED, PUBLIC, STATIC, has_flag};
+use jl_class::{ABSTRACT, INTERFACE, Method, PRIVATE, PROTECTED, PUBLIC, STATIC, has_flag};
 use jl_types::{ClassId, MethodId};
 
 impl Classes {

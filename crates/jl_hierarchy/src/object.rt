@@ -1,9 +1,9 @@
 //! The methods of java/lang/Object that interfaces find (JVMS SE 17 §5.4.3.4).
 
 ghost use Rattle.std.specs.Prelude.{◌≡◌, ◌&&◌, not, option_and_then};
-ghost use Rattle.jl_classfile.specs.Conditions.{object};
-ghost use Rattle.jl_types.specs.Members as members;
-ghost use Rattle.jl_types.specs.Resolution as resolution;
+ghost use Rattle.jl_class.specs.Flags.{object};
+ghost use Rattle.jl_types.specs.Values.Members as members;
+ghost use Rattle.jl_types.specs.Linkage.Resolution as resolution;
 
 use crate::classes::Classes;
 use jl_types::{LoaderId, MethodId};

@@ -1,11 +1,11 @@
 //! The lists of receivers, as a class is added to some of them.
 
 ghost use Rattle.std.specs.Prelude.{◌≡◌, ◌<◌, ◌&&◌, not, length, if◌then◌else◌, [], ◌∷◌, All, OnOk, IfOk};
-ghost use Rattle.jl_classfile.specs.Conditions.{has_flag, INTERFACE, ABSTRACT};
-ghost use Rattle.jl_types.specs.Members as members;
-ghost use Rattle.jl_hierarchy.specs.Kept.{HasRoom, Rises, IsAppended, lists};
+ghost use Rattle.jl_class.specs.Flags.{has_flag, INTERFACE, ABSTRACT};
+ghost use Rattle.jl_types.specs.Values.Members as members;
+ghost use Rattle.jl_hierarchy.specs.Means.Kept.{HasRoom, Rises, IsAppended, lists};
 
-use jl_classfile::{ABSTRACT, ClassFile, INTERFACE, has_flag};
+use jl_class::{ABSTRACT, ClassFile, INTERFACE, has_flag};
 use jl_types::{Class, ClassId};
 use smallvec::SmallVec;
 use std::alloc::{AllocError, Global};

@@ -2,8 +2,8 @@
 
 ghost use Rattle.std.specs.Prelude.{◌≡◌, ◌<◌, ◌^◌, ℕ, Some, true, false, length, IfOk, IfSome, OnOk};
 ghost use Rattle.std.specs.List.{list_any};
-ghost use Rattle.jl_types.specs.Members as members;
-ghost use Rattle.jl_types.specs.Ancestry as ancestry;
+ghost use Rattle.jl_types.specs.Values.Members as members;
+ghost use Rattle.jl_types.specs.Values.Ancestry as ancestry;
 ghost use Rattle.jl_hierarchy.specs.Redeclared.{is_listed, has_method, sees, declares_print, sees_print, line_above, is_above, is_on};
 ghost use Rattle.jl_hierarchy.specs.Redeclared.{AreLines, IsNotRedeclared, IsTold};
 
@@ -11,7 +11,7 @@ use crate::classes::Classes;
 use crate::marks::Mark;
 use crate::row::{methods_of, print_of_method};
 use crate::sought::Sought;
-use jl_classfile::Methods;
+use jl_class::Methods;
 use jl_types::{Class, ClassId};
 use std::alloc::{AllocError, Global};
 
@@ -145,10 +145,10 @@ impl Classes {
     }
 
     /// Whether it is known that each ancestor of a class that isn't an interface is one of its superclasses.
-    pub fn are_lines(&self) -> bool
+    pub fn are_superclass_chains(&self) -> bool
         ensures { result ≡ true → AreLines self.now.rows }
     {
-        self.are_lines
+        self.are_superclass_chains
     }
 
     /// Whether each ancestor of the class that is made which isn't an interface is an ancestor of its superclass. So it is where the
@@ -157,7 +157,7 @@ impl Classes {
         ensures { result ≡ true → (a : ℕ) → list_any (λ p. ancestry.is_ancestor self.now a p) (ancestry.parents row.now) ≡ true
             → members.is_interface self.now a ≡ false → is_above self.now row.now a ≡ true }
     {
-        if !self.are_lines() {
+        if !self.are_superclass_chains() {
             return false;
         }
         for interface in row.interfaces() {

@@ -1,14 +1,15 @@
 //! The retirement of a loader with the classes that it has defined (JLS SE 17 §12.7).
 
-ghost use Rattle.std.specs.Prelude.{◌≡◌, ◌<◌, ◌≤◌, ◌&&◌, ◌==◌, ◌++◌, ◌∷◌, ℕ, None, All, find, not, filter, length, slice_get, slice_set, [], OnOk, OnErr, IfOk, false, if◌then◌else◌};
+ghost use Rattle.std.specs.Prelude.{◌≡◌, ◌<◌, ◌≤◌, ◌&&◌, ◌==◌, ◌++◌, ◌∷◌, ℕ, None, All, find, not, filter, length, slice_get, slice_set, [], OnOk};
+ghost use Rattle.std.specs.Prelude.{OnErr, IfOk, false, if◌then◌else◌};
 ghost use Rattle.std.specs.Option.{option_map_or};
-ghost use Rattle.jl_types.specs.Ancestry as ancestry;
+ghost use Rattle.jl_types.specs.Values.Ancestry as ancestry;
 ghost use Rattle.std.specs.List.{list_any, range_with_len};
-ghost use Rattle.jl_types.specs.Members as members;
-ghost use Rattle.jl_types.specs.Definitions as definitions;
-ghost use Rattle.jl_types.specs.Retirement as retirement;
+ghost use Rattle.jl_types.specs.Values.Members as members;
+ghost use Rattle.jl_types.specs.Happenings.Definitions as definitions;
+ghost use Rattle.jl_types.specs.Happenings.Retirement as retirement;
 ghost use Rattle.jl_hierarchy.specs.Constancy.{AreInOrder};
-ghost use Rattle.jl_hierarchy.specs.Kept.{AreChanged, Rises, lists};
+ghost use Rattle.jl_hierarchy.specs.Means.Kept.{AreChanged, Rises, lists};
 ghost use Rattle.jl_hierarchy.specs.Retiring.{is_row_of, own_recorded, without};
 
 use crate::classes::Classes;
@@ -104,7 +105,8 @@ impl Classes {
     /// Whether the class is one of another loader, and has an ancestor of this one.
     fn inherits_if_other(&self, loader: LoaderId, class: ClassId) -> bool
         requires { class < length self.now.rows }
-        ensures { result ≡ (not (retirement.is_of self.now loader class) && list_any (retirement.is_of self.now loader) (ancestry.ancestors self.now.rows class)) }
+        ensures { result ≡ (not (retirement.is_of self.now loader class)
+            && list_any (retirement.is_of self.now loader) (ancestry.ancestors self.now.rows class)) }
     {
         !self.is_of(loader, class) && self.has_one_of(loader, self.ancestors(class))
     }

@@ -4,13 +4,13 @@ ghost use Rattle.std.specs.Prelude.{◌≡◌, ◌<◌, ◌≤◌, ◌^◌, fals
 ghost use Rattle.std.specs.Option.{option_map_or};
 ghost use Rattle.std.specs.List.{list_any};
 ghost use Rattle.std.specs.List.Sorted.{IsNonDecreasingBy, IsPartitionPoint};
-ghost use Rattle.jl_types.specs.Members as members;
+ghost use Rattle.jl_types.specs.Values.Members as members;
 ghost use Rattle.jl_hierarchy.specs.declared.row.Printed.{Printed};
 ghost use Rattle.jl_hierarchy.specs.Redeclared.{has_method};
 ghost use Rattle.jl_hierarchy.specs.Prints.{print_of_method, printed_from, has_print, AreSorted};
 
 use crate::sought::{Sought, print_of};
-use jl_classfile::{Method, Methods};
+use jl_class::{Method, Methods};
 use jl_paged::Again;
 use jl_types::Class;
 use std::alloc::{AllocError, Global};
@@ -23,7 +23,7 @@ pub(crate) struct Row {
 }
 
 impl Model for Row {
-    ghost use Rattle.jl_types.specs.World.{Class};
+    ghost use Rattle.jl_types.specs.Values.World.{Class};
 
     ghost Value = { Class };
 
@@ -100,7 +100,7 @@ struct Indexed {
 }
 
 impl Model for Indexed {
-    ghost use Rattle.jl_types.specs.World.{Class};
+    ghost use Rattle.jl_types.specs.Values.World.{Class};
     ghost use Rattle.jl_hierarchy.specs.Prints.{AreSorted};
 
     ghost Value = { Class };

@@ -1,8 +1,8 @@
 //! Walks up the superclasses.
 
 ghost use Rattle.std.specs.Prelude.{◌≡◌, ◌<◌, length};
-ghost use Rattle.jl_types.specs.Ancestry as ancestry;
-ghost use Rattle.jl_types.specs.Resolution as resolution;
+ghost use Rattle.jl_types.specs.Values.Ancestry as ancestry;
+ghost use Rattle.jl_types.specs.Linkage.Resolution as resolution;
 
 use crate::classes::Classes;
 use crate::sought::Sought;
@@ -32,13 +32,6 @@ impl Classes {
         ensures { result ≡ ancestry.is_proper_subclass self.now class other }
     {
         class != other && self.is_subclass(class, other)
-    }
-
-    /// The first declaration in the class and its superclasses upward.
-    pub fn declared_upward(&self, class: ClassId, name: &[u8], ty: &[u8]) -> Option<MethodId>
-        ensures { result ≡ resolution.declared_upward self.now name.now ty.now class }
-    {
-        self.declared_upward_by(class, &Sought::of(name, ty))
     }
 
     /// The same of a name and a descriptor that are sought in many classes.

@@ -1,14 +1,15 @@
 -- Links that are brought up to date where events touched them.
-use Rattle.std.specs.Prelude.{◌≡◌, ◌==◌, ◌||◌, ◌+◌, ◌<◌, ℕ, Bool, true, false, List, take, length, get_or, slice_set, Option, None, Result, Ok, Err, OnOk, OnErr}
+use Rattle.std.specs.Prelude.{◌≡◌, ◌==◌, ◌||◌, ◌+◌, ◌<◌, ℕ, Bool, true, false, List, take, length, get_or, slice_set, Option, None, Result, Ok, Err}
+use Rattle.std.specs.Prelude.{OnOk, OnErr}
 use Rattle.std.specs.List.{list_any}
 use Rattle.std.proofs.Common.{refl, sym, ap, ◌∙◌, subst}
 use Rattle.std.proofs.lemmas.Bool.Decides.{Decides-eqb}
 use Rattle.std.proofs.lemmas.List.{get_or-set_same, get_or-set_other}
 use Rattle.std.proofs.lemmas.List.Folds.{list_any_more}
 use Rattle.jl_types.specs.declared.link.Link.{Link}
-use Rattle.jl_types.specs.History.{installed}
+use Rattle.jl_types.specs.Happenings.History.{installed}
 use Rattle.jl_core.specs.State.{State, events}
-use Rattle.jl_host.specs.Behind.{IsNow}
+use Rattle.jl_host.specs.Means.Behind.{IsNow}
 
 module _ (core : State) (links : List (Option Link)) (n : ℕ) (x : Option Link) (few : n < length links) (is : x ≡ installed (events core) n) where
   pub is_set : IsNow core (slice_set links n x) n
@@ -36,7 +37,8 @@ either : (a b : Bool) → (a || b) ≡ true → {P : Type 0} → (a ≡ true →
 either true b e f g = f refl
 either false b e f g = g e
 
-pub one_written : {A : Type 0} (core : State) (test : ℕ → A → Bool) (items : List A) (i : ℕ) (item : A) (old links new : List (Option Link)) → i < length items → item ≡ get_or items i item
+pub one_written : {A : Type 0} (core : State) (test : ℕ → A → Bool) (items : List A) (i : ℕ) (item : A) (old links new : List (Option Link)) → i < length items
+    → item ≡ get_or items i item
     → IsWritten core test (take i items) old links → length new ≡ 65536 → ((s : ℕ) → IsNow core links s → IsNow core new s)
     → ((s : ℕ) → s < 65536 → test s item ≡ true → IsNow core new s) → IsWritten core test (take (i + 1) items) old new
 one_written core test items i item old links new few at so_far all kept written = record {
@@ -53,7 +55,8 @@ at_site P k s e h = subst (λ n. n < 65536 → P n) ((Decides-eqb k s).0 e) h
 
 -- ---- a write that may fail
 
-pub kept_by : {E : Type 0} (core : State) (links new : List (Option Link)) (n : ℕ) (x : Option Link) (r : Result (Unit {0}) E) → n < length links → x ≡ installed (events core) n
+pub kept_by : {E : Type 0} (core : State) (links new : List (Option Link)) (n : ℕ) (x : Option Link) (r : Result (Unit {0}) E) → n < length links
+    → x ≡ installed (events core) n
     → OnOk r (new ≡ slice_set links n x) → OnErr r (new ≡ links) → (s : ℕ) → IsNow core links s → IsNow core new s
 kept_by core links new n x (Ok u) few is ok err s now = subst (λ xs. IsNow core xs s) (sym ok) (set_now core links n x few is s now)
 kept_by core links new n x (Err e) few is ok err s now = subst (λ xs. IsNow core xs s) (sym err) now

@@ -1,5 +1,6 @@
 -- That the links stay behind the core as it takes events, and are its links once the touched sites were written.
-use Rattle.std.specs.Prelude.{◌≡◌, ◌||◌, ◌<◌, ℕ, zero, suc, Bool, true, false, List, [], ◌∷◌, ◌++◌, map, drop, length, replicate, slice_get, Option, Some, None, option_map, is_some, Result, Ok, Err, ◌-◌}
+use Rattle.std.specs.Prelude.{◌≡◌, ◌||◌, ◌<◌, ℕ, zero, suc, Bool, true, false, List, [], ◌∷◌, ◌++◌, map, drop, length, replicate, slice_get, Option}
+use Rattle.std.specs.Prelude.{Some, None, option_map, is_some, Result, Ok, Err, ◌-◌}
 use Rattle.std.specs.Option.{option_map_or}
 use Rattle.std.specs.Prelude.{◌&&◌}
 use Rattle.std.specs.List.{list_any, range_with_len, cons_option}
@@ -9,23 +10,23 @@ use Rattle.std.proofs.lemmas.List.Folds.{list_any-append}
 use Rattle.std.proofs.lemmas.List.FromFn.{get_or-map-range_with_len, length-map-range_with_len}
 use Rattle.std.proofs.lemmas.Option.{same_Some}
 use Rattle.jl_types.specs.declared.link.Link.{Link}
-use Rattle.jl_types.specs.Event.{Event}
+use Rattle.jl_types.specs.Happenings.Event.{Event}
 use Rattle.jl_types.specs.declared.event.EventOf.TheVariants as event
 use Rattle.jl_types.specs.declared.event.Reply.{Reply}
 use Rattle.jl_types.specs.declared.refusal.Refusal.{Refusal}
-use Rattle.jl_types.specs.World.{Class}
-use Rattle.jl_types.specs.Events.{verdict}
-use Rattle.jl_types.specs.History.{world_after, installed, installs, dropped}
+use Rattle.jl_types.specs.Values.World.{Class}
+use Rattle.jl_types.specs.Happenings.Events.{verdict}
+use Rattle.jl_types.specs.Happenings.History.{world_after, installed, installs, dropped}
 use Rattle.jl_types.proofs.Places.{accepted_of}
 use Rattle.jl_types.proofs.Written.{unrequested}
 use Rattle.jl_core.specs.State.{State, empty_core, events, IsAccepted, IsApplied}
 use Rattle.jl_core.specs.Logs.{Accepted, event_of, told, are_told, shown}
 use Rattle.jl_core.specs.declared.log.Entry.{Entry}
-use Rattle.jl_core.specs.Touched.{has}
+use Rattle.jl_core.specs.Means.Touched.{has}
 use Rattle.jl_core.proofs.SlotLaws.{untouched}
 use Rattle.jl_core.proofs.LogLaws.{length_told}
 use Rattle.jl_host.specs.Linkers.{last_dropped}
-use Rattle.jl_host.specs.Behind.{touches, installs_at, touched_by, IsNow, IsBehind}
+use Rattle.jl_host.specs.Means.Behind.{touches, installs_at, touched_by, IsNow, IsBehind}
 
 both_false : (a b : Bool) → (a || b) ≡ false → (a ≡ false) × (b ≡ false)
 both_false false b e = (refl, e)
@@ -55,17 +56,20 @@ module _ (links : List (Option Link)) (n m : ℕ) (log : List (Event × Reply)) 
     reached = let le = is.reached in omega (arith, le, length-append log ((e, reply) ∷ []));
     same = λ s low quiet.
         let parts = both_false (list_any (touches s) (drop n log)) (list_any (touches s) ((e, reply) ∷ []))
-        (sym (ap (list_any (touches s)) (drop-append-le n log ((e, reply) ∷ []) is.reached) ∙ list_any-append (touches s) (drop n log) ((e, reply) ∷ [])) ∙ quiet) in
+        (sym (ap (list_any (touches s)) (drop-append-le n log ((e, reply) ∷ []) is.reached) ∙ list_any-append (touches s) (drop n log) ((e, reply) ∷ []))
+        ∙ quiet) in
         is.same s low parts.0 ∙ sym (stays s same (both_false (touches s (e, reply)) false parts.1).0);
   }
 
-pub accepted_behind : (links : List (Option Link)) (n : ℕ) (old new : State) (e : Event) (reply : Reply) → IsBehind links n old → IsAccepted old new e reply → IsBehind links n new
+pub accepted_behind : (links : List (Option Link)) (n : ℕ) (old new : State) (e : Event) (reply : Reply) → IsBehind links n old → IsAccepted old new e reply
+    → IsBehind links n new
 accepted_behind links n old new e reply is accepted =
     subst (IsBehind links n) (sym accepted.logged)
     (one_behind links n old.max_sites old.log e reply is
     (sym (accepted_of (dropped (events old) e) (verdict old.max_sites (world_after (events old)) e) reply accepted.answered).1))
 
-pub applied_behind : (links : List (Option Link)) (n : ℕ) (old new : State) (e : Event) (outcome : Result Reply Refusal) → IsBehind links n old → IsApplied old e outcome new → IsBehind links n new
+pub applied_behind : (links : List (Option Link)) (n : ℕ) (old new : State) (e : Event) (outcome : Result Reply Refusal) → IsBehind links n old
+    → IsApplied old e outcome new → IsBehind links n new
 applied_behind links n old new e (Ok reply) is applied = accepted_behind links n old new e reply is applied
 applied_behind links n old new e (Err r) is applied = subst (IsBehind links n) (sym applied.1) is
 
@@ -94,7 +98,8 @@ same_installs rows (event.Install links) e s is = ap (installs s) (same_Some (ev
 same_installs rows (event.Retire loader) e s is = ap (installs s) (same_Some (event.Retire loader) e is)
 
 module _ (rows : List Class) (s : ℕ) where
-  same_touch : (entry : Entry) (o : Option Event) → event_of rows entry.event ≡ o → (rest : List (Event × Reply)) → is_some {T = Event × Reply} (option_map (λ e. (e, entry.reply)) o) ≡ true
+  same_touch : (entry : Entry) (o : Option Event) → event_of rows entry.event ≡ o → (rest : List (Event × Reply))
+      → is_some {T = Event × Reply} (option_map (λ e. (e, entry.reply)) o) ≡ true
       → list_any (touches s) (cons_option (option_map (λ e. (e, entry.reply)) o) rest) ≡ (touched_by s entry || list_any (touches s) rest)
   same_touch entry None is rest e = cc
   same_touch entry (Some x) is rest e =
@@ -181,7 +186,8 @@ module _ (rows : List Class) where
 
 -- ---- a linker that was opened just now
 
-pub nothing_behind : (core : State) (max_sites : ℕ) (links : List (Option Link)) → core ≡ empty_core max_sites → links ≡ replicate 65536 None → IsBehind links 0 core
+pub nothing_behind : (core : State) (max_sites : ℕ) (links : List (Option Link)) → core ≡ empty_core max_sites → links ≡ replicate 65536 None
+    → IsBehind links 0 core
 nothing_behind core max_sites links is all =
     subst (IsBehind links 0) (sym is) (subst (λ xs. IsBehind xs 0 (empty_core max_sites)) (sym all) (record {
       all = length-replicate 65536 none;

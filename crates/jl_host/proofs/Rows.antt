@@ -26,7 +26,8 @@ use Rattle.jl_types.specs.declared.target.CallSiteKind.TheVariants.{Constant, Mu
 use Rattle.jl_host.specs.declared.told.Told.{Told}
 use Rattle.jl_host.specs.declared.shown.Row.{Row}
 use Rattle.jl_host.specs.Numbers.{done, memory, no_class_file, malformed, closed, open_already, too_short}
-use Rattle.jl_host.specs.Numbers.{status_of_refusal, define_number, call_site_number, delegate_number, not_linkable_number, status_of_unprepared, status_of_file, number_of}
+use Rattle.jl_host.specs.Numbers.{status_of_refusal, define_number, call_site_number, delegate_number, not_linkable_number, status_of_unprepared}
+use Rattle.jl_host.specs.Numbers.{status_of_file, number_of}
 use Rattle.jl_host.specs.Telling.{told_of_refusal, told_of_reply, told_of_unprepared, told_of_file}
 use Rattle.jl_host.specs.Showing.{recv_of, answer_shown, fast_shown, link_shown}
 use Rattle.jl_host.specs.Linkers.{kind_of}
@@ -36,25 +37,30 @@ use Rattle.jl_host.specs.Linkers.{kind_of}
 statuses : done ∷ memory ∷ no_class_file ∷ malformed ∷ closed ∷ open_already ∷ too_short ∷ [] ≡ 0 ∷ 15 ∷ 32 ∷ 33 ∷ 34 ∷ 35 ∷ 36 ∷ []
 statuses = refl
 
-refusals : map status_of_refusal (refusal.Define definition.Full ∷ refusal.UnknownClass ∷ refusal.NoSuchPlace ∷ refusal.NotLinkable ArrayReceiver ∷ refusal.SitesFull
-    ∷ refusal.CallSite site.Full ∷ refusal.NotDynamic ∷ refusal.AlreadyBound 0 ∷ refusal.TypeMismatch ∷ refusal.Stale 0 link.Mega ∷ refusal.NotReady 0 ∷ refusal.UnknownSite 0
+refusals : map status_of_refusal (refusal.Define definition.Full ∷ refusal.UnknownClass ∷ refusal.NoSuchPlace ∷ refusal.NotLinkable ArrayReceiver
+    ∷ refusal.SitesFull
+    ∷ refusal.CallSite site.Full ∷ refusal.NotDynamic ∷ refusal.AlreadyBound 0 ∷ refusal.TypeMismatch ∷ refusal.Stale 0 link.Mega ∷ refusal.NotReady 0
+    ∷ refusal.UnknownSite 0
     ∷ refusal.Repeated 0 ∷ refusal.BatchSize ∷ refusal.Memory ∷ refusal.Delegate delegation.NotRecorded ∷ refusal.LoadersFull
     ∷ refusal.Retire retirement.FirstLoader ∷ [])
     ≡ 1 ∷ 2 ∷ 3 ∷ 4 ∷ 5 ∷ 6 ∷ 7 ∷ 8 ∷ 9 ∷ 10 ∷ 11 ∷ 12 ∷ 13 ∷ 14 ∷ 15 ∷ 16 ∷ 17 ∷ 19 ∷ []
 refusals = refl
 
-unprepared : map status_of_unprepared (preparation.NotReady 0 ∷ preparation.UnknownSite 0 ∷ preparation.Repeated 0 ∷ preparation.BatchSize ∷ preparation.Memory ∷ [])
+unprepared : map status_of_unprepared (preparation.NotReady 0 ∷ preparation.UnknownSite 0 ∷ preparation.Repeated 0 ∷ preparation.BatchSize ∷ preparation.Memory
+    ∷ [])
     ≡ 11 ∷ 12 ∷ 13 ∷ 14 ∷ 15 ∷ []
 unprepared = refl
 
 -- ---- what stands in a refusal
 
-definitions : map define_number (definition.UnknownLoader ∷ definition.AlreadyRecorded ∷ definition.NamesItself ∷ definition.MissingParent [] ∷ definition.SuperIsInterface
+definitions : map define_number (definition.UnknownLoader ∷ definition.AlreadyRecorded ∷ definition.NamesItself ∷ definition.MissingParent []
+    ∷ definition.SuperIsInterface
     ∷ definition.FinalSuper ∷ definition.NotAnInterface [] ∷ definition.InaccessibleParent [] ∷ definition.SecondObject ∷ definition.Full ∷ [])
     ≡ 1 ∷ 2 ∷ 3 ∷ 4 ∷ 5 ∷ 6 ∷ 7 ∷ 8 ∷ 9 ∷ 10 ∷ []
 definitions = refl
 
-call_sites : map call_site_number (site.UnknownCallSite ∷ site.Constant ∷ site.WrongType ∷ site.UnknownMethod ∷ site.NotStatic ∷ site.UnknownSwitch ∷ site.TooDeep ∷ site.Full
+call_sites : map call_site_number (site.UnknownCallSite ∷ site.Constant ∷ site.WrongType ∷ site.UnknownMethod ∷ site.NotStatic ∷ site.UnknownSwitch
+    ∷ site.TooDeep ∷ site.Full
     ∷ site.InvokerOrder 7 ∷ [])
     ≡ 1 ∷ 2 ∷ 3 ∷ 4 ∷ 5 ∷ 6 ∷ 7 ∷ 8 ∷ 9 ∷ []
 call_sites = refl
@@ -77,19 +83,29 @@ abbrev five : Told → List ℕ
 five told = told.number ∷ told.fault ∷ told.place ∷ told.cause ∷ told.at ∷ []
 
 told_events : map five (told_of_reply (record { made = made.Class 7; dropped = 3 ∷ [] }) ∷ told_of_refusal (refusal.Define definition.FinalSuper)
-    ∷ told_of_refusal (refusal.NotLinkable PolymorphicSignature) ∷ told_of_refusal (refusal.CallSite site.TooDeep) ∷ told_of_refusal (refusal.Delegate delegation.AlreadyRecorded)
-    ∷ told_of_refusal (refusal.AlreadyBound 7) ∷ told_of_refusal (refusal.Stale 7 link.Mega) ∷ told_of_refusal (refusal.NotReady 7) ∷ told_of_refusal (refusal.UnknownSite 7)
-    ∷ told_of_refusal (refusal.Repeated 7) ∷ told_of_refusal refusal.SitesFull ∷ told_of_unprepared (preparation.NotReady 7) ∷ told_of_refusal (refusal.CallSite (site.InvokerOrder 7)) ∷ [])
-    ≡ (7 ∷ 0 ∷ 0 ∷ 0 ∷ 0 ∷ []) ∷ (0 ∷ 6 ∷ 0 ∷ 0 ∷ 0 ∷ []) ∷ (0 ∷ 2 ∷ 0 ∷ 0 ∷ 0 ∷ []) ∷ (0 ∷ 7 ∷ 0 ∷ 0 ∷ 0 ∷ []) ∷ (0 ∷ 3 ∷ 0 ∷ 0 ∷ 0 ∷ []) ∷ (0 ∷ 0 ∷ 7 ∷ 0 ∷ 0 ∷ [])
-    ∷ (0 ∷ 0 ∷ 7 ∷ 0 ∷ 0 ∷ []) ∷ (0 ∷ 0 ∷ 7 ∷ 0 ∷ 0 ∷ []) ∷ (0 ∷ 0 ∷ 7 ∷ 0 ∷ 0 ∷ []) ∷ (0 ∷ 0 ∷ 7 ∷ 0 ∷ 0 ∷ []) ∷ (0 ∷ 0 ∷ 0 ∷ 0 ∷ 0 ∷ []) ∷ (0 ∷ 0 ∷ 7 ∷ 0 ∷ 0 ∷ []) ∷ (0 ∷ 9 ∷ 7 ∷ 0 ∷ 0 ∷ []) ∷ []
+    ∷ told_of_refusal (refusal.NotLinkable PolymorphicSignature) ∷ told_of_refusal (refusal.CallSite site.TooDeep)
+    ∷ told_of_refusal (refusal.Delegate delegation.AlreadyRecorded)
+    ∷ told_of_refusal (refusal.AlreadyBound 7) ∷ told_of_refusal (refusal.Stale 7 link.Mega) ∷ told_of_refusal (refusal.NotReady 7)
+    ∷ told_of_refusal (refusal.UnknownSite 7)
+    ∷ told_of_refusal (refusal.Repeated 7) ∷ told_of_refusal refusal.SitesFull ∷ told_of_unprepared (preparation.NotReady 7)
+    ∷ told_of_refusal (refusal.CallSite (site.InvokerOrder 7)) ∷ [])
+    ≡ (7 ∷ 0 ∷ 0 ∷ 0 ∷ 0 ∷ []) ∷ (0 ∷ 6 ∷ 0 ∷ 0 ∷ 0 ∷ []) ∷ (0 ∷ 2 ∷ 0 ∷ 0 ∷ 0 ∷ []) ∷ (0 ∷ 7 ∷ 0 ∷ 0 ∷ 0 ∷ []) ∷ (0 ∷ 3 ∷ 0 ∷ 0 ∷ 0 ∷ [])
+    ∷ (0 ∷ 0 ∷ 7 ∷ 0 ∷ 0 ∷ [])
+    ∷ (0 ∷ 0 ∷ 7 ∷ 0 ∷ 0 ∷ []) ∷ (0 ∷ 0 ∷ 7 ∷ 0 ∷ 0 ∷ []) ∷ (0 ∷ 0 ∷ 7 ∷ 0 ∷ 0 ∷ []) ∷ (0 ∷ 0 ∷ 7 ∷ 0 ∷ 0 ∷ []) ∷ (0 ∷ 0 ∷ 0 ∷ 0 ∷ 0 ∷ [])
+    ∷ (0 ∷ 0 ∷ 7 ∷ 0 ∷ 0 ∷ []) ∷ (0 ∷ 9 ∷ 7 ∷ 0 ∷ 0 ∷ []) ∷ []
 told_events = refl
 
-told_files : map (λ f. five (told_of_file f)) (file.TooLarge ∷ file.BadMagic ∷ file.BadVersion ∷ file.Truncated ∷ file.Pool pool.Truncated ∷ file.Pool (pool.BadTag 9)
-    ∷ file.Pool (pool.BadIndex 9) ∷ file.Pool (pool.BadUtf8 9) ∷ file.Pool (pool.BadDescriptor 9) ∷ file.ModuleFile ∷ file.BadSuper ∷ file.DuplicateMethod 9 ∷ file.TwoCodes 9
-    ∷ file.Code 9 (code.BadOpcode 8) ∷ file.Code 9 (code.CutShort 8) ∷ file.Code 9 (code.BadSwitch 8) ∷ file.Code 9 (code.BadOperand 8) ∷ file.Code 9 code.BadLayout
+told_files : map (λ f. five (told_of_file f)) (file.TooLarge ∷ file.BadMagic ∷ file.BadVersion ∷ file.Truncated ∷ file.Pool pool.Truncated
+    ∷ file.Pool (pool.BadTag 9)
+    ∷ file.Pool (pool.BadIndex 9) ∷ file.Pool (pool.BadUtf8 9) ∷ file.Pool (pool.BadDescriptor 9) ∷ file.ModuleFile ∷ file.BadSuper ∷ file.DuplicateMethod 9
+    ∷ file.TwoCodes 9
+    ∷ file.Code 9 (code.BadOpcode 8) ∷ file.Code 9 (code.CutShort 8) ∷ file.Code 9 (code.BadSwitch 8) ∷ file.Code 9 (code.BadOperand 8)
+    ∷ file.Code 9 code.BadLayout
     ∷ file.TrailingBytes ∷ file.BadMember 9 ∷ file.BadLink 9 ∷ file.BadNest ∷ [])
-    ≡ (0 ∷ 1 ∷ 0 ∷ 0 ∷ 0 ∷ []) ∷ (0 ∷ 2 ∷ 0 ∷ 0 ∷ 0 ∷ []) ∷ (0 ∷ 3 ∷ 0 ∷ 0 ∷ 0 ∷ []) ∷ (0 ∷ 4 ∷ 0 ∷ 0 ∷ 0 ∷ []) ∷ (0 ∷ 5 ∷ 0 ∷ 1 ∷ 0 ∷ []) ∷ (0 ∷ 5 ∷ 9 ∷ 2 ∷ 0 ∷ [])
-    ∷ (0 ∷ 5 ∷ 9 ∷ 3 ∷ 0 ∷ []) ∷ (0 ∷ 5 ∷ 9 ∷ 4 ∷ 0 ∷ []) ∷ (0 ∷ 5 ∷ 9 ∷ 5 ∷ 0 ∷ []) ∷ (0 ∷ 6 ∷ 0 ∷ 0 ∷ 0 ∷ []) ∷ (0 ∷ 7 ∷ 0 ∷ 0 ∷ 0 ∷ []) ∷ (0 ∷ 8 ∷ 9 ∷ 0 ∷ 0 ∷ []) ∷ (0 ∷ 9 ∷ 9 ∷ 0 ∷ 0 ∷ [])
+    ≡ (0 ∷ 1 ∷ 0 ∷ 0 ∷ 0 ∷ []) ∷ (0 ∷ 2 ∷ 0 ∷ 0 ∷ 0 ∷ []) ∷ (0 ∷ 3 ∷ 0 ∷ 0 ∷ 0 ∷ []) ∷ (0 ∷ 4 ∷ 0 ∷ 0 ∷ 0 ∷ []) ∷ (0 ∷ 5 ∷ 0 ∷ 1 ∷ 0 ∷ [])
+    ∷ (0 ∷ 5 ∷ 9 ∷ 2 ∷ 0 ∷ [])
+    ∷ (0 ∷ 5 ∷ 9 ∷ 3 ∷ 0 ∷ []) ∷ (0 ∷ 5 ∷ 9 ∷ 4 ∷ 0 ∷ []) ∷ (0 ∷ 5 ∷ 9 ∷ 5 ∷ 0 ∷ []) ∷ (0 ∷ 6 ∷ 0 ∷ 0 ∷ 0 ∷ []) ∷ (0 ∷ 7 ∷ 0 ∷ 0 ∷ 0 ∷ [])
+    ∷ (0 ∷ 8 ∷ 9 ∷ 0 ∷ 0 ∷ []) ∷ (0 ∷ 9 ∷ 9 ∷ 0 ∷ 0 ∷ [])
     ∷ (0 ∷ 10 ∷ 9 ∷ 1 ∷ 8 ∷ []) ∷ (0 ∷ 10 ∷ 9 ∷ 2 ∷ 8 ∷ []) ∷ (0 ∷ 10 ∷ 9 ∷ 3 ∷ 8 ∷ []) ∷ (0 ∷ 10 ∷ 9 ∷ 4 ∷ 8 ∷ []) ∷ (0 ∷ 10 ∷ 9 ∷ 5 ∷ 0 ∷ [])
     ∷ (0 ∷ 11 ∷ 0 ∷ 0 ∷ 0 ∷ []) ∷ (0 ∷ 12 ∷ 9 ∷ 0 ∷ 0 ∷ []) ∷ (0 ∷ 13 ∷ 9 ∷ 0 ∷ 0 ∷ []) ∷ (0 ∷ 14 ∷ 0 ∷ 0 ∷ 0 ∷ []) ∷ []
 told_files = refl
@@ -107,9 +123,11 @@ m = record { class = 5; index = 6 }
 
 answers : map (λ a. let shown = answer_shown a in shown.kind ∷ shown.class_number ∷ shown.value ∷ []) (answer.Run m ∷ answer.Throws throwable.NoSuchMethodError
     ∷ answer.Throws throwable.IllegalAccessError ∷ answer.Throws throwable.IncompatibleClassChangeError ∷ answer.Throws throwable.AbstractMethodError
-    ∷ answer.Throws throwable.NullPointerException ∷ answer.BadReceiver ∷ answer.Unlinked (unlinked.NotReady Named) ∷ answer.Unlinked (unlinked.NotReady CallerHost)
+    ∷ answer.Throws throwable.NullPointerException ∷ answer.BadReceiver ∷ answer.Unlinked (unlinked.NotReady Named)
+    ∷ answer.Unlinked (unlinked.NotReady CallerHost)
     ∷ answer.Unlinked (unlinked.NotReady MethodHost) ∷ answer.Unlinked unlinked.Unbound ∷ answer.Unlinked unlinked.Gone ∷ answer.Unlinked unlinked.NoSite ∷ [])
-    ≡ (0 ∷ 5 ∷ 6 ∷ []) ∷ (1 ∷ 0 ∷ 1 ∷ []) ∷ (1 ∷ 0 ∷ 2 ∷ []) ∷ (1 ∷ 0 ∷ 3 ∷ []) ∷ (1 ∷ 0 ∷ 4 ∷ []) ∷ (1 ∷ 0 ∷ 5 ∷ []) ∷ (2 ∷ 0 ∷ 0 ∷ []) ∷ (3 ∷ 0 ∷ 1 ∷ []) ∷ (3 ∷ 0 ∷ 2 ∷ [])
+    ≡ (0 ∷ 5 ∷ 6 ∷ []) ∷ (1 ∷ 0 ∷ 1 ∷ []) ∷ (1 ∷ 0 ∷ 2 ∷ []) ∷ (1 ∷ 0 ∷ 3 ∷ []) ∷ (1 ∷ 0 ∷ 4 ∷ []) ∷ (1 ∷ 0 ∷ 5 ∷ []) ∷ (2 ∷ 0 ∷ 0 ∷ []) ∷ (3 ∷ 0 ∷ 1 ∷ [])
+    ∷ (3 ∷ 0 ∷ 2 ∷ [])
     ∷ (3 ∷ 0 ∷ 3 ∷ []) ∷ (3 ∷ 0 ∷ 4 ∷ []) ∷ (3 ∷ 0 ∷ 5 ∷ []) ∷ (3 ∷ 0 ∷ 6 ∷ []) ∷ []
 answers = refl
 
@@ -119,7 +137,8 @@ at_once = refl
 abbrev nothing : Row
 nothing = record { receiver = 0; kind = 0; class_number = 0; value = 0 }
 
-links : map (λ l. let shown = link_shown l in shown.kind ∷ shown.count ∷ []) (None ∷ Some (link.Fault throwable.IllegalAccessError) ∷ Some (link.Plain m) ∷ Some (link.Direct (Run m))
+links : map (λ l. let shown = link_shown l in shown.kind ∷ shown.count ∷ []) (None ∷ Some (link.Fault throwable.IllegalAccessError) ∷ Some (link.Plain m)
+    ∷ Some (link.Direct (Run m))
     ∷ Some (link.Table Virtual []) ∷ Some (link.Table Interface ((3, Run m) ∷ (4, Run m) ∷ [])) ∷ Some link.Mega ∷ [])
     ≡ (0 ∷ 0 ∷ []) ∷ (1 ∷ 1 ∷ []) ∷ (2 ∷ 1 ∷ []) ∷ (3 ∷ 1 ∷ []) ∷ (4 ∷ 0 ∷ []) ∷ (5 ∷ 2 ∷ []) ∷ (6 ∷ 0 ∷ []) ∷ []
 links = refl
@@ -129,7 +148,8 @@ table_rows : (link_shown (Some (link.Table Virtual ((3, Run m) ∷ (4, Throws th
     ∷ nothing ∷ nothing ∷ nothing ∷ nothing ∷ nothing ∷ nothing ∷ []
 table_rows = refl
 
-single_rows : map (λ l. (link_shown l).rows) (Some (link.Fault throwable.IllegalAccessError) ∷ Some (link.Plain m) ∷ Some (link.Direct (Throws throwable.NullPointerException)) ∷ [])
+single_rows : map (λ l. (link_shown l).rows) (Some (link.Fault throwable.IllegalAccessError) ∷ Some (link.Plain m)
+    ∷ Some (link.Direct (Throws throwable.NullPointerException)) ∷ [])
     ≡ (record { receiver = 0; kind = 1; class_number = 0; value = 2 } ∷ replicate 7 nothing)
     ∷ (record { receiver = 0; kind = 0; class_number = 5; value = 6 } ∷ replicate 7 nothing)
     ∷ (record { receiver = 0; kind = 1; class_number = 0; value = 5 } ∷ replicate 7 nothing) ∷ []

@@ -5,16 +5,17 @@ use Rattle.std.proofs.lemmas.Option.{unwrap_or-slice_get}
 use Rattle.jl_types.specs.declared.link.Link.{Link}
 use Rattle.jl_types.specs.declared.answer.Recv.{Recv}
 use Rattle.jl_types.specs.declared.answer.Fast.TheVariants.{Miss}
-use Rattle.jl_types.specs.Fast.{fast_answer}
+use Rattle.jl_types.specs.Happenings.Fast.{fast_answer}
 use Rattle.jl_host.specs.Numbers.{memory}
 use Rattle.jl_host.specs.Linkers.{Opened}
-use Rattle.jl_host.specs.Seats.{Seen, IsRefresh}
+use Rattle.jl_host.specs.Seats.{SeatView, IsRefresh}
 
-pub unrefreshed : (had : Option Seen) (linker : Option Opened) (opened : Opened) (new : Option Opened) → linker ≡ Some opened → new ≡ linker → IsRefresh had linker memory had new
+pub unrefreshed : (had : Option SeatView) (linker : Option Opened) (opened : Opened) (new : Option Opened) → linker ≡ Some opened → new ≡ linker
+    → IsRefresh had linker memory had new
 unrefreshed had linker opened new is same =
     subst (λ old. IsRefresh had old memory had new) (sym is) (same ∙ is, inr (refl, refl))
 
-pub no_slot : (seen : Seen) (s : ℕ) (recv : Recv) → slice_get seen.links s ≡ None → Miss ≡ fast_answer (get_or seen.links s None) seen.classes recv
+pub no_slot : (seen : SeatView) (s : ℕ) (recv : Recv) → slice_get seen.links s ≡ None → Miss ≡ fast_answer (get_or seen.links s None) seen.classes recv
 no_slot seen s recv e =
     ap (λ (o : Option (Option Link)). fast_answer (unwrap_or o None) seen.classes recv) (sym e)
     ∙ ap (λ (o : Option Link). fast_answer o seen.classes recv) (unwrap_or-slice_get seen.links s None)

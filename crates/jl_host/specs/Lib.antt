@@ -5,4 +5,4 @@ pub mod Showing
 pub mod Copies
 pub mod Linkers
 pub mod Seats
-pub mod Behind
+pub mod Means

@@ -2,8 +2,8 @@
 use Rattle.std.specs.Prelude.{◌≡◌, ◌⊎◌, ℕ, List, map, length, get_or, Option, Some, None}
 use Rattle.std.specs.List.{range_with_len}
 use Rattle.jl_types.specs.declared.link.Link.{Link}
-use Rattle.jl_types.specs.Fast.{fast_answer}
-use Rattle.jl_types.specs.History.{installed}
+use Rattle.jl_types.specs.Happenings.Fast.{fast_answer}
+use Rattle.jl_types.specs.Happenings.History.{installed}
 use Rattle.jl_core.specs.State.{State, events, world_of}
 use Rattle.jl_host.specs.declared.shown.CallAnswer.{CallAnswer}
 use Rattle.jl_host.specs.Numbers.{done, memory, closed}
@@ -11,24 +11,24 @@ use Rattle.jl_host.specs.Showing.{recv_of, fast_shown}
 use Rattle.jl_host.specs.Linkers.{Opened}
 
 -- the installed link of each of the 65,536 sites that there may be, or none, and how many classes there were
-pub record Seen : Type 0 where
+pub record SeatView : Type 0 where
   pub links : List (Option Link)
   pub classes : ℕ
 
-abbrev pub seen_of : State → Seen
+abbrev pub seen_of : State → SeatView
 seen_of core = record {
   links = map (installed (events core)) (range_with_len 0 65536);
   classes = length (world_of core).classes.rows;
 }
 
 -- The linker isn't open; or the seat has its links as they are now, or what it had before where memory lacked. The linker stays.
-abbrev pub IsRefresh : Option Seen → Option Opened → ℕ → Option Seen → Option Opened → Type 0
+abbrev pub IsRefresh : Option SeatView → Option Opened → ℕ → Option SeatView → Option Opened → Type 0
 IsRefresh had None status has new = (status ≡ closed) × (has ≡ had) × (new ≡ None)
 IsRefresh had (Some old) status has new =
     (new ≡ Some old) × (((status ≡ done) × (has ≡ Some (seen_of old.session.core))) ⊎ ((status ≡ memory) × (has ≡ had)))
 
 -- The seat was never refreshed, and nothing was written; or the answer at once of what was seen then is.
-abbrev pub IsSeatCall : ℕ → ℕ → Option Seen → CallAnswer → ℕ → CallAnswer → Option Seen → Type 0
+abbrev pub IsSeatCall : ℕ → ℕ → Option SeatView → CallAnswer → ℕ → CallAnswer → Option SeatView → Type 0
 IsSeatCall site receiver None before status after new = (status ≡ closed) × (after ≡ before) × (new ≡ None)
 IsSeatCall site receiver (Some seen) before status after new =
     (status ≡ done) × (after ≡ fast_shown (fast_answer (get_or seen.links site None) seen.classes (recv_of receiver)))

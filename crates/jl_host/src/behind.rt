@@ -2,8 +2,8 @@
 
 ghost use Rattle.std.specs.Prelude.{◌≡◌, ◌<◌, ◌≤◌, ◌==◌, ℕ, true, length, drop, replicate, slice_set, None, IfOk, OnOk, OnErr};
 ghost use Rattle.std.specs.List.{list_any};
-ghost use Rattle.jl_core.specs.Touched.{has};
-ghost use Rattle.jl_host.specs.Behind.{IsNow, IsBehind, installs_at, touched_by};
+ghost use Rattle.jl_core.specs.Means.Touched.{has};
+ghost use Rattle.jl_host.specs.Means.Behind.{IsNow, IsBehind, installs_at, touched_by};
 
 use jl_core::{Accepted, Core, Entry};
 use jl_slots::Slots;

@@ -18,7 +18,7 @@ mod opened;
 
 // Places to read.
 mod seat;
-mod seen;
+mod seat_view;
 
 pub use linker::Linker;
 pub use seat::Seat;

@@ -3,11 +3,12 @@
 ghost use Rattle.std.specs.Prelude.{◌≡◌, Some, None, option_map, IfOk, OnErr};
 ghost use Rattle.jl_host.specs.Seats.{seen_of};
 ghost use Rattle.jl_host.specs.Linkers.{IsOpen, IsNewLoader, IsDefine, IsDelegate, IsRequest, IsNewCallSite, IsSetTarget, IsNewSwitch, IsInvalidate};
-ghost use Rattle.jl_host.specs.Linkers.{IsBind, IsRetire, IsInstall, IsDropped, IsTake, IsCall, IsLinkOf, IsAnswer, kind_of, IfOpen, IsAsked, Opened as OpenedValue};
+ghost use Rattle.jl_host.specs.Linkers.{IsBind, IsRetire, IsInstall, IsDropped, IsTake, IsCall, IsLinkOf, IsAnswer, kind_of, IfOpen, IsAsked};
+ghost use Rattle.jl_host.specs.Linkers.{Opened as OpenedValue};
 
 use crate::arrays::{copy_sites, copy_text, sites_of, switches_of};
 use crate::opened::Opened;
-use crate::seen::Seen;
+use crate::seat_view::SeatView;
 use crate::shown::{CallAnswer, LinkShown, answer_shown, link_shown, recv_of};
 use crate::told::{CLOSED, DONE, MALFORMED, MEMORY, OPEN_ALREADY, Told, unasked};
 use jl_names::{Name, Seq};
@@ -284,7 +285,7 @@ impl Linker {
     }
 
     /// Its links as they are now, and how many classes there are, where it is open. Want of memory is an error.
-    pub(crate) fn seen(&mut self, alloc: Global) -> Result<Option<Seen>, AllocError>
+    pub(crate) fn seen(&mut self, alloc: Global) -> Result<Option<SeatView>, AllocError>
         ensures same { self.new ≡ self.old }
         ensures seen { IfOk result (λ seen. seen ≡ option_map (λ opened. seen_of opened.session.core) self.old) }
         ensures open { OnErr result ((opened : OpenedValue) × (self.old ≡ Some opened)) }

@@ -6,7 +6,7 @@ ghost use Rattle.jl_host.specs.Linkers.{newly_opened, IsAsked, IsAskedIf, IsUnas
 ghost use Rattle.jl_host.specs.Seats.{seen_of};
 
 use crate::behind::{Links, follow, no_links};
-use crate::seen::Seen;
+use crate::seat_view::SeatView;
 use crate::told::{DONE, MALFORMED, MEMORY, Told, tell, tell_file, tell_unprepared, unasked};
 use jl_classfile::read_class;
 use jl_core::Core;
@@ -44,7 +44,7 @@ impl Model for Opened {
     ghost use Rattle.std.specs.Coded.{codes};
     ghost use Rattle.jl_types.specs.Means.TargetCode.{target_code};
     ghost use Rattle.jl_host.specs.Linkers.{Opened};
-    ghost use Rattle.jl_host.specs.Behind.{IsBehind};
+    ghost use Rattle.jl_host.specs.Means.Behind.{IsBehind};
 
     ghost Value = { Opened };
 
@@ -169,13 +169,13 @@ impl Opened {
     }
 
     /// The links as they are now, and how many classes there are. Want of memory is an error.
-    pub(crate) fn seen(&mut self, alloc: Global) -> Result<Seen, AllocError>
+    pub(crate) fn seen(&mut self, alloc: Global) -> Result<SeatView, AllocError>
         ensures same { self.new ≡ self.old }
         ensures seen { IfOk result (λ seen. seen ≡ seen_of self.old.session.core) }
     {
         let reached = follow(&mut self.links, self.session.core(), self.reached)?;
         self.reached = reached;
         let links = Arc::try_clone(&self.links)?;
-        Ok(Seen::new(links, self.session.core().class_count()))
+        Ok(SeatView::new(links, self.session.core().class_count()))
     }
 }

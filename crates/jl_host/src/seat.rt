@@ -4,7 +4,7 @@ ghost use Rattle.std.specs.Prelude.{◌≡◌, None};
 ghost use Rattle.jl_host.specs.Seats.{IsRefresh, IsSeatCall};
 
 use crate::linker::Linker;
-use crate::seen::Seen;
+use crate::seat_view::SeatView;
 use crate::shown::{CallAnswer, fast_shown, recv_of};
 use crate::told::{CLOSED, DONE, MEMORY};
 use jl_types::SiteNo;
@@ -13,7 +13,7 @@ use std::marker::Model;
 
 /// Links as they were at the last refresh, or none. A clause sees what was seen.
 pub struct Seat {
-    seen: Option<Seen>,
+    seen: Option<SeatView>,
 }
 
 // Written out, since a derived drop is proved anew in each crate that lets one go.
@@ -25,9 +25,9 @@ impl Drop for Seat {
 
 impl Model for Seat {
     ghost use Rattle.std.specs.Prelude.{Option};
-    ghost use Rattle.jl_host.specs.Seats.{Seen};
+    ghost use Rattle.jl_host.specs.Seats.{SeatView};
 
-    ghost Value = { Option Seen };
+    ghost Value = { Option SeatView };
 
     ghost view = { λ s. s.seen };
 }

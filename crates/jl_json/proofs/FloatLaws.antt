@@ -41,7 +41,7 @@ parts_floats reason None (Some i) = refl
 parts_floats reason (Some n) None = refl
 parts_floats reason (Some n) (Some i) = refl
 
-pub refusal_floats : (r : plain.Refusal) → has_float (refusal_of r) ≡ false
+pub refusal_floats : (r : plain.FileRefusal) → has_float (refusal_of r) ≡ false
 refusal_floats r = parts_floats r.reason r.place r.method
 
 -- ---- outcomes and links

@@ -16,9 +16,9 @@ use Rattle.jl_types.specs.declared.event.EventOf.TheVariants.{NewLoader, Define,
 use Rattle.jl_types.specs.declared.event.EventOf.TheVariants.{NewCallSite, SetTarget, NewSwitch, Invalidate, Bind}
 use Rattle.jl_types.specs.declared.target.CallSiteKind.{CallSiteKind}
 use Rattle.jl_types.specs.declared.target.CallSiteKind.TheVariants.{Constant, Mutable, Volatile}
-use Rattle.jl_types.specs.Target.{Target, Method, Guard, Invoker}
+use Rattle.jl_types.specs.Values.Target.{Target, Method, Guard, Invoker}
 use Rattle.jl_names.specs.MethodTypes.{IsMethodDescriptor}
-use Rattle.jl_pool.specs.Reading.Forms.{method_slots}
+use Rattle.jl_pool.specs.Means.Forms.{method_slots}
 use Rattle.jl_pool.proofs.FormLaws.{SlotsAre, method_slots-is}
 use Rattle.jl_json.specs.declared.command.Command.{Command}
 use Rattle.jl_json.specs.declared.command.Command.TheVariants.{Apply, Prepare, Call, Links}

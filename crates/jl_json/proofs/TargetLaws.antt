@@ -17,7 +17,7 @@ use Rattle.serde_json.specs.Find.{get, get_member, as_array, as_object}
 use Rattle.serde_json.specs.View.{items_view}
 use Rattle.serde_json.specs.declared.value.Value.{Value}
 use Rattle.jl_types.specs.declared.ids.MethodId.{MethodId}
-use Rattle.jl_types.specs.Target.{Target, Method, Guard, Invoker}
+use Rattle.jl_types.specs.Values.Target.{Target, Method, Guard, Invoker}
 use Rattle.jl_json.specs.Members.{number_at, member_count, member_keys, keys_of, AreAmong, ◌>>=◌}
 use Rattle.jl_json.specs.Targets.{method_pair, method_at, guard, method_or_invoker, object_target, target_in, target_under, target_at}
 use Rattle.jl_json.specs.CommandForms.{target_data}

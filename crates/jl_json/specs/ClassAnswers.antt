@@ -3,15 +3,15 @@ use Rattle.std.specs.Prelude.{◌≡◌, ℕ, List, map, codes}
 use Rattle.serde_json.specs.Data.{Data, number, unsigned, string, array, object, no_members, member}
 use Rattle.serde_json.specs.View.{items_of}
 use Rattle.serde_json.specs.Written.{compact_text}
-use Rattle.jl_classfile.specs.Class.{ClassFile, Method}
+use Rattle.jl_class.specs.Class.{ClassFile, Method}
 use Rattle.jl_pool.specs.declared.reference.Reference.{Reference}
 use Rattle.jl_pool.specs.declared.reference.CallSiteSpecifier.{CallSiteSpecifier}
-use Rattle.jl_code.specs.declared.site.Kind.{Kind}
-use Rattle.jl_code.specs.declared.site.Kind.TheVariants.{Virtual, Special, Static}
-use Rattle.jl_code.specs.declared.site.Kind.TheVariants.{Interface, Dynamic}
-use Rattle.jl_code.specs.declared.site.Operand.{Operand}
-use Rattle.jl_code.specs.declared.site.Operand.TheVariants as operand
-use Rattle.jl_code.specs.Site.{Site}
+use Rattle.jl_class.specs.declared.site.Kind.{Kind}
+use Rattle.jl_class.specs.declared.site.Kind.TheVariants.{Virtual, Special, Static}
+use Rattle.jl_class.specs.declared.site.Kind.TheVariants.{Interface, Dynamic}
+use Rattle.jl_class.specs.declared.site.Operand.{Operand}
+use Rattle.jl_class.specs.declared.site.Operand.TheVariants as operand
+use Rattle.jl_class.specs.Site.{Site}
 use Rattle.jl_json.specs.Names.{SpellsNames}
 
 abbrev pub number_data : ℕ → Data

@@ -11,5 +11,4 @@ pub mod SketchForms
 pub mod Targets
 pub mod Commands
 pub mod CommandForms
-pub mod NameReading
-pub mod Written
+pub mod Means

@@ -101,22 +101,22 @@ sketch_method _ = None
 
 -- ---- refusals
 
-pub record Refusal : Type 0 where
+pub record FileRefusal : Type 0 where
   pub reason : List ℕ
   pub place : Option ℕ
   pub method : Option ℕ
 
-abbrev pub pool_refusal : PoolFault → Refusal
+abbrev pub pool_refusal : PoolFault → FileRefusal
 pool_refusal f = record { reason = pool_reason f; place = pool_place f; method = None }
 
-abbrev pub code_refusal : CodeFault → Refusal
+abbrev pub code_refusal : CodeFault → FileRefusal
 code_refusal f = record { reason = code_reason f; place = code_place f; method = None }
 
-abbrev pub class_refusal : ClassFault → Refusal
+abbrev pub class_refusal : ClassFault → FileRefusal
 class_refusal f = record { reason = class_reason f; place = class_place f; method = class_method f }
 
 -- that of a sketch whose bytes would be refused is theirs
-abbrev pub sketch_refusal : SketchFault → Refusal
+abbrev pub sketch_refusal : SketchFault → FileRefusal
 sketch_refusal f = record { reason = sketch_reason f; place = sketch_place f; method = sketch_method f }
 
 -- ---- the answer
@@ -126,7 +126,7 @@ abbrev pub with_number : List ℕ → Option ℕ → Members → Members
 with_number key None members = members
 with_number key (Some n) members = put key (number (unsigned n)) members
 
-unfoldable pub refusal_of : Refusal → Data
+unfoldable pub refusal_of : FileRefusal → Data
 refusal_of r =
     object (with_number (codes "at") r.place (with_number (codes "method") r.method
     (member (codes "refused") (string r.reason) no_members)))

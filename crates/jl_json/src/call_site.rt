@@ -12,7 +12,7 @@ ghost use Rattle.jl_json.specs.declared.command.Command.TheVariants.{Apply};
 ghost use Rattle.jl_names.specs.MethodTypes.{IsMethodDescriptor};
 ghost use Rattle.jl_types.specs.declared.event.EventOf.TheVariants.{NewCallSite};
 ghost use Rattle.jl_types.specs.declared.target.CallSiteKind.{CallSiteKind};
-ghost use Rattle.jl_types.specs.Target.{Target};
+ghost use Rattle.jl_types.specs.Values.Target.{Target};
 
 use crate::command::{AskedEvent, number_at, number_in, text_at};
 use crate::from_json::{FromJson, list_at};

@@ -3,15 +3,14 @@
 ghost use Rattle.std.specs.Prelude.{◌≡◌, ◌++◌, List, ℕ, map, OnOk, OnErr};
 ghost use Rattle.serde_json.specs.Data.{array};
 ghost use Rattle.serde_json.specs.View.{items_of};
-ghost use Rattle.jl_json.specs.NameReading.{name_text};
+ghost use Rattle.jl_json.specs.Means.NameReading.{name_text};
 ghost use Rattle.jl_json.specs.ClassAnswers.{instruction_name, call_data, call_site_data};
 ghost use Rattle.jl_json.specs.ClassAnswers.{name_data, number_data, site_data, method_data, class_data};
 ghost use Rattle.jl_json.specs.ClassAnswers.{IsClassText};
-ghost use Rattle.jl_json.specs.Written.{PutsValue};
+ghost use Rattle.jl_json.specs.Means.Written.{PutsValue};
 
 use crate::text::{plain_text, text_of};
-use jl_classfile::{ClassFile, Method, Methods};
-use jl_code::{Kind, Operand, Site, Sites};
+use jl_class::{ClassFile, Kind, Method, Methods, Operand, Site, Sites};
 use jl_names::LentName;
 use jl_pool::{CallSiteSpecifier, Reference};
 use json::Writer;

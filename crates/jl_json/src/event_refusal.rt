@@ -2,8 +2,9 @@
 
 ghost use Rattle.std.specs.Prelude.{◌≡◌, IfOk};
 ghost use Rattle.serde_json.specs.View.{view};
-ghost use Rattle.jl_json.specs.NameReading.{name_text};
-ghost use Rattle.jl_json.specs.EventRefusals.{refused, refused_at, refused_bound, refused_for, refused_name, delegate_name, call_site_refusal_data, not_linkable_name, define_refusal_data, refused_class, refused_loader, retire_refusal_data};
+ghost use Rattle.jl_json.specs.Means.NameReading.{name_text};
+ghost use Rattle.jl_json.specs.EventRefusals.{refused, refused_at, refused_bound, refused_for, refused_name, delegate_name, call_site_refusal_data};
+ghost use Rattle.jl_json.specs.EventRefusals.{not_linkable_name, define_refusal_data, refused_class, refused_loader, retire_refusal_data};
 ghost use Rattle.jl_json.specs.EventRefusals.{event_refusal_data, IsRefusalData};
 ghost use Rattle.jl_json.specs.EventRefusals.{prepare_refusal_data};
 

@@ -34,7 +34,7 @@ pub use command::{
 };
 pub use event_refusal::{event_refusal_value, prepare_refusal_value};
 pub use link_answer::{farm_value, link_value, links_value, outcome_value, prepared_value};
-pub use refusal::Refusal;
+pub use refusal::FileRefusal;
 pub use reply::reply_value;
 pub use sketch::{each_sketch_is_read, no_other_sketch_keys, read_sketch};
 pub use target::{each_target_is_read, no_other_target_keys, target_in};

@@ -16,26 +16,26 @@ use std::marker::Model;
 /// An answer that refuses: the name of the reason, the place that it is about, and the method, by
 /// its index.
 #[derive(Debug, Drop)]
-pub struct Refusal {
+pub struct FileRefusal {
     reason: &'static str,
     place: Option<u32>,
     method: Option<u32>,
 }
 
-impl Model for Refusal {
+impl Model for FileRefusal {
     ghost use Rattle.jl_json.specs.Refusals as plain;
 
-    ghost Value = { plain.Refusal };
+    ghost Value = { plain.FileRefusal };
 
     ghost view = { λ r. record { reason = r.reason.now; place = r.place; method = r.method } };
 }
 
-impl Refusal {
+impl FileRefusal {
     /// A reason alone.
     fn of(reason: &'static str) -> Self
         ensures { result ≡ record { reason = reason.now; place = None; method = None } }
     {
-        Refusal {
+        FileRefusal {
             reason,
             place: None,
             method: None,
@@ -46,9 +46,9 @@ impl Refusal {
     fn at(reason: &'static str, place: u32) -> Self
         ensures { result ≡ record { reason = reason.now; place = Some place; method = None } }
     {
-        Refusal {
+        FileRefusal {
             place: Some(place),
-            ..Refusal::of(reason)
+            ..FileRefusal::of(reason)
         }
     }
 
@@ -56,9 +56,9 @@ impl Refusal {
     fn in_method(reason: &'static str, method: u16) -> Self
         ensures { result ≡ record { reason = reason.now; place = None; method = Some method } }
     {
-        Refusal {
+        FileRefusal {
             method: Some(u32::from(method)),
-            ..Refusal::of(reason)
+            ..FileRefusal::of(reason)
         }
     }
 
@@ -96,73 +96,76 @@ fn put_number(
     }
 }
 
-impl From<PoolFault> for Refusal {
+impl From<PoolFault> for FileRefusal {
     ghost from_gives = { λ f r. r ≡ pool_refusal f };
 
-    fn from(fault: PoolFault) -> Refusal {
+    fn from(fault: PoolFault) -> FileRefusal {
         match fault {
-            PoolFault::Truncated => Refusal::of("Pool.Truncated"),
-            PoolFault::BadTag(entry) => Refusal::at("Pool.BadTag", u32::from(entry)),
-            PoolFault::BadIndex(entry) => Refusal::at("Pool.BadIndex", u32::from(entry)),
-            PoolFault::BadUtf8(entry) => Refusal::at("Pool.BadUtf8", u32::from(entry)),
-            PoolFault::BadDescriptor(entry) => Refusal::at("Pool.BadDescriptor", u32::from(entry)),
-            PoolFault::Memory => Refusal::of("Memory"),
+            PoolFault::Truncated => FileRefusal::of("Pool.Truncated"),
+            PoolFault::BadTag(entry) => FileRefusal::at("Pool.BadTag", u32::from(entry)),
+            PoolFault::BadIndex(entry) => FileRefusal::at("Pool.BadIndex", u32::from(entry)),
+            PoolFault::BadUtf8(entry) => FileRefusal::at("Pool.BadUtf8", u32::from(entry)),
+            PoolFault::BadDescriptor(entry) => FileRefusal::at(
+                "Pool.BadDescriptor",
+                u32::from(entry),
+            ),
+            PoolFault::Memory => FileRefusal::of("Memory"),
         }
     }
 }
 
-impl From<CodeFault> for Refusal {
+impl From<CodeFault> for FileRefusal {
     ghost from_gives = { λ f r. r ≡ code_refusal f };
 
-    fn from(fault: CodeFault) -> Refusal {
+    fn from(fault: CodeFault) -> FileRefusal {
         match fault {
-            CodeFault::BadOpcode(pc) => Refusal::at("Code.BadOpcode", u32::from(pc)),
-            CodeFault::CutShort(pc) => Refusal::at("Code.CutShort", u32::from(pc)),
-            CodeFault::BadSwitch(pc) => Refusal::at("Code.BadSwitch", u32::from(pc)),
-            CodeFault::BadOperand(pc) => Refusal::at("Code.BadOperand", u32::from(pc)),
-            CodeFault::BadLayout => Refusal::of("Code.BadLayout"),
-            CodeFault::Memory => Refusal::of("Memory"),
+            CodeFault::BadOpcode(pc) => FileRefusal::at("Code.BadOpcode", u32::from(pc)),
+            CodeFault::CutShort(pc) => FileRefusal::at("Code.CutShort", u32::from(pc)),
+            CodeFault::BadSwitch(pc) => FileRefusal::at("Code.BadSwitch", u32::from(pc)),
+            CodeFault::BadOperand(pc) => FileRefusal::at("Code.BadOperand", u32::from(pc)),
+            CodeFault::BadLayout => FileRefusal::of("Code.BadLayout"),
+            CodeFault::Memory => FileRefusal::of("Memory"),
         }
     }
 }
 
-impl From<ClassFault> for Refusal {
+impl From<ClassFault> for FileRefusal {
     ghost from_gives = { λ f r. r ≡ class_refusal f };
 
-    fn from(fault: ClassFault) -> Refusal {
+    fn from(fault: ClassFault) -> FileRefusal {
         match fault {
-            ClassFault::TooLarge => Refusal::of("TooLarge"),
-            ClassFault::BadMagic => Refusal::of("BadMagic"),
-            ClassFault::BadVersion => Refusal::of("BadVersion"),
-            ClassFault::Truncated => Refusal::of("Truncated"),
-            ClassFault::Pool(fault) => Refusal::from(fault),
-            ClassFault::ModuleFile => Refusal::of("ModuleFile"),
-            ClassFault::BadSuper => Refusal::of("BadSuper"),
-            ClassFault::DuplicateMethod(i) => Refusal::in_method("DuplicateMethod", i),
-            ClassFault::TwoCodes(i) => Refusal::in_method("TwoCodes", i),
-            ClassFault::Code(_, CodeFault::Memory) => Refusal::of("Memory"),
-            ClassFault::Code(i, fault) => Refusal {
+            ClassFault::TooLarge => FileRefusal::of("TooLarge"),
+            ClassFault::BadMagic => FileRefusal::of("BadMagic"),
+            ClassFault::BadVersion => FileRefusal::of("BadVersion"),
+            ClassFault::Truncated => FileRefusal::of("Truncated"),
+            ClassFault::Pool(fault) => FileRefusal::from(fault),
+            ClassFault::ModuleFile => FileRefusal::of("ModuleFile"),
+            ClassFault::BadSuper => FileRefusal::of("BadSuper"),
+            ClassFault::DuplicateMethod(i) => FileRefusal::in_method("DuplicateMethod", i),
+            ClassFault::TwoCodes(i) => FileRefusal::in_method("TwoCodes", i),
+            ClassFault::Code(_, CodeFault::Memory) => FileRefusal::of("Memory"),
+            ClassFault::Code(i, fault) => FileRefusal {
                 method: Some(u32::from(i)),
-                ..Refusal::from(fault)
+                ..FileRefusal::from(fault)
             },
-            ClassFault::TrailingBytes => Refusal::of("TrailingBytes"),
-            ClassFault::BadMember(k) => Refusal::at("BadMember", k),
-            ClassFault::BadLink(number) => Refusal::at("BadLink", u32::from(number)),
-            ClassFault::BadNest => Refusal::of("BadNest"),
-            ClassFault::Memory => Refusal::of("Memory"),
+            ClassFault::TrailingBytes => FileRefusal::of("TrailingBytes"),
+            ClassFault::BadMember(k) => FileRefusal::at("BadMember", k),
+            ClassFault::BadLink(number) => FileRefusal::at("BadLink", u32::from(number)),
+            ClassFault::BadNest => FileRefusal::of("BadNest"),
+            ClassFault::Memory => FileRefusal::of("Memory"),
         }
     }
 }
 
-impl From<SketchFault> for Refusal {
+impl From<SketchFault> for FileRefusal {
     ghost from_gives = { λ f r. r ≡ sketch_refusal f };
 
-    fn from(fault: SketchFault) -> Refusal {
+    fn from(fault: SketchFault) -> FileRefusal {
         match fault {
-            SketchFault::TooBig => Refusal::of("TooBig"),
-            SketchFault::CallsWithoutCode(i) => Refusal::in_method("CallsWithoutCode", i),
-            SketchFault::Refused(fault) => Refusal::from(fault),
-            SketchFault::Memory => Refusal::of("Memory"),
+            SketchFault::TooBig => FileRefusal::of("TooBig"),
+            SketchFault::CallsWithoutCode(i) => FileRefusal::in_method("CallsWithoutCode", i),
+            SketchFault::Refused(fault) => FileRefusal::from(fault),
+            SketchFault::Memory => FileRefusal::of("Memory"),
         }
     }
 }

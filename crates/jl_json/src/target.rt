@@ -3,7 +3,7 @@
 ghost use Rattle.std.specs.Prelude.{◌≡◌, ◌^◌, ◌<◌, codes, Some, IfOk};
 ghost use Rattle.serde_json.specs.Data.{Data};
 ghost use Rattle.serde_json.specs.View.{view, items_view};
-ghost use Rattle.jl_types.specs.Target.{Target};
+ghost use Rattle.jl_types.specs.Values.Target.{Target};
 ghost use Rattle.jl_json.specs.Members.{number_at, keys_of, AreAmong};
 ghost use Rattle.jl_json.specs.Targets.{method_pair, method_at, guard, method_or_invoker, target_in, target_at};
 ghost use Rattle.jl_json.specs.CommandForms.{target_data, IsTarget};

@@ -9,7 +9,7 @@ use Rattle.std.specs.Cmp.Lexicographic.{pointwise, bytes_decides}
 use Rattle.std.specs.List.{slice_get}
 use Rattle.std.specs.Option.{option_and_then, option_map, unwrap_or}
 use Rattle.jl_names.specs.Repeats.{text_at, NameOneText, IsRepeat, NoRepeat, IsFirstRepeat}
-use Rattle.jl_names.specs.Reading.Repeats.{number_at, Numbers, numbers_of, numbers_at, IsAgain, NoneAgain, IsFirstAgain}
+use Rattle.jl_names.specs.Means.Repeats.{number_at, Numbers, numbers_of, numbers_at, IsAgain, NoneAgain, IsFirstAgain}
 
 abbrev Texts : Type 0
 Texts = List (Option (Bor (List ℕ)))
@@ -44,7 +44,8 @@ before_or_last k i h = elim (cases_lt k i) [ inl lt ↦ inl lt | inr le ↦ inr 
 -- the text of this turn
 pub text_here : (texts : Texts) (i : ℕ) (o : Option (Bor (List ℕ))) → i < length texts → get_or texts i None ≡ o
     → text_at texts i ≡ option_map (λ text. text.now) o
-text_here texts i o lt e = ap (option_and_then (option_map (λ text. text.now))) (slice_get-get_or texts i None lt ∙ ap (λ (x : Option (Bor (List ℕ))). Some x) e)
+text_here texts i o lt e = ap (option_and_then (option_map (λ text. text.now))) (slice_get-get_or texts i None lt
+    ∙ ap (λ (x : Option (Bor (List ℕ))). Some x) e)
 
 -- ---- texts numbered
 

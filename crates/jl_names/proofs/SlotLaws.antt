@@ -6,9 +6,10 @@ use Rattle.jl_names.proofs.Bytes.{opening, closing}
 use Rattle.jl_names.specs.declared.descriptor.FieldType.{FieldType}
 use Rattle.jl_names.specs.Descriptors.{field_text, IsFieldType}
 use Rattle.jl_names.specs.MethodTypes.{Signature, return_text, slots_of, IsMethodText, IsMethodDescriptor, TakesSlots}
-use Rattle.jl_names.specs.Reading.Descriptors.{field_at}
-use Rattle.jl_names.specs.Reading.MethodTypes.{behind, return_at, Stand, SlotsStand, FewSlots, MethodStands}
-use Rattle.jl_names.proofs.MethodLaws.{Stand-more, Stand-closed, types_front, no_close, no_err, no_types, behind_is, open_stops, result_stops, method_stands, method_trailing, method_whole}
+use Rattle.jl_names.specs.Means.Descriptors.{field_at}
+use Rattle.jl_names.specs.Means.MethodTypes.{behind, return_at, Stand, SlotsStand, FewSlots, MethodStands}
+use Rattle.jl_names.proofs.MethodLaws.{Stand-more, Stand-closed, types_front, no_close, no_err, no_types, behind_is, open_stops, result_stops}
+use Rattle.jl_names.proofs.MethodLaws.{method_stands, method_trailing, method_whole}
 
 pub SlotsStand-more : (text : List ℕ) (n : ℕ) (rest : List ℕ) (t : FieldType) (after : List ℕ)
     → SlotsStand text n rest → field_at rest ≡ Ok (t, after) → n + slots_of t < 256

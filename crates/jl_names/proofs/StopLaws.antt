@@ -1,10 +1,9 @@
 -- Where a class name stops, by the weights of its bytes.
-use Rattle.std.proofs.Common.{◌≡◌, ◌∙◌, refl, ap, arith, ℕ, ◌+◌, ◌<◌, Bool, true, false, cond, eqb, ◌||◌, ◌&&◌, map, get_or}
+use Rattle.std.proofs.Common.{◌≡◌, ◌∙◌, refl, ap, arith, ℕ, ◌+◌, ◌<◌, Bool, true, false, cond, ◌||◌, ◌&&◌, map, get_or}
 use Rattle.std.specs.Prelude.{nat_le}
 use Rattle.std.specs.List.{range_with_len}
-use Rattle.std.specs.Str.{byte}
 use Rattle.std.proofs.lemmas.List.FromFn.{get_or-map-range_with_len}
-use Rattle.jl_names.specs.Reading.Descriptors.{weight, is_stop}
+use Rattle.jl_names.specs.Means.Descriptors.{weight}
 use Rattle.jl_names.specs.declared.descriptor.TheConstants.{WEIGHTS}
 
 table : WEIGHTS ≡ map weight (range_with_len 0 256)
@@ -27,6 +26,3 @@ weighs false false false true true = refl
 weighs false false false true false = refl
 weighs false false false false true = refl
 weighs false false false false false = refl
-
-pub stops_by_weight : (fresh : Bool) (b : ℕ) → nat_le 2 (weight b + cond fresh 1 0) ≡ is_stop fresh b
-stops_by_weight fresh b = weighs (eqb b (byte ".")) (eqb b (byte ";")) (eqb b (byte "[")) (eqb b (byte "/")) fresh

@@ -13,11 +13,6 @@ pub told-decides : {P : Type 0} (b : Bool) → MatchBool b P (¬ P) → Decides 
 told-decides true h = (λ e. h, λ p. refl)
 told-decides false h = (λ e. absurd cc, λ p. absurd (h p))
 
--- a test that decides a fact tells it
-pub decides-told : {P : Type 0} (b : Bool) → Decides b P → MatchBool b P (¬ P)
-decides-told true h = h.0 refl
-decides-told false h = λ p. absurd (let e : false ≡ true = h.1 p in cc)
-
 pub map-some : {X Y : Type 0} (f : X → Y) (o : Option X) (y : Y) → option_map f o ≡ Some y → (x : X) × (o ≡ Some x) × (f x ≡ y)
 map-some f None y e = absurd cc
 map-some f (Some x) y e = (x, refl, cc)
@@ -37,5 +32,6 @@ All-both P (x ∷ xs) ys h k = (h.0, All-both P xs ys h.1 k)
 pub All-push : {X : Type 0} (P : X → Type 0) (xs : List X) (x : X) → AllByRecursion P xs → P x → AllByRecursion P (xs ++ x ∷ [])
 All-push P xs x h w = All-both P xs (x ∷ []) h (w, tt)
 
-pub texts-push : {X A : Type 0} (text : X → List A) (xs : List X) (x : X) (rest : List A) → flat_map text (xs ++ x ∷ []) ++ rest ≡ flat_map text xs ++ (text x ++ rest)
+pub texts-push : {X A : Type 0} (text : X → List A) (xs : List X) (x : X) (rest : List A) → flat_map text (xs ++ x ∷ []) ++ rest ≡ flat_map text xs
+    ++ (text x ++ rest)
 texts-push {A = A} text xs x rest = ap (λ (all : List A). all ++ rest) (sym (flat_map_more text [] xs x)) ∙ append_assoc (flat_map text xs) (text x) rest

@@ -4,4 +4,4 @@ pub mod ClassNames
 pub mod Descriptors
 pub mod MethodTypes
 pub mod Repeats
-pub mod Reading
+pub mod Means

@@ -5,7 +5,6 @@ ghost use Rattle.std.specs.Cmp.Lexicographic.{pointwise, lists_equiv, lists_per}
 ghost use Rattle.std.specs.Hash as fed;
 ghost use Rattle.std.specs.Hash.{items_Alike};
 
-use std::alloc::{AllocError, Global};
 use std::hash::{Hash, Hasher};
 use std::marker::Model;
 
@@ -24,9 +23,7 @@ impl<T> Model for Seq<T> {
 }
 
 impl<T> Seq<T> {
-    ghost use Rattle.std.specs.Prelude.{◌<◌, length, slice_get, Some, Ok, IfOk};
-    ghost use Rattle.std.specs.Fn.{FnReturnsAt};
-    ghost use Rattle.std.specs.List.{AllZip};
+    ghost use Rattle.std.specs.Prelude.{◌<◌, length, slice_get, Some};
 
     /// The list of these items.
     pub fn of(items: Vec<T>) -> Self
@@ -51,22 +48,6 @@ impl<T> Seq<T> {
     {
         let mut items = self.items;
         items.swap_remove(place)
-    }
-
-    /// What `make` gives for each item, in order. Want of memory is an error, and the first error of `make` ends it.
-    pub fn try_map<U: Drop, F: Fn(&T) -> Result<U, AllocError>>(
-        &self,
-        alloc: Global,
-        make: F,
-    ) -> Result<Seq<U>, AllocError>
-        requires { F.IsAlwaysCallable make }
-        ensures { IfOk result (λ made. AllZip (λ item one. FnReturnsAt F.Fn make item (Ok one)) self.now made) }
-    {
-        let mut made = Vec::with_capacity(alloc, self.as_slice().len())?;
-        for item in self.as_slice() {
-            made.push(make(item)?)?;
-        }
-        Ok(Seq::of(made))
     }
 }
 

@@ -21,7 +21,7 @@ pub struct Paged<T> {
 impl<T> Model for Paged<T> {
     ghost use Rattle.std.specs.Prelude.{◌≡◌, ◌++◌, length};
     ghost use Rattle.jl_paged.specs.Listing.{Listed, listed_code, has_room};
-    ghost use Rattle.jl_paged.specs.Pages.{elements, AreFull};
+    ghost use Rattle.jl_paged.specs.Means.Pages.{elements, AreFull};
 
     ghost Value = { Listed T };
 

@@ -6,16 +6,18 @@ use Rattle.std.specs.List.{list_any, AllByRecursion}
 use Rattle.std.proofs.lemmas.Bool.{eqb-true}
 use Rattle.jl_names.proofs.Bytes.{chosen}
 use Rattle.jl_pool.specs.declared.constant.Constant.{Constant}
-use Rattle.jl_pool.specs.declared.constant.Constant.TheVariants.{Utf8, Integer, Float, Long, Double, Class, String, Fieldref, Methodref, InterfaceMethodref, NameAndType}
+use Rattle.jl_pool.specs.declared.constant.Constant.TheVariants.{Utf8, Integer, Float, Long, Double, Class, String, Fieldref, Methodref}
+use Rattle.jl_pool.specs.declared.constant.Constant.TheVariants.{InterfaceMethodref, NameAndType}
 use Rattle.jl_pool.specs.declared.constant.Constant.TheVariants.{MethodHandle, MethodType, Dynamic, InvokeDynamic, Module, Package}
 use Rattle.jl_pool.specs.declared.pool.Stop.{Stop}
 use Rattle.jl_pool.specs.declared.pool.Stop.TheVariants.{Tag}
 use Rattle.jl_pool.specs.Numbers.{u1, u2, u4, u8}
 use Rattle.jl_pool.specs.Constants.{tag, payload, constant_text, IsSized}
 use Rattle.jl_pool.specs.Known.{known_tags}
-use Rattle.jl_pool.specs.Reading.Fields.{number_at, pair_at, handle_at, text_at}
-use Rattle.jl_pool.specs.Reading.Constants.{is_known, is_wide, is_bad_tag, within, of_bits, of_wide_bits, of_number, of_pair, payload_at, or_cut, constant_at}
-use Rattle.jl_pool.proofs.Fields.{IsBytes, IsBytes-rest, Takes, bind_some, some_is, u2_takes, u2_again, u4_takes, u4_again, u8_takes, u8_again, pair_takes, pair_again}
+use Rattle.jl_pool.specs.Means.Fields.{number_at, pair_at, handle_at, text_at}
+use Rattle.jl_pool.specs.Means.Constants.{is_known, is_wide, is_bad_tag, within, of_bits, of_wide_bits, of_number, of_pair, payload_at, or_cut, constant_at}
+use Rattle.jl_pool.proofs.Fields.{IsBytes, IsBytes-rest, Takes, bind_some, some_is, u2_takes, u2_again, u4_takes, u4_again, u8_takes, u8_again}
+use Rattle.jl_pool.proofs.Fields.{pair_takes, pair_again}
 use Rattle.jl_pool.proofs.Fields.{handle_takes, handle_again, text_takes, text_again}
 
 payload_again : (c : Constant) (rest : List ℕ) → IsSized c → payload_at (tag c) (payload c ++ rest) ≡ Some (c, rest)
@@ -61,7 +63,8 @@ tag_known (Package name) = refl
 good_tag : (known more : Bool) → known ≡ true → more ≡ false → not known || more ≡ false
 good_tag known more h k = rw (h, k) refl
 
-pub constant_again : (last : Bool) (c : Constant) (rest : List ℕ) → IsSized c → last && is_wide (tag c) ≡ false → constant_at last (constant_text c ++ rest) ≡ Ok (c, rest)
+pub constant_again : (last : Bool) (c : Constant) (rest : List ℕ) → IsSized c → last && is_wide (tag c) ≡ false
+    → constant_at last (constant_text c ++ rest) ≡ Ok (c, rest)
 unfolding constant_at
 constant_again last c rest w room =
     let good : is_bad_tag last (tag c) ≡ false = good_tag (is_known (tag c)) (last && is_wide (tag c)) (tag_known c) room in
@@ -77,7 +80,8 @@ pub record Payload (t : ℕ) (bytes : List ℕ) (x : Constant × List ℕ) : Typ
 abbrev Makes : {X : Type 0} → (X → List ℕ) → (X → Type 0) → (X → Constant) → ℕ → Type 0
 Makes {X = X} text Fits make t = (y : X) → Fits y → (text y ≡ payload (make y)) × (tag (make y) ≡ t) × IsSized (make y)
 
-of_part : {X : Type 0} (read : Option (X × List ℕ)) (text : X → List ℕ) (Fits : X → Type 0) (make : X → Constant) (t : ℕ) (bytes : List ℕ) (x : Constant × List ℕ)
+of_part : {X : Type 0} (read : Option (X × List ℕ)) (text : X → List ℕ) (Fits : X → Type 0) (make : X → Constant) (t : ℕ) (bytes : List ℕ) (x : Constant
+    × List ℕ)
     → ((y : X × List ℕ) → read ≡ Some y → Takes bytes (text y.0) y.1 × Fits y.0) → Makes text Fits make t → within make read ≡ Some x → Payload t bytes x
 of_part read text Fits make t bytes x takes is e =
     let r = bind_some read (λ y. Some (make y.0, y.1)) x e in
@@ -108,8 +112,10 @@ module _ (bytes : List ℕ) (x : Constant × List ℕ) (fits : IsBytes bytes) wh
   of_u8 : (t : ℕ) → Makes u8 (λ n. n < 2 ^ 64) (of_wide_bits t) t → within (of_wide_bits t) (number_at 8 bytes) ≡ Some x → Payload t bytes x
   of_u8 t is e = of_part (number_at 8 bytes) u8 (λ n. n < 2 ^ 64) (of_wide_bits t) t bytes x (λ y. u8_takes bytes y fits) is e
 
-  of_two : (t : ℕ) → Makes (λ y. u2 y.0 ++ u2 y.1) (λ y. (y.0 < 2 ^ 16) × (y.1 < 2 ^ 16)) (of_pair t) t → within (of_pair t) (pair_at bytes) ≡ Some x → Payload t bytes x
-  of_two t is e = of_part (pair_at bytes) (λ y. u2 y.0 ++ u2 y.1) (λ y. (y.0 < 2 ^ 16) × (y.1 < 2 ^ 16)) (of_pair t) t bytes x (λ y e. let s = pair_takes bytes y fits e in (s.0, (s.1, s.2))) is e
+  of_two : (t : ℕ) → Makes (λ y. u2 y.0 ++ u2 y.1) (λ y. (y.0 < 2 ^ 16) × (y.1 < 2 ^ 16)) (of_pair t) t → within (of_pair t) (pair_at bytes) ≡ Some x
+      → Payload t bytes x
+  of_two t is e = of_part (pair_at bytes) (λ y. u2 y.0 ++ u2 y.1) (λ y. (y.0 < 2 ^ 16) × (y.1 < 2 ^ 16)) (of_pair t) t bytes x
+      (λ y e. let s = pair_takes bytes y fits e in (s.0, (s.1, s.2))) is e
 
   of_handle : within (λ y. MethodHandle y.0 y.1) (handle_at bytes) ≡ Some x → Payload 15 bytes x
   of_handle e =
@@ -117,7 +123,8 @@ module _ (bytes : List ℕ) (x : Constant × List ℕ) (fits : IsBytes bytes) wh
       (λ y e. let s = handle_takes bytes y fits e in (s.0, (s.1, s.2))) (λ y lt. (refl, refl, lt)) e
 
   of_text : within Utf8 (text_at bytes) ≡ Some x → Payload 1 bytes x
-  of_text e = of_part (text_at bytes) (λ y. u2 (length y) ++ y) (λ y. length y < 2 ^ 16) Utf8 1 bytes x (λ y. text_takes bytes y fits) (λ y lt. (refl, refl, lt)) e
+  of_text e = of_part (text_at bytes) (λ y. u2 (length y) ++ y) (λ y. length y < 2 ^ 16) Utf8 1 bytes x (λ y. text_takes bytes y fits)
+      (λ y lt. (refl, refl, lt)) e
 
   payload_takes : (t : ℕ) → IsTrue (is_known t) → payload_at t bytes ≡ Some x → Payload t bytes x
   unfolding payload_at
@@ -177,7 +184,8 @@ constant_takes last (t ∷ bytes) x fits e =
     ]
 
 -- where the tag is bad
-pub constant_tag : (last : Bool) (bytes : List ℕ) → constant_at last bytes ≡ Err Tag → (t : ℕ) × (rest : List ℕ) × (bytes ≡ t ∷ rest) × IsTrue (is_bad_tag last t)
+pub constant_tag : (last : Bool) (bytes : List ℕ) → constant_at last bytes ≡ Err Tag → (t : ℕ) × (rest : List ℕ) × (bytes ≡ t ∷ rest)
+    × IsTrue (is_bad_tag last t)
 unfolding constant_at
 constant_tag last [] e = absurd cc
 constant_tag last (t ∷ bytes) e = (

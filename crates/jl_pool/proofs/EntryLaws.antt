@@ -5,15 +5,16 @@ use Rattle.std.specs.List.{list_any}
 use Rattle.std.proofs.lemmas.Bool.Decides.{nat_tests}
 use Rattle.jl_names.specs.Mutf8.{unit_bytes, AreUnits, mutf8}
 use Rattle.jl_pool.specs.declared.constant.Constant.{Constant}
-use Rattle.jl_pool.specs.declared.constant.Constant.TheVariants.{Utf8, Integer, Float, Long, Double, Class, String, Fieldref, Methodref, InterfaceMethodref, NameAndType}
+use Rattle.jl_pool.specs.declared.constant.Constant.TheVariants.{Utf8, Integer, Float, Long, Double, Class, String, Fieldref, Methodref}
+use Rattle.jl_pool.specs.declared.constant.Constant.TheVariants.{InterfaceMethodref, NameAndType}
 use Rattle.jl_pool.specs.declared.constant.Constant.TheVariants.{MethodHandle, MethodType, Dynamic, InvokeDynamic, Module, Package}
-use Rattle.jl_pool.specs.declared.entry.Entry.TheVariants as kept
+use Rattle.jl_pool.specs.declared.kept_constant.KeptConstant.TheVariants as kept
 use Rattle.jl_pool.specs.Constants.{is_double, constant_text, IsSized}
 use Rattle.jl_pool.specs.Pools.{HasText, places_of, text_of}
-use Rattle.jl_pool.specs.Reading.Forms.{form_of}
-use Rattle.jl_pool.specs.Reading.Marks.{is_odd}
-use Rattle.jl_pool.specs.Reading.Table.{form_in, entry_of, entries_of, takes_two, with_second, has_odd}
-use Rattle.jl_pool.specs.Reading.Entries.{BeginsText}
+use Rattle.jl_pool.specs.Means.Forms.{form_of}
+use Rattle.jl_pool.specs.Means.Marks.{is_odd}
+use Rattle.jl_pool.specs.Means.Table.{form_in, entry_of, entries_of, takes_two, with_second, has_odd}
+use Rattle.jl_pool.specs.Means.Entries.{BeginsText}
 use Rattle.jl_names.proofs.Tests.{by_test}
 use Rattle.jl_pool.proofs.Fields.{text_again}
 use Rattle.jl_pool.proofs.MarkLaws.{neither}
@@ -35,7 +36,11 @@ record Tells (c : Constant) (start : ℕ) : Type 0 where
   form : form_in (entry_of c start) ≡ option_map form_of (text_of c)
 
 tells : (c : Constant) (start : ℕ) → Tells c start
-tells (Utf8 text) start = record { two = refl; even = λ e. let units = even_units text e in (text, record { in_range = units.0; bytes = units.1 }); form = refl }
+tells (Utf8 text) start = record {
+  two = refl;
+  even = λ e. let units = even_units text e in (text, record { in_range = units.0; bytes = units.1 });
+  form = refl;
+}
 tells (Integer bits) start = record { two = refl; even = λ e. tt; form = refl }
 tells (Float bits) start = record { two = refl; even = λ e. tt; form = refl }
 tells (Long bits) start = record { two = refl; even = λ e. tt; form = refl }

@@ -6,7 +6,7 @@ use Rattle.std.proofs.lemmas.List.{take_at, drop_at, take-append-drop, length-ta
 use Rattle.byteorder.specs.Endian.{big_number}
 use Rattle.byteorder.specs.Numbers.{big_number-reads_back, big_from-lt}
 use Rattle.jl_pool.specs.Numbers.{u1, u2, u4, u8}
-use Rattle.jl_pool.specs.Reading.Fields.{◌>>=◌, number_at, bytes_at, pair_at, handle_at, text_at}
+use Rattle.jl_pool.specs.Means.Fields.{◌>>=◌, number_at, bytes_at, pair_at, handle_at, text_at}
 
 abbrev pub IsBytes : List ℕ → Type 0
 IsBytes bytes = (i : ℕ) → get_or bytes i 0 < 256
@@ -61,8 +61,10 @@ u2_takes [] x fits e = absurd cc
 u2_takes (a ∷ []) x fits e = absurd cc
 u2_takes (a ∷ b ∷ rest) x fits e =
     let g = guard_some (ltb (length (a ∷ b ∷ rest)) 2) (big_number 2 (a ∷ b ∷ rest), rest) x e in
-    subst (λ (y : ℕ × List ℕ). Takes (a ∷ b ∷ rest) (u2 y.0) y.1 × (y.0 < 2 ^ 16)) g.1
-    (takes (a ∷ b ∷ rest) (u2 (big_number 2 (a ∷ b ∷ []))) rest fits (ap (λ (t : List ℕ). t ++ rest) (sym (u2_back a b (fits 0) (fits 1)))), omega (arith, fits 0, fits 1))
+    subst (λ (y : ℕ × List ℕ). Takes (a ∷ b ∷ rest) (u2 y.0) y.1 × (y.0 < 2 ^ 16)) g.1 (
+      takes (a ∷ b ∷ rest) (u2 (big_number 2 (a ∷ b ∷ []))) rest fits (ap (λ (t : List ℕ). t ++ rest) (sym (u2_back a b (fits 0) (fits 1)))),
+      omega (arith, fits 0, fits 1),
+    )
 
 pub u2_again : (n : ℕ) (rest : List ℕ) → n < 2 ^ 16 → number_at 2 (u2 n ++ rest) ≡ Some (n, rest)
 u2_again n rest lt = grind arith
@@ -105,7 +107,8 @@ u8_again n rest lt = grind (arith, big_number-reads_back 8 n rest lt)
 
 -- ---- two numbers
 
-pub pair_takes : (bytes : List ℕ) (x : (ℕ × ℕ) × List ℕ) → IsBytes bytes → pair_at bytes ≡ Some x → Takes bytes (u2 x.0.0 ++ u2 x.0.1) x.1 × (x.0.0 < 2 ^ 16) × (x.0.1 < 2 ^ 16)
+pub pair_takes : (bytes : List ℕ) (x : (ℕ × ℕ) × List ℕ) → IsBytes bytes → pair_at bytes ≡ Some x → Takes bytes (u2 x.0.0 ++ u2 x.0.1) x.1 × (x.0.0 < 2 ^ 16)
+    × (x.0.1 < 2 ^ 16)
 unfolding pair_at
 pair_takes bytes x fits e =
     let a = bind_some (number_at 2 bytes) (λ first. number_at 2 first.1 >>= λ second. Some ((first.0, second.0), second.1)) x e in
@@ -121,7 +124,8 @@ pair_again m n rest hm hn = rw (u2_again m (u2 n ++ rest) hm, u2_again n rest hn
 
 -- ---- a kind and a number
 
-pub handle_takes : (bytes : List ℕ) (x : (ℕ × ℕ) × List ℕ) → IsBytes bytes → handle_at bytes ≡ Some x → Takes bytes (u1 x.0.0 ++ u2 x.0.1) x.1 × (x.0.0 < 2 ^ 8) × (x.0.1 < 2 ^ 16)
+pub handle_takes : (bytes : List ℕ) (x : (ℕ × ℕ) × List ℕ) → IsBytes bytes → handle_at bytes ≡ Some x → Takes bytes (u1 x.0.0 ++ u2 x.0.1) x.1 × (x.0.0 < 2 ^ 8)
+    × (x.0.1 < 2 ^ 16)
 unfolding handle_at
 handle_takes bytes x fits e =
     let a = bind_some (number_at 1 bytes) (λ kind. number_at 2 kind.1 >>= λ reference. Some ((kind.0, reference.0), reference.1)) x e in
@@ -137,7 +141,8 @@ handle_again m n rest hn = rw (u1_again m (u2 n ++ rest), u2_again n rest hn) re
 
 -- ---- bytes behind their count
 
-pub text_takes : (bytes : List ℕ) (x : List ℕ × List ℕ) → IsBytes bytes → text_at bytes ≡ Some x → Takes bytes (u2 (length x.0) ++ x.0) x.1 × (length x.0 < 2 ^ 16)
+pub text_takes : (bytes : List ℕ) (x : List ℕ × List ℕ) → IsBytes bytes → text_at bytes ≡ Some x → Takes bytes (u2 (length x.0) ++ x.0) x.1
+    × (length x.0 < 2 ^ 16)
 unfolding text_at
 text_takes bytes x fits e =
     let a = bind_some (number_at 2 bytes) (λ n. cond (ltb (length n.1) n.0) None (Some (take n.0 n.1, drop n.0 n.1))) x e in

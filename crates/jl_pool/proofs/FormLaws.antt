@@ -14,17 +14,19 @@ use Rattle.std.proofs.lemmas.Bool.Decides.{nat_tests}
 use Rattle.jl_names.specs.declared.descriptor.FieldType.{FieldType}
 use Rattle.jl_names.specs.Descriptors.{field_text, IsFieldType, IsFieldDescriptor, IsFieldFault}
 use Rattle.jl_names.specs.MethodTypes.{IsMethodDescriptor, TakesSlots, slots_of}
-use Rattle.jl_names.specs.Reading.Descriptors.{field_at}
-use Rattle.jl_names.specs.Reading.MethodTypes.{behind, return_at, SlotsStand, FewSlots}
+use Rattle.jl_names.specs.Means.Descriptors.{field_at}
+use Rattle.jl_names.specs.Means.MethodTypes.{behind, return_at, SlotsStand, FewSlots}
 use Rattle.jl_names.proofs.Tests.{told-decides}
 use Rattle.jl_names.proofs.DescriptorLaws.{field_whole, field_fault, field_trailing, field_less}
 use Rattle.jl_names.proofs.MethodLaws.{method_one}
-use Rattle.jl_names.proofs.SlotLaws.{SlotsStand-more, SlotsStand-closed, stopped_none, over_none, unopened_none, many_none, result_none, trailing_none, whole_slots}
-use Rattle.jl_pool.specs.Reading.Forms.{is_whole, is_field, at_close, at_type, slots_from, if_whole, slots_behind, method_slots}
+use Rattle.jl_names.proofs.SlotLaws.{SlotsStand-more, SlotsStand-closed, stopped_none, over_none, unopened_none, many_none, result_none}
+use Rattle.jl_names.proofs.SlotLaws.{trailing_none, whole_slots}
+use Rattle.jl_pool.specs.Means.Forms.{is_whole, is_field, at_close, at_type, slots_from, if_whole, slots_behind, method_slots}
 
 -- ---- field descriptors
 
-whole_is : (text : List ℕ) (read : Result (FieldType × List ℕ) (List ℕ)) → field_at text ≡ read → MatchBool (is_whole read) (IsFieldDescriptor text) (¬ IsFieldDescriptor text)
+whole_is : (text : List ℕ) (read : Result (FieldType × List ℕ) (List ℕ)) → field_at text ≡ read
+    → MatchBool (is_whole read) (IsFieldDescriptor text) (¬ IsFieldDescriptor text)
 whole_is text (Err left) e = (field_fault text left e).none
 whole_is text (Ok x) e = by_rest (eqb (length x.1) 0) refl where
   by_rest : (b : Bool) → eqb (length x.1) 0 ≡ b → MatchBool b (IsFieldDescriptor text) (¬ IsFieldDescriptor text)
@@ -41,7 +43,8 @@ is_field-is text = told-decides (is_whole (field_at text)) (whole_is text (field
 abbrev SlotsFound : List ℕ → Option (ℕ × List ℕ) → Type 0
 SlotsFound text found = MatchOption found (¬ FewSlots text) (λ x. (x.0 ≤ 255) × SlotsStand text x.0 (41 ∷ x.1))
 
-from_is : (turns : List ℕ) (text : List ℕ) (n : ℕ) (rest : List ℕ) → length rest < length turns → n ≤ 255 → SlotsStand text n rest → SlotsFound text (slots_from turns n rest)
+from_is : (turns : List ℕ) (text : List ℕ) (n : ℕ) (rest : List ℕ) → length rest < length turns → n ≤ 255 → SlotsStand text n rest
+    → SlotsFound text (slots_from turns n rest)
 unfolding slots_from
 from_is [] text n rest short few s = absurd (omega arith)
 from_is (turn ∷ turns) text n rest short few s =
@@ -78,20 +81,21 @@ none_before inner = record { types = []; stand = record { each = tt; bytes = ref
 
 method_slots-at : (text : List ℕ) (opened : Option (List ℕ)) → behind 40 text ≡ opened → SlotsAre text (option_and_then slots_behind opened)
 method_slots-at text None e = unopened_none text e
-method_slots-at text (Some inner) e = at_parameters (slots_from (0 ∷ inner) 0 inner) (from_is (0 ∷ inner) inner 0 inner (omega arith) (omega arith) (none_before inner)) where
-  at_end : (n : ℕ) (middle left : List ℕ) (r : Option FieldType) → n ≤ 255 → SlotsStand inner n (41 ∷ middle) → return_at middle ≡ Ok (r, left)
-      → (b : Bool) → eqb (length left) 0 ≡ b → SlotsAre text (if b then Some n else None)
-  at_end n middle left r few s h true none = record { few = few; takes = (whole_slots text inner middle left n r e s h none).1 }
-  at_end n middle left r few s h false some = trailing_none text inner middle left n r e s h some
+method_slots-at text (Some inner) e = at_parameters (slots_from (0 ∷ inner) 0 inner)
+    (from_is (0 ∷ inner) inner 0 inner (omega arith) (omega arith) (none_before inner)) where
+      at_end : (n : ℕ) (middle left : List ℕ) (r : Option FieldType) → n ≤ 255 → SlotsStand inner n (41 ∷ middle) → return_at middle ≡ Ok (r, left)
+          → (b : Bool) → eqb (length left) 0 ≡ b → SlotsAre text (if b then Some n else None)
+      at_end n middle left r few s h true none = record { few = few; takes = (whole_slots text inner middle left n r e s h none).1 }
+      at_end n middle left r few s h false some = trailing_none text inner middle left n r e s h some
 
-  at_return : (n : ℕ) (middle : List ℕ) → n ≤ 255 → SlotsStand inner n (41 ∷ middle) → (read : Result (Option FieldType × List ℕ) (List ℕ))
-      → return_at middle ≡ read → SlotsAre text (if_whole n read)
-  at_return n middle few s (Err left) h = result_none text inner middle left n e s h
-  at_return n middle few s (Ok x) h = at_end n middle x.1 x.0 few s h (eqb (length x.1) 0) refl
+      at_return : (n : ℕ) (middle : List ℕ) → n ≤ 255 → SlotsStand inner n (41 ∷ middle) → (read : Result (Option FieldType × List ℕ) (List ℕ))
+          → return_at middle ≡ read → SlotsAre text (if_whole n read)
+      at_return n middle few s (Err left) h = result_none text inner middle left n e s h
+      at_return n middle few s (Ok x) h = at_end n middle x.1 x.0 few s h (eqb (length x.1) 0) refl
 
-  at_parameters : (found : Option (ℕ × List ℕ)) → SlotsFound inner found → SlotsAre text (option_and_then (λ x. if_whole x.0 (return_at x.1)) found)
-  at_parameters None many = many_none text inner e many
-  at_parameters (Some x) h = at_return x.0 x.1 h.0 h.1 (return_at x.1) refl
+      at_parameters : (found : Option (ℕ × List ℕ)) → SlotsFound inner found → SlotsAre text (option_and_then (λ x. if_whole x.0 (return_at x.1)) found)
+      at_parameters None many = many_none text inner e many
+      at_parameters (Some x) h = at_return x.0 x.1 h.0 h.1 (return_at x.1) refl
 
 pub method_slots-is : (text : List ℕ) → SlotsAre text (method_slots text)
 unfolding method_slots
@@ -103,7 +107,8 @@ one_slots text m n a b = let same = method_one a.0 b.0 a.1 b.1 (sym a.2 ∙ b.2)
 
 -- ---- what the functions found
 
-pub parsed : (text : List ℕ) (r : Result FieldType NameFault) → IfOk r (λ ty. IsFieldType ty × (text ≡ field_text ty)) → IfErr r (IsFieldFault text) → is_ok r ≡ is_field text
+pub parsed : (text : List ℕ) (r : Result FieldType NameFault) → IfOk r (λ ty. IsFieldType ty × (text ≡ field_text ty)) → IfErr r (IsFieldFault text)
+    → is_ok r ≡ is_field text
 parsed text (Ok ty) ok fault = sym ((is_field-is text).1 (ty, ok.0, ok.1))
 parsed text (Err (BadDescriptor at)) ok fault = sym (false_from_ne_true (is_field text) (λ e. fault.none ((is_field-is text).0 e)))
 parsed text (Err (BadByte at)) ok fault = absurd fault
@@ -121,7 +126,8 @@ slots_of_found : (text : List ℕ) (found : Option ℕ) → MatchOption found (�
 slots_of_found text None h = h
 slots_of_found text (Some n) h = record { few = h.0; takes = h.1 }
 
-pub counted : (text : List ℕ) (found : Option ℕ) → MatchOption found (¬ IsMethodDescriptor text) (λ n. (n ≤ 255) × TakesSlots text n) → found ≡ method_slots text
+pub counted : (text : List ℕ) (found : Option ℕ) → MatchOption found (¬ IsMethodDescriptor text) (λ n. (n ≤ 255) × TakesSlots text n)
+    → found ≡ method_slots text
 counted text found h = same_slots text found (method_slots text) (slots_of_found text found h) (method_slots-is text)
 
 -- ---- names
@@ -135,7 +141,8 @@ and_true false b e = absurd cc
 
 no_slash : (text : List ℕ) → list_all (λ c. not (is_reserved c)) text ≡ true → AllByRecursion (λ b. eqb b 47 ≡ false) text
 no_slash [] h = tt
-no_slash (b ∷ text) h = let both = and_true (not (is_reserved b)) (list_all (λ c. not (is_reserved c)) text) h in (reserves_slash b both.0, no_slash text both.1)
+no_slash (b ∷ text) h = let both = and_true (not (is_reserved b)) (list_all (λ c. not (is_reserved c)) text) h in
+    (reserves_slash b both.0, no_slash text both.1)
 
 -- an unqualified name is a class name, of one part
 pub class_name_of : (text : List ℕ) → is_unqualified text ≡ true → is_class_name text ≡ true

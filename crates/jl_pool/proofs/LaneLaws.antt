@@ -1,12 +1,13 @@
 -- What lanes of a vector of bytes, and windows of a text, tell of the text.
-use Rattle.std.proofs.Common.{◌≡◌, ◌∙◌, refl, ap, ap₂, subst, arith, ℕ, zero, suc, ◌+◌, ◌*◌, ◌%◌, ◌^◌, ◌≤◌, leb, eqb, not, ◌||◌, Bool, true, false, cond, List, [], ◌∷◌, length, take, drop, map, replicate, bit_or}
+use Rattle.std.proofs.Common.{◌≡◌, ◌∙◌, refl, ap, ap₂, subst, arith, ℕ, zero, suc, ◌+◌, ◌*◌, ◌%◌, ◌^◌, ◌≤◌, leb, eqb, not, ◌||◌, Bool, true, false}
+use Rattle.std.proofs.Common.{cond, List, [], ◌∷◌, length, take, drop, map, replicate, bit_or}
 use Rattle.std.specs.List.{list_any}
 use Rattle.std.proofs.lemmas.Bool.Decides.{nat_tests}
 use Rattle.std.proofs.lemmas.List.{take_all, length-drop, length-map}
 use Rattle.std.proofs.lemmas.Simd.{length-chunk, mask_l-mod}
 use lib.Lanes.{chunk, mask_l, zip2, top}
 use Rattle.jl_pool.specs.declared.form.Marks.{Marks}
-use Rattle.jl_pool.specs.Reading.Marks.{is_barred, is_slash, is_angle, is_odd, marks_of, either}
+use Rattle.jl_pool.specs.Means.Marks.{is_barred, is_slash, is_angle, is_odd, marks_of, either}
 
 -- ---- one vector
 

@@ -4,8 +4,7 @@ use Rattle.std.specs.Prelude.{option_map, MatchOption, IfSome}
 use Rattle.std.specs.Option.{option_and_then, IsSomeAnd}
 use Rattle.jl_names.specs.MethodTypes.{IsMethodDescriptor, TakesSlots}
 use Rattle.jl_pool.specs.declared.form.Form.{Form}
-use Rattle.jl_pool.specs.Pools.{Pool, named_descriptor}
-use Rattle.jl_pool.specs.Reading.Forms.{form_of, method_slots, slots_at}
+use Rattle.jl_pool.specs.Means.Forms.{form_of, method_slots}
 use Rattle.jl_pool.proofs.FormLaws.{SlotsAre, method_slots-is, counted}
 
 -- what the slots are to a descriptor that may be there
@@ -33,7 +32,3 @@ found_is None None h = refl
 found_is None (Some n) h = absurd h.1
 found_is (Some text) None h = counted text None h
 found_is (Some text) (Some n) h = counted text (Some n) h
-
--- what `Pool::slots` answers is what reading gives
-pub slots_found : (pool : Pool) (n : ℕ) (found : Option ℕ) → AreSlotsOf (named_descriptor pool n) found → found ≡ slots_at pool n
-slots_found pool n found h = found_is (named_descriptor pool n) found h

@@ -1,5 +1,6 @@
 -- What the marks of a text tell of names and descriptors.
-use Rattle.std.proofs.Common.{◌≡◌, ◌≢◌, ℕ, zero, suc, Bool, true, false, eqb, not, ◌&&◌, ◌||◌, List, [], ◌∷◌, ◌++◌, length, Option, refl, sym, ap, subst, ◌∙◌, arith}
+use Rattle.std.proofs.Common.{◌≡◌, ◌≢◌, ℕ, zero, suc, Bool, true, false, eqb, not, ◌&&◌, ◌||◌, List, [], ◌∷◌, ◌++◌, length, Option, refl, sym, ap}
+use Rattle.std.proofs.Common.{subst, ◌∙◌, arith}
 use Rattle.std.specs.Prelude.{replicate}
 use Rattle.std.specs.List.{list_all, list_any, slice_split, onto_first, AllByRecursion}
 use Rattle.std.proofs.lemmas.Bool.{false_from_ne_true}
@@ -13,8 +14,8 @@ use Rattle.jl_names.specs.Descriptors.{element_text}
 use Rattle.jl_pool.specs.declared.form.Form.{Form}
 use Rattle.jl_pool.specs.declared.form.Marks.{Marks}
 use Rattle.jl_pool.specs.Pools.{has_angle}
-use Rattle.jl_pool.specs.Reading.Forms.{is_field, method_slots, form_of}
-use Rattle.jl_pool.specs.Reading.Marks.{is_barred, is_slash, marks_of}
+use Rattle.jl_pool.specs.Means.Forms.{is_field, method_slots, form_of}
+use Rattle.jl_pool.specs.Means.Marks.{is_barred, is_slash, marks_of}
 use Rattle.jl_pool.proofs.FormLaws.{is_field-is, class_name_of, and_true}
 
 pub neither : (x y : Bool) → (x || y) ≡ false → (x ≡ false) × (y ≡ false)
@@ -74,7 +75,8 @@ slash_clean b e = grind (arith, nat_tests)
 clean_parts : (text : List ℕ) → list_all is_clean (slice_split is_slash text) ≡ is_clean text
 clean_parts [] = refl
 clean_parts (b ∷ text) = by_slash (clean_parts text) (is_slash b) refl where
-  by_slash : list_all is_clean (slice_split is_slash text) ≡ is_clean text → (s : Bool) → is_slash b ≡ s → list_all is_clean (slice_split is_slash (b ∷ text)) ≡ is_clean (b ∷ text)
+  by_slash : list_all is_clean (slice_split is_slash text) ≡ is_clean text → (s : Bool) → is_slash b ≡ s
+      → list_all is_clean (slice_split is_slash (b ∷ text)) ≡ is_clean (b ∷ text)
   by_slash rest true e = rw (e, slash_clean b e) rest
   by_slash rest false e = rw e (clean_first b (slice_split is_slash text) ∙ rw rest (sym (clean_more (is_barred b) (list_any is_barred text))))
 
@@ -97,7 +99,8 @@ parts_clean (part ∷ parts) h =
 -- a class name has no barred byte
 pub barred_none : (text : List ℕ) → list_any is_barred text ≡ true → is_class_name text ≡ false
 barred_none text barred =
-    false_from_ne_true (is_class_name text) (λ e. let clean : is_clean text ≡ true = sym (clean_parts text) ∙ parts_clean (slice_split is_slash text) e in absurd (let no : false ≡ true = ap not (sym barred) ∙ clean in cc))
+    false_from_ne_true (is_class_name text) (λ e. let clean : is_clean text ≡ true = sym (clean_parts text) ∙ parts_clean (slice_split is_slash text) e in
+    absurd (let no : false ≡ true = ap not (sym barred) ∙ clean in cc))
 
 no_slashes : (text : List ℕ) → list_any is_slash text ≡ false → AllByRecursion (λ b. is_slash b ≡ false) text
 no_slashes [] h = tt
@@ -110,10 +113,12 @@ and_yes false = refl
 -- without a slash it is one part
 pub one_part : (text : List ℕ) → list_any is_slash text ≡ false → is_class_name text ≡ is_unqualified text
 one_part text h =
-    ap (list_all is_unqualified) (slice_split_none is_slash text (All-from_recursion (λ b. is_slash b ≡ false) text (no_slashes text h))) ∙ and_yes (is_unqualified text)
+    ap (list_all is_unqualified) (slice_split_none is_slash text (All-from_recursion (λ b. is_slash b ≡ false) text (no_slashes text h)))
+    ∙ and_yes (is_unqualified text)
 
 barred_unqualified : (text : List ℕ) → list_any is_barred text ≡ true → is_unqualified text ≡ false
-barred_unqualified text barred = false_from_ne_true (is_unqualified text) (λ e. absurd (let no : true ≡ false = sym (class_name_of text e) ∙ barred_none text barred in cc))
+barred_unqualified text barred = false_from_ne_true (is_unqualified text)
+    (λ e. absurd (let no : true ≡ false = sym (class_name_of text e) ∙ barred_none text barred in cc))
 
 or_no : (b : Bool) → (b || false) ≡ b
 or_no true = refl
@@ -164,14 +169,16 @@ field_marked text h long =
     long (ap length d.2 ∙ descriptor_marked d.0.dimensions d.0.element (ap (list_any is_barred) (sym d.2) ∙ h)))
 
 pub field_unmarked : (text : List ℕ) → (list_any is_barred text || eqb (length text) 1) ≡ false → is_field text ≡ false
-field_unmarked text h = let both = neither (list_any is_barred text) (eqb (length text) 1) h in field_marked text both.0 (λ e. let no = both.1 in grind (arith, nat_tests))
+field_unmarked text h = let both = neither (list_any is_barred text) (eqb (length text) 1) h in
+    field_marked text both.0 (λ e. let no = both.1 in grind (arith, nat_tests))
 
 -- ---- the form
 
 abbrev made : Bool → Bool → Bool → Bool → Option ℕ → Form
 made class_name unqualified plain field slots = record { class_name = class_name; unqualified = unqualified; plain = plain; field = field; slots = slots }
 
-pub form_by_marks : (text : List ℕ) (marks : Marks) (u q f : Bool) (slots : Option ℕ) → marks ≡ marks_of text → u ≡ is_unqualified text → (is_unqualified text || q) ≡ is_class_name text
+pub form_by_marks : (text : List ℕ) (marks : Marks) (u q f : Bool) (slots : Option ℕ) → marks ≡ marks_of text → u ≡ is_unqualified text
+    → (is_unqualified text || q) ≡ is_class_name text
     → f ≡ is_field text → slots ≡ method_slots text → made (u || q) u (u && not marks.angle) f slots ≡ form_of text
 unfolding form_of
 form_by_marks text marks u q f slots m un cl fi sl =

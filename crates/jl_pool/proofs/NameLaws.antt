@@ -1,12 +1,13 @@
 -- One pass over what the constants name: the first number that is wrong ends it, and the first descriptor that is wrong is kept.
-use Rattle.std.proofs.Common.{◌≡◌, ◌∙◌, refl, sym, ap, arith, ℕ, zero, suc, ◌+◌, ◌<◌, ◌≤◌, length, Bool, true, false, not, [], ◌∷◌, Option, Some, None, inl, inr}
+use Rattle.std.proofs.Common.{◌≡◌, ◌∙◌, refl, sym, ap, arith, ℕ, zero, suc, ◌+◌, ◌<◌, ◌≤◌, length, Bool, true, false, not, [], ◌∷◌, Option, Some}
+use Rattle.std.proofs.Common.{None, inl, inr}
 use Rattle.std.specs.Bool.{then_some}
 use Rattle.std.specs.Option.{option_map_or, option_or}
 use Rattle.std.proofs.lemmas.Bool.{cases_lt}
 use Rattle.jl_pool.specs.declared.constant.Constant.{Constant}
 use Rattle.jl_pool.specs.Pools.{Pool, constant_at, IsTyped}
 use Rattle.jl_pool.specs.Faults.{AllAt, IsFirstNot}
-use Rattle.jl_pool.specs.Reading.Forms.{is_typed}
+use Rattle.jl_pool.specs.Means.Forms.{is_typed}
 use Rattle.jl_pool.proofs.TypedLaws.{is_typed-is}
 
 -- each constant below a number is so
@@ -31,7 +32,8 @@ passes : (test : Constant → Bool) (there : Option Constant) → option_map_or 
 passes test None h c e = absurd cc
 passes test (Some d) h c e = cc
 
-pub tested_more : (test : Constant → Bool) (p : Pool) (n : ℕ) (tested : Bool) → AllBelow (λ c. test c ≡ true) p n → tested ≡ option_map_or test (constant_at p n) true → not tested ≡ false
+pub tested_more : (test : Constant → Bool) (p : Pool) (n : ℕ) (tested : Bool) → AllBelow (λ c. test c ≡ true) p n
+    → tested ≡ option_map_or test (constant_at p n) true → not tested ≡ false
     → AllBelow (λ c. test c ≡ true) p (n + 1)
 tested_more test p n true h e f = below_more (λ c. test c ≡ true) p n h (passes test (constant_at p n) (sym e))
 tested_more test p n false h e f = absurd cc
@@ -41,11 +43,18 @@ abbrev pub TypedBelow : Pool → ℕ → Option ℕ → Type 0
 TypedBelow p n None = AllBelow (IsTyped p) p n
 TypedBelow p n (Some i) = IsFirstNot (IsTyped p) p i
 
-untyped_here : (p : Pool) (n : ℕ) → AllBelow (IsTyped p) p n → (there : Option Constant) → constant_at p n ≡ there → option_map_or (is_typed p) there true ≡ false → IsFirstNot (IsTyped p) p n
+untyped_here : (p : Pool) (n : ℕ) → AllBelow (IsTyped p) p n → (there : Option Constant) → constant_at p n ≡ there
+    → option_map_or (is_typed p) there true ≡ false → IsFirstNot (IsTyped p) p n
 untyped_here p n h None e f = absurd cc
-untyped_here p n h (Some c) e f = record { constant = c; there = e; isn't = λ typed. absurd (let no : false ≡ true = sym f ∙ (is_typed-is p c).1 typed in cc); before = h }
+untyped_here p n h (Some c) e f = record {
+  constant = c;
+  there = e;
+  isn't = λ typed. absurd (let no : false ≡ true = sym f ∙ (is_typed-is p c).1 typed in cc);
+  before = h;
+}
 
-typed_here : (p : Pool) (n : ℕ) (typed : Bool) → option_map_or (is_typed p) (constant_at p n) true ≡ typed → AllBelow (IsTyped p) p n → TypedBelow p (n + 1) (then_some (not typed) n)
+typed_here : (p : Pool) (n : ℕ) (typed : Bool) → option_map_or (is_typed p) (constant_at p n) true ≡ typed → AllBelow (IsTyped p) p n
+    → TypedBelow p (n + 1) (then_some (not typed) n)
 typed_here p n true e h = below_more (IsTyped p) p n h (λ c there. (is_typed-is p c).0 (passes (is_typed p) (constant_at p n) e c there))
 typed_here p n false e h = untyped_here p n h (constant_at p n) refl e
 

@@ -11,8 +11,11 @@ at_place (p ∷ front) rest c = at_place front rest c
 
 pub All-at : (IsSo : Constant → Type 0) (front : Pool) (cs : List Constant) → AllAt IsSo (front ++ flat_map places_of cs) → AllByRecursion IsSo cs
 All-at IsSo front [] h = tt
-All-at IsSo front (c ∷ cs) h =
-    (h (length front) c (at_place front _ c), All-at IsSo (front ++ places_of c) cs (subst (λ (p : Pool). AllAt IsSo p) (sym (append_assoc front (places_of c) (flat_map places_of cs))) h))
+All-at IsSo front (c ∷ cs) h = (
+  h (length front) c (at_place front _ c),
+  All-at IsSo (front ++ places_of c) cs
+      (subst (λ (p : Pool). AllAt IsSo p) (sym (append_assoc front (places_of c) (flat_map places_of cs))) h),
+)
 
 pub All-places : (IsSo : Constant → Type 0) (cs : List Constant) → AllAt IsSo (places cs) → AllByRecursion IsSo cs
 All-places IsSo cs h = All-at IsSo (None ∷ []) cs h

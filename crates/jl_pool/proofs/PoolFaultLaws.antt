@@ -12,7 +12,8 @@ use Rattle.jl_pool.specs.Pools.{Pool, places, places_of, constant_at, HasText, i
 use Rattle.jl_pool.specs.Faults.{TagFault, PoolStands, IsFirstNot, IsPoolFault, IsBadTag}
 use Rattle.jl_pool.proofs.PoolLaws.{u2_one, either, places-append, met, one_pool}
 
-at-front : (front back : Pool) (n : ℕ) (c : Constant) → constant_at (front ++ back) n ≡ Some c → (constant_at front n ≡ Some c) ⊎ (constant_at back (n - length front) ≡ Some c)
+at-front : (front back : Pool) (n : ℕ) (c : Constant) → constant_at (front ++ back) n ≡ Some c → (constant_at front n ≡ Some c)
+    ⊎ (constant_at back (n - length front) ≡ Some c)
 at-front [] back n c e = inr (subst (λ (k : ℕ). constant_at back k ≡ Some c) (let same : n ≡ n - 0 = omega arith in same) e)
 at-front (p ∷ front) back zero c e = inl e
 at-front (p ∷ front) back (suc n) c e = elim (at-front front back n c e) [
@@ -50,7 +51,8 @@ none_met count i t after (c ∷ more) left bad text less all =
 -- a whole pool begins with no bad tag
 no_bad_tag : (text : List ℕ) (cs : List Constant) (left : List ℕ) (i : ℕ) → PoolStands text cs left → ¬ TagFault text i
 no_bad_tag text cs left i h = λ fault.
-    let whole : text ≡ u2 (length (places cs)) ++ (flat_map constant_text cs ++ left) = h.bytes ∙ append_assoc (u2 (length (places cs))) (flat_map constant_text cs) left in
+    let whole : text ≡ u2 (length (places cs)) ++ (flat_map constant_text cs ++ left) = h.bytes
+    ∙ append_assoc (u2 (length (places cs))) (flat_map constant_text cs) left in
     elim fault [
       | inr none ↦
           let counts = u2_one (length (places cs)) 0 (flat_map constant_text cs ++ left) none.1.0 h.written.count (omega arith) (sym whole ∙ none.1.1) in
@@ -68,13 +70,16 @@ no_bad_tag text cs left i h = λ fault.
           ]
     ]
 
-pub no_pool_fault : (text : List ℕ) (cs : List Constant) (left : List ℕ) (f : PoolFault) → PoolStands text cs left → IsSoundPool cs → f ≢ pool.Memory → ¬ IsPoolFault text f
+pub no_pool_fault : (text : List ℕ) (cs : List Constant) (left : List ℕ) (f : PoolFault) → PoolStands text cs left → IsSoundPool cs → f ≢ pool.Memory
+    → ¬ IsPoolFault text f
 no_pool_fault text cs left pool.Truncated h sound m = λ p. p.0 cs left h
 no_pool_fault text cs left (pool.BadTag i) h sound m = λ p. no_bad_tag text cs left i h p
 no_pool_fault text cs left (pool.BadUtf8 i) h sound m =
-    λ p. let same = one_pool text p.0 cs p.1 left p.2 h in no_first _ p.0 i (subst (λ (c : List Constant). AllByRecursion HasText c) (sym same.0) sound.texts) p.4
+    λ p. let same = one_pool text p.0 cs p.1 left p.2 h in no_first _ p.0 i (subst (λ (c : List Constant). AllByRecursion HasText c) (sym same.0) sound.texts)
+    p.4
 no_pool_fault text cs left (pool.BadIndex i) h sound m = λ p.
-    let same = one_pool text p.0 cs p.1 left p.2 h in no_first _ p.0 i (subst (λ (c : List Constant). AllByRecursion (λ d. IsTrue (is_linked (places c) d)) c) (sym same.0) sound.links) p.4
+    let same = one_pool text p.0 cs p.1 left p.2 h in no_first _ p.0 i
+    (subst (λ (c : List Constant). AllByRecursion (λ d. IsTrue (is_linked (places c) d)) c) (sym same.0) sound.links) p.4
 no_pool_fault text cs left (pool.BadDescriptor i) h sound m =
     λ p.
     let same = one_pool text p.0 cs p.1 left p.2 h in

@@ -1,5 +1,6 @@
 -- What a pool keeps of its constants shows them.
-use Rattle.std.proofs.Common.{◌≡◌, ℕ, zero, suc, ◌+◌, ◌*◌, ◌^◌, ◌<◌, ◌≤◌, Bool, true, false, cond, ltb, List, [], ◌∷◌, ◌++◌, length, map, take, drop, slice_get, Option, Some, None, refl, sym, ap, subst, ◌∙◌}
+use Rattle.std.proofs.Common.{◌≡◌, ℕ, zero, suc, ◌+◌, ◌*◌, ◌^◌, ◌<◌, ◌≤◌, Bool, true, false, cond, ltb, List, [], ◌∷◌, ◌++◌, length, map, take, drop}
+use Rattle.std.proofs.Common.{slice_get, Option, Some, None, refl, sym, ap, subst, ◌∙◌}
 use Rattle.std.proofs.Common.{append_assoc, length-append, arith}
 use Rattle.std.specs.Prelude.{option_map, nat_le}
 use Rattle.std.specs.Option.{option_and_then, unwrap_or}
@@ -11,16 +12,17 @@ use Rattle.std.proofs.lemmas.Option.{slice_get-map}
 use Rattle.byteorder.specs.Endian.{big_number}
 use Rattle.jl_names.proofs.Tests.{texts-push}
 use Rattle.jl_pool.specs.declared.constant.Constant.{Constant}
-use Rattle.jl_pool.specs.declared.constant.Constant.TheVariants.{Utf8, Integer, Float, Long, Double, Class, String, Fieldref, Methodref, InterfaceMethodref, NameAndType}
+use Rattle.jl_pool.specs.declared.constant.Constant.TheVariants.{Utf8, Integer, Float, Long, Double, Class, String, Fieldref, Methodref}
+use Rattle.jl_pool.specs.declared.constant.Constant.TheVariants.{InterfaceMethodref, NameAndType}
 use Rattle.jl_pool.specs.declared.constant.Constant.TheVariants.{MethodHandle, MethodType, Dynamic, InvokeDynamic, Module, Package}
-use Rattle.jl_pool.specs.declared.entry.Entry.{Entry}
-use Rattle.jl_pool.specs.declared.entry.Entry.TheVariants as kept
+use Rattle.jl_pool.specs.declared.kept_constant.KeptConstant.{KeptConstant}
+use Rattle.jl_pool.specs.declared.kept_constant.KeptConstant.TheVariants as kept
 use Rattle.jl_pool.specs.declared.form.Form.{Form}
 use Rattle.jl_pool.specs.Numbers.{u2, u8}
 use Rattle.jl_pool.specs.Constants.{constant_text, IsSized, is_double}
 use Rattle.jl_pool.specs.Pools.{places, places_of, constant_at, text_of, text_at}
-use Rattle.jl_pool.specs.Reading.Forms.{form_of, forms_of}
-use Rattle.jl_pool.specs.Reading.Table.{shown, pool_of, is_within, form_in, IsTable, Shows, entry_at, entry_of, entries_of}
+use Rattle.jl_pool.specs.Means.Forms.{form_of, forms_of}
+use Rattle.jl_pool.specs.Means.Table.{shown, pool_of, is_within, form_in, IsTable, Shows, entry_at, entry_of, entries_of}
 use Rattle.jl_pool.proofs.Fields.{guard_some, u8_again}
 use Rattle.jl_pool.proofs.EntryLaws.{form_kept}
 use Rattle.jl_pool.proofs.FormLaws.{and_true}
@@ -38,7 +40,8 @@ wide_there front after t bits n e lt =
     subst (λ (x : List ℕ). drop n x ≡ u8 bits ++ after) (append_assoc front (t ∷ []) (u8 bits ++ after))
     (drop_at (front ++ t ∷ []) (u8 bits ++ after) n (length-append front (t ∷ []) ∙ e))
     in
-    let read = guard_some (ltb (length (u8 bits ++ after)) 8) (big_number 8 (u8 bits ++ after), drop 8 (u8 bits ++ after)) (bits, after) (u8_again bits after lt) in
+    let read = guard_some (ltb (length (u8 bits ++ after)) 8) (big_number 8 (u8 bits ++ after), drop 8 (u8 bits ++ after)) (bits, after)
+    (u8_again bits after lt) in
     ap (λ (x : List ℕ). big_number 8 x) there ∙ ap (λ (x : ℕ × List ℕ). x.0) read.1
 
 module _ (front after : List ℕ) where
@@ -49,15 +52,24 @@ module _ (front after : List ℕ) where
   in_block c n le = le-leb _ _ (omega (arith, le, length-append front (constant_text c ++ after), length-append (constant_text c) after))
 
   -- it shows the constant, within the block
-  shown_of : (c : Constant) (start : ℕ) → IsSized c → start ≡ length front → (shown (around c) (entry_of c start) ≡ Some c) × (is_within (length (around c)) (entry_of c start) ≡ true)
-  shown_of (Utf8 text) start sized e =
-      (ap (λ (t : List ℕ). Some (Utf8 t)) (text_there front (1 ∷ u2 (length text)) text after (start + 3) (omega (arith, e))), in_block (Utf8 text) (start + 3 + length text) (omega (arith, e)))
+  shown_of : (c : Constant) (start : ℕ) → IsSized c → start ≡ length front → (shown (around c) (entry_of c start) ≡ Some c)
+      × (is_within (length (around c)) (entry_of c start) ≡ true)
+  shown_of (Utf8 text) start sized e = (
+    ap (λ (t : List ℕ). Some (Utf8 t)) (text_there front (1 ∷ u2 (length text)) text after (start + 3) (omega (arith, e))),
+    in_block (Utf8 text) (start + 3 + length text) (omega (arith, e)),
+  )
   shown_of (Integer bits) start sized e = (refl, refl)
   shown_of (Float bits) start sized e = (refl, refl)
-  shown_of (Long bits) start sized e =
-      (ap (λ (n : ℕ). Some (Long n)) (wide_there front after 5 bits (start + 1) (omega (arith, e)) sized), in_block (Long bits) (start + 1 + 8) (omega (arith, e)))
-  shown_of (Double bits) start sized e =
-      (ap (λ (n : ℕ). Some (Double n)) (wide_there front after 6 bits (start + 1) (omega (arith, e)) sized), in_block (Double bits) (start + 1 + 8) (omega (arith, e)))
+  shown_of (Long bits) start sized e = (
+    ap (λ (n : ℕ). Some (Long n)) (wide_there front after 5 bits (start + 1) (omega (arith, e)) sized),
+    in_block (Long bits) (start + 1 + 8)
+        (omega (arith, e)),
+  )
+  shown_of (Double bits) start sized e = (
+    ap (λ (n : ℕ). Some (Double n)) (wide_there front after 6 bits (start + 1) (omega (arith, e)) sized),
+    in_block (Double bits) (start + 1 + 8)
+        (omega (arith, e)),
+  )
   shown_of (Class name) start sized e = (refl, refl)
   shown_of (String text) start sized e = (refl, refl)
   shown_of (Fieldref owner signed) start sized e = (refl, refl)
@@ -92,9 +104,10 @@ pub places-push : (cs : List Constant) (c : Constant) → places (cs ++ c ∷ []
 places-push cs c = sym (flat_map_more places_of (None ∷ []) cs c)
 
 forms_push : (cs : List Constant) (c : Constant) → forms_of (places cs) ++ forms_of (places_of c) ≡ forms_of (places (cs ++ c ∷ []))
-forms_push cs c = sym (map-append (λ place. option_map form_of (option_and_then text_of place)) (places cs) (places_of c)) ∙ ap forms_of (sym (places-push cs c))
+forms_push cs c = sym (map-append (λ place. option_map form_of (option_and_then text_of place)) (places cs) (places_of c))
+    ∙ ap forms_of (sym (places-push cs c))
 
-module _ (cs : List Constant) (c : Constant) (entries : List Entry) (more : List ℕ) (start : ℕ) (sized : IsSized c)
+module _ (cs : List Constant) (c : Constant) (entries : List KeptConstant) (more : List ℕ) (start : ℕ) (sized : IsSized c)
     (there : start ≡ length (flat_map constant_text cs)) where
   abbrev front : List ℕ
   front = flat_map constant_text cs
@@ -149,19 +162,20 @@ texts_short (c ∷ cs) h =
 
 -- ---- what stands at a number
 
-constant_here : (bytes : List ℕ) (place : Option Entry) → option_and_then (λ p. p) (option_map (shown bytes) place) ≡ shown bytes (unwrap_or place kept.Nothing)
+constant_here : (bytes : List ℕ) (place : Option KeptConstant) → option_and_then (λ p. p) (option_map (shown bytes) place) ≡ shown bytes
+    (unwrap_or place kept.Nothing)
 constant_here bytes None = refl
 constant_here bytes (Some entry) = refl
 
-pub shown_at : (bytes : List ℕ) (entries : List Entry) (n : ℕ) → shown bytes (entry_at entries n) ≡ constant_at (pool_of bytes entries) n
+pub shown_at : (bytes : List ℕ) (entries : List KeptConstant) (n : ℕ) → shown bytes (entry_at entries n) ≡ constant_at (pool_of bytes entries) n
 shown_at bytes entries n = sym (ap (option_and_then (λ p. p)) (slice_get-map (shown bytes) entries n) ∙ constant_here bytes (slice_get entries n))
 
-pub within_at : (size : ℕ) (entries : List Entry) (n : ℕ) → list_all (is_within size) entries ≡ true → is_within size (entry_at entries n) ≡ true
+pub within_at : (size : ℕ) (entries : List KeptConstant) (n : ℕ) → list_all (is_within size) entries ≡ true → is_within size (entry_at entries n) ≡ true
 within_at size [] n h = refl
 within_at size (entry ∷ entries) zero h = (and_true (is_within size entry) (list_all (is_within size) entries) h).0
 within_at size (entry ∷ entries) (suc n) h = within_at size entries n (and_true (is_within size entry) (list_all (is_within size) entries) h).1
 
-formed_here : (place : Option Entry) → form_in (unwrap_or place kept.Nothing) ≡ option_and_then (λ p. p) (option_map form_in place)
+formed_here : (place : Option KeptConstant) → form_in (unwrap_or place kept.Nothing) ≡ option_and_then (λ p. p) (option_map form_in place)
 formed_here None = refl
 formed_here (Some entry) = refl
 
@@ -170,14 +184,16 @@ form_here : (place : Option (Option Constant)) → option_and_then (λ p. p) (op
 form_here None = refl
 form_here (Some place) = refl
 
-pub formed_at : (bytes : List ℕ) (entries : List Entry) (n : ℕ) → map form_in entries ≡ forms_of (pool_of bytes entries)
+pub formed_at : (bytes : List ℕ) (entries : List KeptConstant) (n : ℕ) → map form_in entries ≡ forms_of (pool_of bytes entries)
     → form_in (entry_at entries n) ≡ option_map form_of (text_at (pool_of bytes entries) n)
 formed_at bytes entries n h =
-    formed_here (slice_get entries n) ∙ ap (option_and_then (λ p. p)) (sym (slice_get-map form_in entries n) ∙ ap (λ (forms : List (Option Form)). slice_get forms n) h
+    formed_here (slice_get entries n) ∙ ap (option_and_then (λ p. p)) (sym (slice_get-map form_in entries n)
+    ∙ ap (λ (forms : List (Option Form)). slice_get forms n) h
     ∙ slice_get-map (λ q. option_map form_of (option_and_then text_of q)) (pool_of bytes entries) n)
     ∙ form_here (slice_get (pool_of bytes entries) n)
 
-shows : (bytes : List ℕ) (entry : Entry) → form_in entry ≡ option_map form_of (option_and_then text_of (shown bytes entry)) → Shows entry (shown bytes entry)
+shows : (bytes : List ℕ) (entry : KeptConstant) → form_in entry ≡ option_map form_of (option_and_then text_of (shown bytes entry))
+    → Shows entry (shown bytes entry)
 shows bytes kept.Nothing e = refl
 shows bytes (kept.Utf8 at len form) e = (take len (drop at bytes), refl, cc)
 shows bytes (kept.Long at) e = (big_number 8 (drop at bytes), refl)
@@ -197,7 +213,7 @@ shows bytes (kept.InvokeDynamic bootstrap signed) e = refl
 shows bytes (kept.Module name) e = refl
 shows bytes (kept.Package name) e = refl
 
-pub shows_at : (bytes : List ℕ) (entries : List Entry) (n : ℕ) → map form_in entries ≡ forms_of (pool_of bytes entries)
+pub shows_at : (bytes : List ℕ) (entries : List KeptConstant) (n : ℕ) → map form_in entries ≡ forms_of (pool_of bytes entries)
     → Shows (entry_at entries n) (constant_at (pool_of bytes entries) n)
 shows_at bytes entries n h =
     let there = shown_at bytes entries n in

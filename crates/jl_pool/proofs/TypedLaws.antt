@@ -8,10 +8,11 @@ use Rattle.jl_names.specs.Descriptors.{IsFieldDescriptor}
 use Rattle.jl_names.specs.MethodTypes.{IsMethodDescriptor}
 use Rattle.jl_names.proofs.Tests.{told-decides}
 use Rattle.jl_pool.specs.declared.constant.Constant.{Constant}
-use Rattle.jl_pool.specs.declared.constant.Constant.TheVariants.{Utf8, Integer, Float, Long, Double, Class, String, Fieldref, Methodref, InterfaceMethodref, NameAndType}
+use Rattle.jl_pool.specs.declared.constant.Constant.TheVariants.{Utf8, Integer, Float, Long, Double, Class, String, Fieldref, Methodref}
+use Rattle.jl_pool.specs.declared.constant.Constant.TheVariants.{InterfaceMethodref, NameAndType}
 use Rattle.jl_pool.specs.declared.constant.Constant.TheVariants.{MethodHandle, MethodType, Dynamic, InvokeDynamic, Module, Package}
 use Rattle.jl_pool.specs.Pools.{Pool, text_at, descriptor_at, begins_array, IsClassText, IsTyped}
-use Rattle.jl_pool.specs.Reading.Forms.{is_field, method_slots, form_of, is_class_text, takes_slots, is_typed}
+use Rattle.jl_pool.specs.Means.Forms.{is_field, method_slots, form_of, is_class_text, takes_slots, is_typed}
 use Rattle.jl_pool.proofs.FormLaws.{is_field-is, IsSlots, method_slots-is}
 
 is_method-is : (text : List ℕ) → Decides (is_some (method_slots text)) (IsMethodDescriptor text)
@@ -45,7 +46,8 @@ method_type text = is_method-is text
 
 pub is_typed-is : (pool : Pool) (c : Constant) → Decides (is_typed pool c) (IsTyped pool c)
 is_typed-is pool (Class name) = decides_text is_class_text IsClassText is_class_text-is (text_at pool name)
-is_typed-is pool (NameAndType name ty) = decides_text (λ t. (form_of t).field || takes_slots (form_of t)) (λ t. IsFieldDescriptor t ⊎ IsMethodDescriptor t) either_type (text_at pool ty)
+is_typed-is pool (NameAndType name ty) = decides_text (λ t. (form_of t).field || takes_slots (form_of t)) (λ t. IsFieldDescriptor t
+    ⊎ IsMethodDescriptor t) either_type (text_at pool ty)
 is_typed-is pool (Fieldref owner nt) = decides_text (λ t. (form_of t).field) IsFieldDescriptor field_type (descriptor_at pool nt)
 is_typed-is pool (Dynamic bootstrap nt) = decides_text (λ t. (form_of t).field) IsFieldDescriptor field_type (descriptor_at pool nt)
 is_typed-is pool (Methodref owner nt) = decides_text (λ t. takes_slots (form_of t)) IsMethodDescriptor method_type (descriptor_at pool nt)

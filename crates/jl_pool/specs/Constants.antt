@@ -1,7 +1,9 @@
 -- Constants and their texts (JVMS 4.4).
 use Rattle.std.specs.Prelude.{ℕ, ◌<◌, ◌^◌, Bool, true, false, if◌then◌else◌, ◌==◌, ◌&&◌, nat_le, List, [], ◌∷◌, ◌++◌, length}
 use Rattle.jl_pool.specs.declared.constant.Constant.{Constant}
-use Rattle.jl_pool.specs.declared.constant.Constant.TheVariants.{Utf8, Integer, Float, Long, Double, Class, String, Fieldref, Methodref, InterfaceMethodref, NameAndType, MethodHandle, MethodType, Dynamic, InvokeDynamic, Module, Package}
+use Rattle.jl_pool.specs.declared.constant.Constant.TheVariants.{Utf8, Integer, Float, Long, Double, Class, String, Fieldref, Methodref}
+use Rattle.jl_pool.specs.declared.constant.Constant.TheVariants.{InterfaceMethodref, NameAndType, MethodHandle, MethodType, Dynamic, InvokeDynamic}
+use Rattle.jl_pool.specs.declared.constant.Constant.TheVariants.{Module, Package}
 use Rattle.jl_pool.specs.Numbers.{u1, u2, u4, u8}
 
 abbrev pub tag : Constant → ℕ

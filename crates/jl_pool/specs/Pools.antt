@@ -1,5 +1,6 @@
 -- The constant pool (JVMS 4.4): constants by number, and what a pool has to meet.
-use Rattle.std.specs.Prelude.{ℕ, ◌<◌, ◌^◌, Bool, false, ◌==◌, ◌||◌, IsTrue, List, [], ◌∷◌, ◌++◌, length, slice_get, Option, Some, None, ⊤, ◌⊎◌, if◌then◌else◌, true, option_map}
+use Rattle.std.specs.Prelude.{ℕ, ◌<◌, ◌^◌, Bool, false, ◌==◌, ◌||◌, IsTrue, List, [], ◌∷◌, ◌++◌, length, slice_get, Option, Some, None, ⊤, ◌⊎◌}
+use Rattle.std.specs.Prelude.{if◌then◌else◌, true, option_map}
 use Rattle.std.specs.Option.{option_and_then, option_map_or, IsSomeAnd}
 use Rattle.std.specs.List.{flat_map, list_all, list_any, AllByRecursion}
 use Rattle.std.specs.Str.{byte}
@@ -8,7 +9,8 @@ use Rattle.jl_names.specs.ClassNames.{is_class_name}
 use Rattle.jl_names.specs.Descriptors.{IsFieldDescriptor}
 use Rattle.jl_names.specs.MethodTypes.{IsMethodDescriptor}
 use Rattle.jl_pool.specs.declared.constant.Constant.{Constant}
-use Rattle.jl_pool.specs.declared.constant.Constant.TheVariants.{Utf8, Class, Fieldref, Methodref, InterfaceMethodref, NameAndType, MethodType, Dynamic, InvokeDynamic}
+use Rattle.jl_pool.specs.declared.constant.Constant.TheVariants.{Utf8, Class, Fieldref, Methodref, InterfaceMethodref, NameAndType, MethodType}
+use Rattle.jl_pool.specs.declared.constant.Constant.TheVariants.{Dynamic, InvokeDynamic}
 use Rattle.jl_pool.specs.declared.reference.Reference.{Reference}
 use Rattle.jl_pool.specs.declared.reference.CallSiteSpecifier.{CallSiteSpecifier}
 use Rattle.jl_pool.specs.Numbers.{u2}
@@ -113,7 +115,8 @@ reference_at pool n = option_and_then (reference_of pool) (constant_at pool n)
 
 -- the call site that an InvokeDynamic gives
 abbrev pub call_site_of : Pool → Constant → Option (CallSiteSpecifier (List ℕ))
-call_site_of pool (InvokeDynamic bootstrap name_and_type) = option_map (λ s. record { bootstrap = bootstrap; name = s.name; ty = s.ty }) (signed_at pool name_and_type)
+call_site_of pool (InvokeDynamic bootstrap name_and_type) = option_map (λ s. record { bootstrap = bootstrap; name = s.name; ty = s.ty })
+    (signed_at pool name_and_type)
 call_site_of pool _ = None
 
 abbrev pub call_site_at : Pool → ℕ → Option (CallSiteSpecifier (List ℕ))

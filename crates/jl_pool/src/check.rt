@@ -6,12 +6,12 @@ ghost use Rattle.jl_pool.specs.Constants.{handle_tags};
 ghost use Rattle.jl_pool.specs.declared.pool_fault.PoolFault.{PoolFault};
 ghost use Rattle.jl_pool.specs.Faults.{AllAt};
 ghost use Rattle.jl_pool.specs.Pools.{constant_at, text_at, begins_array, has_tag, is_linked, HasText, IsTyped};
-ghost use Rattle.jl_pool.specs.Reading.Entries.{IsTextFault, IsNameFault, IsCheckFault};
-ghost use Rattle.jl_pool.specs.Reading.Forms.{form_of, takes_slots, is_class_text, is_typed};
+ghost use Rattle.jl_pool.specs.Means.Entries.{IsTextFault, IsNameFault, IsCheckFault};
+ghost use Rattle.jl_pool.specs.Means.Forms.{form_of, takes_slots, is_class_text, is_typed};
 
 use crate::constant::Constant;
-use crate::entry::Entry;
 use crate::form::Form;
+use crate::kept_constant::KeptConstant;
 use crate::pool::Pool;
 use crate::pool_fault::PoolFault;
 use jl_names::is_text;
@@ -100,41 +100,43 @@ impl Pool {
         ensures typed { result.typed ≡ option_map_or (is_typed self.now) (constant_at self.now number) true }
     {
         match self.entry(number) {
-            Entry::Nothing
-            | Entry::Utf8(_, _, _)
-            | Entry::Integer(_)
-            | Entry::Float(_)
-            | Entry::Long(_)
-            | Entry::Double(_) => Names::of_link(true),
-            Entry::String(text) | Entry::Module(text) | Entry::Package(text) => {
-                Names::of_link(self.has_tag(1, text))
-            }
-            Entry::MethodHandle(kind, reference) => Names::of_link(self.refers(kind, reference)),
-            Entry::Class(name) => Names {
+            KeptConstant::Nothing
+            | KeptConstant::Utf8(_, _, _)
+            | KeptConstant::Integer(_)
+            | KeptConstant::Float(_)
+            | KeptConstant::Long(_)
+            | KeptConstant::Double(_) => Names::of_link(true),
+            KeptConstant::String(text) | KeptConstant::Module(text) | KeptConstant::Package(text) =>
+                { Names::of_link(self.has_tag(1, text)) }
+            KeptConstant::MethodHandle(kind, reference) => Names::of_link(self.refers(
+                kind, reference,
+            )),
+            KeptConstant::Class(name) => Names {
                 linked: self.has_tag(1, name),
                 typed: self.is_class_text(name),
             },
-            Entry::MethodType(ty) => Names {
+            KeptConstant::MethodType(ty) => Names {
                 linked: self.has_tag(1, ty),
                 typed: is_method(self.form(ty)),
             },
-            Entry::NameAndType(name, ty) => Names {
+            KeptConstant::NameAndType(name, ty) => Names {
                 linked: self.has_tag(1, name) & self.has_tag(1, ty),
                 typed: is_descriptor(self.form(ty)),
             },
-            Entry::Fieldref(owner, signed) => Names {
+            KeptConstant::Fieldref(owner, signed) => Names {
                 linked: self.is_member(owner, signed),
                 typed: is_field(self.descriptor_form(signed)),
             },
-            Entry::Methodref(owner, signed) | Entry::InterfaceMethodref(owner, signed) => Names {
+            KeptConstant::Methodref(owner, signed)
+            | KeptConstant::InterfaceMethodref(owner, signed) => Names {
                 linked: self.is_member(owner, signed),
                 typed: is_method(self.descriptor_form(signed)),
             },
-            Entry::Dynamic(_, signed) => Names {
+            KeptConstant::Dynamic(_, signed) => Names {
                 linked: self.has_tag(12, signed),
                 typed: is_field(self.descriptor_form(signed)),
             },
-            Entry::InvokeDynamic(_, signed) => Names {
+            KeptConstant::InvokeDynamic(_, signed) => Names {
                 linked: self.has_tag(12, signed),
                 typed: is_method(self.descriptor_form(signed)),
             },
@@ -213,7 +215,7 @@ fn is_descriptor(form: Option<Form>) -> bool
 }
 
 /// Whether a text of this form is a class name or the descriptor of an array.
-#[tactic(auto, unfolding(crate::specs::Reading::Forms::form_of))]
+#[tactic(auto, unfolding(crate::specs::Means::Forms::form_of))]
 fn names_class(text: &[u8], form: Option<Form>) -> bool
     requires { form ≡ Some (form_of text.now) }
     ensures { result ≡ is_class_text text.now }

@@ -1,9 +1,9 @@
 //! What a text of the pool may stand for.
 
-ghost use Rattle.std.specs.Prelude.{◌≡◌, ◌+◌, ◌*◌, ◌≤◌, ◌&&◌, ◌||◌, not, length, take, drop};
+ghost use Rattle.std.specs.Prelude.{◌≡◌, ◌+◌, ◌*◌, ◌≤◌, ◌&&◌, ◌||◌, length, take, drop};
 ghost use Rattle.jl_names.specs.ClassNames.{is_class_name, is_unqualified};
-ghost use Rattle.jl_pool.specs.Reading.Forms.{form_of, is_field};
-ghost use Rattle.jl_pool.specs.Reading.Marks.{marks_of, either};
+ghost use Rattle.jl_pool.specs.Means.Forms.{form_of, is_field};
+ghost use Rattle.jl_pool.specs.Means.Marks.{marks_of, either};
 
 use jl_names::{FieldType, is_class_name, method_slots};
 use std::simd::prelude::*;

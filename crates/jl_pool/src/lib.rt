@@ -7,8 +7,8 @@
 mod bytes;
 mod check;
 mod constant;
-mod entry;
 mod form;
+mod kept_constant;
 mod pool;
 mod pool_fault;
 mod reference;

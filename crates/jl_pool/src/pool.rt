@@ -10,16 +10,16 @@ ghost use Rattle.jl_pool.specs.Constants.{constant_text};
 ghost use Rattle.jl_pool.specs.declared.pool_fault.PoolFault.{PoolFault};
 ghost use Rattle.jl_pool.specs.declared.pool_fault.PoolFault.TheVariants.{Memory};
 ghost use Rattle.jl_pool.specs.Faults.{PoolStands, IsPoolFault};
-ghost use Rattle.jl_pool.specs.Reading.Constants.{Gives, is_known, is_wide, of_bits, of_number, of_pair, payload_at, constant_at};
-ghost use Rattle.jl_pool.specs.Reading.Entries.{BeginsText};
-ghost use Rattle.jl_pool.specs.Reading.Fields.{Finds};
-ghost use Rattle.jl_pool.specs.Reading.Forms.{form_of};
-ghost use Rattle.jl_pool.specs.Reading.Table.{with_second, IsTable, Shows, entry_of, wide_entry, keep, keep_read};
+ghost use Rattle.jl_pool.specs.Means.Constants.{Gives, is_known, is_wide, of_bits, of_number, of_pair, payload_at, constant_at};
+ghost use Rattle.jl_pool.specs.Means.Entries.{BeginsText};
+ghost use Rattle.jl_pool.specs.Means.Fields.{Finds};
+ghost use Rattle.jl_pool.specs.Means.Forms.{form_of};
+ghost use Rattle.jl_pool.specs.Means.Table.{with_second, IsTable, Shows, entry_of, wide_entry, keep, keep_read};
 
 use crate::bytes::{handle_at, pair_at, text_at, u2_at, u4_at, u8_at};
 use crate::constant::Constant;
-use crate::entry::{Entry, Kept, constant_in, entry_at, form_in, text_in};
 use crate::form::Form;
+use crate::kept_constant::{Kept, KeptConstant, constant_in, entry_at, form_in, text_in};
 use crate::pool_fault::PoolFault;
 use crate::reference::{CallSiteSpecifier, Reference};
 use jl_names::{LentName, Name, is_text};
@@ -32,13 +32,13 @@ use std::marker::Model;
 #[derive(Debug, Drop)]
 pub struct Pool {
     block: Name,
-    entries: Vec<Entry>,
+    entries: Vec<KeptConstant>,
 }
 
 impl Model for Pool {
     ghost use Rattle.std.specs.Prelude.{List, Option};
     ghost use Rattle.jl_pool.specs.declared.constant.Constant.{Constant};
-    ghost use Rattle.jl_pool.specs.Reading.Table.{pool_of, IsKept};
+    ghost use Rattle.jl_pool.specs.Means.Table.{pool_of, IsKept};
 
     ghost Value = { List (Option Constant) };
 
@@ -52,8 +52,9 @@ impl Pool {
     ghost use Rattle.std.specs.Option.{IsSomeAnd};
     ghost use Rattle.jl_names.specs.ClassNames.{is_class_name};
     ghost use Rattle.jl_names.specs.MethodTypes.{IsMethodDescriptor, TakesSlots};
-    ghost use Rattle.jl_pool.specs.Pools.{places, pool_text, IsSoundPool, constant_at as standing_at, named_descriptor, class_text_at, class_at, both, signed_at, reference, reference_at, call_site_at};
-    ghost use Rattle.jl_pool.specs.Reading.Forms.{signed_names};
+    ghost use Rattle.jl_pool.specs.Pools.{places, pool_text, IsSoundPool, constant_at as standing_at, named_descriptor, class_text_at, class_at};
+    ghost use Rattle.jl_pool.specs.Pools.{both, signed_at, reference, reference_at, call_site_at};
+    ghost use Rattle.jl_pool.specs.Means.Forms.{signed_names};
     ghost use Rattle.jl_pool.specs.Faults.{PoolStands, IsPoolFault};
 
     /// The pool at the front, from its count on, and how many bytes it takes. More bytes may follow.
@@ -95,16 +96,6 @@ impl Pool {
         self.len() as u16
     }
 
-    /// The same pool once more, over the same bytes. Want of memory is an error.
-    pub fn copy(&self, alloc: Global) -> Result<Pool, AllocError>
-        ensures { IfOk result (λ copy. copy ≡ self.now) }
-    {
-        Ok(Pool {
-            block: self.block.copy(alloc)?,
-            entries: self.entries.to_vec(alloc)?,
-        })
-    }
-
     /// The constant at a number. None stands at number 0, nor at the second number of a Long or a Double (§4.4.5).
     pub fn constant(&self, number: u16) -> Option<Constant<'_>>
         ensures { result ≡ standing_at self.now number }
@@ -113,7 +104,7 @@ impl Pool {
     }
 
     /// What is kept of what stands at a number.
-    pub(crate) fn entry(&self, number: u16) -> Entry
+    pub(crate) fn entry(&self, number: u16) -> KeptConstant
         ensures { Shows result (standing_at self.now number) }
     {
         entry_at(&self.entries, number)
@@ -148,7 +139,7 @@ impl Pool {
         ensures { result ≡ class_text_at self.now number }
     {
         match self.entry(number) {
-            Entry::Class(name) => self.utf8(name),
+            KeptConstant::Class(name) => self.utf8(name),
             _ => None,
         }
     }
@@ -158,13 +149,13 @@ impl Pool {
         ensures { result ≡ class_at self.now number }
     {
         match self.entry(number) {
-            Entry::Class(name) => self.text_if_class_name(name),
+            KeptConstant::Class(name) => self.text_if_class_name(name),
             _ => None,
         }
     }
 
     /// The text of the Utf8 at a number, where it is a class name.
-    #[tactic(auto, unfolding(crate::specs::Reading::Forms::form_of))]
+    #[tactic(auto, unfolding(crate::specs::Means::Forms::form_of))]
     fn text_if_class_name(&self, number: u16) -> Option<LentName<'_>>
         ensures { result ≡ option_and_then (λ text. if is_class_name text then Some text else None) (text_at self.now number) }
     {
@@ -179,7 +170,7 @@ impl Pool {
         ensures { option_map signed_names result ≡ signed_at self.now number }
     {
         match self.entry(number) {
-            Entry::NameAndType(name, ty) => Some((self.utf8(name)?, self.utf8(ty)?)),
+            KeptConstant::NameAndType(name, ty) => Some((self.utf8(name)?, self.utf8(ty)?)),
             _ => None,
         }
     }
@@ -203,8 +194,10 @@ impl Pool {
         ensures { result ≡ reference_at self.now number }
     {
         match self.entry(number) {
-            Entry::Methodref(owner, signed) => self.reference(false, owner, signed),
-            Entry::InterfaceMethodref(owner, signed) => { self.reference(true, owner, signed) }
+            KeptConstant::Methodref(owner, signed) => self.reference(false, owner, signed),
+            KeptConstant::InterfaceMethodref(owner, signed) => {
+                self.reference(true, owner, signed)
+            }
             _ => None,
         }
     }
@@ -214,7 +207,7 @@ impl Pool {
         ensures { result ≡ call_site_at self.now number }
     {
         match self.entry(number) {
-            Entry::InvokeDynamic(bootstrap, signed) => {
+            KeptConstant::InvokeDynamic(bootstrap, signed) => {
                 let (name, ty) = self.signed(signed)?;
                 Some(CallSiteSpecifier {
                     bootstrap,
@@ -231,24 +224,24 @@ impl Pool {
         ensures { result ≡ has_tag self.now (tag ∷ []) number }
     {
         match self.entry(number) {
-            Entry::Nothing => false,
-            Entry::Utf8(_, _, _) => tag == 1,
-            Entry::Integer(_) => tag == 3,
-            Entry::Float(_) => tag == 4,
-            Entry::Long(_) => tag == 5,
-            Entry::Double(_) => tag == 6,
-            Entry::Class(_) => tag == 7,
-            Entry::String(_) => tag == 8,
-            Entry::Fieldref(_, _) => tag == 9,
-            Entry::Methodref(_, _) => tag == 10,
-            Entry::InterfaceMethodref(_, _) => tag == 11,
-            Entry::NameAndType(_, _) => tag == 12,
-            Entry::MethodHandle(_, _) => tag == 15,
-            Entry::MethodType(_) => tag == 16,
-            Entry::Dynamic(_, _) => tag == 17,
-            Entry::InvokeDynamic(_, _) => tag == 18,
-            Entry::Module(_) => tag == 19,
-            Entry::Package(_) => tag == 20,
+            KeptConstant::Nothing => false,
+            KeptConstant::Utf8(_, _, _) => tag == 1,
+            KeptConstant::Integer(_) => tag == 3,
+            KeptConstant::Float(_) => tag == 4,
+            KeptConstant::Long(_) => tag == 5,
+            KeptConstant::Double(_) => tag == 6,
+            KeptConstant::Class(_) => tag == 7,
+            KeptConstant::String(_) => tag == 8,
+            KeptConstant::Fieldref(_, _) => tag == 9,
+            KeptConstant::Methodref(_, _) => tag == 10,
+            KeptConstant::InterfaceMethodref(_, _) => tag == 11,
+            KeptConstant::NameAndType(_, _) => tag == 12,
+            KeptConstant::MethodHandle(_, _) => tag == 15,
+            KeptConstant::MethodType(_) => tag == 16,
+            KeptConstant::Dynamic(_, _) => tag == 17,
+            KeptConstant::InvokeDynamic(_, _) => tag == 18,
+            KeptConstant::Module(_) => tag == 19,
+            KeptConstant::Package(_) => tag == 20,
         }
     }
 
@@ -266,9 +259,9 @@ impl Pool {
         ensures { result ≡ option_map form_of (named_descriptor self.now number) }
     {
         match self.entry(number) {
-            Entry::Methodref(_, signed) => self.descriptor_form(signed),
-            Entry::InterfaceMethodref(_, signed) => self.descriptor_form(signed),
-            Entry::InvokeDynamic(_, signed) => self.descriptor_form(signed),
+            KeptConstant::Methodref(_, signed) => self.descriptor_form(signed),
+            KeptConstant::InterfaceMethodref(_, signed) => self.descriptor_form(signed),
+            KeptConstant::InvokeDynamic(_, signed) => self.descriptor_form(signed),
             _ => None,
         }
     }
@@ -278,7 +271,7 @@ impl Pool {
         ensures { result ≡ option_map form_of (descriptor_at self.now number) }
     {
         match self.entry(number) {
-            Entry::NameAndType(_, ty) => self.form(ty),
+            KeptConstant::NameAndType(_, ty) => self.form(ty),
             _ => None,
         }
     }
@@ -301,7 +294,8 @@ pub fn one_pool()
 
 /// No pool has a fault.
 pub fn no_fault_in_a_pool()
-    ensures { (text : List ℕ) (cs : List Constant) (left : List ℕ) (fault : PoolFault) → PoolStands text cs left → IsSoundPool cs → fault ≢ Memory → ¬ IsPoolFault text fault }
+    ensures { (text : List ℕ) (cs : List Constant) (left : List ℕ) (fault : PoolFault) → PoolStands text cs left → IsSoundPool cs → fault ≢ Memory
+        → ¬ IsPoolFault text fault }
 {}
 
 /// Why no constant stands at the front.
@@ -329,7 +323,7 @@ fn is_wide(tag: u8) -> bool
 
 /// What is kept of the constant of this tag, which begins at this place of the block: what stands behind the tag is at the
 /// front. And what comes after it.
-#[tactic(auto, unfolding(crate::specs::Reading::Constants::payload_at))]
+#[tactic(auto, unfolding(crate::specs::Means::Constants::payload_at))]
 fn payload_at(tag: u8, start: u32, bytes: &[u8]) -> Option<(Kept, &[u8])>
     requires { start + 3 < 2 ^ 32 }
     ensures { Finds (λ x. (x.0, x.1.now)) result (option_map (keep start) (payload_at tag bytes.now)) }
@@ -357,62 +351,65 @@ fn payload_at(tag: u8, start: u32, bytes: &[u8]) -> Option<(Kept, &[u8])>
         }
         15 => {
             let ((kind, reference), rest) = handle_at(bytes)?;
-            Some((Kept::of_no_text(Entry::MethodHandle(kind, reference)), rest))
+            Some((
+                Kept::of_no_text(KeptConstant::MethodHandle(kind, reference)),
+                rest,
+            ))
         }
         _ => None,
     }
 }
 
 /// An Integer or a Float, by its tag.
-fn of_bits(tag: u8, bits: u32) -> Entry
+fn of_bits(tag: u8, bits: u32) -> KeptConstant
     ensures { result ≡ entry_of (of_bits tag bits) 0 }
 {
     match tag {
-        3 => Entry::Integer(bits),
-        _ => Entry::Float(bits),
+        3 => KeptConstant::Integer(bits),
+        _ => KeptConstant::Float(bits),
     }
 }
 
 /// A Long or a Double whose value begins at this place of the block, by its tag.
-fn of_wide_bits(tag: u8, at: u32) -> Entry
+fn of_wide_bits(tag: u8, at: u32) -> KeptConstant
     ensures { result ≡ wide_entry tag at }
 {
     match tag {
-        5 => Entry::Long(at),
-        _ => Entry::Double(at),
+        5 => KeptConstant::Long(at),
+        _ => KeptConstant::Double(at),
     }
 }
 
 /// An entry of one number, by its tag.
-fn of_number(tag: u8, number: u16) -> Entry
+fn of_number(tag: u8, number: u16) -> KeptConstant
     ensures { result ≡ entry_of (of_number tag number) 0 }
 {
     match tag {
-        7 => Entry::Class(number),
-        8 => Entry::String(number),
-        16 => Entry::MethodType(number),
-        19 => Entry::Module(number),
-        _ => Entry::Package(number),
+        7 => KeptConstant::Class(number),
+        8 => KeptConstant::String(number),
+        16 => KeptConstant::MethodType(number),
+        19 => KeptConstant::Module(number),
+        _ => KeptConstant::Package(number),
     }
 }
 
 /// An entry of two numbers, by its tag.
-fn of_pair(tag: u8, first: u16, second: u16) -> Entry
+fn of_pair(tag: u8, first: u16, second: u16) -> KeptConstant
     ensures { result ≡ entry_of (of_pair tag (first, second)) 0 }
 {
     match tag {
-        9 => Entry::Fieldref(first, second),
-        10 => Entry::Methodref(first, second),
-        11 => Entry::InterfaceMethodref(first, second),
-        12 => Entry::NameAndType(first, second),
-        17 => Entry::Dynamic(first, second),
-        _ => Entry::InvokeDynamic(first, second),
+        9 => KeptConstant::Fieldref(first, second),
+        10 => KeptConstant::Methodref(first, second),
+        11 => KeptConstant::InterfaceMethodref(first, second),
+        12 => KeptConstant::NameAndType(first, second),
+        17 => KeptConstant::Dynamic(first, second),
+        _ => KeptConstant::InvokeDynamic(first, second),
     }
 }
 
 /// What is kept of the constant at the front, which begins at this place of the block, and what comes after it. Where it has
 /// the last number, it may take no second one.
-#[tactic(auto, unfolding(crate::specs::Reading::Constants::constant_at))]
+#[tactic(auto, unfolding(crate::specs::Means::Constants::constant_at))]
 fn kept_at(last: bool, start: u32, bytes: &[u8]) -> Result<(Kept, &[u8]), Stop>
     requires { start + 3 < 2 ^ 32 }
     ensures { Gives (λ x. (x.0, x.1.now)) result (keep_read start (constant_at last bytes.now)) }
@@ -433,13 +430,13 @@ fn kept_at(last: bool, start: u32, bytes: &[u8]) -> Result<(Kept, &[u8]), Stop>
 }
 
 /// Adds an entry, at its numbers, and answers how many it takes.
-fn push_entry(entries: &mut Vec<Entry>, entry: Entry) -> Result<u16, PoolFault>
+fn push_entry(entries: &mut Vec<KeptConstant>, entry: KeptConstant) -> Result<u16, PoolFault>
     ensures ok { IfOk result (λ n. (n ≡ length (with_second entry)) × (entries.new.items ≡ entries.old.items ++ with_second entry)) }
     ensures fault { IfErr result (λ f. f ≡ PoolFault.Memory) }
 {
     entries.push(entry)?;
     if entry.takes_two() {
-        entries.push(Entry::Nothing)?;
+        entries.push(KeptConstant::Nothing)?;
         return Ok(2);
     }
     Ok(1)
@@ -471,14 +468,14 @@ fn constants_at(
     alloc: Global,
     count: u16,
     bytes: &[u8],
-) -> Result<(Vec<Entry>, bool, &[u8]), PoolFault>
+) -> Result<(Vec<KeptConstant>, bool, &[u8]), PoolFault>
     requires { 1 ≤ count }
     ensures ok { IfOk result (λ x. (cs : List Constant) × PoolStands (u2 count ++ bytes.now) cs x.2.now × (bytes.now ≡ flat_map constant_text cs ++ x.2.now)
         × IsTable (flat_map constant_text cs) x.0.items cs × (x.1 ≡ false → HaveTexts cs)) }
     ensures fault { IfErr result (IsPoolFault (u2 count ++ bytes.now)) }
 {
     let mut entries = Vec::with_capacity(alloc, usize::from(count))?;
-    entries.push(Entry::Nothing)?;
+    entries.push(KeptConstant::Nothing)?;
     let mut bad = false;
     let mut place = 1;
     let mut rest = bytes;

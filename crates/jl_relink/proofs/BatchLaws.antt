@@ -12,11 +12,11 @@ use Rattle.jl_types.specs.declared.refusal.SitesFault.{SitesFault}
 use Rattle.jl_types.specs.declared.refusal.SitesFault.TheVariants.{Repeated}
 use Rattle.jl_types.specs.declared.refusal.PrepareFault.{PrepareFault}
 use Rattle.jl_types.specs.declared.refusal.PrepareFault.TheVariants as fault
-use Rattle.jl_types.specs.Batches.{is_bad_size, sites_fault}
-use Rattle.jl_types.specs.Preparation.{of_sites, link_fault, ready_fault, prepare_fault, ArePrepared}
-use Rattle.jl_types.specs.World.{World}
-use Rattle.jl_types.specs.Links.{scratch}
-use Rattle.jl_types.specs.Resolution.{first_of}
+use Rattle.jl_types.specs.Happenings.Batches.{is_bad_size, sites_fault}
+use Rattle.jl_types.specs.Happenings.Preparation.{of_sites, link_fault, ready_fault, prepare_fault, ArePrepared}
+use Rattle.jl_types.specs.Values.World.{World}
+use Rattle.jl_types.specs.Linkage.Links.{scratch}
+use Rattle.jl_types.specs.Linkage.Resolution.{first_of}
 use Rattle.jl_types.proofs.Bools.{or_none}
 use Rattle.jl_types.proofs.Firsts.{first_alone}
 use Rattle.jl_types.proofs.Lists.{rest_at}
@@ -31,7 +31,8 @@ module _ {A : Type 0} (site : A → ℕ) where
   any_fold : (s : ℕ) (rows : List A) (sites : List ℕ)
       → list_any (λ t. t == s) (fold (λ sites row. site row ∷ sites) sites rows) ≡ (list_any (λ row. site row == s) rows || list_any (λ t. t == s) sites)
   any_fold s [] sites = refl
-  any_fold s (row ∷ rows) sites = any_fold s rows (site row ∷ sites) ∙ turned (list_any (λ row. site row == s) rows) (site row == s) (list_any (λ t. t == s) sites)
+  any_fold s (row ∷ rows) sites = any_fold s rows (site row ∷ sites) ∙ turned (list_any (λ row. site row == s) rows) (site row == s)
+      (list_any (λ t. t == s) sites)
     where
       turned : (a b c : Bool) → (a || (b || c)) ≡ ((b || a) || c)
       turned true true c = refl
@@ -42,7 +43,8 @@ module _ {A : Type 0} (site : A → ℕ) where
   pub any_site : (s : ℕ) (rows : List A) → list_any (λ t. t == s) (sites_of rows) ≡ list_any (λ row. site row == s) rows
   any_site s rows = any_fold s rows [] ∙ or_none (list_any (λ row. site row == s) rows)
 
-  fold_end : (sites : List ℕ) (rows : List A) (row : A) → fold (λ sites row. site row ∷ sites) sites (rows ++ row ∷ []) ≡ site row ∷ fold (λ sites row. site row ∷ sites) sites rows
+  fold_end : (sites : List ℕ) (rows : List A) (row : A) → fold (λ sites row. site row ∷ sites) sites (rows ++ row ∷ []) ≡ site row
+      ∷ fold (λ sites row. site row ∷ sites) sites rows
   fold_end sites [] row = refl
   fold_end sites (x ∷ rows) row = fold_end (site x ∷ sites) rows row
 
@@ -69,7 +71,8 @@ module _ {A : Type 0} (site : A → ℕ) (w : World) (rows : List A) (n : ℕ) (
       ∙ ap (λ t. sites_fault w (sites_of site (take n rows)) (t ∷ map site (drop (n + 1) rows))) (sym same)
 
   pub comes_again : list_any (λ r. site r == s) (take n rows) ≡ true → left n ≡ Some (Repeated s)
-  comes_again h = split ∙ repeated_site w (sites_of site (take n rows)) s (map site (drop (n + 1) rows)) (lt-leb (length w.places) s known) (any_site site s (take n rows) ∙ h)
+  comes_again h = split ∙ repeated_site w (sites_of site (take n rows)) s (map site (drop (n + 1) rows)) (lt-leb (length w.places) s known)
+      (any_site site s (take n rows) ∙ h)
 
   pub comes_first : list_any (λ r. site r == s) (take n rows) ≡ false → left (n + 1) ≡ left n
   comes_first h =
@@ -113,8 +116,10 @@ first_unready w sites n s rows f h e g =
     ∙ ap (ready_fault w) e
     ∙ fails_first w s (drop (n + 1) sites) f g
 
-pub size_and_sites : (w : World) (sites : List ℕ) → is_bad_size (length sites) ≡ false → sites_fault w [] sites ≡ None → prepare_fault w sites ≡ ready_fault w sites
-size_and_sites w sites e f = (λ i. first_of (then_some (e i) fault.BatchSize ∷ option_map of_sites (f i) ∷ ready_fault w sites ∷ [])) ∙ first_alone (ready_fault w sites)
+pub size_and_sites : (w : World) (sites : List ℕ) → is_bad_size (length sites) ≡ false → sites_fault w [] sites ≡ None
+    → prepare_fault w sites ≡ ready_fault w sites
+size_and_sites w sites e f = (λ i. first_of (then_some (e i) fault.BatchSize ∷ option_map of_sites (f i) ∷ ready_fault w sites ∷ []))
+    ∙ first_alone (ready_fault w sites)
 
 pub zip_each : {A B : Type 0} (P Q : A → B → Type 0) → ((x : A) (y : B) → P x y → Q x y) → (xs : List A) (ys : List B) → AllZip P xs ys → AllZip Q xs ys
 zip_each P Q f [] [] h = h

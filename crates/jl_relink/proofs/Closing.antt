@@ -1,12 +1,13 @@
 -- What is present rests on what is present after each accepted event, too, and which sites stay present.
-use Rattle.std.specs.Prelude.{◌≡◌, ℕ, ◌+◌, ◌<◌, ◌≤◌, ◌==◌, not, ◌&&◌, ◌||◌, nat_le, Bool, true, false, cond, List, [], ◌∷◌, map, filter, length, slice_get, Option, Some, None, option_map, IsOk}
+use Rattle.std.specs.Prelude.{◌≡◌, ℕ, ◌+◌, ◌<◌, ◌≤◌, ◌==◌, not, ◌&&◌, ◌||◌, nat_le, Bool, true, false, cond, List, [], ◌∷◌, map, filter, length}
+use Rattle.std.specs.Prelude.{slice_get, Option, Some, None, option_map, IsOk}
 use Rattle.std.specs.Option.{option_map_or}
 use Rattle.std.specs.List.{list_any}
 use Rattle.std.specs.Bool.{then_some}
 use Rattle.std.proofs.Common.{refl, ap, sym, ◌∙◌, arith}
 use Rattle.std.proofs.lemmas.Bool.{both_ways, and_parts}
 use Rattle.std.proofs.lemmas.Cmp.{nat_eq_equiv}
-use Rattle.jl_types.specs.Event.{Event}
+use Rattle.jl_types.specs.Happenings.Event.{Event}
 use Rattle.jl_types.specs.declared.event.EventOf.TheVariants as event
 use Rattle.jl_types.specs.declared.event.Made.{Made}
 use Rattle.jl_types.specs.declared.ids.Place.{Place}
@@ -14,15 +15,15 @@ use Rattle.jl_types.specs.declared.refusal.DelegateFault.TheVariants.{UnknownLoa
 use Rattle.jl_types.specs.declared.refusal.Refusal.{Refusal}
 use Rattle.jl_types.specs.declared.refusal.Refusal.TheVariants.{Delegate, Retire}
 use Rattle.jl_types.specs.declared.refusal.RetireFault.TheVariants.{Targeted}
-use Rattle.jl_types.specs.World.{World, Classes}
-use Rattle.jl_types.specs.Members.{is_retired, is_present, is_concrete, lookup, numbers}
-use Rattle.jl_types.specs.Ancestry.{AreOrdered, is_ancestor, receivers}
-use Rattle.jl_types.specs.Definitions.{is_unknown, with_record, delegate_fault, delegated}
-use Rattle.jl_types.specs.Retirement.{is_of, classes_fault, targeted, retire_fault, retired, losing_receivers}
-use Rattle.jl_types.specs.Events.{unless, verdict, step}
+use Rattle.jl_types.specs.Values.World.{World, Classes}
+use Rattle.jl_types.specs.Values.Members.{is_retired, is_present, is_concrete, lookup, numbers}
+use Rattle.jl_types.specs.Values.Ancestry.{AreOrdered, is_ancestor, receivers}
+use Rattle.jl_types.specs.Happenings.Definitions.{is_unknown, with_record, delegate_fault, delegated}
+use Rattle.jl_types.specs.Happenings.Retirement.{is_of, classes_fault, targeted, retire_fault, retired, losing_receivers}
+use Rattle.jl_types.specs.Happenings.Events.{unless, verdict, step}
 use Rattle.jl_types.specs.declared.key.Key.{Key}
 use Rattle.jl_types.specs.declared.key.Key.TheVariants as key
-use Rattle.jl_types.specs.Footprints.{same_key, has_key, retires}
+use Rattle.jl_types.specs.Happenings.Footprints.{same_key, has_key, retires}
 use Rattle.jl_types.proofs.Ancestors.{ancestor_decides}
 use Rattle.jl_types.proofs.Bools.{any-filter, any-filter-at, any-map, any-range-from}
 use Rattle.jl_types.proofs.Firsts.{first_none, test_none}
@@ -53,7 +54,8 @@ module _ (cs : Classes) (order : AreInOrder cs) where
       live : is_retired cs to ≡ false
       live =
           last (is_unknown cs loader) (nat_le (length cs.loaders) to) (is_retired cs to)
-          (test_none (is_unknown cs loader || is_unknown cs to) UnknownLoader (first_none (then_some (is_unknown cs loader || is_unknown cs to) UnknownLoader) _ none).0)
+          (test_none (is_unknown cs loader || is_unknown cs to) UnknownLoader
+          (first_none (then_some (is_unknown cs loader || is_unknown cs to) UnknownLoader) _ none).0)
         where
           last : (a b c : Bool) → (a || (b || c)) ≡ false → c ≡ false
           last true b c e = cc

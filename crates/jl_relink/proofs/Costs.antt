@@ -3,20 +3,22 @@ use Rattle.std.specs.Prelude.{◌≡◌, ◌≢◌, ℕ, Bool, true, false, List
 use Rattle.std.proofs.Common.{inl, inr}
 use Rattle.std.proofs.lemmas.Bool.{or_cases, or_left, or_right}
 use Rattle.std.proofs.lemmas.Cmp.{nat_eq_equiv}
-use Rattle.jl_code.specs.declared.site.Kind.{Kind}
-use Rattle.jl_code.specs.declared.site.Operand.{Operand}
-use Rattle.jl_code.specs.declared.site.Operand.TheVariants as operand
-use Rattle.jl_code.specs.Site.{Site}
+use Rattle.jl_class.specs.declared.site.Kind.{Kind}
+use Rattle.jl_class.specs.declared.site.Operand.{Operand}
+use Rattle.jl_class.specs.declared.site.Operand.TheVariants as operand
+use Rattle.jl_class.specs.Site.{Site}
 use Rattle.jl_types.specs.declared.ids.Place.{Place}
-use Rattle.jl_types.specs.Event.{Event}
+use Rattle.jl_types.specs.Happenings.Event.{Event}
 use Rattle.jl_types.specs.declared.event.EventOf.TheVariants as event
-use Rattle.jl_types.specs.World.{Sites, World}
-use Rattle.jl_types.specs.Members.{is_present, is_private}
-use Rattle.jl_types.specs.Sites.{Selector, ByVirtual, ByInterface, BySpecial, Invocation, Stage, Waits, Fails, Calls, Selects, invocation_at, bound_to, by_operand}
-use Rattle.jl_types.specs.Events.{step}
+use Rattle.jl_types.specs.Values.World.{Sites, World}
+use Rattle.jl_types.specs.Values.Members.{is_present, is_private}
+use Rattle.jl_types.specs.Linkage.Stages.{Selector, ByVirtual, ByInterface, BySpecial, ResolvedCall, Stage, Waits, Fails, Calls, Selects}
+use Rattle.jl_types.specs.Linkage.Stages.{invocation_at, bound_to, by_operand}
+use Rattle.jl_types.specs.Happenings.Events.{step}
 use Rattle.jl_types.specs.declared.key.Key.{Key}
 use Rattle.jl_types.specs.declared.key.Key.TheVariants as key
-use Rattle.jl_types.specs.Footprints.{same_key, has_key, meets, of_selector, of_stage, of_operand, of_invocation, of_place, footprint, still_valid, touches, most_by, most_for}
+use Rattle.jl_types.specs.Happenings.Footprints.{same_key, has_key, meets, of_selector, of_stage, of_operand, of_invocation, of_place, footprint}
+use Rattle.jl_types.specs.Happenings.Footprints.{still_valid, touches, most_by, most_for}
 use Rattle.jl_relink.proofs.WayKeys.{binding_takes_one}
 use Rattle.jl_relink.specs.Laws.{changes_receivers}
 use Rattle.jl_relink.proofs.Untouched.{same_key_is}
@@ -44,7 +46,7 @@ module _ (w : World) (sites : Sites) (s : ℕ) (k : Key) (other : IsOther k) whe
   one_receivers : (c : ℕ) → has_key (key.Receivers c ∷ []) k ≡ true → ⊥
   one_receivers c h = elim (or_cases (same_key (key.Receivers c) k) false h) [ inl is ↦ other c (same_key_is (key.Receivers c) k is) | inr no_more ↦ cc ]
 
-  by_selector : (i : Invocation) (selector : Selector) → has_key (of_selector w.classes i selector) k ≡ true → ⊥
+  by_selector : (i : ResolvedCall) (selector : Selector) → has_key (of_selector w.classes i selector) k ≡ true → ⊥
   by_selector i ByVirtual h = by_flag (is_private w.classes i.method) h
     where
       by_flag : (b : Bool) → has_key (if b then [] else key.Receivers i.named ∷ []) k ≡ true → ⊥

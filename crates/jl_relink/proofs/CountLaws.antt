@@ -6,13 +6,13 @@ use Rattle.std.proofs.lemmas.Bool.{leb-true}
 use Rattle.jl_types.specs.declared.answer.Outcome.{Outcome}
 use Rattle.jl_types.specs.declared.link.Link.TheVariants.{Table, Mega}
 use Rattle.jl_types.specs.declared.link.TableKind.{TableKind}
-use Rattle.jl_types.specs.Links.{table_or_mega}
-use Rattle.jl_types.specs.World.{World, Classes}
-use Rattle.jl_types.specs.Members.{is_concrete, numbers}
-use Rattle.jl_types.specs.Ancestry.{is_ancestor, receivers}
+use Rattle.jl_types.specs.Linkage.Links.{table_or_mega}
+use Rattle.jl_types.specs.Values.World.{World, Classes}
+use Rattle.jl_types.specs.Values.Members.{is_concrete, numbers}
+use Rattle.jl_types.specs.Values.Ancestry.{is_ancestor, receivers}
 use Rattle.jl_types.specs.declared.key.Key.{Key}
 use Rattle.jl_types.specs.declared.key.Key.TheVariants as key
-use Rattle.jl_types.specs.Footprints.{footprint, most_by, most_for}
+use Rattle.jl_types.specs.Happenings.Footprints.{footprint, most_by, most_for}
 
 length_map : {A B : Type 0} (f : A → B) (xs : List A) → length (map f xs) ≡ length xs
 length_map f [] = refl

@@ -3,17 +3,17 @@ use Rattle.std.specs.Prelude.{◌≡◌, ℕ, zero, suc, true, false, List, [], 
 use Rattle.std.specs.List.{list_all}
 use Rattle.std.specs.Option.{option_map_or}
 use Rattle.std.proofs.Common.{refl, ap, sym, subst, ◌∙◌}
-use Rattle.jl_classfile.specs.Class.{ClassFile}
-use Rattle.jl_classfile.specs.Conditions.{extends_object}
-use Rattle.jl_types.specs.Event.{Event}
+use Rattle.jl_class.specs.Class.{ClassFile}
+use Rattle.jl_class.specs.Flags.{extends_object}
+use Rattle.jl_types.specs.Happenings.Event.{Event}
 use Rattle.jl_types.specs.declared.event.EventOf.TheVariants as event
 use Rattle.jl_types.specs.declared.refusal.Refusal.TheVariants.{Define, CallSite, Retire}
-use Rattle.jl_types.specs.World.{World, nothing_yet}
-use Rattle.jl_types.specs.Members.{is_present, lookup}
-use Rattle.jl_types.specs.Definitions.{define_fault, with_record, delegated}
-use Rattle.jl_types.specs.Retirement.{retire_fault}
-use Rattle.jl_types.specs.Events.{new_call_site_fault, set_target_fault, verdict, step}
-use Rattle.jl_types.specs.History.{world_after}
+use Rattle.jl_types.specs.Values.World.{World, nothing_yet}
+use Rattle.jl_types.specs.Values.Members.{is_present, lookup}
+use Rattle.jl_types.specs.Happenings.Definitions.{define_fault, with_record, delegated}
+use Rattle.jl_types.specs.Happenings.Retirement.{retire_fault}
+use Rattle.jl_types.specs.Happenings.Events.{new_call_site_fault, set_target_fault, verdict, step}
+use Rattle.jl_types.specs.Happenings.History.{world_after}
 use Rattle.jl_types.proofs.Bools.{first_test, second_test}
 use Rattle.jl_types.proofs.Places.{world_more}
 use Rattle.jl_types.proofs.Lists.{all_set}
@@ -25,9 +25,9 @@ use Rattle.jl_callsites.specs.Known.{all_known}
 use Rattle.jl_callsites.proofs.Accepted.{site_points, target_points}
 use Rattle.jl_callsites.proofs.Known.{one_more_known, retargeted_known, one_switch_more}
 use Rattle.jl_types.specs.declared.link.Link.{Link}
-use Rattle.jl_types.specs.History.{Settled}
+use Rattle.jl_types.specs.Happenings.History.{Settled}
 use Rattle.jl_types.proofs.Installed.{settled_now}
-use Rattle.jl_types.specs.Footprints.{retires, touches}
+use Rattle.jl_types.specs.Happenings.Footprints.{retires, touches}
 use Rattle.jl_relink.specs.Laws.{IsInOrder, has_read_file, AreAccepted, SiteStays}
 use Rattle.jl_relink.proofs.Closing.{no_fault, free_classes, closed_after}
 use Rattle.jl_relink.proofs.KeyLaws.{untouched_stays}
@@ -146,7 +146,8 @@ at_first = record {
 pub accepted_in_order : (max_sites : ℕ) (h : List Event) → AreAccepted max_sites h → IsInOrder (world_after h)
 accepted_in_order max_sites h all = from max_sites h nothing_yet at_first all.each all.files
 
-pub settled_stays : (max_sites : ℕ) (h : List Event) (e : Event) (s : ℕ) (l : Link) → AreAccepted max_sites h → IsOk (verdict max_sites (world_after h) e) → Settled h s l
+pub settled_stays : (max_sites : ℕ) (h : List Event) (e : Event) (s : ℕ) (l : Link) → AreAccepted max_sites h → IsOk (verdict max_sites (world_after h) e)
+    → Settled h s l
     → retires (world_after h) e s ≡ false → touches (world_after h) e s ≡ false → SiteStays (world_after h) (world_after (h ++ e ∷ [])) s l
 settled_stays max_sites h e s l all accepted settled left none =
     subst (λ (w : World). SiteStays (world_after h) w s l) (sym (world_more h e))

@@ -1,22 +1,23 @@
 -- An event that changes nothing of what a site's link rests on leaves the link, and what it rests on.
-use Rattle.std.specs.Prelude.{◌≡◌, ℕ, ◌<◌, ◌==◌, ◌&&◌, ◌||◌, Bool, true, false, cond, List, [], ◌∷◌, ◌++◌, length, map, slice_get, Option, Some, None, option_and_then, Ok, if◌then◌else◌, ◌≢◌, IsOk}
+use Rattle.std.specs.Prelude.{◌≡◌, ℕ, ◌<◌, ◌==◌, ◌&&◌, ◌||◌, Bool, true, false, cond, List, [], ◌∷◌, ◌++◌, length, map, slice_get, Option, Some, None}
+use Rattle.std.specs.Prelude.{option_and_then, Ok, if◌then◌else◌, ◌≢◌, IsOk}
 use Rattle.std.proofs.Common.{refl, ap, sym, ◌∙◌}
 use Rattle.std.proofs.lemmas.Bool.{both_ways}
 use Rattle.std.proofs.lemmas.Cmp.{nat_eq_equiv}
 use Rattle.std.proofs.lemmas.Option.{slice_get_within}
-use Rattle.jl_classfile.specs.Class.{ClassFile}
-use Rattle.jl_classfile.specs.Conditions.{object}
+use Rattle.jl_class.specs.Class.{ClassFile}
+use Rattle.jl_class.specs.Flags.{object}
 use Rattle.jl_types.specs.declared.ids.MethodId.{MethodId}
-use Rattle.jl_types.specs.Event.{Event}
+use Rattle.jl_types.specs.Happenings.Event.{Event}
 use Rattle.jl_types.specs.declared.event.EventOf.TheVariants as event
 use Rattle.jl_types.specs.declared.link.Link.{Link}
-use Rattle.jl_types.specs.World.{Classes, CallSite, Sites, World}
-use Rattle.jl_types.specs.Members.{lookup, is_concrete}
-use Rattle.jl_types.specs.Ancestry.{ancestors, is_ancestor, receivers}
-use Rattle.jl_types.specs.Definitions.{defined}
-use Rattle.jl_types.specs.Targets.{evaluated, method_of}
-use Rattle.jl_types.specs.Links.{scratch}
-use Rattle.jl_types.specs.Events.{verdict, step}
+use Rattle.jl_types.specs.Values.World.{Classes, CallSite, Sites, World}
+use Rattle.jl_types.specs.Values.Members.{lookup, is_concrete}
+use Rattle.jl_types.specs.Values.Ancestry.{ancestors, is_ancestor, receivers}
+use Rattle.jl_types.specs.Happenings.Definitions.{defined}
+use Rattle.jl_types.specs.Linkage.Targets.{evaluated, method_of}
+use Rattle.jl_types.specs.Linkage.Links.{scratch}
+use Rattle.jl_types.specs.Happenings.Events.{verdict, step}
 use Rattle.jl_types.proofs.Bools.{any-map}
 use Rattle.jl_types.proofs.Grown.{among_ancestors, receivers_after}
 use Rattle.jl_types.proofs.Orders.{IsGood, defined_good}
@@ -28,7 +29,7 @@ use Rattle.jl_select.specs.Constancy.{IsConstant}
 use Rattle.jl_select.proofs.Constancy.{selected_stays, outcomes_stay}
 use Rattle.jl_types.specs.declared.key.Key.{Key}
 use Rattle.jl_types.specs.declared.key.Key.TheVariants as key
-use Rattle.jl_types.specs.Footprints.{same_key, has_key, path, of_call_site, of_class, footprint, keys, touches, retires}
+use Rattle.jl_types.specs.Happenings.Footprints.{same_key, has_key, path, of_call_site, of_class, footprint, keys, touches, retires}
 use Rattle.jl_hierarchy.specs.Constancy.{IsClosed}
 use Rattle.jl_relink.specs.Laws.{IsInOrder, SiteStays}
 use Rattle.jl_relink.proofs.Closing.{ordered_after, closed_after, still_present, receivers_stay as receivers_left_stay}
@@ -58,7 +59,8 @@ module _ (w : World) (order : IsInOrder w) where
   there : (c : ℕ) (m : MethodId) → method_of w.sites c ≡ Some m → c < length w.sites.call_sites
   there c m = by_site (slice_get w.sites.call_sites c) refl
     where
-      by_site : (o : Option CallSite) → slice_get w.sites.call_sites c ≡ o → option_and_then (λ site. evaluated w.sites c site.target) o ≡ Some m → c < length w.sites.call_sites
+      by_site : (o : Option CallSite) → slice_get w.sites.call_sites c ≡ o → option_and_then (λ site. evaluated w.sites c site.target) o ≡ Some m
+          → c < length w.sites.call_sites
       by_site None is e = cc
       by_site (Some site) is e = slice_get_within w.sites.call_sites c site is
 
@@ -100,7 +102,8 @@ module _ (w : World) (order : IsInOrder w) where
 
   module _ (s : ℕ) (l : Link) where
     -- another world with the same classes' rows
-    of_rows : (after : World) → (later : IsLater w after s) → ((c : ℕ) → receivers after.classes c ≡ receivers w.classes c) → scratch w s ≡ Ok l → SiteStays w after s l
+    of_rows : (after : World) → (later : IsLater w after s) → ((c : ℕ) → receivers after.classes c ≡ receivers w.classes c) → scratch w s ≡ Ok l
+        → SiteStays w after s l
     of_rows after later same e = let one = site_keeps w after s later (λ c h. same c) l e in record { link = one.0; rests_on = one.1 }
 
     untouched : (m : ℕ) (e : Event) → IsOk (verdict m w e) → retires w e s ≡ false → touches w e s ≡ false → scratch w s ≡ Ok l → SiteStays w (step w e) s l
@@ -166,7 +169,8 @@ module _ (w : World) (order : IsInOrder w) where
           runs = λ c listed m run. as_before _ c m (target_runs_on w.sites d t c (other c listed (has_key (path w.sites c) (key.Target d)) refl)) run;
         }) (λ c. refl)
       where
-        other : (c : ℕ) → ((k : Key) → has_key (of_call_site w.sites c) k ≡ true → has_key (footprint w s) k ≡ true) → (b : Bool) → has_key (path w.sites c) (key.Target d) ≡ b → b ≡ false
+        other : (c : ℕ) → ((k : Key) → has_key (of_call_site w.sites c) k ≡ true → has_key (footprint w s) k ≡ true) → (b : Bool)
+            → has_key (path w.sites c) (key.Target d) ≡ b → b ≡ false
         other c listed false is = refl
         other c listed true is =
             let inside = listed (key.Target d) (rests_on_target w.sites c d is) in
@@ -194,7 +198,8 @@ module _ (w : World) (order : IsInOrder w) where
           places = λ p e. e;
           bindings = λ c e. e;
           runs = λ c listed m run.
-              as_before _ c m (invalid_runs_on w.sites points order.points c (λ k h. apart (footprint w s) (keys w (event.Invalidate points)) k none (listed k h))) run;
+              as_before _ c m (invalid_runs_on w.sites points order.points c
+              (λ k h. apart (footprint w s) (keys w (event.Invalidate points)) k none (listed k h))) run;
         }) (λ c. refl)
     untouched m (event.Bind n d) accepted left none =
         of_rows (step w (event.Bind n d)) (record {
@@ -219,6 +224,7 @@ module _ (w : World) (order : IsInOrder w) where
         }) (λ c h. receivers_left_stay w.classes good.ordered loader c (apart (footprint w s) (keys w (event.Retire loader)) (key.Receivers c) none h)) l e in
         record { link = one.0; rests_on = one.1 }
 
-pub untouched_stays : (max_sites : ℕ) (w : World) → IsInOrder w → (e : Event) (s : ℕ) (l : Link) → IsOk (verdict max_sites w e) → retires w e s ≡ false → touches w e s ≡ false
+pub untouched_stays : (max_sites : ℕ) (w : World) → IsInOrder w → (e : Event) (s : ℕ) (l : Link) → IsOk (verdict max_sites w e) → retires w e s ≡ false
+    → touches w e s ≡ false
     → scratch w s ≡ Ok l → SiteStays w (step w e) s l
 untouched_stays max_sites w order e s l accepted left none = untouched w order s l max_sites e accepted left none

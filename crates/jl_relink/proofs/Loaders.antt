@@ -5,8 +5,8 @@ use Rattle.std.specs.Bool.{beq}
 use Rattle.std.specs.List.{list_any}
 use Rattle.std.proofs.Common.{refl, ap, ◌∙◌}
 use Rattle.jl_pool.specs.declared.reference.Reference.{Reference}
-use Rattle.jl_classfile.specs.Class.{Method}
-use Rattle.jl_classfile.specs.Conditions.{object}
+use Rattle.jl_class.specs.Class.{Method}
+use Rattle.jl_class.specs.Flags.{object}
 use Rattle.jl_types.specs.declared.ids.MethodId.{MethodId}
 use Rattle.jl_types.specs.declared.answer.Chosen.{Chosen}
 use Rattle.jl_types.specs.declared.answer.Chosen.TheVariants.{Method as Picked, Several, Nothing}
@@ -15,15 +15,16 @@ use Rattle.jl_types.specs.declared.answer.Outcome.TheVariants.{Throws}
 use Rattle.jl_types.specs.declared.answer.ResolveAnswer.{ResolveAnswer}
 use Rattle.jl_types.specs.declared.answer.ResolveAnswer.TheVariants.{Fault}
 use Rattle.jl_types.specs.declared.answer.Throwable.TheVariants.{IllegalAccessError, IncompatibleClassChangeError}
-use Rattle.jl_types.specs.World.{Class, Classes}
-use Rattle.jl_types.specs.Members.{recorded, lookup, is_interface, is_public, is_private, is_static, is_package_private, method_at, declared}
-use Rattle.jl_types.specs.Ancestry.{superclasses, is_ancestor}
-use Rattle.jl_types.specs.Access.{Access, Allowed, Denied, is_accessible_class, host_if_recorded, host_by, nest_host, same_nest, by_subclass, by_package, by_nest}
-use Rattle.jl_types.specs.Resolution.{first_of, first_element, pick, only, candidates, defaults, declared_in_object, found_in_class, found}
-use Rattle.jl_types.specs.Resolution.{by_access, if_accessible, resolved_in, named_class, naming, resolved_at, resolved}
-use Rattle.jl_types.specs.Overriding.{are_alike, is_visible, classes_between, methods_in, can_override_within}
-use Rattle.jl_types.specs.Selection.{found_or, chosen_of, chosen, ending, virtual_outcome, interface_ending, interface_outcome}
-use Rattle.jl_types.specs.Selection.{instance_methods, special_start, special_in_class, special_found, special_choice, special_outcome}
+use Rattle.jl_types.specs.Values.World.{Class, Classes}
+use Rattle.jl_types.specs.Values.Members.{recorded, lookup, is_interface, is_public, is_private, is_static, is_package_private, method_at, declared}
+use Rattle.jl_types.specs.Values.Ancestry.{superclasses, is_ancestor}
+use Rattle.jl_types.specs.Linkage.Access.{Access, Allowed, Denied, is_accessible_class, host_if_recorded, host_by, nest_host, same_nest, by_subclass}
+use Rattle.jl_types.specs.Linkage.Access.{by_package, by_nest}
+use Rattle.jl_types.specs.Linkage.Resolution.{first_of, first_element, pick, only, candidates, defaults, declared_in_object, found_in_class, found}
+use Rattle.jl_types.specs.Linkage.Resolution.{by_access, if_accessible, resolved_in, named_class, naming, resolved_at, resolved}
+use Rattle.jl_types.specs.Linkage.Overriding.{are_alike, is_visible, classes_between, methods_in, can_override_within}
+use Rattle.jl_types.specs.Linkage.Selection.{found_or, chosen_of, chosen, ending, virtual_outcome, interface_ending, interface_outcome}
+use Rattle.jl_types.specs.Linkage.Selection.{instance_methods, special_start, special_in_class, special_found, special_choice, special_outcome}
 use Rattle.jl_select.specs.Constancy.{IsConstant}
 
 module _ (old : Classes) (loaders : List (List (List ℕ × ℕ))) where

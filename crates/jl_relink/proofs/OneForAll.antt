@@ -7,12 +7,12 @@ use Rattle.std.proofs.lemmas.Cmp.{nat_eq_equiv}
 use Rattle.jl_types.specs.declared.ids.MethodId.{MethodId}
 use Rattle.jl_types.specs.declared.answer.Outcome.{Outcome}
 use Rattle.jl_types.specs.declared.answer.Outcome.TheVariants.{Run}
-use Rattle.jl_types.specs.World.{Classes}
-use Rattle.jl_types.specs.Members.{numbers, is_concrete}
-use Rattle.jl_types.specs.Ancestry.{receivers, is_ancestor}
-use Rattle.jl_types.specs.Links.{runs}
+use Rattle.jl_types.specs.Values.World.{Classes}
+use Rattle.jl_types.specs.Values.Members.{numbers, is_concrete}
+use Rattle.jl_types.specs.Values.Ancestry.{receivers, is_ancestor}
+use Rattle.jl_types.specs.Linkage.Links.{runs}
 use Rattle.jl_relink.specs.declared.selection.Selection.{Selection}
-use Rattle.jl_relink.specs.Rows.{run_on, joined, rows_of, outcome_of}
+use Rattle.jl_relink.specs.Means.Rows.{run_on, joined, rows_of, outcome_of}
 
 all_pass : (P : ℕ → Type 0) (test : ℕ → Bool) → ((x : ℕ) → test x ≡ true → P x) → (xs : List ℕ) → AllByRecursion P (filter test xs)
 all_pass P test h [] = tt
@@ -48,5 +48,6 @@ module _ (cs : Classes) (s : Selection) (m : MethodId) where
       sym
       (run_all xs
       (subst (AllByRecursion RunsIt) (sym are)
-      (all_pass RunsIt (λ x. is_concrete cs x && is_ancestor cs s.named x) (λ x e. h x (and_parts (is_concrete cs x) (is_ancestor cs s.named x) e).1) (numbers cs)))
+      (all_pass RunsIt (λ x. is_concrete cs x && is_ancestor cs s.named x) (λ x e. h x (and_parts (is_concrete cs x) (is_ancestor cs s.named x) e).1)
+      (numbers cs)))
       some)

@@ -5,7 +5,7 @@ use Rattle.std.proofs.Common.{refl, ap, sym, subst, ◌∙◌, arith, length-app
 use Rattle.std.proofs.lemmas.Bool.{leb-true, leb-false, or_cases, or_left, or_right}
 use Rattle.std.proofs.lemmas.Cmp.{nat_eq_equiv}
 use Rattle.std.proofs.lemmas.List.Folds.{list_all-append}
-use Rattle.jl_classfile.specs.Class.{ClassFile}
+use Rattle.jl_class.specs.Class.{ClassFile}
 use Rattle.jl_types.specs.declared.answer.Outcome.{Outcome}
 use Rattle.jl_types.specs.declared.answer.Outcome.TheVariants.{Run, Throws}
 use Rattle.jl_types.specs.declared.event.EventOf.TheVariants as event
@@ -13,22 +13,23 @@ use Rattle.jl_types.specs.declared.link.Link.{Link}
 use Rattle.jl_types.specs.declared.link.Link.TheVariants.{Fault, Plain, Direct, Table, Mega}
 use Rattle.jl_types.specs.declared.link.TableKind.{TableKind}
 use Rattle.jl_types.specs.declared.link.TableKind.TheVariants as table
-use Rattle.jl_types.specs.Means.SameLink.{same_link, link_decides}
-use Rattle.jl_types.specs.World.{World}
-use Rattle.jl_types.specs.Members.{is_concrete, is_private}
-use Rattle.jl_types.specs.Ancestry.{ancestors, is_ancestor, receivers}
-use Rattle.jl_types.specs.Events.{step}
-use Rattle.jl_types.specs.History.{is_link}
-use Rattle.jl_types.specs.Selection.{virtual_outcome}
-use Rattle.jl_types.specs.Sites.{Selector, ByVirtual, ByInterface, BySpecial, Invocation, Stage, Waits, Fails, Calls, Selects, stage}
-use Rattle.jl_types.specs.Links.{runs, outcome, outcome_by, table_rows, table_or_mega, virtual_link, link_by, link_of, scratch}
+use Rattle.jl_types.specs.Linkage.Links.{same_link}
+use Rattle.jl_types.specs.Means.SameLink.{link_decides}
+use Rattle.jl_types.specs.Values.World.{World}
+use Rattle.jl_types.specs.Values.Members.{is_concrete, is_private}
+use Rattle.jl_types.specs.Values.Ancestry.{ancestors, is_ancestor, receivers}
+use Rattle.jl_types.specs.Happenings.Events.{step}
+use Rattle.jl_types.specs.Happenings.History.{is_link}
+use Rattle.jl_types.specs.Linkage.Selection.{virtual_outcome}
+use Rattle.jl_types.specs.Linkage.Stages.{Selector, ByVirtual, ByInterface, BySpecial, ResolvedCall, Stage, Waits, Fails, Calls, Selects, stage}
+use Rattle.jl_types.specs.Linkage.Links.{runs, outcome, outcome_by, table_rows, table_or_mega, virtual_link, link_by, link_of, scratch}
 use Rattle.jl_types.proofs.Bools.{any-map}
 use Rattle.jl_types.proofs.Grown.{among_ancestors, receivers_after}
 use Rattle.jl_types.proofs.Orders.{defined_good}
 use Rattle.jl_resolve.proofs.Unchanged.{IsThere, private_stays}
 use Rattle.jl_types.specs.declared.key.Key.{Key}
 use Rattle.jl_types.specs.declared.key.Key.TheVariants as key
-use Rattle.jl_types.specs.Footprints.{same_key, has_key, meets, of_selector, of_stage, of_class, footprint, touches, stays_with}
+use Rattle.jl_types.specs.Happenings.Footprints.{same_key, has_key, meets, of_selector, of_stage, of_class, footprint, touches, stays_with}
 use Rattle.jl_relink.specs.Laws.{IsInOrder, OneMore}
 use Rattle.jl_relink.proofs.Untouched.{same_key_is, IsLater, AreThere, SiteKeeps, map_same, site_stays, outcome_same, receivers_there}
 use Rattle.jl_resolve.proofs.Later.{step_stays}
@@ -66,7 +67,8 @@ of_rows : (kind : TableKind) (rows : List (ℕ × Outcome)) (x : ℕ) (o : Outco
 of_rows kind rows x o = by_sizes (nat_le (length rows) 8) (nat_le (length (rows ++ (x, o) ∷ [])) 8) refl refl
   where
     by_sizes : (few still : Bool) → nat_le (length rows) 8 ≡ few → nat_le (length (rows ++ (x, o) ∷ [])) 8 ≡ still
-        → same_link (if still then Table kind (rows ++ (x, o) ∷ []) else Mega) (if few then Table kind rows else Mega) ≡ stays_with (if few then Table kind rows else Mega) o
+        → same_link (if still then Table kind (rows ++ (x, o) ∷ []) else Mega) (if few then Table kind rows else Mega) ≡ stays_with
+        (if few then Table kind rows else Mega) o
     by_sizes true true a b = others_told (Table kind (rows ++ (x, o) ∷ [])) (Table kind rows) (not_longer kind rows (x, o))
     by_sizes true false a b = others_told Mega (Table kind rows) (λ e. cc)
     by_sizes false true a b =
@@ -82,12 +84,15 @@ not_direct kind rows o = by_size (nat_le (length rows) 8)
     by_size true e = cc
     by_size false e = cc
 
-virtual_more : (rows : List (ℕ × Outcome)) (x : ℕ) (o : Outcome) → same_link (virtual_link (rows ++ (x, o) ∷ [])) (virtual_link rows) ≡ stays_with (virtual_link rows) o
-virtual_more [] x (Throws throwable) = others_told (Table table.Virtual ((x, Throws throwable) ∷ [])) (Table table.Virtual []) (λ e. not_longer table.Virtual [] (x, Throws throwable) e)
+virtual_more : (rows : List (ℕ × Outcome)) (x : ℕ) (o : Outcome) → same_link (virtual_link (rows ++ (x, o) ∷ [])) (virtual_link rows) ≡ stays_with
+    (virtual_link rows) o
+virtual_more [] x (Throws throwable) = others_told (Table table.Virtual ((x, Throws throwable) ∷ [])) (Table table.Virtual [])
+    (λ e. not_longer table.Virtual [] (x, Throws throwable) e)
 virtual_more [] x (Run m) = others_told (Direct (Run m)) (Table table.Virtual []) (λ e. cc)
 virtual_more ((y, Throws throwable) ∷ rows) x o = of_rows table.Virtual ((y, Throws throwable) ∷ rows) x o
 virtual_more ((y, Run m) ∷ rows) x o =
-    ap (λ (b : Bool). same_link (if b then Direct (Run m) else table_or_mega table.Virtual ((y, Run m) ∷ (rows ++ (x, o) ∷ []))) (virtual_link ((y, Run m) ∷ rows)))
+    ap (λ (b : Bool). same_link (if b then Direct (Run m) else table_or_mega table.Virtual ((y, Run m) ∷ (rows ++ (x, o) ∷ [])))
+    (virtual_link ((y, Run m) ∷ rows)))
     (list_all-append (λ (row : ℕ × Outcome). runs m row.1) rows ((x, o) ∷ []))
     ∙ by_all (list_all (λ row. runs m row.1) rows) (runs m o) refl
   where
@@ -96,7 +101,8 @@ virtual_more ((y, Run m) ∷ rows) x o =
         (if all then Direct (Run m) else table_or_mega table.Virtual ((y, Run m) ∷ rows))
         ≡ stays_with (if all then Direct (Run m) else table_or_mega table.Virtual ((y, Run m) ∷ rows)) o
     by_all true true is = same_told (Direct (Run m)) (Direct (Run m)) refl ∙ sym is
-    by_all true false is = others_told (table_or_mega table.Virtual ((y, Run m) ∷ (rows ++ (x, o) ∷ []))) (Direct (Run m)) (not_direct table.Virtual ((y, Run m) ∷ (rows ++ (x, o) ∷ [])) (Run m)) ∙ sym is
+    by_all true false is = others_told (table_or_mega table.Virtual ((y, Run m) ∷ (rows ++ (x, o) ∷ []))) (Direct (Run m))
+        (not_direct table.Virtual ((y, Run m) ∷ (rows ++ (x, o) ∷ [])) (Run m)) ∙ sym is
     by_all false last is = of_rows table.Virtual ((y, Run m) ∷ rows) x o
 
 map_append : {A B : Type 0} (f : A → B) (xs ys : List A) → map f (xs ++ ys) ≡ map f xs ++ map f ys
@@ -129,7 +135,8 @@ module _ (w : World) (order : IsInOrder w) (loader : ℕ) (file : ClassFile) (s 
       receivers_after w.classes (good w order).ordered loader file c
       ∙ ap (λ (b : Bool). receivers w.classes c ++ cond b (n ∷ []) []) (by_concrete (is_concrete after.classes n) refl has)
     where
-      by_concrete : (b : Bool) → is_concrete after.classes n ≡ b → has_key (if b then map key.Receivers (ancestors after.classes.rows n) else []) (key.Receivers c) ≡ true
+      by_concrete : (b : Bool) → is_concrete after.classes n ≡ b → has_key (if b then map key.Receivers (ancestors after.classes.rows n) else [])
+          (key.Receivers c) ≡ true
           → (is_concrete after.classes n && is_ancestor after.classes c n) ≡ true
       by_concrete false is h = cc
       by_concrete true is h =
@@ -138,7 +145,7 @@ module _ (w : World) (order : IsInOrder w) (loader : ℕ) (file : ClassFile) (s 
           ∙ sym (any-map (λ other. same_key other (key.Receivers c)) key.Receivers (ancestors after.classes.rows n))
           ∙ h
 
-  module _ (i : Invocation) (there : AreThere w.classes i) where
+  module _ (i : ResolvedCall) (there : AreThere w.classes i) where
     rows_more : has_key (of_class after.classes n) (key.Receivers i.named) ≡ true
         → table_rows after.classes i ≡ table_rows w.classes i ++ (n, outcome after.classes i n) ∷ []
     rows_more has =
@@ -155,7 +162,8 @@ module _ (w : World) (order : IsInOrder w) (loader : ℕ) (file : ClassFile) (s 
     by_selector : (selector : Selector) → meets (of_selector w.classes i selector) (of_class after.classes n) ≡ true
         → same_link (link_by after.classes i selector) (link_by w.classes i selector) ≡ stays_with (link_by w.classes i selector) (outcome after.classes i n)
     by_selector ByVirtual met =
-        ap (λ (b : Bool). same_link (if b then Direct (virtual_outcome after.classes i.named i.method) else virtual_link (table_rows after.classes i)) (link_by w.classes i ByVirtual))
+        ap (λ (b : Bool). same_link (if b then Direct (virtual_outcome after.classes i.named i.method) else virtual_link (table_rows after.classes i))
+        (link_by w.classes i ByVirtual))
         (private_stays w.classes after.classes later.stays later.good i.method there.method)
         ∙ by_flag (is_private w.classes i.method) met
       where
@@ -215,7 +223,8 @@ module _ (w : World) (order : IsInOrder w) (loader : ℕ) (file : ClassFile) (s 
       let at = looks touched in
       by_stage (stage w s) refl at.0 at.1 (site_stays w after s later) e
     where
-      not_special : (i : Invocation) (c : ℕ) (selector : Selector) → has_key (of_selector w.classes i selector) (key.Receivers c) ≡ true → selector ≢ BySpecial
+      not_special : (i : ResolvedCall) (c : ℕ) (selector : Selector) → has_key (of_selector w.classes i selector) (key.Receivers c) ≡ true
+          → selector ≢ BySpecial
       not_special i c ByVirtual h = λ e. cc
       not_special i c ByInterface h = λ e. cc
       not_special i c BySpecial h = cc

@@ -1,5 +1,6 @@
 -- Which changes of call sites and switch points leave what a call site runs, and what it rests on.
-use Rattle.std.specs.Prelude.{◌≡◌, ◌≢◌, ℕ, zero, suc, ◌+◌, ◌<◌, ◌≤◌, ◌==◌, ◌||◌, Bool, true, false, cond, List, [], ◌∷◌, ◌++◌, length, map, filter, filter_map, slice_get, slice_set, Option, Some, None}
+use Rattle.std.specs.Prelude.{◌≡◌, ◌≢◌, ℕ, zero, suc, ◌+◌, ◌<◌, ◌≤◌, ◌==◌, ◌||◌, Bool, true, false, cond, List, [], ◌∷◌, ◌++◌, length, map, filter}
+use Rattle.std.specs.Prelude.{filter_map, slice_get, slice_set, Option, Some, None}
 use Rattle.std.specs.List.{list_any, range_with_len}
 use Rattle.std.specs.Option.{option_map_or}
 use Rattle.std.proofs.Common.{refl, ap, sym, ◌∙◌, arith, length-append}
@@ -9,10 +10,10 @@ use Rattle.std.proofs.lemmas.Cmp.{nat_eq_equiv}
 use Rattle.std.proofs.lemmas.List.Elements.{filter-append}
 use Rattle.std.proofs.lemmas.Option.{slice_get_within}
 use Rattle.jl_types.specs.declared.target.CallSiteKind.{CallSiteKind}
-use Rattle.jl_types.specs.Target.{Target}
-use Rattle.jl_types.specs.World.{Sites}
-use Rattle.jl_types.specs.Targets.{is_valid, method_of}
-use Rattle.jl_types.specs.Events.{invalidated}
+use Rattle.jl_types.specs.Values.Target.{Target}
+use Rattle.jl_types.specs.Values.World.{Sites}
+use Rattle.jl_types.specs.Linkage.Targets.{is_valid, method_of}
+use Rattle.jl_types.specs.Happenings.Events.{invalidated}
 use Rattle.jl_types.proofs.Bools.{any-filter-at, any-range-from}
 use Rattle.jl_types.proofs.Lists.{range_end}
 use Rattle.jl_callsites.specs.Faults.{with_site, with_target, with_switch, with_invalid}
@@ -21,7 +22,7 @@ use Rattle.jl_callsites.proofs.Known.{known_at, site_more_walks, other_walks, sw
 use Rattle.jl_callsites.proofs.Walks.{on_path, known_invalid, site_walks, kept_on}
 use Rattle.jl_types.specs.declared.key.Key.{Key}
 use Rattle.jl_types.specs.declared.key.Key.TheVariants as key
-use Rattle.jl_types.specs.Footprints.{has_key, call_site_in, point_in, among, path, of_call_site, still_valid}
+use Rattle.jl_types.specs.Happenings.Footprints.{has_key, call_site_in, point_in, among, path, of_call_site, still_valid}
 use Rattle.jl_relink.proofs.WayKeys.{has, points_valid, rests_on_point}
 
 -- the call site runs what it ran, and rests on what it rested on
@@ -36,7 +37,8 @@ keys_of c n ks = map key.Target (among (c + 1) (filter_map call_site_in ks)) ++ 
 -- ---- the events
 
 -- one call site more
-pub site_runs_on : (sites : Sites) (kind : CallSiteKind) (ty : List ℕ) (t : Target) (c : ℕ) → c < length sites.call_sites → RunsOn sites (with_site sites kind ty t) c
+pub site_runs_on : (sites : Sites) (kind : CallSiteKind) (ty : List ℕ) (t : Target) (c : ℕ) → c < length sites.call_sites
+    → RunsOn sites (with_site sites kind ty t) c
 site_runs_on sites kind ty t c lt =
     let w = site_more_walks sites kind ty t c lt in
     record { method = w.0; keys = ap (keys_of c (length sites.switches)) w.1 }
@@ -70,7 +72,8 @@ switch_runs_on sites known c =
     absent : (b : Bool) → has (0 + length sites.switches) points ≡ b → b ≡ false
     absent false is = refl
     absent true is =
-        absurd (both_ways (is_valid sites (0 + length sites.switches)) (past_end sites.switches (0 + length sites.switches) (omega arith)) (points_valid sites c (0 + length sites.switches) is))
+        absurd (both_ways (is_valid sites (0 + length sites.switches)) (past_end sites.switches (0 + length sites.switches) (omega arith))
+        (points_valid sites c (0 + length sites.switches) is))
 
     append-nil : (xs : List ℕ) → xs ++ [] ≡ xs
     append-nil [] = refl
@@ -164,7 +167,8 @@ pub invalid_runs_on : (sites : Sites) (points : List ℕ) → are_known sites �
 invalid_runs_on sites points known c apart =
     let w =
     site_walks sites (with_invalid sites points)
-    (λ d site at. known_invalid sites (with_invalid sites points) (λ p lt e. stays_invalid sites.switches points p e) d site.target (known_at (length sites.switches) sites.call_sites d site at known))
+    (λ d site at. known_invalid sites (with_invalid sites points) (λ p lt e. stays_invalid sites.switches points p e) d site.target
+    (known_at (length sites.switches) sites.call_sites d site at known))
     c (kept_on sites (with_invalid sites points) (c + 1) (path sites c) (on_path sites c) (λ d lt h. refl) still_on) in
     record {
       method = w.0;

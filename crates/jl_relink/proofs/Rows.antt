@@ -2,24 +2,24 @@
 use Rattle.std.specs.Prelude.{◌≡◌, ◌<◌, ℕ, zero, suc, true, false, List, [], ◌∷◌, ◌++◌, take, slice_get, Some, Result, Ok, IsOk, codes, refl}
 use Rattle.std.proofs.Common.{ap, sym, subst, arith}
 use Rattle.std.proofs.lemmas.Option.{same_Some}
-use Rattle.jl_classfile.specs.Class.{ClassFile, Method}
-use Rattle.jl_code.specs.declared.site.Kind.{Kind}
-use Rattle.jl_code.specs.declared.site.Kind.TheVariants.{Virtual, Special, Static}
+use Rattle.jl_class.specs.Class.{ClassFile, Method}
+use Rattle.jl_class.specs.declared.site.Kind.{Kind}
+use Rattle.jl_class.specs.declared.site.Kind.TheVariants.{Virtual, Special, Static}
 use Rattle.jl_types.specs.declared.answer.Outcome.TheVariants.{Run}
 use Rattle.jl_types.specs.declared.answer.Unlinked.{Unlinked}
 use Rattle.jl_types.specs.declared.link.Link.{Link}
 use Rattle.jl_types.specs.declared.link.Link.TheVariants.{Plain, Direct, Mega}
 use Rattle.jl_types.specs.declared.target.CallSiteKind.TheVariants.{Mutable}
-use Rattle.jl_types.specs.Target as target
-use Rattle.jl_types.specs.Target.{Target}
-use Rattle.jl_types.specs.Event.{Event}
+use Rattle.jl_types.specs.Values.Target as target
+use Rattle.jl_types.specs.Values.Target.{Target}
+use Rattle.jl_types.specs.Happenings.Event.{Event}
 use Rattle.jl_types.specs.declared.event.EventOf.TheVariants.{NewLoader, Define, Request, NewCallSite, SetTarget, NewSwitch, Invalidate, Bind}
-use Rattle.jl_types.specs.World.{World, nothing_yet}
-use Rattle.jl_types.specs.Sites.{Stage, Invocation, Selector, ByVirtual, Waits, Fails, Calls, Selects}
-use Rattle.jl_types.specs.Links.{outcome, runs}
-use Rattle.jl_types.specs.Events.{verdict, step}
-use Rattle.jl_types.specs.History.{world_after}
-use Rattle.jl_types.specs.Footprints.{stays_with}
+use Rattle.jl_types.specs.Values.World.{World, nothing_yet}
+use Rattle.jl_types.specs.Linkage.Stages.{Stage, ResolvedCall, Selector, ByVirtual, Waits, Fails, Calls, Selects}
+use Rattle.jl_types.specs.Linkage.Links.{outcome, runs}
+use Rattle.jl_types.specs.Happenings.Events.{verdict, step}
+use Rattle.jl_types.specs.Happenings.History.{world_after}
+use Rattle.jl_types.specs.Happenings.Footprints.{stays_with}
 use Rattle.jl_types.proofs.Rows.Sketch.{method, calling, class_ref, first, file}
 use Rattle.jl_types.proofs.Rows.CallSites.{begun, m, n}
 use Rattle.jl_relink.specs.Laws.{LinksStay, IsInOrder, SiteStays, OneMore, AreAccepted}
@@ -90,7 +90,7 @@ own = below (codes "A") (codes "C") (method 1 (codes "f") ∷ [])
 abbrev inherits : ClassFile
 inherits = below (codes "A") (codes "C") []
 
-abbrev by_virtual : Invocation
+abbrev by_virtual : ResolvedCall
 by_virtual = record { selector = ByVirtual; caller = 3; named = 1; ref = class_ref (codes "A") (codes "f"); method = first 1 }
 
 goes : OneMore (calls Virtual) 0 own 0 (Direct (Run (first 1)))
@@ -117,7 +117,7 @@ by_special h = h.selector (sym (ap selector_of h.selects))
 
 -- ---- what one receiver tells
 
-abbrev invoked : Stage → Invocation
+abbrev invoked : Stage → ResolvedCall
 invoked (Waits reason) = by_virtual
 invoked (Fails throwable) = by_virtual
 invoked (Calls method) = by_virtual

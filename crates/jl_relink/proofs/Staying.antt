@@ -7,12 +7,12 @@ use Rattle.std.specs.Bool.{beq}
 use Rattle.std.proofs.Common.{refl, ap, subst, ◌∙◌}
 use Rattle.std.proofs.lemmas.Option.{slice_get_within}
 use Rattle.jl_pool.specs.declared.reference.Reference.{Reference}
-use Rattle.jl_classfile.specs.Conditions.{has_flag, PUBLIC}
-use Rattle.jl_code.specs.declared.site.Kind.{Kind}
-use Rattle.jl_code.specs.declared.site.Kind.TheVariants.{Virtual, Special, Static, Interface, Dynamic}
-use Rattle.jl_code.specs.declared.site.Operand.{Operand}
-use Rattle.jl_code.specs.declared.site.Operand.TheVariants as operand
-use Rattle.jl_code.specs.Site.{Site}
+use Rattle.jl_class.specs.Flags.{has_flag, PUBLIC}
+use Rattle.jl_class.specs.declared.site.Kind.{Kind}
+use Rattle.jl_class.specs.declared.site.Kind.TheVariants.{Virtual, Special, Static, Interface, Dynamic}
+use Rattle.jl_class.specs.declared.site.Operand.{Operand}
+use Rattle.jl_class.specs.declared.site.Operand.TheVariants as operand
+use Rattle.jl_class.specs.Site.{Site}
 use Rattle.jl_types.specs.declared.ids.MethodId.{MethodId}
 use Rattle.jl_types.specs.declared.ids.Place.{Place}
 use Rattle.jl_types.specs.declared.answer.ResolveAnswer.{ResolveAnswer}
@@ -24,18 +24,18 @@ use Rattle.jl_types.specs.declared.link.Link.{Link}
 use Rattle.jl_types.specs.declared.link.Link.TheVariants.{Direct}
 use Rattle.jl_types.specs.declared.link.TableKind.TheVariants as table
 use Rattle.jl_types.specs.declared.target.CallSiteKind.{CallSiteKind}
-use Rattle.jl_types.specs.Target.{Target}
-use Rattle.jl_types.specs.World.{Class, Classes, CallSite, Sites, World}
-use Rattle.jl_types.specs.Members.{is_retired, is_present, is_private, is_static, is_interface, share_package}
-use Rattle.jl_types.specs.Ancestry.{receivers}
-use Rattle.jl_types.specs.Access.{is_accessible_class}
-use Rattle.jl_types.specs.Resolution.{Resolved, resolved, resolved_at, naming, named_class, found, if_accessible}
-use Rattle.jl_types.specs.Selection.{is_init}
-use Rattle.jl_types.specs.Sites.{Selector, ByVirtual, ByInterface, BySpecial, Invocation, Waits, Fails, Calls, Selects}
-use Rattle.jl_types.specs.Sites.{selecting, by_kind, by_resolution, by_method, bound_to, bound_method, invocation_at, by_operand, stage_of, stage_at}
-use Rattle.jl_types.specs.Targets.{evaluated, method_of}
-use Rattle.jl_types.specs.Links.{outcome_by, table_rows, table_or_mega, virtual_link, link_by, link_of, scratch}
-use Rattle.jl_types.specs.Events.{same_place, requested, step}
+use Rattle.jl_types.specs.Values.Target.{Target}
+use Rattle.jl_types.specs.Values.World.{Class, Classes, CallSite, Sites, World}
+use Rattle.jl_types.specs.Values.Members.{is_retired, is_present, is_private, is_static, is_interface, share_package}
+use Rattle.jl_types.specs.Values.Ancestry.{receivers}
+use Rattle.jl_types.specs.Linkage.Access.{is_accessible_class}
+use Rattle.jl_types.specs.Linkage.Resolution.{Resolved, resolved, resolved_at, naming, named_class, found, if_accessible}
+use Rattle.jl_types.specs.Linkage.Selection.{is_init}
+use Rattle.jl_types.specs.Linkage.Stages.{Selector, ByVirtual, ByInterface, BySpecial, ResolvedCall, Waits, Fails, Calls, Selects}
+use Rattle.jl_types.specs.Linkage.Stages.{selecting, by_kind, by_resolution, by_method, bound_to, bound_method, invocation_at, by_operand, stage_of, stage_at}
+use Rattle.jl_types.specs.Linkage.Targets.{evaluated, method_of}
+use Rattle.jl_types.specs.Linkage.Links.{outcome_by, table_rows, table_or_mega, virtual_link, link_by, link_of, scratch}
+use Rattle.jl_types.specs.Happenings.Events.{same_place, requested, step}
 use Rattle.jl_types.proofs.Accepting.{linked}
 use Rattle.jl_types.proofs.Lists.{before_end, passes_within}
 use Rattle.jl_resolve.specs.Constancy.{is_settled}
@@ -56,7 +56,8 @@ pub accessible_there : (cs : Classes) (d c : ℕ) → is_accessible_class cs d c
 accessible_there cs d c = by_row (slice_get cs.rows c) refl
   where
     by_row : (o : Option Class) → slice_get cs.rows c ≡ o
-        → (option_map_or (λ row. has_flag row.file.flags PUBLIC) o false || option_map_or (λ a. option_map_or (share_package a) (slice_get cs.rows d) false) o false) ≡ true
+        → (option_map_or (λ row. has_flag row.file.flags PUBLIC) o false
+        || option_map_or (λ a. option_map_or (share_package a) (slice_get cs.rows d) false) o false) ≡ true
         → c < length cs.rows
     by_row None is e = cc
     by_row (Some row) is e = slice_get_within cs.rows c row is
@@ -88,7 +89,8 @@ named_there cs d ref r = by_class (named_class cs d ref)
 method_there : (sites : Sites) (c : ℕ) (m : MethodId) → method_of sites c ≡ Some m → c < length sites.call_sites
 method_there sites c m = by_site (slice_get sites.call_sites c) refl
   where
-    by_site : (o : Option CallSite) → slice_get sites.call_sites c ≡ o → option_and_then (λ site. evaluated sites c site.target) o ≡ Some m → c < length sites.call_sites
+    by_site : (o : Option CallSite) → slice_get sites.call_sites c ≡ o → option_and_then (λ site. evaluated sites c site.target) o ≡ Some m
+        → c < length sites.call_sites
     by_site None is e = cc
     by_site (Some site) is e = slice_get_within sites.call_sites c site is
 
@@ -98,7 +100,7 @@ module _ (old : Classes) (loaders : List (List (List ℕ × ℕ))) (constant : I
   abbrev new : Classes
   new = record old { loaders = loaders }
 
-  module _ (i : Invocation) (caller : i.caller < length old.rows) (there : i.named < length old.rows) where
+  module _ (i : ResolvedCall) (caller : i.caller < length old.rows) (there : i.named < length old.rows) where
     outcome_same : (selector : Selector) (x : ℕ) → outcome_by new i selector x ≡ outcome_by old i selector x
     outcome_same ByVirtual x = virtual_same old loaders x i.method
     outcome_same ByInterface x = interface_same old loaders x i.named i.method
@@ -114,7 +116,7 @@ module _ (old : Classes) (loaders : List (List (List ℕ × ℕ))) (constant : I
 
   module _ (d : ℕ) (ref : Reference (List ℕ)) (caller : d < length old.rows) (present : is_present old d ≡ true) where
     module _ (r : Resolved) (there : r.named < length old.rows) where
-      abbrev invoking : Selector → Invocation
+      abbrev invoking : Selector → ResolvedCall
       invoking selector = record { selector = selector; caller = d; named = r.named; ref = ref; method = r.method }
 
       selecting_same : (selector : Selector) → link_of new (selecting new selector d ref r) ≡ link_of old (selecting old selector d ref r)
@@ -153,7 +155,8 @@ module _ (old : Classes) (loaders : List (List (List ℕ × ℕ))) (constant : I
             → link_of new (by_resolution new kind d ref (resolved new d ref)) ≡ Ok l
         by_answer (Err (resolve.NotReady missing)) is e = cc
         by_answer (Err (resolve.Fault throwable)) is e =
-            ap (λ (r : Result Resolved ResolveAnswer). link_of new (by_resolution new kind d ref r)) (resolution_stays (Err (resolve.Fault throwable)) is refl) ∙ e
+            ap (λ (r : Result Resolved ResolveAnswer). link_of new (by_resolution new kind d ref r)) (resolution_stays (Err (resolve.Fault throwable)) is refl)
+            ∙ e
         by_answer (Ok r) is e =
             ap (λ (r : Result Resolved ResolveAnswer). link_of new (by_resolution new kind d ref r)) (resolution_stays (Ok r) is refl)
             ∙ kind_same r (named_there old d ref r is) kind
@@ -186,7 +189,8 @@ module _ (w : World) (loaders : List (List (List ℕ × ℕ))) (places : List Pl
         by_binding (Some c) is e = by_run c is (method_of w.sites c) refl e
 
     module _ (d : ℕ) (there : d < length w.classes.rows) (present : is_present w.classes d ≡ true) where
-      operand_stays : (kind : Kind) (o : Operand (List ℕ)) → link_of w.classes (by_operand w s d kind o) ≡ Ok l → link_of after.classes (by_operand after s d kind o) ≡ Ok l
+      operand_stays : (kind : Kind) (o : Operand (List ℕ)) → link_of w.classes (by_operand w s d kind o) ≡ Ok l
+          → link_of after.classes (by_operand after s d kind o) ≡ Ok l
       operand_stays kind (operand.Method ref) e = method_stays w.classes loaders constant d ref there present kind l e
       operand_stays kind (operand.CallSite specifier) e = call_site_stays e
 

@@ -1,6 +1,7 @@
 -- What a linked site comes to before its receiver stays through every event, and so do its link and its footprint where the event
 -- changes nothing of what the link rests on.
-use Rattle.std.specs.Prelude.{◌≡◌, ℕ, zero, suc, ◌+◌, ◌<◌, ◌≤◌, ◌==◌, not, ◌&&◌, ◌||◌, Bool, true, false, List, [], ◌∷◌, length, map, filter_map, find, slice_get}
+use Rattle.std.specs.Prelude.{◌≡◌, ℕ, zero, suc, ◌+◌, ◌<◌, ◌≤◌, ◌==◌, not, ◌&&◌, ◌||◌, Bool, true, false, List, [], ◌∷◌, length, map, filter_map}
+use Rattle.std.specs.Prelude.{find, slice_get}
 use Rattle.std.specs.Prelude.{Option, Some, None, option_and_then, Result, Ok, Err, IfSome, if◌then◌else◌, ⊤}
 use Rattle.std.specs.List.{AllByRecursion, range_with_len}
 use Rattle.std.specs.Bool.{beq}
@@ -9,12 +10,12 @@ use Rattle.std.proofs.lemmas.Bool.{or_cases}
 use Rattle.std.proofs.lemmas.Bool.Decides.{Decides-eqb}
 use Rattle.std.proofs.lemmas.Cmp.{nat_eq_equiv}
 use Rattle.jl_pool.specs.declared.reference.Reference.{Reference}
-use Rattle.jl_classfile.specs.Class.{Method}
-use Rattle.jl_code.specs.declared.site.Kind.{Kind}
-use Rattle.jl_code.specs.declared.site.Kind.TheVariants.{Virtual, Special, Static, Interface, Dynamic}
-use Rattle.jl_code.specs.declared.site.Operand.{Operand}
-use Rattle.jl_code.specs.declared.site.Operand.TheVariants as operand
-use Rattle.jl_code.specs.Site.{Site}
+use Rattle.jl_class.specs.Class.{Method}
+use Rattle.jl_class.specs.declared.site.Kind.{Kind}
+use Rattle.jl_class.specs.declared.site.Kind.TheVariants.{Virtual, Special, Static, Interface, Dynamic}
+use Rattle.jl_class.specs.declared.site.Operand.{Operand}
+use Rattle.jl_class.specs.declared.site.Operand.TheVariants as operand
+use Rattle.jl_class.specs.Site.{Site}
 use Rattle.jl_types.specs.declared.ids.MethodId.{MethodId}
 use Rattle.jl_types.specs.declared.ids.Place.{Place}
 use Rattle.jl_types.specs.declared.answer.ResolveAnswer.{ResolveAnswer}
@@ -24,16 +25,19 @@ use Rattle.jl_types.specs.declared.answer.Unlinked.TheVariants.{Gone}
 use Rattle.jl_types.specs.declared.link.Link.{Link}
 use Rattle.jl_types.specs.declared.link.Link.TheVariants.{Direct}
 use Rattle.jl_types.specs.declared.link.TableKind.TheVariants as table
-use Rattle.jl_types.specs.World.{Class, Classes, Sites, World}
-use Rattle.jl_types.specs.Members.{is_present, is_private, is_static, is_interface, is_concrete, numbers, declared}
-use Rattle.jl_types.specs.Ancestry.{receivers, is_ancestor, superclasses}
-use Rattle.jl_types.specs.Access.{accessible, is_accessible_class}
-use Rattle.jl_types.specs.Resolution.{Resolved, resolved, resolved_at, by_access, if_accessible, naming, named_class, found, first_element, pick, only, candidates, defaults, declared_upward, declared_in_object, found_in_class, found_in_interface}
-use Rattle.jl_types.specs.Access.{Access, Allowed, Denied, NotKnown}
-use Rattle.jl_types.specs.Selection.{is_init, virtual_outcome}
-use Rattle.jl_types.specs.Sites.{Selector, ByVirtual, ByInterface, BySpecial, Invocation, Stage, Waits, Fails, Calls, Selects}
-use Rattle.jl_types.specs.Sites.{selecting, by_kind, by_resolution, by_method, bound_to, bound_method, invocation_at, by_operand, stage_of, stage_at, stage}
-use Rattle.jl_types.specs.Links.{outcome_by, table_rows, table_or_mega, virtual_link, link_by, link_of, scratch}
+use Rattle.jl_types.specs.Values.World.{Class, Classes, Sites, World}
+use Rattle.jl_types.specs.Values.Members.{is_present, is_private, is_static, is_interface, is_concrete, numbers, declared}
+use Rattle.jl_types.specs.Values.Ancestry.{receivers, is_ancestor, superclasses}
+use Rattle.jl_types.specs.Linkage.Access.{accessible, is_accessible_class}
+use Rattle.jl_types.specs.Linkage.Resolution.{Resolved, resolved, resolved_at, by_access, if_accessible, naming, named_class, found, first_element}
+use Rattle.jl_types.specs.Linkage.Resolution.{pick, only, candidates, defaults, declared_upward, declared_in_object, found_in_class}
+use Rattle.jl_types.specs.Linkage.Resolution.{found_in_interface}
+use Rattle.jl_types.specs.Linkage.Access.{Access, Allowed, Denied, NotKnown}
+use Rattle.jl_types.specs.Linkage.Selection.{is_init, virtual_outcome}
+use Rattle.jl_types.specs.Linkage.Stages.{Selector, ByVirtual, ByInterface, BySpecial, ResolvedCall, Stage, Waits, Fails, Calls, Selects}
+use Rattle.jl_types.specs.Linkage.Stages.{selecting, by_kind, by_resolution, by_method, bound_to, bound_method, invocation_at, by_operand, stage_of}
+use Rattle.jl_types.specs.Linkage.Stages.{stage_at, stage}
+use Rattle.jl_types.specs.Linkage.Links.{outcome_by, table_rows, table_or_mega, virtual_link, link_by, link_of, scratch}
 use Rattle.jl_types.proofs.Accepting.{linked}
 use Rattle.jl_types.proofs.Orders.{IsGood}
 use Rattle.jl_hierarchy.specs.Constancy.{Stays}
@@ -41,10 +45,11 @@ use Rattle.jl_resolve.specs.Constancy.{is_settled}
 use Rattle.jl_resolve.proofs.Unchanged.{IsThere, IsOfThere, first_there, first_of_there, method_stays, static_stays, private_stays, all_filter}
 use Rattle.jl_resolve.proofs.Unchanged.{declared_there, candidates_there, defaults_there, upward_there, declared_in_object_there}
 use Rattle.jl_select.specs.Constancy.{IsConstant}
-use Rattle.jl_types.specs.Targets.{method_of}
+use Rattle.jl_types.specs.Linkage.Targets.{method_of}
 use Rattle.jl_types.specs.declared.key.Key.{Key}
 use Rattle.jl_types.specs.declared.key.Key.TheVariants as key
-use Rattle.jl_types.specs.Footprints.{same_key, has_key, meets, of_selector, of_stage, of_call_site, of_binding, of_operand, of_invocation, of_place, footprint}
+use Rattle.jl_types.specs.Happenings.Footprints.{same_key, has_key, meets, of_selector, of_stage, of_call_site, of_binding, of_operand, of_invocation}
+use Rattle.jl_types.specs.Happenings.Footprints.{of_place, footprint}
 use Rattle.jl_relink.proofs.WayKeys.{no_receivers_of}
 use Rattle.jl_relink.proofs.Staying.{present_there, accessible_there, named_there}
 
@@ -67,7 +72,7 @@ waits (Calls m) = false
 waits (Selects i) = false
 
 -- the classes of the invocation are there
-pub record AreThere (cs : Classes) (i : Invocation) : Type 0 where
+pub record AreThere (cs : Classes) (i : ResolvedCall) : Type 0 where
   pub caller : i.caller < length cs.rows
   pub named : i.named < length cs.rows
   pub method : i.method.class < length cs.rows
@@ -101,7 +106,8 @@ module _ (old new : Classes) (stays : Stays old new) (good : IsGood old) where
       by_kind : (itf : Bool) → IfSome (if itf then found_in_interface old ref.name ref.ty c else found_in_class old ref.name ref.ty c) (IsOfThere old)
       by_kind true =
           first_of_there (IsOfThere old)
-          (declared old ref.name ref.ty c ∷ declared_in_object old ref.name ref.ty ∷ only (pick (defaults old ref.name ref.ty c)) ∷ first_element (candidates old ref.name ref.ty c) ∷ []) (
+          (declared old ref.name ref.ty c ∷ declared_in_object old ref.name ref.ty ∷ only (pick (defaults old ref.name ref.ty c))
+          ∷ first_element (candidates old ref.name ref.ty c) ∷ []) (
             declared_there old new stays good ref.name ref.ty c there,
             (
               declared_in_object_there old new stays good ref.name ref.ty,
@@ -114,7 +120,8 @@ module _ (old new : Classes) (stays : Stays old new) (good : IsGood old) where
       by_kind false =
           first_of_there (IsOfThere old)
           (declared_upward old ref.name ref.ty c ∷ only (pick (defaults old ref.name ref.ty c)) ∷ first_element (candidates old ref.name ref.ty c) ∷ []) (
-            first_there (IsOfThere old) (filter_map (declared old ref.name ref.ty) (superclasses old c)) (upward_there old new stays good ref.name ref.ty c there),
+            first_there (IsOfThere old) (filter_map (declared old ref.name ref.ty) (superclasses old c))
+                (upward_there old new stays good ref.name ref.ty c there),
             (
               only_there old (defaults old ref.name ref.ty c) (defaults_there old new stays good ref.name ref.ty c there),
               (first_there (IsOfThere old) (candidates old ref.name ref.ty c) (candidates_there old new stays good ref.name ref.ty c there), tt),
@@ -142,7 +149,8 @@ module _ (old new : Classes) (stays : Stays old new) (good : IsGood old) where
 
       by_public : (named : ℕ) (b : Bool) → is_accessible_class old d named ≡ b
           → naming named (if not b then Err (resolve.Fault IllegalAccessError) else (
-          if not (beq ref.itf (is_interface old named)) then Err (resolve.Fault IncompatibleClassChangeError) else if_accessible old d named (found old ref named))) ≡ Ok r
+          if not (beq ref.itf (is_interface old named)) then Err (resolve.Fault IncompatibleClassChangeError) else if_accessible old d named
+          (found old ref named))) ≡ Ok r
           → IsOfThere old r.method
       by_public named false is e = cc
       by_public named true is e = by_kind named (not (beq ref.itf (is_interface old named))) (accessible_there old d named is) e
@@ -155,7 +163,7 @@ module _ (old new : Classes) (stays : Stays old new) (good : IsGood old) where
 
   module _ (d : ℕ) (ref : Reference (List ℕ)) (caller : IsThere old d) where
     module _ (r : Resolved) (there : IsThere old r.named) (at : IsOfThere old r.method) where
-      abbrev invoking : Selector → Invocation
+      abbrev invoking : Selector → ResolvedCall
       invoking selector = record { selector = selector; caller = d; named = r.named; ref = ref; method = r.method }
 
       selecting_stays : (selector : Selector) → StageStays old (selecting old selector d ref r) (selecting new selector d ref r)
@@ -182,7 +190,8 @@ module _ (old new : Classes) (stays : Stays old new) (good : IsGood old) where
       kind_stays Special = by_test (is_init ref.name && not (r.method.class == r.named))
         where
           by_test : (b : Bool)
-              → StageStays old (if b then Fails NoSuchMethodError else selecting old BySpecial d ref r) (if b then Fails NoSuchMethodError else selecting new BySpecial d ref r)
+              → StageStays old (if b then Fails NoSuchMethodError else selecting old BySpecial d ref r)
+              (if b then Fails NoSuchMethodError else selecting new BySpecial d ref r)
           by_test true = record { there = tt; same = λ settled. refl }
           by_test false = selecting_stays BySpecial
       kind_stays Dynamic = record { there = tt; same = λ settled. refl }
@@ -199,7 +208,8 @@ module _ (old new : Classes) (stays : Stays old new) (good : IsGood old) where
           by_answer (Err (resolve.NotReady missing)) is = record { there = tt; same = λ settled. cc }
           by_answer (Err (resolve.Fault throwable)) is = record {
             there = tt;
-            same = λ settled. ap (λ (r : Result Resolved ResolveAnswer). by_resolution new kind d ref r) (resolution_stays (Err (resolve.Fault throwable)) is refl);
+            same = λ settled. ap (λ (r : Result Resolved ResolveAnswer). by_resolution new kind d ref r)
+                (resolution_stays (Err (resolve.Fault throwable)) is refl);
           }
           by_answer (Ok r) is =
               let one = kind_stays r (named_there old d ref r is) (method_there d ref r is) kind in
@@ -259,15 +269,17 @@ no_receivers sites (Some d) c h = absurd (no_receivers_of sites d c h)
 -- the receiver.
 pub record SiteKeeps (w after : World) (before now : Stage) (old_keys new_keys : List Key) : Type 0 where
   pub there : IsStageThere w.classes before
-  pub chosen : (i : Invocation) → before ≡ Selects i → old_keys ≡ of_stage w.classes before
+  pub chosen : (i : ResolvedCall) → before ≡ Selects i → old_keys ≡ of_stage w.classes before
   pub rests : (k : Key) → has_key (of_stage w.classes before) k ≡ true → has_key old_keys k ≡ true
   pub looks : (c : ℕ) → has_key old_keys (key.Receivers c) ≡ true → has_key (of_stage w.classes before) (key.Receivers c) ≡ true
   pub same : waits before ≡ false → now ≡ before
   pub keys : waits before ≡ false → new_keys ≡ old_keys
 
 module _ (w after : World) (s : ℕ) (later : IsLater w after s) where
-  pub selector_same : (i : Invocation) → AreThere w.classes i → (selector : Selector) → of_selector after.classes i selector ≡ of_selector w.classes i selector
-  selector_same i there ByVirtual = λ j. if private_stays w.classes after.classes later.stays later.good i.method there.method j then [] else key.Receivers i.named ∷ []
+  pub selector_same : (i : ResolvedCall) → AreThere w.classes i → (selector : Selector)
+      → of_selector after.classes i selector ≡ of_selector w.classes i selector
+  selector_same i there ByVirtual = λ j. if private_stays w.classes after.classes later.stays later.good i.method there.method j then [] else key.Receivers
+      i.named ∷ []
   selector_same i there ByInterface = refl
   selector_same i there BySpecial = refl
 
@@ -291,7 +303,14 @@ module _ (w after : World) (s : ℕ) (later : IsLater w after s) where
     by_run : (c : ℕ) → bound_to w s ≡ Some c → (o : Option MethodId) → method_of w.sites c ≡ o
         → SiteKeeps w after (by_method o) (by_method (option_and_then (method_of after.sites) (bound_to after s)))
         (of_binding w.sites (bound_to w s)) (of_binding after.sites (bound_to after s))
-    by_run c is None run = record { there = tt; chosen = λ i e. cc; rests = λ k h. cc; looks = λ d h. absurd (no_receivers w.sites (bound_to w s) d h); same = λ settled. cc; keys = λ settled. cc }
+    by_run c is None run = record {
+      there = tt;
+      chosen = λ i e. cc;
+      rests = λ k h. cc;
+      looks = λ d h. absurd (no_receivers w.sites (bound_to w s) d h);
+      same = λ settled. cc;
+      keys = λ settled. cc;
+    }
     by_run c is (Some m) run =
         let bound = later.bindings c is in
         let one = later.runs c (λ k h. listed k (ap (λ (o : Option ℕ). has_key (of_binding w.sites o) k) is ∙ h)) m run in
@@ -307,7 +326,14 @@ module _ (w after : World) (s : ℕ) (later : IsLater w after s) where
     by_binding : (o : Option ℕ) → bound_to w s ≡ o
         → SiteKeeps w after (by_method (option_and_then (method_of w.sites) o)) (by_method (option_and_then (method_of after.sites) (bound_to after s)))
         (of_binding w.sites (bound_to w s)) (of_binding after.sites (bound_to after s))
-    by_binding None is = record { there = tt; chosen = λ i e. cc; rests = λ k h. cc; looks = λ d h. absurd (no_receivers w.sites (bound_to w s) d h); same = λ settled. cc; keys = λ settled. cc }
+    by_binding None is = record {
+      there = tt;
+      chosen = λ i e. cc;
+      rests = λ k h. cc;
+      looks = λ d h. absurd (no_receivers w.sites (bound_to w s) d h);
+      same = λ settled. cc;
+      keys = λ settled. cc;
+    }
     by_binding (Some c) is = by_run c is (method_of w.sites c) refl
 
     call_site_stays : SiteKeeps w after (by_method (bound_method w s)) (by_method (bound_method after s))
@@ -325,7 +351,14 @@ module _ (w after : World) (s : ℕ) (later : IsLater w after s) where
   invocation_stays : (d : ℕ) → IsThere w.classes d → is_present after.classes d ≡ true → (o : Option Site)
       → ((k : Key) → has_key (of_invocation w s d o) k ≡ true → has_key (footprint w s) k ≡ true)
       → SiteKeeps w after (stage_of w s d o) (stage_of after s d o) (of_invocation w s d o) (of_invocation after s d o)
-  invocation_stays d there present None listed = record { there = tt; chosen = λ i e. cc; rests = λ k h. cc; looks = λ d h. cc; same = λ settled. refl; keys = λ settled. refl }
+  invocation_stays d there present None listed = record {
+    there = tt;
+    chosen = λ i e. cc;
+    rests = λ k h. cc;
+    looks = λ d h. cc;
+    same = λ settled. refl;
+    keys = λ settled. refl;
+  }
   invocation_stays d there present (Some site) listed = operand_stays d there present site.kind site.operand listed
 
   place_stays : (place : Place) → slice_get w.places s ≡ Some place
@@ -352,11 +385,13 @@ module _ (w after : World) (s : ℕ) (later : IsLater w after s) where
             looks = one.looks;
             same = λ settled.
                 ap (λ (b : Bool). if b then stage_of after s place.class (invocation_at after.classes place) else Waits Gone) now
-                ∙ ap (λ (o : Option Method). stage_of after s place.class (option_and_then (λ method. find (λ site. site.pc == place.pc) method.sites) o)) methods
+                ∙ ap (λ (o : Option Method). stage_of after s place.class (option_and_then (λ method. find (λ site. site.pc == place.pc) method.sites) o))
+                methods
                 ∙ one.same settled;
             keys = λ settled.
                 ap (λ (b : Bool). if b then of_invocation after s place.class (invocation_at after.classes place) else []) now
-                ∙ ap (λ (o : Option Method). of_invocation after s place.class (option_and_then (λ method. find (λ site. site.pc == place.pc) method.sites) o)) methods
+                ∙ ap (λ (o : Option Method). of_invocation after s place.class (option_and_then (λ method. find (λ site. site.pc == place.pc) method.sites) o))
+                methods
                 ∙ one.keys settled;
           }
 
@@ -372,7 +407,7 @@ module _ (w after : World) (s : ℕ) (later : IsLater w after s) where
 
   -- ---- its link
 
-  module _ (i : Invocation) (there : AreThere w.classes i) where
+  module _ (i : ResolvedCall) (there : AreThere w.classes i) where
     pub outcome_same : (selector : Selector) (x : ℕ) → IsThere w.classes x → outcome_by after.classes i selector x ≡ outcome_by w.classes i selector x
     outcome_same ByVirtual x at = later.constant.outcomes.virtual x i.method at there.method
     outcome_same ByInterface x at = later.constant.outcomes.interface x i.named i.method at there.method

@@ -9,15 +9,15 @@ use Rattle.std.proofs.lemmas.Bool.Decides.{Decides-eqb}
 use Rattle.std.proofs.lemmas.Cmp.{nat_eq_equiv}
 use Rattle.std.proofs.lemmas.Option.{slice_get_within}
 use Rattle.jl_pool.specs.declared.reference.CallSiteSpecifier.{CallSiteSpecifier}
-use Rattle.jl_code.specs.declared.site.Kind.{Kind}
-use Rattle.jl_code.specs.declared.site.Operand.{Operand}
-use Rattle.jl_code.specs.declared.site.Operand.TheVariants as operand
-use Rattle.jl_types.specs.World.{World, Classes, Sites}
-use Rattle.jl_types.specs.Sites.{bound_to}
-use Rattle.jl_types.specs.Targets.{is_valid}
+use Rattle.jl_class.specs.declared.site.Kind.{Kind}
+use Rattle.jl_class.specs.declared.site.Operand.{Operand}
+use Rattle.jl_class.specs.declared.site.Operand.TheVariants as operand
+use Rattle.jl_types.specs.Values.World.{World, Classes, Sites}
+use Rattle.jl_types.specs.Linkage.Stages.{bound_to}
+use Rattle.jl_types.specs.Linkage.Targets.{is_valid}
 use Rattle.jl_types.specs.declared.key.Key.{Key}
 use Rattle.jl_types.specs.declared.key.Key.TheVariants as key
-use Rattle.jl_types.specs.Footprints.{has_key, call_site_in, point_in, among, path, of_call_site, of_binding, of_operand, most_by}
+use Rattle.jl_types.specs.Happenings.Footprints.{has_key, call_site_in, point_in, among, path, of_call_site, of_binding, of_operand, most_by}
 use Rattle.jl_types.proofs.Bools.{any-filter, any-filter-at, any-range-from}
 use Rattle.jl_callsites.proofs.Walks.{IsOn, on_path}
 
@@ -116,7 +116,8 @@ call_site_below sites n (key.Target d ∷ ks) on c h = elim (or_cases (d == c) (
 ]
 call_site_below sites n (key.Valid p ∷ ks) on c h = call_site_below sites n ks on.1 c h
 
-pub point_valid : (sites : Sites) (n : ℕ) (ks : List Key) → AllByRecursion (IsOn sites n) ks → (p : ℕ) → has_key ks (key.Valid p) ≡ true → is_valid sites p ≡ true
+pub point_valid : (sites : Sites) (n : ℕ) (ks : List Key) → AllByRecursion (IsOn sites n) ks → (p : ℕ) → has_key ks (key.Valid p) ≡ true
+    → is_valid sites p ≡ true
 point_valid sites n [] on p h = cc
 point_valid sites n (key.Receivers d ∷ ks) on p h = absurd on.0
 point_valid sites n (key.Target d ∷ ks) on p h = point_valid sites n ks on.1 p h

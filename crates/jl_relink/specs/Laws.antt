@@ -1,19 +1,19 @@
 -- Which events change no link, and what a link rests on.
 use Rattle.std.specs.Prelude.{◌≡◌, ◌≢◌, ℕ, length, Bool, true, false, List, take, slice_get, Some, Ok, IsOk}
 use Rattle.std.specs.List.{list_all}
-use Rattle.jl_classfile.specs.Conditions.{extends_object}
-use Rattle.jl_types.specs.Event.{Event}
+use Rattle.jl_class.specs.Flags.{extends_object}
+use Rattle.jl_types.specs.Happenings.Event.{Event}
 use Rattle.jl_types.specs.declared.event.EventOf.TheVariants as event
 use Rattle.jl_types.specs.declared.link.Link.{Link}
-use Rattle.jl_types.specs.World.{World}
-use Rattle.jl_types.specs.Events.{verdict, step}
-use Rattle.jl_types.specs.Links.{outcome, scratch}
-use Rattle.jl_types.specs.Sites.{Invocation, BySpecial, Selects, stage}
-use Rattle.jl_classfile.specs.Class.{ClassFile}
-use Rattle.jl_types.specs.History.{world_after, is_link}
+use Rattle.jl_types.specs.Values.World.{World}
+use Rattle.jl_types.specs.Happenings.Events.{verdict, step}
+use Rattle.jl_types.specs.Linkage.Links.{outcome, scratch}
+use Rattle.jl_types.specs.Linkage.Stages.{ResolvedCall, BySpecial, Selects, stage}
+use Rattle.jl_class.specs.Class.{ClassFile}
+use Rattle.jl_types.specs.Happenings.History.{world_after, is_link}
 use Rattle.jl_hierarchy.specs.Constancy.{AreInOrder}
 use Rattle.jl_callsites.specs.Known.{are_known}
-use Rattle.jl_types.specs.Footprints.{footprint, stays_with}
+use Rattle.jl_types.specs.Happenings.Footprints.{footprint, stays_with}
 
 -- each site that has a link from scratch has the same one after the event
 pub record LinksStay (w : World) (e : Event) : Type 0 where
@@ -32,7 +32,7 @@ pub record SiteStays (w after : World) (s : ℕ) (l : Link) : Type 0 where
 -- After the definition of a class that the site's link looks at, the site selects as before, by this invocation, and whether its link
 -- stays is told by the link and by what the invocation comes to for the new class. What the link rests on stays.
 pub record OneMore (w : World) (loader : ℕ) (file : ClassFile) (s : ℕ) (l : Link) : Type 0 where
-  pub invocation : Invocation
+  pub invocation : ResolvedCall
   pub selects : stage (step w (event.Define loader file)) s ≡ Selects invocation
   pub selector : invocation.selector ≢ BySpecial
   pub link : is_link (scratch (step w (event.Define loader file)) s) l

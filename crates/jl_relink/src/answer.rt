@@ -1,16 +1,16 @@
 //! The answer to a call (JVMS SE 17 §6.5). It looks at no link.
 
 ghost use Rattle.std.specs.Prelude.{◌≡◌};
-ghost use Rattle.jl_types.specs.Resolution as resolution;
-ghost use Rattle.jl_types.specs.Sites as sites;
-ghost use Rattle.jl_types.specs.Calls as calls;
-ghost use Rattle.jl_relink.specs.Rows.{selected_answer, special_answer, fits, fits_named};
+ghost use Rattle.jl_types.specs.Linkage.Resolution as resolution;
+ghost use Rattle.jl_types.specs.Linkage.Stages as stages;
+ghost use Rattle.jl_types.specs.Linkage.Calls as calls;
+ghost use Rattle.jl_relink.specs.Means.Rows.{selected_answer, special_answer, fits, fits_named};
 
 use crate::located::{Located, locate};
 use crate::selection::{Selection, outcome};
 use crate::stage::{Stage, stage_of_reference};
 use crate::world::World;
-use jl_code::{Kind, Operand};
+use jl_class::{Kind, Operand};
 use jl_hierarchy::Classes;
 use jl_names::LentName;
 use jl_pool::Reference;
@@ -30,7 +30,7 @@ pub fn dispatch(world: &World, site: SiteNo, recv: Recv) -> Answer
 /// The answer to a call of the site's invocation.
 fn invocation_answer(world: &World, site: SiteNo, found: &Located<'_>, recv: Recv) -> Answer
     ensures { result ≡ calls.answer_of world.now.classes
-        (sites.by_operand world.now site found.now.caller found.now.invocation.kind found.now.invocation.operand) recv }
+        (stages.by_operand world.now site found.now.caller found.now.invocation.kind found.now.invocation.operand) recv }
 {
     match found.invocation.operand() {
         Operand::Method(reference) => reference_answer(
@@ -55,7 +55,7 @@ fn reference_answer(
     reference: &Reference<LentName<'_>>,
     recv: Recv,
 ) -> Answer
-    ensures { result ≡ calls.answer_of classes.now (sites.by_resolution classes.now kind caller reference.now
+    ensures { result ≡ calls.answer_of classes.now (stages.by_resolution classes.now kind caller reference.now
         (resolution.resolved classes.now caller reference.now)) recv }
 {
     match stage_of_reference(classes, kind, caller, reference) {

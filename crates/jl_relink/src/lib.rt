@@ -1,7 +1,7 @@
 //! The link of a site from scratch, the answer to a call (JVMS SE 17 §6.5; Hölzle, Chambers and Ungar 1991), and links that
 //! are looked up apart from the events, in one thread or in several, and installed later.
 //!
-//! The contract of each is its definition in jl_types (`specs/Links`, `Calls`, `Batches` and `Preparation`);
+//! The contract of each is its definition in jl_types (`Links`, `Calls`, `Batches` and `Preparation`);
 //! `specs/Preparations` says what a preparation is answered, and `specs/Laws` that an event changes no link. The other
 //! definitions here are means of proof.
 #![tactic(auto)]
@@ -14,8 +14,8 @@ mod known;
 mod laws;
 mod link;
 mod located;
+mod outline;
 mod pairs;
-mod plan;
 mod preparation;
 mod receiver;
 mod receivers;

@@ -1,11 +1,11 @@
 //! Where a requested invocation stands.
 
 ghost use Rattle.std.specs.Prelude.{◌≡◌, IfOk, IfErr};
-ghost use Rattle.jl_types.specs.Sites as sites;
-ghost use Rattle.jl_types.specs.Footprints.{footprint, of_operand};
+ghost use Rattle.jl_types.specs.Linkage.Stages as stages;
+ghost use Rattle.jl_types.specs.Happenings.Footprints.{footprint, of_operand};
 
 use crate::world::World;
-use jl_code::Site;
+use jl_class::Site;
 use jl_hierarchy::Classes;
 use jl_types::{ClassId, MethodId, Place, SiteNo, Unlinked};
 
@@ -18,11 +18,11 @@ pub(crate) struct Located<'a> {
 
 /// The invocation of the site, or why there is none.
 pub(crate) fn locate(world: &World, site: SiteNo) -> Result<Located<'_>, Unlinked>
-    ensures there { IfOk result (λ found. sites.stage world.now site
-        ≡ sites.by_operand world.now site found.caller found.invocation.kind found.invocation.operand) }
+    ensures there { IfOk result (λ found. stages.stage world.now site
+        ≡ stages.by_operand world.now site found.caller found.invocation.kind found.invocation.operand) }
     ensures rests_on { IfOk result (λ found. footprint world.now site
         ≡ of_operand world.now site found.caller found.invocation.kind found.invocation.operand) }
-    ensures none { IfErr result (λ reason. sites.stage world.now site ≡ sites.Waits reason) }
+    ensures none { IfErr result (λ reason. stages.stage world.now site ≡ stages.Waits reason) }
 {
     let Some(place) = world.places.get_index(site.number() as usize) else {
         return Err(Unlinked::NoSite);
@@ -41,7 +41,7 @@ pub(crate) fn locate(world: &World, site: SiteNo) -> Result<Located<'_>, Unlinke
 
 /// The invocation at a place. Takes no memory.
 pub fn invocation_at<'a>(classes: &'a Classes, place: &Place) -> Option<Site<'a>>
-    ensures { result ≡ sites.invocation_at classes.now place.now }
+    ensures { result ≡ stages.invocation_at classes.now place.now }
 {
     let method = classes.method_at(&MethodId {
         class: place.class,

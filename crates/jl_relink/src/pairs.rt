@@ -1,10 +1,10 @@
 //! The pairs of a batch's rows with their receivers.
 
 ghost use Rattle.std.specs.Prelude.{◌≡◌, ◌<◌, ◌++◌, length, All, IfOk, OnOk};
-ghost use Rattle.jl_relink.specs.Wide as plans;
+ghost use Rattle.jl_relink.specs.Means.Wide as plans;
 
 use crate::link::receivers_of;
-use crate::plan::{Pair, Planned};
+use crate::outline::{Outline, Pair};
 use crate::selection::Selection;
 use jl_hierarchy::Classes;
 use jl_types::{ClassId, SiteNo};
@@ -14,7 +14,7 @@ use std::alloc::{AllocError, Global};
 pub(crate) fn pairs_of(
     alloc: Global,
     classes: &Classes,
-    plan: &[(SiteNo, Planned)],
+    plan: &[(SiteNo, Outline)],
 ) -> Result<Vec<Pair>, AllocError>
     requires { All (λ row. plans.IsThere classes.now row.1) plan.now }
     ensures pairs { IfOk result (λ pairs. pairs.items ≡ plans.pairs_of classes.now plan.now) }
@@ -31,17 +31,17 @@ pub(crate) fn pairs_of(
 fn add_row(
     pairs: &mut Vec<Pair>,
     classes: &Classes,
-    row: &(SiteNo, Planned),
+    row: &(SiteNo, Outline),
 ) -> Result<(), AllocError>
     requires { plans.IsThere classes.now row.now.1 }
     ensures pairs { OnOk result (pairs.new.items ≡ pairs.old.items ++ plans.pairs_in classes.now row.now.1) }
     ensures there { All (λ p. p.receiver < length classes.now.rows) (plans.pairs_in classes.now row.now.1) }
 {
     match &row.1 {
-        Planned::Depends(selection) => {
+        Outline::Depends(selection) => {
             add_pairs(pairs, selection, receivers_of(classes, selection.named))
         }
-        Planned::Known(_) => Ok(()),
+        Outline::Known(_) => Ok(()),
     }
 }
 
@@ -63,12 +63,12 @@ fn add_pairs(
 }
 
 /// How many pairs the row has.
-pub(crate) fn pair_count(classes: &Classes, row: &(SiteNo, Planned)) -> usize
+pub(crate) fn pair_count(classes: &Classes, row: &(SiteNo, Outline)) -> usize
     requires { plans.IsThere classes.now row.now.1 }
     ensures { result ≡ length (plans.pairs_in classes.now row.now.1) }
 {
     match &row.1 {
-        Planned::Depends(selection) => receivers_of(classes, selection.named).len(),
-        Planned::Known(_) => 0,
+        Outline::Depends(selection) => receivers_of(classes, selection.named).len(),
+        Outline::Known(_) => 0,
     }
 }

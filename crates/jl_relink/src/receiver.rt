@@ -1,19 +1,19 @@
 //! Whether a link stays once there is one receiver more.
 
 ghost use Rattle.std.specs.Prelude.{◌≡◌, ◌+◌, ◌^◌, ◌<◌, ◌≤◌, true, length};
-ghost use Rattle.jl_types.specs.Resolution as resolution;
-ghost use Rattle.jl_types.specs.Sites as sites;
-ghost use Rattle.jl_types.specs.Links as links;
-ghost use Rattle.jl_types.specs.Sites.{stage};
+ghost use Rattle.jl_types.specs.Linkage.Resolution as resolution;
+ghost use Rattle.jl_types.specs.Linkage.Stages as stages;
+ghost use Rattle.jl_types.specs.Linkage.Links as links;
+ghost use Rattle.jl_types.specs.Linkage.Stages.{stage};
 ghost use Rattle.jl_relink.specs.Receivers.{TellsStay, TellsRun, IsSelection};
-ghost use Rattle.jl_relink.specs.Rows.{outcome_of};
+ghost use Rattle.jl_relink.specs.Means.Rows.{outcome_of};
 
 use crate::known::one_runs;
 use crate::located::{Located, locate};
 use crate::selection::{Selection, outcome_counted};
 use crate::stage::{Stage, stage_of_reference};
 use crate::world::World;
-use jl_code::{Kind, Operand};
+use jl_class::{Kind, Operand};
 use jl_hierarchy::Classes;
 use jl_names::LentName;
 use jl_pool::Reference;
@@ -124,7 +124,7 @@ pub(crate) fn selection_at(world: &World, site: SiteNo) -> Option<Selection>
 /// The same of an invocation.
 fn selection_of(world: &World, site: SiteNo, found: &Located<'_>) -> Option<Selection>
     ensures { IsSelection world.now.classes
-        (sites.by_operand world.now site found.now.caller found.now.invocation.kind found.now.invocation.operand) result }
+        (stages.by_operand world.now site found.now.caller found.now.invocation.kind found.now.invocation.operand) result }
 {
     match found.invocation.operand() {
         Operand::Method(reference) => selection_of_reference(
@@ -144,7 +144,7 @@ fn selection_of_reference(
     caller: ClassId,
     reference: &Reference<LentName<'_>>,
 ) -> Option<Selection>
-    ensures { IsSelection classes.now (sites.by_resolution classes.now kind caller reference.now
+    ensures { IsSelection classes.now (stages.by_resolution classes.now kind caller reference.now
         (resolution.resolved classes.now caller reference.now)) result }
 {
     match stage_of_reference(classes, kind, caller, reference) {

@@ -1,17 +1,17 @@
 //! The link of a site from scratch (JVMS SE 17 §6.5), where each selection, special search and evaluation is counted.
 
 ghost use Rattle.std.specs.Prelude.{◌≡◌, ◌+◌, ◌^◌, ◌<◌, ◌≤◌};
-ghost use Rattle.jl_types.specs.Resolution as resolution;
-ghost use Rattle.jl_types.specs.Sites as sites;
-ghost use Rattle.jl_types.specs.Links as links;
-ghost use Rattle.jl_types.specs.Footprints.{of_stage, of_operand, most_by, most_for};
-ghost use Rattle.jl_relink.specs.Counts.{method_at};
+ghost use Rattle.jl_types.specs.Linkage.Resolution as resolution;
+ghost use Rattle.jl_types.specs.Linkage.Stages as stages;
+ghost use Rattle.jl_types.specs.Linkage.Links as links;
+ghost use Rattle.jl_types.specs.Happenings.Footprints.{of_stage, of_operand, most_by, most_for};
+ghost use Rattle.jl_relink.specs.Means.Counts.{method_at};
 
 use crate::link::selected_link;
 use crate::located::{Located, locate};
 use crate::stage::{Stage, stage_of_reference};
 use crate::world::World;
-use jl_code::{Kind, Operand};
+use jl_class::{Kind, Operand};
 use jl_hierarchy::Classes;
 use jl_names::LentName;
 use jl_pool::Reference;
@@ -50,7 +50,7 @@ fn invocation_link(
     requires fits { work.old + most_by world.now.classes
         (of_operand world.now site found.now.caller found.now.invocation.kind found.now.invocation.operand) < 2 ^ 64 }
     ensures link { result ≡ links.link_of world.now.classes
-        (sites.by_operand world.now site found.now.caller found.now.invocation.kind found.now.invocation.operand) }
+        (stages.by_operand world.now site found.now.caller found.now.invocation.kind found.now.invocation.operand) }
     ensures ticks { work.new ≤ work.old + most_by world.now.classes
         (of_operand world.now site found.now.caller found.now.invocation.kind found.now.invocation.operand) }
 {
@@ -74,11 +74,11 @@ fn reference_link(
     reference: &Reference<LentName<'_>>,
     work: &mut Work,
 ) -> Result<Link, Unlinked>
-    requires fits { work.old + most_by classes.now (of_stage classes.now (sites.by_resolution classes.now kind caller reference.now
+    requires fits { work.old + most_by classes.now (of_stage classes.now (stages.by_resolution classes.now kind caller reference.now
         (resolution.resolved classes.now caller reference.now))) < 2 ^ 64 }
-    ensures link { result ≡ links.link_of classes.now (sites.by_resolution classes.now kind caller reference.now
+    ensures link { result ≡ links.link_of classes.now (stages.by_resolution classes.now kind caller reference.now
         (resolution.resolved classes.now caller reference.now)) }
-    ensures ticks { work.new ≤ work.old + most_by classes.now (of_stage classes.now (sites.by_resolution classes.now kind caller
+    ensures ticks { work.new ≤ work.old + most_by classes.now (of_stage classes.now (stages.by_resolution classes.now kind caller
         reference.now (resolution.resolved classes.now caller reference.now))) }
 {
     match stage_of_reference(classes, kind, caller, reference) {
@@ -100,7 +100,7 @@ fn binding_link(
     work: &mut Work,
 ) -> Result<Link, Unlinked>
     requires fits { work.old + 1 < 2 ^ 64 }
-    ensures link { result ≡ links.link_of world.now.classes (sites.by_method (method_at world.now.sites binding)) }
+    ensures link { result ≡ links.link_of world.now.classes (stages.by_method (method_at world.now.sites binding)) }
     ensures ticks { work.new ≤ work.old + 1 }
 {
     let Some(call_site) = binding else {

@@ -1,7 +1,7 @@
 //! A world as it was.
 
 ghost use Rattle.std.specs.Prelude.{◌≡◌};
-ghost use Rattle.jl_relink.specs.Holding.{held_world};
+ghost use Rattle.jl_relink.specs.Means.Holding.{held_world};
 
 use crate::world::World;
 use std::marker::Model;
@@ -48,7 +48,7 @@ impl Model for Snapshot {
 
     ghost coded = { Prim.hlevel (codes, target_code) };
 
-    ghost use Rattle.jl_relink.specs.Holding.{held_world};
+    ghost use Rattle.jl_relink.specs.Means.Holding.{held_world};
 
     ghost view = { λ s. record { world = held_world s.held; serial = s.serial } };
 }

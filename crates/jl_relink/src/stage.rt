@@ -1,14 +1,14 @@
 //! What an invocation of a reference comes to before its receiver is looked at (JVMS SE 17 §6.5).
 
 ghost use Rattle.std.specs.Prelude.{◌≡◌, ◌<◌, ◌==◌, ◌&&◌, Some, not, length};
-ghost use Rattle.jl_types.specs.Sites as sites;
-ghost use Rattle.jl_types.specs.Selection as selection;
-ghost use Rattle.jl_types.specs.Resolution as resolution;
-ghost use Rattle.jl_code.specs.declared.site.Kind.TheVariants.{Special};
+ghost use Rattle.jl_types.specs.Linkage.Stages as stages;
+ghost use Rattle.jl_types.specs.Linkage.Selection as selection;
+ghost use Rattle.jl_types.specs.Linkage.Resolution as resolution;
+ghost use Rattle.jl_class.specs.declared.site.Kind.TheVariants.{Special};
 ghost use Rattle.jl_relink.specs.Stages.{IsStage, selector_of};
 
 use crate::selection::Selection;
-use jl_code::Kind;
+use jl_class::Kind;
 use jl_hierarchy::Classes;
 use jl_names::LentName;
 use jl_pool::Reference;
@@ -38,7 +38,7 @@ pub(crate) fn stage_of_reference(
     caller: ClassId,
     reference: &Reference<LentName<'_>>,
 ) -> Stage
-    ensures { IsStage classes.now caller reference.now result (sites.by_resolution classes.now kind caller reference.now
+    ensures { IsStage classes.now caller reference.now result (stages.by_resolution classes.now kind caller reference.now
         (resolution.resolved classes.now caller reference.now)) }
 {
     match resolve_reference(classes, caller, reference) {
@@ -58,7 +58,7 @@ fn by_kind(
 ) -> Stage
     requires named { resolution.named_class classes.now caller reference.now ≡ Some resolved.now.named }
     requires there { resolved.now.named < length classes.now.rows }
-    ensures { IsStage classes.now caller reference.now result (sites.by_kind classes.now kind caller reference.now resolved.now) }
+    ensures { IsStage classes.now caller reference.now result (stages.by_kind classes.now kind caller reference.now resolved.now) }
 {
     match kind {
         Kind::Static => static_stage(classes, caller, reference, resolved),
@@ -76,7 +76,7 @@ fn static_stage(
     reference: &Reference<LentName<'_>>,
     resolved: &Resolved,
 ) -> Stage
-    ensures { IsStage classes.now caller reference.now result (sites.if_static classes.now resolved.now.method) }
+    ensures { IsStage classes.now caller reference.now result (stages.if_static classes.now resolved.now.method) }
 {
     if classes.is_static(&resolved.method) {
         Stage::Calls(resolved.method)
@@ -94,7 +94,7 @@ fn selecting(
     resolved: &Resolved,
 ) -> Stage
     requires { resolved.now.named < length classes.now.rows }
-    ensures { IsStage classes.now caller reference.now result (sites.selecting classes.now (selector_of kind) caller reference.now resolved.now) }
+    ensures { IsStage classes.now caller reference.now result (stages.selecting classes.now (selector_of kind) caller reference.now resolved.now) }
 {
     if classes.is_static(&resolved.method) {
         return Stage::Fails(Throwable::IncompatibleClassChangeError);
@@ -114,7 +114,7 @@ fn special_stage(
     resolved: &Resolved,
 ) -> Stage
     requires { resolution.named_class classes.now caller reference.now ≡ Some resolved.now.named }
-    ensures { IsStage classes.now caller reference.now result (sites.by_kind classes.now Special caller reference.now resolved.now) }
+    ensures { IsStage classes.now caller reference.now result (stages.by_kind classes.now Special caller reference.now resolved.now) }
 {
     if is_inherited_init(reference, resolved) {
         return Stage::Fails(Throwable::NoSuchMethodError);

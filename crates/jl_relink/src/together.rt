@@ -1,11 +1,11 @@
 //! A batch's rows, put together from what their receivers came to.
 
 ghost use Rattle.std.specs.Prelude.{◌≡◌, map, All, IfOk};
-ghost use Rattle.jl_relink.specs.Wide as plans;
+ghost use Rattle.jl_relink.specs.Means.Wide as plans;
 
 use crate::by_rows::link_by_rows;
+use crate::outline::Outline;
 use crate::pairs::pair_count;
-use crate::plan::Planned;
 use jl_hierarchy::Classes;
 use jl_types::{ClassId, Link, Outcome, SiteNo};
 use std::alloc::{AllocError, Global};
@@ -14,7 +14,7 @@ use std::alloc::{AllocError, Global};
 pub(crate) fn put_together(
     alloc: Global,
     classes: &Classes,
-    plan: &[(SiteNo, Planned)],
+    plan: &[(SiteNo, Outline)],
     looked: &[(ClassId, Outcome)],
 ) -> Result<Vec<(SiteNo, Link)>, AllocError>
     requires there { All (λ row. plans.IsThere classes.now row.1) plan.now }
@@ -32,18 +32,18 @@ pub(crate) fn put_together(
 }
 
 /// The row with its link, by what its pairs came to.
-fn row_with(row: &(SiteNo, Planned), looked: &[(ClassId, Outcome)]) -> (SiteNo, Link)
+fn row_with(row: &(SiteNo, Outline), looked: &[(ClassId, Outcome)]) -> (SiteNo, Link)
     ensures { result ≡ (row.now.0, plans.link_with row.now.1 looked.now) }
 {
     (row.0, link_with(&row.1, looked))
 }
 
 /// The row's link by what its pairs came to.
-fn link_with(planned: &Planned, looked: &[(ClassId, Outcome)]) -> Link
+fn link_with(planned: &Outline, looked: &[(ClassId, Outcome)]) -> Link
     ensures { result ≡ plans.link_with planned.now looked.now }
 {
     match planned {
-        Planned::Known(link) => *link,
-        Planned::Depends(selection) => link_by_rows(selection.kind, looked),
+        Outline::Known(link) => *link,
+        Outline::Depends(selection) => link_by_rows(selection.kind, looked),
     }
 }

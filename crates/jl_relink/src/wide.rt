@@ -2,10 +2,10 @@
 
 ghost use Rattle.std.specs.Prelude.{◌≡◌, ◌<◌, map, length, All, IfOk};
 ghost use Rattle.jl_relink.specs.Preparations.{IsPreparation};
-ghost use Rattle.jl_relink.specs.Wide as plans;
+ghost use Rattle.jl_relink.specs.Means.Wide as plans;
 
+use crate::outline::{Outline, Pair, plan_of_batch};
 use crate::pairs::pairs_of;
-use crate::plan::{Pair, Planned, plan_of_batch};
 use crate::preparation::Prepared;
 use crate::selection::outcome;
 use crate::snapshot::Snapshot;
@@ -108,7 +108,7 @@ fn rows_of_plan<P: Probe + Sync>(
     rt: &(impl Threads + Sync),
     alloc: Global,
     classes: &Classes,
-    plan: &[(SiteNo, Planned)],
+    plan: &[(SiteNo, Outline)],
     probe: &P,
 ) -> Result<Vec<(SiteNo, Link)>, AllocError>
     requires { All (λ row. plans.IsThere classes.now row.1) plan.now }

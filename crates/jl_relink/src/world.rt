@@ -1,8 +1,8 @@
 //! What there is to link.
 
 ghost use Rattle.std.specs.Prelude.{◌≡◌, length, IfOk};
-ghost use Rattle.jl_types.specs.World.{World, nothing_yet};
-ghost use Rattle.jl_types.specs.Sites as sites;
+ghost use Rattle.jl_types.specs.Values.World.{World, nothing_yet};
+ghost use Rattle.jl_types.specs.Linkage.Stages as stages;
 
 use indexmap::{IndexMap, IndexSet};
 use jl_callsites::Sites;
@@ -33,7 +33,7 @@ impl Drop for World {
 }
 
 impl Model for World {
-    ghost use Rattle.jl_types.specs.World.{World};
+    ghost use Rattle.jl_types.specs.Values.World.{World};
     ghost use Rattle.std.specs.Coded.{codes};
     ghost use Rattle.jl_types.specs.Means.TargetCode.{target_code};
 
@@ -83,14 +83,14 @@ impl World {
 
     /// The call site to which the invokedynamic is bound. Takes no memory.
     pub fn bound_to(&self, site: SiteNo) -> Option<CallSiteId>
-        ensures { result ≡ sites.bound_to self.now site }
+        ensures { result ≡ stages.bound_to self.now site }
     {
         self.bindings.get(&site).copied()
     }
 
     /// The method that the invokedynamic runs now, where it is bound. Takes no memory.
     pub(crate) fn bound_method(&self, site: SiteNo) -> Option<MethodId>
-        ensures { result ≡ sites.bound_method self.now site }
+        ensures { result ≡ stages.bound_method self.now site }
     {
         self.sites.method_of(self.bound_to(site)?)
     }

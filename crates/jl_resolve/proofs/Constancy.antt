@@ -7,24 +7,28 @@ use Rattle.std.specs.Option.{option_map_or}
 use Rattle.std.proofs.Common.{refl, ap, sym, subst, ◌∙◌}
 use Rattle.std.proofs.lemmas.Option.{slice_get_within}
 use Rattle.jl_pool.specs.declared.reference.Reference.{Reference}
-use Rattle.jl_classfile.specs.Conditions.{has_flag, object, PUBLIC}
+use Rattle.jl_class.specs.Flags.{has_flag, object, PUBLIC}
 use Rattle.jl_types.specs.declared.ids.MethodId.{MethodId}
 use Rattle.jl_types.specs.declared.answer.ResolveAnswer.{ResolveAnswer}
 use Rattle.jl_types.specs.declared.answer.ResolveAnswer.TheVariants.{NotReady, Fault}
 use Rattle.jl_types.specs.declared.answer.Throwable.TheVariants.{IllegalAccessError, IncompatibleClassChangeError}
-use Rattle.jl_types.specs.World.{Class, Classes}
-use Rattle.jl_types.specs.Members.{is_retired, declared, lookup, is_interface, is_public, is_private}
-use Rattle.jl_types.specs.Ancestry.{AreOrdered, superclasses}
-use Rattle.jl_types.specs.Access.{Access, Allowed, Denied, NotKnown, is_accessible_class, nest_host, same_nest, by_subclass, by_package, by_nest, accessible}
-use Rattle.jl_types.specs.Resolution.{first_of, first_element, pick, only, candidates, defaults, declared_upward, declared_in_object, found_in_class, found_in_interface, found}
-use Rattle.jl_types.specs.Resolution.{by_access, if_accessible, resolved_in, naming, resolved_at, resolved}
+use Rattle.jl_types.specs.Values.World.{Class, Classes}
+use Rattle.jl_types.specs.Values.Members.{is_retired, declared, lookup, is_interface, is_public, is_private}
+use Rattle.jl_types.specs.Values.Ancestry.{AreOrdered, superclasses}
+use Rattle.jl_types.specs.Linkage.Access.{Access, Allowed, Denied, NotKnown, is_accessible_class, nest_host, same_nest, by_subclass, by_package}
+use Rattle.jl_types.specs.Linkage.Access.{by_nest, accessible}
+use Rattle.jl_types.specs.Linkage.Resolution.{first_of, first_element, pick, only, candidates, defaults, declared_upward, declared_in_object}
+use Rattle.jl_types.specs.Linkage.Resolution.{found_in_class, found_in_interface, found}
+use Rattle.jl_types.specs.Linkage.Resolution.{by_access, if_accessible, resolved_in, naming, resolved_at, resolved}
 use Rattle.jl_types.proofs.Orders.{IsGood, looked_up}
 use Rattle.jl_hierarchy.specs.Constancy.{Stays, IsClosed}
 use Rattle.jl_resolve.specs.Constancy.{is_settled, RecordsObject, SettledStays}
 use Rattle.jl_resolve.proofs.Present.{IsPresent, IsOfPresent, found_present}
-use Rattle.jl_resolve.proofs.Unchanged.{IsThere, IsOfThere, first_there, first_of_there, test_stays, package_stays, interface_stays, declared_stays, declared_there, subclass_stays}
+use Rattle.jl_resolve.proofs.Unchanged.{IsThere, IsOfThere, first_there, first_of_there, test_stays, package_stays, interface_stays, declared_stays}
+use Rattle.jl_resolve.proofs.Unchanged.{declared_there, subclass_stays}
 use Rattle.jl_resolve.proofs.Unchanged.{public_stays, private_stays, protected_stays, static_stays, package_private_stays}
-use Rattle.jl_resolve.proofs.Unchanged.{candidates_there, candidates_stay, defaults_there, defaults_stay, upward_there, upward_stays, declared_in_object_there, declared_in_object_stays}
+use Rattle.jl_resolve.proofs.Unchanged.{candidates_there, candidates_stay, defaults_there, defaults_stay, upward_there, upward_stays}
+use Rattle.jl_resolve.proofs.Unchanged.{declared_in_object_there, declared_in_object_stays}
 
 only_there : (cs : Classes) (ms : List MethodId) → AllByRecursion (IsOfThere cs) ms → IfSome (only (pick ms)) (IsOfThere cs)
 only_there cs [] all = tt
@@ -56,7 +60,8 @@ known_access m Allowed h = refl
 known_access m Denied h = refl
 known_access m (NotKnown missing) h = h
 
-naming_stays : (named : ℕ) (x y : Result MethodId ResolveAnswer) → (is_settled y ≡ true → x ≡ y) → is_settled (naming named y) ≡ true → naming named x ≡ naming named y
+naming_stays : (named : ℕ) (x y : Result MethodId ResolveAnswer) → (is_settled y ≡ true → x ≡ y) → is_settled (naming named y) ≡ true
+    → naming named x ≡ naming named y
 naming_stays named x (Ok m) h settled = ap (naming named) (h refl)
 naming_stays named x (Err (Fault throwable)) h settled = ap (naming named) (h refl)
 naming_stays named x (Err (NotReady missing)) h settled = cc
@@ -187,7 +192,8 @@ module _ (old new : Classes) (stays : Stays old new) (good : IsGood old) (ordere
         (subst (λ (o : Option MethodId). IfSome o (IsOfPresent new)) same (found_present new ordered closed ref named alive)) end))
         settled
 
-  resolved_stays : RecordsObject old → (d : ℕ) (ref : Reference (List ℕ)) → IsPresent new d → is_settled (resolved old d ref) ≡ true → resolved new d ref ≡ resolved old d ref
+  resolved_stays : RecordsObject old → (d : ℕ) (ref : Reference (List ℕ)) → IsPresent new d → is_settled (resolved old d ref) ≡ true
+      → resolved new d ref ≡ resolved old d ref
   resolved_stays recorded d ref mine settled = by_row (slice_get old.rows d) refl settled
     where
       by_name : (row : Class) → slice_get old.rows d ≡ Some row → (o : Option ℕ) → lookup old row.loader ref.owner ≡ o
@@ -195,7 +201,8 @@ module _ (old new : Classes) (stays : Stays old new) (good : IsGood old) (ordere
       by_name row e None is h = cc
       by_name row e (Some named) is h =
           let loader : is_retired new row.loader ≡ false =
-          not_true (is_retired new row.loader) (sym (ap (λ (o : Option Class). option_map_or (λ r. not (is_retired new r.loader)) o false) (stays.rows d row e)) ∙ mine)
+          not_true (is_retired new row.loader) (sym (ap (λ (o : Option Class). option_map_or (λ r. not (is_retired new r.loader)) o false) (stays.rows d row e))
+          ∙ mine)
           in
           let now = stays.records row.loader ref.owner named loader is in
           ap (resolved_at new d ref) (ap (option_and_then (λ r. lookup new r.loader ref.owner)) (stays.rows d row e) ∙ now)
@@ -203,7 +210,8 @@ module _ (old new : Classes) (stays : Stays old new) (good : IsGood old) (ordere
           (resolved_in_stays d (slice_get_within old.rows d row e) mine named (looked_up old good row.loader ref.owner named is)
           (closed.records row.loader ref.owner named loader now) recorded ref) h
 
-      by_row : (r : Option Class) → slice_get old.rows d ≡ r → is_settled (resolved_at old d ref (option_and_then (λ row. lookup old row.loader ref.owner) r)) ≡ true
+      by_row : (r : Option Class) → slice_get old.rows d ≡ r → is_settled (resolved_at old d ref (option_and_then (λ row. lookup old row.loader ref.owner) r))
+          ≡ true
           → resolved new d ref ≡ resolved_at old d ref (option_and_then (λ row. lookup old row.loader ref.owner) r)
       by_row None e h = cc
       by_row (Some row) e h = by_name row e (lookup old row.loader ref.owner) refl h

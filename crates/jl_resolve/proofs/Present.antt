@@ -1,5 +1,6 @@
 -- What a reference finds in a present class is a method of a present class.
-use Rattle.std.specs.Prelude.{◌≡◌, ℕ, zero, suc, ◌+◌, ◌<◌, ◌==◌, ◌||◌, ◌&&◌, not, Bool, true, false, cond, List, [], ◌∷◌, ◌++◌, filter, filter_map, position, slice_get}
+use Rattle.std.specs.Prelude.{◌≡◌, ℕ, zero, suc, ◌+◌, ◌<◌, ◌==◌, ◌||◌, ◌&&◌, not, Bool, true, false, cond, List, [], ◌∷◌, ◌++◌, filter, filter_map}
+use Rattle.std.specs.Prelude.{position, slice_get}
 use Rattle.std.specs.Prelude.{Option, Some, None, option_map, option_and_then, option_to_list, IfSome, if◌then◌else◌}
 use Rattle.std.specs.Option.{option_map_or}
 use Rattle.std.specs.List.{AllByRecursion, list_any, range_with_len}
@@ -7,16 +8,18 @@ use Rattle.std.proofs.Common.{refl, ap, ◌∙◌, arith}
 use Rattle.std.proofs.lemmas.Cmp.{nat_eq_equiv}
 use Rattle.std.proofs.lemmas.Option.{slice_get_within}
 use Rattle.jl_pool.specs.declared.reference.Reference.{Reference}
-use Rattle.jl_classfile.specs.Conditions.{object}
+use Rattle.jl_class.specs.Flags.{object}
 use Rattle.jl_types.specs.declared.ids.MethodId.{MethodId}
-use Rattle.jl_types.specs.World.{Class, Classes}
-use Rattle.jl_types.specs.Members.{is_present, is_called, is_public, is_static, is_abstract, methods_of, lookup, declared}
-use Rattle.jl_types.specs.Ancestry.{AreOrdered, itself, over, is_parent, is_ancestor_within, superclasses_within, superclasses, ancestors, superinterfaces}
-use Rattle.jl_types.specs.Resolution.{first_element, pick, only, candidates, max_specific, defaults, declared_upward, declared_in_object, found_in_class, found_in_interface, found}
+use Rattle.jl_types.specs.Values.World.{Class, Classes}
+use Rattle.jl_types.specs.Values.Members.{is_present, is_called, is_public, is_static, is_abstract, methods_of, lookup, declared}
+use Rattle.jl_types.specs.Values.Ancestry.{AreOrdered, itself, over, is_parent, is_ancestor_within, superclasses_within, superclasses, ancestors}
+use Rattle.jl_types.specs.Values.Ancestry.{superinterfaces}
+use Rattle.jl_types.specs.Linkage.Resolution.{first_element, pick, only, candidates, max_specific, defaults, declared_upward, declared_in_object}
+use Rattle.jl_types.specs.Linkage.Resolution.{found_in_class, found_in_interface, found}
 use Rattle.jl_types.proofs.Ancestors.{ancestor_decides, superclass_below}
 use Rattle.jl_types.proofs.Lists.{element_at}
 use Rattle.jl_hierarchy.specs.Constancy.{IsClosed}
-use Rattle.jl_hierarchy.specs.Defaults.{is_inherited, is_other_interface, is_redeclared}
+use Rattle.jl_hierarchy.specs.Means.Defaults.{is_inherited, is_other_interface, is_redeclared}
 use Rattle.jl_resolve.proofs.Unchanged.{all_filter, all_found, all_option, first_there, first_of_there}
 
 all_pass : (P : ℕ → Type 0) (p : ℕ → Bool) → ((x : ℕ) → p x ≡ true → P x) → (xs : List ℕ) → AllByRecursion P (filter p xs)
@@ -55,7 +58,8 @@ module _ (cs : Classes) (ordered : AreOrdered cs.rows) (closed : IsClosed cs) wh
   chain_present zero c present = tt
   chain_present (suc k) c present = by_row (slice_get cs.rows c) refl (chain_present k)
     where
-      by_superclass : (row : Class) → slice_get cs.rows c ≡ Some row → ((s : ℕ) → IsPresent cs s → AllByRecursion (IsPresent cs) (superclasses_within k cs.rows s))
+      by_superclass : (row : Class) → slice_get cs.rows c ≡ Some row → ((s : ℕ) → IsPresent cs s
+          → AllByRecursion (IsPresent cs) (superclasses_within k cs.rows s))
           → (o : Option ℕ) → row.superclass ≡ o → AllByRecursion (IsPresent cs) (option_map_or (superclasses_within k cs.rows) o [])
       by_superclass row at ih None is = tt
       by_superclass row at ih (Some s) is = ih s (superclass_present c row at present s is)
@@ -80,7 +84,8 @@ module _ (cs : Classes) (ordered : AreOrdered cs.rows) (closed : IsClosed cs) wh
   module _ (name ty : List ℕ) where
     object_present : IfSome (declared_in_object cs name ty) (IsOfPresent cs)
     object_present =
-        first_there (IsOfPresent cs) (filter (λ m. is_public cs m && not (is_static cs m)) (option_to_list (option_and_then (declared cs name ty) (lookup cs 0 object))))
+        first_there (IsOfPresent cs) (filter (λ m. is_public cs m && not (is_static cs m))
+        (option_to_list (option_and_then (declared cs name ty) (lookup cs 0 object))))
         (all_filter (IsOfPresent cs) (λ m. is_public cs m && not (is_static cs m)) (option_to_list (option_and_then (declared cs name ty) (lookup cs 0 object)))
         (all_option (IsOfPresent cs) (option_and_then (declared cs name ty) (lookup cs 0 object)) (by_record (lookup cs 0 object) refl)))
       where
@@ -92,7 +97,8 @@ module _ (cs : Classes) (ordered : AreOrdered cs.rows) (closed : IsClosed cs) wh
       candidates_present : AllByRecursion (IsOfPresent cs) (candidates cs name ty c)
       candidates_present =
           all_filter (IsOfPresent cs) (is_inherited cs) (filter_map (declared cs name ty) (superinterfaces cs c))
-          (all_found (IsPresent cs) (IsOfPresent cs) (declared cs name ty) (λ k above. declared_present name ty k above) (superinterfaces cs c) (superinterfaces_present c present))
+          (all_found (IsPresent cs) (IsOfPresent cs) (declared cs name ty) (λ k above. declared_present name ty k above) (superinterfaces cs c)
+          (superinterfaces_present c present))
 
       defaults_present : AllByRecursion (IsOfPresent cs) (defaults cs name ty c)
       defaults_present =
@@ -101,7 +107,8 @@ module _ (cs : Classes) (ordered : AreOrdered cs.rows) (closed : IsClosed cs) wh
 
       upward_present : AllByRecursion (IsOfPresent cs) (filter_map (declared cs name ty) (superclasses cs c))
       upward_present =
-          all_found (IsPresent cs) (IsOfPresent cs) (declared cs name ty) (λ k above. declared_present name ty k above) (superclasses cs c) (chain_present (c + 1) c present)
+          all_found (IsPresent cs) (IsOfPresent cs) (declared cs name ty) (λ k above. declared_present name ty k above) (superclasses cs c)
+          (chain_present (c + 1) c present)
 
       in_class_present : IfSome (found_in_class cs name ty c) (IsOfPresent cs)
       in_class_present =

@@ -6,20 +6,21 @@ use Rattle.std.specs.Option.{option_map_or}
 use Rattle.std.proofs.Common.{refl, ap, sym, ◌∙◌, arith}
 use Rattle.std.proofs.lemmas.List.Elements.{recursion_from_All}
 use Rattle.std.proofs.lemmas.Option.{slice_get_within}
-use Rattle.jl_classfile.specs.Class.{Method}
-use Rattle.jl_classfile.specs.Conditions.{object, has_flag, PUBLIC, PRIVATE, PROTECTED, STATIC, INTERFACE, ABSTRACT}
+use Rattle.jl_class.specs.Class.{Method}
+use Rattle.jl_class.specs.Flags.{object, has_flag, PUBLIC, PRIVATE, PROTECTED, STATIC, INTERFACE, ABSTRACT}
 use Rattle.jl_types.specs.declared.ids.MethodId.{MethodId}
-use Rattle.jl_types.specs.World.{Class, Classes}
-use Rattle.jl_types.specs.Members.{class_test, is_retired, is_interface, share_package, same_package, lookup, methods_of, method_at, method_test, is_called, declared}
-use Rattle.jl_types.specs.Members.{is_public, is_private, is_protected, is_static, is_abstract, is_package_private}
-use Rattle.jl_types.specs.Ancestry.{parents, is_ancestor_within, is_ancestor, is_proper_ancestor, superclasses_within, superclasses}
-use Rattle.jl_types.specs.Ancestry.{is_subclass, is_proper_subclass, ancestors, superinterfaces}
-use Rattle.jl_types.specs.Resolution.{first_of, first_element, candidates, max_specific, defaults, declared_in_object}
+use Rattle.jl_types.specs.Values.World.{Class, Classes}
+use Rattle.jl_types.specs.Values.Members.{class_test, is_retired, is_interface, share_package, same_package, lookup, methods_of, method_at}
+use Rattle.jl_types.specs.Values.Members.{method_test, is_called, declared}
+use Rattle.jl_types.specs.Values.Members.{is_public, is_private, is_protected, is_static, is_abstract, is_package_private}
+use Rattle.jl_types.specs.Values.Ancestry.{parents, is_ancestor_within, is_ancestor, is_proper_ancestor, superclasses_within, superclasses}
+use Rattle.jl_types.specs.Values.Ancestry.{is_subclass, is_proper_subclass, ancestors, superinterfaces}
+use Rattle.jl_types.specs.Linkage.Resolution.{first_of, first_element, candidates, max_specific, defaults, declared_in_object}
 use Rattle.jl_types.proofs.Ancestors.{any_alike, superclass_below}
 use Rattle.jl_types.proofs.Lists.{element_at}
 use Rattle.jl_types.proofs.Orders.{IsGood, looked_up}
 use Rattle.jl_hierarchy.specs.Constancy.{Stays}
-use Rattle.jl_hierarchy.specs.Defaults.{is_inherited, is_other_interface, is_redeclared}
+use Rattle.jl_hierarchy.specs.Means.Defaults.{is_inherited, is_other_interface, is_redeclared}
 
 -- ---- lists
 
@@ -54,7 +55,8 @@ module _ {A B : Type 0} (P : A → Type 0) where
   found_same f g h [] all = refl
   found_same f g h (x ∷ xs) all = λ i. cons_option (h x all.0 i) (found_same f g h xs all.1 i)
 
-  pub all_found : (Q : B → Type 0) (f : A → Option B) → ((x : A) → P x → IfSome (f x) Q) → (xs : List A) → AllByRecursion P xs → AllByRecursion Q (filter_map f xs)
+  pub all_found : (Q : B → Type 0) (f : A → Option B) → ((x : A) → P x → IfSome (f x) Q) → (xs : List A) → AllByRecursion P xs
+      → AllByRecursion Q (filter_map f xs)
   all_found Q f h [] all = tt
   all_found Q f h (x ∷ xs) all = by_found (f x) (h x all.0) (all_found Q f h xs all.1)
     where
@@ -226,7 +228,8 @@ module _ (old new : Classes) (stays : Stays old new) (good : IsGood old) where
   superinterfaces_stay : (c : ℕ) → IsThere old c → superinterfaces new c ≡ superinterfaces old c
   superinterfaces_stay c there =
       ap (filter (is_other_interface new c)) (stays.ancestors c there)
-      ∙ filter_same (IsThere old) (is_other_interface new c) (is_other_interface old c) (λ k above. ap (λ (b : Bool). b && not (k == c)) (interface_stays k above))
+      ∙ filter_same (IsThere old) (is_other_interface new c) (is_other_interface old c)
+      (λ k above. ap (λ (b : Bool). b && not (k == c)) (interface_stays k above))
       (ancestors old.rows c) (ancestors_there c there)
 
   superinterfaces_there : (c : ℕ) → IsThere old c → AllByRecursion (IsThere old) (superinterfaces old c)
@@ -235,7 +238,8 @@ module _ (old new : Classes) (stays : Stays old new) (good : IsGood old) where
   module _ (name ty : List ℕ) (c : ℕ) (there : IsThere old c) where
     declarations_there : AllByRecursion (IsOfThere old) (filter_map (declared old name ty) (superinterfaces old c))
     declarations_there =
-        all_found (IsThere old) (IsOfThere old) (declared old name ty) (λ k above. declared_there name ty k above) (superinterfaces old c) (superinterfaces_there c there)
+        all_found (IsThere old) (IsOfThere old) (declared old name ty) (λ k above. declared_there name ty k above) (superinterfaces old c)
+        (superinterfaces_there c there)
 
     pub candidates_there : AllByRecursion (IsOfThere old) (candidates old name ty c)
     candidates_there = all_filter (IsOfThere old) (is_inherited old) (filter_map (declared old name ty) (superinterfaces old c)) declarations_there
@@ -276,12 +280,14 @@ module _ (old new : Classes) (stays : Stays old new) (good : IsGood old) where
     -- ---- declarations upward
 
     pub upward_there : AllByRecursion (IsOfThere old) (filter_map (declared old name ty) (superclasses old c))
-    upward_there = all_found (IsThere old) (IsOfThere old) (declared old name ty) (λ k above. declared_there name ty k above) (superclasses old c) (superclasses_there c)
+    upward_there = all_found (IsThere old) (IsOfThere old) (declared old name ty) (λ k above. declared_there name ty k above) (superclasses old c)
+        (superclasses_there c)
 
     pub upward_stays : filter_map (declared new name ty) (superclasses new c) ≡ filter_map (declared old name ty) (superclasses old c)
     upward_stays =
         ap (filter_map (declared new name ty)) (superclasses_stay c there)
-        ∙ found_same (IsThere old) (declared new name ty) (declared old name ty) (λ k above. declared_stays name ty k above) (superclasses old c) (superclasses_there c)
+        ∙ found_same (IsThere old) (declared new name ty) (declared old name ty) (λ k above. declared_stays name ty k above) (superclasses old c)
+        (superclasses_there c)
 
   -- ---- java/lang/Object
 
@@ -296,9 +302,11 @@ module _ (old new : Classes) (stays : Stays old new) (good : IsGood old) where
     pub declared_in_object_there : IfSome (declared_in_object old name ty) (IsOfThere old)
     declared_in_object_there =
         first_there (IsOfThere old) (filter (is_of_interfaces old) (option_to_list (in_object name ty old)))
-        (all_filter (IsOfThere old) (is_of_interfaces old) (option_to_list (in_object name ty old)) (all_option (IsOfThere old) (in_object name ty old) in_object_there))
+        (all_filter (IsOfThere old) (is_of_interfaces old) (option_to_list (in_object name ty old))
+        (all_option (IsOfThere old) (in_object name ty old) in_object_there))
 
-    pub declared_in_object_stays : is_retired new 0 ≡ false → (o : ℕ) → lookup old 0 object ≡ Some o → declared_in_object new name ty ≡ declared_in_object old name ty
+    pub declared_in_object_stays : is_retired new 0 ≡ false → (o : ℕ) → lookup old 0 object ≡ Some o
+        → declared_in_object new name ty ≡ declared_in_object old name ty
     declared_in_object_stays first o is =
         ap (λ (m : Option MethodId). first_element (filter (is_of_interfaces new) (option_to_list m)))
         (ap (option_and_then (declared new name ty)) (stays.records 0 object o first is)

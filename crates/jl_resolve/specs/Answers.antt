@@ -2,8 +2,8 @@
 use Rattle.std.specs.Prelude.{◌≡◌, Result, Ok, Err}
 use Rattle.jl_types.specs.declared.ids.MethodId.{MethodId}
 use Rattle.jl_types.specs.declared.answer.ResolveAnswer.{ResolveAnswer}
-use Rattle.jl_types.specs.Access.{Access, Allowed, Denied, NotKnown}
-use Rattle.jl_types.specs.Resolution.{Resolved}
+use Rattle.jl_types.specs.Linkage.Access.{Access, Allowed, Denied, NotKnown}
+use Rattle.jl_types.specs.Linkage.Resolution.{Resolved}
 use Rattle.jl_resolve.specs.declared.control.Access.{Access as Answered}
 use Rattle.jl_resolve.specs.declared.control.Access.TheVariants as answered
 

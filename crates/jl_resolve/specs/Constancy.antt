@@ -1,12 +1,12 @@
 -- What was resolved stays so when classes are added, and when others are retired.
 use Rattle.std.specs.Prelude.{◌≡◌, ℕ, Bool, true, false, List, Some, Result, Ok, Err}
 use Rattle.jl_pool.specs.declared.reference.Reference.{Reference}
-use Rattle.jl_classfile.specs.Conditions.{object}
+use Rattle.jl_class.specs.Flags.{object}
 use Rattle.jl_types.specs.declared.answer.ResolveAnswer.{ResolveAnswer}
 use Rattle.jl_types.specs.declared.answer.ResolveAnswer.TheVariants.{NotReady, Fault}
-use Rattle.jl_types.specs.World.{Classes}
-use Rattle.jl_types.specs.Members.{is_present, is_interface, lookup}
-use Rattle.jl_types.specs.Resolution as resolution
+use Rattle.jl_types.specs.Values.World.{Classes}
+use Rattle.jl_types.specs.Values.Members.{is_present, is_interface, lookup}
+use Rattle.jl_types.specs.Linkage.Resolution as resolution
 
 -- resolution came to a method or failed, and waits for no class
 abbrev pub is_settled : {A : Type 0} → Result A ResolveAnswer → Bool

@@ -1,9 +1,9 @@
 //! Access control (JVMS SE 17 §5.4.4).
 
 ghost use Rattle.std.specs.Prelude.{◌≡◌, ◌<◌, ◌&&◌, ◌||◌, Some, length};
-ghost use Rattle.jl_types.specs.Members as members;
-ghost use Rattle.jl_types.specs.Ancestry as ancestry;
-ghost use Rattle.jl_types.specs.Access as access;
+ghost use Rattle.jl_types.specs.Values.Members as members;
+ghost use Rattle.jl_types.specs.Values.Ancestry as ancestry;
+ghost use Rattle.jl_types.specs.Linkage.Access as access;
 ghost use Rattle.jl_resolve.specs.Answers.{IsAccess};
 
 use jl_hierarchy::Classes;

@@ -1,8 +1,8 @@
 //! What a name and a descriptor find (JVMS SE 17 §5.4.3.3, §5.4.3.4), before access is looked at.
 
 ghost use Rattle.std.specs.Prelude.{◌≡◌, ◌<◌, [], ◌∷◌, length};
-ghost use Rattle.jl_types.specs.Resolution as resolution;
-ghost use Rattle.jl_types.specs.Resolution.{first_of, first_element, only, pick, defaults, candidates};
+ghost use Rattle.jl_types.specs.Linkage.Resolution as resolution;
+ghost use Rattle.jl_types.specs.Linkage.Resolution.{first_of, first_element, only, pick, defaults, candidates};
 
 use jl_hierarchy::{Classes, Sought};
 use jl_types::{Chosen, ClassId, MethodId};

@@ -1,6 +1,6 @@
 //! What a symbolic method reference resolves to (JVMS SE 17 §5.4.3.3 and §5.4.3.4), with access control (§5.4.4).
 //!
-//! The contract of each question is its definition in jl_types (`specs/Resolution` and `specs/Access`). No question takes memory.
+//! The contract of each question is its definition in jl_types (`Resolution` and `Access`). No question takes memory.
 #![tactic(auto)]
 
 mod control;

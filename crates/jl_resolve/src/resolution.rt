@@ -1,7 +1,7 @@
 //! Method resolution and interface method resolution (JVMS SE 17 §5.4.3.3, §5.4.3.4).
 
 ghost use Rattle.std.specs.Prelude.{◌≡◌, ◌<◌, IfSome, IfOk, OnOk, Some, length};
-ghost use Rattle.jl_types.specs.Resolution as resolution;
+ghost use Rattle.jl_types.specs.Linkage.Resolution as resolution;
 ghost use Rattle.jl_resolve.specs.Answers.{method_of};
 
 use crate::control::{Access, access_to_method, is_accessible_class};
@@ -20,7 +20,7 @@ pub struct Resolved {
 }
 
 impl Model for Resolved {
-    ghost use Rattle.jl_types.specs.Resolution.{Resolved as plain};
+    ghost use Rattle.jl_types.specs.Linkage.Resolution.{Resolved as plain};
 
     ghost Value = { plain };
 

@@ -1,5 +1,6 @@
 -- The walk from a class up to another one, where parents come first.
-use Rattle.std.specs.Prelude.{◌≡◌, ℕ, zero, suc, ◌+◌, ◌<◌, ◌==◌, ◌⊎◌, Bool, true, false, not, ◌&&◌, ◌||◌, List, [], ◌∷◌, drop, slice_get, Option, Some, None, option_and_then, IfSome, length, if◌then◌else◌}
+use Rattle.std.specs.Prelude.{◌≡◌, ℕ, zero, suc, ◌+◌, ◌<◌, ◌==◌, ◌⊎◌, Bool, true, false, not, ◌&&◌, ◌||◌, List, [], ◌∷◌, drop, slice_get, Option}
+use Rattle.std.specs.Prelude.{Some, None, option_and_then, IfSome, length, if◌then◌else◌}
 use Rattle.std.specs.List.{list_any}
 use Rattle.std.specs.Option.{option_map_or}
 use Rattle.std.proofs.Common.{refl, ap, sym, ◌∙◌, arith, add-one, inl, inr}
@@ -7,14 +8,14 @@ use Rattle.std.proofs.lemmas.Bool.Decides.{Decides-eqb}
 use Rattle.std.proofs.lemmas.Bool.{or_right, or_left, or_cases, and_parts, and_from, both_ways, not-true}
 use Rattle.std.proofs.lemmas.Cmp.{nat_eq_equiv}
 use Rattle.std.proofs.lemmas.Option.{slice_get_within}
-use Rattle.jl_classfile.specs.Class.{Method}
-use Rattle.jl_types.specs.World.{Class, Classes}
-use Rattle.jl_types.specs.Ancestry.{superclasses, superclass_of, is_subclass, is_proper_subclass, AreOrdered}
+use Rattle.jl_class.specs.Class.{Method}
+use Rattle.jl_types.specs.Values.World.{Class, Classes}
+use Rattle.jl_types.specs.Values.Ancestry.{superclasses, superclass_of, is_subclass, is_proper_subclass, AreOrdered}
 use Rattle.jl_types.proofs.Lists.{left_at, none_left}
 use Rattle.jl_types.proofs.Ancestors.{subclass_above, superclasses_is}
 use Rattle.jl_types.proofs.Walks.{proper_onward}
 use Rattle.jl_hierarchy.proofs.Chains.{next_below, chain_above, chain_there, is_itself}
-use Rattle.jl_select.specs.Walks.{above, bridged_before}
+use Rattle.jl_select.specs.Means.Walks.{above, bridged_before}
 
 differ : (a b : ℕ) → b < a → not (a == b) ≡ true
 differ a b lt = by_test (a == b) refl

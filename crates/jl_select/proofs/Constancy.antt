@@ -5,20 +5,21 @@ use Rattle.std.specs.List.{AllByRecursion, list_any, range_with_len}
 use Rattle.std.specs.Option.{option_map_or}
 use Rattle.std.proofs.Common.{refl, ap, ◌∙◌}
 use Rattle.jl_pool.specs.declared.reference.Reference.{Reference}
-use Rattle.jl_classfile.specs.Class.{Method}
-use Rattle.jl_classfile.specs.Conditions.{object}
+use Rattle.jl_class.specs.Class.{Method}
+use Rattle.jl_class.specs.Flags.{object}
 use Rattle.jl_types.specs.declared.ids.MethodId.{MethodId}
 use Rattle.jl_types.specs.declared.answer.Outcome.TheVariants.{Run, Throws}
 use Rattle.jl_types.specs.declared.answer.Chosen.{Chosen}
 use Rattle.jl_types.specs.declared.answer.Chosen.TheVariants.{Method as Picked, Several, Nothing}
 use Rattle.jl_types.specs.declared.answer.Throwable.TheVariants.{IllegalAccessError, IncompatibleClassChangeError, AbstractMethodError}
-use Rattle.jl_types.specs.World.{Classes}
-use Rattle.jl_types.specs.Members.{is_retired, methods_of, method_at, is_called, declared, lookup, is_interface, is_private, is_static}
-use Rattle.jl_types.specs.Ancestry.{AreOrdered, superclass_of, superclasses, is_proper_subclass}
-use Rattle.jl_types.specs.Resolution.{first_of, first_element, declared_in_object, defaults}
-use Rattle.jl_types.specs.Overriding.{are_alike, is_visible, classes_between, methods_in, can_override_within, can_override}
-use Rattle.jl_types.specs.Selection.{found_or, overriding, chosen_of, chosen, ending, virtual_outcome, interface_ending, interface_outcome}
-use Rattle.jl_types.specs.Selection.{is_init, special_start, instance_methods, special_in_class, special_in_interface, special_found, special_choice, special_outcome}
+use Rattle.jl_types.specs.Values.World.{Classes}
+use Rattle.jl_types.specs.Values.Members.{is_retired, methods_of, method_at, is_called, declared, lookup, is_interface, is_private, is_static}
+use Rattle.jl_types.specs.Values.Ancestry.{AreOrdered, superclass_of, superclasses, is_proper_subclass}
+use Rattle.jl_types.specs.Linkage.Resolution.{first_of, first_element, declared_in_object, defaults}
+use Rattle.jl_types.specs.Linkage.Overriding.{are_alike, is_visible, classes_between, methods_in, can_override_within, can_override}
+use Rattle.jl_types.specs.Linkage.Selection.{found_or, overriding, chosen_of, chosen, ending, virtual_outcome, interface_ending, interface_outcome}
+use Rattle.jl_types.specs.Linkage.Selection.{is_init, special_start, instance_methods, special_in_class, special_in_interface, special_found}
+use Rattle.jl_types.specs.Linkage.Selection.{special_choice, special_outcome}
 use Rattle.jl_types.proofs.Orders.{IsGood}
 use Rattle.jl_hierarchy.specs.Constancy.{AreInOrder, IsClosed, Stays}
 use Rattle.jl_hierarchy.proofs.Objects.{is_there}
@@ -55,8 +56,10 @@ module _ (old new : Classes) (stays : Stays old new) (good : IsGood old) where
   module _ (c a : MethodId) (lower : IsOfThere old c) (upper : IsOfThere old a) where
     alike_stays : are_alike new c a ≡ are_alike old c a
     alike_stays =
-        λ i. (not (static_stays old new stays good c lower i) && (not (static_stays old new stays good a upper i) && not (private_stays old new stays good c lower i)))
-        && option_map_or (λ m. option_map_or (is_called m.name m.ty) (method_stays old new stays good a upper i) false) (method_stays old new stays good c lower i) false
+        λ i. (not (static_stays old new stays good c lower i) && (not (static_stays old new stays good a upper i)
+        && not (private_stays old new stays good c lower i)))
+        && option_map_or (λ m. option_map_or (is_called m.name m.ty) (method_stays old new stays good a upper i) false)
+        (method_stays old new stays good c lower i) false
 
     visible_stays : is_visible new c a ≡ is_visible old c a
     visible_stays =
@@ -70,7 +73,8 @@ module _ (old new : Classes) (stays : Stays old new) (good : IsGood old) where
   between_stays : (x y : ℕ) → IsThere old x → classes_between new x y ≡ classes_between old x y
   between_stays x y there =
       ap (filter (λ b. is_proper_subclass new x b && is_proper_subclass new b y)) (superclasses_stay old new stays good x there)
-      ∙ filter_same (IsThere old) (λ b. is_proper_subclass new x b && is_proper_subclass new b y) (λ b. is_proper_subclass old x b && is_proper_subclass old b y)
+      ∙ filter_same (IsThere old) (λ b. is_proper_subclass new x b && is_proper_subclass new b y) (λ b. is_proper_subclass old x b
+      && is_proper_subclass old b y)
       (λ b at. λ i. proper_subclass_stays old new stays good x b there i && proper_subclass_stays old new stays good b y at i)
       (superclasses old x) (superclasses_there old new stays good x)
 
@@ -92,7 +96,8 @@ module _ (old new : Classes) (stays : Stays old new) (good : IsGood old) where
     way_stays : (k : ℕ) → IsThere old k → has_way n new c a k ≡ has_way n old c a k
     way_stays k there =
         ap (list_any (λ b. can_override_within n new c b && can_override_within n new b a)) (methods_in_stays k there)
-        ∙ any_same (IsOfThere old) (λ b. can_override_within n new c b && can_override_within n new b a) (λ b. can_override_within n old c b && can_override_within n old b a)
+        ∙ any_same (IsOfThere old) (λ b. can_override_within n new c b && can_override_within n new b a) (λ b. can_override_within n old c b
+        && can_override_within n old b a)
         (λ b at. λ i. ih c b lower at i && ih b a at upper i) (methods_in old k) (methods_in_there k there)
 
     ways_stay : list_any (has_way n new c a) (classes_between new c.class a.class) ≡ list_any (has_way n old c a) (classes_between old c.class a.class)
@@ -195,7 +200,8 @@ module _ (old new : Classes) (stays : Stays old new) (good : IsGood old) where
         ap (λ (ms : List MethodId). first_element (instance_methods new ms)) (upward_stays old new stays good name ty c there)
         ∙ ap first_element (instance_stays (filter_map (declared old name ty) (superclasses old c)) (upward_there old new stays good name ty c there))
 
-    in_interface_stays : is_retired new 0 ≡ false → (o : ℕ) → lookup old 0 object ≡ Some o → special_in_interface new name ty c ≡ special_in_interface old name ty c
+    in_interface_stays : is_retired new 0 ≡ false → (o : ℕ) → lookup old 0 object ≡ Some o
+        → special_in_interface new name ty c ≡ special_in_interface old name ty c
     in_interface_stays first o is = λ i. first_of (first_element (own_stays i) ∷ declared_in_object_stays old new stays good name ty first o is i ∷ [])
 
     special_found_there : IfSome (special_found old name ty c) (IsOfThere old)
@@ -203,7 +209,8 @@ module _ (old new : Classes) (stays : Stays old new) (good : IsGood old) where
       where
         by_kind : (b : Bool) → IfSome (if b then special_in_interface old name ty c else special_in_class old name ty c) (IsOfThere old)
         by_kind true =
-            first_of_there (IsOfThere old) (first_element (instance_methods old (option_to_list (declared old name ty c))) ∷ declared_in_object old name ty ∷ [])
+            first_of_there (IsOfThere old) (first_element (instance_methods old (option_to_list (declared old name ty c))) ∷ declared_in_object old name ty
+            ∷ [])
             (instance_there (option_to_list (declared old name ty c)) own_there, (declared_in_object_there old new stays good name ty, tt))
         by_kind false = instance_there (filter_map (declared old name ty) (superclasses old c)) (upward_there old new stays good name ty c there)
 
@@ -225,7 +232,8 @@ module _ (old new : Classes) (stays : Stays old new) (good : IsGood old) where
         found_or_there old (special_found old ref.name ref.ty c) (defaults old ref.name ref.ty c) (special_found_there ref.name ref.ty c at)
         (defaults_there old new stays good ref.name ref.ty c at)
 
-    special_choice_stays : is_retired new 0 ≡ false → RecordsObject old → (o : Option ℕ) → IfSome o (IsThere old) → special_choice new ref o ≡ special_choice old ref o
+    special_choice_stays : is_retired new 0 ≡ false → RecordsObject old → (o : Option ℕ) → IfSome o (IsThere old)
+        → special_choice new ref o ≡ special_choice old ref o
     special_choice_stays first recorded None at = refl
     special_choice_stays first recorded (Some c) at =
         λ i. found_or (special_found_stays ref.name ref.ty c at first recorded i) (defaults_stay old new stays good ref.name ref.ty c at i)
@@ -240,7 +248,8 @@ module _ (old new : Classes) (stays : Stays old new) (good : IsGood old) where
 
       special_start_stays : special_start new d named ref ≡ special_start old d named ref
       special_start_stays =
-          λ i. if not (is_init ref.name) && (not (interface_stays old new stays good named there i) && proper_subclass_stays old new stays good d named caller i)
+          λ i. if not (is_init ref.name) && (not (interface_stays old new stays good named there i)
+          && proper_subclass_stays old new stays good d named caller i)
           then option_and_then (λ row. row.superclass) (row_stays old new stays good d caller i) else Some named
 
       pub special_outcome_stays : is_retired new 0 ≡ false → RecordsObject old → special_outcome new d named ref ≡ special_outcome old d named ref

@@ -7,21 +7,22 @@ use Rattle.std.proofs.Common.{refl, ap, sym, ◌∙◌, arith, inl, inr}
 use Rattle.std.proofs.lemmas.Bool.Decides.{same_from_decides}
 use Rattle.std.proofs.lemmas.Bool.{or_cases, and_parts, and_from}
 use Rattle.std.proofs.lemmas.Map.Keys.{any_passes_from_place}
-use Rattle.jl_classfile.specs.Class.{Method}
-use Rattle.jl_classfile.specs.Conditions.{has_flag, PUBLIC, PRIVATE, PROTECTED, STATIC}
+use Rattle.jl_class.specs.Class.{Method}
+use Rattle.jl_class.specs.Flags.{has_flag, PUBLIC, PRIVATE, PROTECTED, STATIC}
 use Rattle.jl_types.specs.declared.ids.MethodId.{MethodId}
-use Rattle.jl_types.specs.World.{Classes}
-use Rattle.jl_types.specs.Members.{method_at, methods_of, method_test, is_called, is_package_private, same_package}
-use Rattle.jl_types.specs.Ancestry.{AreOrdered}
-use Rattle.jl_types.specs.Overriding.{are_alike, is_visible, can_override, IsBridged}
+use Rattle.jl_types.specs.Values.World.{Classes}
+use Rattle.jl_types.specs.Values.Members.{method_at, methods_of, method_test, is_called, is_package_private, same_package}
+use Rattle.jl_types.specs.Values.Ancestry.{AreOrdered}
+use Rattle.jl_types.specs.Linkage.Overriding.{are_alike, is_visible, can_override, IsBridged}
 use Rattle.jl_types.proofs.Overrides.{can_override_decides}
 use Rattle.jl_types.proofs.Walks.{by_one_walk, proper_onward}
-use Rattle.jl_select.specs.Walks.{are_alike_methods, is_bridge, has_bridge, above, bridged_before}
+use Rattle.jl_select.specs.Means.Walks.{are_alike_methods, is_bridge, has_bridge, above, bridged_before}
 use Rattle.jl_select.proofs.Bridges.{IsBetween, walk_finds, walk_ends}
 
 pub alike_is : (cs : Classes) (c a : MethodId) (m n : Method) → method_at cs c ≡ Some m → method_at cs a ≡ Some n → are_alike cs c a ≡ are_alike_methods m n
 alike_is cs c a m n e f =
-    rw (e, f) (assoc (not (has_flag m.flags STATIC)) (not (has_flag n.flags STATIC)) (not (has_flag m.flags PRIVATE)) (bytes_eq n.name m.name && bytes_eq n.ty m.ty))
+    rw (e, f) (assoc (not (has_flag m.flags STATIC)) (not (has_flag n.flags STATIC)) (not (has_flag m.flags PRIVATE))
+    (bytes_eq n.name m.name && bytes_eq n.ty m.ty))
   where
     assoc : (x y z t : Bool) → ((x && (y && z)) && t) ≡ (x && (y && (z && t)))
     assoc true true z t = refl
@@ -34,7 +35,8 @@ pub alike_there : (cs : Classes) (c a : MethodId) → are_alike cs c a ≡ true
 alike_there cs c a h =
     by_methods (method_at cs c) (method_at cs a) refl refl (and_parts _ (method_test (λ m. method_test (is_called m.name m.ty) cs a) cs c) h).1
   where
-    by_methods : (m n : Option Method) → method_at cs c ≡ m → method_at cs a ≡ n → option_map_or (λ m. option_map_or (is_called m.name m.ty) n false) m false ≡ true
+    by_methods : (m n : Option Method) → method_at cs c ≡ m → method_at cs a ≡ n
+        → option_map_or (λ m. option_map_or (is_called m.name m.ty) n false) m false ≡ true
         → ((m : Method) × (method_at cs c ≡ Some m)) × ((n : Method) × (method_at cs a ≡ Some n))
     by_methods None n e f h = cc
     by_methods (Some m) None e f h = cc

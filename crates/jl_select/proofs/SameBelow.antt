@@ -1,20 +1,20 @@
 -- One method for all below a class, where no subclass redeclares it.
 use Rattle.std.specs.Prelude.{◌≡◌, ℕ, Bool, true, false, cond, List, [], ◌∷◌, filter, filter_map, is_some, Some, None, option_and_then, if◌then◌else◌}
 use Rattle.std.proofs.Common.{refl, ap, sym, subst, ◌∙◌}
-use Rattle.jl_classfile.specs.Class.{Method}
+use Rattle.jl_class.specs.Class.{Method}
 use Rattle.jl_types.specs.declared.ids.MethodId.{MethodId}
 use Rattle.jl_types.specs.declared.answer.Outcome.TheVariants.{Run, Throws}
 use Rattle.jl_types.specs.declared.answer.Throwable.TheVariants.{AbstractMethodError}
-use Rattle.jl_types.specs.World.{Classes}
-use Rattle.jl_types.specs.Members.{declared, method_at, is_private, is_abstract}
-use Rattle.jl_types.specs.Ancestry.{superclasses, is_subclass, is_ancestor, AreOrdered}
-use Rattle.jl_types.specs.Resolution.{declared_upward, first_element}
-use Rattle.jl_types.specs.Overriding.{can_override}
-use Rattle.jl_types.specs.Selection.{ending, virtual_outcome}
+use Rattle.jl_types.specs.Values.World.{Classes}
+use Rattle.jl_types.specs.Values.Members.{declared, method_at, is_private, is_abstract}
+use Rattle.jl_types.specs.Values.Ancestry.{superclasses, is_subclass, is_ancestor, AreOrdered}
+use Rattle.jl_types.specs.Linkage.Resolution.{declared_upward, first_element}
+use Rattle.jl_types.specs.Linkage.Overriding.{can_override}
+use Rattle.jl_types.specs.Linkage.Selection.{ending, virtual_outcome}
 use Rattle.jl_hierarchy.specs.Redeclared.{IsNotRedeclared, sees}
 use Rattle.jl_select.specs.RunsBelow.{MayRun}
 use Rattle.jl_hierarchy.proofs.Lines.{down_line}
-use Rattle.jl_select.specs.Walks.{first_passing}
+use Rattle.jl_select.specs.Means.Walks.{first_passing}
 use Rattle.jl_select.proofs.Choices.{chosen_found}
 use Rattle.jl_select.proofs.Upward.{upward}
 
@@ -46,7 +46,8 @@ module _ (cs : Classes) (o : AreOrdered cs.rows) (r : MethodId) (m : Method) (n 
       ∙ ap (λ (b : Bool). if b then Throws AbstractMethodError else Run r) whole
 
 -- what is known of a name and a descriptor that are the method's
-pub same_below : (cs : Classes) (o : AreOrdered cs.rows) (r : MethodId) (m : Method) (n : ℕ) (name ty : List ℕ) → name ≡ m.name → ty ≡ m.ty → method_at cs r ≡ Some m
+pub same_below : (cs : Classes) (o : AreOrdered cs.rows) (r : MethodId) (m : Method) (n : ℕ) (name ty : List ℕ) → name ≡ m.name → ty ≡ m.ty
+    → method_at cs r ≡ Some m
     → declared_upward cs name ty n ≡ Some r → MayRun cs n r → (sees cs name ty n ≡ true → IsNotRedeclared cs name ty n)
     → (x : ℕ) → is_ancestor cs n x ≡ true → virtual_outcome cs x r ≡ Run r
 same_below cs o r m n name ty names types at first may none x up =

@@ -2,10 +2,10 @@
 use Rattle.std.specs.Prelude.{◌≡◌, ℕ, ◌<◌, List, length}
 use Rattle.jl_pool.specs.declared.reference.Reference.{Reference}
 use Rattle.jl_types.specs.declared.ids.MethodId.{MethodId}
-use Rattle.jl_types.specs.World.{Classes}
+use Rattle.jl_types.specs.Values.World.{Classes}
 use Rattle.jl_resolve.specs.Constancy.{SettledStays}
-use Rattle.jl_types.specs.Selection as selection
-use Rattle.jl_types.specs.Selection.{virtual_outcome, interface_outcome, special_outcome}
+use Rattle.jl_types.specs.Linkage.Selection as selection
+use Rattle.jl_types.specs.Linkage.Selection.{virtual_outcome, interface_outcome, special_outcome}
 
 -- what is selected for a receiver's class that is there, and a method of a class that is there, stays
 pub record ChosenStays (old new : Classes) : Type 0 where

@@ -2,12 +2,12 @@
 use Rattle.std.specs.Prelude.{◌≡◌, ℕ, true, false}
 use Rattle.jl_types.specs.declared.ids.MethodId.{MethodId}
 use Rattle.jl_types.specs.declared.answer.Outcome.TheVariants.{Run}
-use Rattle.jl_types.specs.World.{Classes}
-use Rattle.jl_types.specs.Members.{is_interface, is_private, is_abstract}
-use Rattle.jl_types.specs.Ancestry.{is_ancestor, AreOrdered}
-use Rattle.jl_types.specs.Overriding.{can_override}
+use Rattle.jl_types.specs.Values.World.{Classes}
+use Rattle.jl_types.specs.Values.Members.{is_interface, is_private, is_abstract}
+use Rattle.jl_types.specs.Values.Ancestry.{is_ancestor, AreOrdered}
+use Rattle.jl_types.specs.Linkage.Overriding.{can_override}
 use Rattle.jl_hierarchy.specs.Redeclared.{AreLines}
-use Rattle.jl_types.specs.Selection.{virtual_outcome}
+use Rattle.jl_types.specs.Linkage.Selection.{virtual_outcome}
 
 -- an invokevirtual of r comes to r for each class that has n among its ancestors
 abbrev pub RunsBelow : Classes → ℕ → MethodId → Type 0

@@ -1,7 +1,7 @@
 //! Methods that every class below one runs.
 
 ghost use Rattle.std.specs.Prelude.{◌≡◌, ◌<◌, Some, true, length};
-ghost use Rattle.jl_types.specs.Resolution as resolution;
+ghost use Rattle.jl_types.specs.Linkage.Resolution as resolution;
 ghost use Rattle.jl_hierarchy.specs.Redeclared.{sees, IsNotRedeclared};
 ghost use Rattle.jl_select.specs.RunsBelow.{RunsBelow, MayRun};
 
@@ -36,7 +36,7 @@ fn may_run(classes: &Classes, named: ClassId, resolved: &MethodId) -> bool
 {
     let _ = classes.class_at(named);
     !classes.is_interface(named)
-        && classes.are_lines()
+        && classes.are_superclass_chains()
         && !classes.is_private(resolved)
         && !classes.is_abstract(resolved)
         && can_override(classes, resolved, resolved)

@@ -1,10 +1,10 @@
 //! What an invokespecial comes to (JVMS SE 17 §6.5.invokespecial).
 
 ghost use Rattle.std.specs.Prelude.{◌≡◌, ◌+◌, ◌^◌, ◌<◌, not, length, option_map, IfSome, MatchOption};
-ghost use Rattle.jl_types.specs.Members as members;
-ghost use Rattle.jl_types.specs.Resolution as resolution;
-ghost use Rattle.jl_types.specs.Selection as selection;
-ghost use Rattle.jl_select.specs.Walks.{own_passing};
+ghost use Rattle.jl_types.specs.Values.Members as members;
+ghost use Rattle.jl_types.specs.Linkage.Resolution as resolution;
+ghost use Rattle.jl_types.specs.Linkage.Selection as selection;
+ghost use Rattle.jl_select.specs.Means.Walks.{own_passing};
 
 use crate::selection::ending;
 use jl_hierarchy::{Classes, Sought};

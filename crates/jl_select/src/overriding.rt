@@ -2,13 +2,13 @@
 
 ghost use Rattle.std.specs.Prelude.{◌≡◌, ◌<◌, ◌^◌, Some, false, length, Decides};
 ghost use Rattle.std.specs.List.{list_any};
-ghost use Rattle.jl_types.specs.Ancestry.{AreOrdered};
-ghost use Rattle.jl_types.specs.Members as members;
-ghost use Rattle.jl_types.specs.Overriding as overriding;
-ghost use Rattle.jl_types.specs.Overriding.{CanOverride};
-ghost use Rattle.jl_select.specs.Walks.{are_alike_methods, is_bridge, has_bridge, bridged_before, above};
+ghost use Rattle.jl_types.specs.Values.Ancestry.{AreOrdered};
+ghost use Rattle.jl_types.specs.Values.Members as members;
+ghost use Rattle.jl_types.specs.Linkage.Overriding as overriding;
+ghost use Rattle.jl_types.specs.Linkage.Overriding.{CanOverride};
+ghost use Rattle.jl_select.specs.Means.Walks.{are_alike_methods, is_bridge, has_bridge, bridged_before, above};
 
-use jl_classfile::{Method, Methods, PRIVATE, PROTECTED, PUBLIC, STATIC, has_flag};
+use jl_class::{Method, Methods, PRIVATE, PROTECTED, PUBLIC, STATIC, has_flag};
 use jl_hierarchy::Classes;
 use jl_types::{ClassId, MethodId};
 

@@ -1,11 +1,11 @@
 //! Selection (JVMS SE 17 §5.4.6), and what invokevirtual and invokeinterface make of it (§6.5).
 
 ghost use Rattle.std.specs.Prelude.{◌≡◌, ◌+◌, ◌^◌, ◌<◌, ◌≤◌, ◌||◌, length};
-ghost use Rattle.jl_types.specs.Ancestry.{superclasses};
-ghost use Rattle.jl_types.specs.Members as members;
-ghost use Rattle.jl_types.specs.Overriding as overriding;
-ghost use Rattle.jl_types.specs.Selection as selection;
-ghost use Rattle.jl_select.specs.Walks.{own_passing, first_passing};
+ghost use Rattle.jl_types.specs.Values.Ancestry.{superclasses};
+ghost use Rattle.jl_types.specs.Values.Members as members;
+ghost use Rattle.jl_types.specs.Linkage.Overriding as overriding;
+ghost use Rattle.jl_types.specs.Linkage.Selection as selection;
+ghost use Rattle.jl_select.specs.Means.Walks.{own_passing, first_passing};
 
 use crate::overriding::can_override;
 use jl_hierarchy::{Classes, Sought};

@@ -5,7 +5,7 @@ use Rattle.std.proofs.lemmas.Bool.Decides.{nat_tests}
 use mathlib.Core.List.{IsPrefix}
 use prog.Atomic.{either}
 use Rattle.logbook.specs.Pages.{Cell, cell, keeps, no_nib, step, Moves, Goes}
-use Rattle.jl_types.specs.Entries.{Entry}
+use Rattle.jl_types.specs.Happenings.Entries.{Entry}
 use Rattle.jl_server.specs.History.{IsCounted, Adds}
 use Rattle.jl_server.proofs.Beginnings.{prefix_whole}
 
@@ -17,7 +17,8 @@ moved xs ys n = Unit {0}
 
 pub adds_goes : (log v : List Entry) (e : Entry) (old next : ℕ) → length v ≡ old → next ≡ old + 1 → IsPrefix v log
     → (b : Bool) → (length log == old) ≡ b
-    → Goes IsCounted shown moved 0 (v, (no_nib, None)) (λ n. either (n == old) next n) (Adds (step 0 old next e) (v, (no_nib, None))) ((length log, true) ∷ (0, true) ∷ []) log
+    → Goes IsCounted shown moved 0 (v, (no_nib, None)) (λ n. either (n == old) next n) (Adds (step 0 old next e) (v, (no_nib, None))) ((length log, true)
+    ∷ (0, true) ∷ []) log
 adds_goes log v e old next len more pre true is =
     let here : length log ≡ old = grind (arith, nat_tests) in
     let same : v ≡ log = prefix_whole v log pre (omega arith) in

@@ -7,13 +7,13 @@ use Rattle.std.proofs.lemmas.List.{map-append, drop-append-le, drop_all}
 use Rattle.std.proofs.lemmas.List.Folds.{list_all-append}
 use Rattle.std.proofs.lemmas.List.Sums.{fold-append}
 use mathlib.Core.List.{IsPrefix}
-use Rattle.jl_types.specs.Event.{Event}
+use Rattle.jl_types.specs.Happenings.Event.{Event}
 use Rattle.jl_types.specs.declared.event.EventOf.TheVariants as event
-use Rattle.jl_types.specs.World.{World}
-use Rattle.jl_types.specs.Entries.{Entry, events_of}
-use Rattle.jl_types.specs.Events.{step}
-use Rattle.jl_types.specs.History.{world_after}
-use Rattle.jl_types.specs.World.{nothing_yet}
+use Rattle.jl_types.specs.Values.World.{World}
+use Rattle.jl_types.specs.Happenings.Entries.{Entry, events_of}
+use Rattle.jl_types.specs.Happenings.Events.{step}
+use Rattle.jl_types.specs.Happenings.History.{world_after}
+use Rattle.jl_types.specs.Values.World.{nothing_yet}
 use Rattle.jl_server.specs.History.{is_install, installs_alone}
 
 -- an entry is an install
@@ -40,7 +40,8 @@ installs_leave w (entry ∷ entries) all =
     ap (λ (v : World). fold step v (events_of entries)) (install_leaves w entry.event both.0) ∙ installs_leave w entries both.1
 
 -- what goes on a list with installs alone has its world
-pub same_world : (before after : List Entry) (n : ℕ) → IsPrefix before after → n ≤ length before → installs_alone n after ≡ true → world_after (events_of after) ≡ world_after (events_of before)
+pub same_world : (before after : List Entry) (n : ℕ) → IsPrefix before after → n ≤ length before → installs_alone n after ≡ true
+    → world_after (events_of after) ≡ world_after (events_of before)
 same_world before after n p le alone =
     let more = p.0 in
     let split : list_all of_install (drop n before ++ more) ≡ true =
@@ -62,10 +63,12 @@ alone_more true n entries entry is alone = by_length (cases_lt (length entries) 
     by_length (inl lt) = ap (list_all of_install) (drop_all n (entries ++ entry ∷ []) (omega (arith, length-append entries (entry ∷ []))))
     by_length (inr le) =
         ap (list_all of_install) (drop-append-le n entries (entry ∷ []) le)
-        ∙ (list_all-append of_install (drop n entries) (entry ∷ []) ∙ and_from (list_all of_install (drop n entries)) (list_all of_install (entry ∷ [])) alone (and_from (is_install entry.event) true (sym is) refl))
+        ∙ (list_all-append of_install (drop n entries) (entry ∷ []) ∙ and_from (list_all of_install (drop n entries)) (list_all of_install (entry ∷ [])) alone
+        (and_from (is_install entry.event) true (sym is) refl))
 
 -- as the book comes by it
-pub alone_next : (installs : Bool) (since after : ℕ) (list entries next : List Entry) (entry : Entry) → list ≡ entries → next ≡ entries ++ entry ∷ [] → installs ≡ is_install entry.event
+pub alone_next : (installs : Bool) (since after : ℕ) (list entries next : List Entry) (entry : Entry) → list ≡ entries → next ≡ entries ++ entry ∷ []
+    → installs ≡ is_install entry.event
     → after ≡ (if installs then since else length next) → installs_alone since list ≡ true → installs_alone after next ≡ true
 alone_next installs since after list entries next entry same grown is now alone =
     (λ i. installs_alone ((now ∙ ap (λ (es : List Entry). if installs then since else length es) grown) i) (grown i))

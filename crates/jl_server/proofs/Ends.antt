@@ -2,7 +2,7 @@
 use Rattle.std.specs.Prelude.{◌≡◌, ◌<◌, List, [], ◌∷◌, ◌++◌, length}
 use Rattle.std.proofs.Common.{ap, sym, ◌∙◌, arith, length-append}
 use mathlib.Core.List.{IsPrefix}
-use Rattle.jl_types.specs.Entries.{Entry}
+use Rattle.jl_types.specs.Happenings.Entries.{Entry}
 use Rattle.jl_server.proofs.Beginnings.{prefix_length}
 
 pub prefix_more : {A : Type 0} (xs ys : List A) (x : A) → ys ≡ xs ++ x ∷ [] → IsPrefix xs ys

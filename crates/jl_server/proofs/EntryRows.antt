@@ -1,17 +1,17 @@
 -- Small lists of entries: the core whose log one is, the entry of an event that comes after one, and how one ends.
 use Rattle.std.specs.Prelude.{◌≡◌, ℕ, List, [], ◌∷◌, ◌++◌, map, Some, None, codes}
 use Rattle.std.proofs.Common.{refl}
-use Rattle.jl_code.specs.declared.site.Kind.TheVariants.{Virtual}
+use Rattle.jl_class.specs.declared.site.Kind.TheVariants.{Virtual}
 use Rattle.jl_types.specs.declared.answer.Outcome.TheVariants.{Run}
 use Rattle.jl_types.specs.declared.link.Link.TheVariants.{Direct}
-use Rattle.jl_types.specs.Event.{Event}
+use Rattle.jl_types.specs.Happenings.Event.{Event}
 use Rattle.jl_types.specs.declared.event.EventOf.TheVariants.{NewLoader, Define, Delegate, NewSwitch, Request, Install, Retire}
 use Rattle.jl_types.specs.declared.event.Made.TheVariants.{Switch, Nothing}
 use Rattle.jl_types.specs.declared.event.Reply.{Reply}
 use Rattle.jl_types.specs.declared.answer.Recv.TheVariants.{Of}
 use Rattle.jl_types.specs.declared.answer.Fast.TheVariants.{Miss}
-use Rattle.jl_types.specs.Entries.{Entry}
-use Rattle.jl_types.specs.Fast.{fast_answer}
+use Rattle.jl_types.specs.Happenings.Entries.{Entry}
+use Rattle.jl_types.specs.Happenings.Fast.{fast_answer}
 use Rattle.jl_types.proofs.Rows.Sketch.{method, first, calling, class_ref}
 use Rattle.jl_types.proofs.Rows.Histories.{object, below}
 use Rattle.jl_server.specs.History.{core_of, entry_after, EndsWith}
@@ -56,7 +56,8 @@ installed_once = entry_after requested (Install ((0, Direct (Run (first 1))) ∷
 install_changes : installed_once.slots ≡ (0, Some (Direct (Run (first 1)))) ∷ []
 install_changes = refl
 
-again_changes_none : (entry_after (requested ++ installed_once ∷ []) (Install ((0, Direct (Run (first 1))) ∷ [])) (record { made = Nothing; dropped = [] })).slots ≡ []
+again_changes_none : (entry_after (requested ++ installed_once ∷ []) (Install ((0, Direct (Run (first 1))) ∷ []))
+    (record { made = Nothing; dropped = [] })).slots ≡ []
 again_changes_none = refl
 
 -- Object 0 and A 1 with f in loader 0; M 2 in loader 1, with a call of it, and its request; and then its install

@@ -3,26 +3,29 @@ use Rattle.std.proofs.Common.{◌≡◌, ℕ, List, [], ◌∷◌, ◌++◌, len
 use Rattle.std.proofs.lemmas.List.Sums.{fold-append}
 use Rattle.logbook.specs.Pages.{Book}
 use Rattle.jl_types.specs.declared.link.Link.{Link}
-use Rattle.jl_types.specs.Entries.{Entry}
-use Rattle.jl_types.specs.History.{installed}
-use Rattle.jl_types.specs.Entries.{IsLegal, written, table_of, classes_of, events_of}
+use Rattle.jl_types.specs.Happenings.Entries.{Entry}
+use Rattle.jl_types.specs.Happenings.History.{installed}
+use Rattle.jl_types.specs.Happenings.Entries.{IsLegal, written, table_of, classes_of, events_of}
 use Rattle.jl_types.proofs.Written.{legal_shows, length_written}
 use Rattle.jl_server.specs.declared.mark.Tag.{Tag}
 use Rattle.std.specs.Option.{unwrap_or}
-use Rattle.jl_types.specs.Fast.{fast_answer}
+use Rattle.jl_types.specs.Happenings.Fast.{fast_answer}
 use Rattle.jl_types.specs.declared.answer.Fast.{Fast}
 use Rattle.jl_types.specs.declared.answer.Recv.{Recv}
 use Rattle.jl_server.specs.declared.table.Table.{Table}
 use Rattle.jl_server.specs.declared.table.Change.{Change}
 use Rattle.jl_server.specs.declared.table.Content.{Content}
-use Rattle.jl_server.specs.Shown.{content, changed, IsShown, Knows, server_of}
+use Rattle.jl_server.specs.Means.Shown.{content, changed, IsShown, Knows, server_of}
 use Rattle.jl_server.specs.Calls.{answers_at}
 
-module _ (n : ℕ) (t : Content) (c : Change) (xs : List Entry) (e : Entry) (wide : length t.links ≡ n) (before : t.list.reached.log ≡ xs) (after : c.list.reached.log ≡ xs ++ e ∷ []) (slots : c.slots.items ≡ e.slots) (classes : c.classes ≡ classes_of (xs ++ e ∷ [])) (legal : IsLegal n (xs ++ e ∷ [])) where
+module _ (n : ℕ) (t : Content) (c : Change) (xs : List Entry) (e : Entry) (wide : length t.links ≡ n) (before : t.list.reached.log ≡ xs)
+    (after : c.list.reached.log ≡ xs ++ e ∷ []) (slots : c.slots.items ≡ e.slots) (classes : c.classes ≡ classes_of (xs ++ e ∷ []))
+    (legal : IsLegal n (xs ++ e ∷ [])) where
   width : length (written t.links c.slots.items) ≡ n
   width = length_written c.slots.items t.links ∙ wide
 
-  links_next : t.links ≡ table_of (length t.links) t.list.reached.log → written t.links c.slots.items ≡ table_of (length (written t.links c.slots.items)) c.list.reached.log
+  links_next : t.links ≡ table_of (length t.links) t.list.reached.log → written t.links c.slots.items ≡ table_of
+      (length (written t.links c.slots.items)) c.list.reached.log
   links_next is =
       ap (λ (ls : List (Option Link)). written ls c.slots.items) is
       ∙ (ap (λ (k : ℕ). written (table_of k t.list.reached.log) c.slots.items) wide
@@ -54,9 +57,11 @@ module _ (y : Table) where
   legal_shown v b n is knows shown = subst (λ (k : ℕ). IsLegal k y.list.reached.log) (found_by (content y) b n v is knows).1 shown.legal
 
   -- a call there gives the fast answer of what is installed
-  pub answer_shown : (s : ℕ) (recv : Recv) (zs : List Entry) (f : Fast) → IsShown (content y) → zs ≡ y.list.reached.log → f ≡ fast_answer (get_or y.links.items s None) y.classes recv → f ≡ fast_answer (installed (events_of zs) s) (classes_of zs) recv
+  pub answer_shown : (s : ℕ) (recv : Recv) (zs : List Entry) (f : Fast) → IsShown (content y) → zs ≡ y.list.reached.log
+      → f ≡ fast_answer (get_or y.links.items s None) y.classes recv → f ≡ fast_answer (installed (events_of zs) s) (classes_of zs) recv
   answer_shown s recv zs f shown same is =
-      is ∙ (ap (λ (l : Option Link). fast_answer l y.classes recv) (ap (λ (ls : List (Option Link)). get_or ls s None) shown.links ∙ legal_shows (length y.links.items) y.list.reached.log shown.legal s)
+      is ∙ (ap (λ (l : Option Link). fast_answer l y.classes recv) (ap (λ (ls : List (Option Link)). get_or ls s None) shown.links
+      ∙ legal_shows (length y.links.items) y.list.reached.log shown.legal s)
       ∙ (ap (λ (k : ℕ). fast_answer (installed (events_of y.list.reached.log) s) k recv) shown.classes
       ∙ ap (λ (ws : List Entry). fast_answer (installed (events_of ws) s) (classes_of ws) recv) (sym same)))
 

@@ -4,13 +4,13 @@ use mathlib.Core.Option.{some}
 use lib.ListN.{get_elem?}
 use Rattle.logbook.specs.Pages.{Book}
 use Rattle.jl_types.specs.declared.link.Link.{Link}
-use Rattle.jl_types.specs.Entries.{Entry}
-use Rattle.jl_types.specs.Entries.{IsLegal, table_of, classes_of, written}
+use Rattle.jl_types.specs.Happenings.Entries.{Entry}
+use Rattle.jl_types.specs.Happenings.Entries.{IsLegal, table_of, classes_of, written}
 use Rattle.jl_server.specs.declared.mark.Tag.{Tag}
 use Rattle.jl_server.specs.declared.table.Table.{Table}
 use Rattle.jl_server.specs.declared.table.Change.{Change}
 use Rattle.jl_server.specs.declared.table.Content.{Content}
-use Rattle.jl_server.specs.Shown.{content, changed, tag_of, server_of, IsShown, Knows, Ruled}
+use Rattle.jl_server.specs.Means.Shown.{content, changed, tag_of, server_of, IsShown, Knows, Ruled}
 use Rattle.jl_types.proofs.Legal.{legal_none}
 
 pub length_fresh : (n : ℕ) → length (replicate {A = Option Link} n None) ≡ n
@@ -32,10 +32,12 @@ pub opens : (n : ℕ) (x : Table) → x.links.items ≡ replicate n None → x.c
 opens n x links classes log = (shown_first n (content x) links classes log, only x)
 
 -- a change of nothing leaves a first table one
-pub blank : (n : ℕ) (t : Content) (c : Change) → t.links ≡ replicate n None → c.slots.items ≡ [] → c.classes ≡ 0 → c.list.reached.log ≡ [] → IsShown t → IsShown (changed t c)
+pub blank : (n : ℕ) (t : Content) (c : Change) → t.links ≡ replicate n None → c.slots.items ≡ [] → c.classes ≡ 0 → c.list.reached.log ≡ [] → IsShown t
+    → IsShown (changed t c)
 blank n t c links slots classes log shown = shown_first n (changed t c) (ap (written t.links) slots ∙ links) classes log
 
-pub server_shown : (t : Content) (b : Book) (n : ℕ) (v : Option Tag) → v ≡ Some (tag_of t) → t.list.reached.book ≡ b → length t.links ≡ n → server_of v ≡ Some (b, n)
+pub server_shown : (t : Content) (b : Book) (n : ℕ) (v : Option Tag) → v ≡ Some (tag_of t) → t.list.reached.book ≡ b → length t.links ≡ n
+    → server_of v ≡ Some (b, n)
 server_shown t b n v is book wide = ap server_of is ∙ (ap (λ (c : Book). Some (c, length t.links)) book ∙ ap (λ (k : ℕ). Some (b, k)) wide)
 
 -- two tables with one content

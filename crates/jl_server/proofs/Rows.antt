@@ -2,8 +2,8 @@
 use Rattle.std.specs.Prelude.{◌≡◌, ℕ, true, false, List, [], ◌∷◌, Some, None, codes, refl}
 use Rattle.std.proofs.Common.{subst}
 use Rattle.std.proofs.lemmas.Option.{same_Some}
-use Rattle.jl_code.specs.declared.site.Kind.{Kind}
-use Rattle.jl_code.specs.declared.site.Kind.TheVariants.{Virtual, Interface}
+use Rattle.jl_class.specs.declared.site.Kind.{Kind}
+use Rattle.jl_class.specs.declared.site.Kind.TheVariants.{Virtual, Interface}
 use Rattle.jl_pool.specs.declared.reference.Reference.{Reference}
 use Rattle.jl_types.specs.declared.answer.Outcome.TheVariants.{Run}
 use Rattle.jl_types.specs.declared.answer.Throwable.TheVariants.{IncompatibleClassChangeError}
@@ -14,13 +14,13 @@ use Rattle.jl_types.specs.declared.answer.Fast.TheVariants.{Now}
 use Rattle.jl_types.specs.declared.link.Link.{Link}
 use Rattle.jl_types.specs.declared.link.Link.TheVariants.{Fault, Plain, Direct, Table, Mega}
 use Rattle.jl_types.specs.declared.link.TableKind.TheVariants as kind
-use Rattle.jl_types.specs.Event.{Event}
+use Rattle.jl_types.specs.Happenings.Event.{Event}
 use Rattle.jl_types.specs.declared.event.EventOf.TheVariants.{Request, Install}
-use Rattle.jl_types.specs.World.{World}
-use Rattle.jl_types.specs.Sites.{Invocation, ByVirtual, Selects}
-use Rattle.jl_types.specs.Calls.{dispatch, fits_named}
-use Rattle.jl_types.specs.Fast.{fast_answer}
-use Rattle.jl_types.specs.History.{world_after, installed}
+use Rattle.jl_types.specs.Values.World.{World}
+use Rattle.jl_types.specs.Linkage.Stages.{ResolvedCall, ByVirtual, Selects}
+use Rattle.jl_types.specs.Linkage.Calls.{dispatch, fits_named}
+use Rattle.jl_types.specs.Happenings.Fast.{fast_answer}
+use Rattle.jl_types.specs.Happenings.History.{world_after, installed}
 use Rattle.jl_types.proofs.Rows.Sketch.{method, first, calling, class_ref, itf_ref}
 use Rattle.jl_types.proofs.Rows.Histories.{object, below}
 use Rattle.jl_server.specs.Receivers.{FitsLink, FitsInstalled}
@@ -70,7 +70,7 @@ absent_by_call : dispatch (world_after direct) 0 (Of 4) ≡ answer.BadReceiver
 absent_by_call = refl
 
 -- what the site selects by
-abbrev invocation : Invocation
+abbrev invocation : ResolvedCall
 invocation = record { selector = ByVirtual; caller = 3; named = 1; ref = class_ref (codes "A") (codes "f"); method = first 1 }
 
 -- M isn't below A, so its objects don't fit
@@ -83,9 +83,9 @@ abstract_is_unfit fits = let concrete : false ≡ true = fits.0 in cc
 
 -- those of A do, so the law gives the call's answer
 named_fits : FitsLink (world_after direct) 0 runs_f (Of 1)
-named_fits = (refl, λ i selects. subst (λ (j : Invocation). fits_named (world_after direct).classes j j.selector 1 ≡ true) (same invocation i selects) refl)
+named_fits = (refl, λ i selects. subst (λ (j : ResolvedCall). fits_named (world_after direct).classes j j.selector 1 ≡ true) (same invocation i selects) refl)
   where
-    same : (i j : Invocation) → Selects i ≡ Selects j → i ≡ j
+    same : (i j : ResolvedCall) → Selects i ≡ Selects j → i ≡ j
     same i j e = cc
 
 named_fits_installed : FitsInstalled direct 0 (Of 1)

@@ -2,4 +2,4 @@
 pub mod History
 pub mod Receivers
 pub mod Calls
-pub mod Shown
+pub mod Means

@@ -4,12 +4,12 @@ use Rattle.jl_types.specs.declared.link.Link.{Link}
 use Rattle.jl_types.specs.declared.link.Link.TheVariants.{Fault, Plain, Direct, Table, Mega}
 use Rattle.jl_types.specs.declared.answer.Recv.{Recv}
 use Rattle.jl_types.specs.declared.answer.Recv.TheVariants.{Null, Of}
-use Rattle.jl_types.specs.Event.{Event}
-use Rattle.jl_types.specs.World.{World}
-use Rattle.jl_types.specs.Members.{is_concrete}
-use Rattle.jl_types.specs.Sites.{Invocation, Selects, stage}
-use Rattle.jl_types.specs.Calls.{fits_named}
-use Rattle.jl_types.specs.History.{world_after, installed}
+use Rattle.jl_types.specs.Happenings.Event.{Event}
+use Rattle.jl_types.specs.Values.World.{World}
+use Rattle.jl_types.specs.Values.Members.{is_concrete}
+use Rattle.jl_types.specs.Linkage.Stages.{ResolvedCall, Selects, stage}
+use Rattle.jl_types.specs.Linkage.Calls.{fits_named}
+use Rattle.jl_types.specs.Happenings.History.{world_after, installed}
 
 -- an object is of a concrete class, which at a direct link of invokevirtual has the named class among its ancestors
 abbrev pub FitsLink : World → ℕ → Link → Recv → Type 0
@@ -17,7 +17,7 @@ FitsLink w s (Fault throwable) recv = Unit {0}
 FitsLink w s (Plain m) recv = Unit {0}
 FitsLink w s (Direct outcome) Null = Unit {0}
 FitsLink w s (Direct outcome) (Of x) =
-    (is_concrete w.classes x ≡ true) × ((i : Invocation) → stage w s ≡ Selects i → fits_named w.classes i i.selector x ≡ true)
+    (is_concrete w.classes x ≡ true) × ((i : ResolvedCall) → stage w s ≡ Selects i → fits_named w.classes i i.selector x ≡ true)
 FitsLink w s (Table kind rows) Null = Unit {0}
 FitsLink w s (Table kind rows) (Of x) = is_concrete w.classes x ≡ true
 FitsLink w s Mega recv = Unit {0}

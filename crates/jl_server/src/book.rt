@@ -2,13 +2,13 @@
 
 ghost use Rattle.std.specs.Prelude.{◌≡◌, ◌≤◌, [], ◌∷◌, ◌++◌, true, length, drop, None, IsOk, IfOk, IfErr, IfSome, if◌then◌else◌};
 ghost use Rattle.jl_types.specs.declared.refusal.Refusal.TheVariants.{Memory};
-ghost use Rattle.jl_types.specs.Events.{verdict};
-ghost use Rattle.jl_types.specs.History.{world_after, installed_links};
-ghost use Rattle.jl_types.specs.Entries.{IsLegal, events_of};
+ghost use Rattle.jl_types.specs.Happenings.Events.{verdict};
+ghost use Rattle.jl_types.specs.Happenings.History.{world_after, installed_links};
+ghost use Rattle.jl_types.specs.Happenings.Entries.{IsLegal, events_of};
 ghost use Rattle.jl_core.specs.State.{IsAccepted, IsRefused, empty_core};
 ghost use Rattle.jl_core.specs.Plans.{IsPlanned, IsAsPlanned};
 ghost use Rattle.jl_server.specs.History.{core_of, entry_after, is_install, planned_entry};
-ghost use Rattle.jl_server.specs.Shown.{content, changed, IsShown, IsChangeOf};
+ghost use Rattle.jl_server.specs.Means.Shown.{content, changed, IsShown, IsChangeOf};
 
 use crate::history::{Head, Name};
 use crate::publish::{TableWriter, show_in};
@@ -38,7 +38,7 @@ pub struct Denied<K: Name> {
 }
 
 /// What is to be published: the change that an entry makes, and the list that it ends.
-struct Next<K: Name> {
+struct Publication<K: Name> {
     change: Change,
     list: Seen<K>,
 }
@@ -58,7 +58,7 @@ impl<K: Name, R: Wait + Drop> Model for Book<K, R> {
     ghost use Rattle.std.specs.Prelude.{◌≡◌, true, List, [], length, drop};
     ghost use Rattle.std.specs.Coded.{codes};
     ghost use Rattle.jl_types.specs.Means.TargetCode.{target_code};
-    ghost use Rattle.jl_types.specs.Entries as plain;
+    ghost use Rattle.jl_types.specs.Happenings.Entries as plain;
     ghost use Rattle.jl_server.specs.History.{core_of, installs_alone};
 
     ghost Value = { List plain.Entry };
@@ -102,7 +102,8 @@ impl<K: Name, R: Wait + Drop> Book<K, R> {
     ) -> Book<K, R>
         requires core { core ≡ empty_core K.max_sites }
         requires list { list ≡ [] }
-        requires shown { (writer.desk.shown.value.list.reached.log ≡ []) × (writer.desk.shown.value.list.reached.book ≡ K.book) × (length writer.desk.shown.value.links.items ≡ K.max_sites) }
+        requires shown { (writer.desk.shown.value.list.reached.log ≡ []) × (writer.desk.shown.value.list.reached.book ≡ K.book)
+            × (length writer.desk.shown.value.links.items ≡ K.max_sites) }
         requires settled { length (drop writer.behind writer.log.items) ≡ 0 }
         ensures { result ≡ [] }
     {
@@ -276,7 +277,7 @@ impl<K: Name, R: Wait + Drop> Book<K, R> {
 
     /// The change that what was planned makes in the table, and the published list with its entry, which is added to the history. There is
     /// nothing where there is no memory.
-    fn next(&self, alloc: Global, planned: &Planned) -> Option<Next<K>>
+    fn next(&self, alloc: Global, planned: &Planned) -> Option<Publication<K>>
         requires { IsAsPlanned (core_of K.max_sites self.now) planned.now }
         ensures list { IfSome result (λ next. next.list ≡ self.now ++ planned_entry planned.now ∷ []) }
         ensures change { IfSome result (λ next. IsChangeOf K.book planned.now next.list next.change) }
@@ -294,7 +295,7 @@ impl<K: Name, R: Wait + Drop> Book<K, R> {
             classes: planned.class_count(),
             list: list.mark(),
         };
-        Some(Next { change, list })
+        Some(Publication { change, list })
     }
 
     /// Commits and shows what was planned, whose entry ends the next list. Want of memory is the only refusal.
@@ -302,7 +303,7 @@ impl<K: Name, R: Wait + Drop> Book<K, R> {
         &mut self,
         rt: &H,
         planned: Planned,
-        next: Next<K>,
+        next: Publication<K>,
         installs: bool,
     ) -> Result<Receipt<K>, Denied<K>>
         requires planned { IsAsPlanned (core_of K.max_sites self.old) planned }
@@ -315,7 +316,7 @@ impl<K: Name, R: Wait + Drop> Book<K, R> {
         ensures legal { IsLegal K.max_sites self.new }
         ensures refused { IfErr result (λ d. (d.refusal ≡ Memory) × (d.seen ≡ self.old) × (self.new ≡ self.old)) }
     {
-        let Next { change, list } = next;
+        let Publication { change, list } = next;
         match commit_shown(rt, &mut self.core, &mut self.writer, planned, change) {
             Some(reply) => {
                 self.since = since_after(installs, self.since, &list);

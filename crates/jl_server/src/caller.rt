@@ -6,13 +6,13 @@ ghost use mathlib.Core.List.{IsPrefix};
 ghost use Rattle.left_right.specs.Sides.{view as seat_view};
 ghost use Rattle.jl_types.specs.declared.answer.Answer.{Answer};
 ghost use Rattle.jl_types.specs.declared.answer.Fast.TheVariants.{Now, Closed};
-ghost use Rattle.jl_types.specs.Calls.{dispatch};
-ghost use Rattle.jl_types.specs.Fast.{fast_answer};
-ghost use Rattle.jl_types.specs.History.{world_after, installed};
-ghost use Rattle.jl_types.specs.Entries.{IsLegal, events_of, classes_of};
+ghost use Rattle.jl_types.specs.Linkage.Calls.{dispatch};
+ghost use Rattle.jl_types.specs.Happenings.Fast.{fast_answer};
+ghost use Rattle.jl_types.specs.Happenings.History.{world_after, installed};
+ghost use Rattle.jl_types.specs.Happenings.Entries.{IsLegal, events_of, classes_of};
 ghost use Rattle.jl_server.specs.Receivers.{FitsInstalled};
 ghost use Rattle.jl_server.specs.Calls.{answers_at, all_closed, AnswersCall};
-ghost use Rattle.jl_server.specs.Shown.{server_of, content, IsShown};
+ghost use Rattle.jl_server.specs.Means.Shown.{server_of, content, IsShown};
 
 use crate::history::Name;
 use crate::publish::{TableReader, TableReading, enter};
@@ -24,7 +24,7 @@ use std::marker::Model;
 
 /// A place at the published table, and what was seen there or told.
 #[derive(Drop)]
-struct Seat<K: Name> {
+struct TablePlace<K: Name> {
     looking: TableReader,
     seen: Seen<K>,
     ghost known: { server_of (seat_view looking.place) ≡ Some (K.book, K.max_sites) },
@@ -33,7 +33,7 @@ struct Seat<K: Name> {
 /// A caller: one thread's place at the published table, and what it has seen. A clause sees the list that it has seen. Since each
 /// call writes to it, it has its cache lines for itself.
 pub struct Caller<K: Name> {
-    seat: CachePadded<Seat<K>>,
+    seat: CachePadded<TablePlace<K>>,
 }
 
 // Written out, since a derived drop is proved anew in each crate that lets one go.
@@ -48,7 +48,7 @@ impl<K: Name> Model for Caller<K> {
     ghost use Rattle.std.specs.Coded.{codes};
     ghost use Rattle.crossbeam_utils.specs.Padded.{padded_value};
     ghost use Rattle.jl_types.specs.Means.TargetCode.{target_code};
-    ghost use Rattle.jl_types.specs.Entries as plain;
+    ghost use Rattle.jl_types.specs.Happenings.Entries as plain;
 
     ghost Value = { List plain.Entry };
 
@@ -63,7 +63,7 @@ impl<K: Name> Caller<K> {
         ensures { result ≡ seen }
     {
         Caller {
-            seat: CachePadded::new(Seat { looking, seen }),
+            seat: CachePadded::new(TablePlace { looking, seen }),
         }
     }
 
@@ -117,12 +117,13 @@ impl<K: Name> Caller<K> {
     }
 }
 
-impl<K: Name> Seat<K> {
+impl<K: Name> TablePlace<K> {
     /// One call.
     fn call(&mut self, site: SiteNo, recv: Recv) -> Fast
         ensures own { IsPrefix self.old.seen self.new.seen }
         ensures legal { IsLegal K.max_sites self.new.seen }
-        ensures answer { (result ≡ fast_answer (installed (events_of self.new.seen) site) (classes_of self.new.seen) recv) ⊎ ((result ≡ Closed) × (self.new.seen ≡ self.old.seen)) }
+        ensures answer { (result ≡ fast_answer (installed (events_of self.new.seen) site) (classes_of self.new.seen) recv)
+            ⊎ ((result ≡ Closed) × (self.new.seen ≡ self.old.seen)) }
     {
         let seen = self.seen.again();
         let (seen, answer) = replace_with(&mut self.looking, seen, |looking, seen| {
@@ -160,7 +161,8 @@ fn look<K: Name>(
     ensures place { seat_view result.0.place ≡ seat_view looking.place }
     ensures own { IsPrefix seen result.1.0 }
     ensures legal { IsLegal K.max_sites result.1.0 }
-    ensures answer { (result.1.1 ≡ fast_answer (installed (events_of result.1.0) site) (classes_of result.1.0) recv) ⊎ ((result.1.1 ≡ Closed) × (result.1.0 ≡ seen)) }
+    ensures answer { (result.1.1 ≡ fast_answer (installed (events_of result.1.0) site) (classes_of result.1.0) recv)
+        ⊎ ((result.1.1 ≡ Closed) × (result.1.0 ≡ seen)) }
 {
     match entered(looking, seen) {
         Ok((reading, list)) => {

@@ -15,7 +15,7 @@ pub struct Entry {
 impl Model for Entry {
     ghost use Rattle.std.specs.Coded.{codes};
     ghost use Rattle.jl_types.specs.Means.TargetCode.{target_code};
-    ghost use Rattle.jl_types.specs.Entries as plain;
+    ghost use Rattle.jl_types.specs.Happenings.Entries as plain;
 
     ghost Value = { plain.Entry };
 

@@ -2,7 +2,7 @@
 
 ghost use Rattle.std.specs.Prelude.{◌≡◌, ◌≤◌, ◌++◌, ◌∷◌, ◌⊎◌, [], length, MatchBool};
 ghost use mathlib.Core.List.{IsPrefix};
-ghost use Rattle.jl_types.specs.Entries.{IsEntry, IsLegal, events_of};
+ghost use Rattle.jl_types.specs.Happenings.Entries.{IsEntry, IsLegal, events_of};
 ghost use Rattle.jl_server.specs.History.{planned_entry};
 
 use crate::entry::Entry;
@@ -25,8 +25,8 @@ impl<K: Name> Model for Seen<K> {
     ghost use Rattle.std.specs.Prelude.{◌≡◌, List, length};
     ghost use Rattle.std.specs.Coded.{codes};
     ghost use Rattle.jl_types.specs.Means.TargetCode.{target_code};
-    ghost use Rattle.jl_types.specs.Entries as plain;
-    ghost use Rattle.jl_types.specs.Entries.{IsLegal};
+    ghost use Rattle.jl_types.specs.Happenings.Entries as plain;
+    ghost use Rattle.jl_types.specs.Happenings.Entries.{IsLegal};
 
     ghost Value = { List plain.Entry };
 

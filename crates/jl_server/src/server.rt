@@ -2,9 +2,9 @@
 
 ghost use Rattle.std.specs.Prelude.{◌≡◌, ◌<◌, ◌≤◌, [], ◌∷◌, ◌++◌, length, IsOk, IfOk, IfErr, IfSome, OnErr};
 ghost use mathlib.Core.List.{IsPrefix};
-ghost use Rattle.jl_types.specs.Events.{verdict};
-ghost use Rattle.jl_types.specs.History.{world_after, installed_links};
-ghost use Rattle.jl_types.specs.Entries.{IsLegal, events_of};
+ghost use Rattle.jl_types.specs.Happenings.Events.{verdict};
+ghost use Rattle.jl_types.specs.Happenings.History.{world_after, installed_links};
+ghost use Rattle.jl_types.specs.Happenings.Entries.{IsLegal, events_of};
 ghost use Rattle.jl_core.specs.State.{IsRefused};
 ghost use Rattle.jl_server.specs.History.{EndsWith, entry_after};
 

@@ -1,8 +1,8 @@
 //! The table that callers read without waiting, and the change that makes it the table of one entry more.
 
 ghost use Rattle.std.specs.Prelude.{◌≡◌, Some, None, IfOk, length, map, replicate, get_or};
-ghost use Rattle.jl_types.specs.Fast as fast_of;
-ghost use Rattle.jl_types.specs.Entries.{written};
+ghost use Rattle.jl_types.specs.Happenings.Fast as fast_of;
+ghost use Rattle.jl_types.specs.Happenings.Entries.{written};
 
 use crate::mark::Mark;
 use jl_cache::fast_answer;
@@ -34,7 +34,7 @@ pub struct Content {
 }
 
 impl Absorb<Change> for Table {
-    ghost use Rattle.jl_server.specs.Shown.{content, changed};
+    ghost use Rattle.jl_server.specs.Means.Shown.{content, changed};
 
     type State = Content;
 

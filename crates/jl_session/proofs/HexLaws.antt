@@ -1,6 +1,7 @@
 -- Hexadecimal, by a value for each digit.
 use Rattle.std.proofs.Common.{◌≡◌, ◌∙◌, refl, sym, ap, subst, arith, ℕ, ◌+◌, ◌*◌, ◌%◌, ◌<◌, ◌≤◌, List, length, take, drop}
-use Rattle.std.proofs.Common.{slice_index, slice_set, bit_or, bit_and, inl, inr, Bool, true, false, Option, Some, None, Result, Ok, Err, MatchOption, MatchResult}
+use Rattle.std.proofs.Common.{slice_index, slice_set, bit_or, bit_and, inl, inr, Bool, true, false, Option, Some, None, Result, Ok, Err, MatchOption}
+use Rattle.std.proofs.Common.{MatchResult}
 use Rattle.std.specs.Prelude.{nat_lt}
 use Rattle.std.proofs.lemmas.Bool.{cases_lt}
 use Rattle.std.proofs.lemmas.Bool.Decides.{nat_tests}

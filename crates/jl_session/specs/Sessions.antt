@@ -6,12 +6,12 @@ use Rattle.jl_classfile.specs.ClassFiles.{IsClass}
 use Rattle.jl_classfile.specs.Shown.{shown}
 use Rattle.jl_sketch.specs.Faults.{IsWritten}
 use Rattle.jl_types.specs.declared.link.Link.{Link}
-use Rattle.jl_types.specs.Event.{Event}
+use Rattle.jl_types.specs.Happenings.Event.{Event}
 use Rattle.jl_types.specs.declared.event.EventOf.TheVariants as event
 use Rattle.jl_types.specs.declared.event.Reply.{Reply}
 use Rattle.jl_types.specs.declared.refusal.Refusal.{Refusal}
 use Rattle.jl_types.specs.declared.refusal.PrepareFault.{PrepareFault}
-use Rattle.jl_types.specs.Calls.{dispatch}
+use Rattle.jl_types.specs.Linkage.Calls.{dispatch}
 use Rattle.jl_relink.specs.declared.preparation.Prepared.{Prepared}
 use Rattle.jl_relink.specs.Preparations.{Snapshot, IsPreparation}
 use Rattle.jl_core.specs.State.{State, empty_core, world_of, links_of, IsApplied}

@@ -10,7 +10,7 @@ ghost use Rattle.jl_session.specs.Scans.{IsFileAnswer, IsScanAnswer};
 use crate::hexadecimal::decode;
 use crate::json_line::{bad_command_text, text_of};
 use jl_classfile::{ClassFault, read_class};
-use jl_json::{Refusal, append_class};
+use jl_json::{FileRefusal, append_class};
 use serde_json::Value;
 use std::alloc::{AllocError, Global};
 
@@ -44,7 +44,7 @@ fn fault_text(alloc: Global, fault: ClassFault) -> Result<Vec<u8>, AllocError>
 pub fn fault_value(alloc: Global, fault: ClassFault) -> Result<Value, AllocError>
     ensures { IfOk result (λ v. view v ≡ refusal_data fault) }
 {
-    Refusal::from(fault).to_value(alloc)
+    FileRefusal::from(fault).to_value(alloc)
 }
 
 /// Adds the answer to a line, as text: a class file in hexadecimal of either case, which is decoded into the room.

@@ -10,7 +10,7 @@ ghost use Rattle.jl_session.specs.Jsons.{IsReadAs};
 ghost use Rattle.jl_session.specs.Sketches.{IsWrittenText, IsSketchAnswer};
 
 use crate::json_line::{bad_command_text, json_in, text_of};
-use jl_json::{Refusal, read_sketch};
+use jl_json::{FileRefusal, read_sketch};
 use jl_sketch::{Sketch, SketchFault, write_class};
 use serde_json::Value;
 use std::alloc::{AllocError, Global};
@@ -29,7 +29,7 @@ fn sketch_in(alloc: Global, line: &[u8]) -> Result<Option<Sketch>, AllocError>
 pub fn sketch_fault_value(alloc: Global, fault: SketchFault) -> Result<Value, AllocError>
     ensures { IfOk result (λ v. view v ≡ sketch_refusal_data fault) }
 {
-    Refusal::from(fault).to_value(alloc)
+    FileRefusal::from(fault).to_value(alloc)
 }
 
 /// The text of that answer.

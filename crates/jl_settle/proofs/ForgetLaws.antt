@@ -6,8 +6,8 @@ use Rattle.std.proofs.lemmas.Bool.{ltb-true, lt-ltb}
 use Rattle.std.proofs.lemmas.Bool.Decides.{Decides-eqb, nat_tests}
 use Rattle.std.proofs.lemmas.Option.{slice_get_within}
 use Rattle.jl_types.specs.declared.ids.Place.{Place}
-use Rattle.jl_types.specs.World.{World}
-use Rattle.jl_types.specs.Retirement.{is_of, retires_site}
+use Rattle.jl_types.specs.Values.World.{World}
+use Rattle.jl_types.specs.Happenings.Retirement.{is_of, retires_site}
 
 or_none : (b : Bool) → (b || false) ≡ b
 or_none true = refl
@@ -42,7 +42,8 @@ all_below w loader n s le = by_place (slice_get w.places s) refl
     dropped false = refl
 
     by_place : (o : Option Place) → slice_get w.places s ≡ o
-        → (nat_lt s n && option_map_or (λ place. is_of w.classes loader place.class) o false) ≡ option_map_or (λ place. is_of w.classes loader place.class) o false
+        → (nat_lt s n && option_map_or (λ place. is_of w.classes loader place.class) o false) ≡ option_map_or
+        (λ place. is_of w.classes loader place.class) o false
     by_place None at = dropped (nat_lt s n)
     by_place (Some place) at =
         let lt = slice_get_within w.places s place at in

@@ -1,10 +1,10 @@
 -- Worked links: which stay, and which go.
 use Rattle.std.specs.Prelude.{◌≡◌, ℕ, true, false, length, Some, None}
 use Rattle.std.proofs.Common.{refl}
-use Rattle.jl_classfile.specs.Class.{ClassFile}
+use Rattle.jl_class.specs.Class.{ClassFile}
 use Rattle.jl_types.specs.declared.event.EventOf.TheVariants as event
 use Rattle.jl_types.specs.declared.link.Link.TheVariants.{Mega}
-use Rattle.jl_types.specs.World.{World, nothing_yet}
+use Rattle.jl_types.specs.Values.World.{World, nothing_yet}
 use Rattle.jl_settle.specs.Settling.{kept_at, goes, defined_by}
 
 -- a site that was never requested has no link from scratch

@@ -1,5 +1,6 @@
 -- What is left once the touched sites were looked at.
-use Rattle.std.specs.Prelude.{◌≡◌, ℕ, suc, ◌+◌, ◌<◌, ◌==◌, ◌&&◌, ◌||◌, Bool, true, false, List, [], ◌∷◌, ◌++◌, not, zero, drop, take, get_or, sum_by, map, length, Option, Some, None, option_map, Result, Ok, Err, is_some, is_none, IfSome, OnOk, if◌then◌else◌}
+use Rattle.std.specs.Prelude.{◌≡◌, ℕ, suc, ◌+◌, ◌<◌, ◌==◌, ◌&&◌, ◌||◌, Bool, true, false, List, [], ◌∷◌, ◌++◌, not, zero, drop, take, get_or, sum_by}
+use Rattle.std.specs.Prelude.{map, length, Option, Some, None, option_map, Result, Ok, Err, is_some, is_none, IfSome, OnOk, if◌then◌else◌}
 use Rattle.std.specs.List.{AllByRecursion}
 use Rattle.std.specs.Bool.{one_answer}
 use Rattle.std.proofs.Common.{refl, ap, sym, subst, ◌∙◌, arith, add-one, length-append}
@@ -10,20 +11,21 @@ use Rattle.std.proofs.lemmas.Bool.Decides.{Decides-eqb}
 use Rattle.std.proofs.lemmas.List.{take_more}
 use Rattle.std.proofs.lemmas.List.Sums.{sum_by-cons, sum_by_push}
 use Rattle.std.proofs.lemmas.List.Folds.{list_any-append}
-use Rattle.jl_classfile.specs.Class.{ClassFile}
+use Rattle.jl_class.specs.Class.{ClassFile}
 use Rattle.jl_types.specs.declared.answer.Unlinked.{Unlinked}
 use Rattle.jl_types.specs.declared.link.Link.{Link}
-use Rattle.jl_types.specs.Means.SameLink.{same_link, link_decides}
-use Rattle.jl_types.specs.World.{World}
-use Rattle.jl_types.specs.Definitions.{class_made}
-use Rattle.jl_types.specs.Event.{Event}
+use Rattle.jl_types.specs.Linkage.Links.{same_link}
+use Rattle.jl_types.specs.Means.SameLink.{link_decides}
+use Rattle.jl_types.specs.Values.World.{World}
+use Rattle.jl_types.specs.Happenings.Definitions.{class_made}
+use Rattle.jl_types.specs.Happenings.Event.{Event}
 use Rattle.jl_types.specs.declared.event.EventOf.TheVariants as event
 use Rattle.jl_types.specs.declared.key.Key.{Key}
-use Rattle.jl_types.specs.Links.{outcome, scratch}
-use Rattle.jl_types.specs.Sites.{stage}
-use Rattle.jl_types.specs.Events.{step}
-use Rattle.jl_types.specs.History.{is_link, kept}
-use Rattle.jl_types.specs.Footprints.{footprint, most_for, stays_with, touches}
+use Rattle.jl_types.specs.Linkage.Links.{outcome, scratch}
+use Rattle.jl_types.specs.Linkage.Stages.{stage}
+use Rattle.jl_types.specs.Happenings.Events.{step}
+use Rattle.jl_types.specs.Happenings.History.{is_link, kept}
+use Rattle.jl_types.specs.Happenings.Footprints.{footprint, most_for, stays_with, touches}
 use Rattle.jl_hierarchy.proofs.Rising.{has}
 use Rattle.jl_relink.specs.Laws.{OneMore, changes_receivers}
 use Rattle.jl_relink.specs.Receivers.{TellsStay}
@@ -96,7 +98,8 @@ module _ (world : World) (keys : List Key) (defined : Option ℕ) (links : ℕ �
       → (kept_at world links s ≡ links s) × (option_map (λ l. footprint world s) (links s) ≡ footprint_at index s)
   other s none =
       let stays : StaysIndexed changed.before changed.event links index s =
-      others_stay changed.before changed.event links index rising changed.index_is changed.accepted.0 changed.order changed.accepted.1 changed.scratch changed.left s
+      others_stay changed.before changed.event links index rising changed.index_is changed.accepted.0 changed.order changed.accepted.1 changed.scratch
+      changed.left s
       (ap (λ (k : List Key). has s (touched_by index k)) (sym changed.keys_are) ∙ none)
       in (
         ap (λ (w : World). kept_at w links s) changed.step ∙ stays.link,
@@ -256,7 +259,8 @@ module _ (world : World) (keys : List Key) (links : ℕ → Option Link) (index 
     -- each site that looks at the new class is told by it
     told_at : (s : ℕ) (o : Option Link) → links s ≡ o → has s (touched_by index keys) ≡ true → IsTold world x links s
     told_at s None is inside =
-        absurd (no_link (ap (λ (o : Option Link). is_some o && touches changed.before changed.event s) (sym is) ∙ is_touched world keys (Some x) links index changed rising s inside))
+        absurd (no_link (ap (λ (o : Option Link). is_some o && touches changed.before changed.event s) (sym is)
+        ∙ is_touched world keys (Some x) links index changed rising s inside))
       where
         no_link : false ≡ true → ⊥
         no_link e = cc e
@@ -304,7 +308,8 @@ is_there world keys (Some x) links index changed rising = there world keys links
 
 pub told_gone : (w : World) (x : ℕ) (links : ℕ → Option Link) (s : ℕ) (l : Link) (stays : Bool) → IsTold w x links s → links s ≡ Some l
     → TellsStay w s l x stays → not stays ≡ goes w links s
-told_gone w x links s l stays told is tells = sym (ap (λ (o : Option Link). is_some o && is_none (kept false o (scratch w s))) is ∙ by_kept (kept false (Some l) (scratch w s)) said)
+told_gone w x links s l stays told is tells = sym (ap (λ (o : Option Link). is_some o && is_none (kept false o (scratch w s))) is
+    ∙ by_kept (kept false (Some l) (scratch w s)) said)
   where
     said : stays ≡ is_some (kept false (Some l) (scratch w s))
     said =

@@ -2,9 +2,9 @@
 
 ghost use Rattle.std.specs.Prelude.{◌≡◌, ◌==◌, ◌&&◌, ◌||◌, ◌+◌, ◌^◌, ◌<◌, ◌≤◌, ℕ, length, sum_by, false, Some, is_some, IfOk, IfSome, OnOk};
 ghost use Rattle.std.specs.List.{AllByRecursion, list_any};
-ghost use Rattle.jl_types.specs.Links.{scratch};
-ghost use Rattle.jl_types.specs.History.{kept};
-ghost use Rattle.jl_types.specs.Footprints.{most_for};
+ghost use Rattle.jl_types.specs.Linkage.Links.{scratch};
+ghost use Rattle.jl_types.specs.Happenings.History.{kept};
+ghost use Rattle.jl_types.specs.Happenings.Footprints.{most_for};
 ghost use Rattle.jl_cache.specs.Links.{link_at};
 ghost use Rattle.jl_settle.specs.Settling.{goes, MayBeAsked, most_asked};
 

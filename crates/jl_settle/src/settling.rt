@@ -2,7 +2,7 @@
 
 ghost use Rattle.std.specs.Prelude.{◌≡◌, ◌==◌, ◌+◌, ◌^◌, ◌<◌, ◌≤◌, ℕ, true, false, sum_by, None, option_map, is_some, IfOk, OnOk, if◌then◌else◌};
 ghost use Rattle.std.specs.List.{list_any};
-ghost use Rattle.jl_types.specs.Footprints.{footprint};
+ghost use Rattle.jl_types.specs.Happenings.Footprints.{footprint};
 ghost use Rattle.jl_cache.specs.Links.{link_at};
 ghost use Rattle.jl_deps.specs.Indexes.{footprint_at, IsIndex, touched_by};
 ghost use Rattle.jl_settle.specs.Settling.{kept_at, goes, HasChanged, most_asked};

@@ -1,5 +1,6 @@
 -- What the definitions come to where a list is not empty, and where a method has code.
-use Rattle.std.proofs.Common.{◌≡◌, ℕ, ◌+◌, ◌==◌, Bool, true, false, List, [], ◌∷◌, ◌++◌, length, map, refl, sym, ap, ◌∙◌, if◌then◌else◌, append_assoc, suc, arith}
+use Rattle.std.proofs.Common.{◌≡◌, ℕ, ◌+◌, ◌==◌, Bool, true, false, List, [], ◌∷◌, ◌++◌, length, map, refl, sym, ap, ◌∙◌, if◌then◌else◌, append_assoc}
+use Rattle.std.proofs.Common.{suc, arith}
 use Rattle.std.specs.Prelude.{fold, codes}
 use Rattle.std.specs.List.{flat_map}
 use Rattle.std.proofs.lemmas.Bool.{false≢true}
@@ -10,11 +11,11 @@ use Rattle.jl_pool.specs.Pools.{places, places_of, pool_text}
 use Rattle.std.proofs.lemmas.List.{length-map, append-nil}
 use Rattle.jl_classfile.specs.Layouts.{attribute_text}
 use Rattle.jl_classfile.specs.declared.body.Attribute.{Attribute}
-use Rattle.jl_sketch.specs.declared.constants.Entry.{Entry}
-use Rattle.jl_sketch.specs.declared.constants.Entry.TheVariants.{Utf8, Class, NameAndType, Methodref, InterfaceMethodref, InvokeDynamic}
+use Rattle.jl_sketch.specs.declared.constants.NewConstant.{NewConstant}
+use Rattle.jl_sketch.specs.declared.constants.NewConstant.TheVariants.{Utf8, Class, NameAndType, Methodref, InterfaceMethodref, InvokeDynamic}
 use Rattle.jl_sketch.specs.declared.sketch.SketchMethod.{SketchMethod}
 use Rattle.jl_sketch.specs.Constants.{has_code, with_text, with_class, with_members, text_number, class_number}
-use Rattle.jl_sketch.specs.Entries.{constant_of}
+use Rattle.jl_sketch.specs.Means.Entries.{constant_of}
 use Rattle.jl_sketch.specs.Layouts.{member_attributes, code_attribute, method_attributes}
 
 pub with_some_members : (cs : List Constant) (members : List (List ℕ)) → (length members == 0) ≡ false
@@ -33,7 +34,7 @@ members_written cs (m ∷ ms) out name info h hn hi =
     ∙ ap (λ (xs : List ℕ). out ++ xs) (sym (append-nil (u2 number ++ (u4 (length numbers) ++ numbers))))
 
 -- each entry takes one number
-pub one_place : (es : List Entry) → length (flat_map places_of (map constant_of es)) ≡ length es
+pub one_place : (es : List NewConstant) → length (flat_map places_of (map constant_of es)) ≡ length es
 one_place [] = refl
 one_place (Utf8 s ∷ es) = ap suc (one_place es)
 one_place (Class m ∷ es) = ap suc (one_place es)
@@ -48,13 +49,14 @@ code_written cs m out before h hb =
     let code : Attribute = code_attribute cs m.calls in
     let one : method_attributes cs m ≡ code ∷ [] = ap (λ (b : Bool). if b then code ∷ [] else []) h in
     ap (λ (xs : List ℕ). xs ++ attribute_text code) hb ∙ append_assoc out (u2 1) (attribute_text code)
-    ∙ ap (λ (xs : List ℕ). out ++ (u2 1 ++ xs)) (sym (append-nil (attribute_text code))) ∙ ap (λ (xs : List Attribute). out ++ counted attribute_text xs) (sym one)
+    ∙ ap (λ (xs : List ℕ). out ++ (u2 1 ++ xs)) (sym (append-nil (attribute_text code)))
+    ∙ ap (λ (xs : List Attribute). out ++ counted attribute_text xs) (sym one)
 
 one_more : (n : ℕ) → suc n ≡ n + 1
 one_more n = omega arith
 
 -- the pool's bytes, from the count and each constant's
-pub pool_is : (es : List Entry) (cs : List Constant) (out done : List ℕ) (n : ℕ) → map constant_of es ≡ cs → n ≡ length cs
+pub pool_is : (es : List NewConstant) (cs : List Constant) (out done : List ℕ) (n : ℕ) → map constant_of es ≡ cs → n ≡ length cs
     → done ≡ (out ++ u2 (n + 1)) ++ flat_map constant_text (map constant_of es)
     → done ≡ out ++ pool_text cs
 pool_is es cs out done n he hn hd =

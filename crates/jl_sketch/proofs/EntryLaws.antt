@@ -3,17 +3,17 @@ use Rattle.std.proofs.Common.{◌≡◌, ◌+◌, Bool, List, [], ◌∷◌, ◌
 use Rattle.std.specs.List.{list_any, position}
 use Rattle.std.specs.Option.{option_map_or}
 use Rattle.jl_pool.specs.declared.constant.Constant.{Constant}
-use Rattle.jl_sketch.specs.declared.constants.Entry.{Entry}
-use Rattle.jl_sketch.specs.declared.constants.Entry.TheVariants.{Utf8, Class, NameAndType, Methodref, InterfaceMethodref, InvokeDynamic}
-use Rattle.jl_sketch.specs.contracts.constants.EntryPartialEq.TheImpl.{eq-value}
+use Rattle.jl_sketch.specs.declared.constants.NewConstant.{NewConstant}
+use Rattle.jl_sketch.specs.declared.constants.NewConstant.TheVariants.{Utf8, Class, NameAndType, Methodref, InterfaceMethodref, InvokeDynamic}
+use Rattle.jl_sketch.specs.contracts.constants.NewConstantPartialEq.TheImpl.{eq-value}
 use Rattle.jl_sketch.specs.Constants.{same_constant, enter, number}
-use Rattle.jl_sketch.specs.Entries.{constant_of}
+use Rattle.jl_sketch.specs.Means.Entries.{constant_of}
 use Rattle.jl_sketch.proofs.Positions.{any_by, position_by, map_unless}
 
-abbrev same_entry : Entry → Entry → Bool
+abbrev same_entry : NewConstant → NewConstant → Bool
 same_entry a b = eq-value.it a b
 
-same : (a b : Entry) → same_entry a b ≡ same_constant (constant_of a) (constant_of b)
+same : (a b : NewConstant) → same_entry a b ≡ same_constant (constant_of a) (constant_of b)
 same (Utf8 s) (Utf8 t) = refl
 same (Utf8 s) (Class i) = refl
 same (Utf8 s) (NameAndType i j) = refl
@@ -51,7 +51,7 @@ same (InvokeDynamic m) (Methodref i j) = refl
 same (InvokeDynamic m) (InterfaceMethodref i j) = refl
 same (InvokeDynamic m) (InvokeDynamic i) = refl
 
-pub entered : (keys new : List Entry) (cs : List Constant) (e : Entry) → new ≡ (if list_any (same_entry e) keys then keys else keys ++ e ∷ [])
+pub entered : (keys new : List NewConstant) (cs : List Constant) (e : NewConstant) → new ≡ (if list_any (same_entry e) keys then keys else keys ++ e ∷ [])
     → map constant_of keys ≡ cs → map constant_of new ≡ enter cs (constant_of e)
 unfolding enter
 entered keys new cs e he hcs =
@@ -60,7 +60,8 @@ entered keys new cs e he hcs =
     ap (map constant_of) he ∙ map_unless constant_of (list_any (same_entry e) keys) keys e
     ∙ ap (λ (b : Bool). if b then old else old ++ constant_of e ∷ []) any ∙ ap (λ (xs : List Constant). enter xs (constant_of e)) hcs
 
-pub numbered : (keys : List Entry) (cs : List Constant) (e : Entry) → map constant_of keys ≡ cs → option_map_or (λ i. i + 1) (position (same_entry e) keys) 0 ≡ number cs (constant_of e)
+pub numbered : (keys : List NewConstant) (cs : List Constant) (e : NewConstant) → map constant_of keys ≡ cs
+    → option_map_or (λ i. i + 1) (position (same_entry e) keys) 0 ≡ number cs (constant_of e)
 unfolding number
 numbered keys cs e hcs =
     ap (λ o. option_map_or (λ i. i + 1) o 0) (position_by constant_of (same_entry e) (same_constant (constant_of e)) (same e) keys)

@@ -71,7 +71,14 @@ found [] c s e h = absurd (false≢true e)
 found (d ∷ ds) c s e h = by_test (same_constant c d) refl (λ k. found ds c s k h.1)
   where
     by_test : (b : Bool) → same_constant c d ≡ b → (list_any (same_constant c) ds ≡ true → Holds ds c) → Holds (d ∷ ds) c
-    by_test true k rest = record { before = []; after = ds; split = ap (λ (x : Constant). x ∷ ds) (sym (one_constant c d k)); first = refl; plain = tt; itself = s }
+    by_test true k rest = record {
+      before = [];
+      after = ds;
+      split = ap (λ (x : Constant). x ∷ ds) (sym (one_constant c d k));
+      first = refl;
+      plain = tt;
+      itself = s;
+    }
     by_test false k rest =
         let r = rest (sym (ap (λ (b : Bool). b || list_any (same_constant c) ds) k) ∙ e) in
         record {

@@ -6,9 +6,11 @@ use Rattle.jl_pool.specs.declared.constant.Constant.{Constant}
 use Rattle.jl_pool.specs.declared.constant.Constant.TheVariants.{Utf8, Class, NameAndType, Methodref, InterfaceMethodref, InvokeDynamic}
 use Rattle.jl_pool.specs.declared.reference.Reference.{Reference}
 use Rattle.jl_pool.specs.declared.reference.CallSiteSpecifier.{CallSiteSpecifier}
-use Rattle.jl_pool.specs.Pools.{places, text_of, text_at, class_text_of, class_text_at, both, Signed, signed_of, signed_at, reference, reference_of, reference_at, call_site_of, call_site_at}
+use Rattle.jl_pool.specs.Pools.{places, text_of, text_at, class_text_of, class_text_at, both, Signed, signed_of, signed_at, reference, reference_of}
+use Rattle.jl_pool.specs.Pools.{reference_at, call_site_of, call_site_at}
 use Rattle.jl_sketch.specs.declared.sketch.MethodName.{MethodName}
-use Rattle.jl_sketch.specs.Constants.{enter, number, text_number, class_constant, class_number, signed_constant, signed_number, method_constant, call_site_constant}
+use Rattle.jl_sketch.specs.Constants.{enter, number, text_number, class_constant, class_number, signed_constant, signed_number, method_constant}
+use Rattle.jl_sketch.specs.Constants.{call_site_constant}
 use Rattle.jl_sketch.specs.Constants.{with_text, with_class, with_signed, with_method, with_call_site}
 use Rattle.jl_sketch.proofs.SameConstants.{same_utf8, same_class, same_signed, same_methodref, same_interface_methodref, same_dynamic}
 use Rattle.jl_sketch.proofs.Holding.{ArePlain, Grows, grows_on, grows_enter, Holds, holds_on, holds_entered, number_stays, stands}
@@ -59,7 +61,8 @@ class_entered cs name h =
     let same : class_constant all name ≡ class_constant named name = ap Class (number_stays named all (Utf8 name) g text) in
     record {
       text = holds_on named all (Utf8 name) g text;
-      class = subst (λ (c : Constant). Holds all c) (sym same) (holds_entered named (class_constant named name) (same_class (text_number named name)) ((text_grows cs name).plain h));
+      class = subst (λ (c : Constant). Holds all c) (sym same) (holds_entered named (class_constant named name) (same_class (text_number named name))
+          ((text_grows cs name).plain h));
     }
 
 pub class_named : (cs : List Constant) (name : List ℕ) → HasClass cs name → class_text_at (places cs) (class_number cs name) ≡ Some name
@@ -72,19 +75,23 @@ pub record HasSigned (cs : List Constant) (name ty : List ℕ) : Type 0 where
   pub descriptor : HasText cs ty
   pub signed : Holds cs (signed_constant cs name ty)
 
-pub signed_stays : (cs ds : List Constant) (name ty : List ℕ) → Grows cs ds → HasText cs name → HasText cs ty → signed_constant ds name ty ≡ signed_constant cs name ty
+pub signed_stays : (cs ds : List Constant) (name ty : List ℕ) → Grows cs ds → HasText cs name → HasText cs ty
+    → signed_constant ds name ty ≡ signed_constant cs name ty
 signed_stays cs ds name ty g h k =
-    ap (λ (n : ℕ). NameAndType n (text_number ds ty)) (number_stays cs ds (Utf8 name) g h) ∙ ap (NameAndType (text_number cs name)) (number_stays cs ds (Utf8 ty) g k)
+    ap (λ (n : ℕ). NameAndType n (text_number ds ty)) (number_stays cs ds (Utf8 name) g h)
+    ∙ ap (NameAndType (text_number cs name)) (number_stays cs ds (Utf8 ty) g k)
 
 pub signed_on : (cs ds : List Constant) (name ty : List ℕ) → Grows cs ds → HasSigned cs name ty → HasSigned ds name ty
 signed_on cs ds name ty g h = record {
   text = holds_on cs ds (Utf8 name) g h.text;
   descriptor = holds_on cs ds (Utf8 ty) g h.descriptor;
-  signed = subst (λ (c : Constant). Holds ds c) (sym (signed_stays cs ds name ty g h.text h.descriptor)) (holds_on cs ds (signed_constant cs name ty) g h.signed);
+  signed = subst (λ (c : Constant). Holds ds c) (sym (signed_stays cs ds name ty g h.text h.descriptor))
+      (holds_on cs ds (signed_constant cs name ty) g h.signed);
 }
 
 pub signed_number_stays : (cs ds : List Constant) (name ty : List ℕ) → Grows cs ds → HasSigned cs name ty → signed_number ds name ty ≡ signed_number cs name ty
-signed_number_stays cs ds name ty g h = ap (number ds) (signed_stays cs ds name ty g h.text h.descriptor) ∙ number_stays cs ds (signed_constant cs name ty) g h.signed
+signed_number_stays cs ds name ty g h = ap (number ds) (signed_stays cs ds name ty g h.text h.descriptor)
+    ∙ number_stays cs ds (signed_constant cs name ty) g h.signed
 
 pub texts_grow : (cs : List Constant) (name ty : List ℕ) → Grows cs (with_text (with_text cs name) ty)
 texts_grow cs name ty = grows_on cs (with_text cs name) (with_text (with_text cs name) ty) (text_grows cs name) (text_grows (with_text cs name) ty)
@@ -95,7 +102,8 @@ signed_grows cs name ty =
     grows_on cs parts (with_signed cs name ty) (texts_grow cs name ty) (grows_enter parts (signed_constant parts name ty) refl)
 
 pub first_text_entered : (cs : List Constant) (name ty : List ℕ) → ArePlain cs → HasText (with_text (with_text cs name) ty) name
-first_text_entered cs name ty h = holds_on (with_text cs name) (with_text (with_text cs name) ty) (Utf8 name) (text_grows (with_text cs name) ty) (text_entered cs name h)
+first_text_entered cs name ty h = holds_on (with_text cs name) (with_text (with_text cs name) ty) (Utf8 name) (text_grows (with_text cs name) ty)
+    (text_entered cs name h)
 
 pub second_text_entered : (cs : List Constant) (name ty : List ℕ) → ArePlain cs → HasText (with_text (with_text cs name) ty) ty
 second_text_entered cs name ty h = text_entered (with_text cs name) ty ((text_grows cs name).plain h)
@@ -139,7 +147,8 @@ unfolding made
 method_made cs false m = refl
 method_made cs true m = refl
 
-method_stays : (cs ds : List Constant) (itf : Bool) (m : MethodName) → Grows cs ds → HasClass cs m.owner → HasSigned cs m.name m.ty → method_constant ds itf m ≡ method_constant cs itf m
+method_stays : (cs ds : List Constant) (itf : Bool) (m : MethodName) → Grows cs ds → HasClass cs m.owner → HasSigned cs m.name m.ty
+    → method_constant ds itf m ≡ method_constant cs itf m
 method_stays cs ds itf m g h k =
     method_made ds itf m ∙ ap (λ (n : ℕ). made itf n (signed_number ds m.name m.ty)) (class_number_stays cs ds m.owner g h)
     ∙ ap (made itf (class_number cs m.owner)) (signed_number_stays cs ds m.name m.ty g k) ∙ sym (method_made cs itf m)
@@ -160,7 +169,8 @@ method_holds cs false m h = holds_entered cs (method_constant cs false m) (same_
 method_holds cs true m h = holds_entered cs (method_constant cs true m) (same_interface_methodref (class_number cs m.owner) (signed_number cs m.name m.ty)) h
 
 parts_grow : (cs : List Constant) (m : MethodName) → Grows cs (with_signed (with_class cs m.owner) m.name m.ty)
-parts_grow cs m = grows_on cs (with_class cs m.owner) (with_signed (with_class cs m.owner) m.name m.ty) (class_grows cs m.owner) (signed_grows (with_class cs m.owner) m.name m.ty)
+parts_grow cs m = grows_on cs (with_class cs m.owner) (with_signed (with_class cs m.owner) m.name m.ty) (class_grows cs m.owner)
+    (signed_grows (with_class cs m.owner) m.name m.ty)
 
 pub method_grows : (cs : List Constant) (itf : Bool) (m : MethodName) → Grows cs (with_method itf cs m)
 method_grows cs itf m =
@@ -185,12 +195,14 @@ abbrev pub reference_to : Bool → MethodName → Reference (List ℕ)
 reference_to itf m = record { itf = itf; owner = m.owner; name = m.name; ty = m.ty }
 
 method_text : (cs : List Constant) (itf : Bool) (m : MethodName) → HasMethod cs itf m
-    → both (reference itf) (class_text_at (places cs) (class_number cs m.owner)) (signed_at (places cs) (signed_number cs m.name m.ty)) ≡ Some (reference_to itf m)
+    → both (reference itf) (class_text_at (places cs) (class_number cs m.owner)) (signed_at (places cs) (signed_number cs m.name m.ty)) ≡ Some
+    (reference_to itf m)
 method_text cs itf m h =
     ap (λ (o : Option (List ℕ)). both (reference itf) o (signed_at (places cs) (signed_number cs m.name m.ty))) (class_named cs m.owner h.owner)
     ∙ ap (λ (o : Option Signed). both (reference itf) (Some m.owner) o) (signed_named cs m.name m.ty h.signed)
 
-pub method_named : (cs : List Constant) (itf : Bool) (m : MethodName) → HasMethod cs itf m → reference_at (places cs) (number cs (method_constant cs itf m)) ≡ Some (reference_to itf m)
+pub method_named : (cs : List Constant) (itf : Bool) (m : MethodName) → HasMethod cs itf m
+    → reference_at (places cs) (number cs (method_constant cs itf m)) ≡ Some (reference_to itf m)
 method_named cs false m h = ap (option_and_then (reference_of (places cs))) (stands cs (method_constant cs false m) h.method) ∙ method_text cs false m h
 method_named cs true m h = ap (option_and_then (reference_of (places cs))) (stands cs (method_constant cs true m) h.method) ∙ method_text cs true m h
 
@@ -200,13 +212,15 @@ pub record HasCallSite (cs : List Constant) (name ty : List ℕ) : Type 0 where
   pub signed : HasSigned cs name ty
   pub call_site : Holds cs (call_site_constant cs name ty)
 
-call_site_stays : (cs ds : List Constant) (name ty : List ℕ) → Grows cs ds → HasSigned cs name ty → call_site_constant ds name ty ≡ call_site_constant cs name ty
+call_site_stays : (cs ds : List Constant) (name ty : List ℕ) → Grows cs ds → HasSigned cs name ty
+    → call_site_constant ds name ty ≡ call_site_constant cs name ty
 call_site_stays cs ds name ty g h = ap (InvokeDynamic 0) (signed_number_stays cs ds name ty g h)
 
 pub call_site_on : (cs ds : List Constant) (name ty : List ℕ) → Grows cs ds → HasCallSite cs name ty → HasCallSite ds name ty
 call_site_on cs ds name ty g h = record {
   signed = signed_on cs ds name ty g h.signed;
-  call_site = subst (λ (c : Constant). Holds ds c) (sym (call_site_stays cs ds name ty g h.signed)) (holds_on cs ds (call_site_constant cs name ty) g h.call_site);
+  call_site = subst (λ (c : Constant). Holds ds c) (sym (call_site_stays cs ds name ty g h.signed))
+      (holds_on cs ds (call_site_constant cs name ty) g h.call_site);
 }
 
 pub call_site_grows : (cs : List Constant) (name ty : List ℕ) → Grows cs (with_call_site cs name ty)
@@ -229,7 +243,8 @@ call_site_entered cs name ty h =
 abbrev pub specifier : List ℕ → List ℕ → CallSiteSpecifier (List ℕ)
 specifier name ty = record { bootstrap = 0; name = name; ty = ty }
 
-pub call_site_named : (cs : List Constant) (name ty : List ℕ) → HasCallSite cs name ty → call_site_at (places cs) (number cs (call_site_constant cs name ty)) ≡ Some (specifier name ty)
+pub call_site_named : (cs : List Constant) (name ty : List ℕ) → HasCallSite cs name ty
+    → call_site_at (places cs) (number cs (call_site_constant cs name ty)) ≡ Some (specifier name ty)
 call_site_named cs name ty h =
     ap (option_and_then (call_site_of (places cs))) (stands cs (call_site_constant cs name ty) h.call_site)
     ∙ ap (option_map (λ (s : Signed). record { bootstrap = 0; name = s.name; ty = s.ty })) (signed_named cs name ty h.signed)

@@ -14,12 +14,15 @@ use Rattle.jl_sketch.specs.declared.sketch.SketchMethod.{SketchMethod}
 use Rattle.jl_sketch.specs.declared.sketch.MethodName.{MethodName}
 use Rattle.jl_sketch.specs.declared.sketch.Call.{Call}
 use Rattle.jl_sketch.specs.declared.sketch.Call.TheVariants.{Virtual, Special, Static, Interface, Dynamic}
-use Rattle.jl_sketch.specs.Constants.{same_constant, enter, number, class_constant, signed_constant, method_constant, call_site_constant, has_code, with_text, with_class}
-use Rattle.jl_sketch.specs.Constants.{with_class_if_any, with_signed, with_method, with_call_site, with_call, with_declared, with_host, with_members, sketch_constants}
+use Rattle.jl_sketch.specs.Constants.{same_constant, enter, number, class_constant, signed_constant, method_constant, call_site_constant, has_code}
+use Rattle.jl_sketch.specs.Constants.{with_text, with_class}
+use Rattle.jl_sketch.specs.Constants.{with_class_if_any, with_signed, with_method, with_call_site, with_call, with_declared, with_host, with_members}
+use Rattle.jl_sketch.specs.Constants.{sketch_constants}
 use Rattle.jl_sketch.specs.Faults.{is_long, are_long, is_long_method_name, is_long_call, is_long_method, is_long_if_any, is_long_sketch}
 use Rattle.jl_sketch.proofs.Holding.{Grows, grows_enter}
 use Rattle.jl_sketch.proofs.Naming.{text_grows, class_grows, signed_grows, method_plain}
-use Rattle.jl_sketch.proofs.SketchNames.{fold_grows, classes_grow, if_any_grows, call_grows, coded, coded_grows, declared_is, declared_grows, host_grows, members_grow}
+use Rattle.jl_sketch.proofs.SketchNames.{fold_grows, classes_grow, if_any_grows, call_grows, coded, coded_grows, declared_is, declared_grows}
+use Rattle.jl_sketch.proofs.SketchNames.{host_grows, members_grow}
 
 abbrev pub AreSized : List Constant → Type 0
 AreSized cs = AllByRecursion IsSized cs
@@ -99,7 +102,8 @@ fits_method cs itf m h =
     let g : Grows parts all = method_plain parts itf m parts in
     let long = or_parts (is_long m.owner) (is_long m.name || is_long m.ty) h in
     let rest = or_parts (is_long m.name) (is_long m.ty) long.1 in
-    let before : Fits cs parts = fits_on cs owned parts (signed_grows owned m.name m.ty) (fits_class cs m.owner long.0) (fits_signed owned m.name m.ty rest.0 rest.1) in
+    let before : Fits cs parts = fits_on cs owned parts (signed_grows owned m.name m.ty) (fits_class cs m.owner long.0)
+    (fits_signed owned m.name m.ty rest.0 rest.1) in
     fits_on cs parts all g before (fits_enter parts (method_constant parts itf m) g (λ few. sized_method parts itf m few))
 
 fits_call_site : (cs : List Constant) (name ty : List ℕ) → (is_long name || is_long ty) ≡ false → Fits cs (with_call_site cs name ty)
@@ -152,7 +156,8 @@ fits_declared cs m h =
     let texts : Fits cs signed = fits_on cs named signed (text_grows named m.ty) (fits_text cs m.name a.0) (fits_text named m.ty b.0) in
     let code : Fits cs behind = fits_on cs signed behind (coded_grows (has_code m.flags) signed) texts (fits_coded (has_code m.flags) signed) in
     subst (λ (ds : List Constant). Fits cs ds) (sym (declared_is cs m))
-    (fits_on cs behind (fold with_call behind m.calls) (fold_grows with_call call_grows m.calls behind) code (fits_fold with_call is_long_call call_grows fits_call m.calls behind c.1))
+    (fits_on cs behind (fold with_call behind m.calls) (fold_grows with_call call_grows m.calls behind) code
+    (fits_fold with_call is_long_call call_grows fits_call m.calls behind c.1))
 
 fits_host : (host : Option (List ℕ)) (cs : List Constant) → is_long_if_any host ≡ false → Fits cs (with_host cs host)
 fits_host None cs h = λ few w. w
@@ -194,8 +199,10 @@ constants_sized s h few =
     let methods : List Constant = fold with_declared interfaces s.methods in
     let hosted : List Constant = with_host methods s.host in
     let all : List Constant = sketch_constants s in
-    let to_super : Fits [] super = fits_on [] this super (if_any_grows s.superclass this) (fits_class [] s.name h.name) (fits_if_any s.superclass this h.superclass) in
-    let to_interfaces : Fits [] interfaces = fits_on [] super interfaces (classes_grow s.interfaces super) to_super (fits_classes s.interfaces super h.interfaces) in
+    let to_super : Fits [] super = fits_on [] this super (if_any_grows s.superclass this) (fits_class [] s.name h.name)
+    (fits_if_any s.superclass this h.superclass) in
+    let to_interfaces : Fits [] interfaces = fits_on [] super interfaces (classes_grow s.interfaces super) to_super
+    (fits_classes s.interfaces super h.interfaces) in
     let to_methods : Fits [] methods =
     fits_on [] interfaces methods (fold_grows with_declared declared_grows s.methods interfaces) to_interfaces
     (fits_fold with_declared is_long_method declared_grows fits_declared s.methods interfaces h.each_method)

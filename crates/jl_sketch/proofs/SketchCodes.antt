@@ -12,7 +12,7 @@ use Rattle.jl_pool.specs.Numbers.{u2, u4, counted}
 use Rattle.jl_pool.specs.Pools.{Pool, places, text_at}
 use Rattle.jl_pool.proofs.PoolLaws.{u2_one, u4_one}
 use Rattle.jl_code.specs.declared.instruction.Instruction.{Instruction}
-use Rattle.jl_code.specs.Site.{Site}
+use Rattle.jl_class.specs.Site.{Site}
 use Rattle.jl_code.specs.Instructions.{instruction_text, MayStand}
 use Rattle.jl_code.specs.Codes.{code_bytes, MayStandFrom, site_list, site_at, sites_from}
 use Rattle.jl_code.proofs.CodeFaultLaws.{one_list}
@@ -61,7 +61,8 @@ held_is ours theirs small h =
     let last : List ℕ = u2 h.exceptions ++ (h.table ++ counted attribute_text h.attributes) in
     let none : 0 < 2 ^ 16 = omega arith in
     let few : length theirs < 2 ^ 32 = omega (arith, h.few) in
-    let stack = u2_one 0 h.max_stack (u2 0 ++ (u4 (length ours) ++ (ours ++ (u2 0 ++ u2 0)))) (u2 h.max_locals ++ (u4 (length theirs) ++ (theirs ++ last))) none h.max_stack_size h.spelled in
+    let stack = u2_one 0 h.max_stack (u2 0 ++ (u4 (length ours) ++ (ours ++ (u2 0 ++ u2 0)))) (u2 h.max_locals ++ (u4 (length theirs) ++ (theirs ++ last))) none
+    h.max_stack_size h.spelled in
     let locals = u2_one 0 h.max_locals (u4 (length ours) ++ (ours ++ (u2 0 ++ u2 0))) (u4 (length theirs) ++ (theirs ++ last)) none h.max_locals_size stack.1 in
     let size = u4_one (length ours) (length theirs) (ours ++ (u2 0 ++ u2 0)) (theirs ++ last) small few locals.1 in
     fronts_are ours theirs (u2 0 ++ u2 0) last size.0 size.1
@@ -83,7 +84,8 @@ size_is cs (Static itf m) = refl
 size_is cs (Interface m) = refl
 size_is cs (Dynamic name ty) = refl
 
-sites_are : (cs : List Constant) (calls : List Call) (pc : ℕ) → AllByRecursion (NamesCall cs) calls → sites_from (places cs) pc (instructions cs calls) ≡ sites_of_calls pc calls
+sites_are : (cs : List Constant) (calls : List Call) (pc : ℕ) → AllByRecursion (NamesCall cs) calls
+    → sites_from (places cs) pc (instructions cs calls) ≡ sites_of_calls pc calls
 sites_are cs [] pc h = refl
 sites_are cs (call ∷ calls) pc h =
     let size : ℕ = length (instruction_text (call_instruction cs call)) in
@@ -112,7 +114,8 @@ coded_sites : (cs : List Constant) (calls : List Call) (code : Option (List Inst
     → sites_of (places cs) code ≡ sites_of_calls 0 calls
 coded_sites cs calls None few short names h = absurd h
 coded_sites cs calls (Some is) few short names h =
-    let bytes : code_bytes (instructions cs calls) ≡ code_bytes is = held_is (code_bytes (instructions cs calls)) (code_bytes is) (code_below cs calls short) h.holds in
+    let bytes : code_bytes (instructions cs calls) ≡ code_bytes is = held_is (code_bytes (instructions cs calls)) (code_bytes is)
+    (code_below cs calls short) h.holds in
     let same : is ≡ instructions cs calls = one_list 0 is (instructions cs calls) h.code.places (stand cs calls 0 few) (sym bytes) in
     ap (sites_from (places cs) 0) same ∙ sites_are cs calls 0 names
 

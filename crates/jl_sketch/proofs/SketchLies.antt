@@ -22,7 +22,8 @@ use Rattle.jl_sketch.specs.declared.sketch.SketchMethod.{SketchMethod}
 use Rattle.jl_sketch.specs.declared.sketch.Call.{Call}
 use Rattle.jl_sketch.specs.declared.sketch.Call.TheVariants.{Virtual, Special, Static, Interface, Dynamic}
 use Rattle.jl_sketch.specs.Constants.{text_number, class_constant, class_number, has_code, sketch_constants}
-use Rattle.jl_sketch.specs.Layouts.{call_instruction, instructions, code_info, code_attribute, method_of, host_attributes, member_attributes, body_of, sketch_layout}
+use Rattle.jl_sketch.specs.Layouts.{call_instruction, instructions, code_info, code_attribute, method_of, host_attributes, member_attributes, body_of}
+use Rattle.jl_sketch.specs.Layouts.{sketch_layout}
 use Rattle.jl_sketch.specs.Faults.{is_long, is_long_call, is_long_method, is_long_sketch, is_too_big}
 use Rattle.jl_sketch.specs.Names.{AreFlags}
 use Rattle.jl_sketch.proofs.Holding.{one_place}
@@ -41,7 +42,8 @@ short_call cs (Dynamic name ty) = omega arith
 pub short_code : (cs : List Constant) (calls : List Call) → length (code_bytes (instructions cs calls)) ≤ 5 * length calls + 1
 short_code cs [] = omega arith
 short_code cs (c ∷ calls) =
-    let both : length (code_bytes (instructions cs (c ∷ calls))) ≡ length (instruction_text (call_instruction cs c)) + length (code_bytes (instructions cs calls))
+    let both : length (code_bytes (instructions cs (c ∷ calls))) ≡ length (instruction_text (call_instruction cs c)) + length
+    (code_bytes (instructions cs calls))
     = length-append (instruction_text (call_instruction cs c)) (code_bytes (instructions cs calls)) in
     let one = short_call cs c in
     let rest = short_code cs calls in
@@ -67,7 +69,8 @@ if_coded : (b : Bool) (a : Attribute) → AttributeSized a → Countable Attribu
 if_coded true a h = record { count = omega arith; each = (h, tt) }
 if_coded false a h = record { count = omega arith; each = tt }
 
-host_sized : (cs : List Constant) (host : List ℕ) → length cs ≤ 65534 → AttributeSized (record { name = text_number cs (codes "NestHost"); info = u2 (class_number cs host) })
+host_sized : (cs : List Constant) (host : List ℕ) → length cs ≤ 65534 → AttributeSized
+    (record { name = text_number cs (codes "NestHost"); info = u2 (class_number cs host) })
 host_sized cs host few = record { name = number_below cs (Utf8 (codes "NestHost")) few; info = omega arith }
 
 numbers_length : (ns : List ℕ) → length (flat_map u2 ns) ≡ 2 * length ns
@@ -85,7 +88,11 @@ few_numbers cs names h = rw (length-map names (class_number cs)) (few_items name
 
 members_sized : (cs : List Constant) (members : List (List ℕ)) → length cs ≤ 65534 → is_long members ≡ false
     → AttributeSized (record { name = text_number cs (codes "NestMembers"); info = counted u2 (map (class_number cs) members) })
-members_sized cs members few h = record { name = number_below cs (Utf8 (codes "NestMembers")) few; info = numbers_info (map (class_number cs) members) (few_numbers cs members h) }
+members_sized cs members few h = record {
+  name = number_below cs (Utf8 (codes "NestMembers")) few;
+  info = numbers_info (map (class_number cs) members)
+      (few_numbers cs members h);
+}
 
 nest_sized : (cs : List Constant) (host : Option (List ℕ)) (members : List (List ℕ)) → length cs ≤ 65534 → is_long members ≡ false
     → Countable AttributeSized (host_attributes cs host ++ member_attributes cs members)
@@ -128,9 +135,15 @@ body_sized s cs f h few = record {
   flags = f.0;
   this_class = number_below cs (class_constant cs s.name) few;
   super_class = super_sized cs s.superclass few;
-  interfaces = record { count = few_numbers cs s.interfaces (or_parts (is_long s.interfaces) (list_any is_long s.interfaces) h.interfaces).0; each = classes_sized cs s.interfaces few };
+  interfaces = record {
+    count = few_numbers cs s.interfaces (or_parts (is_long s.interfaces) (list_any is_long s.interfaces) h.interfaces).0;
+    each = classes_sized cs s.interfaces few;
+  };
   fields = record { count = omega arith; each = tt };
-  methods = record { count = rw (length-map s.methods (method_of cs)) (few_items s.methods h.methods); each = methods_sized cs s.methods few f.1 h.each_method };
+  methods = record {
+    count = rw (length-map s.methods (method_of cs)) (few_items s.methods h.methods);
+    each = methods_sized cs s.methods few f.1 h.each_method;
+  };
   attributes = nest_sized cs s.host s.members few (or_parts (is_long s.members) (list_any is_long s.members) h.members).0;
 }
 

@@ -8,22 +8,26 @@ use Rattle.jl_pool.specs.declared.constant.Constant.TheVariants.{Utf8}
 use Rattle.jl_pool.specs.declared.reference.Reference.{Reference}
 use Rattle.jl_pool.specs.declared.reference.CallSiteSpecifier.{CallSiteSpecifier}
 use Rattle.jl_pool.specs.Pools.{places, text_at, class_text_at, reference_of, reference_at, call_site_at}
-use Rattle.jl_code.specs.declared.site.Operand.TheVariants.{CallSite}
-use Rattle.jl_code.specs.Codes.{either_operand, operand_at}
+use Rattle.jl_class.specs.declared.site.Operand.TheVariants.{CallSite}
+use Rattle.jl_class.specs.Operands.{either_operand, operand_at}
 use Rattle.jl_sketch.specs.declared.sketch.Sketch.{Sketch}
 use Rattle.jl_sketch.specs.declared.sketch.SketchMethod.{SketchMethod}
 use Rattle.jl_sketch.specs.declared.sketch.MethodName.{MethodName}
 use Rattle.jl_sketch.specs.declared.sketch.Call.{Call}
 use Rattle.jl_sketch.specs.declared.sketch.Call.TheVariants.{Virtual, Special, Static, Interface, Dynamic}
-use Rattle.jl_sketch.specs.Constants.{number, text_number, class_number, method_constant, call_site_constant, has_code, with_text, with_class, with_class_if_any}
+use Rattle.jl_sketch.specs.Constants.{number, text_number, class_number, method_constant, call_site_constant, has_code, with_text, with_class}
+use Rattle.jl_sketch.specs.Constants.{with_class_if_any}
 use Rattle.jl_sketch.specs.Constants.{with_method, with_call_site, with_call, with_declared, with_host, with_members, sketch_constants}
 use Rattle.jl_sketch.specs.Names.{method_operand, NamesCall, NamesMethod, NamesHost, NamesMembers, NamesParts}
 use Rattle.jl_sketch.proofs.Holding.{ArePlain, Grows, grows_self, grows_on, holds_on, stands}
-use Rattle.jl_sketch.proofs.Naming.{text_grows, text_entered, text_named, texts_grow, first_text_entered, second_text_entered, class_grows, class_entered, class_on}
-use Rattle.jl_sketch.proofs.Naming.{class_named, HasMethod, method_grows, method_entered, method_on, method_named, HasCallSite, call_site_grows, call_site_entered}
+use Rattle.jl_sketch.proofs.Naming.{text_grows, text_entered, text_named, texts_grow, first_text_entered, second_text_entered, class_grows}
+use Rattle.jl_sketch.proofs.Naming.{class_entered, class_on}
+use Rattle.jl_sketch.proofs.Naming.{class_named, HasMethod, method_grows, method_entered, method_on, method_named, HasCallSite, call_site_grows}
+use Rattle.jl_sketch.proofs.Naming.{call_site_entered}
 use Rattle.jl_sketch.proofs.Naming.{call_site_on, call_site_named}
 
-pub fold_grows : {X : Type 0} (f : List Constant → X → List Constant) → ((cs : List Constant) (x : X) → Grows cs (f cs x)) → (xs : List X) (cs : List Constant) → Grows cs (fold f cs xs)
+pub fold_grows : {X : Type 0} (f : List Constant → X → List Constant) → ((cs : List Constant) (x : X) → Grows cs (f cs x)) → (xs : List X) (cs : List Constant)
+    → Grows cs (fold f cs xs)
 fold_grows f each [] cs = grows_self cs
 fold_grows f each (x ∷ xs) cs = grows_on cs (f cs x) (fold f (f cs x) xs) (each cs x) (fold_grows f each xs (f cs x))
 
@@ -32,7 +36,8 @@ fold_grows f each (x ∷ xs) cs = grows_on cs (f cs x) (fold f (f cs x) xs) (eac
 pub classes_grow : (names : List (List ℕ)) (cs : List Constant) → Grows cs (fold with_class cs names)
 classes_grow names cs = fold_grows with_class class_grows names cs
 
-one_class : (cs all : List Constant) (name : List ℕ) → ArePlain cs → Grows (with_class cs name) all → class_text_at (places all) (class_number all name) ≡ Some name
+one_class : (cs all : List Constant) (name : List ℕ) → ArePlain cs → Grows (with_class cs name) all
+    → class_text_at (places all) (class_number all name) ≡ Some name
 one_class cs all name h g = class_named all name (class_on (with_class cs name) all name g (class_entered cs name h))
 
 classes_named : (names : List (List ℕ)) (cs all : List Constant) → ArePlain cs → Grows (fold with_class cs names) all
@@ -40,7 +45,8 @@ classes_named : (names : List (List ℕ)) (cs all : List Constant) → ArePlain 
 classes_named [] cs all h g = refl
 classes_named (n ∷ ns) cs all h g =
     let next : List Constant = with_class cs n in
-    let first : class_text_at (places all) (class_number all n) ≡ Some n = one_class cs all n h (grows_on next (fold with_class next ns) all (classes_grow ns next) g) in
+    let first : class_text_at (places all) (class_number all n) ≡ Some n =
+    one_class cs all n h (grows_on next (fold with_class next ns) all (classes_grow ns next) g) in
     ap (λ (o : Option (List ℕ)). o ∷ map (class_text_at (places all)) (map (class_number all) ns)) first
     ∙ ap (λ (os : List (Option (List ℕ))). Some n ∷ os) (classes_named ns next all ((class_grows cs n).plain h) g)
 
@@ -88,8 +94,10 @@ call_named (Dynamic name ty) cs all h g = dynamic_call cs all name ty h g
 calls_named : (calls : List Call) (cs all : List Constant) → ArePlain cs → Grows (fold with_call cs calls) all → AllByRecursion (NamesCall all) calls
 calls_named [] cs all h g = tt
 calls_named (c ∷ calls) cs all h g =
-    let next : List Constant = with_call cs c in
-    (call_named c cs all h (grows_on next (fold with_call next calls) all (fold_grows with_call call_grows calls next) g), calls_named calls next all ((call_grows cs c).plain h) g)
+    let next : List Constant = with_call cs c in (
+      call_named c cs all h (grows_on next (fold with_call next calls) all (fold_grows with_call call_grows calls next) g),
+      calls_named calls next all ((call_grows cs c).plain h) g,
+    )
 
 -- ---- methods
 
@@ -101,12 +109,15 @@ unfolding coded
 coded_grows true cs = text_grows cs (codes "Code")
 coded_grows false cs = grows_self cs
 
-code_named : (b : Bool) (cs all : List Constant) → ArePlain cs → Grows (coded b cs) all → b ≡ true → text_at (places all) (text_number all (codes "Code")) ≡ Some (codes "Code")
+code_named : (b : Bool) (cs all : List Constant) → ArePlain cs → Grows (coded b cs) all → b ≡ true
+    → text_at (places all) (text_number all (codes "Code")) ≡ Some (codes "Code")
 unfolding coded
-code_named true cs all h g e = text_named all (codes "Code") (holds_on (with_text cs (codes "Code")) all (Utf8 (codes "Code")) g (text_entered cs (codes "Code") h))
+code_named true cs all h g e = text_named all (codes "Code") (holds_on (with_text cs (codes "Code")) all (Utf8 (codes "Code")) g
+    (text_entered cs (codes "Code") h))
 code_named false cs all h g e = absurd cc
 
-pub declared_is : (cs : List Constant) (m : SketchMethod) → with_declared cs m ≡ fold with_call (coded (has_code m.flags) (with_text (with_text cs m.name) m.ty)) m.calls
+pub declared_is : (cs : List Constant) (m : SketchMethod) → with_declared cs m ≡ fold with_call
+    (coded (has_code m.flags) (with_text (with_text cs m.name) m.ty)) m.calls
 unfolding coded
 declared_is cs m = refl
 
@@ -138,8 +149,10 @@ method_named_in m cs all h given =
 methods_named : (ms : List SketchMethod) (cs all : List Constant) → ArePlain cs → Grows (fold with_declared cs ms) all → AllByRecursion (NamesMethod all) ms
 methods_named [] cs all h g = tt
 methods_named (m ∷ ms) cs all h g =
-    let next : List Constant = with_declared cs m in
-    (method_named_in m cs all h (grows_on next (fold with_declared next ms) all (fold_grows with_declared declared_grows ms next) g), methods_named ms next all ((declared_grows cs m).plain h) g)
+    let next : List Constant = with_declared cs m in (
+      method_named_in m cs all h (grows_on next (fold with_declared next ms) all (fold_grows with_declared declared_grows ms next) g),
+      methods_named ms next all ((declared_grows cs m).plain h) g,
+    )
 
 -- ---- the nest
 

@@ -10,13 +10,14 @@ use Rattle.jl_names.proofs.Tests.{All-front, All-back}
 use Rattle.jl_pool.specs.declared.constant.Constant.{Constant}
 use Rattle.jl_pool.specs.Pools.{Pool, places, class_at}
 use Rattle.jl_code.specs.declared.instruction.Instruction.{Instruction}
-use Rattle.jl_code.specs.Site.{Site}
-use Rattle.jl_classfile.specs.Class.{ClassFile, Method as ShownMethod}
+use Rattle.jl_class.specs.Site.{Site}
+use Rattle.jl_class.specs.Class.{ClassFile, Method as ShownMethod}
 use Rattle.jl_classfile.specs.Layouts.{Layout, file_text}
 use Rattle.jl_classfile.specs.Parts.{Parts}
 use Rattle.jl_classfile.specs.Conditions.{IsClassNumber, superclass_numbers, class_numbers, Nest, HasCode, codes_of, HaveCodes}
 use Rattle.jl_classfile.specs.ClassFiles.{pool_of, IsClass}
-use Rattle.jl_classfile.specs.Shown.{text_or_nothing, name_or_nothing, sites_of, shown, shown_method, shown_methods}
+use Rattle.jl_classfile.specs.Shown.{name_or_nothing, sites_of, shown, shown_method, shown_methods}
+use Rattle.jl_class.specs.Kept.{text_or_nothing}
 use Rattle.jl_sketch.specs.declared.sketch.Sketch.{Sketch}
 use Rattle.jl_sketch.specs.declared.sketch.SketchMethod.{SketchMethod}
 use Rattle.jl_sketch.specs.Constants.{text_number, class_number, sketch_constants}
@@ -115,10 +116,12 @@ made f = refl
 same_class : (f g : ClassFile) → f.name ≡ g.name → f.flags ≡ g.flags → f.superclass ≡ g.superclass → f.interfaces ≡ g.interfaces
     → f.nest_host ≡ g.nest_host → f.nest_members ≡ g.nest_members → f.methods ≡ g.methods → f ≡ g
 same_class f g name flags superclass interfaces host members methods =
-    let same : make f.name f.flags f.superclass f.interfaces f.nest_host f.nest_members f.methods ≡ make g.name g.flags g.superclass g.interfaces g.nest_host g.nest_members g.methods = cc in
+    let same : make f.name f.flags f.superclass f.interfaces f.nest_host f.nest_members f.methods ≡ make g.name g.flags g.superclass g.interfaces g.nest_host
+    g.nest_members g.methods = cc in
     sym (made f) ∙ same ∙ made g
 
-pub sketch_shown : (s : Sketch) (p : Parts) → AreFlags s → IsFalse (is_too_big s) → first_without_code s ≡ None → IsClass (file_text (sketch_layout s)) p → shown p ≡ class_of s
+pub sketch_shown : (s : Sketch) (p : Parts) → AreFlags s → IsFalse (is_too_big s) → first_without_code s ≡ None → IsClass (file_text (sketch_layout s)) p
+    → shown p ≡ class_of s
 sketch_shown s p f h without k =
     let e : p.layout ≡ sketch_layout s = layout_is s p f h k in
     let cs : List Constant = sketch_constants s in
@@ -140,7 +143,8 @@ sketch_shown s p f h without k =
     ∙ super_is pool super s.superclass named.super_class (All-front (IsClassNumber pool) (superclass_numbers super) interfaces links.1) refl)
     (ap (λ (l : Layout). map (name_or_nothing (pool_of l)) l.body.interfaces) e
     ∙ names_are pool interfaces s.interfaces named.interfaces (All-back (IsClassNumber pool) (superclass_numbers super) interfaces links.1))
-    (ap (λ (l : Layout). option_and_then (class_at (pool_of l)) p.nest_host) e ∙ host_is cs s.host s.members p.nest_host few named.host named.members nest.host_holds)
+    (ap (λ (l : Layout). option_and_then (class_at (pool_of l)) p.nest_host) e
+    ∙ host_is cs s.host s.members p.nest_host few named.host named.members nest.host_holds)
     (ap (λ (l : Layout). map (name_or_nothing (pool_of l)) (unwrap_or p.nest_members [])) e
     ∙ members_are cs s.host s.members p.nest_members few short_members.0 named.host named.members nest.members_hold)
     (ap (λ (l : Layout). shown_methods (pool_of l) l.body.methods p.codes) e

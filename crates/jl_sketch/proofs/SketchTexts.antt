@@ -46,4 +46,5 @@ names_are pool (n ∷ ns) [] h all = absurd cc
 names_are pool (n ∷ ns) (name ∷ names) h all =
     let first : class_text_at pool n ≡ Some name = cc in
     let rest : map (class_text_at pool) ns ≡ map Some names = cc in
-    ap (λ (text : List ℕ). text ∷ map (name_or_nothing pool) ns) (name_is pool n name first all.0) ∙ ap (λ (texts : List (List ℕ)). name ∷ texts) (names_are pool ns names rest all.1)
+    ap (λ (text : List ℕ). text ∷ map (name_or_nothing pool) ns) (name_is pool n name first all.0)
+    ∙ ap (λ (texts : List (List ℕ)). name ∷ texts) (names_are pool ns names rest all.1)

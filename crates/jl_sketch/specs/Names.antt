@@ -3,13 +3,13 @@ use Rattle.std.specs.Prelude.{◌≡◌, ◌+◌, ◌<◌, ◌^◌, ℕ, Bool, t
 use Rattle.std.specs.List.{AllByRecursion}
 use Rattle.jl_pool.specs.declared.constant.Constant.{Constant}
 use Rattle.jl_pool.specs.Pools.{places, text_at, class_text_at}
-use Rattle.jl_code.specs.declared.site.Kind.{Kind}
-use Rattle.jl_code.specs.declared.site.Kind.TheVariants as kind
-use Rattle.jl_code.specs.declared.site.Operand.{Operand}
-use Rattle.jl_code.specs.declared.site.Operand.TheVariants.{Method, CallSite}
-use Rattle.jl_code.specs.Site.{Site}
-use Rattle.jl_code.specs.Codes.{operand_at}
-use Rattle.jl_classfile.specs.Class.{ClassFile, Method as ShownMethod}
+use Rattle.jl_class.specs.declared.site.Kind.{Kind}
+use Rattle.jl_class.specs.declared.site.Kind.TheVariants as kind
+use Rattle.jl_class.specs.declared.site.Operand.{Operand}
+use Rattle.jl_class.specs.declared.site.Operand.TheVariants.{Method, CallSite}
+use Rattle.jl_class.specs.Site.{Site}
+use Rattle.jl_class.specs.Operands.{operand_at}
+use Rattle.jl_class.specs.Class.{ClassFile, Method as ShownMethod}
 use Rattle.jl_classfile.specs.ClassFiles.{pool_of}
 use Rattle.jl_sketch.specs.declared.sketch.Sketch.{Sketch}
 use Rattle.jl_sketch.specs.declared.sketch.SketchMethod.{SketchMethod}
@@ -42,7 +42,8 @@ pub record NamesMethod (cs : List Constant) (m : SketchMethod) : Type 0 where
   pub calls : AllByRecursion (NamesCall cs) m.calls
 
 abbrev pub NamesHost : List Constant → List ℕ → Type 0
-NamesHost cs host = (text_at (places cs) (text_number cs (codes "NestHost")) ≡ Some (codes "NestHost")) × (class_text_at (places cs) (class_number cs host) ≡ Some host)
+NamesHost cs host = (text_at (places cs) (text_number cs (codes "NestHost")) ≡ Some (codes "NestHost"))
+    × (class_text_at (places cs) (class_number cs host) ≡ Some host)
 
 abbrev pub NamesMembers : List Constant → List (List ℕ) → Type 0
 NamesMembers cs [] = ⊤

@@ -3,10 +3,11 @@
 ghost use Rattle.std.specs.Prelude.{◌≡◌, ◌||◌, position};
 ghost use Rattle.std.specs.List.{list_any};
 ghost use Rattle.jl_sketch.specs.Constants.{has_code};
-ghost use Rattle.jl_sketch.specs.Faults.{is_long, are_long, is_long_method_name, is_long_call, is_long_method, is_long_if_any, is_long_sketch, calls_without_code};
+ghost use Rattle.jl_sketch.specs.Faults.{is_long, are_long, is_long_method_name, is_long_call, is_long_method, is_long_if_any, is_long_sketch};
+ghost use Rattle.jl_sketch.specs.Faults.{calls_without_code};
 
 use crate::sketch::{Call, MethodName, Sketch, SketchMethod};
-use jl_classfile::{ABSTRACT, NATIVE, has_flag};
+use jl_class::{ABSTRACT, NATIVE, has_flag};
 use jl_names::Name;
 
 /// The most bytes of a text, and the most entries of a list.

@@ -1,8 +1,8 @@
 //! The constants of a class file that is written, each once (JVMS SE 17 §4.4).
 
-ghost use Rattle.std.specs.Prelude.{◌≡◌, [], length, map, IfOk, OnOk};
+ghost use Rattle.std.specs.Prelude.{◌≡◌, [], length, map, OnOk};
 ghost use Rattle.jl_sketch.specs.Constants.{enter, number, class_constant, signed_constant, method_constant, call_site_constant, call_constant};
-ghost use Rattle.jl_sketch.specs.Entries.{constant_of};
+ghost use Rattle.jl_sketch.specs.Means.Entries.{constant_of};
 
 use crate::sketch::{Call, MethodName};
 use indexmap::IndexSet;
@@ -12,7 +12,7 @@ use std::marker::Model;
 
 /// A constant. A number names another one, counted from 1.
 #[derive(Clone, Copy, Debug, PartialEq, Eq, Hash)]
-pub(crate) enum Entry<'a> {
+pub(crate) enum NewConstant<'a> {
     Utf8(&'a [u8]),
     Class(usize),
     NameAndType(usize, usize),
@@ -25,13 +25,13 @@ pub(crate) enum Entry<'a> {
 /// Constants in the order in which they were entered.
 #[derive(Drop)]
 pub(crate) struct Constants<'a> {
-    entries: IndexSet<Entry<'a>>,
+    entries: IndexSet<NewConstant<'a>>,
 }
 
 impl<'a> Model for Constants<'a> {
     ghost use Rattle.std.specs.Prelude.{List, map};
     ghost use Rattle.jl_pool.specs.declared.constant.Constant.{Constant};
-    ghost use Rattle.jl_sketch.specs.Entries.{constant_of};
+    ghost use Rattle.jl_sketch.specs.Means.Entries.{constant_of};
 
     ghost Value = { List Constant };
 
@@ -56,7 +56,7 @@ impl<'a> Constants<'a> {
     }
 
     /// The constants, in order.
-    pub(crate) fn as_slice(&self) -> &[Entry<'a>]
+    pub(crate) fn as_slice(&self) -> &[NewConstant<'a>]
         ensures { map constant_of result.now ≡ self.now }
     {
         self.entries.as_slice()
@@ -64,7 +64,7 @@ impl<'a> Constants<'a> {
 
     /// Enters a constant, unless an equal one is there.
     #[tactic(auto, unfolding(crate::specs::Constants::enter))]
-    pub(crate) fn enter(&mut self, entry: Entry<'a>) -> Result<(), AllocError>
+    pub(crate) fn enter(&mut self, entry: NewConstant<'a>) -> Result<(), AllocError>
         ensures { OnOk result (self.new ≡ enter self.old (constant_of entry.entry)) }
     {
         self.entries.insert(entry)?;
@@ -73,7 +73,7 @@ impl<'a> Constants<'a> {
 
     /// The number of the constant, and 0 where it isn't there.
     #[tactic(auto, unfolding(crate::specs::Constants::number))]
-    pub(crate) fn number(&self, entry: Entry<'a>) -> usize
+    pub(crate) fn number(&self, entry: NewConstant<'a>) -> usize
         ensures { result ≡ number self.now (constant_of entry.entry) }
     {
         // The length is what says that `index + 1` fits.
@@ -85,43 +85,43 @@ impl<'a> Constants<'a> {
     }
 
     /// The Class of a name.
-    pub(crate) fn class(&self, name: &'a Name) -> Entry<'a>
+    pub(crate) fn class(&self, name: &'a Name) -> NewConstant<'a>
         ensures { constant_of result ≡ class_constant self.now name.now }
     {
-        Entry::Class(self.number(Entry::Utf8(name.as_slice())))
+        NewConstant::Class(self.number(NewConstant::Utf8(name.as_slice())))
     }
 
     /// The NameAndType of a name and a descriptor.
-    pub(crate) fn signed(&self, name: &'a Name, ty: &'a Name) -> Entry<'a>
+    pub(crate) fn signed(&self, name: &'a Name, ty: &'a Name) -> NewConstant<'a>
         ensures { constant_of result ≡ signed_constant self.now name.now ty.now }
     {
-        let name = self.number(Entry::Utf8(name.as_slice()));
-        let ty = self.number(Entry::Utf8(ty.as_slice()));
-        Entry::NameAndType(name, ty)
+        let name = self.number(NewConstant::Utf8(name.as_slice()));
+        let ty = self.number(NewConstant::Utf8(ty.as_slice()));
+        NewConstant::NameAndType(name, ty)
     }
 
     /// The InterfaceMethodref of a method, or its Methodref.
-    pub(crate) fn method(&self, itf: bool, method: &'a MethodName) -> Entry<'a>
+    pub(crate) fn method(&self, itf: bool, method: &'a MethodName) -> NewConstant<'a>
         ensures { constant_of result ≡ method_constant self.now itf method.now }
     {
         let owner = self.number(self.class(&method.owner));
         let signed = self.number(self.signed(&method.name, &method.ty));
         if itf {
-            Entry::InterfaceMethodref(owner, signed)
+            NewConstant::InterfaceMethodref(owner, signed)
         } else {
-            Entry::Methodref(owner, signed)
+            NewConstant::Methodref(owner, signed)
         }
     }
 
     /// The InvokeDynamic of a name and a descriptor.
-    pub(crate) fn call_site(&self, name: &'a Name, ty: &'a Name) -> Entry<'a>
+    pub(crate) fn call_site(&self, name: &'a Name, ty: &'a Name) -> NewConstant<'a>
         ensures { constant_of result ≡ call_site_constant self.now name.now ty.now }
     {
-        Entry::InvokeDynamic(self.number(self.signed(name, ty)))
+        NewConstant::InvokeDynamic(self.number(self.signed(name, ty)))
     }
 
     /// What a call names.
-    pub(crate) fn called(&self, call: &'a Call) -> Entry<'a>
+    pub(crate) fn called(&self, call: &'a Call) -> NewConstant<'a>
         ensures { constant_of result ≡ call_constant self.now call.now }
     {
         match call {

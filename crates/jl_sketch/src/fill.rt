@@ -1,10 +1,11 @@
 //! Fills the pool: each constant behind its parts (JVMS SE 17 §4.4).
 
-ghost use Rattle.std.specs.Prelude.{◌≡◌, fold, codes, IfOk, OnOk};
-ghost use Rattle.jl_sketch.specs.Constants.{with_text, with_class, with_signed, with_method, with_call_site, with_call, with_declared, with_class_if_any, with_host, with_members, with_classes, sketch_constants};
+ghost use Rattle.std.specs.Prelude.{◌≡◌, fold, IfOk, OnOk};
+ghost use Rattle.jl_sketch.specs.Constants.{with_text, with_class, with_signed, with_method, with_call_site, with_call, with_declared};
+ghost use Rattle.jl_sketch.specs.Constants.{with_class_if_any, with_host, with_members, with_classes, sketch_constants};
 
 use crate::check::has_code;
-use crate::constants::{Constants, Entry};
+use crate::constants::{Constants, NewConstant};
 use crate::sketch::{Call, MethodName, Sketch, SketchMethod};
 use jl_classfile::{CODE, NEST_HOST, NEST_MEMBERS};
 use jl_names::Name;
@@ -14,7 +15,7 @@ impl<'a> Constants<'a> {
     fn enter_text(&mut self, text: &'a [u8]) -> Result<(), AllocError>
         ensures { OnOk result (self.new ≡ with_text self.old text.now) }
     {
-        self.enter(Entry::Utf8(text))
+        self.enter(NewConstant::Utf8(text))
     }
 
     fn enter_class(&mut self, name: &'a Name) -> Result<(), AllocError>

@@ -14,13 +14,14 @@ ghost use Rattle.jl_classfile.specs.ClassFiles.{IsClass};
 ghost use Rattle.jl_classfile.specs.Shown.{shown};
 ghost use Rattle.jl_sketch.specs.Counts.{count_byte};
 ghost use Rattle.jl_sketch.specs.Constants.{class_number};
-ghost use Rattle.jl_sketch.specs.Entries.{constant_of, fault_of_class};
-ghost use Rattle.jl_sketch.specs.Layouts.{call_opcode, call_tail, call_instruction, instructions, code_info, code_attribute, method_attributes, method_of, host_attributes, member_attributes, body_of, layout_over};
+ghost use Rattle.jl_sketch.specs.Means.Entries.{constant_of, fault_of_class};
+ghost use Rattle.jl_sketch.specs.Layouts.{call_opcode, call_tail, call_instruction, instructions, code_info, code_attribute, method_attributes};
+ghost use Rattle.jl_sketch.specs.Layouts.{method_of, host_attributes, member_attributes, body_of, layout_over};
 ghost use Rattle.jl_sketch.specs.Faults.{IsSketchFault, IsSpelled, IsWritten};
 ghost use Rattle.jl_sketch.specs.Names.{AreFlags, class_of};
 
 use crate::check::{first_without_code, has_code, is_long_sketch};
-use crate::constants::{Constants, Entry};
+use crate::constants::{Constants, NewConstant};
 use crate::fault::SketchFault;
 use crate::sketch::{Call, Sketch, SketchMethod};
 use byteorder::{BigEndian, ByteOrder};
@@ -76,16 +77,16 @@ fn push_text(out: &mut Vec<u8>, text: &[u8]) -> Result<(), AllocError>
 }
 
 /// Appends a constant.
-fn push_constant(out: &mut Vec<u8>, entry: &Entry<'_>) -> Result<(), AllocError>
+fn push_constant(out: &mut Vec<u8>, entry: &NewConstant<'_>) -> Result<(), AllocError>
     ensures { OnOk result (out.new.items ≡ out.old.items ++ constant_text (constant_of entry.now)) }
 {
     match entry {
-        Entry::Utf8(text) => push_text(out, text),
-        Entry::Class(name) => push_naming(out, 7, *name),
-        Entry::NameAndType(name, ty) => push_pair(out, 12, *name, *ty),
-        Entry::Methodref(owner, signed) => push_pair(out, 10, *owner, *signed),
-        Entry::InterfaceMethodref(owner, signed) => push_pair(out, 11, *owner, *signed),
-        Entry::InvokeDynamic(signed) => push_pair(out, 18, 0, *signed),
+        NewConstant::Utf8(text) => push_text(out, text),
+        NewConstant::Class(name) => push_naming(out, 7, *name),
+        NewConstant::NameAndType(name, ty) => push_pair(out, 12, *name, *ty),
+        NewConstant::Methodref(owner, signed) => push_pair(out, 10, *owner, *signed),
+        NewConstant::InterfaceMethodref(owner, signed) => push_pair(out, 11, *owner, *signed),
+        NewConstant::InvokeDynamic(signed) => push_pair(out, 18, 0, *signed),
     }
 }
 
@@ -201,7 +202,7 @@ fn push_code<'a>(
 {
     let code = code_of(alloc, constants, calls)?;
     let info = code_info(alloc, &code)?;
-    push_attribute(out, constants.number(Entry::Utf8(CODE)), &info)
+    push_attribute(out, constants.number(NewConstant::Utf8(CODE)), &info)
 }
 
 /// Appends the attributes of a method behind their count.
@@ -231,8 +232,14 @@ fn push_method<'a>(
     ensures flags { method.now.flags < 2 ^ 16 }
 {
     push_u2(out, usize::from(method.flags))?;
-    push_u2(out, constants.number(Entry::Utf8(method.name.as_slice())))?;
-    push_u2(out, constants.number(Entry::Utf8(method.ty.as_slice())))?;
+    push_u2(
+        out,
+        constants.number(NewConstant::Utf8(method.name.as_slice())),
+    )?;
+    push_u2(
+        out,
+        constants.number(NewConstant::Utf8(method.ty.as_slice())),
+    )?;
     push_attributes(alloc, out, constants, method)
 }
 
@@ -282,7 +289,7 @@ fn push_host<'a>(
     };
     let mut info = Vec::new(alloc);
     push_u2(&mut info, constants.number(constants.class(host)))?;
-    push_attribute(out, constants.number(Entry::Utf8(NEST_HOST)), &info)
+    push_attribute(out, constants.number(NewConstant::Utf8(NEST_HOST)), &info)
 }
 
 /// Appends the NestMembers attribute, if there are members.
@@ -299,7 +306,11 @@ fn push_members<'a>(
     }
     let mut info = Vec::new(alloc);
     push_classes(&mut info, constants, members)?;
-    push_attribute(out, constants.number(Entry::Utf8(NEST_MEMBERS)), &info)
+    push_attribute(
+        out,
+        constants.number(NewConstant::Utf8(NEST_MEMBERS)),
+        &info,
+    )
 }
 
 /// Appends the attributes of the class behind their count.

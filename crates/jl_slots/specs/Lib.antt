@@ -1,2 +1,2 @@
 -- A means of proof.
-pub mod Pages
+pub mod Means

@@ -2,7 +2,7 @@
 
 ghost use Rattle.std.specs.Prelude.{◌≡◌, ◌<◌, ◌≤◌, ◌*◌, length, replicate, slice_get, slice_set, IfOk, OnOk, OnErr};
 ghost use Rattle.std.specs.Option.{option_copied};
-ghost use Rattle.jl_slots.specs.Pages.{elements, AreWhole};
+ghost use Rattle.jl_slots.specs.Means.Pages.{elements, AreWhole};
 
 use crate::page::{PAGE, Page};
 use std::alloc::{AllocError, Global};
@@ -17,7 +17,7 @@ pub struct Slots<T> {
 
 impl<T> Model for Slots<T> {
     ghost use Rattle.std.specs.Prelude.{List};
-    ghost use Rattle.jl_slots.specs.Pages.{elements, AreWhole};
+    ghost use Rattle.jl_slots.specs.Means.Pages.{elements, AreWhole};
 
     ghost Value = { List T };
 

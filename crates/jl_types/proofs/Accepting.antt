@@ -16,12 +16,13 @@ use Rattle.jl_types.specs.declared.refusal.Refusal.{Refusal}
 use Rattle.jl_types.specs.declared.refusal.Refusal.TheVariants as refusal
 use Rattle.jl_types.specs.declared.refusal.SitesFault.{SitesFault}
 use Rattle.jl_types.specs.declared.refusal.SitesFault.TheVariants as sites
-use Rattle.jl_types.specs.Means.SameLink.{same_link, link_decides}
-use Rattle.jl_types.specs.World.{World}
-use Rattle.jl_types.specs.Resolution.{first_of}
-use Rattle.jl_types.specs.Links.{scratch}
-use Rattle.jl_types.specs.Batches.{is_bad_size, sites_fault}
-use Rattle.jl_types.specs.Events.{of_sites, row_fault, install_fault, Accepts, unless, verdict}
+use Rattle.jl_types.specs.Linkage.Links.{same_link}
+use Rattle.jl_types.specs.Means.SameLink.{link_decides}
+use Rattle.jl_types.specs.Values.World.{World}
+use Rattle.jl_types.specs.Linkage.Resolution.{first_of}
+use Rattle.jl_types.specs.Linkage.Links.{scratch}
+use Rattle.jl_types.specs.Happenings.Batches.{is_bad_size, sites_fault}
+use Rattle.jl_types.specs.Happenings.Events.{of_sites, row_fault, install_fault, Accepts, unless, verdict}
 use Rattle.jl_types.proofs.Firsts.{first_none, test_none}
 
 -- ---- the size
@@ -63,7 +64,8 @@ fresh w earlier (s ∷ rest) e =
 no_fault : (w : World) (earlier all : List ℕ) → AreFresh w earlier all → sites_fault w earlier all ≡ None
 no_fault w earlier [] h = refl
 no_fault w earlier (s ∷ rest) h =
-    (λ i. first_of (then_some (lt-leb (length w.places) s h.0 i) (sites.Unknown s) ∷ then_some (h.1 i) (sites.Repeated s) ∷ no_fault w (s ∷ earlier) rest h.2 i ∷ []))
+    (λ i. first_of (then_some (lt-leb (length w.places) s h.0 i) (sites.Unknown s) ∷ then_some (h.1 i) (sites.Repeated s) ∷ no_fault w (s ∷ earlier) rest h.2 i
+    ∷ []))
 
 -- ---- the rows
 

@@ -22,14 +22,14 @@ use Rattle.jl_types.specs.declared.link.Link.{Link}
 use Rattle.jl_types.specs.declared.link.Link.TheVariants.{Fault, Plain, Direct, Table, Mega}
 use Rattle.jl_types.specs.declared.link.TableKind.{TableKind}
 use Rattle.jl_types.specs.declared.link.TableKind.TheVariants as table
-use Rattle.jl_types.specs.World.{World, Classes}
-use Rattle.jl_types.specs.Members.{numbers, method_at, is_present, class_test, is_concrete, is_private, is_concrete_row}
-use Rattle.jl_types.specs.Ancestry.{is_ancestor, receivers}
-use Rattle.jl_types.specs.Selection.{virtual_outcome, interface_outcome, interface_ending, special_outcome, chosen, chosen_of, ending}
-use Rattle.jl_types.specs.Sites.{Selector, ByVirtual, ByInterface, BySpecial, Invocation, Stage, Waits, Fails, Calls, Selects, stage}
-use Rattle.jl_types.specs.Links.{outcome, table_rows, table_or_mega, virtual_link, runs, link_by, link_of, scratch}
-use Rattle.jl_types.specs.Calls.{answered, is_receiver, selected, answer_of, dispatch}
-use Rattle.jl_types.specs.Fast.{no_entry, entry_answer}
+use Rattle.jl_types.specs.Values.World.{World, Classes}
+use Rattle.jl_types.specs.Values.Members.{numbers, method_at, is_present, class_test, is_concrete, is_private, is_concrete_row}
+use Rattle.jl_types.specs.Values.Ancestry.{is_ancestor, receivers}
+use Rattle.jl_types.specs.Linkage.Selection.{virtual_outcome, interface_outcome, interface_ending, special_outcome, chosen, chosen_of, ending}
+use Rattle.jl_types.specs.Linkage.Stages.{Selector, ByVirtual, ByInterface, BySpecial, ResolvedCall, Stage, Waits, Fails, Calls, Selects, stage}
+use Rattle.jl_types.specs.Linkage.Links.{outcome, table_rows, table_or_mega, virtual_link, runs, link_by, link_of, scratch}
+use Rattle.jl_types.specs.Linkage.Calls.{answered, is_receiver, selected, answer_of, dispatch}
+use Rattle.jl_types.specs.Happenings.Fast.{no_entry, entry_answer}
 use Rattle.jl_types.proofs.Bools.{any-range-from, any-filter-at}
 use Rattle.jl_types.proofs.Lists.{passes_within}
 
@@ -85,7 +85,7 @@ looks_virtual ((x, outcome_is.Run m) ∷ rows) = by_same (list_all (λ row. runs
     by_same true = refl
     by_same false = looks_table table.Virtual ((x, outcome_is.Run m) ∷ rows)
 
-looks_by : (cs : Classes) (i : Invocation) (selector : Selector) → looks (link_by cs i selector) ≡ true
+looks_by : (cs : Classes) (i : ResolvedCall) (selector : Selector) → looks (link_by cs i selector) ≡ true
 looks_by cs i ByVirtual = by_private (is_private cs i.method)
   where
     by_private : (b : Bool) → looks (if b then Direct (virtual_outcome cs i.named i.method) else virtual_link (table_rows cs i)) ≡ true
@@ -104,13 +104,15 @@ fault_call : (cs : Classes) (stage : Stage) (t : Throwable) (recv : Recv) → li
 fault_call cs (Waits reason) t recv e = cc
 fault_call cs (Fails throwable) t recv e = cc
 fault_call cs (Calls m) t recv e = cc
-fault_call cs (Selects i) t recv e = absurd (both_ways (looks (link_by cs i i.selector)) (ap looks (ok_same (link_by cs i i.selector) (Fault t) e)) (looks_by cs i i.selector))
+fault_call cs (Selects i) t recv e = absurd (both_ways (looks (link_by cs i i.selector)) (ap looks (ok_same (link_by cs i i.selector) (Fault t) e))
+    (looks_by cs i i.selector))
 
 plain_call : (cs : Classes) (stage : Stage) (m : MethodId) (recv : Recv) → link_of cs stage ≡ Ok (Plain m) → answer_of cs stage recv ≡ answer.Run m
 plain_call cs (Waits reason) m recv e = cc
 plain_call cs (Fails throwable) m recv e = cc
 plain_call cs (Calls n) m recv e = cc
-plain_call cs (Selects i) m recv e = absurd (both_ways (looks (link_by cs i i.selector)) (ap looks (ok_same (link_by cs i i.selector) (Plain m) e)) (looks_by cs i i.selector))
+plain_call cs (Selects i) m recv e = absurd (both_ways (looks (link_by cs i i.selector)) (ap looks (ok_same (link_by cs i i.selector) (Plain m) e))
+    (looks_by cs i i.selector))
 
 pub fault_is_thrown : (w : World) (s : ℕ) (t : Throwable) (recv : Recv) → scratch w s ≡ Ok (Fault t) → dispatch w s recv ≡ answer.Throws t
 fault_is_thrown w s t recv e = fault_call w.classes (stage w s) t recv e
@@ -164,8 +166,10 @@ module _ (cs : Classes) (named x : ℕ) where
   pub among_receivers : is_concrete cs x ≡ true → is_ancestor cs named x ≡ true → list_any (λ y. y == x) (receivers cs named) ≡ true
   among_receivers h k =
       let lt = passes_within is_concrete_row cs.rows x (and_parts (is_present cs x) (class_test is_concrete_row cs x) h).1 in
-      let all : list_any (λ y. y == x) (numbers cs) ≡ true = any-range-from (λ y. y == x) 0 (length cs.rows) x (omega arith) (omega arith) (nat_eq_equiv.refl x) in
-      any-filter-at (λ y. is_concrete cs y && is_ancestor cs named y) (λ y. y == x) x (numbers cs) all (and_from (is_concrete cs x) (is_ancestor cs named x) h k) (nat_eq_equiv.refl x)
+      let all : list_any (λ y. y == x) (numbers cs) ≡ true = any-range-from (λ y. y == x) 0 (length cs.rows) x (omega arith) (omega arith)
+      (nat_eq_equiv.refl x) in
+      any-filter-at (λ y. is_concrete cs y && is_ancestor cs named y) (λ y. y == x) x (numbers cs) all
+      (and_from (is_concrete cs x) (is_ancestor cs named x) h k) (nat_eq_equiv.refl x)
 
   pub not_among_receivers : is_ancestor cs named x ≡ false → list_any (λ y. y == x) (receivers cs named) ≡ false
   not_among_receivers h = none_left (λ y. is_concrete cs y && is_ancestor cs named y) x (numbers cs) (and_false (is_concrete cs x) (is_ancestor cs named x) h)
@@ -177,12 +181,12 @@ module _ (cs : Classes) (named x : ℕ) where
 -- ---- tables
 
 -- the answer of a table to an object of class x, where the entries are those of the receivers
-entry_of : (cs : Classes) (i : Invocation) (kind : TableKind) (x : ℕ) (b : Bool) → is_ancestor cs i.named x ≡ b → is_concrete cs x ≡ true
+entry_of : (cs : Classes) (i : ResolvedCall) (kind : TableKind) (x : ℕ) (b : Bool) → is_ancestor cs i.named x ≡ b → is_concrete cs x ≡ true
     → (if b then answered (outcome cs i x) else no_entry kind) ≡ entry_answer kind (find (row_is x) (table_rows cs i))
 entry_of cs i kind x true e h = ap (entry_answer kind) (sym (entry_found (outcome cs i) x (receivers cs i.named) (among_receivers cs i.named x h e)))
 entry_of cs i kind x false e h = ap (entry_answer kind) (sym (no_entry_found (outcome cs i) x (receivers cs i.named) (not_among_receivers cs i.named x e)))
 
-abbrev invocation : Selector → ℕ → ℕ → Reference (List ℕ) → MethodId → Invocation
+abbrev invocation : Selector → ℕ → ℕ → Reference (List ℕ) → MethodId → ResolvedCall
 invocation selector d named ref m = record { selector = selector; caller = d; named = named; ref = ref; method = m }
 
 table_shown : (kind k : TableKind) (rows rs : List (ℕ × Outcome)) → table_or_mega kind rows ≡ Table k rs → (k ≡ kind) × (rs ≡ rows)
@@ -202,7 +206,8 @@ virtual_shown k ((x, outcome_is.Run m) ∷ rows) rs e = by_same (list_all (λ ro
     by_same true e = cc
     by_same false e = table_shown table.Virtual k ((x, outcome_is.Run m) ∷ rows) rs e
 
-entry_same : (k kind : TableKind) (rs rows : List (ℕ × Outcome)) (x : ℕ) → (k ≡ kind) × (rs ≡ rows) → entry_answer kind (find (row_is x) rows) ≡ entry_answer k (find (row_is x) rs)
+entry_same : (k kind : TableKind) (rs rows : List (ℕ × Outcome)) (x : ℕ) → (k ≡ kind) × (rs ≡ rows)
+    → entry_answer kind (find (row_is x) rows) ≡ entry_answer k (find (row_is x) rs)
 entry_same k kind rs rows x h = λ i. entry_answer (sym h.0 i) (find (row_is x) (sym h.1 i))
 
 if_concrete : (b c : Bool) (a : Answer) → b ≡ true → (if b && c then a else answer.BadReceiver) ≡ (if c then a else answer.BadReceiver)
@@ -213,17 +218,20 @@ table_call : (cs : Classes) (selector : Selector) (d named : ℕ) (ref : Referen
     → selected cs (invocation selector d named ref m) (Of x) ≡ entry_answer k (find (row_is x) rs)
 table_call cs ByVirtual d named ref m x k rs e h = by_private (is_private cs m) e
   where
-    by_private : (b : Bool) → (if b then Direct (virtual_outcome cs named m) else virtual_link (table_rows cs (invocation ByVirtual d named ref m))) ≡ Table k rs
+    by_private : (b : Bool) → (if b then Direct (virtual_outcome cs named m) else virtual_link (table_rows cs (invocation ByVirtual d named ref m))) ≡ Table k
+        rs
         → selected cs (invocation ByVirtual d named ref m) (Of x) ≡ entry_answer k (find (row_is x) rs)
     by_private true e = cc
     by_private false e =
         if_concrete (is_concrete cs x) (is_ancestor cs named x) (answered (virtual_outcome cs x m)) h
         ∙ entry_of cs (invocation ByVirtual d named ref m) table.Virtual x (is_ancestor cs named x) refl h
-        ∙ entry_same k table.Virtual rs (table_rows cs (invocation ByVirtual d named ref m)) x (virtual_shown k (table_rows cs (invocation ByVirtual d named ref m)) rs e)
+        ∙ entry_same k table.Virtual rs (table_rows cs (invocation ByVirtual d named ref m)) x
+        (virtual_shown k (table_rows cs (invocation ByVirtual d named ref m)) rs e)
 table_call cs ByInterface d named ref m x k rs e h =
     if_concrete (is_concrete cs x) true (answered (interface_outcome cs x named m)) h
     ∙ by_ancestor (is_ancestor cs named x) refl
-    ∙ entry_same k table.Interface rs (table_rows cs (invocation ByInterface d named ref m)) x (table_shown table.Interface k (table_rows cs (invocation ByInterface d named ref m)) rs e)
+    ∙ entry_same k table.Interface rs (table_rows cs (invocation ByInterface d named ref m)) x
+    (table_shown table.Interface k (table_rows cs (invocation ByInterface d named ref m)) rs e)
   where
     by_ancestor : (b : Bool) → is_ancestor cs named x ≡ b
         → answered (interface_outcome cs x named m) ≡ entry_answer table.Interface (find (row_is x) (table_rows cs (invocation ByInterface d named ref m)))
@@ -272,7 +280,8 @@ direct_shown o g x (y ∷ xs) e k = by_first (g y) refl e
     by_same m false is all e = absurd (no_table (nat_le (length ((y, outcome_is.Run m) ∷ rows_of g xs)) 8) ((y, outcome_is.Run m) ∷ rows_of g xs) e)
 
     by_first : (r : Outcome) → g y ≡ r → virtual_link ((y, r) ∷ rows_of g xs) ≡ Direct o → g x ≡ o
-    by_first (outcome_is.Throws t) is e = absurd (no_table (nat_le (length ((y, outcome_is.Throws t) ∷ rows_of g xs)) 8) ((y, outcome_is.Throws t) ∷ rows_of g xs) e)
+    by_first (outcome_is.Throws t) is e = absurd (no_table (nat_le (length ((y, outcome_is.Throws t) ∷ rows_of g xs)) 8) ((y, outcome_is.Throws t)
+        ∷ rows_of g xs) e)
     by_first (outcome_is.Run m) is e = by_same m (list_all (λ row. runs m row.1) (rows_of g xs)) is refl e
 
 direct_outcome : (cs : Classes) (selector : Selector) (d named : ℕ) (ref : Reference (List ℕ)) (m : MethodId) (x : ℕ) (o : Outcome)
@@ -306,7 +315,7 @@ direct_outcome cs BySpecial d named ref m x o e h = direct_same (special_outcome
 
 -- ---- of a site
 
-pub null_is_thrown : (w : World) (s : ℕ) (i : Invocation) → stage w s ≡ Selects i → dispatch w s Null ≡ answer.Throws NullPointerException
+pub null_is_thrown : (w : World) (s : ℕ) (i : ResolvedCall) → stage w s ≡ Selects i → dispatch w s Null ≡ answer.Throws NullPointerException
 null_is_thrown w s i e = ap (λ (st : Stage). answer_of w.classes st Null) e
 
 pub table_answers : (w : World) (s x : ℕ) (k : TableKind) (rows : List (ℕ × Outcome)) → scratch w s ≡ Ok (Table k rows) → is_concrete w.classes x ≡ true
@@ -317,9 +326,10 @@ table_answers w s x k rows e h = by_stage (stage w s) e
     by_stage (Waits reason) e = cc
     by_stage (Fails throwable) e = cc
     by_stage (Calls m) e = cc
-    by_stage (Selects i) e = table_call w.classes i.selector i.caller i.named i.ref i.method x k rows (ok_same (link_by w.classes i i.selector) (Table k rows) e) h
+    by_stage (Selects i) e = table_call w.classes i.selector i.caller i.named i.ref i.method x k rows
+        (ok_same (link_by w.classes i i.selector) (Table k rows) e) h
 
-pub direct_answers : (w : World) (s x : ℕ) (i : Invocation) (o : Outcome) → stage w s ≡ Selects i → scratch w s ≡ Ok (Direct o)
+pub direct_answers : (w : World) (s x : ℕ) (i : ResolvedCall) (o : Outcome) → stage w s ≡ Selects i → scratch w s ≡ Ok (Direct o)
     → is_receiver w.classes i x ≡ true → dispatch w s (Of x) ≡ answered o
 direct_answers w s x i o is e h =
     let link : link_by w.classes i i.selector ≡ Direct o = ok_same (link_by w.classes i i.selector) (Direct o) (sym (ap (link_of w.classes) is) ∙ e) in

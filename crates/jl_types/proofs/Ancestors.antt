@@ -10,8 +10,9 @@ use Rattle.std.proofs.Math.Arith.{lt_of_le-ne}
 use Rattle.std.proofs.lemmas.Bool.{or_right, or_cases, and_parts, both_ways}
 use Rattle.std.proofs.lemmas.Cmp.{nat_eq_equiv}
 use Rattle.std.proofs.lemmas.Option.{same_Some}
-use Rattle.jl_types.specs.World.{Class, Classes}
-use Rattle.jl_types.specs.Ancestry.{parents, IsAncestor, itself, over, is_ancestor_within, is_ancestor, superclasses_within, superclasses, is_subclass, is_proper_subclass, AreOrdered}
+use Rattle.jl_types.specs.Values.World.{Class, Classes}
+use Rattle.jl_types.specs.Values.Ancestry.{parents, IsAncestor, itself, over, is_ancestor_within, is_ancestor, superclasses_within, superclasses}
+use Rattle.jl_types.specs.Values.Ancestry.{is_subclass, is_proper_subclass, AreOrdered}
 
 -- ---- ancestors
 
@@ -72,10 +73,12 @@ module _ (rows : List Class) (o : AreOrdered rows) (a : ℕ) where
   enough : (n m c : ℕ) → c < n → c < m → is_ancestor_within n rows a c ≡ is_ancestor_within m rows a c
   enough zero m c h k = absurd (omega arith)
   enough (suc n) zero c h k = absurd (omega arith)
-  enough (suc n) (suc m) c h k = alike_at (is_ancestor_within n rows a) (is_ancestor_within m rows a) c (λ p lt. enough n m p (omega arith) (omega arith)) (slice_get rows c) refl
+  enough (suc n) (suc m) c h k = alike_at (is_ancestor_within n rows a) (is_ancestor_within m rows a) c (λ p lt. enough n m p (omega arith) (omega arith))
+      (slice_get rows c) refl
 
   -- a is an ancestor of c where it is c or one of a parent
-  pub above_is : (c : ℕ) (row : Class) → slice_get rows c ≡ Some row → is_ancestor_within (c + 1) rows a c ≡ ((a == c) || list_any (λ p. is_ancestor_within (p + 1) rows a p) (parents row))
+  pub above_is : (c : ℕ) (row : Class) → slice_get rows c ≡ Some row → is_ancestor_within (c + 1) rows a c ≡ ((a == c)
+      || list_any (λ p. is_ancestor_within (p + 1) rows a p) (parents row))
   above_is c row e =
       rw (add-one c, e)
       (ap (λ (b : Bool). (a == c) || b)
@@ -83,7 +86,8 @@ module _ (rows : List Class) (o : AreOrdered rows) (a : ℕ) where
       (recursion_from_All (λ p. p < c) (parents row) (o c row e))))
 
   complete : {x : ℕ} → IsAncestor rows a x → is_ancestor_within (x + 1) rows a x ≡ true
-  complete (itself {row = row} e) = above_is a row e ∙ ap (λ (b : Bool). b || list_any (λ p. is_ancestor_within (p + 1) rows a p) (parents row)) (nat_eq_equiv.refl a)
+  complete (itself {row = row} e) = above_is a row e ∙ ap (λ (b : Bool). b || list_any (λ p. is_ancestor_within (p + 1) rows a p) (parents row))
+      (nat_eq_equiv.refl a)
   complete (over {x = x} {p = p} {row = row} e m r) =
       above_is x row e
       ∙ or_right (a == x) (list_any (λ p. is_ancestor_within (p + 1) rows a p) (parents row))
@@ -125,10 +129,12 @@ module _ (rows : List Class) (o : AreOrdered rows) where
   chain_enough : (n m c : ℕ) → c < n → c < m → superclasses_within n rows c ≡ superclasses_within m rows c
   chain_enough zero m c h k = absurd (omega arith)
   chain_enough (suc n) zero c h k = absurd (omega arith)
-  chain_enough (suc n) (suc m) c h k = chain_at (superclasses_within n rows) (superclasses_within m rows) c (λ p lt. chain_enough n m p (omega arith) (omega arith)) (slice_get rows c) refl
+  chain_enough (suc n) (suc m) c h k = chain_at (superclasses_within n rows) (superclasses_within m rows) c
+      (λ p lt. chain_enough n m p (omega arith) (omega arith)) (slice_get rows c) refl
 
   -- a class, and its superclass's chain
-  pub chain_is : (c : ℕ) (row : Class) → slice_get rows c ≡ Some row → superclasses_within (c + 1) rows c ≡ c ∷ option_map_or (λ s. superclasses_within (s + 1) rows s) row.superclass []
+  pub chain_is : (c : ℕ) (row : Class) → slice_get rows c ≡ Some row → superclasses_within (c + 1) rows c ≡ c
+      ∷ option_map_or (λ s. superclasses_within (s + 1) rows s) row.superclass []
   chain_is c row e =
       rw (add-one c, e)
       (ap (λ (xs : List ℕ). c ∷ xs)

@@ -37,9 +37,11 @@ any-filter-at p f y [] m h k = cc
 any-filter-at p f y (x ∷ xs) m h k = by_place p f y x xs (x == y) refl m h k (λ more. any-filter-at p f y xs more h k)
   where
     found : (p f : ℕ → Bool) (y x : ℕ) (xs : List ℕ) → x ≡ y → p y ≡ true → f y ≡ true → list_any f (filter p (x ∷ xs)) ≡ true
-    found p f y x xs e h k = ap (λ (b : Bool). list_any f (cond b (x ∷ filter p xs) (filter p xs))) (ap p e ∙ h) ∙ or_left (f x) (list_any f (filter p xs)) (ap f e ∙ k)
+    found p f y x xs e h k = ap (λ (b : Bool). list_any f (cond b (x ∷ filter p xs) (filter p xs))) (ap p e ∙ h)
+        ∙ or_left (f x) (list_any f (filter p xs)) (ap f e ∙ k)
 
-    more_or : (p f : ℕ → Bool) (x : ℕ) (xs : List ℕ) (b : Bool) → p x ≡ b → list_any f (filter p xs) ≡ true → list_any f (cond b (x ∷ filter p xs) (filter p xs)) ≡ true
+    more_or : (p f : ℕ → Bool) (x : ℕ) (xs : List ℕ) (b : Bool) → p x ≡ b → list_any f (filter p xs) ≡ true
+        → list_any f (cond b (x ∷ filter p xs) (filter p xs)) ≡ true
     more_or p f x xs true e h = or_right (f x) (list_any f (filter p xs)) h
     more_or p f x xs false e h = h
 
@@ -67,7 +69,8 @@ any-range-from f a (suc n) i h k is = by_place f a n i (a == i) refl h k is (λ 
     by_place : (f : ℕ → Bool) (a n i : ℕ) (b : Bool) → (a == i) ≡ b → a ≤ i → i < a + suc n → f i ≡ true
         → (a + 1 ≤ i → list_any f (range_with_len (a + 1) n) ≡ true) → list_any f (range_with_len a (suc n)) ≡ true
     by_place f a n i true e h k is rest = or_left (f a) (list_any f (range_with_len (a + 1) n)) (ap f ((Decides-eqb a i).0 e) ∙ is)
-    by_place f a n i false e h k is rest = or_right (f a) (list_any f (range_with_len (a + 1) n)) (rest (above a i h (lt_of_le-ne h (λ same. both_ways (a == i) e ((Decides-eqb a i).1 same)))))
+    by_place f a n i false e h k is rest = or_right (f a) (list_any f (range_with_len (a + 1) n))
+        (rest (above a i h (lt_of_le-ne h (λ same. both_ways (a == i) e ((Decides-eqb a i).1 same)))))
 
 -- two tests that hold both hold
 pub first_test : (a b : Bool) → (a && b) ≡ true → a ≡ true

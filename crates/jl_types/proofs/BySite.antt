@@ -63,7 +63,8 @@ found_by_site (entry ∷ entries) t =
 
 -- ---- order
 
-all_after : {A : Type 0} (n s : ℕ) (l : A) (rows : List (ℕ × A)) → n < s → AllByRecursion (λ (r : ℕ × A). n < r.0) rows → AllByRecursion (λ (r : ℕ × A). n < r.0) (put s l rows)
+all_after : {A : Type 0} (n s : ℕ) (l : A) (rows : List (ℕ × A)) → n < s → AllByRecursion (λ (r : ℕ × A). n < r.0) rows
+    → AllByRecursion (λ (r : ℕ × A). n < r.0) (put s l rows)
 all_after n s l [] h k = (h, tt)
 all_after {A = A} n s l (row ∷ rows) h k = by_order (nat_lt s row.0) (s == row.0) (all_after n s l rows h k.1)
   where
@@ -99,7 +100,8 @@ rises (entry ∷ entries) = rises_put entry.0 entry.1 (by_site entries) (rises e
 
 pairs_of : {A : Type 0} (rows : List (ℕ × A)) → Rises rows → AllPairs (λ a b. a.0 < b.0) rows
 pairs_of [] h = λ i j d lt le. absurd (omega arith)
-pairs_of {A = A} (row ∷ rows) h = AllPairs-cons (λ (a b : ℕ × A). a.0 < b.0) row rows (All-from_recursion (λ (r : ℕ × A). row.0 < r.0) rows h.0) (pairs_of rows h.1)
+pairs_of {A = A} (row ∷ rows) h = AllPairs-cons (λ (a b : ℕ × A). a.0 < b.0) row rows (All-from_recursion (λ (r : ℕ × A). row.0 < r.0) rows h.0)
+    (pairs_of rows h.1)
 
 pub sites_rise : {A : Type 0} (entries : List (ℕ × A)) → AllPairs (λ a b. a.0 < b.0) (by_site entries)
 sites_rise entries = pairs_of (by_site entries) (rises entries)
@@ -156,13 +158,17 @@ same_values {A = A} (x ∷ xs) (y ∷ ys) h k e = by_order (cases_order x.0 y.0)
 
 -- ---- lists by AllPairs
 
-each_above : {A : Type 0} (n : ℕ) (rows : List (ℕ × A)) → ((j : ℕ) (d : ℕ × A) → j < length rows → n < (get_or rows j d).0) → AllByRecursion (λ (r : ℕ × A). n < r.0) rows
+each_above : {A : Type 0} (n : ℕ) (rows : List (ℕ × A)) → ((j : ℕ) (d : ℕ × A) → j < length rows → n < (get_or rows j d).0)
+    → AllByRecursion (λ (r : ℕ × A). n < r.0) rows
 each_above n [] h = tt
 each_above n (row ∷ rows) h = (h 0 row (omega arith), each_above n rows (λ j d lt. h (suc j) d (omega arith)))
 
 pub rises_of : {A : Type 0} (rows : List (ℕ × A)) → AllPairs (λ a b. a.0 < b.0) rows → Rises rows
 rises_of [] h = tt
-rises_of (row ∷ rows) h = (each_above row.0 rows (λ j d lt. h 0 (suc j) d (omega arith) (omega arith)), rises_of rows (λ i j d le lt. h (suc i) (suc j) d (omega arith) (omega arith)))
+rises_of (row ∷ rows) h = (
+  each_above row.0 rows (λ j d lt. h 0 (suc j) d (omega arith) (omega arith)),
+  rises_of rows (λ i j d le lt. h (suc i) (suc j) d (omega arith) (omega arith)),
+)
 
 -- what holds where a call was fine
 pub where_ok : {X E P : Type 0} (r : Result X E) (x : X) → r ≡ Ok x → OnOk r P → P

@@ -2,7 +2,7 @@
 use Rattle.std.specs.Prelude.{◌≡◌, Bool, true, false, List, [], ◌∷◌, Option, Some, None}
 use Rattle.std.specs.Bool.{then_some}
 use Rattle.std.proofs.Common.{refl}
-use Rattle.jl_types.specs.Resolution.{first_of}
+use Rattle.jl_types.specs.Linkage.Resolution.{first_of}
 
 -- there is none where there is no first one, and none behind it
 pub first_none : {A : Type 0} (o : Option A) (rest : List (Option A)) → first_of (o ∷ rest) ≡ None → (o ≡ None) × (first_of rest ≡ None)

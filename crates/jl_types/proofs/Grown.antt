@@ -9,11 +9,11 @@ use Rattle.std.proofs.lemmas.Bool.Decides.{Decides-eqb}
 use Rattle.std.proofs.lemmas.List.Elements.{recursion_from_All, filter-append}
 use Rattle.std.proofs.lemmas.Bool.{or_cases}
 use Rattle.std.proofs.lemmas.Cmp.{nat_eq_equiv}
-use Rattle.jl_classfile.specs.Class.{ClassFile}
-use Rattle.jl_types.specs.World.{Class, Classes}
-use Rattle.jl_types.specs.Members.{is_retired, is_concrete, is_concrete_row}
-use Rattle.jl_types.specs.Ancestry.{parents, AreOrdered, IsAncestor, itself, over, is_ancestor_within, is_ancestor, ancestors, receivers}
-use Rattle.jl_types.specs.Definitions.{class_made, defined}
+use Rattle.jl_class.specs.Class.{ClassFile}
+use Rattle.jl_types.specs.Values.World.{Class, Classes}
+use Rattle.jl_types.specs.Values.Members.{is_retired, is_concrete, is_concrete_row}
+use Rattle.jl_types.specs.Values.Ancestry.{parents, AreOrdered, IsAncestor, itself, over, is_ancestor_within, is_ancestor, ancestors, receivers}
+use Rattle.jl_types.specs.Happenings.Definitions.{class_made, defined}
 use Rattle.jl_types.proofs.Bools.{any-filter, any-filter-at, any-range-from}
 use Rattle.jl_types.proofs.Lists.{before_end, range_end}
 use Rattle.jl_types.proofs.Ancestors.{any_alike, ancestor_decides}
@@ -82,7 +82,8 @@ module _ (cs : Classes) (o : AreOrdered cs.rows) (loader : ℕ) (file : ClassFil
   passes k c x = is_concrete k x && is_ancestor k c x
 
   old_concrete : (x : ℕ) → x < length cs.rows → is_concrete new x ≡ is_concrete cs x
-  old_concrete x lt = ap (λ (r : Option Class). option_map_or (λ row. not (is_retired cs row.loader)) r false && option_map_or is_concrete_row r false) (before_end cs.rows (class_made cs loader file) x lt)
+  old_concrete x lt = ap (λ (r : Option Class). option_map_or (λ row. not (is_retired cs row.loader)) r false && option_map_or is_concrete_row r false)
+      (before_end cs.rows (class_made cs loader file) x lt)
 
   old_passes : (c x : ℕ) → x < length cs.rows → passes new c x ≡ passes cs c x
   old_passes c x lt = λ i. old_concrete x lt i && old_within cs.rows o (class_made cs loader file) c (x + 1) x lt i

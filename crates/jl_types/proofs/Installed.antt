@@ -7,10 +7,12 @@ use Rattle.std.proofs.lemmas.Bool.{cases_lt}
 use Rattle.std.proofs.lemmas.Option.{cond_some}
 use Rattle.jl_types.specs.declared.link.Link.{Link}
 use Rattle.jl_types.specs.declared.answer.Unlinked.{Unlinked}
-use Rattle.jl_types.specs.Event.{Event}
-use Rattle.jl_types.specs.Means.SameLink.{same_link, link_decides}
-use Rattle.jl_types.specs.Links.{scratch}
-use Rattle.jl_types.specs.History.{Settled, installed_at, scratch_after, world_after, is_link, kept, all_below, any_below, settled_since, settled, installed, installed_of}
+use Rattle.jl_types.specs.Happenings.Event.{Event}
+use Rattle.jl_types.specs.Linkage.Links.{same_link}
+use Rattle.jl_types.specs.Means.SameLink.{link_decides}
+use Rattle.jl_types.specs.Linkage.Links.{scratch}
+use Rattle.jl_types.specs.Happenings.History.{Settled, installed_at, scratch_after, world_after, is_link, kept, all_below, any_below, settled_since}
+use Rattle.jl_types.specs.Happenings.History.{settled, installed, installed_of}
 use Rattle.jl_types.proofs.Settling.{within}
 
 le_decides : (n m : ℕ) → Decides (nat_le n m) (n ≤ m)
@@ -34,12 +36,14 @@ kept_link l = ap (λ (b : Bool). if b then Some l else None) ((link_decides l l)
 -- ---- the test
 
 module _ (h : List Event) (s : ℕ) (l : Link) where
-  since_decides : (since : ℕ) → Decides (settled_since h s l since) ((installed_at h since s ≡ true) × ((n : ℕ) → n < length h + 1 → (n ≤ since) ⊎ (scratch_after h n s ≡ Ok l)))
+  since_decides : (since : ℕ) → Decides (settled_since h s l since) ((installed_at h since s ≡ true)
+      × ((n : ℕ) → n < length h + 1 → (n ≤ since) ⊎ (scratch_after h n s ≡ Ok l)))
   since_decides since =
       Decides-and (installed_at h since s) (all_below (λ n. nat_le n since || is_link (scratch_after h n s) l) (length h + 1)) (λ e. e, λ e. e)
       (Decides-below_and (λ n. nat_le n since || is_link (scratch_after h n s) l) (λ n. (n ≤ since) ⊎ (scratch_after h n s ≡ Ok l))
       (all_below (λ n. nat_le n since || is_link (scratch_after h n s) l))
-      (λ n. Decides-or (nat_le n since) (is_link (scratch_after h n s) l) (le_decides n since) (is_link_decides (scratch_after h n s) l)) refl (λ n. refl) (length h + 1))
+      (λ n. Decides-or (nat_le n since) (is_link (scratch_after h n s) l) (le_decides n since) (is_link_decides (scratch_after h n s) l)) refl (λ n. refl)
+      (length h + 1))
 
   pub settled_decides : Decides (settled h s l) (Settled h s l)
   settled_decides =

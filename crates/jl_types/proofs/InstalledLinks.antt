@@ -1,5 +1,6 @@
 -- The list of installed links: its sites are requested, each stands once, and none is left out.
-use Rattle.std.specs.Prelude.{◌≡◌, ℕ, zero, suc, ◌+◌, ◌<◌, ◌≤◌, ◌⊎◌, ◌↔◌, List, length, slice_get, filter_map, Option, Some, None, option_map, Ok, AllPairs, Contains}
+use Rattle.std.specs.Prelude.{◌≡◌, ℕ, zero, suc, ◌+◌, ◌<◌, ◌≤◌, ◌⊎◌, ◌↔◌, List, length, slice_get, filter_map, Option, Some, None, option_map, Ok}
+use Rattle.std.specs.Prelude.{AllPairs, Contains}
 use Rattle.std.specs.List.{range_with_len, AllByRecursion, cons_option}
 use Rattle.std.proofs.Common.{refl, ap, subst, ◌∙◌, arith, inl, inr}
 use Rattle.std.proofs.lemmas.List.Elements.{All-from_recursion}
@@ -7,11 +8,11 @@ use Rattle.std.proofs.lemmas.List.Kept.{AllPairs-cons}
 use Rattle.std.proofs.lemmas.Option.{same_Some, slice_get_within}
 use Rattle.jl_types.specs.declared.ids.Place.{Place}
 use Rattle.jl_types.specs.declared.link.Link.{Link}
-use Rattle.jl_types.specs.Event.{Event}
-use Rattle.jl_types.specs.World.{World}
-use Rattle.jl_types.specs.Sites.{stage_at}
-use Rattle.jl_types.specs.Links.{scratch, link_of}
-use Rattle.jl_types.specs.History.{world_after, installed, installed_links}
+use Rattle.jl_types.specs.Happenings.Event.{Event}
+use Rattle.jl_types.specs.Values.World.{World}
+use Rattle.jl_types.specs.Linkage.Stages.{stage_at}
+use Rattle.jl_types.specs.Linkage.Links.{scratch, link_of}
+use Rattle.jl_types.specs.Happenings.History.{world_after, installed, installed_links}
 use Rattle.jl_types.proofs.Installed.{installed_to, settled_now}
 
 pub requested : (w : World) (s : ℕ) (l : Link) → scratch w s ≡ Ok l → s < length w.places
@@ -44,7 +45,8 @@ module _ (f : ℕ → Option Link) where
   rising a zero = λ i j d lt le. absurd (omega arith)
   rising a (suc n) = by_first (f a) (rising (a + 1) n)
     where
-      by_first : (o : Option Link) → AllPairs (λ r q. r.0 < q.0) (rows (a + 1) n) → AllPairs (λ r q. r.0 < q.0) (cons_option (option_map (λ l. (a, l)) o) (rows (a + 1) n))
+      by_first : (o : Option Link) → AllPairs (λ r q. r.0 < q.0) (rows (a + 1) n)
+          → AllPairs (λ r q. r.0 < q.0) (cons_option (option_map (λ l. (a, l)) o) (rows (a + 1) n))
       by_first None rest = rest
       by_first (Some l) rest =
           AllPairs-cons (λ (r q : ℕ × Link). r.0 < q.0) (a, l) (rows (a + 1) n)
@@ -81,7 +83,8 @@ module _ (f : ℕ → Option Link) where
       later (Some m) c = (suc c.0, let lt = c.1 in omega arith, c.2)
 
   among : (a n s : ℕ) (l : Link) → Contains (rows a n) (s, l) → f s ≡ Some l
-  among a n s l c = subst (λ (r : ℕ × Link). f r.0 ≡ Some r.1) c.2 (All-from_recursion (λ (r : ℕ × Link). f r.0 ≡ Some r.1) (rows a n) (right a n) c.0 (s, l) c.1)
+  among a n s l c = subst (λ (r : ℕ × Link). f r.0 ≡ Some r.1) c.2 (All-from_recursion (λ (r : ℕ × Link). f r.0 ≡ Some r.1) (rows a n) (right a n) c.0
+      (s, l) c.1)
 
 pub links_rise : (h : List Event) → AllPairs (λ r q. r.0 < q.0) (installed_links h)
 links_rise h = rising (installed h) 0 (length (world_after h).places)

@@ -4,8 +4,8 @@ use Rattle.std.proofs.Common.{refl, ap, sym, subst, arith, inl, inr, append_asso
 use Rattle.std.proofs.lemmas.List.{take-append-le, append-nil}
 use Rattle.std.proofs.lemmas.Option.{slice_get_within}
 use Rattle.std.proofs.Math.Seq.{take-append_seam}
-use Rattle.jl_types.specs.Event.{Event}
-use Rattle.jl_types.specs.Entries.{Entry, IsEntry, IsLegal, events_of}
+use Rattle.jl_types.specs.Happenings.Event.{Event}
+use Rattle.jl_types.specs.Happenings.Entries.{Entry, IsEntry, IsLegal, events_of}
 
 pub legal_none : (max_sites : ℕ) → IsLegal max_sites []
 legal_none max_sites = record { each = λ n entry at. absurd (cc at) }
@@ -65,7 +65,8 @@ module _ (max_sites : ℕ) (P : List Entry → Type 0)
   on_from [] done legal so = subst P (sym (append-nil done)) so
   on_from (entry ∷ rest) done legal so =
       let next : IsEntry max_sites (events_of done) entry =
-      subst (λ (es : List Entry). IsEntry max_sites (events_of es) entry) (take-append_seam done (entry ∷ rest)) (legal.each (length done) entry (at_seam done rest entry)) in
+      subst (λ (es : List Entry). IsEntry max_sites (events_of es) entry) (take-append_seam done (entry ∷ rest))
+      (legal.each (length done) entry (at_seam done rest entry)) in
       let all : (done ++ entry ∷ []) ++ rest ≡ done ++ entry ∷ rest = append_assoc done (entry ∷ []) rest in
       subst P all (on_from rest (done ++ entry ∷ []) (subst (λ (es : List Entry). IsLegal max_sites es) (sym all) legal) (more done entry next so))
 

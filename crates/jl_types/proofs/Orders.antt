@@ -7,15 +7,15 @@ use Rattle.std.proofs.Common.{refl, ap, sym, subst, ◌∙◌, arith, inl, inr, 
 use Rattle.std.proofs.lemmas.List.Elements.{All-from_recursion, recursion_from_All}
 use Rattle.std.proofs.lemmas.Option.{same_Some}
 use Rattle.std.specs.Str.{bytes_eq}
-use Rattle.jl_classfile.specs.Class.{ClassFile}
-use Rattle.jl_types.specs.Event.{Event}
+use Rattle.jl_class.specs.Class.{ClassFile}
+use Rattle.jl_types.specs.Happenings.Event.{Event}
 use Rattle.jl_types.specs.declared.event.EventOf.TheVariants as event
-use Rattle.jl_types.specs.World.{Class, Classes, World, nothing_yet}
-use Rattle.jl_types.specs.Members.{recorded, lookup}
-use Rattle.jl_types.specs.Ancestry.{parents, AreOrdered}
-use Rattle.jl_types.specs.Definitions.{class_made, with_record, defined, delegated}
-use Rattle.jl_types.specs.Events.{step}
-use Rattle.jl_types.specs.History.{world_after}
+use Rattle.jl_types.specs.Values.World.{Class, Classes, World, nothing_yet}
+use Rattle.jl_types.specs.Values.Members.{recorded, lookup}
+use Rattle.jl_types.specs.Values.Ancestry.{parents, AreOrdered}
+use Rattle.jl_types.specs.Happenings.Definitions.{class_made, with_record, defined, delegated}
+use Rattle.jl_types.specs.Happenings.Events.{step}
+use Rattle.jl_types.specs.Happenings.History.{world_after}
 use Rattle.jl_types.proofs.Lists.{before_end, at_end, all_at, all_set}
 
 -- the records name classes that are there
@@ -33,7 +33,8 @@ found_below : (n : ℕ) (name : List ℕ) (records : List (List ℕ × ℕ)) →
 found_below n name [] h c e = cc
 found_below n name (r ∷ records) h c e = by_test (bytes_eq r.0 name) (found_below n name records h.1 c) e
   where
-    by_test : (b : Bool) → (recorded name records ≡ Some c → c < n) → option_map (λ r. r.1) (cond b (Some r) (find (λ r. bytes_eq r.0 name) records)) ≡ Some c → c < n
+    by_test : (b : Bool) → (recorded name records ≡ Some c → c < n) → option_map (λ r. r.1) (cond b (Some r) (find (λ r. bytes_eq r.0 name) records)) ≡ Some c
+        → c < n
     by_test true rest e = subst (λ k. k < n) (same_Some r.1 c e) h.0
     by_test false rest e = rest e
 
@@ -66,7 +67,8 @@ module _ (cs : Classes) (good : IsGood cs) (loader : ℕ) where
       by_first (Some c) h rest = (h c refl, rest)
 
   parents_below : (file : ClassFile) → AllByRecursion (λ p. p < length cs.rows) (parents (class_made cs loader file))
-  parents_below file = one_below (option_and_then (lookup cs loader) file.superclass) (by_name file.superclass) (filter_map (lookup cs loader) file.interfaces) (all_below file.interfaces)
+  parents_below file = one_below (option_and_then (lookup cs loader) file.superclass) (by_name file.superclass) (filter_map (lookup cs loader) file.interfaces)
+      (all_below file.interfaces)
 
 -- ---- one class more, one record more
 
@@ -108,20 +110,23 @@ module _ (cs : Classes) (good : IsGood cs) (loader : ℕ) (file : ClassFile) whe
       same_Some (class_made cs loader file) row
       (sym (at_end cs.rows (class_made cs loader file)) ∙ ap (slice_get (cs.rows ++ class_made cs loader file ∷ [])) (sym same) ∙ e)
       in
-      subst (λ k. AllByRecursion (λ p. p < k) (parents row)) (sym same) (subst (λ r. AllByRecursion (λ p. p < length cs.rows) (parents r)) made (parents_below cs good loader file))
+      subst (λ k. AllByRecursion (λ p. p < k) (parents row)) (sym same)
+      (subst (λ r. AllByRecursion (λ p. p < length cs.rows) (parents r)) made (parents_below cs good loader file))
 
   pub defined_good : IsGood (defined cs loader file)
   defined_good = record {
     there = subst (λ n. AllByRecursion (AreBelow n) (with_record cs.loaders loader file.name (length cs.rows)))
         (sym (length-append cs.rows (class_made cs loader file ∷ [])))
         (recorded_below (length cs.rows + 1) cs.loaders loader file.name (length cs.rows) (all_wider (length cs.rows) cs.loaders good.there) (omega arith));
-    ordered = λ c row e. All-from_recursion (λ p. p < c) (parents row) (in_order c row e (eq-or-lt_of_le (none_behind cs.rows (class_made cs loader file) row c e)));
+    ordered = λ c row e. All-from_recursion (λ p. p < c) (parents row)
+        (in_order c row e (eq-or-lt_of_le (none_behind cs.rows (class_made cs loader file) row c e)));
   }
 
 delegated_good : (cs : Classes) (good : IsGood cs) (loader : ℕ) (name : List ℕ) (to : ℕ) → IsGood (delegated cs loader name to)
 delegated_good cs good loader name to = record { there = by_class (lookup cs to name) refl; ordered = good.ordered }
   where
-    by_class : (o : Option ℕ) → lookup cs to name ≡ o → AllByRecursion (AreBelow (length cs.rows)) (option_map_or (with_record cs.loaders loader name) o cs.loaders)
+    by_class : (o : Option ℕ) → lookup cs to name ≡ o → AllByRecursion (AreBelow (length cs.rows))
+        (option_map_or (with_record cs.loaders loader name) o cs.loaders)
     by_class None e = good.there
     by_class (Some c) e = recorded_below (length cs.rows) cs.loaders loader name c good.there (looked_up cs good to name c e)
 

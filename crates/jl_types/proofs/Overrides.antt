@@ -4,12 +4,13 @@ use Rattle.std.specs.List.{list_any, range_with_len}
 use Rattle.std.specs.Option.{option_map_or}
 use Rattle.std.proofs.Common.{refl, sym, ◌∙◌, arith, inl, inr}
 use Rattle.std.proofs.lemmas.Bool.{or_right, or_left, or_cases, and_parts, and_from}
-use Rattle.jl_classfile.specs.Class.{Method}
+use Rattle.jl_class.specs.Class.{Method}
 use Rattle.jl_types.specs.declared.ids.MethodId.{MethodId}
-use Rattle.jl_types.specs.World.{Classes}
-use Rattle.jl_types.specs.Members.{methods_of, method_at, method_test, is_called, is_package_private}
-use Rattle.jl_types.specs.Ancestry.{superclasses, is_subclass, is_proper_subclass, AreOrdered}
-use Rattle.jl_types.specs.Overriding.{are_alike, is_visible, CanOverride, directly, through, classes_between, methods_in, can_override_within, can_override}
+use Rattle.jl_types.specs.Values.World.{Classes}
+use Rattle.jl_types.specs.Values.Members.{methods_of, method_at, method_test, is_called, is_package_private}
+use Rattle.jl_types.specs.Values.Ancestry.{superclasses, is_subclass, is_proper_subclass, AreOrdered}
+use Rattle.jl_types.specs.Linkage.Overriding.{are_alike, is_visible, CanOverride, directly, through, classes_between, methods_in, can_override_within}
+use Rattle.jl_types.specs.Linkage.Overriding.{can_override}
 use Rattle.jl_types.proofs.Bools.{Passing, any-filter, any-filter-at, any-map, any-range-to, any-range-from}
 use Rattle.jl_types.proofs.Ancestors.{subclass_above}
 use Rattle.jl_types.proofs.Lists.{passes_within}
@@ -26,7 +27,8 @@ module _ (cs : Classes) where
 
   by_method : (n : ℕ) (c a : MethodId) → ((c a : MethodId) → can_override_within n cs c a ≡ true → CanOverride cs c a) → are_alike cs c a ≡ true
       → is_package_private cs a ≡ true → (k i : ℕ) → between c a k ≡ true
-      → (can_override_within n cs c (record { class = k; index = i }) && can_override_within n cs (record { class = k; index = i }) a) ≡ true → CanOverride cs c a
+      → (can_override_within n cs c (record { class = k; index = i }) && can_override_within n cs (record { class = k; index = i }) a) ≡ true
+      → CanOverride cs c a
   by_method n c a ih alike flagless k i bt h =
       let b : MethodId = record { class = k; index = i } in
       let places = and_parts (is_proper_subclass cs c.class k) (is_proper_subclass cs k a.class) bt in
@@ -36,7 +38,8 @@ module _ (cs : Classes) where
   by_between : (n : ℕ) (c a : MethodId) → ((c a : MethodId) → can_override_within n cs c a ≡ true → CanOverride cs c a) → are_alike cs c a ≡ true
       → is_package_private cs a ≡ true → Passing (between c a) (by_class n c a) → CanOverride cs c a
   by_between n c a ih alike flagless r =
-      let passes = λ (i : ℕ). can_override_within n cs c (record { class = r.item; index = i }) && can_override_within n cs (record { class = r.item; index = i }) a in
+      let passes = λ (i : ℕ). can_override_within n cs c (record { class = r.item; index = i })
+      && can_override_within n cs (record { class = r.item; index = i }) a in
       let some =
       any-range-to passes 0 (length (methods_of cs r.item))
       (sym
@@ -49,7 +52,8 @@ module _ (cs : Classes) where
   sound : (n : ℕ) (c a : MethodId) → can_override_within n cs c a ≡ true → CanOverride cs c a
   sound zero c a h = cc
   sound (suc n) c a h =
-      let alike = and_parts (are_alike cs c a) (is_visible cs c a || (is_package_private cs a && list_any (by_class n c a) (classes_between cs c.class a.class))) h in
+      let alike = and_parts (are_alike cs c a) (is_visible cs c a || (is_package_private cs a
+      && list_any (by_class n c a) (classes_between cs c.class a.class))) h in
       elim (or_cases (is_visible cs c a) (is_package_private cs a && list_any (by_class n c a) (classes_between cs c.class a.class)) alike.1) [
         | inl visible ↦ directly alike.0 visible
         | inr more ↦ (
@@ -80,7 +84,8 @@ module _ (cs : Classes) where
         → is_proper_subclass cs b.class a.class ≡ true → can_override_within n cs c b ≡ true → can_override_within n cs b a ≡ true
         → list_any (by_class n c a) (classes_between cs c.class a.class) ≡ true
     by_way n c a b alike below above r s =
-        let passes = λ (i : ℕ). can_override_within n cs c (record { class = b.class; index = i }) && can_override_within n cs (record { class = b.class; index = i }) a in
+        let passes = λ (i : ℕ). can_override_within n cs c (record { class = b.class; index = i })
+        && can_override_within n cs (record { class = b.class; index = i }) a in
         let some =
         any-range-from passes 0 (length (methods_of cs b.class)) b.index (omega arith) (let lt = is_there c b alike in omega arith)
         (and_from (can_override_within n cs c b) (can_override_within n cs b a) r s)
@@ -88,7 +93,8 @@ module _ (cs : Classes) where
         any-filter-at (between c a) (by_class n c a) b.class (superclasses cs c.class)
         (and_parts _ (is_subclass cs c.class b.class) below).1
         (and_from (is_proper_subclass cs c.class b.class) (is_proper_subclass cs b.class a.class) below above)
-        (any-map (λ b. can_override_within n cs c b && can_override_within n cs b a) (λ i. record { class = b.class; index = i }) (range_with_len 0 (length (methods_of cs b.class))) ∙ some)
+        (any-map (λ b. can_override_within n cs c b && can_override_within n cs b a) (λ i. record { class = b.class; index = i })
+        (range_with_len 0 (length (methods_of cs b.class))) ∙ some)
 
     complete : (n : ℕ) {c a : MethodId} → c.class < n + a.class → 1 ≤ n → CanOverride cs c a → can_override_within n cs c a ≡ true
     complete zero h k r = absurd (omega arith)
@@ -99,7 +105,8 @@ module _ (cs : Classes) where
         let upper = subclass_above cs o b.class a.class above in
         let first = complete n {c = c} {a = b} (omega arith) (omega arith) r in
         let second = complete n {c = b} {a = a} (omega arith) (omega arith) s in
-        and_from (are_alike cs c a) _ alike (or_right (is_visible cs c a) _ (and_from (is_package_private cs a) _ flagless (by_way n c a b (alike_of r) below above first second)))
+        and_from (are_alike cs c a) _ alike (or_right (is_visible cs c a) _
+        (and_from (is_package_private cs a) _ flagless (by_way n c a b (alike_of r) below above first second)))
 
 pub can_override_decides : (cs : Classes) → AreOrdered cs.rows → (c a : MethodId) → Decides (can_override cs c a) (CanOverride cs c a)
 can_override_decides cs o c a = (sound cs (c.class + 1) c a, λ r. complete cs o (c.class + 1) {c = c} {a = a} (omega arith) (omega arith) r)

@@ -1,5 +1,6 @@
 -- How many places are requested: an event takes none back, and a legal list keeps to the limit.
-use Rattle.std.specs.Prelude.{◌≡◌, ℕ, ◌<◌, ◌≤◌, nat_le, Bool, true, false, List, [], ◌∷◌, ◌++◌, length, position, get_or, Option, Some, None, Result, Ok, Err, if◌then◌else◌}
+use Rattle.std.specs.Prelude.{◌≡◌, ℕ, ◌<◌, ◌≤◌, nat_le, Bool, true, false, List, [], ◌∷◌, ◌++◌, length, position, get_or, Option, Some, None, Result}
+use Rattle.std.specs.Prelude.{Ok, Err, if◌then◌else◌}
 use Rattle.std.specs.Bool.{then_some}
 use Rattle.std.specs.List.{list_any}
 use Rattle.std.proofs.Common.{refl, ap, sym, ◌∙◌, subst, arith, length-append}
@@ -8,21 +9,21 @@ use Rattle.std.proofs.lemmas.List.Sums.{fold-append}
 use Rattle.std.proofs.lemmas.List.Quantifiers.{position-Some}
 use Rattle.std.proofs.lemmas.Option.{slice_get-get_or}
 use Rattle.std.proofs.lemmas.Map.Keys.{any_passes_from_place}
-use Rattle.jl_code.specs.Site.{Site}
+use Rattle.jl_class.specs.Site.{Site}
 use Rattle.jl_types.specs.declared.ids.Place.{Place}
-use Rattle.jl_types.specs.Event.{Event}
+use Rattle.jl_types.specs.Happenings.Event.{Event}
 use Rattle.jl_types.specs.declared.event.EventOf.TheVariants as event
 use Rattle.jl_types.specs.declared.event.Made.{Made}
 use Rattle.jl_types.specs.declared.event.Reply.{Reply}
 use Rattle.jl_types.specs.declared.event.Made.TheVariants as made
 use Rattle.jl_types.specs.declared.refusal.Refusal.{Refusal}
 use Rattle.jl_types.specs.declared.refusal.Refusal.TheVariants as refusal
-use Rattle.jl_types.specs.World.{World, nothing_yet}
-use Rattle.jl_types.specs.Events.{verdict, step, unless, same_place, request_place, if_invoked, new_place_fault, names_array, is_polymorphic}
-use Rattle.jl_types.specs.Members.{is_present}
-use Rattle.jl_types.specs.Sites.{invocation_at}
-use Rattle.jl_types.specs.History.{world_after, replied, dropped}
-use Rattle.jl_types.specs.Entries.{Entry, IsEntry, IsLegal, events_of}
+use Rattle.jl_types.specs.Values.World.{World, nothing_yet}
+use Rattle.jl_types.specs.Happenings.Events.{verdict, step, unless, same_place, request_place, if_invoked, new_place_fault, names_array, is_polymorphic}
+use Rattle.jl_types.specs.Values.Members.{is_present}
+use Rattle.jl_types.specs.Linkage.Stages.{invocation_at}
+use Rattle.jl_types.specs.Happenings.History.{world_after, replied, dropped}
+use Rattle.jl_types.specs.Happenings.Entries.{Entry, IsEntry, IsLegal, events_of}
 use Rattle.jl_types.proofs.Firsts.{first_none, test_none}
 use Rattle.jl_types.proofs.Legal.{by_entries, events_more}
 
@@ -117,9 +118,11 @@ abbrev IsWithin : ℕ → List Entry → Type 0
 IsWithin max_sites entries = length (world_after (events_of entries)).places ≤ max_sites
 
 module _ (max_sites : ℕ) where
-  limit_more : (done : List Entry) (entry : Entry) → IsEntry max_sites (events_of done) entry → IsWithin max_sites done → IsWithin max_sites (done ++ entry ∷ [])
+  limit_more : (done : List Entry) (entry : Entry) → IsEntry max_sites (events_of done) entry → IsWithin max_sites done
+      → IsWithin max_sites (done ++ entry ∷ [])
   limit_more done entry next le =
-      let accepted = accepted_of (dropped (events_of done) entry.event) (verdict max_sites (world_after (events_of done)) entry.event) entry.reply next.answered in
+      let accepted = accepted_of (dropped (events_of done) entry.event) (verdict max_sites (world_after (events_of done)) entry.event) entry.reply next.answered
+      in
       let world : world_after (events_of (done ++ entry ∷ [])) ≡ step (world_after (events_of done)) entry.event =
       ap world_after (events_more done entry) ∙ world_more (events_of done) entry.event in
       subst (λ (w : World). length w.places ≤ max_sites) (sym world)

@@ -1,5 +1,6 @@
 -- What a retirement leaves as it is, and what it takes.
-use Rattle.std.specs.Prelude.{◌≡◌, ℕ, zero, suc, ◌+◌, ◌<◌, ◌≤◌, ◌==◌, Bool, true, false, cond, not, ◌&&◌, ◌||◌, List, [], ◌∷◌, ◌++◌, find, filter, length, slice_get, slice_set}
+use Rattle.std.specs.Prelude.{◌≡◌, ℕ, zero, suc, ◌+◌, ◌<◌, ◌≤◌, ◌==◌, Bool, true, false, cond, not, ◌&&◌, ◌||◌, List, [], ◌∷◌, ◌++◌, find, filter}
+use Rattle.std.specs.Prelude.{length, slice_get, slice_set}
 use Rattle.std.specs.Prelude.{Option, Some, None, option_map, option_and_then, Err, if◌then◌else◌}
 use Rattle.std.specs.Option.{option_map_or}
 use Rattle.std.specs.List.{list_any, range_with_len}
@@ -14,14 +15,14 @@ use Rattle.jl_types.specs.declared.event.EventOf.TheVariants as event
 use Rattle.jl_types.specs.declared.ids.Place.{Place}
 use Rattle.jl_types.specs.declared.refusal.RetireFault.{RetireFault}
 use Rattle.jl_types.specs.declared.refusal.RetireFault.TheVariants as fault
-use Rattle.jl_types.specs.World.{Class, Classes, World}
-use Rattle.jl_types.specs.Members.{class_test, is_retired, is_present, is_concrete, is_concrete_row, recorded, lookup, numbers}
-use Rattle.jl_types.specs.Ancestry.{is_ancestor, receivers}
-use Rattle.jl_types.specs.Definitions.{is_unknown}
-use Rattle.jl_types.specs.Retirement.{is_of, inherits_from, records_from, classes_fault, retired, retires_site}
-use Rattle.jl_types.specs.Sites.{Waits, stage_of, stage_at, invocation_at}
-use Rattle.jl_types.specs.Links.{link_of, scratch}
-use Rattle.jl_types.specs.Events.{step}
+use Rattle.jl_types.specs.Values.World.{Class, Classes, World}
+use Rattle.jl_types.specs.Values.Members.{class_test, is_retired, is_present, is_concrete, is_concrete_row, recorded, lookup, numbers}
+use Rattle.jl_types.specs.Values.Ancestry.{is_ancestor, receivers}
+use Rattle.jl_types.specs.Happenings.Definitions.{is_unknown}
+use Rattle.jl_types.specs.Happenings.Retirement.{is_of, inherits_from, records_from, classes_fault, retired, retires_site}
+use Rattle.jl_types.specs.Linkage.Stages.{Waits, stage_of, stage_at, invocation_at}
+use Rattle.jl_types.specs.Linkage.Links.{link_of, scratch}
+use Rattle.jl_types.specs.Happenings.Events.{step}
 use Rattle.jl_types.proofs.Bools.{any-range-from}
 use Rattle.jl_types.proofs.Firsts.{first_none, test_none}
 
@@ -49,7 +50,8 @@ module _ (cs : Classes) (loader : ℕ) where
           ≡ (option_map_or (λ row. not (is_retired cs row.loader)) o false && not (option_map_or (λ row. row.loader == loader) o false))
       by_row None = refl
       by_row (Some row) =
-          ap not (retired_after row.loader) ∙ by_tests (is_retired cs row.loader) (row.loader == loader) (loader == row.loader) (nat_eq_equiv.symm row.loader loader)
+          ap not (retired_after row.loader) ∙ by_tests (is_retired cs row.loader) (row.loader == loader) (loader == row.loader)
+          (nat_eq_equiv.symm row.loader loader)
 
   concrete_after : (c : ℕ) → is_concrete new c ≡ (is_concrete cs c && not (is_of cs loader c))
   concrete_after c =
@@ -79,7 +81,8 @@ module _ (cs : Classes) (loader : ℕ) where
   pub receivers_left : (c : ℕ) → receivers new c ≡ filter (λ x. not (is_of cs loader x)) (receivers cs c)
   receivers_left c =
       filter_twice (λ x. is_concrete cs x && is_ancestor cs c x) (λ x. not (is_of cs loader x)) (λ x. is_concrete new x && is_ancestor new c x)
-      (λ x. ap (λ (b : Bool). b && is_ancestor cs c x) (concrete_after x) ∙ turned (is_concrete cs x) (not (is_of cs loader x)) (is_ancestor cs c x)) (numbers cs)
+      (λ x. ap (λ (b : Bool). b && is_ancestor cs c x) (concrete_after x) ∙ turned (is_concrete cs x) (not (is_of cs loader x)) (is_ancestor cs c x))
+      (numbers cs)
     where
       turned : (a b d : Bool) → ((a && b) && d) ≡ ((a && d) && b)
       turned true true true = refl
@@ -142,8 +145,10 @@ is_free cs loader none =
     record {
       known = test_none (is_unknown cs loader) fault.UnknownLoader unknown.0;
       other = test_none (loader == 0) fault.FirstLoader first.0;
-      heirs = λ x lt. at (inherits_from cs loader) (length cs.rows) (none_found (inherits_from cs loader) (numbers cs) (no_fault fault.Inherited _ heir.0)) x lt;
-      records = λ k lt. at (records_from cs loader) (length cs.loaders) (none_found (records_from cs loader) (range_with_len 0 (length cs.loaders)) (no_fault fault.Recorded _ recorder.0)) k lt;
+      heirs = λ x lt. at (inherits_from cs loader) (length cs.rows) (none_found (inherits_from cs loader) (numbers cs) (no_fault fault.Inherited _ heir.0)) x
+          lt;
+      records = λ k lt. at (records_from cs loader) (length cs.loaders)
+          (none_found (records_from cs loader) (range_with_len 0 (length cs.loaders)) (no_fault fault.Recorded _ recorder.0)) k lt;
     }
   where
     at : (p : ℕ → Bool) (n : ℕ) → list_any p (range_with_len 0 n) ≡ false → (x : ℕ) → x < n → p x ≡ false
@@ -178,4 +183,5 @@ module _ (w : World) (loader s : ℕ) where
       by_place None at is = cc
       by_place (Some place) at is =
           ap (λ (o : Option Place). link_of after.classes (stage_at after s o)) at
-          ∙ ap (λ (b : Bool). link_of after.classes (if b then stage_of after s place.class (invocation_at after.classes place) else Waits Gone)) (absent place is)
+          ∙ ap (λ (b : Bool). link_of after.classes (if b then stage_of after s place.class (invocation_at after.classes place) else Waits Gone))
+          (absent place is)

@@ -6,10 +6,10 @@ use Rattle.std.proofs.lemmas.Bool.{cases_lt}
 use Rattle.std.proofs.lemmas.List.{take-append-le}
 use Rattle.std.proofs.Math.Seq.{take-append-add}
 use Rattle.jl_types.specs.declared.link.Link.{Link}
-use Rattle.jl_types.specs.Event.{Event}
-use Rattle.jl_types.specs.Links.{scratch}
+use Rattle.jl_types.specs.Happenings.Event.{Event}
+use Rattle.jl_types.specs.Linkage.Links.{scratch}
 use Rattle.jl_types.proofs.Lists.{before_end, at_end}
-use Rattle.jl_types.specs.History.{Settled, installs, installed_at, scratch_after, world_after}
+use Rattle.jl_types.specs.Happenings.History.{Settled, installs, installed_at, scratch_after, world_after}
 
 -- where an event installs, there is one
 pub within : (h : List Event) (s k : ℕ) → installed_at h k s ≡ true → k < length h
@@ -63,5 +63,7 @@ module _ (h : List Event) (e : Event) (s : ℕ) (l : Link) where
   pub only_so : Settled (h ++ e ∷ []) s l → (scratch (world_after (h ++ e ∷ [])) s ≡ Ok l) × ((installs s e ≡ true) ⊎ Settled h s l)
   only_so new =
       let last = within (h ++ e ∷ []) s new.since new.installed in
-      let long = length-append h (e ∷ []) in
-      (sym (newest (length h + 1) (omega arith) (omega arith)) ∙ new.stayed (length h + 1) (omega arith) (omega arith), split new (cases_lt new.since (length h)))
+      let long = length-append h (e ∷ []) in (
+        sym (newest (length h + 1) (omega arith) (omega arith)) ∙ new.stayed (length h + 1) (omega arith) (omega arith),
+        split new (cases_lt new.since (length h)),
+      )

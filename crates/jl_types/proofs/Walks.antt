@@ -9,12 +9,13 @@ use Rattle.std.proofs.lemmas.Slice.Eq.{bytes_eq-Decides}
 use Rattle.std.proofs.lemmas.Bool.{or_right, or_left, or_cases, and_parts, and_from, both_ways, not-true}
 use Rattle.std.proofs.lemmas.Option.{same_Some}
 use Rattle.jl_names.specs.ClassNames.{package_of}
-use Rattle.jl_classfile.specs.Class.{Method}
+use Rattle.jl_class.specs.Class.{Method}
 use Rattle.jl_types.specs.declared.ids.MethodId.{MethodId}
-use Rattle.jl_types.specs.World.{Class, Classes}
-use Rattle.jl_types.specs.Members.{method_at, method_test, is_called, is_public, is_private, is_protected, is_static, is_package_private, share_package, same_package}
-use Rattle.jl_types.specs.Ancestry.{superclasses, is_subclass, is_proper_subclass, AreOrdered}
-use Rattle.jl_types.specs.Overriding.{are_alike, is_visible, CanOverride, directly, through, IsBridged}
+use Rattle.jl_types.specs.Values.World.{Class, Classes}
+use Rattle.jl_types.specs.Values.Members.{method_at, method_test, is_called, is_public, is_private, is_protected, is_static, is_package_private}
+use Rattle.jl_types.specs.Values.Members.{share_package, same_package}
+use Rattle.jl_types.specs.Values.Ancestry.{superclasses, is_subclass, is_proper_subclass, AreOrdered}
+use Rattle.jl_types.specs.Linkage.Overriding.{are_alike, is_visible, CanOverride, directly, through, IsBridged}
 use Rattle.jl_types.proofs.Ancestors.{superclass_below, superclasses_is, subclass_above}
 use Rattle.jl_types.proofs.Overrides.{alike_of}
 
@@ -88,12 +89,20 @@ module _ (cs : Classes) where
       by_methods (Some m) None e f h = cc
       by_methods (Some m) (Some n) e f h =
           let both = and_parts (bytes_eq n.name m.name) (bytes_eq n.ty m.ty) h in
-          record { first = m; second = n; first_is = e; second_is = f; name = (bytes_eq-Decides n.name m.name).0 both.0; ty = (bytes_eq-Decides n.ty m.ty).0 both.1 }
+          record {
+            first = m;
+            second = n;
+            first_is = e;
+            second_is = f;
+            name = (bytes_eq-Decides n.name m.name).0 both.0;
+            ty = (bytes_eq-Decides n.ty m.ty).0 both.1;
+          }
 
   names : (c a : MethodId) → HaveOneName cs c a → method_test (λ m. method_test (is_called m.name m.ty) cs a) cs c ≡ true
   names c a h =
       (λ i. option_map_or (λ m. option_map_or (is_called m.name m.ty) (h.second_is i) false) (h.first_is i) false)
-      ∙ and_from (bytes_eq h.second.name h.first.name) (bytes_eq h.second.ty h.first.ty) ((bytes_eq-Decides h.second.name h.first.name).1 h.name) ((bytes_eq-Decides h.second.ty h.first.ty).1 h.ty)
+      ∙ and_from (bytes_eq h.second.name h.first.name) (bytes_eq h.second.ty h.first.ty) ((bytes_eq-Decides h.second.name h.first.name).1 h.name)
+      ((bytes_eq-Decides h.second.ty h.first.ty).1 h.ty)
 
   -- c and b both like a
   alike_both : (c b a : MethodId) → are_alike cs c a ≡ true → are_alike cs b a ≡ true → are_alike cs c b ≡ true
@@ -172,7 +181,8 @@ module _ (cs : Classes) (o : AreOrdered cs.rows) where
             | inl is ↦ ap (λ w. is_subclass cs w z) ((Decides-eqb x y).0 is) ∙ k
             | inr more ↦ (
                 ap (list_any (λ c. c == z)) chain
-                ∙ or_right (x == z) (list_any (λ c. c == z) (option_map_or (superclasses cs) row.superclass [])) (by_superclass row e ih row.superclass refl more))
+                ∙ or_right (x == z) (list_any (λ c. c == z) (option_map_or (superclasses cs) row.superclass []))
+                (by_superclass row e ih row.superclass refl more))
           ]
 
   pub proper_onward : (x y z : ℕ) → is_proper_subclass cs x y ≡ true → is_proper_subclass cs y z ≡ true → is_proper_subclass cs x z ≡ true
@@ -249,7 +259,8 @@ module _ (cs : Classes) (o : AreOrdered cs.rows) where
         let q = package_of_visible c b (flagless_of b a upper e) f in
         absurd (both_ways (is_visible cs c a) hidden (seen_package c a flagless (package_onward cs a.class b.class c.class p q)))
 
-    bridge : (is_visible cs c b ≡ false → IsBridged cs c b) → (is_visible cs b a ≡ false → IsBridged cs b a) → (v : Bool) → is_visible cs b a ≡ v → IsBridged cs c a
+    bridge : (is_visible cs c b ≡ false → IsBridged cs c b) → (is_visible cs b a ≡ false → IsBridged cs b a) → (v : Bool) → is_visible cs b a ≡ v
+        → IsBridged cs c a
     bridge lowest highest false e = from_upper (highest e)
     bridge lowest highest true e =
         in_package (package_of_visible b a flagless e) lowest (is_public cs b || is_protected cs b) refl (is_visible cs c b) refl
@@ -273,5 +284,6 @@ module _ (cs : Classes) (o : AreOrdered cs.rows) where
       seen_below (inl public) = or_left (is_public cs m.method) _ public
       seen_below (inr protected) = or_right (is_public cs m.method) _ (or_left (is_protected cs m.method) _ protected)
 
-  pub by_one_walk : (c a : MethodId) → are_alike cs c a ≡ true → is_visible cs c a ≡ false → CanOverride cs c a ↔ ((is_package_private cs a ≡ true) × IsBridged cs c a)
+  pub by_one_walk : (c a : MethodId) → are_alike cs c a ≡ true → is_visible cs c a ≡ false
+      → CanOverride cs c a ↔ ((is_package_private cs a ≡ true) × IsBridged cs c a)
   by_one_walk c a alike hidden = (λ r. (flagless_through r hidden, bridged r hidden), λ both. over_bridge c a alike both.0 both.1)

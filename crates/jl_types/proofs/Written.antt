@@ -1,5 +1,6 @@
 -- The slots of a legal list, written one after another, are what is installed after its events.
-use Rattle.std.specs.Prelude.{◌≡◌, ◌≢◌, ℕ, zero, suc, ◌+◌, ◌<◌, ◌≤◌, ◌⊎◌, Bool, true, false, List, [], ◌∷◌, ◌++◌, length, fold, replicate, filter_map, slice_get, set, get_or, Option, Some, None, option_map, if◌then◌else◌}
+use Rattle.std.specs.Prelude.{◌≡◌, ◌≢◌, ℕ, zero, suc, ◌+◌, ◌<◌, ◌≤◌, ◌⊎◌, Bool, true, false, List, [], ◌∷◌, ◌++◌, length, fold, replicate, filter_map}
+use Rattle.std.specs.Prelude.{slice_get, set, get_or, Option, Some, None, option_map, if◌then◌else◌}
 use Rattle.std.specs.List.{range_with_len, cons_option}
 use Rattle.std.specs.Option.{unwrap_or}
 use Rattle.std.proofs.Common.{refl, ap, sym, ◌∙◌, arith, inl, inr}
@@ -9,10 +10,10 @@ use Rattle.std.proofs.lemmas.List.Sums.{fold-append}
 use Rattle.std.proofs.lemmas.Grind.{get_or-set_at}
 use Rattle.std.proofs.lemmas.Option.{slice_get-get_or}
 use Rattle.jl_types.specs.declared.link.Link.{Link}
-use Rattle.jl_types.specs.Event.{Event}
+use Rattle.jl_types.specs.Happenings.Event.{Event}
 use Rattle.jl_types.specs.Means.SameLink.{link_decides}
-use Rattle.jl_types.specs.History.{world_after, installed}
-use Rattle.jl_types.specs.Entries.{Entry, IsEntry, IsLegal, events_of, same_slot, change, slots_changed, written, table_of}
+use Rattle.jl_types.specs.Happenings.History.{world_after, installed}
+use Rattle.jl_types.specs.Happenings.Entries.{Entry, IsEntry, IsLegal, events_of, same_slot, change, slots_changed, written, table_of}
 use Rattle.jl_types.proofs.InstalledLinks.{installed_requested}
 use Rattle.jl_types.proofs.Legal.{by_entries, events_more}
 use Rattle.jl_types.proofs.Places.{places_grow, legal_limit}
@@ -100,7 +101,8 @@ module _ (h : List Event) (e : Event) (s : ℕ) (table : List (Option Link)) (wi
       by_place : (s < length (world_after (h ++ e ∷ [])).places) ⊎ (length (world_after (h ++ e ∷ [])).places ≤ s)
           → get_or (written table (slots_changed h e)) s None ≡ installed (h ++ e ∷ []) s
       by_place (inl lt) =
-          inside (λ t. change (installed h t) (installed (h ++ e ∷ []) t)) s (length (world_after (h ++ e ∷ [])).places) 0 table (omega arith) (omega arith) wide
+          inside (λ t. change (installed h t) (installed (h ++ e ∷ []) t)) s (length (world_after (h ++ e ∷ [])).places) 0 table (omega arith)
+          (omega arith) wide
           ∙ ap (λ (o : Option Link). unwrap_or (change (installed h s) (installed (h ++ e ∷ []) s)) o) now
           ∙ changed (installed h s) (installed (h ++ e ∷ []) s)
       by_place (inr le) =
@@ -132,7 +134,8 @@ module _ (max_sites : ℕ) where
   shows_more done entry next shows s lt =
       let h = events_of done in
       let table = table_of max_sites done in
-      ap (λ (links : List (Option Link)). get_or links s None) (fold-append (λ (links : List (Option Link)) (p : Entry). written links p.slots) (replicate max_sites None) done (entry ∷ []))
+      ap (λ (links : List (Option Link)). get_or links s None) (fold-append (λ (links : List (Option Link)) (p : Entry). written links p.slots)
+      (replicate max_sites None) done (entry ∷ []))
       ∙ ap (λ (slots : List (ℕ × Option Link)). get_or (written table slots) s None) next.slots
       ∙ slots_written h entry.event s table (omega (arith, length_table max_sites done)) (shows s lt)
       ∙ sym (ap (λ (es : List Event). installed es s) (events_more done entry))

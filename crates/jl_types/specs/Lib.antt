@@ -1,24 +1,5 @@
 -- What a link is and what a call comes to, in reading order. `Means` has means of proof.
 pub mod Means
-pub mod Target
-pub mod World
-pub mod Members
-pub mod Ancestry
-pub mod Access
-pub mod Resolution
-pub mod Overriding
-pub mod Selection
-pub mod Targets
-pub mod Sites
-pub mod Links
-pub mod Calls
-pub mod Definitions
-pub mod Retirement
-pub mod Batches
-pub mod Event
-pub mod Events
-pub mod Preparation
-pub mod History
-pub mod Entries
-pub mod Footprints
-pub mod Fast
+pub mod Values
+pub mod Linkage
+pub mod Happenings

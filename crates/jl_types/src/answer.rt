@@ -111,7 +111,7 @@ pub enum Chosen {
 
 /// What a call with this outcome answers.
 impl From<Outcome> for Answer {
-    ghost use Rattle.jl_types.specs.Calls.{answered};
+    ghost use Rattle.jl_types.specs.Linkage.Calls.{answered};
 
     ghost from_gives = { λ outcome answer. answer ≡ answered outcome };
 

@@ -1,12 +1,11 @@
 //! A class as it is kept.
 
-ghost use Rattle.std.specs.Prelude.{◌≡◌, IfOk};
+ghost use Rattle.std.specs.Prelude.{◌≡◌};
 
 use crate::class_id::ClassId;
 use crate::loader_id::LoaderId;
-use jl_classfile::ClassFile;
+use jl_class::ClassFile;
 use jl_names::Seq;
-use std::alloc::{AllocError, Global};
 use std::marker::Model;
 
 /// A defined class or interface (JVMS SE 17 §5.3): its defining loader, what its file shows, and the classes that the
@@ -20,7 +19,7 @@ pub struct Class {
 }
 
 impl Model for Class {
-    ghost use Rattle.jl_types.specs.World.{Class};
+    ghost use Rattle.jl_types.specs.Values.World.{Class};
 
     ghost Value = { Class };
 
@@ -71,17 +70,5 @@ impl Class {
         ensures { result.now ≡ self.now.interfaces }
     {
         self.interfaces.as_slice()
-    }
-
-    /// The same class once more. Want of memory is an error.
-    pub fn copy(&self, alloc: Global) -> Result<Class, AllocError>
-        ensures { IfOk result (λ copy. copy ≡ self.now) }
-    {
-        Ok(Class {
-            loader: self.loader,
-            file: self.file.copy(alloc)?,
-            superclass: self.superclass,
-            interfaces: Seq::of(self.interfaces.as_slice().to_vec(alloc)?),
-        })
     }
 }

@@ -8,7 +8,7 @@ use crate::loader_id::LoaderId;
 use crate::site_no::SiteNo;
 use crate::switch_id::SwitchId;
 use crate::target::{CallSiteKind, Target};
-use jl_classfile::ClassFile;
+use jl_class::ClassFile;
 use jl_names::{Name, Seq};
 
 /// What changes the classes, sites and links, where a definition carries a `D` and an install an `I`.

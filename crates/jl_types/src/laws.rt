@@ -1,6 +1,7 @@
 //! The laws of the definitions: each is the contract of a function that does nothing.
 
-ghost use Rattle.std.specs.Prelude.{◌≡◌, ◌↔◌, ◌<◌, ◌≤◌, ◌++◌, ◌∷◌, [], ℕ, List, Some, None, Ok, Err, true, false, take, length, slice_get, find, filter, not, ◌==◌, ◌&&◌, Decides, AllPairs, Contains};
+ghost use Rattle.std.specs.Prelude.{◌≡◌, ◌↔◌, ◌<◌, ◌≤◌, ◌++◌, ◌∷◌, [], ℕ, List, Some, None, Ok, Err, true, false, take, length, slice_get, find};
+ghost use Rattle.std.specs.Prelude.{filter, not, ◌==◌, ◌&&◌, Decides, AllPairs, Contains};
 ghost use Rattle.std.specs.List.{list_any};
 ghost use Rattle.std.specs.Option.{option_map_or};
 ghost use Rattle.jl_types.specs.declared.ids.MethodId.{MethodId};
@@ -14,24 +15,24 @@ ghost use Rattle.jl_types.specs.declared.answer.Answer.TheVariants as answer;
 ghost use Rattle.jl_types.specs.declared.link.Link.{Link};
 ghost use Rattle.jl_types.specs.declared.link.Link.TheVariants as link;
 ghost use Rattle.jl_types.specs.declared.link.TableKind.{TableKind};
-ghost use Rattle.jl_types.specs.Event.{Event};
+ghost use Rattle.jl_types.specs.Happenings.Event.{Event};
 ghost use Rattle.jl_types.specs.declared.event.EventOf.TheVariants as event;
 ghost use Rattle.jl_types.specs.declared.event.Made.TheVariants as made;
 ghost use Rattle.jl_types.specs.declared.answer.Unlinked.TheVariants.{Gone};
-ghost use Rattle.jl_types.specs.Events.{Accepts, verdict, step};
-ghost use Rattle.jl_types.specs.World.{Class, Classes, World};
-ghost use Rattle.jl_types.specs.Members.{is_concrete, is_package_private, is_present, lookup};
-ghost use Rattle.jl_classfile.specs.Class.{ClassFile};
-ghost use Rattle.jl_types.specs.Definitions.{defined};
-ghost use Rattle.jl_types.specs.Retirement.{is_of, retired, retires_site};
-ghost use Rattle.jl_types.specs.Ancestry.{AreOrdered, IsAncestor, is_ancestor, ancestors, receivers, superclasses};
-ghost use Rattle.jl_types.specs.Overriding.{CanOverride, are_alike, can_override, is_visible, IsBridged};
-ghost use Rattle.jl_types.specs.Sites.{Invocation, Selects, stage};
-ghost use Rattle.jl_types.specs.Links.{scratch};
-ghost use Rattle.jl_types.specs.Calls.{answered, is_receiver, dispatch};
-ghost use Rattle.jl_types.specs.Fast.{entry_answer};
-ghost use Rattle.jl_types.specs.History.{world_after, scratch_after, installs, installed_at, Settled, installed, installed_links, kept};
-ghost use Rattle.jl_types.specs.Entries.{Entry, IsEntry, IsLegal, events_of, table_of, emptied, defines, classes_of};
+ghost use Rattle.jl_types.specs.Happenings.Events.{Accepts, verdict, step};
+ghost use Rattle.jl_types.specs.Values.World.{Class, Classes, World};
+ghost use Rattle.jl_types.specs.Values.Members.{is_concrete, is_package_private, is_present, lookup};
+ghost use Rattle.jl_class.specs.Class.{ClassFile};
+ghost use Rattle.jl_types.specs.Happenings.Definitions.{defined};
+ghost use Rattle.jl_types.specs.Happenings.Retirement.{is_of, retired, retires_site};
+ghost use Rattle.jl_types.specs.Values.Ancestry.{AreOrdered, IsAncestor, is_ancestor, ancestors, receivers, superclasses};
+ghost use Rattle.jl_types.specs.Linkage.Overriding.{CanOverride, are_alike, can_override, is_visible, IsBridged};
+ghost use Rattle.jl_types.specs.Linkage.Stages.{ResolvedCall, Selects, stage};
+ghost use Rattle.jl_types.specs.Linkage.Links.{scratch};
+ghost use Rattle.jl_types.specs.Linkage.Calls.{answered, is_receiver, dispatch};
+ghost use Rattle.jl_types.specs.Happenings.Fast.{entry_answer};
+ghost use Rattle.jl_types.specs.Happenings.History.{world_after, scratch_after, installs, installed_at, Settled, installed, installed_links, kept};
+ghost use Rattle.jl_types.specs.Happenings.Entries.{Entry, IsEntry, IsLegal, events_of, table_of, emptied, defines, classes_of};
 
 /// After any events, the parents of a class were defined before it.
 pub fn parents_come_first()
@@ -99,9 +100,9 @@ pub fn links_give_the_answers()
         → scratch w s ≡ Ok (link.Fault throwable) → dispatch w s recv ≡ answer.Throws throwable }
     ensures plain { (w : World) (s : ℕ) (m : MethodId) (recv : Recv)
         → scratch w s ≡ Ok (link.Plain m) → dispatch w s recv ≡ answer.Run m }
-    ensures null { (w : World) (s : ℕ) (i : Invocation)
+    ensures null { (w : World) (s : ℕ) (i : ResolvedCall)
         → stage w s ≡ Selects i → dispatch w s Null ≡ answer.Throws NullPointerException }
-    ensures direct { (w : World) (s x : ℕ) (i : Invocation) (outcome : Outcome)
+    ensures direct { (w : World) (s x : ℕ) (i : ResolvedCall) (outcome : Outcome)
         → stage w s ≡ Selects i → scratch w s ≡ Ok (link.Direct outcome)
         → is_receiver w.classes i x ≡ true → dispatch w s (Of x) ≡ answered outcome }
     ensures table { (w : World) (s x : ℕ) (kind : TableKind) (rows : List (ℕ × Outcome))

@@ -1,9 +1,9 @@
 //! The plain values that every crate of the linker speaks of: numbers, answers, links, targets, events and refusals.
 //!
-//! What a link is, and what a call comes to, stands in `specs/`, in reading order: `Target`, `World`, `Members`,
-//! `Ancestry`, `Access`, `Resolution`, `Overriding`, `Selection`, `Targets`, `Sites`, `Links`, `Calls`, `Definitions`,
-//! `Retirement`, `Batches`, `Event`, `Events`, `Preparation`, `History`, `Entries`, `Footprints`, `Fast`. The laws about them are the contracts
-//! of the functions of `laws`.
+//! What a link is, and what a call comes to, stands in `specs/`, in reading order: in `Values` what a world has (`Target`, `World`,
+//! `Members`, `Ancestry`); in `Linkage` what a site comes to there (`Access`, `Resolution`, `Overriding`, `Selection`, `Targets`,
+//! `Stages`, `Links`, `Calls`); in `Happenings` what changes it (`Definitions`, `Retirement`, `Batches`, `Event`, `Events`,
+//! `Preparation`, `History`, `Entries`, `Footprints`, `Fast`). The laws about them are the contracts of the functions of `laws`.
 #![tactic(auto)]
 
 // Numbers.

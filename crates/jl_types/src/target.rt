@@ -1,7 +1,7 @@
 //! What call sites run.
 
 ghost use Rattle.std.specs.Prelude.{◌≡◌};
-ghost use Rattle.jl_types.specs.Target as target;
+ghost use Rattle.jl_types.specs.Values.Target as target;
 
 use crate::call_site_id::CallSiteId;
 use crate::ids::MethodId;
@@ -37,7 +37,7 @@ pub enum Part {
 }
 
 impl Model for Target {
-    ghost use Rattle.jl_types.specs.Target.{Target, depth};
+    ghost use Rattle.jl_types.specs.Values.Target.{Target, depth};
     ghost use Rattle.jl_types.specs.Means.TargetCode.{target_code};
 
     ghost Value = { Target };

@@ -4,7 +4,7 @@ ghost use Rattle.std.specs.Prelude.{◌≡◌, ◌+◌, ◌^◌, ◌<◌};
 
 use std::marker::Model;
 
-/// How many selection walks, special searches and evaluations of call sites were made. A clause sees the count.
+/// How many selections, special searches and evaluations of call sites were made. A clause sees the count.
 #[derive(Debug, Drop)]
 pub struct Work {
     ticks: u64,

@@ -43,19 +43,24 @@ module _ {M : Type 1} {𝓤 : Ura M} (𝓛 : Logic 𝓤) where
 
 module _ {M : Type 1} {𝓤 : Ura M} {𝓛 : Logic 𝓤} {K : Type 0} {Γ : List (Item 𝓤)} {G : Goal 𝓤 𝓛.H} where
   pub lends : K → Soaks G → (R : RattleType) (ℓ : Lifetime) (x : R.Denot) (b o : ℕ)
-      → ((α δ : ℕ) → Seq K 𝓛 (‵ ((MutRef ℓ (α ∷ []) R).own_val (record { ref_ptr = (b, o); ghost_name = δ; now = x }) (vptr b o ∷ [])) ∷ ‵ (flent (α ∷ []) (Body (mem R) b o δ)) ∷ ‵ (flft (α ∷ []) full_share) ∷ Γ) G)
+      → ((α δ : ℕ) → Seq K 𝓛 (‵ ((MutRef ℓ (α ∷ []) R).own_val (record { ref_ptr = (b, o); ghost_name = δ; now = x }) (vptr b o ∷ []))
+      ∷ ‵ (flent (α ∷ []) (Body (mem R) b o δ)) ∷ ‵ (flft (α ∷ []) full_share) ∷ Γ) G)
       → Seq K 𝓛 (‵ (part_at R full_share x b o) ∷ Γ) G
   lends t z R ℓ x b o k = lft_new t z (λ α. move t (1 ∷ []) $
-      use1 𝓛 (later (some (λ (δ : ℕ). ‵ ((MutRef ℓ (α ∷ []) R).own_val (record { ref_ptr = (b, o); ghost_name = δ; now = x }) (vptr b o ∷ [])) ⊛ ‵ (flent (α ∷ []) (Body (mem R) b o δ)))))
+      use1 𝓛 (later (some (λ (δ : ℕ). ‵ ((MutRef ℓ (α ∷ []) R).own_val (record { ref_ptr = (b, o); ghost_name = δ; now = x }) (vptr b o ∷ [])) ⊛ ‵
+      (flent (α ∷ []) (Body (mem R) b o δ)))))
       (lends_ref 𝓛 R ℓ (α ∷ []) x b o) $ await t z $ pick t (λ δ. split t $ k α δ))
 
-  pub answers : K → Soaks G → (S : Signature) (c : Spec 𝓤 S) (z : (triple_of 𝓛 S c).Ghost) (v : Val) {X : Type 0} (last : X → Fml) (P : Res S z.0.0 → X → Type 0)
+  pub answers : K → Soaks G → (S : Signature) (c : Spec 𝓤 S) (z : (triple_of 𝓛 S c).Ghost) (v : Val) {X : Type 0} (last : X → Fml) (P : Res S z.0.0 → X
+      → Type 0)
       → ((u : Res S z.0.0) → ent 𝓤 ((c z.0.0 z.0.3).ensures z.1 u) (ex 𝓤 (λ ws. sep 𝓤 (sem 𝓛 (last ws)) (fact 𝓤 (P u ws)))))
       → ((u : Res S z.0.0) (ws : X) → P u ws → Seq K 𝓛 (raw (alive 𝓛 S z.0.0 z.0.1) ∷ ‵ ((type_at S.result z.0.0).own_val u (v ∷ [])) ∷ ‵ (last ws) ∷ Γ) G)
       → Seq K 𝓛 (raw ((triple_of 𝓛 S c).post z v) ∷ Γ) G
   answers t s S c z v {X} last P says k =
-      use1 𝓛 (later (some (λ (u : Res S z.0.0). (raw (alive 𝓛 S z.0.0 z.0.1) ⊛ ‵ ((type_at S.result z.0.0).own_val u (v ∷ []))) ⊛ raw ((c z.0.0 z.0.3).ensures z.1 u)))) (id⊢ 𝓤 _) $
-      await t s $ pick t (λ u. split t $ move t (1 ∷ []) $ use1 𝓛 (some (λ (ws : X). ‵ (last ws) ⊛ raw (fact 𝓤 (P u ws)))) (says u) $ pick t (λ ws. split t $ move t (1 ∷ []) $
+      use1 𝓛 (later (some (λ (u : Res S z.0.0). (raw (alive 𝓛 S z.0.0 z.0.1) ⊛ ‵ ((type_at S.result z.0.0).own_val u (v ∷ []))) ⊛ raw
+      ((c z.0.0 z.0.3).ensures z.1 u)))) (id⊢ 𝓤 _) $
+      await t s $ pick t (λ u. split t $ move t (1 ∷ []) $ use1 𝓛 (some (λ (ws : X). ‵ (last ws) ⊛ raw (fact 𝓤 (P u ws)))) (says u) $ pick t
+      (λ ws. split t $ move t (1 ∷ []) $
       heard t (P u ws) (λ told. move t (1 ∷ []) $ split t $ k u ws told)))
 
   pub takes_back : K → Soaks G → (R : RattleType) (α δ : ℕ) (w : R.Denot) (b o : ℕ)
@@ -65,5 +70,7 @@ module _ {M : Type 1} {𝓤 : Ura M} {𝓛 : Logic 𝓤} {K : Type 0} {Γ : List
       use3 𝓛 (later (‵ (part_at R full_share w b o))) (ref_back 𝓛 R (α ∷ []) δ w b o) $ await t z $ move t (1 ∷ []) $ drop t $ s)
 
   -- what lies there is left with what is known of it
-  pub packs : K → {X : Type 0} (at : X → Fml) (P : X → Type 0) (w : X) → P w → Step K 𝓛 (‵ (fex X (λ s. fsep (at s) (fex (P s) (λ _. ftrue)))) ∷ Γ) G (‵ (at w) ∷ Γ) G
-  packs t {X} at P w p = step (λ s. nothing t $ fpack t (P w) (λ _. ftrue) p $ move t (1 ∷ 0 ∷ []) $ fjoin t $ fpack t X (λ s. fsep (at s) (fex (P s) (λ _. ftrue))) w $ s)
+  pub packs : K → {X : Type 0} (at : X → Fml) (P : X → Type 0) (w : X) → P w
+      → Step K 𝓛 (‵ (fex X (λ s. fsep (at s) (fex (P s) (λ _. ftrue)))) ∷ Γ) G (‵ (at w) ∷ Γ) G
+  packs t {X} at P w p = step (λ s. nothing t $ fpack t (P w) (λ _. ftrue) p $ move t (1 ∷ 0 ∷ []) $ fjoin t $ fpack t X
+      (λ s. fsep (at s) (fex (P s) (λ _. ftrue))) w $ s)

@@ -5,7 +5,7 @@ use denote.Memory.{lone}
 use Rattle.std.specs.Prelude.{ℕ, Option}
 use Rattle.std.specs.Ptr.{Ptr, points_to, uninit_at}
 use Rattle.jl_host.specs.Linkers.{Opened}
-use Rattle.jl_host.specs.Seats.{Seen}
+use Rattle.jl_host.specs.Seats.{SeatView}
 use Rattle.jl_host.specs.contracts.linker.Linker.{the_row}
 use Rattle.jl_host.specs.contracts.seat.Seat.{the_row as seat_row}
 
@@ -33,16 +33,16 @@ linker_multiple = align (lone the_row.mir)
 -- ---- seats
 
 -- a seat at p that has seen this, or nothing
-abbrev pub seat_at : Ptr → Option Seen → Fml
+abbrev pub seat_at : Ptr → Option SeatView → Fml
 seat_at p seat = points_to seat_row p seat
 
 -- a seat at p of which P holds
-abbrev pub seat_left : Ptr → (Option Seen → Type 0) → Fml
-seat_left p P = fex (Option Seen) (λ seat. fsep (seat_at p seat) (fex (P seat) (λ _. ftrue)))
+abbrev pub seat_left : Ptr → (Option SeatView → Type 0) → Fml
+seat_left p P = fex (Option SeatView) (λ seat. fsep (seat_at p seat) (fex (P seat) (λ _. ftrue)))
 
 -- a seat and a linker of which P holds
-abbrev pub both_left : Ptr → Ptr → (Option Seen × Option Opened → Type 0) → Fml
-both_left p q P = fex (Option Seen × Option Opened) (λ s. fsep (fsep (seat_at p s.0) (linker_at q s.1)) (fex (P s) (λ _. ftrue)))
+abbrev pub both_left : Ptr → Ptr → (Option SeatView × Option Opened → Type 0) → Fml
+both_left p q P = fex (Option SeatView × Option Opened) (λ s. fsep (fsep (seat_at p s.0) (linker_at q s.1)) (fex (P s) (λ _. ftrue)))
 
 -- room for a seat at p
 abbrev pub seat_room : Ptr → Fml

@@ -10,7 +10,7 @@ ghost use Rattle.std.specs.Prelude.{◌≡◌, Option, None};
 ghost use types.Logic.{sem};
 ghost use Rattle.jl_host.specs.Linkers.{Opened, IsOpen, IsNewLoader, IsDefine, IsDelegate, IsRequest, IsNewCallSite, IsSetTarget, IsNewSwitch};
 ghost use Rattle.jl_host.specs.Linkers.{IsInvalidate, IsBind, IsRetire, IsInstall, IsDropped, IsCall, IsLinkOf, IsAnswer, IsTake};
-ghost use Rattle.jl_host.specs.Seats.{Seen, IsRefresh, IsSeatCall};
+ghost use Rattle.jl_host.specs.Seats.{SeatView, IsRefresh, IsSeatCall};
 ghost use Rattle.linkd_c.specs.Handle.{linker_at, linker_left, linker_room, linker_bytes, linker_multiple};
 ghost use Rattle.linkd_c.specs.Handle.{seat_at, seat_left, both_left, seat_room, seat_bytes, seat_multiple};
 
@@ -341,7 +341,7 @@ pub unsafe extern "C" fn linkd_seat_refresh(
     at: *mut LinkdSeat,
     from: *mut Linkd,
 ) -> u32
-    ghost old: { Option Seen × Option Opened }
+    ghost old: { Option SeatView × Option Opened }
     requires* seat { sem 𝓛 (seat_at at old.0) }
     requires* linker { sem 𝓛 (linker_at from old.1) }
     ensures* { sem 𝓛 (both_left at from (λ new. IsRefresh old.0 old.1 result new.0 new.1)) }
@@ -357,7 +357,7 @@ pub unsafe extern "C" fn linkd_seat_call(
     receiver: u32,
     answer: &mut CallAnswer,
 ) -> u32
-    ghost old: { Option Seen }
+    ghost old: { Option SeatView }
     requires* { sem 𝓛 (seat_at at old) }
     ensures* { sem 𝓛 (seat_left at (λ new. IsSeatCall site receiver old answer.old result answer.new new)) }
 {
@@ -367,7 +367,7 @@ pub unsafe extern "C" fn linkd_seat_call(
 /// Lets go what the seat has seen. It has no memory but its block then.
 #[unsafe(no_mangle)]
 pub unsafe extern "C" fn linkd_seat_leave(at: *mut LinkdSeat)
-    ghost old: { Option Seen }
+    ghost old: { Option SeatView }
     requires* { sem 𝓛 (seat_at at old) }
     ensures* { sem 𝓛 (seat_left at (λ new. new ≡ None)) }
 {

@@ -14,7 +14,8 @@ use Rattle.jl_classfile.specs.Conditions.{attributes_called, IsHost, AreMembers,
 
 -- max_stack 2, max_locals 3, the code b1; one exception row of 8 bytes; two attributes, of the names 4 and 5, of 1 byte and of none
 with_rows_and_attributes :
-    HoldsCode (0 ∷ 2 ∷ 0 ∷ 3 ∷ 0 ∷ 0 ∷ 0 ∷ 1 ∷ 0xb1 ∷ 0 ∷ 1 ∷ 9 ∷ 8 ∷ 7 ∷ 6 ∷ 5 ∷ 4 ∷ 3 ∷ 2 ∷ 0 ∷ 2 ∷ 0 ∷ 4 ∷ 0 ∷ 0 ∷ 0 ∷ 1 ∷ 0xca ∷ 0 ∷ 5 ∷ 0 ∷ 0 ∷ 0 ∷ 0 ∷ []) (0xb1 ∷ [])
+    HoldsCode (0 ∷ 2 ∷ 0 ∷ 3 ∷ 0 ∷ 0 ∷ 0 ∷ 1 ∷ 0xb1 ∷ 0 ∷ 1 ∷ 9 ∷ 8 ∷ 7 ∷ 6 ∷ 5 ∷ 4 ∷ 3 ∷ 2 ∷ 0 ∷ 2 ∷ 0 ∷ 4 ∷ 0 ∷ 0 ∷ 0 ∷ 1 ∷ 0xca ∷ 0 ∷ 5 ∷ 0 ∷ 0 ∷ 0 ∷ 0 ∷ [])
+    (0xb1 ∷ [])
 with_rows_and_attributes = record {
   max_stack = 2;
   max_locals = 3;

@@ -2,8 +2,8 @@
 use Rattle.std.proofs.Common.{◌≡◌, ℕ, List, [], ◌∷◌, ◌++◌, Some, None, refl, arith, rules, false, inl, inr}
 use Rattle.std.specs.Prelude.{codes}
 use Rattle.jl_pool.specs.declared.constant.Constant.TheVariants.{Utf8, Class, Methodref, NameAndType}
-use Rattle.jl_code.specs.declared.site.Kind.TheVariants.{Virtual}
-use Rattle.jl_code.specs.declared.site.Operand.TheVariants.{Method as Called}
+use Rattle.jl_class.specs.declared.site.Kind.TheVariants.{Virtual}
+use Rattle.jl_class.specs.declared.site.Operand.TheVariants.{Method as Called}
 use Rattle.jl_names.specs.MethodTypes.{TakesSlots}
 use Rattle.jl_code.specs.declared.instruction.Instruction.{Instruction}
 use Rattle.jl_code.specs.declared.instruction.Instruction.TheVariants.{Plain, Invoke}

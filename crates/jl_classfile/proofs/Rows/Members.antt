@@ -7,7 +7,8 @@ use Rattle.jl_pool.specs.declared.constant.Constant.TheVariants.{Utf8, Class}
 use Rattle.jl_pool.specs.Pools.{Pool, places}
 use Rattle.jl_pool.proofs.FormLaws.{one_slots}
 use Rattle.jl_classfile.specs.declared.body.Member.{Member}
-use Rattle.jl_classfile.specs.Conditions.{has_flag, member_numbers, is_method_name, are_method_flags, flags_fit, TakesFew, FieldFits, MethodFits, no_twins}
+use Rattle.jl_classfile.specs.Conditions.{member_numbers, is_method_name, are_method_flags, flags_fit, TakesFew, FieldFits, MethodFits, no_twins}
+use Rattle.jl_class.specs.Flags.{has_flag}
 
 -- ---- names
 
@@ -79,7 +80,8 @@ pool = places (Utf8 (codes "f") ∷ Utf8 (codes "()V") ∷ Utf8 (codes "I") ∷ 
 abbrev member : ℕ → ℕ → ℕ → Member
 member flags name descriptor = record { flags = flags; name = name; descriptor = descriptor; attributes = [] }
 
-numbers : member_numbers (record { flags = 1; name = 2; descriptor = 3; attributes = record { name = 4; info = [] } ∷ record { name = 5; info = [] } ∷ [] }) ≡ 2 ∷ 3 ∷ 4 ∷ 5 ∷ []
+numbers : member_numbers (record { flags = 1; name = 2; descriptor = 3; attributes = record { name = 4; info = [] } ∷ record { name = 5; info = [] } ∷ [] }) ≡ 2
+    ∷ 3 ∷ 4 ∷ 5 ∷ []
 numbers = refl
 
 void : TakesSlots (codes "()V") 0
@@ -90,7 +92,14 @@ method = record { name = refl; descriptor = (0, omega arith, void); flags = refl
 
 -- no flags of a field are looked at
 field : FieldFits pool (member 0xffff 5 3)
-field = record { name = refl; descriptor = (record { dimensions = 0; element = Rattle.jl_names.specs.declared.descriptor.Element.TheVariants.Int }, record { dimensions = omega arith; element = tt }, refl) }
+field = record {
+  name = refl;
+  descriptor = (
+    record { dimensions = 0; element = Rattle.jl_names.specs.declared.descriptor.Element.TheVariants.Int },
+    record { dimensions = omega arith; element = tt },
+    refl,
+  );
+}
 
 bad_name : ¬ MethodFits pool false (member 1 5 2)
 bad_name = λ m. let good = m.name in cc
@@ -99,7 +108,8 @@ bad_flags : ¬ MethodFits pool false (member 3 1 2)
 bad_flags = λ m. let good = m.flags in cc
 
 -- of one name and one descriptor, by their texts: f:()V again, f:I, g:()V
-twins : map (λ second. no_twins pool [] (member 1 1 2 ∷ second ∷ [])) (member 1 1 2 ∷ member 2 6 2 ∷ member 1 1 3 ∷ member 1 4 2 ∷ []) ≡ false ∷ false ∷ true ∷ true ∷ []
+twins : map (λ second. no_twins pool [] (member 1 1 2 ∷ second ∷ [])) (member 1 1 2 ∷ member 2 6 2 ∷ member 1 1 3 ∷ member 1 4 2 ∷ []) ≡ false ∷ false ∷ true
+    ∷ true ∷ []
 twins = refl
 
 twins_apart : no_twins pool [] (member 1 1 2 ∷ member 1 4 2 ∷ member 1 6 2 ∷ []) ≡ false

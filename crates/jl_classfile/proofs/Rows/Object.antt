@@ -44,5 +44,13 @@ is_class = record {
   codes = tt;
 }
 
-pub shows : shown parts ≡ record { name = codes "java/lang/Object"; flags = 33; superclass = None; interfaces = []; nest_host = None; nest_members = []; methods = [] }
+pub shows : shown parts ≡ record {
+  name = codes "java/lang/Object";
+  flags = 33;
+  superclass = None;
+  interfaces = [];
+  nest_host = None;
+  nest_members = [];
+  methods = [];
+}
 shows = refl

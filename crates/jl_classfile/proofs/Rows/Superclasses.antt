@@ -4,14 +4,23 @@ use Rattle.std.specs.Prelude.{codes, map}
 use Rattle.jl_pool.specs.declared.constant.Constant.TheVariants.{Utf8, Class}
 use Rattle.jl_pool.specs.Pools.{Pool, places, class_at}
 use Rattle.jl_classfile.specs.declared.body.Body.{Body}
-use Rattle.jl_classfile.specs.Conditions.{class_numbers, is_interface, super_fits, extends_object, object}
+use Rattle.jl_classfile.specs.Conditions.{class_numbers, is_interface, super_fits}
+use Rattle.jl_class.specs.Flags.{extends_object, object}
 
 -- 2 java/lang/Object, 4 A, 6 an array of it
 abbrev pool : Pool
 pool = places (Utf8 (codes "java/lang/Object") ∷ Class 1 ∷ Utf8 (codes "A") ∷ Class 3 ∷ Utf8 (codes "[LA;") ∷ Class 5 ∷ [])
 
 abbrev below : ℕ → ℕ → ℕ → Body
-below this_class super_class flags = record { flags = flags; this_class = this_class; super_class = super_class; interfaces = []; fields = []; methods = []; attributes = [] }
+below this_class super_class flags = record {
+  flags = flags;
+  this_class = this_class;
+  super_class = super_class;
+  interfaces = [];
+  fields = [];
+  methods = [];
+  attributes = [];
+}
 
 -- PUBLIC and SUPER, and a public interface's flags
 abbrev CLASS : ℕ
@@ -63,7 +72,8 @@ interfaces : map (λ flags. is_interface (below 4 2 flags)) (0x0200 ∷ 0xffff �
 interfaces = refl
 
 -- this class first, then its superclass, if it has one, then its interfaces
-numbers : class_numbers (record { flags = 33; this_class = 4; super_class = 2; interfaces = 8 ∷ 9 ∷ []; fields = []; methods = []; attributes = [] }) ≡ 4 ∷ 2 ∷ 8 ∷ 9 ∷ []
+numbers : class_numbers (record { flags = 33; this_class = 4; super_class = 2; interfaces = 8 ∷ 9 ∷ []; fields = []; methods = []; attributes = [] }) ≡ 4 ∷ 2
+    ∷ 8 ∷ 9 ∷ []
 numbers = refl
 
 numbers_without : class_numbers (below 2 0 CLASS) ≡ 2 ∷ []

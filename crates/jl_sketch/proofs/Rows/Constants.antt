@@ -99,6 +99,7 @@ with_code : with_declared [] (run 1) ≡ Utf8 (codes "run") ∷ Utf8 (codes "()V
 unfolding enter
 with_code = refl
 
-without_code : map (λ flags. with_declared [] (run flags)) (0x0401 ∷ 0x0101 ∷ []) ≡ (Utf8 (codes "run") ∷ Utf8 (codes "()V") ∷ []) ∷ (Utf8 (codes "run") ∷ Utf8 (codes "()V") ∷ []) ∷ []
+without_code : map (λ flags. with_declared [] (run flags)) (0x0401 ∷ 0x0101 ∷ []) ≡ (Utf8 (codes "run") ∷ Utf8 (codes "()V") ∷ [])
+    ∷ (Utf8 (codes "run") ∷ Utf8 (codes "()V") ∷ []) ∷ []
 unfolding enter
 without_code = refl

@@ -11,7 +11,8 @@ use Rattle.jl_sketch.specs.declared.sketch.Call.{Call}
 use Rattle.jl_sketch.specs.declared.sketch.Call.TheVariants.{Virtual, Special, Static, Interface, Dynamic}
 use Rattle.jl_sketch.specs.declared.fault.SketchFault.TheVariants.{TooBig, CallsWithoutCode, Refused}
 use Rattle.jl_sketch.specs.Constants.{enter, number, sketch_constants}
-use Rattle.jl_sketch.specs.Faults.{is_long, is_long_method_name, is_long_call, is_long_method, is_long_sketch, is_too_big, calls_without_code, first_without_code, IsSketchFault, IsSpelled}
+use Rattle.jl_sketch.specs.Faults.{is_long, is_long_method_name, is_long_call, is_long_method, is_long_sketch, is_too_big, calls_without_code}
+use Rattle.jl_sketch.specs.Faults.{first_without_code, IsSketchFault, IsSpelled}
 use Rattle.jl_sketch.proofs.Rows.Sketches.{f_of_A, m_sketch}
 
 -- ---- lengths
@@ -114,7 +115,8 @@ with_calls flags calls = record { name = codes "run"; ty = codes "()V"; flags = 
 abbrev one_call : List Call
 one_call = Virtual f_of_A ∷ []
 
-lack_code : map calls_without_code (with_calls 0x0401 one_call ∷ with_calls 0x0101 one_call ∷ with_calls 1 one_call ∷ with_calls 0x0401 [] ∷ with_calls 0x0101 [] ∷ [])
+lack_code : map calls_without_code (with_calls 0x0401 one_call ∷ with_calls 0x0101 one_call ∷ with_calls 1 one_call ∷ with_calls 0x0401 []
+    ∷ with_calls 0x0101 [] ∷ [])
     ≡ true ∷ true ∷ false ∷ false ∷ false ∷ []
 lack_code = refl
 

@@ -2,9 +2,9 @@
 use Rattle.std.specs.Prelude.{◌≡◌, ℕ, Bool, true, false, List, [], ◌∷◌, map, codes, Option, Some, None, refl}
 use Rattle.std.proofs.Common.{arith}
 use Rattle.jl_pool.specs.declared.constant.Constant.TheVariants.{Utf8}
-use Rattle.jl_code.specs.declared.site.Kind.TheVariants as kind
-use Rattle.jl_code.specs.declared.site.Operand.{Operand}
-use Rattle.jl_code.specs.declared.site.Operand.TheVariants.{Method, CallSite}
+use Rattle.jl_class.specs.declared.site.Kind.TheVariants as kind
+use Rattle.jl_class.specs.declared.site.Operand.{Operand}
+use Rattle.jl_class.specs.declared.site.Operand.TheVariants.{Method, CallSite}
 use Rattle.jl_classfile.specs.Shown.{shown}
 use Rattle.jl_classfile.proofs.Rows.M as m
 use Rattle.jl_sketch.specs.declared.sketch.SketchMethod.{SketchMethod}
@@ -17,13 +17,15 @@ use Rattle.jl_sketch.proofs.Rows.Sketches.{f_of_A, m_sketch, all_parts}
 -- ---- calls
 
 abbrev calls : List Call
-calls = Virtual f_of_A ∷ Special false f_of_A ∷ Special true f_of_A ∷ Static false f_of_A ∷ Static true f_of_A ∷ Interface f_of_A ∷ Dynamic (codes "f") (codes "()V") ∷ []
+calls = Virtual f_of_A ∷ Special false f_of_A ∷ Special true f_of_A ∷ Static false f_of_A ∷ Static true f_of_A ∷ Interface f_of_A
+    ∷ Dynamic (codes "f") (codes "()V") ∷ []
 
 abbrev called : Bool → Operand (List ℕ)
 called itf = Method (record { itf = itf; owner = codes "A"; name = codes "f"; ty = codes "()V" })
 
 operands : map call_operand calls
-    ≡ called false ∷ called false ∷ called true ∷ called false ∷ called true ∷ called true ∷ CallSite (record { bootstrap = 0; name = codes "f"; ty = codes "()V" }) ∷ []
+    ≡ called false ∷ called false ∷ called true ∷ called false ∷ called true ∷ called true
+    ∷ CallSite (record { bootstrap = 0; name = codes "f"; ty = codes "()V" }) ∷ []
 operands = refl
 
 kinds : map call_kind calls ≡ kind.Virtual ∷ kind.Special ∷ kind.Special ∷ kind.Static ∷ kind.Static ∷ kind.Interface ∷ kind.Dynamic ∷ []

@@ -1,9 +1,9 @@
 -- Sketches and their class files.
 use Rattle.std.proofs.Common.{◌≡◌, ℕ, List, [], ◌∷◌, ◌++◌, true, false, Some, None, refl}
 use Rattle.std.specs.Prelude.{codes}
-use Rattle.jl_names.specs.Reading.Descriptors.{field_at, element_at, class_at}
-use Rattle.jl_names.specs.Reading.MethodTypes.{behind, return_at}
-use Rattle.jl_pool.specs.Reading.Forms.{method_slots, slots_from}
+use Rattle.jl_names.specs.Means.Descriptors.{field_at, element_at, class_at}
+use Rattle.jl_names.specs.Means.MethodTypes.{behind, return_at}
+use Rattle.jl_pool.specs.Means.Forms.{method_slots, slots_from}
 use Rattle.jl_pool.specs.declared.constant.Constant.TheVariants.{Utf8, Class, NameAndType, Methodref, InterfaceMethodref, InvokeDynamic}
 use Rattle.jl_code.specs.declared.instruction.Instruction.TheVariants.{Plain, Invoke}
 use Rattle.jl_classfile.specs.declared.body.Body.{Body}
@@ -53,7 +53,15 @@ m_is_written = refl
 -- ---- a host, and members beside it
 
 abbrev pub in_sketch : Sketch
-in_sketch = record { name = codes "In"; flags = 33; superclass = Some (codes "java/lang/Object"); interfaces = []; methods = []; host = Some (codes "Out"); members = [] }
+in_sketch = record {
+  name = codes "In";
+  flags = 33;
+  superclass = Some (codes "java/lang/Object");
+  interfaces = [];
+  methods = [];
+  host = Some (codes "Out");
+  members = [];
+}
 
 -- 82 bytes
 in_is_written : file_text (sketch_layout in_sketch) ≡ 0xca ∷ 0xfe ∷ 0xba ∷ 0xbe ∷ 0 ∷ 0 ∷ 0 ∷ 0x3d ∷ 0 ∷ 8 ∷ 1 ∷ 0 ∷ 2 ∷ 0x49 ∷ 0x6e ∷ 7 ∷ 0 ∷ 1 ∷ 1 ∷ 0 ∷ 16
@@ -85,8 +93,10 @@ all_calls = record {
   members = codes "A" ∷ codes "M" ∷ [];
 }
 
-all_constants : sketch_constants all_calls ≡ Utf8 (codes "A") ∷ Class 1 ∷ Utf8 (codes "Code") ∷ Utf8 (codes "()V") ∷ Utf8 (codes "f") ∷ NameAndType 5 4 ∷ Methodref 2 6
-    ∷ InterfaceMethodref 2 6 ∷ Utf8 (codes "(JI)V") ∷ NameAndType 5 9 ∷ InterfaceMethodref 2 10 ∷ InvokeDynamic 0 6 ∷ Utf8 (codes "NestMembers") ∷ Utf8 (codes "M") ∷ Class 14 ∷ []
+all_constants : sketch_constants all_calls ≡ Utf8 (codes "A") ∷ Class 1 ∷ Utf8 (codes "Code") ∷ Utf8 (codes "()V") ∷ Utf8 (codes "f") ∷ NameAndType 5 4
+    ∷ Methodref 2 6
+    ∷ InterfaceMethodref 2 6 ∷ Utf8 (codes "(JI)V") ∷ NameAndType 5 9 ∷ InterfaceMethodref 2 10 ∷ InvokeDynamic 0 6 ∷ Utf8 (codes "NestMembers")
+    ∷ Utf8 (codes "M") ∷ Class 14 ∷ []
 unfolding enter number
 all_constants = refl
 
@@ -110,7 +120,8 @@ all_lie : (sketch_layout all_calls).body ≡ record {
         attributes =
             record {
               name = 3;
-              info = 0 ∷ 0 ∷ 0 ∷ 0 ∷ 0 ∷ 0 ∷ 0 ∷ 20 ∷ 182 ∷ 0 ∷ 7 ∷ 183 ∷ 0 ∷ 8 ∷ 184 ∷ 0 ∷ 7 ∷ 185 ∷ 0 ∷ 11 ∷ 4 ∷ 0 ∷ 186 ∷ 0 ∷ 12 ∷ 0 ∷ 0 ∷ 177 ∷ 0 ∷ 0 ∷ 0 ∷ 0 ∷ [];
+              info = 0 ∷ 0 ∷ 0 ∷ 0 ∷ 0 ∷ 0 ∷ 0 ∷ 20 ∷ 182 ∷ 0 ∷ 7 ∷ 183 ∷ 0 ∷ 8 ∷ 184 ∷ 0 ∷ 7 ∷ 185 ∷ 0 ∷ 11 ∷ 4 ∷ 0 ∷ 186 ∷ 0 ∷ 12 ∷ 0 ∷ 0 ∷ 177 ∷ 0 ∷ 0 ∷ 0
+                  ∷ 0 ∷ [];
             }
             ∷ [];
       }

@@ -1,12 +1,12 @@
 -- Who may name a method (JVMS 5.4.4): each sentence of the rule once.
 use Rattle.std.specs.Prelude.{◌≡◌, ℕ, List, [], ◌∷◌, Option, Some, None, Ok, Err, Result, codes, refl}
-use Rattle.jl_classfile.specs.Class.{Method}
+use Rattle.jl_class.specs.Class.{Method}
 use Rattle.jl_types.specs.declared.answer.ResolveAnswer.{ResolveAnswer}
 use Rattle.jl_types.specs.declared.answer.ResolveAnswer.TheVariants.{NotReady, Fault}
 use Rattle.jl_types.specs.declared.answer.Missing.TheVariants.{CallerHost, MethodHost}
 use Rattle.jl_types.specs.declared.answer.Throwable.TheVariants.{IllegalAccessError, IncompatibleClassChangeError}
-use Rattle.jl_types.specs.World.{Class, Classes}
-use Rattle.jl_types.specs.Resolution.{Resolved, resolved}
+use Rattle.jl_types.specs.Values.World.{Class, Classes}
+use Rattle.jl_types.specs.Linkage.Resolution.{Resolved, resolved}
 use Rattle.jl_types.proofs.Rows.Sketch.{object, class, classes, method, first, naming, class_ref, itf_ref}
 
 -- p/C 1 with f; q/D 2 and q/E 3 below it; p/X 4 and q/X 5 below java/lang/Object
@@ -86,7 +86,8 @@ both_listed : resolved (nested (codes "Out") (Some (codes "Out")) (in_nest (code
     (class_ref (codes "In") (codes "g")) ≡ Ok (naming 1 (first 1))
 both_listed = refl
 
-one_listed : resolved (nested (codes "Out") (Some (codes "Out")) (in_nest (codes "Out") None (codes "X" ∷ []) [] ∷ [])) 2 (class_ref (codes "In") (codes "g")) ≡ Err (Fault IllegalAccessError)
+one_listed : resolved (nested (codes "Out") (Some (codes "Out")) (in_nest (codes "Out") None (codes "X" ∷ []) [] ∷ [])) 2
+    (class_ref (codes "In") (codes "g")) ≡ Err (Fault IllegalAccessError)
 one_listed = refl
 
 -- a class is in one nest with itself, whatever its host is
@@ -94,7 +95,8 @@ own_nest : resolved (nested (codes "Out") None []) 1 (class_ref (codes "In") (co
 own_nest = refl
 
 -- q/Out 3 lists In, but is in another run-time package
-other_package : resolved (nested (codes "q/Out") None (in_nest (codes "q/Out") None (codes "In" ∷ []) [] ∷ [])) 3 (class_ref (codes "In") (codes "g")) ≡ Err (Fault IllegalAccessError)
+other_package : resolved (nested (codes "q/Out") None (in_nest (codes "q/Out") None (codes "In" ∷ []) [] ∷ [])) 3 (class_ref (codes "In") (codes "g")) ≡ Err
+    (Fault IllegalAccessError)
 other_package = refl
 
 -- ---- the class itself comes before its kind

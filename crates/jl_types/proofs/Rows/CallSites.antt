@@ -1,25 +1,25 @@
 -- Call sites and switch points, over the whole history.
 use Rattle.std.specs.Prelude.{◌≡◌, ℕ, Bool, true, false, zero, suc, List, [], ◌∷◌, ◌++◌, Some, Ok, Err, codes, refl}
-use Rattle.jl_classfile.specs.Class.{Method}
-use Rattle.jl_code.specs.declared.site.Kind.TheVariants.{Dynamic}
-use Rattle.jl_code.specs.declared.site.Operand.TheVariants as operand
+use Rattle.jl_class.specs.Class.{Method}
+use Rattle.jl_class.specs.declared.site.Kind.TheVariants.{Dynamic}
+use Rattle.jl_class.specs.declared.site.Operand.TheVariants as operand
 use Rattle.jl_types.specs.declared.ids.MethodId.{MethodId}
 use Rattle.jl_types.specs.declared.answer.Recv.TheVariants.{Null}
 use Rattle.jl_types.specs.declared.answer.Answer.TheVariants as answer
 use Rattle.jl_types.specs.declared.answer.Unlinked.TheVariants.{Unbound}
 use Rattle.jl_types.specs.declared.link.Link.TheVariants.{Plain}
 use Rattle.jl_types.specs.declared.target.CallSiteKind.TheVariants.{Constant, Mutable, Volatile}
-use Rattle.jl_types.specs.Target as target
-use Rattle.jl_types.specs.Target.{Target}
-use Rattle.jl_types.specs.Event.{Event}
+use Rattle.jl_types.specs.Values.Target as target
+use Rattle.jl_types.specs.Values.Target.{Target}
+use Rattle.jl_types.specs.Happenings.Event.{Event}
 use Rattle.jl_types.specs.declared.event.EventOf.TheVariants.{Define, Request, NewCallSite, SetTarget, NewSwitch, Invalidate, Bind, Install}
 use Rattle.jl_types.specs.declared.event.Made.TheVariants as made
 use Rattle.jl_types.specs.declared.refusal.Refusal.TheVariants as refusal
 use Rattle.jl_types.specs.declared.refusal.CallSiteFault.TheVariants as fault
-use Rattle.jl_types.specs.Links.{scratch}
-use Rattle.jl_types.specs.Calls.{dispatch}
-use Rattle.jl_types.specs.Events.{verdict}
-use Rattle.jl_types.specs.History.{world_after, installed_links, dropped, reply}
+use Rattle.jl_types.specs.Linkage.Links.{scratch}
+use Rattle.jl_types.specs.Linkage.Calls.{dispatch}
+use Rattle.jl_types.specs.Happenings.Events.{verdict}
+use Rattle.jl_types.specs.Happenings.History.{world_after, installed_links, dropped, reply}
 use Rattle.jl_types.proofs.Rows.Sketch.{method, file}
 
 -- with an invokedynamic of ()V at pc 0
@@ -34,7 +34,8 @@ bootstrapping = record {
 -- T 1 has static methods m, n and r; its invokedynamic is site 0
 abbrev pub begun : List Event
 begun = Define 0 (file (codes "java/lang/Object") 33 [])
-    ∷ Define 0 (record (file (codes "T") 33 (method 9 (codes "m") ∷ method 9 (codes "n") ∷ bootstrapping ∷ [])) { superclass = Some (codes "java/lang/Object") })
+    ∷ Define 0 (record (file (codes "T") 33 (method 9 (codes "m") ∷ method 9 (codes "n") ∷ bootstrapping ∷ []))
+    { superclass = Some (codes "java/lang/Object") })
     ∷ Request (record { class = 1; method = 2; pc = 0 })
     ∷ NewSwitch
     ∷ []
@@ -107,7 +108,8 @@ kept_constant = refl
 wrong_type : verdict 65536 (world_after begun) (NewCallSite Mutable (codes "()I") (target.Method m)) ≡ Err (refusal.CallSite fault.WrongType)
 wrong_type = refl
 
-no_method : verdict 65536 (world_after begun) (NewCallSite Mutable (codes "()V") (target.Method (record { class = 1; index = 3 }))) ≡ Err (refusal.CallSite fault.UnknownMethod)
+no_method : verdict 65536 (world_after begun) (NewCallSite Mutable (codes "()V") (target.Method (record { class = 1; index = 3 }))) ≡ Err
+    (refusal.CallSite fault.UnknownMethod)
 no_method = refl
 
 -- so many guards, one in the other
@@ -154,7 +156,8 @@ runs_the_second : dispatch (world_after (volatile (SetTarget 0 (target.Method n)
 runs_the_second = refl
 
 -- of two call sites the one that is named
-other_keeps_its_target : dispatch (world_after (volatile (NewCallSite Mutable (codes "()V") (target.Method m) ∷ SetTarget 1 (target.Method n) ∷ []))) 0 Null ≡ answer.Run m
+other_keeps_its_target : dispatch (world_after (volatile (NewCallSite Mutable (codes "()V") (target.Method m) ∷ SetTarget 1 (target.Method n) ∷ []))) 0 Null
+    ≡ answer.Run m
 other_keeps_its_target = refl
 
 -- ---- invalid points

@@ -1,13 +1,13 @@
 -- Two unrelated defaults, and one that is more specific.
 use Rattle.std.specs.Prelude.{◌≡◌, List, [], ◌∷◌, Some, codes, refl}
-use Rattle.jl_code.specs.declared.site.Kind.TheVariants.{Interface}
-use Rattle.jl_types.specs.World.{Class}
+use Rattle.jl_class.specs.declared.site.Kind.TheVariants.{Interface}
+use Rattle.jl_types.specs.Values.World.{Class}
 use Rattle.jl_types.specs.declared.answer.Chosen.TheVariants.{Method as Picked, Several}
 use Rattle.jl_types.specs.declared.answer.Recv.TheVariants.{Null, Of}
 use Rattle.jl_types.specs.declared.answer.Answer.TheVariants.{Run, Throws}
 use Rattle.jl_types.specs.declared.answer.Throwable.TheVariants.{IncompatibleClassChangeError, NullPointerException}
-use Rattle.jl_types.specs.Selection.{chosen}
-use Rattle.jl_types.specs.Calls.{dispatch}
+use Rattle.jl_types.specs.Linkage.Selection.{chosen}
+use Rattle.jl_types.specs.Linkage.Calls.{dispatch}
 use Rattle.jl_types.proofs.Rows.Sketch.{object, class, classes, method, first, world, calling, itf_ref}
 
 -- I and J each with a default f, K below both with its own; X implements I and J, Y all three

@@ -1,6 +1,6 @@
 -- What a loader refuses to define (JVMS 5.3.5), each fault once, and each pair of neighbours in their order.
 use Rattle.std.specs.Prelude.{◌≡◌, ℕ, List, [], ◌∷◌, ◌++◌, Some, None, Ok, Err, Result, length, codes, refl}
-use Rattle.jl_types.specs.Event.{Event}
+use Rattle.jl_types.specs.Happenings.Event.{Event}
 use Rattle.jl_types.specs.declared.event.EventOf.TheVariants.{NewLoader, Define, Delegate}
 use Rattle.jl_types.specs.declared.event.Made.{Made}
 use Rattle.jl_types.specs.declared.event.Made.TheVariants as made
@@ -8,9 +8,9 @@ use Rattle.jl_types.specs.declared.refusal.Refusal.{Refusal}
 use Rattle.jl_types.specs.declared.refusal.Refusal.TheVariants as refusal
 use Rattle.jl_types.specs.declared.refusal.DefineFault.TheVariants.{UnknownLoader, AlreadyRecorded, NamesItself, MissingParent, SuperIsInterface, FinalSuper}
 use Rattle.jl_types.specs.declared.refusal.DefineFault.TheVariants.{NotAnInterface, InaccessibleParent, SecondObject, Full}
-use Rattle.jl_types.specs.World.{Class, World}
-use Rattle.jl_types.specs.Events.{verdict}
-use Rattle.jl_types.specs.History.{world_after}
+use Rattle.jl_types.specs.Values.World.{Class, World}
+use Rattle.jl_types.specs.Happenings.Events.{verdict}
+use Rattle.jl_types.specs.Happenings.History.{world_after}
 
 abbrev object : List ℕ
 object = codes "java/lang/Object"
@@ -102,7 +102,8 @@ no_interfaces_in_file_order = refl
 closed_superclass_first : answers (defines 0 (codes "q/X") 33 (codes "p/A") (codes "p/I" ∷ [])) ≡ Err (refusal.Define (InaccessibleParent (codes "p/A")))
 closed_superclass_first = refl
 
-closed_in_file_order : verdict 65536 (world_after (before ++ defines 0 (codes "r/I") 1536 object [] ∷ [])) (defines 0 (codes "q/X") 33 object (codes "r/I" ∷ codes "p/I" ∷ []))
+closed_in_file_order : verdict 65536 (world_after (before ++ defines 0 (codes "r/I") 1536 object [] ∷ []))
+    (defines 0 (codes "q/X") 33 object (codes "r/I" ∷ codes "p/I" ∷ []))
     ≡ Err (refusal.Define (InaccessibleParent (codes "r/I")))
 closed_in_file_order = refl
 
@@ -117,12 +118,15 @@ with_more more =
     let w = world_after before in
     record w { classes = record w.classes { rows = w.classes.rows ++ more } }
 
-last_class : (more : List Class) → length (with_more more).classes.rows ≡ 65535 → verdict 65536 (with_more more) (defines 0 (codes "X") 33 object []) ≡ Ok (made.Class 65535)
+last_class : (more : List Class) → length (with_more more).classes.rows ≡ 65535
+    → verdict 65536 (with_more more) (defines 0 (codes "X") 33 object []) ≡ Ok (made.Class 65535)
 last_class more e = rw e refl
 
-too_many_classes : (more : List Class) → length (with_more more).classes.rows ≡ 65536 → verdict 65536 (with_more more) (defines 0 (codes "X") 33 object []) ≡ Err (refusal.Define Full)
+too_many_classes : (more : List Class) → length (with_more more).classes.rows ≡ 65536
+    → verdict 65536 (with_more more) (defines 0 (codes "X") 33 object []) ≡ Err (refusal.Define Full)
 too_many_classes more e = rw e refl
 
 -- however many there are
-closed_before_too_many : (more : List Class) → verdict 65536 (with_more more) (defines 0 (codes "q/X") 33 (codes "p/A") []) ≡ Err (refusal.Define (InaccessibleParent (codes "p/A")))
+closed_before_too_many : (more : List Class) → verdict 65536 (with_more more) (defines 0 (codes "q/X") 33 (codes "p/A") []) ≡ Err
+    (refusal.Define (InaccessibleParent (codes "p/A")))
 closed_before_too_many more = refl

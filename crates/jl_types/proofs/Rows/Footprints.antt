@@ -1,22 +1,23 @@
 -- What links rest on, what events change of it, and how many evaluations they may take: over the whole history.
 use Rattle.std.specs.Prelude.{◌≡◌, ℕ, true, false, List, [], ◌∷◌, ◌++◌, map, replicate, Some, codes, refl}
-use Rattle.jl_classfile.specs.Class.{Method}
+use Rattle.jl_class.specs.Class.{Method}
 use Rattle.jl_pool.specs.declared.reference.Reference.{Reference}
-use Rattle.jl_code.specs.declared.site.Kind.{Kind}
-use Rattle.jl_code.specs.declared.site.Kind.TheVariants.{Virtual, Special, Static, Interface}
-use Rattle.jl_code.specs.declared.site.Operand.TheVariants as operand
+use Rattle.jl_class.specs.declared.site.Kind.{Kind}
+use Rattle.jl_class.specs.declared.site.Kind.TheVariants.{Virtual, Special, Static, Interface}
+use Rattle.jl_class.specs.declared.site.Operand.TheVariants as operand
 use Rattle.jl_types.specs.declared.ids.MethodId.{MethodId}
 use Rattle.jl_types.specs.declared.answer.Outcome.TheVariants.{Run, Throws}
 use Rattle.jl_types.specs.declared.answer.Throwable.TheVariants.{AbstractMethodError}
 use Rattle.jl_types.specs.declared.link.Link.TheVariants.{Fault, Plain, Direct, Table, Mega}
 use Rattle.jl_types.specs.declared.link.TableKind.TheVariants as kind
 use Rattle.jl_types.specs.declared.target.CallSiteKind.TheVariants.{Mutable}
-use Rattle.jl_types.specs.Target as target
-use Rattle.jl_types.specs.Target.{Target}
-use Rattle.jl_types.specs.Event.{Event}
-use Rattle.jl_types.specs.declared.event.EventOf.TheVariants.{NewLoader, Define, Delegate, Request, NewCallSite, SetTarget, NewSwitch, Invalidate, Bind, Install}
-use Rattle.jl_types.specs.World.{World}
-use Rattle.jl_types.specs.History.{world_after, dropped}
+use Rattle.jl_types.specs.Values.Target as target
+use Rattle.jl_types.specs.Values.Target.{Target}
+use Rattle.jl_types.specs.Happenings.Event.{Event}
+use Rattle.jl_types.specs.declared.event.EventOf.TheVariants.{NewLoader, Define, Delegate, Request, NewCallSite, SetTarget, NewSwitch, Invalidate}
+use Rattle.jl_types.specs.declared.event.EventOf.TheVariants.{Bind, Install}
+use Rattle.jl_types.specs.Values.World.{World}
+use Rattle.jl_types.specs.Happenings.History.{world_after, dropped}
 use Rattle.jl_types.proofs.Rows.Sketch.{method, file, class, first, world, calling, class_ref, itf_ref}
 use Rattle.jl_types.proofs.Rows.Sketch as sketch
 use Rattle.jl_types.proofs.Rows.Statics.{called}
@@ -24,10 +25,10 @@ use Rattle.jl_types.proofs.Rows.Histories.{below, object}
 use Rattle.jl_types.proofs.Rows.CallSites.{bootstrapping}
 use Rattle.jl_types.proofs.Rows.Loaders.{same_names, with_parents}
 use Rattle.jl_types.proofs.Rows.Entries as entries
-use Rattle.jl_types.specs.Entries.{events_of}
+use Rattle.jl_types.specs.Happenings.Entries.{events_of}
 use Rattle.jl_types.specs.declared.key.Key.{Key}
 use Rattle.jl_types.specs.declared.key.Key.TheVariants.{Receivers, Target as Retarget, Valid}
-use Rattle.jl_types.specs.Footprints.{same_key, has_key, meets, footprint, keys, most_by, most_for, touched, bound, stays_with}
+use Rattle.jl_types.specs.Happenings.Footprints.{same_key, has_key, meets, footprint, keys, most_by, most_for, touched, bound, stays_with}
 
 -- Object 0, A 1 with f, B 2 below A, M 3 that calls A.f twice, and the request of one of these calls, then of the other
 abbrev pub calls : Method
@@ -99,7 +100,8 @@ n = record { class = 1; index = 1 }
 -- T 1 has static methods m, n and r; its invokedynamic is site 0, and points 0 and 1 are valid
 abbrev begun : List Event
 begun = Define 0 (file (codes "java/lang/Object") 33 [])
-    ∷ Define 0 (record (file (codes "T") 33 (method 9 (codes "m") ∷ method 9 (codes "n") ∷ bootstrapping ∷ [])) { superclass = Some (codes "java/lang/Object") })
+    ∷ Define 0 (record (file (codes "T") 33 (method 9 (codes "m") ∷ method 9 (codes "n") ∷ bootstrapping ∷ []))
+    { superclass = Some (codes "java/lang/Object") })
     ∷ Request (record { class = 1; method = 2; pc = 0 })
     ∷ NewSwitch
     ∷ NewSwitch
@@ -300,7 +302,8 @@ its_target = refl
 
 -- I 1, which C implements
 its_interface : keys (world_after (object ∷ below (codes "java/lang/Object") (codes "I") 1537 [] ∷ []))
-    (Define 0 (record (file (codes "C") 33 []) { superclass = Some (codes "java/lang/Object"); interfaces = codes "I" ∷ [] })) ≡ Receivers 0 ∷ Receivers 1 ∷ Receivers 2 ∷ []
+    (Define 0 (record (file (codes "C") 33 []) { superclass = Some (codes "java/lang/Object"); interfaces = codes "I" ∷ [] })) ≡ Receivers 0 ∷ Receivers 1
+    ∷ Receivers 2 ∷ []
 its_interface = refl
 
 -- in loader 1, which has other classes of the parents' names than loader 0

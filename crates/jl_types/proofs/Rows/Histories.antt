@@ -1,7 +1,7 @@
 -- A site is linked, a class comes, and the link goes: over the whole history.
 use Rattle.std.specs.Prelude.{◌≡◌, ℕ, true, false, List, [], ◌∷◌, ◌++◌, Some, None, Ok, Err, codes, refl}
-use Rattle.jl_classfile.specs.Class.{Method}
-use Rattle.jl_code.specs.declared.site.Kind.TheVariants.{Virtual}
+use Rattle.jl_class.specs.Class.{Method}
+use Rattle.jl_class.specs.declared.site.Kind.TheVariants.{Virtual}
 use Rattle.jl_types.specs.declared.answer.Outcome.TheVariants.{Run}
 use Rattle.jl_types.specs.declared.answer.Recv.TheVariants.{Null, Of}
 use Rattle.jl_types.specs.declared.answer.Throwable.TheVariants.{NullPointerException}
@@ -11,24 +11,40 @@ use Rattle.jl_types.specs.declared.answer.Fast.TheVariants.{Now, Miss}
 use Rattle.jl_types.specs.declared.link.Link.{Link}
 use Rattle.jl_types.specs.declared.link.Link.TheVariants.{Direct, Table, Mega}
 use Rattle.jl_types.specs.declared.link.TableKind.TheVariants as kind
-use Rattle.jl_types.specs.Event.{Event}
+use Rattle.jl_types.specs.Happenings.Event.{Event}
 use Rattle.jl_types.specs.declared.event.EventOf.TheVariants.{Define, Request, Install}
 use Rattle.jl_types.specs.declared.event.Made.TheVariants as made
 use Rattle.jl_types.specs.declared.refusal.Refusal.TheVariants as refusal
 use Rattle.jl_types.specs.declared.refusal.DefineFault.TheVariants.{MissingParent, AlreadyRecorded}
-use Rattle.jl_types.specs.Links.{scratch}
-use Rattle.jl_types.specs.Calls.{dispatch}
-use Rattle.jl_types.specs.Events.{verdict}
-use Rattle.jl_types.specs.World.{nothing_yet}
-use Rattle.jl_types.specs.History.{world_after, installed, dropped, kept}
-use Rattle.jl_types.specs.Fast.{fast_answer}
+use Rattle.jl_types.specs.Linkage.Links.{scratch}
+use Rattle.jl_types.specs.Linkage.Calls.{dispatch}
+use Rattle.jl_types.specs.Happenings.Events.{verdict}
+use Rattle.jl_types.specs.Values.World.{nothing_yet}
+use Rattle.jl_types.specs.Happenings.History.{world_after, installed, dropped, kept}
+use Rattle.jl_types.specs.Happenings.Fast.{fast_answer}
 use Rattle.jl_types.proofs.Rows.Sketch.{method, first, calling, class_ref}
 
 abbrev pub below : List ℕ → List ℕ → ℕ → List Method → Event
-below parent name flags methods = Define 0 (record { name = name; flags = flags; superclass = Some parent; interfaces = []; nest_host = None; nest_members = []; methods = methods })
+below parent name flags methods = Define 0 (record {
+  name = name;
+  flags = flags;
+  superclass = Some parent;
+  interfaces = [];
+  nest_host = None;
+  nest_members = [];
+  methods = methods;
+})
 
 abbrev pub object : Event
-object = Define 0 (record { name = codes "java/lang/Object"; flags = 33; superclass = None; interfaces = []; nest_host = None; nest_members = []; methods = [] })
+object = Define 0 (record {
+  name = codes "java/lang/Object";
+  flags = 33;
+  superclass = None;
+  interfaces = [];
+  nest_host = None;
+  nest_members = [];
+  methods = [];
+})
 
 -- Object 0, A 1 with f, B 2 below A, M 3 that calls A.f, and the request
 abbrev before : List Event

@@ -1,15 +1,15 @@
 -- invokeinterface: its receivers, and methods that aren't public.
 use Rattle.std.specs.Prelude.{◌≡◌, [], ◌∷◌, Some, Ok, codes, refl}
-use Rattle.jl_code.specs.declared.site.Kind.TheVariants.{Interface}
+use Rattle.jl_class.specs.declared.site.Kind.TheVariants.{Interface}
 use Rattle.jl_types.specs.declared.answer.Outcome.TheVariants as outcome
 use Rattle.jl_types.specs.declared.answer.Recv.TheVariants.{Null, Of}
 use Rattle.jl_types.specs.declared.answer.Answer.TheVariants.{Run, Throws, BadReceiver}
 use Rattle.jl_types.specs.declared.answer.Throwable.TheVariants.{IllegalAccessError, IncompatibleClassChangeError, NullPointerException}
 use Rattle.jl_types.specs.declared.link.Link.TheVariants.{Table}
 use Rattle.jl_types.specs.declared.link.TableKind.TheVariants as kind
-use Rattle.jl_types.specs.World.{World}
-use Rattle.jl_types.specs.Links.{scratch}
-use Rattle.jl_types.specs.Calls.{dispatch}
+use Rattle.jl_types.specs.Values.World.{World}
+use Rattle.jl_types.specs.Linkage.Links.{scratch}
+use Rattle.jl_types.specs.Linkage.Calls.{dispatch}
 use Rattle.jl_types.proofs.Rows.Sketch.{object, class, method, first, world, calling, itf_ref}
 
 -- I 1 with an abstract f; X 2 with a protected f and Y 3 with a public one implement it; M 4 calls I.f

@@ -5,8 +5,8 @@ use Rattle.jl_types.specs.declared.answer.Answer.TheVariants as answer
 use Rattle.jl_types.specs.declared.link.Link.TheVariants.{Plain}
 use Rattle.jl_types.specs.declared.target.CallSiteKind.{CallSiteKind}
 use Rattle.jl_types.specs.declared.target.CallSiteKind.TheVariants.{Constant, Mutable}
-use Rattle.jl_types.specs.Target.{Target, Method as Of, Guard, Invoker}
-use Rattle.jl_types.specs.Event.{Event}
+use Rattle.jl_types.specs.Values.Target.{Target, Method as Of, Guard, Invoker}
+use Rattle.jl_types.specs.Happenings.Event.{Event}
 use Rattle.jl_types.specs.declared.event.EventOf.TheVariants.{NewCallSite, SetTarget, NewSwitch, Invalidate, Bind, Install}
 use Rattle.jl_types.specs.declared.event.Made.{Made}
 use Rattle.jl_types.specs.declared.event.Made.TheVariants as made
@@ -14,13 +14,13 @@ use Rattle.jl_types.specs.declared.refusal.Refusal.{Refusal}
 use Rattle.jl_types.specs.declared.refusal.Refusal.TheVariants.{CallSite}
 use Rattle.jl_types.specs.declared.refusal.CallSiteFault.TheVariants.{Constant as KeepsIts, WrongType, UnknownSwitch, TooDeep, InvokerOrder}
 use Rattle.jl_types.specs.declared.key.Key.TheVariants.{Target as Retarget, Valid}
-use Rattle.jl_types.specs.World.{World, Sites}
-use Rattle.jl_types.specs.Targets.{method_of}
-use Rattle.jl_types.specs.Links.{scratch}
-use Rattle.jl_types.specs.Calls.{dispatch}
-use Rattle.jl_types.specs.Events.{verdict}
-use Rattle.jl_types.specs.History.{world_after, installed_links, dropped}
-use Rattle.jl_types.specs.Footprints.{path, footprint, touched, bound}
+use Rattle.jl_types.specs.Values.World.{World, Sites}
+use Rattle.jl_types.specs.Linkage.Targets.{method_of}
+use Rattle.jl_types.specs.Linkage.Links.{scratch}
+use Rattle.jl_types.specs.Linkage.Calls.{dispatch}
+use Rattle.jl_types.specs.Happenings.Events.{verdict}
+use Rattle.jl_types.specs.Happenings.History.{world_after, installed_links, dropped}
+use Rattle.jl_types.specs.Happenings.Footprints.{path, footprint, touched, bound}
 use Rattle.jl_types.proofs.Rows.CallSites.{begun, m, n}
 
 abbrev site : CallSiteKind → Target → Event

@@ -1,6 +1,6 @@
 -- What there is room for, and places that are never linked.
 use Rattle.std.specs.Prelude.{◌≡◌, ℕ, List, [], ◌∷◌, ◌++◌, Some, None, Ok, Err, length, replicate, codes, refl}
-use Rattle.jl_code.specs.declared.site.Kind.TheVariants.{Virtual, Static}
+use Rattle.jl_class.specs.declared.site.Kind.TheVariants.{Virtual, Static}
 use Rattle.jl_types.specs.declared.ids.Place.{Place}
 use Rattle.jl_types.specs.declared.event.EventOf.TheVariants.{NewLoader, NewSwitch, NewCallSite, Request}
 use Rattle.jl_types.specs.declared.event.Made.TheVariants as made
@@ -9,11 +9,11 @@ use Rattle.jl_types.specs.declared.refusal.NotLinkable.TheVariants.{ArrayReceive
 use Rattle.jl_types.specs.declared.refusal.CallSiteFault.TheVariants as fault
 use Rattle.jl_types.specs.declared.refusal.PrepareFault.TheVariants as prepare
 use Rattle.jl_types.specs.declared.target.CallSiteKind.TheVariants.{Mutable}
-use Rattle.jl_types.specs.Target.{Target, Method}
-use Rattle.jl_types.specs.World.{World, CallSite}
-use Rattle.jl_types.specs.Events.{verdict}
-use Rattle.jl_types.specs.History.{world_after}
-use Rattle.jl_types.specs.Preparation.{prepare_fault}
+use Rattle.jl_types.specs.Values.Target.{Target, Method}
+use Rattle.jl_types.specs.Values.World.{World, CallSite}
+use Rattle.jl_types.specs.Happenings.Events.{verdict}
+use Rattle.jl_types.specs.Happenings.History.{world_after}
+use Rattle.jl_types.specs.Happenings.Preparation.{prepare_fault}
 use Rattle.jl_types.proofs.Rows.Sketch.{object, class, world, calling, class_ref}
 use Rattle.jl_types.proofs.Rows.Statics.{called}
 use Rattle.jl_types.proofs.Rows.CallSites.{begun, m}

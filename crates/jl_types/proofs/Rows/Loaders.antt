@@ -1,15 +1,15 @@
 -- Loaders: what they refuse to define and to delegate.
 use Rattle.std.specs.Prelude.{◌≡◌, ℕ, List, [], ◌∷◌, ◌++◌, Option, Some, None, Ok, Err, codes, refl}
-use Rattle.jl_types.specs.Event.{Event}
+use Rattle.jl_types.specs.Happenings.Event.{Event}
 use Rattle.jl_types.specs.declared.event.EventOf.TheVariants.{NewLoader, Define, Delegate}
 use Rattle.jl_types.specs.declared.event.Made.TheVariants as made
 use Rattle.jl_types.specs.declared.refusal.Refusal.TheVariants as refusal
 use Rattle.jl_types.specs.declared.refusal.DefineFault.TheVariants.{MissingParent, SecondObject, InaccessibleParent, NamesItself, SuperIsInterface}
 use Rattle.jl_types.specs.declared.refusal.DelegateFault.TheVariants as delegate
-use Rattle.jl_types.specs.Events.{verdict}
-use Rattle.jl_types.specs.Members.{lookup}
-use Rattle.jl_types.specs.Ancestry.{superclass_of, ancestors}
-use Rattle.jl_types.specs.History.{world_after}
+use Rattle.jl_types.specs.Happenings.Events.{verdict}
+use Rattle.jl_types.specs.Values.Members.{lookup}
+use Rattle.jl_types.specs.Values.Ancestry.{superclass_of, ancestors}
+use Rattle.jl_types.specs.Happenings.History.{world_after}
 
 abbrev defines : ℕ → List ℕ → ℕ → Option (List ℕ) → Event
 defines loader name flags parent =
@@ -65,7 +65,8 @@ apart = shared ++ defines 1 (codes "A") 33 (Some object) ∷ []
 not_recorded_before_recorded : verdict 65536 (world_after apart) (Delegate 1 (codes "A") 0) ≡ Err (refusal.Delegate delegate.NotRecorded)
 not_recorded_before_recorded = refl
 
-another_is_recorded : verdict 65536 (world_after (apart ++ defines 0 (codes "A") 33 (Some object) ∷ [])) (Delegate 1 (codes "A") 0) ≡ Err (refusal.Delegate delegate.AlreadyRecorded)
+another_is_recorded : verdict 65536 (world_after (apart ++ defines 0 (codes "A") 33 (Some object) ∷ [])) (Delegate 1 (codes "A") 0) ≡ Err
+    (refusal.Delegate delegate.AlreadyRecorded)
 another_is_recorded = refl
 
 delegated_to_itself : verdict 65536 (world_after shared) (Delegate 0 object 0) ≡ Err (refusal.Delegate delegate.AlreadyRecorded)
@@ -100,7 +101,16 @@ same_names = shared
 -- B is below A and I of the loader that defines it
 abbrev pub with_parents : ℕ → Event
 with_parents loader =
-    Define loader (record { name = codes "B"; flags = 33; superclass = Some (codes "A"); interfaces = codes "I" ∷ []; nest_host = None; nest_members = []; methods = [] })
+    Define loader (record {
+      name = codes "B";
+      flags = 33;
+      superclass = Some (codes "A");
+      interfaces = codes "I"
+          ∷ [];
+      nest_host = None;
+      nest_members = [];
+      methods = [];
+    })
 
 own_parents : verdict 65536 (world_after same_names) (with_parents 1) ≡ Ok (made.Class 5)
 own_parents = refl

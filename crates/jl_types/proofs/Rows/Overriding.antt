@@ -1,9 +1,9 @@
 -- Overriding across packages, and by methods that override nothing.
 use Rattle.std.specs.Prelude.{◌≡◌, ℕ, List, [], ◌∷◌, Some, codes, refl, true, false}
 use Rattle.jl_types.specs.declared.answer.Chosen.TheVariants.{Method as Picked}
-use Rattle.jl_types.specs.World.{Classes}
-use Rattle.jl_types.specs.Overriding.{can_override}
-use Rattle.jl_types.specs.Selection.{chosen}
+use Rattle.jl_types.specs.Values.World.{Classes}
+use Rattle.jl_types.specs.Linkage.Overriding.{can_override}
+use Rattle.jl_types.specs.Linkage.Selection.{chosen}
 use Rattle.jl_types.proofs.Rows.Sketch.{object, class, classes, method, first}
 
 -- p/A f without flag, q/B below it with public f, p/C below that with public f

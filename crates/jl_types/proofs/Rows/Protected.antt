@@ -1,11 +1,11 @@
 -- A protected method, from a subclass in another package.
 use Rattle.std.specs.Prelude.{◌≡◌, ℕ, List, [], ◌∷◌, Some, Ok, codes, refl}
-use Rattle.jl_code.specs.declared.site.Kind.TheVariants.{Virtual}
-use Rattle.jl_types.specs.World.{Class}
+use Rattle.jl_class.specs.declared.site.Kind.TheVariants.{Virtual}
+use Rattle.jl_types.specs.Values.World.{Class}
 use Rattle.jl_types.specs.declared.answer.Outcome.TheVariants.{Run}
 use Rattle.jl_types.specs.declared.answer.Throwable.TheVariants.{IllegalAccessError}
 use Rattle.jl_types.specs.declared.link.Link.TheVariants.{Fault, Direct}
-use Rattle.jl_types.specs.Links.{scratch}
+use Rattle.jl_types.specs.Linkage.Links.{scratch}
 use Rattle.jl_types.proofs.Rows.Sketch.{object, class, method, first, world, calling, class_ref}
 
 -- p/C with a protected f; q/D and q/E below it; D's code names owner.f

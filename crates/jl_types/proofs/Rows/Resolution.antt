@@ -3,8 +3,8 @@ use Rattle.std.specs.Prelude.{◌≡◌, ℕ, [], ◌∷◌, Some, Ok, Err, code
 use Rattle.jl_types.specs.declared.answer.ResolveAnswer.TheVariants.{NotReady, Fault}
 use Rattle.jl_types.specs.declared.answer.Missing.TheVariants.{Named}
 use Rattle.jl_types.specs.declared.answer.Throwable.TheVariants.{IncompatibleClassChangeError, NoSuchMethodError}
-use Rattle.jl_types.specs.World.{Classes}
-use Rattle.jl_types.specs.Resolution.{resolved}
+use Rattle.jl_types.specs.Values.World.{Classes}
+use Rattle.jl_types.specs.Linkage.Resolution.{resolved}
 use Rattle.jl_types.proofs.Rows.Sketch.{object, class, classes, method, first, naming, class_ref, itf_ref}
 
 -- X 3 implements I 1 and J 2, each with its f; M 4 is the caller; K 5 is below I and J

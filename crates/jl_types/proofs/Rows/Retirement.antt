@@ -1,7 +1,7 @@
 -- A loader is retired: what refuses it, what goes with it, and what is left, over the whole history.
 use Rattle.std.specs.Prelude.{◌≡◌, ℕ, true, false, List, [], ◌∷◌, ◌++◌, Some, None, Ok, Err, codes, refl}
-use Rattle.jl_classfile.specs.Class.{Method}
-use Rattle.jl_code.specs.declared.site.Kind.TheVariants.{Virtual}
+use Rattle.jl_class.specs.Class.{Method}
+use Rattle.jl_class.specs.declared.site.Kind.TheVariants.{Virtual}
 use Rattle.jl_types.specs.declared.answer.Outcome.TheVariants.{Run}
 use Rattle.jl_types.specs.declared.answer.Recv.TheVariants.{Null, Of}
 use Rattle.jl_types.specs.declared.answer.Unlinked.TheVariants.{Gone}
@@ -10,8 +10,8 @@ use Rattle.jl_types.specs.declared.link.Link.{Link}
 use Rattle.jl_types.specs.declared.link.Link.TheVariants.{Direct, Table}
 use Rattle.jl_types.specs.declared.link.TableKind.TheVariants as kind
 use Rattle.jl_types.specs.declared.target.CallSiteKind.TheVariants.{Mutable}
-use Rattle.jl_types.specs.Target as target
-use Rattle.jl_types.specs.Event.{Event}
+use Rattle.jl_types.specs.Values.Target as target
+use Rattle.jl_types.specs.Happenings.Event.{Event}
 use Rattle.jl_types.specs.declared.event.EventOf.TheVariants.{NewLoader, Define, Delegate, Request, NewCallSite, NewSwitch, Bind, Install, Retire}
 use Rattle.jl_types.specs.declared.event.Made.TheVariants as made
 use Rattle.jl_types.specs.declared.refusal.Refusal.TheVariants as refusal
@@ -19,14 +19,14 @@ use Rattle.jl_types.specs.declared.refusal.CallSiteFault.TheVariants as call_sit
 use Rattle.jl_types.specs.declared.refusal.DefineFault.TheVariants as define
 use Rattle.jl_types.specs.declared.refusal.DelegateFault.TheVariants as delegate
 use Rattle.jl_types.specs.declared.refusal.RetireFault.TheVariants.{UnknownLoader, FirstLoader, Inherited, Recorded, Targeted}
-use Rattle.jl_types.specs.Members.{lookup, has_class, is_present}
-use Rattle.jl_types.specs.Ancestry.{receivers}
-use Rattle.jl_types.specs.Links.{scratch}
-use Rattle.jl_types.specs.Calls.{dispatch}
-use Rattle.jl_types.specs.Events.{verdict}
-use Rattle.jl_types.specs.History.{world_after, installed, dropped}
+use Rattle.jl_types.specs.Values.Members.{lookup, has_class, is_present}
+use Rattle.jl_types.specs.Values.Ancestry.{receivers}
+use Rattle.jl_types.specs.Linkage.Links.{scratch}
+use Rattle.jl_types.specs.Linkage.Calls.{dispatch}
+use Rattle.jl_types.specs.Happenings.Events.{verdict}
+use Rattle.jl_types.specs.Happenings.History.{world_after, installed, dropped}
 use Rattle.jl_types.specs.declared.key.Key.TheVariants.{Receivers}
-use Rattle.jl_types.specs.Footprints.{footprint, keys, touched, left_touched, bound}
+use Rattle.jl_types.specs.Happenings.Footprints.{footprint, keys, touched, left_touched, bound}
 use Rattle.jl_types.proofs.Rows.Sketch.{method, calling, class_ref, first}
 use Rattle.jl_types.proofs.Rows.Histories.{linked}
 

@@ -1,8 +1,8 @@
 -- What resolution, selection and invokespecial look through (JVMS 5.4.3.3, 5.4.3.4, 5.4.6, 6.5).
 use Rattle.std.specs.Prelude.{◌≡◌, ℕ, List, [], ◌∷◌, Some, None, Ok, Err, codes, refl}
-use Rattle.jl_classfile.specs.Class.{Method}
+use Rattle.jl_class.specs.Class.{Method}
 use Rattle.jl_pool.specs.declared.reference.Reference.{Reference}
-use Rattle.jl_code.specs.declared.site.Kind.TheVariants.{Virtual, Special, Interface}
+use Rattle.jl_class.specs.declared.site.Kind.TheVariants.{Virtual, Special, Interface}
 use Rattle.jl_types.specs.declared.answer.Chosen.TheVariants.{Method as Picked, Nothing}
 use Rattle.jl_types.specs.declared.answer.Outcome.TheVariants.{Run, Throws}
 use Rattle.jl_types.specs.declared.answer.Recv.TheVariants.{Null, Of}
@@ -11,11 +11,11 @@ use Rattle.jl_types.specs.declared.answer.Unlinked.TheVariants.{Gone, NoSite}
 use Rattle.jl_types.specs.declared.answer.ResolveAnswer.TheVariants.{Fault}
 use Rattle.jl_types.specs.declared.answer.Throwable.TheVariants.{NoSuchMethodError, AbstractMethodError}
 use Rattle.jl_types.specs.declared.link.Link.TheVariants as link
-use Rattle.jl_types.specs.World.{Class, Classes, World}
-use Rattle.jl_types.specs.Resolution.{resolved}
-use Rattle.jl_types.specs.Selection.{chosen, virtual_outcome, interface_outcome, special_outcome}
-use Rattle.jl_types.specs.Links.{scratch}
-use Rattle.jl_types.specs.Calls.{dispatch}
+use Rattle.jl_types.specs.Values.World.{Class, Classes, World}
+use Rattle.jl_types.specs.Linkage.Resolution.{resolved}
+use Rattle.jl_types.specs.Linkage.Selection.{chosen, virtual_outcome, interface_outcome, special_outcome}
+use Rattle.jl_types.specs.Linkage.Links.{scratch}
+use Rattle.jl_types.specs.Linkage.Calls.{dispatch}
 use Rattle.jl_types.proofs.Rows.Sketch.{object, class, classes, method, first, naming, world, calling, class_ref, itf_ref}
 
 -- java/lang/Object with this method

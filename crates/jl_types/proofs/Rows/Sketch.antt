@@ -1,12 +1,12 @@
 -- Small classes to write worlds with.
 use Rattle.std.specs.Prelude.{ℕ, ◌+◌, ◌==◌, if◌then◌else◌, List, [], ◌∷◌, Option, None, codes, true, false}
-use Rattle.jl_classfile.specs.Class.{ClassFile, Method}
+use Rattle.jl_class.specs.Class.{ClassFile, Method}
 use Rattle.jl_pool.specs.declared.reference.Reference.{Reference}
-use Rattle.jl_code.specs.declared.site.Kind.{Kind}
-use Rattle.jl_code.specs.declared.site.Operand.TheVariants as operand
+use Rattle.jl_class.specs.declared.site.Kind.{Kind}
+use Rattle.jl_class.specs.declared.site.Operand.TheVariants as operand
 use Rattle.jl_types.specs.declared.ids.MethodId.{MethodId}
-use Rattle.jl_types.specs.World.{Class, Classes, World}
-use Rattle.jl_types.specs.Resolution.{Resolved}
+use Rattle.jl_types.specs.Values.World.{Class, Classes, World}
+use Rattle.jl_types.specs.Linkage.Resolution.{Resolved}
 
 abbrev pub method : ℕ → List ℕ → Method
 method flags name = record { name = name; ty = codes "()V"; flags = flags; sites = [] }

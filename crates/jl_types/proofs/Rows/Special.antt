@@ -1,14 +1,14 @@
 -- An invokespecial whose search finds an abstract method.
 use Rattle.std.specs.Prelude.{◌≡◌, [], ◌∷◌, Some, Ok, codes, refl}
-use Rattle.jl_code.specs.declared.site.Kind.TheVariants.{Special}
+use Rattle.jl_class.specs.declared.site.Kind.TheVariants.{Special}
 use Rattle.jl_types.specs.declared.answer.Outcome.TheVariants as outcome
 use Rattle.jl_types.specs.declared.answer.Recv.TheVariants.{Null, Of}
 use Rattle.jl_types.specs.declared.answer.Answer.TheVariants.{Throws, BadReceiver}
 use Rattle.jl_types.specs.declared.answer.Throwable.TheVariants.{AbstractMethodError, NullPointerException}
 use Rattle.jl_types.specs.declared.link.Link.TheVariants.{Direct}
-use Rattle.jl_types.specs.Links.{scratch}
-use Rattle.jl_types.specs.Calls.{dispatch}
-use Rattle.jl_types.specs.World.{World}
+use Rattle.jl_types.specs.Linkage.Links.{scratch}
+use Rattle.jl_types.specs.Linkage.Calls.{dispatch}
+use Rattle.jl_types.specs.Values.World.{World}
 use Rattle.jl_types.proofs.Rows.Sketch.{object, class, method, world, calling, class_ref}
 
 -- abstract A with an abstract f; B below A calls super.f

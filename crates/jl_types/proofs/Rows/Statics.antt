@@ -1,15 +1,15 @@
 -- Static methods where an instance method is wanted, and the other way round (JVMS 6.5).
 use Rattle.std.specs.Prelude.{◌≡◌, ℕ, List, [], ◌∷◌, Some, Ok, codes, refl}
 use Rattle.jl_pool.specs.declared.reference.Reference.{Reference}
-use Rattle.jl_code.specs.declared.site.Kind.{Kind}
-use Rattle.jl_code.specs.declared.site.Kind.TheVariants.{Virtual, Special, Static, Interface}
+use Rattle.jl_class.specs.declared.site.Kind.{Kind}
+use Rattle.jl_class.specs.declared.site.Kind.TheVariants.{Virtual, Special, Static, Interface}
 use Rattle.jl_types.specs.declared.answer.Recv.TheVariants.{Null}
 use Rattle.jl_types.specs.declared.answer.Answer.TheVariants as answer
 use Rattle.jl_types.specs.declared.answer.Throwable.TheVariants.{IncompatibleClassChangeError}
 use Rattle.jl_types.specs.declared.link.Link.TheVariants.{Fault, Plain}
-use Rattle.jl_types.specs.World.{World}
-use Rattle.jl_types.specs.Links.{scratch}
-use Rattle.jl_types.specs.Calls.{dispatch}
+use Rattle.jl_types.specs.Values.World.{World}
+use Rattle.jl_types.specs.Linkage.Links.{scratch}
+use Rattle.jl_types.specs.Linkage.Calls.{dispatch}
 use Rattle.jl_types.proofs.Rows.Sketch.{object, class, method, first, world, calling, class_ref, itf_ref}
 
 -- A 1, with these flags, has f with these; M 2 calls it

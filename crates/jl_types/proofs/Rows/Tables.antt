@@ -1,12 +1,12 @@
 -- A table of eight, and no more.
 use Rattle.std.specs.Prelude.{◌≡◌, ℕ, ◌+◌, List, [], ◌∷◌, map, Some, Ok, codes, refl}
 use Rattle.std.specs.List.{range_with_len}
-use Rattle.jl_code.specs.declared.site.Kind.TheVariants.{Virtual}
-use Rattle.jl_types.specs.World.{Class}
+use Rattle.jl_class.specs.declared.site.Kind.TheVariants.{Virtual}
+use Rattle.jl_types.specs.Values.World.{Class}
 use Rattle.jl_types.specs.declared.answer.Outcome.TheVariants.{Run}
 use Rattle.jl_types.specs.declared.link.Link.TheVariants.{Table, Mega}
 use Rattle.jl_types.specs.declared.link.TableKind.TheVariants as kind
-use Rattle.jl_types.specs.Links.{scratch}
+use Rattle.jl_types.specs.Linkage.Links.{scratch}
 use Rattle.jl_types.proofs.Rows.Sketch.{object, class, method, first, world, calling, class_ref}
 
 -- abstract A with f, a caller, and n children of A with their own f

@@ -10,7 +10,8 @@ use Rattle.jl_types.specs.declared.ids.MethodId.{MethodId}
 use Rattle.jl_types.specs.declared.answer.Outcome.{Outcome}
 use Rattle.jl_types.specs.declared.answer.Outcome.TheVariants.{Run, Throws}
 use Rattle.jl_types.specs.declared.answer.Throwable.{Throwable}
-use Rattle.jl_types.specs.declared.answer.Throwable.TheVariants.{NoSuchMethodError, IllegalAccessError, IncompatibleClassChangeError, AbstractMethodError, NullPointerException}
+use Rattle.jl_types.specs.declared.answer.Throwable.TheVariants.{NoSuchMethodError, IllegalAccessError, IncompatibleClassChangeError}
+use Rattle.jl_types.specs.declared.answer.Throwable.TheVariants.{AbstractMethodError, NullPointerException}
 use Rattle.jl_types.specs.contracts.answer.OutcomePartialEq.TheImpl as outcome
 use Rattle.jl_types.specs.contracts.answer.ThrowablePartialEq.TheImpl as throwable
 use Rattle.jl_types.specs.contracts.ids.MethodIdPartialEq.TheImpl as method
@@ -31,7 +32,9 @@ pub throwable_decides : (x y : Throwable) → Decides ((throwable.ghosts).eq x y
 throwable_decides = decided (throwable.ghosts).eq (λ x y h. same_true the_type (search rules) x y h) throwable_same
 
 pub method_decides : (x y : MethodId) → Decides ((method.ghosts).eq x y) (x ≡ y)
-method_decides x y = Decides-like (nat_eq x.class y.class && nat_eq x.index y.index) (λ h i. record { class = h.0 i; index = h.1 i }) (λ e. (λ i. (e i).class, λ i. (e i).index)) (Decides-and (nat_eq x.class y.class) (nat_eq x.index y.index) (Decides-eqb x.class y.class) (Decides-eqb x.index y.index))
+method_decides x y = Decides-like (nat_eq x.class y.class && nat_eq x.index y.index) (λ h i. record { class = h.0 i; index = h.1 i })
+    (λ e. (λ i. (e i).class, λ i. (e i).index)) (Decides-and (nat_eq x.class y.class) (nat_eq x.index y.index) (Decides-eqb x.class y.class)
+    (Decides-eqb x.index y.index))
 
 outcome_sound : (x y : Outcome) → (outcome.ghosts).eq x y ≡ true → x ≡ y
 outcome_sound (Run m) (Run n) h = ap Run ((method_decides m n).0 h)
@@ -49,7 +52,8 @@ abbrev pub same_row : ℕ × Outcome → ℕ × Outcome → Bool
 same_row x y = (x.0 == y.0) && (outcome.ghosts).eq x.1 y.1
 
 pub row_decides : (x y : ℕ × Outcome) → Decides (same_row x y) (x ≡ y)
-row_decides x y = Decides-like (same_row x y) (λ h i. (h.0 i, h.1 i)) (λ e. (λ i. (e i).0, λ i. (e i).1)) (Decides-and (x.0 == y.0) ((outcome.ghosts).eq x.1 y.1) (Decides-eqb x.0 y.0) (outcome_decides x.1 y.1))
+row_decides x y = Decides-like (same_row x y) (λ h i. (h.0 i, h.1 i)) (λ e. (λ i. (e i).0, λ i. (e i).1))
+    (Decides-and (x.0 == y.0) ((outcome.ghosts).eq x.1 y.1) (Decides-eqb x.0 y.0) (outcome_decides x.1 y.1))
 
 pub table_decides : (x y : List (ℕ × Outcome)) → Decides (pointwise same_row x y) (x ≡ y)
 table_decides = pointwise_decides row_decides

@@ -1,7 +1,7 @@
 -- The target of a part, as the code keeps it.
 use Rattle.jl_types.specs.declared.target.Part.{Part}
 use Rattle.jl_types.specs.declared.target.Part.TheVariants as part
-use Rattle.jl_types.specs.Target.{Target, Method, Guard, Invoker}
+use Rattle.jl_types.specs.Values.Target.{Target, Method, Guard, Invoker}
 
 abbrev pub whole : Part → Target
 whole (part.Method m) = Method m

@@ -4,7 +4,7 @@ use Rattle.std.proofs.Common.{arith}
 use Rattle.jl_types.specs.declared.target.Part.{Part}
 use Rattle.jl_types.specs.declared.target.Part.TheVariants as part
 use Rattle.jl_types.specs.declared.target.Target.TheDeep.{deep-Part}
-use Rattle.jl_types.specs.Target.{depth}
+use Rattle.jl_types.specs.Values.Target.{depth}
 use Rattle.jl_types.specs.Means.Whole.{whole}
 
 pub part_le_depth : (p : Part) → max (deep-Part p) 0 ≤ depth (whole p)

@@ -1,5 +1,9 @@
 -- What lies at the handle is lent for the time of the call, and lies there again after it.
-use Rattle.linkd_c.proofs.Steps.{◌≡◌, [], ◌∷◌, refl, ap, Option, None, proved, leaves, full_share, id⊢, flft, named, vptr, vunit, tables, ‵, raw, ◌⊛◌, prop, ◌$◌, ◌∵◌, !, qed, done, move, keep, drop, use1, use2, split, join, fsplit, fjoin, feq_i, feq_l, regoal, suffices, enter, of_opd, addr, stop, no_more, and_then, returns, unit_lit, alloc_all, pass_all, free_all, look_at, get, through, sets, lands_as, WpFn, valss, Spells, Ptr, block_ptr, in_a_block, rawptr_vals, rawptr_Tells, types_at, nothing, only, calls_at, Lasts, lasts, alive, Args, owns, all_give, all_go, lends, answers, takes_back, packs, triple_of, framed, walk_of, Lfts}
+use Rattle.linkd_c.proofs.Steps.{◌≡◌, [], ◌∷◌, refl, ap, Option, None, proved, leaves, full_share, id⊢, flft, named, vptr, vunit, tables, ‵, raw, ◌⊛◌, prop}
+use Rattle.linkd_c.proofs.Steps.{◌$◌, ◌∵◌, !, qed, done, move, keep, drop, use1, use2, split, join, fsplit, fjoin, feq_i, feq_l, regoal, suffices, enter}
+use Rattle.linkd_c.proofs.Steps.{of_opd, addr, stop, no_more, and_then, returns, unit_lit, alloc_all, pass_all, free_all, look_at, get, through, sets}
+use Rattle.linkd_c.proofs.Steps.{lands_as, WpFn, valss, Spells, Ptr, block_ptr, in_a_block, rawptr_vals, rawptr_Tells, types_at, nothing, only, calls_at}
+use Rattle.linkd_c.proofs.Steps.{Lasts, lasts, alive, Args, owns, all_give, all_go, lends, answers, takes_back, packs, triple_of, framed, walk_of, Lfts}
 use Rattle.jl_host.specs.Linkers.{Opened}
 use Rattle.linkd_c.specs.Handle.{linker_at}
 use Rattle.jl_host.specs.contracts.linker.Linker.{the_row as R}

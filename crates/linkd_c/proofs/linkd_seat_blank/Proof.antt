@@ -1,5 +1,9 @@
 -- A new value is written into the room.
-use Rattle.linkd_c.proofs.Steps.{◌≡◌, [], ◌∷◌, refl, None, proved, leaves, full_share, id⊢, vunit, tables, ‵, raw, ◌⊛◌, prop, ◌$◌, ◌∵◌, !, qed, done, move, keep, drop, use2, split, join, fjoin, feq_i, rewrite, regoal, suffices, enter, of_opd, stop, no_more, returns, unit_lit, init, assigns, alloc_all, pass_all, free_all, look_at, get, through, sets, lands_as, WpFn, shows, Is, part_at, Ptr, block_ptr, in_a_block, rawptr_vals, rawptr_Tells, types_at, nothing, peeks, calls_at, lasts, alive, owns, all_give, all_go, answers, triple_of, framed, walk_of, part_in}
+use Rattle.linkd_c.proofs.Steps.{◌≡◌, [], ◌∷◌, refl, None, proved, leaves, full_share, id⊢, vunit, tables, ‵, raw, ◌⊛◌, prop, ◌$◌, ◌∵◌, !, qed, done, move}
+use Rattle.linkd_c.proofs.Steps.{keep, drop, use2, split, join, fjoin, feq_i, rewrite, regoal, suffices, enter, of_opd, stop, no_more, returns, unit_lit}
+use Rattle.linkd_c.proofs.Steps.{init, assigns, alloc_all, pass_all, free_all, look_at, get, through, sets, lands_as, WpFn, shows, Is, part_at, Ptr}
+use Rattle.linkd_c.proofs.Steps.{block_ptr, in_a_block, rawptr_vals, rawptr_Tells, types_at, nothing, peeks, calls_at, lasts, alive, owns, all_give, all_go}
+use Rattle.linkd_c.proofs.Steps.{answers, triple_of, framed, walk_of, part_in}
 use Rattle.linkd_c.specs.Handle.{seat_room}
 use Rattle.jl_host.specs.contracts.seat.Seat.{the_row as R}
 use Rattle.jl_host.proofs.seat.Seat.TheLaws.{the_row_laws}

@@ -1,6 +1,10 @@
 -- What lies at the handle is lent for the time of the call, and lies there again after it.
-use Rattle.linkd_c.proofs.Steps.{◌≡◌, [], ◌∷◌, refl, ap, Option, None, proved, leaves, full_share, id⊢, flft, named, vptr, vunit, tables, ‵, raw, ◌⊛◌, prop, ◌$◌, ◌∵◌, !, qed, done, move, keep, drop, use1, use2, split, join, fsplit, fjoin, feq_i, feq_l, regoal, suffices, enter, of_opd, addr, stop, no_more, and_then, returns, unit_lit, alloc_all, pass_all, free_all, look_at, get, through, sets, lands_as, WpFn, valss, Spells, Ptr, block_ptr, in_a_block, rawptr_vals, rawptr_Tells, types_at, nothing, only, calls_at, Lasts, lasts, alive, Args, owns, all_give, all_go, lends, answers, takes_back, packs, triple_of, framed, walk_of, Lfts}
-use Rattle.jl_host.specs.Seats.{Seen}
+use Rattle.linkd_c.proofs.Steps.{◌≡◌, [], ◌∷◌, refl, ap, Option, None, proved, leaves, full_share, id⊢, flft, named, vptr, vunit, tables, ‵, raw, ◌⊛◌, prop}
+use Rattle.linkd_c.proofs.Steps.{◌$◌, ◌∵◌, !, qed, done, move, keep, drop, use1, use2, split, join, fsplit, fjoin, feq_i, feq_l, regoal, suffices, enter}
+use Rattle.linkd_c.proofs.Steps.{of_opd, addr, stop, no_more, and_then, returns, unit_lit, alloc_all, pass_all, free_all, look_at, get, through, sets}
+use Rattle.linkd_c.proofs.Steps.{lands_as, WpFn, valss, Spells, Ptr, block_ptr, in_a_block, rawptr_vals, rawptr_Tells, types_at, nothing, only, calls_at}
+use Rattle.linkd_c.proofs.Steps.{Lasts, lasts, alive, Args, owns, all_give, all_go, lends, answers, takes_back, packs, triple_of, framed, walk_of, Lfts}
+use Rattle.jl_host.specs.Seats.{SeatView}
 use Rattle.linkd_c.specs.Handle.{seat_at}
 use Rattle.jl_host.specs.contracts.seat.Seat.{the_row as R}
 use Rattle.linkd_c.specs.contracts.linkd_seat_leave as f
@@ -27,7 +31,7 @@ linkd_seat_leave_spec 𝓤 𝓛 𝓜 𝓡 wired =
     let z : G.Ghost = (((α ∷ [], κs), (full_share, qs), tt, (record { ref_ptr = (b, o); ghost_name = δ; now = x }, a.1), (vptr b o ∷ [], (y a.0).0.4.1)), tt) in
     move ! (0 ∷ 3 ∷ []) $ fjoin ! $ move ! (2 ∷ 3 ∷ []) $ join ! $ join ! $ nothing ! $ move ! (1 ∷ 0 ∷ []) $ use2 𝓛 (raw (G.pre z)) (id⊢ 𝓤 _) $
     calls_at ! (framed 𝓤 𝓛.H 𝓜 𝓣) G (met 𝓤 𝓛 𝓜 𝓡 (code.calls-jl_host::seat::Seat::leave 𝓡.env wired)) z (and_then ! (get ! refl) (no_more !)) (λ v.
-    let P : Unit {0} → Lasts g.ended z.0.0 z.0.3 → Option Seen → Type 0 = λ u ws new. new ≡ None in
+    let P : Unit {0} → Lasts g.ended z.0.0 z.0.3 → Option SeatView → Type 0 = λ u ws new. new ≡ None in
     answers ! tt g.signature (g.spec 𝓛 𝓜.mem 𝓡.returns) z v (lasts g.ended z.0.0 z.0.3) (λ u ws. P u ws ws.0) (λ u. id⊢ 𝓤 _) (λ u ws told.
     use1 𝓛 (‵ (flft (α ∷ []) full_share) ⊛ raw (alive 𝓛 S κs qs)) (id⊢ 𝓤 _) $ split ! $
     move ! (2 ∷ []) $ feq_l ! (λ is. lands_as ! (ap only is) refl (tt, tt) $ feq_i ! _ (vunit ∷ []) _ refl $

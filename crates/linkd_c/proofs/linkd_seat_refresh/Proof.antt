@@ -1,7 +1,11 @@
 -- What lies at the handle is lent for the time of the call, and lies there again after it.
-use Rattle.linkd_c.proofs.Steps.{ℕ, [], ◌∷◌, refl, Option, w32, proved, leaves, full_share, id⊢, fsep, flft, named, vptr, tables, ‵, raw, ◌⊛◌, prop, ◌$◌, ◌∵◌, !, qed, done, move, keep, drop, use1, use2, split, join, fsplit, fjoin, regoal, suffices, enter, of_opd, addr, stop, no_more, and_then, returns, alloc_all, pass_all, free_all, look_at, get, through, sets, lands_as, WpFn, u32, shows, Is, valss, Spells, uint_Lawful, Ptr, block_ptr, in_a_block, rawptr_vals, rawptr_Tells, types_at, nothing, peeks, calls_at, Lasts, lasts, alive, Args, owns, all_give, all_go, lends, answers, takes_back, packs, triple_of, framed, walk_of, heap_val, heap_Tells, Lfts}
+use Rattle.linkd_c.proofs.Steps.{ℕ, [], ◌∷◌, refl, Option, w32, proved, leaves, full_share, id⊢, fsep, flft, named, vptr, tables, ‵, raw, ◌⊛◌, prop, ◌$◌, ◌∵◌}
+use Rattle.linkd_c.proofs.Steps.{ !, qed, done, move, keep, drop, use1, use2, split, join, fsplit, fjoin, regoal, suffices, enter, of_opd, addr, stop, no_more}
+use Rattle.linkd_c.proofs.Steps.{and_then, returns, alloc_all, pass_all, free_all, look_at, get, through, sets, lands_as, WpFn, u32, shows, Is, valss, Spells}
+use Rattle.linkd_c.proofs.Steps.{uint_Lawful, Ptr, block_ptr, in_a_block, rawptr_vals, rawptr_Tells, types_at, nothing, peeks, calls_at, Lasts, lasts, alive}
+use Rattle.linkd_c.proofs.Steps.{Args, owns, all_give, all_go, lends, answers, takes_back, packs, triple_of, framed, walk_of, heap_val, heap_Tells, Lfts}
 use Rattle.jl_host.specs.Linkers.{Opened}
-use Rattle.jl_host.specs.Seats.{Seen, IsRefresh}
+use Rattle.jl_host.specs.Seats.{SeatView, IsRefresh}
 use Rattle.linkd_c.specs.Handle.{linker_at, seat_at}
 use Rattle.jl_host.specs.contracts.seat.Seat.{the_row as R}
 use Rattle.jl_host.specs.contracts.linker.Linker.{the_row as R'}
@@ -18,7 +22,8 @@ linkd_seat_refresh_spec 𝓤 𝓛 𝓜 𝓡 wired =
     let sp : (κs : Lfts S.lifetimes) → Spells (types_at S.params κs) = λ κs. (λ _. heap_val ∷ [], (rawptr_vals, (rawptr_vals, tt))) in
     proved 𝓛 f.ended stayed c 𝓜 𝓡 (all_go 𝓛 S.params f.ended.kept) f.Key.name code.function (code.unfolded 𝓤 𝓛.H 𝓜 𝓡 wired)
     sp (λ κs. (heap_Tells, (rawptr_Tells, (rawptr_Tells, tt)))) (λ κs qs bounds a x are.
-    let y : Ptr → Ptr → W.Ghost = λ p p'. let args : Args S κs = (a.0, (p, (p', a.1.1.1))) in ((κs, qs, bounds, args, valss (types_at S.params κs) (sp κs) args), x) in
+    let y : Ptr → Ptr → W.Ghost = λ p p'. let args : Args S κs = (a.0, (p, (p', a.1.1.1))) in
+    ((κs, qs, bounds, args, valss (types_at S.params κs) (sp κs) args), x) in
     qed 𝓛 ((raw (alive 𝓛 S κs qs) ⊛ ‵ (owns (types_at S.params κs) a (y a.1.0 a.1.1.0).0.4)) ∷ (‵ (seat_at a.1.0 x.0) ⊛ ‵ (linker_at a.1.1.0 x.1)) ∷ []) ∵
     split ! $ move ! (1 ∷ []) $ fsplit ! $ move ! (1 ∷ []) $ fsplit ! $ drop ! $ fsplit ! $ drop ! $ move ! (3 ∷ []) $ split ! $
     in_a_block ! a.1.0 (λ p. seat_at p x.0) (id⊢ 𝓤 _) (λ b o e.
@@ -30,10 +35,21 @@ linkd_seat_refresh_spec 𝓤 𝓛 𝓜 𝓡 wired =
     sets ! (addr ! (through ! refl (stop !))) refl (tt, tt) $
     sets ! (of_opd ! (get ! refl)) refl (tt, tt) $ move ! (3 ∷ []) $ lends ! tt R' (named 1) x.1 b' o' (λ α' δ'.
     sets ! (addr ! (through ! refl (stop !))) refl (tt, tt) $
-    let z : G.Ghost = (((α ∷ [], (α' ∷ [], κs)), (full_share, (full_share, qs)), tt, (record { ref_ptr = (b, o); ghost_name = δ; now = x.0 }, (a.0, (record { ref_ptr = (b', o'); ghost_name = δ'; now = x.1 }, a.1.1.1))), (vptr b o ∷ [], (heap_val ∷ [], (vptr b' o' ∷ [], (y a.1.0 a.1.1.0).0.4.1.1.1)))), tt) in
-    move ! (0 ∷ 6 ∷ []) $ fjoin ! $ move ! (6 ∷ 0 ∷ []) $ fjoin ! $ move ! (3 ∷ 0 ∷ []) $ fjoin ! $ move ! (2 ∷ 5 ∷ []) $ join ! $ move ! (4 ∷ 0 ∷ []) $ join ! $ join ! $ nothing ! $ move ! (1 ∷ 0 ∷ []) $ use2 𝓛 (raw (G.pre z)) (id⊢ 𝓤 _) $
-    calls_at ! (framed 𝓤 𝓛.H 𝓜 𝓣) G (met 𝓤 𝓛 𝓜 𝓡 (code.calls-jl_host::seat::Seat::refresh 𝓡.env wired)) z (and_then ! (get ! refl) (and_then ! (get ! refl) (and_then ! (get ! refl) (no_more !)))) (λ v.
-    let P : ℕ → Lasts g.ended z.0.0 z.0.3 → (Option Seen × Option Opened) → Type 0 = λ u ws new. IsRefresh x.0 x.1 u new.0 new.1 in
+    let z : G.Ghost = (
+      (
+        (α ∷ [], (α' ∷ [], κs)),
+        (full_share, (full_share, qs)),
+        tt,
+        (record { ref_ptr = (b, o); ghost_name = δ; now = x.0 }, (a.0, (record { ref_ptr = (b', o'); ghost_name = δ'; now = x.1 }, a.1.1.1))),
+        (vptr b o ∷ [], (heap_val ∷ [], (vptr b' o' ∷ [], (y a.1.0 a.1.1.0).0.4.1.1.1))),
+      ),
+      tt,
+    ) in
+    move ! (0 ∷ 6 ∷ []) $ fjoin ! $ move ! (6 ∷ 0 ∷ []) $ fjoin ! $ move ! (3 ∷ 0 ∷ []) $ fjoin ! $ move ! (2 ∷ 5 ∷ []) $ join ! $ move ! (4 ∷ 0 ∷ []) $ join !
+    $ join ! $ nothing ! $ move ! (1 ∷ 0 ∷ []) $ use2 𝓛 (raw (G.pre z)) (id⊢ 𝓤 _) $
+    calls_at ! (framed 𝓤 𝓛.H 𝓜 𝓣) G (met 𝓤 𝓛 𝓜 𝓡 (code.calls-jl_host::seat::Seat::refresh 𝓡.env wired)) z
+    (and_then ! (get ! refl) (and_then ! (get ! refl) (and_then ! (get ! refl) (no_more !)))) (λ v.
+    let P : ℕ → Lasts g.ended z.0.0 z.0.3 → (Option SeatView × Option Opened) → Type 0 = λ u ws new. IsRefresh x.0 x.1 u new.0 new.1 in
     answers ! tt g.signature (g.spec 𝓛 𝓜.mem 𝓡.returns) z v (lasts g.ended z.0.0 z.0.3) (λ u ws. P u ws (ws.0, ws.1.1.0)) (λ u. id⊢ 𝓤 _) (λ u ws told.
     use1 𝓛 (‵ (flft (α ∷ []) full_share) ⊛ ‵ (flft (α' ∷ []) full_share) ⊛ raw (alive 𝓛 S κs qs)) (id⊢ 𝓤 _) $ split ! $ move ! (1 ∷ []) $ split ! $
     move ! (3 ∷ []) $ peeks ! u32 (Is u32) (shows 𝓛 u32) u (v ∷ []) (λ is. lands_as ! refl refl ((uint_Lawful 𝓛 w32).typed u _ is).0 $

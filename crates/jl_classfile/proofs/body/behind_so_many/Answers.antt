@@ -1,5 +1,5 @@
 use Rattle.std.specs.Prelude.{option_map}
-use Rattle.jl_classfile.specs.Reading.Bodies.{attribute_at, items_at}
+use Rattle.jl_classfile.specs.Means.Bodies.{attribute_at, items_at}
 use Rattle.jl_classfile.proofs.ItemLaws.{rest-more, rest-stop, rest-end}
 use Rattle.std.proofs.Common.{sym}
 use Rattle.jl_classfile.proofs.body.behind_so_many.Goals as goal
@@ -12,7 +12,8 @@ attributes-preserved c =
 pub returns-in_default : goal.returns-in_default
 returns-in_default c =
     sym
-    (rest-stop attribute_at c.args.count c.attributes.counter c.attributes.rest.now (option_map (λ x. x.1) (items_at attribute_at c.args.count c.args.bytes.now))
+    (rest-stop attribute_at c.args.count c.attributes.counter c.attributes.rest.now
+    (option_map (λ x. x.1) (items_at attribute_at c.args.count c.args.bytes.now))
     c.attributes-test.true c.in_default.ensures c.attributes.invariant)
 
 pub returns : goal.returns

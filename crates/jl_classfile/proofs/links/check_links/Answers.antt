@@ -19,5 +19,6 @@ returns-in_err-check_classes-clause-fault c =
 
 pub returns-clause-ok : goal.returns-clause-ok
 returns-clause-ok c =
-    tested c.args.major c.args.pool.now c.args.body.now (sym c.is_module.ensures ∙ c.if-is_module.false) c.in_ok-check_class.ensures.ok c.in_ok-check_superclass.ensures.ok
+    tested c.args.major c.args.pool.now c.args.body.now (sym c.is_module.ensures ∙ c.if-is_module.false) c.in_ok-check_class.ensures.ok
+    c.in_ok-check_superclass.ensures.ok
     (rw c.as_slice.ensures at c.in_ok-check_classes.ensures.ok) (sym c.super_fits.ensures ∙ c.if-not-super_fits.false)

@@ -1,19 +1,24 @@
 use Rattle.std.proofs.Common.{◌∙◌, refl, sym, subst}
 use Rattle.std.proofs.lemmas.Result.{err_from_is_err_and}
 use Rattle.jl_classfile.specs.declared.fault.ClassFault.{ClassFault}
-use Rattle.jl_classfile.specs.Reading.Members.{IsFieldFault}
+use Rattle.jl_classfile.specs.Means.Members.{IsFieldFault}
 use Rattle.jl_classfile.proofs.MemberTests.{field_fits-is, yes_when, not_when}
 use Rattle.jl_classfile.proofs.MemberNumbers.{member_links, at_attribute}
 use Rattle.jl_classfile.proofs.member.check_field.Goals as goal
 
 pub returns-then-not-field_fits-clause-fault : goal.returns-then-not-field_fits-clause-fault
-returns-then-not-field_fits-clause-fault c = (refl, not_when _ _ (field_fits-is c.args.pool.now c.args.field.now) (sym c.field_fits.ensures ∙ c.if-not-field_fits.true))
+returns-then-not-field_fits-clause-fault c = (
+  refl,
+  not_when _ _ (field_fits-is c.args.pool.now c.args.field.now) (sym c.field_fits.ensures
+      ∙ c.if-not-field_fits.true),
+)
 
 pub returns-in_err-check_attribute_names-clause-fault : goal.returns-in_err-check_attribute_names-clause-fault
 returns-in_err-check_attribute_names-clause-fault c =
     let p = err_from_is_err_and c.from_residual-in_err-check_attribute_names.result c.from_residual-in_err-check_attribute_names.ensures.1 in
     let f = c.in_err-check_attribute_names.ensures.fault in
-    rw (p.1, p.2) (subst (λ (g : ClassFault). IsFieldFault c.args.pool.now c.args.place c.args.field.now g) (sym f.1) (at_attribute c.args.field.now f.0 f.2, f.3))
+    rw (p.1, p.2) (subst (λ (g : ClassFault). IsFieldFault c.args.pool.now c.args.place c.args.field.now g) (sym f.1)
+    (at_attribute c.args.field.now f.0 f.2, f.3))
 
 pub returns-clause-ok : goal.returns-clause-ok
 returns-clause-ok c = record {

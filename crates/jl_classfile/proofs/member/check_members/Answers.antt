@@ -12,6 +12,7 @@ returns-in_err-check_methods-clause-fault c =
     let p = err_from_is_err_and c.from_residual-in_err-check_methods.result c.from_residual-in_err-check_methods.ensures.1 in
     rw (p.1, p.2)
     (λ other.
-    method_fault_of c.args.pool.now c.args.body.now c.in_ok-twin.twin _ _ _ c.in_err-check_methods.field-0.0 c.as_slice-fields.ensures c.as_slice-methods.ensures
+    method_fault_of c.args.pool.now c.args.body.now c.in_ok-twin.twin _ _ _ c.in_err-check_methods.field-0.0 c.as_slice-fields.ensures
+    c.as_slice-methods.ensures
     c.is_interface.ensures
     c.in_ok-twin.ensures.ok c.in_err-check_methods.ensures.fault)

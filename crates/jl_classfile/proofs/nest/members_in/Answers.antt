@@ -12,7 +12,8 @@ pub returns-then-not-is_empty-clause-fault : goal.returns-then-not-is_empty-clau
 returns-then-not-is_empty-clause-fault c =
     λ other. (
       refl,
-      more_than_members c.args.pool.now c.args.info.now c.in-Ok.read.0 c.in-Ok.read.1.now c.in-Ok.ensures (has_more c.in-Ok.read.1.now c.if-not-is_empty.ensures),
+      more_than_members c.args.pool.now c.args.info.now c.in-Ok.read.0 c.in-Ok.read.1.now c.in-Ok.ensures
+          (has_more c.in-Ok.read.1.now c.if-not-is_empty.ensures),
     )
 
 pub returns-then-not-are_classes-clause-fault : goal.returns-then-not-are_classes-clause-fault
@@ -25,5 +26,6 @@ returns-then-not-are_classes-clause-fault c =
 
 pub returns-clause-ok : goal.returns-clause-ok
 returns-clause-ok c =
-    are_members c.args.pool.now c.args.info.now c.in-Ok.read.0 c.in-Ok.read.1.now (λ i. omega (arith, c.type_inv.info i)) c.in-Ok.ensures (no_more c.in-Ok.read.1.now c.if-not-is_empty.ensures)
+    are_members c.args.pool.now c.args.info.now c.in-Ok.read.0 c.in-Ok.read.1.now (λ i. omega (arith, c.type_inv.info i)) c.in-Ok.ensures
+    (no_more c.in-Ok.read.1.now c.if-not-is_empty.ensures)
     (subst (λ (l : List ℕ). All (IsClassNumber c.args.pool.now) l) c.as_slice.ensures c.if-not-are_classes.ensures)

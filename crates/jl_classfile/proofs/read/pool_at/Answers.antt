@@ -13,4 +13,5 @@ returns-in_err-major-clause-fault c =
 pub returns-in_err-pool-clause-fault : goal.returns-in_err-pool-clause-fault
 returns-in_err-pool-clause-fault c =
     let p = err_from_is_err_and c.from_residual-in_err-pool.result c.from_residual-in_err-pool.ensures.1 in
-    rw (p.1, p.2) (pool_first c.args.bytes.now c.in_ok-major.rest.now c.in_ok-major.major c.in_err-pool.field-0.0 c.if-bytes-gt-MOST_BYTES.false c.in_ok-major.ensures.ok c.in_err-pool.ensures.fault)
+    rw (p.1, p.2) (pool_first c.args.bytes.now c.in_ok-major.rest.now c.in_ok-major.major c.in_err-pool.field-0.0 c.if-bytes-gt-MOST_BYTES.false
+    c.in_ok-major.ensures.ok c.in_err-pool.ensures.fault)

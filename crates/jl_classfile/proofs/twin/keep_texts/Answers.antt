@@ -8,4 +8,5 @@ loop-method-preserved c =
     c.loop-method.invariant c.keep_text.ensures.kept c.keep_text.ensures.here c.keep_text-in-loop-method.ensures.kept c.keep_text-in-loop-method.ensures.here
 
 pub returns-clause-kept : goal.returns-clause-kept
-returns-clause-kept c = keep_all c.loop-method.texts c.args.pool.now c.args.methods.now c.loop-method.method-index c.loop-method-test.false c.loop-method.invariant
+returns-clause-kept c = keep_all c.loop-method.texts c.args.pool.now c.args.methods.now c.loop-method.method-index c.loop-method-test.false
+    c.loop-method.invariant

@@ -1,7 +1,7 @@
 use Rattle.std.proofs.Common.{sym, subst, ℕ, List, drop, Option, Some, None, MatchOption}
 use Rattle.memchr.specs.Find.{is_byte, IsFirstByte}
 use Rattle.jl_cli.specs.Lines.{NoNewline}
-use Rattle.jl_cli.specs.Progress.{IsFirstNewline}
+use Rattle.jl_cli.specs.Means.Progress.{IsFirstNewline}
 use Rattle.jl_cli.proofs.NewlineLaws.{none_behind, found_behind, to_end}
 use Rattle.jl_cli.proofs.answers.newline_from.Goals as goal
 

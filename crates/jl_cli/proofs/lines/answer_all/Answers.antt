@@ -4,7 +4,7 @@ use Rattle.jl_cli.specs.declared.line_fault.LineFault.{LineFault}
 use Rattle.jl_cli.specs.declared.line_fault.LineFault.TheVariants.{Device, Memory}
 use Rattle.jl_cli.specs.Devices.{one_more, HasRisen}
 use Rattle.jl_cli.specs.Lines.{NoNewline}
-use Rattle.jl_cli.specs.Progress.{StopsBy}
+use Rattle.jl_cli.specs.Means.Progress.{StopsBy}
 use Rattle.jl_cli.proofs.LineLaws.{runs_write}
 use Rattle.jl_cli.proofs.FaultLaws.{risen, Whole, ends, piece_fault, rest_whole, rest_answered}
 use Rattle.jl_cli.proofs.FaultLaws.{runs_mode, runs_held, same_at_end, exactly, fault_is}

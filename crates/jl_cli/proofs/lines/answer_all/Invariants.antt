@@ -1,6 +1,6 @@
 use Rattle.std.proofs.Common.{◌≡◌, ◌<◌, ◌≤◌, [], length}
 use Rattle.jl_cli.specs.Lines.{NoNewline}
-use Rattle.jl_cli.specs.Progress.{Runs}
+use Rattle.jl_cli.specs.Means.Progress.{Runs}
 use Rattle.jl_cli.proofs.lines.answer_all.Given as goal
 
 abbrev pub invariant-loop : goal.invariant-loop

@@ -2,7 +2,7 @@ use Rattle.std.proofs.Common.{◌≡◌, ◌∙◌, ap, ap₂}
 use Rattle.std.proofs.lemmas.Result.{IfOk-weaker}
 use Rattle.clap.specs.Words.{App, app_of, with_subcommand}
 use Rattle.clap.proofs.SimpleLemmas.{plain_fields}
-use Rattle.jl_cli.specs.CommandLine.{farm}
+use Rattle.jl_cli.specs.Means.CommandLine.{farm}
 use Rattle.jl_cli.proofs.words.command.Goals as goal
 
 pub returns : goal.returns

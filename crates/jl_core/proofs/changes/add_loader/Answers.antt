@@ -1,7 +1,7 @@
 use Rattle.std.specs.Prelude.{◌≡◌, ◌<◌, length, nat_le}
 use Rattle.std.specs.Bool.{then_some}
 use Rattle.std.proofs.Common.{rules, sym, ap, subst}
-use Rattle.jl_types.specs.World.{World}
+use Rattle.jl_types.specs.Values.World.{World}
 use Rattle.jl_types.specs.declared.event.Made.TheVariants as made
 use Rattle.jl_types.specs.declared.refusal.Refusal.TheVariants.{LoadersFull}
 use Rattle.jl_select.specs.Constancy.{IsConstant}
@@ -21,5 +21,6 @@ returns c =
           (made.Loader c.in_ok-loader.loader) (ap (λ n. made.Loader n) count);
       step = search rules;
       constant = subst (λ (w : World). IsConstant w.classes c.add_loader.new.self) c.world.view_is
-          (constant_with_loader c.world.inside.classes c.in_ok-loader.ensures.in_order c.add_loader.new.self c.in_ok-loader.ensures.stays c.in_ok-loader.ensures.ok);
+          (constant_with_loader c.world.inside.classes c.in_ok-loader.ensures.in_order c.add_loader.new.self c.in_ok-loader.ensures.stays
+          c.in_ok-loader.ensures.ok);
     }

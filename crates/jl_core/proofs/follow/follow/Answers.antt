@@ -1,12 +1,12 @@
 use Rattle.std.specs.Prelude.{◌≡◌, ℕ, List, None, if◌then◌else◌}
 use Rattle.std.proofs.Common.{ap, sym, subst, ◌∙◌}
-use Rattle.jl_types.specs.World.{World}
+use Rattle.jl_types.specs.Values.World.{World}
 use Rattle.jl_cache.specs.Links.{link_at}
 use Rattle.jl_deps.specs.Indexes.{footprint_at}
-use Rattle.jl_core.specs.Changes.{retires_at}
+use Rattle.jl_core.specs.Means.Changes.{retires_at}
 use Rattle.jl_core.specs.Logs.{event_of}
-use Rattle.jl_core.specs.Replays.{IsNext, IsUntouched}
-use Rattle.jl_core.specs.Touched.{has}
+use Rattle.jl_core.specs.Means.Replays.{IsNext, IsUntouched}
+use Rattle.jl_core.specs.Means.Touched.{has}
 use Rattle.jl_core.proofs.ReplayLaws.{links_followed, index_followed}
 use Rattle.jl_core.proofs.follow.follow.Goals as goal
 
@@ -20,8 +20,10 @@ returns-clause-links c =
     links_followed c.args.world.now.value c.args.world_ahead.now.value c.args.entry.now.event
     c.args.links.now c.forget_retired.new.links c.args.links_ahead.now c.args.index.now c.forget_retired.new.index c.args.index_ahead.now
     c.requires.further c.len-sites.ensures.rising
-    (λ s. c.in_ok-forget_retired.ensures.links s ∙ ap (λ (w : World). if retires_at w c.args.entry.now.event s then None else link_at c.args.links.now s) c.deref.ensures)
-    (λ s. c.in_ok-forget_retired.ensures.index s ∙ ap (λ (w : World). if retires_at w c.args.entry.now.event s then None else footprint_at c.args.index.now s) c.deref.ensures)
+    (λ s. c.in_ok-forget_retired.ensures.links s ∙ ap (λ (w : World). if retires_at w c.args.entry.now.event s then None else link_at c.args.links.now s)
+    c.deref.ensures)
+    (λ s. c.in_ok-forget_retired.ensures.index s ∙ ap (λ (w : World). if retires_at w c.args.entry.now.event s then None else footprint_at c.args.index.now s)
+    c.deref.ensures)
     c.in_ok-sites.sites.items
     (λ s none.
     subst (λ (w : World). IsUntouched w c.forget_retired.new.index c.requires.further.next.event s) c.deref-2.ensures
@@ -37,8 +39,10 @@ returns-clause-index c =
     index_followed c.args.world.now.value c.args.world_ahead.now.value c.args.entry.now.event
     c.args.links.now c.forget_retired.new.links c.args.links_ahead.now c.args.index.now c.forget_retired.new.index c.args.index_ahead.now
     c.requires.further c.len-sites.ensures.rising
-    (λ s. c.in_ok-forget_retired.ensures.links s ∙ ap (λ (w : World). if retires_at w c.args.entry.now.event s then None else link_at c.args.links.now s) c.deref.ensures)
-    (λ s. c.in_ok-forget_retired.ensures.index s ∙ ap (λ (w : World). if retires_at w c.args.entry.now.event s then None else footprint_at c.args.index.now s) c.deref.ensures)
+    (λ s. c.in_ok-forget_retired.ensures.links s ∙ ap (λ (w : World). if retires_at w c.args.entry.now.event s then None else link_at c.args.links.now s)
+    c.deref.ensures)
+    (λ s. c.in_ok-forget_retired.ensures.index s ∙ ap (λ (w : World). if retires_at w c.args.entry.now.event s then None else footprint_at c.args.index.now s)
+    c.deref.ensures)
     c.in_ok-sites.sites.items
     (λ s none.
     subst (λ (w : World). IsUntouched w c.forget_retired.new.index c.requires.further.next.event s) c.deref-2.ensures

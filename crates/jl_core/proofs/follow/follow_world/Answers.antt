@@ -1,8 +1,8 @@
 use Rattle.std.proofs.Common.{sym, subst}
-use Rattle.jl_types.specs.World.{World}
+use Rattle.jl_types.specs.Values.World.{World}
 use Rattle.jl_hierarchy.specs.Constancy as constancy
 use Rattle.jl_core.specs.Logs.{Accepted}
-use Rattle.jl_core.specs.Replays.{IsNext}
+use Rattle.jl_core.specs.Means.Replays.{IsNext}
 use Rattle.jl_core.proofs.ReplayLaws.{next_class}
 use Rattle.jl_core.proofs.follow.follow_world.Goals as goal
 

@@ -2,12 +2,12 @@ use Rattle.std.specs.Prelude.{◌≡◌, ◌≤◌, ◌+◌, ℕ, List, drop}
 use Rattle.std.proofs.Common.{sym, ap, ◌∙◌, arith}
 use Rattle.std.proofs.lemmas.Bool.{not-true, not-false}
 use Rattle.jl_types.specs.declared.link.Link.{Link}
-use Rattle.jl_types.specs.Resolution.{first_of}
-use Rattle.jl_types.specs.Means.SameLink.{same_link}
-use Rattle.jl_types.specs.Footprints as footprints
+use Rattle.jl_types.specs.Linkage.Resolution.{first_of}
+use Rattle.jl_types.specs.Linkage.Links.{same_link}
+use Rattle.jl_types.specs.Happenings.Footprints as footprints
 use Rattle.std.proofs.lemmas.List.Sums.{sum_by-cons}
 use Rattle.jl_types.proofs.Lists.{rest_at}
-use Rattle.jl_core.specs.Judging.{row_faults, most_of_rows}
+use Rattle.jl_core.specs.Means.Judging.{row_faults, most_of_rows}
 use Rattle.jl_core.proofs.InstallLaws.{stale_row, good_row}
 use Rattle.jl_core.proofs.install.row_refusal.Goals as goal
 

@@ -1,6 +1,6 @@
 use Rattle.std.proofs.Common.{◌≡◌, ◌+◌, ◌≤◌, drop}
-use Rattle.jl_types.specs.Resolution.{first_of}
-use Rattle.jl_core.specs.Judging.{row_faults, most_of_rows}
+use Rattle.jl_types.specs.Linkage.Resolution.{first_of}
+use Rattle.jl_core.specs.Means.Judging.{row_faults, most_of_rows}
 use Rattle.jl_core.proofs.install.row_refusal.Given as goal
 
 -- the refusal is that of the rows that are left, and what they take still fits

@@ -1,5 +1,5 @@
 use Rattle.std.proofs.Common.{ap, sym, subst, ◌∙◌}
-use Rattle.jl_types.specs.World.{World}
+use Rattle.jl_types.specs.Values.World.{World}
 use Rattle.jl_hierarchy.specs.Constancy.{AreInOrder}
 use Rattle.jl_callsites.specs.Known.{are_known}
 use Rattle.jl_core.proofs.instance.note_order.Goals as goal

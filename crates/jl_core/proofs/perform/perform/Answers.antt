@@ -1,14 +1,14 @@
 use Rattle.std.specs.Prelude.{◌≡◌, ℕ, ◌+◌, ◌≤◌}
 use Rattle.std.proofs.Common.{rules, ap, sym, subst, ◌∙◌}
 use Rattle.jl_types.specs.declared.event.Made.{Made}
-use Rattle.jl_types.specs.World.{World}
-use Rattle.jl_types.specs.Links.{scratch}
-use Rattle.jl_types.specs.History.{kept}
-use Rattle.jl_types.specs.Footprints.{keys}
+use Rattle.jl_types.specs.Values.World.{World}
+use Rattle.jl_types.specs.Linkage.Links.{scratch}
+use Rattle.jl_types.specs.Happenings.History.{kept}
+use Rattle.jl_types.specs.Happenings.Footprints.{keys}
 use Rattle.jl_cache.specs.Links.{link_at}
 use Rattle.jl_deps.specs.Indexes.{IsIndex}
-use Rattle.jl_core.specs.Changes.{IsMoved}
-use Rattle.jl_core.specs.Steps.{most_told}
+use Rattle.jl_core.specs.Means.Changes.{IsMoved}
+use Rattle.jl_core.specs.Means.Steps.{most_told}
 use Rattle.jl_core.proofs.StepLaws.{lost_are, most_by_told}
 use Rattle.jl_core.proofs.ReplayLaws.{installs_so}
 use Rattle.jl_core.proofs.perform.perform.Goals as goal

@@ -1,13 +1,13 @@
 use Rattle.std.specs.Prelude.{ℕ, ◌+◌, ◌≤◌, Bool, List, Some}
 use Rattle.std.proofs.Common.{ap, sym, subst, ◌∙◌}
 use Rattle.jl_types.specs.declared.link.Link.{Link}
-use Rattle.jl_types.specs.Links.{scratch}
-use Rattle.jl_types.specs.History.{kept}
+use Rattle.jl_types.specs.Linkage.Links.{scratch}
+use Rattle.jl_types.specs.Happenings.History.{kept}
 use Rattle.jl_hierarchy.proofs.Rising.{has}
 use Rattle.jl_cache.specs.Links.{link_at, link_with}
 use Rattle.jl_core.specs.Logs.{Accepted}
-use Rattle.jl_core.specs.Changes.{class_of, installs_at}
-use Rattle.jl_core.specs.Steps.{IsLed, most_told}
+use Rattle.jl_core.specs.Means.Changes.{class_of, installs_at}
+use Rattle.jl_core.specs.Means.Steps.{IsLed, most_told}
 use Rattle.jl_core.proofs.StepLaws.{has_changed, fits_so, ticks_so, no_class, define_installs_none, define_retires_none}
 use Rattle.jl_core.proofs.StepLaws.{links_kept, links_lost, was_index, links_installed, none_lost}
 use Rattle.jl_core.proofs.perform.relink.Goals as goal

@@ -1,6 +1,6 @@
 use Rattle.std.specs.Prelude.{◌≤◌, ℕ, List, ◌++◌, length}
 use Rattle.std.proofs.Common.{ap, subst, ◌∙◌}
-use Rattle.jl_types.specs.World.{World}
+use Rattle.jl_types.specs.Values.World.{World}
 use Rattle.jl_hierarchy.proofs.Rising.{has}
 use Rattle.jl_core.proofs.RetireSteps.{few_places, has_retired, fits_left, ticks_left, links_retired, lost_retired}
 use Rattle.jl_core.proofs.perform.retire_links.Goals as goal

@@ -1,7 +1,7 @@
 use Rattle.std.specs.Prelude.{None, position}
 use Rattle.std.proofs.Common.{refl, sym, ap, ◌∙◌}
-use Rattle.jl_types.specs.World.{World}
-use Rattle.jl_types.specs.Events.{same_place}
+use Rattle.jl_types.specs.Values.World.{World}
+use Rattle.jl_types.specs.Happenings.Events.{same_place}
 use Rattle.jl_core.proofs.KeptLaws.{not_some}
 use Rattle.jl_core.proofs.PlaceLaws.{refused_new, accepted_so, some_not_none}
 use Rattle.jl_core.proofs.request.judged_request.Goals as goal

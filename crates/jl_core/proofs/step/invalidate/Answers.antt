@@ -2,7 +2,7 @@ use Rattle.std.specs.Prelude.{ℕ, List}
 use Rattle.std.proofs.Common.{refl, subst}
 use Rattle.jl_types.specs.declared.event.EventOf.TheVariants as event
 use Rattle.jl_types.specs.declared.event.Made.TheVariants as made
-use Rattle.jl_core.specs.Changes.{IsMoved}
+use Rattle.jl_core.specs.Means.Changes.{IsMoved}
 use Rattle.jl_core.proofs.step.invalidate.Goals as goal
 
 pub returns : goal.returns

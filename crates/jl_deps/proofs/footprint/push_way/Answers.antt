@@ -1,8 +1,8 @@
 use Rattle.std.proofs.Common.{rules, ◌≡◌, ◌≤◌, ◌<◌, ◌∙◌, ap, sym, Some, None, [], ◌∷◌, ◌++◌, filter_map, slice_get, append-nil}
-use Rattle.jl_types.specs.Target.{Target, Invoker}
+use Rattle.jl_types.specs.Values.Target.{Target, Invoker}
 use Rattle.jl_types.specs.Means.Whole.{whole}
 use Rattle.jl_types.specs.declared.key.Key.TheVariants as key
-use Rattle.jl_types.specs.Footprints.{call_site_in, point_in}
+use Rattle.jl_types.specs.Happenings.Footprints.{call_site_in, point_in}
 use Rattle.jl_callsites.proofs.Turns.{fewer_turns}
 use Rattle.jl_deps.specs.Ways.{way}
 use Rattle.jl_deps.proofs.WayLaws.{way_invoked, way_absent, way_later, ends, goes_on, passes}
@@ -35,7 +35,8 @@ returns-in_default-clause-call_sites c =
     let lt : d < n = search rules in
     let at : slice_get sites.call_sites d ≡ None = search rules in
     sym (append-nil c.push-in-Invoker.new.self.items)
-    ∙ goes_on c.loop-target.call_sites.items c.push-in-Invoker.new.self.items (c.args.call_sites.now.items ++ filter_map call_site_in (way sites c.args.call_site c.args.target.now))
+    ∙ goes_on c.loop-target.call_sites.items c.push-in-Invoker.new.self.items (c.args.call_sites.now.items
+    ++ filter_map call_site_in (way sites c.args.call_site c.args.target.now))
     (way sites n c.loop-target.target.now) [] d
     (ap (way sites n) is ∙ way_absent sites n d lt at) c.in_ok-push-in-Invoker.ensures.items c.loop-target.invariant.call_sites
 
@@ -73,8 +74,10 @@ loop-target-preserved c =
     ap (way sites n) is ∙ way_invoked sites n d c.in-Some.found.now lt at ∙ ap (λ (t : Target). key.Target d ∷ way sites d t) (sym c.target-target.ensures) in
     record {
       call_sites =
-          goes_on c.loop-target.call_sites.items c.push-in-Invoker.new.self.items (c.args.call_sites.now.items ++ filter_map call_site_in (way sites c.args.call_site c.args.target.now))
-          (way sites n c.loop-target.target.now) (way sites d c.target-target.result.now) d rest c.in_ok-push-in-Invoker.ensures.items c.loop-target.invariant.call_sites;
+          goes_on c.loop-target.call_sites.items c.push-in-Invoker.new.self.items (c.args.call_sites.now.items
+          ++ filter_map call_site_in (way sites c.args.call_site c.args.target.now))
+          (way sites n c.loop-target.target.now) (way sites d c.target-target.result.now) d rest c.in_ok-push-in-Invoker.ensures.items
+          c.loop-target.invariant.call_sites;
       points =
           passes c.loop-target.points.items (c.args.points.now.items ++ filter_map point_in (way sites c.args.call_site c.args.target.now))
           (way sites n c.loop-target.target.now) (way sites d c.target-target.result.now) d rest c.loop-target.invariant.points;

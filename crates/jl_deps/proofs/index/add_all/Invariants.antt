@@ -8,7 +8,8 @@ use Rattle.jl_deps.proofs.index.add_all.Given as goal
 abbrev pub invariant-loop-site : goal.invariant-loop-site
 invariant-loop-site l = record {
   within : l.place ≤ length l.footprints.entries;
-  added : (s : ℕ) → footprint_at l.copy s ≡ (if list_any (λ t. t == s) (map (λ e. e.0) (take l.place l.footprints.entries)) then get nat_eq l.footprints s else None);
+  added : (s : ℕ) → footprint_at l.copy s ≡ (if list_any (λ t. t == s) (map (λ e. e.0) (take l.place l.footprints.entries)) then get nat_eq l.footprints s else
+      None);
 }
 
 abbrev pub decreases-loop-site : goal.decreases-loop-site

@@ -1,7 +1,7 @@
 use Rattle.std.specs.Prelude.{◌≡◌, ◌==◌, ◌&&◌, ◌||◌, ℕ, List, ◌++◌, ◌∷◌, [], ◌+◌, take}
 use Rattle.std.proofs.Common.{sym, ap, ◌∙◌}
 use Rattle.std.proofs.lemmas.List.{take_more}
-use Rattle.jl_types.specs.Targets.{is_valid}
+use Rattle.jl_types.specs.Linkage.Targets.{is_valid}
 use Rattle.jl_hierarchy.proofs.Rising.{has}
 use Rattle.jl_deps.proofs.PointLaws.{listed_more}
 use Rattle.jl_deps.proofs.keys.push_valid.Goals as goal

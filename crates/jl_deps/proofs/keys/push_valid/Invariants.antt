@@ -1,6 +1,6 @@
 use Rattle.std.proofs.Common.{◌≡◌, ◌==◌, ◌||◌, ◌&&◌, ℕ, take}
 use Rattle.std.specs.List.{list_any}
-use Rattle.jl_types.specs.Targets.{is_valid}
+use Rattle.jl_types.specs.Linkage.Targets.{is_valid}
 use Rattle.jl_deps.proofs.keys.push_valid.Given as goal
 
 -- those of the points so far are added

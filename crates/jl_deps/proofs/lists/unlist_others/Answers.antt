@@ -2,8 +2,8 @@ use Rattle.std.specs.Prelude.{◌==◌, ◌&&◌, ◌≡◌, ◌++◌, ◌∷◌
 use Rattle.std.proofs.Common.{sym, ap, ◌∙◌}
 use Rattle.std.proofs.lemmas.List.{take_more}
 use Rattle.jl_types.specs.declared.key.Key.{Key}
-use Rattle.jl_types.specs.Footprints.{has_key}
-use Rattle.jl_deps.specs.Lists.{listed}
+use Rattle.jl_types.specs.Happenings.Footprints.{has_key}
+use Rattle.jl_deps.specs.Means.Lists.{listed}
 use Rattle.jl_deps.proofs.KeyLists.{gone_more, stays_more}
 use Rattle.jl_deps.proofs.lists.unlist_others.Goals.{then-not-is_among, else-not-is_among}
 use Rattle.jl_deps.proofs.lists.unlist_others.Goals as goal
@@ -20,7 +20,8 @@ loop-key-preserved c = λ k s.
     elim c.if-not-is_among.branch [
       | then-not-is_among w ↦
           ap (λ ls. listed ls k s) w.lists-is
-          ∙ gone_more kept front key k (c.args.site == s) (listed w.unlist.new.lists k s) now old (sym c.is_among.ensures ∙ w.if-not-is_among.true) (w.unlist.ensures k s) (c.loop-key.invariant k s)
+          ∙ gone_more kept front key k (c.args.site == s) (listed w.unlist.new.lists k s) now old (sym c.is_among.ensures ∙ w.if-not-is_among.true)
+          (w.unlist.ensures k s) (c.loop-key.invariant k s)
       | else-not-is_among w ↦
           ap (λ ls. listed ls k s) w.lists-is
           ∙ stays_more kept front key k (c.args.site == s) now old (sym c.is_among.ensures ∙ w.if-not-is_among.false) (c.loop-key.invariant k s)

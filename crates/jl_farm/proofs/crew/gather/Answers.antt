@@ -1,29 +1,32 @@
 use Rattle.std.proofs.Common.{◌∙◌, ◌+◌, All, refl, subst, arith, vec_len}
 use Rattle.crossbeam_queue.specs.Passes.{IsPassOf}
 use Rattle.jl_farm.specs.declared.worker.Worker.{Worker}
-use Rattle.jl_farm.specs.Work.{HasOne, HasReported}
+use Rattle.jl_farm.specs.Means.Work.{HasOne, HasReported}
 use Rattle.jl_farm.proofs.Installs.{taken_none, taken_more, taken_most}
 use Rattle.jl_farm.proofs.Shifts.{all_popped}
 use Rattle.jl_farm.proofs.crew.gather.Goals as goal
 
 pub take_in-requires-clause-turns : goal.take_in-requires-clause-turns
 take_in-requires-clause-turns g c =
-    let P : Worker g.row.K.Denot → Type 0 = λ worker. IsPassOf c.args.line.now worker.turn × HasOne worker × HasReported g.K.Name.max_sites c.args.callers.now.value.items c.args.jobs.now worker in
-    (c.loop-other.invariant.turn, (all_popped P c.pop.new.self.items c.in-Some.other (subst (All P) c.in-Some.ensures.items c.loop-other.invariant.crew)).1.0)
+    let P : Worker g.row.K.Denot → Type 0 = λ worker. IsPassOf c.args.queue.now worker.pass × HasOne worker
+    × HasReported g.K.Name.max_sites c.args.callers.now.value.items c.args.jobs.now worker in
+    (c.loop-other.invariant.pass, (all_popped P c.pop.new.self.items c.in-Some.other (subst (All P) c.in-Some.ensures.items c.loop-other.invariant.crew)).1.0)
 
 pub take_in-requires-clause-one : goal.take_in-requires-clause-one
 take_in-requires-clause-one g c =
-    let P : Worker g.row.K.Denot → Type 0 = λ worker. IsPassOf c.args.line.now worker.turn × HasOne worker × HasReported g.K.Name.max_sites c.args.callers.now.value.items c.args.jobs.now worker in
+    let P : Worker g.row.K.Denot → Type 0 = λ worker. IsPassOf c.args.queue.now worker.pass × HasOne worker
+    × HasReported g.K.Name.max_sites c.args.callers.now.value.items c.args.jobs.now worker in
     (all_popped P c.pop.new.self.items c.in-Some.other (subst (All P) c.in-Some.ensures.items c.loop-other.invariant.crew)).1.1
 
 pub take_in-requires-clause-other : goal.take_in-requires-clause-other
 take_in-requires-clause-other g c =
-    let P : Worker g.row.K.Denot → Type 0 = λ worker. IsPassOf c.args.line.now worker.turn × HasOne worker × HasReported g.K.Name.max_sites c.args.callers.now.value.items c.args.jobs.now worker in
+    let P : Worker g.row.K.Denot → Type 0 = λ worker. IsPassOf c.args.queue.now worker.pass × HasOne worker
+    × HasReported g.K.Name.max_sites c.args.callers.now.value.items c.args.jobs.now worker in
     (all_popped P c.pop.new.self.items c.in-Some.other (subst (All P) c.in-Some.ensures.items c.loop-other.invariant.crew)).1.2
 
 pub loop-other-init : goal.loop-other-init
 loop-other-init g c = record {
-  turn = c.requires.turn;
+  pass = c.requires.pass;
   lead = c.requires.lead;
   crew = c.requires.crew;
   put = refl;
@@ -33,14 +36,19 @@ loop-other-init g c = record {
 
 pub loop-other-preserved : goal.loop-other-preserved
 loop-other-preserved g c =
-    let P : Worker g.row.K.Denot → Type 0 = λ worker. IsPassOf c.args.line.now worker.turn × HasOne worker × HasReported g.K.Name.max_sites c.args.callers.now.value.items c.args.jobs.now worker in
+    let P : Worker g.row.K.Denot → Type 0 = λ worker. IsPassOf c.args.queue.now worker.pass × HasOne worker
+    × HasReported g.K.Name.max_sites c.args.callers.now.value.items c.args.jobs.now worker in
     record {
-      turn = c.in_ok-take_in.ensures.turn;
+      pass = c.in_ok-take_in.ensures.pass;
       lead = c.in_ok-take_in.ensures.lead;
       crew = (all_popped P c.pop.new.self.items c.in-Some.other (subst (All P) c.in-Some.ensures.items c.loop-other.invariant.crew)).0;
       put = c.in_ok-take_in.ensures.put ∙ c.loop-other.invariant.put;
       parts = omega (arith, c.in_ok-take_in.ensures.parts, c.in-Some.ensures.cases, c.loop-other.invariant.parts);
-      taken = (c.loop-other.invariant.taken.0 + 1, omega (arith, c.in-Some.ensures.cases, c.loop-other.invariant.taken.1), taken_more _ _ _ _ c.loop-other.invariant.taken.2 c.in_ok-take_in.ensures.taken);
+      taken = (
+        c.loop-other.invariant.taken.0 + 1,
+        omega (arith, c.in-Some.ensures.cases, c.loop-other.invariant.taken.1),
+        taken_more _ _ _ _ c.loop-other.invariant.taken.2 c.in_ok-take_in.ensures.taken,
+      );
     }
 
 pub returns-clause-taken : goal.returns-clause-taken

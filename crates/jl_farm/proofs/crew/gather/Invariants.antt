@@ -1,16 +1,16 @@
 use Rattle.std.proofs.Common.{◌≡◌, ◌+◌, ℕ, All, vec_len}
 use Rattle.crossbeam_queue.specs.Passes.{view, IsPassOf}
-use Rattle.jl_farm.specs.Work.{HasReported, HasOne, HasTaken}
+use Rattle.jl_farm.specs.Means.Work.{HasReported, HasOne, HasTaken}
 use Rattle.jl_farm.proofs.crew.gather.Given as goal
 
 -- the workers so far were taken in
 abbrev pub invariant-loop-other : goal.invariant-loop-other
 invariant-loop-other g l = record {
-  turn : IsPassOf l.line l.lead.turn;
+  pass : IsPassOf l.queue l.lead.pass;
   lead : HasReported g.K.Name.max_sites l.callers.value.items l.jobs l.lead;
-  crew : All (λ worker. IsPassOf l.line worker.turn × HasOne worker × HasReported g.K.Name.max_sites l.callers.value.items l.jobs worker) l.crew.items;
-  put : (view l.lead.turn).put ≡ (view l.fn.lead.turn).put;
-  parts : (view l.lead.turn).parts + vec_len l.crew ≡ (view l.fn.lead.turn).parts + vec_len l.fn.crew;
+  crew : All (λ worker. IsPassOf l.queue worker.pass × HasOne worker × HasReported g.K.Name.max_sites l.callers.value.items l.jobs worker) l.crew.items;
+  put : (view l.lead.pass).put ≡ (view l.fn.lead.pass).put;
+  parts : (view l.lead.pass).parts + vec_len l.crew ≡ (view l.fn.lead.pass).parts + vec_len l.fn.crew;
   taken : (others : ℕ) × (others + vec_len l.crew ≡ vec_len l.fn.crew) × HasTaken others l.fn.lead l.lead;
 }
 

@@ -23,5 +23,6 @@ returns g c =
     let caller = c.loop-report.caller in
     record {
       whole = caller;
-      begins = subst (All (λ (report : Report g.row.K.Denot). All (λ list. IsPrefix list caller) (lists_of report.outcome))) (take_all c.loop-report.report-index reports c.loop-report-test.false) c.loop-report.invariant;
+      begins = subst (All (λ (report : Report g.row.K.Denot). All (λ list. IsPrefix list caller) (lists_of report.outcome)))
+          (take_all c.loop-report.report-index reports c.loop-report-test.false) c.loop-report.invariant;
     }

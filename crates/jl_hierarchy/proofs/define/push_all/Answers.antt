@@ -1,6 +1,6 @@
 use Rattle.std.specs.Prelude.{◌≡◌, ℕ, List, [], length, if◌then◌else◌}
 use Rattle.std.proofs.Common.{ap, subst, ◌∙◌, arith, rules}
-use Rattle.jl_hierarchy.specs.Kept.{IsAppended, lists}
+use Rattle.jl_hierarchy.specs.Means.Kept.{IsAppended, lists}
 use Rattle.jl_hierarchy.proofs.Appending.{with_own}
 use Rattle.jl_hierarchy.proofs.define.push_all.Goals as goal
 

@@ -1,8 +1,8 @@
 use Rattle.std.specs.Prelude.{get_or, slice_get, slice_set, option_and_then, OnErr, Result, Ok, Err}
 use Rattle.std.proofs.Common.{refl, ap, ◌∙◌, arith}
 use Rattle.std.proofs.lemmas.List.{set-get_or}
-use Rattle.jl_types.specs.Members.{recorded}
-use Rattle.jl_types.specs.Definitions.{with_record}
+use Rattle.jl_types.specs.Values.Members.{recorded}
+use Rattle.jl_types.specs.Happenings.Definitions.{with_record}
 use Rattle.jl_hierarchy.proofs.Records.{with_one_more, none_there}
 use Rattle.jl_hierarchy.proofs.loader.record_at.Goals as goal
 
@@ -20,7 +20,8 @@ on_err (Err e) p = p
 pub returns-in_err-record-clause-err : goal.returns-in_err-record-clause-err
 returns-in_err-record-clause-err c =
     on_err c.from_residual.result
-    (ap (slice_set c.args.loaders.now c.number.result) c.in_err-record.ensures.err ∙ set-get_or c.args.loaders.now c.number.result c.index-loaders-number.result)
+    (ap (slice_set c.args.loaders.now c.number.result) c.in_err-record.ensures.err
+    ∙ set-get_or c.args.loaders.now c.number.result c.index-loaders-number.result)
 
 pub returns-clause-ok : goal.returns-clause-ok
 returns-clause-ok c =

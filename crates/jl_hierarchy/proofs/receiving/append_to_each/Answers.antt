@@ -2,7 +2,7 @@ use Rattle.std.specs.Prelude.{◌≡◌, ℕ, ◌+◌, ◌<◌, ◌≤◌, ◌==
 use Rattle.smallvec.specs.SmallVec.{HasRoomFor}
 use Rattle.std.proofs.Common.{ap, sym, subst, ◌∙◌, arith}
 use Rattle.std.proofs.lemmas.Bool.Decides.{Decides-eqb}
-use Rattle.jl_hierarchy.specs.Kept.{IsAppended, lists}
+use Rattle.jl_hierarchy.specs.Means.Kept.{IsAppended, lists}
 use Rattle.jl_hierarchy.proofs.Appending.{changed_more, room_set, rises_at}
 use Rattle.jl_hierarchy.proofs.receiving.append_to_each.Goals as goal
 

@@ -18,9 +18,11 @@ inside c =
     let low = c.requires c.loop-class.class-index c.class-item.result c.loop-class-test.true in
     omega arith
 
-before : (c : goal.In_ok-reserve) (k d : ℕ) → k < c.loop-class.class-index + 1 → (c.number.result == get_or c.args.classes.now k d) ≡ false → k < c.loop-class.class-index
+before : (c : goal.In_ok-reserve) (k d : ℕ) → k < c.loop-class.class-index + 1 → (c.number.result == get_or c.args.classes.now k d) ≡ false
+    → k < c.loop-class.class-index
 before c k d lt e =
-    lt_of_le-ne (omega arith) (λ same. both_ways (c.number.result == get_or c.args.classes.now k d) e ((Decides-eqb c.number.result (get_or c.args.classes.now k d)).1
+    lt_of_le-ne (omega arith) (λ same. both_ways (c.number.result == get_or c.args.classes.now k d) e
+    ((Decides-eqb c.number.result (get_or c.args.classes.now k d)).1
     (c.number.ensures ∙ c.class-item.is ∙ ap (λ i. get_or c.args.classes.now i c.class-item.result) (sym same)
     ∙ same_default c.args.classes.now k c.class-item.result d (let t = c.loop-class-test.true in omega arith))))
 

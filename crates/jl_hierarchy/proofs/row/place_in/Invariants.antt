@@ -1,5 +1,5 @@
 use Rattle.std.specs.Prelude.{◌≡◌, drop, position}
-use Rattle.jl_types.specs.Members.{is_called}
+use Rattle.jl_types.specs.Values.Members.{is_called}
 use Rattle.jl_hierarchy.proofs.PrintLaws.{found}
 use Rattle.jl_hierarchy.proofs.row.place_in.Given as goal
 

@@ -1,5 +1,5 @@
 use Rattle.std.proofs.Common.{◌<◌, ◌∙◌, ap, sym, length, arith}
-use Rattle.jl_types.specs.History.{installed}
+use Rattle.jl_types.specs.Happenings.History.{installed}
 use Rattle.jl_core.specs.State.{events}
 use Rattle.jl_host.proofs.BehindLaws.{kept_by}
 use Rattle.jl_host.proofs.behind.write_site.Goals as goal

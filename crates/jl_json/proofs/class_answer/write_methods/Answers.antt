@@ -1,13 +1,14 @@
 use Rattle.std.proofs.Common.{◌∙◌, sym, arith}
 use Rattle.std.proofs.lemmas.Option.{slice_get_within}
-use Rattle.jl_json.specs.NameReading.{name_text}
+use Rattle.jl_json.specs.Means.NameReading.{name_text}
 use Rattle.jl_json.specs.ClassAnswers.{method_data}
 use Rattle.jl_json.proofs.WrittenLaws.{no_more, one_written, written_list}
 use Rattle.jl_json.proofs.class_answer.write_methods.Goals as goal
 
 pub loop-method-preserved : goal.loop-method-preserved
 loop-method-preserved c = (
-  one_written (method_data name_text) c.args.methods.now c.loop-method.place c.in-Some.method _ _ _ c.in-Some.ensures c.in_ok-write_method.ensures.written c.loop-method.invariant.0,
+  one_written (method_data name_text) c.args.methods.now c.loop-method.place c.in-Some.method _ _ _ c.in-Some.ensures c.in_ok-write_method.ensures.written
+      c.loop-method.invariant.0,
   c.in_ok-write_method.ensures.before ∙ c.loop-method.invariant.1,
 )
 

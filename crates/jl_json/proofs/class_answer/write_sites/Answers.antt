@@ -1,13 +1,14 @@
 use Rattle.std.proofs.Common.{◌∙◌, sym, arith}
 use Rattle.std.proofs.lemmas.Option.{slice_get_within}
-use Rattle.jl_json.specs.NameReading.{name_text}
+use Rattle.jl_json.specs.Means.NameReading.{name_text}
 use Rattle.jl_json.specs.ClassAnswers.{site_data}
 use Rattle.jl_json.proofs.WrittenLaws.{no_more, one_written, written_list}
 use Rattle.jl_json.proofs.class_answer.write_sites.Goals as goal
 
 pub loop-site-preserved : goal.loop-site-preserved
 loop-site-preserved c = (
-  one_written (site_data name_text) c.args.sites.now c.loop-site.place c.in-Some.site _ _ _ c.in-Some.ensures c.in_ok-write_site.ensures.written c.loop-site.invariant.0,
+  one_written (site_data name_text) c.args.sites.now c.loop-site.place c.in-Some.site _ _ _ c.in-Some.ensures c.in_ok-write_site.ensures.written
+      c.loop-site.invariant.0,
   c.in_ok-write_site.ensures.before ∙ c.loop-site.invariant.1,
 )
 

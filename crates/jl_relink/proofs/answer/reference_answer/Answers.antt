@@ -1,6 +1,6 @@
 use Rattle.std.proofs.Common.{◌∙◌}
-use Rattle.jl_types.specs.Resolution.{resolved}
-use Rattle.jl_types.specs.Sites.{by_resolution}
+use Rattle.jl_types.specs.Linkage.Resolution.{resolved}
+use Rattle.jl_types.specs.Linkage.Stages.{by_resolution}
 use Rattle.jl_relink.proofs.StageLaws.{search_answer}
 use Rattle.jl_relink.proofs.answer.reference_answer.Goals as goal
 

@@ -2,8 +2,8 @@ use Rattle.std.specs.Prelude.{◌≡◌, ℕ, take, Some, Ok}
 use Rattle.std.proofs.Common.{rules, of_calls, refl, sym, subst, ◌∙◌, inl}
 use Rattle.std.proofs.lemmas.Result.{err_from_is_err_and}
 use Rattle.jl_types.specs.declared.link.Link.{Link}
-use Rattle.jl_types.specs.Links.{scratch}
-use Rattle.jl_types.specs.Preparation.{link_fault, ArePrepared}
+use Rattle.jl_types.specs.Linkage.Links.{scratch}
+use Rattle.jl_types.specs.Happenings.Preparation.{link_fault, ArePrepared}
 use Rattle.jl_relink.proofs.BatchLaws.{all_ready, first_unready, zip_each}
 use Rattle.jl_relink.proofs.preparation.prepare_in.Goals.{After-of}
 use Rattle.jl_relink.proofs.preparation.prepare_in.Goals as goal
@@ -27,7 +27,8 @@ returns-in_err-fill c =
     let sites = c.args.sites.now in
     let first = c.in_err-fill.ensures.first in
     let made : ArePrepared c.args.world.now (take first.count sites) first.made =
-    zip_each _ (λ (s : ℕ) (row : ℕ × Link). (row.0 ≡ s) × (scratch c.args.world.now s ≡ Ok row.1)) (λ s row k. search (rules, of_calls)) (take first.count sites) first.made first.fine
+    zip_each _ (λ (s : ℕ) (row : ℕ × Link). (row.0 ≡ s) × (scratch c.args.world.now s ≡ Ok row.1)) (λ s row k. search (rules, of_calls))
+    (take first.count sites) first.made first.fine
     in
     let unready : link_fault first.item (scratch c.args.world.now first.item) ≡ Some c.in_err-fill.field-0.0 =
     let k = first.fails in

@@ -1,5 +1,5 @@
 use Rattle.std.proofs.Common.{rules, arith, ◌≡◌}
-use Rattle.jl_code.specs.declared.site.Operand.TheVariants as operand
+use Rattle.jl_class.specs.declared.site.Operand.TheVariants as operand
 use Rattle.jl_relink.proofs.WayKeys.{call_site_takes_one}
 use Rattle.jl_relink.proofs.scratch.invocation_link.Goals as goal
 

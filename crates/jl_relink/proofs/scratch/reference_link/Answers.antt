@@ -1,7 +1,7 @@
 use Rattle.std.specs.Prelude.{Ok}
 use Rattle.std.proofs.Common.{sym, ap, ◌∙◌}
-use Rattle.jl_types.specs.Resolution.{resolved}
-use Rattle.jl_types.specs.Sites.{by_resolution}
+use Rattle.jl_types.specs.Linkage.Resolution.{resolved}
+use Rattle.jl_types.specs.Linkage.Stages.{by_resolution}
 use Rattle.jl_relink.proofs.StageLaws.{selects_link}
 use Rattle.jl_relink.proofs.scratch.reference_link.Goals as goal
 

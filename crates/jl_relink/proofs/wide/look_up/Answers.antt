@@ -3,8 +3,8 @@ use Rattle.std.specs.List.{AllZip}
 use Rattle.std.specs.Borrow.{Bor}
 use Rattle.rayon.proofs.ListFacts.{IfOk-then, AllZip-weaken}
 use Rattle.rayon.proofs.ToStd.{slice-map}
-use Rattle.jl_relink.specs.declared.plan.Pair.{Pair}
-use Rattle.jl_relink.specs.Wide.{looked_up}
+use Rattle.jl_relink.specs.declared.outline.Pair.{Pair}
+use Rattle.jl_relink.specs.Means.Wide.{looked_up}
 use Rattle.jl_relink.proofs.WideLaws.{without_places}
 use Rattle.jl_relink.proofs.wide.look_up.Goals as goal
 

@@ -1,17 +1,17 @@
 use Rattle.std.specs.Prelude.{◌≡◌, ℕ, List, map, All}
 use Rattle.std.proofs.Common.{refl, sym, ap, subst, ◌∙◌, inr}
-use Rattle.jl_types.specs.World.{World}
+use Rattle.jl_types.specs.Values.World.{World}
 use Rattle.jl_types.specs.declared.link.Link.{Link}
-use Rattle.jl_types.specs.Preparation.{ArePrepared}
-use Rattle.jl_relink.specs.declared.plan.Planned.{Planned}
-use Rattle.jl_relink.specs.Wide.{row_of_plan, IsThere}
+use Rattle.jl_types.specs.Happenings.Preparation.{ArePrepared}
+use Rattle.jl_relink.specs.declared.outline.Outline.{Outline}
+use Rattle.jl_relink.specs.Means.Wide.{row_of_plan, IsThere}
 use Rattle.jl_relink.proofs.WideLaws.{plan_prepared, plan_there}
 use Rattle.jl_relink.proofs.wide.wide_in.Goals as goal
 
 pub rows_of_plan-requires-after_bounds : goal.rows_of_plan-requires-after_bounds
 rows_of_plan-requires-after_bounds g c κs bounds =
-    subst (λ (w : World). All (λ (row : ℕ × Planned). IsThere w.classes row.1) c.as_slice.result.now) (sym c.world.view_is)
-    (subst (λ (rows : List (ℕ × Planned)). All (λ (row : ℕ × Planned). IsThere c.args.world.now.classes row.1) rows) (sym c.as_slice.ensures.value)
+    subst (λ (w : World). All (λ (row : ℕ × Outline). IsThere w.classes row.1) c.as_slice.result.now) (sym c.world.view_is)
+    (subst (λ (rows : List (ℕ × Outline)). All (λ (row : ℕ × Outline). IsThere c.args.world.now.classes row.1) rows) (sym c.as_slice.ensures.value)
     (plan_there c.args.world.now c.args.sites.now c.in_ok-plan.plan.items c.in_ok-plan.ensures.plan.1))
 
 pub returns-in-Ok : goal.returns-in-Ok

@@ -1,6 +1,6 @@
 use Rattle.std.specs.Prelude.{Bool, Decides}
 use Rattle.std.proofs.Common.{sym, subst}
-use Rattle.jl_types.specs.Overriding.{CanOverride}
+use Rattle.jl_types.specs.Linkage.Overriding.{CanOverride}
 use Rattle.jl_types.proofs.Overrides.{can_override_decides}
 use Rattle.jl_select.proofs.overriding.can_override.Goals as goal
 

@@ -1,11 +1,12 @@
 use Rattle.std.proofs.Common.{sym, ◌∙◌}
-use Rattle.jl_types.specs.Overriding.{can_override}
+use Rattle.jl_types.specs.Linkage.Overriding.{can_override}
 use Rattle.jl_hierarchy.proofs.Chains.{next_below}
 use Rattle.jl_select.proofs.Upward.{upward}
 use Rattle.jl_select.proofs.selection.overriding.Goals as goal
 
 pub loop-found-smaller : goal.loop-found-smaller
-loop-found-smaller c = next_below c.args.classes.now c.superclass.ensures.ordered c.loop-found.at c.in-Some-superclass.superclass (sym c.in-Some-superclass.ensures.same)
+loop-found-smaller c = next_below c.args.classes.now c.superclass.ensures.ordered c.loop-found.at c.in-Some-superclass.superclass
+    (sym c.in-Some-superclass.ensures.same)
 
 pub loop-found-preserved : goal.loop-found-preserved
 loop-found-preserved c =

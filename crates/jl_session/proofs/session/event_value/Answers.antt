@@ -8,4 +8,5 @@ use Rattle.jl_session.proofs.session.event_value.Goals as goal
 
 pub returns-in-Err : goal.returns-in-Err
 returns-in-Err c =
-    for_ok (λ v e. subst (λ (outcome : Result Reply Refusal). IsEventData outcome (view v)) (sym c.in-Err.is) e) c.event_refusal_value.result c.event_refusal_value.ensures
+    for_ok (λ v e. subst (λ (outcome : Result Reply Refusal). IsEventData outcome (view v)) (sym c.in-Err.is) e) c.event_refusal_value.result
+    c.event_refusal_value.ensures

@@ -1,6 +1,6 @@
 use Rattle.std.proofs.Common.{◌≡◌, ◌==◌, ◌&&◌, ℕ, ◌-◌, nat_lt}
 use Rattle.std.specs.List.{list_any}
-use Rattle.jl_types.specs.Retirement.{retires_site}
+use Rattle.jl_types.specs.Happenings.Retirement.{retires_site}
 use Rattle.jl_settle.proofs.forgetting.sites_of.Given as goal
 
 -- those so far are listed

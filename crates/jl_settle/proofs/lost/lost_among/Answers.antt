@@ -28,7 +28,8 @@ loop-site-preserved c =
     record {
       ticks = (let before = c.loop-site.invariant.ticks in
           let step = c.is_lost-goes.ensures.ticks in
-          let sum = sum_more (most_asked c.args.world.now c.args.defined.now) c.args.sites.now c.loop-site.site-index site c.loop-site-test.true c.site-item.is in
+          let sum = sum_more (most_asked c.args.world.now c.args.defined.now) c.args.sites.now c.loop-site.site-index site c.loop-site-test.true c.site-item.is
+          in
           omega (arith, before, step, sum));
       left = all_rest (MayBeAsked c.args.world.now c.args.defined.now links) c.args.sites.now c.loop-site.site-index c.loop-site.invariant.left;
       lost = λ s.

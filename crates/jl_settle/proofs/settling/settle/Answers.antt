@@ -1,6 +1,6 @@
 use Rattle.std.specs.Prelude.{◌≡◌, ◌&&◌, ℕ, List, None, option_map, if◌then◌else◌}
 use Rattle.std.proofs.Common.{ap, ◌∙◌}
-use Rattle.jl_types.specs.Footprints.{footprint}
+use Rattle.jl_types.specs.Happenings.Footprints.{footprint}
 use Rattle.jl_hierarchy.proofs.Rising.{has}
 use Rattle.jl_cache.specs.Links.{link_at}
 use Rattle.jl_deps.specs.Indexes.{footprint_at, touched_by}
@@ -9,7 +9,8 @@ use Rattle.jl_settle.proofs.SettleLaws.{each_asked, is_there, are_lost, are_kept
 use Rattle.jl_settle.proofs.settling.settle.Goals as goal
 
 pub lost_among-requires-clause-there : goal.lost_among-requires-clause-there
-lost_among-requires-clause-there c = is_there c.args.world.now c.args.keys.now c.args.defined (link_at c.args.links.now) c.args.index.now c.requires.changed c.touched_by.ensures.rising
+lost_among-requires-clause-there c = is_there c.args.world.now c.args.keys.now c.args.defined (link_at c.args.links.now) c.args.index.now c.requires.changed
+    c.touched_by.ensures.rising
 
 pub lost_among-requires-clause-each : goal.lost_among-requires-clause-each
 lost_among-requires-clause-each c =
@@ -46,7 +47,8 @@ returns-clause-index c =
     (λ s. c.in_ok-lost.ensures.lost s ∙ ap (λ (ts : List ℕ). has s ts && goes w links s) sites)
     (λ s. c.drop_changed.ensures.links s ∙ ap (λ (ts : List ℕ). if has s ts then None else links s) c.as_slice-2.ensures.value)
     c.reindex.new.index
-    (λ some s. c.in_ok-reindex.ensures.taken some s ∙ ap (λ (ts : List ℕ). if has s ts then None else footprint_at c.args.index.now s) c.as_slice-4.ensures.value)
+    (λ some s. c.in_ok-reindex.ensures.taken some s ∙ ap (λ (ts : List ℕ). if has s ts then None else footprint_at c.args.index.now s)
+    c.as_slice-4.ensures.value)
     (λ none s.
     c.in_ok-reindex.ensures.looked_up none s
     ∙ ap (λ (ts : List ℕ). if has s ts then option_map (λ l. footprint w s) (link_at c.drop_changed.new.self s) else footprint_at c.args.index.now s)

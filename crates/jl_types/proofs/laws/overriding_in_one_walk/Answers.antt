@@ -1,4 +1,4 @@
-use Rattle.jl_types.specs.Overriding.{directly}
+use Rattle.jl_types.specs.Linkage.Overriding.{directly}
 use Rattle.jl_types.proofs.Overrides.{alike_of}
 use Rattle.jl_types.proofs.Walks.{by_one_walk}
 use Rattle.jl_types.proofs.laws.overriding_in_one_walk.Goals as goal

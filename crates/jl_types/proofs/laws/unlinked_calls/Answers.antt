@@ -1,4 +1,4 @@
-use Rattle.jl_types.specs.Sites.{stage}
+use Rattle.jl_types.specs.Linkage.Stages.{stage}
 use Rattle.jl_types.proofs.Agreement.{unlinked_call, call_unlinked}
 use Rattle.jl_types.proofs.laws.unlinked_calls.Goals as goal
 

@@ -19,7 +19,8 @@ loop-row-preserved c =
       links = λ s.
           found_by_site c.insert.new.self.entries s
           ∙ updates.0 s
-          ∙ ap (λ (link : Option Link). if row.0 == s then Some row.1 else link) (sym (found_by_site c.loop-row.self-inside.links.entries s) ∙ c.loop-row.invariant.links s)
+          ∙ ap (λ (link : Option Link). if row.0 == s then Some row.1 else link) (sym (found_by_site c.loop-row.self-inside.links.entries s)
+          ∙ c.loop-row.invariant.links s)
           ∙ sym
           (ap (λ (rows : List (ℕ × Link)). link_with rows (link_at c.args.self.now s) s)
           (take_more c.args.rows.now c.loop-row.row-index row c.loop-row-test.true ∙ ap (λ (r : ℕ × Link). front ++ r ∷ []) (sym c.row-item.is))

@@ -1,6 +1,6 @@
 use Rattle.std.specs.Prelude.{◌≡◌, ◌<◌, true, List, [], ◌∷◌, ◌++◌, length}
 use Rattle.std.proofs.Common.{ap, sym, subst, ◌∙◌, arith, length-append}
-use Rattle.jl_types.specs.World.{Sites, CallSite}
+use Rattle.jl_types.specs.Values.World.{Sites, CallSite}
 use Rattle.jl_callsites.specs.Known.{is_known, all_known, RunAsBefore}
 use Rattle.jl_callsites.proofs.Known.{one_more_known, site_runs}
 use Rattle.jl_callsites.proofs.sites.Sites.add_site.Goals as goal

@@ -1,6 +1,6 @@
 use Rattle.std.specs.Prelude.{◌≡◌, true, Bool, List}
 use Rattle.std.proofs.Common.{sym, subst}
-use Rattle.jl_types.specs.World.{Sites}
+use Rattle.jl_types.specs.Values.World.{Sites}
 use Rattle.jl_callsites.specs.Known.{are_known, RunAsBefore}
 use Rattle.jl_callsites.proofs.Known.{one_switch_more, switch_runs}
 use Rattle.jl_callsites.proofs.sites.Sites.add_switch.Goals as goal

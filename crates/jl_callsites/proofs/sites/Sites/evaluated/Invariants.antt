@@ -1,5 +1,5 @@
 use Rattle.std.proofs.Common.{◌≡◌}
-use Rattle.jl_types.specs.Targets as targets
+use Rattle.jl_types.specs.Linkage.Targets as targets
 use Rattle.jl_callsites.proofs.Turns.{turns_at}
 use Rattle.jl_callsites.proofs.sites.Sites.evaluated.Given as goal
 

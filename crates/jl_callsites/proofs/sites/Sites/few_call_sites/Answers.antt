@@ -1,6 +1,6 @@
 use Rattle.std.specs.Prelude.{◌≤◌, length}
 use Rattle.std.proofs.Common.{subst}
-use Rattle.jl_types.specs.World.{Sites}
+use Rattle.jl_types.specs.Values.World.{Sites}
 use Rattle.jl_callsites.proofs.sites.Sites.few_call_sites.Goals as goal
 
 pub returns-clause-few : goal.returns-clause-few

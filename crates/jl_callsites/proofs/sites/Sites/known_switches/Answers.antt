@@ -1,6 +1,6 @@
 use Rattle.std.specs.Prelude.{◌≡◌, true}
 use Rattle.std.proofs.Common.{subst}
-use Rattle.jl_types.specs.World.{Sites}
+use Rattle.jl_types.specs.Values.World.{Sites}
 use Rattle.jl_callsites.specs.Known.{are_known}
 use Rattle.jl_callsites.proofs.sites.Sites.known_switches.Goals as goal
 

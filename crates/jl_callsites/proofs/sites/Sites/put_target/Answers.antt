@@ -1,8 +1,8 @@
 use Rattle.std.specs.Prelude.{◌≡◌, ◌<◌, true, length, List}
 use Rattle.std.proofs.Common.{sym, subst, ap, ◌∙◌, arith}
-use Rattle.jl_types.specs.World.{Sites, CallSite}
-use Rattle.jl_types.specs.Targets as targets
-use Rattle.jl_types.specs.Targets.{method_of}
+use Rattle.jl_types.specs.Values.World.{Sites, CallSite}
+use Rattle.jl_types.specs.Linkage.Targets as targets
+use Rattle.jl_types.specs.Linkage.Targets.{method_of}
 use Rattle.jl_callsites.specs.Known.{all_known, is_known, OthersRunAsBefore}
 use Rattle.jl_callsites.proofs.Known.{retargeted_known, as_many_retargeted, target_runs, others_run}
 use Rattle.jl_callsites.proofs.sites.Sites.put_target.Goals as goal
@@ -21,14 +21,17 @@ invariant_of-self c =
 pub returns-clause-runs : goal.returns-clause-runs
 returns-clause-runs c =
     let inside : Sites = record { call_sites = c.self.inside.call_sites.items; switches = c.self.inside.switches.items } in
-    subst (λ (old : Sites). method_of (record { call_sites = c.retarget_in.new.call_sites.items; switches = c.self.inside.switches.items }) c.args.site ≡ targets.evaluated old c.args.site c.args.target) c.self.view_is
-    (subst (λ (sites : List CallSite). method_of (record { call_sites = sites; switches = c.self.inside.switches.items }) c.args.site ≡ targets.evaluated inside c.args.site c.args.target)
+    subst (λ (old : Sites). method_of (record { call_sites = c.retarget_in.new.call_sites.items; switches = c.self.inside.switches.items }) c.args.site
+    ≡ targets.evaluated old c.args.site c.args.target) c.self.view_is
+    (subst (λ (sites : List CallSite). method_of (record { call_sites = sites; switches = c.self.inside.switches.items }) c.args.site ≡ targets.evaluated inside
+    c.args.site c.args.target)
     (sym c.retarget_in.ensures)
     (target_runs inside c.args.site c.args.target (subst (λ (old : Sites). c.args.site < length old.call_sites) (sym c.self.view_is) c.requires.there)))
 
 pub returns-clause-others : goal.returns-clause-others
 returns-clause-others c =
     let inside : Sites = record { call_sites = c.self.inside.call_sites.items; switches = c.self.inside.switches.items } in
-    subst (λ (old : Sites). OthersRunAsBefore old (record { call_sites = c.retarget_in.new.call_sites.items; switches = c.self.inside.switches.items }) c.args.site) c.self.view_is
+    subst (λ (old : Sites). OthersRunAsBefore old (record { call_sites = c.retarget_in.new.call_sites.items; switches = c.self.inside.switches.items })
+    c.args.site) c.self.view_is
     (subst (λ (sites : List CallSite). OthersRunAsBefore inside (record { call_sites = sites; switches = c.self.inside.switches.items }) c.args.site)
     (sym c.retarget_in.ensures) (others_run inside c.args.site c.args.target))

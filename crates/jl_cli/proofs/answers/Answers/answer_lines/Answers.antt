@@ -4,7 +4,7 @@ use Rattle.jl_cli.specs.declared.words.Mode.{Mode}
 use Rattle.jl_session.specs.Sessions.{Session}
 use Rattle.jl_cli.specs.Answers.{IsAnswer}
 use Rattle.jl_cli.specs.Lines.{NoNewline}
-use Rattle.jl_cli.specs.Progress.{IsLine}
+use Rattle.jl_cli.specs.Means.Progress.{IsLine}
 use Rattle.jl_cli.proofs.LackLaws.{match_err}
 use Rattle.jl_cli.proofs.LineLaws.{answered_none, gathers_more, gathers_stop}
 use Rattle.jl_cli.proofs.answers.Answers.answer_lines.Goals as goal

@@ -1,6 +1,6 @@
 use Rattle.std.proofs.Common.{◌≡◌, ◌≤◌, length, take}
 use Rattle.jl_cli.specs.Lines.{NoNewline}
-use Rattle.jl_cli.specs.Progress.{Gathers}
+use Rattle.jl_cli.specs.Means.Progress.{Gathers}
 use Rattle.jl_cli.proofs.answers.Answers.answer_lines.Given as goal
 
 abbrev pub invariant-loop-line : goal.invariant-loop-line

@@ -1,6 +1,6 @@
 use Rattle.std.specs.Prelude.{◌≤◌, length}
 use Rattle.std.proofs.Common.{sym, subst, ◌∙◌}
-use Rattle.jl_types.specs.World.{World}
+use Rattle.jl_types.specs.Values.World.{World}
 use Rattle.jl_core.proofs.HistoryLaws.{exact_same, index_same}
 use Rattle.jl_core.proofs.instance.Instance.copy.Goals as goal
 

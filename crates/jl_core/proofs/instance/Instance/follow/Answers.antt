@@ -1,11 +1,11 @@
 use Rattle.std.specs.Prelude.{slice_get, length}
 use Rattle.std.proofs.Common.{sym, subst, ◌∙◌}
-use Rattle.jl_types.specs.World.{World}
+use Rattle.jl_types.specs.Values.World.{World}
 use Rattle.jl_relink.specs.Laws.{IsInOrder}
 use Rattle.jl_cache.specs.Links.{link_at}
 use Rattle.jl_deps.specs.Indexes.{IsIndex}
 use Rattle.jl_core.specs.State.{State}
-use Rattle.jl_core.specs.Replays.{IsBehind}
+use Rattle.jl_core.specs.Means.Replays.{IsBehind}
 use Rattle.jl_core.proofs.HistoryLaws.{core_of}
 use Rattle.jl_core.proofs.FollowLaws.{none_behind, is_further, exact_so, same_core, few_so}
 use Rattle.jl_core.proofs.instance.Instance.follow.Goals as goal

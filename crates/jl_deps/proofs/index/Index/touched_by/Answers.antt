@@ -2,7 +2,7 @@ use Rattle.std.specs.Prelude.{ℕ, List}
 use Rattle.std.specs.List.{list_any}
 use Rattle.std.proofs.Common.{eqb, ap, sym, subst, ◌∙◌}
 use Rattle.std.proofs.lemmas.List.Filters.{dedup_is}
-use Rattle.jl_hierarchy.specs.Kept.{Rises}
+use Rattle.jl_hierarchy.specs.Means.Kept.{Rises}
 use Rattle.jl_hierarchy.proofs.Parents.{still_has, each_once_rises}
 use Rattle.jl_hierarchy.proofs.Rising.{has, one_rising}
 use Rattle.jl_types.specs.declared.key.Key.{Key}

@@ -1,16 +1,16 @@
 use Rattle.std.specs.Prelude.{◌≡◌, ℕ, List, [], ◌∷◌, ◌++◌, length, Bool, ◌&&◌, if◌then◌else◌}
 use Rattle.std.proofs.Common.{refl, ap, sym, subst, ◌∙◌, arith, Vec, Global}
-use Rattle.jl_types.specs.Ancestry.{AreOrdered}
+use Rattle.jl_types.specs.Values.Ancestry.{AreOrdered}
 use Rattle.jl_types.proofs.Orders.{defined_good}
 use Rattle.std.proofs.lemmas.Bool.{and_parts}
 use Rattle.jl_hierarchy.specs.declared.marks.Mark.{Mark}
 use Rattle.jl_hierarchy.specs.Redeclared.{IsIndexed, is_on}
 use Rattle.jl_hierarchy.proofs.NewMarks.{still_indexed, indexed_now, told_by}
-use Rattle.jl_types.specs.World.{Class, Classes}
-use Rattle.jl_types.specs.Members.{lookup}
-use Rattle.jl_types.specs.Definitions.{with_record, defined}
+use Rattle.jl_types.specs.Values.World.{Class, Classes}
+use Rattle.jl_types.specs.Values.Members.{lookup}
+use Rattle.jl_types.specs.Happenings.Definitions.{with_record, defined}
 use Rattle.jl_hierarchy.specs.Constancy.{Stays, AddsReceiver}
-use Rattle.jl_hierarchy.specs.Kept.{IsKept, IsAppended, lists}
+use Rattle.jl_hierarchy.specs.Means.Kept.{IsKept, IsAppended, lists}
 use Rattle.jl_hierarchy.proofs.KeptLaws.{many_above, many_below, good, in_order}
 use Rattle.jl_hierarchy.proofs.FaultLaws.{is_new}
 use Rattle.jl_hierarchy.proofs.Constancy.{stays_defined, adds_receiver}
@@ -37,9 +37,9 @@ invariant_of-self-in_err-record_in c = (
       c.reserve_all.new.above.items c.self.inside.above.items (lists c.reserve_all.new.below.items) (lists c.self.inside.below.items)
       (λ i. record { loaders = c.in_err-record_in.ensures.err i; rows = c.in_ok-reserve_all.ensures.rows i; retired = c.self.inside.retired.keys })
       c.in_ok-reserve_all.ensures.above c.in_ok-reserve_all.ensures.below c.self.invariant.0,
-  subst (λ (rows : List Class). IsIndexed rows c.add_marks.new.shared.value c.self.inside.are_lines) (sym c.in_ok-reserve_all.ensures.rows)
+  subst (λ (rows : List Class). IsIndexed rows c.add_marks.new.shared.value c.self.inside.are_superclass_chains) (sym c.in_ok-reserve_all.ensures.rows)
       (still_indexed c.self.inside.rows.items c.self.inside.marks.value c.add_marks.new.shared.value
-      c.self.inside.are_lines c.self.inside.are_lines c.self.invariant.1 c.in_ok-add_marks.ensures.kept (λ known. known)),
+      c.self.inside.are_superclass_chains c.self.inside.are_superclass_chains c.self.invariant.1 c.in_ok-add_marks.ensures.kept (λ known. known)),
 )
 
 pub invariant_of-self-in_err-add_marks : goal.invariant_of-self-in_err-add_marks
@@ -49,23 +49,25 @@ invariant_of-self-in_err-add_marks c = (
       c.reserve_all.new.above.items c.self.inside.above.items (lists c.reserve_all.new.below.items) (lists c.self.inside.below.items)
       (λ i. record { loaders = c.self.inside.loaders.items; rows = c.in_ok-reserve_all.ensures.rows i; retired = c.self.inside.retired.keys })
       c.in_ok-reserve_all.ensures.above c.in_ok-reserve_all.ensures.below c.self.invariant.0,
-  subst (λ (rows : List Class). IsIndexed rows c.add_marks.new.shared.value c.self.inside.are_lines) (sym c.in_ok-reserve_all.ensures.rows)
+  subst (λ (rows : List Class). IsIndexed rows c.add_marks.new.shared.value c.self.inside.are_superclass_chains) (sym c.in_ok-reserve_all.ensures.rows)
       (still_indexed c.self.inside.rows.items c.self.inside.marks.value c.add_marks.new.shared.value
-      c.self.inside.are_lines c.self.inside.are_lines c.self.invariant.1 c.in_err-add_marks.ensures.kept (λ known. known)),
+      c.self.inside.are_superclass_chains c.self.inside.are_superclass_chains c.self.invariant.1 c.in_err-add_marks.ensures.kept (λ known. known)),
 )
 
 pub push_all-requires-clause-there : goal.push_all-requires-clause-there
 push_all-requires-clause-there c =
     let g = c.in_ok-growth.growth in
-    there_chosen g.is_concrete g.ancestors.items (if g.is_concrete then g.ancestors.items else []) (length c.args.self.now.rows) (length c.reserve_all.new.below.items)
+    there_chosen g.is_concrete g.ancestors.items (if g.is_concrete then g.ancestors.items else []) (length c.args.self.now.rows)
+    (length c.reserve_all.new.below.items)
     refl
     (many_below _ _ _ c.self.invariant.0 c.args.self.now c.self.view_is c.reserve_all.new.below.items c.in_ok-reserve_all.ensures.below)
     c.in_ok-growth.ensures.there
 
-pub push_all-requires-clause-kin : goal.push_all-requires-clause-kin
-push_all-requires-clause-kin c =
-    c.in_ok-growth.ensures.kin
-    ∙ ap (λ (n : ℕ). c.in_ok-growth.growth.ancestors.items ++ n ∷ []) (sym (c.new-class.ensures ∙ c.len.ensures ∙ ap (λ (k : Classes). length k.rows) c.self.view_is))
+pub push_all-requires-clause-with_itself : goal.push_all-requires-clause-with_itself
+push_all-requires-clause-with_itself c =
+    c.in_ok-growth.ensures.with_itself
+    ∙ ap (λ (n : ℕ). c.in_ok-growth.growth.ancestors.items ++ n ∷ []) (sym (c.new-class.ensures ∙ c.len.ensures
+    ∙ ap (λ (k : Classes). length k.rows) c.self.view_is))
 
 pub push_all-requires-clause-few : goal.push_all-requires-clause-few
 push_all-requires-clause-few c =
@@ -82,14 +84,15 @@ numbered c = c.new-class.ensures ∙ c.len.ensures ∙ ap (λ (k : Classes). len
 
 -- whether the lines are known afterwards
 abbrev lines_now : (c : goal.After-push_all) → Bool
-lines_now c = c.self.inside.are_lines && c.in_ok-growth.growth.is_line
+lines_now c = c.self.inside.are_superclass_chains && c.in_ok-growth.growth.is_line
 
 -- the parts afterwards, by those before
 loaders_are : (c : goal.After-push_all)
     → c.record_in.new.loaders.items ≡ with_record c.args.self.now.loaders c.args.row.loader c.in_ok-name.name.items c.new-class.result
 loaders_are c =
     c.in_ok-record_in.ensures.ok
-    ∙ (λ i. with_record (c.self.view_is i).loaders ((c.loader-loader.ensures ∙ ap (λ (k : Class). k.loader) c.class.ensures) i) c.in_ok-name.name.items c.new-class.result)
+    ∙ (λ i. with_record (c.self.view_is i).loaders ((c.loader-loader.ensures ∙ ap (λ (k : Class). k.loader) c.class.ensures) i) c.in_ok-name.name.items
+    c.new-class.result)
 
 rows_are : (c : goal.After-push_all) → c.push_all.new.rows.items ≡ c.args.self.now.rows ++ c.args.row ∷ []
 rows_are c =
@@ -105,7 +108,8 @@ invariant_of-self-2 c =
           c.args.row c.requires.made c.requires.accepted c.requires.interface
           g.is_concrete g.ancestors.items g.own.items c.in_ok-name.name.items class c.push_all.ensures.below.0
           c.in_ok-growth.ensures.concrete c.in_ok-growth.ensures.all c.in_ok-growth.ensures.own c.in_ok-name.ensures (numbered c)
-          (subst (λ ls. IsAppended (if g.is_concrete then g.ancestors.items else []) class ls c.push_all.ensures.below.0) c.in_ok-reserve_all.ensures.below c.push_all.ensures.below.1)
+          (subst (λ ls. IsAppended (if g.is_concrete then g.ancestors.items else []) class ls c.push_all.ensures.below.0) c.in_ok-reserve_all.ensures.below
+          c.push_all.ensures.below.1)
           c.record_in.new.loaders.items c.push_all.new.rows.items c.self.inside.retired.keys c.push_all.new.above.items (lists c.push_all.new.below.items)
           (loaders_are c) (rows_are c) (λ i. (c.self.view_is i).retired)
           (c.push_all.ensures.above ∙ ap (λ (ls : List (List ℕ)). ls ++ (g.ancestors.items ++ class ∷ []) ∷ []) c.in_ok-reserve_all.ensures.above)
@@ -114,19 +118,20 @@ invariant_of-self-2 c =
           (indexed_now c.args.self.now.rows c.args.row
           (subst (λ (r : Class). AreOrdered (c.args.self.now.rows ++ r ∷ [])) (sym c.requires.made)
           ((defined_good c.args.self.now (good _ _ _ c.self.invariant.0 c.args.self.now c.self.view_is) c.args.row.loader c.args.row.file).ordered))
-          c.self.inside.marks.value c.add_marks.new.shared.value c.self.inside.are_lines (lines_now c)
-          (subst (λ (k : Classes). IsIndexed k.rows c.self.inside.marks.value c.self.inside.are_lines) c.self.view_is c.self.invariant.1)
+          c.self.inside.marks.value c.add_marks.new.shared.value c.self.inside.are_superclass_chains (lines_now c)
+          (subst (λ (k : Classes). IsIndexed k.rows c.self.inside.marks.value c.self.inside.are_superclass_chains) c.self.view_is c.self.invariant.1)
           c.in_ok-add_marks.ensures.kept
           (told_by c.args.self.now c.args.row (λ (ms : Vec Mark Global). ms.items) g.marks c.deref-2.result.now c.add_marks.new.shared.value
           c.in_ok-growth.ensures.marks c.in_ok-add_marks.ensures.each c.in_ok-add_marks.ensures.every
           (λ s on. ap (is_on s) c.deref-2.ensures.value ∙ c.in_ok-growth.ensures.above s on))
-          g.ancestors.items c.in_ok-growth.ensures.all (λ known. (and_parts c.self.inside.are_lines g.is_line known).0)
-          (λ known. c.in_ok-growth.ensures.line (and_parts c.self.inside.are_lines g.is_line known).1)),
+          g.ancestors.items c.in_ok-growth.ensures.all (λ known. (and_parts c.self.inside.are_superclass_chains g.is_line known).0)
+          (λ known. c.in_ok-growth.ensures.line (and_parts c.self.inside.are_superclass_chains g.is_line known).1)),
     )
 
 -- the classes afterwards
 made : (c : goal.After-push_all)
-    → ◌≡◌ {A = Classes} (record { loaders = c.record_in.new.loaders.items; rows = c.push_all.new.rows.items; retired = c.self.inside.retired.keys }) (defined c.args.self.now c.args.row.loader c.args.row.file)
+    → ◌≡◌ {A = Classes} (record { loaders = c.record_in.new.loaders.items; rows = c.push_all.new.rows.items; retired = c.self.inside.retired.keys })
+    (defined c.args.self.now c.args.row.loader c.args.row.file)
 made c = λ i. record {
   loaders = (loaders_are c ∙ (λ j. with_record c.args.self.now.loaders c.args.row.loader (c.in_ok-name.ensures j) (numbered c j))) i;
   rows = (rows_are c ∙ (λ j. c.args.self.now.rows ++ c.requires.made j ∷ [])) i;

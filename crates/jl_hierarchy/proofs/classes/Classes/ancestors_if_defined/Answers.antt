@@ -2,8 +2,8 @@ use Rattle.std.specs.Prelude.{◌≡◌, ℕ, ◌<◌, ◌++◌, ◌∷◌, [], 
 use Rattle.std.specs.List.{list_any}
 use Rattle.std.proofs.Common.{ap, sym, subst, ◌∙◌, rules}
 use Rattle.std.proofs.lemmas.List.Elements.{All-from_recursion}
-use Rattle.jl_types.specs.Ancestry.{parents, is_ancestor}
-use Rattle.jl_types.specs.Definitions.{class_made}
+use Rattle.jl_types.specs.Values.Ancestry.{parents, is_ancestor}
+use Rattle.jl_types.specs.Happenings.Definitions.{class_made}
 use Rattle.jl_types.proofs.Orders.{defined_good}
 use Rattle.jl_hierarchy.proofs.KeptLaws.{good}
 use Rattle.jl_hierarchy.proofs.Parents.{listed_next, low, ordered}

@@ -1,6 +1,6 @@
 use Rattle.std.specs.Prelude.{◌++◌, ◌∷◌, [], if◌then◌else◌}
 use Rattle.std.proofs.Common.{sym, ◌∙◌}
-use Rattle.jl_types.specs.Members.{is_concrete}
+use Rattle.jl_types.specs.Values.Members.{is_concrete}
 use Rattle.jl_hierarchy.proofs.Turns.{filtered_more}
 use Rattle.jl_hierarchy.proofs.classes.Classes.concrete_among.Goals as goal
 

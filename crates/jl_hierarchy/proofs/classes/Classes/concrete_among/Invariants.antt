@@ -1,5 +1,5 @@
 use Rattle.std.specs.Prelude.{◌≡◌, filter, take}
-use Rattle.jl_types.specs.Members as members
+use Rattle.jl_types.specs.Values.Members as members
 use Rattle.jl_hierarchy.proofs.classes.Classes.concrete_among.Given as goal
 
 abbrev pub invariant-loop-class : goal.invariant-loop-class

@@ -1,6 +1,6 @@
 use Rattle.std.specs.Prelude.{◌≤◌, length}
 use Rattle.std.proofs.Common.{subst}
-use Rattle.jl_types.specs.World.{Classes}
+use Rattle.jl_types.specs.Values.World.{Classes}
 use Rattle.jl_hierarchy.proofs.KeptLaws.{in_order}
 use Rattle.jl_hierarchy.proofs.classes.Classes.count_in_order.Goals as goal
 

@@ -1,5 +1,5 @@
 use Rattle.std.proofs.Common.{sym, ap}
-use Rattle.jl_types.specs.Resolution.{first_element}
+use Rattle.jl_types.specs.Linkage.Resolution.{first_element}
 use Rattle.jl_hierarchy.proofs.DefaultLaws.{candidates_are}
 use Rattle.jl_hierarchy.proofs.classes.Classes.first_candidate_by.Goals as goal
 

@@ -1,5 +1,5 @@
 use Rattle.std.proofs.Common.{ap, sym, ◌∙◌, arith}
-use Rattle.jl_types.specs.Retirement as retirement
+use Rattle.jl_types.specs.Happenings.Retirement as retirement
 use Rattle.jl_hierarchy.proofs.Turns.{found_later}
 use Rattle.jl_hierarchy.proofs.classes.Classes.first_heir.Goals as goal
 

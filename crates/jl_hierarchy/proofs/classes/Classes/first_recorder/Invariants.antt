@@ -1,6 +1,6 @@
 use Rattle.std.proofs.Common.{◌-◌, ◌≡◌, ◌≤◌, find}
 use Rattle.std.specs.List.{range_with_len}
-use Rattle.jl_types.specs.Retirement as retirement
+use Rattle.jl_types.specs.Happenings.Retirement as retirement
 use Rattle.jl_hierarchy.proofs.classes.Classes.first_recorder.Given as goal
 
 -- the first one is the first from here on

@@ -1,8 +1,8 @@
 use Rattle.std.specs.Prelude.{◌++◌, ◌∷◌, []}
 use Rattle.std.specs.List.{list_any}
 use Rattle.std.proofs.Common.{ap, sym, subst, ◌∙◌}
-use Rattle.jl_types.specs.World.{Class}
-use Rattle.jl_types.specs.Ancestry.{AreOrdered, parents, is_ancestor}
+use Rattle.jl_types.specs.Values.World.{Class}
+use Rattle.jl_types.specs.Values.Ancestry.{AreOrdered, parents, is_ancestor}
 use Rattle.jl_hierarchy.specs.Redeclared.{is_above}
 use Rattle.jl_hierarchy.proofs.Lines.{line_parents}
 use Rattle.jl_types.proofs.Orders.{defined_good}

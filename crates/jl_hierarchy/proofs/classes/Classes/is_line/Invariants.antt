@@ -1,7 +1,7 @@
 use Rattle.std.specs.Prelude.{◌≡◌, ℕ, take, true, false}
 use Rattle.std.specs.List.{list_any}
-use Rattle.jl_types.specs.Members as members
-use Rattle.jl_types.specs.Ancestry as ancestry
+use Rattle.jl_types.specs.Values.Members as members
+use Rattle.jl_types.specs.Values.Ancestry as ancestry
 use Rattle.jl_hierarchy.specs.Redeclared.{is_above}
 use Rattle.jl_hierarchy.proofs.classes.Classes.is_line.Given as goal
 

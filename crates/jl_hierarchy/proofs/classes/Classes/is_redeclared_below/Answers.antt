@@ -1,5 +1,5 @@
 use Rattle.std.proofs.Common.{ap, sym, subst, ◌∙◌}
-use Rattle.jl_types.specs.World.{Classes}
+use Rattle.jl_types.specs.Values.World.{Classes}
 use Rattle.jl_hierarchy.specs.Prints.{print_of}
 use Rattle.jl_hierarchy.specs.Redeclared.{Marked, is_marked, AreMarked}
 use Rattle.jl_hierarchy.proofs.Redeclaring.{not_redeclared}

@@ -3,7 +3,8 @@ use Rattle.jl_hierarchy.proofs.Chains.{next_below, is_itself, below_next}
 use Rattle.jl_hierarchy.proofs.classes.Classes.is_subclass.Goals as goal
 
 pub returns-then-eq : goal.returns-then-eq
-returns-then-eq c = sym (is_itself c.args.self.now c.loop-other.at c.loop-other.invariant.there c.args.other (sym c.eq.ensures ∙ c.if-eq.true)) ∙ c.loop-other.invariant.same
+returns-then-eq c = sym (is_itself c.args.self.now c.loop-other.at c.loop-other.invariant.there c.args.other (sym c.eq.ensures ∙ c.if-eq.true))
+    ∙ c.loop-other.invariant.same
 
 pub loop-other-smaller : goal.loop-other-smaller
 loop-other-smaller c = next_below c.args.self.now c.superclass.ensures.ordered c.loop-other.at c.in-Some.superclass (sym c.in-Some.ensures.same)

@@ -1,5 +1,5 @@
 use Rattle.std.proofs.Common.{◌≡◌, ◌<◌, length}
-use Rattle.jl_types.specs.Ancestry as ancestry
+use Rattle.jl_types.specs.Values.Ancestry as ancestry
 use Rattle.jl_hierarchy.proofs.classes.Classes.is_subclass.Given as goal
 
 -- the chain from here holds the other one where the class's chain does

@@ -1,8 +1,8 @@
 use Rattle.std.specs.Prelude.{◌<◌, length, All, filter}
 use Rattle.std.specs.List.{list_any}
 use Rattle.std.proofs.Common.{ap, sym, subst, ◌∙◌}
-use Rattle.jl_types.specs.Members.{is_concrete}
-use Rattle.jl_types.specs.Ancestry.{is_ancestor}
+use Rattle.jl_types.specs.Values.Members.{is_concrete}
+use Rattle.jl_types.specs.Values.Ancestry.{is_ancestor}
 use Rattle.jl_hierarchy.proofs.KeptLaws.{good}
 use Rattle.jl_hierarchy.proofs.OwnRecords.{own_there, losing_are}
 use Rattle.jl_hierarchy.proofs.classes.Classes.losing_receivers.Goals as goal

@@ -1,5 +1,5 @@
 use Rattle.std.specs.Prelude.{◌≡◌, ℕ, List, ◌++◌, true}
-use Rattle.jl_types.specs.Ancestry as ancestry
+use Rattle.jl_types.specs.Values.Ancestry as ancestry
 use Rattle.jl_hierarchy.specs.declared.marks.Mark.{Mark}
 use Rattle.jl_hierarchy.proofs.Lines.{IsPassed}
 use Rattle.jl_hierarchy.proofs.classes.Classes.mark_upward.Given as goal

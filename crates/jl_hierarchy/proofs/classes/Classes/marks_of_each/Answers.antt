@@ -10,4 +10,5 @@ loop-method-preserved c =
 
 pub returns : goal.returns
 returns c =
-    told_all c.args.self.now c.args.superclass c.args.methods.now c.loop-method.marks.items c.loop-method.place (sym c.in_default.ensures) c.loop-method.invariant
+    told_all c.args.self.now c.args.superclass c.args.methods.now c.loop-method.marks.items c.loop-method.place
+    (sym c.in_default.ensures) c.loop-method.invariant

@@ -1,6 +1,6 @@
 use Rattle.std.specs.Prelude.{option_and_then}
 use Rattle.std.proofs.Common.{ap, ◌∙◌}
-use Rattle.jl_types.specs.Members as members
+use Rattle.jl_types.specs.Values.Members as members
 use Rattle.jl_hierarchy.proofs.classes.Classes.of_object.Goals as goal
 
 pub returns : goal.returns

@@ -2,7 +2,7 @@ use Rattle.std.specs.Prelude.{◌<◌, length, All}
 use Rattle.std.specs.List.{list_any}
 use Rattle.std.proofs.Common.{ap, sym, subst, ◌∙◌}
 use Rattle.std.proofs.lemmas.List.Elements.{All-from_recursion}
-use Rattle.jl_types.specs.Ancestry.{parents, is_ancestor}
+use Rattle.jl_types.specs.Values.Ancestry.{parents, is_ancestor}
 use Rattle.jl_hierarchy.proofs.Parents.{listed_next, proper_below, low, ordered}
 use Rattle.jl_hierarchy.proofs.classes.Classes.proper_ancestors.Goals as goal
 

@@ -1,13 +1,14 @@
 use Rattle.std.specs.Prelude.{ℕ}
 use Rattle.smallvec.specs.SmallVec.{SmallVec}
 use Rattle.std.proofs.Common.{ap, ◌∙◌}
-use Rattle.jl_hierarchy.specs.Kept.{lists}
+use Rattle.jl_hierarchy.specs.Means.Kept.{lists}
 use Rattle.jl_hierarchy.proofs.KeptLaws.{receivers_here, below_here}
 use Rattle.jl_hierarchy.proofs.classes.Classes.receivers.Goals as goal
 
 pub bounds-as_slice-number : goal.bounds-as_slice-number
 bounds-as_slice-number c =
-    below_here _ _ _ c.self.invariant.0 c.args.self.now c.self.view_is c.as_slice.result.now (ap lists c.as_slice.ensures.value) c.number.result c.args.class c.number.ensures c.requires
+    below_here _ _ _ c.self.invariant.0 c.args.self.now c.self.view_is c.as_slice.result.now (ap lists c.as_slice.ensures.value) c.number.result c.args.class
+    c.number.ensures c.requires
 
 pub returns : goal.returns
 returns c =

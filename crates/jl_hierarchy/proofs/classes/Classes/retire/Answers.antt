@@ -1,9 +1,9 @@
 use Rattle.std.specs.Prelude.{◌≡◌, ◌==◌, ◌<◌, length, false, None, All}
 use Rattle.std.specs.List.{list_any}
 use Rattle.std.proofs.Common.{refl, ap, sym, subst, ◌∙◌}
-use Rattle.jl_types.specs.World.{Classes}
-use Rattle.jl_types.specs.Retirement.{classes_fault, losing_receivers, retired}
-use Rattle.jl_hierarchy.specs.Kept.{lists}
+use Rattle.jl_types.specs.Values.World.{Classes}
+use Rattle.jl_types.specs.Happenings.Retirement.{classes_fault, losing_receivers, retired}
+use Rattle.jl_hierarchy.specs.Means.Kept.{lists}
 use Rattle.jl_hierarchy.proofs.KeptLaws.{in_order, many_below}
 use Rattle.jl_hierarchy.proofs.NewClass.{kept_as}
 use Rattle.jl_hierarchy.proofs.LoaderGone.{kept_retired, is_live, is_made}
@@ -15,7 +15,8 @@ mark_retired-requires c =
     subst (λ (k : Classes). list_any (λ l. l == c.args.loader) k.retired ≡ false) (sym c.self.view_is) (is_live c.args.self.now c.args.loader c.requires)
 
 pub empty_in-requires-clause-there : goal.empty_in-requires-clause-there
-empty_in-requires-clause-there c = subst (λ (k : Classes). c.args.loader < length k.loaders) (sym c.self.view_is) (is_made c.args.self.now c.args.loader c.requires)
+empty_in-requires-clause-there c = subst (λ (k : Classes). c.args.loader < length k.loaders) (sym c.self.view_is)
+    (is_made c.args.self.now c.args.loader c.requires)
 
 -- those that lose a receiver
 losing : (c : goal.After-deref) → c.deref.result.now ≡ losing_receivers c.args.self.now c.args.loader

@@ -1,6 +1,6 @@
 use Rattle.std.specs.Option.{option_or}
 use Rattle.std.proofs.Common.{ap, ◌∙◌, sym, rules}
-use Rattle.jl_types.specs.Members.{recorded}
+use Rattle.jl_types.specs.Values.Members.{recorded}
 use Rattle.jl_hierarchy.proofs.Recents.{or_else_is, recorded_behind}
 use Rattle.jl_hierarchy.proofs.loader.Loader.get.Goals as goal
 

@@ -1,5 +1,5 @@
 use Rattle.std.proofs.Common.{ap, sym, ◌∙◌}
-use Rattle.jl_types.specs.Members.{recorded}
+use Rattle.jl_types.specs.Values.Members.{recorded}
 use Rattle.jl_hierarchy.proofs.Records.{recorded_is}
 use Rattle.jl_hierarchy.proofs.loader.Records.get.Goals as goal
 

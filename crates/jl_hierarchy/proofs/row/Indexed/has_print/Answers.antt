@@ -1,6 +1,6 @@
 use Rattle.std.proofs.Common.{ap, ◌∙◌, List}
 use Rattle.std.specs.List.{list_any}
-use Rattle.jl_types.specs.World.{Class}
+use Rattle.jl_types.specs.Values.World.{Class}
 use Rattle.jl_hierarchy.specs.declared.row.Printed.{Printed}
 use Rattle.jl_hierarchy.specs.Prints.{has_print}
 use Rattle.jl_hierarchy.specs.Redeclared.{has_method}

@@ -8,7 +8,8 @@ loop-number-preserved c =
     let before = c.loop-number.invariant in
     let names = c.names-names.ensures in (
       tested_more (is_linked c.args.self.now) c.args.self.now c.loop-number.number c.names-names.result.linked before.0 names.linked c.if-not-names.false,
-      rw (c.or-untyped.ensures, c.then_some.ensures) (typed_more c.args.self.now c.loop-number.number c.loop-number.untyped c.names-names.result.typed names.typed before.1),
+      rw (c.or-untyped.ensures, c.then_some.ensures) (typed_more c.args.self.now c.loop-number.number c.loop-number.untyped c.names-names.result.typed
+          names.typed before.1),
     )
 
 pub returns-in-Some-clause-fault : goal.returns-in-Some-clause-fault

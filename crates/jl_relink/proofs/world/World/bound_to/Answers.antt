@@ -1,6 +1,6 @@
 use Rattle.std.proofs.Common.{sym, ap, ◌∙◌}
-use Rattle.jl_types.specs.World.{World}
-use Rattle.jl_types.specs.Sites.{bound_to}
+use Rattle.jl_types.specs.Values.World.{World}
+use Rattle.jl_types.specs.Linkage.Stages.{bound_to}
 use Rattle.jl_relink.proofs.Bindings.{found_in_map}
 use Rattle.jl_relink.proofs.world.World.bound_to.Goals as goal
 

@@ -1,7 +1,7 @@
 use Rattle.std.specs.Prelude.{◌≤◌, List, length}
 use Rattle.std.proofs.Common.{sym, ap, ◌∙◌, arith}
-use Rattle.jl_types.specs.Entries.{Entry, events_of}
-use Rattle.jl_types.specs.History.{world_after}
+use Rattle.jl_types.specs.Happenings.Entries.{Entry, events_of}
+use Rattle.jl_types.specs.Happenings.History.{world_after}
 use Rattle.jl_server.proofs.Alone.{same_world}
 use Rattle.jl_server.proofs.book.Book.is_as_after.Goals as goal
 

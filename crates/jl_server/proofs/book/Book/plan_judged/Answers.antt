@@ -1,6 +1,6 @@
 use Rattle.std.proofs.Common.{ap, ◌∙◌}
-use Rattle.jl_types.specs.Entries.{events_of}
-use Rattle.jl_types.specs.History.{world_after}
+use Rattle.jl_types.specs.Happenings.Entries.{events_of}
+use Rattle.jl_types.specs.Happenings.History.{world_after}
 use Rattle.jl_server.specs.History.{core_of}
 use Rattle.jl_server.proofs.Logs.{accepted_logged}
 use Rattle.jl_server.proofs.book.Book.plan_judged.Goals as goal

@@ -1,7 +1,7 @@
 use Rattle.std.specs.Prelude.{Result, Ok, Err, IfErr}
 use Rattle.std.proofs.Common.{List, ap, subst, ◌∙◌}
-use Rattle.jl_types.specs.Entries.{Entry}
-use Rattle.jl_types.specs.Events.{verdict}
+use Rattle.jl_types.specs.Happenings.Entries.{Entry}
+use Rattle.jl_types.specs.Happenings.Events.{verdict}
 use Rattle.jl_core.specs.State.{State, world_of, IsRefused}
 use Rattle.jl_server.specs.History.{core_of}
 use Rattle.jl_server.proofs.Logs.{refused_logged}

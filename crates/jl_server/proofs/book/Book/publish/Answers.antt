@@ -1,8 +1,8 @@
 use Rattle.std.proofs.Common.{List, [], ◌∷◌, ◌++◌, length, sym, ap, subst, ◌∙◌}
-use Rattle.jl_types.specs.Entries.{Entry, IsLegal}
+use Rattle.jl_types.specs.Happenings.Entries.{Entry, IsLegal}
 use Rattle.jl_types.proofs.Written.{length_written}
 use Rattle.jl_server.specs.History.{core_of, planned_entry}
-use Rattle.jl_server.specs.Shown.{content}
+use Rattle.jl_server.specs.Means.Shown.{content}
 use Rattle.jl_server.proofs.Logs.{core_next, classes_logged}
 use Rattle.jl_server.proofs.Alone.{alone_next}
 use Rattle.jl_server.proofs.Next.{shown_next}
@@ -33,6 +33,7 @@ invariant_of-self g c =
       ap (λ t. length t.links) shown
           ∙ (length_written c.args.next.change.slots.items c.self.inside.writer.desk.shown.value.links.items ∙ c.self.invariant.3),
       c.in-Some.ensures.settled,
-      alone_next c.args.installs c.self.inside.since c.since_after-self-inside.result c.self.inside.list xs c.args.next.list (planned_entry c.args.planned) c.self.view_is c.requires.list c.requires.installs
+      alone_next c.args.installs c.self.inside.since c.since_after-self-inside.result c.self.inside.list xs c.args.next.list
+          (planned_entry c.args.planned) c.self.view_is c.requires.list c.requires.installs
           c.since_after-self-inside.ensures c.self.invariant.5,
     )

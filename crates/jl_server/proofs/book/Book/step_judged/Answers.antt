@@ -2,9 +2,9 @@ use Rattle.std.specs.Prelude.{Result, Ok, Err, IfOk, IfErr}
 use Rattle.std.proofs.Common.{List, [], ◌∷◌, ◌++◌, sym, ap, subst, ◌∙◌}
 use Rattle.jl_types.specs.declared.event.Reply.{Reply}
 use Rattle.jl_types.specs.declared.refusal.Refusal.{Refusal}
-use Rattle.jl_types.specs.Entries.{Entry, events_of}
-use Rattle.jl_types.specs.Events.{verdict}
-use Rattle.jl_types.specs.History.{world_after}
+use Rattle.jl_types.specs.Happenings.Entries.{Entry, events_of}
+use Rattle.jl_types.specs.Happenings.Events.{verdict}
+use Rattle.jl_types.specs.Happenings.History.{world_after}
 use Rattle.jl_core.specs.State.{IsAccepted, IsRefused}
 use Rattle.jl_server.specs.History.{core_of, entry_after, is_install, planned_entry}
 use Rattle.jl_server.proofs.Logs.{accepted_next, entry_exact, event_planned, memory_refused}
@@ -53,5 +53,6 @@ returns-in-Ok-clause-refused g c =
     let xs : List Entry = c.args.self.now in
     let e = c.args.event in
     for_err
-    (λ d said. subst (λ (r : Refusal). IsRefused (verdict n (world_after (events_of xs)) e) r) (sym said.0) (memory_refused n xs e c.in-Ok.planned c.in-Ok.ensures.planned))
+    (λ d said. subst (λ (r : Refusal). IsRefused (verdict n (world_after (events_of xs)) e) r) (sym said.0)
+    (memory_refused n xs e c.in-Ok.planned c.in-Ok.ensures.planned))
     c.perform.result c.perform.ensures.refused

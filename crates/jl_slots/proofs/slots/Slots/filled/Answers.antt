@@ -1,5 +1,5 @@
 use Rattle.std.proofs.Common.{ap, ◌∙◌, replicate}
-use Rattle.jl_slots.specs.Pages.{elements}
+use Rattle.jl_slots.specs.Means.Pages.{elements}
 use Rattle.jl_slots.proofs.PageLaws.{all_alike}
 use Rattle.jl_slots.proofs.slots.Slots.filled.Goals as goal
 

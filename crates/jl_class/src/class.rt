@@ -1,0 +1,253 @@
+//! What a class file shows.
+
+ghost use Rattle.std.specs.Prelude.{◌≡◌, ◌<◌, ◌^◌, ◌++◌, length, map, slice_get, option_copied, option_to_list, Some, true};
+ghost use Rattle.jl_class.specs.Flags.{extends_object};
+ghost use Rattle.jl_class.specs.Kept.{method_in};
+
+use crate::site::{KeptSite, Sites};
+use jl_names::{LentName, Name, Seq};
+use jl_pool::Pool;
+use std::marker::Model;
+
+/// A method that is kept beside the pool of its class file and the invocations of all its methods: its access flags, the
+/// numbers of its name and descriptor, and where its invocations begin and end among them.
+#[derive(Clone, Copy, Debug, PartialEq, Eq)]
+pub struct KeptMethod {
+    pub flags: u16,
+    pub name: u16,
+    pub ty: u16,
+    pub from: usize,
+    pub to: usize,
+}
+
+/// A method of a class file (JVMS SE 17 §4.6), which is lent: its access flags, name and descriptor, and the invocations
+/// in its code, by rising pc. No question takes memory.
+#[derive(Debug, Drop)]
+pub struct Method<'a> {
+    pool: &'a Pool,
+    sites: &'a [KeptSite],
+    kept: KeptMethod,
+}
+
+impl<'a> Model for Method<'a> {
+    ghost use Rattle.std.specs.Prelude.{◌≡◌, true};
+    ghost use Rattle.jl_class.specs.Class as plain;
+    ghost use Rattle.jl_class.specs.Kept.{method_in, IsMethodKept};
+
+    ghost Value = { plain.Method };
+
+    ghost view = { λ m. method_in m.pool.now m.sites.now m.kept };
+
+    ghost invariant = { λ m. IsMethodKept m.pool.now m.sites.now m.kept };
+}
+
+impl<'a> Method<'a> {
+    /// Its access flags.
+    pub fn flags(&self) -> u16
+        ensures { result ≡ self.now.flags }
+    {
+        self.kept.flags
+    }
+
+    /// Its name.
+    pub fn name(&self) -> LentName<'a>
+        ensures { result ≡ self.now.name }
+    {
+        let pool = self.pool;
+        pool.text_or_nothing(self.kept.name)
+    }
+
+    /// Its descriptor.
+    pub fn ty(&self) -> LentName<'a>
+        ensures { result ≡ self.now.ty }
+    {
+        let pool = self.pool;
+        pool.text_or_nothing(self.kept.ty)
+    }
+
+    /// The invocations in its code, by rising pc.
+    pub fn sites(&self) -> Sites<'a>
+        ensures { result ≡ self.now.sites }
+    {
+        let KeptMethod { from, to, .. } = self.kept;
+        Sites::of(self.pool, &self.sites[from..to])
+    }
+}
+
+/// Methods of a class file, which are lent. A clause sees the list of them. No question takes memory.
+#[derive(Debug, Drop)]
+pub struct Methods<'a> {
+    pool: &'a Pool,
+    sites: &'a [KeptSite],
+    kept: &'a [KeptMethod],
+}
+
+impl<'a> Model for Methods<'a> {
+    ghost use Rattle.std.specs.Prelude.{List, map};
+    ghost use Rattle.jl_class.specs.Class as plain;
+    ghost use Rattle.jl_class.specs.Kept.{method_in, AreMethodsKept};
+
+    ghost Value = { List plain.Method };
+
+    ghost view = { λ m. map (method_in m.pool.now m.sites.now) m.kept.now };
+
+    ghost invariant = { λ m. AreMethodsKept m.pool.now m.sites.now m.kept.now };
+}
+
+impl<'a> Methods<'a> {
+    /// How many there are.
+    pub fn len(&self) -> usize
+        ensures { result ≡ length self.now }
+    {
+        self.kept.len()
+    }
+
+    /// The one at this place of the list.
+    pub fn at(&self, place: usize) -> Option<Method<'a>>
+        ensures { result ≡ slice_get self.now place }
+    {
+        match self.kept.get(place) {
+            Some(kept) => Some(Method {
+                pool: self.pool,
+                sites: self.sites,
+                kept: *kept,
+            }),
+            None => None,
+        }
+    }
+}
+
+/// What is kept of a class file (JVMS SE 17 §4.1): its name, access flags, superclass (java/lang/Object alone has
+/// none), direct superinterfaces, nest host and nest members as the file names them (§4.7.28, §4.7.29), and methods,
+/// in file order. Each text is in modified UTF-8. What it answers is lent, and takes no memory.
+///
+/// It owns the constant pool that was read. Names are parts of the pool's bytes, methods name their texts by number, and
+/// the invocations of all methods, by their numbers, stand in one vector.
+#[derive(Debug, Drop)]
+pub struct ClassFile {
+    pub pool: Pool,
+    pub sites: Vec<KeptSite>,
+    pub name: Name,
+    pub flags: u16,
+    pub superclass: Option<Name>,
+    pub interfaces: Seq<Name>,
+    pub nest_host: Option<Name>,
+    pub nest_members: Seq<Name>,
+    pub methods: Seq<KeptMethod>,
+}
+
+impl Model for ClassFile {
+    ghost use Rattle.std.specs.Prelude.{◌≡◌, ◌<◌, ◌^◌, true, length, map};
+    ghost use Rattle.jl_class.specs.Class as plain;
+    ghost use Rattle.jl_class.specs.Flags.{extends_object};
+    ghost use Rattle.jl_class.specs.Kept.{method_in, AreMethodsKept};
+
+    ghost Value = { plain.ClassFile };
+
+    ghost view = { λ f. record {
+      name = f.name;
+      flags = f.flags;
+      superclass = f.superclass;
+      interfaces = f.interfaces;
+      nest_host = f.nest_host;
+      nest_members = f.nest_members;
+      methods = map (method_in f.pool f.sites.items) f.methods;
+    } };
+
+    ghost invariant = { λ f. (length f.methods < 2 ^ 16) × (extends_object f.flags f.superclass ≡ true)
+        × AreMethodsKept f.pool f.sites.items f.methods };
+}
+
+impl ClassFile {
+    /// Its name.
+    pub fn name(&self) -> &Name
+        ensures { result.now ≡ self.now.name }
+    {
+        &self.name
+    }
+
+    /// Its access flags.
+    pub fn flags(&self) -> u16
+        ensures { result ≡ self.now.flags }
+    {
+        self.flags
+    }
+
+    /// The name of its superclass, which java/lang/Object alone has not; an interface's is java/lang/Object.
+    pub fn superclass(&self) -> Option<&Name>
+        ensures name { option_copied result ≡ self.now.superclass }
+        ensures interface { extends_object self.now.flags self.now.superclass ≡ true }
+    {
+        self.superclass.as_ref()
+    }
+
+    /// The names of its direct superinterfaces, in the file's order.
+    pub fn interfaces(&self) -> &[Name]
+        ensures { result.now ≡ self.now.interfaces }
+    {
+        self.interfaces.as_slice()
+    }
+
+    /// The name of its nest host, where the file names one.
+    pub fn nest_host(&self) -> Option<&Name>
+        ensures { option_copied result ≡ self.now.nest_host }
+    {
+        self.nest_host.as_ref()
+    }
+
+    /// The names of its nest members, in the file's order.
+    pub fn nest_members(&self) -> &[Name]
+        ensures { result.now ≡ self.now.nest_members }
+    {
+        self.nest_members.as_slice()
+    }
+
+    /// The name of its direct superinterface at this place alone.
+    pub fn into_interface(self, place: usize) -> Name
+        requires { place < length self.interfaces }
+        ensures { Some result ≡ slice_get self.interfaces place }
+    {
+        self.interfaces.into_item(place)
+    }
+
+    /// The name of its parent at this place alone: its superclass, where it has one, is the first, and then come its direct
+    /// superinterfaces.
+    pub fn into_parent(self, place: usize) -> Name
+        requires { place < length (option_to_list self.superclass ++ self.interfaces) }
+        ensures { Some result ≡ slice_get (option_to_list self.superclass ++ self.interfaces) place }
+    {
+        let ClassFile {
+            superclass,
+            interfaces,
+            ..
+        } = self;
+        parent_at(superclass, interfaces, place)
+    }
+
+    /// Its methods, in the file's order: fewer than 65,536.
+    pub fn methods(&self) -> Methods<'_>
+        ensures methods { result ≡ self.now.methods }
+        ensures few { length result < 2 ^ 16 }
+    {
+        Methods {
+            pool: &self.pool,
+            sites: &self.sites,
+            kept: self.methods.as_slice(),
+        }
+    }
+}
+
+/// The name at this place alone: the superclass, where there is one, is the first, and then come the superinterfaces.
+fn parent_at(superclass: Option<Name>, interfaces: Seq<Name>, place: usize) -> Name
+    requires { place < length (option_to_list superclass ++ interfaces) }
+    ensures { Some result ≡ slice_get (option_to_list superclass ++ interfaces) place }
+{
+    match superclass {
+        Some(name) => if place == 0 {
+            name
+        } else {
+            interfaces.into_item(place - 1)
+        },
+        None => interfaces.into_item(place),
+    }
+}

@@ -1,5 +1,0 @@
-use Rattle.jl_farm.proofs.Queue.{forks}
-use Rattle.jl_farm.proofs.line.one_more.Goals as goal
-
-pub another-requires-clause-rule : goal.another-requires-clause-rule
-another-requires-clause-rule c = forks _ _ c.requires.parts

@@ -1,5 +1,0 @@
-use Rattle.jl_farm.proofs.Queue.{merges}
-use Rattle.jl_farm.proofs.line.take_over.Goals as goal
-
-pub absorb-requires-clause-rule : goal.absorb-requires-clause-rule
-absorb-requires-clause-rule c = merges _ _ _ _

@@ -1,0 +1,6 @@
+-- Means of proof. What is promised doesn't rest on how these say it.
+pub mod Counts
+pub mod Fills
+pub mod Holding
+pub mod Rows
+pub mod Wide

@@ -1,0 +1,108 @@
+//! What is known of the rows of a batch before any receiver is looked at.
+
+ghost use Rattle.std.specs.Prelude.{◌≡◌, ◌<◌, None, Some, length, IfOk, IfErr, IfSome};
+ghost use Rattle.jl_types.specs.Linkage.Links.{scratch};
+ghost use Rattle.jl_types.specs.Happenings.Preparation.{link_fault, prepare_fault};
+ghost use Rattle.jl_relink.specs.Preparations.{IsFault};
+ghost use Rattle.jl_relink.specs.Means.Wide as plans;
+
+use crate::by_rows::MOST_RECEIVERS;
+use crate::fill::fill;
+use crate::known::all_run;
+use crate::preparation::room_for;
+use crate::receiver::selection_at;
+use crate::scratch::link_of;
+use crate::selection::Selection;
+use crate::world::World;
+use jl_hierarchy::Classes;
+use jl_types::{ClassId, Link, Outcome, PrepareFault, SiteNo, TableKind};
+use std::alloc::Global;
+
+/// An invocation with one of its receivers.
+#[derive(Clone, Copy)]
+pub(crate) struct Pair {
+    pub(crate) selection: Selection,
+    pub(crate) receiver: ClassId,
+}
+
+/// What is known of a row.
+#[derive(Clone, Copy)]
+pub(crate) enum Outline {
+    /// Its link.
+    Known(Link),
+    /// What the receivers of this invocation come to decides.
+    Depends(Selection),
+}
+
+/// The sites in order, each with what is known of its row, or the fault of the batch.
+pub(crate) fn plan_of_batch(
+    alloc: Global,
+    world: &World,
+    sites: &[SiteNo],
+) -> Result<Vec<(SiteNo, Outline)>, PrepareFault>
+    ensures plan { IfOk result (λ plan. (prepare_fault world.now sites.now ≡ None) × plans.ArePlanned world.now sites.now plan.items) }
+    ensures fault { IfErr result (λ f. IsFault world.now sites.now f) }
+{
+    let mut plan = room_for(alloc, world, sites)?;
+    fill(sites, &mut plan, |site| plan_of(world, *site))?;
+    Ok(plan)
+}
+
+/// The site with what is known of its row.
+fn plan_of(world: &World, site: SiteNo) -> Result<(SiteNo, Outline), PrepareFault>
+    ensures ok { IfOk result (λ row. (row.0 ≡ site) × plans.IsPlanned world.now site row.1) }
+    ensures err { IfErr result (λ f. link_fault site (scratch world.now site) ≡ Some f) }
+{
+    match planned_at(world, site) {
+        Some(planned) => Ok((site, planned)),
+        None => known_of(world, site),
+    }
+}
+
+/// The site with its link.
+fn known_of(world: &World, site: SiteNo) -> Result<(SiteNo, Outline), PrepareFault>
+    ensures ok { IfOk result (λ row. (row.0 ≡ site) × plans.IsPlanned world.now site row.1) }
+    ensures err { IfErr result (λ f. link_fault site (scratch world.now site) ≡ Some f) }
+{
+    match link_of(world, site) {
+        Ok(link) => Ok((site, Outline::Known(link))),
+        Err(_) => Err(PrepareFault::NotReady(site)),
+    }
+}
+
+/// What is known of the site where what its receivers come to decides the link: that all of them run one method which no subclass
+/// redeclares, and else the invocation.
+fn planned_at(world: &World, site: SiteNo) -> Option<Outline>
+    ensures { IfSome result (λ planned. plans.IsPlanned world.now site planned) }
+{
+    let selection = selection_at(world, site)?;
+    if !depends(&world.classes, &selection) {
+        return None;
+    }
+    Some(planned_of(&world.classes, &selection))
+}
+
+/// The same of an invocation whose link its receivers decide.
+fn planned_of(classes: &Classes, selection: &Selection) -> Outline
+    requires { selection.now.named < length classes.now.rows }
+    ensures link { plans.link_of_plan classes.now result ≡ plans.link_of_plan classes.now (plans.depends_on selection.now) }
+    ensures there { plans.IsThere classes.now result }
+{
+    if all_run(classes, selection) {
+        Outline::Known(Link::Direct(Outcome::Run(selection.method)))
+    } else {
+        Outline::Depends(*selection)
+    }
+}
+
+/// Whether what the receivers come to decides the link: not where an invokevirtual's method is private, or where an
+/// invokeinterface has too many of them for a table.
+fn depends(classes: &Classes, selection: &Selection) -> bool
+    requires { selection.now.named < length classes.now.rows }
+    ensures { result ≡ plans.depends classes.now selection.now }
+{
+    match selection.kind {
+        TableKind::Virtual => !classes.is_private(&selection.method),
+        TableKind::Interface => classes.receivers(selection.named).len() <= MOST_RECEIVERS,
+    }
+}

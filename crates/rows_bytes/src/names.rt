@@ -1,0 +1,286 @@
+//! Names and modified UTF-8.
+
+use crate::names::NameRow::*;
+use crate::rows::{A_F, Row, assert_rows};
+use jl_names::{
+    Name, NameFault, Seq, Text, decode_mutf8, encode_mutf8, is_class_name, is_text, is_unqualified,
+    no_fault_in_units, one_list_of_units, package_of, print_from,
+};
+use std::alloc::{AllocError, Global};
+use std::hash::{DefaultHasher, Hash, Hasher};
+
+/// What is so of bytes.
+enum NameRow {
+    /// They are no modified UTF-8, and have this fault.
+    BadText(&'static [u8], NameFault),
+    /// They are what these units are written as.
+    Units(&'static [u16], &'static [u8]),
+    /// Whether they are a class name, and an unqualified name.
+    Named(&'static [u8], bool, bool),
+    /// They are a name of this package.
+    Package(&'static [u8], &'static [u8]),
+    /// A text of them has them.
+    Lent(&'static [u8]),
+    /// A list of them has their hash, and is equal to another one of them.
+    List(&'static [u8]),
+    /// A list of them differs from one of those.
+    OtherList(&'static [u8], &'static [u8]),
+    /// A name of them is kept, and so is its copy.
+    Kept(&'static [u8]),
+    /// The copy of a name of them has them once the name is let go.
+    Outlives(&'static [u8]),
+    /// A name of them differs from one of those.
+    OtherName(&'static [u8], &'static [u8]),
+    /// They are cut from one block: the first byte, the second and the rest.
+    Cut,
+    /// This is the print that they make of one.
+    Print(u64, &'static [u8], u64),
+}
+
+/// Whether the bytes are no text, and have this fault.
+fn is_bad_text(alloc: Global, text: &[u8], fault: NameFault) -> bool {
+    !is_text(text) && decode_mutf8(alloc, text).err() == Some(fault)
+}
+
+/// Whether these are the items that were made.
+fn are_made<T: PartialEq>(made: &Result<Vec<T>, NameFault>, items: &[T]) -> bool {
+    match made {
+        Ok(made) => made.as_slice() == items,
+        Err(_) => false,
+    }
+}
+
+/// Whether the name is a class name and an unqualified name, or not, as is said.
+fn is_named(name: &[u8], class: bool, unqualified: bool) -> bool {
+    is_class_name(name) == class && is_unqualified(name) == unqualified
+}
+
+/// The hash of a value.
+fn hash_of<T: Hash>(value: &T) -> u64 {
+    let mut state = DefaultHasher::new();
+    value.hash(&mut state);
+    state.finish()
+}
+
+/// A list of these bytes.
+fn list(alloc: Global, bytes: &[u8]) -> Result<Seq<u8>, AllocError> {
+    Ok(Seq::of(bytes.to_vec(alloc)?))
+}
+
+/// Whether a list of these bytes has their hash, and is equal to another one of them.
+fn is_list(alloc: Global, bytes: &[u8]) -> bool {
+    match (list(alloc, bytes), list(alloc, bytes)) {
+        (Ok(run), Ok(again)) => {
+            hash_of(&run) == hash_of(&bytes) && run == again && hash_of(&again) == hash_of(&run)
+        },
+        _ => false,
+    }
+}
+
+/// Whether lists of these bytes and of those differ.
+fn lists_differ(alloc: Global, bytes: &[u8], others: &[u8]) -> bool {
+    match (list(alloc, bytes), list(alloc, others)) {
+        (Ok(run), Ok(other)) => run != other,
+        _ => false,
+    }
+}
+
+/// Whether the name, which was made, has these bytes.
+fn has(made: &Result<Name, AllocError>, bytes: &[u8]) -> bool {
+    match made {
+        Ok(name) => name.as_slice() == bytes,
+        Err(_) => false,
+    }
+}
+
+/// Whether a name that was made and another one differ.
+fn differ(made: &Result<Name, AllocError>, other: &Result<Name, AllocError>) -> bool {
+    match (made, other) {
+        (Ok(name), Ok(other)) => name != other,
+        _ => false,
+    }
+}
+
+/// Whether the copy of this name, once it was made, is equal to it and has these bytes.
+fn is_copy(copy: &Result<Name, AllocError>, name: &Name, bytes: &[u8]) -> bool {
+    match copy {
+        Ok(copy) => copy == name && copy.as_slice() == bytes,
+        Err(_) => false,
+    }
+}
+
+/// The first byte of a block, as a name that is cut from it.
+fn cut_byte(block: &mut Name) -> Option<Name> {
+    if block.as_slice().is_empty() {
+        None
+    } else {
+        block.split_to(1).ok()
+    }
+}
+
+/// Whether the first byte of the block, its second and what it keeps are these names.
+fn are_cut(first: &Name, second: &Name, block: &Name) -> bool {
+    [first.as_slice(), second.as_slice(), block.as_slice()] == A_F
+}
+
+/// Whether the first name was cut from the block, and the second name and the rest are cut then.
+fn is_cut_again(first: &Name, block: &mut Name) -> bool {
+    match cut_byte(block) {
+        Some(second) => are_cut(first, &second, block),
+        None => false,
+    }
+}
+
+/// Whether names are cut from the block.
+fn is_cut(block: &mut Name) -> bool {
+    match cut_byte(block) {
+        Some(first) => is_cut_again(&first, block),
+        None => false,
+    }
+}
+
+/// Whether names are cut from one block.
+fn can_be_cut(alloc: Global) -> bool {
+    match Name::copied(alloc, b"Af()V") {
+        Ok(mut block) => is_cut(&mut block),
+        Err(_) => false,
+    }
+}
+
+/// The copy of a name of these bytes, which is let go.
+fn copy_alone(alloc: Global, bytes: &[u8]) -> Result<Name, AllocError> {
+    Name::copied(alloc, bytes)?.copy(alloc)
+}
+
+/// Whether the name has these bytes, and their hash.
+fn is_name(name: &Name, bytes: &[u8]) -> bool {
+    name.as_slice() == bytes && hash_of(name) == hash_of(&bytes)
+}
+
+/// Whether the name, which was made of these bytes, is kept, and so is its copy.
+fn is_kept(alloc: Global, made: &Result<Name, AllocError>, bytes: &[u8]) -> bool {
+    match made {
+        Ok(name) => is_name(name, bytes) && is_copy(&name.copy(alloc), name, bytes),
+        Err(_) => false,
+    }
+}
+
+impl Row for NameRow {
+    fn is_so(&self, alloc: Global) -> bool {
+        match self {
+            BadText(text, fault) => is_bad_text(alloc, text, *fault),
+            Units(units, text) => {
+                is_text(text)
+                    && are_made(&encode_mutf8(alloc, units), text)
+                    && are_made(&decode_mutf8(alloc, text), units)
+            }
+            Named(name, class, unqualified) => is_named(name, *class, *unqualified),
+            Package(name, package) => package_of(name) == *package,
+            Lent(bytes) => Text::of(bytes).as_bytes() == *bytes,
+            List(bytes) => is_list(alloc, bytes),
+            OtherList(bytes, others) => lists_differ(alloc, bytes, others),
+            Kept(bytes) => is_kept(alloc, &Name::copied(alloc, bytes), bytes),
+            Outlives(bytes) => has(&copy_alone(alloc, bytes), bytes),
+            OtherName(bytes, others) => {
+                differ(&Name::copied(alloc, bytes), &Name::copied(alloc, others))
+            },
+            Cut => can_be_cut(alloc),
+            Print(before, bytes, print) => print_from(*before, bytes) == *print,
+        }
+    }
+}
+
+/// Modified UTF-8.
+const TEXTS: &[NameRow] = &[
+    BadText(&[0x00], NameFault::BadByte(0)),
+    BadText(&[0xf0, 0x9f, 0x98, 0x80], NameFault::BadByte(0)),
+    BadText(&[0x41, 0xc1, 0x81], NameFault::BadByte(1)),
+    BadText(&[0x41, 0xe1, 0x41, 0x80], NameFault::BadByte(1)),
+    BadText(&[0x41, 0xc3, 0x41, 0x00, 0xc3], NameFault::BadByte(1)),
+    BadText(&[0xc3], NameFault::Truncated),
+    BadText(&[0xe0, 0x41], NameFault::Truncated),
+    Units(&[], &[]),
+    Units(&[0xd83d, 0xde00], &[0xed, 0xa0, 0xbd, 0xed, 0xb8, 0x80]),
+    Units(
+        &[0, 0x41, 0x7ff, 0x800, 0xd83d, 0xde00],
+        &[
+            0xc0, 0x80, 0x41, 0xdf, 0xbf, 0xe0, 0xa0, 0x80, 0xed, 0xa0, 0xbd, 0xed, 0xb8, 0x80,
+        ],
+    ),
+];
+
+#[test]
+fn units(rt: HostRuntime) {
+    assert_rows(&rt, TEXTS);
+    one_list_of_units();
+    no_fault_in_units();
+}
+
+/// Names of classes and of their members, and packages.
+const NAMES: &[NameRow] = &[
+    Named(b"java/lang/Object", true, false),
+    Named(b"<x(", true, true),
+    Named(b"a", true, true),
+    Named(b"a/b", true, false),
+    Named(b"", false, false),
+    Named(b"a//b", false, false),
+    Named(b"/a", false, false),
+    Named(b"a/", false, false),
+    Named(b"a.b", false, false),
+    Named(b"[I", false, false),
+    Named(b"a;", false, false),
+    Package(b"java/lang/Object", b"java/lang"),
+    Package(b"A", b""),
+    Package(b"", b""),
+    Lent(b"A"),
+];
+
+#[test]
+fn names(rt: HostRuntime) {
+    assert_rows(&rt, NAMES);
+}
+
+/// Lists.
+const LISTS: &[NameRow] = &[
+    List(b"run"),
+    OtherList(b"run", b""),
+    OtherList(b"run", b"ru"),
+    OtherList(b"run", b"rub"),
+    OtherList(b"run", b"runs"),
+];
+
+#[test]
+fn lists(rt: HostRuntime) {
+    assert_rows(&rt, LISTS);
+}
+
+/// Names that are kept.
+const KEPT: &[NameRow] = &[
+    Kept(b"run"),
+    Outlives(b"run"),
+    OtherName(b"run", b""),
+    OtherName(b"run", b"ru"),
+    OtherName(b"run", b"rub"),
+    OtherName(b"run", b"runs"),
+    Cut,
+];
+
+#[test]
+fn kept_names(rt: HostRuntime) {
+    assert_rows(&rt, KEPT);
+}
+
+/// Prints: for each word of eight bytes, and for what is left, the product of what it is and 0x9e3779b97f4a7c15, with its upper half on its
+/// lower one.
+const PRINTS: &[NameRow] = &[
+    Print(0, b"", 0x0000_0000_0000_0000),
+    Print(0, b"A", 0x2c15_e819_7dfc_694c),
+    Print(7, b"run", 0x73fd_636d_f261_1ef0),
+    Print(0, b"toString", 0x25f3_ad29_19f0_ab50),
+    Print(0, b"()Ljava/lang/String;", 0x0a6b_38b1_af27_b619),
+];
+
+#[test]
+fn prints(rt: HostRuntime) {
+    assert_rows(&rt, PRINTS);
+}

@@ -1,0 +1,201 @@
+//! Events by numbers and constant rows, so that the same one can be made twice.
+
+use crate::events::with_each;
+use jl_class::ClassFile;
+use jl_core::Core;
+use jl_names::Seq;
+use jl_relink::Prepared;
+use jl_types::{
+    CallSiteId, CallSiteKind, ClassId, Event, Link, LoaderId, MethodId, Place, SiteNo, SwitchId,
+    Target,
+};
+use rows_files::{CallRow, MethodRow, calling, class, named};
+use std::alloc::{AllocError, Global};
+
+/// A class: its name, flags, superclass and superinterfaces, the calls that its first method makes, and its other methods.
+pub(crate) struct ClassRow {
+    pub(crate) name: &'static str,
+    pub(crate) flags: u16,
+    pub(crate) superclass: Option<&'static str>,
+    pub(crate) interfaces: &'static [&'static str],
+    pub(crate) calls: &'static [CallRow],
+    pub(crate) methods: &'static [MethodRow],
+}
+
+/// A method, by its class and its number there.
+pub(crate) type MethodAt = (u32, u16);
+
+/// What a call site runs: methods, guards by their switch points, and other call sites by their numbers.
+#[derive(Clone, Copy)]
+pub(crate) enum Shape {
+    /// A method.
+    Method(MethodAt),
+    /// A guard of two methods.
+    Guard(u32, MethodAt, MethodAt),
+    /// A guard of a method, with a guard of two methods as its fallback.
+    Behind(u32, MethodAt, u32, MethodAt, MethodAt),
+    /// A guard of a guard of two methods, with a method as its fallback.
+    Within(u32, u32, MethodAt, MethodAt, MethodAt),
+    /// Whatever a call site runs.
+    Invoker(u32),
+    /// A guard of what a call site runs and a method.
+    InvokerOr(u32, u32, MethodAt),
+}
+
+/// An event, but for installs.
+#[derive(Clone, Copy)]
+pub(crate) enum Step {
+    /// A new loader.
+    Loader,
+    /// The loader defines the class.
+    Define(u32, &'static ClassRow),
+    /// The request of a place in the first method of the class.
+    Request(u32, u32),
+    /// A new call site of this type.
+    CallSite(CallSiteKind, &'static str, Shape),
+    /// Another target for the call site.
+    Retarget(u32, Shape),
+    /// A new switch point.
+    Point,
+    /// The switch points become invalid.
+    Invalidate(u32, u32),
+    /// The site is bound to the call site.
+    Bind(u32, u32),
+}
+
+/// What is read of the row's class file.
+fn file(alloc: Global, row: &ClassRow) -> Option<ClassFile> {
+    match row.superclass {
+        Some(superclass) => calling(
+            alloc,
+            row.name,
+            row.flags,
+            superclass,
+            row.interfaces,
+            row.calls,
+            row.methods,
+        ),
+        None => class(alloc, row.name, row.flags, None, &[], row.methods),
+    }
+}
+
+/// The definition of the row's class.
+fn definition(alloc: Global, loader: u32, row: &ClassRow) -> Result<Event, AllocError> {
+    match file(alloc, row) {
+        Some(file) => Ok(Event::Define(LoaderId::new(loader), file)),
+        None => Err(AllocError),
+    }
+}
+
+/// The method as a target.
+fn method(at: &MethodAt) -> Target {
+    Target::method(MethodId {
+        class: ClassId::new(at.0),
+        index: at.1,
+    })
+}
+
+/// A guard of two targets.
+fn guard(alloc: Global, point: u32, first: Target, fallback: Target) -> Result<Target, AllocError> {
+    let first = Box::new(alloc, first)?;
+    let fallback = Box::new(alloc, fallback)?;
+    Ok(Target::guard(SwitchId::new(point), first, fallback))
+}
+
+/// A guard of two methods.
+fn guard_of_methods(
+    alloc: Global,
+    point: u32,
+    first: &MethodAt,
+    fallback: &MethodAt,
+) -> Result<Target, AllocError> {
+    guard(alloc, point, method(first), method(fallback))
+}
+
+/// The target of this shape.
+fn target(alloc: Global, shape: &Shape) -> Result<Target, AllocError> {
+    match shape {
+        Shape::Method(at) => Ok(method(at)),
+        Shape::Guard(point, first, fallback) => guard_of_methods(alloc, *point, first, fallback),
+        Shape::Behind(outer, before, inner, first, fallback) => {
+            let behind = guard_of_methods(alloc, *inner, first, fallback)?;
+            guard(alloc, *outer, method(before), behind)
+        }
+        Shape::Within(outer, inner, first, fallback, behind) => {
+            let within = guard_of_methods(alloc, *inner, first, fallback)?;
+            guard(alloc, *outer, within, method(behind))
+        }
+        Shape::Invoker(site) => Ok(Target::invoker(CallSiteId::new(*site))),
+        Shape::InvokerOr(point, site, fallback) => {
+            let first = Target::invoker(CallSiteId::new(*site));
+            guard(alloc, *point, first, method(fallback))
+        }
+    }
+}
+
+/// A new call site.
+fn call_site(
+    alloc: Global,
+    kind: CallSiteKind,
+    ty: &str,
+    shape: &Shape,
+) -> Result<Event, AllocError> {
+    let ty = named(alloc, ty)?;
+    Ok(Event::NewCallSite(kind, ty, target(alloc, shape)?))
+}
+
+/// Another target for the call site.
+fn retarget(alloc: Global, site: u32, shape: &Shape) -> Result<Event, AllocError> {
+    let target = target(alloc, shape)?;
+    Ok(Event::SetTarget(CallSiteId::new(site), target))
+}
+
+/// The invalidation of two switch points.
+fn invalidation(alloc: Global, first: u32, second: u32) -> Result<Event, AllocError> {
+    let mut points = Vec::new(alloc);
+    points.push(SwitchId::new(first))?;
+    points.push(SwitchId::new(second))?;
+    Ok(Event::Invalidate(Seq::of(points)))
+}
+
+/// The step's event.
+pub(crate) fn event(alloc: Global, step: &Step) -> Result<Event, AllocError> {
+    match step {
+        Step::Loader => Ok(Event::NewLoader),
+        Step::Define(loader, row) => definition(alloc, *loader, row),
+        Step::Request(class, pc) => Ok(Event::Request(Place {
+            class: ClassId::new(*class),
+            method: 0,
+            pc: *pc,
+        })),
+        Step::CallSite(kind, ty, shape) => call_site(alloc, *kind, ty, shape),
+        Step::Retarget(site, shape) => retarget(alloc, *site, shape),
+        Step::Point => Ok(Event::NewSwitch),
+        Step::Invalidate(first, second) => invalidation(alloc, *first, *second),
+        Step::Bind(site, call_site) => {
+            Ok(Event::Bind(SiteNo::new(*site), CallSiteId::new(*call_site)))
+        }
+    }
+}
+
+/// These sites.
+fn numbered(alloc: Global, numbers: &[u32]) -> Result<Vec<SiteNo>, AllocError> {
+    let mut sites = Vec::new(alloc);
+    for number in numbers {
+        sites.push(SiteNo::new(*number))?;
+    }
+    Ok(sites)
+}
+
+/// The sites with the links that a preparation gives now, or each with a link that it hasn't, where it gives none.
+pub(crate) fn rows(
+    alloc: Global,
+    core: &Core,
+    numbers: &[u32],
+) -> Result<Seq<(SiteNo, Link)>, AllocError> {
+    let sites = numbered(alloc, numbers)?;
+    match core.prepare(alloc, sites.as_slice()) {
+        Ok(Prepared { serial: _, rows }) => Ok(rows),
+        Err(_) => Ok(Seq::of(with_each(alloc, numbers, Link::Mega)?)),
+    }
+}

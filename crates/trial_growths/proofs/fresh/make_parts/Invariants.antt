@@ -1,0 +1,5 @@
+use Rattle.trial_growths.proofs.fresh.make_parts.Given as goal
+
+-- the server that is started
+abbrev pub ghosts-start : goal.ghosts-start
+ghosts-start g a = record { book = a.parts.book; max_sites = a.parts.max_sites }
