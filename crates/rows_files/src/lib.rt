@@ -47,8 +47,6 @@ struct ClassRow<'a> {
     flags: u16,
     superclass: Option<&'a str>,
     interfaces: &'a [&'a str],
-    host: Option<&'a str>,
-    members: &'a [&'a str],
     calls: &'a [CallRow],
     methods: &'a [MethodRow],
 }
@@ -170,8 +168,6 @@ fn fill(alloc: Global, sketch: &mut Sketch, row: &ClassRow<'_>) -> Result<(), Al
     sketch.superclass = named_if_any(alloc, row.superclass)?;
     sketch.interfaces = all_named(alloc, row.interfaces)?;
     sketch.methods = all_methods(alloc, row.calls, row.methods)?;
-    sketch.host = named_if_any(alloc, row.host)?;
-    sketch.members = all_named(alloc, row.members)?;
     Ok(())
 }
 
@@ -206,8 +202,6 @@ pub fn class(
             flags,
             superclass,
             interfaces,
-            host: None,
-            members: &[],
             calls: &[],
             methods,
         },
@@ -231,46 +225,6 @@ pub fn calling(
             flags,
             superclass: Some(superclass),
             interfaces,
-            host: None,
-            members: &[],
-            calls,
-            methods,
-        },
-    )
-}
-
-/// The class file of a public class that names this nest host and these nest members.
-pub fn nested(
-    alloc: Global,
-    name: &str,
-    host: Option<&str>,
-    members: &[&str],
-    methods: &[MethodRow],
-) -> Option<ClassFile> {
-    nested_calling(alloc, name, 33, OBJECT, (host, members), &[], methods)
-}
-
-/// The class file of a class below this superclass that names this nest host and these nest members. Its first method makes
-/// these calls, if there are any.
-pub fn nested_calling(
-    alloc: Global,
-    name: &str,
-    flags: u16,
-    superclass: &str,
-    nest: (Option<&str>, &[&str]),
-    calls: &[CallRow],
-    methods: &[MethodRow],
-) -> Option<ClassFile> {
-    let (host, members) = nest;
-    file_of(
-        alloc,
-        &ClassRow {
-            name,
-            flags,
-            superclass: Some(superclass),
-            interfaces: &[],
-            host,
-            members,
             calls,
             methods,
         },

@@ -1,0 +1,138 @@
+//! What a loader has recorded, and copies of the classes, each of which finds the names of its own time and those that it
+//! records itself.
+
+use jl_class::ClassFile;
+use jl_hierarchy::Classes;
+use jl_types::{ClassId, LoaderId};
+use rows_files::{OBJECT, class};
+use std::alloc::{AllocError, Global};
+
+/// How many names loader 0 has recorded when a copy is made. Recent records are kept apart, 256 at the most.
+const COUNTS: &[u32] = &[1, 255, 256, 257, 512, 513, 600];
+
+/// How many names it has recorded in the end.
+const MOST: u32 = 600;
+
+/// A name that the copies record, each for a class of its own.
+const OWN: &str = "Own";
+
+/// The name of the class of this number.
+fn name_of(alloc: Global, number: u32) -> Result<String, AllocError> {
+    match number {
+        0 => String::from_str(alloc, OBJECT),
+        _ => format!(in alloc; "C{number}"),
+    }
+}
+
+/// The class file of the class of this number.
+fn file_of(alloc: Global, number: u32) -> Option<ClassFile> {
+    match name_of(alloc, number) {
+        Ok(name) => class(alloc, &name, 33, (number > 0).then_some(OBJECT), &[], &[]),
+        Err(_) => None,
+    }
+}
+
+/// Whether loader 0 defines the class of the file as the class of this number.
+fn is_defined(alloc: Global, classes: &mut Classes, file: Option<ClassFile>, number: u32) -> bool {
+    match file {
+        Some(file) => {
+            classes.define(alloc, LoaderId::new(0), file).ok() == Some(ClassId::new(number))
+        }
+        None => false,
+    }
+}
+
+/// Whether the classes from the first number to the one before the second are defined, in order.
+fn are_defined(alloc: Global, classes: &mut Classes, from: u32, to: u32) -> bool {
+    for number in from..to {
+        if !is_defined(alloc, classes, file_of(alloc, number), number) {
+            return false;
+        }
+    }
+    true
+}
+
+/// Whether a copy is made and kept.
+fn is_copied(alloc: Global, classes: &Classes, copies: &mut Vec<Classes>) -> bool {
+    match classes.copy(alloc) {
+        Ok(copy) => copies.push(copy).is_ok(),
+        Err(_) => false,
+    }
+}
+
+/// Whether all classes are defined, and a copy is made at each of the counts.
+fn are_copied(alloc: Global, classes: &mut Classes, copies: &mut Vec<Classes>) -> bool {
+    let mut from = 0;
+    for count in COUNTS {
+        if !are_defined(alloc, classes, from, *count) || !is_copied(alloc, classes, copies) {
+            return false;
+        }
+        from = *count;
+    }
+    true
+}
+
+/// Whether each copy records a name of its own.
+fn go_on(alloc: Global, copies: &mut [Classes]) -> bool {
+    for (copy, count) in copies.iter_mut().zip(COUNTS) {
+        if !is_defined(
+            alloc,
+            copy,
+            class(alloc, OWN, 33, Some(OBJECT), &[], &[]),
+            *count,
+        ) {
+            return false;
+        }
+    }
+    true
+}
+
+/// The class that loader 0 finds under the name of the class of this number.
+fn found(alloc: Global, classes: &Classes, number: u32) -> Option<ClassId> {
+    match name_of(alloc, number) {
+        Ok(name) => classes.lookup(LoaderId::new(0), name.as_bytes()),
+        Err(_) => None,
+    }
+}
+
+/// Whether loader 0 finds the classes of the numbers below the count, and none of the others.
+fn finds(alloc: Global, classes: &Classes, count: u32) -> bool {
+    for number in 0..MOST {
+        if found(alloc, classes, number) != (number < count).then_some(ClassId::new(number)) {
+            return false;
+        }
+    }
+    true
+}
+
+/// Whether each copy finds the classes of its own time and the one that it has defined itself.
+fn find_their_own(alloc: Global, copies: &[Classes]) -> bool {
+    for (copy, count) in copies.iter().zip(COUNTS) {
+        let own = copy.lookup(LoaderId::new(0), OWN.as_bytes());
+        if !finds(alloc, copy, *count) || own != Some(ClassId::new(*count)) {
+            return false;
+        }
+    }
+    true
+}
+
+/// Whether all classes are found, and no name of the copies.
+fn finds_all(alloc: Global, classes: &Classes) -> bool {
+    finds(alloc, classes, MOST) && classes.lookup(LoaderId::new(0), OWN.as_bytes()).is_none()
+}
+
+/// Whether the classes and their copies find each their own.
+fn are_apart(alloc: Global, classes: &mut Classes, copies: &mut Vec<Classes>) -> bool {
+    are_copied(alloc, classes, copies)
+        && go_on(alloc, copies)
+        && find_their_own(alloc, copies)
+        && finds_all(alloc, classes)
+}
+
+#[test]
+fn shares_records(rt: HostRuntime) -> Result<(), AllocError> {
+    let mut classes = Classes::new(rt.alloc())?;
+    let mut copies = Vec::new(rt.alloc());
+    assert!(rt; are_apart(rt.alloc(), &mut classes, &mut copies));
+    Ok(())
+}
