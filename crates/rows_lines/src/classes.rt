@@ -19,7 +19,3 @@ pub(crate) const M: &str =
 // class C extends A { public void f() {} }
 pub(crate) const C: &str =
     r#"{"do":"define","loader":0,"sketch":{"name":"C","super":"A","flags":33,"methods":[{"name":"f","type":"()V","flags":1}]}}"#;
-
-// class N { public static void run() { virtual A.f; static N.run } }
-pub(crate) const N: &str =
-    r#"{"do":"define","loader":0,"sketch":{"name":"N","super":"java/lang/Object","flags":33,"methods":[{"name":"run","type":"()V","flags":9,"calls":[{"kind":"invokevirtual","of":"A","name":"f","type":"()V"},{"kind":"invokestatic","of":"N","name":"run","type":"()V"}]}]}}"#;

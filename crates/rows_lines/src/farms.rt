@@ -1,7 +1,6 @@
 //! Runs of commands over a link server, and then of a farm.
 
 use crate::classes::{A, B, C, M, OBJECT};
-use crate::lines::LINKS;
 use jl_cli::{Counted, run_farm};
 use std::alloc::{AllocError, Global};
 use std::process::Abort;
@@ -149,7 +148,7 @@ fn takes_no_command_that_the_workers_run(rt: HostRuntime) -> Result<(), Fail> {
             (r#"{"do":"prepare","sites":[0]}"#, BAD_COMMAND),
             (r#"{"do":"install","prepared":0}"#, BAD_COMMAND),
             (r#"{"do":"call","site":0,"recv":2}"#, BAD_COMMAND),
-            (LINKS, BAD_COMMAND),
+            (r#"{"do":"links"}"#, BAD_COMMAND),
             ("{", BAD_COMMAND),
             (OBJECT, r#"{"refused":"Define.AlreadyRecorded"}"#),
             (A, r#"{"class":1,"dropped":[]}"#),

@@ -1,25 +1,30 @@
 //! Inputs of several lines, of long ones, and of none.
 
-use crate::lines::scanned;
-use jl_cli::LineFault;
+use crate::lines::{answered, scanned};
+use jl_cli::{LineFault, Mode};
 use std::test::Fail;
 
 const BAD_COMMAND: &str = "{\"error\":\"BadCommand\"}\n";
 
+/// Inputs by their modes, and how many lines they have, all of them bad.
+const BAD_LINES: &[(Mode, &str, usize)] = &[
+    // Empty input, an empty line, a last line without a newline, and an empty one, which is none.
+    (Mode::Scan, "", 0),
+    (Mode::Scan, "\n", 1),
+    (Mode::Scan, "0", 1),
+    (Mode::Scan, "0\n", 1),
+    (Mode::Scan, "zz\n\n0x00\n0", 4),
+    (Mode::Scan, "\n\n", 2),
+    // A carriage return is no hexadecimal digit, and a space no sketch.
+    (Mode::Scan, "cafebabf\r", 1),
+    (Mode::Sketch, " ", 1),
+];
+
 #[test]
 fn answers_each_line(rt: HostRuntime) -> Result<(), Fail> {
-    // Empty input, an empty line, a last line without a newline, and an empty one, which is none.
-    let rows = [
-        ("", 0),
-        ("\n", 1),
-        ("0", 1),
-        ("0\n", 1),
-        ("zz\n\n0x00\n0", 4),
-        ("\n\n", 2),
-    ];
-    for (input, count) in rows {
-        let (written, outcome) = scanned(rt.alloc(), input.as_bytes());
-        let expected = BAD_COMMAND.repeat(rt.alloc(), count)?;
+    for (mode, input, count) in BAD_LINES {
+        let (written, outcome) = answered(rt.alloc(), *mode, input.as_bytes());
+        let expected = BAD_COMMAND.repeat(rt.alloc(), *count)?;
         assert_eq!(rt; outcome, Ok(()), "at {input:?}");
         assert!(rt; written.as_slice() == expected.as_bytes(), "at {input:?}");
     }
@@ -45,5 +50,22 @@ fn stops_at_a_longer_line(rt: HostRuntime) -> Result<(), Fail> {
     assert_eq!(rt; outcome, Err(LineFault::TooLong));
     let expected = b"{\"refused\":\"BadMagic\"}\n{\"error\":\"BadCommand\"}\n";
     assert!(rt; written.as_slice() == expected.as_slice());
+    Ok(())
+}
+
+/// How many digits 0 a line has, and the answer to it: a million bytes and one more.
+const SIZES: [(usize, &[u8]); 2] = [
+    (2_000_000, b"{\"refused\":\"BadMagic\"}\n"),
+    (2_000_002, b"{\"refused\":\"TooLarge\"}\n"),
+];
+
+#[test]
+fn takes_a_million_bytes(rt: HostRuntime) -> Result<(), Fail> {
+    for (digits, answer) in SIZES {
+        let line = vec![in rt.alloc(); b'0'; digits]?;
+        let (written, outcome) = scanned(rt.alloc(), &line);
+        assert_eq!(rt; outcome, Ok(()));
+        assert!(rt; written.as_slice() == answer);
+    }
     Ok(())
 }

@@ -1,10 +1,8 @@
-//! Tests that cross crates: worked rows and whole runs of lines. Nothing here is called by other crates.
+//! Tests that cross crates: lines over streams, long lines, farms, and how the program ends. Nothing here is called by other crates.
 #![tactic(auto)]
 
 #[cfg(test)]
 mod batches;
-#[cfg(test)]
-mod call_sites;
 #[cfg(test)]
 mod classes;
 #[cfg(test)]
@@ -16,28 +14,12 @@ mod farm_ends;
 #[cfg(test)]
 mod farms;
 #[cfg(test)]
-mod faults;
-#[cfg(test)]
-mod hostile;
-#[cfg(test)]
 mod input;
 #[cfg(test)]
 mod lines;
 #[cfg(test)]
-mod retirement;
-#[cfg(test)]
-mod runs;
-#[cfg(test)]
-mod scans;
-#[cfg(test)]
 mod sketches;
 #[cfg(test)]
-mod standard;
-#[cfg(test)]
 mod streams;
-#[cfg(test)]
-mod tables;
-#[cfg(test)]
-mod two_faults;
 #[cfg(test)]
 mod words;

@@ -2,7 +2,7 @@
 
 use crate::classes::{A, B, C, M, OBJECT};
 use crate::devices::{ByteReader, SlowWriter};
-use crate::lines::answered;
+use crate::lines::is_answered;
 use jl_cli::{Counted, FailAt, LineFault, Mode, run_lines};
 use std::alloc::{AllocError, Global};
 use std::io;
@@ -188,12 +188,6 @@ fn guarded(alloc: Global, guards: usize) -> Result<String, AllocError> {
         text.push('}')?;
     }
     Ok(text)
-}
-
-/// Whether the command is answered so by a core in which nothing happened.
-fn is_answered(alloc: Global, command: &str, answer: &[u8]) -> bool {
-    let (written, outcome) = answered(alloc, Mode::Run, command.as_bytes());
-    outcome == Ok(()) && written.as_slice() == answer
 }
 
 #[test]
