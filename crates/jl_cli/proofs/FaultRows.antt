@@ -6,17 +6,18 @@ use Rattle.std.specs.List.{flat_map}
 use Rattle.jl_types.specs.declared.link.Link.{Link}
 use Rattle.jl_farm.specs.declared.fault.FarmFault.TheVariants as farm_fault
 use Rattle.jl_core.specs.State.{empty_core}
-use Rattle.jl_cli.specs.declared.line_fault.LineFault.TheVariants.{TooLong, Device, Memory}
+use Rattle.jl_lines.specs.declared.line_fault.LineFault.TheVariants.{TooLong, Device, Memory}
 use Rattle.jl_cli.specs.declared.farm_fault.FarmLineFault.TheVariants.{Line, Farm}
-use Rattle.jl_cli.specs.declared.words.WordsFault.TheVariants as words_fault
-use Rattle.jl_cli.specs.declared.words.Mode.{Mode}
-use Rattle.jl_cli.specs.declared.words.Mode.TheVariants.{Scan, Sketch, Run}
+use Rattle.jl_words.specs.declared.words.WordsFault.TheVariants as words_fault
+use Rattle.jl_words.specs.declared.words.Mode.{Mode}
+use Rattle.jl_words.specs.declared.words.Mode.TheVariants.{Scan, Sketch, Run}
 use Rattle.jl_cli.specs.declared.ending.Ending.TheVariants.{InputEnded}
 use Rattle.jl_cli.specs.Endings.{status_of, line_of, words_end, lines_end, farm_end}
 use Rattle.jl_session.specs.Sessions.{Session, new_session}
-use Rattle.jl_cli.specs.Lines.{newline, lines_of, NoNewline, ended}
-use Rattle.jl_cli.specs.Answers.{AreAnswers, AnswersEarlier, LongIf, LeftBy}
-use Rattle.jl_cli.specs.Means.Farms.{job_of_each}
+use Rattle.jl_lines.specs.Lines.{newline, lines_of, NoNewline, ended}
+use Rattle.jl_lines.specs.Answers.{AreAnswers, AnswersEarlier, LongIf, LeftBy}
+use Rattle.jl_cli.specs.Modes.{IsAnswer}
+use Rattle.jl_cli.specs.Farms.{job_of_each}
 
 -- ---- how the program ends
 
@@ -99,33 +100,33 @@ other_session : one_batch ≡ new_session → ⊥
 other_session same = let batches : ◌≡◌ {A = List (List (ℕ × Link))} ([] ∷ []) [] = λ i. (same i).batches in cc batches
 
 -- the session of the lines that were answered
-long_leaves : (mode : Mode) (last : Session) (after : List (List ℕ)) → LeftBy TooLong mode last after last
+long_leaves : (mode : Mode) (last : Session) (after : List (List ℕ)) → LeftBy TooLong (IsAnswer mode) last after last
 long_leaves mode last after = refl
 
-long_changes_none : (mode : Mode) (after : List (List ℕ)) → LeftBy TooLong mode new_session after one_batch → ⊥
+long_changes_none : (mode : Mode) (after : List (List ℕ)) → LeftBy TooLong (IsAnswer mode) new_session after one_batch → ⊥
 long_changes_none mode after left = other_session left
 
-device_leaves : (mode : Mode) (last : Session) (after : List (List ℕ)) → LeftBy Device mode last after last
+device_leaves : (mode : Mode) (last : Session) (after : List (List ℕ)) → LeftBy Device (IsAnswer mode) last after last
 device_leaves mode last after = refl
 
-device_changes_none : (mode : Mode) (after : List (List ℕ)) → LeftBy Device mode new_session after one_batch → ⊥
+device_changes_none : (mode : Mode) (after : List (List ℕ)) → LeftBy Device (IsAnswer mode) new_session after one_batch → ⊥
 device_changes_none mode after left = other_session left
 
 -- want of memory, too, where no line follows
-memory_leaves_at_end : (mode : Mode) → LeftBy Memory mode new_session [] one_batch → ⊥
+memory_leaves_at_end : (mode : Mode) → LeftBy Memory (IsAnswer mode) new_session [] one_batch → ⊥
 memory_leaves_at_end mode left = other_session left
 
 -- and in the modes without commands
-memory_leaves_scan : (line : List ℕ) (after : List (List ℕ)) → LeftBy Memory Scan new_session (line ∷ after) one_batch → ⊥
+memory_leaves_scan : (line : List ℕ) (after : List (List ℕ)) → LeftBy Memory (IsAnswer Scan) new_session (line ∷ after) one_batch → ⊥
 memory_leaves_scan line after (inl same) = other_session same
 memory_leaves_scan line after (inr said) = other_session said.1.1
 
-memory_leaves_sketch : (line : List ℕ) (after : List (List ℕ)) → LeftBy Memory Sketch new_session (line ∷ after) one_batch → ⊥
+memory_leaves_sketch : (line : List ℕ) (after : List (List ℕ)) → LeftBy Memory (IsAnswer Sketch) new_session (line ∷ after) one_batch → ⊥
 memory_leaves_sketch line after (inl same) = other_session same
 memory_leaves_sketch line after (inr said) = other_session said.1.1
 
 -- in the mode run the session may be as before, whatever the next line is
-memory_may_leave : (line : List ℕ) (after : List (List ℕ)) → LeftBy Memory Run new_session (line ∷ after) new_session
+memory_may_leave : (line : List ℕ) (after : List (List ℕ)) → LeftBy Memory (IsAnswer Run) new_session (line ∷ after) new_session
 memory_may_leave line after = inl refl
 
 -- ---- lines whose newline was read earlier
@@ -133,10 +134,10 @@ memory_may_leave line after = inl refl
 module _ (from : Session) where
   -- nothing is written of the line x and its newline, of which this was left to read
   abbrev Nothing : Option (List ℕ) → Type 0
-  Nothing unread = AnswersEarlier Scan from (codes "x\n") unread (Some []) (Some [])
+  Nothing unread = AnswersEarlier (IsAnswer Scan) from (codes "x\n") unread (Some []) (Some [])
 
   -- an answer to a line is something
-  no_answers : (lines : List (List ℕ)) (output : List ℕ) (last : Session) → AreAnswers Scan from lines output last → output ≡ [] → lines ≡ []
+  no_answers : (lines : List (List ℕ)) (output : List ℕ) (last : Session) → AreAnswers (IsAnswer Scan) from lines output last → output ≡ [] → lines ≡ []
   no_answers [] output last answers none = refl
   no_answers (line ∷ lines) output last answers none =
       absurd (omega (arith, ap length (sym answers.4 ∙ none), length-append (ended answers.0) answers.1, length-append answers.0 (newline ∷ [])))
@@ -167,12 +168,12 @@ module _ (from : Session) where
   }
 
   -- and of no line nothing is answered
-  nothing_of_no_line : (unread : Option (List ℕ)) (b : ℕ) → AnswersEarlier Scan from [] unread (Some []) (Some (b ∷ [])) → ⊥
+  nothing_of_no_line : (unread : Option (List ℕ)) (b : ℕ) → AnswersEarlier (IsAnswer Scan) from [] unread (Some []) (Some (b ∷ [])) → ⊥
   unfolding lines_of
   nothing_of_no_line unread b left = by_lines left.first.before left.first.after left.first.output left.first.last left.first.split left.first.answers
       left.first.written
     where
-      by_lines : (before after : List (List ℕ)) (output : List ℕ) (last : Session) → [] ≡ before ++ after → AreAnswers Scan from before output last → b
+      by_lines : (before after : List (List ℕ)) (output : List ℕ) (last : Session) → [] ≡ before ++ after → AreAnswers (IsAnswer Scan) from before output last → b
           ∷ [] ≡ output → ⊥
       by_lines [] after output last none answers written = let clash : b ∷ [] ≡ [] = written ∙ answers.0 in cc clash
       by_lines (line ∷ before) after output last none answers written = cc none

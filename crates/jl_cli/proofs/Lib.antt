@@ -1,10 +1,6 @@
-pub mod BufferLaws
 pub mod LackLaws
-pub mod LineLaws
-pub mod FaultLaws
-pub mod NewlineLaws
-pub mod CountLaws
-pub mod FarmLaws
-pub mod WordsLaws
+pub mod FloatLaws
+pub mod FarmEnds
 pub mod Rows
 pub mod FaultRows
+pub mod FarmRows

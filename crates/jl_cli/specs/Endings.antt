@@ -2,14 +2,14 @@
 use Rattle.std.specs.Prelude.{ℕ, List, [], codes, Result, Ok, Err}
 use Rattle.jl_cli.specs.declared.ending.Ending.{Ending}
 use Rattle.jl_cli.specs.declared.ending.Ending.TheVariants.{InputEnded, BadWords, FarmFailed, LineTooLong, DeviceFailed, OutOfMemory}
-use Rattle.jl_cli.specs.declared.line_fault.LineFault.{LineFault}
-use Rattle.jl_cli.specs.declared.line_fault.LineFault.TheVariants.{TooLong, Device}
-use Rattle.jl_cli.specs.declared.line_fault.LineFault.TheVariants as lines
+use Rattle.jl_lines.specs.declared.line_fault.LineFault.{LineFault}
+use Rattle.jl_lines.specs.declared.line_fault.LineFault.TheVariants.{TooLong, Device}
+use Rattle.jl_lines.specs.declared.line_fault.LineFault.TheVariants as lines
 use Rattle.jl_cli.specs.declared.farm_fault.FarmLineFault.{FarmLineFault}
 use Rattle.jl_cli.specs.declared.farm_fault.FarmLineFault.TheVariants.{Line, Farm}
-use Rattle.jl_cli.specs.declared.words.WordsFault.{WordsFault}
-use Rattle.jl_cli.specs.declared.words.WordsFault.TheVariants as words
-use Rattle.jl_cli.specs.Lines.{ended}
+use Rattle.jl_words.specs.declared.words.WordsFault.{WordsFault}
+use Rattle.jl_words.specs.declared.words.WordsFault.TheVariants as words
+use Rattle.jl_lines.specs.Lines.{ended}
 
 -- the exit status
 abbrev pub status_of : Ending → ℕ

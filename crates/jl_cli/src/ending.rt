@@ -2,13 +2,11 @@
 
 ghost use Rattle.std.specs.Prelude.{◌≡◌};
 ghost use Rattle.std.specs.Io.KnownBytes.{Appends};
-ghost use Rattle.jl_cli.specs.Devices.{HasRisen};
+ghost use Rattle.jl_lines.specs.Devices.{HasRisen};
 
-use crate::answers::write_all;
 use crate::farm_fault::FarmLineFault;
-use crate::line_fault::LineFault;
-use crate::sink::Sink;
-use crate::words::WordsFault;
+use jl_lines::{LineFault, Sink, write_all};
+use jl_words::WordsFault;
 
 /// How the program ends.
 #[derive(Clone, Copy, Debug, PartialEq, Eq)]

@@ -1,128 +1,65 @@
-//! Commands, a line each, on a link server, and then a farm for the sites that they requested.
+//! A farm for the sites that were requested, and the line that says what it came to.
 
-ghost use Rattle.std.specs.Prelude.{◌≡◌, ◌≤◌, [], ◌∷◌, IfOk, vec_len};
+ghost use Rattle.std.specs.Prelude.{◌≡◌, ◌≤◌, [], ◌∷◌, All, IfOk, IfErr, vec_len};
 ghost use Rattle.std.specs.List.{range_with_len};
 ghost use mathlib.Core.List.{IsPrefix};
 ghost use Rattle.serde_json.specs.View.{view};
+ghost use Rattle.serde_json.specs.Written.{compact_text};
 ghost use Rattle.jl_types.specs.Happenings.History.{site_numbers};
-ghost use Rattle.jl_types.specs.Happenings.Entries.{events_of};
-ghost use Rattle.jl_cli.specs.Means.Farms.{job_of_each, outcome_name, reports_data};
+ghost use Rattle.jl_types.specs.Happenings.Entries.{IsLegal, events_of};
+ghost use Rattle.jl_farm.specs.Reports.{IsReport, AreOfOneHistory, jobs_of};
+ghost use Rattle.jl_cli.specs.Farms.{job_of_each, outcome_name, reports_data, last_data, IsLastLine};
+ghost use Rattle.jl_cli.specs.Means.Farms.{IsUnwritten};
 
 use crate::farm_fault::FarmLineFault;
-use jl_classfile::read_class;
+use crate::served::{Served, text_of};
 use jl_farm::{Gate, JobOutcome, Report, run};
-use jl_json::{
-    AskedEvent, ClassSource, Command, event_refusal_value, farm_value, read_command, reply_value,
-};
+use jl_json::farm_value;
 use jl_names::Seq;
-use jl_server::{Caller, LinkServer, Name};
-use jl_session::{bad_command, fault_value, json_in, sketch_fault_value};
-use jl_sketch::write_class;
-use jl_types::{Event, LoaderId, SiteNo};
+use jl_server::{Caller, Name};
+use jl_types::SiteNo;
 use serde_json::{Value, json};
 use std::alloc::{AllocError, Global};
 use std::sync::Wait;
 use std::thread::Threads;
 
-/// A link server, and the caller by which commands are applied to it.
-#[derive(Drop)]
-pub(crate) struct FarmSession<'a, K: Name, H: Wait, S: Wait + Drop> {
-    pub(crate) rt: &'a H,
-    pub(crate) alloc: Global,
-    pub(crate) server: &'a LinkServer<K, S>,
-    pub(crate) caller: Caller<K>,
-}
-
-impl<'a, K: Name, H: Wait, S: Wait + Drop> FarmSession<'a, K, H, S> {
-    /// The text of the answer to a line: a command in JSON, or none. Preparations, installs, calls and lists of links are none here.
-    pub(crate) fn answer_text(&mut self, line: &[u8]) -> Result<Vec<u8>, AllocError> {
-        let answer = self.answer(line)?;
-        answer.to_vec(self.alloc)
-    }
-
-    fn answer(&mut self, line: &[u8]) -> Result<Value, AllocError> {
-        let Some(value) = json_in(self.alloc, line)? else {
-            return bad_command(self.alloc);
-        };
-        match read_command(self.alloc, &value)? {
-            Some(asked) => self.obey(asked),
-            None => bad_command(self.alloc),
-        }
-    }
-
-    fn obey(&mut self, asked: Command) -> Result<Value, AllocError> {
-        match asked {
-            Command::Apply(asked) => self.obey_event(asked),
-            Command::Prepare(_) => bad_command(self.alloc),
-            Command::Call(_, _) => bad_command(self.alloc),
-            Command::Links => bad_command(self.alloc),
-        }
-    }
-
-    fn obey_event(&mut self, asked: AskedEvent) -> Result<Value, AllocError> {
-        match asked {
-            AskedEvent::NewLoader => self.apply(Event::NewLoader),
-            AskedEvent::Define(loader, source) => self.define(loader, source),
-            AskedEvent::Delegate(loader, name, to) => {
-                self.apply(Event::Delegate(loader, name, to))
-            }
-            AskedEvent::Request(place) => self.apply(Event::Request(place)),
-            AskedEvent::NewCallSite(kind, ty, target) => {
-                self.apply(Event::NewCallSite(kind, ty, target))
-            }
-            AskedEvent::SetTarget(call_site, target) => {
-                self.apply(Event::SetTarget(call_site, target))
-            }
-            AskedEvent::NewSwitch => self.apply(Event::NewSwitch),
-            AskedEvent::Invalidate(switches) => self.apply(Event::Invalidate(switches)),
-            AskedEvent::Bind(site, call_site) => self.apply(Event::Bind(site, call_site)),
-            AskedEvent::Install(_) => bad_command(self.alloc),
-            AskedEvent::Retire(loader) => self.apply(Event::Retire(loader)),
-        }
-    }
-
-    fn apply(&mut self, event: Event) -> Result<Value, AllocError> {
-        match self.caller.apply(self.rt, self.alloc, self.server, event) {
-            Ok(receipt) => reply_value(self.alloc, &receipt.reply),
-            Err(denied) => event_refusal_value(self.alloc, &denied.refusal),
-        }
-    }
-
-    fn define(&mut self, loader: LoaderId, source: ClassSource) -> Result<Value, AllocError> {
-        match source {
-            ClassSource::File(bytes) => self.define_file(loader, bytes.as_slice()),
-            ClassSource::Sketch(sketch) => match write_class(self.alloc, &sketch) {
-                Ok(bytes) => self.define_file(loader, &bytes),
-                Err(fault) => sketch_fault_value(self.alloc, fault),
-            },
-        }
-    }
-
-    fn define_file(&mut self, loader: LoaderId, bytes: &[u8]) -> Result<Value, AllocError> {
-        match read_class(self.alloc, bytes) {
-            Ok(file) => self.apply(Event::Define(loader, file)),
-            Err(fault) => fault_value(self.alloc, fault),
-        }
-    }
-
+impl<'a, K: Name, H: Wait, S: Wait + Drop> Served<'a, K, H, S> {
     /// One job for each requested site, in order.
-    fn jobs(&mut self) -> Result<Vec<Seq<SiteNo>>, AllocError>
+    fn jobs(&self, caller: &mut Caller<K>) -> Result<Vec<Seq<SiteNo>>, AllocError>
         requires { K.max_sites ≤ 65536 }
-        ensures own { IsPrefix self.old.caller self.new.caller }
-        ensures jobs { IfOk result (λ jobs. jobs.items ≡ job_of_each (site_numbers (events_of self.new.caller))) }
-        ensures numbers { IfOk result (λ jobs. range_with_len 0 (vec_len jobs) ≡ site_numbers (events_of self.new.caller)) }
+        ensures own { IsPrefix caller.old caller.new }
+        ensures jobs { IfOk result (λ jobs. jobs.items ≡ job_of_each (site_numbers (events_of caller.new))) }
+        ensures numbers { IfOk result (λ jobs. range_with_len 0 (vec_len jobs) ≡ site_numbers (events_of caller.new)) }
         ensures most { IfOk result (λ jobs. vec_len jobs ≤ 65536) }
     {
-        let (snapshot, _seen) = self.caller.snapshot(self.rt, self.alloc, self.server)?;
+        let (snapshot, _seen) = caller.snapshot(self.rt, self.alloc, self.server)?;
         each_site(self.alloc, snapshot.world().site_count())
     }
 
     /// The links that are installed, and these reports.
-    fn last_value(&mut self, reports: &[Report<K>]) -> Result<Value, AllocError> {
+    fn last_value(&self, caller: &mut Caller<K>, reports: &[Report<K>]) -> Result<Value, AllocError>
+        ensures own { IsPrefix caller.old caller.new }
+        ensures legal { IfOk result (λ _. IsLegal K.max_sites caller.new) }
+        ensures value { IfOk result (λ v. view v ≡ last_data caller.new reports.now) }
+    {
         let reports = reports_value(self.alloc, reports)?;
-        let list = self.server.links(self.rt, self.alloc, &mut self.caller)?;
+        let list = self.server.links(self.rt, self.alloc, caller)?;
         farm_value(self.alloc, list.rows.as_slice(), reports)
     }
+}
+
+/// The text of what the links and these reports are.
+fn last_text<K: Name, H: Wait, S: Wait + Drop>(
+    served: &Served<'_, K, H, S>,
+    caller: &mut Caller<K>,
+    reports: &[Report<K>],
+) -> Result<Vec<u8>, AllocError>
+    ensures own { IsPrefix caller.old caller.new }
+    ensures legal { IfOk result (λ _. IsLegal K.max_sites caller.new) }
+    ensures text { IfOk result (λ text. text.items ≡ compact_text (last_data caller.new reports.now)) }
+{
+    let answer = served.last_value(caller, reports)?;
+    text_of(served.alloc, &answer)
 }
 
 /// One job for each of so many sites, by rising number.
@@ -159,33 +96,52 @@ impl Gate for Open {
     fn after_install(&self, _job: usize) {}
 }
 
+/// What each of these jobs came to by these workers.
+fn reports_on<K: Name + Send + Sync, H: Threads + Wait + Sync, S: Wait + Drop + Send + Sync>(
+    served: &Served<'_, K, H, S>,
+    jobs: Vec<Seq<SiteNo>>,
+    workers: Vec<Caller<K>>,
+) -> Result<Vec<Report<K>>, FarmLineFault>
+    requires workers { (1 ≤ vec_len workers) × (vec_len workers ≤ 16) }
+    requires jobs { vec_len jobs ≤ 65536 }
+    ensures jobs { IfOk result (λ reports. jobs_of reports.items ≡ range_with_len 0 (vec_len jobs)) }
+    ensures shown { IfOk result (λ reports. All (IsReport K.max_sites workers.items jobs.items) reports.items) }
+    ensures history { IfOk result (λ reports. AreOfOneHistory reports.items) }
+    ensures unwritten { IfErr result IsUnwritten }
+{
+    match run(served.rt, served.alloc, served.server, jobs, workers, &Open) {
+        Ok(reports) => Ok(reports),
+        Err(fault) => Err(FarmLineFault::Farm(fault)),
+    }
+}
+
 /// The text of the farm's answer: the links that the workers leave installed, and what each job came to.
+///
+/// # Errors
+///
+/// - [`FarmLineFault::Line`]: want of memory, of no other fault.
+/// - [`FarmLineFault::Farm`]: the farm has no reports.
 pub(crate) fn farm_text<
     K: Name + Send + Sync,
     H: Threads + Wait + Sync,
     S: Wait + Drop + Send + Sync,
->(session: &mut FarmSession<'_, K, H, S>, workers: Vec<Caller<K>>) -> Result<Vec<u8>, FarmLineFault>
+>(
+    served: &Served<'_, K, H, S>,
+    caller: &mut Caller<K>,
+    workers: Vec<Caller<K>>,
+) -> Result<Vec<u8>, FarmLineFault>
     requires workers { (1 ≤ vec_len workers) × (vec_len workers ≤ 16) }
     requires sites { K.max_sites ≤ 65536 }
+    ensures text { IfOk result (λ text. IsLastLine K K.max_sites caller.old text.items) }
+    ensures unwritten { IfErr result IsUnwritten }
 {
     let mut workers = workers;
     for worker in &mut workers {
-        worker.learn(session.caller.seen());
+        worker.learn(caller.seen());
     }
-    let jobs = session.jobs()?;
-    let reports = match run(
-        session.rt,
-        session.alloc,
-        session.server,
-        jobs,
-        workers,
-        &Open,
-    ) {
-        Ok(reports) => reports,
-        Err(fault) => return Err(FarmLineFault::Farm(fault)),
-    };
-    let answer = session.last_value(reports.as_slice())?;
-    Ok(answer.to_vec(session.alloc)?)
+    let jobs = served.jobs(caller)?;
+    let reports = reports_on(served, jobs, workers)?;
+    Ok(last_text(served, caller, reports.as_slice())?)
 }
 
 /// The name of what a job came to.
@@ -202,7 +158,7 @@ fn name_of<K: Name>(outcome: &JobOutcome<K>) -> &'static str
 }
 
 /// The names of what jobs came to, in order.
-#[tactic(auto, unfolding(crate::specs::Means::Farms::reports_data))]
+#[tactic(auto, unfolding(crate::specs::Farms::reports_data))]
 fn reports_value<K: Name>(alloc: Global, reports: &[Report<K>]) -> Result<Value, AllocError>
     ensures { IfOk result (λ v. view v ≡ reports_data reports.now) }
 {

@@ -1,12 +1,11 @@
 //! Why a farm over lines ends before its last line is written.
 
 ghost use Rattle.std.specs.Prelude.{◌≡◌};
-ghost use Rattle.jl_cli.specs.declared.line_fault.LineFault.TheVariants as line_fault;
+ghost use Rattle.jl_lines.specs.declared.line_fault.LineFault.TheVariants as line_fault;
 ghost use Rattle.jl_cli.specs.declared.farm_fault.FarmLineFault.TheVariants.{Line, Farm};
 
-use crate::failed::Failed;
-use crate::line_fault::LineFault;
 use jl_farm::FarmFault;
+use jl_lines::{Failed, LineFault};
 use std::alloc::{AllocError, AllocFailed};
 use thiserror::Error;
 

@@ -1,17 +1,21 @@
 //! A farm over the lines of an input.
 
-ghost use Rattle.std.specs.Prelude.{◌≡◌, ◌<◌, ◌≤◌, length, take, drop, vec_len, IfOk, OnOk};
-ghost use Rattle.jl_cli.specs.Lines.{NoNewline};
+ghost use Rattle.std.specs.Prelude.{◌≡◌, ◌≢◌, ◌≤◌, [], vec_len, IfErr, IfSome, OnOk, IsErrOf};
+ghost use Rattle.std.specs.Io.KnownBytes.{Appends, Keeps, IsAtEnd};
+ghost use Rattle.core.specs.declared.marker.Brand.{Brand};
+ghost use Rattle.jl_lines.specs.declared.line_fault.LineFault.TheVariants.{Device, Memory};
+ghost use Rattle.jl_cli.specs.declared.farm_fault.FarmLineFault.TheVariants.{Line};
+ghost use Rattle.jl_lines.specs.Devices.{one_more, HasRisen};
+ghost use Rattle.jl_lines.specs.Lines.{ended};
+ghost use Rattle.jl_lines.specs.Answers.{AnswersFirst};
+ghost use Rattle.jl_cli.specs.Farms.{IsFarmAnswer, FarmsAll, FarmLongIf};
 
-use crate::answers::{first_line, write_all};
-use crate::farm::{FarmSession, farm_text};
+use crate::farm::farm_text;
 use crate::farm_fault::FarmLineFault;
-use crate::line_buffer::LineBuffer;
-use crate::line_fault::LineFault;
-use crate::sink::Sink;
-use crate::source::Source;
+use crate::served::Served;
+use jl_lines::{LineFault, Sink, Source, answer_input, write_all};
 use jl_server::{Caller, Name, Parts};
-use std::alloc::{AllocError, Global};
+use std::alloc::Global;
 use std::marker::Brand;
 use std::sync::Wait;
 use std::thread::Threads;
@@ -19,93 +23,21 @@ use std::thread::Threads;
 /// The most places that may be requested.
 const MOST_SITES: u32 = 65_536;
 
-/// Adds the answer to a line.
-fn answer<K: Name, H: Wait, S: Wait + Drop>(
-    session: &mut FarmSession<'_, K, H, S>,
-    line: &[u8],
-    output: &mut Vec<u8>,
-) -> Result<(), AllocError> {
-    let mut text = session.answer_text(line)?;
+/// Writes the last line.
+///
+/// # Errors
+///
+/// [`LineFault::Memory`], before anything is written; [`LineFault::Device`], where a write failed.
+fn write_last<W: Sink>(text: Vec<u8>, writer: &mut W) -> Result<(), LineFault>
+    ensures written { OnOk result (Appends (W.contents writer.old) (W.contents writer.new) (ended text.items)) }
+    ensures memory { IfErr result (λ f. f ≢ Device → (f ≡ Memory)
+        × Keeps (W.contents writer.old) (W.contents writer.new)) }
+    ensures device { IsErrOf result LineFault.Device → W.failures writer.new ≡ one_more (W.failures writer.old) }
+{
+    let mut text = text;
     text.push(b'\n')?;
-    output.extend_from_slice(&text)
-}
-
-/// Adds the answer to each whole line of the text, in which no newline stands before `searched`. Tells how many bytes these lines have.
-fn answer_lines<K: Name, H: Wait, S: Wait + Drop>(
-    session: &mut FarmSession<'_, K, H, S>,
-    text: &[u8],
-    searched: usize,
-    output: &mut Vec<u8>,
-) -> Result<usize, AllocError>
-    requires within { searched ≤ length text.now }
-    requires none { NoNewline (take searched text.now) }
-    ensures used { IfOk result (λ used. (used ≤ length text.now) × NoNewline (drop used text.now)) }
-{
-    let mut rest = text;
-    let mut searched = searched;
-    while let Some((line, behind)) = first_line(rest, searched) {
-        answer(session, line, output)?;
-        rest = behind;
-        searched = 0;
-    }
-    Ok(text.len() - rest.len())
-}
-
-/// Answers what was read since a newline was last looked for, and drops the lines that were answered. The answers are written, also
-/// those before a fault.
-fn answer_piece<K: Name, H: Wait, S: Wait + Drop, W: Sink>(
-    session: &mut FarmSession<'_, K, H, S>,
-    input: &mut LineBuffer,
-    searched: usize,
-    output: &mut Vec<u8>,
-    writer: &mut W,
-) -> Result<(), LineFault>
-    requires within { searched ≤ length input.old }
-    requires none { NoNewline (take searched input.old) }
-    ensures none { OnOk result (NoNewline input.new) }
-    ensures room { OnOk result (length input.new < 2100001) }
-{
-    let answered = answer_lines(session, input.as_slice(), searched, output);
-    write_all(writer, output)?;
-    output.clear();
-    let used = answered?;
-    if used == 0 && input.is_full() {
-        return Err(LineFault::TooLong);
-    }
-    input.discard(used);
+    write_all(writer, &text)?;
     Ok(())
-}
-
-/// Answers what stands behind the last newline, if anything does.
-fn answer_rest<K: Name, H: Wait, S: Wait + Drop, W: Sink>(
-    session: &mut FarmSession<'_, K, H, S>,
-    rest: &[u8],
-    output: &mut Vec<u8>,
-    writer: &mut W,
-) -> Result<(), LineFault> {
-    if !rest.is_empty() {
-        answer(session, rest, output)?;
-    }
-    write_all(writer, output)?;
-    Ok(())
-}
-
-/// Answers each line of what is read, in order, to its end.
-fn answer_all<K: Name, H: Wait, S: Wait + Drop, R: Source, W: Sink>(
-    session: &mut FarmSession<'_, K, H, S>,
-    reader: &mut R,
-    writer: &mut W,
-) -> Result<(), LineFault> {
-    let mut input = LineBuffer::new(session.alloc)?;
-    let mut output = Vec::new(session.alloc);
-    for _ in 0..u64::MAX {
-        let searched = input.as_slice().len();
-        if input.read_from(reader)? == 0 {
-            return answer_rest(session, input.as_slice(), &mut output, writer);
-        }
-        answer_piece(session, &mut input, searched, &mut output, writer)?;
-    }
-    Err(LineFault::Device)
 }
 
 /// Answers the lines by one caller of the server, and runs the farm by the others.
@@ -116,18 +48,26 @@ fn run_on<
     R: Source,
     W: Sink,
 >(
-    session: &mut FarmSession<'_, K, H, S>,
+    served: &Served<'_, K, H, S>,
+    caller: &mut Caller<K>,
     workers: Vec<Caller<K>>,
     reader: &mut R,
     writer: &mut W,
 ) -> Result<(), FarmLineFault>
+    requires fresh { caller.old ≡ [] }
     requires workers { (1 ≤ vec_len workers) × (vec_len workers ≤ 16) }
     requires sites { K.max_sites ≤ 65536 }
+    ensures answered { OnOk result (IsAtEnd (R.remaining reader.new)
+        × IfSome (R.remaining reader.old) (λ input. FarmsAll K K.max_sites input (W.contents writer.old) (W.contents writer.new))) }
+    ensures whole { IfErr result
+        (λ fault. (fault ≡ Line Device → ¬ HasRisen (W.failures writer.old) (W.failures writer.new))
+        → IfSome (R.remaining reader.old) (λ input.
+        (first : AnswersFirst (IsFarmAnswer K.max_sites) [] input (W.contents writer.old) (W.contents writer.new))
+        × FarmLongIf fault first.after)) }
 {
-    answer_all(session, reader, writer)?;
-    let mut text = farm_text(session, workers)?;
-    text.push(b'\n')?;
-    write_all(writer, &text)?;
+    answer_input(served.alloc, served.again(), caller, reader, writer)?;
+    let text = farm_text(served, caller, workers)?;
+    write_last(text, writer)?;
     Ok(())
 }
 
@@ -142,6 +82,13 @@ fn run_started<K: Name + Send + Sync, H: Threads + Wait + Sync, R: Source, W: Si
     requires book { parts.book ≡ K.book }
     requires sites { (parts.max_sites ≡ K.max_sites) × (parts.max_sites ≤ 65536) }
     requires callers { (2 ≤ parts.callers) × (parts.callers ≤ 17) }
+    ensures answered { OnOk result (IsAtEnd (R.remaining reader.new)
+        × IfSome (R.remaining reader.old) (λ input. FarmsAll K K.max_sites input (W.contents writer.old) (W.contents writer.new))) }
+    ensures whole { IfErr result
+        (λ fault. (fault ≡ Line Device → ¬ HasRisen (W.failures writer.old) (W.failures writer.new))
+        → IfSome (R.remaining reader.old) (λ input.
+        (first : AnswersFirst (IsFarmAnswer K.max_sites) [] input (W.contents writer.old) (W.contents writer.new))
+        × FarmLongIf fault first.after)) }
 {
     let Ok((server, mut callers)) = parts.start::<K, &H>(alloc, rt) else {
         return Err(FarmLineFault::Line(LineFault::Memory));
@@ -149,13 +96,13 @@ fn run_started<K: Name + Send + Sync, H: Threads + Wait + Sync, R: Source, W: Si
     let Some(caller) = callers.pop() else {
         unreachable!()
     };
-    let mut session = FarmSession {
+    let mut caller = caller;
+    let served = Served {
         rt,
         alloc,
         server: &server,
-        caller,
     };
-    run_on(&mut session, callers, reader, writer)
+    run_on(&served, &mut caller, callers, reader, writer)
 }
 
 /// Answers each line of the input, in order, to its end, as the mode run does, but by a link server; preparations, installs, calls and
@@ -176,6 +123,16 @@ pub fn run_farm<H: Threads + Wait + Sync, R: Source, W: Sink>(
     writer: &mut W,
 ) -> Result<(), FarmLineFault>
     requires { (1 ≤ workers) × (workers ≤ 16) }
+    // The input was read to its end, and the answers to its lines were written, and then the last line.
+    ensures answered { OnOk result (IsAtEnd (R.remaining reader.new)
+        × IfSome (R.remaining reader.old) (λ input. FarmsAll Brand 65536 input (W.contents writer.old) (W.contents writer.new))) }
+    // But for a failed write the answers to some first lines were written whole, and nothing else: the next line is over the limit where one
+    // is said to be too long, and there is none where the farm failed.
+    ensures whole { IfErr result
+        (λ fault. (fault ≡ Line Device → ¬ HasRisen (W.failures writer.old) (W.failures writer.new))
+        → IfSome (R.remaining reader.old) (λ input.
+        (first : AnswersFirst (IsFarmAnswer 65536) [] input (W.contents writer.old) (W.contents writer.new))
+        × FarmLongIf fault first.after)) }
 {
     match Parts::new(alloc, MOST_SITES, usize::from(workers) + 1) {
         Ok(parts) => run_started::<Brand, H, R, W>(rt, alloc, parts, reader, writer),

@@ -1,43 +1,25 @@
-//! The program `linkd`, as a library: its words, and its answers to the lines of an input.
+//! The program `linkd`, as a library: its modes, which answer the lines of an input, and how it ends.
 //!
-//! Input and output are a [`Source`] and a [`Sink`], which count what failed. What is said of their
-//! bytes and counts stands in `specs/Devices`. What is answered stands in `specs/`, in reading
-//! order: `Lines`, `Answers`; what words ask for, in `Words`; how the program ends, in `Endings`. What one
-//! line is answered is that of jl_session.
+//! What one line is answered stands in `specs/Modes`, by jl_session, and in `specs/Farms`; how the program ends, in `specs/Endings`. The lines
+//! of an input, and that each is answered once, in order, are those of jl_lines; the words are those of jl_words.
 #![tactic(auto)]
 
-// Words.
-mod words;
-
-// Input and output.
-mod counted;
-mod fail_at;
-mod failed;
-mod sink;
-mod source;
-
-// Lines.
-mod answers;
-mod line_buffer;
-mod line_fault;
-mod lines;
+// The modes of lines.
+mod modes;
+mod runs;
 
 // The farm.
 mod farm;
 mod farm_fault;
 mod farm_lines;
+mod served;
 
 // The end.
 mod ending;
 
-pub use counted::Counted;
 pub use ending::Ending;
-pub use fail_at::FailAt;
-pub use failed::Failed;
 pub use farm_fault::FarmLineFault;
 pub use farm_lines::run_farm;
-pub use line_fault::LineFault;
-pub use lines::{run_lines, run_lines_with};
-pub use sink::Sink;
-pub use source::Source;
-pub use words::{Mode, Words, WordsFault, read_words};
+pub use jl_lines::{Counted, FailAt, Failed, LineFault, Sink, Source};
+pub use jl_words::{Mode, Words, WordsFault, read_words};
+pub use runs::{run_lines, run_lines_with};

@@ -9,7 +9,7 @@
 ghost use Rattle.std.specs.Prelude.{◌≡◌, ◌≤◌, ℕ, List, IfOk};
 ghost use Rattle.std.specs.Process.{exit_status};
 ghost use Rattle.jl_cli.specs.Endings.{status_of};
-ghost use Rattle.jl_cli.specs.Words.{AskFor};
+ghost use Rattle.jl_words.specs.Words.{AskFor};
 
 use jl_cli::{Counted, Ending, Mode, Words, WordsFault, read_words, run_farm, run_lines};
 use std::env;

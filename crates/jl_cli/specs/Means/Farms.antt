@@ -1,28 +1,16 @@
--- The jobs of a farm over lines, and the names of what they came to.
-use Rattle.std.specs.Prelude.{ℕ, List, [], ◌∷◌, codes, map}
-use Rattle.serde_json.specs.Data.{Data, string, array}
-use Rattle.serde_json.specs.View.{items_of}
-use Rattle.jl_farm.specs.declared.report.Report.{Report}
-use Rattle.jl_farm.specs.declared.report.JobOutcome.{JobOutcome}
-use Rattle.jl_farm.specs.declared.report.JobOutcome.TheVariants.{Installed, Stale, NotReady, Bad, Memory}
+-- What the parts of a farm over lines come to. Only private clauses cite this.
+use Rattle.std.specs.Prelude.{◌≡◌, ◌⊎◌, List, ⊤}
+use Rattle.serde_json.specs.Data.{Data}
+use Rattle.jl_types.specs.Happenings.Entries.{Entry}
+use Rattle.jl_lines.specs.declared.line_fault.LineFault.TheVariants.{Memory}
+use Rattle.jl_cli.specs.declared.farm_fault.FarmLineFault.{FarmLineFault}
+use Rattle.jl_cli.specs.declared.farm_fault.FarmLineFault.TheVariants.{Line, Farm}
 
--- a job for each of these sites, of that site alone
-abbrev pub job_of_each : List ℕ → List (List ℕ)
-job_of_each sites = map (λ s. s ∷ []) sites
+-- where memory lacks for an answer, the caller has seen what it had, or what one of these answers leaves it
+abbrev pub LacksServed : List Entry → (Data → Type 0) → List Entry → Type 0
+LacksServed old IsSaid new = (new ≡ old) ⊎ ((answer : Data) × IsSaid answer)
 
--- ---- reports
-
--- the name of what a job came to
-abbrev pub outcome_name : {K : Type 0} → JobOutcome K → List ℕ
-outcome_name (Installed receipt) = codes "Installed"
-outcome_name (Stale first second) = codes "Stale"
-outcome_name (NotReady list) = codes "NotReady"
-outcome_name (Bad list) = codes "Bad"
-outcome_name Memory = codes "Memory"
-
-abbrev pub report_data : {K : Type 0} → Report K → Data
-report_data report = string (outcome_name report.outcome)
-
--- the names of what the jobs came to, in order
-unfoldable pub reports_data : {K : Type 0} → List (Report K) → Data
-reports_data reports = array (items_of (map report_data reports))
+-- a fault behind the answers, where nothing is written: of lines it is want of memory
+abbrev pub IsUnwritten : FarmLineFault → Type 0
+IsUnwritten (Line fault) = fault ≡ Memory
+IsUnwritten (Farm fault) = ⊤

@@ -1,5 +1,5 @@
 use Rattle.std.proofs.lemmas.Result.{IfOk-weaker}
-use Rattle.jl_cli.specs.Words.{AskFor}
+use Rattle.jl_words.specs.Words.{AskFor}
 use Rattle.linkd.proofs.own_words.Goals as goal
 
 pub returns-in_ok-words-in-Ok : goal.returns-in_ok-words-in-Ok

@@ -1,7 +1,7 @@
 use Rattle.std.proofs.Common.{ℕ, List, [], ◌∷◌, ◌++◌, ap, ◌∙◌, sym, arith}
 use Rattle.std.proofs.lemmas.List.FromFn.{map-range_with_len_more}
 use Rattle.std.specs.List.{range_with_len}
-use Rattle.jl_cli.specs.Means.Farms.{job_of_each}
+use Rattle.jl_cli.specs.Farms.{job_of_each}
 use Rattle.jl_cli.proofs.farm.each_site.Goals as goal
 
 pub loop-number-preserved : goal.loop-number-preserved

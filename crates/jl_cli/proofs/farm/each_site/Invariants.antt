@@ -1,6 +1,6 @@
 use Rattle.std.proofs.Common.{◌≡◌, vec_len}
 use Rattle.std.specs.List.{range_with_len}
-use Rattle.jl_cli.specs.Means.Farms.{job_of_each}
+use Rattle.jl_cli.specs.Farms.{job_of_each}
 use Rattle.jl_cli.proofs.farm.each_site.Given as goal
 
 -- the jobs of the sites so far

@@ -1,6 +1,6 @@
 use Rattle.std.proofs.Common.{◌≡◌, map, take}
 use Rattle.serde_json.specs.View.{view}
-use Rattle.jl_cli.specs.Means.Farms.{report_data}
+use Rattle.jl_cli.specs.Farms.{report_data}
 use Rattle.jl_cli.proofs.farm.reports_value.Given as goal
 
 abbrev pub invariant-loop-report : goal.invariant-loop-report

@@ -1,0 +1,164 @@
+-- What the lines of the mode farm are answered, by a link server, and the line that a farm ends with. What a caller of a server has seen is a
+-- list of accepted events with their replies; it only grows.
+use Rattle.std.specs.Prelude.{◌≡◌, ◌⊎◌, ◌<◌, ℕ, List, [], ◌∷◌, ◌++◌, codes, map, length, All, Option, Some, None, Result, Ok, Err}
+use mathlib.Core.List.{IsPrefix}
+use Rattle.std.specs.Io.KnownBytes.{Appends}
+use Rattle.serde_json.specs.Data.{Data, string, array}
+use Rattle.serde_json.specs.View.{items_of}
+use Rattle.serde_json.specs.Written.{compact_text}
+use Rattle.jl_classfile.specs.Parts.{Parts}
+use Rattle.jl_classfile.specs.ClassFiles.{IsClass}
+use Rattle.jl_classfile.specs.Shown.{shown}
+use Rattle.jl_sketch.specs.Faults.{IsWritten}
+use Rattle.jl_types.specs.Happenings.Event.{Event}
+use Rattle.jl_types.specs.declared.event.EventOf.TheVariants as event
+use Rattle.jl_types.specs.declared.event.Reply.{Reply}
+use Rattle.jl_types.specs.declared.refusal.Refusal.{Refusal}
+use Rattle.jl_types.specs.Happenings.Events.{verdict}
+use Rattle.jl_types.specs.Happenings.History.{world_after, site_numbers, installed_links}
+use Rattle.jl_types.specs.Happenings.Entries.{Entry, IsLegal, events_of}
+use Rattle.jl_core.specs.State.{IsRefused}
+use Rattle.jl_json.specs.declared.command.Command.{Command}
+use Rattle.jl_json.specs.declared.command.Command.TheVariants as command
+use Rattle.jl_json.specs.declared.command.ClassSource.{ClassSource}
+use Rattle.jl_json.specs.declared.command.ClassSource.TheVariants as source
+use Rattle.jl_json.specs.Commands.{AskedEvent, command_of}
+use Rattle.jl_json.specs.LinkAnswers.{farm_data}
+use Rattle.jl_session.specs.Jsons.{IsReadAs, IsTextOf, bad_command}
+use Rattle.jl_session.specs.Scans.{IsFaultAnswer}
+use Rattle.jl_session.specs.Sketches.{IsSketchRefusal}
+use Rattle.jl_session.specs.Sessions.{IsEventData}
+use Rattle.jl_server.specs.History.{EndsWith}
+use Rattle.jl_farm.specs.declared.report.Report.{Report}
+use Rattle.jl_farm.specs.declared.report.JobOutcome.{JobOutcome}
+use Rattle.jl_farm.specs.declared.report.JobOutcome.TheVariants.{Installed, Stale, NotReady, Bad, Memory}
+use Rattle.jl_farm.specs.Reports.{IsReport, AreOfOneHistory, jobs_of}
+use Rattle.jl_cli.specs.declared.farm_fault.FarmLineFault.{FarmLineFault}
+use Rattle.jl_cli.specs.declared.farm_fault.FarmLineFault.TheVariants.{Line, Farm}
+use Rattle.jl_lines.specs.Lines.{lines_of, ended}
+use Rattle.jl_lines.specs.Answers.{AreAnswers, AreShort, LongIf}
+
+-- ---- what a command is answered
+
+-- the event ends what is seen afterwards, with its reply; or it is refused after that
+abbrev pub IsServedAs : ℕ → List Entry → Event → Result Reply Refusal → List Entry → Type 0
+IsServedAs max_sites old e (Ok reply) new = EndsWith new e reply × (length old < length new)
+IsServedAs max_sites old e (Err r) new = IsRefused (verdict max_sites (world_after (events_of new)) e) r
+
+-- the server takes the event or refuses it, after all that was seen before, and the answer says which
+pub record IsServed (max_sites : ℕ) (old : List Entry) (e : Event) (answer : Data) (new : List Entry) : Type 0 where
+  pub outcome : Result Reply Refusal
+  pub grown : IsPrefix old new
+  pub legal : IsLegal max_sites new
+  pub applied : IsServedAs max_sites old e outcome new
+  pub said : IsEventData outcome answer
+
+-- the event of the class that the bytes are; or their fault, or want of memory
+abbrev pub IsFileServed : ℕ → List Entry → ℕ → List ℕ → Data → List Entry → Type 0
+IsFileServed max_sites old loader bytes answer new =
+    ((p : Parts) × IsClass bytes p × IsServed max_sites old (event.Define loader (shown p)) answer new)
+    ⊎ ((new ≡ old) × IsFaultAnswer bytes answer)
+
+-- by the bytes of a file, or those that a sketch is written as; or why the sketch isn't written
+abbrev pub IsDefineServed : ℕ → List Entry → ℕ → ClassSource → Data → List Entry → Type 0
+IsDefineServed max_sites old loader (source.File bytes) answer new = IsFileServed max_sites old loader bytes answer new
+IsDefineServed max_sites old loader (source.Sketch sketch) answer new =
+    ((bytes : List ℕ) × IsWritten sketch bytes × IsFileServed max_sites old loader bytes answer new)
+    ⊎ ((new ≡ old) × IsSketchRefusal sketch answer)
+
+-- no command here
+abbrev pub IsNone : List Entry → Data → List Entry → Type 0
+IsNone old answer new = (answer ≡ bad_command) × (new ≡ old)
+
+-- the event; an install is none here
+abbrev pub IsAskedEventServed : ℕ → List Entry → AskedEvent → Data → List Entry → Type 0
+IsAskedEventServed max_sites old event.NewLoader answer new = IsServed max_sites old event.NewLoader answer new
+IsAskedEventServed max_sites old (event.Define loader source) answer new = IsDefineServed max_sites old loader source answer new
+IsAskedEventServed max_sites old (event.Delegate loader name to) answer new = IsServed max_sites old (event.Delegate loader name to) answer new
+IsAskedEventServed max_sites old (event.Request place) answer new = IsServed max_sites old (event.Request place) answer new
+IsAskedEventServed max_sites old (event.NewCallSite kind ty target) answer new = IsServed max_sites old (event.NewCallSite kind ty target) answer new
+IsAskedEventServed max_sites old (event.SetTarget call_site target) answer new = IsServed max_sites old (event.SetTarget call_site target) answer new
+IsAskedEventServed max_sites old event.NewSwitch answer new = IsServed max_sites old event.NewSwitch answer new
+IsAskedEventServed max_sites old (event.Invalidate switches) answer new = IsServed max_sites old (event.Invalidate switches) answer new
+IsAskedEventServed max_sites old (event.Bind site call_site) answer new = IsServed max_sites old (event.Bind site call_site) answer new
+IsAskedEventServed max_sites old (event.Retire loader) answer new = IsServed max_sites old (event.Retire loader) answer new
+IsAskedEventServed max_sites old (event.Install batch) answer new = IsNone old answer new
+
+-- an event; preparations, calls and lists of links are none here
+abbrev pub IsCommandServed : ℕ → List Entry → Command → Data → List Entry → Type 0
+IsCommandServed max_sites old (command.Apply asked) answer new = IsAskedEventServed max_sites old asked answer new
+IsCommandServed max_sites old (command.Prepare sites) answer new = IsNone old answer new
+IsCommandServed max_sites old (command.Call site recv) answer new = IsNone old answer new
+IsCommandServed max_sites old command.Links answer new = IsNone old answer new
+
+abbrev pub IsAskedServed : ℕ → List Entry → Option Command → Data → List Entry → Type 0
+IsAskedServed max_sites old (Some asked) answer new = IsCommandServed max_sites old asked answer new
+IsAskedServed max_sites old None answer new = IsNone old answer new
+
+-- ---- what a line is answered
+
+pub record IsLineServed (max_sites : ℕ) (old : List Entry) (line : List ℕ) (answer : Data) (new : List Entry) : Type 0 where
+  pub asked : Option Command
+  pub is : IsReadAs command_of line asked
+  pub said : IsAskedServed max_sites old asked answer new
+
+-- the text that a line is answered, and what the caller has seen afterwards
+abbrev pub IsFarmAnswer : ℕ → List Entry → List ℕ → List ℕ → List Entry → Type 0
+IsFarmAnswer max_sites old line text new = IsTextOf (λ answer. IsLineServed max_sites old line answer new) text
+
+-- ---- the last line
+
+-- a job for each of these sites, of that site alone
+abbrev pub job_of_each : List ℕ → List (List ℕ)
+job_of_each sites = map (λ s. s ∷ []) sites
+
+-- the name of what a job came to
+abbrev pub outcome_name : {K : Type 0} → JobOutcome K → List ℕ
+outcome_name (Installed receipt) = codes "Installed"
+outcome_name (Stale first second) = codes "Stale"
+outcome_name (NotReady list) = codes "NotReady"
+outcome_name (Bad list) = codes "Bad"
+outcome_name Memory = codes "Memory"
+
+abbrev pub report_data : {K : Type 0} → Report K → Data
+report_data report = string (outcome_name report.outcome)
+
+-- the names of what the jobs came to, in order
+unfoldable pub reports_data : {K : Type 0} → List (Report K) → Data
+reports_data reports = array (items_of (map report_data reports))
+
+-- the links that are installed after these events, and the names of what the jobs came to
+abbrev pub last_data : {K : Type 0} → List Entry → List (Report K) → Data
+last_data list reports = farm_data (installed_links (events_of list)) (reports_data reports)
+
+-- The text of the last line, after what was seen when the lines were answered: each site that is requested by then is a job, and the reports are of
+-- these, each once, in order; the links are those after a list that comes later.
+pub record IsLastLine (K : Type 0) (max_sites : ℕ) (answered : List Entry) (text : List ℕ) : Type 0 where
+  pub asked : List Entry
+  pub later : IsPrefix answered asked
+  pub reports : List (Report K)
+  pub each : jobs_of reports ≡ site_numbers (events_of asked)
+  pub callers : List (List Entry)
+  pub shown : All (IsReport max_sites callers (job_of_each (site_numbers (events_of asked)))) reports
+  pub history : AreOfOneHistory reports
+  pub linked : List Entry
+  pub grown : IsPrefix asked linked
+  pub legal : IsLegal max_sites linked
+  pub is : text ≡ compact_text (last_data linked reports)
+
+-- ---- what a run leaves
+
+-- Each line is answered, from a server on that has taken no event, and behind the answers stands the last line, and nothing else.
+pub record FarmsAll (K : Type 0) (max_sites : ℕ) (input : List ℕ) (old new : Option (List ℕ)) : Type 0 where
+  pub short : AreShort (lines_of input)
+  pub output : List ℕ
+  pub seen : List Entry
+  pub answers : AreAnswers (IsFarmAnswer max_sites) [] (lines_of input) output seen
+  pub text : List ℕ
+  pub last : IsLastLine K max_sites seen text
+  pub written : Appends old new (output ++ ended text)
+
+-- a fault of lines comes before a line that is too long where it says so; one of the farm after all lines
+abbrev pub FarmLongIf : FarmLineFault → List (List ℕ) → Type 0
+FarmLongIf (Line fault) after = LongIf fault after
+FarmLongIf (Farm fault) after = after ≡ []

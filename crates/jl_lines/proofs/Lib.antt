@@ -1,0 +1,4 @@
+pub mod BufferLaws
+pub mod LineLaws
+pub mod FaultLaws
+pub mod NewlineLaws

@@ -1,0 +1,31 @@
+//! The lines of an input, each answered once, in order, whatever answers one.
+//!
+//! Input and output are a [`Source`] and a [`Sink`], which count what failed. What is said of their bytes and counts stands in
+//! `specs/Devices`, by `Counted` and `FailAt` of two of them; what is answered, in reading order, in `Lines` and `Answers`, over the
+//! relation of an [`Answer`].
+#![tactic(auto)]
+
+// Input and output.
+mod counted;
+mod fail_at;
+mod failed;
+mod sink;
+mod source;
+
+// Lines.
+mod answer;
+mod answers;
+mod line_buffer;
+mod line_fault;
+mod lines;
+
+pub use answer::{Answer, add_answer};
+pub use answers::write_all;
+pub use counted::Counted;
+pub use fail_at::FailAt;
+pub use failed::Failed;
+pub use line_buffer::MOST_IN_LINE;
+pub use line_fault::LineFault;
+pub use lines::answer_input;
+pub use sink::Sink;
+pub use source::Source;
