@@ -5,7 +5,8 @@
 
 First so many rounds as the limit of 65,536 classes allows of a loader with 100 classes and a call in each, requested, linked and
 installed, and then retired; and once more without the retirements. It prints the memory of the process on the way (of Linux alone),
-and how long a retirement's line takes. Then a loader of 100 classes is retired beside 30,000 others of loader 0.
+and how long a retirement's line takes. Then the same with classes that are only defined, with requested calls, and with installed ones:
+bytes a class. Last, a loader of 100 classes is retired beside 30,000 others of loader 0.
 """
 import json
 import subprocess
@@ -45,15 +46,20 @@ def calling(name):
     return {"name": name, "super": OBJECT, "flags": 33, "methods": methods}
 
 
-def fill(session):
-    """A loader more, with its classes and installed sites; its number."""
+DEFINED, REQUESTED, INSTALLED = range(3)
+
+
+def fill(session, step=INSTALLED):
+    """A loader more, with its classes and, up to this step, requested and installed sites; its number."""
     loader = session.ask(do="loader")["loader"]
     session.ask(do="delegate", loader=loader, name=OBJECT, to=0)
     sites = []
     for number in range(CLASSES):
         made = session.ask(do="define", loader=loader, sketch=calling(f"C{number}"))["class"]
-        sites.append(session.ask(do="request", **{"class": made}, method=1, pc=0)["site"])
-    session.ask(do="install", prepared=session.ask(do="prepare", sites=sites)["prepared"])
+        if step >= REQUESTED:
+            sites.append(session.ask(do="request", **{"class": made}, method=1, pc=0)["site"])
+    if step >= INSTALLED:
+        session.ask(do="install", prepared=session.ask(do="prepare", sites=sites)["prepared"])
     return loader
 
 
@@ -82,6 +88,19 @@ def rounds(program, is_retired):
     session.end()
 
 
+def bytes_a_class(program, step, is_retired):
+    session = Session(program)
+    session.ask(do="define", loader=0, sketch={"name": OBJECT, "flags": 33})
+    before = session.megabytes()
+    for _ in range(ROUNDS):
+        loader = fill(session, step)
+        if is_retired:
+            session.ask(do="retire", loader=loader)
+    taken = session.megabytes() - before
+    session.end()
+    return taken * (1 << 20) / (ROUNDS * CLASSES)
+
+
 def beside(program):
     session = Session(program)
     session.ask(do="define", loader=0, sketch={"name": OBJECT, "flags": 33})
@@ -99,6 +118,9 @@ def main(words):
     rounds(words[0], True)
     print("none retired")
     rounds(words[0], False)
+    for step, told in enumerate(("defined", "requested", "installed")):
+        kept, left = (bytes_a_class(words[0], step, is_retired) for is_retired in (False, True))
+        print(f"{told}: {kept:.0f} bytes a class, {left:.0f} where it is retired", flush=True)
     beside(words[0])
 
 
