@@ -1,5 +1,5 @@
 -- Which sites an event retires, and what is left of the links and the index once these were dropped.
-use Rattle.std.specs.Prelude.{◌≡◌, ℕ, ◌*◌, ◌+◌, ◌≤◌, ◌<◌, ◌==◌, ◌&&◌, ◌||◌, not, Bool, true, false, cond, List, [], ◌∷◌, filter, sum_by, length}
+use Rattle.std.specs.Prelude.{◌≡◌, ℕ, ◌*◌, ◌≤◌, ◌<◌, ◌==◌, ◌&&◌, ◌||◌, not, Bool, true, false, cond, List, [], ◌∷◌, filter, sum_by, length}
 use Rattle.std.specs.Prelude.{Option, Some, None, option_map, Result, Ok, Err, is_some, is_none, slice_get, if◌then◌else◌}
 use Rattle.std.specs.Option.{option_map_or}
 use Rattle.std.proofs.Common.{refl, ap, sym, ◌∙◌, arith}
@@ -52,6 +52,36 @@ module _ (w : World) (rows : List Class) (e : Event) (s : ℕ) where
   retires_so (event.Install links) is = as_retired (event.Install links) false is refl
   retires_so (event.Retire loader) is = as_retired (event.Retire loader) (retires_at w (event.Retire loader) s) is refl
 
+  -- the same in the world afterwards
+  pub retired_then : (told : Accepted) → event_of rows told ≡ Some e → retires_at (step w e) told s ≡ retires w e s
+  retired_then (event.Retire loader) is =
+      ap (λ (x : Event). retires_at (step w x) (event.Retire loader) s) (sym (same_Some (event.Retire loader) e is))
+      ∙ sym (retires_so (event.Retire loader) is)
+  retired_then event.NewLoader is = sym (retires_so event.NewLoader is)
+  retired_then (event.Define loader c) is = sym (retires_so (event.Define loader c) is)
+  retired_then (event.Delegate loader name to) is = sym (retires_so (event.Delegate loader name to) is)
+  retired_then (event.Request place) is = sym (retires_so (event.Request place) is)
+  retired_then (event.NewCallSite kind ty target) is = sym (retires_so (event.NewCallSite kind ty target) is)
+  retired_then (event.SetTarget c target) is = sym (retires_so (event.SetTarget c target) is)
+  retired_then event.NewSwitch is = sym (retires_so event.NewSwitch is)
+  retired_then (event.Invalidate points) is = sym (retires_so (event.Invalidate points) is)
+  retired_then (event.Bind site c) is = sym (retires_so (event.Bind site c) is)
+  retired_then (event.Install links) is = sym (retires_so (event.Install links) is)
+
+-- another event retires no site
+pub none_retired : (w : World) (e : Event) (s : ℕ) → ((loader : ℕ) → e ≡ event.Retire loader → ⊥) → retires w e s ≡ false
+none_retired w event.NewLoader s other = refl
+none_retired w (event.Define loader file) s other = refl
+none_retired w (event.Delegate loader name to) s other = refl
+none_retired w (event.Request place) s other = refl
+none_retired w (event.NewCallSite kind ty target) s other = refl
+none_retired w (event.SetTarget c target) s other = refl
+none_retired w event.NewSwitch s other = refl
+none_retired w (event.Invalidate points) s other = refl
+none_retired w (event.Bind site c) s other = refl
+none_retired w (event.Install links) s other = refl
+none_retired w (event.Retire loader) s other = absurd (other loader refl)
+
 -- a retired site is gone, and isn't installed
 module _ (w : World) (s : ℕ) where
   pub gone_so : (e : Event) → retires w e s ≡ true → (scratch (step w e) s ≡ Err Gone) × (installs s e ≡ false)
@@ -66,6 +96,44 @@ module _ (w : World) (s : ℕ) where
   gone_so (event.Bind site c) is = cc
   gone_so (event.Install links) is = cc
   gone_so (event.Retire loader) is = (gone_after w loader s is, refl)
+
+-- where each of these sites passes, and each that passes and has a link is among them, it is as good to drop all that pass
+module _ (links : List (ℕ × Link)) (test : ℕ → Bool) (sites : List ℕ) (only : (s : ℕ) → has s sites ≡ true → test s ≡ true)
+    (linked : (s : ℕ) (l : Link) → link_at links s ≡ Some l → test s ≡ true → has s sites ≡ true) (s : ℕ) where
+  not_listed : {A : Type 0} (value : Link → A) (b : Bool) → has s sites ≡ b → (t : Bool) → test s ≡ t → (o : Option Link) → link_at links s ≡ o
+      → (if b then None else option_map value o) ≡ (if t then None else option_map value o)
+  not_listed value true listed true passes o at = refl
+  not_listed value true listed false passes o at = cc (only s listed, passes)
+  not_listed value false listed true passes None at = refl
+  not_listed value false listed true passes (Some l) at = cc (linked s l at passes, listed)
+  not_listed value false listed false passes o at = refl
+
+  pub dropped_all : (if has s sites then None else link_at links s) ≡ (if test s then None else link_at links s)
+  dropped_all =
+      ap (λ (o : Option Link). if has s sites then None else o) (itself (link_at links s))
+      ∙ not_listed (λ l. l) (has s sites) refl (test s) refl (link_at links s) refl
+      ∙ ap (λ (o : Option Link). if test s then None else o) (sym (itself (link_at links s)))
+    where
+      itself : (o : Option Link) → o ≡ option_map (λ l. l) o
+      itself None = refl
+      itself (Some l) = refl
+
+  pub taken_all : (w : World) (index : List (ℕ × List Key)) → IsIndex w (link_at links) index
+      → (if has s sites then None else footprint_at index s) ≡ (if test s then None else footprint_at index s)
+  taken_all w index indexed =
+      ap (λ (o : Option (List Key)). if has s sites then None else o) (indexed s)
+      ∙ not_listed (λ l. footprint w s) (has s sites) refl (test s) refl (link_at links s) refl
+      ∙ ap (λ (o : Option (List Key)). if test s then None else o) (sym (indexed s))
+
+  pub lost_all : (has s sites && is_some (link_at links s)) ≡ (test s && is_some (link_at links s))
+  lost_all = by_tests (has s sites) refl (test s) refl (link_at links s) refl
+    where
+      by_tests : (b : Bool) → has s sites ≡ b → (t : Bool) → test s ≡ t → (o : Option Link) → link_at links s ≡ o → (b && is_some o) ≡ (t && is_some o)
+      by_tests true listed true passes o at = refl
+      by_tests true listed false passes o at = cc (only s listed, passes)
+      by_tests false listed true passes None at = refl
+      by_tests false listed true passes (Some l) at = cc (linked s l at passes, listed)
+      by_tests false listed false passes o at = refl
 
 -- where the links of retired sites were dropped, those that are left aren't retired
 pub left_alone : (b : Bool) (o : Option Link) (l : Link) → (if b then None else o) ≡ Some l → (b ≡ false) × (o ≡ Some l)

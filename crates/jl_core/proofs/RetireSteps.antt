@@ -1,9 +1,10 @@
 -- The links and the index once a loader is retired.
 use Rattle.std.specs.Prelude.{◌≡◌, ℕ, ◌+◌, ◌*◌, ◌<◌, ◌≤◌, ◌^◌, ◌==◌, ◌&&◌, ◌||◌, not, Bool, true, false, List, [], ◌∷◌, ◌++◌, filter, sum_by, length}
-use Rattle.std.specs.Prelude.{None, is_some, is_none, if◌then◌else◌}
+use Rattle.std.specs.Prelude.{Some, None, is_some, is_none, if◌then◌else◌}
 use Rattle.std.proofs.Common.{refl, ap, sym, subst, ◌∙◌, arith}
 use Rattle.std.proofs.lemmas.Option.{same_Some}
 use Rattle.jl_types.specs.declared.link.Link.{Link}
+use Rattle.jl_types.specs.Happenings.Event.{Event}
 use Rattle.jl_types.specs.declared.event.EventOf.TheVariants as event
 use Rattle.jl_types.specs.Values.World.{World}
 use Rattle.jl_types.specs.Linkage.Links.{scratch}
@@ -11,14 +12,15 @@ use Rattle.jl_types.specs.Happenings.Retirement.{retires_site}
 use Rattle.jl_types.specs.Happenings.Events.{step}
 use Rattle.jl_types.specs.Happenings.History.{installs, kept}
 use Rattle.jl_types.specs.declared.key.Key.{Key}
-use Rattle.jl_types.specs.Happenings.Footprints.{footprint, keys, most_for}
+use Rattle.jl_types.specs.Happenings.Footprints.{footprint, keys, most_for, retires}
 use Rattle.jl_cache.specs.Links.{link_at}
 use Rattle.jl_deps.specs.Indexes.{footprint_at, touched_by, AreRising}
 use Rattle.jl_settle.specs.Settling.{HasChanged, kept_at, goes, most_asked}
-use Rattle.jl_core.specs.Means.Changes.{retires_at}
-use Rattle.jl_core.specs.Means.Steps.{IsLed, most_told}
+use Rattle.jl_core.specs.Logs.{Accepted, event_of}
+use Rattle.jl_core.specs.Means.Changes.{AreScratch, retires_at}
+use Rattle.jl_core.specs.Means.Steps.{AreGone, AreRetired, IsLed, most_told}
 use Rattle.jl_core.specs.Means.Touched.{has}
-use Rattle.jl_core.proofs.RetireLaws.{retires_so, links_left, index_left, kept_left, touched_left, few_in_sum, lost_or_gone}
+use Rattle.jl_core.proofs.RetireLaws.{retires_so, retired_then, dropped_all, taken_all, lost_all, links_left, index_left, kept_left, touched_left, few_in_sum, lost_or_gone}
 use Rattle.jl_core.proofs.StepLaws.{few_touched, no_more}
 use Rattle.jl_core.proofs.InstallCounts.{few_by}
 
@@ -38,24 +40,27 @@ module _ (w : World) (ks : List Key) (loader : ℕ) (links : List (ℕ × Link))
   same_world : w ≡ step led.before (event.Retire loader)
   same_world = led.step ∙ ap (step led.before) (sym same_event)
 
-  -- no place more
-  pub few_places : length w.places ≤ 65536
-  few_places = subst (λ (v : World). length v.places ≤ 65536) (sym same_world) led.few
-
   same_site : (s : ℕ) → retires_site w loader s ≡ retires_at led.before (event.Retire loader) s
   same_site s = ap (λ (v : World). retires_site v loader s) same_world
 
   no_install : (s : ℕ) → installs s led.event ≡ false
   no_install s = ap (installs s) (sym same_event)
 
-  module _ (left : List (ℕ × Link)) (near : List (ℕ × List Key)) (rising : AreRising near)
-      (dropped : (s : ℕ) → link_at left s ≡ (if retires_site w loader s then None else link_at links s))
-      (taken : (s : ℕ) → footprint_at near s ≡ (if retires_site w loader s then None else footprint_at index s)) where
+  module _ (sites : List ℕ) (gone : AreGone w (event.Retire loader) links sites)
+      (left : List (ℕ × Link)) (near : List (ℕ × List Key)) (rising : AreRising near)
+      (dropped : (s : ℕ) → link_at left s ≡ (if has s sites then None else link_at links s))
+      (taken : (s : ℕ) → footprint_at near s ≡ (if has s sites then None else footprint_at index s)) where
+    dropped_so : (s : ℕ) → link_at left s ≡ (if retires_site w loader s then None else link_at links s)
+    dropped_so s = dropped s ∙ dropped_all links (retires_site w loader) sites gone.only gone.linked s
+
+    taken_so : (s : ℕ) → footprint_at near s ≡ (if retires_site w loader s then None else footprint_at index s)
+    taken_so s = taken s ∙ taken_all links (retires_site w loader) sites gone.only gone.linked s led.before index led.sound.indexed
+
     dropped_then : (s : ℕ) → link_at left s ≡ (if retires_at led.before (event.Retire loader) s then None else link_at links s)
-    dropped_then s = dropped s ∙ ap (λ (b : Bool). if b then None else link_at links s) (same_site s)
+    dropped_then s = dropped_so s ∙ ap (λ (b : Bool). if b then None else link_at links s) (same_site s)
 
     taken_then : (s : ℕ) → footprint_at near s ≡ (if retires_at led.before (event.Retire loader) s then None else footprint_at index s)
-    taken_then s = taken s ∙ ap (λ (b : Bool). if b then None else footprint_at index s) (same_site s)
+    taken_then s = taken_so s ∙ ap (λ (b : Bool). if b then None else footprint_at index s) (same_site s)
 
     pub has_retired : HasChanged w ks None (link_at left) near
     has_retired = record {
@@ -74,7 +79,7 @@ module _ (w : World) (ks : List Key) (loader : ℕ) (links : List (ℕ × Link))
     }
 
     touched_are : touched_by near ks ≡ filter (λ s. not (retires_site w loader s)) (touched_by index ks)
-    touched_are = touched_left (retires_site w loader) index near ks led.sound.rising rising taken
+    touched_are = touched_left (retires_site w loader) index near ks led.sound.rising rising taken_so
 
     pub fits_left : length w.classes.rows ≤ 65536 → (work : ℕ) → work ≤ 16777216 → work + sum_by (most_asked w None) (touched_by near ks) < 2 ^ 64
     fits_left few work small =
@@ -102,9 +107,20 @@ module _ (w : World) (ks : List Key) (loader : ℕ) (links : List (ℕ × Link))
           (λ t. retires_so led.before w.classes.rows led.event t (event.Retire loader) led.tells) s)
           ∙ (λ i. kept (no_install s i) (link_at links s) (scratch (sym led.step i) s))
 
-      pub lost_retired : (gone lost : List ℕ) → ((s : ℕ) → has s gone ≡ (retires_site w loader s && is_some (link_at links s)))
-          → ((s : ℕ) → has s lost ≡ goes w (link_at left) s) → (s : ℕ) → has s (gone ++ lost) ≡ (is_some (link_at links s) && is_none (link_at after s))
-      lost_retired gone lost gone_are lost_are s =
-          has_both s gone lost
-          ∙ (λ i. gone_are s i || lost_are s i)
-          ∙ lost_or_gone (retires_site w loader s) (link_at links s) (link_at left s) (link_at after s) (scratch w s) (dropped s) (settled s)
+      pub lost_retired : (first lost : List ℕ) → ((s : ℕ) → has s first ≡ (has s sites && is_some (link_at links s)))
+          → ((s : ℕ) → has s lost ≡ goes w (link_at left) s) → (s : ℕ) → has s (first ++ lost) ≡ (is_some (link_at links s) && is_none (link_at after s))
+      lost_retired first lost first_are lost_are s =
+          has_both s first lost
+          ∙ (λ i. (first_are s ∙ lost_all links (retires_site w loader) sites gone.only gone.linked s) i || lost_are s i)
+          ∙ lost_or_gone (retires_site w loader s) (link_at links s) (link_at left s) (link_at after s) (scratch w s) (dropped_so s) (settled s)
+
+-- what is retired goes by what the log keeps, too
+pub are_gone : (w new : World) (e : Event) (told : Accepted) (links : List (ℕ × Link)) (sites : List ℕ) → new ≡ step w e
+    → event_of new.classes.rows told ≡ Some e → AreScratch w links → AreRetired w e sites → AreGone new told links sites
+are_gone w new e told links sites is tells sound retired = record {
+  only = λ s listed. goes_so s ∙ retired.only s listed;
+  linked = λ s l at gone. retired.linked s l (sound s l at) (sym (goes_so s) ∙ gone);
+}
+  where
+    goes_so : (s : ℕ) → retires_at new told s ≡ retires w e s
+    goes_so s = ap (λ (v : World). retires_at v told s) is ∙ retired_then w new.classes.rows e s told tells

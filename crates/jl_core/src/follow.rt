@@ -6,7 +6,7 @@ ghost use Rattle.jl_types.specs.Happenings.Event.{Event};
 ghost use Rattle.jl_types.specs.Happenings.Footprints as footprints;
 ghost use Rattle.jl_cache.specs.Links.{link_at};
 ghost use Rattle.jl_deps.specs.Indexes.{footprint_at, IsIndex};
-ghost use Rattle.jl_core.specs.Means.Changes.{retires_at};
+ghost use Rattle.jl_core.specs.Means.Changes.{AreScratch, retires_at};
 ghost use Rattle.jl_core.specs.Logs.{event_of};
 ghost use Rattle.jl_core.specs.Means.Replays.{IsNext, IsFurther, IsUntouched};
 ghost use Rattle.jl_core.specs.Means.Touched.{has};
@@ -24,7 +24,7 @@ use jl_deps::{
 };
 use jl_names::Seq;
 use jl_relink::World;
-use jl_settle::{forget, take_over};
+use jl_settle::{forget, sites_of, take_over};
 use jl_types::SiteNo;
 use std::alloc::{AllocError, Global};
 use std::sync::Arc;
@@ -73,7 +73,9 @@ fn forget_retired(
     index: &mut Index,
     event: &Accepted,
 ) -> Result<(), AllocError>
-    requires { length world.now.places ≤ 65536 }
+    requires few { length world.now.places ≤ 65536 }
+    requires scratch { AreScratch world.now links.old }
+    requires indexed { IsIndex world.now (link_at links.old) index.old }
     ensures links { OnOk result ((s : ℕ) → link_at links.new s
         ≡ (if retires_at world.now event.now s then None else link_at links.old s)) }
     ensures index { OnOk result ((s : ℕ) → footprint_at index.new s
@@ -81,7 +83,8 @@ fn forget_retired(
 {
     match event {
         Accepted::Retire(loader) => {
-            forget(alloc, world, links, index, *loader)?;
+            let sites = sites_of(alloc, world, *loader)?;
+            forget(alloc, links, index, sites.as_slice())?;
             Ok(())
         }
         _ => Ok(()),

@@ -8,7 +8,7 @@ ghost use Rattle.jl_types.specs.Happenings.History.{kept};
 ghost use Rattle.jl_cache.specs.Links.{link_at};
 ghost use Rattle.jl_deps.specs.Indexes.{IsIndex};
 ghost use Rattle.jl_core.specs.Means.Changes.{IsAcceptable, installs_at};
-ghost use Rattle.jl_core.specs.Means.Steps.{IsSound, IsLed, IsStep, most_told};
+ghost use Rattle.jl_core.specs.Means.Steps.{AreGone, AreRetired, IsSound, IsLed, IsStep, most_told};
 ghost use Rattle.jl_core.specs.Means.Touched.{AreTouched};
 
 use crate::log::{Accepted, Entry};
@@ -17,7 +17,7 @@ use jl_cache::Cache;
 use jl_deps::{Index, keys_of};
 use jl_names::Seq;
 use jl_relink::World;
-use jl_settle::{forget, install_rows, settle};
+use jl_settle::{forget, install_rows, settle, sites_of};
 use jl_types::{Event, Key, LoaderId, Made, Reply, SiteNo, Work};
 use std::alloc::{AllocError, Global};
 use std::sync::Arc;
@@ -44,10 +44,35 @@ pub(crate) fn perform(
     ensures { IfOk result (IsStep world.old.value world.new.value links.old links.new index.old index.new log.old.items log.new.items event work.old work.new) }
 {
     let keys = keys_of(alloc, world, &event)?;
+    let retired = retired_sites(alloc, world, &event)?;
     let (event, made) = step(world, alloc, event)?;
-    let lost = relink(alloc, world, links, index, keys.as_slice(), &event, work)?;
+    let lost = relink(
+        alloc,
+        world,
+        links,
+        index,
+        keys.as_slice(),
+        retired.as_slice(),
+        &event,
+        work,
+    )?;
     let reply = answered(log, alloc, made, event, lost)?;
     Ok(reply)
+}
+
+/// Sites that the event retires, each that has a link among them: what a retirement drops is found before the loader is gone. Want of
+/// memory is an error.
+fn retired_sites(alloc: Global, world: &World, event: &Event) -> Result<Vec<SiteNo>, AllocError>
+    requires { length world.now.places ≤ 65536 }
+    ensures { IfOk result (λ sites. AreRetired world.now event.now sites.items) }
+{
+    match event {
+        Event::Retire(loader) => {
+            let sites = sites_of(alloc, world, *loader)?;
+            Ok(sites)
+        }
+        _ => Ok(Vec::new(alloc)),
+    }
 }
 
 /// The links and the index come after the event, which has led to the world. It gives the sites whose links went. Want of memory is an
@@ -58,10 +83,12 @@ fn relink(
     links: &mut Cache,
     index: &mut Index,
     keys: &[Key],
+    retired: &[SiteNo],
     event: &Accepted,
     work: &mut Work,
 ) -> Result<Vec<SiteNo>, AllocError>
     requires led { IsLed world.now keys.now event.now links.old index.old }
+    requires gone { AreGone world.now event.now links.old retired.now }
     requires small { work.old ≤ 16777216 }
     ensures links { OnOk result ((s : ℕ) → link_at links.new s ≡ kept (installs_at s event.now) (link_at links.old s) (scratch world.now s)) }
     ensures index { OnOk result (IsIndex world.now (link_at links.new) index.new) }
@@ -79,7 +106,7 @@ fn relink(
             Ok(Vec::new(alloc))
         }
         Accepted::Retire(loader) => {
-            let lost = retire_links(alloc, world, links, index, keys, *loader, work)?;
+            let lost = retire_links(alloc, world, links, index, keys, retired, *loader, work)?;
             Ok(lost)
         }
         _ => {
@@ -89,18 +116,20 @@ fn relink(
     }
 }
 
-/// The same for a retirement: the links of the loader's sites are dropped without a look at them, and of the others those that the
-/// event touches are looked up.
+/// The same for the retirement of the loader: the links of its sites are dropped without a look at them, and of the others those that
+/// the event touches are looked up.
 fn retire_links(
     alloc: Global,
     world: &World,
     links: &mut Cache,
     index: &mut Index,
     keys: &[Key],
+    retired: &[SiteNo],
     loader: LoaderId,
     work: &mut Work,
 ) -> Result<Vec<SiteNo>, AllocError>
     requires led { IsLed world.now keys.now (events.Retire loader) links.old index.old }
+    requires gone { AreGone world.now (events.Retire loader) links.old retired.now }
     requires small { work.old ≤ 16777216 }
     ensures links { OnOk result ((s : ℕ) → link_at links.new s ≡ kept false (link_at links.old s) (scratch world.now s)) }
     ensures index { OnOk result (IsIndex world.now (link_at links.new) index.new) }
@@ -109,7 +138,7 @@ fn retire_links(
     ensures ticks { OnOk result (work.new ≤ work.old + most_told world.now (events.Retire loader) index.old keys.now) }
 {
     let _classes = world.classes.count_in_order();
-    let mut gone = forget(alloc, world, links, index, loader)?;
+    let mut gone = forget(alloc, links, index, retired)?;
     let _sites = index.len();
     let lost = settle(alloc, world, links, index, keys, None, work)?;
     gone.extend_from_slice(lost.as_slice())?;

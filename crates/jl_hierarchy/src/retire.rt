@@ -178,7 +178,7 @@ impl Classes {
 
     /// The classes that the loader has defined, in the order in which it recorded them, and none of a retired one: a walk over what it
     /// has recorded. Want of memory is an error.
-    fn own_classes(&self, alloc: Global, loader: LoaderId) -> Result<Vec<ClassId>, AllocError>
+    pub fn own_classes(&self, alloc: Global, loader: LoaderId) -> Result<Vec<ClassId>, AllocError>
         ensures { IfOk result (λ own. (c : ℕ) → list_any (λ k. k == c) own.items
             ≡ (members.is_present self.now c && retirement.is_of self.now loader c)) }
     {

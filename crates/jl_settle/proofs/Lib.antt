@@ -1,3 +1,3 @@
 pub mod SettleLaws
 pub mod Rows
-pub mod ForgetLaws
+pub mod RequestedLaws

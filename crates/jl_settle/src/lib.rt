@@ -8,9 +8,11 @@ mod follow;
 mod forgetting;
 mod install;
 mod lost;
+mod requested;
 mod settling;
 
 pub use follow::take_over;
 pub use forgetting::forget;
 pub use install::install_rows;
+pub use requested::sites_of;
 pub use settling::settle;

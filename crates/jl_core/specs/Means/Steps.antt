@@ -1,10 +1,11 @@
 -- What one accepted event does to the world, the links, their index and the log, and how many evaluations it takes. A means of proof.
-use Rattle.std.specs.Prelude.{◌≡◌, ◌≤◌, ◌+◌, ℕ, not, List, filter, sum_by, length, Some}
+use Rattle.std.specs.Prelude.{◌≡◌, ◌≤◌, ◌+◌, ℕ, true, not, List, filter, sum_by, length, Some, Ok}
 use Rattle.jl_types.specs.declared.link.Link.{Link}
 use Rattle.jl_types.specs.Happenings.Event.{Event}
 use Rattle.jl_types.specs.declared.event.EventOf.TheVariants as variant
 use Rattle.jl_types.specs.declared.event.Reply.{Reply}
 use Rattle.jl_types.specs.Values.World.{World}
+use Rattle.jl_types.specs.Linkage.Links.{scratch}
 use Rattle.jl_types.specs.Happenings.Events as events
 use Rattle.jl_types.specs.declared.key.Key.{Key}
 use Rattle.jl_types.specs.Happenings.Retirement.{retires_site}
@@ -16,7 +17,8 @@ use Rattle.jl_deps.specs.Indexes.{AreRising, IsIndex, touched_by}
 use Rattle.jl_settle.specs.Settling.{defined_by}
 use Rattle.jl_core.specs.declared.log.Entry.{Entry}
 use Rattle.jl_core.specs.Logs.{Accepted, event_of}
-use Rattle.jl_core.specs.Means.Changes.{AreScratch, IsAcceptable, IsDone, class_of}
+use Rattle.jl_core.specs.Means.Changes.{AreScratch, IsAcceptable, IsDone, class_of, retires_at}
+use Rattle.jl_core.specs.Means.Touched.{has}
 
 -- Each link is the one from scratch, the index is that of the links, and the world came in order.
 pub record IsSound (w : World) (links : List (ℕ × Link)) (index : List (ℕ × List Key)) : Type 0 where
@@ -36,6 +38,16 @@ pub record IsLed (w : World) (keys : List Key) (told : Accepted) (links : List (
   pub keys_are : keys ≡ footprints.keys before event
   pub tells : event_of w.classes.rows told ≡ Some event
   pub class_is : class_of told ≡ defined_by before event
+
+-- Sites that the event retires, each that has a link from scratch among them.
+pub record AreRetired (w : World) (e : Event) (sites : List ℕ) : Type 0 where
+  pub only : (s : ℕ) → has s sites ≡ true → footprints.retires w e s ≡ true
+  pub linked : (s : ℕ) (l : Link) → scratch w s ≡ Ok l → footprints.retires w e s ≡ true → has s sites ≡ true
+
+-- The same by what the log keeps of the event, which has led to the world: each that had a link is among them.
+pub record AreGone (w : World) (told : Accepted) (links : List (ℕ × Link)) (sites : List ℕ) : Type 0 where
+  pub only : (s : ℕ) → has s sites ≡ true → retires_at w told s ≡ true
+  pub linked : (s : ℕ) (l : Link) → link_at links s ≡ Some l → retires_at w told s ≡ true → has s sites ≡ true
 
 -- what the index says of how many evaluations the event takes once it was judged
 abbrev pub most_to_settle : World → List (ℕ × List Key) → Event → ℕ

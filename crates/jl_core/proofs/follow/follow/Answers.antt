@@ -1,14 +1,17 @@
-use Rattle.std.specs.Prelude.{◌≡◌, ℕ, List, None, if◌then◌else◌}
+use Rattle.std.specs.Prelude.{ℕ, List, None, if◌then◌else◌}
 use Rattle.std.proofs.Common.{ap, sym, subst, ◌∙◌}
 use Rattle.jl_types.specs.Values.World.{World}
 use Rattle.jl_cache.specs.Links.{link_at}
 use Rattle.jl_deps.specs.Indexes.{footprint_at}
-use Rattle.jl_core.specs.Means.Changes.{retires_at}
+use Rattle.jl_core.specs.Means.Changes.{AreScratch, retires_at}
 use Rattle.jl_core.specs.Logs.{event_of}
 use Rattle.jl_core.specs.Means.Replays.{IsNext, IsUntouched}
 use Rattle.jl_core.specs.Means.Touched.{has}
 use Rattle.jl_core.proofs.ReplayLaws.{links_followed, index_followed}
 use Rattle.jl_core.proofs.follow.follow.Goals as goal
+
+pub forget_retired-requires-clause-scratch : goal.forget_retired-requires-clause-scratch
+forget_retired-requires-clause-scratch c = subst (λ (w : World). AreScratch w c.args.links.now) (sym c.deref.ensures) c.requires.further.were_scratch
 
 pub changed_sites-requires : goal.changed_sites-requires
 changed_sites-requires c =
