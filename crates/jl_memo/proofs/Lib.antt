@@ -1,0 +1,4 @@
+pub mod Closing
+pub mod Staying
+pub mod Rows
+pub mod Right

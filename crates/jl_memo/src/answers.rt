@@ -1,0 +1,113 @@
+//! Answers by a link, and at a megamorphic one by a memo.
+
+ghost use Rattle.std.specs.Prelude.{◌≡◌, Some};
+ghost use Rattle.jl_memo.specs.Answers as by_memo;
+
+use crate::memo::Memo;
+use crate::set::Row;
+use jl_cache::fast_answer;
+use jl_types::{Answer, ClassId, Fast, Link, Outcome, Recv, SiteNo, Throwable};
+
+/// What a call of the site is answered at once by its link, where there are so many classes; at a megamorphic link by what is
+/// remembered. Takes no memory.
+pub fn answer(memo: &Memo, link: &Link, classes: usize, site: SiteNo, recv: Recv) -> Fast
+    ensures { result ≡ by_memo.answer_with memo.now (Some link.now) classes site recv }
+{
+    if is_mega(link) {
+        return remembered_answer(memo, site, recv);
+    }
+    fast_answer(link, classes, recv)
+}
+
+/// What a call of the site is answered by what is remembered alone. Takes no memory.
+pub fn recalled(memo: &Memo, site: SiteNo, recv: Recv) -> Fast
+    ensures { result ≡ by_memo.recalled memo.now site recv }
+{
+    match recv {
+        Recv::Null => Fast::Miss,
+        Recv::Of(class) => outcome_answer(memo.get(site, class)),
+    }
+}
+
+/// Remembers what a call of the site came to, where its link is megamorphic and the call has an outcome for its receiver's class.
+/// Takes no memory.
+pub fn told(memo: &mut Memo, link: &Option<Link>, site: SiteNo, recv: Recv, answer: Answer)
+    ensures { memo.new ≡ by_memo.told memo.old link.now site recv answer }
+{
+    if is_mega_or_none(link) {
+        note(memo, site, recv, outcome_of(answer));
+    }
+}
+
+/// Whether the link is megamorphic.
+fn is_mega(link: &Link) -> bool
+    ensures { result ≡ by_memo.is_mega (Some link.now) }
+{
+    matches!(link, Link::Mega)
+}
+
+/// Whether there is a link, and a megamorphic one.
+fn is_mega_or_none(link: &Option<Link>) -> bool
+    ensures { result ≡ by_memo.is_mega link.now }
+{
+    match link {
+        Some(link) => is_mega(link),
+        None => false,
+    }
+}
+
+/// What is remembered of the call.
+fn remembered_answer(memo: &Memo, site: SiteNo, recv: Recv) -> Fast
+    ensures { result ≡ by_memo.remembered_answer memo.now site recv }
+{
+    match recv {
+        Recv::Null => Fast::Now(Answer::Throws(Throwable::NullPointerException)),
+        Recv::Of(class) => outcome_answer(memo.get(site, class)),
+    }
+}
+
+/// The answer of an outcome, if there is one.
+fn outcome_answer(outcome: Option<Outcome>) -> Fast
+    ensures { result ≡ by_memo.outcome_answer outcome }
+{
+    match outcome {
+        Some(outcome) => Fast::Now(Answer::from(outcome)),
+        None => Fast::Miss,
+    }
+}
+
+/// The outcome that the answer is.
+fn outcome_of(answer: Answer) -> Option<Outcome>
+    ensures { result ≡ by_memo.outcome_of answer }
+{
+    match answer {
+        Answer::Run(method) => Some(Outcome::Run(method)),
+        Answer::Throws(throwable) => Some(Outcome::Throws(throwable)),
+        Answer::BadReceiver => None,
+        Answer::Unlinked(_) => None,
+    }
+}
+
+/// Remembers the outcome, if there is one, of the call on an object.
+fn note(memo: &mut Memo, site: SiteNo, recv: Recv, outcome: Option<Outcome>)
+    ensures { memo.new ≡ by_memo.noted memo.old site recv outcome }
+{
+    match recv {
+        Recv::Null => {}
+        Recv::Of(class) => note_class(memo, site, class, outcome),
+    }
+}
+
+/// Remembers the outcome, if there is one, for the class.
+fn note_class(memo: &mut Memo, site: SiteNo, class: ClassId, outcome: Option<Outcome>)
+    ensures { memo.new ≡ by_memo.noted_of memo.old site class outcome }
+{
+    match outcome {
+        None => {}
+        Some(outcome) => memo.put(Row {
+            site,
+            class,
+            outcome,
+        }),
+    }
+}
