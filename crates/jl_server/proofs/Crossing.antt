@@ -1,4 +1,4 @@
--- A server may be shared by threads, and a caller, what it has seen and what it was answered may go to one.
+-- A server may be shared by threads, and a caller, its memo, what it has seen and what it was answered may go to one.
 use denote.RattleType.{RattleType}
 use denote.Struct.Declared as declared
 use denote.Param.Send.{IsSend, IsSync, AllSend, view_send, recorded_send, struct_send, sendable}
@@ -13,6 +13,7 @@ use Rattle.jl_server.proofs.book.Receipt.TheSendSync as of_receipts
 use Rattle.jl_server.proofs.book.Denied.TheSendSync as of_denied
 use Rattle.jl_server.proofs.caller.Caller.TheSendSync as of_callers
 use Rattle.jl_server.proofs.history.Head.TheSendSync as of_heads
+use Rattle.jl_server.proofs.memo.Memo.TheSendSync as of_memos
 use Rattle.jl_server.proofs.seen.Seen.TheSendSync as of_seen
 use Rattle.jl_server.proofs.table.Change.TheSendSync as of_changes
 use Rattle.jl_server.proofs.table.Table.TheSendSync as of_tables
@@ -46,4 +47,13 @@ module _ (K R : RattleType) (g : name.Ghosts K.Denot) where
   pub server_sync : IsSend R → IsSync (LinkServer.the_row K R g)
   server_sync r = search (book_send, sendable, of_std) depth 20
 
-pub ruleset crosses = (server_send, server_sync, of_callers.the_send, of_seen.the_send, of_seen.the_sync, of_receipts.the_send, of_denied.the_send)
+pub ruleset crosses = (
+  server_send,
+  server_sync,
+  of_callers.the_send,
+  of_memos.the_send,
+  of_seen.the_send,
+  of_seen.the_sync,
+  of_receipts.the_send,
+  of_denied.the_send,
+)

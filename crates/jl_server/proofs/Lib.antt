@@ -7,6 +7,7 @@ pub mod Next
 pub mod Ends
 pub mod Opens
 pub mod FastLaws
+pub mod MemoLaws
 pub mod Rows
 pub mod EntryRows
 pub mod Crossing

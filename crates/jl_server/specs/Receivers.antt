@@ -10,6 +10,7 @@ use Rattle.jl_types.specs.Values.Members.{is_concrete}
 use Rattle.jl_types.specs.Linkage.Stages.{ResolvedCall, Selects, stage}
 use Rattle.jl_types.specs.Linkage.Calls.{fits_named}
 use Rattle.jl_types.specs.Happenings.History.{world_after, installed}
+use Rattle.jl_memo.specs.Answers.{IsObject}
 
 -- an object is of a concrete class, which at a direct link of invokevirtual has the named class among its ancestors
 abbrev pub FitsLink : World → ℕ → Link → Recv → Type 0
@@ -25,3 +26,8 @@ FitsLink w s Mega recv = Unit {0}
 -- the receiver fits the site's installed link, where there is one
 abbrev pub FitsInstalled : List Event → ℕ → Recv → Type 0
 FitsInstalled h s recv = (link : Link) → installed h s ≡ Some link → FitsLink (world_after h) s link recv
+
+-- the receiver fits the site's installed link, and where that is megamorphic, so that a memo answers, it is null or an object of a concrete
+-- class
+abbrev pub FitsMemo : List Event → ℕ → Recv → Type 0
+FitsMemo h s recv = FitsInstalled h s recv × (installed h s ≡ Some Mega → IsObject (world_after h).classes recv)

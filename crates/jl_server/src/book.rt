@@ -3,8 +3,10 @@
 ghost use Rattle.std.specs.Prelude.{◌≡◌, ◌≤◌, [], ◌∷◌, ◌++◌, true, length, drop, None, IsOk, IfOk, IfErr, IfSome, if◌then◌else◌};
 ghost use Rattle.jl_types.specs.declared.refusal.Refusal.TheVariants.{Memory};
 ghost use Rattle.jl_types.specs.Happenings.Events.{verdict};
-ghost use Rattle.jl_types.specs.Happenings.History.{world_after, installed_links};
+ghost use Rattle.jl_types.specs.Linkage.Calls.{dispatch};
+ghost use Rattle.jl_types.specs.Happenings.History.{world_after, installed, installed_links};
 ghost use Rattle.jl_types.specs.Happenings.Entries.{IsLegal, events_of};
+ghost use Rattle.jl_hierarchy.specs.Constancy.{AreInOrder};
 ghost use Rattle.jl_core.specs.State.{IsAccepted, IsRefused, empty_core};
 ghost use Rattle.jl_core.specs.Plans.{IsPlanned, IsAsPlanned};
 ghost use Rattle.jl_server.specs.History.{core_of, entry_after, is_install, planned_entry};
@@ -16,7 +18,7 @@ use crate::seen::Seen;
 use crate::table::Change;
 use jl_core::{Core, Planned};
 use jl_relink::Snapshot;
-use jl_types::{Event, Link, Refusal, Reply, SiteNo};
+use jl_types::{Answer, Event, Link, Recv, Refusal, Reply, SiteNo};
 use std::alloc::{AllocError, Global};
 use std::marker::Model;
 use std::snapshot::Snapshot as Known;
@@ -144,6 +146,16 @@ impl<K: Name, R: Wait + Drop> Book<K, R> {
             Ok(rows) => Ok(rows),
             Err(error) => Err(error),
         }
+    }
+
+    /// What a call comes to after the published list, and the site's installed link, if there is one. Takes no memory.
+    pub(crate) fn ask(&self, site: SiteNo, recv: Recv) -> (Answer, Option<Link>)
+        ensures answer { dispatch (world_after (events_of self.now)) site recv ≡ result.0 }
+        ensures link { result.1 ≡ installed (events_of self.now) site }
+        ensures order { AreInOrder (world_after (events_of self.now)).classes }
+    {
+        let _classes = self.core.world().classes.count_in_order();
+        (self.core.call(site, recv), self.core.links().get(site))
     }
 
     /// One event, in one hold of the lock: it is planned, the sites that it changes are copied, its entry is added to the history, and the

@@ -10,11 +10,13 @@ ghost use Rattle.jl_types.specs.Linkage.Calls.{dispatch};
 ghost use Rattle.jl_types.specs.Happenings.Fast.{fast_answer};
 ghost use Rattle.jl_types.specs.Happenings.History.{world_after, installed};
 ghost use Rattle.jl_types.specs.Happenings.Entries.{IsLegal, events_of, classes_of};
-ghost use Rattle.jl_server.specs.Receivers.{FitsInstalled};
+ghost use Rattle.jl_memo.specs.Answers.{answer_with};
+ghost use Rattle.jl_server.specs.Receivers.{FitsInstalled, FitsMemo};
 ghost use Rattle.jl_server.specs.Calls.{answers_at, all_closed, AnswersCall};
 ghost use Rattle.jl_server.specs.Means.Shown.{server_of, content, IsShown};
 
 use crate::history::Name;
+use crate::memo::Memo;
 use crate::publish::{TableReader, TableReading, enter};
 use crate::seen::Seen;
 use core::mem::replace_with;
@@ -104,6 +106,21 @@ impl<K: Name> Caller<K> {
         self.seat.call(site, recv)
     }
 
+    /// As [`call`](Caller::call), but at a megamorphic link by what the memo remembers, a miss where it doesn't remember such a call; null
+    /// throws there at once. The caller learns what the memo has seen. A site of a retired loader is a miss, since its link went. An object of a class
+    /// of a retired loader isn't there to be a receiver; such a class gets what is remembered. It takes no memory and waits for nobody.
+    pub fn call_with(&mut self, memo: &Memo<K>, site: SiteNo, recv: Recv) -> Fast
+        ensures own { IsPrefix self.old self.new }
+        ensures memo { IsPrefix memo.now.seen self.new }
+        ensures legal { IsLegal K.max_sites self.new }
+        ensures answer { (result ≡ answer_with memo.now.sets (installed (events_of self.new) site) (classes_of self.new) site recv)
+            ⊎ ((result ≡ Closed) × ((self.new ≡ self.old) ⊎ (self.new ≡ memo.now.seen))) }
+        ensures now { (a : Answer) → result ≡ Now a → FitsMemo (events_of self.new) site recv → dispatch (world_after (events_of self.new)) site recv ≡ a }
+    {
+        let _rows = memo.rows();
+        self.seat.call_with(memo, site, recv)
+    }
+
     /// What each call, a site and a receiver, is answered at once, all in one entry into the published table and so after one list.
     /// It takes no memory and waits for nobody. All are Closed where `call` would be.
     pub fn call_all(&mut self, calls: &[(SiteNo, Recv)], answers: &mut [Fast])
@@ -128,6 +145,22 @@ impl<K: Name> TablePlace<K> {
         let seen = self.seen.again();
         let (seen, answer) = replace_with(&mut self.looking, seen, |looking, seen| {
             look(looking, seen, site, recv)
+        });
+        self.seen = seen;
+        answer
+    }
+
+    /// One call, at a megamorphic link by the memo.
+    fn call_with(&mut self, memo: &Memo<K>, site: SiteNo, recv: Recv) -> Fast
+        ensures own { IsPrefix self.old.seen self.new.seen }
+        ensures memo { IsPrefix memo.now.seen self.new.seen }
+        ensures legal { IsLegal K.max_sites self.new.seen }
+        ensures answer { (result ≡ answer_with memo.now.sets (installed (events_of self.new.seen) site) (classes_of self.new.seen) site recv)
+            ⊎ ((result ≡ Closed) × ((self.new.seen ≡ self.old.seen) ⊎ (self.new.seen ≡ memo.now.seen))) }
+    {
+        let seen = self.seen.longer(memo.seen());
+        let (seen, answer) = replace_with(&mut self.looking, seen, |looking, seen| {
+            look_with(looking, seen, memo, site, recv)
         });
         self.seen = seen;
         answer
@@ -167,6 +200,30 @@ fn look<K: Name>(
     match entered(looking, seen) {
         Ok((reading, list)) => {
             let answer = reading.get().answer(site, recv);
+            (reading.leave(), (list, answer))
+        }
+        Err((looking, seen)) => (looking, (seen, Fast::Closed)),
+    }
+}
+
+/// One entry into the published table, for one call, at a megamorphic link by the memo.
+fn look_with<K: Name>(
+    looking: TableReader,
+    seen: Seen<K>,
+    memo: &Memo<K>,
+    site: SiteNo,
+    recv: Recv,
+) -> (TableReader, (Seen<K>, Fast))
+    requires { server_of (seat_view looking.place) ≡ Some (K.book, K.max_sites) }
+    ensures place { seat_view result.0.place ≡ seat_view looking.place }
+    ensures own { IsPrefix seen result.1.0 }
+    ensures legal { IsLegal K.max_sites result.1.0 }
+    ensures answer { (result.1.1 ≡ answer_with memo.now.sets (installed (events_of result.1.0) site) (classes_of result.1.0) site recv)
+        ⊎ ((result.1.1 ≡ Closed) × (result.1.0 ≡ seen)) }
+{
+    match entered(looking, seen) {
+        Ok((reading, list)) => {
+            let answer = reading.get().answer_with(memo.rows(), site, recv);
             (reading.leave(), (list, answer))
         }
         Err((looking, seen)) => (looking, (seen, Fast::Closed)),

@@ -3,18 +3,22 @@
 ghost use Rattle.std.specs.Prelude.{◌≡◌, ◌<◌, ◌≤◌, [], ◌∷◌, ◌++◌, length, IsOk, IfOk, IfErr, IfSome, OnErr};
 ghost use mathlib.Core.List.{IsPrefix};
 ghost use Rattle.jl_types.specs.Happenings.Events.{verdict};
-ghost use Rattle.jl_types.specs.Happenings.History.{world_after, installed_links};
+ghost use Rattle.jl_types.specs.Linkage.Calls.{dispatch};
+ghost use Rattle.jl_types.specs.Happenings.History.{world_after, installed, installed_links};
 ghost use Rattle.jl_types.specs.Happenings.Entries.{IsLegal, events_of};
+ghost use Rattle.jl_hierarchy.specs.Constancy.{AreInOrder};
 ghost use Rattle.jl_core.specs.State.{IsRefused};
+ghost use Rattle.jl_memo.specs.Answers.{told};
 ghost use Rattle.jl_server.specs.History.{EndsWith, entry_after};
 
 use crate::book::{Book, Denied, Receipt};
 use crate::caller::Caller;
 use crate::history::Name;
+use crate::memo::Memo;
 use crate::seen::Seen;
 use jl_names::Seq;
 use jl_relink::Snapshot;
-use jl_types::{Event, Link, SiteNo};
+use jl_types::{Answer, Event, Link, Recv, SiteNo};
 use std::alloc::{AllocError, Global};
 use std::sync::{Mutex, Wait};
 
@@ -169,6 +173,86 @@ impl<K: Name> Caller<K> {
         self.see(&seen);
         Ok((snapshot, seen))
     }
+}
+
+/// What a call came to after a list, and the site's installed link then, if there was one.
+#[derive(Drop)]
+struct Asked<K: Name> {
+    answer: Answer,
+    link: Option<Link>,
+    seen: Seen<K>,
+}
+
+impl<K: Name> Caller<K> {
+    /// What a call comes to after all that the caller has seen, linked or not; at a site of a retired loader that it is gone, and on an object of
+    /// a class of one that it is no receiver. It waits for the lock, and takes no memory.
+    pub fn ask<H: Wait, R: Wait + Drop>(
+        &mut self,
+        rt: &H,
+        server: &LinkServer<K, R>,
+        site: SiteNo,
+        recv: Recv,
+    ) -> Answer
+        ensures own { IsPrefix self.old self.new }
+        ensures legal { IsLegal K.max_sites self.new }
+        ensures answer { dispatch (world_after (events_of self.new)) site recv ≡ result }
+    {
+        let asked = ask_after(rt, server, self.seen(), &(site, recv));
+        self.see(&asked.seen);
+        asked.answer
+    }
+
+    /// As [`ask`](Caller::ask), and the memo remembers the answer, where the site's link is megamorphic and the call has an outcome for its
+    /// receiver's class. The caller learns what the memo has seen.
+    pub fn ask_with<H: Wait, R: Wait + Drop>(
+        &mut self,
+        rt: &H,
+        server: &LinkServer<K, R>,
+        memo: &mut Memo<K>,
+        site: SiteNo,
+        recv: Recv,
+    ) -> Answer
+        ensures own { IsPrefix self.old self.new }
+        ensures memo { IsPrefix memo.old.seen self.new }
+        ensures legal { IsLegal K.max_sites self.new }
+        ensures answer { dispatch (world_after (events_of self.new)) site recv ≡ result }
+        ensures told { memo.new
+            ≡ record { seen = self.new; sets = told memo.old.sets (installed (events_of self.new) site) site recv result } }
+    {
+        let own = self.seen().longer(memo.seen());
+        let call = (site, recv);
+        let Asked { answer, link, seen } = ask_after(rt, server, &own, &call);
+        memo.tell(&seen, &link, &call, &answer);
+        self.see(&seen);
+        answer
+    }
+}
+
+/// What the call comes to after this list.
+fn ask_after<K: Name, H: Wait, R: Wait + Drop>(
+    rt: &H,
+    server: &LinkServer<K, R>,
+    seen: &Seen<K>,
+    call: &(SiteNo, Recv),
+) -> Asked<K>
+    ensures seen { IsPrefix seen.now result.seen × IsLegal K.max_sites result.seen }
+    ensures answer { dispatch (world_after (events_of result.seen)) call.now.0 call.now.1 ≡ result.answer }
+    ensures link { result.link ≡ installed (events_of result.seen) call.now.0 }
+    ensures order { AreInOrder (world_after (events_of result.seen)).classes }
+{
+    for _ in rt.forever() {
+        let book = server.book.lock(rt);
+        if book.list().serial() >= seen.serial() {
+            seen.begins(book.list());
+            let (answer, link) = book.ask(call.0, call.1);
+            return Asked {
+                answer,
+                link,
+                seen: book.list().again(),
+            };
+        }
+    }
+    unreachable!()
 }
 
 /// One step of the book after this list, of an event that is accepted after the judged list, where there is one. While the book is

@@ -3,9 +3,11 @@
 ghost use Rattle.std.specs.Prelude.{◌≡◌, Some, None, IfOk, length, map, replicate, get_or};
 ghost use Rattle.jl_types.specs.Happenings.Fast as fast_of;
 ghost use Rattle.jl_types.specs.Happenings.Entries.{written};
+ghost use Rattle.jl_memo.specs.Answers.{answer_with};
 
 use crate::mark::Mark;
 use jl_cache::fast_answer;
+use jl_memo::{Memo, answer};
 use jl_types::{Fast, Link, Recv, SiteNo};
 use left_right::Absorb;
 use std::alloc::{AllocError, Global};
@@ -70,6 +72,16 @@ impl Table {
     {
         match self.links.get(site.number() as usize) {
             Some(Some(link)) => fast_answer(link, self.classes, recv),
+            _ => Fast::Miss,
+        }
+    }
+
+    /// The same, at a megamorphic link by what is remembered. Takes no memory.
+    pub fn answer_with(&self, rows: &Memo, site: SiteNo, recv: Recv) -> Fast
+        ensures { result ≡ answer_with rows.now (get_or self.now.links.items site None) self.now.classes site recv }
+    {
+        match self.links.get(site.number() as usize) {
+            Some(Some(link)) => answer(rows, link, self.classes, site, recv),
             _ => Fast::Miss,
         }
     }
