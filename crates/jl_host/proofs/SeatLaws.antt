@@ -1,11 +1,13 @@
 -- A seat that isn't refreshed, since memory lacks, and a call at a number that no site has.
-use Rattle.std.specs.Prelude.{◌≡◌, ℕ, Option, Some, None, get_or, slice_get, unwrap_or}
+use Rattle.std.specs.Prelude.{◌≡◌, ℕ, List, Option, Some, None, get_or, slice_get, unwrap_or}
 use Rattle.std.proofs.Common.{refl, sym, ap, subst, ◌∙◌, inr}
 use Rattle.std.proofs.lemmas.Option.{unwrap_or-slice_get}
 use Rattle.jl_types.specs.declared.link.Link.{Link}
 use Rattle.jl_types.specs.declared.answer.Recv.{Recv}
 use Rattle.jl_types.specs.declared.answer.Fast.TheVariants.{Miss}
 use Rattle.jl_types.specs.Happenings.Fast.{fast_answer}
+use Rattle.jl_memo.specs.declared.set.Set.{Set}
+use Rattle.jl_memo.specs.Answers.{answer_with}
 use Rattle.jl_host.specs.Numbers.{memory}
 use Rattle.jl_host.specs.Linkers.{Opened}
 use Rattle.jl_host.specs.Seats.{SeatView, IsRefresh}
@@ -19,3 +21,9 @@ pub no_slot : (seen : SeatView) (s : ℕ) (recv : Recv) → slice_get seen.links
 no_slot seen s recv e =
     ap (λ (o : Option (Option Link)). fast_answer (unwrap_or o None) seen.classes recv) (sym e)
     ∙ ap (λ (o : Option Link). fast_answer o seen.classes recv) (unwrap_or-slice_get seen.links s None)
+
+pub no_slot_with : (sets : List Set) (seen : SeatView) (s : ℕ) (recv : Recv) → slice_get seen.links s ≡ None
+    → Miss ≡ answer_with sets (get_or seen.links s None) seen.classes s recv
+no_slot_with sets seen s recv e =
+    ap (λ (o : Option (Option Link)). answer_with sets (unwrap_or o None) seen.classes s recv) (sym e)
+    ∙ ap (λ (o : Option Link). answer_with sets o seen.classes s recv) (unwrap_or-slice_get seen.links s None)

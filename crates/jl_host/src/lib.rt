@@ -1,7 +1,7 @@
 //! A linker as a host holds it: one core, its events by plain numbers, bytes and arrays, and seats, at which threads read its links
 //! without a lock. Everything that a call answers is a status and plain numbers.
 //!
-//! What each call leaves, by its status, stands in `specs/`, in reading order: `Numbers`, `Telling`, `Showing`, `Copies`, `Linkers`, `Seats`.
+//! What each call leaves, by its status, stands in `specs/`, in reading order: `Numbers`, `Telling`, `Showing`, `Copies`, `Linkers`, `Seats`, `Memos`.
 #![tactic(auto)]
 
 // What is answered, as numbers.
@@ -16,11 +16,13 @@ mod behind;
 mod linker;
 mod opened;
 
-// Places to read.
+// Places to read, and what is remembered beside them.
+mod memo;
 mod seat;
 mod seat_view;
 
 pub use linker::Linker;
+pub use memo::Memo;
 pub use seat::Seat;
 pub use shown::{CallAnswer, LinkShown, MOST_ROWS, NULL, Row};
 pub use told::{CLOSED, DONE, MALFORMED, MEMORY, NO_CLASS_FILE, OPEN_ALREADY, TOO_SHORT, Told};

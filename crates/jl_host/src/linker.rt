@@ -1,6 +1,10 @@
 //! The linker.
 
 ghost use Rattle.std.specs.Prelude.{◌≡◌, Some, None, option_map, IfOk, OnErr};
+ghost use Rattle.jl_types.specs.Linkage.Calls.{dispatch};
+ghost use Rattle.jl_types.specs.Happenings.History.{installed};
+ghost use Rattle.jl_core.specs.State.{events, world_of};
+ghost use Rattle.jl_host.specs.Showing.{recv_of};
 ghost use Rattle.jl_host.specs.Seats.{seen_of};
 ghost use Rattle.jl_host.specs.Linkers.{IsOpen, IsNewLoader, IsDefine, IsDelegate, IsRequest, IsNewCallSite, IsSetTarget, IsNewSwitch, IsInvalidate};
 ghost use Rattle.jl_host.specs.Linkers.{IsBind, IsRetire, IsInstall, IsDropped, IsTake, IsCall, IsLinkOf, IsAnswer, kind_of, IfOpen, IsAsked};
@@ -13,7 +17,7 @@ use crate::shown::{CallAnswer, LinkShown, answer_shown, link_shown, recv_of};
 use crate::told::{CLOSED, DONE, MALFORMED, MEMORY, OPEN_ALREADY, Told, unasked};
 use jl_names::{Name, Seq};
 use jl_session::read_target;
-use jl_types::{CallSiteId, CallSiteKind, ClassId, Event, LoaderId, Place, SiteNo};
+use jl_types::{Answer, CallSiteId, CallSiteKind, ClassId, Event, Link, LoaderId, Place, SiteNo};
 use std::alloc::{AllocError, Global};
 use std::marker::Model;
 
@@ -251,6 +255,19 @@ impl Linker {
         let found = opened.core().call(SiteNo::new(site), recv_of(receiver));
         *answer = answer_shown(found);
         DONE
+    }
+
+    /// What a call comes to now, and the link that is installed at its site, where it is open. Takes no memory.
+    pub(crate) fn asked(&self, site: u32, receiver: u32) -> Option<(Answer, Option<Link>)>
+        ensures { result ≡ option_map (λ opened. (
+          dispatch (world_of opened.session.core) site (recv_of receiver),
+          installed (events opened.session.core) site,
+        )) self.now }
+    {
+        let Some(opened) = &self.opened else {
+            return None;
+        };
+        Some(opened.asked(SiteNo::new(site), recv_of(receiver)))
     }
 
     /// The link that is installed at the site. Takes no memory.

@@ -1,6 +1,9 @@
 //! What stands behind a linker that is open.
 
 ghost use Rattle.std.specs.Prelude.{◌≡◌, ◌≤◌, ◌⊎◌, IfOk};
+ghost use Rattle.jl_types.specs.Linkage.Calls.{dispatch};
+ghost use Rattle.jl_types.specs.Happenings.History.{installed};
+ghost use Rattle.jl_core.specs.State.{events, world_of};
 ghost use Rattle.jl_host.specs.Numbers.{memory};
 ghost use Rattle.jl_host.specs.Linkers.{newly_opened, IsAsked, IsAskedIf, IsUnasked, call_site_of, IsDefined, IsInstalled, IsAnswered, last_dropped};
 ghost use Rattle.jl_host.specs.Seats.{seen_of};
@@ -13,7 +16,7 @@ use jl_core::Core;
 use jl_json::is_method_descriptor;
 use jl_names::Name;
 use jl_session::Session;
-use jl_types::{CallSiteKind, Event, LoaderId, SiteNo, Target};
+use jl_types::{Answer, CallSiteKind, Event, Link, LoaderId, Recv, SiteNo, Target};
 use std::alloc::{AllocError, Global};
 use std::marker::Model;
 use std::sync::Arc;
@@ -75,6 +78,15 @@ impl Opened {
         ensures { result.now ≡ self.now.session.core }
     {
         self.session.core()
+    }
+
+    /// What a call comes to now, and the link that is installed at its site. Takes no memory.
+    pub(crate) fn asked(&self, site: SiteNo, recv: Recv) -> (Answer, Option<Link>)
+        ensures answer { result.0 ≡ dispatch (world_of self.now.session.core) site recv }
+        ensures link { result.1 ≡ installed (events self.now.session.core) site }
+    {
+        let core = self.core();
+        (core.call(site, recv), core.links().get(site))
     }
 
     /// The text of the last answer.

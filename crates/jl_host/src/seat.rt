@@ -2,8 +2,10 @@
 
 ghost use Rattle.std.specs.Prelude.{◌≡◌, None};
 ghost use Rattle.jl_host.specs.Seats.{IsRefresh, IsSeatCall};
+ghost use Rattle.jl_host.specs.Memos.{IsSeatCallWith};
 
 use crate::linker::Linker;
+use crate::memo::Memo;
 use crate::seat_view::SeatView;
 use crate::shown::{CallAnswer, fast_shown, recv_of};
 use crate::told::{CLOSED, DONE, MEMORY};
@@ -71,5 +73,29 @@ impl Seat {
         };
         *answer = fast_shown(seen.answer(SiteNo::new(site), recv_of(receiver)));
         DONE
+    }
+
+    /// The same, at a megamorphic link by what the memo remembers. Takes no lock and no memory. A site of a retired loader is a miss once the seat
+    /// was refreshed; there is no object of a retired class, which gets what is remembered.
+    pub fn call_with(
+        &mut self,
+        memo: &mut Memo,
+        site: u32,
+        receiver: u32,
+        answer: &mut CallAnswer,
+    ) -> u32
+        ensures { IsSeatCallWith site receiver self.old memo.old answer.old result answer.new self.new memo.new }
+    {
+        match &self.seen {
+            Some(seen) => match memo.rows() {
+                Some(rows) => {
+                    let found = seen.answer_with(rows, SiteNo::new(site), recv_of(receiver));
+                    *answer = fast_shown(found);
+                    DONE
+                }
+                None => CLOSED,
+            },
+            None => CLOSED,
+        }
     }
 }

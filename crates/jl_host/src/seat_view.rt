@@ -3,9 +3,11 @@
 ghost use Rattle.std.specs.Prelude.{◌≡◌, None, get_or, slice_get};
 ghost use Rattle.std.specs.Option.{option_copied};
 ghost use Rattle.jl_types.specs.Happenings.Fast as fast_of;
+ghost use Rattle.jl_memo.specs.Answers as by_memo;
 
 use crate::behind::Links;
 use jl_cache::fast_answer;
+use jl_memo::{Memo, answer};
 use jl_types::{Fast, Link, Recv, SiteNo};
 use std::marker::Model;
 use std::sync::Arc;
@@ -51,6 +53,32 @@ impl SeatView {
             Some(slot) => slot_answer(slot, self.classes, recv),
             None => Fast::Miss,
         }
+    }
+
+    /// The same, at a megamorphic link by what is remembered. Takes no memory.
+    pub(crate) fn answer_with(&self, rows: &Memo, site: SiteNo, recv: Recv) -> Fast
+        ensures { result ≡ by_memo.answer_with rows.now (get_or self.now.links site None) self.now.classes site recv }
+    {
+        match slot_at(&self.links, site) {
+            Some(slot) => slot_answer_with(rows, slot, self.classes, site, recv),
+            None => Fast::Miss,
+        }
+    }
+}
+
+/// What the link answers, if it is one, where there are so many classes; a megamorphic one what is remembered.
+fn slot_answer_with(
+    rows: &Memo,
+    slot: &Option<Link>,
+    classes: usize,
+    site: SiteNo,
+    recv: Recv,
+) -> Fast
+    ensures { result ≡ by_memo.answer_with rows.now slot.now classes site recv }
+{
+    match slot {
+        Some(link) => answer(rows, link, classes, site, recv),
+        None => Fast::Miss,
     }
 }
 

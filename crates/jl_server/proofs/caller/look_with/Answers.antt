@@ -1,7 +1,6 @@
 use Rattle.std.specs.Prelude.{get_or, None}
-use Rattle.std.proofs.Common.{ap, sym, ◌∙◌, inl}
+use Rattle.std.proofs.Common.{◌∙◌, inl}
 use Rattle.jl_memo.specs.Answers.{answer_with}
-use Rattle.jl_server.specs.declared.table.Table.{Table}
 use Rattle.jl_server.proofs.MemoLaws.{with_shown}
 use Rattle.jl_server.proofs.caller.look_with.Goals as goal
 
