@@ -1,10 +1,12 @@
-/* What calls at seats take beside look-ups under a lock, and what it takes to refresh a seat.
+/* What calls at seats and by memos take beside look-ups under a lock, and what it takes to refresh a seat.
  *
  *     seats calls [CALLS]        nanoseconds of a call, by 1, 2 and 4 threads of CALLS (2,000,000) each: the middle of seven rounds
+ *     seats memos [CALLS]        the same, of calls at megamorphic links
  *     seats refresh [EVENTS]     microseconds of a refresh behind one change, of EVENTS (500)
  *
  * The linker has 65,536 sites, all requested and installed: 256 classes M0, M1, .. call A.f, which B overrides, and C.f, which D leaves as it
- * is, 128 times each; one site less is an invokedynamic's. The classes are written here. It ends with status 1 where an answer is wrong.
+ * is, 128 times each; one site less is an invokedynamic's. For memos they call E.f in the place of C.f, and sixteen classes below E override it. The
+ * classes are written here. It ends with status 1 where an answer is wrong.
  */
 #define _POSIX_C_SOURCE 200809L
 #include "linkd.h"
@@ -15,7 +17,7 @@
 #include <string.h>
 #include <time.h>
 
-enum { SITES = 65536, CALLERS = 256, EACH = 128, BATCH = 256, CALLED = 1024, MOST_THREADS = 4, ROUNDS = 7 };
+enum { SITES = 65536, CALLERS = 256, EACH = 128, BATCH = 256, CALLED = 1024, MOST_THREADS = 4, ROUNDS = 7, BELOW_E = 16, SETS = 4096 };
 
 static void must(bool holds, const char *what) {
     if (!holds) {
@@ -137,7 +139,7 @@ static uint32_t define(const char *name, const char *super) {
 
 /* ---- the linker */
 
-static uint32_t a, b, c, d, s, dynamic, call_site;
+static uint32_t a, b, c, d, s, dynamic, call_site, below_e[BELOW_E];
 
 static void request(uint32_t class_number, uint32_t method_number, uint32_t pc) {
     must(linkd_request(linker, class_number, method_number, pc, &told) == LINKD_DONE, "a site isn't requested");
@@ -147,7 +149,7 @@ static void target(char *out, size_t size, uint32_t method_number) {
     snprintf(out, size, "{\"method\":[%lu,%lu]}", (unsigned long)s, (unsigned long)method_number);
 }
 
-static void make(void) {
+static void make(bool megamorphic) {
     static const char kind[] = "()V";
     char runs[64];
     linker = block(linkd_size(), linkd_align());
@@ -158,6 +160,14 @@ static void make(void) {
     plain_method("f", 1), b = define("B", "A");
     plain_method("f", 1), c = define("C", "java/lang/Object");
     d = define("D", "C");
+    if (megamorphic) {
+        plain_method("f", 1), define("E", "java/lang/Object");
+        for (int i = 0; i < BELOW_E; i++) {
+            char name[16];
+            snprintf(name, sizeof name, "E%d", i);
+            plain_method("f", 1), below_e[i] = define(name, "E");
+        }
+    }
     plain_method("m", 9), plain_method("n", 9), dynamic_call("r"), s = define("S", "java/lang/Object");
     request(s, 2, 0);
     dynamic = told.number;
@@ -170,7 +180,7 @@ static void make(void) {
         char name[16];
         snprintf(name, sizeof name, "M%d", i);
         calls_of("a", "A", EACH);
-        calls_of("c", "C", EACH);
+        calls_of("c", megamorphic ? "E" : "C", EACH);
         uint32_t caller = define(name, "java/lang/Object");
         for (uint32_t j = 0; j < 2 * EACH && left > 0; j++, left--) request(caller, j / EACH, 3 * (j % EACH));
     }
@@ -190,7 +200,7 @@ static linkd_seat *new_seat(void) {
 
 /* ---- calls */
 
-enum table { SEAT, ARRAY, MUTEX, RWLOCK, TABLES };
+enum table { SEAT, ARRAY, MUTEX, RWLOCK, TABLES, MEMO = TABLES, SEAT_WITH_MEMO, LOCKED, ALL };
 
 static struct { uint32_t site, receiver; } called[CALLED];
 static linkd_link *links;
@@ -218,10 +228,23 @@ static void look_up(uint32_t site, uint32_t receiver, linkd_call_answer *answer)
 
 static struct spent { double start, end; } spent[MOST_THREADS];
 
+/* A memo that was asked for all that is called, behind the lock. */
+static linkd_memo *new_memo(void) {
+    linkd_memo *memo = block(linkd_memo_size(), linkd_memo_align());
+    linkd_memo_blank(memo);
+    must(linkd_memo_open(memo, SETS) == LINKD_DONE, "a memo isn't opened");
+    for (int i = 0; i < CALLED; i++) {
+        linkd_call_answer answer;
+        must(linkd_memo_ask(memo, linker, called[i].site, called[i].receiver, &answer) == LINKD_DONE, "no answer");
+    }
+    return memo;
+}
+
 static void *thread(void *at) {
     struct spent *mine = at;
     pthread_mutex_lock(&mutex);
     linkd_seat *seat = new_seat();
+    linkd_memo *memo = new_memo();
     pthread_mutex_unlock(&mutex);
     uint64_t sum = 0;
     enum table by = table;
@@ -238,6 +261,17 @@ static void *thread(void *at) {
         case MUTEX:
             pthread_mutex_lock(&mutex);
             look_up(site, receiver, &answer);
+            pthread_mutex_unlock(&mutex);
+            break;
+        case MEMO:
+            linkd_memo_call(memo, site, receiver, &answer);
+            break;
+        case SEAT_WITH_MEMO:
+            linkd_seat_call_with(seat, memo, site, receiver, &answer);
+            break;
+        case LOCKED:
+            pthread_mutex_lock(&mutex);
+            linkd_call(linker, site, receiver, &answer);
             pthread_mutex_unlock(&mutex);
             break;
         case RWLOCK:
@@ -257,6 +291,8 @@ static void *thread(void *at) {
     pthread_mutex_unlock(&mutex);
     linkd_seat_leave(seat);
     free(seat);
+    linkd_memo_close(memo);
+    free(memo);
     return NULL;
 }
 
@@ -276,6 +312,44 @@ static double round_of(int threads) {
     return (end - start) * 1e9 / (double)calls;
 }
 
+/* The tables from one to the one before another, by 1, 2 and 4 threads. */
+static void measure(int from, int to, const char *const *words) {
+    for (int threads = 1; threads <= MOST_THREADS; threads *= 2) {
+        double middle[ALL];
+        uint64_t sum = 0;
+        for (int by = from; by < to; by++) {
+            double times[ROUNDS];
+            table = (enum table)by;
+            for (int round = 0; round < ROUNDS; round++) {
+                times[round] = round_of(threads);
+                must(sum == 0 || sum == sum_of_all, "a table answers other than the others");
+                sum = sum_of_all;
+            }
+            qsort(times, ROUNDS, sizeof *times, by_size);
+            middle[by] = times[ROUNDS / 2];
+        }
+        printf("%d thread%s\n", threads, threads > 1 ? "s" : "");
+        for (int by = from; by < to; by++)
+            printf("  %s: %.1f ns a call, %.2f times the first one's\n", words[by - from], middle[by], middle[by] / middle[from]);
+    }
+}
+
+static void measure_memos(void) {
+    static const char *const words[] = {"a memo", "a seat with a memo", "the linker behind a mutex"};
+    linkd_link link;
+    int sites = 0;
+    for (uint32_t i = 0; i < CALLED; i++) {
+        uint32_t site = i * 2473 % CALLED;
+        site = 2 * EACH * (site / EACH) + EACH + site % EACH + 1;
+        called[i].site = site;
+        called[i].receiver = below_e[i % 5 * 3 + i % 3 / 2];
+        must(linkd_link_of(linker, site, &link) == LINKD_DONE && link.kind == LINKD_MEGA, "a link is of another kind");
+        sites++;
+    }
+    printf("%d sites of %d are called, all megamorphic; %ld calls a thread\n", sites, SITES, calls);
+    measure(MEMO, ALL, words);
+}
+
 static void measure_calls(void) {
     static const char *const words[] = {"a seat", "an array without a lock", "the array behind a mutex", "behind a read-write lock"};
     links = block(SITES * sizeof *links, sizeof(void *));
@@ -291,24 +365,7 @@ static void measure_calls(void) {
         must(links[site].kind == (of_a ? LINKD_VIRTUAL_TABLE : LINKD_DIRECT), "a link is of another kind");
     }
     printf("%d sites of %d are called, %d through a table of 2 classes, the others direct; %ld calls a thread\n", CALLED, SITES, tables, calls);
-    for (int threads = 1; threads <= MOST_THREADS; threads *= 2) {
-        double middle[TABLES];
-        uint64_t sum = 0;
-        for (int by = 0; by < TABLES; by++) {
-            double times[ROUNDS];
-            table = (enum table)by;
-            for (int round = 0; round < ROUNDS; round++) {
-                times[round] = round_of(threads);
-                must(sum == 0 || sum == sum_of_all, "a table answers other than the others");
-                sum = sum_of_all;
-            }
-            qsort(times, ROUNDS, sizeof *times, by_size);
-            middle[by] = times[ROUNDS / 2];
-        }
-        printf("%d thread%s\n", threads, threads > 1 ? "s" : "");
-        for (int by = 0; by < TABLES; by++)
-            printf("  %s: %.1f ns a call, %.2f times a seat's\n", words[by], middle[by], middle[by] / middle[SEAT]);
-    }
+    measure(SEAT, TABLES, words);
     free(links);
 }
 
@@ -354,16 +411,18 @@ static void measure_refresh(long events) {
 
 int main(int argc, char **argv) {
     long count = argc > 2 ? atol(argv[2]) : 0;
-    if (argc < 2 || argc > 3 || (argc > 2 && count < 1) || (strcmp(argv[1], "calls") != 0 && strcmp(argv[1], "refresh") != 0)) {
-        fprintf(stderr, "seats: calls [CALLS], or refresh [EVENTS]\n");
+    if (argc < 2 || argc > 3 || (argc > 2 && count < 1) || (strcmp(argv[1], "calls") != 0 && strcmp(argv[1], "memos") != 0 && strcmp(argv[1], "refresh") != 0)) {
+        fprintf(stderr, "seats: calls [CALLS], memos [CALLS], or refresh [EVENTS]\n");
         return 2;
     }
-    make();
+    bool megamorphic = strcmp(argv[1], "memos") == 0;
+    make(megamorphic);
     if (strcmp(argv[1], "refresh") == 0) {
         measure_refresh(count > 0 ? count : 500);
     } else {
         if (count > 0) calls = count;
-        measure_calls();
+        if (megamorphic) measure_memos();
+        else measure_calls();
     }
     linkd_close(linker);
     free(linker);

@@ -1,5 +1,5 @@
 #!/usr/bin/env bash
-# Tells what calls at seats take, by C, beside look-ups behind locks, and what a refresh of a seat takes behind one change.
+# Tells what calls at seats and by memos take, by C, beside look-ups behind locks, and what a refresh of a seat takes behind one change.
 #
 #     bench/seats.sh [PROGRAM]       PROGRAM is the built linkd
 #
@@ -26,6 +26,8 @@ fi
 build_c "$work/seats" "$here/seats.c"
 echo "== calls"
 "$work/seats" calls "${CALLS:-2000000}"
+echo "== calls at megamorphic links"
+"$work/seats" memos "${CALLS:-2000000}"
 echo "== refreshes"
 "$work/seats" refresh "${EVENTS:-500}"
 if [ $# = 0 ]; then

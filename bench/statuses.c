@@ -94,9 +94,17 @@ int main(void) {
     static const uint8_t truncated[] = {0xca, 0xfe, 0xba}, no_magic[] = {1, 2, 3, 4, 0, 0, 0, 61}, newer[] = {0xca, 0xfe, 0xba, 0xbe, 0, 0, 0, 62};
     linkd_seat *seat = block(linkd_seat_size(), linkd_seat_align());
     at = block(linkd_size(), linkd_align());
+    linkd_memo *memo = block(linkd_memo_size(), linkd_memo_align());
     linkd_seat_blank(seat);
+    linkd_memo_blank(memo);
     linkd_blank(at);
     closed(seat);
+    MUST(linkd_memo_ask(memo, at, 0, LINKD_NULL, &answer) == LINKD_CLOSED);
+    MUST(linkd_memo_call(memo, 0, LINKD_NULL, &answer) == LINKD_CLOSED);
+    MUST(linkd_memo_open(memo, 4) == LINKD_DONE);
+    MUST(linkd_memo_open(memo, 4) == LINKD_OPEN_ALREADY);
+    MUST(linkd_memo_ask(memo, at, 0, LINKD_NULL, &answer) == LINKD_CLOSED);
+    MUST(linkd_seat_call_with(seat, memo, 0, LINKD_NULL, &answer) == LINKD_CLOSED);
     MUST(linkd_seat_call(seat, 0, LINKD_NULL, &answer) == LINKD_CLOSED);
 
     MUST(linkd_open(at, 0) == LINKD_MALFORMED);
@@ -227,10 +235,35 @@ int main(void) {
     TELLS(delegate(1, "A", 0), LINKD_DONE, 0, 0, 0);
     TELLS(delegate(1, "A", 0), LINKD_DELEGATE, 0, 3, 0);
 
+    /* Eight more classes below A, as 6 to 13, so that its call is megamorphic. */
+    for (int i = 6; i < 14; i++) {
+        char line[160], said[40];
+        snprintf(line, sizeof line, "{\"do\":\"define\",\"loader\":0,\"sketch\":{\"name\":\"D%d\",\"super\":\"A\",\"flags\":33}}", i);
+        snprintf(said, sizeof said, "{\"class\":%d,\"dropped\":%s}", i, i == 6 ? "[1]" : "[]");
+        MUST(says(line, said));
+    }
+    sites[0] = 1;
+    TELLS(linkd_install(at, sites, 1, &told), LINKD_DONE, 0, 0, 0);
+    MUST(linkd_link_of(at, 1, &link) == LINKD_DONE && link.kind == LINKD_MEGA && link.count == 0);
+    MUST(linkd_seat_refresh(seat, at) == LINKD_DONE);
+    MUST(linkd_seat_call(seat, 1, 13, &answer) == LINKD_DONE && answer.kind == LINKD_MISS);
+    MUST(linkd_seat_call_with(seat, memo, 1, 13, &answer) == LINKD_DONE && answer.kind == LINKD_MISS);
+    MUST(comes_to(linkd_memo_ask(memo, at, 1, 13, &answer), LINKD_RUN, 1, 0));
+    MUST(comes_to(linkd_seat_call_with(seat, memo, 1, 13, &answer), LINKD_RUN, 1, 0));
+    MUST(comes_to(linkd_memo_call(memo, 1, 13, &answer), LINKD_RUN, 1, 0));
+    MUST(comes_to(linkd_seat_call_with(seat, memo, 1, LINKD_NULL, &answer), LINKD_THROWS, 0, LINKD_NULL_POINTER_EXCEPTION));
+    MUST(linkd_memo_call(memo, 1, 12, &answer) == LINKD_DONE && answer.kind == LINKD_MISS);
+
     linkd_close(at);
     closed(seat);
+    MUST(linkd_memo_ask(memo, at, 1, 13, &answer) == LINKD_CLOSED);
     linkd_close(at);
     MUST(linkd_seat_call(seat, 1, 1, &answer) == LINKD_DONE);
+    MUST(comes_to(linkd_seat_call_with(seat, memo, 1, 13, &answer), LINKD_RUN, 1, 0));
+    linkd_memo_close(memo);
+    MUST(linkd_seat_call_with(seat, memo, 1, 13, &answer) == LINKD_CLOSED);
+    linkd_memo_close(memo);
+    free(memo);
     linkd_seat_leave(seat);
     MUST(linkd_seat_call(seat, 1, 1, &answer) == LINKD_CLOSED);
     MUST(linkd_open(at, 65536) == LINKD_DONE);

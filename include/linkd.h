@@ -2,15 +2,16 @@
  *
  * A linker is a block of linkd_size() bytes at a multiple of linkd_align() that the caller has, as from aligned_alloc, the stack or
  * an arena. linkd_blank makes a linker of it, linkd_open opens it, and after linkd_close the block is only memory again: it holds
- * nothing. A seat is one thread's place to read links without a lock; its block is made and left the same way.
+ * nothing. A seat is one thread's place to read links without a lock, and a memo what one thread remembers of calls at megamorphic
+ * links; their blocks are made and left the same way.
  *
  * What a caller owes, since nothing checks it:
- *  - a linker or a seat is passed only between its blank and the end of its block, which isn't moved or written in between;
- *  - one call at a time is made on a linker, and on a seat. Another thread may make the next call if a lock, a join or a seq_cst
- *    atomic orders the two;
+ *  - a linker, a seat or a memo is passed only between its blank and the end of its block, which isn't moved or written in between;
+ *  - one call at a time is made on a linker, on a seat, and on a memo. Another thread may make the next call if a lock, a join or a
+ *    seq_cst atomic orders the two;
  *  - texts, arrays and out places are valid for the call, also where their length is 0 (then, too, the pointer isn't null), and an
- *    out place is no part of the linker, of the seat, of what is read, or of another out place;
- *  - a linker is closed, and a seat left, before its block goes; both may be done more than once;
+ *    out place is no part of the linker, of the seat, of the memo, of what is read, or of another out place;
+ *  - a linker and a memo are closed, and a seat left, before its block goes; each may be done more than once;
  *  - no call is made from a signal handler, or in the forked child of a process with threads;
  *  - malloc, realloc and free come from one allocator.
  */
@@ -26,6 +27,7 @@ extern "C" {
 
 typedef struct linkd linkd;
 typedef struct linkd_seat linkd_seat;
+typedef struct linkd_memo linkd_memo;
 
 /* What a call answers: LINKD_DONE, why the linker refuses an event, or why it wasn't asked. But where it was done the linker and the
  * seat are as before, unless linkd_answer lacks memory (see there). The sections named are those of the Java Virtual Machine
@@ -52,7 +54,7 @@ enum linkd_status {
     LINKD_RETIRE = 19,         /* fault is a linkd_retire_fault */
     LINKD_NO_CLASS_FILE = 32,  /* the bytes are no class file: fault is a linkd_class_fault */
     LINKD_MALFORMED = 33,      /* a kind, type or target that is none, or a number that is too large */
-    LINKD_CLOSED = 34,         /* the linker isn't open, or the seat was never refreshed */
+    LINKD_CLOSED = 34,         /* the linker or the memo isn't open, or the seat was never refreshed */
     LINKD_OPEN_ALREADY = 35,
     LINKD_TOO_SHORT = 36       /* the array is too short; the length that is wanted was written */
 };
@@ -123,7 +125,7 @@ enum linkd_answer_kind {
     LINKD_THROWS = 1,       /* value is a linkd_throwable */
     LINKD_BAD_RECEIVER = 2, /* no object can be such a receiver here */
     LINKD_UNLINKED = 3,     /* value is a linkd_unlinked */
-    LINKD_MISS = 4          /* a seat doesn't know: ask the linker */
+    LINKD_MISS = 4          /* a seat or a memo doesn't know: ask the linker */
 };
 
 enum linkd_throwable {
@@ -232,8 +234,34 @@ uint32_t linkd_seat_refresh(linkd_seat *at, linkd *from);
  * the site had no link or a megamorphic one, or its link looks at the receiver, whose class is newer. Takes no lock and no memory, and
  * counts as a call on the seat alone, which may outlive the linker. */
 uint32_t linkd_seat_call(linkd_seat *at, uint32_t site, uint32_t receiver, linkd_call_answer *answer);
+/* The same, but at a megamorphic link what the memo remembers of such calls, and LINKD_MISS where it remembers none; null throws there at
+ * once. The memo was asked of the linker that the seat was refreshed from, and of no other one. LINKD_CLOSED also where the memo isn't
+ * open. A site of a retired loader is LINKD_MISS once the seat was refreshed; of a class of a retired loader there is no object, and such
+ * a number gets what is remembered. Counts as a call on both. */
+uint32_t linkd_seat_call_with(linkd_seat *at, linkd_memo *with, uint32_t site, uint32_t receiver, linkd_call_answer *answer);
 /* Lets the seat's links go: it is as if it was never refreshed. Counts as a call on the seat alone. */
 void linkd_seat_leave(linkd_seat *at);
+
+/* ---- a memo */
+
+size_t linkd_memo_size(void);
+size_t linkd_memo_align(void);
+void linkd_memo_blank(linkd_memo *at);
+/* Opens the memo, which remembers nothing, with so many sets, each of which remembers two calls; which set a call has is told by a hash.
+ * So as many sets as there are calls that are made over and over are room enough. */
+uint32_t linkd_memo_open(linkd_memo *at, uint32_t sets);
+/* As linkd_call, on the linker: what a call comes to now. It is remembered where the site's link is megamorphic and the answer runs a
+ * method or throws, in the place of another one where its set is full. Such an answer stays right, whatever is defined later, while the
+ * site's class and the receiver's are present. Takes no memory, and counts as a call on the memo and on the linker. Receivers that are
+ * known beforehand can be asked for once their site is installed. */
+uint32_t linkd_memo_ask(linkd_memo *at, linkd *from, uint32_t site, uint32_t receiver, linkd_call_answer *answer);
+/* What the memo remembers that a call comes to, by itself: LINKD_MISS where it remembers none, and for null. So a host that knows that a
+ * site is megamorphic needs no seat for it, but has to know, too, when the site's loader is retired: the memo still has what it remembered.
+ * Takes no lock and no memory, and counts as a call on the memo alone. */
+uint32_t linkd_memo_call(linkd_memo *at, uint32_t site, uint32_t receiver, linkd_call_answer *answer);
+/* Lets go what the memo remembers: it isn't open then. A memo that is to be asked of another linker, or of one that was closed and opened
+ * again, is closed and opened first. Counts as a call on the memo alone. */
+void linkd_memo_close(linkd_memo *at);
 
 #ifdef __cplusplus
 }

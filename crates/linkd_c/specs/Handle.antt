@@ -2,12 +2,14 @@
 use base.Fml.{Fml, ftrue, fsep, fex}
 use prog.Memory.{size, align}
 use denote.Memory.{lone}
-use Rattle.std.specs.Prelude.{ℕ, Option}
+use Rattle.std.specs.Prelude.{ℕ, List, Option}
 use Rattle.std.specs.Ptr.{Ptr, points_to, uninit_at}
 use Rattle.jl_host.specs.Linkers.{Opened}
 use Rattle.jl_host.specs.Seats.{SeatView}
 use Rattle.jl_host.specs.contracts.linker.Linker.{the_row}
 use Rattle.jl_host.specs.contracts.seat.Seat.{the_row as seat_row}
+use Rattle.jl_host.specs.contracts.memo.Memo.{the_row as memo_row}
+use Rattle.jl_memo.specs.declared.set.Set.{Set}
 
 -- ---- linkers
 
@@ -54,3 +56,32 @@ seat_bytes = size (lone seat_row.mir)
 
 abbrev pub seat_multiple : ℕ
 seat_multiple = align (lone seat_row.mir)
+
+-- ---- memos
+
+-- a memo at p that remembers this, or isn't open
+abbrev pub memo_at : Ptr → Option (List Set) → Fml
+memo_at p memo = points_to memo_row p memo
+
+-- a memo at p of which P holds
+abbrev pub memo_left : Ptr → (Option (List Set) → Type 0) → Fml
+memo_left p P = fex (Option (List Set)) (λ memo. fsep (memo_at p memo) (fex (P memo) (λ _. ftrue)))
+
+-- a memo and a linker of which P holds
+abbrev pub asked_left : Ptr → Ptr → (Option (List Set) × Option Opened → Type 0) → Fml
+asked_left p q P = fex (Option (List Set) × Option Opened) (λ s. fsep (fsep (memo_at p s.0) (linker_at q s.1)) (fex (P s) (λ _. ftrue)))
+
+-- a seat and a memo of which P holds
+abbrev pub called_left : Ptr → Ptr → (Option SeatView × Option (List Set) → Type 0) → Fml
+called_left p q P = fex (Option SeatView × Option (List Set)) (λ s. fsep (fsep (seat_at p s.0) (memo_at q s.1)) (fex (P s) (λ _. ftrue)))
+
+-- room for a memo at p
+abbrev pub memo_room : Ptr → Fml
+memo_room p = uninit_at memo_row p
+
+-- the bytes of a memo, and the number that its address is a multiple of
+abbrev pub memo_bytes : ℕ
+memo_bytes = size (lone memo_row.mir)
+
+abbrev pub memo_multiple : ℕ
+memo_multiple = align (lone memo_row.mir)

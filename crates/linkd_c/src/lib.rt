@@ -2,28 +2,33 @@
 //!
 //! A C program gives a block of `linkd_size()` bytes at a multiple of `linkd_align()`; it makes it a linker by `linkd_blank`, opens
 //! it, calls it, closes it, and has its block for itself again. A seat is one thread's place to read: by a refresh it takes the
-//! linker's links as they are, and then reads them while other threads use the linker. Each function is one call of jl_host, and says
-//! of what lies behind the handle what that call says of its value; `specs/Handle` says what lies there.
+//! linker's links as they are, and then reads them while other threads use the linker. A memo is what one thread remembers of calls at
+//! megamorphic links. Each function is one call of jl_host, and says of what lies behind the handle what that call says of its value;
+//! `specs/Handle` says what lies there.
 #![tactic(auto)]
 
-ghost use Rattle.std.specs.Prelude.{◌≡◌, Option, None};
+ghost use Rattle.std.specs.Prelude.{◌≡◌, List, Option, None};
 ghost use types.Logic.{sem};
 ghost use Rattle.jl_host.specs.Linkers.{Opened, IsOpen, IsNewLoader, IsDefine, IsDelegate, IsRequest, IsNewCallSite, IsSetTarget, IsNewSwitch};
 ghost use Rattle.jl_host.specs.Linkers.{IsInvalidate, IsBind, IsRetire, IsInstall, IsDropped, IsCall, IsLinkOf, IsAnswer, IsTake};
 ghost use Rattle.jl_host.specs.Seats.{SeatView, IsRefresh, IsSeatCall};
+ghost use Rattle.jl_host.specs.Memos.{IsMemoOpen, IsMemoAsk, IsMemoCall, IsSeatCallWith};
+ghost use Rattle.jl_memo.specs.declared.set.Set.{Set};
 ghost use Rattle.linkd_c.specs.Handle.{linker_at, linker_left, linker_room, linker_bytes, linker_multiple};
 ghost use Rattle.linkd_c.specs.Handle.{seat_at, seat_left, both_left, seat_room, seat_bytes, seat_multiple};
+ghost use Rattle.linkd_c.specs.Handle.{memo_at, memo_left, asked_left, called_left, memo_room, memo_bytes, memo_multiple};
 
-use jl_host::{CallAnswer, LinkShown, Linker, Seat, Told};
+use jl_host::{CallAnswer, LinkShown, Linker, Memo, Seat, Told};
 use std::alloc::Global;
 
 /// Shows that a value of the type may go from one thread to another.
 fn crosses<T: Send>() {}
 
-/// Linkers and seats may: this is refused where one of them may not.
+/// Linkers, seats and memos may: this is refused where one of them may not.
 fn all_cross() {
     crosses::<Linker>();
     crosses::<Seat>();
+    crosses::<Memo>();
 }
 
 /// What C sees of a linker: nothing.
@@ -37,6 +42,13 @@ pub struct Linkd {
 #[repr(C)]
 #[derive(Drop)]
 pub struct LinkdSeat {
+    hidden: u8,
+}
+
+/// What C sees of a memo: nothing.
+#[repr(C)]
+#[derive(Drop)]
+pub struct LinkdMemo {
     hidden: u8,
 }
 
@@ -372,4 +384,99 @@ pub unsafe extern "C" fn linkd_seat_leave(at: *mut LinkdSeat)
     ensures* { sem 𝓛 (seat_left at (λ new. new ≡ None)) }
 {
     (*(at as *mut Seat)).leave();
+}
+
+/// What a call comes to by the links of the last refresh, at once, and at a megamorphic link by what the memo remembers. Takes no lock and
+/// no memory.
+#[unsafe(no_mangle)]
+pub unsafe extern "C" fn linkd_seat_call_with(
+    at: *mut LinkdSeat,
+    with: *mut LinkdMemo,
+    site: u32,
+    receiver: u32,
+    answer: &mut CallAnswer,
+) -> u32
+    ghost old: { Option SeatView × Option (List Set) }
+    requires* seat { sem 𝓛 (seat_at at old.0) }
+    requires* memo { sem 𝓛 (memo_at with old.1) }
+    ensures* { sem 𝓛 (called_left at with (λ new. IsSeatCallWith site receiver old.0 old.1 answer.old result answer.new new.0 new.1)) }
+{
+    (*(at as *mut Seat)).call_with(&mut *(with as *mut Memo), site, receiver, answer)
+}
+
+/// The bytes of a memo.
+#[unsafe(no_mangle)]
+pub extern "C" fn linkd_memo_size() -> usize
+    ensures { result ≡ memo_bytes }
+{
+    std::mem::size_of::<Memo>()
+}
+
+/// The number that a memo's address is a multiple of.
+#[unsafe(no_mangle)]
+pub extern "C" fn linkd_memo_align() -> usize
+    ensures { result ≡ memo_multiple }
+{
+    std::mem::align_of::<Memo>()
+}
+
+/// Makes a memo that isn't open of room for one.
+#[unsafe(no_mangle)]
+pub unsafe extern "C" fn linkd_memo_blank(at: *mut LinkdMemo)
+    requires* { sem 𝓛 (memo_room at) }
+    ensures* { sem 𝓛 (memo_at at None) }
+{
+    (at as *mut Memo).write(Memo::blank());
+}
+
+/// Opens the memo, with room for two calls in each of so many sets.
+#[unsafe(no_mangle)]
+pub unsafe extern "C" fn linkd_memo_open(alloc: Global, at: *mut LinkdMemo, sets: u32) -> u32
+    ghost old: { Option (List Set) }
+    requires* { sem 𝓛 (memo_at at old) }
+    ensures* { sem 𝓛 (memo_left at (λ new. IsMemoOpen sets old result new)) }
+{
+    (*(at as *mut Memo)).open(alloc, sets)
+}
+
+/// What a call comes to now, linked or not; remembered where the site's link is megamorphic. Takes no memory.
+#[unsafe(no_mangle)]
+pub unsafe extern "C" fn linkd_memo_ask(
+    at: *mut LinkdMemo,
+    from: *mut Linkd,
+    site: u32,
+    receiver: u32,
+    answer: &mut CallAnswer,
+) -> u32
+    ghost old: { Option (List Set) × Option Opened }
+    requires* memo { sem 𝓛 (memo_at at old.0) }
+    requires* linker { sem 𝓛 (linker_at from old.1) }
+    ensures* { sem 𝓛 (asked_left at from (λ new. IsMemoAsk site receiver old.0 old.1 answer.old result answer.new new.0 new.1)) }
+{
+    (*(at as *mut Memo)).ask(&mut *(from as *mut Linker), site, receiver, answer)
+}
+
+/// What the memo remembers that a call comes to, by itself. Takes no lock and no memory.
+#[unsafe(no_mangle)]
+pub unsafe extern "C" fn linkd_memo_call(
+    at: *mut LinkdMemo,
+    site: u32,
+    receiver: u32,
+    answer: &mut CallAnswer,
+) -> u32
+    ghost old: { Option (List Set) }
+    requires* { sem 𝓛 (memo_at at old) }
+    ensures* { sem 𝓛 (memo_left at (λ new. IsMemoCall site receiver old answer.old result answer.new new)) }
+{
+    (*(at as *mut Memo)).call(site, receiver, answer)
+}
+
+/// Lets go what the memo remembers. It has no memory but its block then.
+#[unsafe(no_mangle)]
+pub unsafe extern "C" fn linkd_memo_close(at: *mut LinkdMemo)
+    ghost old: { Option (List Set) }
+    requires* { sem 𝓛 (memo_at at old) }
+    ensures* { sem 𝓛 (memo_left at (λ new. new ≡ None)) }
+{
+    (*(at as *mut Memo)).close();
 }
