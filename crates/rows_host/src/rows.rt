@@ -2,7 +2,7 @@
 
 use crate::steps::{MOST, Numbers, Step, answer};
 use Step::*;
-use jl_host::{Linker, NULL, Seat};
+use jl_host::{Linker, Memo, NULL, Seat};
 use std::alloc::Global;
 use std::process::Abort;
 
@@ -18,21 +18,28 @@ const A: &[u8] =
     b"\xca\xfe\xba\xbe\x00\x00\x00\x3d\x00\x08\x01\x00\x01A\x07\x00\x01\x01\x00\x10java/lang/Object\x07\x00\x03\x01\x00\x01f\x01\x00\x03()V\x01\x00\x04Code\x00\x21\x00\x02\x00\x04\x00\x00\x00\x00\x00\x01\x00\x01\x00\x05\x00\x06\x00\x01\x00\x07\x00\x00\x00\x0d\x00\x00\x00\x00\x00\x00\x00\x01\xb1\x00\x00\x00\x00\x00\x00";
 
 /// Whether the step comes to the numbers of the row, and zeros behind them.
-fn is_so(alloc: Global, linker: &mut Linker, seat: &mut Seat, row: &StepRow) -> bool {
+fn is_so(
+    alloc: Global,
+    linker: &mut Linker,
+    seat: &mut Seat,
+    memo: &mut Memo,
+    row: &StepRow,
+) -> bool {
     let mut wanted: Numbers = [0; MOST];
     for (place, number) in wanted.iter_mut().enumerate() {
         if let Some(given) = row.1.get(place) {
             *number = *given;
         }
     }
-    answer(alloc, linker, seat, &row.0) == wanted
+    answer(alloc, linker, seat, memo, &row.0) == wanted
 }
 
-/// Asserts each row, on a linker and a seat that were made just now.
+/// Asserts each row, on a linker, a seat and a memo that were made just now.
 fn assert_rows(rt: &(impl Abort + AllocGlobal), rows: &[StepRow]) {
     let mut linker = Linker::blank();
     let mut seat = Seat::blank();
-    assert_each(rt, &mut linker, &mut seat, rows);
+    let mut memo = Memo::blank();
+    assert_each(rt, &mut linker, &mut seat, &mut memo, rows);
 }
 
 /// Asserts each row.
@@ -40,10 +47,11 @@ fn assert_each(
     rt: &(impl Abort + AllocGlobal),
     linker: &mut Linker,
     seat: &mut Seat,
+    memo: &mut Memo,
     rows: &[StepRow],
 ) {
     for row in rows {
-        assert!(rt; is_so(rt.alloc(), linker, seat, row), "{row:?}");
+        assert!(rt; is_so(rt.alloc(), linker, seat, memo, row), "{row:?}");
     }
 }
 
@@ -205,6 +213,135 @@ const CALL_SITES: &[StepRow] = &[
 #[test]
 fn call_sites(rt: HostRuntime) {
     assert_rows(&rt, CALL_SITES);
+}
+
+/// A with eight classes below it that override f, so that M's call of A.f has nine receivers' classes; then a class below one of them.
+const MEGAMORPHIC: &[StepRow] = &[
+    (Open(4), &[0]),
+    (Define(0, OBJECT), &[0, 0]),
+    (Define(0, A), &[0, 1]),
+    (
+        Says(
+            r#"{"do":"define","loader":0,"sketch":{"name":"D2","super":"A","flags":33,"methods":[{"name":"f","type":"()V","flags":1}]}}"#,
+            r#"{"class":2,"dropped":[]}"#,
+        ),
+        &[0, 0, 1],
+    ),
+    (
+        Says(
+            r#"{"do":"define","loader":0,"sketch":{"name":"D3","super":"A","flags":33,"methods":[{"name":"f","type":"()V","flags":1}]}}"#,
+            r#"{"class":3,"dropped":[]}"#,
+        ),
+        &[0, 0, 1],
+    ),
+    (
+        Says(
+            r#"{"do":"define","loader":0,"sketch":{"name":"D4","super":"A","flags":33,"methods":[{"name":"f","type":"()V","flags":1}]}}"#,
+            r#"{"class":4,"dropped":[]}"#,
+        ),
+        &[0, 0, 1],
+    ),
+    (
+        Says(
+            r#"{"do":"define","loader":0,"sketch":{"name":"D5","super":"A","flags":33,"methods":[{"name":"f","type":"()V","flags":1}]}}"#,
+            r#"{"class":5,"dropped":[]}"#,
+        ),
+        &[0, 0, 1],
+    ),
+    (
+        Says(
+            r#"{"do":"define","loader":0,"sketch":{"name":"D6","super":"A","flags":33,"methods":[{"name":"f","type":"()V","flags":1}]}}"#,
+            r#"{"class":6,"dropped":[]}"#,
+        ),
+        &[0, 0, 1],
+    ),
+    (
+        Says(
+            r#"{"do":"define","loader":0,"sketch":{"name":"D7","super":"A","flags":33,"methods":[{"name":"f","type":"()V","flags":1}]}}"#,
+            r#"{"class":7,"dropped":[]}"#,
+        ),
+        &[0, 0, 1],
+    ),
+    (
+        Says(
+            r#"{"do":"define","loader":0,"sketch":{"name":"D8","super":"A","flags":33,"methods":[{"name":"f","type":"()V","flags":1}]}}"#,
+            r#"{"class":8,"dropped":[]}"#,
+        ),
+        &[0, 0, 1],
+    ),
+    (
+        Says(
+            r#"{"do":"define","loader":0,"sketch":{"name":"D9","super":"A","flags":33,"methods":[{"name":"f","type":"()V","flags":1}]}}"#,
+            r#"{"class":9,"dropped":[]}"#,
+        ),
+        &[0, 0, 1],
+    ),
+    (
+        Says(
+            r#"{"do":"define","loader":0,"sketch":{"name":"M","super":"java/lang/Object","flags":33,"methods":[{"name":"run","type":"()V","flags":9,"calls":[{"kind":"invokevirtual","of":"A","name":"f","type":"()V"}]}]}}"#,
+            r#"{"class":10,"dropped":[]}"#,
+        ),
+        &[0, 0, 1],
+    ),
+    (Request(10, 0, 0), &[0, 0]),
+    (Ask(0, 2), &[34, 9, 9, 9]),
+    (OpenMemo(4), &[0]),
+    (OpenMemo(4), &[35]),
+    (Ask(0, 2), &[0, 0, 2, 0]),
+    (Recall(0, 2), &[0, 4]),
+    (Install(&[0]), &[0]),
+    (LinkOf(0), &[0, 6, 0, 9, 9, 9, 9]),
+    (CallWith(0, 2), &[34, 9, 9, 9]),
+    (Refresh, &[0]),
+    (SeatCall(0, 2), &[0, 4]),
+    (SeatCall(0, NULL), &[0, 4]),
+    (CallWith(0, 2), &[0, 4]),
+    (CallWith(0, NULL), &[0, 1, 0, 5]),
+    (Recall(0, NULL), &[0, 4]),
+    (Ask(0, 2), &[0, 0, 2, 0]),
+    (CallWith(0, 2), &[0, 0, 2, 0]),
+    (Recall(0, 2), &[0, 0, 2, 0]),
+    (CallWith(0, 3), &[0, 4]),
+    (Ask(0, 1), &[0, 0, 1, 0]),
+    (CallWith(0, 1), &[0, 0, 1, 0]),
+    (CallWith(0, 2), &[0, 0, 2, 0]),
+    (Ask(0, 0), &[0, 2]),
+    (CallWith(0, 0), &[0, 4]),
+    (Ask(0, NULL), &[0, 1, 0, 5]),
+    (Ask(3, 2), &[0, 3, 0, 6]),
+    (Recall(3, 2), &[0, 4]),
+    (CallWith(3, 2), &[0, 4]),
+    (
+        Says(
+            r#"{"do":"define","loader":0,"sketch":{"name":"E","super":"D2","flags":33}}"#,
+            r#"{"class":11,"dropped":[]}"#,
+        ),
+        &[0, 0, 1],
+    ),
+    (CallWith(0, 11), &[0, 4]),
+    (Ask(0, 11), &[0, 0, 2, 0]),
+    (CallWith(0, 11), &[0, 0, 2, 0]),
+    (CallWith(0, 2), &[0, 0, 2, 0]),
+    (SeatCall(0, 11), &[0, 4]),
+    (Leave, &[0]),
+    (CallWith(0, 2), &[34, 9, 9, 9]),
+    (Recall(0, 2), &[0, 0, 2, 0]),
+    (Refresh, &[0]),
+    (Close, &[0]),
+    (Ask(0, 2), &[34, 9, 9, 9]),
+    (CallWith(0, 2), &[0, 0, 2, 0]),
+    (CloseMemo, &[0]),
+    (CallWith(0, 2), &[34, 9, 9, 9]),
+    (Recall(0, 2), &[34, 9, 9, 9]),
+    (OpenMemo(0), &[0]),
+    (Open(1), &[0]),
+    (Ask(0, 2), &[0, 3, 0, 6]),
+    (Recall(0, 2), &[0, 4]),
+];
+
+#[test]
+fn megamorphic(rt: HostRuntime) {
+    assert_rows(&rt, MEGAMORPHIC);
 }
 
 /// Bytes that are no class file.

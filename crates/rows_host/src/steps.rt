@@ -1,6 +1,6 @@
-//! Steps on a linker and a seat, each with numbers for an answer.
+//! Steps on a linker, a seat and a memo, each with numbers for an answer.
 
-use jl_host::{CallAnswer, LinkShown, Linker, Row, Seat, Told};
+use jl_host::{CallAnswer, LinkShown, Linker, Memo, Row, Seat, Told};
 use std::alloc::Global;
 
 /// The most numbers of an answer.
@@ -9,7 +9,7 @@ pub const MOST: usize = 8;
 /// What a step comes to: the status, and what was written; what nothing was written to is 9.
 pub type Numbers = [u32; MOST];
 
-/// A call on a linker or a seat.
+/// A call on a linker, a seat or a memo.
 #[derive(Clone, Copy, Debug)]
 pub enum Step {
     Open(u32),
@@ -36,6 +36,14 @@ pub enum Step {
     Refresh,
     SeatCall(u32, u32),
     Leave,
+    /// The memo is opened with so many sets.
+    OpenMemo(u32),
+    CloseMemo,
+    Ask(u32, u32),
+    /// A call at the seat, with the memo.
+    CallWith(u32, u32),
+    /// A call by the memo alone.
+    Recall(u32, u32),
 }
 
 /// These numbers, and 0 behind them.
@@ -187,8 +195,45 @@ fn seat_numbers(alloc: Global, linker: &mut Linker, seat: &mut Seat, step: &Step
     }
 }
 
+/// What a step on the memo comes to.
+fn memo_numbers(
+    alloc: Global,
+    linker: &mut Linker,
+    seat: &mut Seat,
+    memo: &mut Memo,
+    step: &Step,
+) -> Numbers {
+    let mut answer = unanswered();
+    match step {
+        Step::OpenMemo(sets) => numbers(&[memo.open(alloc, *sets)]),
+        Step::CloseMemo => {
+            memo.close();
+            numbers(&[])
+        }
+        Step::Ask(site, receiver) => {
+            let status = memo.ask(linker, *site, *receiver, &mut answer);
+            call_numbers(status, &answer)
+        }
+        Step::CallWith(site, receiver) => {
+            let status = seat.call_with(memo, *site, *receiver, &mut answer);
+            call_numbers(status, &answer)
+        }
+        Step::Recall(site, receiver) => {
+            let status = memo.call(*site, *receiver, &mut answer);
+            call_numbers(status, &answer)
+        }
+        _ => seat_numbers(alloc, linker, seat, step),
+    }
+}
+
 /// What the step comes to.
-pub fn answer(alloc: Global, linker: &mut Linker, seat: &mut Seat, step: &Step) -> Numbers {
+pub fn answer(
+    alloc: Global,
+    linker: &mut Linker,
+    seat: &mut Seat,
+    memo: &mut Memo,
+    step: &Step,
+) -> Numbers {
     match step {
         Step::Open(max_sites) => numbers(&[linker.open(alloc, *max_sites)]),
         Step::Close => {
@@ -204,6 +249,6 @@ pub fn answer(alloc: Global, linker: &mut Linker, seat: &mut Seat, step: &Step) 
         }
         Step::Says(line, text) => said_numbers(alloc, linker, line, text),
         Step::TakeShort => short_numbers(linker),
-        _ => seat_numbers(alloc, linker, seat, step),
+        _ => memo_numbers(alloc, linker, seat, memo, step),
     }
 }
