@@ -3,8 +3,8 @@
 #
 #     bench/embed.sh
 #
-# It builds the archive first, by `rt lib` in crates/linkd_c. It needs rt, cc, c++, ar, nm, rustc, valgrind, and java and javac of JAVA_HOME or
-# else of the PATH, of version 17 or later. ROUNDS (200) is how often the host in C plays its round. It ends with status 0 only where all is as
+# It builds the archive first, by `rt lib` in crates/linkd_c, unless LINKD_ARCHIVE names one. It needs rt, cc, c++, ar, nm, cargo, valgrind, and
+# java and javac of JAVA_HOME or else of the PATH, of version 17 or later. ROUNDS (200) is how often the host in C plays its round. It ends with status 0 only where all is as
 # it must be.
 set -eu
 top=$(cd "$(dirname "$0")/.." && pwd)
@@ -15,7 +15,7 @@ fi
 work=$(mktemp -d)
 trap 'rm -rf "$work"' EXIT
 trap 'exit 130' INT TERM
-also="c++ rustc valgrind java javac"
+also="c++ cargo valgrind java javac"
 . "$top/bench/library.sh"
 host="$top/examples/host"
 
@@ -73,7 +73,9 @@ tail -n 1 "$work/under.txt"
 
 echo "== the hosts in C++ and in Rust, which say the same"
 c++ -std=c++11 -O2 -Wall -Wextra -Werror -I"$top/include" -o "$work/host_cpp" "$host/host.cpp" "$work/liblinkd.a"
-rustc --edition 2021 -O -D warnings -o "$work/host_rs" "$host/host.rs" -C link-arg="$work/liblinkd.a"
+LINKD_ARCHIVE="$work/liblinkd.a" RUSTFLAGS="-D warnings" CARGO_TARGET_DIR="$work/target" \
+    cargo build --quiet --offline --locked --release --example host --manifest-path "$top/bindings/rust/Cargo.toml"
+cp "$work/target/release/examples/host" "$work/host_rs"
 files=
 for name in Object Measured Shape Circle Square Triangle Main; do
     files="$files $work/classes/$name.class"

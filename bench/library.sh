@@ -1,5 +1,6 @@
-# Builds crates/linkd_c, and the archive of it and of the toolchain's C code for the heap, as $work/liblinkd.a. Sourced, with $top the top of
-# the repository, $work a folder that goes away at the end, and maybe $also, more programs that are needed.
+# Builds crates/linkd_c, unless LINKD_ARCHIVE names an archive, and the archive of it and of the toolchain's C code for the heap, as
+# $work/liblinkd.a. Sourced, with $top the top of the repository, $work a folder that goes away at the end, and maybe $also, more programs
+# that are needed.
 
 # Compiles a C program, with the header and the archive.
 build_c() {
@@ -15,16 +16,8 @@ if [ -n "$missing" ]; then
     exit 2
 fi
 # What is built already, and is of these sources, is taken as it is.
-if ! (cd "$top/crates/linkd_c" && rt lib) > "$work/lib.txt" 2>&1; then
+if [ -z "${LINKD_ARCHIVE:-}" ] && ! (cd "$top/crates/linkd_c" && rt lib) > "$work/lib.txt" 2>&1; then
     tail -n 5 "$work/lib.txt" >&2
     exit 1
 fi
-archive="$top/crates/linkd_c/out/liblinkd_c.a"
-heap="$(dirname "$(rt doc)")/c/liblibc_c.a"
-if [ ! -f "$heap" ]; then
-    echo "the toolchain has no $heap" >&2
-    exit 2
-fi
-cp "$archive" "$work/ours.a"
-cp "$heap" "$work/heap.a"
-(cd "$work" && printf 'create liblinkd.a\naddlib ours.a\naddlib heap.a\nsave\nend\n' | ar -M)
+"$top/tools/library.sh" "$work"

@@ -63,6 +63,18 @@ class Linker {
     linkd_told told{};
 };
 
+// What a call comes to, in words.
+std::string told(const linkd_call_answer &answer) {
+    static const char *const throwables[] = {"", "NoSuchMethodError", "IllegalAccessError", "IncompatibleClassChangeError", "AbstractMethodError",
+                                             "NullPointerException"};
+    switch (answer.kind) {
+    case LINKD_RUN: return "runs method " + std::to_string(answer.value) + " of class " + std::to_string(answer.class_number);
+    case LINKD_THROWS: return std::string("throws ") + throwables[answer.value];
+    case LINKD_BAD_RECEIVER: return "can't have such a receiver";
+    default: return "is unlinked: " + std::to_string(answer.value);
+    }
+}
+
 std::string read(const char *path) {
     std::ifstream from(path, std::ios::binary);
     if (!from) throw std::runtime_error(path);
@@ -81,10 +93,8 @@ int main(int argc, char **argv) try {
     linker.install(site);
     std::printf("%s\n", linker.answer("{\"do\":\"links\"}").c_str());
     for (std::uint32_t i = 0; i <= class_number + 1; i++) {
-        auto answer = linker.call(site, i == 0 ? LINKD_NULL : i - 1);
         auto on = i == 0 ? std::string("null") : "class " + std::to_string(i - 1);
-        std::printf("on %s: kind %lu, class %lu, value %lu\n", on.c_str(), static_cast<unsigned long>(answer.kind),
-                    static_cast<unsigned long>(answer.class_number), static_cast<unsigned long>(answer.value));
+        std::printf("on %s it %s\n", on.c_str(), told(linker.call(site, i == 0 ? LINKD_NULL : i - 1)).c_str());
     }
     return 0;
 } catch (const std::exception &fault) {

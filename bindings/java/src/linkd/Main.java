@@ -1,0 +1,234 @@
+package linkd;
+
+import java.io.IOException;
+import java.io.InputStream;
+import java.io.PrintStream;
+import java.nio.file.Files;
+import java.nio.file.NoSuchFileException;
+import java.nio.file.Path;
+import java.util.ArrayList;
+import java.util.HashMap;
+import java.util.HashSet;
+import java.util.LinkedHashMap;
+import java.util.List;
+import java.util.Map;
+import java.util.Set;
+import java.util.stream.Stream;
+
+/**
+ * Links all invocations of some class files, and tells how many have a link of which form.
+ *
+ * <p>{@code java linkd.Main PATH..}, where a path is that of a class file or of a folder with class files in it. What they name beside each
+ * other is taken from the JDK that runs this, where that has it. A class file of a later version than 61 is read as of version 61.
+ */
+public final class Main {
+    private static final int NEWEST = 61;
+    private static final int BATCH = 256;
+    private static final String[] INSTRUCTIONS = {"invokevirtual", "invokespecial", "invokestatic", "invokeinterface", "invokedynamic"};
+    private static final String[] FORMS = {"one method", "throws", "table", "megamorphic", "no link", "refused"};
+
+    private final Linker linker;
+    /** The files that were handed in, by the names of their classes. */
+    private final Map<String, byte[]> given = new LinkedHashMap<>();
+    private final Set<String> tried = new HashSet<>();
+    private final Map<String, ClassId> defined = new HashMap<>();
+    private final int[][] counts = new int[FORMS.length][INSTRUCTIONS.length];
+
+    /**
+     * A requested invocation.
+     *
+     * @param id its site
+     * @param instruction its place among INSTRUCTIONS
+     */
+    private record Requested(SiteId id, int instruction) {
+    }
+
+    private Main(Linker linker) {
+        this.linker = linker;
+    }
+
+    /** A fault of what was handed in. */
+    private static final class BadInput extends RuntimeException {
+        private static final long serialVersionUID = 1L;
+
+        BadInput(String what) {
+            super(what);
+        }
+    }
+
+    private static byte[] asRead(byte[] file) {
+        if (file.length >= 8 && (file[6] & 0xff) == 0 && (file[7] & 0xff) > NEWEST) {
+            file[7] = NEWEST;
+        }
+        return file;
+    }
+
+    /** The class files of a path. */
+    private static List<Path> files(Path path) throws IOException {
+        if (!Files.isDirectory(path)) {
+            return List.of(path);
+        }
+        try (Stream<Path> all = Files.walk(path)) {
+            return all.filter(file -> file.toString().endsWith(".class") && !file.endsWith("module-info.class")).sorted().toList();
+        }
+    }
+
+    /** Whether it is a class file is asked of a linker of its own, so that it is read only where it is one. */
+    private void read(Path path) throws IOException {
+        byte[] file = asRead(Files.readAllBytes(path));
+        try (Linker reader = Linker.open(1)) {
+            reader.define(file);
+        } catch (RefusedException refused) {
+            if (refused.refusal() instanceof Refusal.NoClassFile) {
+                throw new BadInput(path + ": " + refused.getMessage());
+            }
+        }
+        given.putIfAbsent(ClassFile.of(file).name(), file);
+    }
+
+    /** The class's file: of those that were handed in, or else of the JDK; null where neither has it. */
+    private byte[] find(String name) throws IOException {
+        byte[] file = given.get(name);
+        if (file != null) {
+            return file;
+        }
+        try (InputStream from = ClassLoader.getPlatformClassLoader().getResourceAsStream(name + ".class")) {
+            return from == null ? null : asRead(from.readAllBytes());
+        }
+    }
+
+    /** Defines the class behind its parents, where it is found. A class of the JDK may be refused; then what wants it has no link. */
+    private void define(String name) throws IOException {
+        byte[] file = tried.add(name) ? find(name) : null;
+        if (file == null) {
+            return;
+        }
+        for (String parent : ClassFile.of(file).parents()) {
+            define(parent);
+        }
+        try {
+            defined.put(name, linker.define(file));
+        } catch (RefusedException refused) {
+            if (given.containsKey(name)) {
+                throw new BadInput(name + ": " + refused.getMessage());
+            }
+        }
+    }
+
+    private void count(int form, int instruction) {
+        counts[form][instruction]++;
+    }
+
+    private void request(ClassId type, ClassFile.Invocation at, List<Requested> sites) {
+        int instruction = at.opcode() - 182;
+        try {
+            sites.add(new Requested(linker.request(type, at.method(), at.pc()), instruction));
+        } catch (RefusedException refused) {
+            count(5, instruction);
+        }
+    }
+
+    /** Requests all invocations of the classes that were handed in, once what they name is defined. */
+    private List<Requested> requestAll() throws IOException {
+        List<Requested> sites = new ArrayList<>();
+        for (Map.Entry<String, byte[]> entry : given.entrySet()) {
+            for (ClassFile.Invocation at : ClassFile.of(entry.getValue()).invocations()) {
+                if (!at.of().isEmpty() && !at.of().startsWith("[")) {
+                    define(at.of());
+                }
+                request(defined.get(entry.getKey()), at, sites);
+            }
+        }
+        return sites;
+    }
+
+    /** Installs a batch without the sites that have no link. */
+    private void install(List<SiteId> batch) {
+        List<SiteId> left = new ArrayList<>(batch);
+        while (!left.isEmpty()) {
+            try {
+                linker.install(left);
+                return;
+            } catch (RefusedException refused) {
+                if (!(refused.refusal() instanceof Refusal.Site(Refusal.SiteFault fault, int place)) || fault != Refusal.SiteFault.NOT_READY) {
+                    throw refused;
+                }
+                left.remove(new SiteId(place));
+            }
+        }
+    }
+
+    private static int form(Link link) {
+        return switch (link) {
+            case Link.Plain plain -> 0;
+            case Link.Direct direct -> direct.outcome() instanceof Answer.Run ? 0 : 1;
+            case Link.Fault fault -> 1;
+            case Link.Table table -> 2;
+            case Link.Megamorphic all -> 3;
+        };
+    }
+
+    private void linkAll(List<Requested> sites) {
+        for (int from = 0; from < sites.size(); from += BATCH) {
+            install(sites.subList(from, Math.min(from + BATCH, sites.size())).stream().map(Requested::id).toList());
+        }
+        for (Requested site : sites) {
+            count(linker.linkOf(site.id()).map(Main::form).orElse(4), site.instruction());
+        }
+    }
+
+    private void tell(PrintStream to) {
+        to.printf("%-12s", "");
+        for (String instruction : INSTRUCTIONS) {
+            to.printf(" %16s", instruction);
+        }
+        to.printf(" %8s%n", "all");
+        for (int form = 0; form < FORMS.length; form++) {
+            int all = 0;
+            to.printf("%-12s", FORMS[form]);
+            for (int count : counts[form]) {
+                to.printf(" %16d", count);
+                all += count;
+            }
+            to.printf(" %8d%n", all);
+        }
+    }
+
+    private static void run(String[] words) throws IOException {
+        try (Linker linker = Linker.open(Ids.MOST)) {
+            Main main = new Main(linker);
+            for (String word : words) {
+                for (Path path : files(Path.of(word))) {
+                    main.read(path);
+                }
+            }
+            for (String name : main.given.keySet()) {
+                main.define(name);
+            }
+            List<Requested> sites = main.requestAll();
+            System.out.printf("%d classes handed in, %d defined in all%n", main.given.size(), main.defined.size());
+            main.linkAll(sites);
+            main.tell(System.out);
+        }
+    }
+
+    /** Ends with status 1 where a path, a class file or the library isn't as it must be, and says how. */
+    public static void main(String[] words) {
+        if (words.length == 0) {
+            System.err.println("linkd: PATH..");
+            System.exit(2);
+        }
+        try {
+            run(words);
+        } catch (NoSuchFileException fault) {
+            stop("there is no " + fault.getFile());
+        } catch (IOException | BadInput | RefusedException | MissingLibraryException fault) {
+            stop(fault.getMessage());
+        }
+    }
+
+    private static void stop(String why) {
+        System.err.println("linkd: " + why);
+        System.exit(1);
+    }
+}

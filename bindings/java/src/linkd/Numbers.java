@@ -1,0 +1,128 @@
+package linkd;
+
+import static java.lang.foreign.ValueLayout.JAVA_INT;
+
+import java.lang.foreign.MemorySegment;
+import java.util.ArrayList;
+import java.util.List;
+import java.util.Optional;
+
+/** Reads what the library has written: a linkd_told, a linkd_call_answer, a linkd_link. */
+final class Numbers {
+    private static final int MISS = 4;
+
+    private Numbers() {
+    }
+
+    private static int at(MemorySegment from, int index) {
+        return from.getAtIndex(JAVA_INT, index);
+    }
+
+    /** A fault by its number, from 1 on, or null where it has no name here. */
+    private static <T> T named(T[] all, int number) {
+        return number >= 1 && number <= all.length ? all[number - 1] : null;
+    }
+
+    /** What an event made. */
+    static int number(MemorySegment told) {
+        return at(told, 0);
+    }
+
+    private static Refusal site(Refusal.SiteFault fault, int place) {
+        return new Refusal.Site(fault, place);
+    }
+
+    private static Refusal orOther(Object fault, Refusal refusal, int status, int number) {
+        return fault == null ? new Refusal.Other(status, number) : refusal;
+    }
+
+    private static Refusal noClassFile(MemorySegment told, int place) {
+        Refusal.ClassFault fault = named(Refusal.ClassFault.values(), at(told, 1));
+        return orOther(fault, new Refusal.NoClassFile(fault, place, at(told, 3), at(told, 4)), 32, at(told, 1));
+    }
+
+    /** A refusal whose fault has a name of its own. */
+    private static Refusal faulty(int status, int number, int place) {
+        Object fault = switch (status) {
+            case 1 -> named(Refusal.DefineFault.values(), number);
+            case 4 -> named(Refusal.Form.values(), number);
+            case 6 -> named(Refusal.CallSiteFault.values(), number);
+            case 16 -> named(Refusal.DelegateFault.values(), number);
+            default -> named(Refusal.RetireFault.values(), number);
+        };
+        return switch (fault) {
+            case Refusal.DefineFault it -> new Refusal.Define(it);
+            case Refusal.Form it -> new Refusal.NotLinkable(it);
+            case Refusal.CallSiteFault it -> new Refusal.CallSite(it, place);
+            case Refusal.DelegateFault it -> new Refusal.Delegate(it);
+            case Refusal.RetireFault it -> new Refusal.Retire(it, place);
+            case null, default -> new Refusal.Other(status, number);
+        };
+    }
+
+    /** The refusal of a status other than 0. */
+    static Refusal refusal(int status, MemorySegment told) {
+        int place = at(told, 2);
+        return switch (status) {
+            case 1, 4, 6, 16, 19 -> faulty(status, at(told, 1), place);
+            case 2 -> Refusal.Plain.UNKNOWN_CLASS;
+            case 3 -> Refusal.Plain.NO_SUCH_PLACE;
+            case 5 -> Refusal.Plain.SITES_FULL;
+            case 7 -> Refusal.Plain.NOT_DYNAMIC;
+            case 8 -> site(Refusal.SiteFault.ALREADY_BOUND, place);
+            case 9 -> Refusal.Plain.TYPE_MISMATCH;
+            case 10 -> site(Refusal.SiteFault.STALE, place);
+            case 11 -> site(Refusal.SiteFault.NOT_READY, place);
+            case 12 -> site(Refusal.SiteFault.UNKNOWN_SITE, place);
+            case 13 -> site(Refusal.SiteFault.REPEATED, place);
+            case 14 -> Refusal.Plain.BATCH_SIZE;
+            case 15 -> Refusal.Plain.MEMORY;
+            case 17 -> Refusal.Plain.LOADERS_FULL;
+            case 32 -> noClassFile(told, place);
+            case 33 -> Refusal.Plain.MALFORMED;
+            case 34 -> Refusal.Plain.CLOSED;
+            default -> new Refusal.Other(status, at(told, 1));
+        };
+    }
+
+    private static Answer.Outcome outcome(int kind, int type, int value) {
+        return kind == 0 ? new Answer.Run(new ClassId(type), value) : new Answer.Throws(Answer.Error.values()[value - 1]);
+    }
+
+    /** An answer, or none on a miss. */
+    static Optional<Answer> answer(MemorySegment from) {
+        int value = at(from, 2);
+        return switch (at(from, 0)) {
+            case 2 -> Optional.of(new Answer.BadReceiver());
+            case 3 -> Optional.of(new Answer.Unlinked(Answer.Want.values()[value - 1]));
+            case MISS -> Optional.empty();
+            default -> Optional.of(outcome(at(from, 0), at(from, 1), value));
+        };
+    }
+
+    private static Answer.Outcome rowOutcome(MemorySegment link, int row) {
+        int from = 2 + 4 * row;
+        return outcome(at(link, from + 1), at(link, from + 2), at(link, from + 3));
+    }
+
+    private static Link table(MemorySegment link, boolean ofInterface) {
+        List<Link.Row> rows = new ArrayList<>();
+        for (int row = 0; row < at(link, 1); row++) {
+            rows.add(new Link.Row(new ClassId(at(link, 2 + 4 * row)), rowOutcome(link, row)));
+        }
+        return new Link.Table(ofInterface, rows);
+    }
+
+    /** A link, or none where none is installed. */
+    static Optional<Link> link(MemorySegment from) {
+        return switch (at(from, 0)) {
+            case 1 -> Optional.of(new Link.Fault(((Answer.Throws) rowOutcome(from, 0)).error()));
+            case 2 -> Optional.of(new Link.Plain(rowOutcome(from, 0)));
+            case 3 -> Optional.of(new Link.Direct(rowOutcome(from, 0)));
+            case 4 -> Optional.of(table(from, false));
+            case 5 -> Optional.of(table(from, true));
+            case 6 -> Optional.of(new Link.Megamorphic());
+            default -> Optional.empty();
+        };
+    }
+}

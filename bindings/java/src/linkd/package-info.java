@@ -1,0 +1,2 @@
+/** A proved devirtualizing linker for the JVM, called from Java. */
+package linkd;

@@ -1,0 +1,170 @@
+//! What a call comes to, links, and targets of call sites.
+use crate::error::numbered;
+use crate::{raw, CallSiteId, ClassId, SwitchId};
+use std::fmt;
+
+numbered! {
+    /// What a call throws (JVMS SE 17 §6.5).
+    Throwable {
+        /// java/lang/NoSuchMethodError.
+        NoSuchMethodError = 1: "NoSuchMethodError",
+        /// java/lang/IllegalAccessError.
+        IllegalAccessError = 2: "IllegalAccessError",
+        /// java/lang/IncompatibleClassChangeError.
+        IncompatibleClassChangeError = 3: "IncompatibleClassChangeError",
+        /// java/lang/AbstractMethodError.
+        AbstractMethodError = 4: "AbstractMethodError",
+        /// java/lang/NullPointerException.
+        NullPointerException = 5: "NullPointerException",
+    }
+}
+
+numbered! {
+    /// Why a site has no link.
+    Unlinked {
+        /// The class that the instruction names isn't there yet.
+        WantsNamed = 1: "it wants the class that is named",
+        /// The nest host of the caller's class isn't.
+        WantsCallerHost = 2: "it wants the caller's nest host",
+        /// The nest host of the method's class isn't.
+        WantsMethodHost = 3: "it wants the method's nest host",
+        /// An invokedynamic without a call site.
+        Unbound = 4: "it is bound to no call site",
+        /// The class of the site is retired.
+        Gone = 5: "its class is retired",
+        /// Nothing is requested under this number.
+        NoSite = 6: "it isn't requested",
+    }
+}
+
+/// What a linked call does.
+#[derive(Clone, Copy, Debug, PartialEq, Eq, Hash)]
+pub enum Outcome {
+    /// This method runs.
+    Run {
+        /// The class that declares it.
+        class: ClassId,
+        /// Its place among those that the class declares.
+        method: u16,
+    },
+    /// This is thrown.
+    Throws(Throwable),
+}
+
+impl fmt::Display for Outcome {
+    fn fmt(&self, to: &mut fmt::Formatter<'_>) -> fmt::Result {
+        match self {
+            Outcome::Run { class, method } => write!(to, "runs method {method} of {class}"),
+            Outcome::Throws(throwable) => write!(to, "throws {throwable}"),
+        }
+    }
+}
+
+/// What a call comes to.
+#[derive(Clone, Copy, Debug, PartialEq, Eq, Hash)]
+pub enum Answer {
+    /// It is linked, or could be.
+    Outcome(Outcome),
+    /// No object can be such a receiver here.
+    BadReceiver,
+    /// It has no link.
+    Unlinked(Unlinked),
+}
+
+impl fmt::Display for Answer {
+    fn fmt(&self, to: &mut fmt::Formatter<'_>) -> fmt::Result {
+        match self {
+            Answer::Outcome(outcome) => outcome.fmt(to),
+            Answer::BadReceiver => to.write_str("can't have such a receiver"),
+            Answer::Unlinked(why) => write!(to, "is unlinked: {why}"),
+        }
+    }
+}
+
+/// A receiver's class, and what a call on an object of it comes to.
+pub type Row = (ClassId, Outcome);
+
+/// A link that is installed at a site.
+#[derive(Clone, Debug, PartialEq, Eq, Hash)]
+pub enum Link {
+    /// Each call throws.
+    Fault(Throwable),
+    /// Each call runs this method, and has no receiver.
+    Plain(Outcome),
+    /// Each call on an object comes to this.
+    Direct(Outcome),
+    /// An invokevirtual, by the receiver's class.
+    VirtualTable(Vec<Row>),
+    /// An invokeinterface, by the receiver's class.
+    InterfaceTable(Vec<Row>),
+    /// There are too many classes for a table.
+    Megamorphic,
+}
+
+/// What a call site runs (java.lang.invoke.CallSite).
+#[derive(Clone, Debug, PartialEq, Eq, Hash)]
+pub enum Target {
+    /// A static method: the class, and the method's place in it.
+    Method(ClassId, u16),
+    /// The first while the switch point is valid, then the second (java.lang.invoke.SwitchPoint).
+    Guard(SwitchId, Box<Target>, Box<Target>),
+    /// What this call site runs (java.lang.invoke.CallSite.dynamicInvoker).
+    Invoker(CallSiteId),
+}
+
+/// As docs/FORMATS.md has it, in JSON.
+impl fmt::Display for Target {
+    fn fmt(&self, to: &mut fmt::Formatter<'_>) -> fmt::Result {
+        match self {
+            Target::Method(class, method) => write!(to, "{{\"method\":[{},{method}]}}", class.number()),
+            Target::Guard(switch, first, second) => {
+                write!(to, "{{\"guard\":{},\"target\":{first},\"fallback\":{second}}}", switch.number())
+            }
+            Target::Invoker(call_site) => write!(to, "{{\"invoker\":{}}}", call_site.number()),
+        }
+    }
+}
+
+/// An outcome by its numbers, or none where it is none.
+fn outcome(kind: u32, class: u32, value: u32) -> Option<Outcome> {
+    match kind {
+        0 => Some(Outcome::Run { class: ClassId(class), method: u16::try_from(value).ok()? }),
+        1 => Some(Outcome::Throws(Throwable::of(value)?)),
+        _ => None,
+    }
+}
+
+const NO_SUCH_NUMBER: &str = "linkd.h has such a number";
+
+/// An answer, or none on a miss.
+pub(crate) fn answer(of: raw::Answer) -> Option<Answer> {
+    match of.kind {
+        2 => Some(Answer::BadReceiver),
+        3 => Some(Answer::Unlinked(Unlinked::of(of.value).expect(NO_SUCH_NUMBER))),
+        4 => None,
+        kind => Some(Answer::Outcome(outcome(kind, of.class_number, of.value).expect(NO_SUCH_NUMBER))),
+    }
+}
+
+fn row(of: &raw::Row) -> Row {
+    (ClassId(of.receiver), outcome(of.kind, of.class_number, of.value).expect(NO_SUCH_NUMBER))
+}
+
+/// A link, or none where none is installed.
+pub(crate) fn link(of: &raw::Link) -> Option<Link> {
+    let rows = of.rows.iter().take(of.count as usize).map(row);
+    let mut first = of.rows.iter().map(row).map(|(_, outcome)| outcome);
+    Some(match of.kind {
+        0 => return None,
+        1 => match first.next() {
+            Some(Outcome::Throws(throwable)) => Link::Fault(throwable),
+            _ => unreachable!("a fault throws"),
+        },
+        2 => Link::Plain(first.next().expect(NO_SUCH_NUMBER)),
+        3 => Link::Direct(first.next().expect(NO_SUCH_NUMBER)),
+        4 => Link::VirtualTable(rows.collect()),
+        5 => Link::InterfaceTable(rows.collect()),
+        6 => Link::Megamorphic,
+        _ => unreachable!("{NO_SUCH_NUMBER}"),
+    })
+}

@@ -1,0 +1,83 @@
+//! The calls of `include/linkd.h`. Nothing compares these declarations with the header but the crate's tests.
+
+/// A linker or a seat, in a block of a size that the library tells.
+#[repr(C)]
+pub struct Opaque {
+    _hidden: [u8; 0],
+}
+
+#[repr(C)]
+#[derive(Clone, Copy, Default)]
+pub struct Told {
+    pub number: u32,
+    pub fault: u32,
+    pub place: u32,
+    pub cause: u32,
+    pub at: u32,
+}
+
+#[repr(C)]
+#[derive(Clone, Copy, Default)]
+pub struct Answer {
+    pub kind: u32,
+    pub class_number: u32,
+    pub value: u32,
+}
+
+#[repr(C)]
+#[derive(Clone, Copy, Default)]
+pub struct Row {
+    pub receiver: u32,
+    pub kind: u32,
+    pub class_number: u32,
+    pub value: u32,
+}
+
+#[repr(C)]
+#[derive(Clone, Copy, Default)]
+pub struct Link {
+    pub kind: u32,
+    pub count: u32,
+    pub rows: [Row; 8],
+}
+
+pub const DONE: u32 = 0;
+pub const NULL: u32 = u32::MAX;
+
+extern "C" {
+    pub fn linkd_size() -> usize;
+    pub fn linkd_align() -> usize;
+    pub fn linkd_blank(at: *mut Opaque);
+    pub fn linkd_open(at: *mut Opaque, max_sites: u32) -> u32;
+    pub fn linkd_close(at: *mut Opaque);
+    pub fn linkd_new_loader(at: *mut Opaque, told: *mut Told) -> u32;
+    pub fn linkd_define(at: *mut Opaque, loader: u32, bytes: *const u8, length: usize, told: *mut Told) -> u32;
+    pub fn linkd_delegate(at: *mut Opaque, loader: u32, name: *const u8, name_length: usize, to: u32, told: *mut Told) -> u32;
+    pub fn linkd_request(at: *mut Opaque, class_number: u32, method: u32, pc: u32, told: *mut Told) -> u32;
+    pub fn linkd_new_call_site(
+        at: *mut Opaque,
+        kind: u32,
+        type_: *const u8,
+        type_length: usize,
+        target: *const u8,
+        target_length: usize,
+        told: *mut Told,
+    ) -> u32;
+    pub fn linkd_set_target(at: *mut Opaque, call_site: u32, target: *const u8, target_length: usize, told: *mut Told) -> u32;
+    pub fn linkd_new_switch(at: *mut Opaque, told: *mut Told) -> u32;
+    pub fn linkd_invalidate(at: *mut Opaque, switches: *const u32, count: usize, told: *mut Told) -> u32;
+    pub fn linkd_bind(at: *mut Opaque, site: u32, call_site: u32, told: *mut Told) -> u32;
+    pub fn linkd_retire(at: *mut Opaque, loader: u32, told: *mut Told) -> u32;
+    pub fn linkd_install(at: *mut Opaque, sites: *const u32, count: usize, told: *mut Told) -> u32;
+    pub fn linkd_dropped(at: *mut Opaque, out: *mut u32, capacity: usize, length: *mut usize) -> u32;
+    pub fn linkd_call(at: *mut Opaque, site: u32, receiver: u32, answer: *mut Answer) -> u32;
+    pub fn linkd_link_of(at: *mut Opaque, site: u32, link: *mut Link) -> u32;
+    pub fn linkd_answer(at: *mut Opaque, line: *const u8, line_length: usize, length: *mut usize) -> u32;
+    pub fn linkd_take(at: *mut Opaque, out: *mut u8, capacity: usize, length: *mut usize) -> u32;
+    pub fn linkd_seat_size() -> usize;
+    pub fn linkd_seat_align() -> usize;
+    pub fn linkd_seat_blank(at: *mut Opaque);
+    pub fn linkd_seat_refresh(at: *mut Opaque, from: *mut Opaque) -> u32;
+    pub fn linkd_seat_call(at: *mut Opaque, site: u32, receiver: u32, answer: *mut Answer) -> u32;
+    pub fn linkd_seat_leave(at: *mut Opaque);
+}

@@ -1,0 +1,55 @@
+use crate::answer::answer;
+use crate::block::Block;
+use crate::error::done;
+use crate::raw::{self, Told};
+use crate::{Answer, ClassId, Error, Linker, SiteId};
+use std::fmt;
+
+/// One thread's place to read links without a lock. It may outlive its linker, and goes on answering by the links of its last refresh.
+pub struct Seat {
+    block: Block,
+}
+
+// SAFETY: another thread may make the next call, and a move to it, or a lock, orders the two. A call counts as one on the seat alone.
+unsafe impl Send for Seat {}
+
+impl fmt::Debug for Seat {
+    fn fmt(&self, to: &mut fmt::Formatter<'_>) -> fmt::Result {
+        to.debug_struct("Seat").finish_non_exhaustive()
+    }
+}
+
+impl Seat {
+    pub(crate) fn of(linker: &mut Linker) -> Result<Seat, Error> {
+        // SAFETY: the block is as large and stands as the library asks, and is a seat from `linkd_seat_blank` on.
+        let mut seat = unsafe {
+            let block = Block::new(raw::linkd_seat_size(), raw::linkd_seat_align());
+            raw::linkd_seat_blank(block.at());
+            Seat { block }
+        };
+        seat.refresh(linker)?;
+        Ok(seat)
+    }
+
+    /// Gives the seat the linker's links as they are now.
+    pub fn refresh(&mut self, from: &mut Linker) -> Result<(), Error> {
+        // SAFETY: the seat and the linker are borrowed alone.
+        done(unsafe { raw::linkd_seat_refresh(self.block.at(), from.at()) }, &Told::default())
+    }
+
+    /// What a call comes to by the links of the last refresh, at once. None is a miss: ask the linker.
+    pub fn call(&mut self, site: SiteId, receiver: Option<ClassId>) -> Option<Answer> {
+        let mut told = raw::Answer::default();
+        // SAFETY: the seat is borrowed alone, and the out place for the call.
+        let status = unsafe { raw::linkd_seat_call(self.block.at(), site.0, receiver.map_or(raw::NULL, ClassId::number), &mut told) };
+        assert_eq!(status, raw::DONE, "a seat has links until it is dropped");
+        answer(told)
+    }
+}
+
+impl Drop for Seat {
+    fn drop(&mut self) {
+        // SAFETY: the seat lets its links go, and its block goes after it.
+        unsafe { raw::linkd_seat_leave(self.block.at()) }
+    }
+}

@@ -1,0 +1,88 @@
+//! Class files as small as can be (JVMS SE 17 chapter 4), written from their parts.
+
+/// An invocation: its opcode, and the class, the name and the type of the method.
+pub type Call = (u8, &'static str, &'static str, &'static str);
+
+/// A method without parameters and result: its flags, its name, and what it calls.
+pub type Method = (u16, &'static str, Vec<Call>);
+
+#[derive(Default)]
+struct Pool {
+    bytes: Vec<u8>,
+    count: u16,
+}
+
+impl Pool {
+    fn add(&mut self, entry: &[u8]) -> u16 {
+        self.bytes.extend_from_slice(entry);
+        self.count += 1;
+        self.count
+    }
+
+    fn utf8(&mut self, text: &str) -> u16 {
+        let mut entry = vec![1];
+        entry.extend_from_slice(&(text.len() as u16).to_be_bytes());
+        entry.extend_from_slice(text.as_bytes());
+        self.add(&entry)
+    }
+
+    fn pair(&mut self, tag: u8, one: u16, other: u16) -> u16 {
+        let ([a, b], [c, d]) = (one.to_be_bytes(), other.to_be_bytes());
+        self.add(&[tag, a, b, c, d])
+    }
+
+    fn class(&mut self, name: &str) -> u16 {
+        let [a, b] = self.utf8(name).to_be_bytes();
+        self.add(&[7, a, b])
+    }
+
+    fn method(&mut self, class: &str, name: &str, descriptor: &str) -> u16 {
+        let class = self.class(class);
+        let (name, descriptor) = (self.utf8(name), self.utf8(descriptor));
+        let name_and_type = self.pair(12, name, descriptor);
+        self.pair(10, class, name_and_type)
+    }
+}
+
+/// The calls, three bytes each, and a return.
+fn code(pool: &mut Pool, calls: &[Call]) -> Vec<u8> {
+    let mut code = Vec::new();
+    for (opcode, class, name, descriptor) in calls {
+        code.push(*opcode);
+        code.extend_from_slice(&pool.method(class, name, descriptor).to_be_bytes());
+    }
+    code.push(0xb1);
+    code
+}
+
+fn method(pool: &mut Pool, (flags, name, calls): &Method) -> Vec<u8> {
+    let code = code(pool, calls);
+    let (name, descriptor, attribute) = (pool.utf8(name), pool.utf8("()V"), pool.utf8("Code"));
+    let mut bytes = Vec::new();
+    for number in [*flags, name, descriptor, 1, attribute] {
+        bytes.extend_from_slice(&number.to_be_bytes());
+    }
+    bytes.extend_from_slice(&(12 + code.len() as u32).to_be_bytes());
+    bytes.extend_from_slice(&[0, 0, 0, 0]);
+    bytes.extend_from_slice(&(code.len() as u32).to_be_bytes());
+    bytes.extend_from_slice(&code);
+    bytes.extend_from_slice(&[0, 0, 0, 0]);
+    bytes
+}
+
+/// A public class; java/lang/Object has no superclass.
+pub fn class(name: &str, superclass: Option<&str>, methods: &[Method]) -> Vec<u8> {
+    let mut pool = Pool::default();
+    let this = pool.class(name);
+    let parent = superclass.map_or(0, |name| pool.class(name));
+    let written: Vec<Vec<u8>> = methods.iter().map(|it| method(&mut pool, it)).collect();
+    let mut bytes = vec![0xca, 0xfe, 0xba, 0xbe, 0, 0, 0, 61];
+    bytes.extend_from_slice(&(pool.count + 1).to_be_bytes());
+    bytes.extend_from_slice(&pool.bytes);
+    for number in [0x21, this, parent, 0, 0, methods.len() as u16] {
+        bytes.extend_from_slice(&number.to_be_bytes());
+    }
+    bytes.extend(written.concat());
+    bytes.extend_from_slice(&[0, 0]);
+    bytes
+}

@@ -1,0 +1,294 @@
+#include "agent.h"
+#include <stdlib.h>
+#include <string.h>
+
+/* A class's tag is its place here and 1; a loader's is its place below 0. The bootstrap loader is no object, and is loader 0 on both sides. */
+struct world world = {.lock = PTHREAD_MUTEX_INITIALIZER};
+
+/* All array types, and all hidden classes. */
+static struct class arrays = {.name = "an array", .number = NO_NUMBER, .why = ARRAY_RECEIVER};
+static struct class hidden = {.name = "a hidden class", .number = NO_NUMBER, .why = HIDDEN_METHOD};
+
+/* ---- memory and numbers */
+
+static uint64_t hash_file(const void *item) {
+    const struct file *file = item;
+    return hash_bytes(file->name.at, file->name.length, file->loader);
+}
+
+static bool same_file(const void *item, const void *other) {
+    const struct file *one = item, *two = other;
+    return one->loader == two->loader && same_text(one->name, two->name);
+}
+
+/* Room for one more element, or false. */
+static bool make_room(void **elements, uint32_t *room, uint32_t count, size_t size) {
+    if (count < *room) return true;
+    uint32_t wanted = *room == 0 ? 256 : *room * 2;
+    void *grown = realloc(*elements, wanted * size);
+    if (grown == NULL) return false;
+    *elements = grown;
+    *room = wanted;
+    return true;
+}
+
+/* The tag that the class has from now on, or 0. */
+static jlong keep_class(struct class *class) {
+    if (!make_room((void **)&world.classes, &world.class_room, world.class_count, sizeof *world.classes)) return 0;
+    world.classes[world.class_count++] = class;
+    return world.class_count;
+}
+
+void count_refusal(uint32_t status, uint32_t fault) {
+    uint32_t i = 0;
+    while (i < world.refusal_count && (world.refusals[i].status != status || world.refusals[i].fault != fault)) i++;
+    if (i == world.refusal_count) {
+        struct refusal *grown = realloc(world.refusals, (i + 1) * sizeof *grown);
+        if (grown == NULL) return;
+        grown[i] = (struct refusal){.status = status, .fault = fault};
+        world.refusals = grown;
+        world.refusal_count++;
+    }
+    world.refusals[i].count++;
+}
+
+void accepted(struct class *by) {
+    static uint32_t sites[MOST_SITES];
+    size_t count = 0;
+    atomic_fetch_add(&world.changes, 1);
+    if (linkd_dropped(world.linker, sites, MOST_SITES, &count) != LINKD_DONE) return;
+    drop_links(sites, count);
+    world.dropped += count;
+    if (by != NULL) by->dropped += (uint32_t)count;
+}
+
+bool open_world(jvmtiEnv *jvmti) {
+    size_t align = linkd_align() < sizeof(void *) ? sizeof(void *) : linkd_align();
+    linkd *linker = aligned_alloc(align, (linkd_size() + align - 1) / align * align);
+    if (linker == NULL) return false;
+    linkd_blank(linker);
+    world.jvmti = jvmti;
+    world.files = (struct table){.hash = hash_file, .same = same_file};
+    if (!make_room((void **)&world.loaders, &world.loader_room, 0, sizeof *world.loaders) || keep_class(&arrays) == 0 ||
+        keep_class(&hidden) == 0 || linkd_open(linker, MOST_SITES) != LINKD_DONE) {
+        linkd_close(linker);
+        free(linker);
+        return false;
+    }
+    world.loaders[world.loader_count++] = (struct loader){0};
+    world.linker = linker;
+    return true;
+}
+
+/* What the agent itself keeps stays: other threads may still read it. */
+void close_world(void) {
+    linkd *linker = world.linker;
+    world.linker = NULL;
+    if (linker == NULL) return;
+    linkd_close(linker);
+    free(linker);
+}
+
+/* ---- loaders */
+
+static uint32_t new_loader(JNIEnv *jni, jobject object) {
+    linkd_told told;
+    if (!make_room((void **)&world.loaders, &world.loader_room, world.loader_count, sizeof *world.loaders)) return NO_NUMBER;
+    struct loader *loader = &world.loaders[world.loader_count];
+    *loader = (struct loader){.number = NO_NUMBER};
+    if ((*world.jvmti)->SetTag(world.jvmti, object, -(jlong)world.loader_count) != JVMTI_ERROR_NONE) return NO_NUMBER;
+    loader->object = (*jni)->NewWeakGlobalRef(jni, object);
+    uint32_t status = linkd_new_loader(world.linker, &told);
+    if (status == LINKD_DONE) {
+        loader->number = told.number;
+        accepted(NULL);
+    } else {
+        count_refusal(status, told.fault);
+    }
+    return world.loader_count++;
+}
+
+/* The loader's place, or NO_NUMBER. */
+static uint32_t loader_place(JNIEnv *jni, jobject object) {
+    jlong tag = 0;
+    if (object == NULL) return 0;
+    if ((*world.jvmti)->GetTag(world.jvmti, object, &tag) != JVMTI_ERROR_NONE) return NO_NUMBER;
+    return tag < 0 ? (uint32_t)-tag : new_loader(jni, object);
+}
+
+static uint32_t loader_of(JNIEnv *jni, jclass from) {
+    jobject object = NULL;
+    if ((*world.jvmti)->GetClassLoader(world.jvmti, from, &object) != JVMTI_ERROR_NONE) return NO_NUMBER;
+    uint32_t place = loader_place(jni, object);
+    if (object != NULL) (*jni)->DeleteLocalRef(jni, object);
+    return place;
+}
+
+/* The loader finds the class, which another has defined. */
+static void record(uint32_t loader, const struct class *class) {
+    linkd_told told;
+    uint32_t to = world.loaders[class->loader].number, from = world.loaders[loader].number;
+    if (class->number == NO_NUMBER || class->loader == loader || from == NO_NUMBER) return;
+    uint32_t status = linkd_delegate(world.linker, from, (const uint8_t *)class->name, strlen(class->name), to, &told);
+    if (status == LINKD_DONE) accepted(NULL);
+    else if (status != LINKD_DELEGATE || told.fault != 3) count_refusal(status, told.fault);
+}
+
+void record_all(JNIEnv *jni, uint32_t loader) {
+    jint count = 0;
+    jclass *found = NULL;
+    if (world.loaders[loader].going_on) return;
+    jobject object = loader == 0 ? NULL : (*jni)->NewLocalRef(jni, world.loaders[loader].object);
+    if (loader != 0 && object == NULL) return;
+    world.loaders[loader].going_on = true;
+    if ((*world.jvmti)->GetClassLoaderClasses(world.jvmti, object, &count, &found) == JVMTI_ERROR_NONE) {
+        for (jint i = 0; i < count; i++) {
+            struct class *class = class_of(jni, found[i]);
+            if (class != NULL) record(loader, class);
+            (*jni)->DeleteLocalRef(jni, found[i]);
+        }
+        (*world.jvmti)->Deallocate(world.jvmti, (unsigned char *)found);
+    }
+    world.loaders[loader].going_on = false;
+    if (object != NULL) (*jni)->DeleteLocalRef(jni, object);
+}
+
+/* ---- class files */
+
+static struct file *find_file(uint32_t loader, const char *name) {
+    struct file probe = {.loader = loader, .name = text_of(name)};
+    return table_find(&world.files, &probe);
+}
+
+static struct file *new_file(uint32_t loader, const char *name) {
+    struct file *file = calloc(1, sizeof *file);
+    char *own = strdup(name);
+    if (file != NULL && own != NULL) {
+        *file = (struct file){.loader = loader, .name = text_of(own)};
+        if (table_add(&world.files, file)) return file;
+    }
+    free(file);
+    free(own);
+    return NULL;
+}
+
+void keep_file(JNIEnv *jni, jobject loader, const char *name, const uint8_t *bytes, size_t length) {
+    uint32_t place = loader_place(jni, loader);
+    if (place == NO_NUMBER) return;
+    struct file *file = find_file(place, name);
+    if (file == NULL) file = new_file(place, name);
+    if (file == NULL || file->taken) return;
+    uint8_t *copy = malloc(length);
+    if (copy == NULL) return;
+    memcpy(copy, bytes, length);
+    free(file->bytes); /* of an attempt that failed */
+    file->bytes = copy;
+    file->length = length;
+}
+
+void forget_class(jclass from) {
+    jlong tag = 0;
+    if ((*world.jvmti)->GetTag(world.jvmti, from, &tag) == JVMTI_ERROR_NONE && tag > 0) world.classes[tag - 1]->why = REDEFINED;
+}
+
+/* ---- classes */
+
+/* The direct superclass and, where the machine tells them yet, the direct superinterfaces: they go to the linker first. */
+static void define_parents(JNIEnv *jni, jclass from, uint32_t loader) {
+    jint count = 0;
+    jclass *interfaces = NULL;
+    jclass super = (*jni)->GetSuperclass(jni, from);
+    if (super != NULL) {
+        struct class *parent = class_of(jni, super);
+        if (parent != NULL) record(loader, parent);
+        (*jni)->DeleteLocalRef(jni, super);
+    }
+    if ((*world.jvmti)->GetImplementedInterfaces(world.jvmti, from, &count, &interfaces) != JVMTI_ERROR_NONE) return;
+    for (jint i = 0; i < count; i++) {
+        struct class *parent = class_of(jni, interfaces[i]);
+        if (parent != NULL) record(loader, parent);
+        (*jni)->DeleteLocalRef(jni, interfaces[i]);
+    }
+    (*world.jvmti)->Deallocate(world.jvmti, (unsigned char *)interfaces);
+}
+
+static bool lacks_parent(uint32_t status, const linkd_told *told) {
+    return status == LINKD_DEFINE && told->fault == LINKD_MISSING_PARENT;
+}
+
+static void define(JNIEnv *jni, jclass from, struct class *class) {
+    linkd_told told = {0};
+    const struct file *file = class->file;
+    uint32_t loader = world.loaders[class->loader].number, status = LINKD_LOADERS_FULL;
+    class->going_on = true;
+    define_parents(jni, from, class->loader);
+    if (loader != NO_NUMBER) {
+        status = linkd_define(world.linker, loader, file->bytes, file->length, &told);
+        if (lacks_parent(status, &told)) {
+            record_all(jni, class->loader);
+            status = linkd_define(world.linker, loader, file->bytes, file->length, &told);
+        }
+    }
+    class->going_on = false;
+    class->waits = lacks_parent(status, &told);
+    class->why = REFUSED_CLASS;
+    if (status == LINKD_DONE) {
+        class->number = told.number;
+        class->why = read_class_file(file->bytes, &class->read) ? COMPARED : NO_MEMORY;
+        accepted(class);
+    } else if (!class->waits) {
+        count_refusal(status, told.fault);
+    }
+}
+
+/* A class of its own record: its name is the file's where it has one. */
+static struct class *new_class(uint32_t loader, const char *name) {
+    struct class *class = calloc(1, sizeof *class);
+    if (class == NULL) return NULL;
+    *class = (struct class){.loader = loader, .number = NO_NUMBER, .why = NO_FILE};
+    struct file *file = find_file(loader, name);
+    if (file != NULL && file->bytes != NULL && !file->taken) {
+        class->file = file;
+        class->name = (const char *)file->name.at;
+        file->taken = true;
+    } else {
+        class->name = strdup(name);
+    }
+    if (class->name != NULL) return class;
+    free(class);
+    return NULL;
+}
+
+static struct class *make_class(JNIEnv *jni, jclass from, char *signature) {
+    struct class *class = NULL;
+    size_t length = strlen(signature);
+    if (signature[0] == '[') {
+        class = &arrays;
+    } else if (strchr(signature, '.') != NULL) { /* the names of hidden classes alone have it (JVM TI, GetClassSignature) */
+        class = &hidden;
+    } else if (signature[0] == 'L') {
+        uint32_t loader = loader_of(jni, from);
+        signature[length - 1] = 0;
+        if (loader != NO_NUMBER) class = new_class(loader, signature + 1);
+    }
+    if (class == NULL) return NULL;
+    jlong tag = class == &arrays ? 1 : class == &hidden ? 2 : keep_class(class);
+    if (tag == 0 || (*world.jvmti)->SetTag(world.jvmti, from, tag) != JVMTI_ERROR_NONE) return NULL;
+    if (class->file != NULL) define(jni, from, class);
+    return class;
+}
+
+struct class *class_of(JNIEnv *jni, jclass from) {
+    jlong tag = 0;
+    char *signature = NULL;
+    if ((*world.jvmti)->GetTag(world.jvmti, from, &tag) != JVMTI_ERROR_NONE) return NULL;
+    if (tag > 0) {
+        struct class *class = world.classes[tag - 1];
+        if (class->waits && !class->going_on) define(jni, from, class);
+        return class;
+    }
+    if ((*world.jvmti)->GetClassSignature(world.jvmti, from, &signature, NULL) != JVMTI_ERROR_NONE) return NULL;
+    struct class *class = make_class(jni, from, signature);
+    (*world.jvmti)->Deallocate(world.jvmti, (unsigned char *)signature);
+    return class;
+}
