@@ -89,13 +89,24 @@ for method in 1 2; do
 done
 valgrind -q --leak-check=full --error-exitcode=99 "$work/host_cpp" 1 1 $files > "$work/under.txt"
 diff "$work/under.txt" <("$work/host_rs" 1 1 $files)
-# A refusal ends both, and leaves nothing behind.
-for program in "valgrind -q --leak-check=full --error-exitcode=99 $work/host_cpp" "$work/host_rs"; do
-    status=0
-    $program 1 0 $files > "$work/refused.txt" 2>&1 || status=$?
-    if [ $status != 1 ]; then
-        echo "$program ends with status $status on a place without an invocation" >&2
-        exit 1
-    fi
-done
+# A refusal ends both by its name, and leaves nothing behind.
+echo "no class file" > "$work/No.class"
+refused() {
+    local by_cpp=$1 by_rs=$2 status
+    shift 2
+    for program in cpp rs; do
+        status=0
+        valgrind -q --leak-check=full --error-exitcode=99 "$work/host_$program" "$@" > "$work/refused.txt" 2>&1 || status=$?
+        local name=by_$program
+        if [ $status != 1 ] || ! grep -q "${!name}" "$work/refused.txt"; then
+            cat "$work/refused.txt" >&2
+            echo "host.$program: status $status, wanted 1 and: ${!name}" >&2
+            exit 1
+        fi
+    done
+}
+refused LINKD_NO_SUCH_PLACE "the class has no invocation there" 1 0 $files
+refused "nowhere: can't be read" "nowhere: No such file" 1 1 "$work/nowhere"
+refused "No.class: LINKD_BAD_MAGIC" "No.class: no class file: it has no magic number" 1 1 "$work/No.class"
+refused "Square.class: LINKD_MISSING_PARENT" "Square.class: the class isn't defined: a parent is missing" 1 1 "$work/classes/Square.class"
 echo "all as it must be"

@@ -189,6 +189,5 @@ void drop_links(const uint32_t *sites, size_t count);
 
 /* Says what was seen, as text or as JSON. */
 void report(FILE *to, bool json);
-const char *refusal_name(uint32_t status, uint32_t fault);
 
 #endif

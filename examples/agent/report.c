@@ -1,4 +1,5 @@
 #include "agent.h"
+#include "../host/names.h"
 #include <inttypes.h>
 #include <stdlib.h>
 #include <string.h>
@@ -30,32 +31,6 @@ static const char *const reasons[REASONS] = {
 
 static const char *const instructions[INSTRUCTIONS] = {"invokevirtual", "invokespecial", "invokestatic", "invokeinterface"};
 static const char *const kinds[KINDS] = {"pending", "fault", "plain", "direct", "virtual_table", "interface_table", "megamorphic"};
-
-/* ---- refusals */
-
-static const char *const define_faults[] = {"", "UnknownLoader", "AlreadyRecorded", "NamesItself", "MissingParent", "SuperIsInterface", "FinalSuper",
-                                            "NotAnInterface", "InaccessibleParent", "SecondObject", "Full"};
-static const char *const file_faults[] = {"", "TooLarge", "BadMagic", "BadVersion", "Truncated", "Pool", "ModuleFile", "BadSuper", "DuplicateMethod",
-                                          "TwoCodes", "Code", "TrailingBytes", "BadMember", "BadLink", "BadNest"};
-static const char *const delegate_faults[] = {"", "UnknownLoader", "NotRecorded", "AlreadyRecorded"};
-
-#define WORD_OF(words, fault) ((fault) < sizeof(words) / sizeof *(words) ? (words)[fault] : "")
-
-/* The refusal's name, as docs/FORMATS.md has it. It is kept until the next one. */
-const char *refusal_name(uint32_t status, uint32_t fault) {
-    static char name[64];
-    switch (status) {
-    case LINKD_DEFINE: snprintf(name, sizeof name, "Define.%s", WORD_OF(define_faults, fault)); break;
-    case LINKD_DELEGATE: snprintf(name, sizeof name, "Delegate.%s", WORD_OF(delegate_faults, fault)); break;
-    case LINKD_NO_CLASS_FILE: snprintf(name, sizeof name, "%s", WORD_OF(file_faults, fault)); break;
-    case LINKD_LOADERS_FULL: return "LoadersFull";
-    case LINKD_NO_SUCH_PLACE: return "NoSuchPlace";
-    case LINKD_NOT_LINKABLE: return fault == 1 ? "NotLinkable.ArrayReceiver" : "NotLinkable.PolymorphicSignature";
-    case LINKD_MEMORY: return "Memory";
-    default: snprintf(name, sizeof name, "status %" PRIu32, status);
-    }
-    return name;
-}
 
 /* ---- what is counted at the end */
 

@@ -10,6 +10,7 @@
  */
 #define _POSIX_C_SOURCE 200809L
 #include "linkd.h"
+#include "names.h"
 #include <dirent.h>
 #include <pthread.h>
 #include <sched.h>
@@ -35,6 +36,7 @@ static void must(bool holds, int status, const char *what, uint32_t number) {
 
 /* A status of the linker that has to be LINKD_DONE. */
 static void done(uint32_t status, const char *what) {
+    if (status != LINKD_DONE) fprintf(stderr, "host: %s\n", status_name(status));
     must(status == LINKD_DONE, REFUSED, what, status);
 }
 
@@ -177,6 +179,7 @@ static bool define(struct file *file) {
     linkd_told told;
     uint32_t status = linkd_define(linker, 0, file->bytes, file->length, &told);
     if (status == LINKD_DEFINE && told.fault == LINKD_MISSING_PARENT) return false;
+    if (status != LINKD_DONE) fprintf(stderr, "host: %s\n", refusal_name(status, told.fault));
     must(status == LINKD_DONE, REFUSED, file->name, status);
     file->class_number = told.number;
     classes = told.number + 1;

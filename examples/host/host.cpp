@@ -2,6 +2,7 @@
 //
 //     host METHOD PC FILE..
 #include "linkd.h"
+#include "names.h"
 #include <cstdio>
 #include <cstdlib>
 #include <fstream>
@@ -13,11 +14,11 @@
 namespace {
 
 struct Refused : std::runtime_error {
-    explicit Refused(std::uint32_t status) : std::runtime_error("status " + std::to_string(status)) {}
+    Refused(std::uint32_t status, std::uint32_t fault) : std::runtime_error(refusal_name(status, fault)) {}
 };
 
-void done(std::uint32_t status) {
-    if (status != LINKD_DONE) throw Refused(status);
+void done(std::uint32_t status, std::uint32_t fault = 0) {
+    if (status != LINKD_DONE) throw Refused(status, fault);
 }
 
 const std::uint8_t *bytes(const std::string &text) { return reinterpret_cast<const std::uint8_t *>(text.data()); }
@@ -36,7 +37,8 @@ class Linker {
     ~Linker() { linkd_close(at); }
 
     std::uint32_t define(const std::string &file) {
-        done(linkd_define(at, 0, bytes(file), file.size(), &told));
+        std::uint32_t status = linkd_define(at, 0, bytes(file), file.size(), &told);
+        done(status, told.fault);
         return told.number;
     }
     std::uint32_t request(std::uint32_t class_number, std::uint32_t method, std::uint32_t pc) {
@@ -77,8 +79,14 @@ std::string told(const linkd_call_answer &answer) {
 
 std::string read(const char *path) {
     std::ifstream from(path, std::ios::binary);
-    if (!from) throw std::runtime_error(path);
+    if (!from) throw std::runtime_error("can't be read");
     return {std::istreambuf_iterator<char>(from), std::istreambuf_iterator<char>()};
+}
+
+std::uint32_t define(Linker &linker, const std::string &path) try {
+    return linker.define(read(path.c_str()));
+} catch (const std::exception &fault) {
+    throw std::runtime_error(path + ": " + fault.what());
 }
 
 } // namespace
@@ -87,7 +95,7 @@ int main(int argc, char **argv) try {
     if (argc < 4) throw std::runtime_error("METHOD PC FILE..");
     Linker linker(1);
     std::uint32_t class_number = 0;
-    for (int i = 3; i < argc; i++) class_number = linker.define(read(argv[i]));
+    for (int i = 3; i < argc; i++) class_number = define(linker, argv[i]);
     auto number = [](const char *word) { return static_cast<std::uint32_t>(std::strtoul(word, nullptr, 10)); };
     std::uint32_t site = linker.request(class_number, number(argv[1]), number(argv[2]));
     linker.install(site);
