@@ -1,0 +1,222 @@
+-- Files that become classes, one after the other, the last one of those that wait first.
+use Rattle.std.proofs.Common.{◌≡◌, ◌∙◌, sym, ap, subst, refl, append_assoc, append-nil, zero-add, arith, ℕ, zero, suc, ◌+◌, ◌≤◌, List, [], ◌∷◌, ◌++◌, map, reverse, length}
+use Rattle.std.specs.Prelude.{slice_get, Option, Some, None, is_some, true, false, All}
+use Rattle.std.specs.List.{AllByRecursion, range_with_len}
+use Rattle.std.proofs.lemmas.List.{map-append, reverse-append, reverse-reverse, length-append, length-reverse}
+use Rattle.std.proofs.lemmas.List.Elements.{All-push, All-nil}
+use Rattle.jl_names.proofs.Tests.{All-front, All-back, All-both}
+use Rattle.jl_types.proofs.Lists.{range_end}
+use Rattle.jl_class.specs.Class.{ClassFile}
+use Rattle.jl_types.specs.Values.World.{Classes}
+use Rattle.jl_types.specs.Happenings.Definitions.{define_fault, defined}
+use Rattle.jl_report.specs.declared.defining.Refused.{Refused}
+use Rattle.jl_report.specs.declared.defining.Waiting.{Waiting}
+use Rattle.jl_report.specs.Gathering.{Gathers, ends, defines, numbers, IsRefused}
+use Rattle.jl_report.specs.Means.Waiting.{AreOf, AreStuck, places}
+
+-- what leads from these waiting files in the end leads there from those at the beginning
+abbrev pub Leads : List ClassFile → Classes → List ℕ → Classes → List ℕ → Type 0
+Leads files first before cs waiting = (out : Classes) (left : List ℕ) → Gathers files out cs waiting left → Gathers files out first before left
+
+-- ---- the other way round
+
+one_back : {X : Type 0} (front : List X) (x : X) (back : List X) → reverse (front ++ x ∷ back) ≡ reverse back ++ x ∷ reverse front
+one_back front x back =
+    reverse-append front (x ∷ back)
+    ∙ ap (λ xs. xs ++ reverse front) (reverse-append (x ∷ []) back)
+    ∙ append_assoc (reverse back) (x ∷ []) (reverse front)
+
+pub last_first : {X : Type 0} (xs : List X) (x : X) → reverse (xs ++ x ∷ []) ≡ x ∷ reverse xs
+last_first xs x = reverse-append xs (x ∷ [])
+
+map_back : {X Y : Type 0} (f : X → Y) (xs : List X) → map f (reverse xs) ≡ reverse (map f xs)
+map_back f [] = refl
+map_back f (x ∷ xs) =
+    ap (map f) (reverse-append (x ∷ []) xs)
+    ∙ map-append f (reverse xs) (x ∷ [])
+    ∙ ap (λ ys. ys ++ f x ∷ []) (map_back f xs)
+    ∙ sym (reverse-append (f x ∷ []) (map f xs))
+
+-- whether the last or the first one comes first makes no difference
+pub turned : (files : List ClassFile) (out cs : Classes) (waiting left : List ℕ) → Gathers files out cs waiting left
+    → Gathers files out cs (reverse waiting) (reverse left)
+turned files out _ _ left ends = ends
+turned files out cs waiting left (defines front n back file is there free rest) =
+    defines (reverse back) n (reverse front) file (ap reverse is ∙ one_back front n back) there free
+    (subst (λ xs. Gathers files out (defined cs 0 file) xs (reverse left)) (reverse-append front back)
+    (turned files out (defined cs 0 file) (front ++ back) left rest))
+
+-- ---- a round
+
+-- those that wait for their turn, and those that had it and are left
+abbrev pub whole : List Waiting → List Waiting → List Waiting
+whole waiting left = waiting ++ reverse left
+
+popped_whole : (waiting : List Waiting) (one : Waiting) (left : List Waiting) → whole (waiting ++ one ∷ []) left ≡ waiting ++ one ∷ reverse left
+popped_whole waiting one left = append_assoc waiting (one ∷ []) (reverse left)
+
+pushed_whole : (waiting : List Waiting) (one : Waiting) (left : List Waiting) → whole waiting (left ++ one ∷ []) ≡ waiting ++ one ∷ reverse left
+pushed_whole waiting one left = ap (λ (xs : List Waiting). waiting ++ xs) (last_first left one)
+
+-- what is so in the middle of a round that began with these classes and files
+pub record SoFar (first : Classes) (before : List Waiting) (cs : Classes) (waiting left : List Waiting) : Type 0 where
+  pub leads : (files : List ClassFile) → AreOf files before → Leads files first (places before) cs (places (whole waiting left))
+  pub files : (files : List ClassFile) → AreOf files before → AreOf files (whole waiting left)
+  pub fewer : length (whole waiting left) ≤ length before
+  pub stuck : length (whole waiting left) ≡ length before → AreStuck cs (reverse left)
+
+pub begun : (cs : Classes) (before : List Waiting) → SoFar cs before cs before []
+begun cs before =
+    let is = append-nil before in
+    record {
+      leads = λ files of. subst (λ xs. Leads files cs (places before) cs (places xs)) (sym is) (λ out left g. g);
+      files = λ files of. subst (AreOf files) (sym is) of;
+      fewer = let same = ap length is in omega (arith, same);
+      stuck = λ e. tt;
+    }
+
+-- the next one is left
+pub one_left : (first : Classes) (before : List Waiting) (old new : Classes) (waiting : List Waiting) (one : Waiting) (left : List Waiting)
+    → SoFar first before old (waiting ++ one ∷ []) left → is_some (define_fault old 0 one.file) ≡ true → new ≡ old
+    → SoFar first before new waiting (left ++ one ∷ [])
+one_left first before old new waiting one left s barred is =
+    subst (λ cs. SoFar first before cs waiting (left ++ one ∷ [])) (sym is) (record {
+      leads = λ files of. subst (λ xs. Leads files first (places before) old (places xs)) same (s.leads files of);
+      files = λ files of. subst (AreOf files) same (s.files files of);
+      fewer = let size = ap length same in let few = s.fewer in omega (arith, size, few);
+      stuck = λ e. subst (AreStuck old) (sym (last_first left one)) (barred, s.stuck (ap length same ∙ e));
+    })
+  where
+    same : whole (waiting ++ one ∷ []) left ≡ whole waiting (left ++ one ∷ [])
+    same = popped_whole waiting one left ∙ sym (pushed_whole waiting one left)
+
+-- the next one becomes a class
+pub one_defined : (first : Classes) (before : List Waiting) (old new : Classes) (waiting : List Waiting) (one : Waiting) (left : List Waiting)
+    → SoFar first before old (waiting ++ one ∷ []) left → define_fault old 0 one.file ≡ None → new ≡ defined old 0 one.file
+    → SoFar first before new waiting left
+one_defined first before old new waiting one left s free is =
+    subst (λ cs. SoFar first before cs waiting left) (sym is) (record {
+      leads = λ files of out rest g. s.leads files of out rest
+          (defines (places waiting) one.place (places (reverse left)) one.file split (there files of).1.0 free
+          (subst (λ xs. Gathers files out (defined old 0 one.file) xs rest) (map-append (λ (w : Waiting). w.place) waiting (reverse left)) g));
+      files = λ files of. All-both (λ (w : Waiting). slice_get files w.place ≡ Some w.file) waiting (reverse left) (there files of).0 (there files of).1.1;
+      fewer = let size = one_fewer in let few = s.fewer in omega (arith, size, few);
+      stuck = λ e. absurd (let size = one_fewer in let few = s.fewer in omega (arith, size, few, e));
+    })
+  where
+    split : places (whole (waiting ++ one ∷ []) left) ≡ places waiting ++ one.place ∷ places (reverse left)
+    split = ap places (popped_whole waiting one left) ∙ map-append (λ (w : Waiting). w.place) waiting (one ∷ reverse left)
+
+    one_fewer : length (whole (waiting ++ one ∷ []) left) ≡ length (whole waiting left) + 1
+    one_fewer =
+        let a = ap length (popped_whole waiting one left) ∙ length-append waiting (one ∷ reverse left) in
+        let b = length-append waiting (reverse left) in
+        omega (arith, a, b)
+
+    there : (files : List ClassFile) → AreOf files before → AreOf files waiting × AreOf files (one ∷ reverse left)
+    there files of =
+        let all = subst (AreOf files) (popped_whole waiting one left) (s.files files of) in (
+          All-front (λ (w : Waiting). slice_get files w.place ≡ Some w.file) waiting (one ∷ reverse left) all,
+          All-back (λ (w : Waiting). slice_get files w.place ≡ Some w.file) waiting (one ∷ reverse left) all,
+        )
+
+-- ---- all files, each with its place
+
+pub slice_get_here : (xs ys : List ClassFile) (x : ClassFile) → slice_get (xs ++ x ∷ ys) (length xs) ≡ Some x
+slice_get_here [] ys x = refl
+slice_get_here (y ∷ xs) ys x = slice_get_here xs ys x
+
+-- those so far are of the last files
+pub record HavePlaces (files : List ClassFile) (front : List ClassFile) (all : List Waiting) : Type 0 where
+  pub back : List ClassFile
+  pub split : files ≡ front ++ back
+  pub places : places all ++ reverse (range_with_len 0 (length front)) ≡ reverse (range_with_len 0 (length files))
+  pub of : AreOf files all
+
+pub none_placed : (files : List ClassFile) → HavePlaces files files []
+none_placed files = record { back = []; split = sym (append-nil files); places = refl; of = tt }
+
+pub one_placed : (files front : List ClassFile) (file : ClassFile) (all : List Waiting) (one : Waiting) → HavePlaces files (front ++ file ∷ []) all
+    → one.place ≡ length front → one.file ≡ file → HavePlaces files front (all ++ one ∷ [])
+one_placed files front file all one h place is = record {
+  back = file ∷ h.back;
+  split = files_split;
+  places =
+      ap (λ (xs : List ℕ). xs ++ reverse (range_with_len 0 (length front))) (map-append (λ (w : Waiting). w.place) all (one ∷ []))
+      ∙ append_assoc (places all) (one.place ∷ []) (reverse (range_with_len 0 (length front)))
+      ∙ ap (λ (n : ℕ). places all ++ n ∷ reverse (range_with_len 0 (length front))) place
+      ∙ sym (ap (λ (xs : List ℕ). places all ++ xs) range_more)
+      ∙ h.places;
+  of = All-both (λ (w : Waiting). slice_get files w.place ≡ Some w.file) all (one ∷ []) h.of (at, tt);
+}
+  where
+    files_split : files ≡ front ++ file ∷ h.back
+    files_split = h.split ∙ append_assoc front (file ∷ []) h.back
+
+    range_more : reverse (range_with_len 0 (length (front ++ file ∷ []))) ≡ length front ∷ reverse (range_with_len 0 (length front))
+    range_more =
+        ap (λ (n : ℕ). reverse (range_with_len 0 n)) (length-append front (file ∷ []))
+        ∙ ap reverse (range_end 0 (length front))
+        ∙ last_first (range_with_len 0 (length front)) (0 + length front)
+        ∙ ap (λ (n : ℕ). n ∷ reverse (range_with_len 0 (length front))) (zero-add (length front))
+
+    at : slice_get files one.place ≡ Some one.file
+    at =
+        ap (slice_get files) place
+        ∙ ap (λ (xs : List ClassFile). slice_get xs (length front)) files_split
+        ∙ slice_get_here front h.back file
+        ∙ ap Some (sym is)
+
+pub all_placed : (files : List ClassFile) (all : List Waiting) → HavePlaces files [] all → places all ≡ reverse (range_with_len 0 (length files))
+all_placed files all h = sym (append-nil (places all)) ∙ h.places
+
+-- ---- those that are left in the end
+
+pub record AreToldOf (cs : Classes) (before waiting : List Waiting) (refused : List Refused) : Type 0 where
+  pub places : numbers refused ++ reverse (places waiting) ≡ reverse (places before)
+  pub stuck : AreStuck cs waiting
+  pub told : (files : List ClassFile) → AreOf files before → AreOf files waiting × All (IsRefused files cs) refused
+
+pub none_told : (cs : Classes) (before : List Waiting) → AreStuck cs before → AreToldOf cs before before []
+none_told cs before stuck = record { places = refl; stuck = stuck; told = λ files of. (of, All-nil (IsRefused files cs)) }
+
+pub one_told : (cs : Classes) (before waiting : List Waiting) (one : Waiting) (refused : List Refused) (r : Refused)
+    → AreToldOf cs before (waiting ++ one ∷ []) refused → r.place ≡ one.place
+    → ((files : List ClassFile) → slice_get files one.place ≡ Some one.file → IsRefused files cs r) → AreToldOf cs before waiting (refused ++ r ∷ [])
+one_told cs before waiting one refused r so place is = record {
+  places =
+      ap (λ (xs : List ℕ). xs ++ reverse (places waiting)) (map-append (λ (x : Refused). x.place) refused (r ∷ []))
+      ∙ append_assoc (numbers refused) (r.place ∷ []) (reverse (places waiting))
+      ∙ ap (λ (n : ℕ). numbers refused ++ n ∷ reverse (places waiting)) place
+      ∙ sym (ap (λ (xs : List ℕ). numbers refused ++ xs)
+      (ap reverse (map-append (λ (w : Waiting). w.place) waiting (one ∷ [])) ∙ last_first (places waiting) one.place))
+      ∙ so.places;
+  stuck = All-front (λ (w : Waiting). is_some (define_fault cs 0 w.file) ≡ true) waiting (one ∷ []) so.stuck;
+  told = λ files of.
+      let both = so.told files of in (
+        All-front (λ (w : Waiting). slice_get files w.place ≡ Some w.file) waiting (one ∷ []) both.0,
+        All-push (IsRefused files cs) refused r both.1
+            (is files (All-back (λ (w : Waiting). slice_get files w.place ≡ Some w.file) waiting (one ∷ []) both.0).0),
+      );
+}
+
+pub is_stuck : (cs : Classes) (waiting : List Waiting) (one : Waiting) → AreStuck cs (waiting ++ one ∷ []) → is_some (define_fault cs 0 one.file) ≡ true
+is_stuck cs waiting one all = (All-back (λ (w : Waiting). is_some (define_fault cs 0 w.file) ≡ true) waiting (one ∷ []) all).0
+
+pub all_told : (cs : Classes) (before : List Waiting) (refused : List Refused) → AreToldOf cs before [] refused → numbers refused ≡ reverse (places before)
+all_told cs before refused told = sym (append-nil (numbers refused)) ∙ told.places
+
+-- ---- the whole
+
+-- what leads to these files in the end leads to those that are told
+pub all_gathered : (files : List ClassFile) (out first : Classes) (waiting : List Waiting) (refused : List Refused)
+    → Leads files first (reverse (range_with_len 0 (length files))) out (places waiting) → numbers refused ≡ reverse (places waiting)
+    → Gathers files out first (range_with_len 0 (length files)) (numbers refused)
+all_gathered files out first waiting refused leads told =
+    subst (λ xs. Gathers files out first (range_with_len 0 (length files)) xs) (sym told)
+    (subst (λ xs. Gathers files out first xs (reverse (places waiting))) (reverse-reverse (range_with_len 0 (length files)))
+    (turned files out first (reverse (range_with_len 0 (length files))) (places waiting) (leads out (places waiting) ends)))
+
+pub not_some : {A : Type 0} (o : Option A) → is_some o ≡ false → o ≡ None
+not_some None e = refl
+not_some (Some x) e = cc

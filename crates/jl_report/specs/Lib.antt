@@ -1,0 +1,6 @@
+-- What contracts cite, in reading order. `Means` has means of proof.
+pub mod Means
+pub mod Gathering
+pub mod Order
+pub mod Reports
+pub mod Totals

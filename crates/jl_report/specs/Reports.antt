@@ -1,0 +1,78 @@
+-- What each invocation of a closed set of classes comes to: its link from scratch among these classes, and no others.
+use Rattle.std.specs.Prelude.{◌≡◌, ℕ, ◌+◌, List, [], ◌∷◌, ◌++◌, map, Option, Some, None, Result, Ok, Err}
+use Rattle.std.specs.Bool.{then_some}
+use Rattle.jl_class.specs.Class.{Method}
+use Rattle.jl_class.specs.Site.{Site}
+use Rattle.jl_class.specs.declared.site.Operand.{Operand}
+use Rattle.jl_types.specs.declared.ids.Place.{Place}
+use Rattle.jl_types.specs.declared.link.Link.{Link}
+use Rattle.jl_types.specs.declared.answer.Unlinked.{Unlinked}
+use Rattle.jl_types.specs.declared.refusal.NotLinkable.{NotLinkable}
+use Rattle.jl_types.specs.declared.refusal.NotLinkable.TheVariants.{ArrayReceiver, PolymorphicSignature}
+use Rattle.jl_types.specs.Values.World.{World, Classes, nothing_yet}
+use Rattle.jl_types.specs.Values.Members.{methods_of}
+use Rattle.jl_types.specs.Linkage.Resolution.{first_of}
+use Rattle.jl_types.specs.Linkage.Links.{scratch}
+use Rattle.jl_types.specs.Happenings.Events.{names_array, is_polymorphic}
+use Rattle.jl_types.specs.Happenings.Footprints.{footprint}
+use Rattle.jl_report.specs.declared.row.Row.{Row}
+use Rattle.jl_report.specs.declared.row.Finding.{Finding}
+use Rattle.jl_report.specs.declared.row.Finding.TheVariants as finding
+use Rattle.jl_report.specs.declared.invocation.Invocation.{Invocation}
+
+-- there are no call sites and switch points, and nothing is bound
+abbrev pub IsBare : World → Type 0
+IsBare w = (w.bindings ≡ []) × (w.sites ≡ nothing_yet.sites)
+
+-- the world of these classes in which this place alone is requested, and no call site is there
+abbrev pub asking : Classes → Place → World
+asking cs place = record { classes = cs; places = place ∷ []; bindings = []; sites = nothing_yet.sites }
+
+-- ---- every invocation, once
+
+-- why an invocation that names this is never linked, wherever it stands
+abbrev pub never_linked : Operand (List ℕ) → Option NotLinkable
+never_linked operand = first_of (
+    then_some (names_array operand) ArrayReceiver
+    ∷ then_some (is_polymorphic operand) PolymorphicSignature
+    ∷ [])
+
+-- the invocation in the method of this number of class c: where it stands, and its instruction
+abbrev pub invocation_of : ℕ → ℕ → Site → Invocation
+invocation_of c i site = record {
+  place = record { class = c; method = i; pc = site.pc };
+  kind = site.kind;
+  never = never_linked site.operand;
+}
+
+-- those of the methods of class c from number i on
+abbrev pub invocations_from : ℕ → ℕ → List Method → List Invocation
+invocations_from c i [] = []
+invocations_from c i (m ∷ ms) = map (invocation_of c i) m.sites ++ invocations_from c (i + 1) ms
+
+-- those of class c, by method and pc, as its class file has them
+abbrev pub invocations_in : Classes → ℕ → List Invocation
+invocations_in cs c = invocations_from c 0 (methods_of cs c)
+
+-- ---- what they come to
+
+abbrev pub found : Result Link Unlinked → Finding
+found (Ok link) = finding.Linked link
+found (Err reason) = finding.Unlinked reason
+
+-- what is never linked isn't linkable; all else has its link from scratch, or the reason that there is none
+abbrev pub finding_in : World → Option NotLinkable → Finding
+finding_in w (Some reason) = finding.NotLinkable reason
+finding_in w None = found (scratch w 0)
+
+-- what the invocation comes to, and what its link rests on
+abbrev pub row_of : Classes → Invocation → Row
+row_of cs invocation = record {
+  place = invocation.place;
+  kind = invocation.kind;
+  finding = finding_in (asking cs invocation.place) invocation.never;
+  rests_on = footprint (asking cs invocation.place) 0;
+}
+
+abbrev pub rows_in : Classes → ℕ → List Row
+rows_in cs c = map (row_of cs) (invocations_in cs c)

@@ -1,0 +1,131 @@
+//! What each invocation of the classes comes to.
+
+ghost use Rattle.std.specs.Prelude.{◌≡◌, map, IfOk, OnOk};
+ghost use Rattle.jl_report.specs.Reports as reports;
+
+use crate::invocation::{Invocation, invocations_in};
+use crate::row::{Finding, Row};
+use indexmap::{IndexMap, IndexSet};
+use jl_callsites::Sites;
+use jl_deps::footprint_of;
+use jl_hierarchy::Classes;
+use jl_relink::{World, link_of};
+use jl_types::{ClassId, NotLinkable, Place, SiteNo};
+use std::alloc::{AllocError, Global};
+use std::marker::Model;
+
+/// Classes, of whose invocations it is told what they come to among these classes. A clause sees the classes.
+pub struct Report {
+    /// Their world, in which one place is requested at most.
+    world: World,
+}
+
+// Written out, since a derived drop is proved anew in each crate that lets one go.
+impl Drop for Report {
+    fn drop(self) {
+        let Report { world: _world } = self;
+    }
+}
+
+impl Model for Report {
+    ghost use Rattle.jl_types.specs.Values.World.{Classes};
+    ghost use Rattle.jl_report.specs.Reports.{IsBare};
+
+    ghost Value = { Classes };
+
+    ghost view = { λ r. r.world.classes };
+
+    ghost invariant = { λ r. IsBare r.world };
+}
+
+impl Report {
+    /// The report of these classes.
+    pub fn of(alloc: Global, classes: Classes) -> Self
+        ensures { result ≡ classes }
+    {
+        Report {
+            world: World {
+                classes,
+                places: IndexSet::new(alloc),
+                bindings: IndexMap::new(alloc),
+                sites: Sites::new(alloc),
+            },
+        }
+    }
+
+    /// The classes.
+    pub fn classes(&self) -> &Classes
+        ensures { result.now ≡ self.now }
+    {
+        &self.world.classes
+    }
+
+    /// What each invocation of the class comes to, by method and pc. Want of memory is an error.
+    pub fn rows_in(&mut self, alloc: Global, class: ClassId) -> Result<Vec<Row>, AllocError>
+        ensures rows { IfOk result (λ rows. rows.items ≡ reports.rows_in self.old class) }
+        ensures stays { self.new ≡ self.old }
+    {
+        let invocations = invocations_in(alloc, &self.world.classes, class)?;
+        rows_of(alloc, &mut self.world, &invocations)
+    }
+}
+
+/// The rows of these invocations, in order. Want of memory is an error.
+fn rows_of(
+    alloc: Global,
+    world: &mut World,
+    invocations: &[Invocation],
+) -> Result<Vec<Row>, AllocError>
+    requires { reports.IsBare world.old }
+    ensures rows { IfOk result (λ rows. rows.items ≡ map (reports.row_of world.old.classes) invocations.now) }
+    ensures classes { world.new.classes ≡ world.old.classes }
+    ensures bare { reports.IsBare world.new }
+{
+    let mut rows = Vec::with_capacity(alloc, invocations.len())?;
+    for invocation in invocations {
+        let row = row_of(alloc, world, *invocation)?;
+        rows.push(row)?;
+    }
+    Ok(rows)
+}
+
+/// The row of the invocation, whose place alone is requested then. Want of memory is an error.
+fn row_of(alloc: Global, world: &mut World, invocation: Invocation) -> Result<Row, AllocError>
+    requires { reports.IsBare world.old }
+    ensures row { IfOk result (λ row. row ≡ reports.row_of world.old.classes invocation) }
+    ensures classes { world.new.classes ≡ world.old.classes }
+    ensures bare { reports.IsBare world.new }
+{
+    request_alone(world, invocation.place)?;
+    Ok(Row {
+        place: invocation.place,
+        kind: invocation.kind,
+        finding: finding_in(world, invocation.never),
+        rests_on: footprint_of(alloc, world, SiteNo::new(0))?,
+    })
+}
+
+/// Requests the place alone. Want of memory is an error.
+fn request_alone(world: &mut World, place: Place) -> Result<(), AllocError>
+    requires { reports.IsBare world.old }
+    ensures asking { OnOk result (world.new ≡ reports.asking world.old.classes place) }
+    ensures classes { world.new.classes ≡ world.old.classes }
+    ensures bare { reports.IsBare world.new }
+{
+    world.places.clear();
+    world.places.insert(place)?;
+    Ok(())
+}
+
+/// What the world's only site comes to, unless it is never linked for this reason.
+fn finding_in(world: &World, never: Option<NotLinkable>) -> Finding
+    ensures { result ≡ reports.finding_in world.now never }
+{
+    if let Some(reason) = never {
+        return Finding::NotLinkable(reason);
+    }
+    match link_of(world, SiteNo::new(0)) {
+        Ok(link) => Finding::Linked(link),
+        Err(reason) => Finding::Unlinked(reason),
+    }
+}
