@@ -1,0 +1,133 @@
+//! What the words behind `linkd report` ask for.
+
+use crate::chosen::{Choice, Chosen};
+use crate::fault::ReportFault;
+use clap::error::ErrorKind;
+use clap::{Arg, ArgAction, ArgMatches, Command, Error as ClapError};
+use std::alloc::{AllocError, Global};
+
+/// How a report is written.
+#[derive(Clone, Copy, Debug, PartialEq, Eq)]
+pub enum Form {
+    /// What there is of each instruction and form, in a few lines.
+    Totals,
+    /// Each invocation, by class and method, and then the totals.
+    Sites,
+    /// Each invocation as a line of JSON.
+    Json,
+}
+
+/// What is asked for.
+#[derive(Debug, Drop)]
+pub struct Asked {
+    pub form: Form,
+    /// Which invocations are reported.
+    pub chosen: Chosen,
+    /// Class files, and folders that have such, whose classes are reported.
+    pub paths: Vec<String>,
+    /// Those whose classes are there, too, and not reported.
+    pub beside: Vec<String>,
+    /// Those whose classes are defined last, and of which it is told which links they drop.
+    pub breaks: Vec<String>,
+}
+
+/// A flag that takes no value.
+fn flag<'a>(alloc: Global, name: &'a str) -> Arg<'a> {
+    Arg::new(alloc, name).long(name).action(ArgAction::SetTrue)
+}
+
+/// An option that takes a path, and may come again.
+fn option<'a>(alloc: Global, name: &'a str) -> Arg<'a> {
+    Arg::new(alloc, name).long(name).action(ArgAction::Append)
+}
+
+/// The words of the subcommand, as clap takes them.
+fn command<'a>(alloc: Global) -> Result<Command<'a>, AllocError> {
+    let paths = Arg::new(alloc, "paths")
+        .required(true)
+        .num_args(1..)
+        .action(ArgAction::Append);
+    Command::new(alloc, "report")
+        .disable_help_flag(true)
+        .arg(flag(alloc, "json"))?
+        .arg(flag(alloc, "sites"))?
+        .arg(option(alloc, "only"))?
+        .arg(option(alloc, "in"))?
+        .arg(option(alloc, "with"))?
+        .arg(option(alloc, "breaks"))?
+        .arg(paths)
+}
+
+/// The values of the option, in order. Want of memory is an error.
+fn texts(alloc: Global, matches: &ArgMatches, id: &str) -> Result<Vec<String>, AllocError> {
+    let mut texts = Vec::new(alloc);
+    if let Some(values) = matches.get_strs(id) {
+        for value in values {
+            texts.push(String::from_str(alloc, value)?)?;
+        }
+    }
+    Ok(texts)
+}
+
+/// The form that the flags ask for.
+fn form_of(matches: &ArgMatches) -> Form {
+    if matches.get_flag("json") {
+        Form::Json
+    } else if matches.get_flag("sites") {
+        Form::Sites
+    } else {
+        Form::Totals
+    }
+}
+
+/// What the invocations that are asked for come to, which may be anything where none is named; none, where a word names nothing. Want of
+/// memory is an error.
+fn choices(alloc: Global, matches: &ArgMatches) -> Result<Option<Vec<Choice>>, AllocError> {
+    let mut choices = Vec::new(alloc);
+    if let Some(words) = matches.get_strs("only") {
+        for word in words {
+            match Choice::named(word) {
+                Some(choice) => choices.push(choice)?,
+                None => return Ok(None),
+            }
+        }
+    }
+    Ok(Some(choices))
+}
+
+/// What the words ask for, `report` first; none, where they ask for nothing.
+///
+/// # Errors
+///
+/// Want of memory.
+pub fn read_asked(alloc: Global, words: &[String]) -> Result<Option<Asked>, ReportFault> {
+    match command(alloc)?.try_get_matches_from(words) {
+        Ok(matches) => asked_by(alloc, &matches),
+        Err(error) => refused(&error),
+    }
+}
+
+/// What the words ask for that are matched so.
+fn asked_by(alloc: Global, matches: &ArgMatches) -> Result<Option<Asked>, ReportFault> {
+    let Some(choices) = choices(alloc, matches)? else {
+        return Ok(None);
+    };
+    Ok(Some(Asked {
+        form: form_of(matches),
+        chosen: Chosen {
+            choices,
+            prefixes: texts(alloc, matches, "in")?,
+        },
+        paths: texts(alloc, matches, "paths")?,
+        beside: texts(alloc, matches, "with")?,
+        breaks: texts(alloc, matches, "breaks")?,
+    }))
+}
+
+/// Nothing, where the words are bad.
+fn refused(error: &ClapError) -> Result<Option<Asked>, ReportFault> {
+    match error.kind() {
+        ErrorKind::OutOfMemory => Err(ReportFault::Memory),
+        _ => Ok(None),
+    }
+}

@@ -1,0 +1,90 @@
+//! Which invocations are reported.
+
+use jl_hierarchy::Classes;
+use jl_report::{Row, Shape};
+use jl_texts::{open_class, push_name};
+use std::alloc::{AllocError, Global};
+
+/// What an invocation comes to, as it is asked for.
+#[derive(Clone, Copy, Debug, PartialEq, Eq)]
+pub enum Choice {
+    /// One method.
+    Direct,
+    /// A table of its receivers, an empty one among them.
+    Table,
+    /// Too many receivers for a table.
+    Mega,
+    /// A further class may change what it comes to.
+    Open,
+    /// It throws.
+    Fault,
+    /// It waits for a class, or for its call site.
+    Waits,
+}
+
+impl Choice {
+    /// The choice of this word, if there is one.
+    pub(crate) fn named(word: &str) -> Option<Choice> {
+        match word {
+            "direct" => Some(Choice::Direct),
+            "table" => Some(Choice::Table),
+            "mega" => Some(Choice::Mega),
+            "open" => Some(Choice::Open),
+            "fault" => Some(Choice::Fault),
+            "waits" => Some(Choice::Waits),
+            _ => None,
+        }
+    }
+
+    /// Whether it is what the row comes to.
+    fn takes(self, classes: &Classes, row: &Row) -> bool {
+        let shape = Shape::of(&row.finding);
+        match self {
+            Choice::Direct => shape == Shape::Direct,
+            Choice::Table => shape == Shape::Table || shape == Shape::NoReceivers,
+            Choice::Mega => shape == Shape::Mega,
+            Choice::Open => open_class(classes, row).is_some(),
+            Choice::Fault => shape == Shape::Throws,
+            Choice::Waits => shape == Shape::Waits || shape == Shape::Unbound,
+        }
+    }
+}
+
+/// Which invocations are reported.
+#[derive(Debug, Drop)]
+pub struct Chosen {
+    /// Those that come to one of these, or all where there are none.
+    pub choices: Vec<Choice>,
+    /// Those in classes whose names begin with one of these, or all where there are none.
+    pub prefixes: Vec<String>,
+}
+
+impl Chosen {
+    /// Whether the invocation of the row is reported, where its class is.
+    pub(crate) fn takes_row(&self, classes: &Classes, row: &Row) -> bool {
+        if self.choices.is_empty() {
+            return true;
+        }
+        for choice in &self.choices {
+            if choice.takes(classes, row) {
+                return true;
+            }
+        }
+        false
+    }
+
+    /// Whether the class of this name is reported. Want of memory is an error.
+    pub(crate) fn takes_class(&self, alloc: Global, name: &[u8]) -> Result<bool, AllocError> {
+        if self.prefixes.is_empty() {
+            return Ok(true);
+        }
+        let mut text = String::new(alloc);
+        push_name(alloc, name, &mut text)?;
+        for prefix in &self.prefixes {
+            if text.as_str().starts_with(prefix.as_str()) {
+                return Ok(true);
+            }
+        }
+        Ok(false)
+    }
+}

@@ -1,0 +1,48 @@
+//! Files that are left out.
+
+use jl_json::{FileRefusal, event_refusal_value};
+use jl_paths::{NoClass, Source};
+use jl_report::Refused;
+use jl_texts::LeftOut;
+use jl_types::Refusal;
+use std::alloc::{AllocError, Global};
+
+/// Adds the files that are no class files. Want of memory is an error.
+pub(crate) fn add_no_classes(
+    alloc: Global,
+    files: Vec<NoClass>,
+    left_out: &mut Vec<LeftOut>,
+) -> Result<(), AllocError> {
+    for file in files {
+        left_out.push(LeftOut {
+            path: file.path,
+            answer: FileRefusal::from(file.fault).to_value(alloc)?,
+        })?;
+    }
+    Ok(())
+}
+
+/// Adds the files of which no classes were made, and tells of each file whether its class is there and is to be reported. Want of memory is
+/// an error.
+pub(crate) fn add_refused(
+    alloc: Global,
+    sources: &[Source],
+    refused: Vec<Refused>,
+    left_out: &mut Vec<LeftOut>,
+) -> Result<Vec<bool>, AllocError> {
+    let mut is_listed = Vec::with_capacity(alloc, sources.len())?;
+    for source in sources {
+        is_listed.push(source.is_reported)?;
+    }
+    for one in refused {
+        let place = one.place;
+        if place < sources.len() && place < is_listed.len() {
+            is_listed[place] = false;
+            left_out.push(LeftOut {
+                path: String::from_str(alloc, sources[place].path.as_str())?,
+                answer: event_refusal_value(alloc, &Refusal::Define(one.fault))?,
+            })?;
+        }
+    }
+    Ok(is_listed)
+}

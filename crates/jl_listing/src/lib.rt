@@ -1,0 +1,20 @@
+//! A report as a user of the program has it: what each invocation of the class files below paths comes to.
+//!
+//! What a report says is a contract of jl_report, and its words are those of jl_texts. Here nothing is proved but that each call returns:
+//! what a file holds and what a terminal shows can't be stated.
+#![tactic(auto)]
+
+// What is asked for.
+mod asked;
+mod chosen;
+
+// From paths to what is written.
+mod fault;
+mod left_out;
+mod page;
+mod report;
+
+pub use asked::{Asked, Form, read_asked};
+pub use chosen::{Choice, Chosen};
+pub use fault::ReportFault;
+pub use report::run_report;

@@ -1,0 +1,183 @@
+//! A report, from paths to what is written.
+
+use crate::asked::Asked;
+use crate::chosen::Chosen;
+use crate::fault::ReportFault;
+use crate::left_out::{add_no_classes, add_refused};
+use crate::page::Page;
+use jl_class::ClassFile;
+use jl_hierarchy::Classes;
+use jl_names::Name;
+use jl_paths::{Gathered, PathFault, read_all};
+use jl_report::{Report, define_all, order_by_name};
+use jl_texts::LeftOut;
+use jl_types::{ClassId, LoaderId};
+use std::alloc::Global;
+use std::io::Write;
+use std::rt::Files;
+
+/// What isn't in a report: files that are left out, and paths that couldn't be read.
+#[derive(Drop)]
+struct Missed {
+    left_out: Vec<LeftOut>,
+    faults: Vec<PathFault>,
+}
+
+/// Reads the class files of the paths, and writes what their invocations come to. A path that can't be read is told to `errors`. It ends
+/// early, and without an error, where `out` is a closed pipe.
+///
+/// # Errors
+///
+/// A path that couldn't be read, behind the report of the others; a failed write; want of memory.
+pub fn run_report<R: Files + AllocGlobal + Clone + Drop, W: Write, E: Write>(
+    rt: &R,
+    asked: &Asked,
+    out: &mut W,
+    errors: &mut E,
+) -> Result<(), ReportFault> {
+    match report(rt, asked, out, errors) {
+        Err(ReportFault::Closed) => Ok(()),
+        ended => ended,
+    }
+}
+
+/// The same, where a closed pipe is an error, too.
+fn report<R: Files + AllocGlobal + Clone + Drop, W: Write, E: Write>(
+    rt: &R,
+    asked: &Asked,
+    out: &mut W,
+    errors: &mut E,
+) -> Result<(), ReportFault> {
+    let mut page = Page::new(rt.alloc(), asked.form);
+    let mut missed = Missed {
+        left_out: Vec::new(rt.alloc()),
+        faults: Vec::new(rt.alloc()),
+    };
+    let mut classes = Classes::new(rt.alloc())?;
+    let own = read_all(rt, &asked.paths, &asked.beside)?;
+    let own = define_gathered(rt.alloc(), &mut classes, own, &mut missed)?;
+    let listed = chosen_of(rt.alloc(), &classes, own, &asked.chosen)?;
+    if asked.breaks.is_empty() {
+        let mut report = Report::of(rt.alloc(), classes);
+        page.add_classes(rt.alloc(), &mut report, &asked.chosen, &listed, out)?;
+    } else {
+        add_both(rt, asked, classes, &listed, &mut page, &mut missed, out)?;
+    }
+    let Missed { left_out, faults } = missed;
+    let mut left_out = left_out;
+    left_out.sort_by(|a, b| a.path.as_str().cmp(b.path.as_str()))?;
+    page.add_end(rt.alloc(), left_out)?;
+    page.write(out)?;
+    tell_faults(&faults, errors)
+}
+
+/// Adds the report of the classes, and then what further ones change in it.
+fn add_both<R: Files + AllocGlobal + Clone + Drop, W: Write>(
+    rt: &R,
+    asked: &Asked,
+    classes: Classes,
+    listed: &[ClassId],
+    page: &mut Page,
+    missed: &mut Missed,
+    out: &mut W,
+) -> Result<(), ReportFault> {
+    let mut more = classes.copy(rt.alloc())?;
+    let mut before = Report::of(rt.alloc(), classes);
+    page.add_classes(rt.alloc(), &mut before, &asked.chosen, listed, out)?;
+    let further = read_all(rt, &asked.breaks, &[])?;
+    let added = define_gathered(rt.alloc(), &mut more, further, missed)?;
+    let mut after = Report::of(rt.alloc(), more);
+    page.add_breaks(
+        rt.alloc(),
+        &mut before,
+        &mut after,
+        &asked.chosen,
+        listed,
+        added.len(),
+        out,
+    )
+}
+
+/// Defines the classes of what was read, and gives those of them that are to be reported.
+fn define_gathered(
+    alloc: Global,
+    classes: &mut Classes,
+    gathered: Gathered,
+    missed: &mut Missed,
+) -> Result<Vec<ClassId>, ReportFault> {
+    let Gathered {
+        files,
+        sources,
+        no_classes,
+        faults,
+    } = gathered;
+    add_no_classes(alloc, no_classes, &mut missed.left_out)?;
+    missed.faults.extend(faults)?;
+    let names = names_of(alloc, &files)?;
+    let refused = define_all(alloc, classes, files)?;
+    let is_listed = add_refused(alloc, &sources, refused, &mut missed.left_out)?;
+    let mut listed = Vec::new(alloc);
+    for (name, is_listed) in names.iter().zip(&is_listed) {
+        if *is_listed {
+            push_class(classes, name, &mut listed)?;
+        }
+    }
+    Ok(listed)
+}
+
+/// The names of the classes of these files.
+fn names_of(alloc: Global, files: &[ClassFile]) -> Result<Vec<Name>, ReportFault> {
+    let mut names = Vec::with_capacity(alloc, files.len())?;
+    for file in files {
+        names.push(file.name().copy(alloc)?)?;
+    }
+    Ok(names)
+}
+
+/// Those of the classes that are reported, by name.
+fn chosen_of(
+    alloc: Global,
+    classes: &Classes,
+    own: Vec<ClassId>,
+    chosen: &Chosen,
+) -> Result<Vec<ClassId>, ReportFault> {
+    let mut listed = Vec::new(alloc);
+    for class in own {
+        if let Some(row) = classes.class_at(class) {
+            if chosen.takes_class(alloc, row.file().name().as_slice())? {
+                listed.push(class)?;
+            }
+        }
+    }
+    order_by_name(alloc, classes, &mut listed)?;
+    Ok(listed)
+}
+
+/// Adds the class of the name.
+fn push_class(
+    classes: &Classes,
+    name: &Name,
+    listed: &mut Vec<ClassId>,
+) -> Result<(), ReportFault> {
+    if let Some(class) = classes.lookup(LoaderId::new(0), name.as_slice()) {
+        listed.push(class)?;
+    }
+    Ok(())
+}
+
+/// Tells of paths that couldn't be read.
+///
+/// # Errors
+///
+/// There is one.
+fn tell_faults<E: Write>(faults: &[PathFault], errors: &mut E) -> Result<(), ReportFault> {
+    if faults.is_empty() {
+        return Ok(());
+    }
+    for fault in faults {
+        let path = fault.path.as_str();
+        let kind = fault.kind;
+        writeln!(errors, "linkd: {path}: {kind}")?;
+    }
+    Err(ReportFault::Device)
+}

@@ -1,0 +1,159 @@
+//! Class files that are read from their paths.
+
+use crate::order::parents_first;
+use crate::paths::{PathFault, Paths};
+use jl_class::ClassFile;
+use jl_classfile::{ClassFault, read_class};
+use std::alloc::{AllocError, Global};
+use std::io::ErrorKind;
+use std::rt::Files;
+use std::{fs, io};
+
+/// A class file longer than this isn't read.
+const MOST_BYTES: u64 = 1_000_000;
+
+/// Where a file was, and whether its class is reported.
+#[derive(Debug, Drop)]
+pub struct Source {
+    pub path: String,
+    pub is_reported: bool,
+}
+
+/// A file that is no class file, and why.
+#[derive(Debug, Drop)]
+pub struct NoClass {
+    pub path: String,
+    pub fault: ClassFault,
+}
+
+/// A class file that was read.
+#[derive(Drop)]
+pub(crate) struct Found {
+    pub(crate) file: ClassFile,
+    source: Source,
+    /// Its place in the order of definition.
+    rank: usize,
+}
+
+/// Class files, parents first, where each was, those that are none, and paths that couldn't be read.
+#[derive(Drop)]
+pub struct Gathered {
+    pub files: Vec<ClassFile>,
+    pub sources: Vec<Source>,
+    pub no_classes: Vec<NoClass>,
+    pub faults: Vec<PathFault>,
+}
+
+/// What is read of the paths, and of those beside them.
+#[derive(Drop)]
+struct Reading {
+    found: Vec<Found>,
+    no_classes: Vec<NoClass>,
+    faults: Vec<PathFault>,
+}
+
+impl Reading {
+    /// Reads what is below the paths.
+    fn add_all<R: Files + AllocGlobal + Clone + Drop>(
+        &mut self,
+        rt: &R,
+        paths: &[String],
+        is_reported: bool,
+    ) -> Result<(), AllocError> {
+        for path in paths {
+            let mut below = Paths {
+                found: Vec::new(rt.alloc()),
+                faults: Vec::new(rt.alloc()),
+            };
+            below.add(rt, path.as_str())?;
+            for path in below.found {
+                self.add(rt, Source { path, is_reported })?;
+            }
+            self.faults.extend(below.faults)?;
+        }
+        Ok(())
+    }
+
+    /// Reads the file.
+    fn add<R: Files + AllocGlobal + Clone + Drop>(
+        &mut self,
+        rt: &R,
+        source: Source,
+    ) -> Result<(), AllocError> {
+        match read_file(rt, source.path.as_str()) {
+            Ok(Ok(file)) => self.found.push(Found {
+                file,
+                source,
+                rank: 0,
+            })?,
+            Ok(Err(ClassFault::Memory)) => return Err(AllocError),
+            Ok(Err(fault)) => self.no_classes.push(NoClass {
+                path: source.path,
+                fault,
+            })?,
+            Err(error) => match error.kind() {
+                ErrorKind::OutOfMemory => return Err(AllocError),
+                kind => self.faults.push(PathFault {
+                    path: source.path,
+                    kind,
+                })?,
+            },
+        }
+        Ok(())
+    }
+}
+
+/// The class file of this path, or why it is none.
+fn read_file<R: Files + AllocGlobal>(
+    rt: &R,
+    path: &str,
+) -> io::Result<Result<ClassFile, ClassFault>> {
+    if fs::metadata(rt, path)?.len() > MOST_BYTES {
+        return Ok(Err(ClassFault::TooLarge));
+    }
+    let bytes = fs::read(rt, path)?;
+    Ok(read_class(rt.alloc(), &bytes))
+}
+
+/// Reads what is below the paths, and what is below those beside them. Parents come first, else names are in order, and of two files of
+/// one name the one of the earlier path comes first.
+pub fn read_all<R: Files + AllocGlobal + Clone + Drop>(
+    rt: &R,
+    paths: &[String],
+    beside: &[String],
+) -> Result<Gathered, AllocError> {
+    let mut reading = Reading {
+        found: Vec::new(rt.alloc()),
+        no_classes: Vec::new(rt.alloc()),
+        faults: Vec::new(rt.alloc()),
+    };
+    reading.add_all(rt, paths, true)?;
+    reading.add_all(rt, beside, false)?;
+    let mut found = reading.found;
+    found.sort_by(|a, b| a.file.name().as_slice().cmp(b.file.name().as_slice()))?;
+    rank_all(rt.alloc(), &mut found)?;
+    let mut files = Vec::with_capacity(rt.alloc(), found.len())?;
+    let mut sources = Vec::with_capacity(rt.alloc(), found.len())?;
+    for one in found {
+        files.push(one.file)?;
+        sources.push(one.source)?;
+    }
+    Ok(Gathered {
+        files,
+        sources,
+        no_classes: reading.no_classes,
+        faults: reading.faults,
+    })
+}
+
+/// Puts the files into the order of definition.
+fn rank_all(alloc: Global, found: &mut Vec<Found>) -> Result<(), AllocError> {
+    let order = parents_first(alloc, found)?;
+    for (rank, place) in order.iter().enumerate() {
+        if let Some(one) = found.get_mut(*place) {
+            one.rank = rank;
+        }
+    }
+    found.sort_unstable_by_key(|one| one.rank);
+    Ok(())
+}

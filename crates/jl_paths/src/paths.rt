@@ -1,0 +1,115 @@
+//! Class files below paths.
+
+use std::alloc::{AllocError, Global};
+use std::fs::DirEntry;
+use std::io::ErrorKind;
+use std::rt::Files;
+use std::{fs, io};
+
+/// A path that couldn't be read, and why.
+#[derive(Debug, Drop)]
+pub struct PathFault {
+    pub path: String,
+    pub kind: ErrorKind,
+}
+
+/// Paths of class files, in order, and those that couldn't be read.
+#[derive(Debug, Drop)]
+pub struct Paths {
+    pub found: Vec<String>,
+    pub faults: Vec<PathFault>,
+}
+
+/// What is in a folder.
+#[derive(Debug, Drop)]
+struct Entry {
+    path: String,
+    is_folder: bool,
+}
+
+impl Paths {
+    /// Adds the file of this path, whatever its name; or of a folder all files at and below it whose names end in `.class`, by
+    /// name, where a link is not followed.
+    pub fn add<R: Files + AllocGlobal + Clone + Drop>(
+        &mut self,
+        rt: &R,
+        path: &str,
+    ) -> Result<(), AllocError> {
+        let own = String::from_str(rt.alloc(), path)?;
+        match fs::metadata(rt, path) {
+            Ok(metadata) if metadata.is_dir() => self.add_folder(rt, own),
+            Ok(_) => Ok(self.found.push(own)?),
+            Err(error) => self.fail(own, error),
+        }
+    }
+
+    /// Adds the class files at and below the folder.
+    fn add_folder<R: Files + AllocGlobal + Clone + Drop>(
+        &mut self,
+        rt: &R,
+        path: String,
+    ) -> Result<(), AllocError> {
+        let mut waiting = Vec::new(rt.alloc());
+        waiting.push(Entry {
+            path,
+            is_folder: true,
+        })?;
+        for _ in 0..u64::MAX {
+            let Some(entry) = waiting.pop() else {
+                break;
+            };
+            self.take(rt, entry, &mut waiting)?;
+        }
+        Ok(())
+    }
+
+    /// Adds a file, or what is in a folder to what is waiting.
+    fn take<R: Files + AllocGlobal + Clone + Drop>(
+        &mut self,
+        rt: &R,
+        entry: Entry,
+        waiting: &mut Vec<Entry>,
+    ) -> Result<(), AllocError> {
+        if !entry.is_folder {
+            return Ok(self.found.push(entry.path)?);
+        }
+        match entries_of(rt, entry.path.as_str()) {
+            Ok(entries) => Ok(waiting.extend(entries)?),
+            Err(error) => self.fail(entry.path, error),
+        }
+    }
+
+    /// Notes that a path couldn't be read; want of memory is an error.
+    fn fail(&mut self, path: String, error: io::Error) -> Result<(), AllocError> {
+        match error.kind() {
+            ErrorKind::OutOfMemory => Err(AllocError),
+            kind => Ok(self.faults.push(PathFault { path, kind })?),
+        }
+    }
+}
+
+/// The folders and class files in a folder, the last one by name first.
+fn entries_of<R: Files + AllocGlobal + Clone + Drop>(rt: &R, path: &str) -> io::Result<Vec<Entry>> {
+    let mut entries = Vec::new(rt.alloc());
+    for entry in fs::read_dir(rt, path)? {
+        if let Some(kept) = kept_of(rt, &entry?)? {
+            entries.push(kept)?;
+        }
+    }
+    entries.sort_unstable_by(|a, b| b.path.as_str().cmp(a.path.as_str()));
+    Ok(entries)
+}
+
+/// The entry, where it is a folder or a class file.
+fn kept_of<R: Files + AllocGlobal + Clone + Drop>(
+    rt: &R,
+    entry: &DirEntry<R, Global>,
+) -> io::Result<Option<Entry>> {
+    let kind = entry.file_type()?;
+    let is_folder = kind.is_dir();
+    if !is_folder && !(kind.is_file() && entry.file_name().ends_with(".class")) {
+        return Ok(None);
+    }
+    let path = String::from_str(rt.alloc(), entry.path().as_str())?;
+    Ok(Some(Entry { path, is_folder }))
+}

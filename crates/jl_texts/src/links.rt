@@ -1,0 +1,287 @@
+//! What an invocation comes to, in words.
+
+use crate::names::push_name;
+use jl_class::{FINAL, INTERFACE, Kind, Operand, Site, has_flag};
+use jl_hierarchy::Classes;
+use jl_names::LentName;
+use jl_report::{Finding, Row};
+use jl_types::{
+    ClassId, Key, Link, MethodId, Missing, NotLinkable, Outcome, Table, Throwable, Unlinked,
+};
+use std::alloc::{AllocError, Global};
+
+/// The name of the instruction (JVMS SE 17 §6.5).
+pub fn instruction(kind: Kind) -> &'static str {
+    match kind {
+        Kind::Virtual => "invokevirtual",
+        Kind::Special => "invokespecial",
+        Kind::Static => "invokestatic",
+        Kind::Interface => "invokeinterface",
+        Kind::Dynamic => "invokedynamic",
+    }
+}
+
+/// The throwable's name in java.lang.
+pub fn throwable_name(throwable: Throwable) -> &'static str {
+    match throwable {
+        Throwable::NoSuchMethodError => "NoSuchMethodError",
+        Throwable::IllegalAccessError => "IllegalAccessError",
+        Throwable::IncompatibleClassChangeError => "IncompatibleClassChangeError",
+        Throwable::AbstractMethodError => "AbstractMethodError",
+        Throwable::NullPointerException => "NullPointerException",
+    }
+}
+
+/// Why an invocation is never linked, in words of FORMATS.
+pub fn never_name(reason: NotLinkable) -> &'static str {
+    match reason {
+        NotLinkable::ArrayReceiver => "ArrayReceiver",
+        NotLinkable::PolymorphicSignature => "PolymorphicSignature",
+    }
+}
+
+/// Appends a decimal number. Want of memory is an error.
+pub fn push_number(number: u64, out: &mut String) -> Result<(), AllocError> {
+    write!(out, "{number}")
+}
+
+/// Appends the name of the class. Want of memory is an error.
+pub fn push_class(
+    alloc: Global,
+    classes: &Classes,
+    class: ClassId,
+    out: &mut String,
+) -> Result<(), AllocError> {
+    match classes.class_at(class) {
+        Some(row) => push_name(alloc, row.file().name().as_slice(), out),
+        None => Ok(()),
+    }
+}
+
+/// Appends the class and the name of the method. Want of memory is an error.
+pub fn push_method(
+    alloc: Global,
+    classes: &Classes,
+    method: &MethodId,
+    out: &mut String,
+) -> Result<(), AllocError> {
+    let Some(row) = classes.class_at(method.class) else {
+        return Ok(());
+    };
+    push_name(alloc, row.file().name().as_slice(), out)?;
+    let methods = row.file().methods();
+    let Some(found) = methods.at(method.index as usize) else {
+        return Ok(());
+    };
+    out.push('.')?;
+    push_name(alloc, found.name().as_slice(), out)
+}
+
+/// Appends what the invocation names. Want of memory is an error.
+pub fn push_operand(
+    alloc: Global,
+    operand: &Operand<LentName<'_>>,
+    out: &mut String,
+) -> Result<(), AllocError> {
+    match operand {
+        Operand::Method(reference) => {
+            push_name(alloc, reference.owner.as_slice(), out)?;
+            out.push('.')?;
+            push_name(alloc, reference.name.as_slice(), out)?;
+            push_name(alloc, reference.ty.as_slice(), out)
+        }
+        Operand::CallSite(specifier) => {
+            push_name(alloc, specifier.name.as_slice(), out)?;
+            push_name(alloc, specifier.ty.as_slice(), out)
+        }
+    }
+}
+
+/// Appends what a receiver's class comes to. Want of memory is an error.
+fn push_outcome(
+    alloc: Global,
+    classes: &Classes,
+    outcome: Outcome,
+    out: &mut String,
+) -> Result<(), AllocError> {
+    match outcome {
+        Outcome::Run(method) => push_method(alloc, classes, &method, out),
+        Outcome::Throws(throwable) => push_throws(throwable, out),
+    }
+}
+
+fn push_throws(throwable: Throwable, out: &mut String) -> Result<(), AllocError> {
+    out.push_str("throws ")?;
+    out.push_str(throwable_name(throwable))
+}
+
+/// Appends the table, each class with what it comes to. Want of memory is an error.
+fn push_table(
+    alloc: Global,
+    classes: &Classes,
+    table: &Table,
+    out: &mut String,
+) -> Result<(), AllocError> {
+    let rows = table.as_slice();
+    if rows.is_empty() {
+        return out.push_str("no receivers");
+    }
+    out.push_str("table of ")?;
+    push_number(rows.len() as u64, out)?;
+    let mut between = ": ";
+    for row in rows {
+        out.push_str(between)?;
+        push_class(alloc, classes, row.0, out)?;
+        out.push_str(" -> ")?;
+        push_outcome(alloc, classes, row.1, out)?;
+        between = ", ";
+    }
+    Ok(())
+}
+
+/// Appends the link. Want of memory is an error.
+fn push_link(
+    alloc: Global,
+    classes: &Classes,
+    row: &Row,
+    link: &Link,
+    out: &mut String,
+) -> Result<(), AllocError> {
+    match link {
+        Link::Fault(throwable) => push_throws(*throwable, out),
+        Link::Plain(method) => push_direct(alloc, classes, Outcome::Run(*method), out),
+        Link::Direct(outcome) => push_direct(alloc, classes, *outcome, out),
+        Link::Table(_, table) => push_table(alloc, classes, table, out),
+        Link::Mega => push_mega(classes, row, out),
+    }
+}
+
+fn push_direct(
+    alloc: Global,
+    classes: &Classes,
+    outcome: Outcome,
+    out: &mut String,
+) -> Result<(), AllocError> {
+    if let Outcome::Run(_) = outcome {
+        out.push_str("direct ")?;
+    }
+    push_outcome(alloc, classes, outcome, out)
+}
+
+fn push_mega(classes: &Classes, row: &Row, out: &mut String) -> Result<(), AllocError> {
+    out.push_str("mega (")?;
+    push_number(receiver_count(classes, row) as u64, out)?;
+    out.push_str(" receivers)")
+}
+
+/// How many classes of receivers the row's link looks at.
+pub fn receiver_count(classes: &Classes, row: &Row) -> usize {
+    match looked_at(row) {
+        Some(class) if classes.has_class(class) => classes.receivers(class).len(),
+        _ => 0,
+    }
+}
+
+/// The class on whose receivers the row's link rests, if there is one.
+fn looked_at(row: &Row) -> Option<ClassId> {
+    match row.rests_on.as_slice().first() {
+        Some(Key::Receivers(class)) => Some(*class),
+        _ => None,
+    }
+}
+
+/// The class or interface of which a further one below may change the row's link, if there is one. A final class gets none
+/// (JVMS SE 17 §5.3.5).
+pub fn open_class(classes: &Classes, row: &Row) -> Option<ClassId> {
+    let class = looked_at(row)?;
+    let flags = classes.class_at(class)?.file().flags();
+    if has_flag(flags, FINAL) && !has_flag(flags, INTERFACE) {
+        return None;
+    }
+    Some(class)
+}
+
+/// Appends what the invocation waits for. Want of memory is an error.
+fn push_waits(
+    alloc: Global,
+    classes: &Classes,
+    site: &Site<'_>,
+    row: &Row,
+    reason: Unlinked,
+    out: &mut String,
+) -> Result<(), AllocError> {
+    match reason {
+        Unlinked::NotReady(Missing::Named) => push_named(alloc, site.operand(), out),
+        Unlinked::NotReady(Missing::CallerHost) => push_host(alloc, classes, row.place.class, out),
+        Unlinked::NotReady(Missing::MethodHost) => {
+            out.push_str("waits for the nest host of the method's class")
+        }
+        Unlinked::Unbound => out.push_str("waits for its call site"),
+        Unlinked::Gone => out.push_str("gone"),
+        Unlinked::NoSite => out.push_str("no invocation"),
+    }
+}
+
+fn push_named(
+    alloc: Global,
+    operand: &Operand<LentName<'_>>,
+    out: &mut String,
+) -> Result<(), AllocError> {
+    out.push_str("waits for ")?;
+    match operand {
+        Operand::Method(reference) => push_name(alloc, reference.owner.as_slice(), out),
+        Operand::CallSite(_) => out.push_str("its call site"),
+    }
+}
+
+fn push_host(
+    alloc: Global,
+    classes: &Classes,
+    class: ClassId,
+    out: &mut String,
+) -> Result<(), AllocError> {
+    out.push_str("waits for ")?;
+    let Some(row) = classes.class_at(class) else {
+        return Ok(());
+    };
+    match row.file().nest_host() {
+        Some(name) => push_name(alloc, name.as_slice(), out),
+        None => Ok(()),
+    }
+}
+
+/// Appends what the invocation comes to. Want of memory is an error.
+pub fn push_finding(
+    alloc: Global,
+    classes: &Classes,
+    site: &Site<'_>,
+    row: &Row,
+    out: &mut String,
+) -> Result<(), AllocError> {
+    match &row.finding {
+        Finding::Linked(link) => {
+            push_link(alloc, classes, row, link, out)?;
+            push_rests(alloc, classes, row, out)
+        }
+        Finding::Unlinked(reason) => push_waits(alloc, classes, site, row, *reason, out),
+        Finding::NotLinkable(reason) => {
+            out.push_str("not linkable: ")?;
+            out.push_str(never_name(*reason))
+        }
+    }
+}
+
+fn push_rests(
+    alloc: Global,
+    classes: &Classes,
+    row: &Row,
+    out: &mut String,
+) -> Result<(), AllocError> {
+    match open_class(classes, row) {
+        Some(class) => {
+            out.push_str("; rests on the subclasses of ")?;
+            push_class(alloc, classes, class, out)
+        }
+        None => Ok(()),
+    }
+}

@@ -1,0 +1,1 @@
+class Egg extends Chicken {}

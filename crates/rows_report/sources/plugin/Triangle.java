@@ -1,0 +1,9 @@
+class Triangle implements Shape {
+    public int area() {
+        return 1;
+    }
+
+    public int twice() {
+        return 2;
+    }
+}
