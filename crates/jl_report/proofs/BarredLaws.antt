@@ -1,5 +1,5 @@
 -- The faults of a definition by loader 0 are one test.
-use Rattle.std.specs.Prelude.{◌≡◌, ◌&&◌, ◌||◌, ◌==◌, Bool, true, false, cond, not, nat_le, is_none, is_some, find, List, [], ◌∷◌, length}
+use Rattle.std.specs.Prelude.{◌≡◌, ◌&&◌, ◌||◌, Bool, true, false, cond, not, nat_le, is_none, is_some, find, List, [], ◌∷◌, length}
 use Rattle.std.specs.Prelude.{Option, Some, None, option_map, option_to_list}
 use Rattle.std.specs.Bool.{then_some}
 use Rattle.std.specs.List.{list_any}
@@ -113,4 +113,7 @@ module _ (cs : Classes) (file : ClassFile) where
       let second = bytes_eq file.name object && false in
       sym (
       test_next unknown fault.UnknownLoader (then_some second fault.SecondObject ∷ from_name)
-      ∙ ap (λ b. unknown || b) (test_next second fault.SecondObject from_name ∙ ap (λ b. b || is_some (first_of from_name)) (and_no (bytes_eq file.name object)) ∙ by_name))
+      ∙ ap (λ b. unknown || b)
+      (test_next second fault.SecondObject from_name
+      ∙ ap (λ b. b || is_some (first_of from_name)) (and_no (bytes_eq file.name object))
+      ∙ by_name))

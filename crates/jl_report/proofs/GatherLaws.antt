@@ -1,8 +1,9 @@
 -- Files that become classes, one after the other, the last one of those that wait first.
-use Rattle.std.proofs.Common.{◌≡◌, ◌∙◌, sym, ap, subst, refl, append_assoc, append-nil, zero-add, arith, ℕ, zero, suc, ◌+◌, ◌≤◌, List, [], ◌∷◌, ◌++◌, map, reverse, length}
+use Rattle.std.proofs.Common.{◌≡◌, ◌∙◌, sym, ap, subst, refl, append_assoc, append-nil, zero-add, arith}
+use Rattle.std.proofs.Common.{ℕ, ◌+◌, ◌≤◌, List, [], ◌∷◌, ◌++◌, map, reverse, length}
 use Rattle.std.specs.Prelude.{slice_get, Option, Some, None, is_some, true, false, All}
-use Rattle.std.specs.List.{AllByRecursion, range_with_len}
-use Rattle.std.proofs.lemmas.List.{map-append, reverse-append, reverse-reverse, length-append, length-reverse}
+use Rattle.std.specs.List.{range_with_len}
+use Rattle.std.proofs.lemmas.List.{map-append, reverse-append, reverse-reverse, length-append}
 use Rattle.std.proofs.lemmas.List.Elements.{All-push, All-nil}
 use Rattle.jl_names.proofs.Tests.{All-front, All-back, All-both}
 use Rattle.jl_types.proofs.Lists.{range_end}

@@ -1,7 +1,6 @@
 -- Which class files become classes, where each waits for its parents (JVMS 5.3.5).
 use Rattle.std.specs.Prelude.{◌≡◌, ℕ, List, ◌∷◌, ◌++◌, map, slice_get, Some, None}
 use Rattle.jl_class.specs.Class.{ClassFile}
-use Rattle.jl_types.specs.declared.refusal.DefineFault.{DefineFault}
 use Rattle.jl_types.specs.Values.World.{Classes}
 use Rattle.jl_types.specs.Happenings.Definitions.{define_fault, defined}
 use Rattle.jl_report.specs.declared.defining.Refused.{Refused}

@@ -1,6 +1,6 @@
 //! Whether loader 0 may define a class, without its file being let go.
 
-ghost use Rattle.std.specs.Prelude.{◌≡◌, ◌||◌, not, nat_le, is_none, is_some, length, option_to_list};
+ghost use Rattle.std.specs.Prelude.{◌≡◌, ◌||◌, not, nat_le, is_none, is_some, length};
 ghost use Rattle.std.specs.List.{list_any};
 ghost use Rattle.std.specs.Option.{option_copied};
 ghost use Rattle.std.specs.Str.{bytes_eq};

@@ -1,6 +1,6 @@
 //! Which class files become classes.
 
-ghost use Rattle.std.specs.Prelude.{◌≡◌, ◌≤◌, ℕ, List, length, reverse, map, All, IfOk, OnOk, is_some, slice_get, true, Some};
+ghost use Rattle.std.specs.Prelude.{◌≡◌, ◌≤◌, ℕ, List, length, reverse, All, IfOk, OnOk, is_some, slice_get, true, Some};
 ghost use Rattle.std.specs.List.{range_with_len};
 ghost use Rattle.jl_class.specs.Class.{ClassFile};
 ghost use Rattle.jl_types.specs.Values.World as world;

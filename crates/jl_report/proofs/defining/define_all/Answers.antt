@@ -1,4 +1,3 @@
-use Rattle.std.proofs.Common.{List}
 use Rattle.std.proofs.lemmas.Result.{IfOk-weaker}
 use Rattle.jl_report.proofs.GatherLaws.{all_gathered}
 use Rattle.jl_report.proofs.defining.define_all.Goals as goal
@@ -13,7 +12,8 @@ returns-then-len-before-clause-each c =
 pub returns-then-len-before-clause-refused : goal.returns-then-len-before-clause-refused
 returns-then-len-before-clause-refused c =
     let files = c.args.files.items in
-    IfOk-weaker c.refusals.result _ _ (λ refused told. told files (c.in_ok-define_some.ensures.files files c.loop-waiting.invariant.of)) c.refusals.ensures.refused
+    IfOk-weaker c.refusals.result _ _
+    (λ refused told. told files (c.in_ok-define_some.ensures.files files c.loop-waiting.invariant.of)) c.refusals.ensures.refused
 
 pub loop-waiting-preserved : goal.loop-waiting-preserved
 loop-waiting-preserved c =
