@@ -1,6 +1,7 @@
 #!/usr/bin/env python3
-"""Holds the tables of docs/PROMISES.md to the sources: each call that they name is a public function, with a clause of each name that
-stands behind it in brackets, and each crate and script that they name is there; and each link of a page leads to a file.
+"""Holds the pages to the sources. Of docs/PROMISES.md each call is a public function, with a clause of each name that stands behind it
+in brackets, and each crate and script is there; of docs/DEFINITIONS.md each definition stands in its file; and each link of a page leads
+to a file.
 
     bench/promises.py     at the top of the repository; prints what isn't so, and ends with status 0 where all is
 """
@@ -32,8 +33,31 @@ def clauses():
     return found
 
 
+def is_stated(name, text):
+    """Whether the definition stands in this text of specs, or of a crate's types."""
+    word = re.escape(name)
+    return re.search(rf"(?:^|\s){word}(?: \(.*\))?(?: \{{.*\}})? :|\b(?:data|record|struct|enum) {word}\b", text, re.M)
+
+
+def definitions():
+    """What the tables of docs/DEFINITIONS.md name that isn't in its file; a type of the code stands in its crate's sources."""
+    wrong = []
+    for section in (TOP / "docs/DEFINITIONS.md").read_text().split("\n## ")[1:]:
+        head, body = section.split("\n", 1)
+        crates = [TOP / "crates" / name for name in re.findall(r"\bjl_\w+", head)]
+        for row in re.findall(r"^\|(.*)\|$", body, re.M) if crates else []:
+            names, files = (re.findall(r"`([^`]+)`", cell) for cell in row.split("|")[:2])
+            found = [path for crate in crates for file in files for path in (crate / "specs").rglob(f"{file}.antt")]
+            if len(found) < len(files):
+                wrong.append(f"docs/DEFINITIONS.md: {head} has not all of {', '.join(files)}")
+            text = "\n".join(path.read_text() for path in found)
+            types = "\n".join(path.read_text() for crate in crates for path in crate.glob("src/*.rt"))
+            wrong += [f"docs/DEFINITIONS.md: {head} has no {name}" for name in names if not is_stated(name, text) and not is_stated(name, types)]
+    return wrong
+
+
 def main():
-    page, found, wrong = (TOP / "docs/PROMISES.md").read_text(), clauses(), []
+    page, found, wrong = (TOP / "docs/PROMISES.md").read_text(), clauses(), definitions()
     for row in re.findall(r"^\|.*\|$", page.split("## What no clause says")[0], re.M):
         for call, names in re.findall(r"`([A-Za-z_:]+)`(?: \(([\w, ]+)\))?", row.split("|")[2]):
             if "/" in call or call.startswith("proofs"):
@@ -56,7 +80,7 @@ def main():
         for link in re.findall(r"\]\(([^)#\s]+)(?:#[^)]*)?\)", file.read_text()):
             if "://" not in link and not (file.parent / link).exists():
                 wrong.append(f"{file}: no {link}")
-    print("\n".join(wrong) if wrong else "each promise names its clauses")
+    print("\n".join(wrong) if wrong else "each promise names its clauses, and each definition stands in its file")
     return 1 if wrong else 0
 
 
