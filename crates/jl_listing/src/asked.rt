@@ -29,6 +29,8 @@ pub struct Asked {
     pub beside: Vec<String>,
     /// Those whose classes are defined last, and of which it is told which links they drop.
     pub breaks: Vec<String>,
+    /// The file into which a page of HTML is written.
+    pub html: Option<String>,
 }
 
 /// A flag that takes no value.
@@ -55,6 +57,7 @@ fn command<'a>(alloc: Global) -> Result<Command<'a>, AllocError> {
         .arg(option(alloc, "in"))?
         .arg(option(alloc, "with"))?
         .arg(option(alloc, "breaks"))?
+        .arg(option(alloc, "html"))?
         .arg(paths)
 }
 
@@ -67,6 +70,12 @@ fn texts(alloc: Global, matches: &ArgMatches, id: &str) -> Result<Vec<String>, A
         }
     }
     Ok(texts)
+}
+
+/// The last value of the option, if there is one. Want of memory is an error.
+fn last_text(alloc: Global, matches: &ArgMatches, id: &str) -> Result<Option<String>, AllocError> {
+    let mut texts = texts(alloc, matches, id)?;
+    Ok(texts.pop())
 }
 
 /// The form that the flags ask for.
@@ -121,6 +130,7 @@ fn asked_by(alloc: Global, matches: &ArgMatches) -> Result<Option<Asked>, Report
         paths: texts(alloc, matches, "paths")?,
         beside: texts(alloc, matches, "with")?,
         breaks: texts(alloc, matches, "breaks")?,
+        html: last_text(alloc, matches, "html")?,
     }))
 }
 

@@ -4,10 +4,11 @@ use crate::asked::Form;
 use crate::chosen::Chosen;
 use crate::fault::ReportFault;
 use jl_class::{ClassFile, Method, Site};
-use jl_report::{Finding, Report, Row};
+use jl_page::{Bar, ClassPart, HtmlPage};
+use jl_report::{Finding, Report, Row, Shape};
 use jl_texts::{
     Former, LeftOut, MissingClasses, Summary, push_finding, push_left_out, push_left_out_line,
-    push_method_line, push_reasons, push_site_line, write_line, write_totals,
+    push_method_line, push_name, push_reasons, push_site_line, write_line, write_totals,
 };
 use jl_types::ClassId;
 use json::Writer;
@@ -26,17 +27,19 @@ pub(crate) struct Page {
     bytes: Vec<u8>,
     summary: Summary,
     missing: MissingClasses,
+    html: Option<HtmlPage>,
 }
 
 impl Page {
-    /// Nothing.
-    pub(crate) fn new(alloc: Global, form: Form) -> Self {
+    /// Nothing, with a page of HTML or without.
+    pub(crate) fn new(alloc: Global, form: Form, has_html: bool) -> Self {
         Page {
             form,
             text: String::new(alloc),
             bytes: Vec::new(alloc),
             summary: Summary::new(),
             missing: MissingClasses::new(alloc),
+            html: has_html.then(|| HtmlPage::new(alloc)),
         }
     }
 }
@@ -172,20 +175,44 @@ impl Page {
             return Ok(());
         };
         let methods = kept.file().methods();
+        let mut part = ClassPart::new(alloc);
         let mut rest = rows.as_slice();
         for index in 0..methods.len() {
             if let Some(method) = methods.at(index) {
                 let count = method.sites().len();
                 if let Some((own, after)) = rest.split_at_checked(count) {
-                    self.add_method(alloc, report, chosen, kept.file(), &method, own)?;
+                    let bar = self.add_method(alloc, report, chosen, kept.file(), &method, own)?;
+                    if self.html.is_some() {
+                        push_method_part(alloc, &method, &bar, &mut part)?;
+                    }
                     rest = after;
                 }
             }
         }
+        self.add_part(alloc, kept.file(), &part)
+    }
+
+    /// Adds the class to the page of HTML, if there is one.
+    fn add_part(
+        &mut self,
+        alloc: Global,
+        file: &ClassFile,
+        part: &ClassPart,
+    ) -> Result<(), ReportFault> {
+        if let Some(html) = &mut self.html {
+            let mut name = String::new(alloc);
+            push_name(alloc, file.name().as_slice(), &mut name)?;
+            html.add_class(alloc, name.as_str(), part)?;
+        }
         Ok(())
     }
 
-    /// Adds those invocations of the method that are reported, of all of which these are the rows.
+    /// The page of HTML, if there is one.
+    pub(crate) fn html(&self) -> Option<&HtmlPage> {
+        self.html.as_ref()
+    }
+
+    /// Adds those invocations of the method that are reported, of all of which these are the rows, and tells what they come to.
     fn add_method(
         &mut self,
         alloc: Global,
@@ -194,21 +221,21 @@ impl Page {
         file: &ClassFile,
         method: &Method<'_>,
         rows: &[Row],
-    ) -> Result<(), ReportFault> {
+    ) -> Result<Bar, ReportFault> {
         let sites = method.sites();
-        let mut is_begun = false;
+        let mut bar = Bar::new();
         for (place, row) in rows.iter().enumerate() {
             if let Some(site) = sites.at(place) {
                 if chosen.takes_row(report.classes(), row) {
-                    if !is_begun {
+                    if bar.all() == 0 {
                         self.begin_method(alloc, file, method)?;
-                        is_begun = true;
                     }
+                    bar.add(Shape::of(&row.finding));
                     self.add_row(alloc, report, method, &site, row)?;
                 }
             }
         }
-        Ok(())
+        Ok(bar)
     }
 
     /// Adds the method, of which an invocation is reported.
@@ -305,6 +332,22 @@ impl Page {
         self.bytes.clear();
         Ok(())
     }
+}
+
+/// Adds the method to its class's part of the page of HTML, if an invocation of it is reported.
+fn push_method_part(
+    alloc: Global,
+    method: &Method<'_>,
+    bar: &Bar,
+    part: &mut ClassPart,
+) -> Result<(), ReportFault> {
+    if bar.all() == 0 {
+        return Ok(());
+    }
+    let mut name = String::new(alloc);
+    push_name(alloc, method.name().as_slice(), &mut name)?;
+    push_name(alloc, method.ty().as_slice(), &mut name)?;
+    Ok(part.add_method(name.as_str(), bar)?)
 }
 
 /// Whether there was a link, and is another one.

@@ -13,7 +13,8 @@ use jl_report::{Report, define_all, order_by_name};
 use jl_texts::LeftOut;
 use jl_types::{ClassId, LoaderId};
 use std::alloc::Global;
-use std::io::Write;
+use std::fs;
+use std::io::{ErrorKind, Write};
 use std::rt::Files;
 
 /// What isn't in a report: files that are left out, and paths that couldn't be read.
@@ -48,7 +49,7 @@ fn report<R: Files + AllocGlobal + Clone + Drop, W: Write, E: Write>(
     out: &mut W,
     errors: &mut E,
 ) -> Result<(), ReportFault> {
-    let mut page = Page::new(rt.alloc(), asked.form);
+    let mut page = Page::new(rt.alloc(), asked.form, asked.html.is_some());
     let mut missed = Missed {
         left_out: Vec::new(rt.alloc()),
         faults: Vec::new(rt.alloc()),
@@ -68,7 +69,34 @@ fn report<R: Files + AllocGlobal + Clone + Drop, W: Write, E: Write>(
     left_out.sort_by(|a, b| a.path.as_str().cmp(b.path.as_str()))?;
     page.add_end(rt.alloc(), left_out)?;
     page.write(out)?;
+    let mut faults = faults;
+    if let Some(path) = &asked.html {
+        write_html(rt, path.as_str(), &page, &mut faults)?;
+    }
     tell_faults(&faults, errors)
+}
+
+/// Writes the page of HTML, if there is one, into the file of this path.
+fn write_html<R: Files + AllocGlobal>(
+    rt: &R,
+    path: &str,
+    page: &Page,
+    faults: &mut Vec<PathFault>,
+) -> Result<(), ReportFault> {
+    let Some(html) = page.html() else {
+        return Ok(());
+    };
+    let text = html.text(rt.alloc())?;
+    match fs::write(rt, path, text.as_str()) {
+        Ok(()) => Ok(()),
+        Err(error) => match error.kind() {
+            ErrorKind::OutOfMemory => Err(ReportFault::Memory),
+            kind => Ok(faults.push(PathFault {
+                path: String::from_str(rt.alloc(), path)?,
+                kind,
+            })?),
+        },
+    }
 }
 
 /// Adds the report of the classes, and then what further ones change in it.
