@@ -1,5 +1,5 @@
 #!/usr/bin/env python3
-"""Compares how `linkd` ends with the table of docs/FORMATS.md, "Lines": its exit status, and its line on the standard error.
+"""Compares how `linkd` ends with the tables of docs/FORMATS.md, "Lines" and "Reports": its exit status, and its line on the standard error.
 
     bench/ends.py [--quiet] PROGRAM     PROGRAM is the built linkd; with --quiet nothing is printed where all is as it must be
 
@@ -13,6 +13,7 @@ import os
 import resource
 import subprocess
 import sys
+import tempfile
 
 LINKS, NO_LINKS = b'{"do":"links"}\n', b'{"links":[]}\n'
 FARM_OF_NONE = b'{"links":[],"reports":[]}\n'
@@ -22,6 +23,8 @@ TOO_LONG, FAILED, NO_MEMORY = (2, b"linkd: line too long\n"), (3, b"linkd: input
 ENDED = (0, b"")
 MODES = (["scan"], ["sketch"], ["run"], ["farm", "--workers", "2"])
 NONE = ([], ["help"], ["--help"], ["scan", "run"], ["Scan"], ["farm"], ["farm", "--workers"], ["farm", "2"])
+NO_REPORTS = (["report"], ["report", "--only", "any", "/"], ["report", "--lines", "/"], ["report", "--help"])
+NO_CLASSES = b"0 invocations in 0 methods of 0 classes\n"
 COUNTS = ("0", "17", "-1", "two", "", "256")
 MEGABYTE = 1 << 20
 
@@ -51,6 +54,22 @@ def words(rows, program):
         rows.expect(f"{mode} without input", run(program, mode), (ENDED, FARM_OF_NONE if mode[0] == "farm" else b""))
     for asked in [*NONE, *(["farm", "--workers", count] for count in COUNTS)]:
         rows.expect(f"the words {asked}", run(program, asked, LINKS), (BAD_WORDS, b""))
+
+
+def reports(rows, program):
+    for asked in NO_REPORTS:
+        rows.expect(f"the words {asked}", run(program, asked), (BAD_WORDS, b""))
+    with tempfile.TemporaryDirectory() as folder:
+        rows.expect("a report of nothing", run(program, ["report", folder]), (ENDED, NO_CLASSES))
+        nowhere = f"{folder}/nowhere"
+        told = f"linkd: {nowhere}: entity not found\n".encode() + FAILED[1]
+        rows.expect("a report of no path", run(program, ["report", nowhere, folder]), ((FAILED[0], told), NO_CLASSES))
+        with open("/dev/full", "wb") as full:
+            rows.expect("a report into a full device", run(program, ["report", folder], stdout=full)[0], FAILED)
+        reader, writer = os.pipe()
+        os.close(reader)
+        rows.expect("a report into a closed pipe", run(program, ["report", folder], stdout=writer)[0], ENDED)
+        os.close(writer)
 
 
 def lines(rows, program):
@@ -89,6 +108,7 @@ def main(*words_given):
     program, quiet = words_given[-1], "--quiet" in words_given
     rows = Rows()
     words(rows, program)
+    reports(rows, program)
     lines(rows, program)
     devices(rows, program)
     rooms(rows, program, ["run"], LINKS, [NO_MEMORY])

@@ -1,32 +1,28 @@
-//! A devirtualizing linker for the JVM, driven by lines.
+//! A devirtualizing linker for the JVM, driven by lines, and a report of class files.
 //!
 //! `linkd scan` reads class files, a line each, and answers what they show. `linkd sketch` writes small class files. `linkd run` reads
 //! commands, a line each, and answers them on one core: it defines classes, links invocations and answers calls. `linkd farm` obeys
-//! commands on a link server, and then links all requested sites by a farm of workers. How the program ends, with which exit status and
-//! which line on the standard error, is an `Ending` of jl_cli.
+//! commands on a link server, and then links all requested sites by a farm of workers. `linkd report` reads class files from paths, and says
+//! what each invocation comes to. How the program ends, with which exit status and which line on the standard error, is an `Ending` of
+//! jl_cli.
 #![tactic(auto)]
 
-ghost use Rattle.std.specs.Prelude.{◌≡◌, ◌≤◌, ℕ, List, IfOk};
+ghost use Rattle.std.specs.Prelude.{◌≡◌, ◌≤◌};
 ghost use Rattle.std.specs.Process.{exit_status};
 ghost use Rattle.jl_cli.specs.Endings.{status_of};
-ghost use Rattle.jl_words.specs.Words.{AskFor};
 
 use jl_cli::{Counted, Ending, Mode, Words, WordsFault, read_words, run_farm, run_lines};
+use jl_listing::{Asked, ReportFault, read_asked, run_report};
 use std::env;
 use std::io::ErrorKind;
 use std::process::ExitCode;
 use std::sync::Wait;
 use std::thread::Threads;
 
-/// What the words of this process ask for.
-fn own_words(rt: &HostRuntime) -> Result<Words, WordsFault>
-    ensures { IfOk result (λ asked. (words : List (List ℕ)) × AskFor asked words) }
-{
+/// The words of this process, the program's name first.
+fn own_words(rt: &HostRuntime) -> Result<Vec<String>, WordsFault> {
     match env::args(rt) {
-        Ok(args) => {
-            let words: Vec<String> = args.collect(rt.alloc())?;
-            read_words(rt.alloc(), &words)
-        }
+        Ok(args) => Ok(args.collect(rt.alloc())?),
         Err(error) if error.kind() == ErrorKind::OutOfMemory => Err(WordsFault::Memory),
         Err(_) => Err(WordsFault::BadWords),
     }
@@ -49,6 +45,53 @@ fn farm(rt: &HostRuntime, threads: &(impl Threads + Wait + Sync), workers: u8) -
     Ending::of_farm(outcome)
 }
 
+/// Reports the class files that are asked for.
+fn report(rt: &HostRuntime, asked: &Asked) -> Ending {
+    let mut output = rt.stdout();
+    let mut errors = rt.stderr();
+    match run_report(rt, asked, &mut output, &mut errors) {
+        Ok(()) => Ending::InputEnded,
+        Err(fault) => ending_of(fault),
+    }
+}
+
+/// How a report ends that isn't whole.
+fn ending_of(fault: ReportFault) -> Ending {
+    match fault {
+        ReportFault::Device => Ending::DeviceFailed,
+        ReportFault::Closed => Ending::InputEnded,
+        ReportFault::Memory => Ending::OutOfMemory,
+    }
+}
+
+/// Does what these words ask for, of which the first is `report`.
+fn obey_report(rt: &HostRuntime, words: &[String]) -> Ending {
+    match read_asked(rt.alloc(), words) {
+        Ok(Some(asked)) => report(rt, &asked),
+        Ok(None) => Ending::BadWords,
+        Err(fault) => ending_of(fault),
+    }
+}
+
+/// Does what the words ask for, the program's name first.
+fn obey(rt: &HostRuntime, threads: &(impl Threads + Wait + Sync), words: &[String]) -> Ending {
+    match read_words(rt.alloc(), words) {
+        Ok(Words::Lines(mode)) => answer_lines(rt, mode),
+        Ok(Words::Farm(workers)) => farm(rt, threads, workers),
+        Err(fault) => fault.into(),
+    }
+}
+
+/// The words behind the program's name, where the first of them is `report`.
+fn report_words(words: &[String]) -> Option<&[String]> {
+    let (_name, rest) = words.split_first()?;
+    if rest.first()?.as_str() == "report" {
+        Some(rest)
+    } else {
+        None
+    }
+}
+
 /// Tells on the standard error how the program ends, and gives its exit status.
 fn told(rt: &HostRuntime, ending: Ending) -> ExitCode
     ensures { exit_status result ≡ status_of ending }
@@ -59,8 +102,10 @@ fn told(rt: &HostRuntime, ending: Ending) -> ExitCode
 
 fn main(rt: HostRuntime) -> ExitCode {
     let ending = match own_words(&rt) {
-        Ok(Words::Lines(mode)) => answer_lines(&rt, mode),
-        Ok(Words::Farm(workers)) => farm(&rt, &rt, workers),
+        Ok(words) => match report_words(&words) {
+            Some(rest) => obey_report(&rt, rest),
+            None => obey(&rt, &rt, &words),
+        },
         Err(fault) => fault.into(),
     };
     told(&rt, ending)
