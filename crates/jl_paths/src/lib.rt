@@ -8,4 +8,4 @@ mod order;
 mod paths;
 
 pub use files::{Gathered, NoClass, Source, read_all};
-pub use paths::{PathFault, Paths};
+pub use paths::PathFault;

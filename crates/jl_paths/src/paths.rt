@@ -15,9 +15,9 @@ pub struct PathFault {
 
 /// Paths of class files, in order, and those that couldn't be read.
 #[derive(Debug, Drop)]
-pub struct Paths {
-    pub found: Vec<String>,
-    pub faults: Vec<PathFault>,
+pub(crate) struct Paths {
+    pub(crate) found: Vec<String>,
+    pub(crate) faults: Vec<PathFault>,
 }
 
 /// What is in a folder.
@@ -30,7 +30,7 @@ struct Entry {
 impl Paths {
     /// Adds the file of this path, whatever its name; or of a folder all files at and below it whose names end in `.class`, by
     /// name, where a link is not followed.
-    pub fn add<R: Files + AllocGlobal + Clone + Drop>(
+    pub(crate) fn add<R: Files + AllocGlobal + Clone + Drop>(
         &mut self,
         rt: &R,
         path: &str,
