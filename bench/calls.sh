@@ -1,6 +1,7 @@
 #!/usr/bin/env bash
 # Calls a second through `Caller::call`, and through `Caller::call_all` with 64 calls an entry, beside the same look-ups over other
-# tables, and the time of an event that changes one slot.
+# tables; calls on objects through tables of eight classes, and at megamorphic links by a memo, by the memo alone and under the server's
+# lock, with the share of calls that memos of several sizes remember; and the time of an event that changes one slot.
 #
 #     bench/calls.sh [CALLS]     calls of each thread (4,000,000, if unset)
 #
@@ -44,6 +45,23 @@ for threads in 1 2 4; do
         some=$(least "$work/tables" "$table" 65536 "$threads" "$calls")
         echo "$threads threads, $table: $(each "$some" "$none" "$calls")"
     done
+done
+for threads in 1 2 4; do
+    none=$(least "$bench" memo 0 "$threads" 0)
+    some=$(least "$bench" memo 0 "$threads" "$calls")
+    echo "$threads threads, drawing a site and a class: $(each "$some" "$none" "$calls")"
+    for kind in '1 call, through tables' '2 call_with' '4 Memo::get' '3 ask'; do
+        many=$calls
+        if [ "${kind%% *}" = 3 ]; then many=$((calls / 10)); fi
+        # the first calls fill the memo
+        none=$(least "$bench" memo "${kind%% *}" "$threads" "$many" 65536)
+        some=$(least "$bench" memo "${kind%% *}" "$threads" $((many + many)) 65536)
+        echo "$threads threads, ${kind#* }, with the drawing: $(each "$some" "$none" "$many")"
+    done
+done
+for sets in 1024 4096 16384; do
+    hits=$("$bench" memo 4 1 "$calls" "$sets")
+    echo "$sets sets: $(python3 -c "print(f'{$hits / $calls * 100:.1f}')") of a hundred calls are remembered"
 done
 for sites in 1024 65536; do
     none=$(least "$bench" call "$sites" 1 0 0 0)

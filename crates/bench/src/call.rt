@@ -101,7 +101,7 @@ fn calls_together<K: Server>(caller: &mut Caller<K>, calls: u32) -> u64 {
 }
 
 /// Applies the event.
-fn apply<K: Server, R: Wait, S: Wait + Drop>(
+pub(crate) fn apply<K: Server, R: Wait, S: Wait + Drop>(
     rt: &R,
     alloc: Global,
     server: &LinkServer<K, S>,
@@ -134,7 +134,7 @@ fn install<K: Server, R: Wait, S: Wait + Drop>(
 }
 
 /// Defines the class of the file.
-fn define<K: Server, R: Wait, S: Wait + Drop>(
+pub(crate) fn define<K: Server, R: Wait, S: Wait + Drop>(
     rt: &R,
     alloc: Global,
     server: &LinkServer<K, S>,
@@ -153,7 +153,7 @@ fn define<K: Server, R: Wait, S: Wait + Drop>(
 }
 
 /// Requests the invocation in the class's first method.
-fn request<K: Server, R: Wait, S: Wait + Drop>(
+pub(crate) fn request<K: Server, R: Wait, S: Wait + Drop>(
     rt: &R,
     alloc: Global,
     server: &LinkServer<K, S>,

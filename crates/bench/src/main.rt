@@ -1,5 +1,5 @@
 //! Measures parts of the product, by itself or from outside. The first word names the part: `read`, `hierarchy`, `snapshot`, `link`, `farm`,
-//! `call` or `wide`; what the others are, what is read from the standard input and what is printed stands at each module. Nothing is
+//! `call`, `memo` or `wide`; what the others are, what is read from the standard input and what is printed stands at each module. Nothing is
 //! proved of it but that it is safe.
 #![tactic(auto)]
 
@@ -9,6 +9,7 @@ mod files;
 mod hierarchy;
 mod input;
 mod link;
+mod memo;
 mod read;
 mod snapshot;
 mod wide;
@@ -37,6 +38,7 @@ fn main(rt: HostRuntime) -> io::Result<()> {
             farm::print(&rt, farm::measure(&rt, rt.alloc(), &input, rest))
         }
         Some("call") => call::print(&rt, call::measure(&rt, rt.alloc(), rest)),
+        Some("memo") => memo::print(&rt, memo::measure(&rt, rt.alloc(), rest)),
         Some("wide") => wide::print(&rt, wide::measure(&rt, rt.alloc(), rest)?),
         _ => Ok(()),
     }
