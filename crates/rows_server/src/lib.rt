@@ -9,6 +9,8 @@ mod definitions;
 #[cfg(test)]
 mod farms;
 #[cfg(test)]
+mod memos;
+#[cfg(test)]
 mod races;
 #[cfg(test)]
 mod replays;

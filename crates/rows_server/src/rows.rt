@@ -2,6 +2,7 @@
 
 ghost use Rattle.std.specs.Prelude.{◌≡◌};
 
+use crate::memos::{remembers, retires};
 use crate::servers::{
     A, C, OBJECT, is_accepted, is_defined, is_installed, is_set_up, method, object_of, request,
     runs,
@@ -32,11 +33,15 @@ enum Row {
     Refused,
     /// The installed links, before and after a definition that drops the one there is.
     Listed,
+    /// Calls at a megamorphic link, which a memo remembers.
+    Remembered,
+    /// The same, where a loader is retired.
+    Retired,
     /// The server goes.
     Gone,
 }
 
-const ROWS: [Row; 9] = [
+const ROWS: [Row; 11] = [
     Row::ByOne,
     Row::ByTwo,
     Row::Unknown,
@@ -45,6 +50,8 @@ const ROWS: [Row; 9] = [
     Row::Snapshot,
     Row::Refused,
     Row::Listed,
+    Row::Remembered,
+    Row::Retired,
     Row::Gone,
 ];
 
@@ -254,6 +261,8 @@ fn is_so<K: Name, R: Wait, S: Wait + Drop>(
         Row::Snapshot => snapshots(rt, alloc, server, first, second),
         Row::Refused => refuses(rt, alloc, server, first, second),
         Row::Listed => lists(rt, alloc, server, first, second),
+        Row::Remembered => remembers(rt, alloc, server, first, second),
+        Row::Retired => retires(rt, alloc, server, first),
         Row::Gone => first.call(SiteNo::new(0), Recv::Null) == Fast::Miss,
     }
 }
