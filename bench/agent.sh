@@ -4,9 +4,10 @@
 #
 #     bench/agent.sh [FOLDER]
 #
-# It needs what tools/library.sh needs, and java, javac and jvmti.h of one JDK from 11 to 17, that of JAVA_HOME or else of java of the PATH;
-# the programs want 17. ENTRIES (10000000) is how many method entries are looked at in each; with all of them it takes four minutes. The reports are left in FOLDER, if it is given, as
-# streams.json, javac.json and loaders.json. It ends with status 0 only where no call differs, and at least 3,000, 20,000 and 1,000 were compared.
+# It needs what tools/library.sh needs, and java, javac, jar and jvmti.h of one JDK, that of JAVA_HOME or else of java of the PATH. The agent is
+# for 11 to 17; the programs want 17. ENTRIES (10000000) is how many method entries are looked at in each; with all of them it takes four
+# minutes. The reports are left in FOLDER, if it is given, as streams.json, javac.json and loaders.json. It ends with status 0 only where no
+# call differs, and at least 3,000, 20,000 and 1,000 were compared.
 set -eu
 top=$(cd "$(dirname "$0")/.." && pwd)
 export LC_ALL=C

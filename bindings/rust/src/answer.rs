@@ -126,6 +126,7 @@ impl fmt::Display for Target {
 }
 
 /// An outcome by its numbers, or none where it is none.
+#[inline]
 fn outcome(kind: u32, class: u32, value: u32) -> Option<Outcome> {
     match kind {
         0 => Some(Outcome::Run { class: ClassId(class), method: u16::try_from(value).ok()? }),
@@ -137,6 +138,7 @@ fn outcome(kind: u32, class: u32, value: u32) -> Option<Outcome> {
 const NO_SUCH_NUMBER: &str = "linkd.h has such a number";
 
 /// An answer, or none on a miss.
+#[inline]
 pub(crate) fn answer(of: raw::Answer) -> Option<Answer> {
     match of.kind {
         2 => Some(Answer::BadReceiver),

@@ -177,6 +177,7 @@ impl Linker {
     }
 
     /// What a call comes to now, on null or on an object of the class, linked or not.
+    #[inline]
     pub fn call(&mut self, site: SiteId, receiver: Option<ClassId>) -> Answer {
         let mut told = raw::Answer::default();
         let status = unsafe { raw::linkd_call(self.at(), site.0, receiver.map_or(raw::NULL, ClassId::number), &mut told) };

@@ -38,6 +38,7 @@ impl Seat {
     }
 
     /// What a call comes to by the links of the last refresh, at once. None is a miss: ask the linker.
+    #[inline]
     pub fn call(&mut self, site: SiteId, receiver: Option<ClassId>) -> Option<Answer> {
         let mut told = raw::Answer::default();
         // SAFETY: the seat is borrowed alone, and the out place for the call.
