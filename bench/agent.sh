@@ -48,7 +48,8 @@ look_at() {
     local compared differences
     compared=$(number_of "$1" compared)
     differences=$(number_of "$1" differences)
-    echo "$1: $(number_of "$1" classes) classes, $(number_of "$1" loaders) loaders, $(number_of "$1" sites) sites, ${compared:-no} calls compared, ${differences:-no} differ"
+    echo "$1: $(number_of "$1" classes) classes, $(number_of "$1" loaders) loaders, $(number_of "$1" sites) sites," \
+        "${compared:-no} calls compared, ${differences:-no} differ"
     if [ "${compared:-0}" -lt "$2" ] || [ "${differences:-1}" != 0 ]; then
         echo "$1: at least $2 calls are wanted, and none that differs" >&2
         status=1
