@@ -89,7 +89,7 @@ for words in "report=$work/nowhere/report" "entries=x" "nonsense"; do
     grep -q '^linkd: classes ' "$work/said"
 done
 "$home/bin/java" -Xcheck:jni -Xshare:off -agentpath:"$agent=check,entries=20000" -cp "$work/classes" Loaders > "$work/said" 2>&1
-if grep -E '^(WARNING in native|FATAL)' "$work/said"; then
+if grep -E '^(WARNING|FATAL)' "$work/said"; then
     status=1
 fi
 if [ $status = 0 ]; then

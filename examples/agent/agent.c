@@ -71,7 +71,7 @@ static void JNICALL on_class_load(jvmtiEnv *jvmti, JNIEnv *jni, jthread thread, 
     pthread_mutex_unlock(&world.lock);
 }
 
-/* Which classes the linker has, the waiting ones left out. */
+/* How many classes the linker has. */
 static uint32_t defined(void) {
     uint32_t count = 0;
     for (uint32_t i = 0; i < world.class_count; i++) count += world.classes[i]->number != NO_NUMBER;
@@ -90,6 +90,7 @@ static void define_loaded(jvmtiEnv *jvmti, JNIEnv *jni) {
     jclass *loaded = NULL;
     uint32_t before;
     if ((*jvmti)->GetLoadedClasses(jvmti, &count, &loaded) != JVMTI_ERROR_NONE) return;
+    expect_references(jni, count);
     do {
         before = defined();
         for (jint i = 0; i < count; i++) class_of(jni, loaded[i]);

@@ -152,6 +152,8 @@ void keep_file(JNIEnv *jni, jobject loader, const char *name, const uint8_t *byt
 void forget_class(jclass from);
 /* The class, which goes to the linker first where that hasn't it yet; null where memory lacks. */
 struct class *class_of(JNIEnv *jni, jclass from);
+/* Tells JNI that JVM TI has handed out so many local references, which are let go one by one. */
+void expect_references(JNIEnv *jni, jint count);
 /* Gives the linker what the loader has recorded from others. */
 void record_all(JNIEnv *jni, uint32_t loader);
 void count_refusal(uint32_t status, uint32_t fault);

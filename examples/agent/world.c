@@ -134,6 +134,11 @@ static void record(uint32_t loader, const struct class *class) {
     else if (status != LINKD_DELEGATE || told.fault != 3) count_refusal(status, told.fault);
 }
 
+void expect_references(JNIEnv *jni, jint count) {
+    enum { OWN = 64 }; /* of the agent's calls in between */
+    if ((*jni)->EnsureLocalCapacity(jni, count + OWN) != JNI_OK) (*jni)->ExceptionClear(jni);
+}
+
 void record_all(JNIEnv *jni, uint32_t loader) {
     jint count = 0;
     jclass *found = NULL;
@@ -142,6 +147,7 @@ void record_all(JNIEnv *jni, uint32_t loader) {
     if (loader != 0 && object == NULL) return;
     world.loaders[loader].going_on = true;
     if ((*world.jvmti)->GetClassLoaderClasses(world.jvmti, object, &count, &found) == JVMTI_ERROR_NONE) {
+        expect_references(jni, count);
         for (jint i = 0; i < count; i++) {
             struct class *class = class_of(jni, found[i]);
             if (class != NULL) record(loader, class);
