@@ -6,6 +6,25 @@ use crate::{Answer, ClassId, Error, Linker, SiteId};
 use std::fmt;
 
 /// One thread's place to read links without a lock. It may outlive its linker, and goes on answering by the links of its last refresh.
+///
+/// While it is refreshed it can't be used: this is no program, and is one without either of the two threads.
+///
+/// ```compile_fail,E0499
+/// fn both(linker: &mut linkd::Linker, seat: &mut linkd::Seat, site: linkd::SiteId) {
+///     std::thread::scope(|threads| {
+///         threads.spawn(|| seat.refresh(linker));
+///         threads.spawn(|| seat.call(site, None));
+///     });
+/// }
+/// ```
+///
+/// ```
+/// fn one(linker: &mut linkd::Linker, seat: &mut linkd::Seat) {
+///     std::thread::scope(|threads| {
+///         threads.spawn(|| seat.refresh(linker));
+///     });
+/// }
+/// ```
 pub struct Seat {
     block: Block,
 }
