@@ -3,10 +3,10 @@
  *     host FOLDER LATE [ROUNDS]
  *
  * FOLDER holds class files NAME.class, java/lang/Object's among them. All but LATE.class are defined in loader 0, their invocations are
- * requested, and those that are ready are installed. Then four threads call each site on null and on each class, at seats of their own,
- * while this one defines LATE and installs what is pending. Each answer has to be the one of the links that the seat was last given. All
- * of this is done ROUNDS (200) times, each time with a new linker. Where a check fails the program says which on standard error, and
- * ends with a status of its own.
+ * requested, and those that are ready are installed. Then four threads call each site on null and on each class, at seats of their own
+ * and by memos of their own where a link is megamorphic, while this one defines LATE and installs what is pending. Each answer has to be
+ * the one of the links that the seat was last given. All of this is done ROUNDS (200) times, each time with a new linker. Where a check
+ * fails the program says which on standard error, and ends with a status of its own.
  */
 #define _POSIX_C_SOURCE 200809L
 #include "linkd.h"
@@ -21,7 +21,7 @@
 #include <string.h>
 #include <time.h>
 
-enum { THREADS = 4, BATCH = 256, MOST_SITES = 4096, CHANGES = 3 };
+enum { THREADS = 4, BATCH = 256, MOST_SITES = 4096, CHANGES = 3, MEMO_SETS = 1024 };
 
 /* How the program ends. */
 enum { BAD_WORDS = 2, BAD_FILE = 3, NO_MEMORY = 4, REFUSED = 5, NO_CALL_THERE = 6, WRONG_ANSWER = 7, LOST_ANSWER = 8, STILL_LINKED = 9,
@@ -254,11 +254,11 @@ static void install_pending(void) {
 /* ---- what has to be answered */
 
 /* Change 0 is the first install, 1 the definition of LATE, 2 the second install. */
-enum known { MISS, ANSWER, ANYTHING };
+enum known { MISS, REMEMBERED, ANSWER, ANYTHING };
 
 struct question {
     linkd_call_answer answer; /* of the linker */
-    enum known known;         /* what a seat has to answer: a miss, this, or anything, since no object can be such a receiver */
+    enum known known;         /* what a seat has to answer: a miss; this, once its memo was asked; this; or anything, since no object can be such a receiver */
 };
 
 static struct {
@@ -290,40 +290,55 @@ static void publish(unsigned change) {
         for (uint32_t number = 0; number < receivers(); number++) {
             struct question *asked = question(change, site, number);
             done(linkd_call(linker, site, receiver(number), &asked->answer), "no call is answered");
-            if (kind == LINKD_NONE || kind == LINKD_MEGA || (looks && number > 0 && receiver(number) >= classes)) asked->known = MISS;
+            if (kind == LINKD_MEGA) asked->known = REMEMBERED;
+            else if (kind == LINKD_NONE || (looks && number > 0 && receiver(number) >= classes)) asked->known = MISS;
             else asked->known = asked->answer.kind == LINKD_BAD_RECEIVER ? ANYTHING : ANSWER;
         }
     }
     atomic_store(&changes, change);
 }
 
-/* What a host does on a miss: it asks the linker, under the lock. */
-static void ask_linker(uint32_t site, uint32_t number) {
+/* What a host does on a miss: it asks the linker, under the lock, and its thread's memo remembers the answer at a megamorphic site. */
+static void ask_linker(linkd_memo *memo, uint32_t site, uint32_t number) {
     linkd_call_answer answer;
     pthread_mutex_lock(&lock);
-    done(linkd_call(linker, site, receiver(number), &answer), "no call is answered");
+    done(linkd_memo_ask(memo, linker, site, receiver(number), &answer), "no call is answered");
     must(same(&answer, &question(atomic_load(&changes), site, number)->answer), WRONG_ANSWER, "the linker takes an answer back at site", site);
     pthread_mutex_unlock(&lock);
 }
 
-static void ask_all(linkd_seat *seat, unsigned seen, bool ask) {
+static void ask_all(linkd_seat *seat, linkd_memo *memo, unsigned seen, bool ask) {
     for (uint32_t site = 0; site < after[seen].sites; site++) {
         for (uint32_t number = 0; number < receivers(); number++) {
             const struct question *asked = question(seen, site, number);
             linkd_call_answer answer;
-            done(linkd_seat_call(seat, site, receiver(number), &answer), "a seat answers no call");
-            if (asked->known == MISS) {
-                must(answer.kind == LINKD_MISS, WRONG_ANSWER, "a seat answers what its links say nothing of, at site", site);
-                if (ask) ask_linker(site, number);
-            } else if (asked->known == ANSWER) {
+            done(linkd_seat_call_with(seat, memo, site, receiver(number), &answer), "a seat answers no call");
+            if (answer.kind == LINKD_MISS && (asked->known == MISS || asked->known == REMEMBERED)) {
+                if (ask) ask_linker(memo, site, number);
+            } else if (asked->known == MISS) {
+                must(false, WRONG_ANSWER, "a seat answers what its links say nothing of, at site", site);
+            } else if (asked->known != ANYTHING) {
                 must(same(&answer, &asked->answer), WRONG_ANSWER, "a seat doesn't answer as the linker did when the seat was refreshed, at site", site);
             }
         }
     }
 }
 
+static linkd_memo *open_memo(void) {
+    linkd_memo *memo = block(linkd_memo_size(), linkd_memo_align());
+    linkd_memo_blank(memo);
+    done(linkd_memo_open(memo, MEMO_SETS), "no memo is opened");
+    return memo;
+}
+
+static void let_memo_go(linkd_memo *memo) {
+    linkd_memo_close(memo);
+    free(memo);
+}
+
 static void *call(void *nothing) {
     linkd_seat *seat = block(linkd_seat_size(), linkd_seat_align());
+    linkd_memo *memo = open_memo();
     linkd_call_answer answer;
     unsigned seen = CHANGES;
     linkd_seat_blank(seat);
@@ -336,10 +351,11 @@ static void *call(void *nothing) {
             done(linkd_seat_refresh(seat, linker), "no seat is refreshed");
             pthread_mutex_unlock(&lock);
         }
-        ask_all(seat, seen, first);
+        ask_all(seat, memo, seen, first);
         if (first) atomic_fetch_add(&passed[seen], 1);
         sched_yield();
     } while (seen + 1 < CHANGES);
+    let_memo_go(memo);
     linkd_seat_leave(seat);
     free(seat);
     return nothing;
@@ -436,6 +452,7 @@ static void play(bool tell, bool let_see) {
 
     /* A seat may outlive the linker. */
     linkd_seat *seat = block(linkd_seat_size(), linkd_seat_align());
+    linkd_memo *memo = open_memo();
     linkd_seat_blank(seat);
     pthread_mutex_lock(&lock);
     done(linkd_seat_refresh(seat, linker), "no seat is refreshed");
@@ -444,7 +461,8 @@ static void play(bool tell, bool let_see) {
     linkd_close(linker);
     must(linkd_seat_refresh(seat, linker) == LINKD_CLOSED, WRONG_ANSWER, "a closed linker gives links", 0);
     free(linker);
-    ask_all(seat, 2, false);
+    ask_all(seat, memo, 2, false);
+    let_memo_go(memo);
     linkd_seat_leave(seat);
     free(seat);
     for (int change = 0; change < CHANGES; change++) free(after[change].questions);
