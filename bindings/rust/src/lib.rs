@@ -12,20 +12,22 @@
 //! # }
 //! ```
 //!
-//! What the header says that a host owes is kept by types: a linker and a seat lie in blocks that aren't moved and go with them, each call
-//! borrows its linker or its seat alone (`&mut`), and ids come from a linker. Behind a `Mutex` a linker is shared by threads, of which each
-//! has a [`Seat`]. One thing is left to the program, since no type says it: it makes no call from a signal handler, or in a forked child of
+//! What the header says that a host owes is kept by types: a linker, a seat and a memo lie in blocks that aren't moved and go with them, each
+//! call borrows its own alone (`&mut`), and ids come from a linker. Behind a `Mutex` a linker is shared by threads, of which each has a [`Seat`],
+//! and a [`Memo`] for megamorphic links. One thing is left to the program, since no type says it: it makes no call from a signal handler, or in a forked child of
 //! a process with threads.
 mod answer;
 mod block;
 mod error;
 mod linker;
+mod memo;
 mod raw;
 mod seat;
 
 pub use answer::{Answer, Link, Outcome, Row, Target, Throwable, Unlinked};
 pub use error::{CallSiteFault, ClassFault, DefineFault, DelegateFault, Error, NotLinkable, RetireFault};
 pub use linker::{CallSiteKind, Linker};
+pub use memo::Memo;
 pub use seat::Seat;
 
 use std::fmt;

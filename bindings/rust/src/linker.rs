@@ -2,8 +2,9 @@ use crate::answer::{answer, link};
 use crate::block::Block;
 use crate::error::done;
 use crate::raw::{self, Told};
-use crate::{Answer, CallSiteId, ClassId, Error, Link, LoaderId, Seat, SiteId, SwitchId, Target};
+use crate::{Answer, CallSiteId, ClassId, Error, Link, LoaderId, Memo, Seat, SiteId, SwitchId, Target};
 use std::fmt;
+use std::sync::atomic::{AtomicU64, Ordering};
 
 /// Whether a call site gets other targets later, and how (java.lang.invoke).
 #[derive(Clone, Copy, Debug, PartialEq, Eq, Hash)]
@@ -30,7 +31,11 @@ impl CallSiteKind {
 pub struct Linker {
     block: Block,
     max_sites: u32,
+    number: u64,
 }
+
+/// How many linkers were opened: each has a number, by which seats and memos tell whose they are.
+static OPENED: AtomicU64 = AtomicU64::new(0);
 
 // SAFETY: another thread may make the next call, and a move to it, or a lock, orders the two.
 unsafe impl Send for Linker {}
@@ -55,7 +60,8 @@ impl Linker {
         let (linker, status) = unsafe {
             let block = Block::new(raw::linkd_size(), raw::linkd_align());
             raw::linkd_blank(block.at());
-            let linker = Linker { block, max_sites };
+            let number = OPENED.fetch_add(1, Ordering::Relaxed);
+            let linker = Linker { block, max_sites, number };
             let status = raw::linkd_open(linker.at(), max_sites);
             (linker, status)
         };
@@ -65,6 +71,10 @@ impl Linker {
 
     pub(crate) fn at(&self) -> *mut raw::Opaque {
         self.block.at()
+    }
+
+    pub(crate) fn number(&self) -> u64 {
+        self.number
     }
 
     /// A loader more.
@@ -206,6 +216,11 @@ impl Linker {
     /// A place for one thread to read links.
     pub fn seat(&mut self) -> Result<Seat, Error> {
         Seat::of(self)
+    }
+
+    /// What one thread remembers of calls at megamorphic links, in so many sets of two.
+    pub fn memo(&self, sets: u32) -> Result<Memo, Error> {
+        Memo::of(self, sets)
     }
 }
 

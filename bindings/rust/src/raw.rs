@@ -1,6 +1,6 @@
 //! The calls of `include/linkd.h`. Nothing compares these declarations with the header but the crate's tests.
 
-/// A linker or a seat, in a block of a size that the library tells.
+/// A linker, a seat or a memo, in a block of a size that the library tells.
 #[repr(C)]
 pub struct Opaque {
     _hidden: [u8; 0],
@@ -79,5 +79,12 @@ extern "C" {
     pub fn linkd_seat_blank(at: *mut Opaque);
     pub fn linkd_seat_refresh(at: *mut Opaque, from: *mut Opaque) -> u32;
     pub fn linkd_seat_call(at: *mut Opaque, site: u32, receiver: u32, answer: *mut Answer) -> u32;
+    pub fn linkd_seat_call_with(at: *mut Opaque, memo: *mut Opaque, site: u32, receiver: u32, answer: *mut Answer) -> u32;
     pub fn linkd_seat_leave(at: *mut Opaque);
+    pub fn linkd_memo_size() -> usize;
+    pub fn linkd_memo_align() -> usize;
+    pub fn linkd_memo_blank(at: *mut Opaque);
+    pub fn linkd_memo_open(at: *mut Opaque, sets: u32) -> u32;
+    pub fn linkd_memo_ask(at: *mut Opaque, from: *mut Opaque, site: u32, receiver: u32, answer: *mut Answer) -> u32;
+    pub fn linkd_memo_close(at: *mut Opaque);
 }

@@ -2,7 +2,7 @@ use crate::answer::answer;
 use crate::block::Block;
 use crate::error::done;
 use crate::raw::{self, Told};
-use crate::{Answer, ClassId, Error, Linker, SiteId};
+use crate::{Answer, ClassId, Error, Linker, Memo, SiteId};
 use std::fmt;
 
 /// One thread's place to read links without a lock. It may outlive its linker, and goes on answering by the links of its last refresh.
@@ -27,6 +27,8 @@ use std::fmt;
 /// ```
 pub struct Seat {
     block: Block,
+    /// The linker of the last refresh.
+    of: u64,
 }
 
 // SAFETY: another thread may make the next call, and a move to it, or a lock, orders the two. A call counts as one on the seat alone.
@@ -44,7 +46,7 @@ impl Seat {
         let mut seat = unsafe {
             let block = Block::new(raw::linkd_seat_size(), raw::linkd_seat_align());
             raw::linkd_seat_blank(block.at());
-            Seat { block }
+            Seat { block, of: linker.number() }
         };
         seat.refresh(linker)?;
         Ok(seat)
@@ -53,7 +55,9 @@ impl Seat {
     /// Gives the seat the linker's links as they are now.
     pub fn refresh(&mut self, from: &mut Linker) -> Result<(), Error> {
         // SAFETY: the seat and the linker are borrowed alone.
-        done(unsafe { raw::linkd_seat_refresh(self.block.at(), from.at()) }, &Told::default())
+        done(unsafe { raw::linkd_seat_refresh(self.block.at(), from.at()) }, &Told::default())?;
+        self.of = from.number();
+        Ok(())
     }
 
     /// What a call comes to by the links of the last refresh, at once. None is a miss: ask the linker.
@@ -63,6 +67,21 @@ impl Seat {
         // SAFETY: the seat is borrowed alone, and the out place for the call.
         let status = unsafe { raw::linkd_seat_call(self.block.at(), site.0, receiver.map_or(raw::NULL, ClassId::number), &mut told) };
         assert_eq!(status, raw::DONE, "a seat has links until it is dropped");
+        answer(told)
+    }
+
+    /// The same, and at a megamorphic link what the memo remembers of such calls, where it is the linker's of the last refresh; null throws
+    /// there at once. None is a miss: ask by the memo ([`Memo::ask`]).
+    #[inline]
+    pub fn call_with(&mut self, memo: &mut Memo, site: SiteId, receiver: Option<ClassId>) -> Option<Answer> {
+        if !memo.is_of(self.of) {
+            return self.call(site, receiver);
+        }
+        let mut told = raw::Answer::default();
+        let number = receiver.map_or(raw::NULL, ClassId::number);
+        // SAFETY: the seat and the memo are borrowed alone, and the out place for the call.
+        let status = unsafe { raw::linkd_seat_call_with(self.block.at(), memo.at(), site.0, number, &mut told) };
+        assert_eq!(status, raw::DONE, "a seat has links and a memo is open until they are dropped");
         answer(told)
     }
 }

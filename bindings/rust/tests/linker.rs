@@ -212,3 +212,36 @@ fn a_command_is_answered_as_text() -> Result<(), Error> {
     assert_eq!(linker.answer("")?, r#"{"error":"BadCommand"}"#);
     Ok(())
 }
+
+#[test]
+fn a_memo_remembers_megamorphic_calls() -> Result<(), Error> {
+    const NAMES: [&str; 9] = ["C1", "C2", "C3", "C4", "C5", "C6", "C7", "C8", "C9"];
+    let World { mut linker, a, site, .. } = world()?;
+    let mut late = Vec::new();
+    for name in NAMES {
+        late.push(linker.define(&with_f(name, "A"))?);
+    }
+    linker.install(&[site])?;
+    assert_eq!(linker.link_of(site), Some(Link::Megamorphic));
+
+    let (mut seat, mut memo) = (linker.seat()?, linker.memo(64)?);
+    for &class in &late {
+        assert_eq!(seat.call_with(&mut memo, site, Some(class)), None);
+        assert_eq!(memo.ask(&mut linker, site, Some(class)), answers(class));
+        assert_eq!(seat.call_with(&mut memo, site, Some(class)), Some(answers(class)));
+    }
+    assert_eq!(seat.call(site, Some(late[0])), None);
+    assert_eq!(seat.call_with(&mut memo, site, Some(a)), None);
+    let null = Answer::Outcome(Outcome::Throws(Throwable::NullPointerException));
+    assert_eq!(seat.call_with(&mut memo, site, None), Some(null));
+
+    // A class that comes later changes nothing of what is remembered, and another linker's memo says nothing here.
+    linker.define(&with_f("D", "C1"))?;
+    seat.refresh(&mut linker)?;
+    assert_eq!(seat.call_with(&mut memo, site, Some(late[0])), Some(answers(late[0])));
+    let World { linker: other, .. } = world()?;
+    let mut stranger = other.memo(64)?;
+    assert_eq!(stranger.ask(&mut linker, site, Some(late[0])), answers(late[0]));
+    assert_eq!(seat.call_with(&mut stranger, site, Some(late[0])), None);
+    Ok(())
+}
