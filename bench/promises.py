@@ -1,7 +1,7 @@
 #!/usr/bin/env python3
 """Holds the pages to the sources. Of docs/PROMISES.md each call is a public function, with a clause of each name that stands behind it
-in brackets, and each crate and script is there; of docs/DEFINITIONS.md each definition stands in its file; and each link of a page leads
-to a file.
+in brackets, and each crate and script is there; of docs/DEFINITIONS.md each definition stands in its file; docs/CRATES.md names each crate
+below those that it uses; and each link of a page leads to a file.
 
     bench/promises.py     at the top of the repository; prints what isn't so, and ends with status 0 where all is
 """
@@ -56,8 +56,24 @@ def definitions():
     return wrong
 
 
+def crates():
+    """The crates that docs/CRATES.md leaves out, or names above one that they use."""
+    rows = re.findall(r"^\| (.*?) \|", (TOP / "docs/CRATES.md").read_text(), re.M)
+    named = [name for row in rows for name in re.findall(r"`crates/(\w+)`", row)]
+    lines = [line.split("#")[0].split(":") for line in (TOP / "crates.txt").read_text().split("\n") if ":" in line.split("#")[0]]
+    uses = {head.split()[0]: used.split() for head, used in lines}
+    wrong = [f"docs/CRATES.md has no {name}" for name in uses if name not in named]
+    places = {name: place for place, name in enumerate(named)}
+    return wrong + [
+        f"docs/CRATES.md has {name} above {used}"
+        for name in uses
+        for used in uses[name]
+        if places.get(used, -1) > places.get(name, len(named))
+    ]
+
+
 def main():
-    page, found, wrong = (TOP / "docs/PROMISES.md").read_text(), clauses(), definitions()
+    page, found, wrong = (TOP / "docs/PROMISES.md").read_text(), clauses(), definitions() + crates()
     for row in re.findall(r"^\|.*\|$", page.split("## What no clause says")[0], re.M):
         for call, names in re.findall(r"`([A-Za-z_:]+)`(?: \(([\w, ]+)\))?", row.split("|")[2]):
             if "/" in call or call.startswith("proofs"):
