@@ -67,6 +67,13 @@ impl Cache {
         self.links.len()
     }
 
+    /// Whether there is none. Takes no memory.
+    pub fn is_empty(&self) -> bool
+        ensures { result ≡ (length self.now == 0) }
+    {
+        self.len() == 0
+    }
+
     /// Each site that has a link, with it, by rising number. Want of memory is an error.
     pub fn list(&self, alloc: Global) -> Result<Vec<(SiteNo, Link)>, AllocError>
         ensures items { IfOk result (λ rows. rows.items ≡ self.now) }

@@ -1,6 +1,6 @@
 //! What a class file shows.
 
-ghost use Rattle.std.specs.Prelude.{◌≡◌, ◌<◌, ◌^◌, ◌++◌, length, map, slice_get, option_copied, option_to_list, Some, true};
+ghost use Rattle.std.specs.Prelude.{◌≡◌, ◌==◌, ◌<◌, ◌^◌, ◌++◌, length, map, slice_get, option_copied, option_to_list, Some, true};
 ghost use Rattle.jl_class.specs.Flags.{extends_object};
 ghost use Rattle.jl_class.specs.Kept.{method_in};
 
@@ -100,6 +100,13 @@ impl<'a> Methods<'a> {
         ensures { result ≡ length self.now }
     {
         self.kept.len()
+    }
+
+    /// Whether there is none.
+    pub fn is_empty(&self) -> bool
+        ensures { result ≡ (length self.now == 0) }
+    {
+        self.len() == 0
     }
 
     /// The one at this place of the list.

@@ -137,6 +137,13 @@ impl<'a> Sites<'a> {
         self.kept.len()
     }
 
+    /// Whether there is none.
+    pub fn is_empty(&self) -> bool
+        ensures { result ≡ (length self.now == 0) }
+    {
+        self.len() == 0
+    }
+
     /// The one at this place of the list.
     pub fn at(&self, place: usize) -> Option<Site<'a>>
         ensures { result ≡ slice_get self.now place }

@@ -1,5 +1,5 @@
 -- What a class file shows of its methods.
-use Rattle.std.proofs.Common.{◌≡◌, ◌≢◌, ℕ, ◌≤◌, List, [], ◌∷◌, ◌++◌, length, Option, Some, refl, sym, ap, subst, ◌∙◌, suc}
+use Rattle.std.proofs.Common.{◌≡◌, ℕ, ◌≤◌, List, [], ◌∷◌, ◌++◌, length, Option, Some, refl, sym, ap, subst, ◌∙◌, suc}
 use Rattle.std.proofs.Common.{◌+◌, ◌-◌, ◌<◌, true, get_or, map, take, drop, length-append, arith}
 use Rattle.std.specs.Prelude.{slice_range, nat_le, codes}
 use Rattle.std.specs.List.{list_all}
@@ -18,7 +18,6 @@ use Rattle.jl_class.specs.Class.{Method}
 use Rattle.jl_code.specs.declared.instruction.Instruction.{Instruction}
 use Rattle.jl_code.specs.declared.code_fault.CodeFault.{CodeFault}
 use Rattle.jl_code.specs.declared.code_fault.CodeFault.TheVariants as code
-use Rattle.jl_classfile.specs.declared.fault.ClassFault.{ClassFault}
 use Rattle.jl_classfile.specs.declared.fault.ClassFault.TheVariants.{Code, Memory}
 use Rattle.jl_pool.specs.Pools.{Pool}
 use Rattle.jl_code.specs.Codes.{IsCode, sites_from}

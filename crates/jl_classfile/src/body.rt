@@ -13,7 +13,7 @@ use std::alloc::{AllocError, AllocFailed, Global};
 use std::marker::Model;
 
 /// An attribute (JVMS SE 17 §4.7): the number of its name, and its bytes.
-#[derive(Debug, Drop)]
+#[derive(Drop)]
 pub struct Attribute<'a> {
     pub name: u16,
     pub info: Text<'a>,
@@ -21,7 +21,7 @@ pub struct Attribute<'a> {
 
 /// Attributes that are read where they are asked for: how many there are, and bytes that begin with them. A clause sees the
 /// list of them.
-#[derive(Debug, Drop)]
+#[derive(Drop)]
 pub struct Attributes<'a> {
     count: u16,
     bytes: &'a [u8],
@@ -65,7 +65,7 @@ impl<'a> Attributes<'a> {
 }
 
 /// A field or a method (§4.5, §4.6): its access flags, the numbers of its name and descriptor, and its attributes.
-#[derive(Debug, Drop)]
+#[derive(Drop)]
 pub struct Member<'a> {
     pub flags: u16,
     pub name: u16,
@@ -74,7 +74,7 @@ pub struct Member<'a> {
 }
 
 /// What stands behind the pool (§4.1).
-#[derive(Debug, Drop)]
+#[derive(Drop)]
 pub struct Body<'a> {
     pub flags: u16,
     pub this_class: u16,
@@ -86,7 +86,7 @@ pub struct Body<'a> {
 }
 
 /// Why no whole part stands at the front.
-#[derive(Clone, Copy, Debug, PartialEq, Eq)]
+#[derive(Clone, Copy)]
 pub enum Broken {
     /// The bytes end before.
     Cut,

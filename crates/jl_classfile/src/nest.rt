@@ -21,7 +21,7 @@ pub const NEST_MEMBERS: &[u8] = b"NestMembers";
 
 /// The numbers of the nest host and of the nest members of a class, where its attributes give them (JVMS SE 17
 /// §4.7.28, §4.7.29).
-#[derive(Debug, Drop)]
+#[derive(Drop)]
 pub struct NestNumbers {
     pub host: Option<u16>,
     pub members: Option<Seq<u16>>,

@@ -11,7 +11,7 @@ ghost use Rattle.jl_classfile.specs.Faults.{HeadFault, CodesFault, IsFault};
 ghost use Rattle.jl_pool.specs.Pools.{class_at};
 ghost use Rattle.jl_classfile.specs.Shown.{shown, name_or_nothing};
 ghost use Rattle.jl_classfile.specs.Conditions.{IsVersion, codes_of, super_fits};
-ghost use Rattle.jl_classfile.specs.Means.Passes.{HasHead, fault_of_code, IsMethodFault, SitesAdded, MethodAdded, MethodsKept, BodyShown, HasPool, Lies};
+ghost use Rattle.jl_classfile.specs.Means.Passes.{HasHead, fault_of_code, IsMethodFault, SitesAdded, MethodAdded, MethodsKept, NamesShown, BodyShown, HasPool, Lies};
 
 use crate::body::{Body, Member, body_at, code_in};
 use crate::fault::ClassFault;
@@ -203,6 +203,34 @@ fn methods_of(
     Ok((Seq::of(methods), sites))
 }
 
+/// The names that a class file shows.
+#[derive(Drop)]
+struct Names {
+    name: Name,
+    superclass: Option<Name>,
+    interfaces: Seq<Name>,
+    nest_host: Option<Name>,
+    nest_members: Seq<Name>,
+}
+
+/// The names that a class file shows whose parts have no fault, kept.
+fn names_of(
+    alloc: Global,
+    pool: &Pool,
+    body: &Body<'_>,
+    nest: &NestNumbers,
+) -> Result<Names, AllocError>
+    ensures { IfOk result (NamesShown pool.now body.now nest.now.host nest.now.members) }
+{
+    Ok(Names {
+        name: kept_class(alloc, pool, body.this_class)?,
+        superclass: kept_class_if_any(alloc, pool, body.super_class)?,
+        interfaces: kept_classes(alloc, pool, body.interfaces.as_slice())?,
+        nest_host: kept_host(alloc, pool, nest.host)?,
+        nest_members: kept_members(alloc, pool, &nest.members)?,
+    })
+}
+
 /// What a class file shows whose parts have no fault outside its codes.
 fn shown(
     alloc: Global,
@@ -216,14 +244,15 @@ fn shown(
     ensures ok { IfOk result (BodyShown pool body.now nest.now.host nest.now.members) }
     ensures fault { IfErr result (λ f. f ≢ Memory → CodesFault pool body.now f) }
 {
+    let names = names_of(alloc, &pool, body, nest)?;
     let (methods, sites) = methods_of(alloc, &pool, body.methods.as_slice())?;
     Ok(ClassFile {
-        name: kept_class(alloc, &pool, body.this_class)?,
+        name: names.name,
         flags: body.flags,
-        superclass: kept_class_if_any(alloc, &pool, body.super_class)?,
-        interfaces: kept_classes(alloc, &pool, body.interfaces.as_slice())?,
-        nest_host: kept_host(alloc, &pool, nest.host)?,
-        nest_members: kept_members(alloc, &pool, &nest.members)?,
+        superclass: names.superclass,
+        interfaces: names.interfaces,
+        nest_host: names.nest_host,
+        nest_members: names.nest_members,
         methods,
         sites,
         pool,

@@ -4,21 +4,27 @@ ghost use Rattle.std.specs.Prelude.{◌≡◌};
 ghost use Rattle.jl_names.specs.declared.fault.NameFault.TheVariants.{Memory};
 
 use std::alloc::{AllocError, AllocFailed};
+use thiserror::Error;
 
 /// Why a text of bytes is not what was asked for. A place is an offset in bytes from the text's
 /// start.
-#[derive(Clone, Copy, Debug, PartialEq, Eq)]
+#[derive(Clone, Copy, Debug, PartialEq, Eq, Error)]
 pub enum NameFault {
     /// No unit's bytes begin at this place (JVMS SE 17 §4.4.7).
+    #[error("BadByte")]
     BadByte(usize),
     /// The text ends within a unit's bytes.
+    #[error("Truncated")]
     Truncated,
     /// A descriptor can't go on with the byte at this place, or ends too early where the place is
     /// the text's length (JVMS SE 17 §4.3).
+    #[error("BadDescriptor")]
     BadDescriptor(usize),
     /// Else a method descriptor, but its parameters take over 255 slots (JVMS SE 17 §4.3.3).
+    #[error("TooManySlots")]
     TooManySlots,
     /// An allocation was refused. Says nothing of the text.
+    #[error("Memory")]
     Memory,
 }
 

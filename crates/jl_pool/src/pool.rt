@@ -1,6 +1,6 @@
 //! The constant pool.
 
-ghost use Rattle.std.specs.Prelude.{◌≡◌, ◌≢◌, ◌+◌, ◌<◌, ◌≤◌, ◌^◌, ◌++◌, [], ◌∷◌, length, Option, option_map, Result, List, ℕ, IfOk, IfErr, true, false};
+ghost use Rattle.std.specs.Prelude.{◌≡◌, ◌==◌, ◌≢◌, ◌+◌, ◌<◌, ◌≤◌, ◌^◌, ◌++◌, [], ◌∷◌, length, Option, option_map, Result, List, ℕ, IfOk, IfErr, true, false};
 ghost use Rattle.std.specs.List.{flat_map};
 ghost use Rattle.jl_pool.specs.declared.constant.Constant.{Constant};
 ghost use Rattle.std.specs.Option.{option_and_then, unwrap_or};
@@ -87,6 +87,13 @@ impl Pool {
         ensures few { result < 2 ^ 16 }
     {
         self.entries.len()
+    }
+
+    /// Whether it has no number, not even 0.
+    pub fn is_empty(&self) -> bool
+        ensures { result ≡ (length self.now == 0) }
+    {
+        self.len() == 0
     }
 
     /// The same as a number of the pool's.

@@ -27,6 +27,7 @@ mod work;
 
 // What comes in, and what is answered.
 mod event;
+mod never_linked;
 mod refusal;
 
 // The laws of the definitions.
@@ -50,6 +51,7 @@ pub use laws::{
 };
 pub use link::{Link, TableKind, same_link};
 pub use loader_id::LoaderId;
+pub use never_linked::{is_polymorphic, names_array};
 pub use refusal::{
     CallSiteFault, DefineFault, DelegateFault, NotLinkable, OrMemory, PrepareFault, Refusal,
     RetireFault, SitesFault,

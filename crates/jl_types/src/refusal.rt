@@ -11,161 +11,220 @@ use crate::loader_id::LoaderId;
 use crate::site_no::SiteNo;
 use jl_names::Name;
 use std::alloc::{AllocError, AllocFailed};
+use std::fmt::Display;
+use thiserror::Error;
 
 /// Why a class isn't defined (JVMS SE 17 §5.3.5).
-#[derive(Debug, Drop)]
+#[derive(Debug, Drop, Error)]
 pub enum DefineFault {
     /// There is no such loader, or it is retired.
+    #[error("Define.UnknownLoader")]
     UnknownLoader,
     /// The loader has recorded a class under this name.
+    #[error("Define.AlreadyRecorded")]
     AlreadyRecorded,
     /// The class is its own superclass or superinterface (ClassCircularityError).
+    #[error("Define.NamesItself")]
     NamesItself,
     /// The loader has recorded no class under the name of the superclass or of this superinterface.
+    #[error("Define.MissingParent")]
     MissingParent(Name),
     /// The superclass is an interface.
+    #[error("Define.SuperIsInterface")]
     SuperIsInterface,
     /// The superclass is final.
+    #[error("Define.FinalSuper")]
     FinalSuper,
     /// This superinterface is no interface.
+    #[error("Define.NotAnInterface")]
     NotAnInterface(Name),
     /// The superclass or this superinterface isn't accessible to the class (§5.4.4).
+    #[error("Define.InaccessibleParent")]
     InaccessibleParent(Name),
     /// java/lang/Object, in a loader other than 0.
+    #[error("Define.SecondObject")]
     SecondObject,
     /// There are 65,536 classes.
+    #[error("Define.Full")]
     Full,
 }
 
 /// Why a loader doesn't record a class of another one.
-#[derive(Clone, Copy, Debug, PartialEq, Eq)]
+#[derive(Clone, Copy, Debug, PartialEq, Eq, Error)]
 pub enum DelegateFault {
     /// There is no such loader, or it is retired, one of the two.
+    #[error("Delegate.UnknownLoader")]
     UnknownLoader,
     /// The other loader has recorded no class under the name.
+    #[error("Delegate.NotRecorded")]
     NotRecorded,
     /// The loader has recorded a class under the name, be it the same one.
+    #[error("Delegate.AlreadyRecorded")]
     AlreadyRecorded,
 }
 
 /// Why a loader isn't retired.
-#[derive(Clone, Copy, Debug, PartialEq, Eq)]
+#[derive(Clone, Copy, Debug, PartialEq, Eq, Error)]
 pub enum RetireFault {
     /// There is no such loader, or it is retired.
+    #[error("Retire.UnknownLoader")]
     UnknownLoader,
     /// Loader 0 stays.
+    #[error("Retire.FirstLoader")]
     FirstLoader,
     /// This class of another loader has an ancestor in it.
+    #[error("Retire.Inherited")]
     Inherited(ClassId),
     /// This other loader records a class of it.
+    #[error("Retire.Recorded")]
     Recorded(LoaderId),
     /// The target of this call site names a method of one of its classes.
+    #[error("Retire.Targeted")]
     Targeted(CallSiteId),
 }
 
 /// Why a call site or a switch point isn't made or changed (java.lang.invoke).
-#[derive(Clone, Copy, Debug, PartialEq, Eq)]
+#[derive(Clone, Copy, Debug, PartialEq, Eq, Error)]
 pub enum CallSiteFault {
     /// There is no such call site.
+    #[error("CallSite.UnknownCallSite")]
     UnknownCallSite,
     /// A constant call site keeps its target (UnsupportedOperationException).
+    #[error("CallSite.Constant")]
     Constant,
     /// A method's type isn't the call site's (WrongMethodTypeException).
+    #[error("CallSite.WrongType")]
     WrongType,
     /// There is no such method, or its class is retired, or its name begins with `<`.
+    #[error("CallSite.UnknownMethod")]
     UnknownMethod,
     /// The method isn't static.
+    #[error("CallSite.NotStatic")]
     NotStatic,
     /// There is no such switch point.
+    #[error("CallSite.UnknownSwitch")]
     UnknownSwitch,
     /// The target is deeper than 64, or has more than 255 parts.
+    #[error("CallSite.TooDeep")]
     TooDeep,
     /// There are 65,536 of them.
+    #[error("CallSite.Full")]
     Full,
     /// The target invokes this call site, which doesn't come before the one that gets the target.
+    #[error("CallSite.InvokerOrder")]
     InvokerOrder(CallSiteId),
 }
 
 /// Why a change isn't made.
-#[derive(Debug, Drop)]
+#[derive(Debug, Drop, Error)]
+#[error_bound(F: Display)]
 pub enum OrMemory<F> {
     /// This speaks against it.
+    #[error("{0}")]
     Fault(F),
     /// Want of memory.
+    #[error("Memory")]
     Memory,
 }
 
 /// Why an invocation is never linked here.
-#[derive(Clone, Copy, Debug, PartialEq, Eq)]
+#[derive(Clone, Copy, Debug, PartialEq, Eq, Error)]
 pub enum NotLinkable {
     /// It names a method of an array type.
+    #[error("NotLinkable.ArrayReceiver")]
     ArrayReceiver,
     /// It names a method of java/lang/invoke/MethodHandle or java/lang/invoke/VarHandle.
+    #[error("NotLinkable.PolymorphicSignature")]
     PolymorphicSignature,
 }
 
 /// Why an event is refused. Nothing changes then.
-#[derive(Debug, Drop)]
+#[derive(Debug, Drop, Error)]
 pub enum Refusal {
     /// A class isn't defined.
+    #[error("{0}")]
     Define(DefineFault),
     /// There is no such class, or it is retired.
+    #[error("UnknownClass")]
     UnknownClass,
     /// The class has no invocation at the place.
+    #[error("NoSuchPlace")]
     NoSuchPlace,
     /// The invocation is never linked here.
+    #[error("{0}")]
     NotLinkable(NotLinkable),
     /// As many places are requested as there may be.
+    #[error("SitesFull")]
     SitesFull,
     /// A call site or a switch point isn't made or changed.
+    #[error("{0}")]
     CallSite(CallSiteFault),
     /// The site is no invokedynamic.
+    #[error("NotDynamic")]
     NotDynamic,
     /// The site is bound to this call site.
+    #[error("AlreadyBound")]
     AlreadyBound(CallSiteId),
     /// The call site's type isn't the invokedynamic's descriptor.
+    #[error("TypeMismatch")]
     TypeMismatch,
     /// The link isn't the one that the site has from scratch now, which is this.
+    #[error("Stale")]
     Stale { site: SiteNo, present: Link },
     /// The site has no link from scratch now.
+    #[error("NotReady")]
     NotReady { site: SiteNo },
     /// No place was requested under this number; or, where the site is to be bound, its class is retired.
+    #[error("UnknownSite")]
     UnknownSite { site: SiteNo },
     /// The site comes twice.
+    #[error("Repeated")]
     Repeated { site: SiteNo },
     /// No rows, or more than 256.
+    #[error("BatchSize")]
     BatchSize,
     /// Want of memory.
+    #[error("Memory")]
     Memory,
     /// A loader doesn't record a class of another one.
+    #[error("{0}")]
     Delegate(DelegateFault),
     /// There are 1,024 loaders.
+    #[error("LoadersFull")]
     LoadersFull,
     /// A loader isn't retired.
+    #[error("{0}")]
     Retire(RetireFault),
 }
 
 /// Why the sites of a batch aren't taken, be they prepared or installed.
-#[derive(Clone, Copy, Debug, PartialEq, Eq)]
+#[derive(Clone, Copy, Debug, PartialEq, Eq, Error)]
 pub enum SitesFault {
     /// No place was requested under this number.
+    #[error("UnknownSite")]
     Unknown(SiteNo),
     /// The site comes twice.
+    #[error("Repeated")]
     Repeated(SiteNo),
 }
 
 /// Why links aren't prepared.
-#[derive(Clone, Copy, Debug, PartialEq, Eq)]
+#[derive(Clone, Copy, Debug, PartialEq, Eq, Error)]
 pub enum PrepareFault {
     /// No place was requested under this number.
+    #[error("Prepare.UnknownSite")]
     UnknownSite(SiteNo),
     /// The site has no link from scratch.
+    #[error("Prepare.NotReady")]
     NotReady(SiteNo),
     /// The site comes twice.
+    #[error("Prepare.Repeated")]
     Repeated(SiteNo),
     /// No sites, or more than 256.
+    #[error("Prepare.BatchSize")]
     BatchSize,
     /// Want of memory.
+    #[error("Memory")]
     Memory,
 }
 

@@ -5,6 +5,7 @@ use Rattle.std.specs.List.{Contains, list_all}
 use Rattle.jl_classfile.specs.declared.body.Attribute.{Attribute}
 use Rattle.jl_classfile.specs.declared.body.Member.{Member}
 use Rattle.jl_classfile.specs.declared.body.Body.{Body}
+use Rattle.jl_classfile.specs.declared.read.Names.{Names}
 use Rattle.jl_classfile.specs.declared.body.Broken.{Broken}
 use Rattle.jl_classfile.specs.declared.body.Broken.TheVariants as broken
 use Rattle.jl_pool.specs.declared.pool_fault.PoolFault.{PoolFault}
@@ -114,6 +115,14 @@ pub record MethodAdded (p : Pool) (m : Member) (before after : List KeptSite) (m
 pub record MethodsKept (p : Pool) (ms : List Member) (sites : List KeptSite) (methods : List KeptMethod) : Type 0 where
   pub kept : AreMethodsKept p sites methods
   pub shown : MethodsShown p ms (map (method_in p sites) methods)
+
+-- the names that the body of a class file shows, beside the numbers of its nest attributes
+pub record NamesShown (p : Pool) (b : Body) (host : Option ℕ) (members : Option (List ℕ)) (n : Names) : Type 0 where
+  pub name : n.name ≡ name_or_nothing p b.this_class
+  pub superclass : n.superclass ≡ class_at p b.super_class
+  pub interfaces : n.interfaces ≡ map (name_or_nothing p) b.interfaces
+  pub nest_host : n.nest_host ≡ option_and_then (class_at p) host
+  pub nest_members : n.nest_members ≡ map (name_or_nothing p) (unwrap_or members [])
 
 pub record BodyShown (p : Pool) (b : Body) (host : Option ℕ) (members : Option (List ℕ)) (file : ClassFile) : Type 0 where
   pub codes : List (Option (List Instruction))
