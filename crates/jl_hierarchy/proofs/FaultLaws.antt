@@ -4,7 +4,7 @@ use Rattle.std.specs.Prelude.{◌∷◌, ◌++◌, find, position, length, slice
 use Rattle.std.specs.Bool.{then_some}
 use Rattle.std.specs.List.{position_or_len, list_any}
 use Rattle.std.specs.Str.{bytes_eq}
-use Rattle.std.proofs.Common.{refl, ap, ◌∙◌, arith}
+use Rattle.std.proofs.Common.{refl, ap, sym, ◌∙◌, arith}
 use Rattle.std.proofs.lemmas.Bool.{leb-false}
 use Rattle.jl_types.proofs.Firsts.{test_none, first_none}
 use Rattle.std.proofs.lemmas.Grind.{common_steps}
@@ -53,6 +53,32 @@ found_at p xs i x e h = first_element p xs ∙ ap (option_and_then (slice_get xs
 none_at : {A : Type 0} (p : A → Bool) (xs : List A) → position p xs ≡ None → find p xs ≡ None
 none_at p xs e = first_element p xs ∙ ap (option_and_then (slice_get xs)) e
 
+-- an element is found where a place is
+as_found : {A : Type 0} (p : A → Bool) (xs : List A) → is_none (find p xs) ≡ is_none (position p xs)
+as_found p [] = refl
+as_found p (x ∷ xs) = by_test (p x) refl (as_found p xs)
+  where
+    none_later : (o : Option ℕ) → is_none o ≡ is_none (option_map (λ n. n + 1) o)
+    none_later None = refl
+    none_later (Some n) = refl
+
+    by_test : (b : Bool) → p x ≡ b → is_none (find p xs) ≡ is_none (position p xs)
+        → is_none (cond b (Some x) (find p xs)) ≡ is_none (position p (x ∷ xs))
+    by_test true e rest = ap is_none (sym (first_here p x xs e))
+    by_test false e rest = rest ∙ none_later (position p xs) ∙ ap is_none (sym (first_later p x xs e))
+
+found_first : {A B : Type 0} (f : A → B) (p : A → Bool) (xs : List A) (rest : List (Option B)) → is_some (position p xs) ≡ true
+    → is_none (first_of (option_map f (find p xs) ∷ rest)) ≡ false
+found_first f p xs rest e = by_found (find p xs) (as_found p xs ∙ not_none (position p xs) e)
+  where
+    not_none : (o : Option ℕ) → is_some o ≡ true → is_none o ≡ false
+    not_none None e = cc
+    not_none (Some i) e = refl
+
+    by_found : (o : Option _) → is_none o ≡ false → is_none (first_of (option_map f o ∷ rest)) ≡ false
+    by_found None e = cc
+    by_found (Some x) e = refl
+
 -- faults that come after none
 after : {A : Type 0} (xs ys : List (Option A)) → first_of xs ≡ None → first_of (xs ++ ys) ≡ first_of ys
 after [] ys e = refl
@@ -63,6 +89,14 @@ before : {A : Type 0} (xs ys : List (Option A)) (f : A) → first_of xs ≡ Some
 before [] ys f e = cc
 before (None ∷ xs) ys f e = before xs ys f e
 before (Some x ∷ xs) ys f e = e
+
+some_of : {A : Type 0} (o : Option A) → is_some o ≡ true → (x : A) × (o ≡ Some x)
+some_of None e = cc
+some_of (Some x) e = (x, refl)
+
+pub none_of : {A : Type 0} (o : Option A) → is_some o ≡ false → o ≡ None
+none_of None e = refl
+none_of (Some x) e = cc
 
 module _ (cs : Classes) (loader : ℕ) (file : ClassFile) where
   abbrev is_missing : List ℕ → Bool
@@ -86,6 +120,11 @@ module _ (cs : Classes) (loader : ℕ) (file : ClassFile) where
   abbrev from_missing : List (Option DefineFault)
   from_missing = option_map MissingParent (find is_missing (parent_names file)) ∷ superclass_faults cs loader file ++ from_interfaces
 
+  pub refused_at_first : is_some (first_of (first_faults cs loader file)) ≡ true → false ≡ is_none (define_fault cs loader file)
+  refused_at_first e =
+      let found = some_of (first_of (first_faults cs loader file)) e in
+      sym (ap is_none (before (first_faults cs loader file) from_missing found.0 found.1))
+
   -- what is tested before has no fault
   module _ (first : first_of (first_faults cs loader file) ≡ None) where
     missing_next : define_fault cs loader file ≡ first_of from_missing
@@ -98,6 +137,10 @@ module _ (cs : Classes) (loader : ℕ) (file : ClassFile) where
         ∙ ap (λ o. first_of (option_map MissingParent o ∷ superclass_faults cs loader file ++ from_interfaces))
         (found_at is_missing (parent_names file) i name e h)
 
+    pub refused_as_missing : is_some (position is_missing (parent_names file)) ≡ true → false ≡ is_none (define_fault cs loader file)
+    refused_as_missing e = sym (ap is_none missing_next
+        ∙ found_first MissingParent is_missing (parent_names file) (superclass_faults cs loader file ++ from_interfaces) e)
+
     module _ (missing : position is_missing (parent_names file) ≡ None) where
       superclass_next : define_fault cs loader file ≡ first_of (superclass_faults cs loader file ++ from_interfaces)
       superclass_next =
@@ -108,6 +151,10 @@ module _ (cs : Classes) (loader : ℕ) (file : ClassFile) where
       pub superclass_is : (f : DefineFault) → first_of (superclass_faults cs loader file) ≡ Some f → define_fault cs loader file ≡ Some f
       superclass_is f e = superclass_next ∙ before (superclass_faults cs loader file) from_interfaces f e
 
+      pub refused_by_superclass : is_some (first_of (superclass_faults cs loader file)) ≡ true → false ≡ is_none (define_fault cs loader file)
+      refused_by_superclass e =
+          let found = some_of (first_of (superclass_faults cs loader file)) e in sym (ap is_none (superclass_is found.0 found.1))
+
       module _ (super : first_of (superclass_faults cs loader file) ≡ None) where
         interfaces_next : define_fault cs loader file ≡ first_of from_interfaces
         interfaces_next = superclass_next ∙ after (superclass_faults cs loader file) from_interfaces super
@@ -116,6 +163,9 @@ module _ (cs : Classes) (loader : ℕ) (file : ClassFile) where
             → define_fault cs loader file ≡ Some (NotAnInterface name)
         interface_is i name e h = interfaces_next ∙ ap (λ o. first_of (option_map NotAnInterface o ∷ from_closed))
             (found_at is_none_such file.interfaces i name e h)
+
+        pub refused_by_interface : is_some (position is_none_such file.interfaces) ≡ true → false ≡ is_none (define_fault cs loader file)
+        refused_by_interface e = sym (ap is_none interfaces_next ∙ found_first NotAnInterface is_none_such file.interfaces from_closed e)
 
         module _ (interfaces : position is_none_such file.interfaces ≡ None) where
           closed_next : define_fault cs loader file ≡ first_of from_closed
@@ -126,6 +176,9 @@ module _ (cs : Classes) (loader : ℕ) (file : ClassFile) where
           closed_is i name e h = closed_next ∙ ap (λ o. first_of (option_map InaccessibleParent o ∷ from_full))
               (found_at is_closed (parent_names file) i name e h)
 
+          pub refused_as_closed : is_some (position is_closed (parent_names file)) ≡ true → false ≡ is_none (define_fault cs loader file)
+          refused_as_closed e = sym (ap is_none closed_next ∙ found_first InaccessibleParent is_closed (parent_names file) from_full e)
+
           module _ (closed : position is_closed (parent_names file) ≡ None) where
             full_next : define_fault cs loader file ≡ first_of from_full
             full_next = closed_next ∙ ap (λ o. first_of (option_map InaccessibleParent o ∷ from_full)) (none_at is_closed (parent_names file) closed)
@@ -135,6 +188,13 @@ module _ (cs : Classes) (loader : ℕ) (file : ClassFile) where
 
             pub accepted_is : nat_le 65536 (length cs.rows) ≡ false → define_fault cs loader file ≡ None
             accepted_is is = full_next ∙ ap (λ b. first_of (then_some b Full ∷ [])) is
+
+            pub admitted_unless_full : not (nat_le 65536 (length cs.rows)) ≡ is_none (define_fault cs loader file)
+            admitted_unless_full = by_room (nat_le 65536 (length cs.rows)) ∙ ap is_none (sym full_next)
+              where
+                by_room : (b : Bool) → not b ≡ is_none (first_of (then_some b Full ∷ []))
+                by_room true = refl
+                by_room false = refl
 
 last_none : {A : Type 0} (xs : List (Option A)) (o : Option A) → first_of (xs ++ o ∷ []) ≡ None → o ≡ None
 last_none [] None e = refl

@@ -3,7 +3,7 @@
 ghost use Rattle.std.specs.Prelude.{◌≡◌, ◌++◌, ◌∷◌, [], IfOk};
 
 use jl_names::Seq;
-use jl_paged::Again;
+use jl_pages::Again;
 use jl_types::ClassId;
 use std::alloc::{AllocError, Global};
 use std::marker::Model;

@@ -13,7 +13,7 @@ use crate::marks::Redeclared;
 use crate::receiving::Receivers;
 use crate::row::Row;
 use indexmap::IndexSet;
-use jl_paged::Paged;
+use jl_pages::Paged;
 use jl_types::{Class, ClassId, LoaderId};
 use std::alloc::{AllocError, Global};
 use std::marker::Model;

@@ -21,7 +21,7 @@ use crate::receiving::{
 };
 use crate::row::Row;
 use jl_class::ClassFile;
-use jl_paged::Paged;
+use jl_pages::Paged;
 use jl_types::{ClassId, DefineFault, LoaderId, OrMemory};
 use std::alloc::{AllocError, Global};
 

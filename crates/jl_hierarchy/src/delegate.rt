@@ -12,13 +12,16 @@ use crate::classes::Classes;
 use crate::loader::{Loader, record_in};
 use jl_types::{ClassId, DelegateFault, LoaderId, OrMemory};
 use std::alloc::{AllocError, Global};
+use thiserror::Error;
 
 /// Why a loader isn't made.
-#[derive(Clone, Copy, Debug, PartialEq, Eq)]
+#[derive(Clone, Copy, Debug, PartialEq, Eq, Error)]
 pub enum LoaderFault {
     /// There are 1,024 loaders.
+    #[error("LoadersFull")]
     Full,
     /// Want of memory.
+    #[error("Memory")]
     Memory,
 }
 

@@ -52,6 +52,29 @@ impl Classes {
         Ok(file)
     }
 
+    /// Whether the loader may define the class of the file, for a caller that keeps the file: what [`admitted`](Classes::admitted)
+    /// says of a file that it takes. Takes no memory.
+    pub fn admits(&self, loader: LoaderId, file: &ClassFile) -> bool
+        ensures { result ≡ is_none (definitions.define_fault self.now loader file.now) }
+    {
+        if self.first_fault(loader, file).is_some() {
+            return false;
+        }
+        if self.missing_parent(loader, file).is_some() {
+            return false;
+        }
+        if self.superclass_fault(loader, file).is_some() {
+            return false;
+        }
+        if self.no_interface(loader, file).is_some() {
+            return false;
+        }
+        if self.inaccessible_parent(loader, file).is_some() {
+            return false;
+        }
+        !self.is_full()
+    }
+
     /// Whether there are as many classes as there may be.
     fn is_full(&self) -> bool
         ensures { result ≡ nat_le 65536 (length self.now.rows) }

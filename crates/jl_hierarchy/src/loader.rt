@@ -10,7 +10,7 @@ ghost use Rattle.jl_hierarchy.specs.Retiring.{is_row_of, own_recorded};
 use crate::retire::{is_row_of, push_if};
 use crate::row::Row;
 use indexmap::IndexMap;
-use jl_paged::Paged;
+use jl_pages::Paged;
 use jl_types::{ClassId, LoaderId};
 use std::alloc::{AllocError, Global};
 use std::marker::Model;

@@ -17,7 +17,7 @@ use crate::loader::Loader;
 use crate::receiving::Receivers;
 use crate::row::Row;
 use indexmap::IndexSet;
-use jl_paged::Paged;
+use jl_pages::Paged;
 use jl_types::{ClassId, LoaderId, RetireFault};
 use smallvec::SmallVec;
 use std::alloc::{AllocError, Global};

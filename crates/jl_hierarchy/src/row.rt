@@ -11,7 +11,7 @@ ghost use Rattle.jl_hierarchy.specs.Prints.{print_of_method, printed_from, has_p
 
 use crate::sought::{Sought, print_of};
 use jl_class::{Method, Methods};
-use jl_paged::Again;
+use jl_pages::Again;
 use jl_types::Class;
 use std::alloc::{AllocError, Global};
 use std::marker::Model;

@@ -1,7 +1,0 @@
-use Rattle.std.proofs.Common.{[], ◌∷◌, ◌++◌, ap, ◌∙◌}
-use Rattle.std.proofs.lemmas.List.{replicate_more}
-use Rattle.jl_slots.proofs.page.filled.Goals as goal
-
-pub loop-preserved : goal.loop-preserved
-loop-preserved g c =
-    c.in_ok-push.ensures.items ∙ (ap (λ xs. xs ++ c.args.element ∷ []) c.loop.invariant ∙ replicate_more c.loop.counter c.args.element)

@@ -1,2 +1,0 @@
--- A means of proof.
-pub mod Means

@@ -1,2 +1,0 @@
--- Means of proof. What is promised doesn't rest on how these say it.
-pub mod Pages
