@@ -6,3 +6,4 @@ pub mod IndexLaws
 pub mod BoundLaws
 pub mod ListLaws
 pub mod WayLaws
+pub mod StageLaws

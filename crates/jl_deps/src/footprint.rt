@@ -75,8 +75,28 @@ fn of_class(alloc: Global, class: Option<ClassId>) -> Result<Footprint, AllocErr
     Ok(Seq::of(keys))
 }
 
-/// The class whose receivers an invocation of the reference in the caller's class looks at.
+/// The class whose receivers an invocation of the reference in the caller's class looks at. Where the instruction looks at none, nothing
+/// is resolved.
 fn looked_at(
+    classes: &Classes,
+    kind: Kind,
+    caller: ClassId,
+    reference: &Reference<LentName<'_>>,
+) -> Option<ClassId>
+    ensures { of_stage classes.now (stages.by_resolution classes.now kind caller reference.now
+        (resolution.resolved classes.now caller reference.now)) ≡ map key.Receivers (option_to_list result) }
+{
+    match kind {
+        Kind::Virtual => resolved_to(classes, kind, caller, reference),
+        Kind::Interface => resolved_to(classes, kind, caller, reference),
+        Kind::Special => None,
+        Kind::Static => None,
+        Kind::Dynamic => None,
+    }
+}
+
+/// The same for any instruction.
+fn resolved_to(
     classes: &Classes,
     kind: Kind,
     caller: ClassId,

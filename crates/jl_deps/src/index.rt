@@ -80,6 +80,13 @@ impl Index {
         self.footprints.len()
     }
 
+    /// Whether there is none. Takes no memory.
+    pub fn is_empty(&self) -> bool
+        ensures { result ≡ (length self.now == 0) }
+    {
+        self.len() == 0
+    }
+
     /// The site has this footprint, in place of the one that it had.
     ///
     /// # Errors
