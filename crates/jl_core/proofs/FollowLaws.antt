@@ -19,10 +19,12 @@ use Rattle.jl_types.specs.declared.key.Key.{Key}
 use Rattle.jl_relink.specs.Laws.{IsInOrder}
 use Rattle.jl_cache.specs.Links.{link_at}
 use Rattle.jl_deps.specs.Indexes.{AreRising, IsIndex}
+use Rattle.jl_events.specs.Accepted.{event_of}
+use Rattle.jl_events.specs.Changes.{IsNext}
 use Rattle.jl_core.specs.declared.log.Entry.{Entry}
 use Rattle.jl_core.specs.State.{State, events, world_of, AreAnswered}
-use Rattle.jl_core.specs.Logs.{event_of, told, are_told, shown, IsLogged}
-use Rattle.jl_core.specs.Means.Replays.{IsBehind, IsNext, IsFurther}
+use Rattle.jl_core.specs.Logs.{told, are_told, shown, IsLogged}
+use Rattle.jl_core.specs.Means.Replays.{IsBehind, IsFurther}
 use Rattle.jl_core.proofs.LogLaws.{length_told}
 use Rattle.jl_core.proofs.HistoryLaws.{core_of, IsExact, exact_links, shown_further, told_further}
 

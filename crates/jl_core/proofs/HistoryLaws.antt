@@ -19,11 +19,12 @@ use Rattle.jl_types.specs.declared.key.Key.{Key}
 use Rattle.jl_types.specs.Happenings.Footprints.{footprint}
 use Rattle.jl_cache.specs.Links.{link_at}
 use Rattle.jl_deps.specs.Indexes.{footprint_at, IsIndex}
+use Rattle.jl_events.proofs.AcceptedLaws.{rows_stay}
 use Rattle.jl_core.specs.declared.log.Entry.{Entry}
 use Rattle.jl_core.specs.State.{State, events, world_of, AreAnswered, IsAccepted}
 use Rattle.jl_core.specs.Logs.{are_told, shown, IsLogged}
 use Rattle.jl_core.specs.Means.Changes.{AreScratch, IsDone}
-use Rattle.jl_core.proofs.LogLaws.{rows_stay, all_still, told_more, shown_more}
+use Rattle.jl_core.proofs.LogLaws.{all_still, told_more, shown_more}
 use Rattle.jl_core.proofs.HeadlineLaws.{answered_more}
 
 -- the core of a log

@@ -1,24 +1,20 @@
 -- What an accepted install leaves installed.
-use Rattle.std.specs.Prelude.{◌≡◌, ℕ, ◌==◌, ◌||◌, Bool, true, false, List, [], ◌∷◌, length, Option, Some, None, map, option_map, Result, Ok, if◌then◌else◌}
-use Rattle.std.specs.Bool.{then_some}
+use Rattle.std.specs.Prelude.{◌≡◌, ℕ, ◌==◌, ◌||◌, Bool, true, false, List, [], ◌∷◌, Option, Some, None, Ok, if◌then◌else◌}
 use Rattle.std.specs.List.{list_any}
 use Rattle.std.proofs.Common.{refl, ap, sym, ◌∙◌}
 use Rattle.std.proofs.lemmas.Bool.Decides.{Decides-eqb}
 use Rattle.std.proofs.lemmas.Option.{same_Some}
 use Rattle.jl_types.specs.declared.link.Link.{Link}
-use Rattle.jl_types.specs.declared.answer.Unlinked.{Unlinked}
-use Rattle.jl_types.specs.Linkage.Links.{same_link}
-use Rattle.jl_types.specs.declared.refusal.Refusal.TheVariants as refusal
 use Rattle.jl_types.specs.Values.World.{World}
 use Rattle.jl_types.specs.Linkage.Resolution.{first_of}
 use Rattle.jl_types.specs.Linkage.Links.{scratch}
-use Rattle.jl_types.specs.Happenings.Batches.{is_bad_size, sites_fault}
-use Rattle.jl_types.specs.Happenings.Events.{of_sites, row_fault, install_fault}
+use Rattle.jl_types.specs.Happenings.Events.{row_fault, install_fault}
 use Rattle.jl_types.specs.Happenings.History.{kept}
 use Rattle.jl_types.proofs.Firsts.{first_none}
 use Rattle.jl_types.proofs.Accepting.{linked, good_link}
 use Rattle.jl_cache.specs.Links.{link_at, link_with}
-use Rattle.jl_core.specs.Means.Judging.{row_faults}
+use Rattle.jl_events.specs.Judging.{row_faults}
+use Rattle.jl_events.proofs.InstallLaws.{each_good}
 use Rattle.jl_core.specs.Means.Changes.{AreScratch}
 use Rattle.jl_core.proofs.KeptLaws.{kept_same, kept_once}
 
@@ -45,28 +41,6 @@ module _ (w : World) (s : ℕ) where
           rest (Some row.1) (λ l f. now ∙ ap linked (same_Some row.1 l f)) ∙ either_way (list_any (λ row. row.0 == s) rows) now
       by_test false is good rest = rest before h
 
-  each_good : (rows : List (ℕ × Link)) → install_fault w rows ≡ None → first_of (row_faults w rows) ≡ None
-  each_good rows e =
-      let unknown = option_map of_sites (sites_fault w [] (map (λ row. row.0) rows)) in
-      let links_faults = first_of (row_faults w rows) ∷ [] in
-      let size = first_none (then_some (is_bad_size (length rows)) refusal.BatchSize) (unknown ∷ links_faults) e in
-      let batch = first_none unknown links_faults size.1 in
-      (first_none (first_of (row_faults w rows)) [] batch.1).0
-
   pub install_keeps : (links rows : List (ℕ × Link)) → install_fault w rows ≡ None → AreScratch w links
       → link_with rows (link_at links s) s ≡ kept (list_any (λ row. row.0 == s) rows) (link_at links s) (scratch w s)
-  install_keeps links rows e h = installed_by (link_at links s) rows (each_good rows e) (h s)
-
--- ---- one row after another
-
-first_row : (w : World) (row : ℕ × Link) (rows : List (ℕ × Link)) (r : Result Link Unlinked) → scratch w row.0 ≡ r
-    → first_of (row_faults w (row ∷ rows)) ≡ first_of (row_fault row.0 row.1 r ∷ row_faults w rows)
-first_row w row rows r e = ap (λ (r : Result Link Unlinked). first_of (row_fault row.0 row.1 r ∷ row_faults w rows)) e
-
-pub stale_row : (w : World) (row : ℕ × Link) (rows : List (ℕ × Link)) (now : Link) → scratch w row.0 ≡ Ok now → same_link now row.1 ≡ false
-    → first_of (row_faults w (row ∷ rows)) ≡ Some (refusal.Stale row.0 now)
-stale_row w row rows now e d = first_row w row rows (Ok now) e ∙ rw d refl
-
-pub good_row : (w : World) (row : ℕ × Link) (rows : List (ℕ × Link)) (now : Link) → scratch w row.0 ≡ Ok now → same_link now row.1 ≡ true
-    → first_of (row_faults w (row ∷ rows)) ≡ first_of (row_faults w rows)
-good_row w row rows now e d = first_row w row rows (Ok now) e ∙ rw d refl
+  install_keeps links rows e h = installed_by (link_at links s) rows (each_good w rows e) (h s)

@@ -28,7 +28,3 @@ kept_if l (Ok now) e = by_test (same_link l now) refl e
     by_test : (b : Bool) → same_link l now ≡ b → is_some (if b then Some now else None) ≡ true → (if b then Some now else None) ≡ Some l
     by_test true is e = ap Some (sym ((link_decides l now).0 is))
     by_test false is e = cc
-
-pub not_some : {A : Type 0} (o : Option A) → is_some o ≡ false → o ≡ None
-not_some None e = refl
-not_some (Some x) e = cc

@@ -1,12 +1,7 @@
-pub mod CallSiteLaws
-pub mod ChangeLaws
-pub mod ConstantLaws
-pub mod PlaceLaws
 pub mod KeptLaws
 pub mod InstallLaws
 pub mod RetireLaws
 pub mod StepLaws
-pub mod InstallCounts
 pub mod RetireSteps
 pub mod LogLaws
 pub mod HistoryLaws

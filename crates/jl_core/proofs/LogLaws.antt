@@ -2,66 +2,26 @@
 use Rattle.std.specs.Prelude.{◌≡◌, ℕ, suc, ◌&&◌, Bool, true, false, List, [], ◌∷◌, ◌++◌, length, slice_get, Option, Some, None, option_map, is_some}
 use Rattle.std.specs.List.{cons_option}
 use Rattle.std.proofs.Common.{refl, ap, ◌∙◌}
-use Rattle.std.proofs.lemmas.Option.{slice_get_within}
 use Rattle.std.proofs.lemmas.List.Elements.{filter_map-append}
 use Rattle.std.proofs.lemmas.List.Folds.{list_all-append}
-use Rattle.jl_class.specs.Class.{ClassFile}
 use Rattle.jl_types.specs.Happenings.Event.{Event}
-use Rattle.jl_types.specs.declared.event.EventOf.TheVariants as event
 use Rattle.jl_types.specs.declared.event.Reply.{Reply}
-use Rattle.jl_types.specs.Values.World.{Class, Classes, World}
-use Rattle.jl_types.specs.Happenings.Events.{step}
-use Rattle.jl_types.specs.Happenings.Definitions.{class_made, defined}
-use Rattle.jl_types.proofs.Lists.{before_end, at_end}
-use Rattle.jl_core.specs.Logs.{Accepted}
+use Rattle.jl_types.specs.Values.World.{Class}
+use Rattle.jl_events.specs.Accepted.{Accepted, event_of}
+use Rattle.jl_events.proofs.AcceptedLaws.{event_still}
 use Rattle.jl_core.specs.declared.log.Entry.{Entry}
-use Rattle.jl_core.specs.Logs.{event_of, told, are_told, shown}
-
--- a class stays where it is
-pub rows_stay : (w : World) (e : Event) (c : ℕ) (row : Class) → slice_get w.classes.rows c ≡ Some row → slice_get (step w e).classes.rows c ≡ Some row
-rows_stay w event.NewLoader c row is = is
-rows_stay w (event.Define loader file) c row is = before_end w.classes.rows (class_made w.classes loader file) c (slice_get_within w.classes.rows c row is) ∙ is
-rows_stay w (event.Delegate loader name to) c row is = is
-rows_stay w (event.Request place) c row is = is
-rows_stay w (event.NewCallSite kind ty target) c row is = is
-rows_stay w (event.SetTarget site target) c row is = is
-rows_stay w event.NewSwitch c row is = is
-rows_stay w (event.Invalidate points) c row is = is
-rows_stay w (event.Bind site call_site) c row is = is
-rows_stay w (event.Install links) c row is = is
-rows_stay w (event.Retire loader) c row is = is
+use Rattle.jl_core.specs.Logs.{told, are_told, shown}
 
 -- ---- where the classes stay
 
 module _ (rows more : List Class) (stay : (c : ℕ) (row : Class) → slice_get rows c ≡ Some row → slice_get more c ≡ Some row) where
-  abbrev defined_by : ℕ → Option Class → Option Event
-  defined_by loader row = option_map (λ (r : Class). event.Define loader r.file) row
-
-  define_still : (loader c : ℕ) (o : Option Class) → slice_get rows c ≡ o → is_some (defined_by loader o) ≡ true
-      → defined_by loader (slice_get more c) ≡ defined_by loader o
-  define_still loader c None is e = cc
-  define_still loader c (Some row) is e = ap (defined_by loader) (stay c row is)
-
-  event_still : (a : Accepted) → is_some (event_of rows a) ≡ true → event_of more a ≡ event_of rows a
-  event_still event.NewLoader e = refl
-  event_still (event.Define loader c) e = define_still loader c (slice_get rows c) refl e
-  event_still (event.Delegate loader name to) e = refl
-  event_still (event.Request place) e = refl
-  event_still (event.NewCallSite kind ty target) e = refl
-  event_still (event.SetTarget site target) e = refl
-  event_still event.NewSwitch e = refl
-  event_still (event.Invalidate points) e = refl
-  event_still (event.Bind site call_site) e = refl
-  event_still (event.Install links) e = refl
-  event_still (event.Retire loader) e = refl
-
   some_event : (o : Option Event) (reply : Reply) → is_some {T = Event × Reply} (option_map (λ (e : Event). (e, reply)) o) ≡ true → is_some o ≡ true
   some_event None reply e = cc
   some_event (Some x) reply e = refl
 
   told_still : (entry : Entry) → is_some (told rows entry) ≡ true → told more entry ≡ told rows entry
   told_still entry e =
-      ap (λ (o : Option Event). option_map (λ (x : Event). (x, entry.reply)) o) (event_still entry.event (some_event (event_of rows entry.event) entry.reply e))
+      ap (λ (o : Option Event). option_map (λ (x : Event). (x, entry.reply)) o) (event_still rows more stay entry.event (some_event (event_of rows entry.event) entry.reply e))
 
   both : (a b : Bool) → (a && b) ≡ true → (a ≡ true) × (b ≡ true)
   both true b e = (refl, e)
@@ -91,11 +51,6 @@ module _ (rows : List Class) (a : Accepted) (reply : Reply) (e : Event) (is : ev
 
   pub shown_more : (entries : List Entry) → shown rows (entries ++ newest ∷ []) ≡ shown rows entries ++ (e, reply) ∷ []
   shown_more entries = filter_map-append (told rows) entries (newest ∷ []) ∙ (λ i. shown rows entries ++ cons_option (tells i) [])
-
--- a definition names the class that it made
-pub defines : (cs : Classes) (loader : ℕ) (file : ClassFile)
-    → event_of (defined cs loader file).rows (event.Define loader (length cs.rows)) ≡ Some (event.Define loader file)
-defines cs loader file = ap (option_map (λ (row : Class). event.Define loader row.file)) (at_end cs.rows (class_made cs loader file))
 
 -- ---- lengths
 

@@ -1,58 +1,27 @@
 -- An accepted event once more: what it needs, and what it leaves as it was.
-use Rattle.std.specs.Prelude.{◌≡◌, ℕ, Bool, true, false, List, map, Option, Some, None, option_map, IsOk, slice_get, if◌then◌else◌}
-use Rattle.std.proofs.Common.{refl, ap, sym, subst, ◌∙◌}
+use Rattle.std.specs.Prelude.{◌≡◌, ℕ, Bool, true, false, List, map, Option, Some, None, option_map, slice_get, if◌then◌else◌}
+use Rattle.std.proofs.Common.{refl, ap, sym, ◌∙◌}
 use Rattle.std.proofs.lemmas.Option.{same_Some}
 use Rattle.jl_types.specs.declared.link.Link.{Link}
 use Rattle.jl_types.specs.Happenings.Event.{Event}
 use Rattle.jl_types.specs.declared.event.EventOf.TheVariants as event
-use Rattle.jl_types.specs.declared.event.Made.TheVariants as made
-use Rattle.jl_types.specs.declared.refusal.Refusal.TheVariants.{Define}
 use Rattle.jl_types.specs.Values.World.{Class, World}
-use Rattle.jl_types.specs.Happenings.Definitions.{define_fault}
 use Rattle.jl_types.specs.Linkage.Links.{scratch}
-use Rattle.jl_types.specs.Happenings.Events.{verdict, step}
+use Rattle.jl_types.specs.Happenings.Events.{step}
 use Rattle.jl_types.specs.Happenings.History.{installs, kept}
-use Rattle.jl_hierarchy.specs.Constancy as constancy
 use Rattle.jl_types.specs.declared.key.Key.{Key}
 use Rattle.jl_types.specs.Happenings.Footprints.{footprint, keys, retires}
 use Rattle.jl_cache.specs.Links.{link_at}
 use Rattle.jl_deps.specs.Indexes.{footprint_at, touched_by, AreRising, IsIndex}
 use Rattle.jl_settle.specs.Settling.{HasChanged, defined_by}
 use Rattle.jl_settle.proofs.SettleLaws.{other}
-use Rattle.jl_core.specs.Logs.{Accepted, event_of}
-use Rattle.jl_core.specs.Means.Changes.{IsAcceptable, installs_at, retires_at}
-use Rattle.jl_core.specs.Means.Replays.{IsNext, IsFurther, IsUntouched}
+use Rattle.jl_events.specs.Accepted.{Accepted, event_of}
+use Rattle.jl_core.specs.Means.Changes.{installs_at, retires_at}
+use Rattle.jl_core.specs.Means.Replays.{IsFurther, IsUntouched}
 use Rattle.jl_core.specs.Means.Touched.{has}
-use Rattle.jl_core.proofs.CallSiteLaws.{no_fault, none_of}
 use Rattle.jl_core.proofs.RetireLaws.{retires_so, links_left, index_left, kept_left}
 use Rattle.jl_core.proofs.StepLaws.{none_touched}
 use Rattle.jl_core.proofs.PlanLaws.{installs_has}
-
--- the event that is told is acceptable, and leads to the world ahead
-module _ (old ahead : World) (told : Accepted) (next : IsNext old ahead told) (e : Event) (tells : event_of ahead.classes.rows told ≡ Some e) where
-  same : next.event ≡ e
-  same = same_Some next.event e (sym next.tells ∙ tells)
-
-  pub acceptable : IsAcceptable old e
-  acceptable = subst (IsAcceptable old) same next.accepted
-
-  pub led : ahead ≡ step old e
-  led = next.step ∙ ap (step old) same
-
-pub next_class : (old ahead : World) (loader c : ℕ) → IsNext old ahead (event.Define loader c) → constancy.IsNext old.classes ahead.classes
-next_class old ahead loader c next = by_row (slice_get ahead.classes.rows c) next.tells
-  where
-    by_row : (o : Option Class) → option_map (λ (row : Class). event.Define loader row.file) o ≡ Some next.event → constancy.IsNext old.classes ahead.classes
-    by_row None e = cc
-    by_row (Some row) e =
-        let same : event.Define loader row.file ≡ next.event = same_Some (event.Define loader row.file) next.event e in
-        let free = subst (λ (x : Event). IsOk (verdict next.accepted.0 old x)) (sym same) next.accepted.1 in
-        let fault = define_fault old.classes loader row.file in (
-          loader,
-          row.file,
-          none_of Define fault (no_fault (option_map Define fault) (made.Class _) free),
-          ap (λ (w : World). w.classes) (next.step ∙ ap (step old) (sym same)),
-        )
 
 -- ---- what the event installs
 

@@ -25,7 +25,7 @@ use Rattle.jl_resolve.proofs.Unchanged.{all_filter}
 use Rattle.jl_cache.specs.Links.{link_at}
 use Rattle.jl_deps.specs.Indexes.{footprint_at, touched_by, AreRising, IsIndex}
 use Rattle.jl_deps.proofs.TouchLaws.{passing, sites_rise}
-use Rattle.jl_core.specs.Logs.{Accepted, event_of}
+use Rattle.jl_events.specs.Accepted.{Accepted, event_of}
 use Rattle.jl_core.specs.Means.Changes.{retires_at}
 
 -- ---- what is retired

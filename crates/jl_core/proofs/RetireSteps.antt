@@ -16,13 +16,13 @@ use Rattle.jl_types.specs.Happenings.Footprints.{footprint, keys, most_for, reti
 use Rattle.jl_cache.specs.Links.{link_at}
 use Rattle.jl_deps.specs.Indexes.{footprint_at, touched_by, AreRising}
 use Rattle.jl_settle.specs.Settling.{HasChanged, kept_at, goes, most_asked}
-use Rattle.jl_core.specs.Logs.{Accepted, event_of}
+use Rattle.jl_events.specs.Accepted.{Accepted, event_of}
+use Rattle.jl_events.proofs.InstallCounts.{no_more, few_by}
 use Rattle.jl_core.specs.Means.Changes.{AreScratch, retires_at}
 use Rattle.jl_core.specs.Means.Steps.{AreGone, AreRetired, IsLed, most_told}
 use Rattle.jl_core.specs.Means.Touched.{has}
 use Rattle.jl_core.proofs.RetireLaws.{retires_so, retired_then, dropped_all, taken_all, lost_all, links_left, index_left, kept_left, touched_left, few_in_sum, lost_or_gone}
-use Rattle.jl_core.proofs.StepLaws.{few_touched, no_more}
-use Rattle.jl_core.proofs.InstallCounts.{few_by}
+use Rattle.jl_core.proofs.StepLaws.{defined_so, few_touched}
 
 has_both : (s : ℕ) (xs ys : List ℕ) → has s (xs ++ ys) ≡ (has s xs || has s ys)
 has_both s [] ys = refl
@@ -73,7 +73,7 @@ module _ (w : World) (ks : List Key) (loader : ℕ) (links : List (ℕ × Link))
           retires_so led.before w.classes.rows led.event s (event.Retire loader) led.tells
           ∙ (links_left led.before (event.Retire loader) links left index near dropped_then taken_then s l linked).0;
       keys_are = led.keys_are;
-      defined_is = led.class_is;
+      defined_is = led.class_is ∙ defined_so led.before led.event;
       scratch = λ s l linked. led.sound.scratch s l (links_left led.before (event.Retire loader) links left index near dropped_then taken_then s l linked).1;
       index_is = index_left led.before (event.Retire loader) links left index near dropped_then taken_then led.sound.indexed;
     }

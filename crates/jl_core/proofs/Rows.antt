@@ -1,5 +1,5 @@
 -- Worked cores: what a log comes to, and which cores some events lead to.
-use Rattle.std.specs.Prelude.{◌≡◌, true, false, [], ◌∷◌, Some, None, Ok, Err}
+use Rattle.std.specs.Prelude.{◌≡◌, true, false, [], ◌∷◌, Ok, Err}
 use Rattle.std.proofs.Common.{refl, inl}
 use Rattle.jl_types.specs.declared.event.EventOf.TheVariants as event
 use Rattle.jl_types.specs.declared.event.Made.TheVariants as made
@@ -13,7 +13,7 @@ use Rattle.jl_select.proofs.Constancy.{constant_itself}
 use Rattle.jl_relink.proofs.Loaders.{loader_constant}
 use Rattle.jl_core.specs.declared.log.Entry.{Entry}
 use Rattle.jl_core.specs.State.{State, empty_core, events, world_of, links_of}
-use Rattle.jl_core.specs.Logs.{event_of, are_told, shown}
+use Rattle.jl_core.specs.Logs.{are_told, shown}
 use Rattle.jl_core.specs.Headline.{AreApplied}
 use Rattle.jl_core.specs.Works.{most_of_last}
 
@@ -65,12 +65,6 @@ two_loaders = refl
 module _ (row : Class) where
   abbrev defined : Entry
   defined = record { event = event.Define 3 0; reply = record { made = made.Class 0; dropped = [] } }
-
-  class_tells_its_definition : event_of (row ∷ []) (event.Define 3 0) ≡ Some (event.Define 3 row.file)
-  class_tells_its_definition = refl
-
-  no_class_tells_nothing : event_of (row ∷ []) (event.Define 3 1) ≡ None
-  no_class_tells_nothing = refl
 
   shown_with_its_reply : shown (row ∷ []) (defined ∷ []) ≡ (event.Define 3 row.file, defined.reply) ∷ []
   shown_with_its_reply = refl

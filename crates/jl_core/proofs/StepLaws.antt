@@ -1,10 +1,9 @@
 -- What is left once the accepted event was performed.
-use Rattle.std.specs.Prelude.{◌≡◌, ℕ, suc, ◌+◌, ◌<◌, ◌≤◌, ◌^◌, ◌==◌, ◌&&◌, not, Bool, true, false, cond, List, [], ◌∷◌, length, map}
+use Rattle.std.specs.Prelude.{◌≡◌, ℕ, ◌+◌, ◌<◌, ◌≤◌, ◌^◌, ◌==◌, ◌&&◌, not, Bool, true, false, cond, List, [], ◌∷◌, length, map}
 use Rattle.std.specs.Prelude.{filter, sum_by, slice_get, Option, Some, None, option_map, is_some, is_none}
 use Rattle.std.specs.List.{list_any, range_with_len}
 use Rattle.std.proofs.Common.{refl, ap, sym, subst, ◌∙◌, arith}
 use Rattle.std.proofs.lemmas.Option.{same_Some}
-use Rattle.std.proofs.lemmas.List.FromFn.{length-range_with_len}
 use Rattle.jl_types.specs.Happenings.Event.{Event}
 use Rattle.jl_types.specs.declared.link.Link.{Link}
 use Rattle.jl_types.specs.Values.World.{Class, World}
@@ -24,27 +23,19 @@ use Rattle.jl_types.proofs.BySite.{rises_of}
 use Rattle.jl_deps.proofs.IndexLaws.{touched_of}
 use Rattle.jl_deps.proofs.TouchLaws.{sites_rise}
 use Rattle.jl_deps.proofs.PointLaws.{in_range}
-use Rattle.jl_settle.specs.Settling.{HasChanged, kept_at, goes, most_asked}
+use Rattle.jl_settle.specs.Settling.{HasChanged, defined_by, kept_at, goes, most_asked}
 use Rattle.jl_settle.proofs.SettleLaws.{is_retirement, most_are}
-use Rattle.jl_core.specs.Logs.{Accepted, event_of}
-use Rattle.jl_core.specs.Means.Changes.{IsAcceptable, class_of, installs_at, retires_at, lost}
+use Rattle.jl_events.specs.Accepted.{Accepted, event_of}
+use Rattle.jl_events.specs.Changes.{IsAcceptable, class_of}
+use Rattle.jl_events.specs.Changes as changes
+use Rattle.jl_events.proofs.ChangeLaws.{rows_free}
+use Rattle.jl_events.proofs.InstallCounts.{few_of_range}
+use Rattle.jl_core.specs.Means.Changes.{installs_at, retires_at, lost}
 use Rattle.jl_core.specs.Means.Steps.{IsSound, IsLed, most_to_settle, most_told}
 use Rattle.jl_core.specs.Means.Touched.{has, AreTouched}
 use Rattle.jl_core.proofs.KeptLaws.{kept_once}
 use Rattle.jl_core.proofs.InstallLaws.{install_keeps}
-use Rattle.jl_core.proofs.ChangeLaws.{rows_free}
 use Rattle.jl_core.proofs.RetireLaws.{retires_so}
-
-pub no_more : {A : Type 0} (p : A → Bool) (xs : List A) → length (filter p xs) ≤ length xs
-no_more p [] = omega arith
-no_more {A = A} p (x ∷ xs) = by_test (p x) (no_more p xs)
-  where
-    by_test : (b : Bool) → length (filter p xs) ≤ length xs → length (cond {A = List A} b (x ∷ filter p xs) (filter p xs)) ≤ suc (length xs)
-    by_test true h = omega arith
-    by_test false h = omega arith
-
-pub few_of_range : (p : ℕ → Bool) (n : ℕ) → length (filter p (range_with_len 0 n)) ≤ n
-few_of_range p n = subst (λ k. length (filter p (range_with_len 0 n)) ≤ k) (length-range_with_len 0 n) (no_more p (range_with_len 0 n))
 
 some_link : (o : Option Link) (b : Bool) → (is_some o && b) ≡ true → (l : Link) × (o ≡ Some l)
 some_link None b k = cc
@@ -99,18 +90,19 @@ none_touched (row ∷ index) =
 
 -- ---- what the log keeps of the event
 
-pub no_class : (told : Accepted) → ((loader c : ℕ) → told ≡ event.Define loader c → ⊥) → class_of told ≡ None
-no_class event.NewLoader other = refl
-no_class (event.Define loader c) other = absurd (other loader c refl)
-no_class (event.Delegate loader name to) other = refl
-no_class (event.Request place) other = refl
-no_class (event.NewCallSite kind ty target) other = refl
-no_class (event.SetTarget c target) other = refl
-no_class event.NewSwitch other = refl
-no_class (event.Invalidate points) other = refl
-no_class (event.Bind s c) other = refl
-no_class (event.Install rows) other = refl
-no_class (event.Retire loader) other = refl
+-- the class that the event defines is the one that is settled
+pub defined_so : (w : World) (e : Event) → changes.defined_by w e ≡ defined_by w e
+defined_so w event.NewLoader = refl
+defined_so w (event.Define loader file) = refl
+defined_so w (event.Delegate loader name to) = refl
+defined_so w (event.Request place) = refl
+defined_so w (event.NewCallSite kind ty target) = refl
+defined_so w (event.SetTarget c target) = refl
+defined_so w event.NewSwitch = refl
+defined_so w (event.Invalidate points) = refl
+defined_so w (event.Bind s c) = refl
+defined_so w (event.Install rows) = refl
+defined_so w (event.Retire loader) = refl
 
 pub no_install : (s : ℕ) (told : Accepted) → ((rows : List (ℕ × Link)) → told ≡ event.Install rows → ⊥) → installs_at s told ≡ false
 no_install s event.NewLoader other = refl
@@ -137,18 +129,6 @@ no_retired w s (event.Invalidate points) other = refl
 no_retired w s (event.Bind site c) other = refl
 no_retired w s (event.Install rows) other = refl
 no_retired w s (event.Retire loader) other = absurd (other loader refl)
-
-apart : (loader c k : ℕ) → ◌≡◌ {A = Accepted} (event.Define loader c) (event.Retire k) → ⊥
-apart loader c k e = cc
-
-pub define_retires_none : (loader c : ℕ) (told : Accepted) → told ≡ event.Define loader c → (k : ℕ) → told ≡ event.Retire k → ⊥
-define_retires_none loader c told is k same = apart loader c k (sym is ∙ same)
-
-pub define_installs_none : (loader c : ℕ) (told : Accepted) → told ≡ event.Define loader c → (rows : List (ℕ × Link)) → told ≡ event.Install rows → ⊥
-define_installs_none loader c told is rows same = apart (sym is ∙ same)
-  where
-    apart : event.Define loader c ≡ event.Install rows → ⊥
-    apart e = cc
 
 -- the event is no retirement where the log keeps none
 module _ (rows : List Class) (e : Event) where
@@ -219,7 +199,7 @@ module _ (w : World) (ks : List Key) (told : Accepted) (links : List (ℕ × Lin
     accepted = led.accepted;
     left = λ s l linked. retires_so led.before w.classes.rows led.event s told led.tells ∙ no_retired led.before s told other;
     keys_are = led.keys_are;
-    defined_is = sym is ∙ led.class_is;
+    defined_is = sym is ∙ led.class_is ∙ defined_so led.before led.event;
     scratch = led.sound.scratch;
     index_is = led.sound.indexed;
   }

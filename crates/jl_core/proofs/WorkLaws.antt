@@ -14,8 +14,8 @@ use Rattle.jl_types.specs.declared.key.Key.{Key}
 use Rattle.jl_types.specs.Happenings.Footprints.{bound, footprint, keys, most_for, touched}
 use Rattle.jl_deps.specs.Indexes.{AreRising, IsIndex, touched_by}
 use Rattle.jl_deps.proofs.BoundLaws.{touched_are_bounded}
+use Rattle.jl_events.specs.Judging.{most_to_judge}
 use Rattle.jl_core.specs.State.{State, events, IsAccepted}
-use Rattle.jl_core.specs.Means.Judging.{most_to_judge}
 use Rattle.jl_core.specs.Means.Steps.{most_to_settle}
 use Rattle.jl_core.proofs.StepLaws.{none_touched}
 use Rattle.jl_core.specs.Works.{most_after, most_of_last}

@@ -1,6 +1,5 @@
 -- Means of proof. What is promised doesn't rest on how these say it.
 pub mod Changes
-pub mod Judging
 pub mod Replays
 pub mod Steps
 pub mod Touched

@@ -2,8 +2,8 @@
 
 ghost use Rattle.std.specs.Prelude.{◌≡◌, IfOk};
 
-use crate::log::{Accepted, Entry};
-use jl_callsites::copy_target;
+use crate::log::Entry;
+use jl_events::copy_accepted;
 use jl_names::Seq;
 use jl_types::Reply;
 use std::alloc::{AllocError, Global};
@@ -24,7 +24,7 @@ pub(crate) fn copy_entry(alloc: Global, entry: &Entry) -> Result<Entry, AllocErr
     ensures { IfOk result (λ copy. copy ≡ entry.now) }
 {
     Ok(Entry {
-        event: copy_event(alloc, &entry.event)?,
+        event: copy_accepted(alloc, &entry.event)?,
         reply: copy_reply(alloc, &entry.reply)?,
     })
 }
@@ -36,31 +36,5 @@ fn copy_reply(alloc: Global, reply: &Reply) -> Result<Reply, AllocError>
     Ok(Reply {
         made: reply.made,
         dropped: Seq::of(reply.dropped.as_slice().to_vec(alloc)?),
-    })
-}
-
-/// The same event once more. Want of memory is an error.
-fn copy_event(alloc: Global, event: &Accepted) -> Result<Accepted, AllocError>
-    ensures { IfOk result (λ copy. copy ≡ event.now) }
-{
-    Ok(match event {
-        Accepted::NewLoader => Accepted::NewLoader,
-        Accepted::Define(loader, class) => Accepted::Define(*loader, *class),
-        Accepted::Delegate(loader, name, to) => Accepted::Delegate(*loader, name.copy(alloc)?, *to),
-        Accepted::Request(place) => Accepted::Request(*place),
-        Accepted::NewCallSite(kind, ty, target) => {
-            Accepted::NewCallSite(*kind, ty.copy(alloc)?, copy_target(alloc, target)?)
-        }
-        Accepted::SetTarget(site, target) => Accepted::SetTarget(
-            *site,
-            copy_target(alloc, target)?,
-        ),
-        Accepted::NewSwitch => Accepted::NewSwitch,
-        Accepted::Invalidate(points) => {
-            Accepted::Invalidate(Seq::of(points.as_slice().to_vec(alloc)?))
-        }
-        Accepted::Bind(site, call_site) => Accepted::Bind(*site, *call_site),
-        Accepted::Install(rows) => Accepted::Install(Seq::of(rows.as_slice().to_vec(alloc)?)),
-        Accepted::Retire(loader) => Accepted::Retire(*loader),
     })
 }

@@ -6,22 +6,20 @@ ghost use Rattle.jl_types.specs.Happenings.Event.{Event};
 ghost use Rattle.jl_types.specs.Happenings.Footprints as footprints;
 ghost use Rattle.jl_cache.specs.Links.{link_at};
 ghost use Rattle.jl_deps.specs.Indexes.{footprint_at, IsIndex};
+ghost use Rattle.jl_events.specs.Accepted.{event_of};
+ghost use Rattle.jl_events.specs.Changes.{IsNext};
 ghost use Rattle.jl_core.specs.Means.Changes.{AreScratch, retires_at};
-ghost use Rattle.jl_core.specs.Logs.{event_of};
-ghost use Rattle.jl_core.specs.Means.Replays.{IsNext, IsFurther, IsUntouched};
+ghost use Rattle.jl_core.specs.Means.Replays.{IsFurther, IsUntouched};
 ghost use Rattle.jl_core.specs.Means.Touched.{has};
 
-use crate::changes::{
-    add_binding, add_call_site, add_delegation, add_loader, add_place, add_switch, put_invalid,
-    put_target, retire_loader,
-};
 use crate::copy::copy_entry;
-use crate::log::{Accepted, Entry};
+use crate::log::Entry;
 use crate::slots::with_sites;
 use jl_cache::Cache;
 use jl_deps::{
     Index, Keys, keys_of_definition, keys_of_points, keys_of_retirement, keys_of_target,
 };
+use jl_events::{Accepted, follow_world};
 use jl_names::Seq;
 use jl_relink::World;
 use jl_settle::{forget, sites_of, take_over};
@@ -52,7 +50,7 @@ pub(crate) fn follow(
     forget_retired(alloc, world, links, index, &entry.event)?;
     let _sites = index.len();
     let sites = changed_sites(alloc, world, world_ahead, index, &entry.event)?;
-    follow_shared(world, alloc, world_ahead, &entry.event)?;
+    follow_world(world, alloc, world_ahead, &entry.event)?;
     take_over(
         alloc,
         links,
@@ -135,72 +133,5 @@ fn keys_told(
         Accepted::Invalidate(points) => keys_of_points(alloc, &world.sites, points.as_slice()),
         Accepted::Retire(loader) => keys_of_retirement(alloc, &world.classes, *loader),
         _ => Ok(Seq::of(Vec::new(alloc))),
-    }
-}
-
-/// The world comes to be the one ahead. One that others hold, too, is let go, and the one ahead is shared from then on. Want of memory
-/// is an error; the world is of no use then.
-fn follow_shared(
-    world: &mut Arc<World>,
-    alloc: Global,
-    ahead: &Arc<World>,
-    event: &Accepted,
-) -> Result<(), AllocError>
-    requires next { IsNext world.old.value ahead.now.value event.now }
-    requires few { length world.old.value.places ≤ 65536 }
-    ensures { OnOk result (world.new.value ≡ ahead.now.value) }
-{
-    match Arc::get_mut(world) {
-        Some(world) => follow_world(world, alloc, ahead, event),
-        None => share(world, ahead),
-    }
-}
-
-/// The world is the one ahead from then on. More holders than can be counted are an error.
-fn share(world: &mut Arc<World>, ahead: &Arc<World>) -> Result<(), AllocError>
-    ensures { OnOk result (world.new.value ≡ ahead.now.value) }
-{
-    *world = Arc::try_clone(ahead)?;
-    Ok(())
-}
-
-/// The world, which no other holds, comes to be the one ahead. Want of memory is an error; the world is of no use then.
-fn follow_world(
-    world: &mut World,
-    alloc: Global,
-    ahead: &World,
-    event: &Accepted,
-) -> Result<(), AllocError>
-    requires next { IsNext world.old ahead.now event.now }
-    requires few { length world.old.places ≤ 65536 }
-    ensures { OnOk result (world.new ≡ ahead.now) }
-{
-    match event {
-        Accepted::NewLoader => {
-            add_loader(world, alloc)?;
-            Ok(())
-        }
-        Accepted::Define(_, _) => world.classes.follow(alloc, &ahead.classes),
-        Accepted::Delegate(loader, name, to) => add_delegation(world, alloc, *loader, name, *to),
-        Accepted::Request(place) => {
-            add_place(world, place)?;
-            Ok(())
-        }
-        Accepted::NewCallSite(kind, ty, target) => {
-            add_call_site(world, alloc, *kind, ty, target)?;
-            Ok(())
-        }
-        Accepted::SetTarget(site, target) => put_target(world, alloc, *site, target),
-        Accepted::NewSwitch => {
-            add_switch(world)?;
-            Ok(())
-        }
-        Accepted::Invalidate(points) => {
-            put_invalid(world, points.as_slice());
-            Ok(())
-        }
-        Accepted::Bind(site, call_site) => add_binding(world, *site, *call_site),
-        Accepted::Install(_) => Ok(()),
-        Accepted::Retire(loader) => retire_loader(world, alloc, *loader),
     }
 }

@@ -8,11 +8,11 @@ ghost use Rattle.jl_types.specs.Happenings.History.{installed};
 ghost use Rattle.jl_types.specs.Happenings.Footprints.{bound};
 ghost use Rattle.jl_relink.specs.Preparations.{IsPreparation};
 ghost use Rattle.jl_cache.specs.Links.{link_at};
+ghost use Rattle.jl_events.specs.Judging.{most_to_judge};
 ghost use Rattle.jl_core.specs.State.{State, empty_core, events, world_of, links_of, AreAnswered, IsAccepted, IsRefused};
 ghost use Rattle.jl_core.specs.Plans.{IsPlanned, IsAsPlanned};
 ghost use Rattle.jl_core.specs.Logs.{shown, are_told};
 ghost use Rattle.jl_core.specs.Works.{most_of_last};
-ghost use Rattle.jl_core.specs.Means.Judging.{most_to_judge};
 
 use crate::instance::Instance;
 use crate::log::Entry;

@@ -7,14 +7,15 @@ ghost use Rattle.jl_types.specs.Linkage.Links.{scratch};
 ghost use Rattle.jl_types.specs.Happenings.History.{kept};
 ghost use Rattle.jl_cache.specs.Links.{link_at};
 ghost use Rattle.jl_deps.specs.Indexes.{IsIndex};
-ghost use Rattle.jl_core.specs.Means.Changes.{IsAcceptable, installs_at};
+ghost use Rattle.jl_events.specs.Changes.{IsAcceptable};
+ghost use Rattle.jl_core.specs.Means.Changes.{installs_at};
 ghost use Rattle.jl_core.specs.Means.Steps.{AreGone, AreRetired, IsSound, IsLed, IsStep, most_told};
 ghost use Rattle.jl_core.specs.Means.Touched.{AreTouched};
 
-use crate::log::{Accepted, Entry};
-use crate::step::step;
+use crate::log::Entry;
 use jl_cache::Cache;
 use jl_deps::{Index, keys_of};
+use jl_events::{Accepted, defined_class, step_world};
 use jl_names::Seq;
 use jl_relink::World;
 use jl_settle::{forget, install_rows, settle, sites_of};
@@ -45,7 +46,7 @@ pub(crate) fn perform(
 {
     let keys = keys_of(alloc, world, &event)?;
     let retired = retired_sites(alloc, world, &event)?;
-    let (event, made) = step(world, alloc, event)?;
+    let (event, made) = step_world(world, alloc, event)?;
     let lost = relink(
         alloc,
         world,
@@ -97,10 +98,6 @@ fn relink(
     ensures ticks { OnOk result (work.new ≤ work.old + most_told world.now event.now index.old keys.now) }
 {
     match event {
-        Accepted::Define(_, class) => {
-            let lost = settle(alloc, world, links, index, keys, Some(*class), work)?;
-            Ok(lost)
-        }
         Accepted::Install(rows) => {
             install_rows(alloc, world, links, index, rows.as_slice())?;
             Ok(Vec::new(alloc))
@@ -110,7 +107,8 @@ fn relink(
             Ok(lost)
         }
         _ => {
-            let lost = settle(alloc, world, links, index, keys, None, work)?;
+            let defined = defined_class(event);
+            let lost = settle(alloc, world, links, index, keys, defined, work)?;
             Ok(lost)
         }
     }

@@ -10,9 +10,10 @@ ghost use Rattle.jl_core.specs.State.{events, IsAccepted};
 ghost use Rattle.jl_core.specs.Means.Touched.{touched_by, AreTouched, slot_at};
 
 use crate::instance::{Instance, entry_at};
-use crate::log::{Accepted, Entry};
+use crate::log::Entry;
 use crate::perform::each_once;
 use jl_cache::Cache;
+use jl_events::Accepted;
 use jl_types::{Link, SiteNo};
 use std::alloc::{AllocError, Global};
 

@@ -19,8 +19,9 @@ use Rattle.jl_types.specs.Happenings.Events.{verdict}
 use Rattle.jl_types.specs.Happenings.History.{world_after, installed, installs, dropped}
 use Rattle.jl_types.proofs.Places.{accepted_of}
 use Rattle.jl_types.proofs.Written.{unrequested}
+use Rattle.jl_events.specs.Accepted.{Accepted, event_of}
 use Rattle.jl_core.specs.State.{State, empty_core, events, IsAccepted, IsApplied}
-use Rattle.jl_core.specs.Logs.{Accepted, event_of, told, are_told, shown}
+use Rattle.jl_core.specs.Logs.{told, are_told, shown}
 use Rattle.jl_core.specs.declared.log.Entry.{Entry}
 use Rattle.jl_core.specs.Means.Touched.{has}
 use Rattle.jl_core.proofs.SlotLaws.{untouched}

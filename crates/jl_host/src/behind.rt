@@ -6,7 +6,7 @@ ghost use Rattle.jl_core.specs.Means.Touched.{has};
 ghost use Rattle.jl_host.specs.Means.Behind.{IsNow, IsBehind, installs_at, touched_by};
 
 use jl_core::{Accepted, Core, Entry};
-use jl_slots::Slots;
+use jl_pages::Slots;
 use jl_types::{Link, SiteNo};
 use std::alloc::{AllocError, Global};
 use std::sync::Arc;

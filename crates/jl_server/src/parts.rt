@@ -17,9 +17,11 @@ use left_right::writer::Writer;
 use std::alloc::{AllocError, Global};
 use std::marker::Model;
 use std::sync::Wait;
+use thiserror::Error;
 
 /// A growth or a caller's place was refused. Nothing stands.
-#[derive(Clone, Copy, Debug, PartialEq, Eq)]
+#[derive(Clone, Copy, Debug, PartialEq, Eq, Error)]
+#[error("Unmade")]
 pub struct Unmade;
 
 /// A core with an empty log, a history with no entries and a table with no links. A clause sees whose history it is, how many sites

@@ -1,9 +1,8 @@
 -- An instance that is one event behind another one, and what it does to come after it. A means of proof.
-use Rattle.std.specs.Prelude.{◌≡◌, ◌+◌, ◌≤◌, ℕ, false, List, take, length, Some}
+use Rattle.std.specs.Prelude.{◌≡◌, ◌+◌, ◌≤◌, ℕ, false, List, take, length}
 use Rattle.jl_types.specs.declared.link.Link.{Link}
 use Rattle.jl_types.specs.Happenings.Event.{Event}
 use Rattle.jl_types.specs.Values.World.{World}
-use Rattle.jl_types.specs.Happenings.Events as events
 use Rattle.jl_types.specs.Linkage.Links.{scratch}
 use Rattle.jl_types.specs.Happenings.History.{installs, kept}
 use Rattle.jl_types.specs.declared.key.Key.{Key}
@@ -11,21 +10,15 @@ use Rattle.jl_types.specs.Happenings.Footprints.{keys}
 use Rattle.jl_relink.specs.Laws.{IsInOrder}
 use Rattle.jl_cache.specs.Links.{link_at}
 use Rattle.jl_deps.specs.Indexes.{AreRising, IsIndex, touched_by}
-use Rattle.jl_core.specs.Means.Changes.{AreScratch, IsAcceptable}
+use Rattle.jl_events.specs.Accepted.{Accepted}
+use Rattle.jl_events.specs.Changes.{IsNext}
+use Rattle.jl_core.specs.Means.Changes.{AreScratch}
 use Rattle.jl_core.specs.State.{State}
-use Rattle.jl_core.specs.Logs.{Accepted, event_of}
 use Rattle.jl_core.specs.Means.Touched.{has}
 
 -- it lacks the last event of the other, or none
 abbrev pub IsBehind : State → State → Type 0
 IsBehind core ahead = (core ≡ record ahead { log = take (length core.log) ahead.log }) × (length ahead.log ≤ length core.log + 1)
-
--- the accepted event leads from the one world to the other
-pub record IsNext (old ahead : World) (told : Accepted) : Type 0 where
-  pub event : Event
-  pub tells : event_of ahead.classes.rows told ≡ Some event
-  pub accepted : IsAcceptable old event
-  pub step : ahead ≡ events.step old event
 
 -- the event changes neither the link of site s nor what it rests on
 abbrev pub IsUntouched : World → List (ℕ × List Key) → Event → ℕ → Type 0

@@ -14,10 +14,10 @@ use Rattle.jl_types.specs.Happenings.Footprints.{most_for}
 use Rattle.jl_relink.specs.Laws.{IsInOrder}
 use Rattle.jl_cache.specs.Links.{link_at}
 use Rattle.jl_deps.specs.Indexes.{AreRising, IsIndex, touched_by}
-use Rattle.jl_settle.specs.Settling.{defined_by}
+use Rattle.jl_events.specs.Changes.{defined_by, IsAcceptable, class_of}
+use Rattle.jl_events.specs.Accepted.{Accepted, event_of}
 use Rattle.jl_core.specs.declared.log.Entry.{Entry}
-use Rattle.jl_core.specs.Logs.{Accepted, event_of}
-use Rattle.jl_core.specs.Means.Changes.{AreScratch, IsAcceptable, IsDone, class_of, retires_at}
+use Rattle.jl_core.specs.Means.Changes.{AreScratch, IsDone, retires_at}
 use Rattle.jl_core.specs.Means.Touched.{has}
 
 -- Each link is the one from scratch, the index is that of the links, and the world came in order.

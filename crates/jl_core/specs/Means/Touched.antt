@@ -5,7 +5,7 @@ use Rattle.jl_types.specs.declared.link.Link.{Link}
 use Rattle.jl_types.specs.Happenings.Entries.{change}
 use Rattle.jl_cache.specs.Links.{link_at}
 use Rattle.jl_hierarchy.specs.Means.Kept.{Rises}
-use Rattle.jl_core.specs.Logs.{Accepted}
+use Rattle.jl_events.specs.Accepted.{Accepted}
 use Rattle.jl_types.specs.declared.event.EventOf.TheVariants as event
 
 -- those that it drops, and those that it installs

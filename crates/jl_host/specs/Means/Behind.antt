@@ -6,9 +6,9 @@ use Rattle.jl_types.specs.Happenings.Event.{Event}
 use Rattle.jl_types.specs.declared.event.EventOf.TheVariants as event
 use Rattle.jl_types.specs.declared.event.Reply.{Reply}
 use Rattle.jl_types.specs.Happenings.History.{installs, installed}
+use Rattle.jl_events.specs.Accepted.{Accepted}
 use Rattle.jl_core.specs.State.{State, events}
 use Rattle.jl_core.specs.Means.Touched.{has}
-use Rattle.jl_core.specs.Logs.{Accepted}
 use Rattle.jl_core.specs.declared.log.Entry.{Entry}
 
 -- the event installs the site, or drops it

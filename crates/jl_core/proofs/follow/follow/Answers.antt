@@ -3,9 +3,10 @@ use Rattle.std.proofs.Common.{ap, sym, subst, ◌∙◌}
 use Rattle.jl_types.specs.Values.World.{World}
 use Rattle.jl_cache.specs.Links.{link_at}
 use Rattle.jl_deps.specs.Indexes.{footprint_at}
+use Rattle.jl_events.specs.Accepted.{event_of}
+use Rattle.jl_events.specs.Changes.{IsNext}
 use Rattle.jl_core.specs.Means.Changes.{AreScratch, retires_at}
-use Rattle.jl_core.specs.Logs.{event_of}
-use Rattle.jl_core.specs.Means.Replays.{IsNext, IsUntouched}
+use Rattle.jl_core.specs.Means.Replays.{IsUntouched}
 use Rattle.jl_core.specs.Means.Touched.{has}
 use Rattle.jl_core.proofs.ReplayLaws.{links_followed, index_followed}
 use Rattle.jl_core.proofs.follow.follow.Goals as goal

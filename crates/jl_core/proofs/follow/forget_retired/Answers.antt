@@ -3,7 +3,7 @@ use Rattle.std.proofs.Common.{sym, ap, ◌∙◌}
 use Rattle.jl_types.specs.Happenings.Retirement.{retires_site}
 use Rattle.jl_cache.specs.Links.{link_at}
 use Rattle.jl_deps.specs.Indexes.{footprint_at}
-use Rattle.jl_core.specs.Logs.{Accepted}
+use Rattle.jl_events.specs.Accepted.{Accepted}
 use Rattle.jl_core.specs.Means.Changes.{retires_at}
 use Rattle.jl_core.specs.Means.Touched.{has}
 use Rattle.jl_core.proofs.RetireLaws.{dropped_all, taken_all}

@@ -1,45 +1,16 @@
-use Rattle.std.specs.Prelude.{ℕ, ◌+◌, ◌≤◌, Bool, List, Some}
+use Rattle.std.specs.Prelude.{ℕ, ◌+◌, ◌≤◌, Bool, List}
 use Rattle.std.proofs.Common.{ap, sym, subst, ◌∙◌}
 use Rattle.jl_types.specs.declared.link.Link.{Link}
 use Rattle.jl_types.specs.Linkage.Links.{scratch}
 use Rattle.jl_types.specs.Happenings.History.{kept}
 use Rattle.jl_hierarchy.proofs.Rising.{has}
 use Rattle.jl_cache.specs.Links.{link_at, link_with}
-use Rattle.jl_core.specs.Logs.{Accepted}
-use Rattle.jl_core.specs.Means.Changes.{class_of, installs_at}
+use Rattle.jl_events.specs.Accepted.{Accepted}
+use Rattle.jl_core.specs.Means.Changes.{installs_at}
 use Rattle.jl_core.specs.Means.Steps.{IsLed, most_told}
-use Rattle.jl_core.proofs.StepLaws.{has_changed, fits_so, ticks_so, no_class, define_installs_none, define_retires_none}
+use Rattle.jl_core.proofs.StepLaws.{has_changed, fits_so, ticks_so}
 use Rattle.jl_core.proofs.StepLaws.{links_kept, links_lost, was_index, links_installed, none_lost}
 use Rattle.jl_core.proofs.perform.relink.Goals as goal
-
-pub settle-requires-clause-changed : goal.settle-requires-clause-changed
-settle-requires-clause-changed c =
-    has_changed c.args.world.now c.args.keys.now c.args.event.now c.args.links.now c.args.index.now c.requires.led
-    (define_retires_none c.in-Define.field-0 c.in-Define.class c.args.event.now c.in-Define.is) (Some c.in-Define.class) (ap class_of c.in-Define.is)
-
-pub settle-requires-clause-fits : goal.settle-requires-clause-fits
-settle-requires-clause-fits c =
-    fits_so c.args.world.now c.args.keys.now c.args.event.now c.args.links.now c.args.index.now c.requires.led
-    (define_retires_none c.in-Define.field-0 c.in-Define.class c.args.event.now c.in-Define.is) (Some c.in-Define.class) (ap class_of c.in-Define.is)
-    c.args.work.now c.requires.small
-
-pub returns-in_ok-lost-in-Define-clause-ticks : goal.returns-in_ok-lost-in-Define-clause-ticks
-returns-in_ok-lost-in-Define-clause-ticks c =
-    ticks_so c.args.world.now c.args.keys.now c.args.event.now c.args.links.now c.args.index.now c.requires.led
-    (define_retires_none c.in-Define.field-0 c.in-Define.class c.args.event.now c.in-Define.is) (Some c.in-Define.class) (ap class_of c.in-Define.is)
-    c.args.work.now c.settle.new.work c.in_ok-lost-in-Define.ensures.ticks
-
-pub returns-in_ok-lost-in-Define-clause-links : goal.returns-in_ok-lost-in-Define-clause-links
-returns-in_ok-lost-in-Define-clause-links c =
-    links_kept c.args.world.now c.args.keys.now c.args.event.now c.args.links.now c.args.index.now c.requires.led
-    c.settle.new.links c.in_ok-lost-in-Define.ensures.links
-    (define_installs_none c.in-Define.field-0 c.in-Define.class c.args.event.now c.in-Define.is)
-
-pub returns-in_ok-lost-in-Define-clause-lost : goal.returns-in_ok-lost-in-Define-clause-lost
-returns-in_ok-lost-in-Define-clause-lost c = λ s.
-    c.in_ok-lost-in-Define.ensures.lost s
-    ∙ links_lost c.args.world.now c.args.keys.now c.args.event.now c.args.links.now c.args.index.now c.requires.led
-    c.settle.new.links c.in_ok-lost-in-Define.ensures.links s
 
 pub install_rows-requires : goal.install_rows-requires
 install_rows-requires c =
@@ -59,30 +30,32 @@ returns-in_ok-install_rows-in-Install-clause-lost c = λ s.
     c.in-Install.rows c.in-Install.is c.install_rows.new.links
     (λ s. c.in_ok-install_rows-in-Install.ensures.links s ∙ ap (λ (rows : List (ℕ × Link)). link_with rows (link_at c.args.links.now s) s) c.as_slice.ensures) s
 
-pub settle-requires-in_default : goal.settle-requires-in_default
-settle-requires-in_default c = record {
-  changed = has_changed c.args.world.now c.args.keys.now c.args.event.now c.args.links.now c.args.index.now c.requires.led
-      c.in_default.not-Retire _ (no_class c.args.event.now c.in_default.not-Define);
-  fits = fits_so c.args.world.now c.args.keys.now c.args.event.now c.args.links.now c.args.index.now c.requires.led
-      c.in_default.not-Retire _ (no_class c.args.event.now c.in_default.not-Define) c.args.work.now c.requires.small;
-}
+pub settle-requires-clause-changed : goal.settle-requires-clause-changed
+settle-requires-clause-changed c =
+    has_changed c.args.world.now c.args.keys.now c.args.event.now c.args.links.now c.args.index.now c.requires.led
+    c.in_default.not-Retire c.defined_class-defined.result (sym c.defined_class-defined.ensures)
+
+pub settle-requires-clause-fits : goal.settle-requires-clause-fits
+settle-requires-clause-fits c =
+    fits_so c.args.world.now c.args.keys.now c.args.event.now c.args.links.now c.args.index.now c.requires.led
+    c.in_default.not-Retire c.defined_class-defined.result (sym c.defined_class-defined.ensures) c.args.work.now c.requires.small
 
 pub returns-in_ok-lost-in_default-clause-ticks : goal.returns-in_ok-lost-in_default-clause-ticks
 returns-in_ok-lost-in_default-clause-ticks c =
     ticks_so c.args.world.now c.args.keys.now c.args.event.now c.args.links.now c.args.index.now c.requires.led
-    c.in_default.not-Retire _ (no_class c.args.event.now c.in_default.not-Define) c.args.work.now c.settle-in_default.new.work
-    c.in_ok-lost-in_default.ensures.ticks
+    c.in_default.not-Retire c.defined_class-defined.result (sym c.defined_class-defined.ensures)
+    c.args.work.now c.settle.new.work c.in_ok-lost-in_default.ensures.ticks
 
 pub returns-in_ok-lost-in_default-clause-links : goal.returns-in_ok-lost-in_default-clause-links
 returns-in_ok-lost-in_default-clause-links c =
     links_kept c.args.world.now c.args.keys.now c.args.event.now c.args.links.now c.args.index.now c.requires.led
-    c.settle-in_default.new.links c.in_ok-lost-in_default.ensures.links c.in_default.not-Install
+    c.settle.new.links c.in_ok-lost-in_default.ensures.links c.in_default.not-Install
 
 pub returns-in_ok-lost-in_default-clause-lost : goal.returns-in_ok-lost-in_default-clause-lost
 returns-in_ok-lost-in_default-clause-lost c = λ s.
     c.in_ok-lost-in_default.ensures.lost s
     ∙ links_lost c.args.world.now c.args.keys.now c.args.event.now c.args.links.now c.args.index.now c.requires.led
-    c.settle-in_default.new.links c.in_ok-lost-in_default.ensures.links s
+    c.settle.new.links c.in_ok-lost-in_default.ensures.links s
 
 pub retire_links-requires-clause-led : goal.retire_links-requires-clause-led
 retire_links-requires-clause-led c =

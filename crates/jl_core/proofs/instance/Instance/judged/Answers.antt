@@ -1,8 +1,8 @@
 use Rattle.std.proofs.Common.{ap, subst, ◌∙◌}
 use Rattle.jl_types.specs.Happenings.Events.{verdict}
 use Rattle.jl_types.specs.Values.World.{World}
+use Rattle.jl_events.specs.Judging.{IsJudged}
 use Rattle.jl_core.specs.State.{State, world_of}
-use Rattle.jl_core.specs.Means.Judging.{IsJudged}
 use Rattle.jl_core.proofs.instance.Instance.judged.Goals as goal
 
 pub returns-clause-judged : goal.returns-clause-judged

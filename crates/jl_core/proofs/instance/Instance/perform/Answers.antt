@@ -6,8 +6,8 @@ use Rattle.jl_types.specs.Values.World.{World}
 use Rattle.jl_types.proofs.Places.{limit_step}
 use Rattle.jl_relink.specs.Laws.{IsInOrder}
 use Rattle.jl_cache.specs.Links.{link_at}
+use Rattle.jl_events.specs.Judging.{most_to_judge}
 use Rattle.jl_core.specs.State.{State, events, world_of, IsAccepted}
-use Rattle.jl_core.specs.Means.Judging.{most_to_judge}
 use Rattle.jl_core.proofs.HistoryLaws.{core_of, exact_links, exact_after, accepted_after}
 use Rattle.jl_core.proofs.WorkLaws.{are_bounded}
 use Rattle.jl_core.proofs.instance.Instance.perform.Goals as goal

@@ -1,0 +1,51 @@
+-- How many evaluations an install may take.
+use Rattle.std.specs.Prelude.{◌≡◌, ℕ, suc, ◌+◌, ◌*◌, ◌≤◌, ◌&&◌, Bool, true, false, cond, List, [], ◌∷◌, filter, length}
+use Rattle.std.specs.List.{range_with_len}
+use Rattle.std.proofs.Common.{subst, arith}
+use Rattle.std.proofs.lemmas.Bool.Decides.{nat_tests}
+use Rattle.std.proofs.lemmas.List.FromFn.{length-range_with_len}
+use Rattle.std.proofs.lemmas.List.Sums.{sum_by-cons}
+use Rattle.jl_types.specs.declared.link.Link.{Link}
+use Rattle.jl_types.specs.Values.World.{Classes, World}
+use Rattle.jl_types.specs.Values.Members.{is_concrete}
+use Rattle.jl_types.specs.Values.Ancestry.{is_ancestor}
+use Rattle.jl_types.specs.Happenings.Batches.{is_bad_size}
+use Rattle.jl_types.specs.declared.key.Key.{Key}
+use Rattle.jl_types.specs.declared.key.Key.TheVariants as key
+use Rattle.jl_types.specs.Happenings.Footprints.{footprint, most_by, most_for}
+use Rattle.jl_events.specs.Judging.{most_of_rows}
+
+pub no_more : {A : Type 0} (p : A → Bool) (xs : List A) → length (filter p xs) ≤ length xs
+no_more p [] = omega arith
+no_more {A = A} p (x ∷ xs) = by_test (p x) (no_more p xs)
+  where
+    by_test : (b : Bool) → length (filter p xs) ≤ length xs → length (cond {A = List A} b (x ∷ filter p xs) (filter p xs)) ≤ suc (length xs)
+    by_test true h = omega arith
+    by_test false h = omega arith
+
+pub few_of_range : (p : ℕ → Bool) (n : ℕ) → length (filter p (range_with_len 0 n)) ≤ n
+few_of_range p n = subst (λ k. length (filter p (range_with_len 0 n)) ≤ k) (length-range_with_len 0 n) (no_more p (range_with_len 0 n))
+
+pub few_by : (cs : Classes) → length cs.rows ≤ 65536 → (keys : List Key) → most_by cs keys ≤ 65536
+few_by cs few [] = omega arith
+few_by cs few (key.Receivers c ∷ keys) =
+    let le = few_of_range (λ x. is_concrete cs x && is_ancestor cs c x) (length cs.rows) in omega arith
+few_by cs few (key.Target c ∷ keys) = omega arith
+few_by cs few (key.Valid p ∷ keys) = omega arith
+
+few_of_rows : (w : World) → length w.classes.rows ≤ 65536 → (rows : List (ℕ × Link)) → most_of_rows w rows ≤ length rows * 65536
+few_of_rows w few [] = omega arith
+few_of_rows w few (row ∷ rows) =
+    let split : most_of_rows w (row ∷ rows) ≡ most_for w row.0 + most_of_rows w rows = sum_by-cons (λ (r : ℕ × Link). most_for w r.0) row rows in
+    let one = few_by w.classes few (footprint w row.0) in
+    let rest = few_of_rows w few rows in
+    omega arith
+
+not_bad : (n : ℕ) → is_bad_size n ≡ false → n ≤ 256
+not_bad n good = grind (arith, nat_tests)
+
+pub rows_fit : (w : World) → length w.classes.rows ≤ 65536 → (rows : List (ℕ × Link)) → is_bad_size (length rows) ≡ false → most_of_rows w rows ≤ 16777216
+rows_fit w few rows good =
+    let some = not_bad (length rows) good in
+    let le = few_of_rows w few rows in
+    omega arith

@@ -1,0 +1,9 @@
+pub mod CallSiteLaws
+pub mod ChangeLaws
+pub mod ConstantLaws
+pub mod PlaceLaws
+pub mod InstallLaws
+pub mod InstallCounts
+pub mod AcceptedLaws
+pub mod NextLaws
+pub mod Rows

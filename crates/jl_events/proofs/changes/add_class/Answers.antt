@@ -1,0 +1,28 @@
+use Rattle.std.specs.Prelude.{◌≡◌, None, length, option_map}
+use Rattle.std.proofs.Common.{rules, sym, ap, subst}
+use Rattle.jl_types.specs.Values.World.{World}
+use Rattle.jl_types.specs.Happenings.Definitions.{define_fault}
+use Rattle.jl_types.specs.declared.event.Made.TheVariants as made
+use Rattle.jl_types.specs.declared.refusal.Refusal.TheVariants.{Define}
+use Rattle.jl_select.specs.Constancy.{IsConstant}
+use Rattle.jl_events.proofs.ChangeLaws.{definition_free, made_so}
+use Rattle.jl_events.proofs.ConstantLaws.{constant_defined}
+use Rattle.jl_events.proofs.changes.add_class.Goals as goal
+
+pub add-requires : goal.add-requires
+add-requires c =
+    subst (λ (w : World). define_fault w.classes c.args.loader c.args.file ≡ None) (sym c.world.view_is)
+    (definition_free c.args.world.now c.args.loader c.args.file c.requires)
+
+pub returns-clause-moved : goal.returns-clause-moved
+returns-clause-moved c =
+    let count : c.in_ok-class.class ≡ length c.args.world.now.classes.rows = search rules in
+    record {
+      made_is = λ m.
+          made_so (option_map Define (define_fault c.args.world.now.classes c.args.loader c.args.file)) (made.Class (length c.args.world.now.classes.rows))
+          (made.Class c.in_ok-class.class) (ap (λ n. made.Class n) count);
+      step = search rules;
+      constant = subst (λ (w : World). IsConstant w.classes c.add.new.self) c.world.view_is
+          (constant_defined c.world.inside.classes c.in_ok-class.ensures.in_order c.add.new.self c.in_ok-class.ensures.stays
+          c.args.loader c.args.file c.in_ok-class.ensures.ok);
+    }

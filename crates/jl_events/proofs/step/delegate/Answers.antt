@@ -1,0 +1,5 @@
+use Rattle.std.proofs.Common.{refl}
+use Rattle.jl_events.proofs.step.delegate.Goals as goal
+
+pub returns : goal.returns
+returns c = record { moved = c.in_ok-add_delegation.ensures; tells = refl; class_is = refl }

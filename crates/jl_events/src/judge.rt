@@ -1,0 +1,153 @@
+//! Whether an event is accepted. The verdict is asked here and nowhere else.
+
+ghost use Rattle.std.specs.Prelude.{◌≡◌, ◌≤◌, nat_le, length, option_map};
+ghost use Rattle.std.specs.Bool.{then_some};
+ghost use Rattle.jl_types.specs.declared.event.EventOf.TheVariants as event;
+ghost use Rattle.jl_types.specs.declared.event.Made.{Made};
+ghost use Rattle.jl_types.specs.declared.refusal.Refusal.TheVariants as refusal;
+ghost use Rattle.jl_types.specs.Happenings.Definitions.{delegate_fault};
+ghost use Rattle.jl_types.specs.Happenings.Retirement.{retire_fault};
+ghost use Rattle.jl_types.specs.Happenings.Events as events;
+ghost use Rattle.jl_types.specs.Happenings.Events.{verdict};
+ghost use Rattle.jl_events.specs.Judging.{IsJudged, most_to_judge};
+
+use crate::binding::bind_refusal;
+use crate::install::install_refusal;
+use crate::request::judged_request;
+use jl_callsites::discard_target;
+use jl_class::ClassFile;
+use jl_hierarchy::Classes;
+use jl_relink::World;
+use jl_types::{CallSiteFault, Event, LoaderId, Refusal, RetireFault, Work};
+
+/// The event once more, if the world accepts it, and what it takes to tell: only the links of an install are looked up.
+///
+/// # Errors
+///
+/// The first refusal.
+pub fn judged(
+    world: &World,
+    max_sites: u32,
+    event: Event,
+    work: &mut Work,
+) -> Result<Event, Refusal>
+    requires few { length world.now.places ≤ max_sites }
+    requires most { max_sites ≤ 65536 }
+    requires nothing_yet { work.old ≡ 0 }
+    ensures judged { IsJudged (verdict max_sites world.now event) event result }
+    ensures ticks { work.new ≤ most_to_judge world.now event }
+    ensures small { work.new ≤ 16777216 }
+{
+    match event {
+        Event::NewLoader => unless(loader_refusal(&world.classes), Event::NewLoader),
+        Event::Define(loader, file) => judged_definition(world, loader, file),
+        Event::Delegate(loader, name, to) => {
+            let refusal = delegation_refusal(&world.classes, loader, name.as_slice(), to);
+            unless(refusal, Event::Delegate(loader, name, to))
+        }
+        Event::Request(place) => judged_request(world, max_sites, place),
+        Event::NewCallSite(kind, ty, target) => {
+            let fault = world
+                .sites
+                .new_site_fault(&world.classes, ty.as_slice(), &target);
+            unless(of_call_site(fault), Event::NewCallSite(kind, ty, target))
+        }
+        Event::SetTarget(site, target) => {
+            let fault = world.sites.set_target_fault(&world.classes, site, &target);
+            unless(of_call_site(fault), Event::SetTarget(site, target))
+        }
+        Event::NewSwitch => unless(
+            of_call_site(world.sites.new_switch_fault()),
+            Event::NewSwitch,
+        ),
+        Event::Invalidate(points) => {
+            let fault = world.sites.invalidate_fault(points.as_slice());
+            unless(of_call_site(fault), Event::Invalidate(points))
+        }
+        Event::Bind(site, call_site) => unless(
+            bind_refusal(world, site, call_site),
+            Event::Bind(site, call_site),
+        ),
+        Event::Install(rows) => {
+            let refusal = install_refusal(world, rows.as_slice(), work);
+            unless(refusal, Event::Install(rows))
+        }
+        Event::Retire(loader) => unless(retire_refusal(world, loader), Event::Retire(loader)),
+    }
+}
+
+/// The event, unless there is a refusal.
+pub(crate) fn unless(refusal: Option<Refusal>, event: Event) -> Result<Event, Refusal>
+    ensures { (m : Made) → IsJudged (events.unless refusal m) event result }
+{
+    match refusal {
+        Some(refusal) => {
+            discard(event);
+            Err(refusal)
+        }
+        None => Ok(event),
+    }
+}
+
+/// Lets an event go that was refused, its target part by part, however deep that is.
+fn discard(event: Event) {
+    match event {
+        Event::NewCallSite(_, _, target) => discard_target(target),
+        Event::SetTarget(_, target) => discard_target(target),
+        _ => {}
+    }
+}
+
+/// The same for a definition, by whose fault a name of the file is told.
+fn judged_definition(world: &World, loader: LoaderId, file: ClassFile) -> Result<Event, Refusal>
+    ensures { IsJudged (verdict 0 world.now (event.Define loader file)) (event.Define loader file) result }
+{
+    match world.classes.admitted(loader, file) {
+        Ok(file) => Ok(Event::Define(loader, file)),
+        Err(fault) => Err(Refusal::Define(fault)),
+    }
+}
+
+/// Why there is no loader more.
+fn loader_refusal(classes: &Classes) -> Option<Refusal>
+    ensures { result ≡ then_some (nat_le 1024 (length classes.now.loaders)) refusal.LoadersFull }
+{
+    if classes.has_all_loaders() {
+        Some(Refusal::LoadersFull)
+    } else {
+        None
+    }
+}
+
+/// Why the loader doesn't find the other one's class.
+fn delegation_refusal(
+    classes: &Classes,
+    loader: LoaderId,
+    name: &[u8],
+    to: LoaderId,
+) -> Option<Refusal>
+    ensures { result ≡ option_map refusal.Delegate (delegate_fault classes.now loader name.now to) }
+{
+    match classes.delegation(loader, name, to) {
+        Ok(_) => None,
+        Err(fault) => Some(Refusal::Delegate(fault)),
+    }
+}
+
+/// Why the loader can't go: its classes come before the targets of call sites.
+fn retire_refusal(world: &World, loader: LoaderId) -> Option<Refusal>
+    ensures { result ≡ option_map refusal.Retire (retire_fault world.now loader) }
+{
+    if let Some(fault) = world.classes.retire_fault(loader) {
+        return Some(Refusal::Retire(fault));
+    }
+    let site = world.sites.targeted(&world.classes, loader)?;
+    Some(Refusal::Retire(RetireFault::Targeted(site)))
+}
+
+/// The refusal that is this fault.
+fn of_call_site(fault: Option<CallSiteFault>) -> Option<Refusal>
+    ensures { result ≡ option_map refusal.CallSite fault }
+{
+    Some(Refusal::CallSite(fault?))
+}

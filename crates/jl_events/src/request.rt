@@ -1,0 +1,65 @@
+//! Whether a place may be requested.
+
+ghost use Rattle.std.specs.Prelude.{◌≡◌, true, Some, Ok, Err, IfOk, IfErr};
+ghost use Rattle.jl_class.specs.Site as site;
+ghost use Rattle.jl_types.specs.Values.Members.{is_present};
+ghost use Rattle.jl_types.specs.Linkage.Stages.{invocation_at};
+ghost use Rattle.jl_types.specs.Happenings.Events as events;
+ghost use Rattle.jl_types.specs.Happenings.Events.{verdict};
+ghost use Rattle.jl_types.specs.declared.event.EventOf.TheVariants as event;
+ghost use Rattle.jl_events.specs.Judging.{IsJudged};
+
+use jl_class::Site;
+use jl_relink::{World, invocation_at};
+use jl_types::{Event, NotLinkable, Place, Refusal, is_polymorphic, names_array};
+
+/// The request once more, if the world accepts it. A place that is requested already keeps its number.
+///
+/// # Errors
+///
+/// The first refusal.
+pub(crate) fn judged_request(world: &World, max_sites: u32, place: Place) -> Result<Event, Refusal>
+    ensures { IsJudged (verdict max_sites world.now (event.Request place)) (event.Request place) result }
+{
+    let refusal = refusal_if_new(world, max_sites, &place)?;
+    if world.places.get_index_of(&place).is_some() {
+        return Ok(Event::Request(place));
+    }
+    if let Some(refusal) = refusal {
+        return Err(refusal);
+    }
+    Ok(Event::Request(place))
+}
+
+/// The refusal of the place if it isn't requested yet, where it isn't refused anyway.
+fn refusal_if_new(world: &World, max_sites: u32, place: &Place) -> Result<Option<Refusal>, Refusal>
+    ensures ok { IfOk result (λ refusal. (invocation : site.Site)
+        × (invocation_at world.now.classes place.now ≡ Some invocation)
+        × (refusal ≡ events.new_place_fault max_sites world.now invocation)
+        × (is_present world.now.classes place.now.class ≡ true)) }
+    ensures err { IfErr result (λ r. verdict max_sites world.now (event.Request place.now) ≡ Err r) }
+{
+    if !world.classes.is_present(place.class) {
+        return Err(Refusal::UnknownClass);
+    }
+    match invocation_at(&world.classes, place) {
+        Some(invocation) => Ok(new_place_refusal(world, max_sites, &invocation)),
+        None => Err(Refusal::NoSuchPlace),
+    }
+}
+
+/// The refusal of a place that isn't requested yet, by its invocation.
+fn new_place_refusal(world: &World, max_sites: u32, invocation: &Site<'_>) -> Option<Refusal>
+    ensures { result ≡ events.new_place_fault max_sites world.now invocation.now }
+{
+    if names_array(invocation.operand()) {
+        return Some(Refusal::NotLinkable(NotLinkable::ArrayReceiver));
+    }
+    if is_polymorphic(invocation.operand()) {
+        return Some(Refusal::NotLinkable(NotLinkable::PolymorphicSignature));
+    }
+    if world.site_count() >= max_sites as usize {
+        return Some(Refusal::SitesFull);
+    }
+    None
+}

@@ -1,0 +1,192 @@
+//! The world after an accepted event, and what the log keeps of the event.
+
+ghost use Rattle.std.specs.Prelude.{◌≤◌, length, IfOk};
+ghost use Rattle.jl_types.specs.declared.event.EventOf.TheVariants as events;
+ghost use Rattle.jl_events.specs.Changes.{IsAcceptable, IsStepped};
+
+use crate::accepted::Accepted;
+use crate::changes::{
+    add_binding, add_call_site, add_class, add_delegation, add_loader, add_place, add_switch,
+    put_invalid, put_target, retire_loader,
+};
+use jl_class::ClassFile;
+use jl_names::{Name, Seq};
+use jl_relink::World;
+use jl_types::{CallSiteId, CallSiteKind, Event, LoaderId, Made, Place, SiteNo, SwitchId, Target};
+use std::alloc::{AllocError, Global};
+use std::sync::Arc;
+
+/// The world comes after the accepted event. It gives what the log keeps of it, and what it gave a number to. Where others hold the
+/// world, too, a copy of it is changed. Want of memory is an error; the world is of no use then.
+pub fn step_world(
+    world: &mut Arc<World>,
+    alloc: Global,
+    event: Event,
+) -> Result<(Accepted, Made), AllocError>
+    requires accepted { IsAcceptable world.old.value event }
+    requires few { length world.old.value.places ≤ 65536 }
+    ensures { IfOk result (λ told. IsStepped world.old.value world.new.value event told.0 told.1) }
+{
+    match Arc::get_mut(world) {
+        Some(world) => step_owned(world, alloc, event),
+        None => step_copy(world, alloc, event),
+    }
+}
+
+/// The same by a copy of the world. An install changes no world and copies none.
+fn step_copy(
+    world: &mut Arc<World>,
+    alloc: Global,
+    event: Event,
+) -> Result<(Accepted, Made), AllocError>
+    requires accepted { IsAcceptable world.old.value event }
+    requires few { length world.old.value.places ≤ 65536 }
+    ensures { IfOk result (λ told. IsStepped world.old.value world.new.value event told.0 told.1) }
+{
+    match event {
+        Event::Install(rows) => Ok((Accepted::Install(rows), Made::Nothing)),
+        event => {
+            let mut copy = world.copy(alloc)?;
+            let told = step_owned(&mut copy, alloc, event)?;
+            *world = Arc::new(alloc, copy)?;
+            Ok(told)
+        }
+    }
+}
+
+/// The same for a world that no other holds.
+fn step_owned(
+    world: &mut World,
+    alloc: Global,
+    event: Event,
+) -> Result<(Accepted, Made), AllocError>
+    requires accepted { IsAcceptable world.old event }
+    requires few { length world.old.places ≤ 65536 }
+    ensures { IfOk result (λ told. IsStepped world.old world.new event told.0 told.1) }
+{
+    match event {
+        Event::NewLoader => {
+            let loader = add_loader(world, alloc)?;
+            Ok((Accepted::NewLoader, Made::Loader(loader)))
+        }
+        Event::Define(loader, file) => define(world, alloc, loader, file),
+        Event::Delegate(loader, name, to) => delegate(world, alloc, loader, name, to),
+        Event::Request(place) => request(world, place),
+        Event::NewCallSite(kind, ty, target) => new_call_site(world, alloc, kind, ty, target),
+        Event::SetTarget(site, target) => set_target(world, alloc, site, target),
+        Event::NewSwitch => {
+            let point = add_switch(world)?;
+            Ok((Accepted::NewSwitch, Made::Switch(point)))
+        }
+        Event::Invalidate(points) => Ok(invalidate(world, points)),
+        Event::Bind(site, call_site) => bind(world, site, call_site),
+        Event::Install(rows) => Ok((Accepted::Install(rows), Made::Nothing)),
+        Event::Retire(loader) => retire(world, alloc, loader),
+    }
+}
+
+/// The same for a definition.
+fn define(
+    world: &mut World,
+    alloc: Global,
+    loader: LoaderId,
+    file: ClassFile,
+) -> Result<(Accepted, Made), AllocError>
+    requires { IsAcceptable world.old (events.Define loader file) }
+    ensures { IfOk result (λ told. IsStepped world.old world.new (events.Define loader file) told.0 told.1) }
+{
+    let class = add_class(world, alloc, loader, file)?;
+    Ok((Accepted::Define(loader, class), Made::Class(class)))
+}
+
+/// The same for a delegation.
+fn delegate(
+    world: &mut World,
+    alloc: Global,
+    loader: LoaderId,
+    name: Name,
+    to: LoaderId,
+) -> Result<(Accepted, Made), AllocError>
+    requires { IsAcceptable world.old (events.Delegate loader name to) }
+    ensures { IfOk result (λ told. IsStepped world.old world.new (events.Delegate loader name to) told.0 told.1) }
+{
+    add_delegation(world, alloc, loader, &name, to)?;
+    Ok((Accepted::Delegate(loader, name, to), Made::Nothing))
+}
+
+/// The same for a request.
+fn request(world: &mut World, place: Place) -> Result<(Accepted, Made), AllocError>
+    requires accepted { IsAcceptable world.old (events.Request place) }
+    requires few { length world.old.places ≤ 65536 }
+    ensures { IfOk result (λ told. IsStepped world.old world.new (events.Request place) told.0 told.1) }
+{
+    let site = add_place(world, &place)?;
+    Ok((Accepted::Request(place), Made::Site(site)))
+}
+
+/// The same for a new call site.
+fn new_call_site(
+    world: &mut World,
+    alloc: Global,
+    kind: CallSiteKind,
+    ty: Name,
+    target: Target,
+) -> Result<(Accepted, Made), AllocError>
+    requires { IsAcceptable world.old (events.NewCallSite kind ty target) }
+    ensures { IfOk result (λ told. IsStepped world.old world.new (events.NewCallSite kind ty target) told.0 told.1) }
+{
+    let site = add_call_site(world, alloc, kind, &ty, &target)?;
+    Ok((
+        Accepted::NewCallSite(kind, ty, target),
+        Made::CallSite(site),
+    ))
+}
+
+/// The same for a new target.
+fn set_target(
+    world: &mut World,
+    alloc: Global,
+    site: CallSiteId,
+    target: Target,
+) -> Result<(Accepted, Made), AllocError>
+    requires { IsAcceptable world.old (events.SetTarget site target) }
+    ensures { IfOk result (λ told. IsStepped world.old world.new (events.SetTarget site target) told.0 told.1) }
+{
+    put_target(world, alloc, site, &target)?;
+    Ok((Accepted::SetTarget(site, target), Made::Nothing))
+}
+
+/// The same for an invalidation, which takes no memory.
+fn invalidate(world: &mut World, points: Seq<SwitchId>) -> (Accepted, Made)
+    requires { IsAcceptable world.old (events.Invalidate points) }
+    ensures { IsStepped world.old world.new (events.Invalidate points) result.0 result.1 }
+{
+    put_invalid(world, points.as_slice());
+    (Accepted::Invalidate(points), Made::Nothing)
+}
+
+/// The same for a binding.
+fn bind(
+    world: &mut World,
+    site: SiteNo,
+    call_site: CallSiteId,
+) -> Result<(Accepted, Made), AllocError>
+    requires { IsAcceptable world.old (events.Bind site call_site) }
+    ensures { IfOk result (λ told. IsStepped world.old world.new (events.Bind site call_site) told.0 told.1) }
+{
+    add_binding(world, site, call_site)?;
+    Ok((Accepted::Bind(site, call_site), Made::Nothing))
+}
+
+/// The same for a retirement.
+fn retire(
+    world: &mut World,
+    alloc: Global,
+    loader: LoaderId,
+) -> Result<(Accepted, Made), AllocError>
+    requires { IsAcceptable world.old (events.Retire loader) }
+    ensures { IfOk result (λ told. IsStepped world.old world.new (events.Retire loader) told.0 told.1) }
+{
+    retire_loader(world, alloc, loader)?;
+    Ok((Accepted::Retire(loader), Made::Nothing))
+}
