@@ -18,7 +18,7 @@ use std::alloc::{AllocError, Global};
 use std::mem;
 
 /// The name of the instruction (JVMS SE 17 §6.5).
-fn instruction(kind: Kind) -> &'static str
+pub fn instruction(kind: Kind) -> &'static str
     ensures { result.now ≡ instruction_name kind }
 {
     match kind {

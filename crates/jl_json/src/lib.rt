@@ -28,12 +28,14 @@ mod target;
 
 pub use call_answer::answer_value;
 pub use call_site::{is_method_descriptor, types_are_descriptors};
-pub use class_answer::append_class;
+pub use class_answer::{append_class, instruction};
 pub use command::{
     AskedEvent, ClassSource, Command, each_command_is_read, no_other_keys, read_command,
 };
 pub use event_refusal::{event_refusal_value, prepare_refusal_value};
-pub use link_answer::{farm_value, link_value, links_value, outcome_value, prepared_value};
+pub use link_answer::{
+    farm_value, link_value, links_value, outcome_value, prepared_value, table_kind, throwable_name,
+};
 pub use refusal::FileRefusal;
 pub use reply::reply_value;
 pub use sketch::{each_sketch_is_read, no_other_sketch_keys, read_sketch};

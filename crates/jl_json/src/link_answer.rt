@@ -3,7 +3,8 @@
 ghost use Rattle.std.specs.Prelude.{◌≡◌, map, IfOk};
 ghost use Rattle.serde_json.specs.Data.{array};
 ghost use Rattle.serde_json.specs.View.{view, items_of};
-ghost use Rattle.jl_json.specs.LinkAnswers.{throwable_name, method_id_data, outcome_data};
+ghost use Rattle.jl_json.specs.LinkAnswers as answers;
+ghost use Rattle.jl_json.specs.LinkAnswers.{method_id_data, outcome_data};
 ghost use Rattle.jl_json.specs.LinkAnswers.{table_kind_name, table_row_data, link_data};
 ghost use Rattle.jl_json.specs.LinkAnswers.{site_link_data, site_links_data};
 ghost use Rattle.jl_json.specs.LinkAnswers.{links_data, farm_data, prepared_data};
@@ -13,8 +14,8 @@ use serde_json::{Value, json};
 use std::alloc::{AllocError, Global};
 
 /// The throwable's name in java.lang.
-fn throwable(throwable: Throwable) -> &'static str
-    ensures { result.now ≡ throwable_name throwable }
+pub fn throwable_name(throwable: Throwable) -> &'static str
+    ensures { result.now ≡ answers.throwable_name throwable }
 {
     match throwable {
         Throwable::NoSuchMethodError => "NoSuchMethodError",
@@ -25,8 +26,8 @@ fn throwable(throwable: Throwable) -> &'static str
     }
 }
 
-/// The name of the kind.
-fn table_kind(kind: TableKind) -> &'static str
+/// The name of the kind of a table.
+pub fn table_kind(kind: TableKind) -> &'static str
     ensures { result.now ≡ table_kind_name kind }
 {
     match kind {
@@ -59,7 +60,7 @@ pub fn outcome_value(alloc: Global, outcome: Outcome) -> Result<Value, AllocErro
             json!(in alloc; {"run": method})
         }
         Outcome::Throws(fault) => {
-            let fault = throwable(fault);
+            let fault = throwable_name(fault);
             json!(in alloc; {"throws": fault})
         }
     }
@@ -97,7 +98,7 @@ pub fn link_value(alloc: Global, link: Link) -> Result<Value, AllocError>
 {
     match link {
         Link::Fault(fault) => {
-            let fault = throwable(fault);
+            let fault = throwable_name(fault);
             json!(in alloc; {"fault": fault})
         }
         Link::Plain(method) => {

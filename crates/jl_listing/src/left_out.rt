@@ -1,7 +1,7 @@
 //! Files that are left out.
 
 use jl_json::{FileRefusal, event_refusal_value};
-use jl_paths::{NoClass, Source};
+use jl_paths::{NoClass, Source, are_reported};
 use jl_report::Refused;
 use jl_texts::LeftOut;
 use jl_types::Refusal;
@@ -30,10 +30,7 @@ pub(crate) fn add_refused(
     refused: Vec<Refused>,
     left_out: &mut Vec<LeftOut>,
 ) -> Result<Vec<bool>, AllocError> {
-    let mut is_listed = Vec::with_capacity(alloc, sources.len())?;
-    for source in sources {
-        is_listed.push(source.is_reported)?;
-    }
+    let mut is_listed = are_reported(alloc, sources)?;
     for one in refused {
         let place = one.place;
         if place < sources.len() && place < is_listed.len() {

@@ -9,9 +9,11 @@ mod asked;
 mod chosen;
 
 // From paths to what is written.
+mod breaks;
 mod fault;
 mod left_out;
 mod page;
+mod progress;
 mod report;
 
 pub use asked::{Asked, Form, read_asked};

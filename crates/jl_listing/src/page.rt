@@ -1,13 +1,14 @@
 //! What a report writes.
 
-use crate::asked::Form;
+use crate::asked::{Asked, Form};
 use crate::chosen::Chosen;
 use crate::fault::ReportFault;
 use jl_class::{ClassFile, Method, Site};
+use jl_hierarchy::Classes;
 use jl_page::{Bar, ClassPart, HtmlPage};
-use jl_report::{Finding, Report, Row, Shape};
+use jl_report::{Dropped, Report, Row, Shape, keep_open};
 use jl_texts::{
-    Former, LeftOut, MissingClasses, Summary, push_finding, push_left_out, push_left_out_line,
+    Former, LeftOut, MissingClasses, Summary, push_dropped, push_left_out, push_left_out_line,
     push_method_line, push_name, push_reasons, push_site_line, write_line, write_totals,
 };
 use jl_types::ClassId;
@@ -28,141 +29,128 @@ pub(crate) struct Page {
     summary: Summary,
     missing: MissingClasses,
     html: Option<HtmlPage>,
+    /// Whether further classes come.
+    keeps_rows: bool,
+    /// The invocations whose links a further class may drop.
+    kept: Vec<Row>,
+    /// How many further classes there are.
+    further: u64,
+    /// How many links they drop.
+    dropped: u64,
 }
 
 impl Page {
-    /// Nothing, with a page of HTML or without.
-    pub(crate) fn new(alloc: Global, form: Form, has_html: bool) -> Self {
+    /// Nothing of what is asked for.
+    pub(crate) fn new(alloc: Global, asked: &Asked) -> Self {
         Page {
-            form,
+            form: asked.form,
             text: String::new(alloc),
             bytes: Vec::new(alloc),
             summary: Summary::new(),
             missing: MissingClasses::new(alloc),
-            html: has_html.then(|| HtmlPage::new(alloc)),
+            html: asked.html.is_some().then(|| HtmlPage::new(alloc)),
+            keeps_rows: !asked.breaks.is_empty(),
+            kept: Vec::new(alloc),
+            further: 0,
+            dropped: 0,
         }
     }
 }
 
 impl Page {
-    /// Adds the invocations of the classes that are reported, and writes most of them.
-    pub(crate) fn add_classes<W: Write>(
+    /// Defines the class of a further file, and adds the invocations whose links it drops. The file comes back where its class may not be
+    /// defined.
+    pub(crate) fn add_further(
         &mut self,
         alloc: Global,
         report: &mut Report,
         chosen: &Chosen,
-        listed: &[ClassId],
-        out: &mut W,
-    ) -> Result<(), ReportFault> {
-        for class in listed {
-            self.add_class(alloc, report, chosen, *class)?;
-            self.write_if_full(out)?;
+        file: ClassFile,
+    ) -> Result<Option<ClassFile>, ReportFault> {
+        let class = ClassId::new(report.classes().class_count() as u32);
+        let mut dropped = Vec::new(alloc);
+        let back = report.add_class(alloc, file, &mut self.kept, &mut dropped)?;
+        if back.is_some() {
+            return Ok(back);
         }
+        self.further = self.further.saturating_add(1);
+        for one in &dropped {
+            if chosen.takes_row(report.classes(), &one.before) {
+                self.add_dropped(alloc, report.classes(), class, one)?;
+            }
+        }
+        Ok(None)
+    }
+
+    /// Adds an invocation whose link this class drops.
+    fn add_dropped(
+        &mut self,
+        alloc: Global,
+        classes: &Classes,
+        class: ClassId,
+        one: &Dropped,
+    ) -> Result<(), ReportFault> {
+        self.dropped = self.dropped.saturating_add(1);
+        let place = one.before.place;
+        let Some(caller) = classes.class_at(place.class) else {
+            return Ok(());
+        };
+        let methods = caller.file().methods();
+        let Some(method) = methods.at(place.method as usize) else {
+            return Ok(());
+        };
+        let Some(site) = method.sites().at_pc(place.pc) else {
+            return Ok(());
+        };
+        match self.form {
+            Form::Totals => Ok(()),
+            Form::Sites => {
+                push_dropped(alloc, classes, class, one, &method, &site, &mut self.text)?;
+                Ok(())
+            }
+            Form::Json => {
+                let former = Former {
+                    row: &one.before,
+                    class,
+                };
+                self.add_line(alloc, classes, &one.after, &method, &site, Some(&former))
+            }
+        }
+    }
+
+    /// Adds the invocation as a line of JSON.
+    fn add_line(
+        &mut self,
+        alloc: Global,
+        classes: &Classes,
+        row: &Row,
+        method: &Method<'_>,
+        site: &Site<'_>,
+        former: Option<&Former<'_>>,
+    ) -> Result<(), ReportFault> {
+        let mut out = Writer::new(mem::replace(&mut self.bytes, Vec::new(alloc)));
+        write_line(alloc, classes, row, method, site, former, &mut out)?;
+        self.bytes = out.into_inner();
+        self.bytes.push(b'\n')?;
         Ok(())
     }
 
-    /// Adds the invocations that come to something else among the further classes, and writes most of them.
-    pub(crate) fn add_breaks<W: Write>(
-        &mut self,
-        alloc: Global,
-        before: &mut Report,
-        after: &mut Report,
-        chosen: &Chosen,
-        listed: &[ClassId],
-        added: usize,
-        out: &mut W,
-    ) -> Result<(), ReportFault> {
-        let mut dropped: u64 = 0;
-        for class in listed {
-            let count = self.add_changes(alloc, before, after, chosen, *class)?;
-            dropped = dropped.saturating_add(count);
-            self.write_if_full(out)?;
-        }
+    /// Adds how many further classes there are, and how many links they drop.
+    pub(crate) fn add_breaks(&mut self) -> Result<(), ReportFault> {
         if self.form == Form::Json {
             return Ok(());
         }
         let head = "further classes";
-        write!(self.text, "{head:<28}{added:>12}\n")?;
+        let count = self.further;
+        write!(self.text, "{head:<28}{count:>12}\n")?;
         let head = "links that they drop";
-        write!(self.text, "{head:<28}{dropped:>12}\n")?;
-        Ok(())
-    }
-
-    /// Adds the invocations of the class that come to something else among the further classes, and tells how many there are.
-    fn add_changes(
-        &mut self,
-        alloc: Global,
-        before: &mut Report,
-        after: &mut Report,
-        chosen: &Chosen,
-        class: ClassId,
-    ) -> Result<u64, ReportFault> {
-        let old = before.rows_in(alloc, class)?;
-        let new = after.rows_in(alloc, class)?;
-        let mut count: u64 = 0;
-        for (old, new) in old.iter().zip(&new) {
-            if is_dropped(old, new) && chosen.takes_row(before.classes(), old) {
-                self.add_change(alloc, before, after, old, new)?;
-                count = count.saturating_add(1);
-            }
-        }
-        Ok(count)
-    }
-
-    /// Adds an invocation that comes to something else among the further classes.
-    fn add_change(
-        &mut self,
-        alloc: Global,
-        before: &Report,
-        after: &Report,
-        old: &Row,
-        new: &Row,
-    ) -> Result<(), ReportFault> {
-        let Some(kept) = before.classes().class_at(old.place.class) else {
-            return Ok(());
-        };
-        let file = kept.file();
-        let methods = file.methods();
-        let Some(method) = methods.at(old.place.method as usize) else {
-            return Ok(());
-        };
-        let Some(site) = method.sites().at_pc(old.place.pc) else {
-            return Ok(());
-        };
-        match self.form {
-            Form::Totals => {}
-            Form::Sites => {
-                self.text.push_str("dropped: ")?;
-                push_method_line(alloc, file, &method, &mut self.text)?;
-                push_site_line(alloc, before.classes(), &site, old, &mut self.text)?;
-                self.text.push_str("        now  ")?;
-                push_finding(alloc, after.classes(), &site, new, &mut self.text)?;
-                self.text.push('\n')?;
-            }
-            Form::Json => {
-                let mut out = Writer::new(mem::replace(&mut self.bytes, Vec::new(alloc)));
-                let former = Former {
-                    classes: before.classes(),
-                    row: old,
-                };
-                write_line(
-                    alloc,
-                    after.classes(),
-                    new,
-                    &method,
-                    &site,
-                    Some(former),
-                    &mut out,
-                )?;
-                self.bytes = out.into_inner();
-                self.bytes.push(b'\n')?;
-            }
-        }
+        let count = self.dropped;
+        write!(self.text, "{head:<28}{count:>12}\n")?;
         Ok(())
     }
 
     /// Adds the invocations of the class that are reported.
-    fn add_class(
+    pub(crate) fn add_class(
         &mut self,
         alloc: Global,
         report: &mut Report,
@@ -174,14 +162,15 @@ impl Page {
         let Some(kept) = report.classes().class_at(class) else {
             return Ok(());
         };
-        let methods = kept.file().methods();
+        let file = kept.file();
+        let methods = file.methods();
         let mut part = ClassPart::new(alloc);
         let mut rest = rows.as_slice();
         for index in 0..methods.len() {
             if let Some(method) = methods.at(index) {
                 let count = method.sites().len();
                 if let Some((own, after)) = rest.split_at_checked(count) {
-                    let bar = self.add_method(alloc, report, chosen, kept.file(), &method, own)?;
+                    let bar = self.add_method(alloc, report, chosen, file, &method, own)?;
                     if self.html.is_some() {
                         push_method_part(alloc, &method, &bar, &mut part)?;
                     }
@@ -189,7 +178,11 @@ impl Page {
                 }
             }
         }
-        self.add_part(alloc, kept.file(), &part)
+        self.add_part(alloc, file, &part)?;
+        if self.keeps_rows {
+            keep_open(rows, &mut self.kept)?;
+        }
+        Ok(())
     }
 
     /// Adds the class to the page of HTML, if there is one.
@@ -267,10 +260,7 @@ impl Page {
             Form::Totals => {}
             Form::Sites => push_site_line(alloc, report.classes(), site, row, &mut self.text)?,
             Form::Json => {
-                let mut out = Writer::new(mem::replace(&mut self.bytes, Vec::new(alloc)));
-                write_line(alloc, report.classes(), row, method, site, None, &mut out)?;
-                self.bytes = out.into_inner();
-                self.bytes.push(b'\n')?;
+                self.add_line(alloc, report.classes(), row, method, site, None)?;
             }
         }
         Ok(())
@@ -317,7 +307,7 @@ impl Page {
     }
 
     /// Writes what there is, where it is long.
-    fn write_if_full<W: Write>(&mut self, out: &mut W) -> Result<(), ReportFault> {
+    pub(crate) fn write_if_full<W: Write>(&mut self, out: &mut W) -> Result<(), ReportFault> {
         if self.text.len() > MOST_BYTES || self.bytes.len() > MOST_BYTES {
             self.write(out)?;
         }
@@ -348,13 +338,4 @@ fn push_method_part(
     push_name(alloc, method.name().as_slice(), &mut name)?;
     push_name(alloc, method.ty().as_slice(), &mut name)?;
     Ok(part.add_method(name.as_str(), bar)?)
-}
-
-/// Whether there was a link, and is another one.
-fn is_dropped(old: &Row, new: &Row) -> bool {
-    match (&old.finding, &new.finding) {
-        (Finding::Linked(old), Finding::Linked(new)) => *old != *new,
-        (Finding::Linked(_), _) => true,
-        _ => false,
-    }
 }

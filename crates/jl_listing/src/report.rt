@@ -1,10 +1,12 @@
 //! A report, from paths to what is written.
 
 use crate::asked::Asked;
+use crate::breaks::add_further;
 use crate::chosen::Chosen;
 use crate::fault::ReportFault;
 use crate::left_out::{add_no_classes, add_refused};
 use crate::page::Page;
+use crate::progress::Progress;
 use jl_class::ClassFile;
 use jl_hierarchy::Classes;
 use jl_names::Name;
@@ -14,8 +16,9 @@ use jl_texts::LeftOut;
 use jl_types::{ClassId, LoaderId};
 use std::alloc::Global;
 use std::fs;
-use std::io::{ErrorKind, Write};
+use std::io::{ErrorKind, IsTerminal, Write};
 use std::rt::Files;
+use std::time::Clock;
 
 /// What isn't in a report: files that are left out, and paths that couldn't be read.
 #[derive(Drop)]
@@ -30,7 +33,7 @@ struct Missed {
 /// # Errors
 ///
 /// A path that couldn't be read, behind the report of the others; a failed write; want of memory.
-pub fn run_report<R: Files + AllocGlobal + Clone + Drop, W: Write, E: Write>(
+pub fn run_report<R: Files + AllocGlobal + Clock + Clone + Drop, W: Write, E: Write + IsTerminal>(
     rt: &R,
     asked: &Asked,
     out: &mut W,
@@ -43,13 +46,13 @@ pub fn run_report<R: Files + AllocGlobal + Clone + Drop, W: Write, E: Write>(
 }
 
 /// The same, where a closed pipe is an error, too.
-fn report<R: Files + AllocGlobal + Clone + Drop, W: Write, E: Write>(
+fn report<R: Files + AllocGlobal + Clock + Clone + Drop, W: Write, E: Write + IsTerminal>(
     rt: &R,
     asked: &Asked,
     out: &mut W,
     errors: &mut E,
 ) -> Result<(), ReportFault> {
-    let mut page = Page::new(rt.alloc(), asked.form, asked.html.is_some());
+    let mut page = Page::new(rt.alloc(), asked);
     let mut missed = Missed {
         left_out: Vec::new(rt.alloc()),
         faults: Vec::new(rt.alloc()),
@@ -58,11 +61,20 @@ fn report<R: Files + AllocGlobal + Clone + Drop, W: Write, E: Write>(
     let own = read_all(rt, &asked.paths, &asked.beside)?;
     let own = define_gathered(rt.alloc(), &mut classes, own, &mut missed)?;
     let listed = chosen_of(rt.alloc(), &classes, own, &asked.chosen)?;
-    if asked.breaks.is_empty() {
-        let mut report = Report::of(rt.alloc(), classes);
-        page.add_classes(rt.alloc(), &mut report, &asked.chosen, &listed, out)?;
-    } else {
-        add_both(rt, asked, classes, &listed, &mut page, &mut missed, out)?;
+    let mut report = Report::of(rt.alloc(), classes);
+    let mut progress = Progress::new(rt, errors);
+    add_classes(
+        rt,
+        asked,
+        &mut report,
+        &listed,
+        &mut page,
+        &mut progress,
+        out,
+        errors,
+    )?;
+    if !asked.breaks.is_empty() {
+        add_breaks(rt, asked, &mut report, &mut page, &mut missed, out)?;
     }
     let Missed { left_out, faults } = missed;
     let mut left_out = left_out;
@@ -99,31 +111,46 @@ fn write_html<R: Files + AllocGlobal>(
     }
 }
 
-/// Adds the report of the classes, and then what further ones change in it.
-fn add_both<R: Files + AllocGlobal + Clone + Drop, W: Write>(
+/// Adds the invocations of the classes that are reported, and writes most of them.
+fn add_classes<R: AllocGlobal + Clock, W: Write, E: Write>(
     rt: &R,
     asked: &Asked,
-    classes: Classes,
+    report: &mut Report,
     listed: &[ClassId],
+    page: &mut Page,
+    progress: &mut Progress,
+    out: &mut W,
+    errors: &mut E,
+) -> Result<(), ReportFault> {
+    for (done, class) in listed.iter().enumerate() {
+        progress.tell(rt, done, listed.len(), errors);
+        page.add_class(rt.alloc(), report, &asked.chosen, *class)?;
+        page.write_if_full(out)?;
+    }
+    progress.end(errors);
+    Ok(())
+}
+
+/// Adds what further classes drop, class by class.
+fn add_breaks<R: Files + AllocGlobal + Clone + Drop, W: Write>(
+    rt: &R,
+    asked: &Asked,
+    report: &mut Report,
     page: &mut Page,
     missed: &mut Missed,
     out: &mut W,
 ) -> Result<(), ReportFault> {
-    let mut more = classes.copy(rt.alloc())?;
-    let mut before = Report::of(rt.alloc(), classes);
-    page.add_classes(rt.alloc(), &mut before, &asked.chosen, listed, out)?;
-    let further = read_all(rt, &asked.breaks, &[])?;
-    let added = define_gathered(rt.alloc(), &mut more, further, missed)?;
-    let mut after = Report::of(rt.alloc(), more);
-    page.add_breaks(
-        rt.alloc(),
-        &mut before,
-        &mut after,
-        &asked.chosen,
-        listed,
-        added.len(),
-        out,
-    )
+    let Gathered {
+        files,
+        sources,
+        no_classes,
+        faults,
+    } = read_all(rt, &asked.breaks, &[])?;
+    add_no_classes(rt.alloc(), no_classes, &mut missed.left_out)?;
+    missed.faults.extend(faults)?;
+    let refused = add_further(rt.alloc(), report, &asked.chosen, files, page, out)?;
+    let _is_listed = add_refused(rt.alloc(), &sources, refused, &mut missed.left_out)?;
+    page.add_breaks()
 }
 
 /// Defines the classes of what was read, and gives those of them that are to be reported.

@@ -1,5 +1,7 @@
 //! Class files that are read from their paths.
 
+ghost use Rattle.std.specs.Prelude.{◌≡◌, map, IfOk};
+
 use crate::order::parents_first;
 use crate::paths::{PathFault, Paths};
 use jl_class::ClassFile;
@@ -113,6 +115,17 @@ fn read_file<R: Files + AllocGlobal>(
     }
     let bytes = fs::read(rt, path)?;
     Ok(read_class(rt.alloc(), &bytes))
+}
+
+/// Whether the class of each source is reported, if it is there. Want of memory is an error.
+pub fn are_reported(alloc: Global, sources: &[Source]) -> Result<Vec<bool>, AllocError>
+    ensures { IfOk result (λ reported. reported.items ≡ map (λ source. source.is_reported) sources.now) }
+{
+    let mut reported = Vec::with_capacity(alloc, sources.len())?;
+    for source in sources {
+        reported.push(source.is_reported)?;
+    }
+    Ok(reported)
 }
 
 /// Reads what is below the paths, and what is below those beside them. Parents come first, else names are in order, and of two files of

@@ -27,6 +27,13 @@ struct Entry {
     is_folder: bool,
 }
 
+/// What is in a folder, and why a name in it couldn't be read, if one couldn't.
+#[derive(Debug, Drop)]
+struct Listed {
+    entries: Vec<Entry>,
+    fault: Option<ErrorKind>,
+}
+
 impl Paths {
     /// Adds the file of this path, whatever its name; or of a folder all files at and below it whose names end in `.class`, by
     /// name, where a link is not followed.
@@ -74,8 +81,22 @@ impl Paths {
             return Ok(self.found.push(entry.path)?);
         }
         match entries_of(rt, entry.path.as_str()) {
-            Ok(entries) => Ok(waiting.extend(entries)?),
+            Ok(listed) => self.take_listed(entry.path, listed, waiting),
             Err(error) => self.fail(entry.path, error),
+        }
+    }
+
+    /// Adds what is in a folder to what is waiting, and notes that a name in it couldn't be read.
+    fn take_listed(
+        &mut self,
+        path: String,
+        listed: Listed,
+        waiting: &mut Vec<Entry>,
+    ) -> Result<(), AllocError> {
+        waiting.extend(listed.entries)?;
+        match listed.fault {
+            Some(kind) => Ok(self.faults.push(PathFault { path, kind })?),
+            None => Ok(()),
         }
     }
 
@@ -88,16 +109,38 @@ impl Paths {
     }
 }
 
-/// The folders and class files in a folder, the last one by name first.
-fn entries_of<R: Files + AllocGlobal + Clone + Drop>(rt: &R, path: &str) -> io::Result<Vec<Entry>> {
+/// The folders and class files in a folder, the last one by name first. A name that is no UTF-8 can't be read.
+fn entries_of<R: Files + AllocGlobal + Clone + Drop>(rt: &R, path: &str) -> io::Result<Listed> {
     let mut entries = Vec::new(rt.alloc());
+    let mut fault = None;
     for entry in fs::read_dir(rt, path)? {
-        if let Some(kept) = kept_of(rt, &entry?)? {
-            entries.push(kept)?;
+        match entry {
+            Ok(entry) => push_kept(rt, &entry, &mut entries)?,
+            Err(error) => fault = Some(name_fault(error)?),
         }
     }
     entries.sort_unstable_by(|a, b| b.path.as_str().cmp(a.path.as_str()));
-    Ok(entries)
+    Ok(Listed { entries, fault })
+}
+
+/// Why a name couldn't be read; want of memory is an error.
+fn name_fault(error: io::Error) -> io::Result<ErrorKind> {
+    match error.kind() {
+        ErrorKind::OutOfMemory => Err(error),
+        kind => Ok(kind),
+    }
+}
+
+/// Adds the entry, where it is a folder or a class file.
+fn push_kept<R: Files + AllocGlobal + Clone + Drop>(
+    rt: &R,
+    entry: &DirEntry<R, Global>,
+    entries: &mut Vec<Entry>,
+) -> io::Result<()> {
+    if let Some(kept) = kept_of(rt, entry)? {
+        entries.push(kept)?;
+    }
+    Ok(())
 }
 
 /// The entry, where it is a folder or a class file.

@@ -1,7 +1,7 @@
 -- Files that become classes, one after the other, the last one of those that wait first.
 use Rattle.std.proofs.Common.{◌≡◌, ◌∙◌, sym, ap, subst, refl, append_assoc, append-nil, zero-add, arith}
 use Rattle.std.proofs.Common.{ℕ, ◌+◌, ◌≤◌, List, [], ◌∷◌, ◌++◌, map, reverse, length}
-use Rattle.std.specs.Prelude.{slice_get, Option, Some, None, is_some, true, false, All}
+use Rattle.std.specs.Prelude.{slice_get, Option, Some, None, is_some, is_none, Bool, not, true, false, All}
 use Rattle.std.specs.List.{range_with_len}
 use Rattle.std.proofs.lemmas.List.{map-append, reverse-append, reverse-reverse, length-append}
 use Rattle.std.proofs.lemmas.List.Elements.{All-push, All-nil}
@@ -221,3 +221,7 @@ all_gathered files out first waiting refused leads told =
 pub not_some : {A : Type 0} (o : Option A) → is_some o ≡ false → o ≡ None
 not_some None e = refl
 not_some (Some x) e = cc
+
+pub is_refused : {A : Type 0} (admits : Bool) (o : Option A) → admits ≡ is_none o → not admits ≡ is_some o
+is_refused admits None e = ap not e
+is_refused admits (Some x) e = ap not e

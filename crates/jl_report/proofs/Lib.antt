@@ -1,5 +1,6 @@
 pub mod AskingLaws
-pub mod BarredLaws
 pub mod GatherLaws
 pub mod InvocationLaws
 pub mod TotalLaws
+pub mod DropLaws
+pub mod StayLaws

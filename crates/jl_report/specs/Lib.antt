@@ -3,4 +3,5 @@ pub mod Means
 pub mod Gathering
 pub mod Order
 pub mod Reports
+pub mod Drops
 pub mod Totals

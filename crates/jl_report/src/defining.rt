@@ -1,17 +1,16 @@
 //! Which class files become classes.
 
-ghost use Rattle.std.specs.Prelude.{◌≡◌, ◌≤◌, ℕ, List, length, reverse, All, IfOk, OnOk, is_some, slice_get, true, Some};
+ghost use Rattle.std.specs.Prelude.{◌≡◌, ◌≤◌, ℕ, List, length, reverse, All, IfOk, OnOk, is_some, slice_get, true, Some, None};
 ghost use Rattle.std.specs.List.{range_with_len};
 ghost use Rattle.jl_class.specs.Class.{ClassFile};
 ghost use Rattle.jl_types.specs.Values.World as world;
-ghost use Rattle.jl_types.specs.Happenings.Definitions.{define_fault};
+ghost use Rattle.jl_types.specs.Happenings.Definitions.{define_fault, defined};
 ghost use Rattle.jl_report.specs.Gathering.{Gathers, IsRefused, numbers};
 ghost use Rattle.jl_report.specs.Means.Waiting.{AreOf, AreStuck, IsTried, places};
 
-use crate::barred::{first_loader, is_barred};
 use jl_class::ClassFile;
 use jl_hierarchy::Classes;
-use jl_types::DefineFault;
+use jl_types::{DefineFault, LoaderId};
 use std::alloc::{AllocError, Global};
 
 /// Why the file at this place makes no class.
@@ -26,6 +25,20 @@ pub struct Refused {
 pub(crate) struct Waiting {
     place: usize,
     file: ClassFile,
+}
+
+/// The loader that defines all classes.
+pub(crate) fn first_loader() -> LoaderId
+    ensures { result ≡ 0 }
+{
+    LoaderId::new(0)
+}
+
+/// Whether loader 0 may not define the class of the file.
+pub(crate) fn is_barred(classes: &Classes, file: &ClassFile) -> bool
+    ensures { result ≡ is_some (define_fault classes.now 0 file.now) }
+{
+    !classes.admits(first_loader(), file)
 }
 
 /// Loader 0 makes classes of these files, beside those that are there, and of the files that are told it makes none: in the end it may
@@ -105,8 +118,21 @@ fn try_define(
     if is_barred(classes, &one.file) {
         return Ok(Some(one));
     }
-    let _class = classes.add(alloc, first_loader(), one.file)?;
+    define_one(alloc, classes, one.file)?;
     Ok(None)
+}
+
+/// Loader 0 defines the class of the file. Want of memory is an error.
+pub(crate) fn define_one(
+    alloc: Global,
+    classes: &mut Classes,
+    file: ClassFile,
+) -> Result<(), AllocError>
+    requires { define_fault classes.old 0 file ≡ None }
+    ensures { OnOk result (classes.new ≡ defined classes.old 0 file) }
+{
+    let _class = classes.add(alloc, first_loader(), file)?;
+    Ok(())
 }
 
 /// Why loader 0 may not define these files, the last one first. Want of memory is an error.

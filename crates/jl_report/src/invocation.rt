@@ -1,13 +1,12 @@
 //! The invocations of a class.
 
 ghost use Rattle.std.specs.Prelude.{◌≡◌, ◌<◌, ◌^◌, ◌++◌, map, length, IfOk, OnOk};
-ghost use Rattle.jl_types.specs.Happenings.Events as events;
 ghost use Rattle.jl_report.specs.Reports as reports;
 
 use jl_class::{Kind, Methods, Operand, Site, Sites};
 use jl_hierarchy::Classes;
 use jl_names::LentName;
-use jl_types::{ClassId, NotLinkable, Place};
+use jl_types::{ClassId, NotLinkable, Place, is_polymorphic, names_array};
 use std::alloc::{AllocError, Global};
 
 /// An invocation: where it stands, its instruction, and why it is never linked, if so.
@@ -92,28 +91,4 @@ fn never_linked(operand: &Operand<LentName<'_>>) -> Option<NotLinkable>
         return Some(NotLinkable::ArrayReceiver);
     }
     is_polymorphic(operand).then_some(NotLinkable::PolymorphicSignature)
-}
-
-/// Whether it names a method of an array type.
-fn names_array(operand: &Operand<LentName<'_>>) -> bool
-    ensures { result ≡ events.names_array operand.now }
-{
-    match operand {
-        Operand::Method(reference) => reference.owner.as_slice().starts_with(b"[".as_slice()),
-        Operand::CallSite(_) => false,
-    }
-}
-
-/// Whether it names a method that any descriptor fits (JVMS SE 17 §2.9.3).
-fn is_polymorphic(operand: &Operand<LentName<'_>>) -> bool
-    ensures { result ≡ events.is_polymorphic operand.now }
-{
-    match operand {
-        Operand::Method(reference) => {
-            let owner = reference.owner.as_slice();
-            owner == b"java/lang/invoke/MethodHandle".as_slice()
-                || owner == b"java/lang/invoke/VarHandle".as_slice()
-        }
-        Operand::CallSite(_) => false,
-    }
 }

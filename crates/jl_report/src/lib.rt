@@ -1,11 +1,11 @@
 //! What each invocation of a closed set of classes comes to, which analysers and ahead-of-time compilers ask (JVMS SE 17 §6.5).
 //!
-//! Which files become classes stands in `specs/Gathering`, what a report says of classes, in `specs/Reports`, how many invocations come
-//! to what, in `specs/Totals`, and in which order classes are reported, in `specs/Order`.
+//! Which files become classes stands in `specs/Gathering`, what a report says of classes, in `specs/Reports`, which links a further class
+//! drops, in `specs/Drops`, how many invocations come to what, in `specs/Totals`, and in which order classes are reported, in
+//! `specs/Order`.
 #![tactic(auto)]
 
 // Classes.
-mod barred;
 mod defining;
 mod order;
 
@@ -16,11 +16,15 @@ mod row;
 mod shape;
 mod totals;
 
+// What a further class changes of it.
+mod breaking;
+
 // The laws of the definitions.
 mod laws;
 
+pub use breaking::{Dropped, keep_open};
 pub use defining::{Refused, define_all};
-pub use laws::reported_links_are_from_scratch;
+pub use laws::{reported_links_are_from_scratch, undropped_links_stay};
 pub use order::order_by_name;
 pub use report::Report;
 pub use row::{Finding, Row};

@@ -17,7 +17,7 @@ use std::marker::Model;
 /// Classes, of whose invocations it is told what they come to among these classes. A clause sees the classes.
 pub struct Report {
     /// Their world, in which one place is requested at most.
-    world: World,
+    pub(crate) world: World,
 }
 
 // Written out, since a derived drop is proved anew in each crate that lets one go.
@@ -106,7 +106,7 @@ fn row_of(alloc: Global, world: &mut World, invocation: Invocation) -> Result<Ro
 }
 
 /// Requests the place alone. Want of memory is an error.
-fn request_alone(world: &mut World, place: Place) -> Result<(), AllocError>
+pub(crate) fn request_alone(world: &mut World, place: Place) -> Result<(), AllocError>
     requires { reports.IsBare world.old }
     ensures asking { OnOk result (world.new ≡ reports.asking world.old.classes place) }
     ensures classes { world.new.classes ≡ world.old.classes }
@@ -124,8 +124,5 @@ fn finding_in(world: &World, never: Option<NotLinkable>) -> Finding
     if let Some(reason) = never {
         return Finding::NotLinkable(reason);
     }
-    match link_of(world, SiteNo::new(0)) {
-        Ok(link) => Finding::Linked(link),
-        Err(reason) => Finding::Unlinked(reason),
-    }
+    Finding::of(link_of(world, SiteNo::new(0)))
 }

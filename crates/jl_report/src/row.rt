@@ -1,5 +1,8 @@
 //! What is reported of an invocation.
 
+ghost use Rattle.std.specs.Prelude.{◌≡◌};
+ghost use Rattle.jl_report.specs.Reports as reports;
+
 use jl_class::Kind;
 use jl_deps::Footprint;
 use jl_types::{Link, NotLinkable, Place, Unlinked};
@@ -13,6 +16,18 @@ pub enum Finding {
     Unlinked(Unlinked),
     /// It is never linked here.
     NotLinkable(NotLinkable),
+}
+
+impl Finding {
+    /// What an invocation comes to that has this link, or has none for this reason.
+    pub(crate) fn of(found: Result<Link, Unlinked>) -> Finding
+        ensures { result ≡ reports.found found }
+    {
+        match found {
+            Ok(link) => Finding::Linked(link),
+            Err(reason) => Finding::Unlinked(reason),
+        }
+    }
 }
 
 /// An invocation: its place and its instruction (JVMS SE 17 §6.5), what it comes to, and what its link rests on that a further class may

@@ -1,14 +1,15 @@
 //! A report as JSON, an object a line.
 
 use crate::left_out::LeftOut;
-use crate::links::{instruction, open_class, throwable_name};
+use crate::links::open_class;
 use crate::names::push_name;
 use crate::totals::{KINDS_BY_NAME, SHAPES_BY_KEY, Summary};
 use jl_class::{Method, Operand, Site};
 use jl_hierarchy::Classes;
+use jl_json::{instruction, table_kind, throwable_name};
 use jl_names::LentName;
 use jl_report::{Finding, Row};
-use jl_types::{ClassId, Link, Missing, NotLinkable, Outcome, Table, TableKind, Unlinked};
+use jl_types::{ClassId, Link, Missing, NotLinkable, Outcome, Table, Unlinked};
 use json::Writer;
 use serde_json::{Value, put};
 use std::alloc::{AllocError, Global};
@@ -109,29 +110,22 @@ fn write_link(
     out.end_object()
 }
 
-fn table_kind(kind: TableKind) -> &'static str {
-    match kind {
-        TableKind::Virtual => "virtual",
-        TableKind::Interface => "interface",
-    }
-}
-
-/// What an invocation came to among these classes, before further ones were defined.
+/// What an invocation came to, before this class was defined behind the others.
 #[derive(Clone, Copy)]
-pub struct Former<'a, 'b> {
-    pub classes: &'a Classes,
-    pub row: &'b Row,
+pub struct Former<'a> {
+    pub row: &'a Row,
+    pub class: ClassId,
 }
 
-/// Writes the invocation of the row, which stands in this method, and what it comes to, with the link that it had, if that was dropped.
-/// Keys are in byte order. Want of memory is an error.
+/// Writes the invocation of the row, which stands in this method, and what it comes to, with the link that it had and the class that dropped
+/// it, if one did. Keys are in byte order. Want of memory is an error.
 pub fn write_line(
     alloc: Global,
     classes: &Classes,
     row: &Row,
     method: &Method<'_>,
     site: &Site<'_>,
-    former: Option<Former<'_, '_>>,
+    former: Option<&Former<'_>>,
     out: &mut Writer,
 ) -> Result<(), AllocError> {
     out.begin_object()?;
@@ -139,7 +133,9 @@ pub fn write_line(
     out.key("class")?;
     write_class(alloc, classes, row.place.class, out)?;
     if let Some(former) = former {
-        write_link_of(alloc, "dropped", former.classes, former.row, out)?;
+        write_link_of(alloc, "dropped", classes, former.row, out)?;
+        out.key("droppedBy")?;
+        write_class(alloc, classes, former.class, out)?;
     }
     out.key("kind")?;
     out.string(instruction(row.kind))?;

@@ -13,8 +13,8 @@ mod totals;
 
 pub use json_lines::{Former, push_left_out_line, write_line, write_totals};
 pub use left_out::LeftOut;
-pub use links::{open_class, push_finding};
+pub use links::open_class;
 pub use missing::MissingClasses;
 pub use names::push_name;
-pub use text::{push_left_out, push_method_line, push_reasons, push_site_line};
+pub use text::{push_dropped, push_left_out, push_method_line, push_reasons, push_site_line};
 pub use totals::Summary;

@@ -1,36 +1,15 @@
 //! What an invocation comes to, in words.
 
 use crate::names::push_name;
-use jl_class::{FINAL, INTERFACE, Kind, Operand, Site, has_flag};
+use jl_class::{FINAL, INTERFACE, Operand, Site, has_flag};
 use jl_hierarchy::Classes;
+use jl_json::throwable_name;
 use jl_names::LentName;
 use jl_report::{Finding, Row};
 use jl_types::{
     ClassId, Key, Link, MethodId, Missing, NotLinkable, Outcome, Table, Throwable, Unlinked,
 };
 use std::alloc::{AllocError, Global};
-
-/// The name of the instruction (JVMS SE 17 §6.5).
-pub fn instruction(kind: Kind) -> &'static str {
-    match kind {
-        Kind::Virtual => "invokevirtual",
-        Kind::Special => "invokespecial",
-        Kind::Static => "invokestatic",
-        Kind::Interface => "invokeinterface",
-        Kind::Dynamic => "invokedynamic",
-    }
-}
-
-/// The throwable's name in java.lang.
-pub fn throwable_name(throwable: Throwable) -> &'static str {
-    match throwable {
-        Throwable::NoSuchMethodError => "NoSuchMethodError",
-        Throwable::IllegalAccessError => "IllegalAccessError",
-        Throwable::IncompatibleClassChangeError => "IncompatibleClassChangeError",
-        Throwable::AbstractMethodError => "AbstractMethodError",
-        Throwable::NullPointerException => "NullPointerException",
-    }
-}
 
 /// Why an invocation is never linked, in words of FORMATS.
 pub fn never_name(reason: NotLinkable) -> &'static str {

@@ -1,12 +1,14 @@
 //! A report as text.
 
 use crate::left_out::LeftOut;
-use crate::links::{instruction, push_finding, push_number, push_operand};
+use crate::links::{push_class, push_finding, push_number, push_operand};
 use crate::names::push_name;
 use indexmap::IndexMap;
 use jl_class::{ClassFile, Method, Site};
 use jl_hierarchy::Classes;
-use jl_report::Row;
+use jl_json::instruction;
+use jl_report::{Dropped, Row};
+use jl_types::ClassId;
 use serde_json::Value;
 use std::alloc::{AllocError, Global};
 
@@ -18,6 +20,11 @@ pub fn push_method_line(
     out: &mut String,
 ) -> Result<(), AllocError> {
     push_name(alloc, file.name().as_slice(), out)?;
+    push_method_end(alloc, method, out)
+}
+
+/// Appends the method behind its class. Want of memory is an error.
+fn push_method_end(alloc: Global, method: &Method<'_>, out: &mut String) -> Result<(), AllocError> {
     out.push('.')?;
     push_name(alloc, method.name().as_slice(), out)?;
     push_name(alloc, method.ty().as_slice(), out)?;
@@ -38,6 +45,27 @@ pub fn push_site_line(
     push_operand(alloc, site.operand(), out)?;
     out.push_str("  ")?;
     push_finding(alloc, classes, site, row, out)?;
+    out.push('\n')
+}
+
+/// Appends the invocation, which stands in this method, and what it comes to once this class drops its link. Want of memory is an error.
+pub fn push_dropped(
+    alloc: Global,
+    classes: &Classes,
+    class: ClassId,
+    one: &Dropped,
+    method: &Method<'_>,
+    site: &Site<'_>,
+    out: &mut String,
+) -> Result<(), AllocError> {
+    out.push_str("dropped by ")?;
+    push_class(alloc, classes, class, out)?;
+    out.push_str(": ")?;
+    push_class(alloc, classes, one.before.place.class, out)?;
+    push_method_end(alloc, method, out)?;
+    push_site_line(alloc, classes, site, &one.before, out)?;
+    out.push_str("        now  ")?;
+    push_finding(alloc, classes, site, &one.after, out)?;
     out.push('\n')
 }
 

@@ -1,7 +1,8 @@
 //! How many invocations come to what, in words.
 
-use crate::links::{instruction, push_number};
+use crate::links::push_number;
 use jl_class::Kind;
+use jl_json::instruction;
 use jl_report::{Shape, Totals};
 use std::alloc::AllocError;
 

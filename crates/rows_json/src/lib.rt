@@ -6,6 +6,8 @@ mod answers;
 #[cfg(test)]
 mod commands;
 #[cfg(test)]
+mod displays;
+#[cfg(test)]
 mod sketches;
 #[cfg(test)]
 mod values;

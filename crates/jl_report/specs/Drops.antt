@@ -1,0 +1,79 @@
+-- Which links a further class drops: those that aren't their invocations' any more, once it is defined behind the others.
+use Rattle.std.specs.Prelude.{◌≡◌, ◌==◌, ◌&&◌, ◌++◌, Bool, true, false, not, List, filter, filter_map, length, Option, Some, None, option_map}
+use Rattle.std.specs.Prelude.{is_some, is_none, if◌then◌else◌}
+use Rattle.jl_class.specs.Class.{ClassFile}
+use Rattle.jl_types.specs.declared.key.Key.{Key}
+use Rattle.jl_types.specs.declared.link.Link.{Link}
+use Rattle.jl_types.specs.declared.link.Link.TheVariants.{Fault, Plain, Direct, Table, Mega}
+use Rattle.jl_types.specs.Values.World.{Classes}
+use Rattle.jl_types.specs.Linkage.Links.{scratch}
+use Rattle.jl_types.specs.Happenings.Definitions.{define_fault, defined}
+use Rattle.jl_types.specs.Happenings.Footprints.{of_class, footprint, meets}
+use Rattle.jl_types.specs.Happenings.History.{is_link}
+use Rattle.jl_report.specs.declared.row.Row.{Row}
+use Rattle.jl_report.specs.declared.row.Finding.{Finding}
+use Rattle.jl_report.specs.declared.row.Finding.TheVariants as finding
+use Rattle.jl_report.specs.declared.breaking.Dropped.{Dropped}
+use Rattle.jl_report.specs.Reports.{asking, found}
+
+-- what the class changes that loader 0 makes of the file behind these: the keys of its definition
+abbrev pub keys_of : Classes → ClassFile → List Key
+keys_of cs file = of_class (defined cs 0 file) (length cs.rows)
+
+-- what the row's invocation comes to among these classes
+abbrev pub row_now : Classes → Row → Row
+row_now cs row = record {
+  place = row.place;
+  kind = row.kind;
+  finding = found (scratch (asking cs row.place) 0);
+  rests_on = footprint (asking cs row.place) 0;
+}
+
+-- what it comes to where it had a link, and hasn't this one among these classes
+abbrev pub now_without : Classes → Row → Finding → Option Row
+now_without cs row (finding.Linked link) = if is_link (scratch (asking cs row.place) 0) link then None else Some (row_now cs row)
+now_without cs row (finding.Unlinked reason) = None
+now_without cs row (finding.NotLinkable reason) = None
+
+-- the same of a row that rests on one of the keys, and nothing of any other
+abbrev pub now_changed : Classes → List Key → Row → Option Row
+now_changed cs keys row = if meets row.rests_on keys then now_without cs row row.finding else None
+
+-- The link of the row is dropped, where these are the classes with the further one, and it changes these keys.
+abbrev pub dropped_of : Classes → List Key → Row → Option Dropped
+dropped_of cs keys row = option_map (λ after. record { before = row; after = after }) (now_changed cs keys row)
+
+-- those of the rows whose links are dropped, in order, and the others, in order
+abbrev pub dropped_among : Classes → List Key → List Row → List Dropped
+dropped_among cs keys rows = filter_map (dropped_of cs keys) rows
+
+abbrev pub left_among : Classes → List Key → List Row → List Row
+left_among cs keys rows = filter (λ row. is_none (now_changed cs keys row)) rows
+
+-- Loader 0 was to define the class of the file behind the old classes. It did, the rows whose links it drops are told behind those that
+-- were told before, and the others are left; else the file is given back, and nothing changed.
+abbrev pub IsAdded : Classes → Classes → ClassFile → List Row → List Row → List Dropped → List Dropped → Option ClassFile → Type 0
+IsAdded old new file rows left earlier told (Some back) =
+    (back ≡ file) × (is_some (define_fault old 0 file) ≡ true) × (new ≡ old) × (left ≡ rows) × (told ≡ earlier)
+IsAdded old new file rows left earlier told None =
+    (define_fault old 0 file ≡ None) × (new ≡ defined old 0 file) × (left ≡ left_among new (keys_of old file) rows)
+    × (told ≡ earlier ++ dropped_among new (keys_of old file) rows)
+
+-- ---- which a further class may drop at all
+
+abbrev pub may_change : Link → Bool
+may_change Mega = false
+may_change (Fault throwable) = true
+may_change (Plain m) = true
+may_change (Direct outcome) = true
+may_change (Table kind rows) = true
+
+-- it has a link other than Mega
+abbrev pub has_changing_link : Finding → Bool
+has_changing_link (finding.Linked link) = may_change link
+has_changing_link (finding.Unlinked reason) = false
+has_changing_link (finding.NotLinkable reason) = false
+
+-- and rests on something
+abbrev pub is_open : Row → Bool
+is_open row = not (length row.rests_on == 0) && has_changing_link row.finding

@@ -1,0 +1,221 @@
+//! Which links a further class drops.
+
+ghost use Rattle.std.specs.Prelude.{◌≡◌, ◌++◌, not, filter, IfOk, OnOk};
+ghost use Rattle.jl_types.specs.Happenings.Footprints as footprints;
+ghost use Rattle.jl_types.specs.Happenings.History.{is_link};
+ghost use Rattle.jl_report.specs.declared.row.Finding.TheVariants as finding;
+ghost use Rattle.jl_report.specs.Reports as reports;
+ghost use Rattle.jl_report.specs.Drops as drops;
+
+use crate::defining::{define_one, first_loader, is_barred};
+use crate::report::{Report, request_alone};
+use crate::row::{Finding, Row};
+use jl_class::ClassFile;
+use jl_deps::{Keys, footprint_of, keys_of_definition};
+use jl_hierarchy::Classes;
+use jl_relink::{World, link_of};
+use jl_types::{Key, Link, SiteNo, Unlinked, same_link};
+use std::alloc::{AllocError, Global};
+
+/// An invocation whose link a further class drops.
+#[derive(Debug, Drop)]
+pub struct Dropped {
+    /// What it came to before, a link.
+    pub before: Row,
+    /// What it comes to once the class is there.
+    pub after: Row,
+}
+
+impl Report {
+    /// Loader 0 defines the class of the file behind the others, and those of the rows whose links it drops go over to `dropped`, in
+    /// order, each with what its invocation comes to then. They are found by what they rest on: no link is looked up of a row that rests
+    /// on nothing that the class changes. Where the class may not be defined the file is given back, and nothing changes.
+    ///
+    /// # Errors
+    ///
+    /// Want of memory. The class may be there then, and rows may be lost.
+    pub fn add_class(
+        &mut self,
+        alloc: Global,
+        file: ClassFile,
+        rows: &mut Vec<Row>,
+        dropped: &mut Vec<Dropped>,
+    ) -> Result<Option<ClassFile>, AllocError>
+        ensures { IfOk result (λ back.
+            drops.IsAdded self.old self.new file rows.old.items rows.new.items dropped.old.items dropped.new.items back) }
+    {
+        add_to(alloc, &mut self.world, file, rows, dropped)
+    }
+}
+
+/// Those of the rows that a further class may drop go behind the others that are kept. Want of memory is an error.
+pub fn keep_open(rows: Vec<Row>, kept: &mut Vec<Row>) -> Result<(), AllocError>
+    ensures { OnOk result (kept.new.items ≡ kept.old.items ++ filter drops.is_open rows.items) }
+{
+    let mut rows = rows;
+    rows.reverse();
+    while let Some(row) = rows.pop() {
+        if is_open(&row) {
+            kept.push(row)?;
+        }
+    }
+    Ok(())
+}
+
+/// Whether a further class may drop it: it has a link other than Mega, which rests on something.
+fn is_open(row: &Row) -> bool
+    ensures { result ≡ drops.is_open row.now }
+{
+    !row.rests_on.as_slice().is_empty() && has_changing_link(&row.finding)
+}
+
+/// Whether it has a link other than Mega.
+fn has_changing_link(finding: &Finding) -> bool
+    ensures { result ≡ drops.has_changing_link finding.now }
+{
+    match finding {
+        Finding::Linked(link) => may_change(link),
+        Finding::Unlinked(_) => false,
+        Finding::NotLinkable(_) => false,
+    }
+}
+
+/// Whether it is another link than Mega, which one receiver more leaves.
+fn may_change(link: &Link) -> bool
+    ensures { result ≡ drops.may_change link.now }
+{
+    match link {
+        Link::Mega => false,
+        Link::Fault(_) => true,
+        Link::Plain(_) => true,
+        Link::Direct(_) => true,
+        Link::Table(_, _) => true,
+    }
+}
+
+/// The same over the world.
+fn add_to(
+    alloc: Global,
+    world: &mut World,
+    file: ClassFile,
+    rows: &mut Vec<Row>,
+    dropped: &mut Vec<Dropped>,
+) -> Result<Option<ClassFile>, AllocError>
+    requires { reports.IsBare world.old }
+    ensures added { IfOk result (λ back. drops.IsAdded world.old.classes world.new.classes file
+        rows.old.items rows.new.items dropped.old.items dropped.new.items back) }
+    ensures bare { reports.IsBare world.new }
+{
+    if is_barred(&world.classes, &file) {
+        return Ok(Some(file));
+    }
+    let keys = keys_of_class(alloc, &world.classes, &file)?;
+    define_one(alloc, &mut world.classes, file)?;
+    drop_some(alloc, world, keys.as_slice(), rows, dropped)?;
+    Ok(None)
+}
+
+/// What the class changes that loader 0 makes of the file. Want of memory is an error.
+fn keys_of_class(alloc: Global, classes: &Classes, file: &ClassFile) -> Result<Keys, AllocError>
+    ensures { IfOk result (λ keys. keys ≡ drops.keys_of classes.now file.now) }
+{
+    keys_of_definition(alloc, classes, first_loader(), file)
+}
+
+/// Takes the rows away whose links are dropped, once these keys have changed. Want of memory is an error.
+fn drop_some(
+    alloc: Global,
+    world: &mut World,
+    keys: &[Key],
+    rows: &mut Vec<Row>,
+    dropped: &mut Vec<Dropped>,
+) -> Result<(), AllocError>
+    requires { reports.IsBare world.old }
+    ensures left { OnOk result (rows.new.items ≡ drops.left_among world.old.classes keys.now rows.old.items) }
+    ensures dropped { OnOk result (dropped.new.items ≡ dropped.old.items ++ drops.dropped_among world.old.classes keys.now rows.old.items) }
+    ensures classes { world.new.classes ≡ world.old.classes }
+    ensures bare { reports.IsBare world.new }
+{
+    let mut left = Vec::new(alloc);
+    rows.reverse();
+    while let Some(before) = rows.pop() {
+        match changed(alloc, world, keys, &before)? {
+            Some(after) => dropped.push(Dropped { before, after })?,
+            None => left.push(before)?,
+        }
+    }
+    *rows = left;
+    Ok(())
+}
+
+/// What the row's invocation comes to, if the row rests on one of the keys and its link isn't its own any more. Want of memory is an
+/// error.
+fn changed(
+    alloc: Global,
+    world: &mut World,
+    keys: &[Key],
+    row: &Row,
+) -> Result<Option<Row>, AllocError>
+    requires { reports.IsBare world.old }
+    ensures row { IfOk result (λ after. after ≡ drops.now_changed world.old.classes keys.now row.now) }
+    ensures classes { world.new.classes ≡ world.old.classes }
+    ensures bare { reports.IsBare world.new }
+{
+    if !meets(row.rests_on.as_slice(), keys) {
+        return Ok(None);
+    }
+    match &row.finding {
+        Finding::Linked(link) => without(alloc, world, row, link),
+        Finding::Unlinked(_) => Ok(None),
+        Finding::NotLinkable(_) => Ok(None),
+    }
+}
+
+/// What the row's invocation comes to, if this isn't its link. Want of memory is an error.
+fn without(
+    alloc: Global,
+    world: &mut World,
+    row: &Row,
+    link: &Link,
+) -> Result<Option<Row>, AllocError>
+    requires { reports.IsBare world.old }
+    ensures row { IfOk result (λ after. after ≡ drops.now_without world.old.classes row.now (finding.Linked link.now)) }
+    ensures classes { world.new.classes ≡ world.old.classes }
+    ensures bare { reports.IsBare world.new }
+{
+    request_alone(world, row.place)?;
+    let found = link_of(world, SiteNo::new(0));
+    if is_link(&found, link) {
+        return Ok(None);
+    }
+    Ok(Some(Row {
+        place: row.place,
+        kind: row.kind,
+        finding: Finding::of(found),
+        rests_on: footprint_of(alloc, world, SiteNo::new(0))?,
+    }))
+}
+
+/// Whether it is this link.
+fn is_link(found: &Result<Link, Unlinked>, link: &Link) -> bool
+    ensures { result ≡ is_link found.now link.now }
+{
+    match found {
+        Ok(found) => same_link(*found, *link),
+        Err(_) => false,
+    }
+}
+
+/// Whether the footprint has one of the keys.
+fn meets(footprint: &[Key], keys: &[Key]) -> bool
+    ensures { result ≡ footprints.meets footprint.now keys.now }
+{
+    footprint.iter().any(|key| has_key(keys, key))
+}
+
+/// Whether the key is one of these.
+fn has_key(keys: &[Key], key: &Key) -> bool
+    ensures { result ≡ footprints.has_key keys.now key.now }
+{
+    keys.iter().any(|other| *other == *key)
+}
