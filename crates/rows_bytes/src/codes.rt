@@ -55,7 +55,7 @@ fn are_sites(sites: &Sites<'_>, expected: &[(u16, Kind)]) -> bool {
             return false;
         }
     }
-    sites.len() == expected.len()
+    sites.len() == expected.len() && sites.is_empty() == expected.is_empty()
 }
 
 /// A code, and what is found in it over the pool.

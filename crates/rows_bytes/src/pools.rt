@@ -70,7 +70,7 @@ fn have_tags(pool: &Pool, tags: &[u8]) -> bool {
             return false;
         }
     }
-    pool.len() == tags.len()
+    pool.len() == tags.len() && !pool.is_empty()
 }
 
 /// The bits of a value, or the two numbers of a method handle or of a dynamic constant.

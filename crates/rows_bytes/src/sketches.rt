@@ -3,7 +3,7 @@
 use crate::rows::{Row, assert_rows};
 use crate::sketches::Outcome::*;
 use crate::sketches::Part::*;
-use jl_classfile::{ClassFault, no_fault_in_a_class, one_class};
+use jl_classfile::{ClassFault, no_fault_in_a_class, one_class, read_class};
 use jl_names::{Name, Seq};
 use jl_pool::PoolFault;
 use jl_sketch::{Call, MethodName, Sketch, SketchFault, SketchMethod, write_class};
@@ -484,4 +484,20 @@ const MANY_CONSTANTS: &[SketchRow] = &[
 #[test]
 fn many_constants(rt: HostRuntime) {
     assert_rows(&rt, MANY_CONSTANTS);
+}
+
+/// How many methods a class has whose sketch has so many, and whether it has none.
+fn counted_methods(alloc: Global, count: usize) -> Option<(usize, bool)> {
+    let mut sketch = empty(alloc, b"A", OBJECT).ok()?;
+    sketch.methods = methods(alloc, count).ok()?;
+    let bytes = write_class(alloc, &sketch).ok()?;
+    let file = read_class(alloc, bytes.as_slice()).ok()?;
+    let methods = file.methods();
+    Some((methods.len(), methods.is_empty()))
+}
+
+#[test]
+fn counts_methods(rt: HostRuntime) {
+    assert!(rt; counted_methods(rt.alloc(), 0) == Some((0, true)));
+    assert!(rt; counted_methods(rt.alloc(), 1) == Some((1, false)));
 }

@@ -32,11 +32,11 @@ fn assert_copied(rt: &(impl Abort + AllocGlobal), links: &mut Cache) -> Result<(
 }
 
 fn assert_cache(rt: &(impl Abort + AllocGlobal), links: &mut Cache) -> Result<(), AllocError> {
-    assert_eq!(rt; links.len(), 0);
+    assert!(rt; links.is_empty());
     links.install(&rows())?;
     assert_both(rt, links)?;
     assert_copied(rt, links)?;
-    assert_eq!(rt; links.len(), 1);
+    assert!(rt; links.len() == 1 && !links.is_empty());
     Ok(())
 }
 

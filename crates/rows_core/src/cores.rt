@@ -8,8 +8,8 @@ use jl_core::Core;
 use jl_names::Seq;
 use jl_relink::{Prepared, Snapshot, World, dispatch, link_of, prepare};
 use jl_types::{
-    Answer, CallSiteId, ClassId, Event, Link, Outcome, PrepareFault, Recv, Refusal, SiteNo, Table,
-    TableKind, Unlinked,
+    Answer, ClassId, Event, Link, Outcome, PrepareFault, Recv, Refusal, SiteNo, Table, TableKind,
+    Unlinked,
 };
 use std::alloc::{AllocError, Global};
 use std::process::Abort;
@@ -84,26 +84,13 @@ fn assert_installs(rt: &(impl Abort + AllocGlobal), core: &mut Core) -> Result<(
     assert_install(rt, core, &ZEROS, "Err(BatchSize)")
 }
 
-/// Asserts that an invokevirtual isn't bound to a call site, and that there is a first switch point.
-fn assert_call_sites(rt: &(impl Abort + AllocGlobal), core: &mut Core) -> Result<(), AllocError> {
-    let bind = Event::Bind(SiteNo::new(0), CallSiteId::new(0));
-    assert_answer(rt, core, bind, "Err(NotDynamic)")?;
-    let made = "Ok(Reply { made: Switch(SwitchId(0)), dropped: Seq { items: [] } })";
-    assert_answer(rt, core, Event::NewSwitch, made)
-}
-
-fn assert_refusals(rt: &(impl Abort + AllocGlobal), core: &mut Core) -> Result<(), AllocError> {
-    assert_installs(rt, core)?;
-    assert_call_sites(rt, core)
-}
-
 #[test]
-fn refuses_events(rt: HostRuntime) -> Result<(), AllocError> {
+fn refuses_installs(rt: HostRuntime) -> Result<(), AllocError> {
     let mut core = Core::new(rt.alloc(), 2)?;
     assert_defined(&rt, &mut core, [OBJECT, M, N].as_slice());
     assert!(rt; is_accepted(rt.alloc(), &mut core, request(1, 0)));
     assert!(rt; is_accepted(rt.alloc(), &mut core, request(2, 0)));
-    assert_refusals(&rt, &mut core)
+    assert_installs(&rt, &mut core)
 }
 
 /// The link that runs A's f on each object.

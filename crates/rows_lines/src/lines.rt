@@ -19,9 +19,3 @@ pub(crate) fn answered(
 pub(crate) fn scanned(alloc: Global, input: &[u8]) -> (Vec<u8>, Result<(), LineFault>) {
     answered(alloc, Mode::Scan, input)
 }
-
-/// Whether the command is answered so by a core in which nothing happened.
-pub(crate) fn is_answered(alloc: Global, command: &str, answer: &[u8]) -> bool {
-    let (written, outcome) = answered(alloc, Mode::Run, command.as_bytes());
-    outcome == Ok(()) && written.as_slice() == answer
-}

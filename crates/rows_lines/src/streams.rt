@@ -1,8 +1,7 @@
-//! A run over readers and writers that fail at any call, and targets that lie deep.
+//! A run over readers and writers that fail at any call.
 
 use crate::classes::{A, B, C, M, OBJECT};
 use crate::devices::{ByteReader, SlowWriter};
-use crate::lines::is_answered;
 use jl_cli::{Counted, FailAt, LineFault, Mode, run_lines};
 use std::alloc::{AllocError, Global};
 use std::io;
@@ -171,37 +170,5 @@ fn answers_what_was_read(rt: HostRuntime) -> Result<(), Fail> {
     let input = commands(rt.alloc())?;
     let answers = answers(rt.alloc())?;
     assert_streams(&rt, &input, &answers);
-    Ok(())
-}
-
-/// A command for a call site whose target has so many guards, each in the fallback of the one before.
-fn guarded(alloc: Global, guards: usize) -> Result<String, AllocError> {
-    let mut text = String::from_str(
-        alloc,
-        r#"{"do":"callsite","kind":"mutable","type":"()V","target":"#,
-    )?;
-    for _ in 0..guards {
-        text.push_str(r#"{"guard":0,"target":{"method":[0,0]},"fallback":"#)?;
-    }
-    text.push_str(r#"{"method":[0,0]}"#)?;
-    for _ in 0..=guards {
-        text.push('}')?;
-    }
-    Ok(text)
-}
-
-#[test]
-fn reads_targets_of_a_depth(rt: HostRuntime) -> Result<(), Fail> {
-    // A method is of depth 1. The first guard's switch point isn't there, which is told where the depth is none too many.
-    let rows: [(usize, &[u8]); 4] = [
-        (63, b"{\"refused\":\"CallSite.UnknownSwitch\"}\n"),
-        (64, b"{\"refused\":\"CallSite.TooDeep\"}\n"),
-        (65, b"{\"refused\":\"CallSite.TooDeep\"}\n"),
-        (130, b"{\"error\":\"BadCommand\"}\n"),
-    ];
-    for (guards, answer) in rows {
-        let command = guarded(rt.alloc(), guards)?;
-        assert!(rt; is_answered(rt.alloc(), &command, answer), "{guards}");
-    }
     Ok(())
 }

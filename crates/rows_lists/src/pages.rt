@@ -1,6 +1,6 @@
 //! Lists in pages, and their copies.
 
-use jl_paged::{Again, Paged};
+use jl_pages::{Again, Paged};
 use std::alloc::{AllocError, Global};
 use std::process::Abort;
 
@@ -76,8 +76,10 @@ fn has_first(list: &Paged<Number>) -> bool {
 #[test]
 fn shares_pages(rt: HostRuntime) -> Result<(), AllocError> {
     let mut list = Paged::new(rt.alloc());
-    assert!(rt; list.get(0).is_none());
-    add_all(rt.alloc(), &mut list, 0, 200)?;
+    assert!(rt; list.is_empty() && list.get(0).is_none());
+    add(rt.alloc(), &mut list, 0)?;
+    assert!(rt; !list.is_empty());
+    add_all(rt.alloc(), &mut list, 1, 199)?;
     assert!(rt; has_numbers(&list) && has_first(&list));
     assert_copied(&rt, &mut list)
 }

@@ -46,6 +46,16 @@ fn remove_odd(index: &mut Index) {
     }
 }
 
+/// Whether the index is empty at first, once it has one site, and once that is gone.
+fn emptied(alloc: Global) -> Result<[bool; 3], AllocError> {
+    let mut index = Index::new(alloc);
+    let first = index.is_empty();
+    index.add(alloc, SiteNo::new(0), footprint(alloc, 0)?)?;
+    let full = index.is_empty();
+    index.remove(SiteNo::new(0));
+    Ok([first, full, index.is_empty()])
+}
+
 /// How many sites there are under class 0 at first, once every other one is gone, and once all are, and then under class 3.
 fn counts(alloc: Global) -> Result<[usize; 4], AllocError> {
     let mut index = full(alloc)?;
@@ -65,5 +75,7 @@ fn counts(alloc: Global) -> Result<[usize; 4], AllocError> {
 fn removes_one_by_one(rt: HostRuntime) -> Result<(), AllocError> {
     let counts = counts(rt.alloc())?;
     assert_eq!(&rt; counts, [65_536, 32_768, 0, 0]);
+    let emptied = emptied(rt.alloc())?;
+    assert_eq!(&rt; emptied, [true, false, true]);
     Ok(())
 }

@@ -1,7 +1,6 @@
 //! How answers print: a class, a loader, a site by its number, a method by its class and its number there, what is refused by the name
 //! of the fault, and nothing as `None`.
 
-use crate::words::Unanswered;
 use jl_names::Name;
 use jl_types::{
     Answer, CallSiteFault, ClassId, DefineFault, Key, Link, MethodId, OrMemory, Outcome, Table,
@@ -12,21 +11,21 @@ use std::fmt::Debug;
 use std::str;
 
 /// An answer as it prints.
-pub(crate) type Told = Result<String, Unanswered>;
+pub(crate) type Told = Result<String, AllocError>;
 
 /// A constant answer.
 pub(crate) fn word(alloc: Global, word: &str) -> Told {
-    Ok(String::from_str(alloc, word)?)
+    String::from_str(alloc, word)
 }
 
 /// A test's answer.
 pub(crate) fn truth(alloc: Global, answer: bool) -> Told {
-    Ok(format!(in alloc; "{answer}")?)
+    format!(in alloc; "{answer}")
 }
 
 /// A number.
 pub(crate) fn number(alloc: Global, number: u32) -> Told {
-    Ok(format!(in alloc; "{number}")?)
+    format!(in alloc; "{number}")
 }
 
 /// A class, if there is one.
@@ -38,7 +37,7 @@ pub(crate) fn class(alloc: Global, class: Option<ClassId>) -> Told {
 }
 
 /// One text behind another, with a blank between where both are there.
-pub(crate) fn behind(alloc: Global, text: &str, more: &str) -> Result<String, AllocError> {
+pub(crate) fn behind(alloc: Global, text: &str, more: &str) -> Told {
     if text.is_empty() {
         String::from_str(alloc, more)
     } else {
@@ -47,7 +46,7 @@ pub(crate) fn behind(alloc: Global, text: &str, more: &str) -> Result<String, Al
 }
 
 /// Words, in order.
-pub(crate) fn joined(alloc: Global, words: &[&str]) -> Result<String, AllocError> {
+pub(crate) fn joined(alloc: Global, words: &[&str]) -> Told {
     let mut text = String::from_str(alloc, "")?;
     for word in words {
         text = behind(alloc, &text, word)?;
@@ -67,7 +66,7 @@ pub(crate) fn classes(alloc: Global, classes: &[ClassId]) -> Told {
 
 /// A method.
 pub(crate) fn method(alloc: Global, method: MethodId) -> Told {
-    Ok(format!(in alloc; "{}.{}", method.class.number(), method.index)?)
+    format!(in alloc; "{}.{}", method.class.number(), method.index)
 }
 
 /// A method, if there is one.
@@ -85,7 +84,7 @@ pub(crate) fn text_of(name: &[u8]) -> &str {
 
 /// A fault with the name in it.
 fn naming(alloc: Global, fault: &str, name: &Name) -> Told {
-    Ok(format!(in alloc; "{fault} {}", text_of(name.as_slice()))?)
+    format!(in alloc; "{fault} {}", text_of(name.as_slice()))
 }
 
 /// Why a class isn't defined.
@@ -94,7 +93,7 @@ fn define_fault(alloc: Global, fault: &DefineFault) -> Told {
         DefineFault::MissingParent(name) => naming(alloc, "MissingParent", name),
         DefineFault::NotAnInterface(name) => naming(alloc, "NotAnInterface", name),
         DefineFault::InaccessibleParent(name) => naming(alloc, "InaccessibleParent", name),
-        _ => Ok(format!(in alloc; "{fault:?}")?),
+        _ => format!(in alloc; "{fault:?}"),
     }
 }
 
@@ -103,17 +102,15 @@ pub(crate) fn definition(alloc: Global, answer: Result<ClassId, OrMemory<DefineF
     match answer {
         Ok(class) => number(alloc, class.number()),
         Err(OrMemory::Fault(fault)) => define_fault(alloc, &fault),
-        Err(OrMemory::Memory) => Err(Unanswered::Memory),
+        Err(OrMemory::Memory) => Err(AllocError),
     }
 }
 
 /// Why a call site or a switch point isn't made or changed.
 pub(crate) fn call_site_fault(alloc: Global, fault: &CallSiteFault) -> Told {
     match fault {
-        CallSiteFault::InvokerOrder(site) => {
-            Ok(format!(in alloc; "InvokerOrder {}", site.number())?)
-        }
-        _ => Ok(format!(in alloc; "{fault:?}")?),
+        CallSiteFault::InvokerOrder(site) => { format!(in alloc; "InvokerOrder {}", site.number()) }
+        _ => format!(in alloc; "{fault:?}"),
     }
 }
 
@@ -122,7 +119,7 @@ pub(crate) fn made(alloc: Global, answer: Result<u32, OrMemory<CallSiteFault>>) 
     match answer {
         Ok(made) => number(alloc, made),
         Err(OrMemory::Fault(fault)) => call_site_fault(alloc, &fault),
-        Err(OrMemory::Memory) => Err(Unanswered::Memory),
+        Err(OrMemory::Memory) => Err(AllocError),
     }
 }
 
@@ -130,7 +127,7 @@ pub(crate) fn made(alloc: Global, answer: Result<u32, OrMemory<CallSiteFault>>) 
 pub(crate) fn outcome(alloc: Global, outcome: Outcome) -> Told {
     match outcome {
         Outcome::Run(found) => method(alloc, found),
-        Outcome::Throws(throwable) => Ok(format!(in alloc; "{throwable:?}")?),
+        Outcome::Throws(throwable) => format!(in alloc; "{throwable:?}"),
     }
 }
 
@@ -147,9 +144,9 @@ fn table(alloc: Global, kind: TableKind, table: &Table) -> Told {
 /// A link, by its kind.
 pub(crate) fn link(alloc: Global, link: &Link) -> Told {
     match link {
-        Link::Fault(throwable) => Ok(format!(in alloc; "Fault {throwable:?}")?),
-        Link::Plain(found) => Ok(behind(alloc, "Plain", &method(alloc, *found)?)?),
-        Link::Direct(one) => Ok(behind(alloc, "Direct", &outcome(alloc, *one)?)?),
+        Link::Fault(throwable) => format!(in alloc; "Fault {throwable:?}"),
+        Link::Plain(found) => behind(alloc, "Plain", &method(alloc, *found)?),
+        Link::Direct(one) => behind(alloc, "Direct", &outcome(alloc, *one)?),
         Link::Table(kind, rows) => table(alloc, *kind, rows),
         Link::Mega => word(alloc, "Mega"),
     }
@@ -159,9 +156,9 @@ pub(crate) fn link(alloc: Global, link: &Link) -> Told {
 pub(crate) fn call(alloc: Global, answer: Answer) -> Told {
     match answer {
         Answer::Run(found) => method(alloc, found),
-        Answer::Throws(throwable) => Ok(format!(in alloc; "{throwable:?}")?),
+        Answer::Throws(throwable) => format!(in alloc; "{throwable:?}"),
         Answer::BadReceiver => word(alloc, "BadReceiver"),
-        Answer::Unlinked(unlinked) => Ok(format!(in alloc; "{unlinked:?}")?),
+        Answer::Unlinked(unlinked) => format!(in alloc; "{unlinked:?}"),
     }
 }
 
@@ -169,12 +166,9 @@ pub(crate) fn call(alloc: Global, answer: Answer) -> Told {
 fn with_key(alloc: Global, text: &str, key: &Key) -> Told {
     let comma = if text.is_empty() { "" } else { ", " };
     match key {
-        Key::Receivers(class) => Ok(format!(in alloc;
-            "{text}{comma}Receivers {}",
-            class.number()
-        )?),
-        Key::Target(site) => Ok(format!(in alloc; "{text}{comma}Target {}", site.number())?),
-        Key::Valid(point) => Ok(format!(in alloc; "{text}{comma}Valid {}", point.number())?),
+        Key::Receivers(class) => format!(in alloc; "{text}{comma}Receivers {}", class.number()),
+        Key::Target(site) => format!(in alloc; "{text}{comma}Target {}", site.number()),
+        Key::Valid(point) => format!(in alloc; "{text}{comma}Valid {}", point.number()),
     }
 }
 

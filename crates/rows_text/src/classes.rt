@@ -1,17 +1,17 @@
 //! Commands of loaders and classes, and what is asked of them.
 
 use crate::answers::{self, Told, word};
-use crate::words::{self, Unanswered, signature, text};
+use crate::words::{self, none, signature, text};
 use crate::{definitions, methods};
 use jl_hierarchy::{Classes, LoaderFault, Sought};
 use jl_types::{Class, ClassId, DelegateFault, LoaderId, MethodId, OrMemory};
-use std::alloc::Global;
+use std::alloc::{AllocError, Global};
 
 /// The new loader, or why there is none.
 fn new_loader(alloc: Global, answer: Result<LoaderId, LoaderFault>) -> Told {
     match answer {
         Ok(loader) => answers::number(alloc, loader.number()),
-        Err(fault) => Ok(format!(in alloc; "{fault:?}")?),
+        Err(fault) => format!(in alloc; "{fault:?}"),
     }
 }
 
@@ -19,14 +19,26 @@ fn new_loader(alloc: Global, answer: Result<LoaderId, LoaderFault>) -> Told {
 fn delegation(alloc: Global, answer: Result<(), OrMemory<DelegateFault>>) -> Told {
     match answer {
         Ok(()) => word(alloc, "Ok"),
-        Err(OrMemory::Fault(fault)) => Ok(format!(in alloc; "{fault:?}")?),
-        Err(OrMemory::Memory) => Err(Unanswered::Memory),
+        Err(OrMemory::Fault(fault)) => format!(in alloc; "{fault:?}"),
+        Err(OrMemory::Memory) => Err(AllocError),
     }
 }
 
+/// The first loader is to find by this name what the second one does.
+fn delegated(
+    alloc: Global,
+    classes: &mut Classes,
+    from: LoaderId,
+    name: &str,
+    to: LoaderId,
+) -> Told {
+    delegation(alloc, classes.delegate(alloc, from, name.as_bytes(), to))
+}
+
 /// What the definition is answered.
-fn defined(alloc: Global, classes: &mut Classes, words: &[&str]) -> Told {
-    let (by, file) = definitions::definition(alloc, words)?;
+fn defined(alloc: Global, bad: &mut bool, classes: &mut Classes, words: &[&str]) -> Told {
+    let by = definitions::loader_of(bad, words);
+    let file = definitions::file(alloc, bad, words)?;
     answers::definition(alloc, classes.define(alloc, by, file))
 }
 
@@ -36,35 +48,41 @@ fn row(alloc: Global, row: Option<&Class>) -> Told {
         return word(alloc, "None");
     };
     let interfaces = answers::classes(alloc, row.interfaces())?;
-    Ok(format!(in alloc;
+    format!(in alloc;
         "{} loader {} interfaces {interfaces}",
         answers::text_of(row.file().name().as_slice()),
         row.loader().number()
-    )?)
+    )
 }
 
 /// A method's name and descriptor.
 fn method(alloc: Global, classes: &Classes, method: &MethodId) -> Told {
     match classes.method_at(method) {
-        Some(method) => Ok(format!(in alloc;
+        Some(method) => format!(in alloc;
             "{}{}",
             answers::text_of(method.name().as_slice()),
             answers::text_of(method.ty().as_slice())
-        )?),
+        ),
         None => word(alloc, "None"),
     }
 }
 
 /// What is asked of a class that has to be there.
-fn told_of_class(alloc: Global, classes: &Classes, question: &str, class: ClassId) -> Told {
+fn told_of_class(
+    alloc: Global,
+    bad: &mut bool,
+    classes: &Classes,
+    question: &str,
+    class: ClassId,
+) -> Told {
     if !classes.has_class(class) {
         return word(alloc, "no class");
     }
     match question {
         "ancestors" => answers::classes(alloc, classes.ancestors(class)),
-        "count-ancestors" => Ok(format!(in alloc; "{}", classes.ancestors(class).len())?),
+        "count-ancestors" => format!(in alloc; "{}", classes.ancestors(class).len()),
         "receivers" => answers::classes(alloc, classes.receivers(class)),
-        _ => Err(Unanswered::NoCommand),
+        _ => none(bad),
     }
 }
 
@@ -80,82 +98,114 @@ fn is_ancestor(alloc: Global, classes: &Classes, ancestor: ClassId, class: Class
 /// What is asked of a class and a method's name and descriptor.
 fn told_of_signature(
     alloc: Global,
+    bad: &mut bool,
     classes: &Classes,
     question: &str,
     class: ClassId,
     method: &str,
 ) -> Told {
-    let (name, ty) = signature(method)?;
-    let sought = Sought::of(name.as_bytes(), ty.as_bytes());
+    let (name, ty) = signature(bad, method);
+    let (name, ty) = (name.as_bytes(), ty.as_bytes());
+    let sought = Sought::of(name, ty);
     match question {
-        "declared" => answers::found(
-            alloc,
-            classes.declared(class, name.as_bytes(), ty.as_bytes()),
-        ),
+        "declared" => answers::found(alloc, classes.declared(class, name, ty)),
         "upward" => answers::found(alloc, classes.declared_upward_by(class, &sought)),
-        "redeclared" => answers::truth(alloc, classes.is_redeclared_below(class, &sought)),
-        _ => Err(Unanswered::NoCommand),
+        _ => answers::truth(alloc, classes.is_redeclared_below(class, &sought)),
+    }
+}
+
+/// What a question of a class is answered.
+fn told_of_one(
+    alloc: Global,
+    bad: &mut bool,
+    classes: &Classes,
+    question: &str,
+    class: ClassId,
+) -> Told {
+    match question {
+        "has-class" => answers::truth(alloc, classes.has_class(class)),
+        "class" => row(alloc, classes.class_at(class)),
+        "superclass" => answers::class(alloc, classes.superclass(class)),
+        "nest-host" => answers::class(alloc, classes.nest_host(class)),
+        "is-interface" => answers::truth(alloc, classes.is_interface(class)),
+        _ => told_of_class(alloc, bad, classes, question, class),
+    }
+}
+
+/// What a question of two classes is answered.
+fn told_of_two(
+    alloc: Global,
+    classes: &Classes,
+    question: &str,
+    class: ClassId,
+    other: ClassId,
+) -> Told {
+    match question {
+        "is-ancestor" => is_ancestor(alloc, classes, class, other),
+        "same-package" => answers::truth(alloc, classes.same_package(class, other)),
+        _ => methods::is_accessible(alloc, classes, class, other),
+    }
+}
+
+/// The class that the loader has recorded by this name.
+fn looked_up(alloc: Global, classes: &Classes, by: LoaderId, name: &str) -> Told {
+    answers::class(alloc, classes.lookup(by, text(name).as_bytes()))
+}
+
+/// What a question of two words is answered.
+fn told_of_words(
+    alloc: Global,
+    bad: &mut bool,
+    classes: &Classes,
+    question: &str,
+    first: &str,
+    second: &str,
+) -> Told {
+    match question {
+        "lookup" => looked_up(alloc, classes, words::loader(bad, first), second),
+        "declared" | "upward" | "redeclared" => {
+            let class = words::class(bad, first);
+            told_of_signature(alloc, bad, classes, question, class, second)
+        }
+        "is-ancestor" | "same-package" | "is-accessible" => {
+            let (class, other) = (words::class(bad, first), words::class(bad, second));
+            told_of_two(alloc, classes, question, class, other)
+        }
+        _ => methods::told_of_words(alloc, bad, classes, question, first, second),
     }
 }
 
 /// What the question is answered.
-pub(crate) fn told(alloc: Global, classes: &Classes, words: &[&str]) -> Told {
+fn told(alloc: Global, bad: &mut bool, classes: &Classes, words: &[&str]) -> Told {
     match *words {
-        ["has-class", class] => answers::truth(alloc, classes.has_class(words::class(class)?)),
-        ["class", class] => row(alloc, classes.class_at(words::class(class)?)),
-        ["superclass", class] => answers::class(alloc, classes.superclass(words::class(class)?)),
-        ["nest-host", class] => answers::class(alloc, classes.nest_host(words::class(class)?)),
-        ["is-interface", class] => answers::truth(
-            alloc,
-            classes.is_interface(words::class(class)?),
-        ),
         ["superclass-chains"] => answers::truth(alloc, classes.are_superclass_chains()),
-        ["method", id] => method(alloc, classes, &words::method(id)?),
-        [question, class] => told_of_class(alloc, classes, question, words::class(class)?),
-        _ => told_of_two(alloc, classes, words),
-    }
-}
-
-/// What a question of two classes, or of a class and a name, is answered.
-fn told_of_two(alloc: Global, classes: &Classes, words: &[&str]) -> Told {
-    match *words {
-        ["lookup", by, name] => answers::class(
-            alloc,
-            classes.lookup(words::loader(by)?, text(name).as_bytes()),
-        ),
-        ["is-ancestor", ancestor, class] => is_ancestor(
-            alloc,
-            classes,
-            words::class(ancestor)?,
-            words::class(class)?,
-        ),
-        ["same-package", class, other] => answers::truth(
-            alloc,
-            classes.same_package(words::class(class)?, words::class(other)?),
-        ),
-        [
-            question @ ("declared" | "upward" | "redeclared"),
-            class,
-            method,
-        ] => { told_of_signature(alloc, classes, question, words::class(class)?, method) }
-        _ => methods::told(alloc, classes, words),
+        ["method", id] => method(alloc, classes, &words::method(bad, id)),
+        [question, class] => {
+            let class = words::class(bad, class);
+            told_of_one(alloc, bad, classes, question, class)
+        }
+        [question, first, second] => told_of_words(alloc, bad, classes, question, first, second),
+        [question, first, second, third] => {
+            methods::told(alloc, bad, classes, question, first, second, third)
+        }
+        _ => none(bad),
     }
 }
 
 /// What the command is answered, where it changes the loaders and classes.
-pub(crate) fn changed(alloc: Global, classes: &mut Classes, words: &[&str]) -> Told {
+pub(crate) fn changed(
+    alloc: Global,
+    bad: &mut bool,
+    classes: &mut Classes,
+    words: &[&str],
+) -> Told {
     match *words {
         ["loader"] => new_loader(alloc, classes.new_loader(alloc)),
-        ["define", ..] => defined(alloc, classes, words),
-        ["delegate", from, name, to] => delegation(
-            alloc,
-            classes.delegate(
-                alloc,
-                words::loader(from)?,
-                name.as_bytes(),
-                words::loader(to)?,
-            ),
-        ),
-        _ => told(alloc, classes, words),
+        ["define", ..] => defined(alloc, bad, classes, words),
+        ["delegate", from, name, to] => {
+            let (from, to) = (words::loader(bad, from), words::loader(bad, to));
+            delegated(alloc, classes, from, name, to)
+        }
+        _ => told(alloc, bad, classes, words),
     }
 }

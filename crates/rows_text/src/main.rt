@@ -21,20 +21,30 @@ use std::{env, fs, io};
 /// Prints what comes of the rows of a file of this name and text.
 fn print_rows(rt: &(impl Print + AllocGlobal), file: &str, text: &str) -> io::Result<()> {
     let mut rows = Rows::new(rt.alloc(), file)?;
-    let mut number = 0usize;
-    for line in text.lines() {
-        number = number.saturating_add(1);
-        rows.read(rt, number, line)?;
+    match rows.read_all(rt, text) {
+        Ok(()) => rows.print_counts(rt),
+        fault => fault,
     }
-    rows.end_row(rt)?;
-    rows.print_counts(rt)
+}
+
+/// Prints what comes of the rows of the file of this name.
+fn print_file(rt: &HostRuntime, file: &str) -> io::Result<()> {
+    let text = fs::read_to_string(rt, file)?;
+    print_rows(rt, file, text.as_str())
+}
+
+/// Prints what comes of the rows of these files.
+fn print_files(rt: &HostRuntime, files: &[String]) -> io::Result<()> {
+    for file in files {
+        print_file(rt, file.as_str())?;
+    }
+    Ok(())
 }
 
 fn main(rt: HostRuntime) -> io::Result<()> {
     let words: Vec<String> = env::args(&rt)?.collect(rt.alloc())?;
-    for file in words.iter().skip(1) {
-        let text = fs::read_to_string(&rt, file.as_str())?;
-        print_rows(&rt, file.as_str(), text.as_str())?;
+    match words.split_first() {
+        Some((_, files)) => print_files(&rt, files),
+        None => Ok(()),
     }
-    Ok(())
 }

@@ -1,81 +1,94 @@
-//! The words of a command: numbers, names, methods and flags as one writes them.
+//! The words of a command: numbers, names, methods and flags as one writes them. Whoever reads a word that is none notes it in `bad`, and
+//! the command is none then, whatever else comes of it.
 
 use jl_names::Name;
 use jl_types::{CallSiteId, ClassId, LoaderId, MethodId, SiteNo, SwitchId};
-use std::alloc::{AllocError, AllocFailed, Global};
+use std::alloc::{AllocError, Global};
 
-/// Why a command is not answered.
-#[derive(Debug, Drop)]
-pub(crate) enum Unanswered {
-    /// The words are no command.
-    NoCommand,
-    /// Want of memory.
-    Memory,
-}
-
-impl From<AllocError> for Unanswered {
-    fn from(_e: AllocError) -> Self {
-        Unanswered::Memory
-    }
-}
-
-impl<T: Drop> From<AllocFailed<T>> for Unanswered {
-    fn from(_e: AllocFailed<T>) -> Self {
-        Unanswered::Memory
-    }
-}
-
-/// A value, or that the words are no command.
-pub(crate) fn known<T>(value: Option<T>) -> Result<T, Unanswered> {
-    value.ok_or(Unanswered::NoCommand)
+/// There is no such command, or no such part of it.
+pub(crate) fn none<T>(bad: &mut bool) -> Result<T, AllocError> {
+    *bad = true;
+    Err(AllocError)
 }
 
 /// A number.
-pub(crate) fn number(word: &str) -> Result<u32, Unanswered> {
-    known(word.parse::<u32>().ok())
+pub(crate) fn number(bad: &mut bool, word: &str) -> u32 {
+    match word.parse::<u32>() {
+        Ok(number) => number,
+        Err(_) => {
+            *bad = true;
+            0
+        }
+    }
 }
 
 /// A class by its number.
-pub(crate) fn class(word: &str) -> Result<ClassId, Unanswered> {
-    Ok(ClassId::new(number(word)?))
+pub(crate) fn class(bad: &mut bool, word: &str) -> ClassId {
+    ClassId::new(number(bad, word))
 }
 
 /// A loader by its number.
-pub(crate) fn loader(word: &str) -> Result<LoaderId, Unanswered> {
-    Ok(LoaderId::new(number(word)?))
+pub(crate) fn loader(bad: &mut bool, word: &str) -> LoaderId {
+    LoaderId::new(number(bad, word))
 }
 
 /// A site by its number.
-pub(crate) fn site(word: &str) -> Result<SiteNo, Unanswered> {
-    Ok(SiteNo::new(number(word)?))
+pub(crate) fn site(bad: &mut bool, word: &str) -> SiteNo {
+    SiteNo::new(number(bad, word))
 }
 
 /// A call site by its number.
-pub(crate) fn call_site(word: &str) -> Result<CallSiteId, Unanswered> {
-    Ok(CallSiteId::new(number(word)?))
+pub(crate) fn call_site(bad: &mut bool, word: &str) -> CallSiteId {
+    CallSiteId::new(number(bad, word))
 }
 
 /// A switch point by its number.
-pub(crate) fn switch_point(word: &str) -> Result<SwitchId, Unanswered> {
-    Ok(SwitchId::new(number(word)?))
+pub(crate) fn switch_point(bad: &mut bool, word: &str) -> SwitchId {
+    SwitchId::new(number(bad, word))
 }
 
 /// Switch points by their numbers, in order.
-pub(crate) fn switch_points(alloc: Global, words: &[&str]) -> Result<Vec<SwitchId>, Unanswered> {
+pub(crate) fn switch_points(
+    alloc: Global,
+    bad: &mut bool,
+    words: &[&str],
+) -> Result<Vec<SwitchId>, AllocError> {
     let mut points = Vec::new(alloc);
     for word in words {
-        points.push(switch_point(word)?)?;
+        points.push(switch_point(bad, word))?;
     }
     Ok(points)
 }
 
+/// What stands before the first dot, and what behind it.
+fn at_dot<'a>(bad: &mut bool, word: &'a str) -> (&'a str, &'a str) {
+    match word.split_once('.') {
+        Some(parts) => parts,
+        None => {
+            *bad = true;
+            ("", "")
+        }
+    }
+}
+
+/// A method's number in its class.
+fn index(bad: &mut bool, word: &str) -> u16 {
+    match word.parse::<u16>() {
+        Ok(index) => index,
+        Err(_) => {
+            *bad = true;
+            0
+        }
+    }
+}
+
 /// A method by its class and its number there, as `1.0`.
-pub(crate) fn method(word: &str) -> Result<MethodId, Unanswered> {
-    let (owner, index) = known(word.split_once('.'))?;
-    Ok(MethodId {
-        class: class(owner)?,
-        index: known(index.parse::<u16>().ok())?,
-    })
+pub(crate) fn method(bad: &mut bool, word: &str) -> MethodId {
+    let (owner, place) = at_dot(bad, word);
+    MethodId {
+        class: class(bad, owner),
+        index: index(bad, place),
+    }
 }
 
 /// A name; `""` is the empty one.
@@ -87,17 +100,21 @@ pub(crate) fn text(word: &str) -> &str {
 }
 
 /// A method's name and its descriptor, as `f()V`.
-pub(crate) fn signature(word: &str) -> Result<(&str, &str), Unanswered> {
-    let (name, _) = known(word.split_once('('))?;
-    let ty = known(word.strip_prefix(name))?;
-    Ok((name, ty))
+pub(crate) fn signature<'a>(bad: &mut bool, word: &'a str) -> (&'a str, &'a str) {
+    match word.split_once('(') {
+        Some((name, _)) => (name, word.strip_prefix(name).unwrap_or("")),
+        None => {
+            *bad = true;
+            ("", "")
+        }
+    }
 }
 
 /// A class's name, and a method's name and descriptor, as `p/C.f()V`.
-pub(crate) fn reference(word: &str) -> Result<(&str, &str, &str), Unanswered> {
-    let (owner, rest) = known(word.split_once('.'))?;
-    let (name, ty) = signature(rest)?;
-    Ok((owner, name, ty))
+pub(crate) fn reference<'a>(bad: &mut bool, word: &'a str) -> (&'a str, &'a str, &'a str) {
+    let (owner, rest) = at_dot(bad, word);
+    let (name, ty) = signature(bad, rest);
+    (owner, name, ty)
 }
 
 /// A kept name of this text.
@@ -106,25 +123,28 @@ pub(crate) fn named(alloc: Global, text: &str) -> Result<Name, AllocError> {
 }
 
 /// The flag of this name, without ACC_ (JVMS SE 17 §4.1, §4.6).
-pub(crate) fn flag(word: &str) -> Option<u16> {
+fn flag(bad: &mut bool, word: &str) -> u16 {
     match word {
-        "public" => Some(0x0001),
-        "private" => Some(0x0002),
-        "protected" => Some(0x0004),
-        "static" => Some(0x0008),
-        "final" => Some(0x0010),
-        "super" => Some(0x0020),
-        "interface" => Some(0x0200),
-        "abstract" => Some(0x0400),
-        _ => None,
+        "public" => 0x0001,
+        "private" => 0x0002,
+        "protected" => 0x0004,
+        "static" => 0x0008,
+        "final" => 0x0010,
+        "super" => 0x0020,
+        "interface" => 0x0200,
+        "abstract" => 0x0400,
+        _ => {
+            *bad = true;
+            0
+        }
     }
 }
 
 /// Flags by their names.
-pub(crate) fn flags(words: &[&str]) -> Result<u16, Unanswered> {
+pub(crate) fn flags(bad: &mut bool, words: &[&str]) -> u16 {
     let mut flags = 0;
     for word in words {
-        flags |= known(flag(word))?;
+        flags |= flag(bad, word);
     }
-    Ok(flags)
+    flags
 }
