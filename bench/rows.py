@@ -1,0 +1,93 @@
+#!/usr/bin/env python3
+"""Counts the rows, by crate and by kind.
+
+    bench/rows.py [--since REVISION]     prints a table; with a revision, what there was then, too
+
+The kinds: `text`, commands in data/ of crates of rows, each with its answer; `tables`, elements of constant arrays in tests, which one
+assertion goes over; `asserts`, assertions of tests; `theorems`, statements of a crate's proofs/Rows that hold by computation.
+"""
+
+import argparse
+import collections
+import io
+import pathlib
+import re
+import subprocess
+import sys
+import tarfile
+import tempfile
+
+TOP = pathlib.Path(__file__).resolve().parent.parent
+KINDS = ("text", "tables", "asserts", "theorems")
+PAIRS = {"(": ")", "[": "]", "{": "}"}
+
+
+def without_texts(source):
+    """The source without comments, and with nothing in its texts."""
+    return re.sub(r'//[^\n]*|b?r#".*?"#|"(?:\\.|[^"\\])*"|\'(?:\\.|[^\'\\])\'', lambda it: "" if it[0].startswith("//") else '""', source, flags=re.S)
+
+
+def elements(source, at):
+    """How many elements the array has that begins at this bracket."""
+    depth, count, is_open = 0, 0, False
+    for letter in source[at:]:
+        if letter in PAIRS:
+            is_open, depth = is_open or depth > 0, depth + 1
+        elif letter in PAIRS.values():
+            depth -= 1
+            if depth == 0:
+                break
+        elif letter == "," and depth == 1:
+            count, is_open = count + 1, False
+        elif not letter.isspace():
+            is_open = True
+    return count + is_open
+
+
+def counts(top):
+    """How many rows there are of each kind, by crate."""
+    found = collections.defaultdict(collections.Counter)
+    for crate in sorted((top / "crates").iterdir()):
+        rows = found[crate.name]
+        if crate.name.startswith("rows_"):
+            rows["text"] = sum(len(re.findall(r"^<", file.read_text(), re.M)) for file in crate.glob("data/*.txt"))
+        for file in crate.glob("src/**/*.rt"):
+            source = without_texts(file.read_text())
+            if crate.name.startswith("rows_") or "#[test]" in source:
+                rows["asserts"] += len(re.findall(r"\bassert(?:_eq|_ne)?!\(", source))
+                starts = re.finditer(r"\bconst \w+: &?(?:'static )?\[[^=]*= &?\[", source)
+                rows["tables"] += sum(elements(source, start.end() - 1) for start in starts)
+        for file in crate.glob("proofs/Rows*/**/*.antt") if (crate / "proofs/Rows").is_dir() else []:
+            rows["theorems"] += len(re.findall(r"^\S+ = refl$", file.read_text(), re.M))
+        if (crate / "proofs/Rows.antt").exists():
+            rows["theorems"] += len(re.findall(r"^\S+ = refl$", (crate / "proofs/Rows.antt").read_text(), re.M))
+    return {crate: rows for crate, rows in found.items() if sum(rows.values())}
+
+
+def at_revision(revision):
+    """The same of a revision."""
+    packed = subprocess.run(["git", "archive", revision, "crates"], cwd=TOP, stdout=subprocess.PIPE, check=True).stdout
+    with tempfile.TemporaryDirectory() as room:
+        tarfile.open(fileobj=io.BytesIO(packed)).extractall(room)
+        return counts(pathlib.Path(room))
+
+
+def main():
+    read = argparse.ArgumentParser(usage=__doc__)
+    read.add_argument("--since")
+    said = read.parse_args()
+    now = counts(TOP)
+    before = at_revision(said.since) if said.since else {}
+    print("| | " + " | ".join(KINDS) + " |")
+    print("|---|" + "---|" * len(KINDS))
+    for crate in [*sorted(now.keys() | before.keys()), "all"]:
+        told = []
+        for kind in KINDS:
+            count, was = (sum(rows[kind] for name, rows in each.items() if crate in (name, "all")) for each in (now, before))
+            told.append(str(count or "") if not before or count == was else f"{was} → {count}")
+        print(f"| {crate} | " + " | ".join(told) + " |")
+    return 0
+
+
+if __name__ == "__main__":
+    sys.exit(main())
