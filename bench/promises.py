@@ -1,7 +1,7 @@
 #!/usr/bin/env python3
 """Holds the pages to the sources. Of docs/PROMISES.md each call is a public function, with a clause of each name that stands behind it
-in brackets, and each crate and script is there; of docs/DEFINITIONS.md each definition stands in its file; docs/CRATES.md names each crate
-below those that it uses; and each link of a page leads to a file.
+in brackets, and each crate and script is there; of docs/DEFINITIONS.md each definition stands in its file, and each call that carries it is
+public and has a clause; docs/CRATES.md names each crate below those that it uses; and each link of a page leads to a file.
 
     bench/promises.py     at the top of the repository; prints what isn't so, and ends with status 0 where all is
 """
@@ -39,20 +39,24 @@ def is_stated(name, text):
     return re.search(rf"(?:^|\s){word}(?: \(.*\))?(?: \{{.*\}})? :|\b(?:data|record|struct|enum) {word}\b", text, re.M)
 
 
-def definitions():
-    """What the tables of docs/DEFINITIONS.md name that isn't in its file; a type of the code stands in its crate's sources."""
-    wrong = []
-    for section in (TOP / "docs/DEFINITIONS.md").read_text().split("\n## ")[1:]:
-        head, body = section.split("\n", 1)
-        crates = [TOP / "crates" / name for name in re.findall(r"\bjl_\w+", head)]
-        for row in re.findall(r"^\|(.*)\|$", body, re.M) if crates else []:
-            names, files = (re.findall(r"`([^`]+)`", cell) for cell in row.split("|")[:2])
-            found = [path for crate in crates for file in files for path in (crate / "specs").rglob(f"{file}.antt")]
-            if len(found) < len(files):
-                wrong.append(f"docs/DEFINITIONS.md: {head} has not all of {', '.join(files)}")
-            text = "\n".join(path.read_text() for path in found)
-            types = "\n".join(path.read_text() for crate in crates for path in crate.glob("src/*.rt"))
-            wrong += [f"docs/DEFINITIONS.md: {head} has no {name}" for name in names if not is_stated(name, text) and not is_stated(name, types)]
+def definitions(calls):
+    """What the tables of docs/DEFINITIONS.md name that isn't in the file of its row, or is no public call, and no public type; a type of the
+    code stands in its crate's sources."""
+    wrong, page = [], (TOP / "docs/DEFINITIONS.md").read_text()
+    types = {crate.name: "\n".join(path.read_text() for path in crate.glob("src/*.rt")) for crate in (TOP / "crates").iterdir()}
+    shown = set(re.findall(r"^pub (?:struct|enum|trait) (\w+)", "\n".join(types.values()), re.M))
+    for row in re.findall(r"^\|(.*)\|$", page.split("\n## ", 2)[2], re.M):
+        file, _, names, carriers = row.split("|")
+        path = re.search(r"\]\(\.\./(crates/(\w+)/.*)\)", file)
+        if not path or not (TOP / path.group(1)).exists():
+            continue
+        text = (TOP / path.group(1)).read_text()
+        for name in re.findall(r"`([^`]+)`", names):
+            if not is_stated(name, text) and not is_stated(name, types[path.group(2)]):
+                wrong.append(f"docs/DEFINITIONS.md: {path.group(1)} has no {name}")
+        for call in re.findall(r"`(?:jl_\w+::)?([^`]+)`", carriers):
+            if not calls.get(call) and call not in shown:
+                wrong.append(f"docs/DEFINITIONS.md: {call} is no public call with a clause")
     return wrong
 
 
@@ -73,7 +77,8 @@ def crates():
 
 
 def main():
-    page, found, wrong = (TOP / "docs/PROMISES.md").read_text(), clauses(), definitions() + crates()
+    page, found = (TOP / "docs/PROMISES.md").read_text(), clauses()
+    wrong = definitions(found) + crates()
     for row in re.findall(r"^\|.*\|$", page.split("## What no clause says")[0], re.M):
         for call, names in re.findall(r"`([A-Za-z_:]+)`(?: \(([\w, ]+)\))?", row.split("|")[2]):
             if "/" in call or call.startswith("proofs"):
