@@ -67,7 +67,7 @@ impl Page {
         chosen: &Chosen,
         file: ClassFile,
     ) -> Result<Option<ClassFile>, ReportFault> {
-        let class = ClassId::new(report.classes().class_count() as u32);
+        let class = ClassId::new(report.classes().count_in_order() as u32);
         let mut dropped = Vec::new(alloc);
         let back = report.add_class(alloc, file, &mut self.kept, &mut dropped)?;
         if back.is_some() {
