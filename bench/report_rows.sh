@@ -5,7 +5,8 @@
 #
 # 2,000 classes, each below the one whose name comes next, so that files by name have children first; links in folders, to a file, to a
 # folder and to nothing; a name that isn't UTF-8; class by class what further classes drop, whose files come in such an order, too. It
-# ends with status 0 only where each report is as it must be, and takes a few seconds.
+# ends with status 0 only where each report is as it must be. It takes half a minute, most of it the links of the chain, each of which
+# walks up from each receiver.
 set -eu
 
 if [ $# != 1 ]; then
