@@ -130,7 +130,7 @@ impl<'a> Methods<'a> {
 ///
 /// It owns the constant pool that was read. Names are parts of the pool's bytes, methods name their texts by number, and
 /// the invocations of all methods, by their numbers, stand in one vector.
-#[derive(Debug, Drop)]
+#[derive(Debug)]
 pub struct ClassFile {
     pub pool: Pool,
     pub sites: Vec<KeptSite>,
@@ -141,6 +141,23 @@ pub struct ClassFile {
     pub nest_host: Option<Name>,
     pub nest_members: Seq<Name>,
     pub methods: Seq<KeptMethod>,
+}
+
+/// Written out, so that what drops one makes one call of it and doesn't take apart what it holds.
+impl Drop for ClassFile {
+    fn drop(self) {
+        let ClassFile {
+            pool: _pool,
+            sites: _sites,
+            name: _name,
+            flags: _flags,
+            superclass: _superclass,
+            interfaces: _interfaces,
+            nest_host: _nest_host,
+            nest_members: _nest_members,
+            methods: _methods,
+        } = self;
+    }
 }
 
 impl Model for ClassFile {
@@ -214,7 +231,8 @@ impl ClassFile {
         requires { place < length self.interfaces }
         ensures { Some result ≡ slice_get self.interfaces place }
     {
-        self.interfaces.into_item(place)
+        let (_superclass, interfaces) = self.into_parents();
+        interfaces.into_item(place)
     }
 
     /// The name of its parent at this place alone: its superclass, where it has one, is the first, and then come its direct
@@ -223,12 +241,26 @@ impl ClassFile {
         requires { place < length (option_to_list self.superclass ++ self.interfaces) }
         ensures { Some result ≡ slice_get (option_to_list self.superclass ++ self.interfaces) place }
     {
+        let (superclass, interfaces) = self.into_parents();
+        parent_at(superclass, interfaces, place)
+    }
+
+    /// The names of its superclass and of its direct superinterfaces alone.
+    fn into_parents(self) -> (Option<Name>, Seq<Name>)
+        ensures { result ≡ (self.superclass, self.interfaces) }
+    {
         let ClassFile {
+            pool: _pool,
+            sites: _sites,
+            name: _name,
+            flags: _flags,
             superclass,
             interfaces,
-            ..
+            nest_host: _nest_host,
+            nest_members: _nest_members,
+            methods: _methods,
         } = self;
-        parent_at(superclass, interfaces, place)
+        (superclass, interfaces)
     }
 
     /// Its methods, in the file's order: fewer than 65,536.

@@ -74,7 +74,6 @@ pub struct Member<'a> {
 }
 
 /// What stands behind the pool (§4.1).
-#[derive(Drop)]
 pub struct Body<'a> {
     pub flags: u16,
     pub this_class: u16,
@@ -83,6 +82,21 @@ pub struct Body<'a> {
     pub fields: Seq<Member<'a>>,
     pub methods: Seq<Member<'a>>,
     pub attributes: Attributes<'a>,
+}
+
+/// Written out, so that what drops one makes one call of it and doesn't take apart what it holds.
+impl<'a> Drop for Body<'a> {
+    fn drop(self) {
+        let Body {
+            flags: _flags,
+            this_class: _this_class,
+            super_class: _super_class,
+            interfaces: _interfaces,
+            fields: _fields,
+            methods: _methods,
+            attributes: _attributes,
+        } = self;
+    }
 }
 
 /// Why no whole part stands at the front.

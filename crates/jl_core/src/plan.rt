@@ -13,13 +13,24 @@ use std::alloc::{AllocError, Global};
 use std::marker::Model;
 
 /// A planned event. A clause sees the core that it leads to, what it is answered, and the sites that it changes.
-#[derive(Drop)]
 pub struct Planned {
     after: Instance,
     reply: Reply,
     slots: Vec<(SiteNo, Option<Link>)>,
     /// How many selections, special searches and evaluations of call sites the event took.
     work: u64,
+}
+
+/// Written out, so that what drops one makes one call of it and doesn't take apart what it holds.
+impl Drop for Planned {
+    fn drop(self) {
+        let Planned {
+            after: _after,
+            reply: _reply,
+            slots: _slots,
+            work: _work,
+        } = self;
+    }
 }
 
 impl Model for Planned {

@@ -120,6 +120,9 @@ module _ (cs : Classes) (loader : ℕ) (file : ClassFile) where
   abbrev from_missing : List (Option DefineFault)
   from_missing = option_map MissingParent (find is_missing (parent_names file)) ∷ superclass_faults cs loader file ++ from_interfaces
 
+  pub first_is : (f : DefineFault) → first_of (first_faults cs loader file) ≡ Some f → define_fault cs loader file ≡ Some f
+  first_is f e = before (first_faults cs loader file) from_missing f e
+
   pub refused_at_first : is_some (first_of (first_faults cs loader file)) ≡ true → false ≡ is_none (define_fault cs loader file)
   refused_at_first e =
       let found = some_of (first_of (first_faults cs loader file)) e in

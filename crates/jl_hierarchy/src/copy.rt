@@ -3,9 +3,14 @@
 ghost use Rattle.std.specs.Prelude.{◌≡◌, IfOk};
 ghost use Rattle.jl_hierarchy.specs.Means.Kept.{lists};
 
+use crate::ancestor_list::AncestorList;
 use crate::classes::Classes;
 use crate::loader::Loader;
 use crate::receiving::Receivers;
+use crate::row::Row;
+use indexmap::IndexSet;
+use jl_pages::Paged;
+use jl_types::LoaderId;
 use smallvec::SmallVec;
 use std::alloc::{AllocError, Global};
 use std::sync::Arc;
@@ -15,16 +20,43 @@ impl Classes {
     pub fn copy(&self, alloc: Global) -> Result<Classes, AllocError>
         ensures { IfOk result (λ copy. copy ≡ self.now) }
     {
+        let marks = Arc::try_clone(&self.marks)?;
+        let (loaders, retired) = copy_loaders_and_retired(alloc, &self.loaders, &self.retired)?;
+        let (rows, above) = copy_rows_and_ancestors(alloc, &self.rows, &self.above)?;
         Ok(Classes {
-            loaders: copy_loaders(alloc, self.loaders.as_slice())?,
-            rows: self.rows.copy(alloc)?,
-            above: self.above.copy(alloc)?,
+            loaders,
+            rows,
+            above,
             below: copy_below(alloc, self.below.as_slice())?,
-            retired: self.retired.clone()?,
-            marks: Arc::try_clone(&self.marks)?,
+            retired,
+            marks,
             are_superclass_chains: self.are_superclass_chains,
         })
     }
+}
+
+/// The same loaders and retired loaders once more. Want of memory is an error.
+fn copy_loaders_and_retired(
+    alloc: Global,
+    loaders: &Vec<Loader>,
+    retired: &IndexSet<LoaderId>,
+) -> Result<(Vec<Loader>, IndexSet<LoaderId>), AllocError>
+    ensures { IfOk result (λ made. (made.0.items ≡ loaders.now.items) × (made.1.keys ≡ retired.now.keys)) }
+{
+    let loaders = copy_loaders(alloc, loaders.as_slice())?;
+    Ok((loaders, retired.clone()?))
+}
+
+/// The same classes and ancestors once more. Want of memory is an error.
+fn copy_rows_and_ancestors(
+    alloc: Global,
+    rows: &Paged<Row>,
+    above: &Paged<AncestorList>,
+) -> Result<(Paged<Row>, Paged<AncestorList>), AllocError>
+    ensures { IfOk result (λ made. (made.0.items ≡ rows.now.items) × (made.1.items ≡ above.now.items)) }
+{
+    let rows = rows.copy(alloc)?;
+    Ok((rows, above.copy(alloc)?))
 }
 
 /// The same loaders once more. Want of memory is an error.

@@ -24,11 +24,20 @@ const MOST_RECENT: usize = 256;
 ///
 /// Copies of the loader share the records. The recent ones are kept apart, so that a loader that records more, while copies share
 /// what it has, copies those alone, and all of them once in 256 times.
-#[derive(Drop)]
 pub(crate) struct Loader {
     older: Arc<Records>,
     /// Those behind the older ones: 256 at the most.
     recent: Arc<Records>,
+}
+
+/// Written out, so that what drops one makes one call of it and doesn't take apart what it holds.
+impl Drop for Loader {
+    fn drop(self) {
+        let Loader {
+            older: _older,
+            recent: _recent,
+        } = self;
+    }
 }
 
 impl Model for Loader {
@@ -178,9 +187,15 @@ fn record_shared(shared: &mut Arc<Records>, name: Vec<u8>, class: ClassId) -> Re
 }
 
 /// Names, each with its class. A clause sees the pairs, in the order in which they were recorded.
-#[derive(Drop)]
 struct Records {
     records: IndexMap<Vec<u8>, ClassId>,
+}
+
+/// Written out, so that what drops one makes one call of it and doesn't take apart what it holds.
+impl Drop for Records {
+    fn drop(self) {
+        let Records { records: _records } = self;
+    }
 }
 
 impl Model for Records {

@@ -17,10 +17,19 @@ pub(crate) struct Mark {
 }
 
 /// Marks, each once, and by number the classes of which every method is marked. A clause sees both lists.
-#[derive(Drop)]
 pub(crate) struct Redeclared {
     marks: IndexSet<Mark>,
     every: Vec<bool>,
+}
+
+/// Written out, so that what drops one makes one call of it and doesn't take apart what it holds.
+impl Drop for Redeclared {
+    fn drop(self) {
+        let Redeclared {
+            marks: _marks,
+            every: _every,
+        } = self;
+    }
 }
 
 impl Model for Redeclared {

@@ -18,7 +18,7 @@ pub enum Form {
 }
 
 /// What is asked for.
-#[derive(Debug, Drop)]
+#[derive(Debug)]
 pub struct Asked {
     pub form: Form,
     /// Which invocations are reported.
@@ -31,6 +31,20 @@ pub struct Asked {
     pub breaks: Vec<String>,
     /// The file into which a page of HTML is written.
     pub html: Option<String>,
+}
+
+/// Written out, so that what drops one makes one call of it and doesn't take apart what it holds.
+impl Drop for Asked {
+    fn drop(self) {
+        let Asked {
+            form: _form,
+            chosen: _chosen,
+            paths: _paths,
+            beside: _beside,
+            breaks: _breaks,
+            html: _html,
+        } = self;
+    }
 }
 
 /// A flag that takes no value.

@@ -51,12 +51,22 @@ impl Choice {
 }
 
 /// Which invocations are reported.
-#[derive(Debug, Drop)]
+#[derive(Debug)]
 pub struct Chosen {
     /// Those that come to one of these, or all where there are none.
     pub choices: Vec<Choice>,
     /// Those in classes whose names begin with one of these, or all where there are none.
     pub prefixes: Vec<String>,
+}
+
+/// Written out, so that what drops one makes one call of it and doesn't take apart what it holds.
+impl Drop for Chosen {
+    fn drop(self) {
+        let Chosen {
+            choices: _choices,
+            prefixes: _prefixes,
+        } = self;
+    }
 }
 
 impl Chosen {

@@ -21,7 +21,6 @@ use std::mem;
 const MOST_BYTES: usize = 65_536;
 
 /// What is written next.
-#[derive(Drop)]
 pub(crate) struct Page {
     form: Form,
     text: String,
@@ -37,6 +36,24 @@ pub(crate) struct Page {
     further: u64,
     /// How many links they drop.
     dropped: u64,
+}
+
+/// Written out, so that what drops one makes one call of it and doesn't take apart what it holds.
+impl Drop for Page {
+    fn drop(self) {
+        let Page {
+            form: _form,
+            text: _text,
+            bytes: _bytes,
+            summary: _summary,
+            missing: _missing,
+            html: _html,
+            keeps_rows: _keeps_rows,
+            kept: _kept,
+            further: _further,
+            dropped: _dropped,
+        } = self;
+    }
 }
 
 impl Page {

@@ -18,11 +18,22 @@ use std::alloc::{AllocFailed, Global};
 use std::marker::Model;
 
 /// The types of a method's parameters and of its result.
-#[derive(Debug, Drop)]
+#[derive(Debug)]
 pub struct MethodType<'a> {
     parameters: Vec<FieldType<'a>>,
     returns: Option<FieldType<'a>>,
     slots: u8,
+}
+
+/// Written out, so that what drops one makes one call of it and doesn't take apart what it holds.
+impl<'a> Drop for MethodType<'a> {
+    fn drop(self) {
+        let MethodType {
+            parameters: _parameters,
+            returns: _returns,
+            slots: _slots,
+        } = self;
+    }
 }
 
 impl<'a> Model for MethodType<'a> {

@@ -9,9 +9,16 @@ use std::hash::{Hash, Hasher};
 use std::marker::Model;
 
 /// A list that is made once and then only read. A clause sees the list itself.
-#[derive(Debug, Drop)]
+#[derive(Debug)]
 pub struct Seq<T> {
     items: Vec<T>,
+}
+
+/// Written out, so that what drops one makes one call of it and doesn't take apart what it holds.
+impl<T: Drop> Drop for Seq<T> {
+    fn drop(self) {
+        let Seq { items: _items } = self;
+    }
 }
 
 impl<T> Model for Seq<T> {
@@ -46,7 +53,7 @@ impl<T> Seq<T> {
         requires { place < length self }
         ensures { Some result ≡ slice_get self place }
     {
-        let mut items = self.items;
+        let Seq { mut items } = self;
         items.swap_remove(place)
     }
 }

@@ -24,10 +24,20 @@ i{display:block}.d{background:#1b9e77}.t{background:#e6ab02}.o{background:#d95f0
 const TAIL: &str = "</body></html>\n";
 
 /// A class's methods, each with its bar.
-#[derive(Debug, Drop)]
+#[derive(Debug)]
 pub struct ClassPart {
     bar: Bar,
     methods: String,
+}
+
+/// Written out, so that what drops one makes one call of it and doesn't take apart what it holds.
+impl Drop for ClassPart {
+    fn drop(self) {
+        let ClassPart {
+            bar: _bar,
+            methods: _methods,
+        } = self;
+    }
 }
 
 impl ClassPart {
@@ -49,17 +59,36 @@ impl ClassPart {
 }
 
 /// A package's classes, each with its methods.
-#[derive(Debug, Drop)]
+#[derive(Debug)]
 struct Package {
     bar: Bar,
     classes: String,
 }
 
+/// Written out, so that what drops one makes one call of it and doesn't take apart what it holds.
+impl Drop for Package {
+    fn drop(self) {
+        let Package {
+            bar: _bar,
+            classes: _classes,
+        } = self;
+    }
+}
+
 /// Packages, in the order of their first classes.
-#[derive(Drop)]
 pub struct HtmlPage {
     bar: Bar,
     packages: IndexMap<String, Package>,
+}
+
+/// Written out, so that what drops one makes one call of it and doesn't take apart what it holds.
+impl Drop for HtmlPage {
+    fn drop(self) {
+        let HtmlPage {
+            bar: _bar,
+            packages: _packages,
+        } = self;
+    }
 }
 
 impl HtmlPage {

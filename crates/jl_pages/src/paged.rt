@@ -11,11 +11,21 @@ use std::marker::Model;
 /// A list that grows at its end. A clause sees the elements, and whether there is room for one more.
 ///
 /// The elements stand in pages of 64, which copies share, and behind these in a page of its own.
-#[derive(Drop)]
 pub struct Paged<T> {
     full: Vec<Page<T>>,
     last: Vec<T>,
     count: usize,
+}
+
+/// Written out, so that what drops one makes one call of it and doesn't take apart what it holds.
+impl<T: Drop> Drop for Paged<T> {
+    fn drop(self) {
+        let Paged {
+            full: _full,
+            last: _last,
+            count: _count,
+        } = self;
+    }
 }
 
 impl<T> Model for Paged<T> {

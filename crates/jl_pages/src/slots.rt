@@ -9,10 +9,19 @@ use std::alloc::{AllocError, Global};
 use std::marker::Model;
 
 /// A list of a fixed length, in pages of 256 that copies share. A clause sees its elements.
-#[derive(Drop)]
 pub struct Slots<T> {
     alloc: Global,
     pages: Vec<FixedPage<T>>,
+}
+
+/// Written out, so that what drops one makes one call of it and doesn't take apart what it holds.
+impl<T: Drop> Drop for Slots<T> {
+    fn drop(self) {
+        let Slots {
+            alloc: _alloc,
+            pages: _pages,
+        } = self;
+    }
 }
 
 impl<T> Model for Slots<T> {

@@ -12,7 +12,7 @@ use byteorder::{BigEndian, ByteOrder};
 use jl_names::{LentName, Name, Text};
 
 /// What stands at a number of a pool. What is longer than two numbers stands in the block of the pool's bytes.
-#[derive(Clone, Copy, Debug, PartialEq, Eq)]
+#[derive(Clone, Copy)]
 pub enum KeptConstant {
     Nothing,
     /// Where the text begins, how many bytes it has, and what it may stand for.
@@ -46,7 +46,7 @@ impl KeptConstant {
 }
 
 /// What is kept of a constant, and whether it is a text with a byte that is no unit of modified UTF-8 by itself.
-#[derive(Clone, Copy, Debug, PartialEq, Eq)]
+#[derive(Clone, Copy)]
 pub(crate) struct Kept {
     pub entry: KeptConstant,
     pub odd: bool,

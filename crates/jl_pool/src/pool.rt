@@ -24,15 +24,34 @@ use crate::pool_fault::PoolFault;
 use crate::reference::{CallSiteSpecifier, Reference};
 use jl_names::{LentName, Name, is_text};
 use std::alloc::{AllocError, Global};
+use std::fmt;
 use std::marker::Model;
 
 /// The constants of a class file (JVMS SE 17 §4.4). A clause sees them by number.
 ///
 /// It keeps the bytes of its constants in one block, and of each number what stands there or where it stands in the block.
-#[derive(Debug, Drop)]
 pub struct Pool {
     block: Name,
     entries: Vec<KeptConstant>,
+}
+
+/// How many numbers there are, and not each constant.
+impl fmt::Debug for Pool {
+    fn fmt<W: fmt::Write>(&self, f: &mut fmt::Formatter<W>) -> fmt::Result {
+        f.debug_struct("Pool")
+            .field("len", &self.entries.len())
+            .finish()
+    }
+}
+
+/// Written out, so that what drops one makes one call of it and doesn't take apart what it holds.
+impl Drop for Pool {
+    fn drop(self) {
+        let Pool {
+            block: _block,
+            entries: _entries,
+        } = self;
+    }
 }
 
 impl Model for Pool {

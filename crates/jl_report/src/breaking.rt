@@ -18,12 +18,22 @@ use jl_types::{Key, Link, SiteNo, Unlinked, same_link};
 use std::alloc::{AllocError, Global};
 
 /// An invocation whose link a further class drops.
-#[derive(Debug, Drop)]
+#[derive(Debug)]
 pub struct Dropped {
     /// What it came to before, a link.
     pub before: Row,
     /// What it comes to once the class is there.
     pub after: Row,
+}
+
+/// Written out, so that what drops one makes one call of it and doesn't take apart what it holds.
+impl Drop for Dropped {
+    fn drop(self) {
+        let Dropped {
+            before: _before,
+            after: _after,
+        } = self;
+    }
 }
 
 impl Report {

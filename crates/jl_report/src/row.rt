@@ -32,10 +32,22 @@ impl Finding {
 
 /// An invocation: its place and its instruction (JVMS SE 17 §6.5), what it comes to, and what its link rests on that a further class may
 /// change.
-#[derive(Debug, Drop)]
+#[derive(Debug)]
 pub struct Row {
     pub place: Place,
     pub kind: Kind,
     pub finding: Finding,
     pub rests_on: Footprint,
+}
+
+/// Written out, so that what drops one makes one call of it and doesn't take apart what it holds.
+impl Drop for Row {
+    fn drop(self) {
+        let Row {
+            place: _place,
+            kind: _kind,
+            finding: _finding,
+            rests_on: _rests_on,
+        } = self;
+    }
 }

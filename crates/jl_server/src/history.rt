@@ -76,12 +76,21 @@ impl Name for Brand {
 }
 
 /// A history with no entries, which has no name yet.
-#[derive(Drop)]
 pub struct Opened {
     head: Word<Entry, u64, Law>,
     reached: Reached<Entry, u64, Law>,
     pub ghost empty: { reached.log ≡ [] },
     pub ghost head_is: { head ≡ head_of reached.book },
+}
+
+/// Written out, so that what drops one makes one call of it and doesn't take apart what it holds.
+impl Drop for Opened {
+    fn drop(self) {
+        let Opened {
+            head: _head,
+            reached: _reached,
+        } = self;
+    }
 }
 
 impl Opened {

@@ -7,11 +7,20 @@ use crate::history::Law;
 use logbook::Seen as Reached;
 
 /// A list that a history has reached, and its length.
-#[derive(Drop)]
 pub struct Mark {
     pub serial: u64,
     pub reached: Reached<Entry, u64, Law>,
     pub ghost counted: { serial ≡ length reached.log },
+}
+
+/// Written out, so that what drops one makes one call of it and doesn't take apart what it holds.
+impl Drop for Mark {
+    fn drop(self) {
+        let Mark {
+            serial: _serial,
+            reached: _reached,
+        } = self;
+    }
 }
 
 impl Mark {

@@ -14,11 +14,21 @@ use std::marker::{Model, PhantomData};
 
 /// A token for a legal list of the server K: a beginning of its history, which somebody was told of. A clause sees the list. Of the
 /// list itself it keeps the length alone.
-#[derive(Drop)]
 pub struct Seen<K: Name> {
     serial: u64,
     reached: Reached<Entry, u64, Law>,
     of: PhantomData<K>,
+}
+
+/// Written out, so that what drops one makes one call of it and doesn't take apart what it holds.
+impl<K: Name> Drop for Seen<K> {
+    fn drop(self) {
+        let Seen {
+            serial: _serial,
+            reached: _reached,
+            of: _of,
+        } = self;
+    }
 }
 
 impl<K: Name> Model for Seen<K> {

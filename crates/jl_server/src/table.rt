@@ -13,19 +13,39 @@ use left_right::Absorb;
 use std::alloc::{AllocError, Global};
 
 /// The links of a list by site, its number of classes, and the list.
-#[derive(Drop)]
 pub struct Table {
     pub links: Vec<Option<Link>>,
     pub classes: usize,
     pub list: Mark,
 }
 
+/// Written out, so that what drops one makes one call of it and doesn't take apart what it holds.
+impl Drop for Table {
+    fn drop(self) {
+        let Table {
+            links: _links,
+            classes: _classes,
+            list: _list,
+        } = self;
+    }
+}
+
 /// What the last entry of a list changes: its slots, and the number of classes after it.
-#[derive(Drop)]
 pub struct Change {
     pub slots: Vec<(SiteNo, Option<Link>)>,
     pub classes: usize,
     pub list: Mark,
+}
+
+/// Written out, so that what drops one makes one call of it and doesn't take apart what it holds.
+impl Drop for Change {
+    fn drop(self) {
+        let Change {
+            slots: _slots,
+            classes: _classes,
+            list: _list,
+        } = self;
+    }
 }
 
 /// What two copies of a table have in common. No value of it is made.

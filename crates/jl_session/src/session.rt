@@ -30,10 +30,19 @@ use std::marker::Model;
 const MOST_SITES: u32 = 65_536;
 
 /// One core, and the batches of links that were prepared, by number: what commands, a line each, are answered by.
-#[derive(Drop)]
 pub struct Session {
     core: Core,
     batches: Vec<Seq<(SiteNo, Link)>>,
+}
+
+/// Written out, so that what drops one makes one call of it and doesn't take apart what it holds.
+impl Drop for Session {
+    fn drop(self) {
+        let Session {
+            core: _core,
+            batches: _batches,
+        } = self;
+    }
 }
 
 impl Model for Session {

@@ -5,7 +5,7 @@ use jl_names::{Name, Seq};
 /// A class file to be written (JVMS SE 17 §4.1), of version 61.0 and without fields: its name, access flags,
 /// superclass, direct superinterfaces and methods, its nest host and the members of its nest (§4.7.28, §4.7.29). Each
 /// text is in modified UTF-8 (§4.4.7), and may be any.
-#[derive(Debug, Drop)]
+#[derive(Debug)]
 pub struct Sketch {
     pub name: Name,
     pub flags: u16,
@@ -16,8 +16,23 @@ pub struct Sketch {
     pub members: Seq<Name>,
 }
 
+/// Written out, so that what drops one makes one call of it and doesn't take apart what it holds.
+impl Drop for Sketch {
+    fn drop(self) {
+        let Sketch {
+            name: _name,
+            flags: _flags,
+            superclass: _superclass,
+            interfaces: _interfaces,
+            methods: _methods,
+            host: _host,
+            members: _members,
+        } = self;
+    }
+}
+
 /// A method (§4.6). Its code, unless it is abstract or native, is the calls in order and a return.
-#[derive(Debug, Drop)]
+#[derive(Debug)]
 pub struct SketchMethod {
     pub name: Name,
     pub ty: Name,
@@ -25,12 +40,35 @@ pub struct SketchMethod {
     pub calls: Seq<Call>,
 }
 
+/// Written out, so that what drops one makes one call of it and doesn't take apart what it holds.
+impl Drop for SketchMethod {
+    fn drop(self) {
+        let SketchMethod {
+            name: _name,
+            ty: _ty,
+            flags: _flags,
+            calls: _calls,
+        } = self;
+    }
+}
+
 /// A method by its class, name and descriptor (§4.4.2).
-#[derive(Debug, Drop)]
+#[derive(Debug)]
 pub struct MethodName {
     pub owner: Name,
     pub name: Name,
     pub ty: Name,
+}
+
+/// Written out, so that what drops one makes one call of it and doesn't take apart what it holds.
+impl Drop for MethodName {
+    fn drop(self) {
+        let MethodName {
+            owner: _owner,
+            name: _name,
+            ty: _ty,
+        } = self;
+    }
 }
 
 /// An invocation (§6.5): invokevirtual, invokespecial, invokestatic, invokeinterface, invokedynamic.

@@ -11,9 +11,15 @@ use std::alloc::{AllocError, Global};
 const MOST_TOLD: usize = 10;
 
 /// How many invocations name each class that isn't there.
-#[derive(Drop)]
 pub struct MissingClasses {
     counts: IndexMap<String, u64>,
+}
+
+/// Written out, so that what drops one makes one call of it and doesn't take apart what it holds.
+impl Drop for MissingClasses {
+    fn drop(self) {
+        let MissingClasses { counts: _counts } = self;
+    }
 }
 
 /// A class that isn't there, and how many invocations name it.

@@ -10,12 +10,24 @@ use std::marker::Model;
 
 /// A defined class or interface (JVMS SE 17 §5.3): its defining loader, what its file shows, and the classes that the
 /// loader had recorded under the names of its superclass and of its superinterfaces.
-#[derive(Debug, Drop)]
+#[derive(Debug)]
 pub struct Class {
     loader: LoaderId,
     file: ClassFile,
     superclass: Option<ClassId>,
     interfaces: Seq<ClassId>,
+}
+
+/// Written out, so that what drops one makes one call of it and doesn't take apart what it holds.
+impl Drop for Class {
+    fn drop(self) {
+        let Class {
+            loader: _loader,
+            file: _file,
+            superclass: _superclass,
+            interfaces: _interfaces,
+        } = self;
+    }
 }
 
 impl Model for Class {

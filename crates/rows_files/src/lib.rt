@@ -73,32 +73,6 @@ fn all_named(alloc: Global, texts: &[&str]) -> Result<Seq<Name>, AllocError> {
     Ok(Seq::of(names))
 }
 
-/// The class and the method's name that a row names. A call site has no class.
-fn named_by(row: &CallRow) -> (&'static str, &'static str) {
-    match row {
-        CallRow::Virtual(owner, name) => (*owner, *name),
-        CallRow::Special(owner, name) => (*owner, *name),
-        CallRow::SpecialOfInterface(owner, name) => (*owner, *name),
-        CallRow::Static(owner, name) => (*owner, *name),
-        CallRow::StaticOfInterface(owner, name) => (*owner, *name),
-        CallRow::Interface(owner, name) => (*owner, *name),
-        CallRow::Dynamic(name) => ("", *name),
-    }
-}
-
-/// The call of a row, whose class and method's name these are.
-fn call_of(row: &CallRow, method: MethodName) -> Call {
-    match row {
-        CallRow::Virtual(..) => Call::Virtual(method),
-        CallRow::Special(..) => Call::Special(false, method),
-        CallRow::SpecialOfInterface(..) => Call::Special(true, method),
-        CallRow::Static(..) => Call::Static(false, method),
-        CallRow::StaticOfInterface(..) => Call::Static(true, method),
-        CallRow::Interface(..) => Call::Interface(method),
-        CallRow::Dynamic(..) => Call::Dynamic(method.name, method.ty),
-    }
-}
-
 /// The method of this name in this class.
 fn method_name(alloc: Global, owner: &str, name: &str) -> Result<MethodName, AllocError> {
     Ok(MethodName {
@@ -110,8 +84,19 @@ fn method_name(alloc: Global, owner: &str, name: &str) -> Result<MethodName, All
 
 /// The call of a row.
 fn call(alloc: Global, row: &CallRow) -> Result<Call, AllocError> {
-    let (owner, name) = named_by(row);
-    Ok(call_of(row, method_name(alloc, owner, name)?))
+    Ok(match row {
+        CallRow::Virtual(owner, name) => Call::Virtual(method_name(alloc, owner, name)?),
+        CallRow::Special(owner, name) => Call::Special(false, method_name(alloc, owner, name)?),
+        CallRow::SpecialOfInterface(owner, name) => {
+            Call::Special(true, method_name(alloc, owner, name)?)
+        }
+        CallRow::Static(owner, name) => Call::Static(false, method_name(alloc, owner, name)?),
+        CallRow::StaticOfInterface(owner, name) => {
+            Call::Static(true, method_name(alloc, owner, name)?)
+        }
+        CallRow::Interface(owner, name) => Call::Interface(method_name(alloc, owner, name)?),
+        CallRow::Dynamic(name) => Call::Dynamic(named(alloc, name)?, named(alloc, NOTHING)?),
+    })
 }
 
 /// These calls, in order.

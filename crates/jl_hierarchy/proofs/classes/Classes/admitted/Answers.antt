@@ -1,6 +1,9 @@
 use Rattle.std.proofs.Common.{sym, ◌∙◌}
-use Rattle.jl_hierarchy.proofs.FaultLaws.{missing_is, superclass_is, interface_is, closed_is, full_is, accepted_is}
+use Rattle.jl_hierarchy.proofs.FaultLaws.{first_is, missing_is, superclass_is, interface_is, closed_is, full_is, accepted_is}
 use Rattle.jl_hierarchy.proofs.classes.Classes.admitted.Goals as goal
+
+pub returns-in-Some-clause-fault : goal.returns-in-Some-clause-fault
+returns-in-Some-clause-fault c = first_is c.args.self.now c.args.loader c.args.file c.in-Some.fault (sym c.in-Some.ensures)
 
 pub returns-in-Some-missing_parent-clause-fault : goal.returns-in-Some-missing_parent-clause-fault
 returns-in-Some-missing_parent-clause-fault c =
