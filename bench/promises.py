@@ -94,7 +94,7 @@ def main():
     for name in set(re.findall(r"`((?:rows|trial)_\w+)`", page)):
         if not (TOP / "crates" / name).is_dir():
             wrong.append(f"no crate {name}")
-    for name in set(re.findall(r"`((?:bench|crates)/[\w./]+)`", page)):
+    for name in set(re.findall(r"`((?:bench|crates|rows)/[\w./]+)`", page)):
         if not (TOP / name).exists():
             wrong.append(f"no {name}")
     for file in [TOP / "README.md", *TOP.glob("docs/*.md"), TOP / "bench/README.md"]:

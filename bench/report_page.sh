@@ -1,7 +1,7 @@
 #!/usr/bin/env bash
 # Opens the page of `linkd report --html` in a browser without a screen, and compares the totals that it shows with those of --json.
 #
-#     bench/report_page.sh PROGRAM FOLDER [PICTURES]     PROGRAM is the built linkd; FOLDER has class files, as crates/rows_report/data does
+#     bench/report_page.sh PROGRAM FOLDER [PICTURES]     PROGRAM is the built linkd; FOLDER has class files, as rows/reports/classes does
 #
 # A picture of the page, closed and opened, is written to the folder PICTURES, if it is named. CHROMIUM chooses the browser (else chromium
 # of the PATH; Debian's is `apt-get install chromium`). Compared are the four numbers of the whole with the sums over the instructions, and

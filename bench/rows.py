@@ -3,8 +3,9 @@
 
     bench/rows.py [--since REVISION]     prints a table; with a revision, what there was then, too
 
-The kinds: `text`, commands in data/ of crates of rows, each with its answer; `tables`, elements of constant arrays in tests, which one
-assertion goes over; `asserts`, assertions of tests; `theorems`, statements of a crate's proofs/Rows that hold by computation.
+The kinds: `text`, commands in data/ of crates of rows, and lines in rows/, each with its answer, and lines of reports there; `tables`,
+elements of constant arrays in tests, which one assertion goes over; `asserts`, assertions of tests; `theorems`, statements of a crate's
+proofs/Rows that hold by computation.
 """
 
 import argparse
@@ -61,12 +62,15 @@ def counts(top):
             rows["theorems"] += len(re.findall(r"^\S+ = refl$", file.read_text(), re.M))
         if (crate / "proofs/Rows.antt").exists():
             rows["theorems"] += len(re.findall(r"^\S+ = refl$", (crate / "proofs/Rows.antt").read_text(), re.M))
+    for file in (top / "rows").glob("*/*"):
+        lines = {".txt": "^<", ".stdout": "^.", ".stderr": "^."}.get(file.suffix)
+        found[f"rows/{file.parent.name}"]["text"] += len(re.findall(lines, file.read_text(), re.M)) if lines else 0
     return {crate: rows for crate, rows in found.items() if sum(rows.values())}
 
 
 def at_revision(revision):
     """The same of a revision."""
-    packed = subprocess.run(["git", "archive", revision, "crates"], cwd=TOP, stdout=subprocess.PIPE, check=True).stdout
+    packed = subprocess.run(["git", "archive", revision], cwd=TOP, stdout=subprocess.PIPE, check=True).stdout
     with tempfile.TemporaryDirectory() as room:
         tarfile.open(fileobj=io.BytesIO(packed)).extractall(room)
         return counts(pathlib.Path(room))

@@ -11,7 +11,8 @@ and else bodies of its edits/. The generator is Python's, of seed 17 if none is 
 A definition and a sentence have to be refused by a theorem of the crate's proofs/Rows, which holds by computation. They are checked alone, in
 a copy in which one more law imports them, by `rt check`; --check gives another command, in which {top} stands for the copy, {crate} for the
 crate and {only} for the law: so libraries that stand elsewhere are taken. A body has to be refused by a row: the rows that stand on the crate
-run by `rt try` in the copy, without proof, those with the fewest libraries first, up to the first that differs.
+run by `rt try` in the copy, without proof, those with the fewest libraries first, up to the first that differs. The rows of rows/ want the
+built program, and aren't tried.
 
 One check runs at a time: half a minute for a definition, one to four minutes for each crate of rows. The status is 0 if all were refused.
 """
