@@ -1,14 +1,28 @@
 #!/usr/bin/env python3
-"""Judges the changed class files of crates/trial_files by a reader of its own.
+"""Compares what `linkd` makes of changed class files with what a reader and a writer of its own make of them.
 
-    bench/hostile.py           writes what crates/trial_files must print, which reads a tenth of them
-    bench/hostile.py all       writes what it must print with the word `all`
+    bench/hostile.py [--quiet] [--all] PROGRAM..     each PROGRAM is a built linkd
 
-The reader follows docs/FORMATS.md and JVMS SE 17 chapter 4, pass after pass, and shares nothing with that of the crates: no text, no
-table, no order of work but that of the faults. With `all` it takes half a minute.
+Five class files are changed: each byte to each of its 255 other values, and 100,000 pairs of bytes of each, which a generator draws. Without
+--all a tenth of these 618,575 are taken: where the sum of a place and its byte is a multiple of 10, and each tenth pair.
+
+Of each changed file, of the file with one byte more behind it and with one byte less, `linkd scan` has to answer what the class shows, or the
+fault with its numbers; `linkd run`, asked to define it where no class is defined, the same fault, or that the superclass is missing, by its
+name. A file that is accepted is then said as a sketch: `linkd sketch` has to answer the bytes of its class file, or why it has none, and
+`linkd scan` of these bytes shows the same but for the pcs. And the file without what isn't looked at (other attributes than those that are
+read, exceptions and attributes of a code) shows the same, pcs, too.
+
+The reader (hostile_reader.py) and the writer follow docs/FORMATS.md and JVMS SE 17 chapter 4, and share nothing with those of the crates. Each
+answer that differs is printed, of many the first ones; with --quiet nothing
+is, where all is as it must be. It ends with status 0 only there. It takes a quarter of a minute, with --all two minutes and a half.
 """
+import argparse
+import json
+import subprocess
 import sys
 from collections import Counter
+
+from hostile_reader import Bytes, Fault, read_class, read_pool, slots_of, text_of
 
 OBJECT = "cafebabe0000003d0003010010" "6a6176612f6c616e672f4f626a656374" "0700010021000200000000000000000000"
 A_FRONT = (
@@ -31,564 +45,171 @@ SWITCH = (
 FILES = [("Object", OBJECT, 46, 32), ("A", A, 97, 56), ("M", M, 123, 79), ("In", IN, 82, 60), ("Switch", SWITCH, 117, 56)]
 
 
-class Fault(Exception):
-    """Why bytes are no class file: a name, and the numbers that go with it."""
+# How many lines a process is given, how many seconds it has, and how many answers that differ are printed.
+LINES, SECONDS, SHOWN = 50_000, 120, 20
 
+# ---- what the program says of it
 
-def fault(name, number=0, method=0):
-    raise Fault(name, number, method)
+KINDS_BY_NUMBER = ["invokevirtual", "invokespecial", "invokestatic", "invokeinterface", "invokedynamic"]
 
 
-class Bytes:
-    """Bytes that are taken from the front; `short` is the fault where they end too early."""
+def text(name):
+    """A name as text: surrogates as what they are in pairs, and else as U+FFFD."""
+    units = name.replace(b"\xc0\x80", b"\0").decode("utf-8", "surrogatepass")
+    return units.encode("utf-16", "surrogatepass").decode("utf-16", "replace")
 
-    def __init__(self, data, short, at=0):
-        self.data, self.short, self.at = data, short, at
 
-    def take(self, count):
-        if len(self.data) - self.at < count:
-            fault(self.short)
-        self.at += count
-        return self.data[self.at - count : self.at]
+def told(value):
+    """Compact JSON with keys in the order of their bytes."""
+    return json.dumps(value, ensure_ascii=False, separators=(",", ":"), sort_keys=True)
 
-    def number(self, count):
-        return int.from_bytes(self.take(count), "big")
 
-    def u1(self):
-        return self.number(1)
-
-    def u2(self):
-        return self.number(2)
-
-    def u4(self):
-        return self.number(4)
-
-
-# ---- texts
-
-
-def is_mutf8(text):
-    at = 0
-    while at < len(text):
-        first = text[at]
-        if 1 <= first <= 0x7F:
-            at += 1
-        elif 0xC0 <= first <= 0xDF:
-            later = text[at + 1 : at + 2]
-            if len(later) < 1 or later[0] >> 6 != 2:
-                return False
-            unit = (first & 31) << 6 | later[0] & 63
-            if unit < 0x80 and unit != 0:
-                return False
-            at += 2
-        elif 0xE0 <= first <= 0xEF:
-            later = text[at + 1 : at + 3]
-            if len(later) < 2 or any(byte >> 6 != 2 for byte in later):
-                return False
-            if ((first & 15) << 12 | (later[0] & 63) << 6 | later[1] & 63) < 0x800:
-                return False
-            at += 3
-        else:
-            return False
-    return True
-
-
-def is_class_name(text):
-    return all(part and not any(c in b".;[" for c in part) for part in text.split(b"/"))
-
-
-def behind_field_type(text, at):
-    """Where the field descriptor that begins at `at` ends, and the slots that it takes; None where there is none."""
-    start = at
-    while text[at : at + 1] == b"[":
-        at += 1
-    depth = at - start
-    if depth > 255:
-        return None
-    letter = text[at : at + 1]
-    if letter and letter in b"BCDFIJSZ":
-        return at + 1, 2 if depth == 0 and letter in b"DJ" else 1
-    if letter == b"L":
-        end = text.find(b";", at)
-        if end >= 0 and is_class_name(text[at + 1 : end]):
-            return end + 1, 1
-    return None
-
-
-def is_field_type(text):
-    found = behind_field_type(text, 0)
-    return found is not None and found[0] == len(text)
-
-
-def slots_of(text):
-    """The slots of a method descriptor's parameters; None where it is none."""
-    if text[:1] != b"(":
-        return None
-    at, slots = 1, 0
-    while text[at : at + 1] != b")":
-        found = behind_field_type(text, at)
-        if found is None:
-            return None
-        at, more = found
-        slots += more
-    result = text[at + 1 :]
-    return slots if slots <= 255 and (result == b"V" or is_field_type(result)) else None
-
-
-# ---- the pool, whose entries are (tag, value)
-
-NAMED = {7: 1, 8: 1, 16: 1, 19: 1, 20: 1}
-REFERENCES = {9: (7, 12), 10: (7, 12), 11: (7, 12), 12: (1, 1)}
-HANDLES = {1: {9}, 2: {9}, 3: {9}, 4: {9}, 5: {10}, 6: {10, 11}, 7: {10, 11}, 8: {10}, 9: {11}}
-
-
-def read_pool(reader):
-    count = reader.u2()
-    if count == 0:
-        fault("Pool.BadTag", 0)
-    pool = {}
-    number = 1
-    while number < count:
-        tag = reader.u1()
-        step = 1
-        if tag == 1:
-            value = reader.take(reader.u2())
-        elif tag in (3, 4):
-            value = reader.u4()
-        elif tag in (5, 6):
-            if number + 1 >= count:
-                fault("Pool.BadTag", number)
-            value = reader.number(8)
-            step = 2
-        elif tag in NAMED:
-            value = (reader.u2(),)
-        elif tag in REFERENCES or tag in (17, 18):
-            value = (reader.u2(), reader.u2())
-        elif tag == 15:
-            value = (reader.u1(), reader.u2())
-        else:
-            fault("Pool.BadTag", number)
-        pool[number] = (tag, value)
-        number += step
-    check_pool(pool)
-    return pool
-
-
-def tag_of(pool, number):
-    return pool[number][0] if number in pool else None
-
-
-def names_well(pool, tag, value):
-    if tag in NAMED:
-        return tag_of(pool, value[0]) == NAMED[tag]
-    if tag in REFERENCES:
-        return tuple(tag_of(pool, n) for n in value) == REFERENCES[tag]
-    if tag in (17, 18):
-        return tag_of(pool, value[1]) == 12
-    if tag == 15:
-        return tag_of(pool, value[1]) in HANDLES.get(value[0], ())
-    return True
-
-
-def text_of(pool, number):
-    return pool[number][1]
-
-
-def signature_of(pool, number):
-    name, descriptor = pool[number][1]
-    return text_of(pool, name), text_of(pool, descriptor)
-
-
-def is_typed_well(pool, tag, value):
-    if tag == 7:
-        text = text_of(pool, value[0])
-        return is_class_name(text) or text[:1] == b"[" and is_field_type(text)
-    if tag == 16:
-        return slots_of(text_of(pool, value[0])) is not None
-    if tag == 12:
-        text = text_of(pool, value[1])
-        return is_field_type(text) or slots_of(text) is not None
-    if tag in (9, 17):
-        return is_field_type(signature_of(pool, value[1])[1])
-    if tag in (10, 11, 18):
-        return slots_of(signature_of(pool, value[1])[1]) is not None
-    return True
-
-
-def check_pool(pool):
-    for number, (tag, value) in pool.items():
-        if tag == 1 and not is_mutf8(value):
-            fault("Pool.BadUtf8", number)
-    for number, (tag, value) in pool.items():
-        if not names_well(pool, tag, value):
-            fault("Pool.BadIndex", number)
-    for number, (tag, value) in pool.items():
-        if not is_typed_well(pool, tag, value):
-            fault("Pool.BadDescriptor", number)
-
-
-def class_name(pool, number):
-    """The class name at a number; None where there is none."""
-    if tag_of(pool, number) != 7:
-        return None
-    text = text_of(pool, pool[number][1][0])
-    return text if is_class_name(text) else None
-
-
-# ---- the rest
-
-
-def read_attributes(reader):
-    return [(reader.u2(), reader.take(reader.u4())) for _ in range(reader.u2())]
-
-
-def read_member(reader):
-    flags, name, descriptor = reader.u2(), reader.u2(), reader.u2()
-    return flags, name, descriptor, read_attributes(reader)
-
-
-def check_links(major, pool, flags, this_class, super_class, interfaces):
-    if flags & 0x8000 and major >= 53:
-        fault("ModuleFile")
-    for number in [this_class] + ([super_class] if super_class else []) + interfaces:
-        if class_name(pool, number) is None:
-            fault("BadLink", number)
-    is_object = class_name(pool, this_class) == b"java/lang/Object"
-    if is_object != (super_class == 0):
-        fault("BadSuper")
-    if flags & 0x0200 and (super_class == 0 or class_name(pool, super_class) != b"java/lang/Object"):
-        fault("BadSuper")
-
-
-def check_names(pool, attributes):
-    for name, _ in attributes:
-        if tag_of(pool, name) != 1:
-            fault("BadLink", name)
-
-
-def check_member_texts(pool, member):
-    for number in member[1:3]:
-        if tag_of(pool, number) != 1:
-            fault("BadLink", number)
-
-
-def is_unqualified(name):
-    return name and not any(c in b".;[/" for c in name)
-
-
-def check_field(pool, k, member):
-    check_member_texts(pool, member)
-    if not is_unqualified(text_of(pool, member[1])) or not is_field_type(text_of(pool, member[2])):
-        fault("BadMember", k)
-    check_names(pool, member[3])
-
-
-def is_good_method(pool, is_interface, member):
-    flags, name = member[0], text_of(pool, member[1])
-    slots = slots_of(text_of(pool, member[2]))
-    special = name in (b"<init>", b"<clinit>")
-    if not is_unqualified(name) or not special and (b"<" in name or b">" in name):
-        return False
-    if slots is None or slots + (0 if flags & 8 else 1) > 255:
-        return False
-    if name == b"<clinit>":
-        return True
-    if bin(flags & 7).count("1") > 1 or flags & 0x400 and flags & 0xA:
-        return False
-    return not is_interface or bool(flags & 3)
-
-
-def check_method(pool, is_interface, fields, i, member, seen):
-    check_member_texts(pool, member)
-    if not is_good_method(pool, is_interface, member):
-        fault("BadMember", fields + i)
-    signature = text_of(pool, member[1]), text_of(pool, member[2])
-    if signature in seen:
-        fault("DuplicateMethod", 0, i)
-    seen.add(signature)
-    check_names(pool, member[3])
-    if len(called(pool, b"Code", member[3])) > 1:
-        fault("TwoCodes", 0, i)
-
-
-def called(pool, name, attributes):
-    return [info for number, info in attributes if text_of(pool, number) == name]
-
-
-def read_nest(major, pool, attributes):
-    """The nest host's name or None, and the members' names."""
-    check_names(pool, attributes)
-    if major < 55:
-        return None, []
-    hosts, lists = called(pool, b"NestHost", attributes), called(pool, b"NestMembers", attributes)
-    if len(hosts) + len(lists) > 1:
-        fault("BadNest")
-    for info in hosts + lists:
-        reader = Bytes(info, "BadNest")
-        names = [class_name(pool, reader.u2()) for _ in range(1 if hosts else reader.u2())]
-        if reader.at != len(info) or None in names:
-            fault("BadNest")
-        return (names[0], []) if hosts else (None, names)
-    return None, []
-
-
-# ---- codes
-
-
-def code_of(info):
-    reader = Bytes(info, "Code.BadLayout")
-    reader.take(4)
-    length = reader.u4()
-    if not 1 <= length <= 65535:
-        fault("Code.BadLayout")
-    code = reader.take(length)
-    reader.take(8 * reader.u2())
-    read_attributes(reader)
-    if reader.at != len(info):
-        fault("Code.BadLayout")
-    return code
-
-
-# How many bytes the instructions from one opcode to another have, in all.
-LENGTHS = {}
-for low, high, size in [
-    (0, 15, 1), (16, 16, 2), (17, 17, 3), (18, 18, 2), (19, 20, 3), (21, 25, 2), (26, 53, 1), (54, 58, 2), (59, 131, 1),
-    (132, 132, 3), (133, 152, 1), (153, 168, 3), (169, 169, 2), (172, 177, 1), (178, 184, 3), (185, 186, 5), (187, 187, 3),
-    (188, 188, 2), (189, 189, 3), (190, 191, 1), (192, 193, 3), (194, 195, 1), (197, 197, 4), (198, 199, 3), (200, 201, 5),
-]:
-    for opcode in range(low, high + 1):
-        LENGTHS[opcode] = size
-
-
-def size_of(code, pc):
-    """The bytes of the instruction at a pc, as far as its own numbers tell; a fault where they can't be."""
-    opcode = code[pc]
-    if opcode in LENGTHS:
-        return LENGTHS[opcode]
-    if opcode == 196:
-        if pc + 1 == len(code):
-            fault("Code.CutShort", pc)
-        widened = code[pc + 1]
-        if 21 <= widened <= 25 or 54 <= widened <= 58 or widened == 169:
-            return 4
-        if widened == 132:
-            return 6
-        fault("Code.BadOpcode", pc)
-    if opcode not in (170, 171):
-        fault("Code.BadOpcode", pc)
-    start = (pc // 4 + 1) * 4
-    words = [int.from_bytes(code[at : at + 4], "big", signed=True) for at in range(start, start + 12, 4)]
-    if start + (12 if opcode == 170 else 8) > len(code):
-        fault("Code.CutShort", pc)
-    if opcode == 170:
-        if words[1] > words[2]:
-            fault("Code.BadSwitch", pc)
-        return start - pc + 12 + 4 * (words[2] - words[1] + 1)
-    if words[1] < 0:
-        fault("Code.BadSwitch", pc)
-    return start - pc + 8 + 8 * words[1]
-
-
-KINDS = {182: {10}, 183: {10, 11}, 184: {10, 11}, 185: {11}, 186: {18}}
-
-
-def site_at(pool, code, pc):
-    """The invocation at a pc: its kind, 0 to 4, and what it names."""
-    opcode = code[pc]
-    number = code[pc + 1] << 8 | code[pc + 2]
-    tag = tag_of(pool, number)
-    if tag not in KINDS[opcode]:
-        fault("Code.BadOperand", pc)
-    first, second = pool[number][1]
-    name, descriptor = signature_of(pool, second)
-    slots = slots_of(descriptor)
-    if name[:1] == b"<" and not (name == b"<init>" and opcode == 183):
-        fault("Code.BadOperand", pc)
-    if opcode in (182, 183, 185) and slots > 254:
-        fault("Code.BadOperand", pc)
-    if opcode == 185 and code[pc + 3 : pc + 5] != bytes([slots + 1, 0]):
-        fault("Code.BadOperand", pc)
-    if opcode == 186:
-        if code[pc + 3 : pc + 5] != b"\0\0":
-            fault("Code.BadOperand", pc)
-        return opcode - 182, (first, name, descriptor)
-    return opcode - 182, (tag == 11, text_of(pool, pool[first][1][0]), name, descriptor)
-
-
-def scan(pool, code):
-    sites = []
-    pc = 0
-    while pc < len(code):
-        size = size_of(code, pc)
-        if pc + size > len(code):
-            fault("Code.CutShort", pc)
-        if code[pc] in KINDS:
-            sites.append((pc,) + site_at(pool, code, pc))
-        pc += size
-    return sites
-
-
-def sites_of(pool, method, member):
-    for info in called(pool, b"Code", member[3]):
-        try:
-            return scan(pool, code_of(info))
-        except Fault as found:
-            name, number, _ = found.args
-            fault(name, number, method)
-    return []
-
-
-# ---- the file
-
-
-class Shown:
-    """What a class file shows, and the parts of which some are cut off."""
-
-
-def read_class(data):
-    if len(data) > 1000000:
-        fault("TooLarge")
-    reader = Bytes(data, "Truncated")
-    if reader.take(4) != b"\xca\xfe\xba\xbe":
-        fault("BadMagic")
-    minor, major = reader.u2(), reader.u2()
-    if not 45 <= major <= 61 or major >= 56 and minor != 0:
-        fault("BadVersion")
-    reader.short = "Pool.Truncated"
-    pool = read_pool(reader)
-    reader.short = "Truncated"
-    flags, this_class, super_class = reader.u2(), reader.u2(), reader.u2()
-    interfaces = [reader.u2() for _ in range(reader.u2())]
-    fields = [read_member(reader) for _ in range(reader.u2())]
-    methods = [read_member(reader) for _ in range(reader.u2())]
-    attributes = read_attributes(reader)
-    if reader.at != len(data):
-        fault("TrailingBytes")
-    check_links(major, pool, flags, this_class, super_class, interfaces)
-    for k, member in enumerate(fields):
-        check_field(pool, k, member)
-    seen = set()
-    for i, member in enumerate(methods):
-        check_method(pool, bool(flags & 0x200), len(fields), i, member, seen)
-    shown = Shown()
-    shown.major, shown.flags, shown.fields, shown.attributes, shown.members = major, flags, fields, attributes, methods
-    shown.pool = pool
-    shown.host, shown.nested = read_nest(major, pool, attributes)
-    shown.name, shown.superclass = class_name(pool, this_class), class_name(pool, super_class)
-    shown.interfaces = [class_name(pool, number) for number in interfaces]
-    shown.methods = [
-        (member[0], text_of(pool, member[1]), text_of(pool, member[2]), sites_of(pool, i, member))
-        for i, member in enumerate(methods)
-    ]
-    return shown
-
-
-# ---- digests, tables and the two cross-checks
-
-KIND_NUMBERS = {
-    "Ok": 0, "TooLarge": 1, "BadMagic": 2, "BadVersion": 3, "Truncated": 4, "Pool": 5, "ModuleFile": 6, "BadSuper": 7,
-    "DuplicateMethod": 8, "TwoCodes": 9, "Code": 10, "TrailingBytes": 11, "BadMember": 12, "BadLink": 13, "BadNest": 14,
-}
-POOL_NUMBERS = {"Truncated": 1, "BadTag": 2, "BadIndex": 3, "BadUtf8": 4, "BadDescriptor": 5}
-CODE_NUMBERS = {"BadOpcode": 1, "CutShort": 2, "BadSwitch": 3, "BadOperand": 4, "BadLayout": 5}
-NAMES = (
-    ["Ok", "BadMagic", "BadVersion", "Truncated"]
-    + ["Pool." + name for name in POOL_NUMBERS]
-    + ["ModuleFile", "BadSuper", "DuplicateMethod", "TwoCodes"]
-    + ["Code." + name for name in CODE_NUMBERS]
-    + ["TrailingBytes", "BadMember", "BadLink", "BadNest"]
-)
-START, FACTOR, MASK = 0xCBF29CE484222325, 0x100000001B3, (1 << 64) - 1
-
-
-def mixed(digest, word):
-    return (digest ^ word) * FACTOR & MASK
-
-
-def word_of(name, number, method):
-    """A fault as one number: its kind, the pool's or the code's, the method, and the number that goes with it."""
-    kind, _, inner = name.partition(".")
-    low = {"Pool": POOL_NUMBERS, "Code": CODE_NUMBERS}.get(kind, {"": 0})[inner]
-    return KIND_NUMBERS[kind] << 56 | low << 48 | method << 32 | number
-
-
-def mixed_text(digest, text):
-    digest = mixed(digest, len(text))
-    for byte in text:
-        digest = mixed(digest, byte)
-    return digest
-
-
-def mixed_texts(digest, texts):
-    digest = mixed(digest, len(texts))
-    for text in texts:
-        digest = mixed_text(digest, text)
-    return digest
-
-
-def mixed_site(digest, site):
+def site_object(site):
     pc, kind, operand = site
-    digest = mixed(mixed(digest, pc), kind)
-    for part in operand:
-        digest = mixed_text(digest, part) if isinstance(part, bytes) else mixed(digest, int(part))
-    return digest
+    parts = {"kind": KINDS_BY_NUMBER[kind], "name": text(operand[-2]), "pc": pc, "type": text(operand[-1])}
+    return parts | ({"bootstrap": operand[0]} if kind == 4 else {"of": text(operand[1])})
 
 
-def mixed_class(digest, shown):
-    digest = mixed(mixed_text(digest, shown.name), shown.flags)
-    digest = mixed_texts(digest, [] if shown.superclass is None else [shown.superclass])
-    digest = mixed_texts(digest, shown.interfaces)
-    digest = mixed_texts(digest, [] if shown.host is None else [shown.host])
-    digest = mixed(mixed_texts(digest, shown.nested), len(shown.methods))
-    for flags, name, descriptor, sites in shown.methods:
-        digest = mixed(mixed_text(mixed_text(mixed(digest, flags), name), descriptor), len(sites))
-        for site in sites:
-            digest = mixed_site(digest, site)
-    return digest
+def class_object(shown):
+    methods = [
+        {"flags": flags, "name": text(name), "sites": [site_object(site) for site in sites], "type": text(descriptor)}
+        for flags, name, descriptor, sites in shown.methods
+    ]
+    return {"class": text(shown.name), "methods": methods}
 
 
-def has_sketch(shown):
-    """Whether a sketch gives a class file that shows the same."""
-    if shown.flags & 0x8000:
-        return False
-    for flags, _, _, sites in shown.methods:
-        if flags & 0x500 and sites or any(kind == 4 and operand[0] for _, kind, operand in sites):
-            return False
-    return True
+def refusal(found):
+    """A fault as the program says it."""
+    name, number, method = found.args
+    parts = {"refused": name}
+    if name.startswith("Code.") or name in ("DuplicateMethod", "TwoCodes"):
+        parts["method"] = method
+    if name in ("BadMember", "BadLink") or name.startswith(("Code.", "Pool.")) and name not in ("Code.BadLayout", "Pool.Truncated"):
+        parts["at"] = number
+    return parts
 
 
-def is_cut(shown):
-    """Whether something that isn't read is there to be cut: attributes, or entries of a code's exception table."""
-    if any(field[3] for field in shown.fields):
-        return True
-    for member in shown.members:
-        for name, info in member[3]:
-            if text_of(shown.pool, name) != b"Code" or info[8 + int.from_bytes(info[4:8], "big") :] != bytes(4):
-                return True
-    read = (b"NestHost", b"NestMembers") if shown.major >= 55 else ()
-    return any(text_of(shown.pool, name) not in read for name, _ in shown.attributes)
+def read(data):
+    """What a class file shows, or none; and the answer of a scan."""
+    try:
+        shown = read_class(data)
+    except Fault as found:
+        return None, told(refusal(found))
+    return shown, told(class_object(shown))
 
 
-class Tally:
+# ---- sketches
+
+
+class Pool:
+    """Constants, each once, behind those that it names."""
+
     def __init__(self):
-        self.names, self.digest = Counter(), START
-        self.sketched = self.unsketched = self.cut = 0
+        self.numbers, self.bytes = {}, b""
 
-    def judge(self, data):
-        try:
-            shown = read_class(data)
-        except Fault as found:
-            word = word_of(*found.args)
-            self.names[found.args[0]] += 1
-            self.digest = mixed(self.digest, word)
-            return
-        self.names["Ok"] += 1
-        self.digest = mixed_class(mixed(self.digest, 0), shown)
-        self.cut += is_cut(shown)
-        if has_sketch(shown):
-            self.sketched += 1
-        else:
-            self.unsketched += 1
+    def number(self, constant):
+        if constant not in self.numbers:
+            self.numbers[constant] = len(self.numbers) + 1
+            self.bytes += constant
+        return self.numbers[constant].to_bytes(2, "big")
+
+    def utf8(self, name):
+        return self.number(b"\1" + len(name).to_bytes(2, "big") + name)
+
+    def named(self, name):
+        return self.number(b"\7" + self.utf8(name))
+
+    def signature(self, name, descriptor):
+        name = self.utf8(name)
+        return self.number(b"\x0c" + name + self.utf8(descriptor))
+
+    def operand(self, kind, operand):
+        """What an invocation of this kind names, of the first bootstrap method."""
+        if kind == 4:
+            return self.number(b"\x12\0\0" + self.signature(*operand[1:]))
+        owner = self.named(operand[1])
+        return self.number((b"\x0b" if operand[0] else b"\x0a") + owner + self.signature(*operand[2:]))
+
+
+def counted(items, size=2):
+    return len(items).to_bytes(size, "big") + b"".join(items)
+
+
+def lengthy(data):
+    return len(data).to_bytes(4, "big") + data
+
+
+def written_call(pool, site):
+    _, kind, operand = site
+    behind = {3: bytes([slots_of(operand[-1]) + 1, 0]), 4: b"\0\0"} if kind > 2 else {}
+    return bytes([182 + kind]) + pool.operand(kind, operand) + behind.get(kind, b"")
+
+
+def written_method(pool, method):
+    flags, name, descriptor, sites = method
+    front = flags.to_bytes(2, "big") + pool.utf8(name) + pool.utf8(descriptor)
+    if flags & 0x500:
+        return front + b"\0\0"
+    code_name = pool.utf8(b"Code")
+    code = b"".join(written_call(pool, site) for site in sites) + b"\xb1"
+    return front + b"\0\1" + code_name + lengthy(bytes(4) + lengthy(code) + bytes(4))
+
+
+def written(shown):
+    """The class file of the sketch of what a class file shows."""
+    pool = Pool()
+    own, above = pool.named(shown.name), pool.named(shown.superclass) if shown.superclass is not None else b"\0\0"
+    head = shown.flags.to_bytes(2, "big") + own + above + counted([pool.named(name) for name in shown.interfaces])
+    methods = counted([written_method(pool, method) for method in shown.methods])
+    attributes = []
+    if shown.host is not None:
+        attributes.append(pool.utf8(b"NestHost") + lengthy(pool.named(shown.host)))
+    if shown.nested:
+        attributes.append(pool.utf8(b"NestMembers") + lengthy(counted([pool.named(name) for name in shown.nested])))
+    count = (len(pool.numbers) + 1).to_bytes(2, "big")
+    return b"\xca\xfe\xba\xbe\0\0\0\x3d" + count + pool.bytes + head + b"\0\0" + methods + counted(attributes)
+
+
+def call_object(site):
+    _, kind, operand = site
+    parts = {"kind": KINDS_BY_NUMBER[kind], "name": text(operand[-2]), "type": text(operand[-1])}
+    if kind in (1, 2) and operand[0]:
+        parts["itf"] = True
+    return parts | ({"of": text(operand[1])} if kind != 4 else {})
+
+
+def sketch(shown):
+    """What a class file shows, as a sketch."""
+    parts = {"name": text(shown.name), "flags": shown.flags, "interfaces": [text(name) for name in shown.interfaces]}
+    parts["methods"] = [
+        {"flags": flags, "name": text(name), "type": text(descriptor), "calls": [call_object(site) for site in sites]}
+        for flags, name, descriptor, sites in shown.methods
+    ]
+    named = {"super": shown.superclass, "host": shown.host}
+    return parts | {"members": [text(name) for name in shown.nested]} | {key: text(name) for key, name in named.items() if name is not None}
+
+
+# ---- what isn't looked at
+
+
+def cut_code(info):
+    """A Code attribute without its exceptions and its attributes."""
+    return info[: 8 + int.from_bytes(info[4:8], "big")] + bytes(4)
+
+
+def kept(pool, attributes, names):
+    """Of attributes those that have one of these names, counted."""
+    left = [(number, info) for number, info in attributes if text_of(pool, number) in names]
+    return counted([number.to_bytes(2, "big") + lengthy(cut_code(info) if names == (b"Code",) else info) for number, info in left])
+
+
+def cut(shown):
+    """The class file without what isn't looked at."""
+    numbers = lambda member: b"".join(number.to_bytes(2, "big") for number in member[:3])
+    fields = counted([numbers(member) + b"\0\0" for member in shown.fields])
+    methods = counted([numbers(member) + kept(shown.pool, member[3], (b"Code",)) for member in shown.members])
+    read = (b"NestHost", b"NestMembers") if shown.major >= 55 else ()
+    return shown.front + fields + methods + kept(shown.pool, shown.attributes, read)
 
 
 def singles(data, share):
@@ -599,7 +220,7 @@ def singles(data, share):
                 yield data[:place] + bytes([value]) + data[place + 1 :]
 
 
-SEED, PAIRS = 0x9E3779B97F4A7C15, 100000
+SEED, PAIRS, MASK = 0x9E3779B97F4A7C15, 100_000, (1 << 64) - 1
 
 
 def pairs(data, share):
@@ -619,8 +240,93 @@ def pairs(data, share):
         yield bytes(changed)
 
 
-def told(tally):
-    return " ".join(f"{name} {tally.names[name]}" for name in NAMES if tally.names[name])
+# ---- the program
+
+
+def is_same(shown, again):
+    """Whether two class files show the same, but for pcs and bootstrap methods, which a sketch doesn't say."""
+    head = lambda it: (it.name, it.flags, it.superclass, it.interfaces, it.host, it.nested)
+    operand = lambda kind, it: it[1:] if kind == 4 else it
+    methods = lambda it: [(*method[:3], [(kind, operand(kind, named)) for _, kind, named in method[3]]) for method in it.methods]
+    return head(shown) == head(again) and methods(shown) == methods(again)
+
+
+def sketch_answer(shown):
+    """What the sketch of a class file is answered, and its bytes if it has any."""
+    for place, (flags, _, _, sites) in enumerate(shown.methods):
+        if flags & 0x500 and sites:
+            return told({"method": place, "refused": "CallsWithoutCode"}), None
+    data = written(shown)
+    again, answer = read(data)
+    if again is None:
+        return answer, None
+    assert is_same(shown, again), data.hex()
+    return data.hex(), data
+
+
+def defined(data, shown, answer):
+    """The command that defines a file where no class is, and its answer; none for java/lang/Object, which needs no other class."""
+    command = told({"do": "define", "loader": 0, "hex": data.hex()})
+    if shown is None:
+        return [("run", command, answer)]
+    if shown.superclass is None:
+        return []
+    if shown.name in (shown.superclass, *shown.interfaces):
+        return [("run", command, told({"refused": "Define.NamesItself"}))]
+    return [("run", command, told({"name": text(shown.superclass), "refused": "Define.MissingParent"}))]
+
+
+def asked(data):
+    """Lines about a changed file, each with its subcommand and its answer, and how the file is read."""
+    shown, answer = read(data)
+    lines = [("scan", other.hex(), read(other)[1]) for other in (data + b"\0", data[:-1])]
+    lines += [("scan", data.hex(), answer), *defined(data, shown, answer)]
+    if shown is None:
+        return lines, json.loads(answer)["refused"]
+    sketched, again = sketch_answer(shown)
+    lines.append(("sketch", told(sketch(shown)), sketched))
+    if again is not None:
+        lines.append(("scan", again.hex(), read(again)[1]))
+    shorter = cut(shown)
+    assert read(shorter)[1] == answer, data.hex()
+    if shorter != data:
+        lines.append(("scan", shorter.hex(), answer))
+    return lines, "Ok"
+
+
+class Tally:
+    """Lines to be given to the programs, each with its answer, by subcommands; and what came of those that were given."""
+
+    def __init__(self, programs):
+        self.programs, self.lines, self.names = programs, {"scan": [], "sketch": [], "run": []}, Counter()
+        self.given, self.wrong = 0, 0
+
+    def take(self, data):
+        lines, name = asked(data)
+        self.names[name] += 1
+        for mode, line, answer in lines:
+            self.lines[mode].append((line, answer))
+            if len(self.lines[mode]) == LINES:
+                self.give(mode)
+
+    def give(self, mode):
+        """Gives the lines of this subcommand to each program, and compares."""
+        lines, self.lines[mode] = self.lines[mode], []
+        given = "".join(line + "\n" for line, _ in lines).encode()
+        for program in self.programs if lines else ():
+            ran = subprocess.run([program, mode], input=given, capture_output=True, timeout=SECONDS)
+            *answers, behind = ran.stdout.decode().split("\n")
+            if (ran.returncode, ran.stderr, behind, len(answers)) != (0, b"", "", len(lines)):
+                self.tell(f"{program} {mode}: status {ran.returncode}, {len(answers)} answers to {len(lines)} lines, {ran.stderr}")
+            for (line, answer), came in zip(lines, answers):
+                if came != answer:
+                    self.tell(f"{program} {mode}: {line}\n  must come: {answer}\n  came:      {came}")
+            self.given += len(lines)
+
+    def tell(self, told):
+        self.wrong += 1
+        if self.wrong <= SHOWN:
+            print(told)
 
 
 def pool_end(data):
@@ -629,21 +335,27 @@ def pool_end(data):
     return reader.at
 
 
-def main(words):
-    share = 1 if words == ["all"] else 10
-    for name, text, length, end in FILES:
-        data = bytes.fromhex(text)
+def main():
+    said = argparse.ArgumentParser(usage=__doc__)
+    said.add_argument("--quiet", action="store_true")
+    said.add_argument("--all", action="store_true")
+    said.add_argument("programs", nargs="+")
+    words = said.parse_args()
+    share = 1 if words.all else 10
+    tally = Tally(words.programs)
+    for name, digits, length, end in FILES:
+        data = bytes.fromhex(digits)
         assert (len(data), pool_end(data)) == (length, end), name
-        read_class(data)
-        for what, files in [("one byte", singles(data, share)), ("two bytes", pairs(data, share))]:
-            tally = Tally()
-            for file in files:
-                tally.judge(file)
-            print(f"{name}, {what} changed: {told(tally)}")
-            print(f"  written back {tally.sketched}, without a sketch {tally.unsketched}, with something cut {tally.cut}")
-            print(f"  digest {tally.digest:016x}")
-    print("all as they must be")
+        for changes in (singles, pairs):
+            for file in changes(data, share):
+                tally.take(file)
+    for mode in tally.lines:
+        tally.give(mode)
+    if tally.wrong or not words.quiet:
+        read_so = ", ".join(f"{name} {count}" for name, count in sorted(tally.names.items()))
+        print(f"{sum(tally.names.values())} changed files ({read_so}): {tally.given} lines, {tally.wrong} differ")
+    return 1 if tally.wrong else 0
 
 
 if __name__ == "__main__":
-    main(sys.argv[1:])
+    sys.exit(main())

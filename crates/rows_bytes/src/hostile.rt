@@ -1,9 +1,12 @@
-//! Class files that are cut, or changed where the fault follows from the place. The program `trial_files` reads them with each byte changed.
+//! Class files that are cut, or changed where the fault follows from the place; and what they show that no answer of `linkd` tells.
+//! `bench/hostile.py` gives `linkd` these files with each byte changed.
 
 use crate::hostile::HostileRow::*;
 use crate::rows::{Row, assert_rows};
+use jl_class::ClassFile;
 use jl_classfile::{ClassFault, read_class};
 use jl_code::CodeFault;
+use jl_names::Name;
 use jl_pool::PoolFault;
 use std::alloc::{AllocError, Global};
 
@@ -59,6 +62,24 @@ const SWITCH: &[u8] = &[
     0x00, 0x00, 0x00, 0x00, 0x00,
 ];
 
+/// A class B below A with the interfaces I and A, of a nest with the members A and B.
+const B: &[u8] = &[
+    0xca, 0xfe, 0xba, 0xbe, 0x00, 0x00, 0x00, 0x3d, 0x00, 0x08, 0x01, 0x00, 0x01, 0x42, 0x07, 0x00,
+    0x01, 0x01, 0x00, 0x01, 0x41, 0x07, 0x00, 0x03, 0x01, 0x00, 0x01, 0x49, 0x07, 0x00, 0x05, 0x01,
+    0x00, 0x0b, 0x4e, 0x65, 0x73, 0x74, 0x4d, 0x65, 0x6d, 0x62, 0x65, 0x72, 0x73, 0x10, 0x31, 0x00,
+    0x02, 0x00, 0x04, 0x00, 0x02, 0x00, 0x06, 0x00, 0x04, 0x00, 0x00, 0x00, 0x00, 0x00, 0x01, 0x00,
+    0x07, 0x00, 0x00, 0x00, 0x06, 0x00, 0x02, 0x00, 0x04, 0x00, 0x02,
+];
+
+/// What a class file shows beside its name and its methods.
+struct Shown {
+    flags: u16,
+    superclass: Option<&'static [u8]>,
+    interfaces: &'static [&'static [u8]],
+    host: Option<&'static [u8]>,
+    members: &'static [&'static [u8]],
+}
+
 /// What is so of a class file that is cut or changed.
 enum HostileRow {
     /// The file is one, its pool ends here, and wherever it is cut it is too short.
@@ -69,6 +90,8 @@ enum HostileRow {
     High([u8; 4], ClassFault),
     /// With an attribute that nothing reads, so long that it has so many bytes, the first file has this fault, or none.
     Sized(usize, Option<ClassFault>),
+    /// With this byte for the low one of its version the file shows this.
+    Shows(&'static [u8], u8, Shown),
 }
 
 /// Why the bytes are no class file.
@@ -168,6 +191,46 @@ fn fault_of_size(alloc: Global, len: usize) -> Option<ClassFault> {
     }
 }
 
+// ---- shown
+
+/// Whether these are the names, one after another.
+fn are_named(names: &[Name], texts: &[&[u8]]) -> bool {
+    for (name, text) in names.iter().zip(texts) {
+        if name.as_slice() != *text {
+            return false;
+        }
+    }
+    names.len() == texts.len()
+}
+
+/// Whether the class file shows this.
+fn is_shown(file: &ClassFile, shown: &Shown) -> bool {
+    file.flags() == shown.flags
+        && file.superclass().map(|name| name.as_slice()) == shown.superclass
+        && file.nest_host().map(|name| name.as_slice()) == shown.host
+        && are_named(file.interfaces(), shown.interfaces)
+        && are_named(file.nest_members(), shown.members)
+}
+
+/// Whether the bytes are a class file that shows this.
+fn is_read_so(alloc: Global, bytes: &[u8], shown: &Shown) -> bool {
+    match read_class(alloc, bytes) {
+        Ok(file) => is_shown(&file, shown),
+        Err(_) => false,
+    }
+}
+
+/// Whether the file shows this with another version.
+fn shows(alloc: Global, file: &[u8], version: u8, shown: &Shown) -> bool {
+    match file.to_vec(alloc) {
+        Ok(mut bytes) => {
+            set(&mut bytes, 7, version);
+            is_read_so(alloc, &bytes, shown)
+        }
+        Err(_) => false,
+    }
+}
+
 impl Row for HostileRow {
     fn is_so(&self, alloc: Global) -> bool {
         match self {
@@ -175,6 +238,7 @@ impl Row for HostileRow {
             Head(place, fault, bounds) => is_head(alloc, *place, *fault, *bounds),
             High(high, fault) => fault_with_high(alloc, high) == Some(*fault),
             Sized(len, fault) => fault_of_size(alloc, *len) == *fault,
+            Shows(file, version, shown) => shows(alloc, file, *version, shown),
         }
     }
 }
@@ -237,4 +301,58 @@ const SIZES: &[HostileRow] = &[
 #[test]
 fn sizes(rt: HostRuntime) {
     assert_rows(&rt, SIZES);
+}
+
+/// A class with nothing but a superclass.
+const PLAIN: Shown = Shown {
+    flags: 33,
+    superclass: Some(b"java/lang/Object"),
+    interfaces: &[],
+    host: None,
+    members: &[],
+};
+
+/// The class B, by a version in which nests aren't read.
+const WITHOUT_NEST: Shown = Shown {
+    flags: 0x1031,
+    superclass: Some(b"A"),
+    interfaces: &[b"I", b"A"],
+    host: None,
+    members: &[],
+};
+
+/// Flags, superclasses, interfaces and nests (JVMS SE 17 §4.1, §4.7.28, §4.7.29), of versions in which nests are read, and of older ones.
+const SHOWN: &[HostileRow] = &[
+    Shows(
+        OBJECT,
+        61,
+        Shown {
+            superclass: None,
+            ..PLAIN
+        },
+    ),
+    Shows(M, 45, PLAIN),
+    Shows(
+        IN,
+        55,
+        Shown {
+            host: Some(b"Out"),
+            ..PLAIN
+        },
+    ),
+    Shows(IN, 54, PLAIN),
+    Shows(
+        B,
+        61,
+        Shown {
+            members: &[b"A", b"B"],
+            ..WITHOUT_NEST
+        },
+    ),
+    Shows(B, 54, WITHOUT_NEST),
+];
+
+#[test]
+fn shown_heads(rt: HostRuntime) {
+    assert_rows(&rt, SHOWN);
 }
