@@ -3,10 +3,10 @@
 
     bench/answers.py [--quiet] [--rows FOLDER] PROGRAM..     each PROGRAM is a built linkd; FOLDER stands for rows/
 
-Each script is answered by a process of its own, which has to end with status 0 and with nothing on the standard error. Each row that differs
-is printed, with its place, what must come and what came, and so is a line that may not stand where it does. A script without rows, and a
-file that isn't of these forms, are wrong, too. With --quiet nothing is printed where all is as it must be. It ends with status 0 only
-there, and takes a few seconds.
+Each script is answered by a process of its own, which has to end with status 0 and with nothing on the standard error. Each row that
+differs is printed, with its place, what must come and what came, and so is a line that may not stand where it does. A script without rows,
+and a file that isn't of these forms, are wrong, too. With --quiet nothing is printed where all is as it must be. It ends with status 0
+only there, and takes a few seconds.
 """
 import argparse
 import os

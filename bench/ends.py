@@ -1,5 +1,6 @@
 #!/usr/bin/env python3
-"""Compares how `linkd` ends with the tables of docs/FORMATS.md, "Lines" and "Reports": its exit status, and its line on the standard error.
+"""Compares what words ask of `linkd`, how it takes lines, and how it ends with the tables of docs/FORMATS.md, "Lines" and "Reports": its
+answers, its exit status, and its line on the standard error.
 
     bench/ends.py [--quiet] PROGRAM     PROGRAM is the built linkd; with --quiet nothing is printed where all is as it must be
 
@@ -22,6 +23,29 @@ BAD_WORDS, FARM_FAILED = (1, b"linkd: bad words\n"), (1, b"linkd: farm failed\n"
 TOO_LONG, FAILED, NO_MEMORY = (2, b"linkd: line too long\n"), (3, b"linkd: input or output failed\n"), (4, b"linkd: out of memory\n")
 ENDED = (0, b"")
 MODES = (["scan"], ["sketch"], ["run"], ["farm", "--workers", "2"])
+BAD_LINE = b'{"error":"BadCommand"}\n'
+# A class file, its sketch and a command, which tell the modes apart; and what each mode answers.
+FILE = b"cafebabe0000003d00030100106a6176612f6c616e672f4f626a6563740700010021000200000000000000000000\n"
+SKETCH = b'{"name":"java/lang/Object","flags":33}\n'
+MODE_ANSWERS = {
+    "scan": b'{"class":"java/lang/Object","methods":[]}\n' + BAD_LINE * 2,
+    "sketch": BAD_LINE + FILE + BAD_LINE,
+    "run": BAD_LINE * 2 + NO_LINKS,
+    "farm": BAD_LINE * 3 + FARM_OF_NONE,
+}
+# Words that ask for a mode, and words that ask for nothing.
+ASKING = (
+    "scan, scan --, sketch, sketch --, run, run --, farm --workers 1, farm --workers 16, farm --workers=4, farm --workers 4 --, "
+    "farm --workers=4 --, farm --workers +4, farm --workers=0004"
+)
+ASKING_NOTHING = (
+    "--, -- scan, scan -- scan, , sketch scan, sketches, run scan, Scan, sc, help, help scan, --help, -h, --version, -V, scan scan, "
+    "scan --help, scan -h, scan help, scan --workers 2, farm, farm --, farm 4, farm --workers, farm --workers=, farm --workers 0, "
+    "farm --workers 17, farm --workers 260, farm --workers -1, farm --workers=-1, farm --workers four, farm --workers 4.0, "
+    "farm --workers=4=4, farm --workers 4 --workers 4, farm --workers=4 --workers=4, farm --workers --workers 4, farm --workers 4 5, "
+    "farm --workers 4 scan, farm --workers 4 -- 5, farm --workers -- 4, farm -- --workers 4, --workers 4 farm, farm --worker 4, farm -w 4, "
+    "farm --workers 4 --help, farms --workers 4"
+)
 NONE = ([], ["help"], ["--help"], ["scan", "run"], ["Scan"], ["farm"], ["farm", "--workers"], ["farm", "2"])
 NO_REPORTS = (["report"], ["report", "--only", "any", "/"], ["report", "--lines", "/"], ["report", "--help"])
 NO_CLASSES = b"0 invocations in 0 methods of 0 classes\n"
@@ -52,8 +76,10 @@ class Rows:
 def words(rows, program):
     for mode in MODES:
         rows.expect(f"{mode} without input", run(program, mode), (ENDED, FARM_OF_NONE if mode[0] == "farm" else b""))
-    for asked in [*NONE, *(["farm", "--workers", count] for count in COUNTS)]:
+    for asked in [*NONE, *(["farm", "--workers", count] for count in COUNTS), *map(str.split, ASKING_NOTHING.split(","))]:
         rows.expect(f"the words {asked}", run(program, asked, LINKS), (BAD_WORDS, b""))
+    for asked in map(str.split, ASKING.split(",")):
+        rows.expect(f"the words {asked}", run(program, asked, FILE + SKETCH + LINKS), (ENDED, MODE_ANSWERS[asked[0]]))
 
 
 def reports(rows, program):
@@ -72,7 +98,25 @@ def reports(rows, program):
         os.close(writer)
 
 
+# Inputs by their modes, and how many lines they have, all of them bad: an empty line is one, a last line without a newline is one unless
+# it is empty; a carriage return is no hexadecimal digit, and a space no sketch.
+BAD_INPUTS = (
+    *(("scan", given, count) for given, count in [(b"", 0), (b"\n", 1), (b"0", 1), (b"0\n", 1), (b"zz\n\n0x00\n0", 4), (b"\n\n", 2)]),
+    *(("scan", b"cafebabf\r", 1), ("sketch", b" ", 1)),
+)
+# How many digits 0 a line has, and why it is no class file: up to a million bytes, over these, and the longest line.
+DIGITS = ((2_000_000, b"BadMagic"), (2_000_002, b"TooLarge"), (2_100_000, b"TooLarge"))
+
+
 def lines(rows, program):
+    for mode, given, count in BAD_INPUTS:
+        rows.expect(f"{mode} of {given}", run(program, [mode], given), (ENDED, BAD_LINE * count))
+    for count, refusal in DIGITS:
+        rows.expect(f"{count} digits", run(program, ["scan"], b"0" * count), (ENDED, b'{"refused":"%s"}\n' % refusal))
+    refused, longer = b'{"refused":"BadMagic"}\n', b"0" * 2_100_001 + b"\n"
+    rows.expect("a longer line", run(program, ["scan"], b"cafebabf\n0\n" + longer + b"0\n"), (TOO_LONG, refused + BAD_LINE))
+    ended_early = (TOO_LONG, b'{"class":0,"dropped":[]}\n')
+    rows.expect("a longer line of a farm", run(program, ["farm", "--workers", "1"], OBJECT + longer + b"{\n"), ended_early)
     long = LINKS + b"x" * 2_100_001
     rows.expect("a long line", run(program, ["run"], long), (TOO_LONG, NO_LINKS))
     rows.expect("a long line of a farm", run(program, ["farm", "--workers", "2"], OBJECT + long[len(LINKS) :]), (TOO_LONG, b'{"class":0,"dropped":[]}\n'))

@@ -3,18 +3,18 @@
 
     bench/hostile.py [--quiet] [--all] PROGRAM..     each PROGRAM is a built linkd
 
-Five class files are changed: each byte to each of its 255 other values, and 100,000 pairs of bytes of each, which a generator draws. Without
---all a tenth of these 618,575 are taken: where the sum of a place and its byte is a multiple of 10, and each tenth pair.
+Five class files are changed: each byte to each of its 255 other values, and 100,000 pairs of bytes of each, which a generator draws.
+Without --all a tenth of these 618,575 are taken: where the sum of a place and its byte is a multiple of 10, and each tenth pair.
 
-Of each changed file, of the file with one byte more behind it and with one byte less, `linkd scan` has to answer what the class shows, or the
-fault with its numbers; `linkd run`, asked to define it where no class is defined, the same fault, or that the superclass is missing, by its
-name. A file that is accepted is then said as a sketch: `linkd sketch` has to answer the bytes of its class file, or why it has none, and
-`linkd scan` of these bytes shows the same but for the pcs. And the file without what isn't looked at (other attributes than those that are
-read, exceptions and attributes of a code) shows the same, pcs, too.
+Of each changed file, of the file with one byte more behind it and with one byte less, `linkd scan` has to answer what the class shows, or
+the fault with its numbers; `linkd run`, asked to define it where no class is defined, the same fault, or that the superclass is missing,
+by its name. A file that is accepted is then said as a sketch: `linkd sketch` has to answer the bytes of its class file, or why it has
+none, and `linkd scan` of these bytes shows the same but for the pcs. And the file without what isn't looked at (other attributes than
+those that are read, exceptions and attributes of a code) shows the same, pcs, too.
 
-The reader (hostile_reader.py) and the writer follow docs/FORMATS.md and JVMS SE 17 chapter 4, and share nothing with those of the crates. Each
-answer that differs is printed, of many the first ones; with --quiet nothing
-is, where all is as it must be. It ends with status 0 only there. It takes a quarter of a minute, with --all two minutes and a half.
+The reader (hostile_reader.py) and the writer follow docs/FORMATS.md and JVMS SE 17 chapter 4, and share nothing with those of the crates.
+Each answer that differs is printed, of many the first ones; with --quiet nothing is, where all is as it must be. It ends with status 0
+only there. It takes a quarter of a minute, with --all two minutes and a half.
 """
 import argparse
 import json

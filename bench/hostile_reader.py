@@ -1,7 +1,7 @@
 """A reader of class files, for bench/hostile.py.
 
-It follows docs/FORMATS.md and JVMS SE 17 chapter 4, pass after pass, and shares nothing with that of the crates: no text, no table, no order
-of work but that of the faults.
+It follows docs/FORMATS.md and JVMS SE 17 chapter 4, pass after pass, and shares nothing with that of the crates: no text, no table, no
+order of work but that of the faults.
 """
 
 

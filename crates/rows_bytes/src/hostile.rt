@@ -334,6 +334,14 @@ const SHOWN: &[HostileRow] = &[
     Shows(M, 45, PLAIN),
     Shows(
         IN,
+        61,
+        Shown {
+            host: Some(b"Out"),
+            ..PLAIN
+        },
+    ),
+    Shows(
+        IN,
         55,
         Shown {
             host: Some(b"Out"),

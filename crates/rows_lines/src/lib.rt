@@ -1,22 +1,13 @@
-//! Tests that cross crates: lines over streams, long lines, farms, and how the program ends. Nothing here is called by other crates.
+//! Tests of what only a reader or a writer of one's own can show: short reads and writes, devices that fail at any call, farms over such,
+//! and how the program ends; and how many workers words ask for. Nothing here is called by other crates.
 #![tactic(auto)]
 
-#[cfg(test)]
-mod classes;
 #[cfg(test)]
 mod devices;
 #[cfg(test)]
 mod endings;
 #[cfg(test)]
-mod farm_ends;
-#[cfg(test)]
 mod farms;
-#[cfg(test)]
-mod input;
-#[cfg(test)]
-mod lines;
-#[cfg(test)]
-mod sketches;
 #[cfg(test)]
 mod streams;
 #[cfg(test)]

@@ -1,72 +1,70 @@
-//! A run over readers and writers that fail at any call.
+//! Runs over readers and writers that give and take little, or fail at any call.
 
-use crate::classes::{A, B, C, M, OBJECT};
-use crate::devices::{ByteReader, SlowWriter};
+use crate::devices::{Pieces, SlowWriter};
 use jl_cli::{Counted, FailAt, LineFault, Mode, run_lines};
-use std::alloc::{AllocError, Global};
-use std::io;
-use std::io::Read;
-use std::process::Abort;
-use std::test::Fail;
+use std::alloc::Global;
 
-/// How many bytes a read gives.
-const PIECE: usize = 16;
-
-/// Gives at most so many bytes at a time.
-#[derive(Debug, Drop)]
-struct Pieces<'a>(&'a [u8]);
-
-impl Read for Pieces<'_> {
-    fn read(&mut self, buffer: &mut [u8]) -> io::Result<usize> {
-        let count = PIECE.min(buffer.len()).min(self.0.len());
-        buffer[..count].copy_from_slice(&self.0[..count]);
-        self.0 = &self.0[count..];
-        Ok(count)
-    }
+/// Lines with their answers, each answer ended by a newline, and how many bytes a read gives where reads fail.
+struct Script {
+    mode: Mode,
+    lines: &'static str,
+    answers: &'static str,
+    piece: usize,
 }
 
-/// A link that is installed, that a new receiver drops, and that is stale then.
-const ROWS: &[(&str, &str)] = &[
-    (OBJECT, r#"{"class":0,"dropped":[]}"#),
-    (A, r#"{"class":1,"dropped":[]}"#),
-    (B, r#"{"class":2,"dropped":[]}"#),
-    (M, r#"{"class":3,"dropped":[]}"#),
-    (
-        r#"{"do":"request","class":3,"method":0,"pc":0}"#,
-        r#"{"dropped":[],"site":0}"#,
-    ),
-    (
-        r#"{"do":"prepare","sites":[0]}"#,
-        r#"{"prepared":0,"rows":[[0,{"direct":{"run":[1,0]}}]]}"#,
-    ),
-    (r#"{"do":"install","prepared":0}"#, r#"{"dropped":[]}"#),
-    (C, r#"{"class":4,"dropped":[0]}"#),
-    (r#"{"do":"call","site":0,"recv":4}"#, r#"{"run":[4,0]}"#),
-    (
-        r#"{"do":"install","prepared":0}"#,
-        r#"{"present":{"kind":"virtual","table":[[1,{"run":[1,0]}],[2,{"run":[1,0]}],[4,{"run":[4,0]}]]},"refused":"Stale","site":0}"#,
-    ),
+/// Class files that are none, of which the last line has no newline; and commands: a link that is installed, that a new receiver drops,
+/// and that is stale then.
+const SCRIPTS: [Script; 2] = [
+    Script {
+        mode: Mode::Scan,
+        lines: "cafebabf\n0\n00",
+        answers: "{\"refused\":\"BadMagic\"}\n{\"error\":\"BadCommand\"}\n{\"refused\":\"Truncated\"}\n",
+        piece: 1,
+    },
+    Script {
+        mode: Mode::Run,
+        lines: r#"{"do":"define","loader":0,"sketch":{"name":"java/lang/Object","flags":33}}
+{"do":"define","loader":0,"sketch":{"name":"A","super":"java/lang/Object","flags":33,"methods":[{"name":"f","type":"()V","flags":1}]}}
+{"do":"define","loader":0,"sketch":{"name":"B","super":"A","flags":33}}
+{"do":"define","loader":0,"sketch":{"name":"M","super":"java/lang/Object","flags":33,"methods":[{"name":"run","type":"()V","flags":9,"calls":[{"kind":"invokevirtual","of":"A","name":"f","type":"()V"}]}]}}
+{"do":"request","class":3,"method":0,"pc":0}
+{"do":"prepare","sites":[0]}
+{"do":"install","prepared":0}
+{"do":"define","loader":0,"sketch":{"name":"C","super":"A","flags":33,"methods":[{"name":"f","type":"()V","flags":1}]}}
+{"do":"call","site":0,"recv":4}
+{"do":"install","prepared":0}
+"#,
+        answers: r#"{"class":0,"dropped":[]}
+{"class":1,"dropped":[]}
+{"class":2,"dropped":[]}
+{"class":3,"dropped":[]}
+{"dropped":[],"site":0}
+{"prepared":0,"rows":[[0,{"direct":{"run":[1,0]}}]]}
+{"dropped":[]}
+{"class":4,"dropped":[0]}
+{"run":[4,0]}
+{"present":{"kind":"virtual","table":[[1,{"run":[1,0]}],[2,{"run":[1,0]}],[4,{"run":[4,0]}]]},"refused":"Stale","site":0}
+"#,
+        piece: 16,
+    },
 ];
 
-/// The commands of the rows, a line each.
-fn commands(alloc: Global) -> Result<Vec<u8>, AllocError> {
-    let mut text = Vec::new(alloc);
-    for row in ROWS {
-        text.extend_from_slice(row.0.as_bytes())?;
-        text.push(b'\n')?;
-    }
-    Ok(text)
+/// How many bytes a read gives and a write takes, and which read and which write fails, 0 for none.
+#[derive(Clone, Copy)]
+struct Way {
+    given: usize,
+    taken: usize,
+    failing_read: u64,
+    failing_write: u64,
 }
 
-/// Their answers, a line each.
-fn answers(alloc: Global) -> Result<Vec<u8>, AllocError> {
-    let mut text = Vec::new(alloc);
-    for row in ROWS {
-        text.extend_from_slice(row.1.as_bytes())?;
-        text.push(b'\n')?;
-    }
-    Ok(text)
-}
+/// A run by one byte a read and one a write, none of which fails.
+const BYTES: Way = Way {
+    given: 1,
+    taken: 1,
+    failing_read: 0,
+    failing_write: 0,
+};
 
 /// How many newlines there are.
 fn newlines(bytes: &[u8]) -> usize {
@@ -93,82 +91,91 @@ fn first_lines(text: &[u8], count: usize) -> &[u8] {
     text
 }
 
-/// Whether a run whose reader fails behind so many reads answers all lines that were read, and no more.
-fn is_cut(alloc: Global, input: &[u8], answers: &[u8], reads: usize) -> bool {
-    let mut reader = FailAt::new(
-        Counted::new(Pieces(input)),
-        (reads as u64).saturating_add(1),
-    );
-    let mut writer = Counted::new(Vec::new(alloc));
-    let outcome = run_lines(alloc, Mode::Run, &mut reader, &mut writer);
-    let read = reads.saturating_mul(PIECE).min(input.len());
-    let whole = newlines(&input[..read]);
-    outcome == Err(LineFault::Device)
-        && writer.into_inner().as_slice() == first_lines(answers, whole)
-}
-
-/// Whether a run whose reader fails at this read, or at none, ends well with all answers.
-fn ends_well(alloc: Global, input: &[u8], answers: &[u8], failing: u64) -> bool {
-    let mut reader = FailAt::new(Counted::new(Pieces(input)), failing);
-    let mut writer = Counted::new(Vec::new(alloc));
-    let outcome = run_lines(alloc, Mode::Run, &mut reader, &mut writer);
-    outcome == Ok(()) && writer.into_inner().as_slice() == answers
-}
-
-/// Whether a run whose writer fails at this write ends so.
-fn ends_so(alloc: Global, input: &[u8], failing: u64, outcome: Result<(), LineFault>) -> bool {
-    let mut reader = Counted::new(ByteReader(input));
-    let mut writer = FailAt::new(Counted::new(Vec::new(alloc)), failing);
-    run_lines(alloc, Mode::Run, &mut reader, &mut writer) == outcome
-}
-
-/// Whether a run by one byte a read and one a write ends well with all answers.
-fn is_whole(alloc: Global, input: &[u8], answers: &[u8]) -> bool {
-    let mut reader = Counted::new(ByteReader(input));
-    let mut writer = Counted::new(SlowWriter {
-        most: 1,
+/// Whether a run of the script ends so, with the answers to the first so many lines.
+fn ends_so(
+    alloc: Global,
+    script: &Script,
+    way: Way,
+    outcome: Result<(), LineFault>,
+    count: usize,
+) -> bool {
+    let pieces = Pieces {
+        most: way.given,
+        left: script.lines.as_bytes(),
+    };
+    let mut reader = FailAt::new(Counted::new(pieces), way.failing_read);
+    let slow = SlowWriter {
+        most: way.taken,
         written: Vec::new(alloc),
-    });
-    let outcome = run_lines(alloc, Mode::Run, &mut reader, &mut writer);
-    outcome == Ok(()) && writer.into_inner().written.as_slice() == answers
-}
-
-/// Asserts that a run answers what it has read, at whichever call its reader fails, and fails at whichever its writer does.
-fn assert_streams(rt: &(impl Abort + AllocGlobal), input: &[u8], answers: &[u8]) {
-    let pieces = input.len().div_ceil(PIECE);
-    for reads in 0..=pieces {
-        assert!(rt; is_cut(rt.alloc(), input, answers, reads), "after {reads}");
-    }
-    // One read more finds the end, and is the last one.
-    assert!(rt;
-        ends_well(
-            rt.alloc(),
-            input,
-            answers,
-            (pieces as u64).saturating_add(2)
-        )
-    );
-    assert!(rt; is_whole(rt.alloc(), input, answers));
-    for failing in 1..=ROWS.len() as u64 {
-        assert!(rt;
-            ends_so(rt.alloc(), input, failing, Err(LineFault::Device)),
-            "at {failing}"
-        );
-    }
-    assert!(rt;
-        ends_so(
-            rt.alloc(),
-            input,
-            (ROWS.len() as u64).saturating_add(1),
-            Ok(())
-        )
-    );
+    };
+    let mut writer = FailAt::new(Counted::new(slow), way.failing_write);
+    let ended = run_lines(alloc, script.mode, &mut reader, &mut writer);
+    let written = writer.into_inner().into_inner().written;
+    ended == outcome && written.as_slice() == first_lines(script.answers.as_bytes(), count)
 }
 
 #[test]
-fn answers_what_was_read(rt: HostRuntime) -> Result<(), Fail> {
-    let input = commands(rt.alloc())?;
-    let answers = answers(rt.alloc())?;
-    assert_streams(&rt, &input, &answers);
-    Ok(())
+fn goes_byte_by_byte(rt: HostRuntime) {
+    for script in &SCRIPTS {
+        assert!(rt; ends_so(rt.alloc(), script, BYTES, Ok(()), usize::MAX));
+    }
+}
+
+#[test]
+fn answers_what_was_read(rt: HostRuntime) {
+    for script in &SCRIPTS {
+        let bytes = script.lines.as_bytes();
+        let pieces = bytes.len().div_ceil(script.piece);
+        let way = Way {
+            given: script.piece,
+            taken: 7,
+            ..BYTES
+        };
+        for reads in 0..=pieces {
+            let failing_read = (reads as u64).saturating_add(1);
+            let read = reads.saturating_mul(script.piece).min(bytes.len());
+            let whole = newlines(&bytes[..read]);
+            let way = Way {
+                failing_read,
+                ..way
+            };
+            assert!(rt;
+                ends_so(rt.alloc(), script, way, Err(LineFault::Device), whole),
+                "after {reads}"
+            );
+        }
+        // One read more finds the end, and is the last one.
+        let failing_read = (pieces as u64).saturating_add(2);
+        let way = Way {
+            failing_read,
+            ..way
+        };
+        assert!(rt; ends_so(rt.alloc(), script, way, Ok(()), usize::MAX));
+    }
+}
+
+#[test]
+fn fails_where_a_write_fails(rt: HostRuntime) {
+    // Each answer is written at once.
+    for script in &SCRIPTS {
+        let count = newlines(script.answers.as_bytes());
+        for answered in 0..=count {
+            let way = Way {
+                taken: usize::MAX,
+                failing_write: (answered as u64).saturating_add(1),
+                ..BYTES
+            };
+            let outcome = if answered < count {
+                Err(LineFault::Device)
+            } else {
+                Ok(())
+            };
+            assert!(rt;
+                ends_so(rt.alloc(), script, way, outcome, answered),
+                "at {answered}"
+            );
+        }
+        let way = Way { taken: 0, ..BYTES };
+        assert!(rt; ends_so(rt.alloc(), script, way, Err(LineFault::Device), 0));
+    }
 }
