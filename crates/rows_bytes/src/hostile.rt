@@ -195,12 +195,12 @@ fn fault_of_size(alloc: Global, len: usize) -> Option<ClassFault> {
 
 /// Whether these are the names, one after another.
 fn are_named(names: &[Name], texts: &[&[u8]]) -> bool {
-    for (name, text) in names.iter().zip(texts) {
-        if name.as_slice() != *text {
+    for place in 0..=texts.len() {
+        if names.get(place).map(|name| name.as_slice()) != texts.get(place).copied() {
             return false;
         }
     }
-    names.len() == texts.len()
+    true
 }
 
 /// Whether the class file shows this.

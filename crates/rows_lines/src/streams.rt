@@ -4,12 +4,13 @@ use crate::devices::{Pieces, SlowWriter};
 use jl_cli::{Counted, FailAt, LineFault, Mode, run_lines};
 use std::alloc::Global;
 
-/// Lines with their answers, each answer ended by a newline, and how many bytes a read gives where reads fail.
+/// Lines with their answers, each answer ended by a newline, and how many bytes a read gives and a write takes where reads fail.
 struct Script {
     mode: Mode,
     lines: &'static str,
     answers: &'static str,
     piece: usize,
+    taken: usize,
 }
 
 /// Class files that are none, of which the last line has no newline; and commands: a link that is installed, that a new receiver drops,
@@ -20,6 +21,7 @@ const SCRIPTS: [Script; 2] = [
         lines: "cafebabf\n0\n00",
         answers: "{\"refused\":\"BadMagic\"}\n{\"error\":\"BadCommand\"}\n{\"refused\":\"Truncated\"}\n",
         piece: 1,
+        taken: 7,
     },
     Script {
         mode: Mode::Run,
@@ -46,6 +48,7 @@ const SCRIPTS: [Script; 2] = [
 {"present":{"kind":"virtual","table":[[1,{"run":[1,0]}],[2,{"run":[1,0]}],[4,{"run":[4,0]}]]},"refused":"Stale","site":0}
 "#,
         piece: 16,
+        taken: usize::MAX,
     },
 ];
 
@@ -128,7 +131,7 @@ fn answers_what_was_read(rt: HostRuntime) {
         let pieces = bytes.len().div_ceil(script.piece);
         let way = Way {
             given: script.piece,
-            taken: 7,
+            taken: script.taken,
             ..BYTES
         };
         for reads in 0..=pieces {
