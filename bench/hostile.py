@@ -46,7 +46,7 @@ FILES = [("Object", OBJECT, 46, 32), ("A", A, 97, 56), ("M", M, 123, 79), ("In",
 
 
 # How many lines a process is given, how many seconds it has, and how many answers that differ are printed.
-LINES, SECONDS, SHOWN = 50_000, 120, 20
+LINES, SECONDS, SHOWN = 10_000, 120, 20
 
 # ---- what the program says of it
 
