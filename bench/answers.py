@@ -6,7 +6,7 @@
 Each script is answered by a process of its own, which has to end with status 0 and with nothing on the standard error. Each row that
 differs is printed, with its place, what must come and what came, and so is a line that may not stand where it does. A script without rows,
 and a file that isn't of these forms, are wrong, too. With --quiet nothing is printed where all is as it must be. It ends with status 0
-only there, and takes a few seconds.
+only there.
 """
 import argparse
 import os
