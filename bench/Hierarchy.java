@@ -134,7 +134,7 @@ final class Hierarchy extends ClassLoader {
             }
         }
         long relating = (System.nanoTime() - start) / 1000;
-        System.out.println("classes " + classes.size() + ", found " + found + ", related " + related);
+        System.out.println("classes " + classes.size() + "\nfound " + found + "\nrelated " + related);
         System.err.println("look-ups in " + finding + " us, ancestors in " + relating + " us");
     }
 

@@ -63,8 +63,8 @@ cat "$data/ordered.hex" "$data/places.txt" > "$data/input.txt"
 
 # The jobs a second of the run that left said$1.txt and times$1.txt.
 rate_of() {
-    jobs=$(sed 's/.*installed jobs //' "$data/said$1.txt")
-    micros=$(sed 's/.*jobs in \([0-9]*\) us.*/\1/' "$data/times$1.txt")
+    jobs=$(sed -n 's/^jobs //p' "$data/said$1.txt")
+    micros=$(sed -n 's/.* jobs in \([0-9]*\) us$/\1/p' "$data/times$1.txt")
     echo $((jobs * 1000000 / micros))
 }
 
@@ -76,7 +76,7 @@ for sites in 1 64; do
             rate=$(rate_of "")
             if [ "$rate" -gt "$most" ]; then most=$rate; fi
         done
-        echo "$workers workers, $sites sites a job: $most jobs a second ($(cat "$data/said.txt"))"
+        echo "$workers workers, $sites sites a job: $most jobs a second ($(tr '\n' ' ' < "$data/said.txt"))"
     done
     most=0
     for _ in $(seq "${RUNS:-3}"); do

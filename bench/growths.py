@@ -1,6 +1,6 @@
 """What runs may answer of which one growth, or all from one on, are refused. For growths.sh, which says how it is used.
 
-Of crates/trial_growths and of linker.c, whose lines are WHOSE: CALL: ANSWER, a run is one of
+Of `bench growths` (crates/bench) and of linker.c, whose lines are WHOSE: CALL: ANSWER, a run is one of
 - as without refusals, with two lines more before the answer of a call: that it was answered Memory, and that all is as before (a call
   that has no state before has the first alone);
 - ended with status 4, and its lines are the first ones of a run without refusals;
@@ -162,7 +162,7 @@ def is_first_of(lines, whole):
 
 
 def called(line):
-    """Whose call a line of crates/trial_growths tells, and which."""
+    """Whose call a line of `bench growths` tells, and which."""
     return ": ".join(line.split(": ")[:2])
 
 
@@ -178,7 +178,7 @@ def are_of_one(memory):
 
 
 def watched_kind(run, whole, how):
-    """What the run of crates/trial_growths is, and the number of the line of WHOLE that answers the call that was first answered Memory, if
+    """What the run of `bench growths` is, and the number of the line of WHOLE that answers the call that was first answered Memory, if
     it isn't a look at the state. The kind is MEMORY, SAME or LACKS, or None where it is a fault."""
     memory = [line for line in run.lines if is_of_memory(line)]
     rest = [line for line in run.lines if not is_of_memory(line)]
@@ -306,7 +306,7 @@ def tell_calls(whole, alone, together):
 
 
 def sweep_watched(program, name, tells_calls):
-    """Sweeps crates/trial_growths or linker.c, and maybe prints the growths of its calls."""
+    """Sweeps `bench growths` or linker.c, and maybe prints the growths of its calls."""
     whole = program.run()
     if whole.status != 0 or whole.refused or any(map(is_of_memory, whole.lines)):
         sys.exit(f"{name} ends with {whole.status} without refusals")
@@ -334,8 +334,8 @@ def sweep_script(program, name, lines):
 
 
 def main():
-    folder, growths, *others = sys.argv[1:]
-    tallies = list(sweep_watched(Program(folder, os.path.abspath(growths)), "growths", True))
+    folder, bench, *others = sys.argv[1:]
+    tallies = list(sweep_watched(Program(folder, os.path.abspath(bench), "growths"), "growths", True))
     for path in others[:1]:
         for words, name, lines in MODES:
             tallies += sweep_script(Program(folder, os.path.abspath(path), *words.split()), name, lines)

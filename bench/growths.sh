@@ -1,9 +1,9 @@
 #!/usr/bin/env bash
 # Refuses each growth in turn, and compares what is answered with what must be.
 #
-#     bench/growths.sh [GROWTHS [LINKD [ARCHIVE]]]
+#     bench/growths.sh [BENCH [LINKD [ARCHIVE]]]
 #
-# GROWTHS is the built crates/trial_growths, LINKD the built linkd, and ARCHIVE the library for C with the toolchain's code for the heap, with which
+# BENCH is the built crates/bench, LINKD the built linkd, and ARCHIVE the library for C with the toolchain's code for the heap, with which
 # linker.c is built; where none is given, they are what `rt run` in the folder of each leaves in out/, and the archive is made as for
 # embed.sh; with fewer only those are run. For each n from 1 on a run has its n-th growth refused, until one meets no
 # refusal; then runs have all refused from the n-th on. growths.c says what a growth is, and growths.py what a run may answer. It prints
@@ -21,7 +21,7 @@ trap 'rm -rf "$work"' EXIT
 trap 'exit 130' INT TERM
 if [ $# = 0 ]; then
     . "$here/library.sh"
-    set -- "$top/crates/trial_growths/out/trial_growths" "$top/crates/linkd/out/linkd" "$work/liblinkd.a"
+    set -- "$top/crates/bench/out/bench" "$top/crates/linkd/out/linkd" "$work/liblinkd.a"
 fi
 if [ $# = 3 ]; then
     cc -std=c11 -O2 -Wall -Wextra -Werror -pthread -I"$top/include" -o "$work/linker" "$here/linker.c" "$3"

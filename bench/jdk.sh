@@ -29,28 +29,29 @@ middle() {
     sort -n "$1" | awk '{ t[NR] = $1 } END { print t[int((NR + 1) / 2)] }'
 }
 
-# The most memory of a run that keeps the class files of these lines, in KB.
-kept() {
-    env time -f %M -o "$work/most" "$program" read keep < "$1" > "$work/kept"
+# The most memory of a run that reads these lines and does what the words say, in KB.
+most() {
+    env time -f %M -o "$work/most" "$program" "${@:2}" < "$1" > "$work/kept" 2> "$work/times"
     cat "$work/most"
 }
 
 # What the class files of these lines take, over their bytes.
 memory() {
-    awk -v with="$(kept "$2")" -v without="$(kept /dev/null)" -v lines="$(wc -l < "$2")" -v size="$(wc -c < "$2")" -v what="$1" 'BEGIN {
+    awk -v with="$(most "$2" keep)" -v without="$(most "$2")" -v lines="$(wc -l < "$2")" -v size="$(wc -c < "$2")" -v what="$1" 'BEGIN {
         bytes = (size - lines) / 2
         printf "%s: %d KB more for %d bytes of class file, %.2f times these\n", what, with - without, bytes, (with - without) * 1024 / bytes
     }'
 }
 
-# Milliseconds of each: the middle of the ten passes of read_class, and ASM's tenth pass.
+# Milliseconds of each: the middle of the eleven passes of read_class, and ASM's tenth pass.
 reader() {
     bytes=$(awk '{ n += $NF } END { printf "%d", n }' "$data/classes.names")
     : > "$work/ours"
     : > "$work/theirs"
     for turn in $(seq "${TURNS:-7}"); do
         "$program" read < "$data/classes.hex" 2> "$work/passes" > "$work/totals"
-        middle "$work/passes" >> "$work/ours"
+        awk '{ print $4 / 1000 }' "$work/passes" > "$work/ms"
+        middle "$work/ms" >> "$work/ours"
         run_java AsmSpeed 6 10 | awk -v b="$bytes" '/pass 10/ { for (i = 1; i <= NF; i++) if ($i == "MB") print b / 1e3 / $(i - 1) }' >> "$work/theirs"
         echo "turn $turn: read_class $(tail -n 1 "$work/ours") ms, ASM $(tail -n 1 "$work/theirs") ms"
     done

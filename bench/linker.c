@@ -1,4 +1,4 @@
-/* Makes calls of a linker that take memory, and prints what each is told, as crates/trial_growths does of a core: a call that is told LINKD_MEMORY is
+/* Makes calls of a linker that take memory, and prints what each is told, as `bench growths` does of a core: a call that is told LINKD_MEMORY is
  * printed as such, with whether all that is seen of the linker is as it was before, and is made once more. Its own memory is static, so that
  * each growth is the library's. The exit status is 0 where all calls were told something else, 4 where memory lacked twice in a row, and
  * 1 where a line wasn't printed.

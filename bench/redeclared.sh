@@ -16,8 +16,8 @@ for one in "$@"; do
         run_java Redeclaring $shape > "$work/lines"
         "$program" link < "$work/lines" > "$work/out" 2> "$work/times"
         awk -v shape="$shape" '
-            /definitions/ { defining = $4 }
-            /^links/ { if (!linking || $6 < linking) linking = $6 }
+            / definitions in / { defining = $4 }
+            / links in / { if (!linking || $4 < linking) linking = $4 }
             END { printf "%s: definitions %d us, link %d us, ", shape, defining, linking }' "$work/times"
         tr '\n' ' ' < "$work/out"
         echo

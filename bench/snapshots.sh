@@ -13,6 +13,6 @@ data=${KEEP:-$work}
 mkdir -p "$data"
 run_java Links lines "$data" > /dev/null
 echo "== 64 copies of all classes, each let go"
-"$program" hierarchy < "$data/ordered.hex" 2>&1 | grep '^copies in'
+"$program" hierarchy < "$data/ordered.hex" 2>&1 | grep ' copies in '
 echo "== definitions, 200 of each"
 "$program" snapshot < "$data/ordered.hex" 2>&1

@@ -8,7 +8,6 @@ use Rattle.jl_server.specs.declared.history.Name as name
 use Rattle.jl_server.specs.contracts.server.LinkServer as LinkServer
 use Rattle.jl_server.proofs.Crossing.{server_sync}
 use Rattle.bench.specs.contracts.call.Common as Common
-use Rattle.bench.specs.contracts.memo.Common as MemoCommon
 
 module _ (ℓ : NamedLft) (K R S : RattleType) (g : name.Ghosts K.Denot) where
   pub common_sync : IsSync R → IsSend S → IsSync (Common.the_row ℓ K R S g)
@@ -25,29 +24,17 @@ module _ (ℓ : NamedLft) (K R S : RattleType) (g : name.Ghosts K.Denot) where
               (
                 search sendable depth 9,
                 (
-                  search (sendable, of_std) depth 12,
+                  search sendable depth 9,
                   (
                     search (sendable, of_std) depth 12,
-                    (search (sendable, of_std) depth 12, tt),
+                    (
+                      search (sendable, of_std) depth 12,
+                      (search (sendable, of_std) depth 12, tt),
+                    ),
                   ),
                 ),
               ),
             ),
-          ),
-        ),
-      ) in
-      recorded_sync _ O.D O.to O.to_one (struct_sync (declared.shape O) all)
-
-  pub memo_sync : IsSync R → IsSend S → IsSync (MemoCommon.the_row ℓ K R S g)
-  memo_sync r s =
-      let O = MemoCommon.the_type ℓ K R S g in
-      let all : AllSync (declared.fields O) = (
-        search shr_sync depth 5,
-        (
-          shr_sync ℓ.mir ℓ.lft (LinkServer.the_row K S g) (server_sync K S g s),
-          (
-            search sendable depth 9,
-            (search sendable depth 9, (search sendable depth 9, (search (sendable, of_std) depth 12, tt))),
           ),
         ),
       ) in

@@ -1,76 +1,125 @@
-//! Does calls and events in threads, to be timed from outside. The words are the server's sites, the threads that call, the calls of
-//! each, and the events that one caller applies before; with a fifth word of 1, one thread more applies events until the calls are
-//! done, and with a sixth word of 1 each entry is of 64 calls. It prints how many events that thread applied, and how many calls were answered at once.
+//! Does calls and events in threads, to be timed from outside, at sites that are installed before. The words behind `call` are how many
+//! threads there are, which calls, the calls of each thread, the sets of each one's memo, the most sites, how often the last site is
+//! installed again before, and whether the first thread does that until all others are done.
+//!
+//! The calls are `null`, on null at the sites in a scattered order; `together`, the same in entries of 64; on objects of 64 classes, or of
+//! eight, from the fourth class on, `drawn`, only the drawing of the site and class; `table`, of eight; `memo`, by a memo; `got`, by the memo
+//! alone; `asked`, under the server's lock. What a memo doesn't remember is asked under the lock. Sites and classes are drawn low ones more
+//! often than high ones: a site below a number that was drawn, and a class below one that was drawn so. It prints how many calls were
+//! answered without the lock, or under it where that was asked for, and how many events that thread applied.
 
-ghost use Rattle.std.specs.Prelude.{◌≡◌};
-
-use crate::number_or;
-use jl_class::ClassFile;
-use jl_names::{Name, Seq};
-use jl_server::{Caller, LinkServer, Name as Server, Parts};
-use jl_types::{
-    CallSiteId, CallSiteKind, ClassId, Event, Fast, Link, LoaderId, MethodId, Place, Recv, SiteNo,
-    Target,
-};
-use rows_files::{CallRow, MethodRow, OBJECT, calling, class};
+use crate::serve::Desk;
+use crate::told::{number_or, tell};
+use jl_names::Seq;
+use jl_relink::{Prepared, Snapshot, prepare};
+use jl_server::{Caller, LinkServer, Memo, Name};
+use jl_types::{Answer, ClassId, Event, Fast, Link, Recv, SiteNo};
 use rows_threads::{Round, at_once};
 use std::alloc::{AllocError, Global};
 use std::io;
-use std::marker::Brand;
 use std::sync::Wait;
 use std::sync::atomic::{AtomicU64, Ordering};
 use std::thread::Threads;
-
-/// How many sites are installed before: static calls, at sites 0 to 999.
-const INSTALLED: u32 = 1000;
-
-/// The site of an invokedynamic, which the events drop and install.
-const DYNAMIC: u32 = INSTALLED;
+use std::time::Instant;
 
 /// How many calls an entry has, where it has several.
 const TOGETHER: usize = 64;
 
-const STATIC_CALLS: [CallRow; 1000] = [CallRow::Static("W", "a"); 1000];
+/// How far the next call's site is, which shares no divisor with 1,000.
+const STEP: u32 = 389;
 
-const DYNAMIC_CALLS: [CallRow; 1] = [CallRow::Dynamic("x")];
+/// The first class of which there are objects.
+const FIRST: u32 = 3;
 
-const METHODS: [MethodRow; 2] = [("a", "()V", 9), ("b", "()V", 9)];
-
-/// What is to be done.
+/// Which calls are made.
 #[derive(Clone, Copy)]
-struct Work {
-    sites: u32,
-    threads: u32,
-    calls: u32,
-    events: u32,
-    writes: bool,
-    together: bool,
+enum Kind {
+    Null,
+    Together,
+    Drawn,
+    Table,
+    Memo,
+    Got,
+    Asked,
 }
 
-/// The site after this one, of those that are installed.
-fn next(site: u32) -> u32 {
-    if site < 935 { site + 65 } else { site % 65 }
+/// The calls of this name.
+fn kind_of(word: Option<&str>) -> Kind {
+    match word {
+        Some("together") => Kind::Together,
+        Some("drawn") => Kind::Drawn,
+        Some("table") => Kind::Table,
+        Some("memo") => Kind::Memo,
+        Some("got") => Kind::Got,
+        Some("asked") => Kind::Asked,
+        _ => Kind::Null,
+    }
 }
 
-/// So many calls. Counts the answers.
-fn calls<K: Server>(caller: &mut Caller<K>, calls: u32) -> u64 {
+/// A number that is less than this (Knuth, The Art of Computer Programming, volume 2, 3.3.4).
+fn below(seed: &mut u32, limit: u32) -> u32 {
+    *seed = seed.wrapping_mul(1_664_525).wrapping_add(1_013_904_223);
+    (*seed / 65_536).wrapping_mul(limit) / 65_536
+}
+
+/// One that is less than a number that is drawn, too, so that low ones come up more often.
+fn low(seed: &mut u32, limit: u32) -> u32 {
+    let most = below(seed, limit);
+    below(seed, most.wrapping_add(1))
+}
+
+/// The site and the receiver's class of a call, of so many.
+fn draw(seed: &mut u32, sites: u32, classes: u32) -> (SiteNo, ClassId) {
+    let site = low(seed, sites);
+    let most = below(seed, classes);
+    let class = low(seed, most.wrapping_add(1));
+    (SiteNo::new(site), ClassId::new(FIRST.wrapping_add(class)))
+}
+
+/// How far the next call's site is, of so many.
+fn step_of(sites: u32) -> u32 {
+    STEP.checked_rem(sites).unwrap_or(0)
+}
+
+/// The site that is so far from this one, of so many.
+fn next(site: u32, step: u32, sites: u32) -> u32 {
+    let next = site.wrapping_add(step);
+    if next < sites {
+        next
+    } else {
+        next.wrapping_sub(sites)
+    }
+}
+
+/// Whether it was answered.
+fn is_now(answer: Fast) -> bool {
+    match answer {
+        Fast::Now(_) => true,
+        _ => false,
+    }
+}
+
+/// So many calls on null. Counts the answers.
+fn null_calls<K: Name>(caller: &mut Caller<K>, sites: u32, calls: u32) -> u64 {
+    let step = step_of(sites);
     let mut answers = 0u64;
     let mut site = 0;
     for _ in 0..calls {
-        if let Fast::Now(_) = caller.call(SiteNo::new(site), Recv::Null) {
-            answers = answers.saturating_add(1);
+        if is_now(caller.call(SiteNo::new(site), Recv::Null)) {
+            answers = answers.wrapping_add(1);
         }
-        site = next(site);
+        site = next(site, step, sites);
     }
     answers
 }
 
 /// The next calls, of which the first is at this site. Gives the site after them.
-fn fill(calls: &mut [(SiteNo, Recv)], site: u32) -> u32 {
-    let mut site = site;
+fn fill_entry(calls: &mut [(SiteNo, Recv)], first: u32, sites: u32) -> u32 {
+    let step = step_of(sites);
+    let mut site = first;
     for call in calls.iter_mut() {
         *call = (SiteNo::new(site), Recv::Null);
-        site = next(site);
+        site = next(site, step, sites);
     }
     site
 }
@@ -79,327 +128,241 @@ fn fill(calls: &mut [(SiteNo, Recv)], site: u32) -> u32 {
 fn count(answers: &[Fast]) -> u64 {
     let mut count = 0u64;
     for answer in answers {
-        if let Fast::Now(_) = answer {
-            count = count.saturating_add(1);
+        if is_now(*answer) {
+            count = count.wrapping_add(1);
         }
     }
     count
 }
 
-/// So many calls, in entries of several. Counts the answers.
-fn calls_together<K: Server>(caller: &mut Caller<K>, calls: u32) -> u64 {
+/// So many calls on null, in entries of several. Counts the answers.
+fn calls_together<K: Name>(caller: &mut Caller<K>, sites: u32, calls: u32) -> u64 {
     let mut rows = [(SiteNo::new(0), Recv::Null); TOGETHER];
     let mut found = [Fast::Miss; TOGETHER];
     let mut answers = 0u64;
     let mut site = 0;
     for _ in 0..calls as usize / TOGETHER {
-        site = fill(rows.as_mut_slice(), site);
+        site = fill_entry(rows.as_mut_slice(), site, sites);
         caller.call_all(rows.as_slice(), found.as_mut_slice());
-        answers = answers.saturating_add(count(found.as_slice()));
+        answers = answers.wrapping_add(count(found.as_slice()));
     }
     answers
 }
 
-/// Applies the event.
-pub(crate) fn apply<K: Server, R: Wait, S: Wait + Drop>(
-    rt: &R,
-    alloc: Global,
-    server: &LinkServer<K, S>,
-    caller: &mut Caller<K>,
-    event: Event,
-) {
-    let _ = caller.apply(rt, alloc, server, event);
-}
-
-fn method(class: u32, index: u16) -> MethodId {
-    MethodId {
-        class: ClassId::new(class),
-        index,
-    }
-}
-
-/// Installs this link at the site.
-fn install<K: Server, R: Wait, S: Wait + Drop>(
-    rt: &R,
-    alloc: Global,
-    server: &LinkServer<K, S>,
-    caller: &mut Caller<K>,
-    site: u32,
-    runs: MethodId,
-) {
-    let mut rows = Vec::new(alloc);
-    if rows.push((SiteNo::new(site), Link::Plain(runs))).is_ok() {
-        apply(rt, alloc, server, caller, Event::Install(Seq::of(rows)));
-    }
-}
-
-/// Defines the class of the file.
-pub(crate) fn define<K: Server, R: Wait, S: Wait + Drop>(
-    rt: &R,
-    alloc: Global,
-    server: &LinkServer<K, S>,
-    caller: &mut Caller<K>,
-    file: Option<ClassFile>,
-) {
-    if let Some(file) = file {
-        apply(
-            rt,
-            alloc,
-            server,
-            caller,
-            Event::Define(LoaderId::new(0), file),
-        );
-    }
-}
-
-/// Requests the invocation in the class's first method.
-pub(crate) fn request<K: Server, R: Wait, S: Wait + Drop>(
-    rt: &R,
-    alloc: Global,
-    server: &LinkServer<K, S>,
-    caller: &mut Caller<K>,
-    class: u32,
-    pc: u32,
-) {
-    let place = Place {
-        class: ClassId::new(class),
-        method: 0,
-        pc,
-    };
-    apply(rt, alloc, server, caller, Event::Request(place));
-}
-
-/// The classes.
-fn set_up_classes<K: Server, R: Wait, S: Wait + Drop>(
-    rt: &R,
-    alloc: Global,
-    server: &LinkServer<K, S>,
-    caller: &mut Caller<K>,
-) {
-    define(
-        rt,
-        alloc,
-        server,
-        caller,
-        class(alloc, OBJECT, 33, None, &[], &[]),
-    );
-    let statics = calling(alloc, "W", 33, OBJECT, &[], &STATIC_CALLS, &METHODS);
-    define(rt, alloc, server, caller, statics);
-    let dynamics = calling(alloc, "T", 33, OBJECT, &[], &DYNAMIC_CALLS, &METHODS);
-    define(rt, alloc, server, caller, dynamics);
-}
-
-/// The sites, installed, and the call site of the last one.
-fn set_up_sites<K: Server, R: Wait, S: Wait + Drop>(
-    rt: &R,
-    alloc: Global,
-    server: &LinkServer<K, S>,
-    caller: &mut Caller<K>,
-) {
-    for site in 0..INSTALLED {
-        request(rt, alloc, server, caller, 1, site.wrapping_mul(3));
-        install(rt, alloc, server, caller, site, method(1, 1));
-    }
-    request(rt, alloc, server, caller, 2, 0);
-    if let Ok(ty) = Name::copied(alloc, b"()V") {
-        let made = Event::NewCallSite(CallSiteKind::Mutable, ty, Target::method(method(2, 1)));
-        apply(rt, alloc, server, caller, made);
-    }
-    let bound = Event::Bind(SiteNo::new(DYNAMIC), CallSiteId::new(0));
-    apply(rt, alloc, server, caller, bound);
-}
-
-/// The event of this number: an install of the invokedynamic, or a target that drops it. Each changes one slot.
-fn event<K: Server, R: Wait, S: Wait + Drop>(
-    rt: &R,
-    alloc: Global,
-    server: &LinkServer<K, S>,
-    caller: &mut Caller<K>,
-    number: u32,
-) {
-    let (now, next) = if number / 2 % 2 == 0 { (1, 2) } else { (2, 1) };
-    if number % 2 == 0 {
-        install(rt, alloc, server, caller, DYNAMIC, method(2, now));
-    } else {
-        let target = Event::SetTarget(CallSiteId::new(0), Target::method(method(2, next)));
-        apply(rt, alloc, server, caller, target);
-    }
-}
-
-/// So many events.
-fn events<K: Server, R: Wait, S: Wait + Drop>(
-    rt: &R,
-    alloc: Global,
-    server: &LinkServer<K, S>,
-    caller: &mut Caller<K>,
-    events: u32,
-) {
-    for number in 0..events {
-        event(rt, alloc, server, caller, number);
-    }
-}
-
-/// Events until no thread calls. Counts them.
-fn write_on<K: Server, R: Wait, S: Wait + Drop>(
-    rt: &R,
-    alloc: Global,
-    server: &LinkServer<K, S>,
-    caller: &mut Caller<K>,
-    busy: &AtomicU64,
-) -> u64 {
-    let mut number = 0u32;
-    for _ in rt.forever() {
-        if busy.load(Ordering::SeqCst) == 0 {
-            break;
-        }
-        event(rt, alloc, server, caller, number);
-        number = number.wrapping_add(1);
-    }
-    number as u64
-}
-
-/// One thread's caller, and whether it applies events.
+/// One thread's caller and memo, and whether it applies events.
 #[derive(Drop)]
-struct Job<K: Server> {
+struct Job<K: Name> {
     writes: bool,
     caller: Caller<K>,
+    memo: Memo<K>,
 }
 
-/// What all threads share; of the numbers, how many still call, how many events there were, and how many answers.
+/// What all threads share: of the counts, how many threads still call, how many events there were, and how many answers.
 #[derive(Drop)]
-struct Common<'a, K: Server, R: Wait, S: Wait + Drop> {
+struct Common<'a, K: Name, R: Wait, S: Wait + Drop> {
     rt: &'a R,
     alloc: Global,
     server: &'a LinkServer<K, S>,
+    kind: Kind,
+    sites: u32,
     calls: u32,
-    together: bool,
     busy: AtomicU64,
-    written: AtomicU64,
+    events: AtomicU64,
     answers: AtomicU64,
 }
 
-impl<'a, K: Server, R: Wait, S: Wait + Drop> Round<Job<K>> for Common<'a, K, R, S> {
-    /// It applies events, or it calls.
-    fn turn(&self, _index: usize, job: &mut Job<K>) {
-        if job.writes {
-            let written = write_on(
+impl<'a, K: Name, R: Wait, S: Wait + Drop> Common<'a, K, R, S> {
+    /// Asks under the lock, so that the memo remembers it. The call itself counts as not answered.
+    fn is_asked(&self, job: &mut Job<K>, site: SiteNo, class: ClassId) -> bool {
+        let _ = job
+            .caller
+            .ask_with(self.rt, self.server, &mut job.memo, site, Recv::Of(class));
+        false
+    }
+
+    /// Whether the call is answered.
+    fn is_answered(&self, job: &mut Job<K>, site: SiteNo, class: ClassId) -> bool {
+        match self.kind {
+            Kind::Memo => {
+                is_now(job.caller.call_with(&job.memo, site, Recv::Of(class)))
+                    || self.is_asked(job, site, class)
+            }
+            Kind::Got => job.memo.get(site, class).is_some() || self.is_asked(job, site, class),
+            Kind::Asked => match job.caller.ask(self.rt, self.server, site, Recv::Of(class)) {
+                Answer::Run(_) => true,
+                _ => false,
+            },
+            Kind::Table => is_now(job.caller.call(site, Recv::Of(class))),
+            _ => site.number() < self.sites,
+        }
+    }
+
+    /// So many calls that are drawn. Counts the answers.
+    fn drawn_calls(&self, job: &mut Job<K>, classes: u32) -> u64 {
+        let mut seed = 1u32;
+        let mut answers = 0u64;
+        for _ in 0..self.calls {
+            let (site, class) = draw(&mut seed, self.sites, classes);
+            if self.is_answered(job, site, class) {
+                answers = answers.wrapping_add(1);
+            }
+        }
+        answers
+    }
+
+    /// The calls of one thread. Counts the answers.
+    fn calls(&self, job: &mut Job<K>) -> u64 {
+        match self.kind {
+            Kind::Null => null_calls(&mut job.caller, self.sites, self.calls),
+            Kind::Together => calls_together(&mut job.caller, self.sites, self.calls),
+            Kind::Table => self.drawn_calls(job, 8),
+            _ => self.drawn_calls(job, 64),
+        }
+    }
+
+    /// Installs of the last site until no thread calls. Counts them.
+    fn write_on(&self, caller: &mut Caller<K>) -> u64 {
+        let mut number = 0u64;
+        for _ in self.rt.forever() {
+            if self.busy.load(Ordering::SeqCst) == 0 {
+                break;
+            }
+            link(
                 self.rt,
                 self.alloc,
                 self.server,
-                &mut job.caller,
-                &self.busy,
+                caller,
+                self.sites.wrapping_sub(1),
             );
-            self.written.store(written, Ordering::SeqCst);
+            number = number.wrapping_add(1);
+        }
+        number
+    }
+}
+
+impl<'a, K: Name, R: Wait, S: Wait + Drop> Round<Job<K>> for Common<'a, K, R, S> {
+    /// It applies events, or it calls.
+    fn turn(&self, _index: usize, job: &mut Job<K>) {
+        if job.writes {
+            let events = self.write_on(&mut job.caller);
+            self.events.store(events, Ordering::SeqCst);
         } else {
-            let answers = if self.together {
-                calls_together(&mut job.caller, self.calls)
-            } else {
-                calls(&mut job.caller, self.calls)
-            };
+            let answers = self.calls(job);
             self.answers.fetch_add(answers, Ordering::SeqCst);
             self.busy.fetch_sub(1, Ordering::SeqCst);
         }
     }
 }
 
-/// The first caller writes, where there is a writer.
-fn jobs<K: Server>(
+/// The site's link from scratch.
+fn prepared(alloc: Global, snapshot: &Snapshot, site: SiteNo) -> Option<Seq<(SiteNo, Link)>> {
+    match prepare(alloc, snapshot, [site].as_slice()) {
+        Ok(Prepared { serial: _, rows }) => Some(rows),
+        Err(_) => None,
+    }
+}
+
+/// The same in a snapshot that is let go.
+fn prepared_now<K: Name, R: Wait, S: Wait + Drop>(
+    rt: &R,
+    alloc: Global,
+    server: &LinkServer<K, S>,
+    caller: &mut Caller<K>,
+    site: u32,
+) -> Option<Seq<(SiteNo, Link)>> {
+    match &caller.snapshot(rt, alloc, server) {
+        Ok((snapshot, _seen)) => prepared(alloc, snapshot, SiteNo::new(site)),
+        Err(_) => None,
+    }
+}
+
+/// Links the site from scratch, and installs its link.
+fn link<K: Name, R: Wait, S: Wait + Drop>(
+    rt: &R,
+    alloc: Global,
+    server: &LinkServer<K, S>,
+    caller: &mut Caller<K>,
+    site: u32,
+) {
+    if let Some(rows) = prepared_now(rt, alloc, server, caller, site) {
+        let _ = caller.apply(rt, alloc, server, Event::Install(rows));
+    }
+}
+
+/// Links each of so many sites, and the last one so many times more.
+fn link_each<K: Name, R: Wait, S: Wait + Drop>(
+    alloc: Global,
+    desk: &mut Desk<'_, K, R, S>,
+    sites: u32,
+    more: u32,
+) {
+    for site in 0..sites {
+        link(desk.handle, alloc, desk.server, &mut desk.caller, site);
+    }
+    for _ in 0..more {
+        let last = sites.wrapping_sub(1);
+        link(desk.handle, alloc, desk.server, &mut desk.caller, last);
+    }
+}
+
+/// Each caller with a memo of so many sets. The first one applies events, where one is to.
+fn jobs<K: Name>(
     alloc: Global,
     callers: Vec<Caller<K>>,
-    work: Work,
+    sets: u32,
+    writes: bool,
 ) -> Result<Vec<Job<K>>, AllocError> {
     let mut jobs = Vec::with_capacity(alloc, callers.len())?;
-    let mut writes = work.writes;
+    let mut writes = writes;
     for caller in callers {
-        jobs.push(Job { writes, caller })?;
+        let memo = Memo::new(alloc, caller.seen(), sets)?;
+        jobs.push(Job {
+            writes,
+            caller,
+            memo,
+        })?;
         writes = false;
     }
     Ok(jobs)
 }
 
-/// Starts the threads, whose callers lie side by side. Gives how many events there were, and how many answers.
-fn all<K: Server + Send + Sync, R: Threads + Wait + Sync, S: Wait + Drop + Send + Sync>(
-    rt: &R,
-    alloc: Global,
-    server: &LinkServer<K, S>,
-    work: Work,
+/// Starts the threads, whose callers lie side by side.
+fn start<K: Name + Send + Sync, R: Threads + Wait + Sync, S: Wait + Drop + Send + Sync>(
+    rt: &HostRuntime,
+    common: &Common<'_, K, R, S>,
     jobs: &mut [Job<K>],
-) -> (u64, u64) {
+) -> io::Result<()> {
+    let start = Instant::now(rt)?;
+    at_once(common.rt, common, jobs);
+    tell(rt, "answers", common.answers.load(Ordering::SeqCst), &start)?;
+    tell(rt, "events", common.events.load(Ordering::SeqCst), &start)
+}
+
+/// Measures what the words say.
+pub(crate) fn measure<
+    K: Name + Send + Sync,
+    R: Threads + Wait + Sync,
+    S: Wait + Drop + Send + Sync,
+>(
+    rt: &HostRuntime,
+    desk: &mut Desk<'_, K, R, S>,
+    callers: Vec<Caller<K>>,
+    sites: u32,
+    words: &[String],
+) -> io::Result<()> {
+    link_each(rt.alloc(), desk, sites, number_or(words, 6, 0));
+    let writers = number_or(words, 7, 0).min(1);
     let common = Common {
-        rt,
-        alloc,
-        server,
-        calls: work.calls,
-        together: work.together,
-        busy: AtomicU64::new(work.threads as u64),
-        written: AtomicU64::new(0),
+        rt: desk.handle,
+        alloc: rt.alloc(),
+        server: desk.server,
+        kind: kind_of(words.get(2).map(|word| word.as_str())),
+        sites,
+        calls: number_or(words, 3, 0),
+        busy: AtomicU64::new((callers.len() as u64).saturating_sub(writers as u64)),
+        events: AtomicU64::new(0),
         answers: AtomicU64::new(0),
     };
-    at_once(rt, &common, jobs);
-    (
-        common.written.load(Ordering::SeqCst),
-        common.answers.load(Ordering::SeqCst),
-    )
-}
-
-fn run<K: Server + Send + Sync, R: Threads + Wait + Sync>(
-    rt: &R,
-    alloc: Global,
-    parts: Parts,
-    work: Work,
-) -> (u64, u64)
-    requires book { parts.book ≡ K.book }
-    requires sites { parts.max_sites ≡ K.max_sites }
-{
-    let Ok((server, mut callers)) = parts.start::<K, &R>(alloc, rt) else {
-        return (0, 0);
-    };
-    let Some(mut first) = callers.pop() else {
-        return (0, 0);
-    };
-    set_up_classes(rt, alloc, &server, &mut first);
-    set_up_sites(rt, alloc, &server, &mut first);
-    events(rt, alloc, &server, &mut first, work.events);
-    let Ok(mut jobs) = jobs(alloc, callers, work) else {
-        return (0, 0);
-    };
-    all(rt, alloc, &server, work, jobs.as_mut_slice())
-}
-
-fn read_words(words: &[String]) -> Work {
-    Work {
-        sites: number_or(words, 0, 0),
-        threads: number_or(words, 1, 0),
-        calls: number_or(words, 2, 0),
-        events: number_or(words, 3, 0),
-        writes: number_or(words, 4, 0) > 0,
-        together: number_or(words, 5, 0) > 0,
-    }
-}
-
-/// Does what the words say. Gives how many events the writer applied, and how many calls were answered at once.
-pub(crate) fn measure<R: Threads + Wait + Sync>(
-    rt: &R,
-    alloc: Global,
-    words: &[String],
-) -> Option<(u64, u64)> {
-    let work = read_words(words);
-    let seats = if work.writes {
-        work.threads.saturating_add(2)
-    } else {
-        work.threads.saturating_add(1)
-    };
-    if work.sites < 1 || work.sites > 65536 || seats > 64 {
-        return None;
-    }
-    let parts = Parts::new(alloc, work.sites, seats as usize).ok()?;
-    Some(run::<Brand, R>(rt, alloc, parts, work))
-}
-
-/// Prints what came of it, where anything did.
-pub(crate) fn print(rt: &HostRuntime, counts: Option<(u64, u64)>) -> io::Result<()> {
-    match counts {
-        Some((written, answers)) => println!(rt; "{written} {answers}"),
-        None => Ok(()),
-    }
+    let mut jobs = jobs(rt.alloc(), callers, number_or(words, 4, 8_192), writers > 0)?;
+    start(rt, &common, jobs.as_mut_slice())
 }

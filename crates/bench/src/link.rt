@@ -1,10 +1,10 @@
-//! Times links: has loader 0 of a core define the class files of its input, a line of hexadecimal each, requests its places, a line
-//! of class, method and pc each, looks up the links of all sites from scratch, three times, 256 at a time, and installs them. A site
-//! that isn't ready is left out. Prints how many classes, sites and links of each kind there were, and, on the standard error, the
-//! microseconds of each.
+//! Times links by a core: looks up the links of all sites from scratch, four times, 256 at a time, installs them and calls each on null. A
+//! site that isn't ready is left out. Prints how many links of each kind there are.
 
+use crate::fill::{Takes, fill};
 use crate::input::Input;
-use jl_classfile::read_class;
+use crate::told::tell;
+use jl_class::ClassFile;
 use jl_core::Core;
 use jl_names::Seq;
 use jl_types::{Event, Link, LoaderId, Place, Recv, SiteNo};
@@ -12,58 +12,31 @@ use std::alloc::{AllocError, Global};
 use std::io;
 use std::time::Instant;
 
+/// How many sites there may be.
+pub(crate) const SITES: u32 = 65_536;
+
 /// How many sites are looked up and installed at a time.
 const BATCH: usize = 256;
 
-/// How often all links are looked up.
-const ROUNDS: u32 = 3;
+/// How often the links are timed.
+const ROUNDS: u32 = 4;
 
 /// Sites with their links.
 type Rows = Seq<(SiteNo, Link)>;
 
-/// How many links there are of each kind.
-#[derive(Clone, Copy, Default)]
-struct Kinds {
-    faults: u32,
-    plain: u32,
-    direct: u32,
-    tables: u32,
-    mega: u32,
+impl Takes for Core {
+    fn defines(&mut self, alloc: Global, file: ClassFile) -> bool {
+        is_accepted(alloc, self, Event::Define(LoaderId::new(0), file))
+    }
+
+    fn requests(&mut self, alloc: Global, place: Place) -> bool {
+        is_accepted(alloc, self, Event::Request(place))
+    }
 }
 
 /// Whether the event is accepted.
 fn is_accepted(alloc: Global, core: &mut Core, event: Event) -> bool {
     core.apply(alloc, event).is_ok()
-}
-
-/// Whether the class file is read, and its class defined.
-fn is_defined(alloc: Global, core: &mut Core, bytes: &[u8]) -> bool {
-    match read_class(alloc, bytes) {
-        Ok(file) => is_accepted(alloc, core, Event::Define(LoaderId::new(0), file)),
-        Err(_) => false,
-    }
-}
-
-/// How many of the class files are read, and their classes defined.
-fn define_each(alloc: Global, core: &mut Core, files: &[Vec<u8>]) -> u32 {
-    let mut defined = 0u32;
-    for bytes in files {
-        if is_defined(alloc, core, bytes) {
-            defined = defined.saturating_add(1);
-        }
-    }
-    defined
-}
-
-/// How many of the places are requested.
-fn request_each(alloc: Global, core: &mut Core, places: &[Place]) -> u32 {
-    let mut requested = 0u32;
-    for place in places {
-        if is_accepted(alloc, core, Event::Request(*place)) {
-            requested = requested.saturating_add(1);
-        }
-    }
-    requested
 }
 
 /// Adds the links of these sites, and says whether all have one.
@@ -72,7 +45,7 @@ fn add_rows(
     core: &Core,
     sites: &[SiteNo],
     batches: &mut Vec<Rows>,
-) -> io::Result<bool> {
+) -> Result<bool, AllocError> {
     match core.prepare(alloc, sites) {
         Ok(prepared) => {
             batches.push(prepared.rows)?;
@@ -82,57 +55,61 @@ fn add_rows(
     }
 }
 
-/// Adds the links of these sites one by one, where they have any.
-fn add_each(
+/// Adds the links of all these sites, or else of each alone that has one.
+fn add_batch(
     alloc: Global,
     core: &Core,
     sites: &[SiteNo],
     batches: &mut Vec<Rows>,
-) -> io::Result<()> {
-    for site in sites {
-        let _has_link = add_rows(alloc, core, &[*site], batches)?;
+) -> Result<(), AllocError> {
+    if !add_rows(alloc, core, sites, batches)? {
+        for site in sites {
+            let _has_link = add_rows(alloc, core, &[*site], batches)?;
+        }
     }
     Ok(())
 }
 
-/// The links of these sites, 256 at a time where all of them have one.
-fn link_all(alloc: Global, core: &Core, sites: &[SiteNo]) -> io::Result<Vec<Rows>> {
-    let mut batches = Vec::new(alloc);
+/// Adds the links of these sites, 256 at a time.
+fn add_all(
+    alloc: Global,
+    core: &Core,
+    sites: &[SiteNo],
+    batches: &mut Vec<Rows>,
+) -> Result<(), AllocError> {
     for batch in sites.chunks(BATCH) {
-        if !add_rows(alloc, core, batch, &mut batches)? {
-            add_each(alloc, core, batch, &mut batches)?;
-        }
+        add_batch(alloc, core, batch, batches)?;
     }
-    Ok(batches)
+    Ok(())
 }
 
-/// How many links there are of each kind, with one more.
-fn with_link(kinds: Kinds, link: &Link) -> Kinds {
-    let mut kinds = kinds;
+/// The number of the link's kind: a fault, one method, one outcome, a table, too many classes for one.
+fn kind_of(link: &Link) -> usize {
     match link {
-        Link::Fault(_) => kinds.faults = kinds.faults.saturating_add(1),
-        Link::Plain(_) => kinds.plain = kinds.plain.saturating_add(1),
-        Link::Direct(_) => kinds.direct = kinds.direct.saturating_add(1),
-        Link::Table(_, _) => kinds.tables = kinds.tables.saturating_add(1),
-        Link::Mega => kinds.mega = kinds.mega.saturating_add(1),
+        Link::Fault(_) => 0,
+        Link::Plain(_) => 1,
+        Link::Direct(_) => 2,
+        Link::Table(_, _) => 3,
+        Link::Mega => 4,
     }
-    kinds
 }
 
-/// How many links there are of each kind in these batches.
-fn kinds_of(batches: &[Rows]) -> Kinds {
-    let mut kinds = Kinds::default();
+/// How many links there are of each kind.
+fn kinds_of(batches: &[Rows]) -> [u32; 5] {
+    let mut kinds = [0u32; 5];
     for rows in batches {
         for row in rows.as_slice() {
-            kinds = with_link(kinds, &row.1);
+            if let Some(kind) = kinds.get_mut(kind_of(&row.1)) {
+                *kind = kind.saturating_add(1);
+            }
         }
     }
     kinds
 }
 
 /// How many of the batches are installed.
-fn install_each(alloc: Global, core: &mut Core, batches: Vec<Rows>) -> u32 {
-    let mut installed = 0u32;
+fn install_each(alloc: Global, core: &mut Core, batches: Vec<Rows>) -> u64 {
+    let mut installed = 0u64;
     for rows in batches {
         if is_accepted(alloc, core, Event::Install(rows)) {
             installed = installed.saturating_add(1);
@@ -142,8 +119,8 @@ fn install_each(alloc: Global, core: &mut Core, batches: Vec<Rows>) -> u32 {
 }
 
 /// How many calls of these sites are answered, each on null.
-fn call_each(core: &Core, sites: &[SiteNo]) -> u32 {
-    let mut answered = 0u32;
+fn call_each(core: &Core, sites: &[SiteNo]) -> u64 {
+    let mut answered = 0u64;
     for site in sites {
         let _answer = core.call(*site, Recv::Null);
         answered = answered.saturating_add(1);
@@ -152,7 +129,7 @@ fn call_each(core: &Core, sites: &[SiteNo]) -> u32 {
 }
 
 /// The sites of the numbers below the count.
-fn sites_of(alloc: Global, count: u32) -> Result<Vec<SiteNo>, AllocError> {
+pub(crate) fn sites_of(alloc: Global, count: u32) -> Result<Vec<SiteNo>, AllocError> {
     let mut sites = Vec::new(alloc);
     for site in 0..count {
         sites.push(SiteNo::new(site))?;
@@ -160,51 +137,39 @@ fn sites_of(alloc: Global, count: u32) -> Result<Vec<SiteNo>, AllocError> {
     Ok(sites)
 }
 
-/// Times the links of all sites once.
-fn time_links(rt: &HostRuntime, core: &Core, sites: &[SiteNo]) -> io::Result<Vec<Rows>> {
+/// Times the links of all sites. They are let go.
+fn time_links(rt: &HostRuntime, core: &Core, sites: &[SiteNo]) -> io::Result<()> {
     let start = Instant::now(rt)?;
-    let batches = link_all(rt.alloc(), core, sites)?;
-    let time = start.elapsed(rt)?;
-    eprintln!(rt; "links of {} sites in {} us", sites.len(), time.as_micros())?;
-    Ok(batches)
+    let mut batches = Vec::new(rt.alloc());
+    add_all(rt.alloc(), core, sites, &mut batches)?;
+    tell(rt, "links", sites.len() as u64, &start)
 }
 
-/// Times the links of all sites, their installs and calls, and prints what kinds there are.
-fn time_all(rt: &HostRuntime, core: &mut Core, sites: &[SiteNo]) -> io::Result<()> {
-    for _round in 0..ROUNDS {
-        let _batches = time_links(rt, core, sites)?;
-    }
-    let batches = time_links(rt, core, sites)?;
+/// Times the installs of all links.
+fn time_installs(rt: &HostRuntime, core: &mut Core, sites: &[SiteNo]) -> io::Result<()> {
+    let mut batches = Vec::new(rt.alloc());
+    add_all(rt.alloc(), core, sites, &mut batches)?;
     let kinds = kinds_of(batches.as_slice());
+    println!(rt; "faults, plain, direct, tables, megamorphic {kinds:?}")?;
     let start = Instant::now(rt)?;
     let installed = install_each(rt.alloc(), core, batches);
-    let time = start.elapsed(rt)?;
-    eprintln!(rt; "{installed} installs in {} us", time.as_micros())?;
+    tell(rt, "installs", installed, &start)
+}
+
+/// Times the links of all sites, their installs and calls.
+fn time_all(rt: &HostRuntime, core: &mut Core, sites: &[SiteNo]) -> io::Result<()> {
+    for _ in 0..ROUNDS {
+        time_links(rt, core, sites)?;
+    }
+    time_installs(rt, core, sites)?;
     let start = Instant::now(rt)?;
-    let answered = call_each(core, sites);
-    let time = start.elapsed(rt)?;
-    eprintln!(rt; "{answered} calls in {} us", time.as_micros())?;
-    println!(rt;
-        "faults {}, plain {}, direct {}, tables {}, mega {}",
-        kinds.faults, kinds.plain, kinds.direct, kinds.tables, kinds.mega
-    )?;
-    Ok(())
+    tell(rt, "calls on null", call_each(core, sites), &start)
 }
 
 /// Measures all of it.
-pub(crate) fn measure(rt: &HostRuntime) -> io::Result<()> {
-    let alloc = rt.alloc();
-    let input = Input::read(rt)?;
-    let mut core = Core::new(alloc, 65_536)?;
-    let start = Instant::now(rt)?;
-    let defined = define_each(alloc, &mut core, input.files.as_slice());
-    let time = start.elapsed(rt)?;
-    eprintln!(rt; "{defined} definitions in {} us", time.as_micros())?;
-    let start = Instant::now(rt)?;
-    let requested = request_each(alloc, &mut core, input.places.as_slice());
-    let time = start.elapsed(rt)?;
-    eprintln!(rt; "{requested} requests in {} us", time.as_micros())?;
-    println!(rt; "classes {defined}, sites {requested}")?;
-    let sites = sites_of(alloc, requested)?;
+pub(crate) fn measure(rt: &HostRuntime, input: &Input) -> io::Result<()> {
+    let mut core = Core::new(rt.alloc(), SITES)?;
+    let count = fill(rt, &mut core, input)?;
+    let sites = sites_of(rt.alloc(), count)?;
     time_all(rt, &mut core, sites.as_slice())
 }

@@ -1,45 +1,75 @@
-//! Measures parts of the product, by itself or from outside. The first word names the part: `read`, `hierarchy`, `snapshot`, `link`, `farm`,
-//! `call`, `memo` or `wide`; what the others are, what is read from the standard input and what is printed stands at each module. Nothing is
-//! proved of it but that it is safe.
+//! Measures parts of the product, by itself or from outside, and makes the calls whose growths bench/growths.sh refuses. The first word
+//! names the part: `read`, `keep`, `hierarchy`, `link`, `snapshot`, `wide`, `farm`, `call` or `growths`; what the others are, and what is
+//! done, stands at each module. The word `then` stands between two parts. All have the classes and places of the standard input. What was
+//! done is printed, and, on the standard error, the microseconds that it took. Nothing is proved of it but that it is safe.
+//!
+//! The exit status is 0, 4 where memory lacked, and 1 where it ended otherwise.
 #![tactic(auto)]
 
+mod answers;
 mod call;
+mod cores;
+mod deeds;
 mod farm;
 mod files;
+mod fill;
+mod fresh;
+mod growths;
 mod hierarchy;
 mod input;
 mod link;
-mod memo;
+mod marks;
 mod read;
+mod readings;
+mod serve;
+mod servers;
 mod snapshot;
+mod told;
+mod watch;
 mod wide;
 
 use crate::input::Input;
-use std::{env, io};
+use std::env;
+use std::io::{self, ErrorKind};
+use std::process::ExitCode;
+use std::sync::Wait;
+use std::thread::Threads;
 
-/// The number that the word at this place is, or this one.
-fn number_or(words: &[String], place: usize, otherwise: u32) -> u32 {
-    match words.get(place) {
-        Some(word) => word.parse::<u32>().unwrap_or(otherwise),
-        None => otherwise,
+/// Measures what the words say.
+fn measure(
+    rt: &HostRuntime,
+    handle: &(impl Threads + Wait + Sync),
+    input: &Input,
+    words: &[String],
+) -> io::Result<()> {
+    match words.get(0).map(|word| word.as_str()) {
+        Some("read") => read::measure(rt, input.files.as_slice()),
+        Some("keep") => read::keep(rt, input.files.as_slice()),
+        Some("hierarchy") => hierarchy::measure(rt, input.files.as_slice()),
+        Some("snapshot") => snapshot::measure(rt, input.files.as_slice(), words),
+        Some("link") => link::measure(rt, input),
+        Some("wide") => wide::measure(rt, handle, input, words),
+        Some("farm" | "call") => serve::measure(rt, handle, input, words),
+        Some("growths") => growths::call_all(rt, handle),
+        _ => Ok(()),
     }
 }
 
-fn main(rt: HostRuntime) -> io::Result<()> {
-    let words: Vec<String> = env::args(&rt)?.collect(rt.alloc())?;
-    let (_, rest) = words.split_at(words.len().min(2));
-    match words.get(1).map(|word| word.as_str()) {
-        Some("read") => read::measure(&rt, rest),
-        Some("hierarchy") => hierarchy::measure(&rt),
-        Some("snapshot") => snapshot::measure(&rt),
-        Some("link") => link::measure(&rt),
-        Some("farm") => {
-            let input = Input::read(&rt)?;
-            farm::print(&rt, farm::measure(&rt, rt.alloc(), &input, rest))
-        }
-        Some("call") => call::print(&rt, call::measure(&rt, rt.alloc(), rest)),
-        Some("memo") => memo::print(&rt, memo::measure(&rt, rt.alloc(), rest)),
-        Some("wide") => wide::print(&rt, wide::measure(&rt, rt.alloc(), rest)?),
-        _ => Ok(()),
+/// Measures one part after another.
+fn measure_all(rt: &HostRuntime, handle: &(impl Threads + Wait + Sync)) -> io::Result<()> {
+    let words: Vec<String> = env::args(rt)?.collect(rt.alloc())?;
+    let input = Input::read(rt)?;
+    let (_, rest) = words.as_slice().split_at(words.len().min(1));
+    for part in rest.split(|word| word.as_str() == "then") {
+        measure(rt, handle, &input, part)?;
+    }
+    Ok(())
+}
+
+fn main(rt: HostRuntime) -> ExitCode {
+    match measure_all(&rt, &rt) {
+        Ok(()) => ExitCode::SUCCESS,
+        Err(error) if error.kind() == ErrorKind::OutOfMemory => ExitCode::from(4),
+        Err(_) => ExitCode::from(1),
     }
 }

@@ -1,73 +1,52 @@
-//! Times both forms. The words are the shape of the receivers (0 flat, 1 own, 2 a chain, 3 implementers, 4 beside one), the sites, the
-//! receivers of each and the rounds; it prints the least time of a round in nanoseconds, of one thread and of several. With no
-//! words it does nothing.
+//! Times preparations of so many sites, the second word, in one thread and in several, in so many rounds, the third word.
 
-use crate::number_or;
-use jl_relink::{Snapshot, prepare, prepare_wide};
-use jl_types::SiteNo;
-use rows_wide::worlds::{Shape, sites, snapshot};
-use std::alloc::Global;
+use crate::fill::fill;
+use crate::input::Input;
+use crate::link::{SITES, sites_of};
+use crate::told::{number_or, tell};
+use jl_core::Core;
+use jl_relink::{Prepared, Snapshot, prepare, prepare_wide};
+use jl_types::{PrepareFault, SiteNo};
 use std::io;
 use std::thread::Threads;
-use std::time::{Clock, Instant};
+use std::time::Instant;
 
-/// The least time of so many rounds, in nanoseconds.
-fn least(
-    rt: &(impl Threads + Sync + Clock),
-    alloc: Global,
-    rounds: u32,
+/// How many links there are.
+fn count(prepared: &Result<Prepared, PrepareFault>) -> u64 {
+    match prepared {
+        Ok(prepared) => prepared.rows.as_slice().len() as u64,
+        Err(_) => 0,
+    }
+}
+
+/// Times both forms.
+fn time_both(
+    rt: &HostRuntime,
+    handle: &(impl Threads + Sync),
     snapshot: &Snapshot,
     sites: &[SiteNo],
-    wide: bool,
-) -> io::Result<u64> {
-    let mut least = u64::MAX;
-    for _ in 0..rounds {
-        let start = Instant::now(rt)?;
-        let rows = if wide {
-            prepare_wide(rt, alloc, snapshot, sites)
-        } else {
-            prepare(alloc, snapshot, sites)
-        };
-        let taken = start.elapsed(rt)?.as_nanos();
-        if let Ok(rows) = rows {
-            if rows.rows.as_slice().len() == sites.len() {
-                least = least.min(u64::try_from(taken).unwrap_or(u64::MAX));
-            }
-        }
-    }
-    Ok(least)
+) -> io::Result<()> {
+    let start = Instant::now(rt)?;
+    let found = count(&prepare(rt.alloc(), snapshot, sites));
+    tell(rt, "prepared by one thread", found, &start)?;
+    let start = Instant::now(rt)?;
+    let found = count(&prepare_wide(handle, rt.alloc(), snapshot, sites));
+    tell(rt, "prepared by several", found, &start)
 }
 
-/// Does what the words say. Gives the least nanoseconds of one thread and of several.
+/// Measures all of it.
 pub(crate) fn measure(
-    rt: &(impl Threads + Sync + Clock),
-    alloc: Global,
+    rt: &HostRuntime,
+    handle: &(impl Threads + Sync),
+    input: &Input,
     words: &[String],
-) -> io::Result<Option<(u64, u64)>> {
-    let shape = match number_or(words, 0, 0) {
-        0 => Shape::Flat,
-        1 => Shape::Own,
-        2 => Shape::Chain,
-        3 => Shape::Implementers,
-        _ => Shape::Beside,
-    };
-    let rounds = number_or(words, 3, 0);
-    if rounds == 0 {
-        return Ok(None);
+) -> io::Result<()> {
+    let mut core = Core::new(rt.alloc(), SITES)?;
+    let most = fill(rt, &mut core, input)?;
+    let sites = sites_of(rt.alloc(), number_or(words, 1, 256).min(most))?;
+    let snapshot = core.snapshot(rt.alloc())?;
+    for _ in 0..number_or(words, 2, 1) {
+        time_both(rt, handle, &snapshot, sites.as_slice())?;
     }
-    let Some(snapshot) = snapshot(alloc, shape, number_or(words, 2, 0)) else {
-        return Ok(None);
-    };
-    let sites = sites(alloc, number_or(words, 1, 0))?;
-    let alone = least(rt, alloc, rounds, &snapshot, sites.as_slice(), false)?;
-    let wide = least(rt, alloc, rounds, &snapshot, sites.as_slice(), true)?;
-    Ok(Some((alone, wide)))
-}
-
-/// Prints what came of it, where anything did.
-pub(crate) fn print(rt: &HostRuntime, least: Option<(u64, u64)>) -> io::Result<()> {
-    match least {
-        Some((alone, wide)) => println!(rt; "one thread {alone} ns, wide {wide} ns"),
-        None => Ok(()),
-    }
+    Ok(())
 }

@@ -1,7 +1,9 @@
-//! Tests of lists that are kept, beside what comes of the same in a plain way: lists in pages, what a loader has recorded, and the
-//! dependency index. Nothing here is called by other crates.
+//! Tests of what is kept or divided, beside what comes of the same in a plain way: lists in pages, what a loader has recorded, the dependency
+//! index, and preparations by several threads. Nothing here is called by other crates.
 #![tactic(auto)]
 
+#[cfg(test)]
+mod gates;
 #[cfg(test)]
 mod operations;
 #[cfg(test)]
@@ -12,3 +14,7 @@ mod plain;
 mod records;
 #[cfg(test)]
 mod removals;
+#[cfg(test)]
+mod tables;
+#[cfg(test)]
+mod worlds;

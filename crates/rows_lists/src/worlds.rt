@@ -7,10 +7,10 @@ use rows_files::{CallRow, MethodRow, OBJECT, calling, class};
 use std::alloc::{AllocError, Global};
 
 /// How many calls there are.
-pub const SITES: u32 = 256;
+pub(crate) const SITES: u32 = 256;
 
 /// The site that is requested behind these, where no call stands.
-pub const WITHOUT_LINK: u32 = 256;
+pub(crate) const WITHOUT_LINK: u32 = 256;
 
 /// How many events each snapshot has.
 const SERIAL: u64 = 7;
@@ -26,7 +26,7 @@ const ABSTRACT_F: [MethodRow; 1] = [("f", "()V", 1025)];
 
 /// How the calls' receivers stand to each other.
 #[derive(Clone, Copy)]
-pub enum Shape {
+pub(crate) enum Shape {
     /// Each is a direct subclass of A, and declares no method.
     Flat,
     /// Each is a direct subclass of A, with an f of its own.
@@ -138,7 +138,7 @@ fn request_at(world: &mut World, pc: u32) -> bool {
 }
 
 /// A snapshot in which each of the sites 0 to 255 has so many receivers, if there is memory for it.
-pub fn snapshot(alloc: Global, shape: Shape, receivers: u32) -> Option<Snapshot> {
+pub(crate) fn snapshot(alloc: Global, shape: Shape, receivers: u32) -> Option<Snapshot> {
     let mut world = World::new(alloc).ok()?;
     if define_callers(alloc, &mut world, shape)
         && define_receivers(alloc, &mut world, shape, receivers)
@@ -150,7 +150,7 @@ pub fn snapshot(alloc: Global, shape: Shape, receivers: u32) -> Option<Snapshot>
 }
 
 /// The sites of so many numbers, from 0 on.
-pub fn sites(alloc: Global, count: u32) -> Result<Vec<SiteNo>, AllocError> {
+pub(crate) fn sites(alloc: Global, count: u32) -> Result<Vec<SiteNo>, AllocError> {
     let mut all = Vec::new(alloc);
     for number in 0..count {
         all.push(SiteNo::new(number))?;

@@ -1,4 +1,4 @@
-use Rattle.trial_growths.proofs.ask_new_server.Given as goal
+use Rattle.bench.proofs.growths.ask_new_server.Given as goal
 
 -- the server that is started
 abbrev pub ghosts-ask_server : goal.ghosts-ask_server

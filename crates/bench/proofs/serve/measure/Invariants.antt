@@ -1,4 +1,4 @@
-use Rattle.trial_growths.proofs.fresh.make_parts.Given as goal
+use Rattle.bench.proofs.serve.measure.Given as goal
 
 -- the server that is started
 abbrev pub ghosts-start : goal.ghosts-start

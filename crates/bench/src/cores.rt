@@ -1,15 +1,12 @@
-//! The calls of a core.
+//! The calls of a core whose growths may be refused.
 
+use crate::answers::{Called, told, told_link};
 use crate::deeds::{Ask, Change, event};
 use crate::marks::{SITES, add_core};
-use crate::told::{
-    Called, is_memory, tell_answer, tell_links, tell_refusal, tell_reply, tell_serial,
-    tell_unprepared,
-};
 use crate::watch::Watched;
 use jl_core::Core;
 use jl_relink::{Prepared, Snapshot};
-use jl_types::{ClassId, Event, Recv, SiteNo};
+use jl_types::{ClassId, Event, PrepareFault, Recv, Refusal, Reply, SiteNo};
 use std::alloc::AllocError;
 use std::io;
 
@@ -52,22 +49,50 @@ pub(crate) fn receiver(class: Option<u32>) -> Recv {
     }
 }
 
+/// Prints the reply.
+pub(crate) fn told_reply(rt: &HostRuntime, called: Called, reply: &Reply) -> io::Result<bool> {
+    told(rt, called, &(reply.made, reply.dropped.as_slice()))
+}
+
+/// Prints the refusal where it isn't want of memory, and gives whether it is. Of a stale link it prints the site and its present link.
+pub(crate) fn told_refusal(
+    rt: &HostRuntime,
+    called: Called,
+    refusal: &Refusal,
+) -> io::Result<bool> {
+    match refusal {
+        Refusal::Memory => Ok(true),
+        Refusal::Stale { site, present } => told_link(rt, called, *site, present),
+        other => told(rt, called, other),
+    }
+}
+
+/// The same of what was prepared.
+pub(crate) fn told_prepared(
+    rt: &HostRuntime,
+    called: Called,
+    prepared: &Result<Prepared, PrepareFault>,
+) -> io::Result<bool> {
+    match prepared {
+        Ok(Prepared { serial: _, rows }) => told(rt, called, &rows.as_slice()),
+        Err(PrepareFault::Memory) => Ok(true),
+        Err(fault) => told(rt, called, fault),
+    }
+}
+
 /// Applies the event.
 fn apply(rt: &HostRuntime, core: &mut Core, called: Called, event: Event) -> io::Result<bool> {
     match &core.apply(rt.alloc(), event) {
-        Ok(reply) => {
-            tell_reply(rt, called, reply)?;
-            Ok(false)
-        }
-        Err(refusal) => tell_refusal(rt, called, refusal),
+        Ok(reply) => told_reply(rt, called, reply),
+        Err(refusal) => told_refusal(rt, called, refusal),
     }
 }
 
 /// Plans the event, and drops the plan. It gives whether memory lacked.
 fn plan(rt: &HostRuntime, core: &mut Core, event: Event) -> bool {
     match &core.plan(rt.alloc(), event) {
-        Ok(_) => false,
-        Err(refusal) => is_memory(refusal),
+        Err(Refusal::Memory) => true,
+        _ => false,
     }
 }
 
@@ -116,10 +141,7 @@ fn apply_shared(
 /// The installed links.
 fn links(rt: &HostRuntime, core: &Core, called: Called) -> io::Result<bool> {
     match &core.list_links(rt.alloc()) {
-        Ok(links) => {
-            tell_links(rt, called, links.as_slice())?;
-            Ok(false)
-        }
+        Ok(links) => told(rt, called, links),
         Err(_) => Ok(true),
     }
 }
@@ -127,30 +149,15 @@ fn links(rt: &HostRuntime, core: &Core, called: Called) -> io::Result<bool> {
 /// A snapshot.
 fn snapshot(rt: &HostRuntime, core: &Core, called: Called) -> io::Result<bool> {
     match &core.snapshot(rt.alloc()) {
-        Ok(snapshot) => {
-            tell_serial(rt, called, snapshot.serial())?;
-            Ok(false)
-        }
+        Ok(snapshot) => told(rt, called, &("events", snapshot.serial())),
         Err(_) => Ok(true),
     }
 }
 
 /// A preparation of site 0.
 fn prepare(rt: &HostRuntime, core: &Core, called: Called) -> io::Result<bool> {
-    match &core.prepare(rt.alloc(), [SiteNo::new(0)].as_slice()) {
-        Ok(Prepared { serial: _, rows }) => {
-            tell_links(rt, called, rows.as_slice())?;
-            Ok(false)
-        }
-        Err(fault) => tell_unprepared(rt, called, fault),
-    }
-}
-
-/// A call of site 0.
-fn call(rt: &HostRuntime, core: &Core, called: Called, class: Option<u32>) -> io::Result<bool> {
-    let answer = core.call(SiteNo::new(0), receiver(class));
-    tell_answer(rt, called, &answer)?;
-    Ok(false)
+    let sites = [SiteNo::new(0)];
+    told_prepared(rt, called, &core.prepare(rt.alloc(), sites.as_slice()))
 }
 
 impl Watched for OnCore {
@@ -167,17 +174,27 @@ impl Watched for OnCore {
         Ok(())
     }
 
+    fn apply(&mut self, rt: &HostRuntime, called: Called, change: &Change) -> io::Result<bool> {
+        match self.way {
+            Way::Follows => apply_change(rt, &mut self.core, called, change),
+            Way::Copies => apply_planned(rt, &mut self.core, called, change),
+            Way::Shares => apply_shared(rt, &mut self.core, &mut self.held, called, change),
+        }
+    }
+
     fn ask(&mut self, rt: &HostRuntime, called: Called, ask: &Ask) -> io::Result<bool> {
         match ask {
-            Ask::Apply(change) => match self.way {
-                Way::Follows => apply_change(rt, &mut self.core, called, change),
-                Way::Copies => apply_planned(rt, &mut self.core, called, change),
-                Way::Shares => apply_shared(rt, &mut self.core, &mut self.held, called, change),
-            },
             Ask::Links => links(rt, &self.core, called),
             Ask::Snapshot => snapshot(rt, &self.core, called),
             Ask::Prepare => prepare(rt, &self.core, called),
-            Ask::Call(class) => call(rt, &self.core, called, *class),
+            Ask::Call(class) => {
+                told(
+                    rt,
+                    called,
+                    &self.core.call(SiteNo::new(0), receiver(*class)),
+                )
+            }
+            Ask::Apply(change) => self.apply(rt, called, change),
         }
     }
 }

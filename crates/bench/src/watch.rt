@@ -1,8 +1,8 @@
 //! Calls that may be answered Memory: what was there before is to be there afterwards, and the same call is to be answered then.
 
-use crate::deeds::{Ask, Deed};
+use crate::answers::{Called, tell_memory, tell_state};
+use crate::deeds::{Ask, Change, Deed};
 use crate::marks::blank;
-use crate::told::{Called, tell_memory, tell_state};
 use std::alloc::{AllocError, Global};
 use std::io::{self, ErrorKind};
 
@@ -14,7 +14,14 @@ pub(crate) trait Watched {
     /// Adds all that is seen of the state.
     fn mark(&mut self, rt: &HostRuntime, text: &mut String) -> io::Result<()>;
 
-    /// Asks, and prints the answer where it isn't Memory. It gives whether it is.
+    /// Applies the event of the change, and prints the answer where it isn't Memory. It gives whether it is.
+    ///
+    /// # Errors
+    ///
+    /// Want of memory before the call, and a failed write.
+    fn apply(&mut self, rt: &HostRuntime, called: Called, change: &Change) -> io::Result<bool>;
+
+    /// The same of whatever is asked.
     ///
     /// # Errors
     ///
@@ -64,14 +71,15 @@ fn watch<W: Watched>(
     marks: &mut Marks,
     deed: &Deed,
 ) -> io::Result<()> {
+    let (deed, ask) = deed;
     let called = Called {
         of: watched.name(),
-        deed: deed.name,
+        deed,
     };
     marks.before.clear();
     watched.mark(rt, &mut marks.before)?;
-    if watched.ask(rt, called, &deed.ask)? {
-        ask_again(rt, watched, marks, called, &deed.ask)?;
+    if watched.ask(rt, called, ask)? {
+        ask_again(rt, watched, marks, called, ask)?;
     }
     Ok(())
 }

@@ -1,7 +1,8 @@
-//! The reading of class files.
+//! The reading of class files whose growths may be refused.
 
+use crate::answers::{Called, tell_memory, told};
 use crate::files::{A, B, C, M, OBJECT, T};
-use crate::told::{Called, tell_file, tell_memory};
+use jl_class::ClassFile;
 use jl_classfile::{ClassFault, read_class};
 use std::io::{self, ErrorKind};
 
@@ -15,13 +16,17 @@ const FILES: &[(&str, &[u8])] = &[
     ("T", T),
 ];
 
+/// Prints what a file shows: the name, the superclass, the flags and how many methods there are.
+fn told_file(rt: &HostRuntime, called: Called, file: &ClassFile) -> io::Result<bool> {
+    told(rt, called, file.name())?;
+    told(rt, called, &file.superclass())?;
+    told(rt, called, &(file.flags(), file.methods().len()))
+}
+
 /// Reads the file, and prints what was read or why it wasn't. It gives whether memory lacked, which it doesn't print.
 fn read(rt: &HostRuntime, called: Called, bytes: &[u8]) -> io::Result<bool> {
     match &read_class(rt.alloc(), bytes) {
-        Ok(file) => {
-            tell_file(rt, called, file)?;
-            Ok(false)
-        }
+        Ok(file) => told_file(rt, called, file),
         Err(ClassFault::Memory) => Ok(true),
         Err(_) => Err(ErrorKind::InvalidData.into()),
     }

@@ -1,0 +1,106 @@
+//! A link server whose first caller defines the classes of the input and requests its places.
+
+ghost use Rattle.std.specs.Prelude.{◌≡◌};
+
+use crate::fill::{Takes, fill};
+use crate::input::Input;
+use crate::told::number_or;
+use crate::{call, farm};
+use jl_class::ClassFile;
+use jl_server::{Caller, LinkServer, Name, Parts};
+use jl_types::{Event, LoaderId, Place};
+use std::alloc::Global;
+use std::io::{self, ErrorKind};
+use std::marker::Brand;
+use std::sync::Wait;
+use std::thread::Threads;
+
+/// The most workers or threads.
+const MOST: u32 = 16;
+
+/// A caller with its server.
+#[derive(Drop)]
+pub(crate) struct Desk<'a, K: Name, R: Wait, S: Wait + Drop> {
+    pub(crate) handle: &'a R,
+    pub(crate) server: &'a LinkServer<K, S>,
+    pub(crate) caller: Caller<K>,
+}
+
+impl<'a, K: Name, R: Wait, S: Wait + Drop> Desk<'a, K, R, S> {
+    /// Whether the event is accepted.
+    pub(crate) fn accepts(&mut self, alloc: Global, event: Event) -> bool {
+        self.caller
+            .apply(self.handle, alloc, self.server, event)
+            .is_ok()
+    }
+}
+
+impl<'a, K: Name, R: Wait, S: Wait + Drop> Takes for Desk<'a, K, R, S> {
+    fn defines(&mut self, alloc: Global, file: ClassFile) -> bool {
+        self.accepts(alloc, Event::Define(LoaderId::new(0), file))
+    }
+
+    fn requests(&mut self, alloc: Global, place: Place) -> bool {
+        self.accepts(alloc, Event::Request(place))
+    }
+}
+
+/// Does what the words say at the server, whose other callers these are.
+fn work<K: Name + Send + Sync, R: Threads + Wait + Sync, S: Wait + Drop + Send + Sync>(
+    rt: &HostRuntime,
+    handle: &R,
+    server: LinkServer<K, S>,
+    callers: Vec<Caller<K>>,
+    input: &Input,
+    words: &[String],
+) -> io::Result<()> {
+    let mut callers = callers;
+    let Some(caller) = callers.pop() else {
+        return Ok(());
+    };
+    let mut desk = Desk {
+        handle,
+        server: &server,
+        caller,
+    };
+    let sites = fill(rt, &mut desk, input)?;
+    match words.get(0).map(|word| word.as_str()) {
+        Some("farm") => farm::measure(rt, &desk, callers, sites, number_or(words, 2, 1)),
+        _ => call::measure(rt, &mut desk, callers, sites, words),
+    }
+}
+
+/// Starts the server of these parts, under a name.
+fn start<K: Name + Send + Sync, R: Threads + Wait + Sync>(
+    rt: &HostRuntime,
+    handle: &R,
+    parts: Parts,
+    input: &Input,
+    words: &[String],
+) -> io::Result<()>
+    requires book { parts.book ≡ K.book }
+    requires sites { parts.max_sites ≡ K.max_sites }
+{
+    match parts.start::<K, &R>(rt.alloc(), handle) {
+        Ok((server, callers)) => work(rt, handle, server, callers, input, words),
+        Err(_) => Err(ErrorKind::OutOfMemory.into()),
+    }
+}
+
+/// Measures what the words say.
+pub(crate) fn measure<R: Threads + Wait + Sync>(
+    rt: &HostRuntime,
+    handle: &R,
+    input: &Input,
+    words: &[String],
+) -> io::Result<()> {
+    let workers = number_or(words, 1, 1);
+    let sites = number_or(words, 5, 65_536);
+    if workers > MOST || sites < 1 || sites > 65_536 {
+        return Ok(());
+    }
+    match Parts::new(rt.alloc(), sites, workers as usize + 1) {
+        Ok(parts) => start::<Brand, R>(rt, handle, parts, input, words),
+        Err(_) => Err(ErrorKind::OutOfMemory.into()),
+    }
+}

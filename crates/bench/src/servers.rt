@@ -1,0 +1,219 @@
+//! The calls of a link server whose growths may be refused.
+
+use crate::answers::{Called, tell_memory, tell_state, told};
+use crate::cores::{receiver, told_prepared, told_refusal, told_reply};
+use crate::deeds::{Ask, Change, event};
+use crate::marks::{add, add_world};
+use crate::watch::Watched;
+use jl_relink::{Snapshot, prepare};
+use jl_server::{Caller, LinkServer, Name};
+use jl_types::{ClassId, Event, Recv, SiteNo};
+use std::io::{self, ErrorKind};
+use std::sync::Wait;
+
+/// A server that is watched, and its one caller.
+#[derive(Drop)]
+pub(crate) struct OnServer<K: Name, S: Wait + Drop> {
+    handle: S,
+    server: LinkServer<K, S>,
+    caller: Caller<K>,
+    /// Whether snapshots hold the world and the one before while an event is applied.
+    shares: bool,
+    /// The world before the last event, where snapshots are held.
+    held: Option<Snapshot>,
+}
+
+/// A look at a part of the state.
+#[derive(Clone, Copy)]
+enum Look {
+    Links,
+    World,
+}
+
+impl<K: Name, S: Wait + Drop> OnServer<K, S> {
+    pub(crate) fn new(
+        handle: S,
+        server: LinkServer<K, S>,
+        caller: Caller<K>,
+        shares: bool,
+    ) -> Self {
+        OnServer {
+            handle,
+            server,
+            caller,
+            shares,
+            held: None,
+        }
+    }
+
+    /// Applies the event.
+    fn apply_event(&mut self, rt: &HostRuntime, called: Called, event: Event) -> io::Result<bool> {
+        match &self
+            .caller
+            .apply(&self.handle, rt.alloc(), &self.server, event)
+        {
+            Ok(receipt) => told_reply(rt, called, &receipt.reply),
+            Err(denied) => told_refusal(rt, called, &denied.refusal),
+        }
+    }
+
+    /// Applies the event of the change.
+    fn apply_change(
+        &mut self,
+        rt: &HostRuntime,
+        called: Called,
+        change: &Change,
+    ) -> io::Result<bool> {
+        let event = event(rt.alloc(), change)?;
+        self.apply_event(rt, called, event)
+    }
+
+    /// The same while a snapshot holds the world and another one the world before, in whose place the first comes where the event is
+    /// answered.
+    fn apply_shared(
+        &mut self,
+        rt: &HostRuntime,
+        called: Called,
+        change: &Change,
+    ) -> io::Result<bool> {
+        let (snapshot, _seen) = self
+            .caller
+            .snapshot(&self.handle, rt.alloc(), &self.server)?;
+        let lacks = self.apply_change(rt, called, change)?;
+        if !lacks {
+            self.held = Some(snapshot);
+        }
+        Ok(lacks)
+    }
+
+    /// The installed links.
+    fn links(&mut self, rt: &HostRuntime, called: Called) -> io::Result<bool> {
+        match &self
+            .server
+            .links(&self.handle, rt.alloc(), &mut self.caller)
+        {
+            Ok(list) => told(rt, called, &list.rows.as_slice()),
+            Err(_) => Ok(true),
+        }
+    }
+
+    /// A snapshot.
+    fn snapshot(&mut self, rt: &HostRuntime, called: Called) -> io::Result<bool> {
+        match &self.caller.snapshot(&self.handle, rt.alloc(), &self.server) {
+            Ok((snapshot, _seen)) => told(rt, called, &("events", snapshot.serial())),
+            Err(_) => Ok(true),
+        }
+    }
+
+    /// A preparation of site 0 in a snapshot.
+    fn prepare(&mut self, rt: &HostRuntime, called: Called) -> io::Result<bool> {
+        let sites = [SiteNo::new(0)];
+        match &self.caller.snapshot(&self.handle, rt.alloc(), &self.server) {
+            Ok((snapshot, _seen)) => {
+                told_prepared(rt, called, &prepare(rt.alloc(), snapshot, sites.as_slice()))
+            }
+            Err(_) => Err(ErrorKind::OutOfMemory.into()),
+        }
+    }
+
+    /// Adds the installed links, and gives whether memory lacked.
+    fn add_links(&mut self, rt: &HostRuntime, text: &mut String) -> io::Result<bool> {
+        match &self
+            .server
+            .links(&self.handle, rt.alloc(), &mut self.caller)
+        {
+            Ok(list) => {
+                add(text, list)?;
+                Ok(false)
+            }
+            Err(_) => Ok(true),
+        }
+    }
+
+    /// Adds the world as a snapshot has it, and gives whether memory lacked.
+    fn add_snapshot(&mut self, rt: &HostRuntime, text: &mut String) -> io::Result<bool> {
+        match &self.caller.snapshot(&self.handle, rt.alloc(), &self.server) {
+            Ok((snapshot, seen)) => {
+                add(text, &(snapshot.serial(), seen.serial()))?;
+                add_world(text, snapshot.world())?;
+                Ok(false)
+            }
+            Err(_) => Ok(true),
+        }
+    }
+
+    /// Adds what is looked at, and gives whether memory lacked.
+    fn look(&mut self, rt: &HostRuntime, look: Look, text: &mut String) -> io::Result<bool> {
+        match look {
+            Look::Links => self.add_links(rt, text),
+            Look::World => self.add_snapshot(rt, text),
+        }
+    }
+
+    /// Adds what is looked at. Where memory lacked, it prints that, and whether the caller has seen what it had, and looks once more.
+    fn look_twice(
+        &mut self,
+        rt: &HostRuntime,
+        look: Look,
+        deed: &'static str,
+        text: &mut String,
+    ) -> io::Result<()> {
+        let called = Called {
+            of: self.name(),
+            deed,
+        };
+        let serial = self.caller.seen().serial();
+        if self.look(rt, look, text)? {
+            tell_memory(rt, called)?;
+            tell_state(rt, called, self.caller.seen().serial() == serial)?;
+            if self.look(rt, look, text)? {
+                return Err(ErrorKind::OutOfMemory.into());
+            }
+        }
+        Ok(())
+    }
+}
+
+impl<K: Name, S: Wait + Drop> Watched for OnServer<K, S> {
+    fn name(&self) -> &'static str {
+        if self.shares {
+            "server beside snapshots"
+        } else {
+            "server"
+        }
+    }
+
+    fn mark(&mut self, rt: &HostRuntime, text: &mut String) -> io::Result<()> {
+        add(text, &self.caller.seen().serial())?;
+        for class in 0..6u32 {
+            let receiver = Recv::Of(ClassId::new(class));
+            add(text, &self.caller.call(SiteNo::new(0), receiver))?;
+        }
+        self.look_twice(rt, Look::Links, "a look at the links", text)?;
+        self.look_twice(rt, Look::World, "a look at the world", text)
+    }
+
+    fn apply(&mut self, rt: &HostRuntime, called: Called, change: &Change) -> io::Result<bool> {
+        if self.shares {
+            self.apply_shared(rt, called, change)
+        } else {
+            self.apply_change(rt, called, change)
+        }
+    }
+
+    fn ask(&mut self, rt: &HostRuntime, called: Called, ask: &Ask) -> io::Result<bool> {
+        match ask {
+            Ask::Links => self.links(rt, called),
+            Ask::Snapshot => self.snapshot(rt, called),
+            Ask::Prepare => self.prepare(rt, called),
+            Ask::Call(class) => {
+                told(
+                    rt,
+                    called,
+                    &self.caller.call(SiteNo::new(0), receiver(*class)),
+                )
+            }
+            Ask::Apply(change) => self.apply(rt, called, change),
+        }
+    }
+}
