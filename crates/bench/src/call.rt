@@ -43,6 +43,15 @@ enum Kind {
     Asked,
 }
 
+/// What is to be done: which calls, at how many sites, how many by each thread, and how many threads call.
+#[derive(Clone, Copy)]
+struct Work {
+    kind: Kind,
+    sites: u32,
+    calls: u32,
+    busy: u64,
+}
+
 /// The calls of this name.
 fn kind_of(word: Option<&str>) -> Kind {
     match word {
@@ -290,18 +299,13 @@ fn link<K: Name, R: Wait, S: Wait + Drop>(
 }
 
 /// Links each of so many sites, and the last one so many times more.
-fn link_each<K: Name, R: Wait, S: Wait + Drop>(
-    alloc: Global,
-    desk: &mut Desk<'_, K, R, S>,
-    sites: u32,
-    more: u32,
-) {
+fn link_each<K: Name, S: Wait + Drop>(alloc: Global, desk: &mut Desk<K, S>, sites: u32, more: u32) {
     for site in 0..sites {
-        link(desk.handle, alloc, desk.server, &mut desk.caller, site);
+        link(&desk.handle, alloc, &desk.server, &mut desk.caller, site);
     }
     for _ in 0..more {
         let last = sites.wrapping_sub(1);
-        link(desk.handle, alloc, desk.server, &mut desk.caller, last);
+        link(&desk.handle, alloc, &desk.server, &mut desk.caller, last);
     }
 }
 
@@ -326,16 +330,30 @@ fn jobs<K: Name>(
     Ok(jobs)
 }
 
-/// Starts the threads, whose callers lie side by side.
-fn start<K: Name + Send + Sync, R: Threads + Wait + Sync, S: Wait + Drop + Send + Sync>(
-    rt: &HostRuntime,
-    common: &Common<'_, K, R, S>,
+/// Starts the threads, whose callers lie side by side. Gives how many answers and events there were.
+fn all<K: Name + Send + Sync, R: Threads + Wait + Sync, S: Wait + Drop + Send + Sync>(
+    rt: &R,
+    alloc: Global,
+    server: &LinkServer<K, S>,
+    work: Work,
     jobs: &mut [Job<K>],
-) -> io::Result<()> {
-    let start = Instant::now(rt)?;
-    at_once(common.rt, common, jobs);
-    tell(rt, "answers", common.answers.load(Ordering::SeqCst), &start)?;
-    tell(rt, "events", common.events.load(Ordering::SeqCst), &start)
+) -> (u64, u64) {
+    let common = Common {
+        rt,
+        alloc,
+        server,
+        kind: work.kind,
+        sites: work.sites,
+        calls: work.calls,
+        busy: AtomicU64::new(work.busy),
+        events: AtomicU64::new(0),
+        answers: AtomicU64::new(0),
+    };
+    at_once(rt, &common, jobs);
+    (
+        common.answers.load(Ordering::SeqCst),
+        common.events.load(Ordering::SeqCst),
+    )
 }
 
 /// Measures what the words say.
@@ -345,24 +363,24 @@ pub(crate) fn measure<
     S: Wait + Drop + Send + Sync,
 >(
     rt: &HostRuntime,
-    desk: &mut Desk<'_, K, R, S>,
+    handle: &R,
+    desk: &mut Desk<K, S>,
     callers: Vec<Caller<K>>,
     sites: u32,
     words: &[String],
 ) -> io::Result<()> {
     link_each(rt.alloc(), desk, sites, number_or(words, 6, 0));
     let writers = number_or(words, 7, 0).min(1);
-    let common = Common {
-        rt: desk.handle,
-        alloc: rt.alloc(),
-        server: desk.server,
+    let work = Work {
         kind: kind_of(words.get(2).map(|word| word.as_str())),
         sites,
         calls: number_or(words, 3, 0),
-        busy: AtomicU64::new((callers.len() as u64).saturating_sub(writers as u64)),
-        events: AtomicU64::new(0),
-        answers: AtomicU64::new(0),
+        busy: (callers.len() as u64).saturating_sub(writers as u64),
     };
-    let mut jobs = jobs(rt.alloc(), callers, number_or(words, 4, 8_192), writers > 0)?;
-    start(rt, &common, jobs.as_mut_slice())
+    let sets = number_or(words, 4, 8_192);
+    let mut jobs = jobs(rt.alloc(), callers, sets, writers > 0)?;
+    let start = Instant::now(rt)?;
+    let (answers, events) = all(handle, rt.alloc(), &desk.server, work, jobs.as_mut_slice());
+    tell(rt, "answers", answers, &start)?;
+    tell(rt, "events", events, &start)
 }

@@ -52,8 +52,9 @@ fn installed<K: Name>(reports: &[Report<K>]) -> u64 {
 
 /// How many of the jobs are installed by workers that have learnt what the caller has seen.
 fn farm<K: Name + Send + Sync, R: Threads + Wait + Sync, S: Wait + Drop + Send + Sync>(
+    handle: &R,
     alloc: Global,
-    desk: &Desk<'_, K, R, S>,
+    desk: &Desk<K, S>,
     mut workers: Vec<Caller<K>>,
     jobs: Vec<Seq<SiteNo>>,
 ) -> Result<u64, FarmFault> {
@@ -63,7 +64,7 @@ fn farm<K: Name + Send + Sync, R: Threads + Wait + Sync, S: Wait + Drop + Send +
     if workers.is_empty() || workers.len() > 16 || jobs.len() > 65_536 {
         return Err(FarmFault::NoThread);
     }
-    let reports = run(desk.handle, alloc, desk.server, jobs, workers, &Open)?;
+    let reports = run(handle, alloc, &desk.server, jobs, workers, &Open)?;
     Ok(installed(reports.as_slice()))
 }
 
@@ -74,7 +75,8 @@ pub(crate) fn measure<
     S: Wait + Drop + Send + Sync,
 >(
     rt: &HostRuntime,
-    desk: &Desk<'_, K, R, S>,
+    handle: &R,
+    desk: &Desk<K, S>,
     workers: Vec<Caller<K>>,
     sites: u32,
     each: u32,
@@ -82,7 +84,7 @@ pub(crate) fn measure<
     let sites = sites_of(rt.alloc(), sites)?;
     let jobs = jobs_of(rt.alloc(), sites.as_slice(), each as usize)?;
     let start = Instant::now(rt)?;
-    match farm(rt.alloc(), desk, workers, jobs) {
+    match farm(handle, rt.alloc(), desk, workers, jobs) {
         Ok(count) => tell(rt, "jobs", count, &start),
         Err(_) => Err(ErrorKind::OutOfMemory.into()),
     }

@@ -18,6 +18,8 @@ use std::marker::Brand;
 use std::sync::Wait;
 use std::thread::Threads;
 
+const WAYS: [Way; 3] = [Way::Follows, Way::Copies, Way::Shares];
+
 /// Asks a core.
 fn ask_core(rt: &HostRuntime, way: Way, deeds: &[Deed]) -> io::Result<()> {
     let mut core = OnCore::new(rt, way)?;
@@ -75,8 +77,8 @@ fn ask_new_server(
 
 /// Asks cores and servers.
 fn ask_all(rt: &HostRuntime, handle: &impl Wait, deeds: &[Deed]) -> io::Result<()> {
-    for way in [Way::Follows, Way::Copies, Way::Shares] {
-        ask_core(rt, way, deeds)?;
+    for way in &WAYS {
+        ask_core(rt, *way, deeds)?;
     }
     ask_new_server(rt, handle, false, deeds)?;
     ask_new_server(rt, handle, true, deeds)
@@ -87,8 +89,7 @@ pub(crate) fn call_all(rt: &HostRuntime, handle: &(impl Threads + Wait + Sync)) 
     read_all(rt)?;
     make_parts(rt, handle)?;
     prepare_in_threads(rt, handle)?;
-    for deeds in [RECEIVERS, GUARDS, RETIREMENT] {
-        ask_all(rt, handle, deeds)?;
-    }
-    Ok(())
+    ask_all(rt, handle, RECEIVERS)?;
+    ask_all(rt, handle, GUARDS)?;
+    ask_all(rt, handle, RETIREMENT)
 }

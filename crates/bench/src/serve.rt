@@ -18,24 +18,24 @@ use std::thread::Threads;
 /// The most workers or threads.
 const MOST: u32 = 16;
 
-/// A caller with its server.
+/// A caller with its server, and what it waits by.
 #[derive(Drop)]
-pub(crate) struct Desk<'a, K: Name, R: Wait, S: Wait + Drop> {
-    pub(crate) handle: &'a R,
-    pub(crate) server: &'a LinkServer<K, S>,
+pub(crate) struct Desk<K: Name, S: Wait + Drop> {
+    pub(crate) handle: S,
+    pub(crate) server: LinkServer<K, S>,
     pub(crate) caller: Caller<K>,
 }
 
-impl<'a, K: Name, R: Wait, S: Wait + Drop> Desk<'a, K, R, S> {
+impl<K: Name, S: Wait + Drop> Desk<K, S> {
     /// Whether the event is accepted.
-    pub(crate) fn accepts(&mut self, alloc: Global, event: Event) -> bool {
+    fn accepts(&mut self, alloc: Global, event: Event) -> bool {
         self.caller
-            .apply(self.handle, alloc, self.server, event)
+            .apply(&self.handle, alloc, &self.server, event)
             .is_ok()
     }
 }
 
-impl<'a, K: Name, R: Wait, S: Wait + Drop> Takes for Desk<'a, K, R, S> {
+impl<K: Name, S: Wait + Drop> Takes for Desk<K, S> {
     fn defines(&mut self, alloc: Global, file: ClassFile) -> bool {
         self.accepts(alloc, Event::Define(LoaderId::new(0), file))
     }
@@ -49,24 +49,39 @@ impl<'a, K: Name, R: Wait, S: Wait + Drop> Takes for Desk<'a, K, R, S> {
 fn work<K: Name + Send + Sync, R: Threads + Wait + Sync, S: Wait + Drop + Send + Sync>(
     rt: &HostRuntime,
     handle: &R,
+    desk: &mut Desk<K, S>,
+    callers: Vec<Caller<K>>,
+    input: &Input,
+    words: &[String],
+) -> io::Result<()> {
+    let sites = fill(rt, desk, input)?;
+    match words.get(0).map(|word| word.as_str()) {
+        Some("farm") => farm::measure(rt, handle, desk, callers, sites, number_or(words, 2, 1)),
+        _ => call::measure(rt, handle, desk, callers, sites, words),
+    }
+}
+
+/// Has the last caller do the first work.
+fn open<K: Name + Send + Sync, R: Threads + Wait + Sync, S: Wait + Drop + Send + Sync>(
+    rt: &HostRuntime,
+    handle: &R,
+    own: S,
     server: LinkServer<K, S>,
     callers: Vec<Caller<K>>,
     input: &Input,
     words: &[String],
 ) -> io::Result<()> {
     let mut callers = callers;
-    let Some(caller) = callers.pop() else {
-        return Ok(());
-    };
-    let mut desk = Desk {
-        handle,
-        server: &server,
-        caller,
-    };
-    let sites = fill(rt, &mut desk, input)?;
-    match words.get(0).map(|word| word.as_str()) {
-        Some("farm") => farm::measure(rt, &desk, callers, sites, number_or(words, 2, 1)),
-        _ => call::measure(rt, &mut desk, callers, sites, words),
+    match callers.pop() {
+        Some(caller) => {
+            let mut desk = Desk {
+                handle: own,
+                server,
+                caller,
+            };
+            work(rt, handle, &mut desk, callers, input, words)
+        }
+        None => Ok(()),
     }
 }
 
@@ -82,7 +97,7 @@ fn start<K: Name + Send + Sync, R: Threads + Wait + Sync>(
     requires sites { parts.max_sites ≡ K.max_sites }
 {
     match parts.start::<K, &R>(rt.alloc(), handle) {
-        Ok((server, callers)) => work(rt, handle, server, callers, input, words),
+        Ok((server, callers)) => open(rt, handle, handle, server, callers, input, words),
         Err(_) => Err(ErrorKind::OutOfMemory.into()),
     }
 }

@@ -1,7 +1,7 @@
 use mir.Syntax.{named}
 use denote.Param.{param}
 use Rattle.bench.proofs.Crossing.{common_sync}
-use Rattle.bench.proofs.call.start.Goals as goal
+use Rattle.bench.proofs.call.all.Goals as goal
 
 pub at_once-requires-sync-T : goal.at_once-requires-sync-T
 at_once-requires-sync-T g c κs = λ _. record {
