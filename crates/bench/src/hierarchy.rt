@@ -89,7 +89,7 @@ fn time_batch(rt: &HostRuntime, classes: &mut Classes, files: &[Vec<u8>]) -> io:
 
 /// Times the questions and the copies.
 fn time_questions(rt: &HostRuntime, classes: &Classes) -> io::Result<()> {
-    let count = classes.class_count() as u32;
+    let count = u32::try_from(classes.class_count()).unwrap_or(u32::MAX);
     let start = Instant::now(rt)?;
     tell(rt, "found", find_each(classes, count), &start)?;
     let start = Instant::now(rt)?;
