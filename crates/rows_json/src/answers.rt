@@ -1,5 +1,6 @@
 //! Answers as JSON: each form once.
 
+use crate::answers::Kind::*;
 use jl_classfile::ClassFault;
 use jl_code::CodeFault;
 use jl_json::{
@@ -10,23 +11,130 @@ use jl_names::{Name, Seq};
 use jl_sketch::SketchFault;
 use jl_types::{
     Answer, CallSiteFault, CallSiteId, ClassId, DefineFault, DelegateFault, Link, LoaderId, Made,
-    MethodId, Missing, NotLinkable, Outcome, PrepareFault, Refusal as EventRefusal, Reply, SiteNo,
-    SwitchId, Table, TableKind, Throwable, Unlinked,
+    MethodId, Missing, NotLinkable, Outcome, PrepareFault, Refusal, Reply, SiteNo, SwitchId, Table,
+    TableKind, Throwable, Unlinked,
 };
 use serde_json::Value;
-use std::alloc::AllocError;
-use std::process::Abort;
+use std::alloc::{AllocError, Global};
 
-/// Asserts that the value's text is this.
-fn assert_text(
-    rt: &(impl Abort + AllocGlobal),
-    value: Result<Value, AllocError>,
-    want: &str,
-) -> Result<(), AllocError> {
-    let text = value?.to_string(rt.alloc())?;
-    assert_eq!(rt; text.as_str(), want);
-    Ok(())
+/// What is answered.
+#[derive(Clone, Copy)]
+enum Kind {
+    Outcomes,
+    Links,
+    /// Rows of links, and the same as they are prepared.
+    Lists,
+    Calls,
+    /// Replies that drop the sites 1 and 4.
+    Replies,
+    /// Refusals of events, but for the next ones.
+    Events,
+    /// A refusal that names the class p/A.
+    Parents,
+    /// Refusals of call sites; the last one is of a target that invokes call site 7.
+    CallSites,
+    Preparations,
+    Sketches,
 }
+
+/// Answers, in the order of their places.
+const TEXTS: &[(Kind, &[&str])] = &[
+    (
+        Outcomes,
+        &[r#"{"run":[1,2]}"#, r#"{"throws":"AbstractMethodError"}"#],
+    ),
+    (
+        Links,
+        &[
+            r#"{"fault":"NoSuchMethodError"}"#,
+            r#"{"plain":[1,2]}"#,
+            r#"{"direct":{"run":[1,2]}}"#,
+            r#"{"kind":"virtual","table":[[1,{"run":[1,0]}]]}"#,
+            r#"{"kind":"interface","table":[]}"#,
+            r#"{"mega":true}"#,
+        ],
+    ),
+    (
+        Lists,
+        &[
+            r#"{"links":[[0,{"mega":true}],[3,{"mega":true}]]}"#,
+            r#"{"prepared":7,"rows":[[0,{"mega":true}]]}"#,
+        ],
+    ),
+    (
+        Calls,
+        &[
+            r#"{"run":[1,2]}"#,
+            r#"{"throws":"NullPointerException"}"#,
+            r#"{"refused":"BadReceiver"}"#,
+            r#"{"unlinked":"NoSite"}"#,
+            r#"{"unlinked":"NotReady","wants":"methodHost"}"#,
+        ],
+    ),
+    (
+        Replies,
+        &[
+            r#"{"dropped":[1,4]}"#,
+            r#"{"dropped":[1,4],"loader":7}"#,
+            r#"{"class":7,"dropped":[1,4]}"#,
+            r#"{"dropped":[1,4],"site":7}"#,
+            r#"{"callsite":7,"dropped":[1,4]}"#,
+            r#"{"dropped":[1,4],"switch":7}"#,
+        ],
+    ),
+    (
+        Events,
+        &[
+            r#"{"refused":"BatchSize"}"#,
+            r#"{"callsite":5,"refused":"AlreadyBound"}"#,
+            r#"{"refused":"NotReady","site":0}"#,
+            r#"{"present":{"kind":"virtual","table":[[1,{"run":[1,0]}]]},"refused":"Stale","site":0}"#,
+            r#"{"refused":"NotLinkable.ArrayReceiver"}"#,
+            r#"{"refused":"Delegate.NotRecorded"}"#,
+            r#"{"refused":"Define.Full"}"#,
+            r#"{"refused":"Memory"}"#,
+            r#"{"callsite":0,"refused":"AlreadyBound"}"#,
+            r#"{"refused":"NotDynamic"}"#,
+            r#"{"refused":"TypeMismatch"}"#,
+            r#"{"refused":"UnknownSite","site":7}"#,
+        ],
+    ),
+    (
+        Parents,
+        &[r#"{"name":"p/A","refused":"Define.MissingParent"}"#],
+    ),
+    (
+        CallSites,
+        &[
+            r#"{"refused":"CallSite.UnknownCallSite"}"#,
+            r#"{"refused":"CallSite.Constant"}"#,
+            r#"{"refused":"CallSite.WrongType"}"#,
+            r#"{"refused":"CallSite.UnknownMethod"}"#,
+            r#"{"refused":"CallSite.NotStatic"}"#,
+            r#"{"refused":"CallSite.UnknownSwitch"}"#,
+            r#"{"refused":"CallSite.TooDeep"}"#,
+            r#"{"refused":"CallSite.Full"}"#,
+            r#"{"callsite":7,"refused":"CallSite.InvokerOrder"}"#,
+        ],
+    ),
+    (
+        Preparations,
+        &[
+            r#"{"refused":"Prepare.NotReady","site":4}"#,
+            r#"{"refused":"Prepare.BatchSize"}"#,
+            r#"{"refused":"Memory"}"#,
+        ],
+    ),
+    (
+        Sketches,
+        &[
+            r#"{"refused":"TooBig"}"#,
+            r#"{"method":3,"refused":"CallsWithoutCode"}"#,
+            r#"{"at":7,"method":2,"refused":"Code.CutShort"}"#,
+            r#"{"refused":"Memory"}"#,
+        ],
+    ),
+];
 
 fn method(index: u16) -> MethodId {
     MethodId {
@@ -35,153 +143,95 @@ fn method(index: u16) -> MethodId {
     }
 }
 
+/// The table of class 1, which runs its first method.
 fn table() -> Link {
     let mut table = Table::new();
     table.push(ClassId::new(1), Outcome::Run(method(0)));
     Link::Table(TableKind::Virtual, table)
 }
 
-#[test]
-fn outcomes(rt: HostRuntime) -> Result<(), AllocError> {
-    let run = Outcome::Run(method(2));
-    assert_text(&rt, outcome_value(rt.alloc(), run), r#"{"run":[1,2]}"#)?;
-    let throws = Outcome::Throws(Throwable::AbstractMethodError);
-    assert_text(
-        &rt,
-        outcome_value(rt.alloc(), throws),
-        r#"{"throws":"AbstractMethodError"}"#,
-    )
+fn outcome(place: usize) -> Outcome {
+    match place {
+        0 => Outcome::Run(method(2)),
+        _ => Outcome::Throws(Throwable::AbstractMethodError),
+    }
 }
 
-fn assert_link(rt: &(impl Abort + AllocGlobal), link: Link, want: &str) -> Result<(), AllocError> {
-    assert_text(rt, link_value(rt.alloc(), link), want)
+fn link(place: usize) -> Link {
+    match place {
+        0 => Link::Fault(Throwable::NoSuchMethodError),
+        1 => Link::Plain(method(2)),
+        2 => Link::Direct(Outcome::Run(method(2))),
+        3 => table(),
+        4 => Link::Table(TableKind::Interface, Table::new()),
+        _ => Link::Mega,
+    }
 }
 
-#[test]
-fn links(rt: HostRuntime) -> Result<(), AllocError> {
-    let fault = Link::Fault(Throwable::NoSuchMethodError);
-    assert_link(&rt, fault, r#"{"fault":"NoSuchMethodError"}"#)?;
-    assert_link(&rt, Link::Plain(method(2)), r#"{"plain":[1,2]}"#)?;
-    let direct = Link::Direct(Outcome::Run(method(2)));
-    assert_link(&rt, direct, r#"{"direct":{"run":[1,2]}}"#)?;
-    assert_link(
-        &rt,
-        table(),
-        r#"{"kind":"virtual","table":[[1,{"run":[1,0]}]]}"#,
-    )?;
-    let empty = Link::Table(TableKind::Interface, Table::new());
-    assert_link(&rt, empty, r#"{"kind":"interface","table":[]}"#)?;
-    assert_link(&rt, Link::Mega, r#"{"mega":true}"#)
-}
-
-#[test]
-fn lists_of_links(rt: HostRuntime) -> Result<(), AllocError> {
+fn list(alloc: Global, place: usize) -> Result<Value, AllocError> {
     let rows = [(SiteNo::new(0), Link::Mega), (SiteNo::new(3), Link::Mega)];
-    assert_text(
-        &rt,
-        links_value(rt.alloc(), &rows),
-        r#"{"links":[[0,{"mega":true}],[3,{"mega":true}]]}"#,
-    )?;
-    assert_text(
-        &rt,
-        prepared_value(rt.alloc(), 7, &rows[..1]),
-        r#"{"prepared":7,"rows":[[0,{"mega":true}]]}"#,
-    )
+    match place {
+        0 => links_value(alloc, &rows),
+        _ => prepared_value(alloc, 7, &rows[..1]),
+    }
 }
 
-fn assert_call(
-    rt: &(impl Abort + AllocGlobal),
-    answer: Answer,
-    want: &str,
-) -> Result<(), AllocError> {
-    assert_text(rt, answer_value(rt.alloc(), answer), want)
+fn answer(place: usize) -> Answer {
+    match place {
+        0 => Answer::Run(method(2)),
+        1 => Answer::Throws(Throwable::NullPointerException),
+        2 => Answer::BadReceiver,
+        3 => Answer::Unlinked(Unlinked::NoSite),
+        _ => Answer::Unlinked(Unlinked::NotReady(Missing::MethodHost)),
+    }
 }
 
-#[test]
-fn calls(rt: HostRuntime) -> Result<(), AllocError> {
-    assert_call(&rt, Answer::Run(method(2)), r#"{"run":[1,2]}"#)?;
-    let null = Answer::Throws(Throwable::NullPointerException);
-    assert_call(&rt, null, r#"{"throws":"NullPointerException"}"#)?;
-    assert_call(&rt, Answer::BadReceiver, r#"{"refused":"BadReceiver"}"#)?;
-    let nowhere = Answer::Unlinked(Unlinked::NoSite);
-    assert_call(&rt, nowhere, r#"{"unlinked":"NoSite"}"#)?;
-    let waits = Answer::Unlinked(Unlinked::NotReady(Missing::MethodHost));
-    assert_call(
-        &rt,
-        waits,
-        r#"{"unlinked":"NotReady","wants":"methodHost"}"#,
-    )
+fn made(place: usize) -> Made {
+    match place {
+        0 => Made::Nothing,
+        1 => Made::Loader(LoaderId::new(7)),
+        2 => Made::Class(ClassId::new(7)),
+        3 => Made::Site(SiteNo::new(7)),
+        4 => Made::CallSite(CallSiteId::new(7)),
+        _ => Made::Switch(SwitchId::new(7)),
+    }
 }
 
-/// Asserts the text of a reply that drops the sites 1 and 4.
-fn assert_reply(rt: &(impl Abort + AllocGlobal), made: Made, want: &str) -> Result<(), AllocError> {
-    let dropped = Seq::of(vec![in rt.alloc(); SiteNo::new(1), SiteNo::new(4)]?);
-    let reply = Reply { made, dropped };
-    assert_text(rt, reply_value(rt.alloc(), &reply), want)
+fn reply(alloc: Global, made: Made) -> Result<Value, AllocError> {
+    let dropped = Seq::of(vec![in alloc; SiteNo::new(1), SiteNo::new(4)]?);
+    reply_value(alloc, &Reply { made, dropped })
 }
 
-#[test]
-fn replies(rt: HostRuntime) -> Result<(), AllocError> {
-    assert_reply(&rt, Made::Nothing, r#"{"dropped":[1,4]}"#)?;
-    let loader = Made::Loader(LoaderId::new(7));
-    assert_reply(&rt, loader, r#"{"dropped":[1,4],"loader":7}"#)?;
-    let class = Made::Class(ClassId::new(7));
-    assert_reply(&rt, class, r#"{"class":7,"dropped":[1,4]}"#)?;
-    let site = Made::Site(SiteNo::new(7));
-    assert_reply(&rt, site, r#"{"dropped":[1,4],"site":7}"#)?;
-    let call_site = Made::CallSite(CallSiteId::new(7));
-    assert_reply(&rt, call_site, r#"{"callsite":7,"dropped":[1,4]}"#)?;
-    let switch = Made::Switch(SwitchId::new(7));
-    assert_reply(&rt, switch, r#"{"dropped":[1,4],"switch":7}"#)
-}
-
-fn assert_refusal(
-    rt: &(impl Abort + AllocGlobal),
-    refusal: EventRefusal,
-    want: &str,
-) -> Result<(), AllocError> {
-    assert_text(rt, event_refusal_value(rt.alloc(), &refusal), want)
-}
-
-#[test]
-fn refused_events(rt: HostRuntime) -> Result<(), AllocError> {
+fn event(place: usize) -> Refusal {
     let site = SiteNo::new(0);
-    assert_refusal(&rt, EventRefusal::BatchSize, r#"{"refused":"BatchSize"}"#)?;
-    let bound = EventRefusal::AlreadyBound(CallSiteId::new(5));
-    assert_refusal(&rt, bound, r#"{"callsite":5,"refused":"AlreadyBound"}"#)?;
-    let waits = EventRefusal::NotReady { site };
-    assert_refusal(&rt, waits, r#"{"refused":"NotReady","site":0}"#)?;
-    let stale = EventRefusal::Stale {
-        site,
-        present: table(),
-    };
-    assert_refusal(
-        &rt,
-        stale,
-        r#"{"present":{"kind":"virtual","table":[[1,{"run":[1,0]}]]},"refused":"Stale","site":0}"#,
-    )
+    match place {
+        0 => Refusal::BatchSize,
+        1 => Refusal::AlreadyBound(CallSiteId::new(5)),
+        2 => Refusal::NotReady { site },
+        3 => Refusal::Stale {
+            site,
+            present: table(),
+        },
+        4 => Refusal::NotLinkable(NotLinkable::ArrayReceiver),
+        5 => Refusal::Delegate(DelegateFault::NotRecorded),
+        6 => Refusal::Define(DefineFault::Full),
+        7 => Refusal::Memory,
+        8 => Refusal::AlreadyBound(CallSiteId::new(0)),
+        9 => Refusal::NotDynamic,
+        10 => Refusal::TypeMismatch,
+        _ => Refusal::UnknownSite {
+            site: SiteNo::new(7),
+        },
+    }
 }
 
-#[test]
-fn refused_within_events(rt: HostRuntime) -> Result<(), AllocError> {
-    let array = EventRefusal::NotLinkable(NotLinkable::ArrayReceiver);
-    assert_refusal(&rt, array, r#"{"refused":"NotLinkable.ArrayReceiver"}"#)?;
-    let delegate = EventRefusal::Delegate(DelegateFault::NotRecorded);
-    assert_refusal(&rt, delegate, r#"{"refused":"Delegate.NotRecorded"}"#)?;
-    let full = EventRefusal::Define(DefineFault::Full);
-    assert_refusal(&rt, full, r#"{"refused":"Define.Full"}"#)?;
-    assert_refusal(&rt, EventRefusal::Memory, r#"{"refused":"Memory"}"#)?;
-    let parent = DefineFault::MissingParent(Name::copied(rt.alloc(), b"p/A")?);
-    assert_refusal(
-        &rt,
-        EventRefusal::Define(parent),
-        r#"{"name":"p/A","refused":"Define.MissingParent"}"#,
-    )
+fn parent(alloc: Global) -> Result<Value, AllocError> {
+    let parent = DefineFault::MissingParent(Name::copied(alloc, b"p/A")?);
+    event_refusal_value(alloc, &Refusal::Define(parent))
 }
 
-/// The fault of a call site in this row: the last one is of a target that invokes call site 7.
-fn call_site_fault(row: usize) -> CallSiteFault {
-    match row {
+fn call_site(place: usize) -> CallSiteFault {
+    match place {
         0 => CallSiteFault::UnknownCallSite,
         1 => CallSiteFault::Constant,
         2 => CallSiteFault::WrongType,
@@ -194,80 +244,68 @@ fn call_site_fault(row: usize) -> CallSiteFault {
     }
 }
 
-/// How these are answered.
-const CALL_SITE_FAULTS: &[&str] = &[
-    r#"{"refused":"CallSite.UnknownCallSite"}"#,
-    r#"{"refused":"CallSite.Constant"}"#,
-    r#"{"refused":"CallSite.WrongType"}"#,
-    r#"{"refused":"CallSite.UnknownMethod"}"#,
-    r#"{"refused":"CallSite.NotStatic"}"#,
-    r#"{"refused":"CallSite.UnknownSwitch"}"#,
-    r#"{"refused":"CallSite.TooDeep"}"#,
-    r#"{"refused":"CallSite.Full"}"#,
-    r#"{"callsite":7,"refused":"CallSite.InvokerOrder"}"#,
-];
-
-#[test]
-fn refused_call_sites(rt: HostRuntime) -> Result<(), AllocError> {
-    for (row, want) in CALL_SITE_FAULTS.iter().enumerate() {
-        assert_refusal(&rt, EventRefusal::CallSite(call_site_fault(row)), want)?;
+fn preparation(place: usize) -> PrepareFault {
+    match place {
+        0 => PrepareFault::NotReady(SiteNo::new(4)),
+        1 => PrepareFault::BatchSize,
+        _ => PrepareFault::Memory,
     }
-    Ok(())
+}
+
+fn sketch(place: usize) -> SketchFault {
+    match place {
+        0 => SketchFault::TooBig,
+        1 => SketchFault::CallsWithoutCode(3),
+        2 => SketchFault::Refused(ClassFault::Code(2, CodeFault::CutShort(7))),
+        _ => SketchFault::Memory,
+    }
+}
+
+/// The value of this kind at this place.
+fn value(alloc: Global, kind: Kind, place: usize) -> Result<Value, AllocError> {
+    match kind {
+        Outcomes => outcome_value(alloc, outcome(place)),
+        Links => link_value(alloc, link(place)),
+        Lists => list(alloc, place),
+        Calls => answer_value(alloc, answer(place)),
+        Replies => reply(alloc, made(place)),
+        Events => event_refusal_value(alloc, &event(place)),
+        Parents => parent(alloc),
+        CallSites => event_refusal_value(alloc, &Refusal::CallSite(call_site(place))),
+        Preparations => prepare_refusal_value(alloc, preparation(place)),
+        Sketches => FileRefusal::from(sketch(place)).to_value(alloc),
+    }
+}
+
+/// Whether the value's text is this.
+fn has_text(alloc: Global, value: &Value, want: &str) -> bool {
+    match value.to_string(alloc) {
+        Ok(text) => text.as_str() == want,
+        Err(_) => false,
+    }
+}
+
+/// Whether the value of this kind at this place has this text.
+fn is_so(alloc: Global, kind: Kind, place: usize, want: &str) -> bool {
+    match value(alloc, kind, place) {
+        Ok(value) => has_text(alloc, &value, want),
+        Err(_) => false,
+    }
+}
+
+/// The first text that differs, if there is one.
+fn other(alloc: Global) -> Option<&'static str> {
+    for (kind, texts) in TEXTS {
+        for (place, want) in texts.iter().enumerate() {
+            if !is_so(alloc, *kind, place, want) {
+                return Some(want);
+            }
+        }
+    }
+    None
 }
 
 #[test]
-fn refused_bindings(rt: HostRuntime) -> Result<(), AllocError> {
-    let bound = EventRefusal::AlreadyBound(CallSiteId::new(0));
-    assert_refusal(&rt, bound, r#"{"callsite":0,"refused":"AlreadyBound"}"#)?;
-    assert_refusal(&rt, EventRefusal::NotDynamic, r#"{"refused":"NotDynamic"}"#)?;
-    let other = EventRefusal::TypeMismatch;
-    assert_refusal(&rt, other, r#"{"refused":"TypeMismatch"}"#)?;
-    let site = SiteNo::new(7);
-    assert_refusal(
-        &rt,
-        EventRefusal::UnknownSite { site },
-        r#"{"refused":"UnknownSite","site":7}"#,
-    )
-}
-
-fn assert_preparation(
-    rt: &(impl Abort + AllocGlobal),
-    fault: PrepareFault,
-    want: &str,
-) -> Result<(), AllocError> {
-    assert_text(rt, prepare_refusal_value(rt.alloc(), fault), want)
-}
-
-#[test]
-fn refused_preparations(rt: HostRuntime) -> Result<(), AllocError> {
-    let waits = PrepareFault::NotReady(SiteNo::new(4));
-    assert_preparation(&rt, waits, r#"{"refused":"Prepare.NotReady","site":4}"#)?;
-    let size = PrepareFault::BatchSize;
-    assert_preparation(&rt, size, r#"{"refused":"Prepare.BatchSize"}"#)?;
-    assert_preparation(&rt, PrepareFault::Memory, r#"{"refused":"Memory"}"#)
-}
-
-fn assert_fault(
-    rt: &(impl Abort + AllocGlobal),
-    fault: SketchFault,
-    want: &str,
-) -> Result<(), AllocError> {
-    assert_text(rt, FileRefusal::from(fault).to_value(rt.alloc()), want)
-}
-
-#[test]
-fn refused_sketches(rt: HostRuntime) -> Result<(), AllocError> {
-    assert_fault(&rt, SketchFault::TooBig, r#"{"refused":"TooBig"}"#)?;
-    assert_fault(
-        &rt,
-        SketchFault::CallsWithoutCode(3),
-        r#"{"method":3,"refused":"CallsWithoutCode"}"#,
-    )?;
-    let cut = ClassFault::Code(2, CodeFault::CutShort(7));
-    assert_fault(
-        &rt,
-        SketchFault::Refused(cut),
-        r#"{"at":7,"method":2,"refused":"Code.CutShort"}"#,
-    )?;
-    assert_fault(&rt, SketchFault::Memory, r#"{"refused":"Memory"}"#)
+fn answers(rt: HostRuntime) {
+    assert_eq!(rt; other(rt.alloc()), None);
 }

@@ -1,16 +1,17 @@
-//! Commands as JSON: each form once, and values that are none.
+//! Commands and sketches as JSON: each form once. Lines that are none are rows of `rows_sessions`.
 
 use jl_json::{
-    Command, each_command_is_read, each_target_is_read, no_other_keys, no_other_target_keys,
-    read_command, types_are_descriptors,
+    Command, each_command_is_read, each_sketch_is_read, each_target_is_read, no_other_keys,
+    no_other_sketch_keys, no_other_target_keys, read_command, read_sketch, types_are_descriptors,
 };
+use jl_sketch::Sketch;
 use serde_json::Value;
 use std::alloc::{AllocError, Global};
 use std::process::Abort;
 use std::test::Fail;
 
 /// Values, and how the commands print that they are.
-const COMMANDS: [(&str, &str); 32] = [
+const COMMANDS: &[(&str, &str)] = &[
     (
         r#"{"do":"define","loader":0,"hex":"cAFe"}"#,
         "Some(Apply(Define(LoaderId(0), File(Seq { items: [202, 254] }))))",
@@ -47,39 +48,6 @@ const COMMANDS: [(&str, &str); 32] = [
         "Some(Call(SiteNo(2), Of(ClassId(1))))",
     ),
     (r#"{"do":"links"}"#, "Some(Links)"),
-    ("null", "None"),
-    ("{}", "None"),
-    (r#"["links"]"#, "None"),
-    (r#"{"do":"link"}"#, "None"),
-    (r#"{"do":1}"#, "None"),
-    (r#"{"do":"links","site":0}"#, "None"),
-    (r#"{"do":"loader","loader":1}"#, "None"),
-    (r#"{"do":"delegate","loader":2,"name":0,"to":0}"#, "None"),
-    (
-        r#"{"do":"delegate","loader":2,"name":"A","from":0}"#,
-        "None",
-    ),
-    (r#"{"do":"define","loader":0}"#, "None"),
-    (r#"{"do":"define","loader":0,"hex":"caf"}"#, "None"),
-    (r#"{"do":"define","loader":0,"hex":"cg"}"#, "None"),
-    (
-        r#"{"do":"define","loader":0,"sketch":{"name":"M"}}"#,
-        "None",
-    ),
-    (
-        r#"{"do":"define","loader":0,"hex":"","sketch":{"name":"M","flags":33}}"#,
-        "None",
-    ),
-    (
-        r#"{"do":"request","class":0,"method":65536,"pc":4}"#,
-        "None",
-    ),
-    (r#"{"do":"request","class":0,"method":0,"at":4}"#, "None"),
-    (r#"{"do":"prepare","sites":[0,-1]}"#, "None"),
-    (r#"{"do":"install","prepared":4294967296}"#, "None"),
-    (r#"{"do":"install","prepared":1.0}"#, "None"),
-    (r#"{"do":"call","site":0,"recv":"A"}"#, "None"),
-    (r#"{"do":"call","site":0,"recv":1,"pc":0}"#, "None"),
 ];
 
 /// Commands of call sites and switch points, and how they print.
@@ -145,85 +113,57 @@ const CALL_SITES: &[(&str, &str)] = &[
     ),
 ];
 
-/// Values that are none of these commands.
-const NO_CALL_SITES: &[&str] = &[
-    // Invokers.
-    r#"{"do":"target","callsite":1,"target":{"invoker":[0]}}"#,
-    r#"{"do":"target","callsite":1,"target":{"invoker":-1}}"#,
-    r#"{"do":"target","callsite":1,"target":{"invoker":4294967296}}"#,
-    r#"{"do":"target","callsite":1,"target":{"invoker":0,"method":[0,1]}}"#,
-    r#"{"do":"target","callsite":1,"target":{"Invoker":0}}"#,
-    r#"{"do":"target","callsite":1,"target":{"callsite":0}}"#,
-    r#"{"do":"target","callsite":1,"target":{"guard":0,"target":{"invoker":0},"fallback":0}}"#,
-    r#"{"do":"callsite","kind":"mutable","type":"()V"}"#,
-    r#"{"do":"callsite","kind":"mutable","type":"()V","target":{"method":[0,1]},"site":0}"#,
-    r#"{"do":"callsite","kind":"mutable","type":"()V","to":{"method":[0,1]}}"#,
-    r#"{"do":"callSite","kind":"mutable","type":"()V","target":{"method":[0,1]}}"#,
-    // Kinds.
-    r#"{"do":"callsite","kind":"Mutable","type":"()V","target":{"method":[0,1]}}"#,
-    r#"{"do":"callsite","kind":"const","type":"()V","target":{"method":[0,1]}}"#,
-    r#"{"do":"callsite","kind":"constant ","type":"()V","target":{"method":[0,1]}}"#,
-    r#"{"do":"callsite","kind":"","type":"()V","target":{"method":[0,1]}}"#,
-    r#"{"do":"callsite","kind":null,"type":"()V","target":{"method":[0,1]}}"#,
-    r#"{"do":"callsite","kind":0,"type":"()V","target":{"method":[0,1]}}"#,
-    // Types: fields' descriptors, and texts that are none; 256 slots.
-    r#"{"do":"callsite","kind":"mutable","type":"I","target":{"method":[0,1]}}"#,
-    r#"{"do":"callsite","kind":"mutable","type":"Ljava/lang/Object;","target":{"method":[0,1]}}"#,
-    r#"{"do":"callsite","kind":"mutable","type":"V","target":{"method":[0,1]}}"#,
-    r#"{"do":"callsite","kind":"mutable","type":"","target":{"method":[0,1]}}"#,
-    r#"{"do":"callsite","kind":"mutable","type":"()","target":{"method":[0,1]}}"#,
-    r#"{"do":"callsite","kind":"mutable","type":"(V)V","target":{"method":[0,1]}}"#,
-    r#"{"do":"callsite","kind":"mutable","type":"()VV","target":{"method":[0,1]}}"#,
-    r#"{"do":"callsite","kind":"mutable","type":null,"target":{"method":[0,1]}}"#,
-    r#"{"do":"callsite","kind":"mutable","type":"(JJJJJJJJJJJJJJJJJJJJJJJJJJJJJJJJJJJJJJJJJJJJJJJJJJJJJJJJJJJJJJJJJJJJJJJJJJJJJJJJJJJJJJJJJJJJJJJJJJJJJJJJJJJJJJJJJJJJJJJJJJJJJJJJ)V","target":{"method":[0,1]}}"#,
-    // Targets: a part is missing, or of another kind, or one too many.
-    r#"{"do":"target","callsite":0,"target":null}"#,
-    r#"{"do":"target","callsite":0,"target":{}}"#,
-    r#"{"do":"target","callsite":0,"target":[0,1]}"#,
-    r#"{"do":"target","callsite":0,"target":{"methods":[0,1]}}"#,
-    r#"{"do":"target","callsite":0,"target":{"method":[]}}"#,
-    r#"{"do":"target","callsite":0,"target":{"method":[0]}}"#,
-    r#"{"do":"target","callsite":0,"target":{"method":[0,1,2]}}"#,
-    r#"{"do":"target","callsite":0,"target":{"method":0}}"#,
-    r#"{"do":"target","callsite":0,"target":{"method":{"class":0,"index":1}}}"#,
-    r#"{"do":"target","callsite":0,"target":{"method":[4294967296,0]}}"#,
-    r#"{"do":"target","callsite":0,"target":{"method":[0,65536]}}"#,
-    r#"{"do":"target","callsite":0,"target":{"method":[-1,0]}}"#,
-    r#"{"do":"target","callsite":0,"target":{"method":[0,1.0]}}"#,
-    r#"{"do":"target","callsite":0,"target":{"method":[0,"1"]}}"#,
-    r#"{"do":"target","callsite":0,"target":{"method":[0,1],"guard":0}}"#,
-    r#"{"do":"target","callsite":0,"target":{"method":[0,1],"target":{"method":[0,1]},"fallback":{"method":[0,1]}}}"#,
-    r#"{"do":"target","callsite":0,"target":{"guard":0}}"#,
-    r#"{"do":"target","callsite":0,"target":{"guard":0,"target":{"method":[0,1]}}}"#,
-    r#"{"do":"target","callsite":0,"target":{"guard":0,"fallback":{"method":[0,1]}}}"#,
-    r#"{"do":"target","callsite":0,"target":{"target":{"method":[0,1]},"fallback":{"method":[0,1]}}}"#,
-    r#"{"do":"target","callsite":0,"target":{"guard":0,"target":{"method":[0,1]},"else":{"method":[0,1]}}}"#,
-    r#"{"do":"target","callsite":0,"target":{"guard":0,"target":{"method":[0,1]},"fallback":{"method":[0,1]},"method":[0,1]}}"#,
-    r#"{"do":"target","callsite":0,"target":{"guard":4294967296,"target":{"method":[0,1]},"fallback":{"method":[0,1]}}}"#,
-    r#"{"do":"target","callsite":0,"target":{"guard":null,"target":{"method":[0,1]},"fallback":{"method":[0,1]}}}"#,
-    r#"{"do":"target","callsite":0,"target":{"guard":0,"target":null,"fallback":{"method":[0,1]}}}"#,
-    r#"{"do":"target","callsite":0,"target":{"guard":0,"target":{"method":[0,1]},"fallback":{"guard":0,"target":{"method":[0,1]},"fallback":{"method":[0]}}}}"#,
-    r#"{"do":"target","target":{"method":[0,1]}}"#,
-    r#"{"do":"target","callsite":4294967296,"target":{"method":[0,1]}}"#,
-    r#"{"do":"target","callsite":0,"type":"()V","target":{"method":[0,1]}}"#,
-    // Switch points.
-    r#"{"do":"switch","switch":0}"#,
-    r#"{"do":"invalidate"}"#,
-    r#"{"do":"invalidate","switches":0}"#,
-    r#"{"do":"invalidate","switches":null}"#,
-    r#"{"do":"invalidate","switches":{"0":1}}"#,
-    r#"{"do":"invalidate","switches":[0,"1"]}"#,
-    r#"{"do":"invalidate","switches":[0,4294967296]}"#,
-    r#"{"do":"invalidate","switches":[0],"switch":0}"#,
-    r#"{"do":"invalidate","switch":[0]}"#,
-    // Binding.
-    r#"{"do":"bind","site":0}"#,
-    r#"{"do":"bind","callsite":0}"#,
-    r#"{"do":"bind","site":0,"callsite":null}"#,
-    r#"{"do":"bind","site":0,"callSite":1}"#,
-    r#"{"do":"bind","site":4294967296,"callsite":0}"#,
-    r#"{"do":"bind","site":0,"callsite":-1}"#,
-    r#"{"do":"bind","site":0,"callsite":0,"recv":null}"#,
+/// Definitions by sketches, and how they print.
+const SKETCHES: &[(&str, &str)] = &[
+    (
+        r#"{"do":"define","loader":0,"sketch":{"name":"M","super":"java/lang/Object","flags":33,"methods":[{"name":"run","type":"()V","flags":9,"calls":[{"kind":"invokevirtual","of":"A","name":"f","type":"()V"}]}]}}"#,
+        r#"Some(Apply(Define(LoaderId(0), Sketch(Sketch { name: Name { bytes: b"M" }, flags: 33, superclass: Some(Name { bytes: b"java/lang/Object" }), interfaces: Seq { items: [] }, methods: Seq { items: [SketchMethod { name: Name { bytes: b"run" }, ty: Name { bytes: b"()V" }, flags: 9, calls: Seq { items: [Virtual(MethodName { owner: Name { bytes: b"A" }, name: Name { bytes: b"f" }, ty: Name { bytes: b"()V" } })] } }] }, host: None, members: Seq { items: [] } }))))"#,
+    ),
+    (
+        r#"{"do":"define","loader":0,"sketch":{"name":"I","flags":1537,"interfaces":["J"],"host":"H","members":["K","L"]}}"#,
+        r#"Some(Apply(Define(LoaderId(0), Sketch(Sketch { name: Name { bytes: b"I" }, flags: 1537, superclass: None, interfaces: Seq { items: [Name { bytes: b"J" }] }, methods: Seq { items: [] }, host: Some(Name { bytes: b"H" }), members: Seq { items: [Name { bytes: b"K" }, Name { bytes: b"L" }] } }))))"#,
+    ),
+    (
+        r#"{"do":"define","loader":0,"sketch":{"name":"M","flags":33,"methods":[{"name":"m","type":"()V","flags":1,"calls":[{"name":"f","type":")","kind":"invokevirtual","of":"A"}]}]}}"#,
+        r#"Some(Apply(Define(LoaderId(0), Sketch(Sketch { name: Name { bytes: b"M" }, flags: 33, superclass: None, interfaces: Seq { items: [] }, methods: Seq { items: [SketchMethod { name: Name { bytes: b"m" }, ty: Name { bytes: b"()V" }, flags: 1, calls: Seq { items: [Virtual(MethodName { owner: Name { bytes: b"A" }, name: Name { bytes: b"f" }, ty: Name { bytes: b")" } })] } }] }, host: None, members: Seq { items: [] } }))))"#,
+    ),
+    (
+        r#"{"do":"define","loader":0,"sketch":{"name":"M","flags":33,"methods":[{"name":"m","type":"()V","flags":1,"calls":[{"name":"f","type":")","kind":"invokespecial","of":"A"}]}]}}"#,
+        r#"Some(Apply(Define(LoaderId(0), Sketch(Sketch { name: Name { bytes: b"M" }, flags: 33, superclass: None, interfaces: Seq { items: [] }, methods: Seq { items: [SketchMethod { name: Name { bytes: b"m" }, ty: Name { bytes: b"()V" }, flags: 1, calls: Seq { items: [Special(false, MethodName { owner: Name { bytes: b"A" }, name: Name { bytes: b"f" }, ty: Name { bytes: b")" } })] } }] }, host: None, members: Seq { items: [] } }))))"#,
+    ),
+    (
+        r#"{"do":"define","loader":0,"sketch":{"name":"M","flags":33,"methods":[{"name":"m","type":"()V","flags":1,"calls":[{"name":"f","type":")","kind":"invokespecial","of":"A","itf":true}]}]}}"#,
+        r#"Some(Apply(Define(LoaderId(0), Sketch(Sketch { name: Name { bytes: b"M" }, flags: 33, superclass: None, interfaces: Seq { items: [] }, methods: Seq { items: [SketchMethod { name: Name { bytes: b"m" }, ty: Name { bytes: b"()V" }, flags: 1, calls: Seq { items: [Special(true, MethodName { owner: Name { bytes: b"A" }, name: Name { bytes: b"f" }, ty: Name { bytes: b")" } })] } }] }, host: None, members: Seq { items: [] } }))))"#,
+    ),
+    (
+        r#"{"do":"define","loader":0,"sketch":{"name":"M","flags":33,"methods":[{"name":"m","type":"()V","flags":1,"calls":[{"name":"f","type":")","kind":"invokestatic","of":"A","itf":false}]}]}}"#,
+        r#"Some(Apply(Define(LoaderId(0), Sketch(Sketch { name: Name { bytes: b"M" }, flags: 33, superclass: None, interfaces: Seq { items: [] }, methods: Seq { items: [SketchMethod { name: Name { bytes: b"m" }, ty: Name { bytes: b"()V" }, flags: 1, calls: Seq { items: [Static(false, MethodName { owner: Name { bytes: b"A" }, name: Name { bytes: b"f" }, ty: Name { bytes: b")" } })] } }] }, host: None, members: Seq { items: [] } }))))"#,
+    ),
+    (
+        r#"{"do":"define","loader":0,"sketch":{"name":"M","flags":33,"methods":[{"name":"m","type":"()V","flags":1,"calls":[{"name":"f","type":")","kind":"invokeinterface","of":"A"}]}]}}"#,
+        r#"Some(Apply(Define(LoaderId(0), Sketch(Sketch { name: Name { bytes: b"M" }, flags: 33, superclass: None, interfaces: Seq { items: [] }, methods: Seq { items: [SketchMethod { name: Name { bytes: b"m" }, ty: Name { bytes: b"()V" }, flags: 1, calls: Seq { items: [Interface(MethodName { owner: Name { bytes: b"A" }, name: Name { bytes: b"f" }, ty: Name { bytes: b")" } })] } }] }, host: None, members: Seq { items: [] } }))))"#,
+    ),
+    (
+        r#"{"do":"define","loader":0,"sketch":{"name":"M","flags":33,"methods":[{"name":"m","type":"()V","flags":1,"calls":[{"kind":"invokedynamic","name":"f","type":")"}]}]}}"#,
+        r#"Some(Apply(Define(LoaderId(0), Sketch(Sketch { name: Name { bytes: b"M" }, flags: 33, superclass: None, interfaces: Seq { items: [] }, methods: Seq { items: [SketchMethod { name: Name { bytes: b"m" }, ty: Name { bytes: b"()V" }, flags: 1, calls: Seq { items: [Dynamic(Name { bytes: b"f" }, Name { bytes: b")" })] } }] }, host: None, members: Seq { items: [] } }))))"#,
+    ),
+    // A text becomes modified UTF-8.
+    (
+        r#"{"do":"define","loader":0,"sketch":{"name":"\u0000","flags":0}}"#,
+        r#"Some(Apply(Define(LoaderId(0), Sketch(Sketch { name: Name { bytes: b"\xc0\x80" }, flags: 0, superclass: None, interfaces: Seq { items: [] }, methods: Seq { items: [] }, host: None, members: Seq { items: [] } }))))"#,
+    ),
+    (
+        r#"{"do":"define","loader":0,"sketch":{"name":"\ud83d\ude00","flags":0}}"#,
+        r#"Some(Apply(Define(LoaderId(0), Sketch(Sketch { name: Name { bytes: b"\xed\xa0\xbd\xed\xb8\x80" }, flags: 0, superclass: None, interfaces: Seq { items: [] }, methods: Seq { items: [] }, host: None, members: Seq { items: [] } }))))"#,
+    ),
+    (
+        "{\"do\":\"define\",\"loader\":0,\"sketch\":{\"name\":\"\u{1f600}\",\"flags\":0}}",
+        r#"Some(Apply(Define(LoaderId(0), Sketch(Sketch { name: Name { bytes: b"\xed\xa0\xbd\xed\xb8\x80" }, flags: 0, superclass: None, interfaces: Seq { items: [] }, methods: Seq { items: [] }, host: None, members: Seq { items: [] } }))))"#,
+    ),
+    (
+        "{\"do\":\"define\",\"loader\":0,\"sketch\":{\"name\":\"a\u{e9}\",\"flags\":0}}",
+        r#"Some(Apply(Define(LoaderId(0), Sketch(Sketch { name: Name { bytes: b"a\xc3\xa9" }, flags: 0, superclass: None, interfaces: Seq { items: [] }, methods: Seq { items: [] }, host: None, members: Seq { items: [] } }))))"#,
+    ),
 ];
 
 /// How it prints.
@@ -237,77 +177,42 @@ fn shown_value(alloc: Global, value: &Value) -> Result<String, AllocError> {
     shown(alloc, &command)
 }
 
-/// How the command prints that the text is, or none.
-fn printed(alloc: Global, text: &str) -> Result<String, Fail> {
-    let value = Value::from_str(alloc, text)?;
-    Ok(shown_value(alloc, &value)?)
+/// Whether the text is a command that prints so.
+fn is_printed(alloc: Global, text: &str, want: &str) -> bool {
+    let Ok(value) = Value::from_str(alloc, text) else {
+        return false;
+    };
+    match shown_value(alloc, &value) {
+        Ok(told) => told.as_str() == want,
+        Err(_) => false,
+    }
 }
 
-/// Asserts that the texts are commands that print so, or none.
-fn assert_printed(rt: &(impl Abort + AllocGlobal), rows: &[(&str, &str)]) -> Result<(), Fail> {
+/// Asserts that the texts are commands that print so.
+fn assert_printed(rt: &(impl Abort + AllocGlobal), rows: &[(&str, &str)]) {
     for (text, want) in rows {
-        let told = printed(rt.alloc(), text)?;
-        assert!(rt; told.as_str() == *want, "{told} of {text}");
+        assert!(rt; is_printed(rt.alloc(), text, want), "{text}");
     }
-    Ok(())
+}
+
+/// The sketch that the text is, if it is one.
+fn sketch_of(alloc: Global, text: &str) -> Result<Option<Sketch>, Fail> {
+    let value = Value::from_str(alloc, text)?;
+    Ok(read_sketch(alloc, &value)?)
 }
 
 #[test]
 fn commands(rt: HostRuntime) -> Result<(), Fail> {
     each_command_is_read();
     no_other_keys();
-    assert_printed(&rt, &COMMANDS)
-}
-
-#[test]
-fn call_sites(rt: HostRuntime) -> Result<(), Fail> {
     each_target_is_read();
     no_other_target_keys();
     types_are_descriptors();
-    assert_printed(&rt, CALL_SITES)
-}
-
-#[test]
-fn no_call_sites(rt: HostRuntime) -> Result<(), Fail> {
-    for text in NO_CALL_SITES {
-        let told = printed(rt.alloc(), text)?;
-        assert!(rt; told.as_str() == "None", "{told} of {text}");
-    }
-    Ok(())
-}
-
-/// A command with a target of so many guards, one within another.
-fn nested(alloc: Global, guards: usize) -> Result<String, AllocError> {
-    let mut text = String::new(alloc);
-    text.push_str(r#"{"do":"target","callsite":0,"target":"#)?;
-    for _ in 0..guards {
-        text.push_str(r#"{"guard":0,"fallback":{"method":[0,0]},"target":"#)?;
-    }
-    text.push_str(r#"{"method":[0,0]}"#)?;
-    for _ in 0..guards {
-        text.push_str("}")?;
-    }
-    text.push_str("}")?;
-    Ok(text)
-}
-
-/// Whether it is read.
-fn is_read(alloc: Global, guards: usize) -> Result<bool, Fail> {
-    let text = nested(alloc, guards)?;
-    let told = printed(alloc, &text)?;
-    Ok(told.as_str().starts_with("Some(Apply(SetTarget"))
-}
-
-/// Whether its text is no JSON that is read.
-fn is_too_deep(alloc: Global, guards: usize) -> Result<bool, AllocError> {
-    let text = nested(alloc, guards)?;
-    Ok(Value::from_str(alloc, &text).is_err())
-}
-
-/// 127 levels: the command, the guards, the method and its pair.
-#[test]
-fn deep_targets(rt: HostRuntime) -> Result<(), Fail> {
-    assert!(rt; is_read(rt.alloc(), 124)?);
-    assert!(rt; is_too_deep(rt.alloc(), 125)?);
+    each_sketch_is_read();
+    no_other_sketch_keys();
+    assert_printed(&rt, COMMANDS);
+    assert_printed(&rt, CALL_SITES);
+    assert_printed(&rt, SKETCHES);
+    assert!(rt; sketch_of(rt.alloc(), r#"{"name":"M","flags":33}"#)?.is_some());
     Ok(())
 }

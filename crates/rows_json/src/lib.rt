@@ -6,8 +6,6 @@ mod answers;
 #[cfg(test)]
 mod commands;
 #[cfg(test)]
-mod displays;
-#[cfg(test)]
-mod sketches;
+mod refusals;
 #[cfg(test)]
 mod values;

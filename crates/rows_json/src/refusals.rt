@@ -1,0 +1,359 @@
+//! What refusals say by `Display`: the names that answers have under `refused`.
+
+use jl_classfile::ClassFault;
+use jl_code::CodeFault;
+use jl_hierarchy::LoaderFault;
+use jl_json::{FileRefusal, event_refusal_value, prepare_refusal_value};
+use jl_names::{Name, NameFault};
+use jl_pool::PoolFault;
+use jl_sketch::SketchFault;
+use jl_types::{
+    CallSiteFault, CallSiteId, ClassId, DefineFault, DelegateFault, Link, LoaderId, NotLinkable,
+    OrMemory, PrepareFault, Refusal, RetireFault, SiteNo, SitesFault,
+};
+use serde_json::Value;
+use std::alloc::{AllocError, Global};
+use std::fmt::Display;
+
+/// Whether `{}` writes this.
+fn says<F: Display>(alloc: Global, fault: &F, name: &str) -> bool {
+    let mut text = String::new(alloc);
+    match write!(text, "{fault}") {
+        Ok(()) => text.as_str() == name,
+        Err(_) => false,
+    }
+}
+
+/// Whether the answer refuses by this name.
+fn refuses(answer: &Result<Value, AllocError>, name: &str) -> bool {
+    match answer {
+        Ok(value) => value.get("refused").and_then(|name| name.as_str()) == Some(name),
+        Err(_) => false,
+    }
+}
+
+/// Whether both the refusal of a class file or a sketch and its answer have the name.
+fn is_file_fault(alloc: Global, fault: SketchFault, name: &str) -> bool {
+    says(alloc, &fault, name) && refuses(&FileRefusal::from(fault).to_value(alloc), name)
+}
+
+/// Faults of class files, of their pools and their codes, and of sketches.
+const FILES: &[(SketchFault, &str)] = &[
+    (
+        SketchFault::Refused(ClassFault::Pool(PoolFault::Truncated)),
+        "Pool.Truncated",
+    ),
+    (
+        SketchFault::Refused(ClassFault::Pool(PoolFault::BadTag(3))),
+        "Pool.BadTag",
+    ),
+    (
+        SketchFault::Refused(ClassFault::Pool(PoolFault::BadIndex(3))),
+        "Pool.BadIndex",
+    ),
+    (
+        SketchFault::Refused(ClassFault::Pool(PoolFault::BadUtf8(3))),
+        "Pool.BadUtf8",
+    ),
+    (
+        SketchFault::Refused(ClassFault::Pool(PoolFault::BadDescriptor(3))),
+        "Pool.BadDescriptor",
+    ),
+    (
+        SketchFault::Refused(ClassFault::Pool(PoolFault::Memory)),
+        "Memory",
+    ),
+    (
+        SketchFault::Refused(ClassFault::Code(1, CodeFault::BadOpcode(3))),
+        "Code.BadOpcode",
+    ),
+    (
+        SketchFault::Refused(ClassFault::Code(1, CodeFault::CutShort(3))),
+        "Code.CutShort",
+    ),
+    (
+        SketchFault::Refused(ClassFault::Code(1, CodeFault::BadSwitch(3))),
+        "Code.BadSwitch",
+    ),
+    (
+        SketchFault::Refused(ClassFault::Code(1, CodeFault::BadOperand(3))),
+        "Code.BadOperand",
+    ),
+    (
+        SketchFault::Refused(ClassFault::Code(1, CodeFault::BadLayout)),
+        "Code.BadLayout",
+    ),
+    (
+        SketchFault::Refused(ClassFault::Code(1, CodeFault::Memory)),
+        "Memory",
+    ),
+    (SketchFault::Refused(ClassFault::TooLarge), "TooLarge"),
+    (SketchFault::Refused(ClassFault::BadMagic), "BadMagic"),
+    (SketchFault::Refused(ClassFault::BadVersion), "BadVersion"),
+    (SketchFault::Refused(ClassFault::Truncated), "Truncated"),
+    (SketchFault::Refused(ClassFault::ModuleFile), "ModuleFile"),
+    (SketchFault::Refused(ClassFault::BadSuper), "BadSuper"),
+    (
+        SketchFault::Refused(ClassFault::DuplicateMethod(3)),
+        "DuplicateMethod",
+    ),
+    (SketchFault::Refused(ClassFault::TwoCodes(3)), "TwoCodes"),
+    (
+        SketchFault::Refused(ClassFault::TrailingBytes),
+        "TrailingBytes",
+    ),
+    (SketchFault::Refused(ClassFault::BadMember(3)), "BadMember"),
+    (SketchFault::Refused(ClassFault::BadLink(3)), "BadLink"),
+    (SketchFault::Refused(ClassFault::BadNest), "BadNest"),
+    (SketchFault::Refused(ClassFault::Memory), "Memory"),
+    (SketchFault::TooBig, "TooBig"),
+    (SketchFault::CallsWithoutCode(3), "CallsWithoutCode"),
+    (SketchFault::Memory, "Memory"),
+];
+
+/// The first place whose fault, or its answer, has another name, if there is one.
+fn other_file(alloc: Global) -> Option<usize> {
+    for (place, row) in FILES.iter().enumerate() {
+        if !is_file_fault(alloc, row.0, row.1) {
+            return Some(place);
+        }
+    }
+    None
+}
+
+/// Why a preparation is refused, by its place among the names below.
+fn prepare_fault(place: usize) -> PrepareFault {
+    match place {
+        0 => PrepareFault::UnknownSite(SiteNo::new(3)),
+        1 => PrepareFault::NotReady(SiteNo::new(3)),
+        2 => PrepareFault::Repeated(SiteNo::new(3)),
+        3 => PrepareFault::BatchSize,
+        _ => PrepareFault::Memory,
+    }
+}
+
+const PREPARATIONS: &[&str] = &[
+    "Prepare.UnknownSite",
+    "Prepare.NotReady",
+    "Prepare.Repeated",
+    "Prepare.BatchSize",
+    "Memory",
+];
+
+/// The first of the names that isn't that of the preparation's refusal, if there is one.
+fn other_preparation(alloc: Global) -> Option<usize> {
+    for (place, name) in PREPARATIONS.iter().enumerate() {
+        let fault = prepare_fault(place);
+        if !says(alloc, &fault, name) || !refuses(&prepare_refusal_value(alloc, fault), name) {
+            return Some(place);
+        }
+    }
+    None
+}
+
+/// Why a class isn't defined for what is above it, by its place among the names below.
+fn parent_fault(place: usize, parent: Name) -> DefineFault {
+    match place {
+        0 => DefineFault::MissingParent(parent),
+        1 => DefineFault::NotAnInterface(parent),
+        _ => DefineFault::InaccessibleParent(parent),
+    }
+}
+
+/// Why a loader isn't retired, by its place among the names below.
+fn retire_fault(place: usize) -> RetireFault {
+    match place {
+        0 => RetireFault::UnknownLoader,
+        1 => RetireFault::FirstLoader,
+        2 => RetireFault::Inherited(ClassId::new(3)),
+        3 => RetireFault::Recorded(LoaderId::new(3)),
+        _ => RetireFault::Targeted(CallSiteId::new(3)),
+    }
+}
+
+/// Why an event is refused, with no more than a number, by its place among the names below.
+fn numbered(place: usize) -> Refusal {
+    let site = SiteNo::new(3);
+    match place {
+        0 => Refusal::AlreadyBound(CallSiteId::new(3)),
+        1 => Refusal::NotReady { site },
+        2 => Refusal::UnknownSite { site },
+        3 => Refusal::Repeated { site },
+        4 => Refusal::from(SitesFault::Unknown(site)),
+        5 => Refusal::from(SitesFault::Repeated(site)),
+        6 => Refusal::CallSite(CallSiteFault::InvokerOrder(CallSiteId::new(3))),
+        7 => Refusal::Stale {
+            site,
+            present: Link::Mega,
+        },
+        _ => Refusal::Retire(retire_fault(place.saturating_sub(8))),
+    }
+}
+
+const NUMBERED: &[&str] = &[
+    "AlreadyBound",
+    "NotReady",
+    "UnknownSite",
+    "Repeated",
+    "UnknownSite",
+    "Repeated",
+    "CallSite.InvokerOrder",
+    "Stale",
+    "Retire.UnknownLoader",
+    "Retire.FirstLoader",
+    "Retire.Inherited",
+    "Retire.Recorded",
+    "Retire.Targeted",
+];
+
+/// Why an event is refused, with no more than a name, by its place among the names below.
+fn plain(place: usize) -> Refusal {
+    match place {
+        0 => Refusal::UnknownClass,
+        1 => Refusal::NoSuchPlace,
+        2 => Refusal::NotLinkable(NotLinkable::ArrayReceiver),
+        3 => Refusal::NotLinkable(NotLinkable::PolymorphicSignature),
+        4 => Refusal::SitesFull,
+        5 => Refusal::NotDynamic,
+        6 => Refusal::TypeMismatch,
+        7 => Refusal::BatchSize,
+        8 => Refusal::Memory,
+        9 => Refusal::LoadersFull,
+        10 => Refusal::CallSite(CallSiteFault::UnknownCallSite),
+        11 => Refusal::CallSite(CallSiteFault::Constant),
+        12 => Refusal::CallSite(CallSiteFault::WrongType),
+        13 => Refusal::CallSite(CallSiteFault::UnknownMethod),
+        14 => Refusal::CallSite(CallSiteFault::NotStatic),
+        15 => Refusal::CallSite(CallSiteFault::UnknownSwitch),
+        16 => Refusal::CallSite(CallSiteFault::TooDeep),
+        17 => Refusal::CallSite(CallSiteFault::Full),
+        18 => Refusal::Delegate(DelegateFault::UnknownLoader),
+        19 => Refusal::Delegate(DelegateFault::NotRecorded),
+        20 => Refusal::Delegate(DelegateFault::AlreadyRecorded),
+        21 => Refusal::Define(DefineFault::UnknownLoader),
+        22 => Refusal::Define(DefineFault::AlreadyRecorded),
+        23 => Refusal::Define(DefineFault::NamesItself),
+        24 => Refusal::Define(DefineFault::SuperIsInterface),
+        25 => Refusal::Define(DefineFault::FinalSuper),
+        26 => Refusal::Define(DefineFault::SecondObject),
+        _ => Refusal::Define(DefineFault::Full),
+    }
+}
+
+const PLAIN: &[&str] = &[
+    "UnknownClass",
+    "NoSuchPlace",
+    "NotLinkable.ArrayReceiver",
+    "NotLinkable.PolymorphicSignature",
+    "SitesFull",
+    "NotDynamic",
+    "TypeMismatch",
+    "BatchSize",
+    "Memory",
+    "LoadersFull",
+    "CallSite.UnknownCallSite",
+    "CallSite.Constant",
+    "CallSite.WrongType",
+    "CallSite.UnknownMethod",
+    "CallSite.NotStatic",
+    "CallSite.UnknownSwitch",
+    "CallSite.TooDeep",
+    "CallSite.Full",
+    "Delegate.UnknownLoader",
+    "Delegate.NotRecorded",
+    "Delegate.AlreadyRecorded",
+    "Define.UnknownLoader",
+    "Define.AlreadyRecorded",
+    "Define.NamesItself",
+    "Define.SuperIsInterface",
+    "Define.FinalSuper",
+    "Define.SecondObject",
+    "Define.Full",
+];
+
+/// Whether both the refusal's text and its answer have the name.
+fn is_refused(alloc: Global, refusal: &Refusal, name: &str) -> bool {
+    says(alloc, refusal, name) && refuses(&event_refusal_value(alloc, refusal), name)
+}
+
+/// Whether a definition that is refused for what is above it has the name.
+fn is_parent_fault(alloc: Global, place: usize, name: &str) -> bool {
+    match Name::copied(alloc, b"p/A") {
+        Ok(parent) => is_refused(alloc, &Refusal::Define(parent_fault(place, parent)), name),
+        Err(_) => false,
+    }
+}
+
+const PARENTS: &[&str] = &[
+    "Define.MissingParent",
+    "Define.NotAnInterface",
+    "Define.InaccessibleParent",
+];
+
+/// The first of the names that isn't that of the event's refusal, if there is one.
+fn other_refusal(alloc: Global) -> Option<&'static str> {
+    for (place, name) in PLAIN.iter().enumerate() {
+        if !is_refused(alloc, &plain(place), name) {
+            return Some(name);
+        }
+    }
+    for (place, name) in NUMBERED.iter().enumerate() {
+        if !is_refused(alloc, &numbered(place), name) {
+            return Some(name);
+        }
+    }
+    for (place, name) in PARENTS.iter().enumerate() {
+        if !is_parent_fault(alloc, place, name) {
+            return Some(name);
+        }
+    }
+    None
+}
+
+/// A name is refused where it is part of something, and so by no answer of its own.
+const NAMES: &[(NameFault, &str)] = &[
+    (NameFault::BadByte(3), "BadByte"),
+    (NameFault::Truncated, "Truncated"),
+    (NameFault::BadDescriptor(3), "BadDescriptor"),
+    (NameFault::TooManySlots, "TooManySlots"),
+    (NameFault::Memory, "Memory"),
+];
+
+/// The first of the names that isn't that of the fault, if there is one.
+fn other_name(alloc: Global) -> Option<&'static str> {
+    for (fault, name) in NAMES {
+        if !says(alloc, fault, name) {
+            return Some(name);
+        }
+    }
+    None
+}
+
+#[test]
+fn refusals_say_their_names(rt: HostRuntime) {
+    let alloc = rt.alloc();
+    assert_eq!(rt; other_file(alloc), None);
+    assert_eq!(rt; other_preparation(alloc), None);
+    assert_eq!(rt; other_refusal(alloc), None);
+    assert_eq!(rt; other_name(alloc), None);
+    assert!(rt; says(alloc, &LoaderFault::Full, "LoadersFull"));
+    assert!(rt; says(alloc, &LoaderFault::Memory, "Memory"));
+    assert!(rt; says(alloc, &SitesFault::Unknown(SiteNo::new(3)), "UnknownSite"));
+    assert!(rt; says(alloc, &SitesFault::Repeated(SiteNo::new(3)), "Repeated"));
+    let array = OrMemory::Fault(NotLinkable::ArrayReceiver);
+    assert!(rt; says(alloc, &array, "NotLinkable.ArrayReceiver"));
+    let memory: OrMemory<NotLinkable> = OrMemory::Memory;
+    assert!(rt; says(alloc, &memory, "Memory"));
+}
+
+/// The faults of a part of a class file are answered by themselves, too.
+#[test]
+fn parts_are_refused_by_name(rt: HostRuntime) {
+    let alloc = rt.alloc();
+    let tag = FileRefusal::from(PoolFault::BadTag(3));
+    assert!(rt; refuses(&tag.to_value(alloc), "Pool.BadTag"));
+    let cut = FileRefusal::from(CodeFault::CutShort(3));
+    assert!(rt; refuses(&cut.to_value(alloc), "Code.CutShort"));
+    let magic = FileRefusal::from(ClassFault::BadMagic);
+    assert!(rt; refuses(&magic.to_value(alloc), "BadMagic"));
+}
