@@ -1,150 +1,276 @@
-//! Events that can be made again, and the world of the tests that retarget call sites.
+//! Events that can be made again, and the worlds of the tests.
 
-use crate::servers::{OBJECT, definition, is_accepted, method, request};
-use jl_names::{Name, Seq};
-use jl_server::{Caller, LinkServer, Name as Server};
-use jl_types::{CallSiteId, CallSiteKind, Event, Link, LoaderId, SiteNo, Target};
-use rows_files::{CallRow, MethodRow, calling};
+use crate::deeds::Deed::*;
+use jl_class::ClassFile;
+use jl_names::Name;
+use jl_relink::Prepared;
+use jl_types::{
+    CallSiteId, CallSiteKind, ClassId, Event, LoaderId, MethodId, Place, PrepareFault, SiteNo,
+    SwitchId, Target,
+};
+use rows_files::{CallRow, MethodRow, calling, class, named};
 use std::alloc::{AllocError, Global};
-use std::sync::Wait;
+
+/// A public class below java/lang/Object or another one. Its first method makes the calls, if there are any.
+pub(crate) struct ClassRow {
+    name: &'static str,
+    superclass: Option<&'static str>,
+    calls: &'static [CallRow],
+    methods: &'static [MethodRow],
+}
+
+/// The method that A has and others override.
+const F: &[MethodRow] = &[("f", "()V", 1)];
+
+pub(crate) const OBJECT: &ClassRow = &ClassRow {
+    name: rows_files::OBJECT,
+    superclass: None,
+    calls: &[],
+    methods: &[],
+};
+
+pub(crate) const A: &ClassRow = &ClassRow {
+    name: "A",
+    superclass: Some(rows_files::OBJECT),
+    calls: &[],
+    methods: F,
+};
+
+/// Below A, without a method.
+pub(crate) const B: &ClassRow = &ClassRow {
+    name: "B",
+    superclass: Some("A"),
+    calls: &[],
+    methods: &[],
+};
+
+/// It calls A.f by invokevirtual.
+pub(crate) const M: &ClassRow = &ClassRow {
+    name: "M",
+    superclass: Some(rows_files::OBJECT),
+    calls: &[CallRow::Virtual("A", "f")],
+    methods: &[],
+};
+
+/// Below A, which overrides A.f.
+pub(crate) const C: &ClassRow = &ClassRow {
+    name: "C",
+    superclass: Some("A"),
+    calls: &[],
+    methods: F,
+};
+
+/// Below class D4, which overrides its method.
+pub(crate) const E: &ClassRow = &ClassRow {
+    name: "E",
+    superclass: Some("D4"),
+    calls: &[],
+    methods: F,
+};
+
+/// Below A, which overrides A.f, too.
+pub(crate) const R: &ClassRow = &ClassRow {
+    name: "R",
+    superclass: Some("A"),
+    calls: &[],
+    methods: F,
+};
+
+/// It calls A.f at 64 sites, by instructions of 3 bytes.
+pub(crate) const MANY: &ClassRow = &ClassRow {
+    name: "V",
+    superclass: Some(rows_files::OBJECT),
+    calls: &[CallRow::Virtual("A", "f"); 64],
+    methods: &[],
+};
+
+/// Four invokedynamic, of 5 bytes each, and its methods 1 and 2 for their call sites.
+const T: &ClassRow = &ClassRow {
+    name: "T",
+    superclass: Some(rows_files::OBJECT),
+    calls: &[
+        CallRow::Dynamic("x"),
+        CallRow::Dynamic("y"),
+        CallRow::Dynamic("z"),
+        CallRow::Dynamic("w"),
+    ],
+    methods: &[("a", "()V", 9), ("b", "()V", 9)],
+};
+
+/// Three static calls of its own method 1, and one of a class that isn't there.
+const W: &ClassRow = &ClassRow {
+    name: "W",
+    superclass: Some(rows_files::OBJECT),
+    calls: &[
+        CallRow::Static("W", "a"),
+        CallRow::Static("W", "a"),
+        CallRow::Static("W", "a"),
+        CallRow::Static("Absent", "a"),
+    ],
+    methods: &[("a", "()V", 9)],
+};
 
 /// How many call sites there are, each bound to an invokedynamic of its own, which has the call site's number.
 pub(crate) const CALL_SITES: u32 = 4;
 
-/// The invokedynamic of class 1, T, of 5 bytes each, in its first method.
-const CALLS: [CallRow; 4] = [
-    CallRow::Dynamic("x"),
-    CallRow::Dynamic("y"),
-    CallRow::Dynamic("z"),
-    CallRow::Dynamic("w"),
-];
-
-/// The methods of T for the call sites: its methods 1 and 2.
-const TARGETS: [MethodRow; 2] = [("a", "()V", 9), ("b", "()V", 9)];
-
 /// An event that can be made again.
-#[derive(Clone, Copy, Debug, PartialEq, Eq)]
+#[derive(Clone, Copy)]
 pub(crate) enum Deed {
-    /// The definition of java/lang/Object.
-    Object,
-    /// The definition of T.
-    Targets,
-    /// A mutable call site more, of T's method 1.
+    /// The loader defines the class.
+    Define(u32, &'static ClassRow),
+    /// Loader 0 defines class D of this number, below A, which overrides A.f or doesn't.
+    Below(u32, bool),
+    /// A new loader.
+    Loader,
+    /// Loader 1 finds the class of this name that loader 0 finds.
+    Delegate(&'static str),
+    /// The request of the instruction at this pc of the class's first method.
+    Request(u32, u32),
+    /// A mutable call site more, of class 1's method 1.
     CallSite,
-    /// The request of the invokedynamic at this pc.
-    Request(u32),
     /// The call site of this number is bound to the invokedynamic of this number.
     Bind(u32),
-    /// The call site of this number gets this method of T.
+    /// The call site of this number gets this method of class 1.
     Retarget(u32, u16),
-    /// Each invokedynamic, in order, gets a link that runs this method of T.
-    Install([u16; 4]),
+    /// These sites get the links that they have from scratch then.
+    Install(&'static [u32]),
+    /// A new switch point.
+    Switch,
+    /// Loader 1 goes.
+    Retire,
 }
 
-/// All but the links.
-pub(crate) const SET_UP: [Deed; 14] = [
-    Deed::Object,
-    Deed::Targets,
-    Deed::CallSite,
-    Deed::CallSite,
-    Deed::CallSite,
-    Deed::CallSite,
-    Deed::Request(0),
-    Deed::Request(5),
-    Deed::Request(10),
-    Deed::Request(15),
-    Deed::Bind(0),
-    Deed::Bind(1),
-    Deed::Bind(2),
-    Deed::Bind(3),
+/// A class A 1 with a method, B 2 below it, and an installed site 0 of M 3, which calls that method: 6 events.
+pub(crate) const ONE_SITE: &[Deed] = &[
+    Define(0, OBJECT),
+    Define(0, A),
+    Define(0, B),
+    Define(0, M),
+    Request(3, 0),
+    Install(&[0]),
 ];
 
-/// The definition of T.
-fn targets(alloc: Global) -> Option<Event> {
-    match calling(alloc, "T", 33, rows_files::OBJECT, &[], &CALLS, &TARGETS) {
-        Some(file) => Some(Event::Define(LoaderId::new(0), file)),
+/// The four invokedynamic of T 1, each bound to a call site, without links.
+pub(crate) const DYNAMIC: &[Deed] = &[
+    Define(0, OBJECT),
+    Define(0, T),
+    CallSite,
+    CallSite,
+    CallSite,
+    CallSite,
+    Request(1, 0),
+    Request(1, 5),
+    Request(1, 10),
+    Request(1, 15),
+    Bind(0),
+    Bind(1),
+    Bind(2),
+    Bind(3),
+];
+
+/// The four calls of W 1, without links.
+pub(crate) const STATIC: &[Deed] = &[
+    Define(0, OBJECT),
+    Define(0, W),
+    Request(1, 0),
+    Request(1, 3),
+    Request(1, 6),
+    Request(1, 9),
+];
+
+/// What is read of the row's class file.
+fn file(alloc: Global, row: &ClassRow) -> Option<ClassFile> {
+    match row.superclass {
+        Some(above) => calling(alloc, row.name, 33, above, &[], row.calls, row.methods),
+        None => class(alloc, row.name, 33, None, &[], row.methods),
+    }
+}
+
+/// The definition of the class by the loader.
+fn definition(loader: u32, file: Option<ClassFile>) -> Option<Event> {
+    match file {
+        Some(file) => Some(Event::Define(LoaderId::new(loader), file)),
         None => None,
     }
 }
 
-/// A mutable call site more, of T's method 1.
-fn call_site(alloc: Global) -> Option<Event> {
-    match Name::copied(alloc, b"()V") {
-        Ok(ty) => Some(Event::NewCallSite(CallSiteKind::Mutable, ty, Target::method(method(1, 1)))),
+/// The class file of D of this number.
+fn below(alloc: Global, number: u32, overrides: bool) -> Option<ClassFile> {
+    let methods = if overrides { F } else { &[] };
+    match format!(in alloc; "D{number}") {
+        Ok(name) => class(alloc, &name, 33, Some("A"), &[], methods),
         Err(_) => None,
     }
 }
 
-/// The call site of this number gets this method of T.
-fn retarget(number: u32, index: u16) -> Event {
-    Event::SetTarget(CallSiteId::new(number), Target::method(method(1, index)))
+/// The delegation of the class of this name.
+fn delegation(name: Result<Name, AllocError>) -> Option<Event> {
+    match name {
+        Ok(name) => Some(Event::Delegate(LoaderId::new(1), name, LoaderId::new(0))),
+        Err(_) => None,
+    }
 }
 
-/// The link of this site to this method of T.
-pub(crate) fn linked(number: u32, index: u16) -> (SiteNo, Link) {
-    (SiteNo::new(number), Link::Plain(method(1, index)))
+/// The method of the class.
+pub(crate) fn method(class: u32, index: u16) -> MethodId {
+    MethodId {
+        class: ClassId::new(class),
+        index,
+    }
 }
 
-/// Each site with its link, by the methods of T that they run.
-pub(crate) fn rows(indices: &[u16; 4]) -> [(SiteNo, Link); 4] {
-    let [first, second, third, fourth] = *indices;
-    [
-        linked(0, first),
-        linked(1, second),
-        linked(2, third),
-        linked(3, fourth),
-    ]
+/// A mutable call site of this type.
+fn call_site(ty: Result<Name, AllocError>) -> Option<Event> {
+    let target = Target::method(method(1, 1));
+    match ty {
+        Ok(ty) => Some(Event::NewCallSite(CallSiteKind::Mutable, ty, target)),
+        Err(_) => None,
+    }
 }
 
-/// The install of these links.
-fn install(alloc: Global, rows: &[(SiteNo, Link)]) -> Result<Event, AllocError> {
-    Ok(Event::Install(Seq::of(rows.to_vec(alloc)?)))
-}
-
-/// The event, if there is memory for it.
-pub(crate) fn event_of(alloc: Global, deed: &Deed) -> Option<Event> {
+/// The event, but for installs.
+pub(crate) fn event(alloc: Global, deed: &Deed) -> Option<Event> {
     match deed {
-        Deed::Object => definition(alloc, OBJECT),
-        Deed::Targets => targets(alloc),
-        Deed::CallSite => call_site(alloc),
-        Deed::Request(pc) => Some(request(1, *pc)),
-        Deed::Bind(number) => Some(Event::Bind(SiteNo::new(*number), CallSiteId::new(*number))),
-        Deed::Retarget(number, index) => Some(retarget(*number, *index)),
-        Deed::Install(indices) => install(alloc, rows(indices).as_slice()).ok(),
+        Define(loader, row) => definition(*loader, file(alloc, row)),
+        Below(number, overrides) => definition(0, below(alloc, *number, *overrides)),
+        Loader => Some(Event::NewLoader),
+        Delegate(name) => delegation(named(alloc, name)),
+        Request(class, pc) => Some(Event::Request(Place {
+            class: ClassId::new(*class),
+            method: 0,
+            pc: *pc,
+        })),
+        CallSite => call_site(named(alloc, "()V")),
+        Bind(number) => Some(Event::Bind(SiteNo::new(*number), CallSiteId::new(*number))),
+        Retarget(number, index) => Some(Event::SetTarget(
+            CallSiteId::new(*number),
+            Target::method(method(1, *index)),
+        )),
+        Install(_) => None,
+        Switch => Some(Event::NewSwitch),
+        Retire => Some(Event::Retire(LoaderId::new(1))),
+    }
+}
+
+/// The sites of these numbers.
+pub(crate) fn numbered(alloc: Global, numbers: &[u32]) -> Result<Vec<SiteNo>, AllocError> {
+    let mut sites = Vec::new(alloc);
+    for number in numbers {
+        sites.push(SiteNo::new(*number))?;
+    }
+    Ok(sites)
+}
+
+/// The install of what was prepared.
+pub(crate) fn install(prepared: Result<Prepared, PrepareFault>) -> Option<Event> {
+    match prepared {
+        Ok(Prepared { serial: _, rows }) => Some(Event::Install(rows)),
+        Err(_) => None,
     }
 }
 
 /// The retargeting of this round: each call site in turn, which gets another method each time.
 pub(crate) fn turned(round: u32) -> Deed {
     let index = if (round / CALL_SITES) % 2 == 0 { 2 } else { 1 };
-    Deed::Retarget(round % CALL_SITES, index)
-}
-
-/// Whether the caller does all of this, one after another.
-pub(crate) fn are_done<K: Server, R: Wait, S: Wait + Drop>(
-    rt: &R,
-    alloc: Global,
-    server: &LinkServer<K, S>,
-    caller: &mut Caller<K>,
-    deeds: &[Deed],
-) -> bool {
-    let mut all = true;
-    for deed in deeds {
-        all = is_done(rt, alloc, server, caller, deed) && all;
-    }
-    all
-}
-
-/// Whether the caller does it.
-pub(crate) fn is_done<K: Server, R: Wait, S: Wait + Drop>(
-    rt: &R,
-    alloc: Global,
-    server: &LinkServer<K, S>,
-    caller: &mut Caller<K>,
-    deed: &Deed,
-) -> bool {
-    match event_of(alloc, deed) {
-        Some(event) => is_accepted(rt, alloc, server, caller, event),
-        None => false,
-    }
+    Retarget(round % CALL_SITES, index)
 }

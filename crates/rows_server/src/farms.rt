@@ -1,97 +1,24 @@
-//! Farms of compilers on a server.
+//! Farms of compilers on a server, whose call sites are retargeted meanwhile, or one of whose jobs is held back.
 
 ghost use Rattle.std.specs.Prelude.{◌≡◌, ◌≤◌};
 
-use crate::servers::{OBJECT, is_accepted, is_defined, request};
-use jl_class::ClassFile;
+use crate::deeds::{DYNAMIC, Deed, STATIC, method, numbered, turned};
+use crate::farms::Kind::*;
+use crate::workers::{Shared, Told, Worker};
 use jl_farm::{FarmFault, Gate, JobOutcome, Report, run};
 use jl_names::Seq;
-use jl_server::{Caller, LinkServer, Name, Parts};
-use jl_types::{Event, LoaderId, SiteNo};
-use rows_files::{CallRow, calling};
+use jl_server::{Caller, Name};
+use jl_types::{Link, SiteNo};
 use std::alloc::{AllocError, Global};
-use std::marker::Brand;
-use std::sync::Wait;
 use std::sync::atomic::{AtomicU64, Ordering};
+use std::sync::{Mutex, Wait};
 use std::thread::Threads;
 
-/// How often each test of a gate runs.
-const TURNS: usize = 100;
-
-/// How often a hold looks before it gives up.
+/// How often a job that is held back looks before it gives up.
 const LOOKS: u64 = 200_000_000;
 
-/// Class 1 has static calls of its own method a, and one of a class that isn't there.
-const CALLS: [CallRow; 4] = [
-    CallRow::Static("W", "a"),
-    CallRow::Static("W", "a"),
-    CallRow::Static("W", "a"),
-    CallRow::Static("Absent", "a"),
-];
-
-/// A gate that holds one job back until another one has come to its outcome.
-#[derive(Drop)]
-struct Hold {
-    job: usize,
-    until: usize,
-    met: AtomicU64,
-    gave_up: AtomicU64,
-}
-
-impl Hold {
-    fn new(job: usize, until: usize) -> Hold {
-        Hold {
-            job,
-            until,
-            met: AtomicU64::new(0),
-            gave_up: AtomicU64::new(0),
-        }
-    }
-
-    fn is_met(&self) -> bool {
-        self.met.load(Ordering::SeqCst) == 1
-    }
-}
-
-impl Gate for Hold {
-    fn before_prepare(&self, job: usize) {
-        if job != self.job {
-            return;
-        }
-        for _ in 0..LOOKS {
-            if self.is_met() {
-                return;
-            }
-        }
-        self.gave_up.store(1, Ordering::SeqCst);
-    }
-
-    fn after_install(&self, job: usize) {
-        if job == self.until {
-            self.met.store(1, Ordering::SeqCst);
-        }
-    }
-}
-
-/// A gate that counts the jobs that pass it.
-#[derive(Drop)]
-struct Count {
-    before: AtomicU64,
-    after: AtomicU64,
-}
-
-impl Gate for Count {
-    fn before_prepare(&self, _job: usize) {
-        self.before.fetch_add(1, Ordering::SeqCst);
-    }
-
-    fn after_install(&self, _job: usize) {
-        self.after.fetch_add(1, Ordering::SeqCst);
-    }
-}
-
-/// What a job came to, without the lists that show it.
-#[derive(Clone, Copy, Debug, PartialEq, Eq)]
+/// What a job comes to.
+#[derive(Clone, Copy, PartialEq, Eq)]
 pub(crate) enum Kind {
     Installed,
     Stale,
@@ -100,45 +27,322 @@ pub(crate) enum Kind {
     Memory,
 }
 
-pub(crate) fn kind_of<K: Name>(report: &Report<K>) -> Kind {
-    match &report.outcome {
-        JobOutcome::Installed(_) => Kind::Installed,
-        JobOutcome::Stale(_, _) => Kind::Stale,
-        JobOutcome::NotReady(_) => Kind::NotReady,
-        JobOutcome::Bad(_) => Kind::Bad,
-        JobOutcome::Memory => Kind::Memory,
+/// A job by its sites' numbers, and what it is to come to.
+type Job = (&'static [u32], Kind);
+
+/// What happens while the farm runs.
+#[derive(Clone, Copy)]
+pub(crate) enum Turns {
+    /// Nothing.
+    Never,
+    /// This job is held back until that one has come to its outcome.
+    Held(usize, usize),
+    /// Once this job's links were looked up, and are next to be installed, this call site is retargeted.
+    Between(usize, u32),
+    /// The thread that has taken job 0 retargets one call site after another before it prepares that, until all other jobs are done.
+    During,
+}
+
+/// Jobs on a server with no links.
+pub(crate) struct Farm {
+    pub(crate) before: &'static [Deed],
+    turns: Turns,
+    jobs: &'static [Job],
+    /// The sites that have a link in the end, to class 1's method 1, where that is certain.
+    linked: Option<&'static [u32]>,
+}
+
+/// Jobs of every kind.
+pub(crate) const MIXED: &Farm = &Farm {
+    before: STATIC,
+    turns: Turns::Never,
+    jobs: &[
+        (&[0], Installed),
+        (&[2, 1], Installed),
+        (&[3], NotReady),
+        (&[], Bad),
+        (&[0, 1, 0], Bad),
+        (&[4], Bad),
+        (&[1, 3], NotReady),
+        (&[0], Installed),
+    ],
+    linked: Some(&[0, 1, 2]),
+};
+
+/// Three jobs of one site each, of which the second one is held back until the third one is done.
+const EARLIER_HELD: &Farm = &Farm {
+    before: STATIC,
+    turns: Turns::Held(1, 2),
+    jobs: &[(&[0], Installed), (&[1], Installed), (&[2], Installed)],
+    linked: Some(&[0, 1, 2]),
+};
+
+/// The same the other way round.
+const LATER_HELD: &Farm = &Farm {
+    before: STATIC,
+    turns: Turns::Held(2, 1),
+    jobs: &[(&[0], Installed), (&[1], Installed), (&[2], Installed)],
+    linked: Some(&[0, 1, 2]),
+};
+
+/// A job is stale where a call site of its own was retargeted, and then none of its sites gets a link. The others are installed.
+pub(crate) const BETWEEN: &[Farm] = &[
+    Farm {
+        before: DYNAMIC,
+        turns: Turns::Between(2, 2),
+        jobs: &[
+            (&[0], Installed),
+            (&[1], Installed),
+            (&[2], Stale),
+            (&[3], Installed),
+        ],
+        linked: Some(&[0, 1, 3]),
+    },
+    Farm {
+        before: DYNAMIC,
+        turns: Turns::Between(0, 0),
+        jobs: &[
+            (&[0], Stale),
+            (&[1], Installed),
+            (&[2], Installed),
+            (&[3], Installed),
+        ],
+        linked: Some(&[1, 2, 3]),
+    },
+    Farm {
+        before: DYNAMIC,
+        turns: Turns::Between(1, 2),
+        jobs: &[(&[0], Installed), (&[1, 2], Stale), (&[3], Installed)],
+        linked: Some(&[0, 3]),
+    },
+    Farm {
+        before: DYNAMIC,
+        turns: Turns::Between(0, 0),
+        jobs: &[(&[3, 2, 1, 0], Stale)],
+        linked: Some(&[]),
+    },
+    Farm {
+        before: DYNAMIC,
+        turns: Turns::Between(0, 3),
+        jobs: &[(&[0], Installed), (&[1], Installed)],
+        linked: Some(&[0, 1]),
+    },
+];
+
+/// A job that is held until all others are done, and eight that share sites: each of these is installed or stale.
+pub(crate) const DURING: &Farm = &Farm {
+    before: DYNAMIC,
+    turns: Turns::During,
+    jobs: &[
+        (&[0], Installed),
+        (&[0], Installed),
+        (&[1], Installed),
+        (&[2], Installed),
+        (&[3], Installed),
+        (&[0, 1], Installed),
+        (&[3, 2], Installed),
+        (&[3, 2, 1, 0], Installed),
+        (&[1, 3], Installed),
+    ],
+    linked: None,
+};
+
+/// Two jobs of one site.
+const TWICE: &Farm = &Farm {
+    before: DYNAMIC,
+    turns: Turns::Never,
+    jobs: &[(&[0], Installed), (&[0], Installed)],
+    linked: Some(&[0]),
+};
+
+/// Farms whose threads are to meet in many ways, by how many workers they have.
+pub(crate) const MEETING: &[(usize, &Farm)] = &[
+    (2, EARLIER_HELD),
+    (2, LATER_HELD),
+    (2, TWICE),
+    (4, DURING),
+];
+
+/// A gate that holds a job back, or retargets call sites by a caller of its own, and counts the jobs that pass it.
+#[derive(Drop)]
+struct Turner<'a, K: Name, R: Wait, S: Wait + Drop> {
+    shared: &'a Shared<'a, K, R, S>,
+    worker: Mutex<Worker<K>>,
+    farm: &'static Farm,
+    begun: AtomicU64,
+    done: AtomicU64,
+    /// How many jobs were told to have come to their outcome while each of their sites had a link.
+    linked: AtomicU64,
+    /// Whether the job that another one waits for is done.
+    met: AtomicU64,
+    gave_up: AtomicU64,
+}
+
+impl<'a, K: Name, R: Wait, S: Wait + Drop> Turner<'a, K, R, S> {
+    /// Retargets a call site.
+    fn retarget(&self, deed: &Deed) {
+        let mut worker = self.worker.lock(self.shared.rt);
+        let _accepted = self.shared.does(&mut worker, deed);
+    }
+
+    /// Retargets one call site after another, until all jobs but one are done.
+    fn retarget_all(&self) {
+        let mut round = 0u32;
+        for _ in self.shared.rt.forever() {
+            self.retarget(&turned(round));
+            let done = self.done.load(Ordering::SeqCst);
+            if done.saturating_add(1) >= self.farm.jobs.len() as u64 {
+                break;
+            }
+            round = round.wrapping_add(1);
+        }
+    }
+
+    /// Waits until the job that this one waits for is done.
+    fn hold(&self) {
+        for _ in 0..LOOKS {
+            if self.met.load(Ordering::SeqCst) == 1 {
+                return;
+            }
+        }
+        self.gave_up.store(1, Ordering::SeqCst);
+    }
+
+    /// Whether each site of the job, if it is none that is bad, has a link.
+    fn is_linked(&self, job: usize) -> bool {
+        let Some((sites, Installed | Stale)) = self.farm.jobs.get(job) else {
+            return false;
+        };
+        let mut worker = self.worker.lock(self.shared.rt);
+        let Shared {
+            rt,
+            alloc,
+            server,
+            ..
+        } = self.shared;
+        match &server.links(*rt, *alloc, &mut worker.caller) {
+            Ok(list) => have_links(list.rows.as_slice(), sites),
+            Err(_) => false,
+        }
+    }
+
+    /// Whether each job has passed, and as many were told to have come to their outcome with links as were installed, where no link goes
+    /// meanwhile: an installed job has its links when this is told, and another one has none. And whether as many call sites were retargeted as
+    /// the farm says.
+    fn is_passed(&self, installed: u64, turned: usize) -> bool {
+        let jobs = self.farm.jobs.len() as u64;
+        let linked = self.linked.load(Ordering::SeqCst) == installed;
+        let so = match self.farm.turns {
+            Turns::Never => linked && turned == 0,
+            Turns::Held(..) => linked && self.met.load(Ordering::SeqCst) == 1,
+            Turns::Between(..) => linked && turned == 1,
+            Turns::During => turned > 0,
+        };
+        so && self.begun.load(Ordering::SeqCst) == jobs
+            && self.done.load(Ordering::SeqCst) == jobs
+            && self.gave_up.load(Ordering::SeqCst) == 0
     }
 }
 
-/// A job by its sites' numbers, and what it is to come to.
-pub(crate) type Job = (&'static [u32], Kind);
-
-/// Jobs of every kind on the server that is set up here.
-const MIXED: &[Job] = &[
-    (&[0], Kind::Installed),
-    (&[2, 1], Kind::Installed),
-    (&[3], Kind::NotReady),
-    (&[], Kind::Bad),
-    (&[0, 1, 0], Kind::Bad),
-    (&[4], Kind::Bad),
-    (&[1, 3], Kind::NotReady),
-    (&[0], Kind::Installed),
-];
-
-/// Three jobs of one ready site each.
-const READY: &[Job] = &[
-    (&[0], Kind::Installed),
-    (&[1], Kind::Installed),
-    (&[2], Kind::Installed),
-];
-
-/// The sites of these numbers.
-pub(crate) fn numbered(alloc: Global, numbers: &[u32]) -> Result<Vec<SiteNo>, AllocError> {
-    let mut sites = Vec::new(alloc);
-    for number in numbers {
-        sites.push(SiteNo::new(*number))?;
+impl<'a, K: Name, R: Wait, S: Wait + Drop> Gate for Turner<'a, K, R, S> {
+    fn before_prepare(&self, job: usize) {
+        self.begun.fetch_add(1, Ordering::SeqCst);
+        match self.farm.turns {
+            Turns::During => {
+                if job == 0 {
+                    self.retarget_all();
+                }
+            }
+            Turns::Held(held, _) => {
+                if job == held {
+                    self.hold();
+                }
+            }
+            _ => {}
+        }
     }
-    Ok(sites)
+
+    fn before_install(&self, job: usize) {
+        if let Turns::Between(at, call_site) = self.farm.turns {
+            if at == job {
+                self.retarget(&Deed::Retarget(call_site, 2));
+            }
+        }
+    }
+
+    fn after_install(&self, job: usize) {
+        if self.is_linked(job) {
+            self.linked.fetch_add(1, Ordering::SeqCst);
+        }
+        if let Turns::Held(_, until) = self.farm.turns {
+            if until == job {
+                self.met.store(1, Ordering::SeqCst);
+            }
+        }
+        self.done.fetch_add(1, Ordering::SeqCst);
+    }
+}
+
+/// Whether the site of this number has a link.
+fn has_link(links: &[(SiteNo, Link)], number: u32) -> bool {
+    let mut has = false;
+    for link in links {
+        has = has || link.0.number() == number;
+    }
+    has
+}
+
+/// Whether each site of these numbers has a link.
+fn have_links(links: &[(SiteNo, Link)], numbers: &[u32]) -> bool {
+    let mut all = true;
+    for number in numbers {
+        all = all && has_link(links, *number);
+    }
+    all
+}
+
+/// Whether the job, which came to this, is of its kind, or stale where another one's thread retargets.
+fn is_of(farm: &Farm, job: usize, kind: Kind) -> bool {
+    match farm.jobs.get(job) {
+        Some((_sites, expected)) => {
+            kind == *expected || (kind == Stale && job > 0 && matches!(farm.turns, Turns::During))
+        }
+        None => false,
+    }
+}
+
+/// What the job came to. The event by which it was installed is kept.
+fn heard<K: Name>(worker: &mut Worker<K>, job: &Job, outcome: JobOutcome<K>) -> Kind {
+    match outcome {
+        JobOutcome::Installed(receipt) => {
+            let told = Told {
+                serial: receipt.serial,
+                deed: Deed::Install(job.0),
+                reply: receipt.reply,
+            };
+            worker.keep(0, told);
+            Installed
+        }
+        JobOutcome::Stale(_, _) => Stale,
+        JobOutcome::NotReady(_) => NotReady,
+        JobOutcome::Bad(_) => Bad,
+        JobOutcome::Memory => Memory,
+    }
+}
+
+/// How many of the jobs were installed. There is to be one report for each job, in order, of its kind.
+fn installed<K: Name>(worker: &mut Worker<K>, farm: &Farm, reports: Vec<Report<K>>) -> u64 {
+    let mut count = 0u64;
+    worker.expect(reports.len() == farm.jobs.len());
+    for (place, (report, job)) in reports.into_iter().zip(farm.jobs).enumerate() {
+        worker.expect(report.job == place);
+        let kind = heard(worker, job, report.outcome);
+        worker.expect(is_of(farm, place, kind));
+        if kind == Installed {
+            count = count.saturating_add(1);
+        }
+    }
+    count
 }
 
 fn jobs_of(alloc: Global, rows: &[Job]) -> Result<Vec<Seq<SiteNo>>, AllocError> {
@@ -149,147 +353,96 @@ fn jobs_of(alloc: Global, rows: &[Job]) -> Result<Vec<Seq<SiteNo>>, AllocError> 
     Ok(jobs)
 }
 
-/// Whether there is one report for each job, in order, of its kind.
-fn are_of<K: Name>(reports: &[Report<K>], rows: &[Job]) -> bool {
-    let mut all = reports.len() == rows.len();
-    for (place, (report, row)) in reports.iter().zip(rows).enumerate() {
-        all = all && report.job == place && kind_of(report) == row.1;
-    }
-    all
-}
-
-/// Whether java/lang/Object and class 1 are defined, and its four calls requested.
-fn is_set_up<K: Name, R: Wait, S: Wait + Drop>(
-    rt: &R,
-    alloc: Global,
-    server: &LinkServer<K, S>,
-    caller: &mut Caller<K>,
-) -> bool {
-    let Some(file) = calling(
+/// The reports of the gate's farm.
+fn reports_of<K: Name + Send + Sync, R: Threads + Wait + Sync, S: Wait + Drop + Send + Sync>(
+    gate: &Turner<'_, K, R, S>,
+    crew: Vec<Caller<K>>,
+) -> Result<Vec<Report<K>>, FarmFault> {
+    let Shared {
+        rt,
         alloc,
-        "W",
-        33,
-        rows_files::OBJECT,
-        &[],
-        &CALLS,
-        &[("a", "()V", 9)],
-    ) else {
-        return false;
-    };
-    let mut all = is_defined(rt, alloc, server, caller, OBJECT)
-        && is_accepted(
-            rt,
-            alloc,
-            server,
-            caller,
-            Event::Define(LoaderId::new(0), file),
-        );
-    for pc in [0, 3, 6, 9] {
-        all = all && is_accepted(rt, alloc, server, caller, request(1, pc));
+        server,
+        ..
+    } = gate.shared;
+    let jobs = jobs_of(*alloc, gate.farm.jobs)?;
+    if crew.is_empty() || crew.len() > 16 || jobs.len() > 65_536 {
+        return Err(FarmFault::NoThread);
     }
-    all
+    run(*rt, *alloc, *server, jobs, crew, gate)
 }
 
-/// The reports of a farm whose workers have learnt all that the caller has seen.
-pub(crate) fn reports_of<
+/// So many of the callers, or all that there are, which have learnt what the first one has seen.
+fn crew_of<K: Name>(
+    alloc: Global,
+    workers: &mut Vec<Worker<K>>,
+    count: usize,
+) -> Result<Vec<Caller<K>>, AllocError> {
+    let mut crew = Vec::new(alloc);
+    for _ in 0..count {
+        if let (Some(last), Some(first)) = (workers.pop(), workers.first()) {
+            let Worker { mut caller, .. } = last;
+            caller.learn(first.caller.seen());
+            crew.push(caller)?;
+        }
+    }
+    Ok(crew)
+}
+
+/// Runs the farm by so many of the callers. The gate's one and the first one keep what was accepted, and what went wrong.
+fn runs<K: Name + Send + Sync, R: Threads + Wait + Sync, S: Wait + Drop + Send + Sync>(
+    shared: &Shared<'_, K, R, S>,
+    first: &mut Worker<K>,
+    second: Worker<K>,
+    crew: Vec<Caller<K>>,
+    farm: &'static Farm,
+) -> Result<(), AllocError> {
+    let gate = Turner {
+        shared,
+        worker: Mutex::new(second),
+        farm,
+        begun: AtomicU64::new(0),
+        done: AtomicU64::new(0),
+        linked: AtomicU64::new(0),
+        met: AtomicU64::new(0),
+        gave_up: AtomicU64::new(0),
+    };
+    let reports = reports_of(&gate, crew);
+    let mut second = gate.worker.lock(shared.rt);
+    let turned = second.told.len();
+    let so = match reports {
+        Ok(reports) => gate.is_passed(installed(first, farm, reports), turned),
+        Err(_) => false,
+    };
+    first.expect(so && second.wrong == 0);
+    first.told.append(&mut second.told)
+}
+
+/// Whether the farm of so many workers was as it says, on a server on which all that comes before is done. Of the callers the first one is
+/// left.
+pub(crate) fn is_farm<
     K: Name + Send + Sync,
-    G: Gate + Sync,
     R: Threads + Wait + Sync,
     S: Wait + Drop + Send + Sync,
 >(
-    rt: &R,
-    alloc: Global,
-    server: &LinkServer<K, S>,
-    caller: &Caller<K>,
-    mut workers: Vec<Caller<K>>,
-    gate: &G,
-    rows: &[Job],
-) -> Result<Vec<Report<K>>, FarmFault> {
-    for worker in &mut workers {
-        worker.learn(caller.seen());
-    }
-    let jobs = jobs_of(alloc, rows)?;
-    if workers.is_empty() || workers.len() > 16 || jobs.len() > 65_536 {
-        return Err(FarmFault::NoThread);
-    }
-    run(rt, alloc, server, jobs, workers, gate)
-}
-
-/// Whether the farm's reports are as the rows say.
-fn is_farm<K: Name + Send + Sync, G: Gate + Sync, R: Threads + Wait + Sync>(
-    rt: &R,
-    alloc: Global,
-    parts: Parts,
-    gate: &G,
-    rows: &[Job],
-) -> bool
-    requires book { parts.book ≡ K.book }
-    requires sites { parts.max_sites ≡ K.max_sites }
-{
-    let Ok((server, mut callers)) = parts.start::<K, &R>(alloc, rt) else {
+    shared: &Shared<'_, K, R, S>,
+    workers: &mut Vec<Worker<K>>,
+    count: usize,
+    farm: &'static Farm,
+) -> bool {
+    let Ok(crew) = crew_of(shared.alloc, workers, count) else {
         return false;
     };
-    let Some(mut first) = callers.pop() else {
+    let Some(second) = workers.pop() else {
         return false;
     };
-    if !is_set_up(rt, alloc, &server, &mut first) {
+    let Some(first) = workers.first_mut() else {
+        return false;
+    };
+    if runs(shared, first, second, crew, farm).is_err() {
         return false;
     }
-    match reports_of(rt, alloc, &server, &first, callers, gate, rows) {
-        Ok(reports) => are_of(reports.as_slice(), rows),
-        Err(_) => false,
-    }
-}
-
-fn is_so<G: Gate + Sync, R: Threads + Wait + Sync>(
-    rt: &R,
-    alloc: Global,
-    workers: usize,
-    gate: &G,
-    rows: &[Job],
-) -> bool
-    requires { workers ≤ 16 }
-{
-    match Parts::new(alloc, 8, workers + 1) {
-        Ok(parts) => is_farm::<Brand, G, R>(rt, alloc, parts, gate, rows),
-        Err(_) => false,
-    }
-}
-
-fn is_told<R: Threads + Wait + Sync>(rt: &R, alloc: Global, workers: usize) -> bool
-    requires { workers ≤ 16 }
-{
-    let gate = Count {
-        before: AtomicU64::new(0),
-        after: AtomicU64::new(0),
-    };
-    let so = is_so(rt, alloc, workers, &gate, MIXED);
-    so && gate.before.load(Ordering::SeqCst) == 8 && gate.after.load(Ordering::SeqCst) == 8
-}
-
-fn is_held<R: Threads + Wait + Sync>(rt: &R, alloc: Global, job: usize, until: usize) -> bool {
-    let gate = Hold::new(job, until);
-    let so = is_so(rt, alloc, 2, &gate, READY);
-    so && gate.is_met() && gate.gave_up.load(Ordering::SeqCst) == 0
-}
-
-#[test]
-fn reports_each_job(rt: HostRuntime) {
-    for workers in [1usize, 2, 4, 16] {
-        assert!(rt; is_told(&rt, rt.alloc(), workers), "{workers}");
-    }
-}
-
-#[test]
-fn runs_a_later_job_while_one_is_held(rt: HostRuntime) {
-    for turn in 0..TURNS {
-        assert!(rt; is_held(&rt, rt.alloc(), 1, 2), "{turn}");
-    }
-}
-
-#[test]
-fn runs_an_earlier_job_while_one_is_held(rt: HostRuntime) {
-    for turn in 0..TURNS {
-        assert!(rt; is_held(&rt, rt.alloc(), 2, 1), "{turn}");
+    match farm.linked {
+        Some(sites) => shared.are_linked(&mut first.caller, sites, &Link::Plain(method(1, 1))),
+        None => true,
     }
 }

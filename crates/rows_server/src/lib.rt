@@ -3,13 +3,13 @@
 #![tactic(auto)]
 
 #[cfg(test)]
+mod acts;
+#[cfg(test)]
 mod deeds;
 #[cfg(test)]
 mod definitions;
 #[cfg(test)]
 mod farms;
-#[cfg(test)]
-mod memos;
 #[cfg(test)]
 mod races;
 #[cfg(test)]
@@ -17,8 +17,8 @@ mod replays;
 #[cfg(test)]
 mod rows;
 #[cfg(test)]
-mod servers;
+mod scripts;
 #[cfg(test)]
-mod stale;
+mod servers;
 #[cfg(test)]
 mod workers;

@@ -1,300 +1,369 @@
-//! Rows of two callers in one thread.
+//! Rows of two callers in one thread, with a memo beside them.
 
-ghost use Rattle.std.specs.Prelude.{◌≡◌};
-
-use crate::memos::{remembers, retires};
-use crate::servers::{
-    A, C, OBJECT, is_accepted, is_defined, is_installed, is_set_up, method, object_of, request,
-    runs,
-};
-use jl_server::{Caller, Denied, LinkServer, Name, Parts, Receipt};
-use jl_types::{Answer, Event, Fast, Link, Made, Outcome, Recv, Refusal, SiteNo, SwitchId};
-use std::alloc::Global;
-use std::marker::Brand;
-use std::process::Abort;
+use crate::acts::{acts, fast};
+use crate::deeds::Deed::*;
+use crate::deeds::{A, B, C, Deed, E, M, OBJECT, ONE_SITE, R, method};
+use crate::rows::Line::*;
+use crate::scripts::Act::*;
+use crate::scripts::Says::*;
+use crate::scripts::{Act, Says};
+use crate::workers::{Shared, Worker, receiver};
+use jl_server::{Memo, Name, Seen};
+use jl_types::{ClassId, Fast, Outcome, SiteNo};
+use std::alloc::{AllocError, Global};
 use std::sync::Wait;
 
-/// What two callers do on a new server of two sites.
-#[derive(Clone, Copy, Debug)]
-enum Row {
-    /// One makes two switch points.
-    ByOne,
-    /// Each makes one, and has not seen the other's: the second one's receipt is not the first one's.
-    ByTwo,
-    /// They call sites that nobody requested, and that can't be.
-    Unknown,
-    /// They call an installed site and one that nobody requested, both in one entry.
-    Together,
-    /// A caller learns a newer receipt, and then an older one.
-    Older,
-    /// A snapshot of a caller that learnt a receipt, and of one that has seen nothing.
-    Snapshot,
-    /// An event is refused after what another caller did.
-    Refused,
-    /// The installed links, before and after a definition that drops the one there is.
-    Listed,
-    /// Calls at a megamorphic link, which a memo remembers.
-    Remembered,
-    /// The same, where a loader is retired.
-    Retired,
-    /// The server goes.
-    Gone,
+/// What one of two callers does or is answered, or both by one memo.
+#[derive(Clone, Copy)]
+enum Line {
+    First(Act),
+    Second(Act),
+    /// What the first one has seen is kept.
+    Keeps,
+    /// The second one learns what is kept.
+    Learns,
+    /// The first one's call of site 0 on an object of the class is a miss, with the memo and without, and isn't remembered.
+    IsUnknown(u32),
+    /// The first one asks for the call on an object of the first class, which then is remembered: it runs the second class's method.
+    IsLearned(u32, u32),
+    /// The call on an object of the first class runs the second class's method by the memo alone. The second caller calls, or the first.
+    IsRemembered(bool, u32, u32),
+    /// What the first one's call comes to, by the server.
+    Asks(u32, u32, Says),
+    /// The same, and the memo is told.
+    AsksWith(u32, u32, Says),
+    /// What the first one's call is answered at once by the memo.
+    CallsWith(u32, Option<u32>, Says),
+    /// The memo alone has the first class's call at the site, which runs the second class's method.
+    Has(u32, u32, u32),
 }
 
-const ROWS: [Row; 11] = [
-    Row::ByOne,
-    Row::ByTwo,
-    Row::Unknown,
-    Row::Together,
-    Row::Older,
-    Row::Snapshot,
-    Row::Refused,
-    Row::Listed,
-    Row::Remembered,
-    Row::Retired,
-    Row::Gone,
+/// How many sets the memo has, and what is done.
+pub(crate) struct Row(u32, &'static [Line]);
+
+/// Two switch points by one caller.
+const BY_ONE: &[Line] = &[First(MakesSwitch(1, 0)), First(MakesSwitch(2, 1))];
+
+/// One by each caller, which hasn't seen the other's: the second one's receipt is not the first one's.
+const BY_TWO: &[Line] = &[First(MakesSwitch(1, 0)), Second(MakesSwitch(2, 1))];
+
+/// Calls at sites that nobody requested, and that can't be.
+const UNKNOWN: &[Line] = &[
+    First(Calls(0, None, Misses)),
+    First(Calls(1, Some(0), Misses)),
+    First(Calls(64, None, Misses)),
+    First(Calls(65_536, None, Misses)),
 ];
 
-/// Whether the answer is the receipt of this serial, for the making of this switch point.
-fn is_switch<K: Name>(answer: &Result<Receipt<K>, Denied<K>>, serial: u64, number: u32) -> bool {
-    match answer {
-        Ok(receipt) => {
-            receipt.serial == serial
-                && receipt.seen.serial() == serial
-                && receipt.reply.made == Made::Switch(SwitchId::new(number))
+/// Calls at an installed site and at one that nobody requested, both in one entry. The second caller is answered after a list that nobody
+/// told it of. Nothing is answered before, nor after the definition of C, which drops the link.
+const TOGETHER: &[Line] = &[
+    First(CallsBoth(Misses, Misses)),
+    First(DoesAll(ONE_SITE)),
+    First(CallsBoth(Runs(1), Misses)),
+    Second(CallsBoth(Runs(1), Misses)),
+    Second(HasSeen(6)),
+    First(Does(Define(0, C))),
+    Second(CallsBoth(Misses, Misses)),
+    Second(HasSeen(7)),
+];
+
+/// A caller learns a newer receipt, and then an older one.
+const OLDER: &[Line] = &[
+    First(DoesAll(ONE_SITE)),
+    Keeps,
+    Learns,
+    Second(HasSeen(6)),
+    Second(Calls(0, Some(2), Runs(1))),
+    First(Does(Define(0, C))),
+    First(Tells),
+    Second(Hears),
+    Learns,
+    Second(HasSeen(7)),
+    Second(Calls(0, Some(2), Misses)),
+    Second(Does(Install(&[0]))),
+    First(Calls(0, Some(2), Runs(1))),
+];
+
+/// Snapshots of a caller that has seen nothing, of one that learnt a receipt, and of one that didn't.
+const SNAPSHOTS: &[Line] = &[
+    Second(TakesSnapshot(0)),
+    First(Does(Define(0, OBJECT))),
+    First(Does(Define(0, A))),
+    First(Tells),
+    Second(Hears),
+    Second(HasSeen(2)),
+    Second(TakesSnapshot(2)),
+    First(Does(Define(0, C))),
+    Second(TakesSnapshot(3)),
+];
+
+/// An event is refused after what another caller did.
+const REFUSED: &[Line] = &[
+    First(Does(Define(0, OBJECT))),
+    Second(IsRefused(Request(1, 0), 1)),
+    Second(HasSeen(1)),
+    Second(MakesSwitch(2, 0)),
+    Second(HasSeen(2)),
+];
+
+/// The installed links, before and after a definition that drops the one there is.
+const LISTED: &[Line] = &[
+    First(DoesAll(ONE_SITE)),
+    Second(Lists(&[0])),
+    Second(HasSeen(6)),
+    First(Does(Define(0, C))),
+    Second(Lists(&[])),
+    Second(HasSeen(7)),
+];
+
+/// A 1 with B 2 and classes 4 to 11 below it, each with a method of its own, and an installed site of M 3, which calls A's method and has ten
+/// receivers' classes.
+const MEGAMORPHIC: &[Deed] = &[
+    Define(0, OBJECT),
+    Define(0, A),
+    Define(0, B),
+    Define(0, M),
+    Below(4, true),
+    Below(5, true),
+    Below(6, true),
+    Below(7, true),
+    Below(8, true),
+    Below(9, true),
+    Below(10, true),
+    Below(11, true),
+    Request(3, 0),
+    Install(&[0]),
+];
+
+/// Calls at a megamorphic link, which a memo remembers. What is asked after the definition of a class is remembered, too; what was remembered
+/// before stays, and a caller that calls with the memo has seen the definition. No object is of a class that isn't there, nor known to be of
+/// java/lang/Object; and null is thrown at without being asked for.
+const REMEMBERED: &[Line] = &[
+    First(DoesAll(MEGAMORPHIC)),
+    IsLearned(4, 4),
+    IsLearned(2, 1),
+    IsRemembered(false, 4, 4),
+    First(Does(Define(0, E))),
+    IsLearned(12, 12),
+    IsRemembered(false, 2, 1),
+    IsRemembered(true, 12, 12),
+    First(HasSeen(15)),
+    Second(HasSeen(15)),
+    AsksWith(0, 99, IsNoReceiver),
+    IsUnknown(99),
+    AsksWith(0, 0, IsNoReceiver),
+    IsUnknown(0),
+    First(Calls(0, None, Misses)),
+    CallsWith(0, None, ThrowsAtNull),
+];
+
+/// A second M 12 by loader 1, whose site is installed, and R 13 below A.
+const BESIDE: &[Deed] = &[
+    Loader,
+    Delegate("java/lang/Object"),
+    Delegate("A"),
+    Define(1, M),
+    Define(1, R),
+    Request(12, 0),
+    Install(&[1]),
+];
+
+/// The same, where a loader is retired: its site is a miss, and its class no receiver, though the memo has what it remembered.
+const RETIRED: &[Line] = &[
+    First(DoesAll(MEGAMORPHIC)),
+    First(DoesAll(BESIDE)),
+    IsLearned(4, 4),
+    IsLearned(13, 13),
+    AsksWith(1, 4, Runs(4)),
+    CallsWith(1, Some(4), Runs(4)),
+    First(Does(Retire)),
+    CallsWith(1, Some(4), Misses),
+    CallsWith(1, None, Misses),
+    Has(1, 4, 4),
+    Asks(1, 4, IsGone),
+    CallsWith(0, Some(13), Runs(13)),
+    Asks(0, 13, IsNoReceiver),
+    IsRemembered(false, 4, 4),
+];
+
+/// The server goes.
+const GONE: &[Line] = &[First(Calls(0, None, Misses))];
+
+pub(crate) const ROWS: &[Row] = &[
+    Row(4, BY_ONE),
+    Row(4, BY_TWO),
+    Row(4, UNKNOWN),
+    Row(4, TOGETHER),
+    Row(4, OLDER),
+    Row(4, SNAPSHOTS),
+    Row(4, REFUSED),
+    Row(4, LISTED),
+    Row(4, REMEMBERED),
+    Row(64, RETIRED),
+    Row(4, GONE),
+];
+
+/// What two callers share.
+#[derive(Drop)]
+struct Pair<K: Name> {
+    first: Worker<K>,
+    second: Worker<K>,
+    kept: Seen<K>,
+    memo: Memo<K>,
+}
+
+impl<K: Name> Pair<K> {
+    fn worker(&mut self, is_second: bool) -> &mut Worker<K> {
+        if is_second {
+            &mut self.second
+        } else {
+            &mut self.first
         }
-        Err(_) => false,
     }
-}
 
-/// Whether the answer is a refusal for an unknown class, after so many events.
-fn is_denied<K: Name>(answer: &Result<Receipt<K>, Denied<K>>, serial: u64) -> bool {
-    match answer {
-        Ok(_) => false,
-        Err(denied) => matches!(denied.refusal, Refusal::UnknownClass)
-            && denied.seen.serial() == serial,
+    /// What the call is answered at once by the memo.
+    fn call_with(&mut self, by_second: bool, site: u32, class: Option<u32>) -> Fast {
+        let Pair {
+            first,
+            second,
+            memo,
+            ..
+        } = self;
+        let caller = if by_second {
+            &mut second.caller
+        } else {
+            &mut first.caller
+        };
+        caller.call_with(memo, SiteNo::new(site), receiver(class))
     }
-}
 
-fn numbers<K: Name, R: Wait, S: Wait + Drop>(
-    rt: &R,
-    alloc: Global,
-    server: &LinkServer<K, S>,
-    first: &mut Caller<K>,
-    second: &mut Caller<K>,
-) -> bool {
-    is_switch(&first.apply(rt, alloc, server, Event::NewSwitch), 1, 0)
-        && is_switch(&second.apply(rt, alloc, server, Event::NewSwitch), 2, 1)
-}
+    /// What the memo alone has.
+    fn remembered(&self, site: u32, class: u32) -> Option<Outcome> {
+        self.memo.get(SiteNo::new(site), ClassId::new(class))
+    }
 
-fn numbers_of_one<K: Name, R: Wait, S: Wait + Drop>(
-    rt: &R,
-    alloc: Global,
-    server: &LinkServer<K, S>,
-    only: &mut Caller<K>,
-) -> bool {
-    is_switch(&only.apply(rt, alloc, server, Event::NewSwitch), 1, 0)
-        && is_switch(&only.apply(rt, alloc, server, Event::NewSwitch), 2, 1)
-}
+    fn is_unknown(&mut self, class: u32) -> bool {
+        self.first.call(0, Some(class)) == Fast::Miss
+            && self.call_with(false, 0, Some(class)) == Fast::Miss
+            && self.remembered(0, class).is_none()
+    }
 
-/// Whether they are misses. It has no `Wait` bound: a call waits for nobody.
-fn misses<K: Name>(caller: &mut Caller<K>) -> bool {
-    caller.call(SiteNo::new(0), Recv::Null) == Fast::Miss
-        && caller.call(SiteNo::new(1), object_of(0)) == Fast::Miss
-        && caller.call(SiteNo::new(2), Recv::Null) == Fast::Miss
-        && caller.call(SiteNo::new(65_536), Recv::Null) == Fast::Miss
-}
+    fn is_remembered(&mut self, by_second: bool, class: u32, declares: u32) -> bool {
+        self.call_with(by_second, 0, Some(class)) == fast(Runs(declares))
+            && self.worker(by_second).call(0, Some(class)) == Fast::Miss
+            && self.remembered(0, class) == Some(Outcome::Run(method(declares, 0)))
+    }
 
-/// Whether one entry answers an object of B at site 0, and null at site 1, with these.
-fn are_answered<K: Name>(caller: &mut Caller<K>, want: [Fast; 2]) -> bool {
-    let calls = [(SiteNo::new(0), object_of(2)), (SiteNo::new(1), Recv::Null)];
-    let mut answers = [
-        Fast::Now(Answer::BadReceiver),
-        Fast::Now(Answer::BadReceiver),
-    ];
-    caller.call_all(calls.as_slice(), answers.as_mut_slice());
-    answers == want
-}
+    /// What the first one's call comes to, by the server.
+    fn ask<R: Wait, S: Wait + Drop>(
+        &mut self,
+        shared: &Shared<'_, K, R, S>,
+        site: u32,
+        class: u32,
+    ) -> Fast {
+        let (site, receiver) = (SiteNo::new(site), receiver(Some(class)));
+        Fast::Now(
+            self.first
+                .caller
+                .ask(shared.rt, shared.server, site, receiver),
+        )
+    }
 
-/// The first caller sets up site 0, where both are then answered, the second one after a list that nobody told it of. Nothing is
-/// answered there before, nor after the definition of C, which drops the link.
-fn answers_together<K: Name, R: Wait, S: Wait + Drop>(
-    rt: &R,
-    alloc: Global,
-    server: &LinkServer<K, S>,
-    first: &mut Caller<K>,
-    second: &mut Caller<K>,
-) -> bool {
-    are_answered(first, [Fast::Miss, Fast::Miss])
-        && is_set_up(rt, alloc, server, first)
-        && are_answered(first, [runs(1, 0), Fast::Miss])
-        && are_answered(second, [runs(1, 0), Fast::Miss])
-        && second.seen().serial() == 6
-        && is_defined(rt, alloc, server, first, C)
-        && are_answered(second, [Fast::Miss, Fast::Miss])
-        && second.seen().serial() == 7
-}
+    /// The same, and the memo is told.
+    fn ask_with<R: Wait, S: Wait + Drop>(
+        &mut self,
+        shared: &Shared<'_, K, R, S>,
+        site: u32,
+        class: u32,
+    ) -> Fast {
+        let (site, receiver) = (SiteNo::new(site), receiver(Some(class)));
+        let Pair { first, memo, .. } = self;
+        let answer = first
+            .caller
+            .ask_with(shared.rt, shared.server, memo, site, receiver);
+        Fast::Now(answer)
+    }
 
-/// The first caller sets up site 0 and defines C, so that its link goes; the second one learns of the definition, then of the
-/// install before.
-fn learns_an_older<K: Name, R: Wait, S: Wait + Drop>(
-    rt: &R,
-    alloc: Global,
-    server: &LinkServer<K, S>,
-    first: &mut Caller<K>,
-    second: &mut Caller<K>,
-) -> bool {
-    let site = SiteNo::new(0);
-    let installed = is_set_up(rt, alloc, server, first);
-    let older = first.seen().again();
-    second.learn(&older);
-    let answered = second.call(site, object_of(2)) == runs(1, 0);
-    let defined = is_defined(rt, alloc, server, first, C);
-    second.learn(first.seen());
-    second.learn(&older);
-    installed
-        && answered
-        && defined
-        && second.seen().serial() == older.serial().saturating_add(1)
-        && second.call(site, object_of(2)) == Fast::Miss
-        && is_installed(rt, alloc, server, second, site)
-        && first.call(site, object_of(2)) == runs(1, 0)
-}
+    fn is_learned<R: Wait, S: Wait + Drop>(
+        &mut self,
+        shared: &Shared<'_, K, R, S>,
+        class: u32,
+        declares: u32,
+    ) -> bool {
+        let runs = fast(Runs(declares));
+        self.is_unknown(class)
+            && self.ask(shared, 0, class) == runs
+            && self.is_unknown(class)
+            && self.ask_with(shared, 0, class) == runs
+            && self.is_remembered(false, class, declares)
+    }
 
-/// Whether the caller's snapshot comes after so many events, and is seen by it.
-fn is_snapshot<K: Name, R: Wait, S: Wait + Drop>(
-    rt: &R,
-    alloc: Global,
-    server: &LinkServer<K, S>,
-    caller: &mut Caller<K>,
-    serial: u64,
-) -> bool {
-    match caller.snapshot(rt, alloc, server) {
-        Ok((snapshot, seen)) => {
-            snapshot.serial() == serial
-                && seen.serial() == serial
-                && caller.seen().serial() == serial
+    /// Whether the line is so.
+    fn is_so<R: Wait, S: Wait + Drop>(
+        &mut self,
+        shared: &Shared<'_, K, R, S>,
+        line: &Line,
+    ) -> bool {
+        match line {
+            First(act) => acts(shared, &mut self.first, act),
+            Second(act) => acts(shared, &mut self.second, act),
+            Keeps => {
+                self.kept = self.first.caller.seen().again();
+                true
+            }
+            Learns => {
+                self.second.caller.learn(&self.kept);
+                true
+            }
+            IsUnknown(class) => self.is_unknown(*class),
+            IsLearned(class, declares) => self.is_learned(shared, *class, *declares),
+            IsRemembered(by_second, class, declares) => {
+                self.is_remembered(*by_second, *class, *declares)
+            }
+            Asks(site, class, says) => self.ask(shared, *site, *class) == fast(*says),
+            AsksWith(site, class, says) => self.ask_with(shared, *site, *class) == fast(*says),
+            CallsWith(site, class, says) => self.call_with(false, *site, *class) == fast(*says),
+            Has(site, class, declares) => {
+                self.remembered(*site, *class) == Some(Outcome::Run(method(*declares, 0)))
+            }
         }
-        Err(_) => false,
     }
 }
 
-fn snapshots<K: Name, R: Wait, S: Wait + Drop>(
-    rt: &R,
+/// Two callers that share a memo of so many sets.
+fn make_pair<K: Name>(
     alloc: Global,
-    server: &LinkServer<K, S>,
-    first: &mut Caller<K>,
-    second: &mut Caller<K>,
-) -> bool {
-    let begun = is_snapshot(rt, alloc, server, second, 0)
-        && is_defined(rt, alloc, server, first, OBJECT)
-        && is_defined(rt, alloc, server, first, A);
-    second.learn(first.seen());
-    begun
-        && second.seen().serial() == 2
-        && is_snapshot(rt, alloc, server, second, 2)
-        && is_defined(rt, alloc, server, first, C)
-        && is_snapshot(rt, alloc, server, second, 3)
+    first: Worker<K>,
+    second: Worker<K>,
+    sets: u32,
+) -> Result<Pair<K>, AllocError> {
+    let kept = first.caller.seen().again();
+    let memo = Memo::new(alloc, &kept, sets)?;
+    Ok(Pair {
+        first,
+        second,
+        kept,
+        memo,
+    })
 }
 
-fn refuses<K: Name, R: Wait, S: Wait + Drop>(
-    rt: &R,
-    alloc: Global,
-    server: &LinkServer<K, S>,
-    first: &mut Caller<K>,
-    second: &mut Caller<K>,
+/// Whether the row is so. The callers are left.
+pub(crate) fn is_row<K: Name, R: Wait, S: Wait + Drop>(
+    shared: &Shared<'_, K, R, S>,
+    workers: &mut Vec<Worker<K>>,
+    row: &Row,
 ) -> bool {
-    is_defined(rt, alloc, server, first, OBJECT)
-        && is_denied(&second.apply(rt, alloc, server, request(1, 0)), 1)
-        && second.seen().serial() == 1
-        && is_accepted(rt, alloc, server, second, Event::NewSwitch)
-        && second.seen().serial() == 2
-}
-
-/// Whether the caller is told these links, after so many events.
-fn is_list<K: Name, R: Wait, S: Wait + Drop>(
-    rt: &R,
-    alloc: Global,
-    server: &LinkServer<K, S>,
-    caller: &mut Caller<K>,
-    serial: u64,
-    rows: &[(SiteNo, Link)],
-) -> bool {
-    match server.links(rt, alloc, caller) {
-        Ok(list) => {
-            list.serial == serial
-                && list.rows.as_slice() == rows
-                && caller.seen().serial() == serial
-        }
-        Err(_) => false,
-    }
-}
-
-fn lists<K: Name, R: Wait, S: Wait + Drop>(
-    rt: &R,
-    alloc: Global,
-    server: &LinkServer<K, S>,
-    first: &mut Caller<K>,
-    second: &mut Caller<K>,
-) -> bool {
-    let direct = [(SiteNo::new(0), Link::Direct(Outcome::Run(method(1, 0))))];
-    is_set_up(rt, alloc, server, first)
-        && is_list(rt, alloc, server, second, 6, direct.as_slice())
-        && is_defined(rt, alloc, server, first, C)
-        && is_list(rt, alloc, server, second, 7, &[])
-}
-
-fn is_so<K: Name, R: Wait, S: Wait + Drop>(
-    rt: &R,
-    alloc: Global,
-    server: &LinkServer<K, S>,
-    first: &mut Caller<K>,
-    second: &mut Caller<K>,
-    row: Row,
-) -> bool {
-    match row {
-        Row::ByOne => numbers_of_one(rt, alloc, server, first),
-        Row::ByTwo => numbers(rt, alloc, server, first, second),
-        Row::Unknown => misses(first),
-        Row::Together => answers_together(rt, alloc, server, first, second),
-        Row::Older => learns_an_older(rt, alloc, server, first, second),
-        Row::Snapshot => snapshots(rt, alloc, server, first, second),
-        Row::Refused => refuses(rt, alloc, server, first, second),
-        Row::Listed => lists(rt, alloc, server, first, second),
-        Row::Remembered => remembers(rt, alloc, server, first, second),
-        Row::Retired => retires(rt, alloc, server, first),
-        Row::Gone => first.call(SiteNo::new(0), Recv::Null) == Fast::Miss,
-    }
-}
-
-/// Whether the row is so, of the server of these parts, and calls are Closed from its end on.
-fn holds<K: Name, R: Wait>(rt: &R, alloc: Global, parts: Parts, row: Row) -> bool
-    requires book { parts.book ≡ K.book }
-    requires sites { parts.max_sites ≡ K.max_sites }
-{
-    let Ok((server, mut callers)) = parts.start::<K, &R>(alloc, rt) else {
+    let (Some(second), Some(first)) = (workers.pop(), workers.pop()) else {
         return false;
     };
-    let (Some(mut second), Some(mut first)) = (callers.pop(), callers.pop()) else {
+    let Ok(mut pair) = make_pair(shared.alloc, first, second, row.0) else {
         return false;
     };
-    let so = is_so(rt, alloc, &server, &mut first, &mut second, row);
-    drop(server);
-    so && callers.is_empty()
-        && second.call(SiteNo::new(0), Recv::Null) == Fast::Closed
-        && are_answered(&mut second, [Fast::Closed, Fast::Closed])
-}
-
-fn is_row(rt: &impl Wait, alloc: Global, row: Row) -> bool {
-    match Parts::new(alloc, 2, 2) {
-        Ok(parts) => holds::<Brand, _>(rt, alloc, parts, row),
-        Err(_) => false,
+    let mut all = true;
+    for line in row.1 {
+        all = pair.is_so(shared, line) && all;
     }
-}
-
-#[test]
-fn two_callers(rt: HostRuntime) {
-    for row in &ROWS {
-        assert!(rt; is_row(&rt, rt.alloc(), *row), "{row:?}");
-    }
+    let Pair { first, second, .. } = pair;
+    workers.push(first).is_ok() && workers.push(second).is_ok() && all
 }

@@ -1,183 +1,293 @@
-//! Events that callers apply to a server, and the worlds of the rows.
+//! The tests, each on servers of its own. What was accepted in most of them is done once more by one core, and then the server goes.
 
-use jl_classfile::read_class;
-use jl_names::Seq;
-use jl_relink::{Prepared, Snapshot, prepare};
-use jl_server::{Caller, LinkServer, Name};
-use jl_types::{Answer, ClassId, Event, Fast, Link, LoaderId, MethodId, Place, Recv, SiteNo};
-use rows_files::named;
+ghost use Rattle.std.specs.Prelude.{◌≡◌, ◌≤◌, ◌×◌};
+
+use crate::acts::{acts_all, calls_both};
+use crate::deeds::{DYNAMIC, Deed};
+use crate::definitions::{BEFORE, are_called, request_all};
+use crate::farms::{BETWEEN, DURING, Farm, MEETING, MIXED, is_farm};
+use crate::races::{DEFINITION, RETIREMENT};
+use crate::replays::{ALL, are_dense, gathered, is_replayed, storm};
+use crate::rows::{ROWS, Row, is_row};
+use crate::scripts::Says::IsClosed;
+use crate::scripts::{Part, Race};
+use crate::workers::{Shared, Worker, employ};
+use crate::{definitions, replays};
+use jl_server::{LinkServer, Name, Parts};
+use jl_types::Fast;
+use rows_threads::{Round, at_once};
 use std::alloc::Global;
-use std::sync::Wait;
+use std::marker::Brand;
+use std::process::Abort;
+use std::sync::atomic::AtomicU64;
+use std::sync::{Mutex, Wait};
+use std::thread::Threads;
 
-// java/lang/Object
-pub(crate) const OBJECT: &str =
-    "cafebabe0000003d00030100106a6176612f6c616e672f4f626a6563740700010021000200000000000000000000";
+/// How often a race is run.
+const RACES: usize = 1000;
 
-// class A { public void f() {} }
-pub(crate) const A: &str =
-    "cafebabe0000003d0008010001410700010100106a6176612f6c616e672f4f626a65637407000301000166010003282956010004436f6465002100020004000000000001000100050006000100070000000d0000000000000001b1000000000000";
+/// How often a farm runs whose threads are to meet in many ways.
+const FARMS: usize = 100;
 
-// class B extends A {}
-pub(crate) const B: &str =
-    "cafebabe0000003d000501000142070001010001410700030021000200040000000000000000";
-
-// class M { public static void run() { virtual A.f } }
-pub(crate) const M: &str =
-    "cafebabe0000003d000d0100014d0700010100106a6176612f6c616e672f4f626a65637407000301000372756e010003282956010004436f646501000141070008010001660c000a00060a0009000b00210002000400000000000100090005000600010007000000100000000000000004b6000cb1000000000000";
-
-// class C extends A { public void f() {} }
-pub(crate) const C: &str =
-    "cafebabe0000003d0008010001430700010100014107000301000166010003282956010004436f6465002100020004000000000001000100050006000100070000000d0000000000000001b1000000000000";
-
-/// An object of the class.
-pub(crate) fn object_of(class: u32) -> Recv {
-    Recv::Of(ClassId::new(class))
+/// What is done on a new server.
+#[derive(Clone, Copy)]
+enum Test {
+    /// The row of two callers.
+    Row(&'static Row),
+    Race(&'static Race),
+    /// The farm of so many workers.
+    Farm(usize, &'static Farm),
+    /// The storm, and then a farm of three workers while one thread retargets.
+    Storm,
+    /// Classes are defined of which some override the method, or none does.
+    Definitions(bool),
 }
 
-/// Whether the caller's event is accepted.
-pub(crate) fn is_accepted<K: Name, R: Wait, S: Wait + Drop>(
-    rt: &R,
-    alloc: Global,
-    server: &LinkServer<K, S>,
-    caller: &mut Caller<K>,
-    event: Event,
-) -> bool {
-    caller.apply(rt, alloc, server, event).is_ok()
-}
-
-/// The definition of the hexadecimal text's class by the loader.
-fn definition_by(alloc: Global, loader: u32, text: &str) -> Option<Event> {
-    let Ok(file) = hex::decode(alloc, text) else {
-        return None;
-    };
-    match read_class(alloc, &file) {
-        Ok(file) => Some(Event::Define(LoaderId::new(loader), file)),
-        Err(_) => None,
+/// What the threads do.
+fn part_of(test: Test) -> Part {
+    match test {
+        Test::Race(race) => Part::Race(race),
+        Test::Storm => Part::Storm,
+        Test::Definitions(overriding) => Part::Definitions(overriding),
+        _ => Part::Nothing,
     }
 }
 
-/// The same by loader 0.
-pub(crate) fn definition(alloc: Global, text: &str) -> Option<Event> {
-    definition_by(alloc, 0, text)
+/// How many callers there are: beside a farm's workers one that prepares all, and one that retargets.
+fn callers_of(test: Test) -> usize
+    ensures { (1 ≤ result) × (result ≤ 64) }
+{
+    match test {
+        Test::Row(_) | Test::Race(_) => 2,
+        Test::Farm(workers, _) => if workers < 17 { workers + 2 } else { 2 },
+        Test::Storm => 9,
+        Test::Definitions(_) => 6,
+    }
 }
 
-/// Whether the caller defines the class of the hexadecimal text.
-pub(crate) fn is_defined<K: Name, R: Wait, S: Wait + Drop>(
-    rt: &R,
-    alloc: Global,
-    server: &LinkServer<K, S>,
-    caller: &mut Caller<K>,
-    text: &str,
-) -> bool {
-    is_defined_by(rt, alloc, server, caller, 0, text)
+impl<'a, K: Name, R: Wait, S: Wait + Drop> Round<Worker<K>> for Shared<'a, K, R, S> {
+    fn turn(&self, index: usize, worker: &mut Worker<K>) {
+        match self.part {
+            Part::Nothing => {}
+            Part::Race(race) => {
+                let all = if index == 0 { race.first } else { race.second };
+                acts_all(self, worker, all);
+            }
+            Part::Storm => storm(self, worker, index),
+            Part::Definitions(overriding) => {
+                if index < definitions::WRITERS {
+                    definitions::define_all(self, worker, index, overriding);
+                } else {
+                    definitions::link_all(self, worker, overriding);
+                }
+            }
+        }
+    }
 }
 
-/// The same by this loader.
-pub(crate) fn is_defined_by<K: Name, R: Wait, S: Wait + Drop>(
-    rt: &R,
-    alloc: Global,
-    server: &LinkServer<K, S>,
-    caller: &mut Caller<K>,
-    loader: u32,
-    text: &str,
+/// Does all that the threads do.
+fn run<K: Name + Send + Sync, R: Threads + Wait + Sync, S: Wait + Drop + Send + Sync>(
+    shared: &Shared<'_, K, R, S>,
+    workers: &mut [Worker<K>],
+) {
+    at_once(shared.rt, shared, workers);
+}
+
+/// Whether the first caller does all of this.
+fn begins<K: Name, R: Wait, S: Wait + Drop>(
+    shared: &Shared<'_, K, R, S>,
+    workers: &mut [Worker<K>],
+    deeds: &[Deed],
 ) -> bool {
-    match definition_by(alloc, loader, text) {
-        Some(event) => is_accepted(rt, alloc, server, caller, event),
+    match workers.first_mut() {
+        Some(first) => shared.does_all(first, deeds),
         None => false,
     }
 }
 
-/// Whether the caller lets loader 1 find the classes of these names that loader 0 finds.
-pub(crate) fn are_delegated<K: Name, R: Wait, S: Wait + Drop>(
-    rt: &R,
-    alloc: Global,
-    server: &LinkServer<K, S>,
-    caller: &mut Caller<K>,
-    names: &[&str],
+/// Does what comes before the threads, and tells whether it was so.
+fn is_begun<K: Name, R: Wait, S: Wait + Drop>(
+    shared: &Shared<'_, K, R, S>,
+    workers: &mut [Worker<K>],
+    test: Test,
 ) -> bool {
-    let mut all = true;
-    for name in names {
-        all = match named(alloc, name) {
-            Ok(name) => {
-                let event = Event::Delegate(LoaderId::new(1), name, LoaderId::new(0));
-                is_accepted(rt, alloc, server, caller, event) && all
-            }
-            Err(_) => false,
-        };
+    match test {
+        Test::Row(_) => true,
+        Test::Race(race) => begins(shared, workers, race.before),
+        Test::Farm(_, farm) => begins(shared, workers, farm.before),
+        Test::Storm => begins(shared, workers, DYNAMIC) && begins(shared, workers, &[*ALL]),
+        Test::Definitions(_) => begins(shared, workers, BEFORE) && request_all(shared, workers),
     }
-    all
 }
 
-/// Whether the caller defines the classes of the hexadecimal texts, one after another.
-pub(crate) fn are_defined<K: Name, R: Wait, S: Wait + Drop>(
-    rt: &R,
-    alloc: Global,
-    server: &LinkServer<K, S>,
-    caller: &mut Caller<K>,
-    texts: &[&str],
+/// Whether what comes behind the threads is so. The first caller is left, or both of a row.
+fn is_done<K: Name + Send + Sync, R: Threads + Wait + Sync, S: Wait + Drop + Send + Sync>(
+    shared: &Shared<'_, K, R, S>,
+    workers: &mut Vec<Worker<K>>,
+    test: Test,
 ) -> bool {
-    let mut all = true;
-    for text in texts {
-        all = is_defined(rt, alloc, server, caller, text) && all;
-    }
-    all
-}
-
-/// The request of the invocation in the class's first method.
-pub(crate) fn request(class: u32, pc: u32) -> Event {
-    Event::Request(Place {
-        class: ClassId::new(class),
-        method: 0,
-        pc,
-    })
-}
-
-/// The method of the class.
-pub(crate) fn method(class: u32, index: u16) -> MethodId {
-    MethodId {
-        class: ClassId::new(class),
-        index,
+    match test {
+        Test::Row(row) => is_row(shared, workers, row),
+        Test::Race(_) => true,
+        Test::Farm(count, farm) => is_farm(shared, workers, count, farm),
+        Test::Storm => is_farm(shared, workers, 3, DURING),
+        Test::Definitions(overriding) => are_called(shared, workers, overriding),
     }
 }
 
-/// That the method runs.
-pub(crate) fn runs(class: u32, index: u16) -> Fast {
-    Fast::Now(Answer::Run(method(class, index)))
-}
-
-/// The site's link as a preparation in the snapshot gives it.
-fn prepared(alloc: Global, snapshot: &Snapshot, site: SiteNo) -> Option<Seq<(SiteNo, Link)>> {
-    match prepare(alloc, snapshot, [site].as_slice()) {
-        Ok(Prepared { serial: _, rows }) => Some(rows),
-        Err(_) => None,
-    }
-}
-
-/// Whether the caller prepares the site and installs what it prepared.
-pub(crate) fn is_installed<K: Name, R: Wait, S: Wait + Drop>(
-    rt: &R,
-    alloc: Global,
-    server: &LinkServer<K, S>,
-    caller: &mut Caller<K>,
-    site: SiteNo,
+/// Whether all that was accepted has the serials from 1 on, and comes to the same in one core, or is as much as it must be.
+fn is_told<K: Name, R: Wait, S: Wait + Drop>(
+    shared: &Shared<'_, K, R, S>,
+    workers: &mut [Worker<K>],
+    test: Test,
 ) -> bool {
-    let Ok((snapshot, _seen)) = caller.snapshot(rt, alloc, server) else {
+    let Some(told) = gathered(shared.alloc, workers) else {
         return false;
     };
-    match prepared(alloc, &snapshot, site) {
-        Some(rows) => is_accepted(rt, alloc, server, caller, Event::Install(rows)),
-        None => false,
-    }
+    let Some(first) = workers.first_mut() else {
+        return false;
+    };
+    let so = match test {
+        Test::Race(_) => true,
+        Test::Definitions(overriding) => definitions::are_enough(told.as_slice(), overriding),
+        Test::Storm => {
+            replays::are_enough(told.as_slice()) && is_replayed(shared, first, told.as_slice())
+        }
+        _ => is_replayed(shared, first, told.as_slice()),
+    };
+    so && are_dense(told.as_slice())
 }
 
-/// Whether the caller sets up a class A with a method, B below it, and an installed site 0 that calls that method.
-pub(crate) fn is_set_up<K: Name, R: Wait, S: Wait + Drop>(
+/// Whether the test is so.
+fn holds<K: Name + Send + Sync, R: Threads + Wait + Sync, S: Wait + Drop + Send + Sync>(
     rt: &R,
     alloc: Global,
     server: &LinkServer<K, S>,
-    caller: &mut Caller<K>,
+    workers: &mut Vec<Worker<K>>,
+    test: Test,
 ) -> bool {
-    are_defined(rt, alloc, server, caller, [OBJECT, A, B, M].as_slice())
-        && is_accepted(rt, alloc, server, caller, request(3, 0))
-        && is_installed(rt, alloc, server, caller, SiteNo::new(0))
+    let shared = Shared {
+        rt,
+        alloc,
+        server,
+        part: part_of(test),
+        told: Mutex::new(None),
+        come: AtomicU64::new(0),
+        plain: AtomicU64::new(0),
+        overrider: AtomicU64::new(0),
+    };
+    let begun = is_begun(&shared, workers.as_mut_slice(), test);
+    run(&shared, workers.as_mut_slice());
+    begun && is_done(&shared, workers, test) && is_told(&shared, workers.as_mut_slice(), test)
+}
+
+/// Whether the callers' calls are closed.
+fn are_closed<K: Name>(workers: &mut [Worker<K>]) -> bool {
+    let mut all = true;
+    for worker in workers {
+        all = worker.call(0, None) == Fast::Closed
+            && calls_both(&mut worker.caller, IsClosed, IsClosed)
+            && all;
+    }
+    all
+}
+
+/// Whether the test is so, on the server of these parts, and calls are closed from its end on.
+fn is_so<K: Name + Send + Sync, R: Threads + Wait + Sync>(
+    rt: &R,
+    alloc: Global,
+    parts: Parts,
+    test: Test,
+) -> bool
+    requires book { parts.book ≡ K.book }
+    requires sites { parts.max_sites ≡ K.max_sites }
+{
+    let Ok((server, callers)) = parts.start::<K, &R>(alloc, rt) else {
+        return false;
+    };
+    let Ok(mut workers) = employ(alloc, callers) else {
+        return false;
+    };
+    let so = holds(rt, alloc, &server, &mut workers, test);
+    drop(server);
+    so && are_closed(workers.as_mut_slice())
+}
+
+/// Whether the test is so on a new server of 64 sites.
+fn is_right<R: Threads + Wait + Sync>(rt: &R, alloc: Global, test: Test) -> bool {
+    match Parts::new(alloc, 64, callers_of(test)) {
+        Ok(parts) => is_so::<Brand, R>(rt, alloc, parts, test),
+        Err(_) => false,
+    }
+}
+
+#[test]
+fn two_callers(rt: HostRuntime) {
+    for (index, row) in ROWS.iter().enumerate() {
+        assert!(rt; is_right(&rt, rt.alloc(), Test::Row(row)), "{index}");
+    }
+}
+
+#[test]
+fn never_runs_the_method_of_before(rt: HostRuntime) {
+    for turn in 0..RACES {
+        assert!(rt; is_right(&rt, rt.alloc(), Test::Race(DEFINITION)), "{turn}");
+    }
+}
+
+#[test]
+fn misses_at_a_retired_site(rt: HostRuntime) {
+    for turn in 0..RACES {
+        assert!(rt; is_right(&rt, rt.alloc(), Test::Race(RETIREMENT)), "{turn}");
+    }
+}
+
+#[test]
+fn links_stay_where_nothing_overrides(rt: HostRuntime) {
+    assert!(rt; is_right(&rt, rt.alloc(), Test::Definitions(false)));
+}
+
+#[test]
+fn links_go_once_where_classes_override(rt: HostRuntime) {
+    assert!(rt; is_right(&rt, rt.alloc(), Test::Definitions(true)));
+}
+
+#[test]
+fn one_core_does_the_same(rt: HostRuntime) {
+    assert!(rt; is_right(&rt, rt.alloc(), Test::Storm));
+}
+
+#[test]
+fn reports_each_job(rt: HostRuntime) {
+    for workers in [1usize, 2, 4, 16] {
+        assert!(rt;
+            is_right(&rt, rt.alloc(), Test::Farm(workers, MIXED)),
+            "{workers}"
+        );
+    }
+}
+
+#[test]
+fn stale_once_its_call_site_is_retargeted(rt: HostRuntime) {
+    for (index, farm) in BETWEEN.iter().enumerate() {
+        for workers in [1usize, 2, 4] {
+            assert!(rt;
+                is_right(&rt, rt.alloc(), Test::Farm(workers, farm)),
+                "{index} {workers}"
+            );
+        }
+    }
+}
+
+/// Two workers and more: jobs at the same time.
+#[test]
+fn runs_jobs_at_the_same_time(rt: HostRuntime) {
+    for turn in 0..FARMS {
+        for (workers, farm) in MEETING {
+            assert!(rt;
+                is_right(&rt, rt.alloc(), Test::Farm(*workers, farm)),
+                "{turn}"
+            );
+        }
+    }
 }

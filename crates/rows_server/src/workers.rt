@@ -1,56 +1,206 @@
-//! Callers in threads, which keep the serials of what they do.
+//! Callers that keep what they are told, and what the threads of a test share.
 
-use jl_server::{Caller, Denied, LinkServer, Name as Server, Receipt};
-use jl_types::{Event, Made};
+use crate::deeds::{Deed, event, install, numbered};
+use crate::scripts::Part;
+use jl_relink::{Snapshot, prepare};
+use jl_server::{Caller, Denied, LinkServer, Name, Receipt, Seen};
+use jl_types::{ClassId, Event, Fast, Link, Made, Recv, Refusal, Reply, SiteNo};
 use std::alloc::{AllocError, Global};
-use std::sync::Wait;
+use std::sync::atomic::AtomicU64;
+use std::sync::{Mutex, Wait};
 
-/// One thread's caller, the serials of its receipts, and how often something was not as it must be.
+/// An event that was accepted, and what it was answered.
 #[derive(Drop)]
-pub(crate) struct Worker<K: Server> {
+pub(crate) struct Told {
+    pub(crate) serial: u64,
+    pub(crate) deed: Deed,
+    pub(crate) reply: Reply,
+}
+
+/// One caller, its accepted events, and how often something was not as it must be.
+#[derive(Drop)]
+pub(crate) struct Worker<K: Name> {
     pub(crate) caller: Caller<K>,
-    pub(crate) serials: Vec<u64>,
+    pub(crate) told: Vec<Told>,
     pub(crate) wrong: u64,
 }
 
-impl<K: Server> Worker<K> {
+/// What an event was answered, behind a list of so many events. It is none where the answer shows another list.
+type Answered = (u64, Result<Reply, Refusal>);
+
+/// The answer of a server.
+fn answered<K: Name>(answer: Result<Receipt<K>, Denied<K>>) -> Answered {
+    match answer {
+        Ok(receipt) => {
+            let Receipt {
+                serial,
+                reply,
+                seen,
+            } = receipt;
+            (if seen.serial() == serial { serial } else { 0 }, Ok(reply))
+        }
+        Err(denied) => {
+            let Denied { refusal, seen } = denied;
+            (seen.serial(), Err(refusal))
+        }
+    }
+}
+
+/// Whether it is an install that comes too late.
+fn is_late(deed: &Deed, refusal: &Refusal) -> bool {
+    matches!(deed, Deed::Install(_)) && matches!(refusal, Refusal::Stale { .. })
+}
+
+/// An object of the class, or null.
+pub(crate) fn receiver(class: Option<u32>) -> Recv {
+    match class {
+        Some(class) => Recv::Of(ClassId::new(class)),
+        None => Recv::Null,
+    }
+}
+
+impl<K: Name> Worker<K> {
     pub(crate) fn expect(&mut self, so: bool) {
         if !so {
             self.wrong = self.wrong.saturating_add(1);
         }
     }
 
-    /// Keeps the serial of an event, which comes after so many.
-    pub(crate) fn keep(&mut self, before: u64, serial: u64) {
-        let kept = self.serials.push(serial).is_ok();
-        self.expect(kept && before < serial);
+    /// Keeps an accepted event, which comes after so many.
+    pub(crate) fn keep(&mut self, before: u64, told: Told) {
+        let later = before < told.serial;
+        let kept = self.told.push(told).is_ok();
+        self.expect(kept && later);
+    }
+
+    /// Keeps what was accepted, and tells whether it was. What is refused is to be an install that comes too late.
+    fn hear(&mut self, before: u64, deed: &Deed, answered: Answered) -> bool {
+        let (serial, answer) = answered;
+        match answer {
+            Ok(reply) => {
+                let deed = *deed;
+                self.keep(
+                    before,
+                    Told {
+                        serial,
+                        deed,
+                        reply,
+                    },
+                );
+                true
+            }
+            Err(refusal) => {
+                self.expect(is_late(deed, &refusal));
+                false
+            }
+        }
+    }
+
+    /// The serial of its last event, and what that made.
+    pub(crate) fn last(&self) -> (u64, Made) {
+        match self.told.last() {
+            Some(told) => (told.serial, told.reply.made),
+            None => (0, Made::Nothing),
+        }
+    }
+
+    /// What a call on an object of the class, or on null, is answered at once. It has no `Wait` bound: a call waits for nobody.
+    pub(crate) fn call(&mut self, site: u32, class: Option<u32>) -> Fast {
+        self.caller.call(SiteNo::new(site), receiver(class))
     }
 }
 
-/// The serial of a receipt, and what was made; 0 and nothing of a refusal.
-fn told_by<K: Server>(answer: &Result<Receipt<K>, Denied<K>>) -> (u64, Made) {
-    match answer {
-        Ok(receipt) => (receipt.serial, receipt.reply.made),
-        Err(_) => (0, Made::Nothing),
+/// What the threads of a test share.
+#[derive(Drop)]
+pub(crate) struct Shared<'a, K: Name, R: Wait, S: Wait + Drop> {
+    pub(crate) rt: &'a R,
+    pub(crate) alloc: Global,
+    pub(crate) server: &'a LinkServer<K, S>,
+    pub(crate) part: Part,
+    /// What one of them tells another one.
+    pub(crate) told: Mutex<Option<Seen<K>>>,
+    /// How often one of them has come to where others wait.
+    pub(crate) come: AtomicU64,
+    /// The newest class that doesn't override A.f, and the newest one that does; 0 before there is one.
+    pub(crate) plain: AtomicU64,
+    pub(crate) overrider: AtomicU64,
+}
+
+impl<'a, K: Name, R: Wait, S: Wait + Drop> Shared<'a, K, R, S> {
+    /// What the event is answered.
+    pub(crate) fn answer(&self, caller: &mut Caller<K>, event: Event) -> Answered {
+        answered(caller.apply(self.rt, self.alloc, self.server, event))
+    }
+
+    /// The snapshot that the caller takes now.
+    pub(crate) fn snapshot(&self, caller: &mut Caller<K>) -> Option<Snapshot> {
+        match caller.snapshot(self.rt, self.alloc, self.server) {
+            Ok((snapshot, _seen)) => Some(snapshot),
+            Err(_) => None,
+        }
+    }
+
+    /// The install of these sites' links as they are in a snapshot that is taken now.
+    fn install(&self, caller: &mut Caller<K>, sites: &[u32]) -> Option<Event> {
+        let sites = numbered(self.alloc, sites).ok()?;
+        let snapshot = self.snapshot(caller)?;
+        install(prepare(self.alloc, &snapshot, sites.as_slice()))
+    }
+
+    /// The deed's event, if there is one now.
+    pub(crate) fn event(&self, caller: &mut Caller<K>, deed: &Deed) -> Option<Event> {
+        match deed {
+            Deed::Install(sites) => self.install(caller, sites),
+            _ => event(self.alloc, deed),
+        }
+    }
+
+    /// Does it, and tells whether it was accepted.
+    pub(crate) fn does(&self, worker: &mut Worker<K>, deed: &Deed) -> bool {
+        match self.event(&mut worker.caller, deed) {
+            Some(event) => {
+                let before = worker.caller.seen().serial();
+                let answered = self.answer(&mut worker.caller, event);
+                worker.hear(before, deed, answered)
+            }
+            None => {
+                worker.expect(false);
+                false
+            }
+        }
+    }
+
+    /// Does all of this, one after another, and tells whether it was accepted.
+    pub(crate) fn does_all(&self, worker: &mut Worker<K>, deeds: &[Deed]) -> bool {
+        let mut all = true;
+        for deed in deeds {
+            all = self.does(worker, deed) && all;
+        }
+        all
+    }
+
+    /// Whether just these sites have a link, which is this one, after all that the caller has seen.
+    pub(crate) fn are_linked(&self, caller: &mut Caller<K>, sites: &[u32], link: &Link) -> bool {
+        match &self.server.links(self.rt, self.alloc, caller) {
+            Ok(list) => {
+                list.serial == caller.seen().serial() && are_all(list.rows.as_slice(), sites, link)
+            }
+            Err(_) => false,
+        }
     }
 }
 
-/// Applies the event, and keeps its serial, which comes after all that the caller had seen. Gives what was made.
-pub(crate) fn applied<K: Server, R: Wait, S: Wait + Drop>(
-    rt: &R,
-    alloc: Global,
-    server: &LinkServer<K, S>,
-    worker: &mut Worker<K>,
-    event: Event,
-) -> Made {
-    let before = worker.caller.seen().serial();
-    let (serial, made) = told_by(&worker.caller.apply(rt, alloc, server, event));
-    worker.keep(before, serial);
-    made
+/// Whether just these sites have a link, which is this one.
+fn are_all(rows: &[(SiteNo, Link)], sites: &[u32], link: &Link) -> bool {
+    let mut all = rows.len() == sites.len();
+    for (row, site) in rows.iter().zip(sites) {
+        all = all && row.0.number() == *site && row.1 == *link;
+    }
+    all
 }
 
 /// A worker for each caller.
-pub(crate) fn employ<K: Server>(
+pub(crate) fn employ<K: Name>(
     alloc: Global,
     callers: Vec<Caller<K>>,
 ) -> Result<Vec<Worker<K>>, AllocError> {
@@ -58,7 +208,7 @@ pub(crate) fn employ<K: Server>(
     for caller in callers {
         workers.push(Worker {
             caller,
-            serials: Vec::new(alloc),
+            told: Vec::new(alloc),
             wrong: 0,
         })?;
     }

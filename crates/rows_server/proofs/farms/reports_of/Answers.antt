@@ -7,33 +7,30 @@ use denote.Param.{param}
 use denote.Param.Send.{IsSend, IsSync, AllSync, recorded_sync, struct_sync, shr_sync, sendable}
 use Rattle.std.proofs.Crossing.{crosses as of_std}
 use Rattle.jl_server.specs.declared.history.Name as name
-use Rattle.jl_server.specs.contracts.server.LinkServer as LinkServer
-use Rattle.jl_server.proofs.Crossing.{server_sync}
-use Rattle.jl_server.proofs.caller.Caller.TheSendSync as of_callers
-use Rattle.rows_server.specs.contracts.stale.Turner as Turner
-use Rattle.rows_server.proofs.stale.Row.TheSendSync as of_rows
-use Rattle.rows_server.proofs.stale.is_turned.Goals as goal
+use Rattle.rows_server.proofs.Crossing.{shared_sync}
+use Rattle.rows_server.specs.contracts.workers.Shared as Shared
+use Rattle.rows_server.specs.contracts.farms.Turner as Turner
+use Rattle.rows_server.proofs.workers.Worker.TheSendSync as of_workers
+use Rattle.rows_server.proofs.farms.Farm.TheSendSync as of_farms
+use Rattle.rows_server.proofs.farms.reports_of.Goals as goal
 
 module _ (ℓ : NamedLft) (K R S : RattleType) (g : name.Ghosts K.Denot) where
   turner_sync : IsSync R → IsSend S → IsSync (Turner.the_row ℓ K R S g)
   turner_sync r s =
       let O = Turner.the_type ℓ K R S g in
       let all : AllSync (declared.fields O) = (
-        search shr_sync depth 5,
+        shr_sync ℓ.mir ℓ.lft (Shared.the_row ℓ K R S g) (shared_sync ℓ K R S g r s),
         (
-          search sendable depth 9,
+          search (of_workers.the_send, sendable, of_std) depth 12,
           (
-            shr_sync ℓ.mir ℓ.lft (LinkServer.the_row K S g) (server_sync K S g s),
+            search (shr_sync, of_farms.the_sync, sendable, of_std) depth 12,
             (
-              search (of_callers.the_send, sendable, of_std) depth 12,
+              search (sendable, of_std) depth 12,
               (
-                search (shr_sync, of_rows.the_sync, sendable, of_std) depth 12,
+                search (sendable, of_std) depth 12,
                 (
                   search (sendable, of_std) depth 12,
-                  (
-                    search (sendable, of_std) depth 12,
-                    (search (sendable, of_std) depth 12, (search (sendable, of_std) depth 12, tt)),
-                  ),
+                  (search (sendable, of_std) depth 12, (search (sendable, of_std) depth 12, tt)),
                 ),
               ),
             ),
@@ -42,8 +39,8 @@ module _ (ℓ : NamedLft) (K R S : RattleType) (g : name.Ghosts K.Denot) where
       ) in
       recorded_sync _ O.D O.to O.to_one (struct_sync (declared.shape O) all)
 
-pub reports_of-requires-sync-G : goal.reports_of-requires-sync-G
-reports_of-requires-sync-G g c κs = λ _. record {
+pub run-requires-sync-G : goal.run-requires-sync-G
+run-requires-sync-G g c κs = λ _. record {
   shared = (turner_sync (record { mir = named 0; lft = _ }) (param 0 g.row.K) (param 1 g.row.R)
       (param 2 g.row.S) g.K.Name c.type_bounds.sync-R c.type_bounds.send-S).shared;
 }

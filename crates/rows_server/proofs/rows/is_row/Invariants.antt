@@ -1,5 +1,0 @@
-use Rattle.rows_server.proofs.rows.is_row.Given as goal
-
--- the server that is started
-abbrev pub ghosts-holds : goal.ghosts-holds
-ghosts-holds g a = record { book = a.parts.book; max_sites = a.parts.max_sites }

@@ -1,0 +1,124 @@
+//! Whether a caller does what a row says, and is answered so.
+
+use crate::deeds::{Deed, method};
+use crate::scripts::Says::*;
+use crate::scripts::{Act, Says};
+use crate::workers::{Shared, Worker, receiver};
+use jl_server::{Caller, Name};
+use jl_types::{
+    Answer, Fast, Link, Made, Outcome, Recv, Refusal, SiteNo, SwitchId, Throwable, Unlinked,
+};
+use std::sync::Wait;
+
+/// The answer at once.
+pub(crate) fn fast(says: Says) -> Fast {
+    match says {
+        Runs(class) => Fast::Now(Answer::Run(method(class, 0))),
+        Misses => Fast::Miss,
+        IsClosed => Fast::Closed,
+        ThrowsAtNull => Fast::Now(Answer::Throws(Throwable::NullPointerException)),
+        IsNoReceiver => Fast::Now(Answer::BadReceiver),
+        IsGone => Fast::Now(Answer::Unlinked(Unlinked::Gone)),
+    }
+}
+
+/// Whether one entry answers the two calls so.
+pub(crate) fn calls_both<K: Name>(caller: &mut Caller<K>, first: Says, second: Says) -> bool {
+    let calls = [
+        (SiteNo::new(0), receiver(Some(2))),
+        (SiteNo::new(1), Recv::Null),
+    ];
+    let mut answers = [fast(IsNoReceiver), fast(IsNoReceiver)];
+    caller.call_all(calls.as_slice(), answers.as_mut_slice());
+    answers == [fast(first), fast(second)]
+}
+
+/// Whether the event is refused for an unknown class, after so many.
+fn is_refused<K: Name, R: Wait, S: Wait + Drop>(
+    shared: &Shared<'_, K, R, S>,
+    caller: &mut Caller<K>,
+    deed: &Deed,
+    serial: u64,
+) -> bool {
+    match shared.event(caller, deed) {
+        Some(event) => {
+            let (at, answer) = shared.answer(caller, event);
+            at == serial && matches!(answer, Err(Refusal::UnknownClass))
+        }
+        None => false,
+    }
+}
+
+/// Whether the caller's snapshot comes after so many events, which it has seen.
+fn takes_snapshot<K: Name, R: Wait, S: Wait + Drop>(
+    shared: &Shared<'_, K, R, S>,
+    caller: &mut Caller<K>,
+    serial: u64,
+) -> bool {
+    match shared.snapshot(caller) {
+        Some(snapshot) => snapshot.serial() == serial && caller.seen().serial() == serial,
+        None => false,
+    }
+}
+
+/// Tells what the caller has seen.
+fn tells<K: Name, R: Wait, S: Wait + Drop>(shared: &Shared<'_, K, R, S>, caller: &Caller<K>) {
+    *shared.told.lock(shared.rt) = Some(caller.seen().again());
+}
+
+/// The caller learns what is told. It waits until there is something.
+fn hears<K: Name, R: Wait, S: Wait + Drop>(shared: &Shared<'_, K, R, S>, caller: &mut Caller<K>) {
+    for _ in shared.rt.forever() {
+        let held = shared.told.lock(shared.rt);
+        if let Some(seen) = &*held {
+            caller.learn(seen);
+            break;
+        }
+    }
+}
+
+/// Whether the worker does this, or is answered so.
+pub(crate) fn acts<K: Name, R: Wait, S: Wait + Drop>(
+    shared: &Shared<'_, K, R, S>,
+    worker: &mut Worker<K>,
+    act: &Act,
+) -> bool {
+    match act {
+        Act::Does(deed) => shared.does(worker, deed),
+        Act::DoesAll(deeds) => shared.does_all(worker, deeds),
+        Act::MakesSwitch(serial, number) => {
+            shared.does(worker, &Deed::Switch)
+                && worker.last() == (*serial, Made::Switch(SwitchId::new(*number)))
+        }
+        Act::IsRefused(deed, serial) => is_refused(shared, &mut worker.caller, deed, *serial),
+        Act::Cannot(deed) => shared.event(&mut worker.caller, deed).is_none(),
+        Act::Calls(site, class, says) => worker.call(*site, *class) == fast(*says),
+        Act::CallsBoth(first, second) => calls_both(&mut worker.caller, *first, *second),
+        Act::HasSeen(serial) => worker.caller.seen().serial() == *serial,
+        Act::TakesSnapshot(serial) => takes_snapshot(shared, &mut worker.caller, *serial),
+        Act::Lists(sites) => {
+            let link = Link::Direct(Outcome::Run(method(1, 0)));
+            shared.are_linked(&mut worker.caller, sites, &link)
+        }
+        Act::Tells => {
+            tells(shared, &worker.caller);
+            true
+        }
+        Act::Hears => {
+            hears(shared, &mut worker.caller);
+            true
+        }
+    }
+}
+
+/// Acts one after another, each whether the one before was so or not.
+pub(crate) fn acts_all<K: Name, R: Wait, S: Wait + Drop>(
+    shared: &Shared<'_, K, R, S>,
+    worker: &mut Worker<K>,
+    all: &[Act],
+) {
+    for act in all {
+        let so = acts(shared, worker, act);
+        worker.expect(so);
+    }
+}
