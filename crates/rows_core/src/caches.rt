@@ -1,9 +1,11 @@
 //! The installed links apart from a core.
 
-use crate::events::first;
+use crate::caches::Linked::*;
+use crate::caches::Says::*;
+use crate::steps::first;
 use jl_cache::{Cache, fast};
 use jl_types::{Answer, ClassId, Fast, Link, Outcome, Recv, SiteNo, Table, TableKind, Throwable};
-use std::alloc::AllocError;
+use std::alloc::{AllocError, Global};
 use std::process::Abort;
 
 /// The second site's link and the first one's.
@@ -14,126 +16,122 @@ fn rows() -> [(SiteNo, Link); 2] {
     ]
 }
 
-/// Asserts that the links are those of the rows.
-fn assert_both(rt: &(impl Abort + AllocGlobal), links: &Cache) -> Result<(), AllocError> {
+/// Whether the links are those of the rows.
+fn are_both(alloc: Global, links: &Cache) -> Result<bool, AllocError> {
     let [high, low] = rows();
-    assert_eq!(rt; links.len(), 2);
-    assert!(rt; links.get(SiteNo::new(7)) == Some(high.1));
-    assert!(rt; links.get(SiteNo::new(0)).is_none());
-    let listed = links.list(rt.alloc())?;
-    assert!(rt; listed.as_slice() == [low, high].as_slice());
-    Ok(())
-}
-
-fn assert_copied(rt: &(impl Abort + AllocGlobal), links: &mut Cache) -> Result<(), AllocError> {
-    let copy = links.copy()?;
-    links.drop_changed([SiteNo::new(7)].as_slice());
-    assert_both(rt, &copy)
-}
-
-fn assert_cache(rt: &(impl Abort + AllocGlobal), links: &mut Cache) -> Result<(), AllocError> {
-    assert!(rt; links.is_empty());
-    links.install(&rows())?;
-    assert_both(rt, links)?;
-    assert_copied(rt, links)?;
-    assert!(rt; links.len() == 1 && !links.is_empty());
-    Ok(())
+    let listed = links.list(alloc)?;
+    Ok(
+        links.len() == 2
+            && links.get(SiteNo::new(7)) == Some(high.1)
+            && links.get(SiteNo::new(0)).is_none()
+            && listed.as_slice() == [low, high].as_slice(),
+    )
 }
 
 #[test]
 fn copies_and_lists_links(rt: HostRuntime) -> Result<(), AllocError> {
     let mut links = Cache::new(rt.alloc());
-    assert_cache(&rt, &mut links)
+    assert!(rt; links.is_empty());
+    links.install(&rows())?;
+    assert!(rt; are_both(rt.alloc(), &links)?);
+    let copy = links.copy()?;
+    links.drop_changed([SiteNo::new(7)].as_slice());
+    assert!(rt; are_both(rt.alloc(), &copy)?);
+    assert!(rt; links.len() == 1 && !links.is_empty());
+    Ok(())
 }
 
-/// A link, the receiver, and what it answers at once.
+/// A link, or none.
 #[derive(Clone, Copy)]
-struct FastRow(Option<Link>, Recv, Fast);
-
-impl FastRow {
-    fn is_so(&self) -> bool {
-        fast(self.0, self.1) == self.2
-    }
+enum Linked {
+    Absent,
+    IsMega,
+    IsFault,
+    IsPlain,
+    IsDirect,
+    /// A table of the classes 3 and 5.
+    IsTable(TableKind),
 }
 
-/// A link of two classes.
-fn table(kind: TableKind) -> Option<Link> {
+/// What is answered at once.
+#[derive(Clone, Copy)]
+enum Says {
+    Misses,
+    /// Class 3's method runs.
+    Runs,
+    Throws(Throwable),
+    IsNoReceiver,
+}
+
+fn link_of(linked: Linked) -> Option<Link> {
     let mut table = Table::new();
     table.push(ClassId::new(3), Outcome::Run(first(3)));
     table.push(
         ClassId::new(5),
         Outcome::Throws(Throwable::AbstractMethodError),
     );
-    Some(Link::Table(kind, table))
+    match linked {
+        Absent => None,
+        IsMega => Some(Link::Mega),
+        IsFault => Some(Link::Fault(Throwable::NoSuchMethodError)),
+        IsPlain => Some(Link::Plain(first(3))),
+        IsDirect => Some(Link::Direct(Outcome::Run(first(3)))),
+        IsTable(kind) => Some(Link::Table(kind, table)),
+    }
 }
 
-fn direct() -> Option<Link> {
-    Some(Link::Direct(Outcome::Run(first(3))))
+fn fast_of(says: Says) -> Fast {
+    match says {
+        Misses => Fast::Miss,
+        Runs => Fast::Now(Answer::Run(first(3))),
+        Throws(throwable) => Fast::Now(Answer::Throws(throwable)),
+        IsNoReceiver => Fast::Now(Answer::BadReceiver),
+    }
 }
 
-fn of(class: u32) -> Recv {
-    Recv::Of(ClassId::new(class))
-}
+/// Links, the class of the receiver, which is null where there is none, and what they answer at once.
+const FAST: &[(Linked, Option<u32>, Says)] = &[
+    // Links that look at no receiver.
+    (Absent, Some(3), Misses),
+    (IsMega, Some(3), Misses),
+    (IsMega, None, Misses),
+    (IsFault, None, Throws(Throwable::NoSuchMethodError)),
+    (IsPlain, None, Runs),
+    // Links that look at it.
+    (IsDirect, None, Throws(Throwable::NullPointerException)),
+    (IsDirect, Some(9), Runs),
+    (
+        IsTable(TableKind::Virtual),
+        None,
+        Throws(Throwable::NullPointerException),
+    ),
+    (IsTable(TableKind::Virtual), Some(3), Runs),
+    (
+        IsTable(TableKind::Interface),
+        Some(5),
+        Throws(Throwable::AbstractMethodError),
+    ),
+    (IsTable(TableKind::Virtual), Some(4), IsNoReceiver),
+    (
+        IsTable(TableKind::Interface),
+        Some(4),
+        Throws(Throwable::IncompatibleClassChangeError),
+    ),
+];
 
-fn runs() -> Fast {
-    Fast::Now(Answer::Run(first(3)))
-}
-
-fn throws(throwable: Throwable) -> Fast {
-    Fast::Now(Answer::Throws(throwable))
-}
-
-/// Links that look at no receiver.
-fn plain_rows() -> [FastRow; 5] {
-    let missing = Throwable::NoSuchMethodError;
-    [
-        FastRow(None, of(3), Fast::Miss),
-        FastRow(Some(Link::Mega), of(3), Fast::Miss),
-        FastRow(Some(Link::Mega), Recv::Null, Fast::Miss),
-        FastRow(
-            Some(Link::Fault(Throwable::NoSuchMethodError)),
-            Recv::Null,
-            throws(missing),
-        ),
-        FastRow(Some(Link::Plain(first(3))), Recv::Null, runs()),
-    ]
-}
-
-/// Links that look at it.
-fn receiver_rows() -> [FastRow; 7] {
-    let null = Throwable::NullPointerException;
-    let wrong = Throwable::IncompatibleClassChangeError;
-    [
-        FastRow(direct(), Recv::Null, throws(null)),
-        FastRow(direct(), of(9), runs()),
-        FastRow(
-            table(TableKind::Virtual),
-            Recv::Null,
-            throws(Throwable::NullPointerException),
-        ),
-        FastRow(table(TableKind::Virtual), of(3), runs()),
-        FastRow(
-            table(TableKind::Interface),
-            of(5),
-            throws(Throwable::AbstractMethodError),
-        ),
-        FastRow(
-            table(TableKind::Virtual),
-            of(4),
-            Fast::Now(Answer::BadReceiver),
-        ),
-        FastRow(table(TableKind::Interface), of(4), throws(wrong)),
-    ]
-}
-
-fn assert_fast(rt: &impl Abort, rows: &[FastRow]) {
-    for (index, row) in rows.iter().enumerate() {
-        assert!(rt; row.is_so(), "row {index}");
+fn receiver(class: Option<u32>) -> Recv {
+    match class {
+        Some(class) => Recv::Of(ClassId::new(class)),
+        None => Recv::Null,
     }
 }
 
 #[test]
 fn answers_at_once(rt: HostRuntime) {
-    assert_fast(&rt, &plain_rows());
-    assert_fast(&rt, &receiver_rows());
+    for (index, (linked, class, says)) in FAST.iter().enumerate() {
+        assert!(rt;
+            fast(link_of(*linked), receiver(*class)) == fast_of(*says),
+            "row {index}"
+        );
+    }
 }

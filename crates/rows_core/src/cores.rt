@@ -1,9 +1,8 @@
 //! What lines of commands don't reach: a limit of places, rows made by hand, worlds of before, events that come later.
 
-use crate::events::{
-    A, C, M, N, OBJECT, assert_answer, assert_defined, first, install, is_accepted, is_defined,
-    request, with_each,
-};
+use crate::classes::{A, C, M, OBJECT, SELF};
+use crate::steps::Step::*;
+use crate::steps::{Step, are_done, event, first, is_done, runs_first};
 use jl_core::Core;
 use jl_names::Seq;
 use jl_relink::{Prepared, Snapshot, World, dispatch, link_of, prepare};
@@ -13,89 +12,151 @@ use jl_types::{
 };
 use std::alloc::{AllocError, Global};
 use std::process::Abort;
-use std::test::Fail;
 
-/// Requests by class and instruction, one after another, with their answers.
-const REQUESTS: [(u32, u32, &str); 5] = [
-    (
-        2,
-        0,
-        "Ok(Reply { made: Site(SiteNo(0)), dropped: Seq { items: [] } })",
-    ),
-    // The place is there, so it isn't one too many; the other one is.
-    (
-        2,
-        0,
-        "Ok(Reply { made: Site(SiteNo(0)), dropped: Seq { items: [] } })",
-    ),
-    (1, 0, "Err(SitesFull)"),
-    (1, 1, "Err(NoSuchPlace)"),
-    (9, 0, "Err(UnknownClass)"),
-];
+/// A limit of places, what comes before, and then one after another events, how what they are answered prints, and how the links do that
+/// are installed then.
+struct Row(
+    u32,
+    &'static [Step],
+    &'static [(Step, &'static str, &'static str)],
+);
 
-fn assert_requests(rt: &(impl Abort + AllocGlobal), core: &mut Core) -> Result<(), AllocError> {
-    for (class, pc, want) in &REQUESTS {
-        assert_answer(rt, core, request(*class, *pc), want)?;
+/// A place keeps its number.
+const REQUESTS: &Row = &Row(
+    1,
+    &[Define(0, OBJECT), Define(0, M), Define(0, SELF)],
+    &[
+        (
+            Request(2, 0),
+            "Ok(Reply { made: Site(SiteNo(0)), dropped: Seq { items: [] } })",
+            "[]",
+        ),
+        // The place is there, so it isn't one too many; the other one is.
+        (
+            Request(2, 0),
+            "Ok(Reply { made: Site(SiteNo(0)), dropped: Seq { items: [] } })",
+            "[]",
+        ),
+        (Request(1, 0), "Err(SitesFull)", "[]"),
+        (Request(1, 1), "Err(NoSuchPlace)", "[]"),
+        (Request(9, 0), "Err(UnknownClass)", "[]"),
+    ],
+);
+
+/// Installs of a link at sites. Site 0 has no link yet, site 1 another one, and there is no site 2.
+const INSTALLS: &Row = &Row(
+    2,
+    &[
+        Define(0, OBJECT),
+        Define(0, M),
+        Define(0, SELF),
+        Request(1, 0),
+        Request(2, 0),
+    ],
+    &[
+        (Wrong(&[]), "Err(BatchSize)", "[]"),
+        (Wrong(&[0]), "Err(NotReady { site: SiteNo(0) })", "[]"),
+        (Wrong(&[2]), "Err(UnknownSite { site: SiteNo(2) })", "[]"),
+        // The first bad row decides.
+        (Wrong(&[0, 1]), "Err(NotReady { site: SiteNo(0) })", "[]"),
+        (
+            Wrong(&[1, 0]),
+            "Err(Stale { site: SiteNo(1), present: Plain(MethodId { class: ClassId(2), index: 0 }) })",
+            "[]",
+        ),
+        // But all sites are looked at first.
+        (Wrong(&[1, 2]), "Err(UnknownSite { site: SiteNo(2) })", "[]"),
+        (Wrong(&[0, 0]), "Err(Repeated { site: SiteNo(0) })", "[]"),
+        (Wrong(&[0, 1, 1]), "Err(Repeated { site: SiteNo(1) })", "[]"),
+        (Wrong(&[0; 256]), "Err(Repeated { site: SiteNo(0) })", "[]"),
+        (Wrong(&[0; 257]), "Err(BatchSize)", "[]"),
+    ],
+);
+
+/// A link that no preparation gave, which is the one from scratch, and then another one, which isn't.
+const BY_HAND: &Row = &Row(
+    1,
+    &[Define(0, OBJECT), Define(0, A), Define(0, M), Request(2, 0)],
+    &[
+        (
+            ByHand,
+            "Ok(Reply { made: Nothing, dropped: Seq { items: [] } })",
+            "[(SiteNo(0), Direct(Run(MethodId { class: ClassId(1), index: 0 })))]",
+        ),
+        (
+            Wrong(&[0]),
+            "Err(Stale { site: SiteNo(0), present: Direct(Run(MethodId { class: ClassId(1), index: 0 })) })",
+            "[(SiteNo(0), Direct(Run(MethodId { class: ClassId(1), index: 0 })))]",
+        ),
+    ],
+);
+
+/// There are 1,024 loaders at the most, of which the first one is there.
+const LOADERS: &Row = &Row(
+    1,
+    &[Loader; 1022],
+    &[
+        (
+            Loader,
+            "Ok(Reply { made: Loader(LoaderId(1023)), dropped: Seq { items: [] } })",
+            "[]",
+        ),
+        (Loader, "Err(LoadersFull)", "[]"),
+    ],
+);
+
+const ROWS: &[&Row] = &[REQUESTS, INSTALLS, BY_HAND, LOADERS];
+
+/// How what the step is answered prints.
+fn printed(alloc: Global, core: &mut Core, step: &Step) -> Result<String, AllocError> {
+    let event = event(alloc, core, step)?;
+    let answer = core.apply(alloc, event);
+    format!(in alloc; "{answer:?}")
+}
+
+/// How the installed links print.
+fn links_printed(alloc: Global, core: &Core) -> Result<String, AllocError> {
+    let links = core.list_links(alloc)?;
+    format!(in alloc; "{:?}", links.as_slice())
+}
+
+/// Whether the text was made, and is this.
+pub(crate) fn is_text(text: &Result<String, AllocError>, want: &str) -> bool {
+    match text {
+        Ok(text) => text.as_str() == want,
+        Err(_) => false,
     }
-    Ok(())
+}
+
+/// Whether the row is so on the core.
+fn is_so_on(alloc: Global, core: &mut Core, row: &Row) -> bool {
+    let mut all = are_done(alloc, core, row.1);
+    for (step, answer, links) in row.2 {
+        all = is_text(&printed(alloc, core, step), answer)
+            && is_text(&links_printed(alloc, core), links)
+            && all;
+    }
+    all
+}
+
+/// Whether the row is so on a new core.
+fn is_so(alloc: Global, row: &Row) -> bool {
+    match Core::new(alloc, row.0) {
+        Ok(mut core) => is_so_on(alloc, &mut core, row),
+        Err(_) => false,
+    }
 }
 
 #[test]
-fn keeps_the_number_of_a_place(rt: HostRuntime) -> Result<(), AllocError> {
-    let mut core = Core::new(rt.alloc(), 1)?;
-    assert_defined(&rt, &mut core, [OBJECT, M, N].as_slice());
-    assert_requests(&rt, &mut core)
-}
-
-/// Sites of rows, and what their install is answered. Site 0 has no link yet, site 1 another one, and there is no site 2.
-const INSTALLS: [(&[u32], &str); 8] = [
-    (&[], "Err(BatchSize)"),
-    (&[0], "Err(NotReady { site: SiteNo(0) })"),
-    (&[2], "Err(UnknownSite { site: SiteNo(2) })"),
-    // The first bad row decides.
-    (&[0, 1], "Err(NotReady { site: SiteNo(0) })"),
-    (
-        &[1, 0],
-        "Err(Stale { site: SiteNo(1), present: Plain(MethodId { class: ClassId(2), index: 0 }) })",
-    ),
-    // But all sites are looked at first.
-    (&[1, 2], "Err(UnknownSite { site: SiteNo(2) })"),
-    (&[0, 0], "Err(Repeated { site: SiteNo(0) })"),
-    (&[0, 1, 1], "Err(Repeated { site: SiteNo(1) })"),
-];
-
-const ZEROS: [u32; 257] = [0; 257];
-
-fn assert_install(
-    rt: &(impl Abort + AllocGlobal),
-    core: &mut Core,
-    sites: &[u32],
-    want: &str,
-) -> Result<(), AllocError> {
-    let event = install(rt.alloc(), sites, Link::Mega)?;
-    assert_answer(rt, core, event, want)
-}
-
-fn assert_installs(rt: &(impl Abort + AllocGlobal), core: &mut Core) -> Result<(), AllocError> {
-    for (sites, want) in &INSTALLS {
-        assert_install(rt, core, sites, want)?;
+fn answers_and_refuses(rt: HostRuntime) {
+    for (index, row) in ROWS.iter().enumerate() {
+        assert!(rt; is_so(rt.alloc(), row), "row {index}");
     }
-    assert_install(rt, core, &ZEROS[..256], "Err(Repeated { site: SiteNo(0) })")?;
-    assert_install(rt, core, &ZEROS, "Err(BatchSize)")
 }
 
-#[test]
-fn refuses_installs(rt: HostRuntime) -> Result<(), AllocError> {
-    let mut core = Core::new(rt.alloc(), 2)?;
-    assert_defined(&rt, &mut core, [OBJECT, M, N].as_slice());
-    assert!(rt; is_accepted(rt.alloc(), &mut core, request(1, 0)));
-    assert!(rt; is_accepted(rt.alloc(), &mut core, request(2, 0)));
-    assert_installs(&rt, &mut core)
-}
-
-/// The link that runs A's f on each object.
-fn runs_a() -> Link {
-    Link::Direct(Outcome::Run(first(1)))
+/// Site 0.
+fn site() -> SiteNo {
+    SiteNo::new(0)
 }
 
 /// The table of A and C, each with its own f.
@@ -106,153 +167,79 @@ fn runs_a_or_c() -> Link {
     Link::Table(TableKind::Virtual, table)
 }
 
-/// What a preparation of the site gives in the snapshot, once the class C is defined in the core.
-fn prepared_in(
-    rt: &(impl Abort + AllocGlobal),
-    core: &mut Core,
-    snapshot: &Snapshot,
-    site: SiteNo,
-) -> Result<Prepared, PrepareFault> {
-    assert!(rt; is_defined(rt.alloc(), core, C));
-    assert_eq!(rt; snapshot.serial(), 4);
-    assert!(rt; link_of(snapshot.world(), site) == Ok(runs_a()));
-    prepare(rt.alloc(), snapshot, [site].as_slice())
-}
-
-/// What a preparation of the site gives in a snapshot from before the class C.
-fn prepared_before(
-    rt: &(impl Abort + AllocGlobal),
-    core: &mut Core,
-    site: SiteNo,
-) -> Result<Prepared, PrepareFault> {
-    match core.snapshot(rt.alloc()) {
-        Ok(snapshot) => prepared_in(rt, core, &snapshot, site),
-        Err(_) => Err(PrepareFault::Memory),
-    }
-}
-
-/// Whether the install of the rows is refused, since the site has this link now.
-fn is_stale(
+/// Whether the install of what was prepared after so many events, of site 0 with this link, is refused, since the site has another one now,
+/// or accepted where there is none.
+fn is_prepared(
     alloc: Global,
     core: &mut Core,
-    rows: Seq<(SiteNo, Link)>,
-    site: SiteNo,
-    link: Link,
+    prepared: Result<Prepared, PrepareFault>,
+    after: (u64, Link),
+    present: Option<Link>,
 ) -> bool {
-    match &core.apply(alloc, Event::Install(rows)) {
-        Err(Refusal::Stale { site: at, present }) => *at == site && *present == link,
+    let Ok(Prepared { serial, rows }) = prepared else {
+        return false;
+    };
+    let so = serial == after.0 && is_site_0(&rows, after.1);
+    let refusal = core.apply(alloc, Event::Install(rows)).err();
+    so && match (&refusal, present) {
+        (Some(Refusal::Stale { site: at, present }), Some(link)) => {
+            *at == site() && *present == link
+        }
+        (None, None) => true,
         _ => false,
     }
 }
 
-fn assert_stale(
-    rt: &(impl Abort + AllocGlobal),
-    core: &mut Core,
-    site: SiteNo,
-) -> Result<(), PrepareFault> {
-    let Prepared { serial, rows } = prepared_before(rt, core, site)?;
-    assert_eq!(rt; serial, 4);
-    assert!(rt; rows.as_slice() == [(site, runs_a())].as_slice());
-    assert!(rt; is_stale(rt.alloc(), core, rows, site, runs_a_or_c()));
-    Ok(())
+/// Whether these are site 0 with this link.
+fn is_site_0(rows: &Seq<(SiteNo, Link)>, link: Link) -> bool {
+    rows.as_slice() == [(site(), link)].as_slice()
 }
 
-fn assert_prepared(
-    rt: &(impl Abort + AllocGlobal),
-    core: &mut Core,
-    site: SiteNo,
-) -> Result<(), PrepareFault> {
-    let Prepared { serial, rows } = core.prepare(rt.alloc(), [site].as_slice())?;
-    // Four events and the class C: a refused one doesn't count.
-    assert_eq!(rt; serial, 5);
-    assert!(rt; rows.as_slice() == [(site, runs_a_or_c())].as_slice());
-    assert!(rt; is_accepted(rt.alloc(), core, Event::Install(rows)));
-    Ok(())
+/// Whether a preparation in the snapshot, once the class C is defined, gives the link of before, which comes too late.
+fn is_of_before(alloc: Global, core: &mut Core, snapshot: &Snapshot) -> bool {
+    let is_defined = is_done(alloc, core, &Define(0, C));
+    let so = snapshot.serial() == 4 && link_of(snapshot.world(), site()) == Ok(runs_first());
+    let prepared = prepare(alloc, snapshot, &[site()]);
+    is_prepared(
+        alloc,
+        core,
+        prepared,
+        (4, runs_first()),
+        Some(runs_a_or_c()),
+    ) && is_defined
+        && so
 }
 
-fn assert_installed(
-    rt: &(impl Abort + AllocGlobal),
-    core: &Core,
-    site: SiteNo,
-) -> Result<(), AllocError> {
-    assert!(rt; core.links().get(site) == Some(runs_a_or_c()));
-    assert!(rt; core.links().get(SiteNo::new(1)).is_none());
-    assert!(rt; core.call(site, Recv::Of(ClassId::new(3))) == Answer::Run(first(3)));
-    let rows = core.list_links(rt.alloc())?;
-    assert!(rt; rows.as_slice() == [(site, runs_a_or_c())].as_slice());
-    Ok(())
-}
-
-fn assert_links(rt: &(impl Abort + AllocGlobal), core: &mut Core) -> Result<(), Fail> {
-    let site = SiteNo::new(0);
-    assert_stale(rt, core, site)?;
-    assert_prepared(rt, core, site)?;
-    Ok(assert_installed(rt, core, site)?)
+/// Whether a preparation now gives the table, after four events and the class C: a refused one doesn't count.
+fn is_of_now(alloc: Global, core: &mut Core) -> bool {
+    let prepared = core.prepare(alloc, &[site()]);
+    is_prepared(alloc, core, prepared, (5, runs_a_or_c()), None)
+        && core.links().get(site()) == Some(runs_a_or_c())
+        && core.links().get(SiteNo::new(1)).is_none()
+        && core.call(site(), Recv::Of(ClassId::new(3))) == Answer::Run(first(3))
 }
 
 #[test]
-fn prepares_in_the_world_of_a_snapshot(rt: HostRuntime) -> Result<(), Fail> {
+fn prepares_in_the_world_of_a_snapshot(rt: HostRuntime) -> Result<(), AllocError> {
     let mut core = Core::new(rt.alloc(), 1)?;
-    assert_defined(&rt, &mut core, [OBJECT, A, M].as_slice());
-    assert!(rt; is_accepted(rt.alloc(), &mut core, request(2, 0)));
-    assert_links(&rt, &mut core)
-}
-
-/// Installs a link that no preparation gave, which is the one from scratch, and then another one, which isn't.
-fn assert_by_hand(
-    rt: &(impl Abort + AllocGlobal),
-    core: &mut Core,
-    site: SiteNo,
-) -> Result<(), AllocError> {
-    let event = install(rt.alloc(), &[0], runs_a())?;
-    assert!(rt; is_accepted(rt.alloc(), core, event));
-    assert!(rt; core.links().get(site) == Some(runs_a()));
-    let rows = Seq::of(with_each(rt.alloc(), &[0], Link::Mega)?);
-    assert!(rt; is_stale(rt.alloc(), core, rows, site, runs_a()));
-    assert!(rt; core.links().get(site) == Some(runs_a()));
+    assert!(rt; are_done(rt.alloc(), &mut core, BY_HAND.1));
+    let snapshot = core.snapshot(rt.alloc())?;
+    assert!(rt; is_of_before(rt.alloc(), &mut core, &snapshot));
+    assert!(rt; is_of_now(rt.alloc(), &mut core));
     Ok(())
 }
 
-#[test]
-fn installs_links_made_by_hand(rt: HostRuntime) -> Result<(), AllocError> {
-    let mut core = Core::new(rt.alloc(), 1)?;
-    assert_defined(&rt, &mut core, [OBJECT, A, M].as_slice());
-    assert!(rt; is_accepted(rt.alloc(), &mut core, request(2, 0)));
-    assert_by_hand(&rt, &mut core, SiteNo::new(0))
-}
-
-fn assert_empty(rt: &impl Abort, snapshot: &Snapshot) {
-    let nowhere = SiteNo::new(0);
-    assert_eq!(rt; snapshot.serial(), 7);
-    assert!(rt; link_of(snapshot.world(), nowhere) == Err(Unlinked::NoSite));
-    let answer = dispatch(snapshot.world(), nowhere, Recv::Null);
-    assert!(rt; answer == Answer::Unlinked(Unlinked::NoSite));
-}
-
-fn assert_copied(rt: &(impl Abort + AllocGlobal), world: &World) -> Result<(), AllocError> {
-    let snapshot = Snapshot::new(world.copy(rt.alloc())?, 7);
-    assert_empty(rt, &snapshot);
-    Ok(())
+/// Whether nothing is in the snapshot, which has this count of events.
+fn is_empty(snapshot: &Snapshot) -> bool {
+    let answer = dispatch(snapshot.world(), site(), Recv::Null);
+    snapshot.serial() == 7
+        && link_of(snapshot.world(), site()) == Err(Unlinked::NoSite)
+        && answer == Answer::Unlinked(Unlinked::NoSite)
 }
 
 #[test]
 fn copies_worlds(rt: HostRuntime) -> Result<(), AllocError> {
     let world = World::new(rt.alloc())?;
-    assert_copied(&rt, &world)
-}
-
-/// Asserts that this many loaders more are made.
-fn assert_loaders(rt: &(impl Abort + AllocGlobal), core: &mut Core, count: u32) {
-    for _ in 0..count {
-        assert!(rt; is_accepted(rt.alloc(), core, Event::NewLoader));
-    }
-}
-
-#[test]
-fn makes_1024_loaders(rt: HostRuntime) -> Result<(), AllocError> {
-    let mut core = Core::new(rt.alloc(), 1)?;
-    assert_loaders(&rt, &mut core, 1_022);
-    let last = "Ok(Reply { made: Loader(LoaderId(1023)), dropped: Seq { items: [] } })";
-    assert_answer(&rt, &mut core, Event::NewLoader, last)?;
-    assert_answer(&rt, &mut core, Event::NewLoader, "Err(LoadersFull)")
+    assert!(rt; is_empty(&Snapshot::new(world.copy(rt.alloc())?, 7)));
+    Ok(())
 }

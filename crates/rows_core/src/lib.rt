@@ -4,9 +4,9 @@
 #[cfg(test)]
 mod caches;
 #[cfg(test)]
-mod cores;
+mod classes;
 #[cfg(test)]
-mod events;
+mod cores;
 #[cfg(test)]
 mod logs;
 #[cfg(test)]

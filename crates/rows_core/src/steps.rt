@@ -1,26 +1,16 @@
 //! Events by numbers and constant rows, so that the same one can be made twice.
 
-use crate::events::with_each;
+use crate::classes::ClassRow;
 use jl_class::ClassFile;
 use jl_core::Core;
 use jl_names::Seq;
 use jl_relink::Prepared;
 use jl_types::{
-    CallSiteId, CallSiteKind, ClassId, Event, Link, LoaderId, MethodId, Place, SiteNo, SwitchId,
-    Target,
+    CallSiteId, CallSiteKind, ClassId, Event, Link, LoaderId, MethodId, Outcome, Place, SiteNo,
+    SwitchId, Target,
 };
-use rows_files::{CallRow, MethodRow, calling, class, named};
+use rows_files::{calling, class, named};
 use std::alloc::{AllocError, Global};
-
-/// A class: its name, flags, superclass and superinterfaces, the calls that its first method makes, and its other methods.
-pub(crate) struct ClassRow {
-    pub(crate) name: &'static str,
-    pub(crate) flags: u16,
-    pub(crate) superclass: Option<&'static str>,
-    pub(crate) interfaces: &'static [&'static str],
-    pub(crate) calls: &'static [CallRow],
-    pub(crate) methods: &'static [MethodRow],
-}
 
 /// A method, by its class and its number there.
 pub(crate) type MethodAt = (u32, u16);
@@ -42,7 +32,7 @@ pub(crate) enum Shape {
     InvokerOr(u32, u32, MethodAt),
 }
 
-/// An event, but for installs.
+/// An event.
 #[derive(Clone, Copy)]
 pub(crate) enum Step {
     /// A new loader.
@@ -58,9 +48,19 @@ pub(crate) enum Step {
     /// A new switch point.
     Point,
     /// The switch points become invalid.
-    Invalidate(u32, u32),
+    Invalidate(&'static [u32]),
     /// The site is bound to the call site.
     Bind(u32, u32),
+    /// Loader 1 finds the class of this name that loader 0 finds.
+    Delegate(&'static str),
+    /// The install of the links that these sites have now.
+    Install(&'static [u32]),
+    /// The same of one site.
+    InstallOne(u32),
+    /// The install of a megamorphic link at each of these sites.
+    Wrong(&'static [u32]),
+    /// The install of the link that runs class 1's first method on each object, at site 0.
+    ByHand,
 }
 
 /// What is read of the row's class file.
@@ -150,32 +150,19 @@ fn retarget(alloc: Global, site: u32, shape: &Shape) -> Result<Event, AllocError
     Ok(Event::SetTarget(CallSiteId::new(site), target))
 }
 
-/// The invalidation of two switch points.
-fn invalidation(alloc: Global, first: u32, second: u32) -> Result<Event, AllocError> {
+/// The invalidation of these switch points.
+fn invalidation(alloc: Global, numbers: &[u32]) -> Result<Event, AllocError> {
     let mut points = Vec::new(alloc);
-    points.push(SwitchId::new(first))?;
-    points.push(SwitchId::new(second))?;
+    for number in numbers {
+        points.push(SwitchId::new(*number))?;
+    }
     Ok(Event::Invalidate(Seq::of(points)))
 }
 
-/// The step's event.
-pub(crate) fn event(alloc: Global, step: &Step) -> Result<Event, AllocError> {
-    match step {
-        Step::Loader => Ok(Event::NewLoader),
-        Step::Define(loader, row) => definition(alloc, *loader, row),
-        Step::Request(class, pc) => Ok(Event::Request(Place {
-            class: ClassId::new(*class),
-            method: 0,
-            pc: *pc,
-        })),
-        Step::CallSite(kind, ty, shape) => call_site(alloc, *kind, ty, shape),
-        Step::Retarget(site, shape) => retarget(alloc, *site, shape),
-        Step::Point => Ok(Event::NewSwitch),
-        Step::Invalidate(first, second) => invalidation(alloc, *first, *second),
-        Step::Bind(site, call_site) => {
-            Ok(Event::Bind(SiteNo::new(*site), CallSiteId::new(*call_site)))
-        }
-    }
+/// Loader 1 finds the class of this name that loader 0 finds.
+fn delegation(alloc: Global, name: &str) -> Result<Event, AllocError> {
+    let name = named(alloc, name)?;
+    Ok(Event::Delegate(LoaderId::new(1), name, LoaderId::new(0)))
 }
 
 /// These sites.
@@ -187,15 +174,75 @@ fn numbered(alloc: Global, numbers: &[u32]) -> Result<Vec<SiteNo>, AllocError> {
     Ok(sites)
 }
 
-/// The sites with the links that a preparation gives now, or each with a link that it hasn't, where it gives none.
-pub(crate) fn rows(
-    alloc: Global,
-    core: &Core,
-    numbers: &[u32],
-) -> Result<Seq<(SiteNo, Link)>, AllocError> {
+/// The install of this link at each of these sites.
+fn install_each(alloc: Global, numbers: &[u32], link: Link) -> Result<Event, AllocError> {
+    let mut rows = Vec::new(alloc);
+    for number in numbers {
+        rows.push((SiteNo::new(*number), link))?;
+    }
+    Ok(Event::Install(Seq::of(rows)))
+}
+
+/// The install of the links that a preparation gives the sites now, or of links that they haven't, where it gives none.
+fn install(alloc: Global, core: &Core, numbers: &[u32]) -> Result<Event, AllocError> {
     let sites = numbered(alloc, numbers)?;
     match core.prepare(alloc, sites.as_slice()) {
-        Ok(Prepared { serial: _, rows }) => Ok(rows),
-        Err(_) => Ok(Seq::of(with_each(alloc, numbers, Link::Mega)?)),
+        Ok(Prepared { serial: _, rows }) => Ok(Event::Install(rows)),
+        Err(_) => install_each(alloc, numbers, Link::Mega),
     }
+}
+
+/// The first method of the class.
+pub(crate) fn first(class: u32) -> MethodId {
+    MethodId {
+        class: ClassId::new(class),
+        index: 0,
+    }
+}
+
+/// The link that runs class 1's first method on each object.
+pub(crate) fn runs_first() -> Link {
+    Link::Direct(Outcome::Run(first(1)))
+}
+
+/// The step's event, over what the core has now.
+pub(crate) fn event(alloc: Global, core: &Core, step: &Step) -> Result<Event, AllocError> {
+    match step {
+        Step::Loader => Ok(Event::NewLoader),
+        Step::Define(loader, row) => definition(alloc, *loader, row),
+        Step::Request(class, pc) => Ok(Event::Request(Place {
+            class: ClassId::new(*class),
+            method: 0,
+            pc: *pc,
+        })),
+        Step::CallSite(kind, ty, shape) => call_site(alloc, *kind, ty, shape),
+        Step::Retarget(site, shape) => retarget(alloc, *site, shape),
+        Step::Point => Ok(Event::NewSwitch),
+        Step::Invalidate(points) => invalidation(alloc, points),
+        Step::Bind(site, call_site) => {
+            Ok(Event::Bind(SiteNo::new(*site), CallSiteId::new(*call_site)))
+        }
+        Step::Delegate(name) => delegation(alloc, name),
+        Step::Install(sites) => install(alloc, core, sites),
+        Step::InstallOne(site) => install(alloc, core, &[*site]),
+        Step::Wrong(sites) => install_each(alloc, sites, Link::Mega),
+        Step::ByHand => install_each(alloc, &[0], runs_first()),
+    }
+}
+
+/// Whether the step is accepted.
+pub(crate) fn is_done(alloc: Global, core: &mut Core, step: &Step) -> bool {
+    match event(alloc, core, step) {
+        Ok(event) => core.apply(alloc, event).is_ok(),
+        Err(_) => false,
+    }
+}
+
+/// Whether each step is accepted, one after another.
+pub(crate) fn are_done(alloc: Global, core: &mut Core, steps: &[Step]) -> bool {
+    let mut all = true;
+    for step in steps {
+        all = is_done(alloc, core, step) && all;
+    }
+    all
 }
