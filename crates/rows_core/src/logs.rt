@@ -4,9 +4,10 @@ use crate::classes::{OBJECT, T};
 use crate::cores::is_text;
 use crate::steps::Shape::Method;
 use crate::steps::Step::*;
-use crate::steps::{Step, are_done, event, is_done};
+use crate::steps::{Step, is_done};
 use jl_core::{Accepted, Core, Entry};
 use jl_types::CallSiteKind::Mutable;
+use jl_types::Event;
 use std::alloc::{AllocError, Global};
 use std::process::Abort;
 
@@ -81,37 +82,49 @@ fn are_kept(alloc: Global, core: &mut Core) -> bool {
 }
 
 /// The count of accepted events in a snapshot.
-fn serial(alloc: Global, core: &Core) -> Result<u64, AllocError> {
-    Ok(core.snapshot(alloc)?.serial())
+fn serial(alloc: Global, core: &Core) -> Option<u64> {
+    match &core.snapshot(alloc) {
+        Ok(snapshot) => Some(snapshot.serial()),
+        Err(_) => None,
+    }
 }
 
 /// Whether the event is planned; it is committed then.
-fn is_committed(alloc: Global, core: &mut Core, step: &Step) -> Result<bool, AllocError> {
-    let event = event(alloc, core, step)?;
+fn is_committed(alloc: Global, core: &mut Core, event: Event) -> bool {
     match core.plan(alloc, event) {
         Ok(planned) => {
             let _reply = core.commit(planned);
-            Ok(true)
+            true
         }
-        Err(_) => Ok(false),
+        Err(_) => false,
+    }
+}
+
+/// Whether a first loader is accepted, planned before or not, and then all this is so.
+fn are_kept_behind(alloc: Global, core: &mut Core, is_planned: bool) -> bool {
+    let first = if is_planned {
+        is_committed(alloc, core, Event::NewLoader)
+    } else {
+        is_done(alloc, core, &Loader)
+    };
+    are_kept(alloc, core) && serial(alloc, core) == Some(11) && first
+}
+
+/// The same on a new core.
+fn keeps(alloc: Global, is_planned: bool) -> bool {
+    match Core::new(alloc, 1) {
+        Ok(mut core) => are_kept_behind(alloc, &mut core, is_planned),
+        Err(_) => false,
     }
 }
 
 #[test]
-fn keeps_the_accepted_events(rt: HostRuntime) -> Result<(), AllocError> {
-    let mut core = Core::new(rt.alloc(), 1)?;
-    assert!(rt; are_done(rt.alloc(), &mut core, &[Loader]));
-    assert!(rt; are_kept(rt.alloc(), &mut core));
-    assert_eq!(rt; serial(rt.alloc(), &core)?, 11);
-    Ok(())
+fn keeps_the_accepted_events(rt: HostRuntime) {
+    assert!(rt; keeps(rt.alloc(), false));
 }
 
 // The first event is planned and committed, so each further one is: the second instance comes after every kind of event.
 #[test]
-fn keeps_planned_events(rt: HostRuntime) -> Result<(), AllocError> {
-    let mut core = Core::new(rt.alloc(), 1)?;
-    assert!(rt; is_committed(rt.alloc(), &mut core, &Loader)?);
-    assert!(rt; are_kept(rt.alloc(), &mut core));
-    assert_eq!(rt; serial(rt.alloc(), &core)?, 11);
-    Ok(())
+fn keeps_planned_events(rt: HostRuntime) {
+    assert!(rt; keeps(rt.alloc(), true));
 }

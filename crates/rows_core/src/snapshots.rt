@@ -4,9 +4,9 @@ use crate::classes::{A, M, OBJECT};
 use crate::steps::Step::*;
 use crate::steps::{Step, are_done, is_done};
 use jl_core::Core;
-use jl_relink::{World, link_of};
+use jl_relink::{Snapshot, World, link_of};
 use jl_types::SiteNo;
-use std::alloc::AllocError;
+use std::alloc::Global;
 use std::process::Abort;
 
 /// How many sites there may be.
@@ -33,14 +33,37 @@ fn are_same(one: &World, other: &World) -> bool {
         && have_same_links(one, other)
 }
 
+/// Whether a snapshot from after an install has the world of the one from before.
+fn is_same_after(alloc: Global, core: &mut Core, before: &Snapshot) -> bool {
+    let is_installed = is_done(alloc, core, &Install(&[0]));
+    match &core.snapshot(alloc) {
+        Ok(after) => {
+            before.serial() == 4
+                && after.serial() == 5
+                && are_same(before.world(), after.world())
+                && is_installed
+        }
+        Err(_) => false,
+    }
+}
+
+/// The same of a snapshot that is taken now.
+fn is_same(alloc: Global, core: &mut Core) -> bool {
+    match &core.snapshot(alloc) {
+        Ok(before) => is_same_after(alloc, core, before),
+        Err(_) => false,
+    }
+}
+
+/// The same on a new core.
+fn stays(alloc: Global) -> bool {
+    match Core::new(alloc, SITES) {
+        Ok(mut core) => are_done(alloc, &mut core, BEFORE) && is_same(alloc, &mut core),
+        Err(_) => false,
+    }
+}
+
 #[test]
-fn has_the_same_world_after_an_install(rt: HostRuntime) -> Result<(), AllocError> {
-    let mut core = Core::new(rt.alloc(), SITES)?;
-    assert!(rt; are_done(rt.alloc(), &mut core, BEFORE));
-    let before = core.snapshot(rt.alloc())?;
-    assert!(rt; is_done(rt.alloc(), &mut core, &Install(&[0])));
-    let after = core.snapshot(rt.alloc())?;
-    assert!(rt; before.serial() == 4 && after.serial() == 5);
-    assert!(rt; are_same(before.world(), after.world()));
-    Ok(())
+fn has_the_same_world_after_an_install(rt: HostRuntime) {
+    assert!(rt; stays(rt.alloc()));
 }

@@ -353,22 +353,33 @@ fn jobs_of(alloc: Global, rows: &[Job]) -> Result<Vec<Seq<SiteNo>>, AllocError> 
     Ok(jobs)
 }
 
-/// The reports of the gate's farm.
-fn reports_of<K: Name + Send + Sync, R: Threads + Wait + Sync, S: Wait + Drop + Send + Sync>(
+/// The reports of the gate's farm on these jobs.
+fn reports_on<K: Name + Send + Sync, R: Threads + Wait + Sync, S: Wait + Drop + Send + Sync>(
     gate: &Turner<'_, K, R, S>,
     crew: Vec<Caller<K>>,
+    jobs: Vec<Seq<SiteNo>>,
 ) -> Result<Vec<Report<K>>, FarmFault> {
+    if crew.is_empty() || crew.len() > 16 || jobs.len() > 65_536 {
+        return Err(FarmFault::NoThread);
+    }
     let Shared {
         rt,
         alloc,
         server,
         ..
     } = gate.shared;
-    let jobs = jobs_of(*alloc, gate.farm.jobs)?;
-    if crew.is_empty() || crew.len() > 16 || jobs.len() > 65_536 {
-        return Err(FarmFault::NoThread);
-    }
     run(*rt, *alloc, *server, jobs, crew, gate)
+}
+
+/// The same on its own jobs.
+fn reports_of<K: Name + Send + Sync, R: Threads + Wait + Sync, S: Wait + Drop + Send + Sync>(
+    gate: &Turner<'_, K, R, S>,
+    crew: Vec<Caller<K>>,
+) -> Result<Vec<Report<K>>, FarmFault> {
+    match jobs_of(gate.shared.alloc, gate.farm.jobs) {
+        Ok(jobs) => reports_on(gate, crew, jobs),
+        Err(_) => Err(FarmFault::Memory),
+    }
 }
 
 /// So many of the callers, or all that there are, which have learnt what the first one has seen.
@@ -417,8 +428,34 @@ fn runs<K: Name + Send + Sync, R: Threads + Wait + Sync, S: Wait + Drop + Send +
     first.told.append(&mut second.told)
 }
 
-/// Whether the farm of so many workers was as it says, on a server on which all that comes before is done. Of the callers the first one is
-/// left.
+/// Whether the farm of this crew was as it says, on a server on which all that comes before is done. Of the other callers the first one is left.
+fn is_farm_of<K: Name + Send + Sync, R: Threads + Wait + Sync, S: Wait + Drop + Send + Sync>(
+    shared: &Shared<'_, K, R, S>,
+    workers: &mut Vec<Worker<K>>,
+    crew: Vec<Caller<K>>,
+    farm: &'static Farm,
+) -> bool {
+    match (workers.pop(), workers.first_mut()) {
+        (Some(second), Some(first)) => {
+            runs(shared, first, second, crew, farm).is_ok() && has_links(shared, first, farm)
+        }
+        _ => false,
+    }
+}
+
+/// Whether the sites have a link in the end that are to have one, where that is certain.
+fn has_links<K: Name, R: Wait, S: Wait + Drop>(
+    shared: &Shared<'_, K, R, S>,
+    worker: &mut Worker<K>,
+    farm: &Farm,
+) -> bool {
+    match farm.linked {
+        Some(sites) => { shared.are_linked(&mut worker.caller, sites, &Link::Plain(method(1, 1))) }
+        None => true,
+    }
+}
+
+/// The same of a crew of so many of the callers.
 pub(crate) fn is_farm<
     K: Name + Send + Sync,
     R: Threads + Wait + Sync,
@@ -429,20 +466,8 @@ pub(crate) fn is_farm<
     count: usize,
     farm: &'static Farm,
 ) -> bool {
-    let Ok(crew) = crew_of(shared.alloc, workers, count) else {
-        return false;
-    };
-    let Some(second) = workers.pop() else {
-        return false;
-    };
-    let Some(first) = workers.first_mut() else {
-        return false;
-    };
-    if runs(shared, first, second, crew, farm).is_err() {
-        return false;
-    }
-    match farm.linked {
-        Some(sites) => shared.are_linked(&mut first.caller, sites, &Link::Plain(method(1, 1))),
-        None => true,
+    match crew_of(shared.alloc, workers, count) {
+        Ok(crew) => is_farm_of(shared, workers, crew, farm),
+        Err(_) => false,
     }
 }

@@ -147,20 +147,30 @@ fn has_links<K: Name, R: Wait, S: Wait + Drop>(
     }
 }
 
-/// Whether a new core that does the same in the order of the serials comes to the same.
+/// Whether the core that does the same in the order of the serials comes to the same.
+fn is_same<K: Name, R: Wait, S: Wait + Drop>(
+    shared: &Shared<'_, K, R, S>,
+    worker: &mut Worker<K>,
+    core: &mut Core,
+    all: &[Told],
+) -> bool {
+    let same = are_again(shared.alloc, core, all);
+    match &core.list_links(shared.alloc) {
+        Ok(links) => has_links(shared, worker, all.len(), links.as_slice()) && same,
+        Err(_) => false,
+    }
+}
+
+/// Whether a new core does so.
 pub(crate) fn is_replayed<K: Name, R: Wait, S: Wait + Drop>(
     shared: &Shared<'_, K, R, S>,
     worker: &mut Worker<K>,
     all: &[Told],
 ) -> bool {
-    let Ok(mut core) = Core::new(shared.alloc, 64) else {
-        return false;
-    };
-    let same = are_again(shared.alloc, &mut core, all);
-    let Ok(links) = core.list_links(shared.alloc) else {
-        return false;
-    };
-    has_links(shared, worker, all.len(), links.as_slice()) && same
+    match Core::new(shared.alloc, 64) {
+        Ok(mut core) => is_same(shared, worker, &mut core, all),
+        Err(_) => false,
+    }
 }
 
 /// Whether no retarget of the storm was refused, and what is accepted for certain was: the first install, and in each stretch those that

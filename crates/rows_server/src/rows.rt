@@ -10,7 +10,6 @@ use crate::scripts::{Act, Says};
 use crate::workers::{Shared, Worker, receiver};
 use jl_server::{Memo, Name, Seen};
 use jl_types::{ClassId, Fast, Outcome, SiteNo};
-use std::alloc::{AllocError, Global};
 use std::sync::Wait;
 
 /// What one of two callers does or is answered, or both by one memo.
@@ -204,22 +203,18 @@ pub(crate) const ROWS: &[Row] = &[
     Row(4, GONE),
 ];
 
-/// What two callers share.
+/// Two callers, and what they share.
 #[derive(Drop)]
-struct Pair<K: Name> {
-    first: Worker<K>,
-    second: Worker<K>,
+struct Pair<'a, K: Name> {
+    first: &'a mut Worker<K>,
+    second: &'a mut Worker<K>,
     kept: Seen<K>,
     memo: Memo<K>,
 }
 
-impl<K: Name> Pair<K> {
+impl<'a, K: Name> Pair<'a, K> {
     fn worker(&mut self, is_second: bool) -> &mut Worker<K> {
-        if is_second {
-            &mut self.second
-        } else {
-            &mut self.first
-        }
+        if is_second { self.second } else { self.first }
     }
 
     /// What the call is answered at once by the memo.
@@ -306,8 +301,8 @@ impl<K: Name> Pair<K> {
         line: &Line,
     ) -> bool {
         match line {
-            First(act) => acts(shared, &mut self.first, act),
-            Second(act) => acts(shared, &mut self.second, act),
+            First(act) => acts(shared, self.first, act),
+            Second(act) => acts(shared, self.second, act),
             Keeps => {
                 self.kept = self.first.caller.seen().again();
                 true
@@ -331,39 +326,52 @@ impl<K: Name> Pair<K> {
     }
 }
 
-/// Two callers that share a memo of so many sets.
-fn make_pair<K: Name>(
-    alloc: Global,
-    first: Worker<K>,
-    second: Worker<K>,
-    sets: u32,
-) -> Result<Pair<K>, AllocError> {
-    let kept = first.caller.seen().again();
-    let memo = Memo::new(alloc, &kept, sets)?;
-    Ok(Pair {
-        first,
-        second,
-        kept,
-        memo,
-    })
-}
-
-/// Whether the row is so. The callers are left.
-pub(crate) fn is_row<K: Name, R: Wait, S: Wait + Drop>(
+/// Whether the lines are so, one after another.
+fn are_so<K: Name, R: Wait, S: Wait + Drop>(
     shared: &Shared<'_, K, R, S>,
-    workers: &mut Vec<Worker<K>>,
-    row: &Row,
+    pair: &mut Pair<'_, K>,
+    lines: &[Line],
 ) -> bool {
-    let (Some(second), Some(first)) = (workers.pop(), workers.pop()) else {
-        return false;
-    };
-    let Ok(mut pair) = make_pair(shared.alloc, first, second, row.0) else {
-        return false;
-    };
     let mut all = true;
-    for line in row.1 {
+    for line in lines {
         all = pair.is_so(shared, line) && all;
     }
-    let Pair { first, second, .. } = pair;
-    workers.push(first).is_ok() && workers.push(second).is_ok() && all
+    all
+}
+
+/// Whether the row is so of two callers.
+fn is_row_of<K: Name, R: Wait, S: Wait + Drop>(
+    shared: &Shared<'_, K, R, S>,
+    first: &mut Worker<K>,
+    second: &mut Worker<K>,
+    row: &Row,
+) -> bool {
+    let kept = first.caller.seen().again();
+    match Memo::new(shared.alloc, first.caller.seen(), row.0) {
+        Ok(memo) => {
+            let mut pair = Pair {
+                first,
+                second,
+                kept,
+                memo,
+            };
+            are_so(shared, &mut pair, row.1)
+        }
+        Err(_) => false,
+    }
+}
+
+/// The same of the first two of these.
+pub(crate) fn is_row<K: Name, R: Wait, S: Wait + Drop>(
+    shared: &Shared<'_, K, R, S>,
+    workers: &mut [Worker<K>],
+    row: &Row,
+) -> bool {
+    let Some((first, rest)) = workers.split_first_mut() else {
+        return false;
+    };
+    match rest.first_mut() {
+        Some(second) => is_row_of(shared, first, second, row),
+        None => false,
+    }
 }

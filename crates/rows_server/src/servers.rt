@@ -11,12 +11,12 @@ use crate::replays::{ALL, are_dense, gathered, is_replayed, storm};
 use crate::rows::{ROWS, Row, is_row};
 use crate::scripts::Says::IsClosed;
 use crate::scripts::{Part, Race};
-use crate::workers::{Shared, Worker, employ};
+use crate::workers::{Shared, Told, Worker, employ};
 use crate::{definitions, replays};
 use jl_server::{LinkServer, Name, Parts};
 use jl_types::Fast;
 use rows_threads::{Round, at_once};
-use std::alloc::Global;
+use std::alloc::{AllocError, Global};
 use std::marker::Brand;
 use std::process::Abort;
 use std::sync::atomic::AtomicU64;
@@ -127,7 +127,7 @@ fn is_done<K: Name + Send + Sync, R: Threads + Wait + Sync, S: Wait + Drop + Sen
     test: Test,
 ) -> bool {
     match test {
-        Test::Row(row) => is_row(shared, workers, row),
+        Test::Row(row) => is_row(shared, workers.as_mut_slice(), row),
         Test::Race(_) => true,
         Test::Farm(count, farm) => is_farm(shared, workers, count, farm),
         Test::Storm => is_farm(shared, workers, 3, DURING),
@@ -138,24 +138,29 @@ fn is_done<K: Name + Send + Sync, R: Threads + Wait + Sync, S: Wait + Drop + Sen
 /// Whether all that was accepted has the serials from 1 on, and comes to the same in one core, or is as much as it must be.
 fn is_told<K: Name, R: Wait, S: Wait + Drop>(
     shared: &Shared<'_, K, R, S>,
+    worker: &mut Worker<K>,
+    test: Test,
+    told: &[Told],
+) -> bool {
+    let so = match test {
+        Test::Race(_) => true,
+        Test::Definitions(overriding) => definitions::are_enough(told, overriding),
+        Test::Storm => replays::are_enough(told) && is_replayed(shared, worker, told),
+        _ => is_replayed(shared, worker, told),
+    };
+    so && are_dense(told)
+}
+
+/// The same of all that these were told.
+fn are_told<K: Name, R: Wait, S: Wait + Drop>(
+    shared: &Shared<'_, K, R, S>,
     workers: &mut [Worker<K>],
     test: Test,
 ) -> bool {
-    let Some(told) = gathered(shared.alloc, workers) else {
-        return false;
-    };
-    let Some(first) = workers.first_mut() else {
-        return false;
-    };
-    let so = match test {
-        Test::Race(_) => true,
-        Test::Definitions(overriding) => definitions::are_enough(told.as_slice(), overriding),
-        Test::Storm => {
-            replays::are_enough(told.as_slice()) && is_replayed(shared, first, told.as_slice())
-        }
-        _ => is_replayed(shared, first, told.as_slice()),
-    };
-    so && are_dense(told.as_slice())
+    match (&gathered(shared.alloc, workers), workers.first_mut()) {
+        (Some(told), Some(first)) => is_told(shared, first, test, told.as_slice()),
+        _ => false,
+    }
 }
 
 /// Whether the test is so.
@@ -178,7 +183,7 @@ fn holds<K: Name + Send + Sync, R: Threads + Wait + Sync, S: Wait + Drop + Send 
     };
     let begun = is_begun(&shared, workers.as_mut_slice(), test);
     run(&shared, workers.as_mut_slice());
-    begun && is_done(&shared, workers, test) && is_told(&shared, workers.as_mut_slice(), test)
+    begun && is_done(&shared, workers, test) && are_told(&shared, workers.as_mut_slice(), test)
 }
 
 /// Whether the callers' calls are closed.
@@ -192,7 +197,25 @@ fn are_closed<K: Name>(workers: &mut [Worker<K>]) -> bool {
     all
 }
 
-/// Whether the test is so, on the server of these parts, and calls are closed from its end on.
+/// Whether the test is so, on the server, and calls are closed from its end on.
+fn is_so_on<K: Name + Send + Sync, R: Threads + Wait + Sync, S: Wait + Drop + Send + Sync>(
+    rt: &R,
+    alloc: Global,
+    server: LinkServer<K, S>,
+    workers: Result<Vec<Worker<K>>, AllocError>,
+    test: Test,
+) -> bool {
+    match workers {
+        Ok(mut workers) => {
+            let so = holds(rt, alloc, &server, &mut workers, test);
+            drop(server);
+            so && are_closed(workers.as_mut_slice())
+        }
+        Err(_) => false,
+    }
+}
+
+/// The same on the server of these parts.
 fn is_so<K: Name + Send + Sync, R: Threads + Wait + Sync>(
     rt: &R,
     alloc: Global,
@@ -202,15 +225,10 @@ fn is_so<K: Name + Send + Sync, R: Threads + Wait + Sync>(
     requires book { parts.book ≡ K.book }
     requires sites { parts.max_sites ≡ K.max_sites }
 {
-    let Ok((server, callers)) = parts.start::<K, &R>(alloc, rt) else {
-        return false;
-    };
-    let Ok(mut workers) = employ(alloc, callers) else {
-        return false;
-    };
-    let so = holds(rt, alloc, &server, &mut workers, test);
-    drop(server);
-    so && are_closed(workers.as_mut_slice())
+    match parts.start::<K, &R>(alloc, rt) {
+        Ok((server, callers)) => is_so_on(rt, alloc, server, employ(alloc, callers), test),
+        Err(_) => false,
+    }
 }
 
 /// Whether the test is so on a new server of 64 sites.

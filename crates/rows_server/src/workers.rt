@@ -141,16 +141,25 @@ impl<'a, K: Name, R: Wait, S: Wait + Drop> Shared<'a, K, R, S> {
     }
 
     /// The install of these sites' links as they are in a snapshot that is taken now.
-    fn install(&self, caller: &mut Caller<K>, sites: &[u32]) -> Option<Event> {
-        let sites = numbered(self.alloc, sites).ok()?;
-        let snapshot = self.snapshot(caller)?;
-        install(prepare(self.alloc, &snapshot, sites.as_slice()))
+    fn install(&self, caller: &mut Caller<K>, sites: &[SiteNo]) -> Option<Event> {
+        match &self.snapshot(caller) {
+            Some(snapshot) => install(prepare(self.alloc, snapshot, sites)),
+            None => None,
+        }
+    }
+
+    /// The same of the sites of these numbers.
+    fn install_numbered(&self, caller: &mut Caller<K>, sites: &[u32]) -> Option<Event> {
+        match &numbered(self.alloc, sites) {
+            Ok(sites) => self.install(caller, sites.as_slice()),
+            Err(_) => None,
+        }
     }
 
     /// The deed's event, if there is one now.
     pub(crate) fn event(&self, caller: &mut Caller<K>, deed: &Deed) -> Option<Event> {
         match deed {
-            Deed::Install(sites) => self.install(caller, sites),
+            Deed::Install(sites) => self.install_numbered(caller, sites),
             _ => event(self.alloc, deed),
         }
     }
