@@ -313,31 +313,6 @@ const NAMES: &[NameRow] = &[
     NameRow(b"", false),
 ];
 
-#[test]
-fn names_of_initializers(rt: HostRuntime) {
-    assert_rows(&rt, NAMES);
-}
-
-#[test]
-fn invocations(rt: HostRuntime) {
-    assert_rows(&rt, INVOCATIONS);
-    one_code();
-}
-
-#[test]
-fn lengths(rt: HostRuntime) {
-    for opcode in 0..=255 {
-        assert!(rt; Length(opcode).is_so(rt.alloc()), "opcode {opcode}");
-    }
-}
-
-#[test]
-fn wide_lengths(rt: HostRuntime) {
-    for opcode in 0..=255 {
-        assert!(rt; Widened(opcode).is_so(rt.alloc()), "opcode {opcode}");
-    }
-}
-
 /// Codes, and their faults.
 const FAULTS: &[CodeRow] = &[
     Fault(&[0xca], CodeFault::BadOpcode(0)),
@@ -410,7 +385,17 @@ const FAULTS: &[CodeRow] = &[
 ];
 
 #[test]
-fn faults(rt: HostRuntime) {
-    assert_rows(&rt, FAULTS);
+fn codes(rt: HostRuntime) {
+    assert_rows(&rt, &[NAMES]);
+    assert_rows(&rt, &[INVOCATIONS, FAULTS]);
+    one_code();
     no_fault_in_a_code();
+}
+
+#[test]
+fn lengths(rt: HostRuntime) {
+    for opcode in 0..=255 {
+        assert!(rt; Length(opcode).is_so(rt.alloc()), "opcode {opcode}");
+        assert!(rt; Widened(opcode).is_so(rt.alloc()), "wide opcode {opcode}");
+    }
 }

@@ -110,13 +110,6 @@ const FIELDS: &[DescriptorRow] = &[
     Dimensions(256, Err(NameFault::BadDescriptor(255))),
 ];
 
-#[test]
-fn field_descriptors(rt: HostRuntime) {
-    assert_rows(&rt, FIELDS);
-    one_field_type();
-    no_fault_in_field_descriptors();
-}
-
 /// Method descriptors.
 const METHODS: &[DescriptorRow] = &[
     Method(b"()", Err(NameFault::BadDescriptor(2))),
@@ -132,13 +125,6 @@ const METHODS: &[DescriptorRow] = &[
     Parameters(b'I', 256, Err(NameFault::TooManySlots)),
     Parameters(b'J', 128, Err(NameFault::TooManySlots)),
 ];
-
-#[test]
-fn method_descriptors(rt: HostRuntime) {
-    assert_rows(&rt, METHODS);
-    one_method_type();
-    no_fault_in_method_descriptors();
-}
 
 /// Texts under their numbers.
 const NUMBERED: &[Option<&[u8]>] = &[None, Some(b"a"), Some(b"()V"), Some(b"()I"), Some(b"a")];
@@ -156,6 +142,10 @@ const PAIRS: &[DescriptorRow] = &[
 ];
 
 #[test]
-fn repeats(rt: HostRuntime) {
-    assert_rows(&rt, PAIRS);
+fn descriptors(rt: HostRuntime) {
+    assert_rows(&rt, &[FIELDS, METHODS, PAIRS]);
+    one_field_type();
+    no_fault_in_field_descriptors();
+    one_method_type();
+    no_fault_in_method_descriptors();
 }

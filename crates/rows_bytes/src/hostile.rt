@@ -252,11 +252,6 @@ const CUT: &[HostileRow] = &[
     Cut(SWITCH, 56),
 ];
 
-#[test]
-fn cut_files(rt: HostRuntime) {
-    assert_rows(&rt, CUT);
-}
-
 /// The first file with another magic number or version: the majors 45 to 61 are read.
 const HEADS: &[HostileRow] = &[
     Head(0, ClassFault::BadMagic, None),
@@ -268,11 +263,6 @@ const HEADS: &[HostileRow] = &[
     Head(6, ClassFault::BadVersion, None),
     Head(7, ClassFault::BadVersion, Some((0x2d, 0x3c))),
 ];
-
-#[test]
-fn changed_heads(rt: HostRuntime) {
-    assert_rows(&rt, HEADS);
-}
 
 /// The tableswitch with a high that isn't its own, 0: below its low, and with one offset more than there is.
 const SWITCHES: &[HostileRow] = &[
@@ -286,11 +276,6 @@ const SWITCHES: &[HostileRow] = &[
     ),
 ];
 
-#[test]
-fn changed_switches(rt: HostRuntime) {
-    assert_rows(&rt, SWITCHES);
-}
-
 /// Files of the most bytes, and of one more.
 const SIZES: &[HostileRow] = &[
     Sized(52, None),
@@ -299,8 +284,8 @@ const SIZES: &[HostileRow] = &[
 ];
 
 #[test]
-fn sizes(rt: HostRuntime) {
-    assert_rows(&rt, SIZES);
+fn cut_and_changed_files(rt: HostRuntime) {
+    assert_rows(&rt, &[CUT, HEADS, SWITCHES, SIZES]);
 }
 
 /// A class with nothing but a superclass.

@@ -212,13 +212,6 @@ const TEXTS: &[NameRow] = &[
     ),
 ];
 
-#[test]
-fn units(rt: HostRuntime) {
-    assert_rows(&rt, TEXTS);
-    one_list_of_units();
-    no_fault_in_units();
-}
-
 /// Names of classes and of their members, and packages.
 const NAMES: &[NameRow] = &[
     Named(b"java/lang/Object", true, false),
@@ -238,11 +231,6 @@ const NAMES: &[NameRow] = &[
     Lent(b"A"),
 ];
 
-#[test]
-fn names(rt: HostRuntime) {
-    assert_rows(&rt, NAMES);
-}
-
 /// Lists.
 const LISTS: &[NameRow] = &[
     List(b"run"),
@@ -251,11 +239,6 @@ const LISTS: &[NameRow] = &[
     OtherList(b"run", b"rub"),
     OtherList(b"run", b"runs"),
 ];
-
-#[test]
-fn lists(rt: HostRuntime) {
-    assert_rows(&rt, LISTS);
-}
 
 /// Names that are kept.
 const KEPT: &[NameRow] = &[
@@ -268,11 +251,6 @@ const KEPT: &[NameRow] = &[
     Cut,
 ];
 
-#[test]
-fn kept_names(rt: HostRuntime) {
-    assert_rows(&rt, KEPT);
-}
-
 /// Prints: for each word of eight bytes, and for what is left, the product of what it is and 0x9e3779b97f4a7c15, with its upper half on its
 /// lower one.
 const PRINTS: &[NameRow] = &[
@@ -284,6 +262,8 @@ const PRINTS: &[NameRow] = &[
 ];
 
 #[test]
-fn prints(rt: HostRuntime) {
-    assert_rows(&rt, PRINTS);
+fn names(rt: HostRuntime) {
+    assert_rows(&rt, &[TEXTS, NAMES, LISTS, KEPT, PRINTS]);
+    one_list_of_units();
+    no_fault_in_units();
 }

@@ -224,13 +224,6 @@ const ENTRIES: &[EntryRow] = &[
     Neither(26),
 ];
 
-#[test]
-fn each_tag(rt: HostRuntime) {
-    assert_rows(&rt, ENTRIES);
-    one_pool();
-    no_fault_in_a_pool();
-}
-
 /// What is so of bytes.
 enum PoolRow {
     /// The pool of this count and these entries has this fault, or none.
@@ -570,11 +563,6 @@ const POOLS: &[PoolRow] = &[
     CutShort,
 ];
 
-#[test]
-fn faults(rt: HostRuntime) {
-    assert_rows(&rt, POOLS);
-}
-
 /// What method handles may refer to, by their kinds.
 const HANDLES: &[PoolRow] = &[
     Handle(0, &[]),
@@ -589,11 +577,6 @@ const HANDLES: &[PoolRow] = &[
     Handle(9, &[11]),
     Handle(10, &[]),
 ];
-
-#[test]
-fn method_handles(rt: HostRuntime) {
-    assert_rows(&rt, HANDLES);
-}
 
 /// Constants that name others, and which ones they may name: 1, 3, 4 and 6 are texts, 2 is a Class, 5 and 7 are each a NameAndType.
 const NAMED: &[PoolRow] = &[
@@ -618,11 +601,6 @@ const NAMED: &[PoolRow] = &[
     Names(b"\x12\x00\x08", &[5, 7], b""),
 ];
 
-#[test]
-fn named_entries(rt: HostRuntime) {
-    assert_rows(&rt, NAMED);
-}
-
 /// Constants with a method's descriptor, at 5, and with a field's, at 7 or 6, and whether they may have it.
 const DESCRIBED: &[PoolRow] = &[
     Described(b"\x10\x00\x04", true),
@@ -641,11 +619,6 @@ const DESCRIBED: &[PoolRow] = &[
     // A class name may have any byte but four.
     Described(b"\x07\x00\x04", true),
 ];
-
-#[test]
-fn descriptors(rt: HostRuntime) {
-    assert_rows(&rt, DESCRIBED);
-}
 
 /// Classes by their texts: a class name, or a descriptor that begins with a bracket; and texts of which no form is asked.
 const TEXTS: &[PoolRow] = &[
@@ -733,11 +706,6 @@ const TEXTS: &[PoolRow] = &[
     ),
 ];
 
-#[test]
-fn texts(rt: HostRuntime) {
-    assert_rows(&rt, TEXTS);
-}
-
 /// What is read at the front of bytes, and copies.
 const PARTS: &[PoolRow] = &[
     TwoBytes(&[1, 2, 3], Some((0x0102, &[3]))),
@@ -751,6 +719,9 @@ const PARTS: &[PoolRow] = &[
 ];
 
 #[test]
-fn parts(rt: HostRuntime) {
-    assert_rows(&rt, PARTS);
+fn pools(rt: HostRuntime) {
+    assert_rows(&rt, &[ENTRIES]);
+    assert_rows(&rt, &[POOLS, HANDLES, NAMED, DESCRIBED, TEXTS, PARTS]);
+    one_pool();
+    no_fault_in_a_pool();
 }

@@ -12,9 +12,19 @@ pub(crate) trait Row {
     fn is_so(&self, alloc: Global) -> bool;
 }
 
-/// Asserts that each row is so.
-pub(crate) fn assert_rows<R: Row>(rt: &(impl Abort + AllocGlobal), rows: &[R]) {
+/// The first row that isn't so, if there is one.
+fn other<R: Row>(alloc: Global, rows: &[R]) -> Option<usize> {
     for (index, row) in rows.iter().enumerate() {
-        assert!(rt; row.is_so(rt.alloc()), "row {index}");
+        if !row.is_so(alloc) {
+            return Some(index);
+        }
+    }
+    None
+}
+
+/// Asserts that each row of these tables is so.
+pub(crate) fn assert_rows<R: Row>(rt: &(impl Abort + AllocGlobal), tables: &[&[R]]) {
+    for (table, rows) in tables.iter().enumerate() {
+        assert_eq!(rt; other(rt.alloc(), rows), None, "in table {table}");
     }
 }

@@ -45,6 +45,8 @@ enum Outcome {
     Gives(&'static [&'static [u8]]),
     /// A class file.
     IsWritten,
+    /// A class file of so many methods.
+    HasMethods(usize),
     /// This fault.
     Has(SketchFault),
     /// A fault in the code of its first method.
@@ -61,32 +63,40 @@ fn one<T: Drop>(alloc: Global, item: T) -> Result<Seq<T>, AllocError> {
     Ok(Seq::of(items))
 }
 
-/// A public class without methods.
-fn empty(alloc: Global, name: &[u8], superclass: &[u8]) -> Result<Sketch, AllocError> {
-    Ok(Sketch {
-        name: Name::copied(alloc, name)?,
+/// A public class of this name without methods.
+fn named(alloc: Global, name: Name, superclass: Name) -> Sketch {
+    Sketch {
+        name,
         flags: 33,
-        superclass: Some(Name::copied(alloc, superclass)?),
+        superclass: Some(superclass),
         interfaces: Seq::of(Vec::new(alloc)),
         methods: Seq::of(Vec::new(alloc)),
         host: None,
         members: Seq::of(Vec::new(alloc)),
-    })
+    }
 }
 
-/// A method of no parameters and no result.
-fn method(
-    alloc: Global,
-    name: &[u8],
-    flags: u16,
-    calls: Seq<Call>,
-) -> Result<SketchMethod, AllocError> {
-    Ok(SketchMethod {
-        name: Name::copied(alloc, name)?,
-        ty: Name::copied(alloc, b"()V")?,
+/// The same below this superclass.
+fn empty(alloc: Global, name: &[u8], superclass: &[u8]) -> Result<Sketch, AllocError> {
+    let name = Name::copied(alloc, name)?;
+    Ok(named(alloc, name, Name::copied(alloc, superclass)?))
+}
+
+/// A method of this name and type.
+fn method_of(name: Name, ty: Name, flags: u16, calls: Seq<Call>) -> SketchMethod {
+    SketchMethod {
+        name,
+        ty,
         flags,
         calls,
-    })
+    }
+}
+
+/// A method of no parameters and no result that makes the part's calls.
+fn method(alloc: Global, name: &[u8], flags: u16, part: &Part) -> Result<SketchMethod, AllocError> {
+    let name = Name::copied(alloc, name)?;
+    let ty = Name::copied(alloc, b"()V")?;
+    Ok(method_of(name, ty, flags, calls(alloc, part)?))
 }
 
 /// The method f of A.
@@ -104,20 +114,8 @@ fn interface_call(alloc: Global, ty: &[&[u8]]) -> Result<Call, AllocError> {
     Ok(Call::Interface(f_of_a(alloc, &ty)?))
 }
 
-/// Gives the sketch the method.
-fn give_method(
-    alloc: Global,
-    sketch: &mut Sketch,
-    name: &[u8],
-    flags: u16,
-    calls: Seq<Call>,
-) -> Result<(), AllocError> {
-    sketch.methods = one(alloc, method(alloc, name, flags, calls)?)?;
-    Ok(())
-}
-
 /// Calls of A.f, so many.
-fn calls(alloc: Global, count: usize) -> Result<Seq<Call>, AllocError> {
+fn virtual_calls(alloc: Global, count: usize) -> Result<Seq<Call>, AllocError> {
     let mut calls = Vec::new(alloc);
     for _ in 0..count {
         calls.push(Call::Virtual(f_of_a(alloc, b"()V")?))?;
@@ -125,22 +123,34 @@ fn calls(alloc: Global, count: usize) -> Result<Seq<Call>, AllocError> {
     Ok(Seq::of(calls))
 }
 
+/// The calls of the method that the part is.
+fn calls(alloc: Global, part: &Part) -> Result<Seq<Call>, AllocError> {
+    match part {
+        Calls(count, _) => virtual_calls(alloc, *count),
+        CallsWith(ty) => one(alloc, interface_call(alloc, ty)?),
+        _ => Ok(Seq::of(Vec::new(alloc))),
+    }
+}
+
+/// Gives the sketch the method that the part is.
+fn give_method(
+    alloc: Global,
+    sketch: &mut Sketch,
+    name: &[u8],
+    flags: u16,
+    part: &Part,
+) -> Result<(), AllocError> {
+    sketch.methods = one(alloc, method(alloc, name, flags, part)?)?;
+    Ok(())
+}
+
 /// Methods f, so many.
 fn methods(alloc: Global, count: usize) -> Result<Seq<SketchMethod>, AllocError> {
     let mut methods = Vec::new(alloc);
     for _ in 0..count {
-        methods.push(method(alloc, b"f", 1, Seq::of(Vec::new(alloc)))?)?;
+        methods.push(method(alloc, b"f", 1, &Root)?)?;
     }
     Ok(Seq::of(methods))
-}
-
-/// The name I, so many times.
-fn names_again(alloc: Global, count: usize) -> Result<Seq<Name>, AllocError> {
-    let mut names = Vec::new(alloc);
-    for _ in 0..count {
-        names.push(Name::copied(alloc, b"I")?)?;
-    }
-    Ok(Seq::of(names))
 }
 
 /// The number as a name.
@@ -149,11 +159,12 @@ fn number_name(alloc: Global, number: usize) -> Result<Name, AllocError> {
     Name::copied(alloc, text.as_bytes())
 }
 
-/// Names that differ, so many.
-fn names(alloc: Global, count: usize) -> Result<Seq<Name>, AllocError> {
+/// So many names, which differ, or are all alike.
+fn names(alloc: Global, count: usize, differ: bool) -> Result<Seq<Name>, AllocError> {
     let mut names = Vec::new(alloc);
     for number in 0..count {
-        names.push(number_name(alloc, number)?)?;
+        let name = number_name(alloc, if differ { number } else { 0 })?;
+        names.push(name)?;
     }
     Ok(Seq::of(names))
 }
@@ -164,9 +175,9 @@ fn give_names(alloc: Global, sketch: &mut Sketch, part: &Part) -> Result<(), All
         Long(length) => sketch.name = Name::of(vec![in alloc; b'a'; *length]?)?,
         Host(name) => sketch.host = Some(Name::copied(alloc, name)?),
         Member(name) => sketch.members = one(alloc, Name::copied(alloc, name)?)?,
-        Members(count) => sketch.members = names_again(alloc, *count)?,
-        Interfaces(count) => sketch.interfaces = names(alloc, *count)?,
-        Again(count) => sketch.interfaces = names_again(alloc, *count)?,
+        Members(count) => sketch.members = names(alloc, *count, false)?,
+        Interfaces(count) => sketch.interfaces = names(alloc, *count, true)?,
+        Again(count) => sketch.interfaces = names(alloc, *count, false)?,
         _ => {}
     }
     Ok(())
@@ -177,17 +188,10 @@ fn give(alloc: Global, sketch: &mut Sketch, part: &Part) -> Result<(), AllocErro
     match part {
         Root => sketch.superclass = None,
         Flags(flags) => sketch.flags = *flags,
-        Method(name, flags) => {
-            return give_method(alloc, sketch, name, *flags, Seq::of(Vec::new(alloc)));
-        }
+        Method(name, flags) => return give_method(alloc, sketch, name, *flags, part),
         Methods(count) => sketch.methods = methods(alloc, *count)?,
-        Calls(count, flags) => {
-            return give_method(alloc, sketch, b"run", *flags, calls(alloc, *count)?);
-        }
-        CallsWith(ty) => {
-            let call = interface_call(alloc, ty)?;
-            return give_method(alloc, sketch, b"run", 9, one(alloc, call)?);
-        }
+        Calls(_, flags) => return give_method(alloc, sketch, b"run", *flags, part),
+        CallsWith(_) => return give_method(alloc, sketch, b"run", 9, part),
         _ => return give_names(alloc, sketch, part),
     }
     Ok(())
@@ -213,11 +217,20 @@ fn are_parts(bytes: &[u8], parts: &[&[u8]]) -> bool {
     rest.is_empty()
 }
 
+/// Whether the bytes are a class file of so many methods.
+fn has_methods(alloc: Global, bytes: &[u8], count: usize) -> bool {
+    match &read_class(alloc, bytes) {
+        Ok(file) => file.methods().len() == count && file.methods().is_empty() == (count == 0),
+        Err(_) => false,
+    }
+}
+
 /// Whether this comes of a sketch that is written as these bytes.
-fn is_written(bytes: &[u8], outcome: &Outcome) -> bool {
+fn is_written(alloc: Global, bytes: &[u8], outcome: &Outcome) -> bool {
     match outcome {
         Gives(parts) => are_parts(bytes, parts),
         IsWritten => true,
+        HasMethods(count) => has_methods(alloc, bytes, *count),
         _ => false,
     }
 }
@@ -234,7 +247,7 @@ fn is_fault(fault: SketchFault, outcome: &Outcome) -> bool {
 /// Whether this comes of the sketch.
 fn has_outcome(alloc: Global, sketch: &Sketch, outcome: &Outcome) -> bool {
     match write_class(alloc, sketch) {
-        Ok(bytes) => is_written(&bytes, outcome),
+        Ok(bytes) => is_written(alloc, &bytes, outcome),
         Err(fault) => is_fault(fault, outcome),
     }
 }
@@ -360,12 +373,6 @@ const FILES: &[SketchRow] = &[
     SketchRow(b"A", OBJECT, &[Member(b"A")], Gives(NEST_FILE)),
 ];
 
-#[test]
-fn class_files(rt: HostRuntime) {
-    assert_rows(&rt, FILES);
-    one_class();
-}
-
 /// A fault in the constant at 2, which is the class.
 const BAD_NAME: SketchFault = SketchFault::Refused(ClassFault::Pool(PoolFault::BadDescriptor(2)));
 
@@ -416,12 +423,6 @@ const FAULTS: &[SketchRow] = &[
     SketchRow(b"M", OBJECT, &[CallsWith(&[b"(", LONGS, b")V"])], IsWritten),
 ];
 
-#[test]
-fn faults(rt: HostRuntime) {
-    assert_rows(&rt, FAULTS);
-    no_fault_in_a_class();
-}
-
 /// Sketches with a text or a list that is too long, and two that are just short enough.
 const LENGTHS: &[SketchRow] = &[
     SketchRow(b"", OBJECT, &[Long(65_535)], IsWritten),
@@ -432,21 +433,11 @@ const LENGTHS: &[SketchRow] = &[
     SketchRow(b"A", OBJECT, &[Methods(65_536)], Has(SketchFault::TooBig)),
 ];
 
-#[test]
-fn lengths(rt: HostRuntime) {
-    assert_rows(&rt, LENGTHS);
-}
-
 /// Codes of 3 bytes a call and one of the return: 65,533 bytes are few enough, and 65,536 are too many.
 const LONG_CODES: &[SketchRow] = &[
     SketchRow(b"A", OBJECT, &[Calls(21_844, 9)], IsWritten),
     SketchRow(b"A", OBJECT, &[Calls(21_845, 9)], HasCodeFault),
 ];
-
-#[test]
-fn long_codes(rt: HostRuntime) {
-    assert_rows(&rt, LONG_CODES);
-}
 
 /// Too many calls come before calls without code.
 const MANY_CALLS: &[SketchRow] = &[
@@ -464,11 +455,6 @@ const MANY_CALLS: &[SketchRow] = &[
     ),
 ];
 
-#[test]
-fn many_calls(rt: HostRuntime) {
-    assert_rows(&rt, MANY_CALLS);
-}
-
 /// Sketches of many constants. A, java/lang/Object and each interface have two, and 4 + 2 * 32,765 are 65,534. As a member of its own
 /// nest A has one more, the text NestMembers. The count of a pool is one more than its constants, and at most 65,535.
 const MANY_CONSTANTS: &[SketchRow] = &[
@@ -481,23 +467,26 @@ const MANY_CONSTANTS: &[SketchRow] = &[
     ),
 ];
 
-#[test]
-fn many_constants(rt: HostRuntime) {
-    assert_rows(&rt, MANY_CONSTANTS);
-}
-
-/// How many methods a class has whose sketch has so many, and whether it has none.
-fn counted_methods(alloc: Global, count: usize) -> Option<(usize, bool)> {
-    let mut sketch = empty(alloc, b"A", OBJECT).ok()?;
-    sketch.methods = methods(alloc, count).ok()?;
-    let bytes = write_class(alloc, &sketch).ok()?;
-    let file = read_class(alloc, bytes.as_slice()).ok()?;
-    let methods = file.methods();
-    Some((methods.len(), methods.is_empty()))
-}
+/// Sketches of so many methods.
+const COUNTS: &[SketchRow] = &[
+    SketchRow(b"A", OBJECT, &[Methods(0)], HasMethods(0)),
+    SketchRow(b"A", OBJECT, &[Methods(1)], HasMethods(1)),
+];
 
 #[test]
-fn counts_methods(rt: HostRuntime) {
-    assert!(rt; counted_methods(rt.alloc(), 0) == Some((0, true)));
-    assert!(rt; counted_methods(rt.alloc(), 1) == Some((1, false)));
+fn sketches(rt: HostRuntime) {
+    assert_rows(
+        &rt,
+        &[
+            FILES,
+            FAULTS,
+            LENGTHS,
+            LONG_CODES,
+            MANY_CALLS,
+            MANY_CONSTANTS,
+            COUNTS,
+        ],
+    );
+    one_class();
+    no_fault_in_a_class();
 }
