@@ -1,5 +1,6 @@
 //! Events that can be made again, and the worlds of the tests.
 
+use crate::deeds::Class::*;
 use crate::deeds::Deed::*;
 use jl_class::ClassFile;
 use jl_names::Name;
@@ -8,107 +9,97 @@ use jl_types::{
     CallSiteId, CallSiteKind, ClassId, Event, LoaderId, MethodId, Place, PrepareFault, SiteNo,
     SwitchId, Target,
 };
-use rows_files::{CallRow, MethodRow, calling, class, named};
+use rows_files::{CallRow, MethodRow, calling, named};
 use std::alloc::{AllocError, Global};
 
-/// A public class below java/lang/Object or another one. Its first method makes the calls, if there are any.
-pub(crate) struct ClassRow {
-    name: &'static str,
-    superclass: Option<&'static str>,
-    calls: &'static [CallRow],
-    methods: &'static [MethodRow],
+/// The classes of the tests, all of them public.
+#[derive(Clone, Copy)]
+pub(crate) enum Class {
+    /// java/lang/Object.
+    Object,
+    /// It has a method f.
+    A,
+    /// Below A, without a method.
+    B,
+    /// Below A, which overrides A.f, and so R.
+    C,
+    R,
+    /// Below class D4, which overrides its method.
+    E,
+    /// It calls A.f by invokevirtual.
+    M,
+    /// It calls A.f at 64 sites, by instructions of 3 bytes.
+    Many,
+    /// Four invokedynamic, of 5 bytes each, and its methods 1 and 2 for their call sites.
+    T,
+    /// Three static calls of its own method 1, and one of a class that isn't there.
+    W,
 }
+
+/// The name, the superclass, if there is one, the calls that the first method makes, if there are any, and the other methods.
+struct ClassRow(
+    &'static str,
+    Option<&'static str>,
+    &'static [CallRow],
+    &'static [MethodRow],
+);
+
+const OBJECT: Option<&str> = Some(rows_files::OBJECT);
 
 /// The method that A has and others override.
 const F: &[MethodRow] = &[("f", "()V", 1)];
 
-pub(crate) const OBJECT: &ClassRow = &ClassRow {
-    name: rows_files::OBJECT,
-    superclass: None,
-    calls: &[],
-    methods: &[],
-};
+const FOUR: &[CallRow] = &[
+    CallRow::Dynamic("x"),
+    CallRow::Dynamic("y"),
+    CallRow::Dynamic("z"),
+    CallRow::Dynamic("w"),
+];
 
-pub(crate) const A: &ClassRow = &ClassRow {
-    name: "A",
-    superclass: Some(rows_files::OBJECT),
-    calls: &[],
-    methods: F,
-};
+const TARGETS: &[MethodRow] = &[("a", "()V", 9), ("b", "()V", 9)];
 
-/// Below A, without a method.
-pub(crate) const B: &ClassRow = &ClassRow {
-    name: "B",
-    superclass: Some("A"),
-    calls: &[],
-    methods: &[],
-};
+const STATICS: &[CallRow] = &[
+    CallRow::Static("W", "a"),
+    CallRow::Static("W", "a"),
+    CallRow::Static("W", "a"),
+    CallRow::Static("Absent", "a"),
+];
 
-/// It calls A.f by invokevirtual.
-pub(crate) const M: &ClassRow = &ClassRow {
-    name: "M",
-    superclass: Some(rows_files::OBJECT),
-    calls: &[CallRow::Virtual("A", "f")],
-    methods: &[],
-};
+const OBJECT_ROW: &ClassRow = &ClassRow(rows_files::OBJECT, None, &[], &[]);
 
-/// Below A, which overrides A.f.
-pub(crate) const C: &ClassRow = &ClassRow {
-    name: "C",
-    superclass: Some("A"),
-    calls: &[],
-    methods: F,
-};
+const A_ROW: &ClassRow = &ClassRow("A", OBJECT, &[], F);
 
-/// Below class D4, which overrides its method.
-pub(crate) const E: &ClassRow = &ClassRow {
-    name: "E",
-    superclass: Some("D4"),
-    calls: &[],
-    methods: F,
-};
+const B_ROW: &ClassRow = &ClassRow("B", Some("A"), &[], &[]);
 
-/// Below A, which overrides A.f, too.
-pub(crate) const R: &ClassRow = &ClassRow {
-    name: "R",
-    superclass: Some("A"),
-    calls: &[],
-    methods: F,
-};
+const C_ROW: &ClassRow = &ClassRow("C", Some("A"), &[], F);
 
-/// It calls A.f at 64 sites, by instructions of 3 bytes.
-pub(crate) const MANY: &ClassRow = &ClassRow {
-    name: "V",
-    superclass: Some(rows_files::OBJECT),
-    calls: &[CallRow::Virtual("A", "f"); 64],
-    methods: &[],
-};
+const R_ROW: &ClassRow = &ClassRow("R", Some("A"), &[], F);
 
-/// Four invokedynamic, of 5 bytes each, and its methods 1 and 2 for their call sites.
-const T: &ClassRow = &ClassRow {
-    name: "T",
-    superclass: Some(rows_files::OBJECT),
-    calls: &[
-        CallRow::Dynamic("x"),
-        CallRow::Dynamic("y"),
-        CallRow::Dynamic("z"),
-        CallRow::Dynamic("w"),
-    ],
-    methods: &[("a", "()V", 9), ("b", "()V", 9)],
-};
+const E_ROW: &ClassRow = &ClassRow("E", Some("D4"), &[], F);
 
-/// Three static calls of its own method 1, and one of a class that isn't there.
-const W: &ClassRow = &ClassRow {
-    name: "W",
-    superclass: Some(rows_files::OBJECT),
-    calls: &[
-        CallRow::Static("W", "a"),
-        CallRow::Static("W", "a"),
-        CallRow::Static("W", "a"),
-        CallRow::Static("Absent", "a"),
-    ],
-    methods: &[("a", "()V", 9)],
-};
+const M_ROW: &ClassRow = &ClassRow("M", OBJECT, &[CallRow::Virtual("A", "f")], &[]);
+
+const MANY_ROW: &ClassRow = &ClassRow("V", OBJECT, &[CallRow::Virtual("A", "f"); 64], &[]);
+
+const T_ROW: &ClassRow = &ClassRow("T", OBJECT, FOUR, TARGETS);
+
+const W_ROW: &ClassRow = &ClassRow("W", OBJECT, STATICS, &[("a", "()V", 9)]);
+
+/// What the class has.
+fn row_of(class: Class) -> &'static ClassRow {
+    match class {
+        Object => OBJECT_ROW,
+        A => A_ROW,
+        B => B_ROW,
+        C => C_ROW,
+        R => R_ROW,
+        E => E_ROW,
+        M => M_ROW,
+        Many => MANY_ROW,
+        T => T_ROW,
+        W => W_ROW,
+    }
+}
 
 /// How many call sites there are, each bound to an invokedynamic of its own, which has the call site's number.
 pub(crate) const CALL_SITES: u32 = 4;
@@ -117,13 +108,13 @@ pub(crate) const CALL_SITES: u32 = 4;
 #[derive(Clone, Copy)]
 pub(crate) enum Deed {
     /// The loader defines the class.
-    Define(u32, &'static ClassRow),
+    Define(u32, Class),
     /// Loader 0 defines class D of this number, below A, which overrides A.f or doesn't.
     Below(u32, bool),
     /// A new loader.
     Loader,
-    /// Loader 1 finds the class of this name that loader 0 finds.
-    Delegate(&'static str),
+    /// Loader 1 finds this class of loader 0 by its name.
+    Delegate(Class),
     /// The request of the instruction at this pc of the class's first method.
     Request(u32, u32),
     /// A mutable call site more, of class 1's method 1.
@@ -132,8 +123,8 @@ pub(crate) enum Deed {
     Bind(u32),
     /// The call site of this number gets this method of class 1.
     Retarget(u32, u16),
-    /// These sites get the links that they have from scratch then.
-    Install(&'static [u32]),
+    /// The sites whose bits are set get the links that they have from scratch then.
+    Install(u64),
     /// A new switch point.
     Switch,
     /// Loader 1 goes.
@@ -142,17 +133,17 @@ pub(crate) enum Deed {
 
 /// A class A 1 with a method, B 2 below it, and an installed site 0 of M 3, which calls that method: 6 events.
 pub(crate) const ONE_SITE: &[Deed] = &[
-    Define(0, OBJECT),
+    Define(0, Object),
     Define(0, A),
     Define(0, B),
     Define(0, M),
     Request(3, 0),
-    Install(&[0]),
+    Install(1),
 ];
 
 /// The four invokedynamic of T 1, each bound to a call site, without links.
 pub(crate) const DYNAMIC: &[Deed] = &[
-    Define(0, OBJECT),
+    Define(0, Object),
     Define(0, T),
     CallSite,
     CallSite,
@@ -170,7 +161,7 @@ pub(crate) const DYNAMIC: &[Deed] = &[
 
 /// The four calls of W 1, without links.
 pub(crate) const STATIC: &[Deed] = &[
-    Define(0, OBJECT),
+    Define(0, Object),
     Define(0, W),
     Request(1, 0),
     Request(1, 3),
@@ -178,11 +169,12 @@ pub(crate) const STATIC: &[Deed] = &[
     Request(1, 9),
 ];
 
-/// What is read of the row's class file.
-fn file(alloc: Global, row: &ClassRow) -> Option<ClassFile> {
-    match row.superclass {
-        Some(above) => calling(alloc, row.name, 33, above, &[], row.calls, row.methods),
-        None => class(alloc, row.name, 33, None, &[], row.methods),
+/// What is read of the class's file.
+fn file(alloc: Global, class: Class) -> Option<ClassFile> {
+    let ClassRow(name, superclass, calls, methods) = row_of(class);
+    match superclass {
+        Some(above) => calling(alloc, name, 33, above, &[], calls, methods),
+        None => rows_files::class(alloc, name, 33, None, &[], methods),
     }
 }
 
@@ -198,7 +190,7 @@ fn definition(loader: u32, file: Option<ClassFile>) -> Option<Event> {
 fn below(alloc: Global, number: u32, overrides: bool) -> Option<ClassFile> {
     let methods = if overrides { F } else { &[] };
     match format!(in alloc; "D{number}") {
-        Ok(name) => class(alloc, &name, 33, Some("A"), &[], methods),
+        Ok(name) => rows_files::class(alloc, &name, 33, Some("A"), &[], methods),
         Err(_) => None,
     }
 }
@@ -231,10 +223,10 @@ fn call_site(ty: Result<Name, AllocError>) -> Option<Event> {
 /// The event, but for installs.
 pub(crate) fn event(alloc: Global, deed: &Deed) -> Option<Event> {
     match deed {
-        Define(loader, row) => definition(*loader, file(alloc, row)),
+        Define(loader, class) => definition(*loader, file(alloc, *class)),
         Below(number, overrides) => definition(0, below(alloc, *number, *overrides)),
         Loader => Some(Event::NewLoader),
-        Delegate(name) => delegation(named(alloc, name)),
+        Delegate(class) => delegation(named(alloc, row_of(*class).0)),
         Request(class, pc) => Some(Event::Request(Place {
             class: ClassId::new(*class),
             method: 0,
@@ -250,6 +242,17 @@ pub(crate) fn event(alloc: Global, deed: &Deed) -> Option<Event> {
         Switch => Some(Event::NewSwitch),
         Retire => Some(Event::Retire(LoaderId::new(1))),
     }
+}
+
+/// The sites whose bits are set.
+pub(crate) fn sites_of(alloc: Global, bits: u64) -> Result<Vec<SiteNo>, AllocError> {
+    let mut sites = Vec::new(alloc);
+    for number in 0..64u32 {
+        if bits.wrapping_shr(number) % 2 == 1 {
+            sites.push(SiteNo::new(number))?;
+        }
+    }
+    Ok(sites)
 }
 
 /// The sites of these numbers.

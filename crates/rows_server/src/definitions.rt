@@ -1,7 +1,8 @@
 //! Definitions below a class whose method is called at installed sites: four threads define, and two others link and call meanwhile.
 
+use crate::deeds::Class::*;
 use crate::deeds::Deed::*;
-use crate::deeds::{A, Deed, MANY, OBJECT, method};
+use crate::deeds::{Deed, method};
 use crate::workers::{Shared, Told, Worker, receiver};
 use jl_relink::{Snapshot, dispatch};
 use jl_server::Name;
@@ -35,20 +36,11 @@ const ALL: &[u32] = &[
     50, 51, 52, 53, 54, 55, 56, 57, 58, 59, 60, 61, 62, 63,
 ];
 
-/// Those that are linked at a time.
-const LINKED: [&[u32]; 8] = [
-    &[0, 1, 2, 3, 4, 5, 6, 7],
-    &[8, 9, 10, 11, 12, 13, 14, 15],
-    &[16, 17, 18, 19, 20, 21, 22, 23],
-    &[24, 25, 26, 27, 28, 29, 30, 31],
-    &[32, 33, 34, 35, 36, 37, 38, 39],
-    &[40, 41, 42, 43, 44, 45, 46, 47],
-    &[48, 49, 50, 51, 52, 53, 54, 55],
-    &[56, 57, 58, 59, 60, 61, 62, 63],
-];
+/// The install of all of them.
+const INSTALL: &Deed = &Install(u64::MAX);
 
 /// What comes before, with the request of each site and their install.
-pub(crate) const BEFORE: &[Deed] = &[Define(0, OBJECT), Define(0, A), Define(0, MANY)];
+pub(crate) const BEFORE: &[Deed] = &[Define(0, Object), Define(0, A), Define(0, Many)];
 
 /// Whether the first caller requests all sites and installs them.
 pub(crate) fn request_all<K: Name, R: Wait, S: Wait + Drop>(
@@ -62,7 +54,7 @@ pub(crate) fn request_all<K: Name, R: Wait, S: Wait + Drop>(
     for site in 0..SITES {
         all = shared.does(first, &Request(2, site.wrapping_mul(3))) && all;
     }
-    shared.does(first, &Install(ALL)) && all
+    shared.does(first, INSTALL) && all
 }
 
 /// How many classes each of the threads defines.
@@ -156,9 +148,9 @@ pub(crate) fn link_all<K: Name, R: Wait, S: Wait + Drop>(
     let mut turn = 0u32;
     for _ in shared.rt.forever() {
         let is_last = shared.come.load(Ordering::SeqCst) >= WRITERS as u64;
-        if let Some(sites) = LINKED.get(turn as usize % 8) {
-            let _installed = shared.does(worker, &Install(sites));
-        }
+        // Eight of them at a time.
+        let eight = 0xffu64.wrapping_shl((turn % 8).wrapping_mul(8));
+        let _installed = shared.does(worker, &Install(eight));
         let so = are_legal(shared, worker, turn % SITES, overriding);
         worker.expect(so);
         if is_last {
@@ -215,7 +207,7 @@ pub(crate) fn are_called<K: Name, R: Wait, S: Wait + Drop>(
     };
     let plain = newest(&shared.plain);
     let overrider = newest(&shared.overrider);
-    if !shared.does(first, &Install(ALL)) || overriding != (overrider > 0) {
+    if !shared.does(first, INSTALL) || overriding != (overrider > 0) {
         return false;
     }
     match shared.snapshot(&mut first.caller) {

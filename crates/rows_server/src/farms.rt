@@ -1,8 +1,7 @@
 //! Farms of compilers on a server, whose call sites are retargeted meanwhile, or one of whose jobs is held back.
 
-ghost use Rattle.std.specs.Prelude.{◌≡◌, ◌≤◌};
-
 use crate::deeds::{DYNAMIC, Deed, STATIC, method, numbered, turned};
+use crate::farms::Before::*;
 use crate::farms::Kind::*;
 use crate::workers::{Shared, Told, Worker};
 use jl_farm::{FarmFault, Gate, JobOutcome, Report, run};
@@ -43,18 +42,37 @@ pub(crate) enum Turns {
     During,
 }
 
+/// What comes before a farm.
+#[derive(Clone, Copy)]
+enum Before {
+    /// The four static calls of W.
+    Statics,
+    /// The four invokedynamic of T.
+    Dynamics,
+}
+
 /// Jobs on a server with no links.
 pub(crate) struct Farm {
-    pub(crate) before: &'static [Deed],
+    before: Before,
     turns: Turns,
     jobs: &'static [Job],
     /// The sites that have a link in the end, to class 1's method 1, where that is certain.
     linked: Option<&'static [u32]>,
 }
 
+impl Farm {
+    /// What comes before.
+    pub(crate) fn before(&self) -> &'static [Deed] {
+        match self.before {
+            Statics => STATIC,
+            Dynamics => DYNAMIC,
+        }
+    }
+}
+
 /// Jobs of every kind.
 pub(crate) const MIXED: &Farm = &Farm {
-    before: STATIC,
+    before: Statics,
     turns: Turns::Never,
     jobs: &[
         (&[0], Installed),
@@ -71,7 +89,7 @@ pub(crate) const MIXED: &Farm = &Farm {
 
 /// Three jobs of one site each, of which the second one is held back until the third one is done.
 const EARLIER_HELD: &Farm = &Farm {
-    before: STATIC,
+    before: Statics,
     turns: Turns::Held(1, 2),
     jobs: &[(&[0], Installed), (&[1], Installed), (&[2], Installed)],
     linked: Some(&[0, 1, 2]),
@@ -79,7 +97,7 @@ const EARLIER_HELD: &Farm = &Farm {
 
 /// The same the other way round.
 const LATER_HELD: &Farm = &Farm {
-    before: STATIC,
+    before: Statics,
     turns: Turns::Held(2, 1),
     jobs: &[(&[0], Installed), (&[1], Installed), (&[2], Installed)],
     linked: Some(&[0, 1, 2]),
@@ -88,7 +106,7 @@ const LATER_HELD: &Farm = &Farm {
 /// A job is stale where a call site of its own was retargeted, and then none of its sites gets a link. The others are installed.
 pub(crate) const BETWEEN: &[Farm] = &[
     Farm {
-        before: DYNAMIC,
+        before: Dynamics,
         turns: Turns::Between(2, 2),
         jobs: &[
             (&[0], Installed),
@@ -99,7 +117,7 @@ pub(crate) const BETWEEN: &[Farm] = &[
         linked: Some(&[0, 1, 3]),
     },
     Farm {
-        before: DYNAMIC,
+        before: Dynamics,
         turns: Turns::Between(0, 0),
         jobs: &[
             (&[0], Stale),
@@ -110,19 +128,19 @@ pub(crate) const BETWEEN: &[Farm] = &[
         linked: Some(&[1, 2, 3]),
     },
     Farm {
-        before: DYNAMIC,
+        before: Dynamics,
         turns: Turns::Between(1, 2),
         jobs: &[(&[0], Installed), (&[1, 2], Stale), (&[3], Installed)],
         linked: Some(&[0, 3]),
     },
     Farm {
-        before: DYNAMIC,
+        before: Dynamics,
         turns: Turns::Between(0, 0),
         jobs: &[(&[3, 2, 1, 0], Stale)],
         linked: Some(&[]),
     },
     Farm {
-        before: DYNAMIC,
+        before: Dynamics,
         turns: Turns::Between(0, 3),
         jobs: &[(&[0], Installed), (&[1], Installed)],
         linked: Some(&[0, 1]),
@@ -131,7 +149,7 @@ pub(crate) const BETWEEN: &[Farm] = &[
 
 /// A job that is held until all others are done, and eight that share sites: each of these is installed or stale.
 pub(crate) const DURING: &Farm = &Farm {
-    before: DYNAMIC,
+    before: Dynamics,
     turns: Turns::During,
     jobs: &[
         (&[0], Installed),
@@ -149,7 +167,7 @@ pub(crate) const DURING: &Farm = &Farm {
 
 /// Two jobs of one site.
 const TWICE: &Farm = &Farm {
-    before: DYNAMIC,
+    before: Dynamics,
     turns: Turns::Never,
     jobs: &[(&[0], Installed), (&[0], Installed)],
     linked: Some(&[0]),
@@ -311,13 +329,22 @@ fn is_of(farm: &Farm, job: usize, kind: Kind) -> bool {
     }
 }
 
+/// The bits of these sites.
+fn bits_of(sites: &[u32]) -> u64 {
+    let mut bits = 0u64;
+    for site in sites {
+        bits |= 1u64.wrapping_shl(*site);
+    }
+    bits
+}
+
 /// What the job came to. The event by which it was installed is kept.
 fn heard<K: Name>(worker: &mut Worker<K>, job: &Job, outcome: JobOutcome<K>) -> Kind {
     match outcome {
         JobOutcome::Installed(receipt) => {
             let told = Told {
                 serial: receipt.serial,
-                deed: Deed::Install(job.0),
+                deed: Deed::Install(bits_of(job.0)),
                 reply: receipt.reply,
             };
             worker.keep(0, told);

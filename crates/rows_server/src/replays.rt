@@ -1,6 +1,6 @@
 //! A storm of retargets, and what threads did at once, done once more by one core, in the order of the serials.
 
-use crate::deeds::{Deed, event, install, numbered, turned};
+use crate::deeds::{Deed, event, install, sites_of, turned};
 use crate::workers::{Shared, Told, Worker};
 use jl_core::Core;
 use jl_server::Name;
@@ -20,7 +20,7 @@ const ROUNDS: u32 = 1000;
 const STRETCH: u32 = 100;
 
 /// The install of all links as they are then.
-pub(crate) const ALL: &Deed = &Deed::Install(&[0, 1, 2, 3]);
+pub(crate) const ALL: &Deed = &Deed::Install(15);
 
 /// How many have come once all threads have come as often as the one that came after so many.
 fn all_come(before: u64) -> u64 {
@@ -87,9 +87,9 @@ fn is_reply(answer: &Result<Reply, Refusal>, reply: &Reply) -> bool {
     }
 }
 
-/// The install of these sites' links as they are in the core.
-fn install_again(alloc: Global, core: &Core, sites: &[u32]) -> Option<Event> {
-    match numbered(alloc, sites) {
+/// The install of the links as they are in the core, of the sites whose bits are set.
+fn install_again(alloc: Global, core: &Core, bits: u64) -> Option<Event> {
+    match &sites_of(alloc, bits) {
         Ok(sites) => install(core.prepare(alloc, sites.as_slice())),
         Err(_) => None,
     }
@@ -98,7 +98,7 @@ fn install_again(alloc: Global, core: &Core, sites: &[u32]) -> Option<Event> {
 /// The deed's event, made again.
 fn event_again(alloc: Global, core: &Core, deed: &Deed) -> Option<Event> {
     match deed {
-        Deed::Install(sites) => install_again(alloc, core, sites),
+        Deed::Install(bits) => install_again(alloc, core, *bits),
         _ => event(alloc, deed),
     }
 }

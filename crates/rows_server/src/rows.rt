@@ -1,8 +1,9 @@
 //! Rows of two callers in one thread, with a memo beside them.
 
 use crate::acts::{acts, fast};
+use crate::deeds::Class::{A, B, C, E, M, Object, R};
 use crate::deeds::Deed::*;
-use crate::deeds::{A, B, C, Deed, E, M, OBJECT, ONE_SITE, R, method};
+use crate::deeds::{Deed, ONE_SITE, method};
 use crate::rows::Line::*;
 use crate::scripts::Act::*;
 use crate::scripts::Says::*;
@@ -80,14 +81,14 @@ const OLDER: &[Line] = &[
     Learns,
     Second(HasSeen(7)),
     Second(Calls(0, Some(2), Misses)),
-    Second(Does(Install(&[0]))),
+    Second(Does(Install(1))),
     First(Calls(0, Some(2), Runs(1))),
 ];
 
 /// Snapshots of a caller that has seen nothing, of one that learnt a receipt, and of one that didn't.
 const SNAPSHOTS: &[Line] = &[
     Second(TakesSnapshot(0)),
-    First(Does(Define(0, OBJECT))),
+    First(Does(Define(0, Object))),
     First(Does(Define(0, A))),
     First(Tells),
     Second(Hears),
@@ -99,7 +100,7 @@ const SNAPSHOTS: &[Line] = &[
 
 /// An event is refused after what another caller did.
 const REFUSED: &[Line] = &[
-    First(Does(Define(0, OBJECT))),
+    First(Does(Define(0, Object))),
     Second(IsRefused(Request(1, 0), 1)),
     Second(HasSeen(1)),
     Second(MakesSwitch(2, 0)),
@@ -119,7 +120,7 @@ const LISTED: &[Line] = &[
 /// A 1 with B 2 and classes 4 to 11 below it, each with a method of its own, and an installed site of M 3, which calls A's method and has ten
 /// receivers' classes.
 const MEGAMORPHIC: &[Deed] = &[
-    Define(0, OBJECT),
+    Define(0, Object),
     Define(0, A),
     Define(0, B),
     Define(0, M),
@@ -132,7 +133,7 @@ const MEGAMORPHIC: &[Deed] = &[
     Below(10, true),
     Below(11, true),
     Request(3, 0),
-    Install(&[0]),
+    Install(1),
 ];
 
 /// Calls at a megamorphic link, which a memo remembers. What is asked after the definition of a class is remembered, too; what was remembered
@@ -160,12 +161,12 @@ const REMEMBERED: &[Line] = &[
 /// A second M 12 by loader 1, whose site is installed, and R 13 below A.
 const BESIDE: &[Deed] = &[
     Loader,
-    Delegate("java/lang/Object"),
-    Delegate("A"),
+    Delegate(Object),
+    Delegate(A),
     Define(1, M),
     Define(1, R),
     Request(12, 0),
-    Install(&[1]),
+    Install(2),
 ];
 
 /// The same, where a loader is retired: its site is a miss, and its class no receiver, though the memo has what it remembered.

@@ -55,8 +55,8 @@ pub(crate) struct Race {
 pub(crate) enum Part {
     /// Nothing.
     Nothing,
-    /// The first one acts, and the other one, which is told of it.
-    Race(&'static Race),
+    /// The first one acts, and the other one, which is told of it: of a retirement, or of a definition.
+    Race(bool),
     /// Two retarget and two install.
     Storm,
     /// Four define classes below A, of which some override its method or none does, and two link and call.

@@ -1,16 +1,16 @@
 //! The tests, each on servers of its own. What was accepted in most of them is done once more by one core, and then the server goes.
 
-ghost use Rattle.std.specs.Prelude.{◌≡◌, ◌≤◌, ◌×◌};
+ghost use Rattle.std.specs.Prelude.{◌≡◌, ◌≤◌};
 
 use crate::acts::{acts_all, calls_both};
 use crate::deeds::{DYNAMIC, Deed};
 use crate::definitions::{BEFORE, are_called, request_all};
 use crate::farms::{BETWEEN, DURING, Farm, MEETING, MIXED, is_farm};
-use crate::races::{DEFINITION, RETIREMENT};
+use crate::races::race_of;
 use crate::replays::{ALL, are_dense, gathered, is_replayed, storm};
 use crate::rows::{ROWS, Row, is_row};
+use crate::scripts::Part;
 use crate::scripts::Says::IsClosed;
-use crate::scripts::{Part, Race};
 use crate::workers::{Shared, Told, Worker, employ};
 use crate::{definitions, replays};
 use jl_server::{LinkServer, Name, Parts};
@@ -34,7 +34,8 @@ const FARMS: usize = 100;
 enum Test {
     /// The row of two callers.
     Row(&'static Row),
-    Race(&'static Race),
+    /// The race about the retirement, or about the definition.
+    Race(bool),
     /// The farm of so many workers.
     Farm(usize, &'static Farm),
     /// The storm, and then a farm of three workers while one thread retargets.
@@ -46,7 +47,7 @@ enum Test {
 /// What the threads do.
 fn part_of(test: Test) -> Part {
     match test {
-        Test::Race(race) => Part::Race(race),
+        Test::Race(retires) => Part::Race(retires),
         Test::Storm => Part::Storm,
         Test::Definitions(overriding) => Part::Definitions(overriding),
         _ => Part::Nothing,
@@ -69,7 +70,8 @@ impl<'a, K: Name, R: Wait, S: Wait + Drop> Round<Worker<K>> for Shared<'a, K, R,
     fn turn(&self, index: usize, worker: &mut Worker<K>) {
         match self.part {
             Part::Nothing => {}
-            Part::Race(race) => {
+            Part::Race(retires) => {
+                let race = race_of(retires);
                 let all = if index == 0 { race.first } else { race.second };
                 acts_all(self, worker, all);
             }
@@ -113,8 +115,8 @@ fn is_begun<K: Name, R: Wait, S: Wait + Drop>(
 ) -> bool {
     match test {
         Test::Row(_) => true,
-        Test::Race(race) => begins(shared, workers, race.before),
-        Test::Farm(_, farm) => begins(shared, workers, farm.before),
+        Test::Race(retires) => begins(shared, workers, race_of(retires).before),
+        Test::Farm(_, farm) => begins(shared, workers, farm.before()),
         Test::Storm => begins(shared, workers, DYNAMIC) && begins(shared, workers, &[*ALL]),
         Test::Definitions(_) => begins(shared, workers, BEFORE) && request_all(shared, workers),
     }
@@ -249,14 +251,14 @@ fn two_callers(rt: HostRuntime) {
 #[test]
 fn never_runs_the_method_of_before(rt: HostRuntime) {
     for turn in 0..RACES {
-        assert!(rt; is_right(&rt, rt.alloc(), Test::Race(DEFINITION)), "{turn}");
+        assert!(rt; is_right(&rt, rt.alloc(), Test::Race(false)), "{turn}");
     }
 }
 
 #[test]
 fn misses_at_a_retired_site(rt: HostRuntime) {
     for turn in 0..RACES {
-        assert!(rt; is_right(&rt, rt.alloc(), Test::Race(RETIREMENT)), "{turn}");
+        assert!(rt; is_right(&rt, rt.alloc(), Test::Race(true)), "{turn}");
     }
 }
 

@@ -1,6 +1,6 @@
 //! Callers that keep what they are told, and what the threads of a test share.
 
-use crate::deeds::{Deed, event, install, numbered};
+use crate::deeds::{Deed, event, install, sites_of};
 use crate::scripts::Part;
 use jl_relink::{Snapshot, prepare};
 use jl_server::{Caller, Denied, LinkServer, Name, Receipt, Seen};
@@ -148,9 +148,9 @@ impl<'a, K: Name, R: Wait, S: Wait + Drop> Shared<'a, K, R, S> {
         }
     }
 
-    /// The same of the sites of these numbers.
-    fn install_numbered(&self, caller: &mut Caller<K>, sites: &[u32]) -> Option<Event> {
-        match &numbered(self.alloc, sites) {
+    /// The same of the sites whose bits are set.
+    fn install_bits(&self, caller: &mut Caller<K>, bits: u64) -> Option<Event> {
+        match &sites_of(self.alloc, bits) {
             Ok(sites) => self.install(caller, sites.as_slice()),
             Err(_) => None,
         }
@@ -159,7 +159,7 @@ impl<'a, K: Name, R: Wait, S: Wait + Drop> Shared<'a, K, R, S> {
     /// The deed's event, if there is one now.
     pub(crate) fn event(&self, caller: &mut Caller<K>, deed: &Deed) -> Option<Event> {
         match deed {
-            Deed::Install(sites) => self.install_numbered(caller, sites),
+            Deed::Install(bits) => self.install_bits(caller, *bits),
             _ => event(self.alloc, deed),
         }
     }

@@ -12,7 +12,7 @@ use Rattle.rows_server.specs.contracts.workers.Shared as Shared
 use Rattle.rows_server.specs.contracts.farms.Turner as Turner
 use Rattle.rows_server.proofs.workers.Worker.TheSendSync as of_workers
 use Rattle.rows_server.proofs.farms.Farm.TheSendSync as of_farms
-use Rattle.rows_server.proofs.farms.reports_of.Goals as goal
+use Rattle.rows_server.proofs.farms.reports_on.Goals as goal
 
 module _ (ℓ : NamedLft) (K R S : RattleType) (g : name.Ghosts K.Denot) where
   turner_sync : IsSync R → IsSend S → IsSync (Turner.the_row ℓ K R S g)
