@@ -219,8 +219,8 @@ pub(crate) fn are_called<K: Name, R: Wait, S: Wait + Drop>(
     }
 }
 
-/// Whether there are as many events at the least as there must be, 68 before the threads begin, their classes, an install of each of the two
-/// that link once all is defined, and the last one; and of the links each site's went once, at the first class that overrides A.f.
+/// Whether there are as many events at the least as there must be, 68 before the threads begin, their classes, an install of each of the
+/// two that link once all is defined, and the last one; and of the links each site's went once, at the first class that overrides A.f.
 pub(crate) fn are_enough(told: &[Told], overriding: bool) -> bool {
     let least = (rounds(overriding) as usize)
         .saturating_mul(4)

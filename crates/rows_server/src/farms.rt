@@ -245,8 +245,8 @@ impl<'a, K: Name, R: Wait, S: Wait + Drop> Turner<'a, K, R, S> {
     }
 
     /// Whether each job has passed, and as many were told to have come to their outcome with links as were installed, where no link goes
-    /// meanwhile: an installed job has its links when this is told, and another one has none. And whether as many call sites were retargeted as
-    /// the farm says.
+    /// meanwhile: an installed job has its links when this is told, and another one has none. And whether as many call sites were
+    /// retargeted as the farm says.
     fn is_passed(&self, installed: u64, turned: usize) -> bool {
         let jobs = self.farm.jobs.len() as u64;
         let linked = self.linked.load(Ordering::SeqCst) == installed;
@@ -455,7 +455,8 @@ fn runs<K: Name + Send + Sync, R: Threads + Wait + Sync, S: Wait + Drop + Send +
     first.told.append(&mut second.told)
 }
 
-/// Whether the farm of this crew was as it says, on a server on which all that comes before is done. Of the other callers the first one is left.
+/// Whether the farm of this crew was as it says, on a server on which all that comes before is done. Of the other callers the first one
+/// is left.
 fn is_farm_of<K: Name + Send + Sync, R: Threads + Wait + Sync, S: Wait + Drop + Send + Sync>(
     shared: &Shared<'_, K, R, S>,
     workers: &mut Vec<Worker<K>>,

@@ -39,7 +39,8 @@ fn meet<K: Name, R: Wait, S: Wait + Drop>(shared: &Shared<'_, K, R, S>) {
     }
 }
 
-/// What the thread of this number does, if it is one of the storm: it retargets, or installs. The first install of a stretch, at which the others wait, is accepted.
+/// What the thread of this number does, if it is one of the storm: it retargets, or installs. The first install of a stretch, at which
+/// the others wait, is accepted.
 pub(crate) fn storm<K: Name, R: Wait, S: Wait + Drop>(
     shared: &Shared<'_, K, R, S>,
     worker: &mut Worker<K>,

@@ -117,8 +117,8 @@ const LISTED: &[Line] = &[
     Second(HasSeen(7)),
 ];
 
-/// A 1 with B 2 and classes 4 to 11 below it, each with a method of its own, and an installed site of M 3, which calls A's method and has ten
-/// receivers' classes.
+/// A 1 with B 2 and classes 4 to 11 below it, each with a method of its own, and an installed site of M 3, which calls A's method and has
+/// ten receivers' classes.
 const MEGAMORPHIC: &[Deed] = &[
     Define(0, Object),
     Define(0, A),
@@ -136,9 +136,9 @@ const MEGAMORPHIC: &[Deed] = &[
     Install(1),
 ];
 
-/// Calls at a megamorphic link, which a memo remembers. What is asked after the definition of a class is remembered, too; what was remembered
-/// before stays, and a caller that calls with the memo has seen the definition. No object is of a class that isn't there, nor known to be of
-/// java/lang/Object; and null is thrown at without being asked for.
+/// Calls at a megamorphic link, which a memo remembers. What is asked after the definition of a class is remembered, too; what was
+/// remembered before stays, and a caller that calls with the memo has seen the definition. No object is of a class that isn't there, nor
+/// known to be of java/lang/Object; and null is thrown at without being asked for.
 const REMEMBERED: &[Line] = &[
     First(DoesAll(MEGAMORPHIC)),
     IsLearned(4, 4),
