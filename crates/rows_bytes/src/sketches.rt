@@ -220,7 +220,10 @@ fn are_parts(bytes: &[u8], parts: &[&[u8]]) -> bool {
 /// Whether the bytes are a class file of so many methods.
 fn has_methods(alloc: Global, bytes: &[u8], count: usize) -> bool {
     match &read_class(alloc, bytes) {
-        Ok(file) => file.methods().len() == count && file.methods().is_empty() == (count == 0),
+        Ok(file) => {
+            let methods = file.methods();
+            methods.len() == count && methods.is_empty() == (count == 0)
+        }
         Err(_) => false,
     }
 }
