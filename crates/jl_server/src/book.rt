@@ -25,21 +25,11 @@ use std::snapshot::Snapshot as Known;
 use std::sync::Wait;
 
 /// An accepted event's reply, the count of the accepted events up to it, and the list that it ends.
+#[derive(Drop)]
 pub struct Receipt<K: Name> {
     pub serial: u64,
     pub reply: Reply,
     pub seen: Seen<K>,
-}
-
-/// Written out, so that what drops one makes one call of it and doesn't take apart what it holds.
-impl<K: Name> Drop for Receipt<K> {
-    fn drop(self) {
-        let Receipt {
-            serial: _serial,
-            reply: _reply,
-            seen: _seen,
-        } = self;
-    }
 }
 
 /// Why an event is refused, and the list after which it is.

@@ -347,5 +347,5 @@ const SHOWN: &[HostileRow] = &[
 
 #[test]
 fn shown_heads(rt: HostRuntime) {
-    assert_rows(&rt, SHOWN);
+    assert_rows(&rt, [SHOWN].as_slice());
 }

@@ -174,12 +174,22 @@ fn numbered(alloc: Global, numbers: &[u32]) -> Result<Vec<SiteNo>, AllocError> {
     Ok(sites)
 }
 
-/// The install of this link at each of these sites.
-fn install_each(alloc: Global, numbers: &[u32], link: Link) -> Result<Event, AllocError> {
+/// These sites, each with the value.
+fn with_each<T: Copy + Drop>(
+    alloc: Global,
+    numbers: &[u32],
+    value: T,
+) -> Result<Vec<(SiteNo, T)>, AllocError> {
     let mut rows = Vec::new(alloc);
     for number in numbers {
-        rows.push((SiteNo::new(*number), link))?;
+        rows.push((SiteNo::new(*number), value))?;
     }
+    Ok(rows)
+}
+
+/// The install of this link at each of these sites.
+fn install_each(alloc: Global, numbers: &[u32], link: Link) -> Result<Event, AllocError> {
+    let rows = with_each(alloc, numbers, link)?;
     Ok(Event::Install(Seq::of(rows)))
 }
 

@@ -1,4 +1,4 @@
-//! Commands and sketches as JSON: each form once. Lines that are none are rows of `rows_sessions`.
+//! Commands and sketches as JSON: each form once. Lines that are none are rows of `rows/sessions`.
 
 use jl_json::{
     Command, each_command_is_read, each_sketch_is_read, each_target_is_read, no_other_keys,
