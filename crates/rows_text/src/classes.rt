@@ -1,211 +1,163 @@
 //! Commands of loaders and classes, and what is asked of them.
 
-use crate::answers::{self, Told, word};
-use crate::words::{self, none, signature, text};
+use crate::told::Told;
+use crate::words::{self, signature, text};
 use crate::{definitions, methods};
-use jl_hierarchy::{Classes, LoaderFault, Sought};
-use jl_types::{Class, ClassId, DelegateFault, LoaderId, MethodId, OrMemory};
-use std::alloc::{AllocError, Global};
+use jl_hierarchy::{Classes, Sought};
+use jl_types::{Class, ClassId, DelegateFault, OrMemory};
 
-/// The new loader, or why there is none.
-fn new_loader(alloc: Global, answer: Result<LoaderId, LoaderFault>) -> Told {
+/// Makes a loader, and tells it.
+fn new_loader(told: &mut Told, classes: &mut Classes) {
+    match classes.new_loader(told.alloc()) {
+        Ok(loader) => told.show(&loader.number()),
+        Err(fault) => told.show(&fault),
+    }
+}
+
+/// Tells whether a delegation was made, or why not.
+fn delegation(told: &mut Told, answer: Result<(), OrMemory<DelegateFault>>) {
     match answer {
-        Ok(loader) => answers::number(alloc, loader.number()),
-        Err(fault) => format!(in alloc; "{fault:?}"),
+        Ok(()) => told.put("Ok"),
+        Err(OrMemory::Fault(fault)) => told.show(&fault),
+        Err(OrMemory::Memory) => told.lack(),
     }
 }
 
-/// Whether a delegation was made, or why not.
-fn delegation(alloc: Global, answer: Result<(), OrMemory<DelegateFault>>) -> Told {
-    match answer {
-        Ok(()) => word(alloc, "Ok"),
-        Err(OrMemory::Fault(fault)) => format!(in alloc; "{fault:?}"),
-        Err(OrMemory::Memory) => Err(AllocError),
+/// Defines the class, and tells it.
+fn define(told: &mut Told, classes: &mut Classes, by: &str, name: &str, rest: &[&str]) {
+    let by = words::loader(told, by);
+    if let Some(file) = definitions::file(told, name, rest) {
+        told.definition(classes.define(told.alloc(), by, file));
     }
 }
 
-/// The first loader is to find by this name what the second one does.
-fn delegated(
-    alloc: Global,
-    classes: &mut Classes,
-    from: LoaderId,
-    name: &str,
-    to: LoaderId,
-) -> Told {
-    delegation(alloc, classes.delegate(alloc, from, name.as_bytes(), to))
-}
-
-/// What the definition is answered.
-fn defined(alloc: Global, bad: &mut bool, classes: &mut Classes, words: &[&str]) -> Told {
-    let by = definitions::loader_of(bad, words);
-    let file = definitions::file(alloc, bad, words)?;
-    answers::definition(alloc, classes.define(alloc, by, file))
-}
-
-/// A class's name, its defining loader and its direct superinterfaces.
-fn row(alloc: Global, row: Option<&Class>) -> Told {
-    let Some(row) = row else {
-        return word(alloc, "None");
-    };
-    let interfaces = answers::classes(alloc, row.interfaces())?;
-    format!(in alloc;
-        "{} loader {} interfaces {interfaces}",
-        answers::text_of(row.file().name().as_slice()),
-        row.loader().number()
-    )
-}
-
-/// A method's name and descriptor.
-fn method(alloc: Global, classes: &Classes, method: &MethodId) -> Told {
-    match classes.method_at(method) {
-        Some(method) => format!(in alloc;
-            "{}{}",
-            answers::text_of(method.name().as_slice()),
-            answers::text_of(method.ty().as_slice())
-        ),
-        None => word(alloc, "None"),
+/// Tells a class's name, its defining loader and its direct superinterfaces.
+fn tell_class(told: &mut Told, class: Option<&Class>) {
+    match class {
+        Some(class) => {
+            told.name(class.file().name().as_slice());
+            told.put(" loader ");
+            told.show(&class.loader().number());
+            told.put("interfaces ");
+            told.classes(class.interfaces());
+        }
+        None => told.put("None"),
     }
 }
 
-/// What is asked of a class that has to be there.
-fn told_of_class(
-    alloc: Global,
-    bad: &mut bool,
-    classes: &Classes,
-    question: &str,
-    class: ClassId,
-) -> Told {
+/// Tells a method's name and descriptor.
+fn tell_method(told: &mut Told, classes: &Classes, method: &str) {
+    let method = words::method(told, method);
+    match classes.method_at(&method) {
+        Some(method) => {
+            told.name(method.name().as_slice());
+            told.name(method.ty().as_slice());
+        }
+        None => told.put("None"),
+    }
+}
+
+/// Tells what is asked of a class that has to be there.
+fn tell_present(told: &mut Told, classes: &Classes, question: &str, class: ClassId) {
     if !classes.has_class(class) {
-        return word(alloc, "no class");
+        return told.put("no class");
     }
     match question {
-        "ancestors" => answers::classes(alloc, classes.ancestors(class)),
-        "count-ancestors" => format!(in alloc; "{}", classes.ancestors(class).len()),
-        "receivers" => answers::classes(alloc, classes.receivers(class)),
-        _ => none(bad),
+        "ancestors" => told.classes(classes.ancestors(class)),
+        "count-ancestors" => told.show(&classes.ancestors(class).len()),
+        "receivers" => told.classes(classes.receivers(class)),
+        _ => told.refuse(),
     }
 }
 
-/// Whether the first class is an ancestor of the second, if there is that.
-fn is_ancestor(alloc: Global, classes: &Classes, ancestor: ClassId, class: ClassId) -> Told {
-    if classes.has_class(class) {
-        answers::truth(alloc, classes.is_ancestor(ancestor, class))
-    } else {
-        word(alloc, "no class")
+/// Tells what is asked of a class.
+fn tell_one(told: &mut Told, classes: &Classes, question: &str, class: &str) {
+    let class = words::class(told, class);
+    match question {
+        "has-class" => told.show(&classes.has_class(class)),
+        "class" => tell_class(told, classes.class_at(class)),
+        "superclass" => told.class(classes.superclass(class)),
+        "nest-host" => told.class(classes.nest_host(class)),
+        "is-interface" => told.show(&classes.is_interface(class)),
+        _ => tell_present(told, classes, question, class),
     }
 }
 
-/// What is asked of a class and a method's name and descriptor.
-fn told_of_signature(
-    alloc: Global,
-    bad: &mut bool,
-    classes: &Classes,
-    question: &str,
-    class: ClassId,
-    method: &str,
-) -> Told {
-    let (name, ty) = signature(bad, method);
+/// Tells what is asked of a class and a method's name and descriptor.
+fn tell_declared(told: &mut Told, classes: &Classes, question: &str, class: &str, method: &str) {
+    let class = words::class(told, class);
+    let (name, ty) = signature(told, method);
     let (name, ty) = (name.as_bytes(), ty.as_bytes());
     let sought = Sought::of(name, ty);
     match question {
-        "declared" => answers::found(alloc, classes.declared(class, name, ty)),
-        "upward" => answers::found(alloc, classes.declared_upward_by(class, &sought)),
-        _ => answers::truth(alloc, classes.is_redeclared_below(class, &sought)),
+        "declared" => told.found(classes.declared(class, name, ty)),
+        "upward" => told.found(classes.declared_upward_by(class, &sought)),
+        _ => told.show(&classes.is_redeclared_below(class, &sought)),
     }
 }
 
-/// What a question of a class is answered.
-fn told_of_one(
-    alloc: Global,
-    bad: &mut bool,
-    classes: &Classes,
-    question: &str,
-    class: ClassId,
-) -> Told {
-    match question {
-        "has-class" => answers::truth(alloc, classes.has_class(class)),
-        "class" => row(alloc, classes.class_at(class)),
-        "superclass" => answers::class(alloc, classes.superclass(class)),
-        "nest-host" => answers::class(alloc, classes.nest_host(class)),
-        "is-interface" => answers::truth(alloc, classes.is_interface(class)),
-        _ => told_of_class(alloc, bad, classes, question, class),
+/// Tells whether the first class is an ancestor of the second, if there is that.
+fn tell_ancestor(told: &mut Told, classes: &Classes, ancestor: ClassId, class: ClassId) {
+    if classes.has_class(class) {
+        told.show(&classes.is_ancestor(ancestor, class));
+    } else {
+        told.put("no class");
     }
 }
 
-/// What a question of two classes is answered.
-fn told_of_two(
-    alloc: Global,
-    classes: &Classes,
-    question: &str,
-    class: ClassId,
-    other: ClassId,
-) -> Told {
+/// Tells what is asked of two classes.
+fn tell_two(told: &mut Told, classes: &Classes, question: &str, first: &str, second: &str) {
+    let (class, other) = (words::class(told, first), words::class(told, second));
     match question {
-        "is-ancestor" => is_ancestor(alloc, classes, class, other),
-        "same-package" => answers::truth(alloc, classes.same_package(class, other)),
-        _ => methods::is_accessible(alloc, classes, class, other),
+        "is-ancestor" => tell_ancestor(told, classes, class, other),
+        "same-package" => told.show(&classes.same_package(class, other)),
+        _ => methods::tell_accessible(told, classes, class, other),
     }
 }
 
-/// The class that the loader has recorded by this name.
-fn looked_up(alloc: Global, classes: &Classes, by: LoaderId, name: &str) -> Told {
-    answers::class(alloc, classes.lookup(by, text(name).as_bytes()))
-}
-
-/// What a question of two words is answered.
-fn told_of_words(
-    alloc: Global,
-    bad: &mut bool,
-    classes: &Classes,
-    question: &str,
-    first: &str,
-    second: &str,
-) -> Told {
+/// Tells what is asked by two words.
+fn tell_of(told: &mut Told, classes: &Classes, question: &str, first: &str, second: &str) {
     match question {
-        "lookup" => looked_up(alloc, classes, words::loader(bad, first), second),
+        "lookup" => {
+            let by = words::loader(told, first);
+            told.class(classes.lookup(by, text(second).as_bytes()));
+        }
         "declared" | "upward" | "redeclared" => {
-            let class = words::class(bad, first);
-            told_of_signature(alloc, bad, classes, question, class, second)
+            tell_declared(told, classes, question, first, second)
         }
         "is-ancestor" | "same-package" | "is-accessible" => {
-            let (class, other) = (words::class(bad, first), words::class(bad, second));
-            told_of_two(alloc, classes, question, class, other)
+            tell_two(told, classes, question, first, second)
         }
-        _ => methods::told_of_words(alloc, bad, classes, question, first, second),
+        _ => methods::tell_two(told, classes, question, first, second),
     }
 }
 
-/// What the question is answered.
-fn told(alloc: Global, bad: &mut bool, classes: &Classes, words: &[&str]) -> Told {
+/// Tells what is asked.
+fn tell(told: &mut Told, classes: &Classes, words: &[&str]) {
     match *words {
-        ["superclass-chains"] => answers::truth(alloc, classes.are_superclass_chains()),
-        ["method", id] => method(alloc, classes, &words::method(bad, id)),
-        [question, class] => {
-            let class = words::class(bad, class);
-            told_of_one(alloc, bad, classes, question, class)
-        }
-        [question, first, second] => told_of_words(alloc, bad, classes, question, first, second),
+        ["superclass-chains"] => told.show(&classes.are_superclass_chains()),
+        ["method", method] => tell_method(told, classes, method),
+        [question, class] => tell_one(told, classes, question, class),
+        [question, first, second] => tell_of(told, classes, question, first, second),
         [question, first, second, third] => {
-            methods::told(alloc, bad, classes, question, first, second, third)
+            methods::tell_three(told, classes, question, first, second, third)
         }
-        _ => none(bad),
+        _ => told.refuse(),
     }
 }
 
-/// What the command is answered, where it changes the loaders and classes.
-pub(crate) fn changed(
-    alloc: Global,
-    bad: &mut bool,
-    classes: &mut Classes,
-    words: &[&str],
-) -> Told {
+/// Obeys the command, where it changes the loaders and classes.
+pub(crate) fn obey(told: &mut Told, classes: &mut Classes, words: &[&str]) {
     match *words {
-        ["loader"] => new_loader(alloc, classes.new_loader(alloc)),
-        ["define", ..] => defined(alloc, bad, classes, words),
+        ["loader"] => new_loader(told, classes),
+        ["define", by, name, ref rest @ ..] => define(told, classes, by, name, rest),
         ["delegate", from, name, to] => {
-            let (from, to) = (words::loader(bad, from), words::loader(bad, to));
-            delegated(alloc, classes, from, name, to)
+            let (from, to) = (words::loader(told, from), words::loader(told, to));
+            delegation(
+                told,
+                classes.delegate(told.alloc(), from, name.as_bytes(), to),
+            );
         }
-        _ => told(alloc, bad, classes, words),
+        _ => tell(told, classes, words),
     }
 }

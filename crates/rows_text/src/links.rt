@@ -1,184 +1,166 @@
 //! Commands of sites and their links, and what the links rest on.
 
-use crate::answers::{self, Told, behind, word};
 use crate::targets::target;
-use crate::words::{self, none, switch_points};
+use crate::told::Told;
+use crate::words::{self, switch_points};
 use crate::{call_sites, definitions};
 use jl_deps::{footprint_of, keys_of};
 use jl_names::Seq;
 use jl_relink::{World, dispatch, link_counted, link_of, stays_with_receiver};
-use jl_types::{ClassId, Event, Link, MethodId, Place, Recv, SiteNo, Unlinked, Work};
-use std::alloc::{AllocError, Global};
+use jl_types::{ClassId, Event, Key, Link, Place, Recv, SiteNo, Unlinked, Work};
+use std::alloc::AllocError;
 
-/// The number of the site at this place.
-fn site_at(alloc: Global, world: &mut World, place: Place) -> Told {
-    let (site, _) = world.places.insert_full(place)?;
-    format!(in alloc; "{site}")
-}
-
-/// The same of the instruction of this pc, behind the text.
-fn with_site(
-    alloc: Global,
-    bad: &mut bool,
-    world: &mut World,
-    method: &MethodId,
-    pc: &str,
-) -> Told {
-    let place = Place {
-        class: method.class,
-        method: method.index,
-        pc: words::number(bad, pc),
-    };
-    site_at(alloc, world, place)
-}
-
-/// The numbers of the sites at these instructions of the method.
-fn requested(
-    alloc: Global,
-    bad: &mut bool,
-    world: &mut World,
-    method: &MethodId,
-    pcs: &[&str],
-) -> Told {
-    let mut text = word(alloc, "")?;
-    for pc in pcs {
-        text = behind(alloc, &text, &with_site(alloc, bad, world, method, pc)?)?;
+/// Requests the place, and tells its site.
+fn request(told: &mut Told, world: &mut World, place: Place) {
+    match world.places.insert_full(place) {
+        Ok((site, _)) => told.show(&site),
+        Err(_) => told.lack(),
     }
-    Ok(text)
 }
 
-/// The link, or why there is none.
-fn linked(alloc: Global, link: Result<Link, Unlinked>) -> Told {
+/// Requests the instructions of these pcs, and tells their sites.
+fn request_all(told: &mut Told, world: &mut World, method: &str, pcs: &[&str]) {
+    let method = words::method(told, method);
+    for pc in pcs {
+        let place = Place {
+            class: method.class,
+            method: method.index,
+            pc: words::number(told, pc),
+        };
+        request(told, world, place);
+    }
+}
+
+/// Tells the link, or why there is none.
+fn tell_link(told: &mut Told, link: Result<Link, Unlinked>) {
     match link {
-        Ok(link) => answers::link(alloc, &link),
-        Err(unlinked) => format!(in alloc; "{unlinked:?}"),
+        Ok(link) => told.link(&link),
+        Err(unlinked) => told.show(&unlinked),
     }
 }
 
 /// A receiver: `null`, or an object of a class.
-fn receiver(bad: &mut bool, word: &str) -> Recv {
+fn receiver(told: &mut Told, word: &str) -> Recv {
     match word {
         "null" => Recv::Null,
-        _ => Recv::Of(words::class(bad, word)),
+        _ => Recv::Of(words::class(told, word)),
     }
 }
 
-/// What the call of the site on this receiver comes to.
-fn called_on(alloc: Global, bad: &mut bool, world: &World, site: SiteNo, word: &str) -> Told {
-    answers::call(alloc, dispatch(world, site, receiver(bad, word)))
-}
-
-/// What the calls of the site on these receivers come to.
-fn called(alloc: Global, bad: &mut bool, world: &World, site: SiteNo, receivers: &[&str]) -> Told {
-    let mut text = word(alloc, "")?;
-    for one in receivers {
-        text = behind(alloc, &text, &called_on(alloc, bad, world, site, one)?)?;
+/// Tells what the calls of the site on these receivers come to.
+fn call_all(told: &mut Told, world: &World, site: &str, receivers: &[&str]) {
+    let site = words::site(told, site);
+    for word in receivers {
+        let receiver = receiver(told, word);
+        told.call(dispatch(world, site, receiver));
     }
-    Ok(text)
 }
 
 /// The change of these words.
-fn event(alloc: Global, bad: &mut bool, words: &[&str]) -> Result<Event, AllocError> {
+fn event(told: &mut Told, words: &[&str]) -> Option<Event> {
     match *words {
-        ["define", ..] => {
-            let by = definitions::loader_of(bad, words);
-            Ok(Event::Define(by, definitions::file(alloc, bad, words)?))
+        ["define", by, name, ref rest @ ..] => {
+            let by = words::loader(told, by);
+            let file = definitions::file(told, name, rest)?;
+            Some(Event::Define(by, file))
         }
         ["set-target", site, ref to @ ..] => {
-            let site = words::call_site(bad, site);
-            Ok(Event::SetTarget(site, target(alloc, bad, to)?))
+            let site = words::call_site(told, site);
+            let to = target(told, to)?;
+            Some(Event::SetTarget(site, to))
         }
         ["invalidate", ref points @ ..] => {
-            Ok(Event::Invalidate(Seq::of(switch_points(alloc, bad, points)?)))
+            Some(Event::Invalidate(Seq::of(switch_points(told, points))))
         }
-        ["switch-point"] => Ok(Event::NewSwitch),
-        _ => none(bad),
+        ["switch-point"] => Some(Event::NewSwitch),
+        _ => {
+            told.refuse();
+            None
+        }
     }
 }
 
-/// The keys of the change.
-fn keys_for(alloc: Global, world: &World, event: &Event) -> Told {
-    let keys = keys_of(alloc, world, event)?;
-    answers::keys(alloc, keys.as_slice())
+/// Tells keys, in order.
+fn tell_keys(told: &mut Told, keys: Result<Seq<Key>, AllocError>) {
+    match keys {
+        Ok(keys) => told.keys(keys.as_slice()),
+        Err(_) => told.lack(),
+    }
 }
 
-/// The keys of the change of these words.
-fn keys(alloc: Global, bad: &mut bool, world: &World, words: &[&str]) -> Told {
-    let event = event(alloc, bad, words)?;
-    keys_for(alloc, world, &event)
-}
-
-/// What the link of the site rests on.
-fn footprint(alloc: Global, world: &World, site: SiteNo) -> Told {
-    let keys = footprint_of(alloc, world, site)?;
-    answers::keys(alloc, keys.as_slice())
+/// Tells the keys of the change of these words.
+fn keys(told: &mut Told, world: &World, words: &[&str]) {
+    if let Some(event) = event(told, words) {
+        tell_keys(told, keys_of(told.alloc(), world, &event));
+    }
 }
 
 /// How many ticks the link of the site takes.
-fn ticks(alloc: Global, world: &World, site: SiteNo) -> Told {
+fn ticks(world: &World, site: SiteNo) -> u64 {
     let _count = world.classes.class_count();
     let mut work = Work::new();
     let _link = link_counted(world, site, &mut work);
-    format!(in alloc; "{}", work.ticks())
+    work.ticks()
 }
 
-/// Whether the link of the site stays with this receiver, too, and how many ticks that takes.
-fn stays(alloc: Global, world: &World, site: SiteNo, class: ClassId) -> Told {
+/// Tells whether the link of the site stays with this receiver, too, and how many ticks that takes.
+fn stays(told: &mut Told, world: &World, site: SiteNo, class: ClassId) {
     if !world.classes.has_class(class) {
-        return word(alloc, "no class");
+        return told.put("no class");
     }
     let Ok(link) = link_of(world, site) else {
-        return word(alloc, "no link");
+        return told.put("no link");
     };
     let mut work = Work::new();
-    let stays = stays_with_receiver(world, site, &link, class, &mut work);
-    format!(in alloc; "{stays} {}", work.ticks())
+    told.show(&stays_with_receiver(world, site, &link, class, &mut work));
+    told.show(&work.ticks());
 }
 
-/// The site is bound to the call site.
-fn bound(alloc: Global, bad: &mut bool, world: &mut World, site: &str, call_site: &str) -> Told {
-    let (site, call_site) = (words::site(bad, site), words::call_site(bad, call_site));
-    let _ = world.bindings.insert(site, call_site)?;
-    word(alloc, "Ok")
+/// Binds the site to the call site.
+fn bind(told: &mut Told, world: &mut World, site: &str, call_site: &str) {
+    let (site, call_site) = (words::site(told, site), words::call_site(told, call_site));
+    match world.bindings.insert(site, call_site) {
+        Ok(_) => told.put("Ok"),
+        Err(_) => told.lack(),
+    }
 }
 
 /// A copy takes the place of all.
-fn copied(alloc: Global, world: &mut World) -> Told {
-    *world = world.copy(alloc)?;
-    word(alloc, "copied")
-}
-
-/// What a question of a site is answered.
-fn told_of_site(alloc: Global, world: &World, question: &str, site: SiteNo) -> Told {
-    match question {
-        "link" => linked(alloc, link_of(world, site)),
-        "footprint" => footprint(alloc, world, site),
-        _ => ticks(alloc, world, site),
+fn copy(told: &mut Told, world: &mut World) {
+    match world.copy(told.alloc()) {
+        Ok(copy) => {
+            *world = copy;
+            told.put("copied");
+        }
+        Err(_) => told.lack(),
     }
 }
 
-/// What the command is answered.
-pub(crate) fn answer(alloc: Global, bad: &mut bool, world: &mut World, words: &[&str]) -> Told {
+/// Tells what is asked of a site.
+fn tell_site(told: &mut Told, world: &World, question: &str, site: &str) {
+    let site = words::site(told, site);
+    match question {
+        "link" => tell_link(told, link_of(world, site)),
+        "footprint" => tell_keys(told, footprint_of(told.alloc(), world, site)),
+        _ => told.show(&ticks(world, site)),
+    }
+}
+
+/// Obeys the command, and tells what it is answered.
+pub(crate) fn answer(told: &mut Told, world: &mut World, words: &[&str]) {
     match *words {
-        ["request", method, ref pcs @ ..] => {
-            let method = words::method(bad, method);
-            requested(alloc, bad, world, &method, pcs)
-        }
-        ["call", site, ref receivers @ ..] => {
-            let site = words::site(bad, site);
-            called(alloc, bad, world, site, receivers)
-        }
-        ["bind", site, call_site] => bound(alloc, bad, world, site, call_site),
-        ["keys", ref change @ ..] => keys(alloc, bad, world, change),
+        ["request", method, ref pcs @ ..] => request_all(told, world, method, pcs),
+        ["call", site, ref receivers @ ..] => call_all(told, world, site, receivers),
+        ["bind", site, call_site] => bind(told, world, site, call_site),
+        ["keys", ref change @ ..] => keys(told, world, change),
         [question @ ("link" | "footprint" | "ticks"), site] => {
-            let site = words::site(bad, site);
-            told_of_site(alloc, world, question, site)
+            tell_site(told, world, question, site)
         }
         ["stays", site, class] => {
-            let (site, class) = (words::site(bad, site), words::class(bad, class));
-            stays(alloc, world, site, class)
+            let (site, class) = (words::site(told, site), words::class(told, class));
+            stays(told, world, site, class);
         }
-        ["copy"] => copied(alloc, world),
-        _ => call_sites::changed(alloc, bad, world, words),
+        ["copy"] => copy(told, world),
+        _ => call_sites::obey(told, world, words),
     }
 }

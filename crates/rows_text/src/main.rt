@@ -5,7 +5,6 @@
 //! docs/ROWS.md says what the lines and the commands are.
 #![tactic(auto)]
 
-mod answers;
 mod call_sites;
 mod classes;
 mod definitions;
@@ -13,6 +12,7 @@ mod links;
 mod methods;
 mod rows;
 mod targets;
+mod told;
 mod words;
 
 use crate::rows::Rows;

@@ -1,203 +1,178 @@
 //! What is asked of methods: resolution, access, overriding and selection. Of a question the first class is the caller or the receiver.
 
-use crate::answers::{self, Told, word};
-use crate::words::{self, named, none};
+use crate::told::Told;
+use crate::words::{self, three_names};
 use jl_hierarchy::Classes;
 use jl_names::Name;
 use jl_pool::Reference;
 use jl_resolve::{Resolved, access_to_method, is_accessible_class, resolve, resolve_reference};
 use jl_select::{can_override, chosen, runs_below, select, select_interface, special};
 use jl_types::{Chosen, ClassId, MethodId, Outcome, ResolveAnswer};
-use std::alloc::{AllocError, Global};
 
-/// A reference to the method of these words.
-fn made(
-    alloc: Global,
-    bad: &mut bool,
-    itf: bool,
-    word: &str,
-) -> Result<Reference<Name>, AllocError> {
-    let (owner, name, ty) = words::reference(bad, word);
-    Ok(Reference {
-        itf,
-        owner: named(alloc, owner)?,
-        name: named(alloc, name)?,
-        ty: named(alloc, ty)?,
-    })
-}
-
-/// The method that is resolved to, or why there is none.
-fn resolved(alloc: Global, answer: Result<MethodId, ResolveAnswer>) -> Told {
+/// Tells the method that is resolved to, or why there is none.
+fn tell_resolved(told: &mut Told, answer: Result<MethodId, ResolveAnswer>) {
     match answer {
-        Ok(method) => answers::method(alloc, method),
-        Err(answer) => format!(in alloc; "{answer:?}"),
+        Ok(method) => told.method(method),
+        Err(answer) => told.show(&answer),
     }
 }
 
-/// The class that is named and the method, or why there is none.
-fn naming(alloc: Global, answer: Result<Resolved, ResolveAnswer>) -> Told {
+/// Tells the class that is named and the method, or why there is none.
+fn tell_named(told: &mut Told, answer: Result<Resolved, ResolveAnswer>) {
     match answer {
         Ok(found) => {
-            let method = answers::method(alloc, found.method)?;
-            format!(in alloc; "{} {method}", found.named.number())
+            told.show(&found.named.number());
+            told.method(found.method);
         }
-        Err(answer) => format!(in alloc; "{answer:?}"),
+        Err(answer) => told.show(&answer),
     }
 }
 
-/// What an invokespecial comes to, or that there are no such classes.
-fn special_outcome(alloc: Global, outcome: Option<Outcome>) -> Told {
+/// Tells what an invokespecial comes to, or that there are no such classes.
+fn tell_special(told: &mut Told, outcome: Option<Outcome>) {
     match outcome {
-        Some(outcome) => answers::outcome(alloc, outcome),
-        None => word(alloc, "no class"),
+        Some(outcome) => told.outcome(outcome),
+        None => told.put("no class"),
     }
 }
 
-/// What is asked of a caller and a reference to a method.
-fn told_of(
-    alloc: Global,
-    bad: &mut bool,
+/// Tells what is asked of a caller and a reference to a method.
+fn tell_reference(
+    told: &mut Told,
     classes: &Classes,
     question: &str,
     caller: ClassId,
     reference: &Reference<Name>,
-) -> Told {
+) {
+    let lent = reference.lent();
     match question {
-        "resolve" => resolved(alloc, resolve(classes, caller, &reference.lent())),
-        "resolve-named" => naming(alloc, resolve_reference(classes, caller, &reference.lent())),
-        "select-special" => special_outcome(alloc, special(classes, caller, &reference.lent())),
-        _ => none(bad),
+        "resolve" => tell_resolved(told, resolve(classes, caller, &lent)),
+        "resolve-named" => tell_named(told, resolve_reference(classes, caller, &lent)),
+        "select-special" => tell_special(told, special(classes, caller, &lent)),
+        _ => told.refuse(),
     }
 }
 
-/// What is asked of a caller and the reference of these words.
-fn told_of_reference(
-    alloc: Global,
-    bad: &mut bool,
+/// The same of the reference of this word.
+fn tell_caller(
+    told: &mut Told,
     classes: &Classes,
     question: &str,
     caller: &str,
     itf: bool,
     method: &str,
-) -> Told {
-    let caller = words::class(bad, caller);
-    let reference = made(alloc, bad, itf, method)?;
-    told_of(alloc, bad, classes, question, caller, &reference)
+) {
+    let caller = words::class(told, caller);
+    if let Some((owner, name, ty)) = three_names(told, method) {
+        let reference = Reference {
+            itf,
+            owner,
+            name,
+            ty,
+        };
+        tell_reference(told, classes, question, caller, &reference);
+    }
 }
 
-/// The method that was chosen, or why none.
-fn method_chosen(alloc: Global, choice: Chosen) -> Told {
+/// Tells the method that was chosen, or why none.
+fn tell_chosen(told: &mut Told, choice: Chosen) {
     match choice {
-        Chosen::Method(method) => answers::method(alloc, method),
-        Chosen::Several => word(alloc, "Several"),
-        Chosen::Nothing => word(alloc, "Nothing"),
+        Chosen::Method(method) => told.method(method),
+        Chosen::Several => told.put("Several"),
+        Chosen::Nothing => told.put("Nothing"),
     }
 }
 
-/// What is asked of a class that has to be there, and a method.
-fn told_of_method(
-    alloc: Global,
-    bad: &mut bool,
+/// Tells what is asked of a class that has to be there, and a method.
+fn tell_method(
+    told: &mut Told,
     classes: &Classes,
     question: &str,
     class: ClassId,
     method: &MethodId,
-) -> Told {
+) {
     if !classes.has_class(class) {
-        return word(alloc, "no class");
+        return told.put("no class");
     }
     match question {
-        "choose" => method_chosen(alloc, chosen(classes, class, method)),
-        "select-virtual" => answers::outcome(alloc, select(classes, class, method)),
-        "runs-below" => answers::truth(alloc, runs_below(classes, class, method)),
-        _ => none(bad),
+        "choose" => tell_chosen(told, chosen(classes, class, method)),
+        "select-virtual" => told.outcome(select(classes, class, method)),
+        "runs-below" => told.show(&runs_below(classes, class, method)),
+        _ => told.refuse(),
     }
 }
 
-/// Access of the caller, which is there, to the method, if there is the class that is named.
-fn access(
-    alloc: Global,
+/// Tells of access of the caller, which is there, to the method, if there is the class that is named.
+fn tell_access(
+    told: &mut Told,
     classes: &Classes,
     caller: ClassId,
     named: ClassId,
     method: &MethodId,
-) -> Told {
+) {
     if !classes.has_class(caller) || !classes.has_class(named) {
-        return word(alloc, "no class");
+        return told.put("no class");
     }
-    let access = access_to_method(classes, caller, named, method);
-    format!(in alloc; "{access:?}")
+    told.show(&access_to_method(classes, caller, named, method));
 }
 
-/// What is asked of two classes and a method.
-fn told_of_two(
-    alloc: Global,
-    bad: &mut bool,
+/// Tells what is asked of two classes and a method.
+fn tell_classes(
+    told: &mut Told,
     classes: &Classes,
     question: &str,
     class: ClassId,
     named: ClassId,
     method: &MethodId,
-) -> Told {
+) {
     if !classes.has_class(class) {
-        return word(alloc, "no class");
+        return told.put("no class");
     }
     match question {
-        "select-interface" => {
-            answers::outcome(alloc, select_interface(classes, class, named, method))
-        }
-        "access" => access(alloc, classes, class, named, method),
-        _ => none(bad),
+        "select-interface" => told.outcome(select_interface(classes, class, named, method)),
+        "access" => tell_access(told, classes, class, named, method),
+        _ => told.refuse(),
     }
 }
 
-/// Whether the class is accessible to the caller.
-pub(crate) fn is_accessible(
-    alloc: Global,
-    classes: &Classes,
-    caller: ClassId,
-    class: ClassId,
-) -> Told {
-    answers::truth(alloc, is_accessible_class(classes, caller, class))
+/// Tells whether the class is accessible to the caller.
+pub(crate) fn tell_accessible(told: &mut Told, classes: &Classes, caller: ClassId, class: ClassId) {
+    told.show(&is_accessible_class(classes, caller, class));
 }
 
-/// What a question of a class or a method, and a method, is answered.
-pub(crate) fn told_of_words(
-    alloc: Global,
-    bad: &mut bool,
+/// Tells what is asked of a class or a method, and a method.
+pub(crate) fn tell_two(
+    told: &mut Told,
     classes: &Classes,
     question: &str,
     first: &str,
     second: &str,
-) -> Told {
-    let method = words::method(bad, second);
+) {
+    let method = words::method(told, second);
     if question == "overrides" {
-        let lower = words::method(bad, first);
-        return answers::truth(alloc, can_override(classes, &lower, &method));
+        let lower = words::method(told, first);
+        return told.show(&can_override(classes, &lower, &method));
     }
-    let class = words::class(bad, first);
-    told_of_method(alloc, bad, classes, question, class, &method)
+    let class = words::class(told, first);
+    tell_method(told, classes, question, class, &method);
 }
 
-/// What a question of three words is answered.
-pub(crate) fn told(
-    alloc: Global,
-    bad: &mut bool,
+/// Tells what is asked by three words.
+pub(crate) fn tell_three(
+    told: &mut Told,
     classes: &Classes,
     question: &str,
     first: &str,
     second: &str,
     third: &str,
-) -> Told {
+) {
     match second {
-        "Methodref" => told_of_reference(alloc, bad, classes, question, first, false, third),
-        "InterfaceMethodref" => {
-            told_of_reference(alloc, bad, classes, question, first, true, third)
-        }
+        "Methodref" => tell_caller(told, classes, question, first, false, third),
+        "InterfaceMethodref" => tell_caller(told, classes, question, first, true, third),
         _ => {
-            let (class, named) = (words::class(bad, first), words::class(bad, second));
-            let method = words::method(bad, third);
-            told_of_two(alloc, bad, classes, question, class, named, &method)
+            let (class, named) = (words::class(told, first), words::class(told, second));
+            let method = words::method(told, third);
+            tell_classes(told, classes, question, class, named, &method);
         }
     }
 }

@@ -1,7 +1,7 @@
 //! The rows of a file, one after another.
 
-use crate::answers::{Told, joined, word};
 use crate::links::answer;
+use crate::told::Told;
 use crate::words::number;
 use jl_relink::World;
 use std::alloc::{AllocError, Global};
@@ -9,7 +9,6 @@ use std::io;
 
 /// What has come of the lines so far: the world of this table; the row that is being read, by the number of its first line, the words of
 /// its command and those of its answer; and how many rows there were and how many of them differ.
-#[derive(Drop)]
 pub(crate) struct Rows<'a> {
     file: &'a str,
     world: World,
@@ -21,40 +20,39 @@ pub(crate) struct Rows<'a> {
     differ: u32,
 }
 
-/// What the command is answered, so many times: the last answer.
-fn repeated(
-    alloc: Global,
-    bad: &mut bool,
-    world: &mut World,
-    count: u32,
-    command: &[&str],
-) -> Told {
-    let mut last = word(alloc, "None")?;
-    for _ in 0..count {
-        last = answer(alloc, bad, world, command)?;
+/// Written out, so that what drops one makes one call of it and doesn't take apart what it holds.
+impl<'a> Drop for Rows<'a> {
+    fn drop(self) {
+        let Rows {
+            file: _file,
+            world: _world,
+            line: _line,
+            command: _command,
+            want: _want,
+            has_answer: _has_answer,
+            rows: _rows,
+            differ: _differ,
+        } = self;
     }
-    Ok(last)
 }
 
-/// What the command is answered: the last answer where it is repeated.
-fn answered(alloc: Global, bad: &mut bool, world: &mut World, command: &[&str]) -> Told {
+/// Tells the last answer to the command, which is obeyed so many times.
+fn repeated(told: &mut Told, world: &mut World, count: u32, command: &[&str]) {
+    told.put("None");
+    for _ in 0..count {
+        told.clear();
+        answer(told, world, command);
+    }
+}
+
+/// Tells what the command is answered: the last answer where it is repeated.
+fn answered(told: &mut Told, world: &mut World, command: &[&str]) {
     match *command {
         ["repeat", count, ref command @ ..] => {
-            let count = number(bad, count);
-            repeated(alloc, bad, world, count, command)
+            let count = number(told, count);
+            repeated(told, world, count, command);
         }
-        _ => answer(alloc, bad, world, command),
-    }
-}
-
-/// The same, or that there is no such command.
-fn came(alloc: Global, world: &mut World, command: &[&str]) -> Told {
-    let mut bad = false;
-    let answer = answered(alloc, &mut bad, world, command);
-    if bad {
-        word(alloc, "no command")
-    } else {
-        answer
+        _ => answer(told, world, command),
     }
 }
 
@@ -81,30 +79,35 @@ impl<'a> Rows<'a> {
         })
     }
 
-    /// Tells of the row where the text has another answer than came, or none.
-    fn compare(&mut self, rt: &(impl Print + AllocGlobal), came: &str) -> io::Result<()> {
-        let want = joined(rt.alloc(), &self.want)?;
-        if self.has_answer && came.trim() == want.as_str() {
-            return Ok(());
-        }
-        self.differ = self.differ.saturating_add(1);
-        self.print_row(rt, &want, came)
-    }
-
     /// Prints the row, which differs.
     fn print_row(&self, rt: &(impl Print + AllocGlobal), want: &str, came: &str) -> io::Result<()> {
-        let command = joined(rt.alloc(), &self.command)?;
+        let mut command = Told::new(rt.alloc());
+        command.words(&self.command);
+        let command = command.answer()?;
         println!(rt;
             "{}:{}: {command}: {want} in the text, {came} came",
             self.file, self.line
         )
     }
 
+    /// Tells of the row where the text has another answer than came, or none.
+    fn compare(&mut self, rt: &(impl Print + AllocGlobal), came: &str) -> io::Result<()> {
+        let mut want = Told::new(rt.alloc());
+        want.words(&self.want);
+        let want = want.answer()?;
+        if self.has_answer && came == want {
+            return Ok(());
+        }
+        self.differ = self.differ.saturating_add(1);
+        self.print_row(rt, want, came)
+    }
+
     /// Answers the command of the row that was read, and tells of it where it differs.
     fn judge(&mut self, rt: &(impl Print + AllocGlobal)) -> io::Result<()> {
         self.rows = self.rows.saturating_add(1);
-        let came = came(rt.alloc(), &mut self.world, &self.command)?;
-        self.compare(rt, &came)
+        let mut told = Told::new(rt.alloc());
+        answered(&mut told, &mut self.world, &self.command);
+        self.compare(rt, told.answer()?)
     }
 
     /// Ends the row that was read, if there is one.
@@ -125,32 +128,13 @@ impl<'a> Rows<'a> {
         Ok(())
     }
 
-    /// Begins the row of this line.
-    fn begin_row(
-        &mut self,
-        rt: &(impl Print + AllocGlobal),
-        line: usize,
-        text: &'a str,
-    ) -> io::Result<()> {
-        self.end_row(rt)?;
-        self.line = line;
-        add_words(&mut self.command, text.strip_prefix('<').unwrap_or(text))?;
-        Ok(())
-    }
-
-    /// Adds words to the command or to the answer.
-    fn add(&mut self, text: &'a str) -> Result<(), AllocError> {
+    /// Adds the words to the command or to the answer.
+    fn add(&mut self, text: &'a str) -> io::Result<()> {
         if self.has_answer {
-            add_words(&mut self.want, text)
+            Ok(add_words(&mut self.want, text)?)
         } else {
-            add_words(&mut self.command, text)
+            Ok(add_words(&mut self.command, text)?)
         }
-    }
-
-    /// Begins the answer.
-    fn begin_answer(&mut self, text: &'a str) -> Result<(), AllocError> {
-        self.has_answer = true;
-        add_words(&mut self.want, text.strip_prefix('>').unwrap_or(text))
     }
 
     /// Reads the line of this number.
@@ -163,9 +147,16 @@ impl<'a> Rows<'a> {
         match text.as_bytes().first() {
             None | Some(b'#') => Ok(()),
             Some(b'=') => self.begin(rt),
-            Some(b'>') => Ok(self.begin_answer(text)?),
-            Some(b' ') => Ok(self.add(text)?),
-            Some(_) => self.begin_row(rt, line, text),
+            Some(b'>') => {
+                self.has_answer = true;
+                self.add(text.strip_prefix('>').unwrap_or(text))
+            }
+            Some(b' ') => self.add(text),
+            Some(_) => {
+                self.end_row(rt)?;
+                self.line = line;
+                self.add(text.strip_prefix('<').unwrap_or(text))
+            }
         }
     }
 

@@ -1,18 +1,9 @@
 //! The target of a call site, by its words (docs/ROWS.md), which are read from the last one on.
 
-use crate::words::{method, none, number};
+use crate::told::Told;
+use crate::words::{keep, method, number};
 use jl_callsites::copy_target;
 use jl_types::{CallSiteId, ClassId, MethodId, SwitchId, Target};
-use std::alloc::{AllocError, Global};
-
-/// What was read of a target from its last word on: the parts, of which the first one is on top, a number before them, and whether a word
-/// was none.
-#[derive(Drop)]
-struct Reading {
-    parts: Vec<Target>,
-    number: Option<u32>,
-    bad: bool,
-}
 
 /// Method 0 of class 1.
 fn first_method() -> Target {
@@ -22,120 +13,116 @@ fn first_method() -> Target {
     })
 }
 
+/// The target in a box.
+fn boxed(told: &mut Told, target: Target) -> Option<Box<Target>> {
+    match Box::new(told.alloc(), target) {
+        Ok(target) => Some(target),
+        Err(_) => {
+            told.lack();
+            None
+        }
+    }
+}
+
 /// The guard on the point.
-fn guard(alloc: Global, point: u32, first: Target, fallback: Target) -> Result<Target, AllocError> {
-    let first = Box::new(alloc, first)?;
-    let fallback = Box::new(alloc, fallback)?;
-    Ok(Target::guard(SwitchId::new(point), first, fallback))
+fn guard(told: &mut Told, point: u32, first: Target, fallback: Target) -> Option<Target> {
+    let first = boxed(told, first)?;
+    let fallback = boxed(told, fallback)?;
+    Some(Target::guard(SwitchId::new(point), first, fallback))
 }
 
 /// So many guards, each the first part of the next one, round the target.
-fn firsts(alloc: Global, guards: u32, innermost: Target) -> Result<Target, AllocError> {
+fn firsts(told: &mut Told, guards: u32, innermost: Target) -> Option<Target> {
     let mut target = innermost;
     for _ in 0..guards {
-        target = guard(alloc, 0, target, first_method())?;
+        target = guard(told, 0, target, first_method())?;
     }
-    Ok(target)
+    Some(target)
 }
 
 /// So many guards, each the fallback of the next one.
-fn fallbacks(alloc: Global, guards: u32) -> Result<Target, AllocError> {
+fn fallbacks(told: &mut Told, guards: u32) -> Option<Target> {
     let mut target = first_method();
     for _ in 0..guards {
-        target = guard(alloc, 0, first_method(), target)?;
+        target = guard(told, 0, first_method(), target)?;
     }
-    Ok(target)
+    Some(target)
+}
+
+/// A guard of the target twice.
+fn doubled(told: &mut Told, target: Target) -> Option<Target> {
+    match copy_target(told.alloc(), &target) {
+        Ok(first) => guard(told, 0, first, target),
+        Err(_) => {
+            told.lack();
+            None
+        }
+    }
 }
 
 /// Guards, so many below one another on each path.
-fn tree(alloc: Global, levels: u32) -> Result<Target, AllocError> {
+fn tree(told: &mut Told, levels: u32) -> Option<Target> {
     let mut target = first_method();
     for _ in 0..levels {
-        let first = copy_target(alloc, &target)?;
-        target = guard(alloc, 0, first, target)?;
+        target = doubled(told, target)?;
     }
-    Ok(target)
+    Some(target)
 }
 
-/// The target that the word makes of the two parts behind it.
-fn made_of_two(alloc: Global, reading: &mut Reading, point: u32) -> Result<Target, AllocError> {
-    match (reading.parts.pop(), reading.parts.pop()) {
-        (Some(first), Some(fallback)) => guard(alloc, point, first, fallback),
-        _ => none(&mut reading.bad),
-    }
+/// The part that was read last.
+fn last(told: &mut Told, parts: &mut Vec<Target>) -> Option<Target> {
+    let part = parts.pop();
+    told.refuse_unless(part.is_some());
+    part
 }
 
-/// The same of the one part behind it.
-fn made_of_one(alloc: Global, reading: &mut Reading, guards: u32) -> Result<Target, AllocError> {
-    match reading.parts.pop() {
-        Some(innermost) => firsts(alloc, guards, innermost),
-        None => none(&mut reading.bad),
-    }
+/// The guard of the two parts behind it.
+fn guard_of(told: &mut Told, parts: &mut Vec<Target>, point: u32) -> Option<Target> {
+    let first = last(told, parts)?;
+    let fallback = last(told, parts)?;
+    guard(told, point, first, fallback)
 }
 
 /// The target that the word makes of the number and the parts behind it.
-fn made(
-    alloc: Global,
-    reading: &mut Reading,
-    number: u32,
-    word: &str,
-) -> Result<Target, AllocError> {
+fn made(told: &mut Told, parts: &mut Vec<Target>, number: u32, word: &str) -> Option<Target> {
     match word {
-        "guard" => made_of_two(alloc, reading, number),
-        "invoker" => Ok(Target::invoker(CallSiteId::new(number))),
-        "firsts" => made_of_one(alloc, reading, number),
-        "fallbacks" => fallbacks(alloc, number),
-        "tree" => tree(alloc, number),
-        _ => none(&mut reading.bad),
+        "guard" => guard_of(told, parts, number),
+        "invoker" => Some(Target::invoker(CallSiteId::new(number))),
+        "firsts" => {
+            let innermost = last(told, parts)?;
+            firsts(told, number, innermost)
+        }
+        "fallbacks" => fallbacks(told, number),
+        "tree" => tree(told, number),
+        _ => {
+            told.refuse();
+            None
+        }
     }
 }
 
-/// Reads one word more.
-fn read(alloc: Global, reading: &mut Reading, word: &str) -> Result<(), AllocError> {
-    match reading.number.take() {
-        Some(number) => {
-            let target = made(alloc, reading, number, word)?;
-            reading.parts.push(target)?;
-        }
-        None => {
-            if word.contains('.') {
-                let method = method(&mut reading.bad, word);
-                reading.parts.push(Target::method(method))?;
-            } else {
-                reading.number = Some(number(&mut reading.bad, word));
-            }
-        }
-    }
-    Ok(())
-}
-
-/// Reads the words, from the last one on.
-fn read_all(alloc: Global, reading: &mut Reading, words: &[&str]) -> Result<(), AllocError> {
+/// Reads the words, from the last one on, and keeps the parts, of which the first one is the last.
+fn read_all(told: &mut Told, parts: &mut Vec<Target>, words: &[&str]) {
+    let mut behind = None;
     for word in words.iter().rev() {
-        read(alloc, reading, word)?;
+        if let Some(number) = behind.take() {
+            let target = made(told, parts, number, word);
+            keep(told, parts, target);
+        } else if word.contains('.') {
+            let method = method(told, word);
+            keep(told, parts, Some(Target::method(method)));
+        } else {
+            behind = Some(number(told, word));
+        }
     }
-    Ok(())
-}
-
-/// The one target that was read.
-fn only(bad: &mut bool, reading: &mut Reading) -> Result<Target, AllocError> {
-    let target = reading.parts.pop();
-    *bad |= reading.bad | reading.number.is_some() | !reading.parts.is_empty();
-    match target {
-        Some(target) => Ok(target),
-        None => none(bad),
-    }
+    told.refuse_unless(behind.is_none());
 }
 
 /// The target of these words.
-pub(crate) fn target(alloc: Global, bad: &mut bool, words: &[&str]) -> Result<Target, AllocError> {
-    let mut reading = Reading {
-        parts: Vec::new(alloc),
-        number: None,
-        bad: false,
-    };
-    match read_all(alloc, &mut reading, words) {
-        Ok(()) => only(bad, &mut reading),
-        Err(_) => none(bad),
-    }
+pub(crate) fn target(told: &mut Told, words: &[&str]) -> Option<Target> {
+    let mut parts = Vec::new(told.alloc());
+    read_all(told, &mut parts, words);
+    let target = last(told, &mut parts);
+    told.refuse_unless(parts.is_empty());
+    target
 }
