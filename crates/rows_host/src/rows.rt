@@ -1,9 +1,8 @@
 //! Scripts, step by step.
 
-use crate::steps::{MOST, Numbers, Step, answer};
+use crate::steps::{Step, answer, numbers};
 use Step::*;
 use jl_host::{Linker, Memo, NULL, Seat};
-use std::alloc::Global;
 use std::process::Abort;
 
 /// A step, and the numbers that it is to come to.
@@ -17,41 +16,26 @@ const OBJECT: &[u8] =
 const A: &[u8] =
     b"\xca\xfe\xba\xbe\x00\x00\x00\x3d\x00\x08\x01\x00\x01A\x07\x00\x01\x01\x00\x10java/lang/Object\x07\x00\x03\x01\x00\x01f\x01\x00\x03()V\x01\x00\x04Code\x00\x21\x00\x02\x00\x04\x00\x00\x00\x00\x00\x01\x00\x01\x00\x05\x00\x06\x00\x01\x00\x07\x00\x00\x00\x0d\x00\x00\x00\x00\x00\x00\x00\x01\xb1\x00\x00\x00\x00\x00\x00";
 
-/// Whether the step comes to the numbers of the row, and zeros behind them.
-fn is_so(
-    alloc: Global,
-    linker: &mut Linker,
-    seat: &mut Seat,
-    memo: &mut Memo,
-    row: &StepRow,
-) -> bool {
-    let mut wanted: Numbers = [0; MOST];
-    for (place, number) in wanted.iter_mut().enumerate() {
-        if let Some(given) = row.1.get(place) {
-            *number = *given;
-        }
-    }
-    answer(alloc, linker, seat, memo, &row.0) == wanted
-}
-
-/// Asserts each row, on a linker, a seat and a memo that were made just now.
-fn assert_rows(rt: &(impl Abort + AllocGlobal), rows: &[StepRow]) {
+/// Asserts each row of the script, on a linker, a seat and a memo that were made just now.
+fn assert_rows(rt: &(impl Abort + AllocGlobal), script: &str, rows: &[StepRow]) {
     let mut linker = Linker::blank();
     let mut seat = Seat::blank();
     let mut memo = Memo::blank();
-    assert_each(rt, &mut linker, &mut seat, &mut memo, rows);
+    assert_each(rt, script, &mut linker, &mut seat, &mut memo, rows);
 }
 
-/// Asserts each row.
+/// Asserts that each step comes to the numbers of its row, and zeros behind them.
 fn assert_each(
     rt: &(impl Abort + AllocGlobal),
+    script: &str,
     linker: &mut Linker,
     seat: &mut Seat,
     memo: &mut Memo,
     rows: &[StepRow],
 ) {
-    for row in rows {
-        assert!(rt; is_so(rt.alloc(), linker, seat, memo, row), "{row:?}");
+    for (place, (step, wanted)) in rows.iter().enumerate() {
+        let came = answer(rt.alloc(), linker, seat, memo, step);
+        assert!(rt; came == numbers(wanted), "{script}, step {place}: {came:?}");
     }
 }
 
@@ -138,11 +122,6 @@ const OVERRIDING: &[StepRow] = &[
     (SeatCall(0, 4), &[0, 4]),
 ];
 
-#[test]
-fn overriding(rt: HostRuntime) {
-    assert_rows(&rt, OVERRIDING);
-}
-
 /// T with static m and n, and r with an invokedynamic; one that names a class that isn't there; and loaders.
 const CALL_SITES: &[StepRow] = &[
     (Open(2), &[0]),
@@ -209,11 +188,6 @@ const CALL_SITES: &[StepRow] = &[
     (Delegate(1, "Q", 0), &[16, 0, 2]),
     (Delegate(2, "T", 0), &[16, 0, 1]),
 ];
-
-#[test]
-fn call_sites(rt: HostRuntime) {
-    assert_rows(&rt, CALL_SITES);
-}
 
 /// A with eight classes below it that override f, so that M's call of A.f has nine receivers' classes; then a class below one of them.
 const MEGAMORPHIC: &[StepRow] = &[
@@ -339,11 +313,6 @@ const MEGAMORPHIC: &[StepRow] = &[
     (Recall(0, 2), &[0, 4]),
 ];
 
-#[test]
-fn megamorphic(rt: HostRuntime) {
-    assert_rows(&rt, MEGAMORPHIC);
-}
-
 /// Bytes that are no class file.
 const FILES: &[StepRow] = &[
     (Open(1), &[0]),
@@ -376,11 +345,6 @@ const FILES: &[StepRow] = &[
         &[0, 0, 1],
     ),
 ];
-
-#[test]
-fn files(rt: HostRuntime) {
-    assert_rows(&rt, FILES);
-}
 
 /// The session of the README, by lines alone.
 const SESSION: &[StepRow] = &[
@@ -451,11 +415,6 @@ const SESSION: &[StepRow] = &[
     ),
 ];
 
-#[test]
-fn session(rt: HostRuntime) {
-    assert_rows(&rt, SESSION);
-}
-
 /// Loader 1 with W, which calls A.f; then loader 2 with T, which has a static m, and loader 3 with U below T.
 const RETIREMENT: &[StepRow] = &[
     (Retire(1), &[34]),
@@ -512,6 +471,11 @@ const RETIREMENT: &[StepRow] = &[
 ];
 
 #[test]
-fn retirement(rt: HostRuntime) {
-    assert_rows(&rt, RETIREMENT);
+fn scripts(rt: HostRuntime) {
+    assert_rows(&rt, "overriding", OVERRIDING);
+    assert_rows(&rt, "call_sites", CALL_SITES);
+    assert_rows(&rt, "megamorphic", MEGAMORPHIC);
+    assert_rows(&rt, "files", FILES);
+    assert_rows(&rt, "session", SESSION);
+    assert_rows(&rt, "retirement", RETIREMENT);
 }

@@ -4,13 +4,12 @@ use jl_host::{CallAnswer, LinkShown, Linker, Memo, Row, Seat, Told};
 use std::alloc::Global;
 
 /// The most numbers of an answer.
-pub const MOST: usize = 8;
+const MOST: usize = 8;
 
 /// What a step comes to: the status, and what was written; what nothing was written to is 9.
 pub type Numbers = [u32; MOST];
 
 /// A call on a linker, a seat or a memo.
-#[derive(Clone, Copy, Debug)]
 pub enum Step {
     Open(u32),
     Close,
@@ -47,7 +46,7 @@ pub enum Step {
 }
 
 /// These numbers, and 0 behind them.
-fn numbers(first: &[u32]) -> Numbers {
+pub fn numbers(first: &[u32]) -> Numbers {
     let mut all = [0; MOST];
     for (place, number) in all.iter_mut().enumerate() {
         if let Some(given) = first.get(place) {
