@@ -139,8 +139,11 @@ fn is_so_on(alloc: Global, core: &mut Core, row: &Row) -> bool {
     all
 }
 
-/// Whether the row is so on a new core.
+/// Whether the row, whose limit a core may have, is so on a new core.
 fn is_so(alloc: Global, row: &Row) -> bool {
+    if row.0 == 0 || row.0 > 65_536 {
+        return false;
+    }
     match Core::new(alloc, row.0) {
         Ok(mut core) => is_so_on(alloc, &mut core, row),
         Err(_) => false,
