@@ -49,6 +49,9 @@ const OBJECT: Option<&str> = Some(rows_files::OBJECT);
 /// The method that A has and others override.
 const F: &[MethodRow] = &[("f", "()V", 1)];
 
+/// No methods.
+const NO_METHODS: &[MethodRow] = &[];
+
 const FOUR: &[CallRow] = &[
     CallRow::Dynamic("x"),
     CallRow::Dynamic("y"),
@@ -188,7 +191,7 @@ fn definition(loader: u32, file: Option<ClassFile>) -> Option<Event> {
 
 /// The class file of D of this number.
 fn below(alloc: Global, number: u32, overrides: bool) -> Option<ClassFile> {
-    let methods = if overrides { F } else { &[] };
+    let methods = if overrides { F } else { NO_METHODS };
     match format!(in alloc; "D{number}") {
         Ok(name) => rows_files::class(alloc, &name, 33, Some("A"), &[], methods),
         Err(_) => None,

@@ -220,18 +220,11 @@ impl<'a, K: Name> Pair<'a, K> {
 
     /// What the call is answered at once by the memo.
     fn call_with(&mut self, by_second: bool, site: u32, class: Option<u32>) -> Fast {
-        let Pair {
-            first,
-            second,
-            memo,
-            ..
-        } = self;
-        let caller = if by_second {
-            &mut second.caller
+        if by_second {
+            self.second.call_with(&self.memo, site, class)
         } else {
-            &mut first.caller
-        };
-        caller.call_with(memo, SiteNo::new(site), receiver(class))
+            self.first.call_with(&self.memo, site, class)
+        }
     }
 
     /// What the memo alone has.

@@ -3,7 +3,7 @@
 use crate::deeds::{Deed, event, install, sites_of};
 use crate::scripts::Part;
 use jl_relink::{Snapshot, prepare};
-use jl_server::{Caller, Denied, LinkServer, Name, Receipt, Seen};
+use jl_server::{Caller, Denied, LinkServer, Memo, Name, Receipt, Seen};
 use jl_types::{ClassId, Event, Fast, Link, Made, Recv, Refusal, Reply, SiteNo};
 use std::alloc::{AllocError, Global};
 use std::sync::atomic::AtomicU64;
@@ -107,6 +107,12 @@ impl<K: Name> Worker<K> {
     /// What a call on an object of the class, or on null, is answered at once. It has no `Wait` bound: a call waits for nobody.
     pub(crate) fn call(&mut self, site: u32, class: Option<u32>) -> Fast {
         self.caller.call(SiteNo::new(site), receiver(class))
+    }
+
+    /// The same by the memo.
+    pub(crate) fn call_with(&mut self, memo: &Memo<K>, site: u32, class: Option<u32>) -> Fast {
+        self.caller
+            .call_with(memo, SiteNo::new(site), receiver(class))
     }
 }
 

@@ -7,7 +7,7 @@ use denote.Param.{param}
 use denote.Param.Send.{IsSend, IsSync, AllSync, recorded_sync, struct_sync, shr_sync, sendable}
 use Rattle.std.proofs.Crossing.{crosses as of_std}
 use Rattle.jl_server.specs.declared.history.Name as name
-use Rattle.rows_server.proofs.Crossing.{shared_sync}
+use Rattle.rows_server.proofs.servers.run.Answers.{shared_sync}
 use Rattle.rows_server.specs.contracts.workers.Shared as Shared
 use Rattle.rows_server.specs.contracts.farms.Turner as Turner
 use Rattle.rows_server.proofs.workers.Worker.TheSendSync as of_workers
