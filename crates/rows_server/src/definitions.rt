@@ -62,6 +62,17 @@ fn rounds(overriding: bool) -> u32 {
     if overriding { ROUNDS } else { PLAIN_ROUNDS }
 }
 
+/// Tells the others of the class, and gives whether there is one.
+fn tell(newest: &AtomicU64, made: Made) -> bool {
+    match made {
+        Made::Class(class) => {
+            newest.store(u64::from(class.number()), Ordering::SeqCst);
+            true
+        }
+        _ => false,
+    }
+}
+
 /// Defines the class, and tells the others of it.
 fn define<K: Name, R: Wait, S: Wait + Drop>(
     shared: &Shared<'_, K, R, S>,
@@ -70,18 +81,13 @@ fn define<K: Name, R: Wait, S: Wait + Drop>(
     overrides: bool,
 ) {
     let is_defined = shared.does(worker, &Below(number, overrides));
-    match worker.last() {
-        (_, Made::Class(class)) => {
-            let newest = if overrides {
-                &shared.overrider
-            } else {
-                &shared.plain
-            };
-            newest.store(u64::from(class.number()), Ordering::SeqCst);
-            worker.expect(is_defined);
-        }
-        _ => worker.expect(false),
-    }
+    let (_, made) = worker.last();
+    let is_told = if overrides {
+        tell(&shared.overrider, made)
+    } else {
+        tell(&shared.plain, made)
+    };
+    worker.expect(is_defined && is_told);
 }
 
 /// Defines the classes of the writer of this number.

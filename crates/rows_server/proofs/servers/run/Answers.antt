@@ -10,12 +10,11 @@ use Rattle.jl_server.specs.contracts.server.LinkServer as LinkServer
 use Rattle.jl_server.proofs.Crossing.{server_sync}
 use Rattle.jl_server.proofs.seen.Seen.TheSendSync as of_seen
 use Rattle.rows_server.specs.contracts.workers.Shared as Shared
-use Rattle.rows_server.proofs.scripts.Part.TheSendSync as of_parts
 use denote.Param.{param}
 use Rattle.rows_server.proofs.servers.run.Goals as goal
 
 module _ (ℓ : NamedLft) (K R S : RattleType) (g : name.Ghosts K.Denot) where
-  pub shared_sync : IsSync R → IsSend S → IsSync (Shared.the_row ℓ K R S g)
+  shared_sync : IsSync R → IsSend S → IsSync (Shared.the_row ℓ K R S g)
   shared_sync r s =
       let O = Shared.the_type ℓ K R S g in
       let all : AllSync (declared.fields O) = (
@@ -25,7 +24,7 @@ module _ (ℓ : NamedLft) (K R S : RattleType) (g : name.Ghosts K.Denot) where
           (
             shr_sync ℓ.mir ℓ.lft (LinkServer.the_row K S g) (server_sync K S g s),
             (
-              search (of_parts.the_sync, sendable, of_std) depth 12,
+              search (sendable, of_std) depth 12,
               (
                 search (of_seen.the_send, sendable, of_std) depth 12,
                 (
