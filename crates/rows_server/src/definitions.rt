@@ -97,7 +97,8 @@ pub(crate) fn define_all<K: Name, R: Wait, S: Wait + Drop>(
     writer: usize,
     overriding: bool,
 ) {
-    let mut number = (writer as u32).wrapping_mul(ROUNDS);
+    let writer = u32::try_from(writer).unwrap_or(u32::MAX);
+    let mut number = writer.wrapping_mul(ROUNDS);
     for round in 0..rounds(overriding) {
         define(
             shared,
