@@ -196,56 +196,56 @@ const MEGAMORPHIC: &[StepRow] = &[
     (Define(0, A), &[0, 1]),
     (
         Says(
-            r#"{"do":"define","loader":0,"sketch":{"name":"D2","super":"A","flags":33,"methods":[{"name":"f","type":"()V","flags":1}]}}"#,
+            r#"{"do":"define","loader":0,"sketch":{"name":"Sub2","super":"A","flags":33,"methods":[{"name":"f","type":"()V","flags":1}]}}"#,
             r#"{"class":2,"dropped":[]}"#,
         ),
         &[0, 0, 1],
     ),
     (
         Says(
-            r#"{"do":"define","loader":0,"sketch":{"name":"D3","super":"A","flags":33,"methods":[{"name":"f","type":"()V","flags":1}]}}"#,
+            r#"{"do":"define","loader":0,"sketch":{"name":"Sub3","super":"A","flags":33,"methods":[{"name":"f","type":"()V","flags":1}]}}"#,
             r#"{"class":3,"dropped":[]}"#,
         ),
         &[0, 0, 1],
     ),
     (
         Says(
-            r#"{"do":"define","loader":0,"sketch":{"name":"D4","super":"A","flags":33,"methods":[{"name":"f","type":"()V","flags":1}]}}"#,
+            r#"{"do":"define","loader":0,"sketch":{"name":"Sub4","super":"A","flags":33,"methods":[{"name":"f","type":"()V","flags":1}]}}"#,
             r#"{"class":4,"dropped":[]}"#,
         ),
         &[0, 0, 1],
     ),
     (
         Says(
-            r#"{"do":"define","loader":0,"sketch":{"name":"D5","super":"A","flags":33,"methods":[{"name":"f","type":"()V","flags":1}]}}"#,
+            r#"{"do":"define","loader":0,"sketch":{"name":"Sub5","super":"A","flags":33,"methods":[{"name":"f","type":"()V","flags":1}]}}"#,
             r#"{"class":5,"dropped":[]}"#,
         ),
         &[0, 0, 1],
     ),
     (
         Says(
-            r#"{"do":"define","loader":0,"sketch":{"name":"D6","super":"A","flags":33,"methods":[{"name":"f","type":"()V","flags":1}]}}"#,
+            r#"{"do":"define","loader":0,"sketch":{"name":"Sub6","super":"A","flags":33,"methods":[{"name":"f","type":"()V","flags":1}]}}"#,
             r#"{"class":6,"dropped":[]}"#,
         ),
         &[0, 0, 1],
     ),
     (
         Says(
-            r#"{"do":"define","loader":0,"sketch":{"name":"D7","super":"A","flags":33,"methods":[{"name":"f","type":"()V","flags":1}]}}"#,
+            r#"{"do":"define","loader":0,"sketch":{"name":"Sub7","super":"A","flags":33,"methods":[{"name":"f","type":"()V","flags":1}]}}"#,
             r#"{"class":7,"dropped":[]}"#,
         ),
         &[0, 0, 1],
     ),
     (
         Says(
-            r#"{"do":"define","loader":0,"sketch":{"name":"D8","super":"A","flags":33,"methods":[{"name":"f","type":"()V","flags":1}]}}"#,
+            r#"{"do":"define","loader":0,"sketch":{"name":"Sub8","super":"A","flags":33,"methods":[{"name":"f","type":"()V","flags":1}]}}"#,
             r#"{"class":8,"dropped":[]}"#,
         ),
         &[0, 0, 1],
     ),
     (
         Says(
-            r#"{"do":"define","loader":0,"sketch":{"name":"D9","super":"A","flags":33,"methods":[{"name":"f","type":"()V","flags":1}]}}"#,
+            r#"{"do":"define","loader":0,"sketch":{"name":"Sub9","super":"A","flags":33,"methods":[{"name":"f","type":"()V","flags":1}]}}"#,
             r#"{"class":9,"dropped":[]}"#,
         ),
         &[0, 0, 1],
@@ -287,7 +287,7 @@ const MEGAMORPHIC: &[StepRow] = &[
     (CallWith(3, 2), &[0, 4]),
     (
         Says(
-            r#"{"do":"define","loader":0,"sketch":{"name":"E","super":"D2","flags":33}}"#,
+            r#"{"do":"define","loader":0,"sketch":{"name":"E","super":"Sub2","flags":33}}"#,
             r#"{"class":11,"dropped":[]}"#,
         ),
         &[0, 0, 1],
