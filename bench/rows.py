@@ -2,6 +2,7 @@
 """Counts the rows, by crate and by kind.
 
     bench/rows.py [--since REVISION]     prints a table; with a revision, what there was then, too
+    bench/rows.py --held                 whether docs/ROWS.md has this very table; in the gate, so that no row goes unseen
 
 The kinds: `text`, commands in data/ of crates of rows, and lines in rows/, each with its answer, and lines of reports there; `tables`,
 elements of constant arrays in tests, which one assertion goes over; `asserts`, assertions of tests; `theorems`, statements of a crate's
@@ -76,20 +77,31 @@ def at_revision(revision):
         return counts(pathlib.Path(room))
 
 
-def main():
-    read = argparse.ArgumentParser(usage=__doc__)
-    read.add_argument("--since")
-    said = read.parse_args()
-    now = counts(TOP)
-    before = at_revision(said.since) if said.since else {}
-    print("| | " + " | ".join(KINDS) + " |")
-    print("|---|" + "---|" * len(KINDS))
+def table(now, before):
+    """The lines of the table."""
+    lines = ["| | " + " | ".join(KINDS) + " |", "|---|" + "---|" * len(KINDS)]
     for crate in [*sorted(now.keys() | before.keys()), "all"]:
         told = []
         for kind in KINDS:
             count, was = (sum(rows[kind] for name, rows in each.items() if crate in (name, "all")) for each in (now, before))
             told.append(str(count or "") if not before or count == was else f"{was} → {count}")
-        print(f"| {crate} | " + " | ".join(told) + " |")
+        lines.append(f"| {crate} | " + " | ".join(told) + " |")
+    return lines
+
+
+def main():
+    read = argparse.ArgumentParser(usage=__doc__)
+    read.add_argument("--since")
+    read.add_argument("--held", action="store_true")
+    said = read.parse_args()
+    lines = table(counts(TOP), at_revision(said.since) if said.since else {})
+    if said.held:
+        page = (TOP / "docs/ROWS.md").read_text().split("\n")
+        missing = [line for line in lines if line not in page]
+        for line in missing:
+            print(f"docs/ROWS.md hasn't this count of rows: {line}", file=sys.stderr)
+        return 1 if missing else 0
+    print("\n".join(lines))
     return 0
 
 
