@@ -1,3 +1,4 @@
 -- Means of proof. What is promised doesn't rest on how these say it.
 pub mod NameReading
 pub mod Written
+pub mod SketchParts

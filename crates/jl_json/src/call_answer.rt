@@ -2,9 +2,11 @@
 
 ghost use Rattle.std.specs.Prelude.{◌≡◌, IfOk};
 ghost use Rattle.serde_json.specs.View.{view};
+ghost use Rattle.jl_types.specs.declared.answer.Unlinked.TheVariants.{NotReady};
 ghost use Rattle.jl_json.specs.CallAnswers.{missing_name, unlinked_data, answer_data};
 
 use crate::link_answer::outcome_value;
+use crate::object::single_text;
 use jl_types::{Answer, Missing, Outcome, Unlinked};
 use serde_json::{Value, json};
 use std::alloc::{AllocError, Global};
@@ -20,18 +22,23 @@ fn missing(missing: Missing) -> &'static str
     }
 }
 
+/// That a class isn't there.
+fn not_ready_value(alloc: Global, class: Missing) -> Result<Value, AllocError>
+    ensures { IfOk result (λ v. view v ≡ unlinked_data (NotReady class)) }
+{
+    let class = missing(class);
+    json!(in alloc; {"unlinked": "NotReady", "wants": class})
+}
+
 /// Why a site has no link.
 fn unlinked_value(alloc: Global, reason: Unlinked) -> Result<Value, AllocError>
     ensures { IfOk result (λ v. view v ≡ unlinked_data reason) }
 {
     match reason {
-        Unlinked::NotReady(class) => {
-            let class = missing(class);
-            json!(in alloc; {"unlinked": "NotReady", "wants": class})
-        }
-        Unlinked::Unbound => json!(in alloc; {"unlinked": "Unbound"}),
-        Unlinked::Gone => json!(in alloc; {"unlinked": "Gone"}),
-        Unlinked::NoSite => json!(in alloc; {"unlinked": "NoSite"}),
+        Unlinked::NotReady(class) => not_ready_value(alloc, class),
+        Unlinked::Unbound => single_text(alloc, "unlinked", "Unbound"),
+        Unlinked::Gone => single_text(alloc, "unlinked", "Gone"),
+        Unlinked::NoSite => single_text(alloc, "unlinked", "NoSite"),
     }
 }
 
@@ -47,7 +54,7 @@ pub fn answer_value(alloc: Global, answer: Answer) -> Result<Value, AllocError>
     match answer {
         Answer::Run(method) => outcome_value(alloc, Outcome::Run(method)),
         Answer::Throws(fault) => outcome_value(alloc, Outcome::Throws(fault)),
-        Answer::BadReceiver => json!(in alloc; {"refused": "BadReceiver"}),
+        Answer::BadReceiver => single_text(alloc, "refused", "BadReceiver"),
         Answer::Unlinked(reason) => unlinked_value(alloc, reason),
     }
 }

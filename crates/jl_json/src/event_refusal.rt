@@ -1,7 +1,8 @@
 //! Answers that refuse an event or a preparation.
 
-ghost use Rattle.std.specs.Prelude.{◌≡◌, IfOk};
-ghost use Rattle.serde_json.specs.View.{view};
+ghost use Rattle.std.specs.Prelude.{◌≡◌, codes, IfOk};
+ghost use Rattle.serde_json.specs.Data.{member, no_members, object, string, put as with_member};
+ghost use Rattle.serde_json.specs.View.{view, members_view};
 ghost use Rattle.jl_json.specs.Means.NameReading.{name_text};
 ghost use Rattle.jl_json.specs.EventRefusals.{refused, refused_at, refused_bound, refused_for, refused_name, delegate_name, call_site_refusal_data};
 ghost use Rattle.jl_json.specs.EventRefusals.{not_linkable_name, define_refusal_data, refused_class, refused_loader, retire_refusal_data};
@@ -9,28 +10,58 @@ ghost use Rattle.jl_json.specs.EventRefusals.{event_refusal_data, IsRefusalData}
 ghost use Rattle.jl_json.specs.EventRefusals.{prepare_refusal_data};
 
 use crate::link_answer::link_value;
+use crate::object::single_text;
 use crate::text::text_of;
 use jl_names::Name;
 use jl_types::{
     CallSiteFault, CallSiteId, ClassId, DefineFault, DelegateFault, Link, LoaderId, NotLinkable,
     PrepareFault, Refusal, RetireFault, SiteNo,
 };
-use serde_json::{Value, json};
+use serde_json::{Map, Value, put};
 use std::alloc::{AllocError, Global};
 
 /// A fault alone.
 fn refused_value(alloc: Global, fault: &str) -> Result<Value, AllocError>
     ensures { IfOk result (λ v. view v ≡ refused fault.now) }
 {
-    json!(in alloc; {"refused": fault})
+    single_text(alloc, "refused", fault)
+}
+
+/// The members of a fault, and of what it is about.
+fn refused_members(
+    alloc: Global,
+    fault: &str,
+    key: &str,
+    about: Value,
+) -> Result<Map<String, Value>, AllocError>
+    ensures { IfOk result (λ members. members_view members.entries
+        ≡ with_member key.now (view about) (member (codes "refused") (string fault.now) no_members)) }
+{
+    let mut members = Map::new(alloc);
+    let fault = Value::try_from_str(alloc, fault)?;
+    put(&mut members, alloc, "refused", fault)?;
+    put(&mut members, alloc, key, about)?;
+    Ok(members)
+}
+
+/// A fault with a member that says what it is about.
+fn refused_about_value(
+    alloc: Global,
+    fault: &str,
+    key: &str,
+    about: Value,
+) -> Result<Value, AllocError>
+    ensures { IfOk result (λ v. view v ≡ object (with_member key.now (view about)
+        (member (codes "refused") (string fault.now) no_members))) }
+{
+    Ok(Value::Object(refused_members(alloc, fault, key, about)?))
 }
 
 /// A fault at a site.
 fn refused_at_value(alloc: Global, fault: &str, site: SiteNo) -> Result<Value, AllocError>
     ensures { IfOk result (λ v. view v ≡ refused_at fault.now site) }
 {
-    let site = site.number();
-    json!(in alloc; {"refused": fault, "site": site})
+    refused_about_value(alloc, fault, "site", Value::from(site.number()))
 }
 
 /// A fault at a site that has this link now.
@@ -43,32 +74,30 @@ fn refused_for_value(
     ensures { IfOk result (λ v. view v ≡ refused_for fault.now site present) }
 {
     let present = link_value(alloc, present)?;
-    let site = site.number();
-    json!(in alloc; {"present": present, "refused": fault, "site": site})
+    let mut members = refused_members(alloc, fault, "site", Value::from(site.number()))?;
+    put(&mut members, alloc, "present", present)?;
+    Ok(Value::Object(members))
 }
 
 /// A fault at a call site.
 fn refused_bound_value(alloc: Global, fault: &str, bound: CallSiteId) -> Result<Value, AllocError>
     ensures { IfOk result (λ v. view v ≡ refused_bound fault.now bound) }
 {
-    let bound = bound.number();
-    json!(in alloc; {"callsite": bound, "refused": fault})
+    refused_about_value(alloc, fault, "callsite", Value::from(bound.number()))
 }
 
 /// A fault about a class.
 fn refused_class_value(alloc: Global, fault: &str, class: ClassId) -> Result<Value, AllocError>
     ensures { IfOk result (λ v. view v ≡ refused_class fault.now class) }
 {
-    let class = class.number();
-    json!(in alloc; {"class": class, "refused": fault})
+    refused_about_value(alloc, fault, "class", Value::from(class.number()))
 }
 
 /// A fault about a loader.
 fn refused_loader_value(alloc: Global, fault: &str, loader: LoaderId) -> Result<Value, AllocError>
     ensures { IfOk result (λ v. view v ≡ refused_loader fault.now loader) }
 {
-    let loader = loader.number();
-    json!(in alloc; {"loader": loader, "refused": fault})
+    refused_about_value(alloc, fault, "loader", Value::from(loader.number()))
 }
 
 /// A fault about a name.
@@ -76,7 +105,7 @@ fn refused_name_value(alloc: Global, fault: &str, name: &Name) -> Result<Value, 
     ensures { IfOk result (λ v. view v ≡ refused_name name_text fault.now name.now) }
 {
     let name = text_of(alloc, name.as_slice())?;
-    json!(in alloc; {"name": name, "refused": fault})
+    refused_about_value(alloc, fault, "name", Value::String(name))
 }
 
 /// The name of the fault.

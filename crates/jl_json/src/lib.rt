@@ -17,7 +17,9 @@ mod text;
 mod call_answer;
 mod event_refusal;
 mod link_answer;
+mod object;
 mod reply;
+mod to_json;
 
 // What is asked.
 mod call_site;

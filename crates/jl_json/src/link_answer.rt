@@ -3,14 +3,17 @@
 ghost use Rattle.std.specs.Prelude.{◌≡◌, map, IfOk};
 ghost use Rattle.serde_json.specs.Data.{array};
 ghost use Rattle.serde_json.specs.View.{view, items_of};
+ghost use Rattle.jl_types.specs.declared.link.Link.TheVariants.{Table};
 ghost use Rattle.jl_json.specs.LinkAnswers as answers;
-ghost use Rattle.jl_json.specs.LinkAnswers.{method_id_data, outcome_data};
+ghost use Rattle.jl_json.specs.LinkAnswers.{throwable_data, method_id_data, outcome_data};
 ghost use Rattle.jl_json.specs.LinkAnswers.{table_kind_name, table_row_data, link_data};
 ghost use Rattle.jl_json.specs.LinkAnswers.{site_link_data, site_links_data};
 ghost use Rattle.jl_json.specs.LinkAnswers.{links_data, farm_data, prepared_data};
 
+use crate::object::{double, pair, single};
+use crate::to_json::{ToJson, array_value};
 use jl_types::{ClassId, Link, MethodId, Outcome, SiteNo, TableKind, Throwable};
-use serde_json::{Value, json};
+use serde_json::Value;
 use std::alloc::{AllocError, Global};
 
 /// The throwable's name in java.lang.
@@ -36,13 +39,20 @@ pub fn table_kind(kind: TableKind) -> &'static str
     }
 }
 
+/// What is thrown, by its name.
+fn throwable_value(alloc: Global, throwable: Throwable) -> Result<Value, AllocError>
+    ensures { IfOk result (λ v. view v ≡ throwable_data throwable) }
+{
+    Value::try_from_str(alloc, throwable_name(throwable))
+}
+
 /// A method.
 fn method_id_value(alloc: Global, method: MethodId) -> Result<Value, AllocError>
     ensures { IfOk result (λ v. view v ≡ method_id_data method) }
 {
     let class = method.class.number();
     let index = method.index;
-    json!(in alloc; [class, index])
+    pair(alloc, Value::from(class), Value::from(index))
 }
 
 /// An outcome: the method that runs, by its class and its place there, or the name of what is
@@ -55,36 +65,34 @@ pub fn outcome_value(alloc: Global, outcome: Outcome) -> Result<Value, AllocErro
     ensures { IfOk result (λ v. view v ≡ outcome_data outcome) }
 {
     match outcome {
-        Outcome::Run(method) => {
-            let method = method_id_value(alloc, method)?;
-            json!(in alloc; {"run": method})
-        }
-        Outcome::Throws(fault) => {
-            let fault = throwable_name(fault);
-            json!(in alloc; {"throws": fault})
-        }
+        Outcome::Run(method) => single(alloc, "run", method_id_value(alloc, method)?),
+        Outcome::Throws(fault) => single(alloc, "throws", throwable_value(alloc, fault)?),
     }
 }
 
 /// A class with the outcome on its objects.
-#[tactic(auto, unfolding(crate::specs::LinkAnswers::table_row_data))]
-fn table_row_value(alloc: Global, class: ClassId, outcome: Outcome) -> Result<Value, AllocError>
-    ensures { IfOk result (λ v. view v ≡ table_row_data (class, outcome)) }
-{
-    let class = class.number();
-    let outcome = outcome_value(alloc, outcome)?;
-    json!(in alloc; [class, outcome])
+impl ToJson for (ClassId, Outcome) {
+    ghost written = { table_row_data };
+
+    #[tactic(auto, unfolding(crate::specs::LinkAnswers::table_row_data))]
+    fn to_json(&self, alloc: Global) -> Result<Value, AllocError> {
+        let outcome = outcome_value(alloc, self.1)?;
+        pair(alloc, Value::from(self.0.number()), outcome)
+    }
 }
 
-/// The rows of a table, in order.
-fn table_rows_value(alloc: Global, rows: &[(ClassId, Outcome)]) -> Result<Value, AllocError>
-    ensures { IfOk result (λ v. view v ≡ array (items_of (map table_row_data rows.now))) }
+/// A table: its kind, and its rows.
+#[tactic(auto, unfolding(crate::specs::LinkAnswers::link_data))]
+fn table_value(
+    alloc: Global,
+    kind: TableKind,
+    rows: &[(ClassId, Outcome)],
+) -> Result<Value, AllocError>
+    ensures { IfOk result (λ v. view v ≡ link_data (Table kind rows.now)) }
 {
-    let mut values = Vec::new(alloc);
-    for row in rows {
-        values.push(table_row_value(alloc, row.0, row.1)?)?;
-    }
-    Ok(Value::Array(values))
+    let rows = array_value(alloc, rows)?;
+    let kind = Value::try_from_str(alloc, table_kind(kind))?;
+    double(alloc, "kind", kind, "table", rows)
 }
 
 /// A link: what the calls of its site come to, by the class of the receiver where that matters.
@@ -97,35 +105,23 @@ pub fn link_value(alloc: Global, link: Link) -> Result<Value, AllocError>
     ensures { IfOk result (λ v. view v ≡ link_data link) }
 {
     match link {
-        Link::Fault(fault) => {
-            let fault = throwable_name(fault);
-            json!(in alloc; {"fault": fault})
-        }
-        Link::Plain(method) => {
-            let method = method_id_value(alloc, method)?;
-            json!(in alloc; {"plain": method})
-        }
-        Link::Direct(outcome) => {
-            let outcome = outcome_value(alloc, outcome)?;
-            json!(in alloc; {"direct": outcome})
-        }
-        Link::Table(kind, ref table) => {
-            let kind = table_kind(kind);
-            let rows = table_rows_value(alloc, table.as_slice())?;
-            json!(in alloc; {"kind": kind, "table": rows})
-        }
-        Link::Mega => json!(in alloc; {"mega": true}),
+        Link::Fault(fault) => single(alloc, "fault", throwable_value(alloc, fault)?),
+        Link::Plain(method) => single(alloc, "plain", method_id_value(alloc, method)?),
+        Link::Direct(outcome) => single(alloc, "direct", outcome_value(alloc, outcome)?),
+        Link::Table(kind, ref table) => table_value(alloc, kind, table.as_slice()),
+        Link::Mega => single(alloc, "mega", Value::Bool(true)),
     }
 }
 
 /// A site with its link.
-#[tactic(auto, unfolding(crate::specs::LinkAnswers::site_link_data))]
-fn site_link_value(alloc: Global, site: SiteNo, link: Link) -> Result<Value, AllocError>
-    ensures { IfOk result (λ v. view v ≡ site_link_data (site, link)) }
-{
-    let site = site.number();
-    let link = link_value(alloc, link)?;
-    json!(in alloc; [site, link])
+impl ToJson for (SiteNo, Link) {
+    ghost written = { site_link_data };
+
+    #[tactic(auto, unfolding(crate::specs::LinkAnswers::site_link_data))]
+    fn to_json(&self, alloc: Global) -> Result<Value, AllocError> {
+        let link = link_value(alloc, self.1)?;
+        pair(alloc, Value::from(self.0.number()), link)
+    }
 }
 
 /// Sites with their links, in order.
@@ -133,11 +129,7 @@ fn site_link_value(alloc: Global, site: SiteNo, link: Link) -> Result<Value, All
 fn site_links_value(alloc: Global, rows: &[(SiteNo, Link)]) -> Result<Value, AllocError>
     ensures { IfOk result (λ v. view v ≡ site_links_data rows.now) }
 {
-    let mut values = Vec::new(alloc);
-    for row in rows {
-        values.push(site_link_value(alloc, row.0, row.1)?)?;
-    }
-    Ok(Value::Array(values))
+    array_value(alloc, rows)
 }
 
 /// The answer that lists sites with their links, in the order given.
@@ -149,7 +141,7 @@ pub fn links_value(alloc: Global, links: &[(SiteNo, Link)]) -> Result<Value, All
     ensures { IfOk result (λ v. view v ≡ links_data links.now) }
 {
     let links = site_links_value(alloc, links)?;
-    json!(in alloc; {"links": links})
+    single(alloc, "links", links)
 }
 
 /// The last answer of a farm: the links that it leaves, in the order given, and its reports.
@@ -165,7 +157,7 @@ pub fn farm_value(
     ensures { IfOk result (λ v. view v ≡ farm_data links.now (view reports)) }
 {
     let links = site_links_value(alloc, links)?;
-    json!(in alloc; {"links": links, "reports": reports})
+    double(alloc, "links", links, "reports", reports)
 }
 
 /// The answer to a preparation: the number of the batch, and its sites with their links, in the order
@@ -182,5 +174,5 @@ pub fn prepared_value(
     ensures { IfOk result (λ v. view v ≡ prepared_data batch rows.now) }
 {
     let rows = site_links_value(alloc, rows)?;
-    json!(in alloc; {"prepared": batch, "rows": rows})
+    double(alloc, "prepared", Value::from(batch), "rows", rows)
 }

@@ -2,7 +2,7 @@
 //!
 //! A text becomes modified UTF-8 (JVMS SE 17 §4.4.7). What may be absent may not be null.
 
-ghost use Rattle.std.specs.Prelude.{◌≡◌, ℕ, List, false, map, codes, Some, IfOk};
+ghost use Rattle.std.specs.Prelude.{◌≡◌, ℕ, List, false, map, codes, if◌then◌else◌, None, Some, IfOk};
 ghost use Rattle.std.specs.List.{list_all, list_any};
 ghost use Rattle.std.specs.Str.{bytes_eq};
 ghost use Rattle.serde_json.specs.Data.{Data};
@@ -14,11 +14,12 @@ ghost use Rattle.jl_json.specs.Members.{has_only, keys_of, AreAmong};
 ghost use Rattle.jl_json.specs.Sketches.{text_units, text_name, name_in, name_at, name_if_any};
 ghost use Rattle.jl_json.specs.Sketches.{method_name_in, plain_call, marked_call};
 ghost use Rattle.jl_json.specs.Sketches.{dynamic_call, call_in, method_in, sketch_keys, sketch_of};
+ghost use Rattle.jl_json.specs.Means.SketchParts.{with_lists};
 ghost use Rattle.jl_json.specs.SketchForms.{sketch_data, HasForm};
 
 use crate::command::{index_at, text_at};
 use crate::from_json::{FromJson, list_if_any};
-use jl_names::{Name, encode_mutf8};
+use jl_names::{Name, Seq, encode_mutf8};
 use jl_sketch::{Call, MethodName, Sketch, SketchMethod};
 use serde_json::{Map, Value};
 use std::alloc::{AllocError, Global};
@@ -254,6 +255,29 @@ const SKETCH_KEYS: [&str; 7] = [
     "members",
 ];
 
+/// Reads into the sketch what may be left out behind its superclass. Tells whether each part is as it should be.
+fn read_lists(alloc: Global, value: &Value, sketch: &mut Sketch) -> Result<bool, AllocError>
+    ensures { IfOk result (λ whole. (if whole then Some sketch.new else None) ≡ with_lists sketch.old (view value.now)) }
+{
+    let Some(interfaces) = list_if_any(alloc, value, "interfaces")? else {
+        return Ok(false);
+    };
+    sketch.interfaces = interfaces;
+    let Some(methods) = list_if_any(alloc, value, "methods")? else {
+        return Ok(false);
+    };
+    sketch.methods = methods;
+    let Some(host) = name_if_any(alloc, value, "host")? else {
+        return Ok(false);
+    };
+    sketch.host = host;
+    let Some(members) = list_if_any(alloc, value, "members")? else {
+        return Ok(false);
+    };
+    sketch.members = members;
+    Ok(true)
+}
+
 /// The sketch that the JSON is, or `None` where it is none: an object of the members that a sketch
 /// has, and of no others, and so its methods and their calls.
 ///
@@ -275,27 +299,20 @@ pub fn read_sketch(alloc: Global, value: &Value) -> Result<Option<Sketch>, Alloc
     let Some(superclass) = name_if_any(alloc, value, "super")? else {
         return Ok(None);
     };
-    let Some(interfaces) = list_if_any(alloc, value, "interfaces")? else {
-        return Ok(None);
-    };
-    let Some(methods) = list_if_any(alloc, value, "methods")? else {
-        return Ok(None);
-    };
-    let Some(host) = name_if_any(alloc, value, "host")? else {
-        return Ok(None);
-    };
-    let Some(members) = list_if_any(alloc, value, "members")? else {
-        return Ok(None);
-    };
-    Ok(Some(Sketch {
+    let mut sketch = Sketch {
         name,
         flags,
         superclass,
-        interfaces,
-        methods,
-        host,
-        members,
-    }))
+        interfaces: Seq::of(Vec::new(alloc)),
+        methods: Seq::of(Vec::new(alloc)),
+        host: None,
+        members: Seq::of(Vec::new(alloc)),
+    };
+    if read_lists(alloc, value, &mut sketch)? {
+        Ok(Some(sketch))
+    } else {
+        Ok(None)
+    }
 }
 
 /// What is read as a sketch has no keys but those of a sketch.
