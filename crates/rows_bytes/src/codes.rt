@@ -1,11 +1,11 @@
 //! Codes and their invocations.
 
 use crate::codes::CodeRow::*;
-use crate::rows::{A_F, Row, assert_rows};
+use crate::rows::{A_F, Row, assert_rows, is_a_f};
 use jl_class::{Kind, Operand, Site, Sites, begins_special};
 use jl_code::{CodeFault, no_fault_in_a_code, one_code, scan};
 use jl_names::LentName;
-use jl_pool::{Pool, PoolFault};
+use jl_pool::Pool;
 use std::alloc::Global;
 
 /// A pool, from its count on, with a Methodref of A.f:()V at 2, an InterfaceMethodref of the same at 7, and an
@@ -20,11 +20,11 @@ fn is_f(operand: &Operand<LentName<'_>>, kind: Kind) -> bool {
     match operand {
         Operand::Method(reference) => {
             reference.itf == (kind == Kind::Interface)
-                && [
+                && is_a_f(
                     reference.owner.as_slice(),
                     reference.name.as_slice(),
                     reference.ty.as_slice(),
-                ] == A_F
+                )
         }
         Operand::CallSite(specifier) => {
             kind == Kind::Dynamic
@@ -39,19 +39,22 @@ fn is_site(site: &Site<'_>, pc: u16, kind: Kind) -> bool {
 }
 
 /// Whether this is there, and an invocation at this place.
-fn is_there(site: &Option<Site<'_>>, pc: u16, kind: Kind) -> bool {
+fn is_there(site: Option<Site<'_>>, pc: u16, kind: Kind) -> bool {
     match site {
-        Some(site) => is_site(site, pc, kind),
+        Some(site) => is_site(&site, pc, kind),
         None => false,
     }
 }
 
+/// Whether an invocation is there by its number and by its place.
+fn is_at(sites: &Sites<'_>, number: usize, pc: u16, kind: Kind) -> bool {
+    is_there(sites.at(number), pc, kind) && is_there(sites.at_pc(u32::from(pc)), pc, kind)
+}
+
 /// Whether these are invocations at these places, by their number and by their place, and nothing else.
 fn are_sites(sites: &Sites<'_>, expected: &[(u16, Kind)]) -> bool {
-    for (place, (pc, kind)) in expected.iter().enumerate() {
-        if !is_there(&sites.at(place), *pc, *kind)
-            || !is_there(&sites.at_pc(u32::from(*pc)), *pc, *kind)
-        {
+    for (number, (pc, kind)) in expected.iter().enumerate() {
+        if !is_at(sites, number, *pc, *kind) {
             return false;
         }
     }
@@ -229,17 +232,12 @@ fn is_so_in(alloc: Global, row: &CodeRow, pool: &Pool) -> bool {
     }
 }
 
-/// Whether the row is so over this pool, of so many bytes.
-fn is_so_over(alloc: Global, row: &CodeRow, read: &Result<(Pool, usize), PoolFault>) -> bool {
-    match read {
-        Ok((pool, _)) => is_so_in(alloc, row, pool),
-        Err(_) => false,
-    }
-}
-
 impl Row for CodeRow {
     fn is_so(&self, alloc: Global) -> bool {
-        is_so_over(alloc, self, &Pool::read(alloc, POOL))
+        match Pool::read(alloc, POOL) {
+            Ok((pool, _)) => is_so_in(alloc, self, &pool),
+            Err(_) => false,
+        }
     }
 }
 
@@ -386,8 +384,9 @@ const FAULTS: &[CodeRow] = &[
 
 #[test]
 fn codes(rt: HostRuntime) {
-    assert_rows(&rt, &[NAMES]);
-    assert_rows(&rt, &[INVOCATIONS, FAULTS]);
+    assert_rows(&rt, "NAMES", NAMES);
+    assert_rows(&rt, "INVOCATIONS", INVOCATIONS);
+    assert_rows(&rt, "FAULTS", FAULTS);
     one_code();
     no_fault_in_a_code();
 }

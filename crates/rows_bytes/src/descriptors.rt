@@ -143,7 +143,9 @@ const PAIRS: &[DescriptorRow] = &[
 
 #[test]
 fn descriptors(rt: HostRuntime) {
-    assert_rows(&rt, &[FIELDS, METHODS, PAIRS]);
+    assert_rows(&rt, "FIELDS", FIELDS);
+    assert_rows(&rt, "METHODS", METHODS);
+    assert_rows(&rt, "PAIRS", PAIRS);
     one_field_type();
     no_fault_in_field_descriptors();
     one_method_type();

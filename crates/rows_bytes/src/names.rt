@@ -1,7 +1,7 @@
 //! Names and modified UTF-8.
 
 use crate::names::NameRow::*;
-use crate::rows::{A_F, Row, assert_rows};
+use crate::rows::{Row, assert_rows, is_a_f};
 use jl_names::{
     Name, NameFault, Seq, Text, decode_mutf8, encode_mutf8, is_class_name, is_text, is_unqualified,
     no_fault_in_units, one_list_of_units, package_of, print_from,
@@ -43,7 +43,7 @@ fn is_bad_text(alloc: Global, text: &[u8], fault: NameFault) -> bool {
 }
 
 /// Whether these are the items that were made.
-fn are_made<T: PartialEq>(made: &Result<Vec<T>, NameFault>, items: &[T]) -> bool {
+fn are_made<T: PartialEq + Drop>(made: Result<Vec<T>, NameFault>, items: &[T]) -> bool {
     match made {
         Ok(made) => made.as_slice() == items,
         Err(_) => false,
@@ -67,44 +67,63 @@ fn list(alloc: Global, bytes: &[u8]) -> Result<Seq<u8>, AllocError> {
     Ok(Seq::of(bytes.to_vec(alloc)?))
 }
 
+/// Whether the lists are equal, and have the same hash.
+fn are_equal(run: &Seq<u8>, again: &Seq<u8>) -> bool {
+    run == again && hash_of(again) == hash_of(run)
+}
+
+/// Whether the list of these bytes has their hash, and is equal to another one of them.
+fn is_list_of(alloc: Global, run: &Seq<u8>, bytes: &[u8]) -> bool {
+    match list(alloc, bytes) {
+        Ok(again) => hash_of(run) == hash_of(&bytes) && are_equal(run, &again),
+        Err(_) => false,
+    }
+}
+
 /// Whether a list of these bytes has their hash, and is equal to another one of them.
 fn is_list(alloc: Global, bytes: &[u8]) -> bool {
-    match (list(alloc, bytes), list(alloc, bytes)) {
-        (Ok(run), Ok(again)) => {
-            hash_of(&run) == hash_of(&bytes) && run == again && hash_of(&again) == hash_of(&run)
-        },
-        _ => false,
+    match list(alloc, bytes) {
+        Ok(run) => is_list_of(alloc, &run, bytes),
+        Err(_) => false,
+    }
+}
+
+/// Whether the list differs from one of these bytes.
+fn list_differs(alloc: Global, run: &Seq<u8>, others: &[u8]) -> bool {
+    match list(alloc, others) {
+        Ok(other) => *run != other,
+        Err(_) => false,
     }
 }
 
 /// Whether lists of these bytes and of those differ.
 fn lists_differ(alloc: Global, bytes: &[u8], others: &[u8]) -> bool {
-    match (list(alloc, bytes), list(alloc, others)) {
-        (Ok(run), Ok(other)) => run != other,
-        _ => false,
-    }
-}
-
-/// Whether the name, which was made, has these bytes.
-fn has(made: &Result<Name, AllocError>, bytes: &[u8]) -> bool {
-    match made {
-        Ok(name) => name.as_slice() == bytes,
+    match list(alloc, bytes) {
+        Ok(run) => list_differs(alloc, &run, others),
         Err(_) => false,
     }
 }
 
-/// Whether a name that was made and another one differ.
-fn differ(made: &Result<Name, AllocError>, other: &Result<Name, AllocError>) -> bool {
-    match (made, other) {
-        (Ok(name), Ok(other)) => name != other,
-        _ => false,
+/// Whether the name differs from one of these bytes.
+fn name_differs(alloc: Global, name: &Name, others: &[u8]) -> bool {
+    match Name::copied(alloc, others) {
+        Ok(other) => *name != other,
+        Err(_) => false,
     }
 }
 
-/// Whether the copy of this name, once it was made, is equal to it and has these bytes.
-fn is_copy(copy: &Result<Name, AllocError>, name: &Name, bytes: &[u8]) -> bool {
-    match copy {
-        Ok(copy) => copy == name && copy.as_slice() == bytes,
+/// Whether names of these bytes and of those differ.
+fn names_differ(alloc: Global, bytes: &[u8], others: &[u8]) -> bool {
+    match Name::copied(alloc, bytes) {
+        Ok(name) => name_differs(alloc, &name, others),
+        Err(_) => false,
+    }
+}
+
+/// Whether the copy of this name is equal to it and has these bytes.
+fn has_copy(alloc: Global, name: &Name, bytes: &[u8]) -> bool {
+    match name.copy(alloc) {
+        Ok(copy) => copy == *name && copy.as_slice() == bytes,
         Err(_) => false,
     }
 }
@@ -120,7 +139,7 @@ fn cut_byte(block: &mut Name) -> Option<Name> {
 
 /// Whether the first byte of the block, its second and what it keeps are these names.
 fn are_cut(first: &Name, second: &Name, block: &Name) -> bool {
-    [first.as_slice(), second.as_slice(), block.as_slice()] == A_F
+    is_a_f(first.as_slice(), second.as_slice(), block.as_slice())
 }
 
 /// Whether the first name was cut from the block, and the second name and the rest are cut then.
@@ -149,7 +168,18 @@ fn can_be_cut(alloc: Global) -> bool {
 
 /// The copy of a name of these bytes, which is let go.
 fn copy_alone(alloc: Global, bytes: &[u8]) -> Result<Name, AllocError> {
-    Name::copied(alloc, bytes)?.copy(alloc)
+    match Name::copied(alloc, bytes) {
+        Ok(name) => name.copy(alloc),
+        Err(fault) => Err(fault),
+    }
+}
+
+/// Whether the copy of a name of these bytes has them once the name is let go.
+fn outlives(alloc: Global, bytes: &[u8]) -> bool {
+    match copy_alone(alloc, bytes) {
+        Ok(copy) => copy.as_slice() == bytes,
+        Err(_) => false,
+    }
 }
 
 /// Whether the name has these bytes, and their hash.
@@ -157,33 +187,34 @@ fn is_name(name: &Name, bytes: &[u8]) -> bool {
     name.as_slice() == bytes && hash_of(name) == hash_of(&bytes)
 }
 
-/// Whether the name, which was made of these bytes, is kept, and so is its copy.
-fn is_kept(alloc: Global, made: &Result<Name, AllocError>, bytes: &[u8]) -> bool {
-    match made {
-        Ok(name) => is_name(name, bytes) && is_copy(&name.copy(alloc), name, bytes),
+/// Whether a name of these bytes is kept, and so is its copy.
+fn is_kept(alloc: Global, bytes: &[u8]) -> bool {
+    match Name::copied(alloc, bytes) {
+        Ok(name) => is_name(&name, bytes) && has_copy(alloc, &name, bytes),
         Err(_) => false,
     }
+}
+
+/// Whether the bytes are what these units are written as.
+fn are_units(alloc: Global, units: &[u16], text: &[u8]) -> bool {
+    is_text(text)
+        && are_made(encode_mutf8(alloc, units), text)
+        && are_made(decode_mutf8(alloc, text), units)
 }
 
 impl Row for NameRow {
     fn is_so(&self, alloc: Global) -> bool {
         match self {
             BadText(text, fault) => is_bad_text(alloc, text, *fault),
-            Units(units, text) => {
-                is_text(text)
-                    && are_made(&encode_mutf8(alloc, units), text)
-                    && are_made(&decode_mutf8(alloc, text), units)
-            }
+            Units(units, text) => are_units(alloc, units, text),
             Named(name, class, unqualified) => is_named(name, *class, *unqualified),
             Package(name, package) => package_of(name) == *package,
             Lent(bytes) => Text::of(bytes).as_bytes() == *bytes,
             List(bytes) => is_list(alloc, bytes),
             OtherList(bytes, others) => lists_differ(alloc, bytes, others),
-            Kept(bytes) => is_kept(alloc, &Name::copied(alloc, bytes), bytes),
-            Outlives(bytes) => has(&copy_alone(alloc, bytes), bytes),
-            OtherName(bytes, others) => {
-                differ(&Name::copied(alloc, bytes), &Name::copied(alloc, others))
-            },
+            Kept(bytes) => is_kept(alloc, bytes),
+            Outlives(bytes) => outlives(alloc, bytes),
+            OtherName(bytes, others) => names_differ(alloc, bytes, others),
             Cut => can_be_cut(alloc),
             Print(before, bytes, print) => print_from(*before, bytes) == *print,
         }
@@ -263,7 +294,11 @@ const PRINTS: &[NameRow] = &[
 
 #[test]
 fn names(rt: HostRuntime) {
-    assert_rows(&rt, &[TEXTS, NAMES, LISTS, KEPT, PRINTS]);
+    assert_rows(&rt, "TEXTS", TEXTS);
+    assert_rows(&rt, "NAMES", NAMES);
+    assert_rows(&rt, "LISTS", LISTS);
+    assert_rows(&rt, "KEPT", KEPT);
+    assert_rows(&rt, "PRINTS", PRINTS);
     one_list_of_units();
     no_fault_in_units();
 }

@@ -2,7 +2,7 @@
 
 use crate::pools::EntryRow::*;
 use crate::pools::PoolRow::*;
-use crate::rows::{A_F, Row, assert_rows};
+use crate::rows::{Row, assert_rows, is_a_f};
 use jl_names::Name;
 use jl_pool::{
     CallSiteSpecifier, Constant, Pool, PoolFault, Reference, bytes_at, no_fault_in_a_pool,
@@ -113,11 +113,11 @@ fn has_method(pool: &Pool, number: u16, interface: bool) -> bool {
     match pool.method_ref(number) {
         Some(method) => {
             method.itf == interface
-                && [
+                && is_a_f(
                     method.owner.as_slice(),
                     method.name.as_slice(),
                     method.ty.as_slice(),
-                ] == A_F
+                )
                 && pool.slots(number) == Some(0)
         }
         None => false,
@@ -172,25 +172,20 @@ fn is_so_of(row: &EntryRow, pool: &Pool) -> bool {
     }
 }
 
-/// Whether the row is so of what was read, which is the pool.
-fn is_so_read(row: &EntryRow, read: &Result<(Pool, usize), PoolFault>) -> bool {
-    match read {
-        Ok((pool, used)) => *used == 110 && is_so_of(row, pool),
-        Err(_) => false,
-    }
-}
-
 /// Whether the row is so of the pool in these bytes, of which the last one is not the pool's.
-fn is_so_in(alloc: Global, row: &EntryRow, bytes: &Result<Vec<u8>, AllocError>) -> bool {
-    match bytes {
-        Ok(bytes) => bytes.len() == 111 && is_so_read(row, &Pool::read(alloc, bytes)),
+fn is_so_in(alloc: Global, row: &EntryRow, bytes: &[u8]) -> bool {
+    match Pool::read(alloc, bytes) {
+        Ok((pool, used)) => bytes.len() == 111 && used == 110 && is_so_of(row, &pool),
         Err(_) => false,
     }
 }
 
 impl Row for EntryRow {
     fn is_so(&self, alloc: Global) -> bool {
-        is_so_in(alloc, self, &bytes_with(alloc, 26, EACH_TAG, &[0x01]))
+        match bytes_with(alloc, 26, EACH_TAG, &[0x01]) {
+            Ok(bytes) => is_so_in(alloc, self, &bytes),
+            Err(_) => false,
+        }
     }
 }
 
@@ -371,58 +366,84 @@ fn are_named(alloc: Global, front: &[u8], good: &[u8], back: &[u8]) -> bool {
     true
 }
 
-/// The InterfaceMethodref of A.f:()V.
-fn interface_method(alloc: Global) -> Result<Reference<Name>, AllocError> {
-    Ok(Reference {
-        itf: true,
-        owner: Name::copied(alloc, b"A")?,
-        name: Name::copied(alloc, b"f")?,
-        ty: Name::copied(alloc, b"()V")?,
-    })
+/// A name and a descriptor.
+fn two_names(alloc: Global, name: &[u8], ty: &[u8]) -> Result<(Name, Name), AllocError> {
+    let name = Name::copied(alloc, name)?;
+    let ty = Name::copied(alloc, ty)?;
+    Ok((name, ty))
 }
 
-/// A copy of that.
-fn copied_method(alloc: Global) -> Result<Reference<Name>, AllocError> {
-    interface_method(alloc)?.copy(alloc)
+/// The InterfaceMethodref of A.f:()V.
+fn interface_method(alloc: Global) -> Result<Reference<Name>, AllocError> {
+    let owner = Name::copied(alloc, b"A")?;
+    let (name, ty) = two_names(alloc, b"f", b"()V")?;
+    Ok(Reference {
+        itf: true,
+        owner,
+        name,
+        ty,
+    })
 }
 
 /// The call site g:()I of bootstrap method 7.
 fn call_site(alloc: Global) -> Result<CallSiteSpecifier<Name>, AllocError> {
+    let (name, ty) = two_names(alloc, b"g", b"()I")?;
     Ok(CallSiteSpecifier {
         bootstrap: 7,
-        name: Name::copied(alloc, b"g")?,
-        ty: Name::copied(alloc, b"()I")?,
+        name,
+        ty,
     })
 }
 
-/// A copy of that.
-fn copied_call_site(alloc: Global) -> Result<CallSiteSpecifier<Name>, AllocError> {
-    call_site(alloc)?.copy(alloc)
-}
-
-/// Whether what was made is the InterfaceMethodref of A.f:()V.
-fn is_interface_method(made: &Result<Reference<Name>, AllocError>) -> bool {
-    match made {
-        Ok(method) => {
-            method.itf
-                && [
-                    method.owner.as_slice(),
-                    method.name.as_slice(),
-                    method.ty.as_slice(),
-                ] == A_F
+/// Whether the copy of this is the InterfaceMethodref of A.f:()V.
+fn is_copied(alloc: Global, method: &Reference<Name>) -> bool {
+    match method.copy(alloc) {
+        Ok(copy) => {
+            copy.itf
+                && is_a_f(
+                    copy.owner.as_slice(),
+                    copy.name.as_slice(),
+                    copy.ty.as_slice(),
+                )
         }
         Err(_) => false,
     }
 }
 
-/// Whether what was made is the call site g:()I of bootstrap method 7.
-fn is_call_site(made: &Result<CallSiteSpecifier<Name>, AllocError>) -> bool {
-    match made {
-        Ok(site) => {
-            site.bootstrap == 7
-                && [site.name.as_slice(), site.ty.as_slice()] == [b"g", b"()I".as_slice()]
+/// Whether the copy of an InterfaceMethodref is equal to it.
+fn is_method_copied(alloc: Global) -> bool {
+    match interface_method(alloc) {
+        Ok(method) => is_copied(alloc, &method),
+        Err(_) => false,
+    }
+}
+
+/// Whether the copy of this is the call site g:()I of bootstrap method 7.
+fn is_site_copied(alloc: Global, site: &CallSiteSpecifier<Name>) -> bool {
+    match site.copy(alloc) {
+        Ok(copy) => {
+            copy.bootstrap == 7
+                && [copy.name.as_slice(), copy.ty.as_slice()] == [b"g", b"()I".as_slice()]
         }
         Err(_) => false,
+    }
+}
+
+/// Whether the copy of a call site is equal to it.
+fn is_call_site_copied(alloc: Global) -> bool {
+    match call_site(alloc) {
+        Ok(site) => is_site_copied(alloc, &site),
+        Err(_) => false,
+    }
+}
+
+/// Whether this is what is at the front of the bytes.
+fn is_front(row: &PoolRow) -> bool {
+    match row {
+        TwoBytes(bytes, found) => u2_at(bytes) == *found,
+        FourBytes(bytes, found) => u4_at(bytes) == *found,
+        Front(count, bytes, found) => bytes_at(*count, bytes) == *found,
+        _ => false,
     }
 }
 
@@ -434,11 +455,9 @@ impl Row for PoolRow {
             Names(front, good, back) => are_named(alloc, front, good, back),
             Described(entry, good) => is_described(alloc, entry, *good),
             CutShort => is_each_cut(alloc),
-            TwoBytes(bytes, found) => u2_at(bytes) == *found,
-            FourBytes(bytes, found) => u4_at(bytes) == *found,
-            Front(count, bytes, found) => bytes_at(*count, bytes) == *found,
-            CopiedMethod => is_interface_method(&copied_method(alloc)),
-            CopiedCallSite => is_call_site(&copied_call_site(alloc)),
+            CopiedMethod => is_method_copied(alloc),
+            CopiedCallSite => is_call_site_copied(alloc),
+            _ => is_front(self),
         }
     }
 }
@@ -720,8 +739,13 @@ const PARTS: &[PoolRow] = &[
 
 #[test]
 fn pools(rt: HostRuntime) {
-    assert_rows(&rt, &[ENTRIES]);
-    assert_rows(&rt, &[POOLS, HANDLES, NAMED, DESCRIBED, TEXTS, PARTS]);
+    assert_rows(&rt, "ENTRIES", ENTRIES);
+    assert_rows(&rt, "POOLS", POOLS);
+    assert_rows(&rt, "HANDLES", HANDLES);
+    assert_rows(&rt, "NAMED", NAMED);
+    assert_rows(&rt, "DESCRIBED", DESCRIBED);
+    assert_rows(&rt, "TEXTS", TEXTS);
+    assert_rows(&rt, "PARTS", PARTS);
     one_pool();
     no_fault_in_a_pool();
 }

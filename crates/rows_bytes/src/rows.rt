@@ -22,9 +22,13 @@ fn other<R: Row>(alloc: Global, rows: &[R]) -> Option<usize> {
     None
 }
 
-/// Asserts that each row of these tables is so.
-pub(crate) fn assert_rows<R: Row>(rt: &(impl Abort + AllocGlobal), tables: &[&[R]]) {
-    for (table, rows) in tables.iter().enumerate() {
-        assert_eq!(rt; other(rt.alloc(), rows), None, "in table {table}");
-    }
+/// Asserts that each row of the table of this name is so.
+pub(crate) fn assert_rows<R: Row>(rt: &(impl Abort + AllocGlobal), table: &str, rows: &[R]) {
+    let other = other(rt.alloc(), rows);
+    assert!(rt; other.is_none(), "{other:?} of {table}");
+}
+
+/// Whether these are the class, the name and the descriptor of the method A.f:()V.
+pub(crate) fn is_a_f(owner: &[u8], name: &[u8], ty: &[u8]) -> bool {
+    [owner, name, ty] == A_F
 }

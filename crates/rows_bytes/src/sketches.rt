@@ -169,15 +169,28 @@ fn names(alloc: Global, count: usize, differ: bool) -> Result<Seq<Name>, AllocEr
     Ok(Seq::of(names))
 }
 
+/// The names that the part is of.
+fn names_of(alloc: Global, part: &Part) -> Result<Seq<Name>, AllocError> {
+    match part {
+        Member(name) => one(alloc, Name::copied(alloc, name)?),
+        Members(count) | Again(count) => names(alloc, *count, false),
+        Interfaces(count) => names(alloc, *count, true),
+        _ => Ok(Seq::of(Vec::new(alloc))),
+    }
+}
+
+/// A name of so many bytes.
+fn long_name(alloc: Global, length: usize) -> Result<Name, AllocError> {
+    Ok(Name::of(vec![in alloc; b'a'; length]?)?)
+}
+
 /// Gives the sketch names in place of what it has.
 fn give_names(alloc: Global, sketch: &mut Sketch, part: &Part) -> Result<(), AllocError> {
     match part {
-        Long(length) => sketch.name = Name::of(vec![in alloc; b'a'; *length]?)?,
+        Long(length) => sketch.name = long_name(alloc, *length)?,
         Host(name) => sketch.host = Some(Name::copied(alloc, name)?),
-        Member(name) => sketch.members = one(alloc, Name::copied(alloc, name)?)?,
-        Members(count) => sketch.members = names(alloc, *count, false)?,
-        Interfaces(count) => sketch.interfaces = names(alloc, *count, true)?,
-        Again(count) => sketch.interfaces = names(alloc, *count, false)?,
+        Member(_) | Members(_) => sketch.members = names_of(alloc, part)?,
+        Interfaces(_) | Again(_) => sketch.interfaces = names_of(alloc, part)?,
         _ => {}
     }
     Ok(())
@@ -219,7 +232,7 @@ fn are_parts(bytes: &[u8], parts: &[&[u8]]) -> bool {
 
 /// Whether the bytes are a class file of so many methods.
 fn has_methods(alloc: Global, bytes: &[u8], count: usize) -> bool {
-    match &read_class(alloc, bytes) {
+    match read_class(alloc, bytes) {
         Ok(file) => {
             let methods = file.methods();
             methods.len() == count && methods.is_empty() == (count == 0)
@@ -255,22 +268,17 @@ fn has_outcome(alloc: Global, sketch: &Sketch, outcome: &Outcome) -> bool {
     }
 }
 
-/// Whether the outcome is that of the sketch, which was made, once it is given the parts.
-fn leads_to(
-    alloc: Global,
-    made: &mut Result<Sketch, AllocError>,
-    parts: &[Part],
-    outcome: &Outcome,
-) -> bool {
-    match made {
-        Ok(sketch) => give_all(alloc, sketch, parts).is_ok() && has_outcome(alloc, sketch, outcome),
-        Err(_) => false,
-    }
+/// Whether the outcome is that of the sketch, once it is given the parts.
+fn leads_to(alloc: Global, sketch: &mut Sketch, parts: &[Part], outcome: &Outcome) -> bool {
+    give_all(alloc, sketch, parts).is_ok() && has_outcome(alloc, sketch, outcome)
 }
 
 impl Row for SketchRow {
     fn is_so(&self, alloc: Global) -> bool {
-        leads_to(alloc, &mut empty(alloc, self.0, self.1), self.2, &self.3)
+        match empty(alloc, self.0, self.1) {
+            Ok(mut sketch) => leads_to(alloc, &mut sketch, self.2, &self.3),
+            Err(_) => false,
+        }
     }
 }
 
@@ -478,18 +486,13 @@ const COUNTS: &[SketchRow] = &[
 
 #[test]
 fn sketches(rt: HostRuntime) {
-    assert_rows(
-        &rt,
-        &[
-            FILES,
-            FAULTS,
-            LENGTHS,
-            LONG_CODES,
-            MANY_CALLS,
-            MANY_CONSTANTS,
-            COUNTS,
-        ],
-    );
+    assert_rows(&rt, "FILES", FILES);
+    assert_rows(&rt, "FAULTS", FAULTS);
+    assert_rows(&rt, "LENGTHS", LENGTHS);
+    assert_rows(&rt, "LONG_CODES", LONG_CODES);
+    assert_rows(&rt, "MANY_CALLS", MANY_CALLS);
+    assert_rows(&rt, "MANY_CONSTANTS", MANY_CONSTANTS);
+    assert_rows(&rt, "COUNTS", COUNTS);
     one_class();
     no_fault_in_a_class();
 }
