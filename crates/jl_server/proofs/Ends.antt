@@ -1,12 +1,27 @@
 -- What follows of a list that another one goes on.
-use Rattle.std.specs.Prelude.{◌≡◌, ◌<◌, List, [], ◌∷◌, ◌++◌, length}
-use Rattle.std.proofs.Common.{ap, sym, ◌∙◌, arith, length-append}
+use Rattle.std.specs.Prelude.{◌≡◌, ℕ, ◌<◌, List, [], ◌∷◌, ◌++◌, length}
+use Rattle.std.proofs.Common.{ap, sym, ◌∙◌, subst, arith, length-append}
 use mathlib.Core.List.{IsPrefix}
-use Rattle.jl_types.specs.Happenings.Entries.{Entry}
-use Rattle.jl_server.proofs.Beginnings.{prefix_length}
+use Rattle.jl_types.specs.Happenings.Event.{Event}
+use Rattle.jl_types.specs.declared.event.Reply.{Reply}
+use Rattle.jl_types.specs.Happenings.Entries.{Entry, IsLegal}
+use Rattle.jl_server.specs.History.{EndsWith, entry_after}
+use Rattle.jl_server.proofs.Beginnings.{prefix_length, prefix_trans}
 
-pub prefix_more : {A : Type 0} (xs ys : List A) (x : A) → ys ≡ xs ++ x ∷ [] → IsPrefix xs ys
-prefix_more xs ys x is = (x ∷ [], sym is)
+-- a list that was seen begins the old one, and a receipt names the new one, which has one entry more
+module _ (seen old new named : List Entry) (begun : IsPrefix seen old) (same : named ≡ new) where
+  module _ (x : Entry) (grown : new ≡ old ++ x ∷ []) where
+    pub named_begun : IsPrefix seen named
+    named_begun = prefix_trans seen old named begun (x ∷ [], sym (same ∙ grown))
 
-pub longer_more : (seen old new : List Entry) (x : Entry) → IsPrefix seen old → new ≡ old ++ x ∷ [] → length seen < length new
-longer_more seen old new x p is = omega (arith, prefix_length seen old p, ap length is ∙ length-append old (x ∷ []))
+    pub named_longer : length seen < length named
+    named_longer = omega (arith, prefix_length seen old begun, ap length (same ∙ grown) ∙ length-append old (x ∷ []))
+
+  pub named_counted : (serial : ℕ) → serial ≡ length new → serial ≡ length named
+  named_counted serial is = is ∙ ap length (sym same)
+
+  pub named_legal : (n : ℕ) → IsLegal n new → IsLegal n named
+  named_legal n = subst (IsLegal n) (sym same)
+
+  pub named_ends : (e : Event) (reply : Reply) → new ≡ old ++ entry_after old e reply ∷ [] → EndsWith named e reply
+  named_ends e reply grown = (old, same ∙ grown)

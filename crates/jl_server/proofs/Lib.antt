@@ -5,6 +5,7 @@ pub mod Logs
 pub mod Alone
 pub mod Next
 pub mod Ends
+pub mod Steps
 pub mod Opens
 pub mod FastLaws
 pub mod MemoLaws

@@ -40,6 +40,17 @@ pub server_shown : (t : Content) (b : Book) (n : ℕ) (v : Option Tag) → v ≡
     → server_of v ≡ Some (b, n)
 server_shown t b n v is book wide = ap server_of is ∙ (ap (λ (c : Book). Some (c, length t.links)) book ∙ ap (λ (k : ℕ). Some (b, k)) wide)
 
+pub blank_links : (n : ℕ) (links : List (Option Link)) (slots : List (ℕ × Option Link)) → links ≡ replicate n None → slots ≡ []
+    → written links slots ≡ replicate n None
+blank_links n links slots are none = ap (written links) none ∙ are
+
+-- which server it is that shows a change of nothing
+pub known_server : (n : ℕ) (b : Book) (t u : Content) (c : Change) (v : Option Tag) → u ≡ changed t c → v ≡ Some (tag_of u) → t.links ≡ replicate n None
+    → c.slots.items ≡ [] → c.list.reached.book ≡ b → server_of v ≡ Some (b, n)
+known_server n b t u c v is known links slots book =
+    server_shown u b n v known (ap (λ (s : Content). s.list.reached.book) is ∙ book)
+    (ap (λ (s : Content). length s.links) is ∙ ap length (blank_links n t.links c.slots.items links slots) ∙ length_fresh n)
+
 -- two tables with one content
 pub alike : (x y : Table) → x.links.items ≡ y.links.items → x.classes ≡ y.classes → x.list ≡ y.list → content x ≡ content y
 alike x y p q r i = record { links = p i; classes = q i; list = r i }

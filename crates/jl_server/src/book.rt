@@ -9,7 +9,7 @@ ghost use Rattle.jl_types.specs.Happenings.Entries.{IsLegal, events_of};
 ghost use Rattle.jl_hierarchy.specs.Constancy.{AreInOrder};
 ghost use Rattle.jl_core.specs.State.{IsAccepted, IsRefused, empty_core};
 ghost use Rattle.jl_core.specs.Plans.{IsPlanned, IsAsPlanned};
-ghost use Rattle.jl_server.specs.History.{core_of, entry_after, is_install, planned_entry};
+ghost use Rattle.jl_server.specs.History.{core_of, entry_after, installs_alone, is_install, planned_entry};
 ghost use Rattle.jl_server.specs.Means.Shown.{content, changed, IsShown, IsChangeOf};
 
 use crate::history::{Head, Name};
@@ -39,10 +39,11 @@ pub struct Denied<K: Name> {
     pub seen: Seen<K>,
 }
 
-/// What is to be published: the change that an entry makes, and the list that it ends.
+/// What is to be published: the change that an entry makes, the list that it ends, and whether it is an install.
 struct Publication<K: Name> {
     change: Change,
     list: Seen<K>,
+    installs: bool,
 }
 
 /// A core and the one writer of the published table. The published list is the entries of the core's log. A clause sees that list.
@@ -196,118 +197,18 @@ impl<K: Name, R: Wait + Drop> Book<K, R> {
         ensures refused { IfErr result (λ d. IsRefused (verdict K.max_sites (world_after (events_of self.old)) event) d.refusal) }
         ensures denied { IfErr result (λ d. (d.seen ≡ self.old) × (self.new ≡ self.old)) }
     {
-        let installs = installs(&event);
-        match self.plan(alloc, event, judged) {
-            Ok(planned) => self.perform(rt, alloc, planned, installs),
-            Err(refusal) => Err(self.denied(refusal)),
+        match next_step(
+            alloc,
+            &mut self.core,
+            &self.head,
+            &self.list,
+            self.since,
+            event,
+            judged,
+        ) {
+            Ok((planned, next)) => self.publish(rt, planned, next),
+            Err(refusal) => Err(denied_after(&self.list, refusal)),
         }
-    }
-
-    /// Plans the event, which is accepted after the judged list, where there is one.
-    fn plan(
-        &mut self,
-        alloc: Global,
-        event: Event,
-        judged: Option<&Seen<K>>,
-    ) -> Result<Planned, Refusal>
-        requires { IfSome judged (λ list. IsOk (verdict K.max_sites (world_after (events_of list.now)) event)) }
-        ensures planned { IfOk result (IsPlanned (core_of K.max_sites self.old) event) }
-        ensures refused { IfErr result (IsRefused (verdict K.max_sites (world_after (events_of self.old)) event)) }
-        ensures unchanged { self.new ≡ self.old }
-    {
-        match judged {
-            Some(list) => self.plan_judged(alloc, event, list),
-            None => self.plan_new(alloc, event),
-        }
-    }
-
-    /// Plans the event, which is accepted after this list, and judges it once more where anything but installs came since.
-    fn plan_judged(
-        &mut self,
-        alloc: Global,
-        event: Event,
-        judged: &Seen<K>,
-    ) -> Result<Planned, Refusal>
-        requires { IsOk (verdict K.max_sites (world_after (events_of judged.now)) event) }
-        ensures planned { IfOk result (IsPlanned (core_of K.max_sites self.old) event) }
-        ensures refused { IfErr result (IsRefused (verdict K.max_sites (world_after (events_of self.old)) event)) }
-        ensures unchanged { self.new ≡ self.old }
-    {
-        if !self.is_as_after(judged) {
-            return self.plan_new(alloc, event);
-        }
-        match self.core.plan_judged(alloc, event) {
-            Ok(planned) => Ok(planned),
-            Err(_) => Err(Refusal::Memory),
-        }
-    }
-
-    /// Plans the event, of which nothing is known.
-    fn plan_new(&mut self, alloc: Global, event: Event) -> Result<Planned, Refusal>
-        ensures planned { IfOk result (IsPlanned (core_of K.max_sites self.old) event) }
-        ensures refused { IfErr result (IsRefused (verdict K.max_sites (world_after (events_of self.old)) event)) }
-        ensures unchanged { self.new ≡ self.old }
-    {
-        self.core.plan(alloc, event)
-    }
-
-    /// Whether nothing but installs came after this list, so that what there is to link is what there was.
-    fn is_as_after(&self, list: &Seen<K>) -> bool
-        ensures { result ≡ true → world_after (events_of self.now) ≡ world_after (events_of list.now) }
-    {
-        let serial = list.serial();
-        if serial < self.since {
-            return false;
-        }
-        if serial > self.list.serial() {
-            return false;
-        }
-        list.begins(&self.list);
-        true
-    }
-
-    /// What was planned, an install or not, with all its room made first. Want of memory is the only refusal.
-    fn perform<H: Wait>(
-        &mut self,
-        rt: &H,
-        alloc: Global,
-        planned: Planned,
-        installs: bool,
-    ) -> Result<Receipt<K>, Denied<K>>
-        requires planned { IsAsPlanned (core_of K.max_sites self.old) planned }
-        requires installs { installs ≡ is_install (planned_entry planned).event }
-        ensures list { IfOk result (λ r. (self.new ≡ self.old ++ planned_entry planned ∷ []) × (r.reply ≡ planned.reply)) }
-        ensures receipt { IfOk result (λ r. (r.seen ≡ self.new) × (r.serial ≡ length self.new)) }
-        ensures legal { IsLegal K.max_sites self.new }
-        ensures refused { IfErr result (λ d. (d.refusal ≡ Memory) × (d.seen ≡ self.old) × (self.new ≡ self.old)) }
-    {
-        match self.next(alloc, &planned) {
-            Some(next) => self.publish(rt, planned, next, installs),
-            None => Err(self.unmade(planned)),
-        }
-    }
-
-    /// The change that what was planned makes in the table, and the published list with its entry, which is added to the history. There is
-    /// nothing where there is no memory.
-    fn next(&self, alloc: Global, planned: &Planned) -> Option<Publication<K>>
-        requires { IsAsPlanned (core_of K.max_sites self.now) planned.now }
-        ensures list { IfSome result (λ next. next.list ≡ self.now ++ planned_entry planned.now ∷ []) }
-        ensures change { IfSome result (λ next. IsChangeOf K.book planned.now next.list next.change) }
-        ensures legal { IfSome result (λ next. IsLegal K.max_sites next.list) }
-    {
-        let Ok(slots) = copy(alloc, planned.slots()) else {
-            return None;
-        };
-        let mut list = self.list.again();
-        if !list.add(&self.head, planned) {
-            return None;
-        }
-        let change = Change {
-            slots,
-            classes: planned.class_count(),
-            list: list.mark(),
-        };
-        Some(Publication { change, list })
     }
 
     /// Commits and shows what was planned, whose entry ends the next list. Want of memory is the only refusal.
@@ -316,10 +217,9 @@ impl<K: Name, R: Wait + Drop> Book<K, R> {
         rt: &H,
         planned: Planned,
         next: Publication<K>,
-        installs: bool,
     ) -> Result<Receipt<K>, Denied<K>>
         requires planned { IsAsPlanned (core_of K.max_sites self.old) planned }
-        requires installs { installs ≡ is_install (planned_entry planned).event }
+        requires installs { next.installs ≡ is_install (planned_entry planned).event }
         requires list { next.list ≡ self.old ++ planned_entry planned ∷ [] }
         requires change { IsChangeOf K.book planned next.list next.change }
         requires legal { IsLegal K.max_sites next.list }
@@ -328,49 +228,207 @@ impl<K: Name, R: Wait + Drop> Book<K, R> {
         ensures legal { IsLegal K.max_sites self.new }
         ensures refused { IfErr result (λ d. (d.refusal ≡ Memory) × (d.seen ≡ self.old) × (self.new ≡ self.old)) }
     {
-        let Publication { change, list } = next;
+        let Publication {
+            change,
+            list,
+            installs,
+        } = next;
         match commit_shown(rt, &mut self.core, &mut self.writer, planned, change) {
             Some(reply) => {
                 self.since = since_after(installs, self.since, &list);
                 self.list = list;
-                Ok(self.receipt(reply))
+                Ok(receipt_of(&self.list, reply))
             }
-            None => Err(self.denied(Refusal::Memory)),
+            None => Err(denied_after(&self.list, Refusal::Memory)),
         }
     }
+}
 
-    /// The receipt of the event that is the last of the published list.
-    fn receipt(&self, reply: Reply) -> Receipt<K>
-        ensures reply { result.reply ≡ reply }
-        ensures seen { (result.seen ≡ self.now) × (result.serial ≡ length self.now) }
-        ensures legal { IsLegal K.max_sites self.now }
-    {
-        Receipt {
-            serial: self.list.serial(),
-            reply,
-            seen: self.list.again(),
-        }
+/// Plans the event after this list, which the core has come to, with all its room made. It is accepted after the judged list, where
+/// there is one. The entry is added to the history; the core is as it was.
+fn next_step<K: Name>(
+    alloc: Global,
+    core: &mut Core,
+    head: &Head<K>,
+    list: &Seen<K>,
+    since: u64,
+    event: Event,
+    judged: Option<&Seen<K>>,
+) -> Result<(Planned, Publication<K>), Refusal>
+    requires core { core.old ≡ core_of K.max_sites list.now }
+    requires alone { installs_alone since list.now ≡ true }
+    requires judged { IfSome judged (λ earlier. IsOk (verdict K.max_sites (world_after (events_of earlier.now)) event)) }
+    ensures planned { IfOk result (λ r. IsPlanned (core_of K.max_sites list.now) event r.0) }
+    ensures installs { IfOk result (λ r. r.1.installs ≡ is_install (planned_entry r.0).event) }
+    ensures list { IfOk result (λ r. r.1.list ≡ list.now ++ planned_entry r.0 ∷ []) }
+    ensures change { IfOk result (λ r. IsChangeOf K.book r.0 r.1.list r.1.change) }
+    ensures legal { IfOk result (λ r. IsLegal K.max_sites r.1.list) }
+    ensures refused { IfErr result (IsRefused (verdict K.max_sites (world_after (events_of list.now)) event)) }
+    ensures unchanged { core.new ≡ core.old }
+{
+    let installs = installs(&event);
+    match plan(alloc, core, list, since, event, judged) {
+        Ok(planned) => match what_is_next(alloc, head, list, &planned, installs) {
+            Some(next) => Ok((planned, next)),
+            None => Err(unmade(planned)),
+        },
+        Err(refusal) => Err(refusal),
     }
+}
 
-    /// The refusal of an event after the published list.
-    fn denied(&self, refusal: Refusal) -> Denied<K>
-        ensures denied { (result.refusal ≡ refusal) × (result.seen ≡ self.now) }
-        ensures legal { IsLegal K.max_sites self.now }
-    {
-        let _serial = self.list.serial();
-        Denied {
-            refusal,
-            seen: self.list.again(),
-        }
+/// Plans the event after this list, which is accepted after the judged list, where there is one.
+fn plan<K: Name>(
+    alloc: Global,
+    core: &mut Core,
+    list: &Seen<K>,
+    since: u64,
+    event: Event,
+    judged: Option<&Seen<K>>,
+) -> Result<Planned, Refusal>
+    requires core { core.old ≡ core_of K.max_sites list.now }
+    requires alone { installs_alone since list.now ≡ true }
+    requires judged { IfSome judged (λ earlier. IsOk (verdict K.max_sites (world_after (events_of earlier.now)) event)) }
+    ensures planned { IfOk result (IsPlanned (core_of K.max_sites list.now) event) }
+    ensures refused { IfErr result (IsRefused (verdict K.max_sites (world_after (events_of list.now)) event)) }
+    ensures unchanged { core.new ≡ core.old }
+{
+    match judged {
+        Some(earlier) => plan_judged(alloc, core, list, since, event, earlier),
+        None => plan_new(alloc, core, list, event),
     }
+}
 
-    /// The refusal of what was planned, for want of memory.
-    fn unmade(&self, _planned: Planned) -> Denied<K>
-        ensures denied { (result.refusal ≡ Memory) × (result.seen ≡ self.now) }
-        ensures legal { IsLegal K.max_sites self.now }
-    {
-        self.denied(Refusal::Memory)
+/// Plans the event, which is accepted after the earlier list, and judges it once more where anything but installs came since.
+fn plan_judged<K: Name>(
+    alloc: Global,
+    core: &mut Core,
+    list: &Seen<K>,
+    since: u64,
+    event: Event,
+    earlier: &Seen<K>,
+) -> Result<Planned, Refusal>
+    requires core { core.old ≡ core_of K.max_sites list.now }
+    requires alone { installs_alone since list.now ≡ true }
+    requires judged { IsOk (verdict K.max_sites (world_after (events_of earlier.now)) event) }
+    ensures planned { IfOk result (IsPlanned (core_of K.max_sites list.now) event) }
+    ensures refused { IfErr result (IsRefused (verdict K.max_sites (world_after (events_of list.now)) event)) }
+    ensures unchanged { core.new ≡ core.old }
+{
+    if !is_as_after(list, since, earlier) {
+        return plan_new(alloc, core, list, event);
     }
+    match core.plan_judged(alloc, event) {
+        Ok(planned) => Ok(planned),
+        Err(_) => Err(Refusal::Memory),
+    }
+}
+
+/// Plans the event after this list, of which nothing is known.
+fn plan_new<K: Name>(
+    alloc: Global,
+    core: &mut Core,
+    list: &Seen<K>,
+    event: Event,
+) -> Result<Planned, Refusal>
+    requires { core.old ≡ core_of K.max_sites list.now }
+    ensures planned { IfOk result (IsPlanned (core_of K.max_sites list.now) event) }
+    ensures refused { IfErr result (IsRefused (verdict K.max_sites (world_after (events_of list.now)) event)) }
+    ensures unchanged { core.new ≡ core.old }
+{
+    let _list = list;
+    core.plan(alloc, event)
+}
+
+/// Whether nothing but installs came after the earlier list, so that what there is to link is what there was. In this list there are
+/// installs alone after so many entries.
+fn is_as_after<K: Name>(list: &Seen<K>, since: u64, earlier: &Seen<K>) -> bool
+    requires { installs_alone since list.now ≡ true }
+    ensures { result ≡ true → world_after (events_of list.now) ≡ world_after (events_of earlier.now) }
+{
+    let serial = earlier.serial();
+    if serial < since {
+        return false;
+    }
+    if serial > list.serial() {
+        return false;
+    }
+    earlier.begins(list);
+    true
+}
+
+/// The change that what was planned, an install or not, makes in the table, and this list with its entry, which is added to the history.
+/// There is nothing where there is no memory.
+fn what_is_next<K: Name>(
+    alloc: Global,
+    head: &Head<K>,
+    list: &Seen<K>,
+    planned: &Planned,
+    installs: bool,
+) -> Option<Publication<K>>
+    requires { IsAsPlanned (core_of K.max_sites list.now) planned.now }
+    ensures list { IfSome result (λ next. next.list ≡ list.now ++ planned_entry planned.now ∷ []) }
+    ensures change { IfSome result (λ next. IsChangeOf K.book planned.now next.list next.change) }
+    ensures legal { IfSome result (λ next. IsLegal K.max_sites next.list) }
+    ensures installs { IfSome result (λ next. next.installs ≡ installs) }
+{
+    let Ok(slots) = copy(alloc, planned.slots()) else {
+        return None;
+    };
+    let next = next_list(head, list, planned)?;
+    let change = Change {
+        slots,
+        classes: planned.class_count(),
+        list: next.mark(),
+    };
+    Some(Publication {
+        change,
+        list: next,
+        installs,
+    })
+}
+
+/// This list with the entry of what was planned, which is added to the history. There is nothing where the history is longer.
+fn next_list<K: Name>(head: &Head<K>, list: &Seen<K>, planned: &Planned) -> Option<Seen<K>>
+    requires { IsAsPlanned (core_of K.max_sites list.now) planned.now }
+    ensures { IfSome result (λ next. next ≡ list.now ++ planned_entry planned.now ∷ []) }
+{
+    let mut next = list.again();
+    if !next.add(head, planned) {
+        return None;
+    }
+    Some(next)
+}
+
+/// The receipt of the event that is the last of the list.
+fn receipt_of<K: Name>(list: &Seen<K>, reply: Reply) -> Receipt<K>
+    ensures reply { result.reply ≡ reply }
+    ensures seen { (result.seen ≡ list.now) × (result.serial ≡ length list.now) }
+    ensures legal { IsLegal K.max_sites list.now }
+{
+    Receipt {
+        serial: list.serial(),
+        reply,
+        seen: list.again(),
+    }
+}
+
+/// The refusal of an event after the list.
+fn denied_after<K: Name>(list: &Seen<K>, refusal: Refusal) -> Denied<K>
+    ensures denied { (result.refusal ≡ refusal) × (result.seen ≡ list.now) }
+    ensures legal { IsLegal K.max_sites list.now }
+{
+    let _serial = list.serial();
+    Denied {
+        refusal,
+        seen: list.again(),
+    }
+}
+
+/// The refusal of what was planned, for want of memory.
+fn unmade(_planned: Planned) -> Refusal
+    ensures { result ≡ Memory }
+{
+    Refusal::Memory
 }
 
 /// Puts the change into the table's queue, which is the last growth of an event, and then commits what was planned and shows the change. Where

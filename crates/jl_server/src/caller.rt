@@ -258,7 +258,6 @@ fn look_all<'a, K: Name>(
 }
 
 /// The published table and its list, which what was seen begins; what was given, where the table isn't entered or is older.
-#[tactic(auto, using(crate::proofs::Next::same_book))]
 fn entered<K: Name>(
     looking: TableReader,
     seen: Seen<K>,

@@ -1,6 +1,6 @@
 //! What a server is made of, before it has a name.
 
-ghost use Rattle.std.specs.Prelude.{◌≡◌, ◌≤◌, [], Some, length, drop, replicate, None, IfOk};
+ghost use Rattle.std.specs.Prelude.{◌≡◌, ◌≤◌, [], Some, length, drop, replicate, None, IfOk, IfSome};
 ghost use Rattle.left_right.specs.Sides.{view as seat_view};
 ghost use Rattle.jl_core.specs.State.{empty_core};
 ghost use Rattle.jl_server.specs.Means.Shown.{server_of};
@@ -8,6 +8,7 @@ ghost use Rattle.jl_server.specs.Means.Shown.{server_of};
 use crate::book::Book;
 use crate::caller::Caller;
 use crate::history::{Name, Opened};
+use crate::mark::Mark;
 use crate::publish::{TableWriter, Tell, publish};
 use crate::seen::Seen;
 use crate::server::LinkServer;
@@ -58,7 +59,6 @@ impl Parts {
     /// # Errors
     ///
     /// Unmade, where a growth was refused.
-    #[tactic(auto, using(crate::proofs::Opens::opens, crate::proofs::Opens::length_fresh, crate::proofs::Opens::alike))]
     pub fn new(alloc: Global, max_sites: u32, callers: usize) -> Result<Parts, Unmade>
         requires sites { (1 ≤ max_sites) × (max_sites ≤ 65536) }
         requires callers { (1 ≤ callers) × (callers ≤ 64) }
@@ -68,15 +68,7 @@ impl Parts {
         let Ok(core) = Core::new(alloc, max_sites) else {
             return Err(Unmade);
         };
-        let list = history.mark();
-        let again = list.again();
-        let Ok(first) = Table::new(alloc, max_sites, list) else {
-            return Err(Unmade);
-        };
-        let Ok(second) = Table::new(alloc, max_sites, again) else {
-            return Err(Unmade);
-        };
-        let Ok(writer) = Writer::new(alloc, first, second, callers) else {
+        let Ok(writer) = first_writer(alloc, max_sites, callers, history.mark()) else {
             return Err(Unmade);
         };
         Ok(Parts {
@@ -94,7 +86,6 @@ impl Parts {
     /// # Errors
     ///
     /// Unmade, where a growth or a caller's place was refused.
-    #[tactic(auto, using(crate::proofs::Opens::blank, crate::proofs::Opens::server_shown))]
     pub fn start<K: Name, R: Wait + Drop>(
         self,
         alloc: Global,
@@ -112,14 +103,7 @@ impl Parts {
             callers,
         } = self;
         let (head, list) = history.named::<K>();
-        let Some(writer) = publish(&rt, writer, blank(alloc, &list)) else {
-            return Err(Unmade);
-        };
-        let Some(mut writer) = publish(&rt, writer, blank(alloc, &list)) else {
-            return Err(Unmade);
-        };
-        let Ok(made) = make_callers(alloc, &mut writer, &list, callers) else {
-            drop(writer.take(&rt));
+        let Some((writer, made)) = first_shown(&rt, alloc, writer, &list, callers) else {
             return Err(Unmade);
         };
         Ok((
@@ -127,6 +111,86 @@ impl Parts {
             made,
         ))
     }
+}
+
+/// The writer of a first table, of so many sites and of this list, which has no entries. Want of memory is an error.
+#[tactic(auto, using(crate::proofs::Opens::opens, crate::proofs::Opens::alike))]
+fn first_writer(
+    alloc: Global,
+    sites: u32,
+    callers: usize,
+    list: Mark,
+) -> Result<TableWriter, AllocError>
+    requires callers { (1 ≤ callers) × (callers ≤ 64) }
+    requires list { list.reached.log ≡ [] }
+    ensures list { IfOk result (λ w. w.desk.shown.value.list ≡ list) }
+    ensures links { IfOk result (λ w. w.desk.shown.value.links.items ≡ replicate sites None) }
+    ensures settled { IfOk result (λ w. drop w.behind w.log.items ≡ []) }
+{
+    let (first, second) = two_tables(alloc, sites, list)?;
+    Writer::new(alloc, first, second, callers)
+}
+
+/// Two tables of one list, with no links. Want of memory is an error.
+fn two_tables(alloc: Global, sites: u32, list: Mark) -> Result<(Table, Table), AllocError>
+    ensures links { IfOk result (λ both. (both.0.links.items ≡ replicate sites None) × (both.1.links.items ≡ replicate sites None)) }
+    ensures classes { IfOk result (λ both. (both.0.classes ≡ 0) × (both.1.classes ≡ 0)) }
+    ensures list { IfOk result (λ both. (both.0.list ≡ list) × (both.1.list ≡ list)) }
+{
+    let again = list.again();
+    let first = Table::new(alloc, sites, list)?;
+    let second = Table::new(alloc, sites, again)?;
+    Ok((first, second))
+}
+
+/// Publishes twice with no change, after which the writer has room for every later change, and makes so many callers, which have seen
+/// nothing. Where a growth or a caller's place is refused the table is at its end, and there is nothing.
+fn first_shown<K: Name, R: Wait>(
+    rt: &R,
+    alloc: Global,
+    writer: TableWriter,
+    list: &Seen<K>,
+    callers: usize,
+) -> Option<(TableWriter, Vec<Caller<K>>)>
+    requires list { list.now ≡ [] }
+    requires settled { length (drop writer.behind writer.log.items) ≡ 0 }
+    requires book { writer.desk.shown.value.list.reached.book ≡ K.book }
+    requires links { writer.desk.shown.value.links.items ≡ replicate K.max_sites None }
+    ensures settled { IfSome result (λ r. length (drop r.0.behind r.0.log.items) ≡ 0) }
+    ensures log { IfSome result (λ r. r.0.desk.shown.value.list.reached.log ≡ []) }
+    ensures book { IfSome result (λ r. r.0.desk.shown.value.list.reached.book ≡ K.book) }
+    ensures links { IfSome result (λ r. r.0.desk.shown.value.links.items ≡ replicate K.max_sites None) }
+    ensures callers { IfSome result (λ r. r.1.items ≡ replicate callers []) }
+{
+    let writer = publish_blank(rt, alloc, writer, list)?;
+    let mut writer = publish_blank(rt, alloc, writer, list)?;
+    match make_callers(alloc, &mut writer, list, callers) {
+        Ok(made) => Some((writer, made)),
+        Err(_) => {
+            drop(writer.take(rt));
+            None
+        }
+    }
+}
+
+/// Publishes no change of a first table. Where there is no memory the table is at its end, and there is nothing.
+fn publish_blank<K: Name, R: Wait>(
+    rt: &R,
+    alloc: Global,
+    writer: TableWriter,
+    list: &Seen<K>,
+) -> Option<TableWriter>
+    requires list { list.now ≡ [] }
+    requires settled { length (drop writer.behind writer.log.items) ≡ 0 }
+    requires book { writer.desk.shown.value.list.reached.book ≡ K.book }
+    requires links { writer.desk.shown.value.links.items ≡ replicate K.max_sites None }
+    ensures settled { IfSome result (λ w. length (drop w.behind w.log.items) ≡ 0) }
+    ensures log { IfSome result (λ w. w.desk.shown.value.list.reached.log ≡ []) }
+    ensures book { IfSome result (λ w. w.desk.shown.value.list.reached.book ≡ K.book) }
+    ensures links { IfSome result (λ w. w.desk.shown.value.links.items ≡ replicate K.max_sites None) }
+    ensures known { IfSome result (λ w. server_of (seat_view w.desk.place) ≡ Some (K.book, K.max_sites)) }
+{
+    publish(rt, writer, blank(alloc, list))
 }
 
 /// A change of nothing.

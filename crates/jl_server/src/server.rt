@@ -1,6 +1,7 @@
 //! A link server: its book under one lock.
 
-ghost use Rattle.std.specs.Prelude.{◌≡◌, ◌<◌, ◌≤◌, [], ◌∷◌, ◌++◌, length, IsOk, IfOk, IfErr, IfSome, OnErr};
+ghost use Rattle.std.specs.Prelude.{◌≡◌, ◌<◌, ◌≤◌, length, IsOk, IfOk, IfErr, IfSome, OnErr};
+ghost use Rattle.std.specs.Sync.Mutex.{mutex_guard_value};
 ghost use mathlib.Core.List.{IsPrefix};
 ghost use Rattle.jl_types.specs.Happenings.Events.{verdict};
 ghost use Rattle.jl_types.specs.Linkage.Calls.{dispatch};
@@ -9,7 +10,7 @@ ghost use Rattle.jl_types.specs.Happenings.Entries.{IsLegal, events_of};
 ghost use Rattle.jl_hierarchy.specs.Constancy.{AreInOrder};
 ghost use Rattle.jl_core.specs.State.{IsRefused};
 ghost use Rattle.jl_memo.specs.Answers.{told};
-ghost use Rattle.jl_server.specs.History.{EndsWith, entry_after};
+ghost use Rattle.jl_server.specs.History.{EndsWith};
 
 use crate::book::{Book, Denied, Receipt};
 use crate::caller::Caller;
@@ -20,7 +21,7 @@ use jl_names::Seq;
 use jl_relink::Snapshot;
 use jl_types::{Answer, Event, Link, Recv, SiteNo};
 use std::alloc::{AllocError, Global};
-use std::sync::{Mutex, Wait};
+use std::sync::{Mutex, MutexGuard, Wait};
 
 /// One book under one lock. Its drop waits for the callers that are inside the table; from then on calls are Closed.
 pub struct LinkServer<K: Name, R: Wait + Drop> {
@@ -228,6 +229,25 @@ impl<K: Name> Caller<K> {
     }
 }
 
+/// The book under the lock, which isn't behind this list. While it is behind, which never happens, the lock is let go and taken again.
+fn caught_up<'a, K: Name, H: Wait, R: Wait + Drop>(
+    rt: &H,
+    server: &'a LinkServer<K, R>,
+    seen: &Seen<K>,
+) -> MutexGuard<'a, Book<K, R>>
+    ensures begun { IsPrefix seen.now (mutex_guard_value result) }
+    ensures legal { IsLegal K.max_sites (mutex_guard_value result) }
+{
+    for _ in rt.forever() {
+        let book = server.book.lock(rt);
+        if book.list().serial() >= seen.serial() {
+            seen.begins(book.list());
+            return book;
+        }
+    }
+    unreachable!()
+}
+
 /// What the call comes to after this list.
 fn ask_after<K: Name, H: Wait, R: Wait + Drop>(
     rt: &H,
@@ -240,23 +260,16 @@ fn ask_after<K: Name, H: Wait, R: Wait + Drop>(
     ensures link { result.link ≡ installed (events_of result.seen) call.now.0 }
     ensures order { AreInOrder (world_after (events_of result.seen)).classes }
 {
-    for _ in rt.forever() {
-        let book = server.book.lock(rt);
-        if book.list().serial() >= seen.serial() {
-            seen.begins(book.list());
-            let (answer, link) = book.ask(call.0, call.1);
-            return Asked {
-                answer,
-                link,
-                seen: book.list().again(),
-            };
-        }
+    let book = caught_up(rt, server, seen);
+    let (answer, link) = book.ask(call.0, call.1);
+    Asked {
+        answer,
+        link,
+        seen: book.list().again(),
     }
-    unreachable!()
 }
 
-/// One step of the book after this list, of an event that is accepted after the judged list, where there is one. While the book is
-/// behind this list, which never happens, the lock is let go and taken again.
+/// One step of the book after this list, of an event that is accepted after the judged list, where there is one.
 fn apply_after<K: Name, H: Wait, R: Wait + Drop>(
     rt: &H,
     alloc: Global,
@@ -272,17 +285,11 @@ fn apply_after<K: Name, H: Wait, R: Wait + Drop>(
     ensures denied { IfErr result (λ d. IsPrefix seen.now d.seen × IsLegal K.max_sites d.seen) }
     ensures refused { IfErr result (λ d. IsRefused (verdict K.max_sites (world_after (events_of d.seen)) event) d.refusal) }
 {
-    for _ in rt.forever() {
-        let mut book = server.book.lock(rt);
-        if book.list().serial() >= seen.serial() {
-            return step_after(rt, alloc, &mut book, seen, event, judged);
-        }
-    }
-    unreachable!()
+    let mut book = caught_up(rt, server, seen);
+    step_after(rt, alloc, &mut book, seen, event, judged)
 }
 
-/// One step of the book, which isn't behind this list: the book gets this one entry, or stays as it is.
-#[tactic(auto, using(crate::proofs::Beginnings::prefix_trans, crate::proofs::Ends::prefix_more, crate::proofs::Ends::longer_more))]
+/// One step of the book, which this list begins: the book gets this one entry, or stays as it is.
 fn step_after<K: Name, H: Wait, R: Wait + Drop>(
     rt: &H,
     alloc: Global,
@@ -291,22 +298,16 @@ fn step_after<K: Name, H: Wait, R: Wait + Drop>(
     event: Event,
     judged: Option<&Seen<K>>,
 ) -> Result<Receipt<K>, Denied<K>>
-    requires later { length seen.now ≤ length book.old }
+    requires begun { IsPrefix seen.now book.old }
     requires judged { IfSome judged (λ list. IsOk (verdict K.max_sites (world_after (events_of list.now)) event)) }
-    ensures added { IfOk result (λ r. book.new ≡ book.old ++ entry_after book.old event r.reply ∷ []) }
-    ensures told { IfOk result (λ r. (r.seen ≡ book.new) × (r.serial ≡ length book.new)) }
-    ensures kept { IfErr result (λ d. (d.seen ≡ book.old) × (book.new ≡ book.old)) }
     ensures receipt { IfOk result (λ r. IsPrefix seen.now r.seen × IsLegal K.max_sites r.seen × (r.serial ≡ length r.seen)) }
     ensures entry { IfOk result (λ r. EndsWith r.seen event r.reply) }
     ensures longer { IfOk result (λ r. length seen.now < length r.seen) }
     ensures denied { IfErr result (λ d. IsPrefix seen.now d.seen × IsLegal K.max_sites d.seen) }
     ensures refused { IfErr result (λ d. IsRefused (verdict K.max_sites (world_after (events_of d.seen)) event) d.refusal) }
 {
-    seen.begins(book.list());
-    match judged {
-        Some(_) => book.step_judged(rt, alloc, event, judged),
-        None => book.step(rt, alloc, event),
-    }
+    let _seen = seen;
+    book.step_judged(rt, alloc, event, judged)
 }
 
 /// A snapshot of the book after this list.
@@ -320,14 +321,8 @@ fn snapshot_after<K: Name, H: Wait, R: Wait + Drop>(
     ensures world { IfOk result (λ r. r.0 ≡ record { world = world_after (events_of r.1); serial = length r.1 }) }
     ensures sites { IfOk result (λ r. length r.0.world.places ≤ K.max_sites) }
 {
-    for _ in rt.forever() {
-        let book = server.book.lock(rt);
-        if book.list().serial() >= seen.serial() {
-            seen.begins(book.list());
-            return book.snapshot(alloc);
-        }
-    }
-    unreachable!()
+    let book = caught_up(rt, server, seen);
+    book.snapshot(alloc)
 }
 
 /// The installed links of the book after this list.
@@ -340,24 +335,9 @@ fn links_after<K: Name, H: Wait, R: Wait + Drop>(
     ensures seen { IfOk result (λ r. IsPrefix seen.now r.1 × IsLegal K.max_sites r.1) }
     ensures rows { IfOk result (λ r. r.0.items ≡ installed_links (events_of r.1)) }
 {
-    for _ in rt.forever() {
-        let book = server.book.lock(rt);
-        if book.list().serial() >= seen.serial() {
-            seen.begins(book.list());
-            return listed(alloc, &book);
-        }
+    let book = caught_up(rt, server, seen);
+    match book.links(alloc) {
+        Ok(rows) => Ok((rows, book.list().again())),
+        Err(error) => Err(error),
     }
-    unreachable!()
-}
-
-/// The installed links of the book, and its list.
-fn listed<K: Name, R: Wait + Drop>(
-    alloc: Global,
-    book: &Book<K, R>,
-) -> Result<(Vec<(SiteNo, Link)>, Seen<K>), AllocError>
-    ensures seen { IfOk result (λ r. r.1 ≡ book.now) }
-    ensures rows { IfOk result (λ r. r.0.items ≡ installed_links (events_of book.now)) }
-{
-    let rows = book.links(alloc)?;
-    Ok((rows, book.list().again()))
 }
