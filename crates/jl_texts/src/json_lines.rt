@@ -4,12 +4,12 @@ use crate::left_out::LeftOut;
 use crate::links::open_class;
 use crate::names::push_name;
 use crate::totals::{KINDS_BY_NAME, SHAPES_BY_KEY, Summary};
-use jl_class::{Method, Operand, Site};
+use jl_class::{Kind, Method, Operand, Site};
 use jl_hierarchy::Classes;
 use jl_json::{instruction, table_kind, throwable_name};
 use jl_names::LentName;
-use jl_report::{Finding, Row};
-use jl_types::{ClassId, Link, Missing, NotLinkable, Outcome, Table, Unlinked};
+use jl_report::{Finding, Row, Totals};
+use jl_types::{ClassId, Link, Missing, NotLinkable, Outcome, Table, TableKind, Unlinked};
 use json::Writer;
 use serde_json::{Value, put};
 use std::alloc::{AllocError, Global};
@@ -38,6 +38,41 @@ fn write_class(
     }
 }
 
+/// Writes a text under the key. Want of memory is an error.
+fn write_text(key: &str, text: &str, out: &mut Writer) -> Result<(), AllocError> {
+    out.key(key)?;
+    out.string(text)
+}
+
+/// Writes a number under the key. Want of memory is an error.
+fn write_number(key: &str, number: u64, out: &mut Writer) -> Result<(), AllocError> {
+    out.key(key)?;
+    out.u64(number)
+}
+
+/// Writes a name under the key. Want of memory is an error.
+fn write_name_at(
+    alloc: Global,
+    key: &str,
+    name: &[u8],
+    out: &mut Writer,
+) -> Result<(), AllocError> {
+    out.key(key)?;
+    write_name(alloc, name, out)
+}
+
+/// Writes the name of the class under the key. Want of memory is an error.
+fn write_class_at(
+    alloc: Global,
+    key: &str,
+    classes: &Classes,
+    class: ClassId,
+    out: &mut Writer,
+) -> Result<(), AllocError> {
+    out.key(key)?;
+    write_class(alloc, classes, class, out)
+}
+
 /// Writes an outcome: the class whose method runs, of the invocation's name and type, or what is thrown.
 fn write_outcome(
     alloc: Global,
@@ -46,19 +81,24 @@ fn write_outcome(
     out: &mut Writer,
 ) -> Result<(), AllocError> {
     out.begin_object()?;
-    match outcome {
-        Outcome::Run(method) => {
-            out.key("run")?;
-            write_class(alloc, classes, method.class, out)?;
-        }
-        Outcome::Throws(throwable) => {
-            out.key("throws")?;
-            out.string(throwable_name(throwable))?;
-        }
-    }
+    write_outcome_member(alloc, classes, outcome, out)?;
     out.end_object()
 }
 
+/// Writes the member of an outcome. Want of memory is an error.
+fn write_outcome_member(
+    alloc: Global,
+    classes: &Classes,
+    outcome: Outcome,
+    out: &mut Writer,
+) -> Result<(), AllocError> {
+    match outcome {
+        Outcome::Run(method) => write_class_at(alloc, "run", classes, method.class, out),
+        Outcome::Throws(throwable) => write_text("throws", throwable_name(throwable), out),
+    }
+}
+
+/// Writes a table: each class with its outcome. Want of memory is an error.
 fn write_table(
     alloc: Global,
     classes: &Classes,
@@ -67,11 +107,22 @@ fn write_table(
 ) -> Result<(), AllocError> {
     out.begin_array()?;
     for row in table.as_slice() {
-        out.begin_array()?;
-        write_class(alloc, classes, row.0, out)?;
-        write_outcome(alloc, classes, row.1, out)?;
-        out.end_array()?;
+        write_table_row(alloc, classes, row.0, row.1, out)?;
     }
+    out.end_array()
+}
+
+/// Writes a class with its outcome. Want of memory is an error.
+fn write_table_row(
+    alloc: Global,
+    classes: &Classes,
+    class: ClassId,
+    outcome: Outcome,
+    out: &mut Writer,
+) -> Result<(), AllocError> {
+    out.begin_array()?;
+    write_class(alloc, classes, class, out)?;
+    write_outcome(alloc, classes, outcome, out)?;
     out.end_array()
 }
 
@@ -83,31 +134,54 @@ fn write_link(
     out: &mut Writer,
 ) -> Result<(), AllocError> {
     out.begin_object()?;
-    match link {
-        Link::Fault(throwable) => {
-            out.key("fault")?;
-            out.string(throwable_name(*throwable))?;
-        }
-        Link::Plain(method) => {
-            out.key("plain")?;
-            write_class(alloc, classes, method.class, out)?;
-        }
-        Link::Direct(outcome) => {
-            out.key("direct")?;
-            write_outcome(alloc, classes, *outcome, out)?;
-        }
-        Link::Table(kind, table) => {
-            out.key("kind")?;
-            out.string(table_kind(*kind))?;
-            out.key("table")?;
-            write_table(alloc, classes, table, out)?;
-        }
-        Link::Mega => {
-            out.key("mega")?;
-            out.boolean(true)?;
-        }
-    }
+    write_link_members(alloc, classes, link, out)?;
     out.end_object()
+}
+
+/// Writes the members of a link. Want of memory is an error.
+fn write_link_members(
+    alloc: Global,
+    classes: &Classes,
+    link: &Link,
+    out: &mut Writer,
+) -> Result<(), AllocError> {
+    match link {
+        Link::Fault(throwable) => write_text("fault", throwable_name(*throwable), out),
+        Link::Plain(method) => write_class_at(alloc, "plain", classes, method.class, out),
+        Link::Direct(outcome) => write_direct(alloc, classes, *outcome, out),
+        Link::Table(kind, table) => write_table_members(alloc, classes, *kind, table, out),
+        Link::Mega => write_mega(out),
+    }
+}
+
+/// Writes the member of a link that is the same for all receivers. Want of memory is an error.
+fn write_direct(
+    alloc: Global,
+    classes: &Classes,
+    outcome: Outcome,
+    out: &mut Writer,
+) -> Result<(), AllocError> {
+    out.key("direct")?;
+    write_outcome(alloc, classes, outcome, out)
+}
+
+/// Writes the members of a link by a table. Want of memory is an error.
+fn write_table_members(
+    alloc: Global,
+    classes: &Classes,
+    kind: TableKind,
+    table: &Table,
+    out: &mut Writer,
+) -> Result<(), AllocError> {
+    write_text("kind", table_kind(kind), out)?;
+    out.key("table")?;
+    write_table(alloc, classes, table, out)
+}
+
+/// Writes the member of a link with too many receivers for a table. Want of memory is an error.
+fn write_mega(out: &mut Writer) -> Result<(), AllocError> {
+    out.key("mega")?;
+    out.boolean(true)
 }
 
 /// What an invocation came to, before this class was defined behind the others.
@@ -129,21 +203,55 @@ pub fn write_line(
     out: &mut Writer,
 ) -> Result<(), AllocError> {
     out.begin_object()?;
+    write_found(alloc, classes, row, site, former, out)?;
+    write_named(alloc, classes, row, method, site, out)?;
+    out.end_object()
+}
+
+/// Writes the members of a line up to the link. Want of memory is an error.
+fn write_found(
+    alloc: Global,
+    classes: &Classes,
+    row: &Row,
+    site: &Site<'_>,
+    former: Option<&Former<'_>>,
+    out: &mut Writer,
+) -> Result<(), AllocError> {
     write_bootstrap(site.operand(), out)?;
-    out.key("class")?;
-    write_class(alloc, classes, row.place.class, out)?;
-    if let Some(former) = former {
-        write_link_of(alloc, "dropped", classes, former.row, out)?;
-        out.key("droppedBy")?;
-        write_class(alloc, classes, former.class, out)?;
-    }
-    out.key("kind")?;
-    out.string(instruction(row.kind))?;
-    write_link_of(alloc, "link", classes, row, out)?;
+    write_class_at(alloc, "class", classes, row.place.class, out)?;
+    write_former(alloc, classes, former, out)?;
+    write_text("kind", instruction(row.kind), out)?;
+    write_link_of(alloc, "link", classes, row, out)
+}
+
+/// Writes the members of a line behind the link. Want of memory is an error.
+fn write_named(
+    alloc: Global,
+    classes: &Classes,
+    row: &Row,
+    method: &Method<'_>,
+    site: &Site<'_>,
+    out: &mut Writer,
+) -> Result<(), AllocError> {
     write_method(alloc, method, out)?;
     write_operand(alloc, classes, row, site, out)?;
-    write_unlinked(&row.finding, out)?;
-    out.end_object()
+    write_unlinked(&row.finding, out)
+}
+
+/// Writes the link that the invocation had and the class that dropped it, if one did. Want of memory is an error.
+fn write_former(
+    alloc: Global,
+    classes: &Classes,
+    former: Option<&Former<'_>>,
+    out: &mut Writer,
+) -> Result<(), AllocError> {
+    match former {
+        Some(former) => {
+            write_link_of(alloc, "dropped", classes, former.row, out)?;
+            write_class_at(alloc, "droppedBy", classes, former.class, out)
+        }
+        None => Ok(()),
+    }
 }
 
 /// Writes the number among the bootstrap methods, if there is one.
@@ -151,8 +259,7 @@ fn write_bootstrap(operand: &Operand<LentName<'_>>, out: &mut Writer) -> Result<
     match operand {
         Operand::Method(_) => Ok(()),
         Operand::CallSite(specifier) => {
-            out.key("bootstrap")?;
-            out.u64(u64::from(specifier.bootstrap))
+            write_number("bootstrap", u64::from(specifier.bootstrap), out)
         }
     }
 }
@@ -175,10 +282,8 @@ fn write_link_of(
 }
 
 fn write_method(alloc: Global, method: &Method<'_>, out: &mut Writer) -> Result<(), AllocError> {
-    out.key("method")?;
-    write_name(alloc, method.name().as_slice(), out)?;
-    out.key("methodType")?;
-    write_name(alloc, method.ty().as_slice(), out)
+    write_name_at(alloc, "method", method.name().as_slice(), out)?;
+    write_name_at(alloc, "methodType", method.ty().as_slice(), out)
 }
 
 /// Writes what the invocation names, and between these members its pc, why it is never linked, and what its link rests on.
@@ -189,40 +294,42 @@ fn write_operand(
     site: &Site<'_>,
     out: &mut Writer,
 ) -> Result<(), AllocError> {
-    out.key("name")?;
     match site.operand() {
         Operand::Method(reference) => {
-            write_name(alloc, reference.name.as_slice(), out)?;
-            out.key("of")?;
-            write_name(alloc, reference.owner.as_slice(), out)?;
+            write_name_at(alloc, "name", reference.name.as_slice(), out)?;
+            write_name_at(alloc, "of", reference.owner.as_slice(), out)?;
             write_between(alloc, classes, row, out)?;
-            write_name(alloc, reference.ty.as_slice(), out)
+            write_name_at(alloc, "type", reference.ty.as_slice(), out)
         }
         Operand::CallSite(specifier) => {
-            write_name(alloc, specifier.name.as_slice(), out)?;
+            write_name_at(alloc, "name", specifier.name.as_slice(), out)?;
             write_between(alloc, classes, row, out)?;
-            write_name(alloc, specifier.ty.as_slice(), out)
+            write_name_at(alloc, "type", specifier.ty.as_slice(), out)
         }
     }
 }
 
+/// Writes the pc, why the invocation is never linked, and what its link rests on. Want of memory is an error.
 fn write_between(
     alloc: Global,
     classes: &Classes,
     row: &Row,
     out: &mut Writer,
 ) -> Result<(), AllocError> {
-    out.key("pc")?;
-    out.u64(u64::from(row.place.pc))?;
-    if let Finding::NotLinkable(reason) = &row.finding {
-        out.key("refused")?;
-        out.string(refusal_name(*reason))?;
+    write_number("pc", u64::from(row.place.pc), out)?;
+    write_refused(&row.finding, out)?;
+    match open_class(classes, row) {
+        Some(class) => write_class_at(alloc, "restsOn", classes, class, out),
+        None => Ok(()),
     }
-    if let Some(class) = open_class(classes, row) {
-        out.key("restsOn")?;
-        write_class(alloc, classes, class, out)?;
+}
+
+/// Writes why the invocation is never linked, if that is so. Want of memory is an error.
+fn write_refused(finding: &Finding, out: &mut Writer) -> Result<(), AllocError> {
+    match finding {
+        Finding::NotLinkable(reason) => write_text("refused", refusal_name(*reason), out),
+        _ => Ok(()),
     }
-    out.key("type")
 }
 
 fn refusal_name(reason: NotLinkable) -> &'static str {
@@ -237,20 +344,26 @@ fn write_unlinked(finding: &Finding, out: &mut Writer) -> Result<(), AllocError>
     let Finding::Unlinked(reason) = finding else {
         return Ok(());
     };
-    out.key("unlinked")?;
     match reason {
-        Unlinked::NotReady(missing) => {
-            out.string("NotReady")?;
-            out.key("wants")?;
-            out.string(match missing {
-                Missing::Named => "named",
-                Missing::CallerHost => "callerHost",
-                Missing::MethodHost => "methodHost",
-            })
-        }
-        Unlinked::Unbound => out.string("Unbound"),
-        Unlinked::Gone => out.string("Gone"),
-        Unlinked::NoSite => out.string("NoSite"),
+        Unlinked::NotReady(missing) => write_wants(*missing, out),
+        Unlinked::Unbound => write_text("unlinked", "Unbound", out),
+        Unlinked::Gone => write_text("unlinked", "Gone", out),
+        Unlinked::NoSite => write_text("unlinked", "NoSite", out),
+    }
+}
+
+/// Writes that a class isn't there. Want of memory is an error.
+fn write_wants(missing: Missing, out: &mut Writer) -> Result<(), AllocError> {
+    write_text("unlinked", "NotReady", out)?;
+    write_text("wants", missing_name(missing), out)
+}
+
+/// Whose class isn't there.
+fn missing_name(missing: Missing) -> &'static str {
+    match missing {
+        Missing::Named => "named",
+        Missing::CallerHost => "callerHost",
+        Missing::MethodHost => "methodHost",
     }
 }
 
@@ -260,41 +373,53 @@ pub fn push_left_out_line(
     one: LeftOut,
     out: &mut Vec<u8>,
 ) -> Result<(), AllocError> {
-    let mut answer = one.answer;
-    if let Value::Object(members) = &mut answer {
-        put(
-            members,
-            alloc,
-            "file",
-            Value::try_from_str(alloc, one.path.as_str())?,
-        )?;
+    let mut one = one;
+    add_file(alloc, one.path.as_str(), &mut one.answer)?;
+    push_value_line(alloc, &one.answer, out)
+}
+
+/// Adds the file to the answer that refuses it. Want of memory is an error.
+fn add_file(alloc: Global, path: &str, answer: &mut Value) -> Result<(), AllocError> {
+    match answer {
+        Value::Object(members) => put(members, alloc, "file", Value::try_from_str(alloc, path)?),
+        _ => Ok(()),
     }
-    out.extend_from_slice(answer.to_vec(alloc)?.as_slice())?;
-    out.push(b'\n')?;
-    Ok(())
+}
+
+/// Appends the value, as a line. Want of memory is an error.
+fn push_value_line(alloc: Global, value: &Value, out: &mut Vec<u8>) -> Result<(), AllocError> {
+    out.extend_from_slice(value.to_vec(alloc)?.as_slice())?;
+    Ok(out.push(b'\n')?)
 }
 
 /// Writes the totals. Want of memory is an error.
 pub fn write_totals(summary: &Summary, left_out: u64, out: &mut Writer) -> Result<(), AllocError> {
     out.begin_object()?;
-    out.key("classes")?;
-    out.u64(summary.classes)?;
-    out.key("leftOut")?;
-    out.u64(left_out)?;
+    write_number("classes", summary.classes, out)?;
+    write_number("leftOut", left_out, out)?;
     out.key("totals")?;
+    write_kinds(&summary.totals, out)?;
+    out.end_object()
+}
+
+/// Writes the totals of each instruction. Want of memory is an error.
+fn write_kinds(totals: &Totals, out: &mut Writer) -> Result<(), AllocError> {
     out.begin_object()?;
-    for kind in KINDS_BY_NAME {
-        out.key(instruction(kind))?;
-        out.begin_object()?;
-        for (shape, key) in SHAPES_BY_KEY {
-            let count = summary.totals.count(kind, shape);
-            if count > 0 {
-                out.key(key)?;
-                out.u64(count)?;
-            }
-        }
-        out.end_object()?;
+    for kind in &KINDS_BY_NAME {
+        out.key(instruction(*kind))?;
+        write_shapes(totals, *kind, out)?;
     }
-    out.end_object()?;
+    out.end_object()
+}
+
+/// Writes how many invocations of the instruction come to each shape, where there are any. Want of memory is an error.
+fn write_shapes(totals: &Totals, kind: Kind, out: &mut Writer) -> Result<(), AllocError> {
+    out.begin_object()?;
+    for (shape, key) in &SHAPES_BY_KEY {
+        let count = totals.count(kind, *shape);
+        if count > 0 {
+            write_number(key, count, out)?;
+        }
+    }
     out.end_object()
 }

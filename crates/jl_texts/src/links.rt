@@ -1,7 +1,7 @@
 //! What an invocation comes to, in words.
 
 use crate::names::push_name;
-use jl_class::{FINAL, INTERFACE, Operand, Site, has_flag};
+use jl_class::{ClassFile, FINAL, INTERFACE, Operand, Site, has_flag};
 use jl_hierarchy::Classes;
 use jl_json::throwable_name;
 use jl_names::LentName;
@@ -48,8 +48,18 @@ pub fn push_method(
         return Ok(());
     };
     push_name(alloc, row.file().name().as_slice(), out)?;
-    let methods = row.file().methods();
-    let Some(found) = methods.at(method.index as usize) else {
+    push_method_name(alloc, row.file(), method.index, out)
+}
+
+/// Appends the name of the method of this place, behind its class. Want of memory is an error.
+fn push_method_name(
+    alloc: Global,
+    file: &ClassFile,
+    index: u16,
+    out: &mut String,
+) -> Result<(), AllocError> {
+    let methods = file.methods();
+    let Some(found) = methods.at(index as usize) else {
         return Ok(());
     };
     out.push('.')?;
@@ -110,12 +120,23 @@ fn push_table(
     let mut between = ": ";
     for row in rows {
         out.push_str(between)?;
-        push_class(alloc, classes, row.0, out)?;
-        out.push_str(" -> ")?;
-        push_outcome(alloc, classes, row.1, out)?;
+        push_table_row(alloc, classes, row.0, row.1, out)?;
         between = ", ";
     }
     Ok(())
+}
+
+/// Appends a class with what it comes to. Want of memory is an error.
+fn push_table_row(
+    alloc: Global,
+    classes: &Classes,
+    class: ClassId,
+    outcome: Outcome,
+    out: &mut String,
+) -> Result<(), AllocError> {
+    push_class(alloc, classes, class, out)?;
+    out.push_str(" -> ")?;
+    push_outcome(alloc, classes, outcome, out)
 }
 
 /// Appends the link. Want of memory is an error.

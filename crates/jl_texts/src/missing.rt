@@ -56,27 +56,43 @@ impl MissingClasses {
 
     /// Appends the classes for which most invocations wait, if there are any. Want of memory is an error.
     pub fn push(&self, alloc: Global, out: &mut String) -> Result<(), AllocError> {
-        let all = self.counts.len();
-        if all == 0 {
+        if self.counts.is_empty() {
             return Ok(());
         }
-        let mut sorted = Vec::with_capacity(alloc, all)?;
+        let sorted = self.sorted(alloc)?;
+        push_counted(&sorted, out)
+    }
+
+    /// The classes, those first for which most invocations wait. Want of memory is an error.
+    fn sorted(&self, alloc: Global) -> Result<Vec<Counted<'_>>, AllocError> {
+        let mut sorted = Vec::with_capacity(alloc, self.counts.len())?;
         for (name, count) in &self.counts {
             let name = name.as_str();
             let count = *count;
             sorted.push(Counted { name, count })?;
         }
         sorted.sort_by(|a, b| b.count.cmp(&a.count).then(a.name.cmp(b.name)))?;
-        let head = "classes that are missing";
-        write!(out, "{head:<28}{all:>12}\n")?;
-        for one in sorted.iter().take(MOST_TOLD) {
-            let name = one.name;
-            let count = one.count;
-            write!(out, "    {count:>12}  {name}\n")?;
-        }
-        if all > MOST_TOLD {
-            out.push_str("              ..\n")?;
-        }
-        Ok(())
+        Ok(sorted)
     }
+}
+
+/// Appends how many classes there are, and the first of them. Want of memory is an error.
+fn push_counted(sorted: &[Counted<'_>], out: &mut String) -> Result<(), AllocError> {
+    let all = sorted.len();
+    let head = "classes that are missing";
+    write!(out, "{head:<28}{all:>12}\n")?;
+    for one in sorted.iter().take(MOST_TOLD) {
+        push_one(one, out)?;
+    }
+    if all > MOST_TOLD {
+        out.push_str("              ..\n")?;
+    }
+    Ok(())
+}
+
+/// Appends a class, and how many invocations wait for it. Want of memory is an error.
+fn push_one(one: &Counted<'_>, out: &mut String) -> Result<(), AllocError> {
+    let name = one.name;
+    let count = one.count;
+    write!(out, "    {count:>12}  {name}\n")
 }

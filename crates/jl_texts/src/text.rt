@@ -92,7 +92,16 @@ pub fn push_reasons(
     left_out: &[LeftOut],
     out: &mut String,
 ) -> Result<(), AllocError> {
-    let mut reasons: IndexMap<&str, (u64, &str)> = IndexMap::new(alloc);
+    let mut reasons = IndexMap::new(alloc);
+    count_reasons(left_out, &mut reasons)?;
+    push_counts(&reasons, out)
+}
+
+/// Counts the files that are left out for each reason, and keeps the first of them. Want of memory is an error.
+fn count_reasons<'a>(
+    left_out: &'a [LeftOut],
+    reasons: &mut IndexMap<&'a str, (u64, &'a str)>,
+) -> Result<(), AllocError> {
     for one in left_out {
         let name = text_in(&one.answer, "refused").unwrap_or("");
         let (count, first) = match reasons.get(name) {
@@ -101,10 +110,20 @@ pub fn push_reasons(
         };
         reasons.insert(name, (count, first))?;
     }
-    for (name, (count, first)) in &reasons {
-        write!(out, "    {count:>12}  {name}, {first}\n")?;
+    Ok(())
+}
+
+/// Appends the reasons, each with its count. Want of memory is an error.
+fn push_counts(reasons: &IndexMap<&str, (u64, &str)>, out: &mut String) -> Result<(), AllocError> {
+    for (name, (count, first)) in reasons {
+        push_count(name, *count, first, out)?;
     }
     Ok(())
+}
+
+/// Appends a reason, how many files are left out for it, and the first of them. Want of memory is an error.
+fn push_count(name: &str, count: u64, first: &str, out: &mut String) -> Result<(), AllocError> {
+    write!(out, "    {count:>12}  {name}, {first}\n")
 }
 
 /// The text under the key.

@@ -79,8 +79,8 @@ impl Summary {
     /// How many there are of the instruction.
     fn of_kind(&self, kind: Kind) -> u64 {
         let mut sum: u64 = 0;
-        for (shape, _) in SHAPES {
-            sum = sum.saturating_add(self.totals.count(kind, shape));
+        for (shape, _) in &SHAPES {
+            sum = sum.saturating_add(self.totals.count(kind, *shape));
         }
         sum
     }
@@ -88,8 +88,8 @@ impl Summary {
     /// How many there are.
     fn all(&self) -> u64 {
         let mut sum: u64 = 0;
-        for kind in KINDS {
-            sum = sum.saturating_add(self.of_kind(kind));
+        for kind in &KINDS {
+            sum = sum.saturating_add(self.of_kind(*kind));
         }
         sum
     }
@@ -102,8 +102,13 @@ impl Summary {
         out.push_str(" methods of ")?;
         push_number(self.classes, out)?;
         out.push_str(" classes\n")?;
-        for kind in KINDS {
-            self.push_kind(kind, out)?;
+        self.push_kinds(out)
+    }
+
+    /// Appends those of each instruction. Want of memory is an error.
+    fn push_kinds(&self, out: &mut String) -> Result<(), AllocError> {
+        for kind in &KINDS {
+            self.push_kind(*kind, out)?;
         }
         Ok(())
     }
@@ -115,8 +120,8 @@ impl Summary {
         }
         let name = instruction(kind);
         write!(out, "{name:<28}{all:>12}\n")?;
-        for (shape, name) in SHAPES {
-            let count = self.totals.count(kind, shape);
+        for (shape, name) in &SHAPES {
+            let count = self.totals.count(kind, *shape);
             if count > 0 {
                 push_share(name, count, all, out)?;
             }
