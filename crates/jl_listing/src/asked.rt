@@ -57,22 +57,31 @@ fn option<'a>(alloc: Global, name: &'a str) -> Arg<'a> {
     Arg::new(alloc, name).long(name).action(ArgAction::Append)
 }
 
-/// The words of the subcommand, as clap takes them.
-fn command<'a>(alloc: Global) -> Result<Command<'a>, AllocError> {
-    let paths = Arg::new(alloc, "paths")
+/// The paths, of which there is one at least.
+fn paths<'a>(alloc: Global) -> Arg<'a> {
+    Arg::new(alloc, "paths")
         .required(true)
         .num_args(1..)
-        .action(ArgAction::Append);
+        .action(ArgAction::Append)
+}
+
+/// The subcommand with its flags, and what is chosen.
+fn with_choices<'a>(alloc: Global) -> Result<Command<'a>, AllocError> {
     Command::new(alloc, "report")
         .disable_help_flag(true)
         .arg(flag(alloc, "json"))?
         .arg(flag(alloc, "sites"))?
         .arg(option(alloc, "only"))?
-        .arg(option(alloc, "in"))?
+        .arg(option(alloc, "in"))
+}
+
+/// The words of the subcommand, as clap takes them.
+fn command<'a>(alloc: Global) -> Result<Command<'a>, AllocError> {
+    with_choices(alloc)?
         .arg(option(alloc, "with"))?
         .arg(option(alloc, "breaks"))?
         .arg(option(alloc, "html"))?
-        .arg(paths)
+        .arg(paths(alloc))
 }
 
 /// The values of the option, in order. Want of memory is an error.
@@ -132,20 +141,37 @@ pub fn read_asked(alloc: Global, words: &[String]) -> Result<Option<Asked>, Repo
 
 /// What the words ask for that are matched so.
 fn asked_by(alloc: Global, matches: &ArgMatches) -> Result<Option<Asked>, ReportFault> {
+    let Some(chosen) = chosen_by(alloc, matches)? else {
+        return Ok(None);
+    };
+    let mut asked = Asked {
+        form: form_of(matches),
+        chosen,
+        paths: Vec::new(alloc),
+        beside: Vec::new(alloc),
+        breaks: Vec::new(alloc),
+        html: None,
+    };
+    read_paths(alloc, matches, &mut asked)?;
+    Ok(Some(asked))
+}
+
+/// Which invocations are asked for; none, where a word names nothing. Want of memory is an error.
+fn chosen_by(alloc: Global, matches: &ArgMatches) -> Result<Option<Chosen>, AllocError> {
     let Some(choices) = choices(alloc, matches)? else {
         return Ok(None);
     };
-    Ok(Some(Asked {
-        form: form_of(matches),
-        chosen: Chosen {
-            choices,
-            prefixes: texts(alloc, matches, "in")?,
-        },
-        paths: texts(alloc, matches, "paths")?,
-        beside: texts(alloc, matches, "with")?,
-        breaks: texts(alloc, matches, "breaks")?,
-        html: last_text(alloc, matches, "html")?,
-    }))
+    let prefixes = texts(alloc, matches, "in")?;
+    Ok(Some(Chosen { choices, prefixes }))
+}
+
+/// Reads the paths that are asked for. Want of memory is an error.
+fn read_paths(alloc: Global, matches: &ArgMatches, asked: &mut Asked) -> Result<(), AllocError> {
+    asked.paths = texts(alloc, matches, "paths")?;
+    asked.beside = texts(alloc, matches, "with")?;
+    asked.breaks = texts(alloc, matches, "breaks")?;
+    asked.html = last_text(alloc, matches, "html")?;
+    Ok(())
 }
 
 /// Nothing, where the words are bad.

@@ -4,7 +4,7 @@ use jl_json::{FileRefusal, event_refusal_value};
 use jl_paths::{NoClass, Source, are_reported};
 use jl_report::Refused;
 use jl_texts::LeftOut;
-use jl_types::Refusal;
+use jl_types::{DefineFault, Refusal};
 use std::alloc::{AllocError, Global};
 
 /// Adds the files that are no class files. Want of memory is an error.
@@ -22,6 +22,18 @@ pub(crate) fn add_no_classes(
     Ok(())
 }
 
+/// Adds the file of which no class was made. Want of memory is an error.
+fn leave_out(
+    alloc: Global,
+    source: &Source,
+    fault: DefineFault,
+    left_out: &mut Vec<LeftOut>,
+) -> Result<(), AllocError> {
+    let answer = event_refusal_value(alloc, &Refusal::Define(fault))?;
+    let path = String::from_str(alloc, source.path.as_str())?;
+    Ok(left_out.push(LeftOut { path, answer })?)
+}
+
 /// Adds the files of which no classes were made, and tells of each file whether its class is there and is to be reported. Want of memory is
 /// an error.
 pub(crate) fn add_refused(
@@ -35,10 +47,7 @@ pub(crate) fn add_refused(
         let place = one.place;
         if place < sources.len() && place < is_listed.len() {
             is_listed[place] = false;
-            left_out.push(LeftOut {
-                path: String::from_str(alloc, sources[place].path.as_str())?,
-                answer: event_refusal_value(alloc, &Refusal::Define(one.fault))?,
-            })?;
+            leave_out(alloc, &sources[place], one.fault, left_out)?;
         }
     }
     Ok(is_listed)

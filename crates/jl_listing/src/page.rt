@@ -179,25 +179,50 @@ impl Page {
         let Some(kept) = report.classes().class_at(class) else {
             return Ok(());
         };
-        let file = kept.file();
-        let methods = file.methods();
+        self.add_rows(alloc, report, chosen, kept.file(), &rows)?;
+        if self.keeps_rows {
+            keep_open(rows, &mut self.kept)?;
+        }
+        Ok(())
+    }
+
+    /// Adds the invocations of the class that are reported, of all of which these are the rows.
+    fn add_rows(
+        &mut self,
+        alloc: Global,
+        report: &Report,
+        chosen: &Chosen,
+        file: &ClassFile,
+        rows: &[Row],
+    ) -> Result<(), ReportFault> {
         let mut part = ClassPart::new(alloc);
-        let mut rest = rows.as_slice();
+        self.add_methods(alloc, report, chosen, file, rows, &mut part)?;
+        self.add_part(alloc, file, &part)
+    }
+
+    /// Adds those of each method.
+    fn add_methods(
+        &mut self,
+        alloc: Global,
+        report: &Report,
+        chosen: &Chosen,
+        file: &ClassFile,
+        rows: &[Row],
+        part: &mut ClassPart,
+    ) -> Result<(), ReportFault> {
+        let methods = file.methods();
+        let mut rest = rows;
         for index in 0..methods.len() {
             if let Some(method) = methods.at(index) {
                 let count = method.sites().len();
                 if let Some((own, after)) = rest.split_at_checked(count) {
                     let bar = self.add_method(alloc, report, chosen, file, &method, own)?;
                     if self.html.is_some() {
-                        push_method_part(alloc, &method, &bar, &mut part)?;
+                        push_method_part(alloc, &method, &bar, part)?;
                     }
                     rest = after;
                 }
             }
-        }
-        self.add_part(alloc, file, &part)?;
-        if self.keeps_rows {
-            keep_open(rows, &mut self.kept)?;
         }
         Ok(())
     }
@@ -237,15 +262,29 @@ impl Page {
         for (place, row) in rows.iter().enumerate() {
             if let Some(site) = sites.at(place) {
                 if chosen.takes_row(report.classes(), row) {
-                    if bar.all() == 0 {
-                        self.begin_method(alloc, file, method)?;
-                    }
-                    bar.add(Shape::of(&row.finding));
-                    self.add_row(alloc, report, method, &site, row)?;
+                    self.add_site(alloc, report, file, method, &site, row, &mut bar)?;
                 }
             }
         }
         Ok(bar)
+    }
+
+    /// Adds the invocation of the row, behind its method where it is the first of it.
+    fn add_site(
+        &mut self,
+        alloc: Global,
+        report: &Report,
+        file: &ClassFile,
+        method: &Method<'_>,
+        site: &Site<'_>,
+        row: &Row,
+        bar: &mut Bar,
+    ) -> Result<(), ReportFault> {
+        if bar.all() == 0 {
+            self.begin_method(alloc, file, method)?;
+        }
+        bar.add(Shape::of(&row.finding));
+        self.add_row(alloc, report, method, site, row)
     }
 
     /// Adds the method, of which an invocation is reported.
