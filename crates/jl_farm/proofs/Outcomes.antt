@@ -34,7 +34,7 @@ use Rattle.jl_server.specs.History.{EndsWith}
 use Rattle.jl_farm.specs.declared.report.JobOutcome.{JobOutcome}
 use Rattle.jl_farm.specs.declared.report.JobOutcome.TheVariants as outcome
 use Rattle.jl_farm.specs.Reports.{world_of, ComesAfter, IsNoBatch, IsShown, IsStale, IsRefusedBatch, IsInstalled}
-use Rattle.jl_farm.specs.Means.Work.{refused_as, HasSeen}
+use Rattle.jl_farm.specs.Means.Work.{refused_as, unprepared_as, HasSeen}
 use Rattle.jl_farm.proofs.Causes.{batch_cause, no_batch_cause, no_row_fault, no_batch_by_size, no_batch_by_sites, unready_by_fault, stale_by_fault}
 use Rattle.jl_farm.proofs.Causes.{prepared_sites}
 
@@ -205,6 +205,31 @@ prepared_why n before after list snapshot of f g own legal is shot answer same =
     let here = subst (λ (x : Snapshot). IsPreparation x of (Err f)) shot answer in
     let cause = subst (IsWhy (world_of after) of) same (why (world_of after) of (length after) f here) in
     subst (λ (xs : List Entry). ComesAfter n before xs × IsWhy (world_of xs) of g) (sym is) ((own, legal), cause)
+
+-- what is shown by the outcome of a job whose sites weren't prepared
+pub unprepared : {K : Type 0} (n : ℕ) (before after list : List Entry) (snapshot : Snapshot) (of : List ℕ) (f : PrepareFault) (o : JobOutcome K)
+    → o ≡ unprepared_as list f → IsPrefix before after → IsLegal n after → list ≡ after
+    → snapshot ≡ record { world = world_of after; serial = length after } → IsPreparation snapshot of (Err f) → IsShown n before of o
+unprepared {K = K} n before after list snapshot of f o is own legal same shot answer =
+    subst (λ (x : JobOutcome K). IsShown n before of x) (sym is)
+    (by_fault f (prepared_why n before after list snapshot of f f own legal same shot answer refl))
+  where
+    by_fault : (g : PrepareFault) → ComesAfter n before list × IsWhy (world_of list) of g → IsShown {K = K} n before of (unprepared_as list g)
+    by_fault (fault.NotReady s) p = record { after = p.0; unready = p.1 }
+    by_fault (fault.UnknownSite s) p = record { after = p.0; no_batch = p.1 }
+    by_fault (fault.Repeated s) p = record { after = p.0; no_batch = p.1 }
+    by_fault fault.BatchSize p = record { after = p.0; no_batch = p.1 }
+    by_fault fault.Memory p = tt
+
+pub unprepared_seen : {K : Type 0} (list now : List Entry) (f : PrepareFault) (o : JobOutcome K) → o ≡ unprepared_as list f → list ≡ now → HasSeen now o
+unprepared_seen {K = K} list now f o is same = subst (λ (x : JobOutcome K). HasSeen now x) (sym is) (by_fault f)
+  where
+    by_fault : (g : PrepareFault) → HasSeen {K = K} now (unprepared_as list g)
+    by_fault (fault.NotReady s) = same
+    by_fault (fault.UnknownSite s) = same
+    by_fault (fault.Repeated s) = same
+    by_fault fault.BatchSize = same
+    by_fault fault.Memory = tt
 
 -- rows that were prepared after the list would have been accepted after it
 pub accepted_prepared : (n : ℕ) (list before : List Entry) (of : List ℕ) (rows : List (ℕ × Link)) → list ≡ before → prepare_fault (world_of before) of ≡ None

@@ -1,17 +1,18 @@
 //! The farm.
 
-ghost use Rattle.std.specs.Prelude.{◌≡◌, ◌≤◌, ◌+◌, [], ℕ, true, false, All, IsOk, IfOk, IfErr, vec_len};
+ghost use Rattle.std.specs.Prelude.{◌≡◌, ◌≤◌, ◌+◌, [], ℕ, true, false, length, All, IsOk, IfOk, IfErr, vec_len};
 ghost use Rattle.std.specs.List.{AllZip, sum_by, range_with_len};
 ghost use Rattle.std.specs.List.Sorted.{IsPermutation, IsNonDecreasingBy};
 ghost use mathlib.Core.List.{IsPrefix};
 ghost use Rattle.crossbeam_queue.specs.Passes.{view, IsPassOf};
 ghost use Rattle.jl_farm.specs.Reports.{IsReport, jobs_of, lists_of, installs_of, AreOfOneHistory, AreOfSameSites};
+ghost use Rattle.jl_farm.specs.Means.Queued.{pass_view};
 ghost use Rattle.jl_farm.specs.Means.Work.{Works, HasReported, HasOne, HasPart};
 
 use crate::crew::{at_once, gather, hire};
 use crate::fault::FarmFault;
 use crate::gate::Gate;
-use crate::job_queue::{JobPass, queue_of, take_over};
+use crate::job_queue::{JobPass, JobQueue, queue_of, take_over};
 use crate::report::{JobOutcome, Report};
 use crate::shared::Shared;
 use crate::worker::Worker;
@@ -86,16 +87,46 @@ fn run_some<
     if !has_thread(rt) {
         return Err(FarmFault::NoThread);
     }
+    let all = jobs.as_slice();
+    let (queue, pass) = queue_of(rt, alloc, all.len())?;
+    let reports = run_queued(rt, alloc, server, all, &queue, pass, workers, gate)?;
+    Ok(reports)
+}
+
+/// The same, of jobs that are queued. Want of memory is an error.
+fn run_queued<
+    K: Name + Send + Sync,
+    G: Gate + Sync,
+    R: Threads + Wait + Sync,
+    S: Wait + Drop + Send + Sync,
+>(
+    rt: &R,
+    alloc: Global,
+    server: &LinkServer<K, S>,
+    jobs: &[Seq<SiteNo>],
+    queue: &JobQueue,
+    pass: JobPass,
+    workers: Vec<Caller<K>>,
+    gate: &G,
+) -> Result<Vec<Report<K>>, AllocError>
+    requires workers { (1 ≤ vec_len workers) × (vec_len workers ≤ 16) }
+    requires pass { IsPassOf queue.now pass × (view pass ≡ pass_view 1024 (range_with_len 0 (length jobs.now)) []) }
+    ensures jobs { IfOk result (λ reports. jobs_of reports.items ≡ range_with_len 0 (length jobs.now)) }
+    ensures shown { IfOk result (λ reports. All (IsReport K.max_sites workers.items jobs.now) reports.items) }
+    ensures history { IfOk result (λ reports. AreOfOneHistory reports.items) }
+    ensures sites { IfOk result (λ reports. AreOfSameSites jobs.now reports.items) }
+    ensures installs { IfOk result (λ reports. (serial : ℕ) → installs_of serial reports.items ≤ vec_len workers) }
+{
     let callers = Snapshot::of(&workers);
-    let (queue, mut pass) = queue_of(rt, alloc, jobs.len())?;
-    let mut crew = hire(alloc, &queue, &mut pass, workers)?;
+    let mut pass = pass;
+    let mut crew = hire(alloc, queue, &mut pass, workers)?;
     let floor = Shared {
         rt,
         alloc,
         server,
-        jobs: jobs.as_slice(),
+        jobs,
         gate,
-        queue: &queue,
+        queue,
     };
     serve_all(rt, &floor, &mut crew);
     let reports = finish(&floor, &callers, pass, crew)?;

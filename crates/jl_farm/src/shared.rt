@@ -7,7 +7,7 @@ ghost use Rattle.jl_types.specs.Happenings.Entries.{IsLegal};
 ghost use Rattle.jl_types.specs.Happenings.Preparation.{prepare_fault, ArePrepared};
 ghost use Rattle.jl_farm.specs.Means.Queued.{KnowsAll};
 ghost use Rattle.jl_farm.specs.Reports.{IsShown, sites_of, world_of};
-ghost use Rattle.jl_farm.specs.Means.Work.{Works, HasPart, HasSeen, refused_as};
+ghost use Rattle.jl_farm.specs.Means.Work.{Works, HasPart, HasSeen, refused_as, unprepared_as};
 
 use crate::crew::Task;
 use crate::gate::Gate;
@@ -85,20 +85,18 @@ impl<'a, K: Name, G: Gate, R: Wait, S: Wait + Drop> Shared<'a, K, G, R, S> {
         ensures seen { HasSeen caller.new result.outcome }
     {
         self.gate.before_prepare(job);
-        let outcome = match self.jobs.get(job) {
-            Some(sites) => self.outcome(caller, job, sites.as_slice()),
-            None => self.outcome(caller, job, &[]),
-        };
+        let outcome = self.outcome(caller, job);
         self.gate.after_install(job);
         Report { job, outcome }
     }
 
     /// Prepares the sites of the job in a snapshot, and installs their links.
-    fn outcome(&self, caller: &mut Caller<K>, job: usize, sites: &[SiteNo]) -> JobOutcome<K>
+    fn outcome(&self, caller: &mut Caller<K>, job: usize) -> JobOutcome<K>
         ensures own { IsPrefix caller.old caller.new }
-        ensures shown { IsShown K.max_sites caller.old sites.now result }
+        ensures shown { IsShown K.max_sites caller.old (sites_of self.now.jobs.now job) result }
         ensures seen { HasSeen caller.new result }
     {
+        let sites = sites_at(self.jobs, job);
         let Ok((snapshot, seen)) = caller.snapshot(self.rt, self.alloc, self.server) else {
             return JobOutcome::Memory;
         };
@@ -107,13 +105,7 @@ impl<'a, K: Name, G: Gate, R: Wait, S: Wait + Drop> Shared<'a, K, G, R, S> {
                 self.gate.before_install(job);
                 self.install(caller, sites, seen, prepared.rows)
             }
-            Err(fault) => match fault {
-                PrepareFault::NotReady(_) => JobOutcome::NotReady(seen),
-                PrepareFault::UnknownSite(_) => JobOutcome::Bad(seen),
-                PrepareFault::Repeated(_) => JobOutcome::Bad(seen),
-                PrepareFault::BatchSize => JobOutcome::Bad(seen),
-                PrepareFault::Memory => JobOutcome::Memory,
-            },
+            Err(fault) => unprepared(seen, fault),
         }
     }
 
@@ -138,6 +130,29 @@ impl<'a, K: Name, G: Gate, R: Wait, S: Wait + Drop> Shared<'a, K, G, R, S> {
             Ok(receipt) => JobOutcome::Installed(receipt),
             Err(denied) => refused(prepared, denied),
         }
+    }
+}
+
+/// The sites of the job of this number.
+fn sites_at(jobs: &[Seq<SiteNo>], job: usize) -> &[SiteNo]
+    ensures { result.now ≡ sites_of jobs.now job }
+{
+    match jobs.get(job) {
+        Some(sites) => sites.as_slice(),
+        None => &[],
+    }
+}
+
+/// What a job came to whose sites weren't prepared after this list.
+fn unprepared<K: Name>(seen: Seen<K>, fault: PrepareFault) -> JobOutcome<K>
+    ensures { result ≡ unprepared_as seen fault }
+{
+    match fault {
+        PrepareFault::NotReady(_) => JobOutcome::NotReady(seen),
+        PrepareFault::UnknownSite(_) => JobOutcome::Bad(seen),
+        PrepareFault::Repeated(_) => JobOutcome::Bad(seen),
+        PrepareFault::BatchSize => JobOutcome::Bad(seen),
+        PrepareFault::Memory => JobOutcome::Memory,
     }
 }
 

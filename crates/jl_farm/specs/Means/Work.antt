@@ -4,6 +4,8 @@ use mathlib.Core.List.{IsPrefix}
 use Rattle.crossbeam_queue.specs.Passes.{view}
 use Rattle.jl_types.specs.declared.refusal.Refusal.{Refusal}
 use Rattle.jl_types.specs.declared.refusal.Refusal.TheVariants as refusal
+use Rattle.jl_types.specs.declared.refusal.PrepareFault.{PrepareFault}
+use Rattle.jl_types.specs.declared.refusal.PrepareFault.TheVariants as fault
 use Rattle.jl_types.specs.Happenings.Entries.{Entry}
 use Rattle.jl_farm.specs.declared.report.Report.{Report}
 use Rattle.jl_farm.specs.declared.report.JobOutcome.{JobOutcome}
@@ -20,6 +22,14 @@ refused_as first second (refusal.UnknownSite s) = outcome.Bad second
 refused_as first second (refusal.Repeated s) = outcome.Bad second
 refused_as first second refusal.BatchSize = outcome.Bad second
 refused_as first second _ = outcome.Memory
+
+-- what a job came to whose sites weren't prepared after this list
+abbrev pub unprepared_as : {K : Type 0} → List Entry → PrepareFault → JobOutcome K
+unprepared_as list (fault.NotReady s) = outcome.NotReady list
+unprepared_as list (fault.UnknownSite s) = outcome.Bad list
+unprepared_as list (fault.Repeated s) = outcome.Bad list
+unprepared_as list fault.BatchSize = outcome.Bad list
+unprepared_as list fault.Memory = outcome.Memory
 
 -- The caller that ran a job has seen just the list that its outcome names, of two the later one. Of want of memory nothing is said.
 abbrev pub HasSeen : {K : Type 0} → List Entry → JobOutcome K → Type 0
