@@ -17,7 +17,7 @@ fn rows() -> [(SiteNo, Link); 2] {
 }
 
 /// Whether this is the list of the rows.
-fn are_listed(listed: &Result<Vec<(SiteNo, Link)>, AllocError>) -> bool {
+fn are_listed(listed: Result<Vec<(SiteNo, Link)>, AllocError>) -> bool {
     let [high, low] = rows();
     match listed {
         Ok(listed) => listed.as_slice() == [low, high].as_slice(),
@@ -30,15 +30,15 @@ fn are_both(alloc: Global, links: &Cache) -> bool {
     links.len() == 2
         && links.get(SiteNo::new(7)) == Some(Link::Mega)
         && links.get(SiteNo::new(0)).is_none()
-        && are_listed(&links.list(alloc))
+        && are_listed(links.list(alloc))
 }
 
 /// Whether the copy of links has both once one of them is dropped.
 fn is_copied(alloc: Global, links: &mut Cache) -> bool {
-    match &links.copy() {
+    match links.copy() {
         Ok(copy) => {
             links.drop_changed([SiteNo::new(7)].as_slice());
-            are_both(alloc, copy) && links.len() == 1 && !links.is_empty()
+            are_both(alloc, &copy) && links.len() == 1 && !links.is_empty()
         }
         Err(_) => false,
     }
@@ -143,12 +143,17 @@ fn receiver(class: Option<u32>) -> Recv {
     }
 }
 
+/// The first row that isn't so, if there is one.
+fn other(rows: &[(Linked, Option<u32>, Says)]) -> Option<usize> {
+    for (index, (linked, class, says)) in rows.iter().enumerate() {
+        if fast(link_of(*linked), receiver(*class)) != fast_of(*says) {
+            return Some(index);
+        }
+    }
+    None
+}
+
 #[test]
 fn answers_at_once(rt: HostRuntime) {
-    for (index, (linked, class, says)) in FAST.iter().enumerate() {
-        assert!(rt;
-            fast(link_of(*linked), receiver(*class)) == fast_of(*says),
-            "row {index}"
-        );
-    }
+    assert_eq!(rt; other(FAST), None);
 }

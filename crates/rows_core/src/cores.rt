@@ -1,6 +1,6 @@
 //! What lines of commands don't reach: a limit of places, rows made by hand, worlds of before, events that come later.
 
-use crate::classes::{A, C, M, OBJECT, SELF};
+use crate::classes::Class::{A, C, Itself, M, Object};
 use crate::steps::Step::*;
 use crate::steps::{Step, are_done, event, first, is_done, runs_first};
 use jl_core::Core;
@@ -13,33 +13,35 @@ use jl_types::{
 use std::alloc::{AllocError, Global};
 use std::process::Abort;
 
-/// A limit of places, what comes before, and then one after another events, how what they are answered prints, and how the links do that
-/// are installed then.
+/// A limit of places, what comes before, so many times, and then one after another events, how what they are answered prints, and whether
+/// the one link that is installed then is that of site 0 that runs class 1's first method on each object; else none is.
 struct Row(
     u32,
     &'static [Step],
-    &'static [(Step, &'static str, &'static str)],
+    u32,
+    &'static [(Step, &'static str, bool)],
 );
 
 /// A place keeps its number.
 const REQUESTS: &Row = &Row(
     1,
-    &[Define(0, OBJECT), Define(0, M), Define(0, SELF)],
+    &[Define(0, Object), Define(0, M), Define(0, Itself)],
+    1,
     &[
         (
             Request(2, 0),
             "Ok(Reply { made: Site(SiteNo(0)), dropped: Seq { items: [] } })",
-            "[]",
+            false,
         ),
         // The place is there, so it isn't one too many; the other one is.
         (
             Request(2, 0),
             "Ok(Reply { made: Site(SiteNo(0)), dropped: Seq { items: [] } })",
-            "[]",
+            false,
         ),
-        (Request(1, 0), "Err(SitesFull)", "[]"),
-        (Request(1, 1), "Err(NoSuchPlace)", "[]"),
-        (Request(9, 0), "Err(UnknownClass)", "[]"),
+        (Request(1, 0), "Err(SitesFull)", false),
+        (Request(1, 1), "Err(NoSuchPlace)", false),
+        (Request(9, 0), "Err(UnknownClass)", false),
     ],
 );
 
@@ -47,46 +49,56 @@ const REQUESTS: &Row = &Row(
 const INSTALLS: &Row = &Row(
     2,
     &[
-        Define(0, OBJECT),
+        Define(0, Object),
         Define(0, M),
-        Define(0, SELF),
+        Define(0, Itself),
         Request(1, 0),
         Request(2, 0),
     ],
+    1,
     &[
-        (Wrong(&[]), "Err(BatchSize)", "[]"),
-        (Wrong(&[0]), "Err(NotReady { site: SiteNo(0) })", "[]"),
-        (Wrong(&[2]), "Err(UnknownSite { site: SiteNo(2) })", "[]"),
+        (Wrong(&[]), "Err(BatchSize)", false),
+        (Wrong(&[0]), "Err(NotReady { site: SiteNo(0) })", false),
+        (Wrong(&[2]), "Err(UnknownSite { site: SiteNo(2) })", false),
         // The first bad row decides.
-        (Wrong(&[0, 1]), "Err(NotReady { site: SiteNo(0) })", "[]"),
+        (Wrong(&[0, 1]), "Err(NotReady { site: SiteNo(0) })", false),
         (
             Wrong(&[1, 0]),
             "Err(Stale { site: SiteNo(1), present: Plain(MethodId { class: ClassId(2), index: 0 }) })",
-            "[]",
+            false,
         ),
         // But all sites are looked at first.
-        (Wrong(&[1, 2]), "Err(UnknownSite { site: SiteNo(2) })", "[]"),
-        (Wrong(&[0, 0]), "Err(Repeated { site: SiteNo(0) })", "[]"),
-        (Wrong(&[0, 1, 1]), "Err(Repeated { site: SiteNo(1) })", "[]"),
-        (Wrong(&[0; 256]), "Err(Repeated { site: SiteNo(0) })", "[]"),
-        (Wrong(&[0; 257]), "Err(BatchSize)", "[]"),
+        (
+            Wrong(&[1, 2]),
+            "Err(UnknownSite { site: SiteNo(2) })",
+            false,
+        ),
+        (Wrong(&[0, 0]), "Err(Repeated { site: SiteNo(0) })", false),
+        (
+            Wrong(&[0, 1, 1]),
+            "Err(Repeated { site: SiteNo(1) })",
+            false,
+        ),
+        (WrongAgain(256), "Err(Repeated { site: SiteNo(0) })", false),
+        (WrongAgain(257), "Err(BatchSize)", false),
     ],
 );
 
 /// A link that no preparation gave, which is the one from scratch, and then another one, which isn't.
 const BY_HAND: &Row = &Row(
     1,
-    &[Define(0, OBJECT), Define(0, A), Define(0, M), Request(2, 0)],
+    &[Define(0, Object), Define(0, A), Define(0, M), Request(2, 0)],
+    1,
     &[
         (
             ByHand,
             "Ok(Reply { made: Nothing, dropped: Seq { items: [] } })",
-            "[(SiteNo(0), Direct(Run(MethodId { class: ClassId(1), index: 0 })))]",
+            true,
         ),
         (
             Wrong(&[0]),
             "Err(Stale { site: SiteNo(0), present: Direct(Run(MethodId { class: ClassId(1), index: 0 })) })",
-            "[(SiteNo(0), Direct(Run(MethodId { class: ClassId(1), index: 0 })))]",
+            true,
         ),
     ],
 );
@@ -94,14 +106,15 @@ const BY_HAND: &Row = &Row(
 /// There are 1,024 loaders at the most, of which the first one is there.
 const LOADERS: &Row = &Row(
     1,
-    &[Loader; 1022],
+    &[Loader],
+    1022,
     &[
         (
             Loader,
             "Ok(Reply { made: Loader(LoaderId(1023)), dropped: Seq { items: [] } })",
-            "[]",
+            false,
         ),
-        (Loader, "Err(LoadersFull)", "[]"),
+        (Loader, "Err(LoadersFull)", false),
     ],
 );
 
@@ -114,14 +127,28 @@ fn printed(alloc: Global, core: &mut Core, step: &Step) -> Result<String, AllocE
     format!(in alloc; "{answer:?}")
 }
 
+/// How the link of site 0 prints that runs class 1's first method on each object, or no link.
+fn links_text(is_linked: bool) -> &'static str {
+    if is_linked {
+        "[(SiteNo(0), Direct(Run(MethodId { class: ClassId(1), index: 0 })))]"
+    } else {
+        "[]"
+    }
+}
+
 /// How the installed links print.
 fn links_printed(alloc: Global, core: &Core) -> Result<String, AllocError> {
     let links = core.list_links(alloc)?;
     format!(in alloc; "{:?}", links.as_slice())
 }
 
+/// How the refusal prints.
+pub(crate) fn refused(alloc: Global, refusal: &Refusal) -> Result<String, AllocError> {
+    format!(in alloc; "{refusal:?}")
+}
+
 /// Whether the text was made, and is this.
-pub(crate) fn is_text(text: &Result<String, AllocError>, want: &str) -> bool {
+pub(crate) fn is_text(text: Result<String, AllocError>, want: &str) -> bool {
     match text {
         Ok(text) => text.as_str() == want,
         Err(_) => false,
@@ -130,10 +157,13 @@ pub(crate) fn is_text(text: &Result<String, AllocError>, want: &str) -> bool {
 
 /// Whether the row is so on the core.
 fn is_so_on(alloc: Global, core: &mut Core, row: &Row) -> bool {
-    let mut all = are_done(alloc, core, row.1);
-    for (step, answer, links) in row.2 {
-        all = is_text(&printed(alloc, core, step), answer)
-            && is_text(&links_printed(alloc, core), links)
+    let mut all = true;
+    for _ in 0..row.2 {
+        all = are_done(alloc, core, row.1) && all;
+    }
+    for (step, answer, is_linked) in row.3 {
+        all = is_text(printed(alloc, core, step), answer)
+            && is_text(links_printed(alloc, core), links_text(*is_linked))
             && all;
     }
     all
@@ -150,11 +180,19 @@ fn is_so(alloc: Global, row: &Row) -> bool {
     }
 }
 
+/// The first row that isn't so, if there is one.
+fn other(alloc: Global, rows: &[&Row]) -> Option<usize> {
+    for (index, row) in rows.iter().enumerate() {
+        if !is_so(alloc, row) {
+            return Some(index);
+        }
+    }
+    None
+}
+
 #[test]
 fn answers_and_refuses(rt: HostRuntime) {
-    for (index, row) in ROWS.iter().enumerate() {
-        assert!(rt; is_so(rt.alloc(), row), "row {index}");
-    }
+    assert_eq!(rt; other(rt.alloc(), ROWS), None);
 }
 
 /// Site 0.
@@ -224,8 +262,8 @@ fn is_of_now(alloc: Global, core: &mut Core) -> bool {
 
 /// The same in a snapshot that is taken now.
 fn is_late(alloc: Global, core: &mut Core) -> bool {
-    match &core.snapshot(alloc) {
-        Ok(snapshot) => is_of_before(alloc, core, snapshot),
+    match core.snapshot(alloc) {
+        Ok(snapshot) => is_of_before(alloc, core, &snapshot),
         Err(_) => false,
     }
 }

@@ -1,6 +1,6 @@
 //! The events that a core accepted, as it keeps them.
 
-use crate::classes::{OBJECT, T};
+use crate::classes::Class::{Object, T};
 use crate::cores::is_text;
 use crate::steps::Shape::Method;
 use crate::steps::Step::*;
@@ -28,9 +28,9 @@ const LOG: &[&str] = &[
 
 /// Events, and whether they are accepted.
 const EVENTS: &[(Step, bool)] = &[
-    (Define(0, OBJECT), true),
+    (Define(0, Object), true),
     // Loader 0 has one, so this has no entry.
-    (Define(0, OBJECT), false),
+    (Define(0, Object), false),
     (Define(0, T), true),
     (Delegate("T"), true),
     (Request(1, 0), true),
@@ -49,11 +49,11 @@ fn printed(alloc: Global, entry: &Entry) -> Result<String, AllocError> {
     format!(in alloc; "{entry:?}")
 }
 
-/// Whether the entries print as above.
-fn are_entries(alloc: Global, entries: &[Entry]) -> bool {
-    let mut all = entries.len() == LOG.len();
-    for (entry, want) in entries.iter().zip(LOG) {
-        all = is_text(&printed(alloc, entry), want) && all;
+/// Whether the entries print so.
+fn are_entries(alloc: Global, entries: &[Entry], log: &[&str]) -> bool {
+    let mut all = entries.len() == log.len();
+    for (entry, want) in entries.iter().zip(log) {
+        all = is_text(printed(alloc, entry), want) && all;
     }
     all
 }
@@ -69,13 +69,19 @@ fn defined_name(core: &Core, entry: usize) -> Option<&[u8]> {
     }
 }
 
-/// Whether the events are accepted, or refused, as is said, and have these entries.
-fn are_kept(alloc: Global, core: &mut Core) -> bool {
+/// Whether these are accepted, or refused, as is said.
+fn are_accepted(alloc: Global, core: &mut Core, events: &[(Step, bool)]) -> bool {
     let mut all = true;
-    for (step, is_accepted) in EVENTS {
+    for (step, is_accepted) in events {
         all = is_done(alloc, core, step) == *is_accepted && all;
     }
-    all && are_entries(alloc, core.log())
+    all
+}
+
+/// Whether the events are accepted, or refused, as is said, and have these entries.
+fn are_kept(alloc: Global, core: &mut Core) -> bool {
+    are_accepted(alloc, core, EVENTS)
+        && are_entries(alloc, core.log(), LOG)
         && defined_name(core, 1) == Some(b"java/lang/Object".as_slice())
         && defined_name(core, 2) == Some(b"T".as_slice())
         && core.class_count() == 2
@@ -83,7 +89,7 @@ fn are_kept(alloc: Global, core: &mut Core) -> bool {
 
 /// The count of accepted events in a snapshot.
 fn serial(alloc: Global, core: &Core) -> Option<u64> {
-    match &core.snapshot(alloc) {
+    match core.snapshot(alloc) {
         Ok(snapshot) => Some(snapshot.serial()),
         Err(_) => None,
     }

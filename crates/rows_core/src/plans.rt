@@ -1,7 +1,7 @@
 //! Planned events: what they tell, and that they change nothing until they are committed.
 
-use crate::classes::{A, C, M, OBJECT, SELF};
-use crate::cores::is_text;
+use crate::classes::Class::{A, C, Itself, M, Object};
+use crate::cores::{is_text, refused};
 use crate::steps::Step::*;
 use crate::steps::{Step, are_done, event};
 use jl_core::{Core, Planned};
@@ -10,10 +10,10 @@ use std::alloc::{AllocError, Global};
 use std::process::Abort;
 
 const BEFORE: &[Step] = &[
-    Define(0, OBJECT),
+    Define(0, Object),
     Define(0, A),
     Define(0, M),
-    Define(0, SELF),
+    Define(0, Itself),
     Request(2, 0),
     Request(3, 0),
 ];
@@ -48,9 +48,9 @@ fn printed(alloc: Global, plan: &Planned) -> Result<String, AllocError> {
 
 /// How the event's plan prints, or its refusal. The plan is dropped.
 fn dropped(alloc: Global, core: &mut Core, event: Event) -> Result<String, AllocError> {
-    match &core.plan(alloc, event) {
-        Ok(plan) => printed(alloc, plan),
-        Err(refusal) => format!(in alloc; "{refusal:?}"),
+    match core.plan(alloc, event) {
+        Ok(plan) => printed(alloc, &plan),
+        Err(refusal) => refused(alloc, &refusal),
     }
 }
 
@@ -62,7 +62,7 @@ fn committed(alloc: Global, core: &mut Core, event: Event) -> Result<String, All
             let _reply = core.commit(plan);
             text
         }
-        Err(refusal) => format!(in alloc; "{refusal:?}"),
+        Err(refusal) => refused(alloc, &refusal),
     }
 }
 
@@ -84,14 +84,14 @@ fn planned(
 /// Whether the plan is as the row says, and leaves as many events and links.
 fn is_row(alloc: Global, core: &mut Core, row: &Row) -> bool {
     let (commits, step, want, events, links) = row;
-    is_text(&planned(alloc, core, *commits, step), want)
+    is_text(planned(alloc, core, *commits, step), want)
         && core.log().len() == *events
         && core.links().len() == *links
 }
 
 /// The first row that isn't so, one after another, if there is one.
-fn other(alloc: Global, core: &mut Core) -> Option<usize> {
-    for (index, row) in PLANS.iter().enumerate() {
+fn other(alloc: Global, core: &mut Core, rows: &[Row]) -> Option<usize> {
+    for (index, row) in rows.iter().enumerate() {
         if !is_row(alloc, core, row) {
             return Some(index);
         }
@@ -102,7 +102,9 @@ fn other(alloc: Global, core: &mut Core) -> Option<usize> {
 /// Whether all are so on a new core.
 fn are_so(alloc: Global) -> bool {
     match Core::new(alloc, 2) {
-        Ok(mut core) => { are_done(alloc, &mut core, BEFORE) && other(alloc, &mut core).is_none() }
+        Ok(mut core) => {
+            are_done(alloc, &mut core, BEFORE) && other(alloc, &mut core, PLANS).is_none()
+        }
         Err(_) => false,
     }
 }

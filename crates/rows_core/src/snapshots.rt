@@ -1,6 +1,6 @@
 //! Snapshots that are kept while events come.
 
-use crate::classes::{A, M, OBJECT};
+use crate::classes::Class::{A, M, Object};
 use crate::steps::Step::*;
 use crate::steps::{Step, are_done, is_done};
 use jl_core::Core;
@@ -12,7 +12,7 @@ use std::process::Abort;
 /// How many sites there may be.
 const SITES: u32 = 64;
 
-const BEFORE: &[Step] = &[Define(0, OBJECT), Define(0, A), Define(0, M), Request(2, 0)];
+const BEFORE: &[Step] = &[Define(0, Object), Define(0, A), Define(0, M), Request(2, 0)];
 
 /// Whether each site has the same link from scratch in both worlds.
 fn have_same_links(one: &World, other: &World) -> bool {
@@ -36,7 +36,7 @@ fn are_same(one: &World, other: &World) -> bool {
 /// Whether a snapshot from after an install has the world of the one from before.
 fn is_same_after(alloc: Global, core: &mut Core, before: &Snapshot) -> bool {
     let is_installed = is_done(alloc, core, &Install(&[0]));
-    match &core.snapshot(alloc) {
+    match core.snapshot(alloc) {
         Ok(after) => {
             before.serial() == 4
                 && after.serial() == 5
@@ -49,8 +49,8 @@ fn is_same_after(alloc: Global, core: &mut Core, before: &Snapshot) -> bool {
 
 /// The same of a snapshot that is taken now.
 fn is_same(alloc: Global, core: &mut Core) -> bool {
-    match &core.snapshot(alloc) {
-        Ok(before) => is_same_after(alloc, core, before),
+    match core.snapshot(alloc) {
+        Ok(before) => is_same_after(alloc, core, &before),
         Err(_) => false,
     }
 }

@@ -1,6 +1,6 @@
 //! Events by numbers and constant rows, so that the same one can be made twice.
 
-use crate::classes::ClassRow;
+use crate::classes::{Class, ClassRow, row_of};
 use jl_class::ClassFile;
 use jl_core::Core;
 use jl_names::Seq;
@@ -9,7 +9,7 @@ use jl_types::{
     CallSiteId, CallSiteKind, ClassId, Event, Link, LoaderId, MethodId, Outcome, Place, SiteNo,
     SwitchId, Target,
 };
-use rows_files::{calling, class, named};
+use rows_files::{CallRow, calling, class, named};
 use std::alloc::{AllocError, Global};
 
 /// A method, by its class and its number there.
@@ -38,7 +38,7 @@ pub(crate) enum Step {
     /// A new loader.
     Loader,
     /// The loader defines the class.
-    Define(u32, &'static ClassRow),
+    Define(u32, Class),
     /// The request of a place in the first method of the class.
     Request(u32, u32),
     /// A new call site of this type.
@@ -59,12 +59,23 @@ pub(crate) enum Step {
     InstallOne(u32),
     /// The install of a megamorphic link at each of these sites.
     Wrong(&'static [u32]),
+    /// The same at site 0, so many times.
+    WrongAgain(usize),
     /// The install of the link that runs class 1's first method on each object, at site 0.
     ByHand,
 }
 
-/// What is read of the row's class file.
-fn file(alloc: Global, row: &ClassRow) -> Option<ClassFile> {
+/// The calls that the row's first method makes.
+fn calls_of(alloc: Global, row: &ClassRow) -> Result<Vec<CallRow>, AllocError> {
+    let mut calls = Vec::new(alloc);
+    for _ in 0..row.times {
+        calls.extend_from_slice(row.calls)?;
+    }
+    Ok(calls)
+}
+
+/// What is read of the row's class file, with these calls.
+fn file_with(alloc: Global, row: &ClassRow, calls: &[CallRow]) -> Option<ClassFile> {
     match row.superclass {
         Some(superclass) => calling(
             alloc,
@@ -72,16 +83,24 @@ fn file(alloc: Global, row: &ClassRow) -> Option<ClassFile> {
             row.flags,
             superclass,
             row.interfaces,
-            row.calls,
+            calls,
             row.methods,
         ),
         None => class(alloc, row.name, row.flags, None, &[], row.methods),
     }
 }
 
-/// The definition of the row's class.
-fn definition(alloc: Global, loader: u32, row: &ClassRow) -> Result<Event, AllocError> {
-    match file(alloc, row) {
+/// What is read of the row's class file.
+fn file(alloc: Global, row: &ClassRow) -> Option<ClassFile> {
+    match calls_of(alloc, row) {
+        Ok(calls) => file_with(alloc, row, &calls),
+        Err(_) => None,
+    }
+}
+
+/// The definition of the class.
+fn definition(alloc: Global, loader: u32, class: Class) -> Result<Event, AllocError> {
+    match file(alloc, row_of(class)) {
         Some(file) => Ok(Event::Define(LoaderId::new(loader), file)),
         None => Err(AllocError),
     }
@@ -193,6 +212,12 @@ fn install_each(alloc: Global, numbers: &[u32], link: Link) -> Result<Event, All
     Ok(Event::Install(Seq::of(rows)))
 }
 
+/// The install of a megamorphic link at site 0, so many times.
+fn install_again(alloc: Global, count: usize) -> Result<Event, AllocError> {
+    let sites = vec![in alloc; 0u32; count]?;
+    install_each(alloc, &sites, Link::Mega)
+}
+
 /// The install of the links that a preparation gives the sites now, or of links that they haven't, where it gives none.
 fn install(alloc: Global, core: &Core, numbers: &[u32]) -> Result<Event, AllocError> {
     let sites = numbered(alloc, numbers)?;
@@ -219,7 +244,7 @@ pub(crate) fn runs_first() -> Link {
 pub(crate) fn event(alloc: Global, core: &Core, step: &Step) -> Result<Event, AllocError> {
     match step {
         Step::Loader => Ok(Event::NewLoader),
-        Step::Define(loader, row) => definition(alloc, *loader, row),
+        Step::Define(loader, class) => definition(alloc, *loader, *class),
         Step::Request(class, pc) => Ok(Event::Request(Place {
             class: ClassId::new(*class),
             method: 0,
@@ -236,6 +261,7 @@ pub(crate) fn event(alloc: Global, core: &Core, step: &Step) -> Result<Event, Al
         Step::Install(sites) => install(alloc, core, sites),
         Step::InstallOne(site) => install(alloc, core, &[*site]),
         Step::Wrong(sites) => install_each(alloc, sites, Link::Mega),
+        Step::WrongAgain(count) => install_again(alloc, *count),
         Step::ByHand => install_each(alloc, &[0], runs_first()),
     }
 }
