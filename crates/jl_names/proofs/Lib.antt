@@ -1,5 +1,6 @@
 pub mod Tests
 pub mod Bytes
+pub mod Parts
 pub mod UnitLaws
 pub mod ClassNameLaws
 pub mod DescriptorLaws

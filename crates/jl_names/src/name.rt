@@ -7,26 +7,48 @@ ghost use Rattle.std.specs.Hash as fed;
 ghost use Rattle.std.specs.Hash.{items_Alike, same_Alike};
 ghost use Rattle.std.proofs.lemmas.Bool.Decides.{Decides-eqb};
 
-use bytes::Bytes;
 use std::alloc::{AllocError, Global};
+use std::fmt;
 use std::hash::{Hash, Hasher};
 use std::marker::Model;
+use std::sync::Arc;
 
 /// A name or a descriptor that is kept. A clause sees its bytes.
 ///
 /// The copies of a name share one block of bytes, and so do the names that are cut from one block. The block is kept
 /// as long as one of them is.
-#[derive(Debug, Drop)]
 pub struct Name {
-    bytes: Bytes,
+    block: Arc<Vec<u8>>,
+    start: usize,
+    len: usize,
+}
+
+/// Written out, so that what drops one makes one call of it and doesn't take apart what it holds.
+impl Drop for Name {
+    fn drop(self) {
+        let Name {
+            block: _block,
+            start: _start,
+            len: _len,
+        } = self;
+    }
+}
+
+/// A name is printed as its own bytes, without the others of its block.
+impl fmt::Debug for Name {
+    fn fmt<W: fmt::Write>(&self, f: &mut fmt::Formatter<W>) -> fmt::Result {
+        f.debug_tuple("Name").field(&self.as_slice()).finish()
+    }
 }
 
 impl Model for Name {
-    ghost use Rattle.std.specs.Prelude.{List, ℕ};
+    ghost use Rattle.std.specs.Prelude.{List, ℕ, ◌+◌, ◌≤◌, length, take, drop};
 
     ghost Value = { List ℕ };
 
-    ghost view = { λ n. n.bytes };
+    ghost view = { λ n. take n.len (drop n.start n.block.value.items) };
+
+    ghost invariant = { λ n. n.start + n.len ≤ length n.block.value.items };
 }
 
 impl Name {
@@ -36,8 +58,12 @@ impl Name {
     pub fn of(bytes: Vec<u8>) -> Result<Name, AllocError>
         ensures { IfOk result (λ name. name ≡ bytes.items) }
     {
+        let alloc = *bytes.allocator();
+        let len = bytes.len();
         Ok(Name {
-            bytes: Bytes::from_vec(bytes)?,
+            block: Arc::new(alloc, bytes)?,
+            start: 0,
+            len,
         })
     }
 
@@ -52,7 +78,7 @@ impl Name {
     pub fn as_slice(&self) -> &[u8]
         ensures { result.now ≡ self.now }
     {
-        self.bytes.as_slice()
+        &self.block.as_slice()[self.start..self.start + self.len]
     }
 
     /// The same name once more, in the same block. It is an error where the block can count no more owners.
@@ -60,7 +86,9 @@ impl Name {
         ensures { IfOk result (λ copy. copy ≡ self.now) }
     {
         Ok(Name {
-            bytes: self.bytes.clone()?,
+            block: Arc::try_clone(&self.block)?,
+            start: self.start,
+            len: self.len,
         })
     }
 
@@ -70,10 +98,10 @@ impl Name {
         requires { at + len ≤ length self.now }
         ensures { IfOk result (λ part. part ≡ take len (drop at self.now)) }
     {
-        // A block is shorter than a number can say, so the sum is in range.
-        let _len = self.bytes.len();
         Ok(Name {
-            bytes: self.bytes.slice(at..at + len)?,
+            block: Arc::try_clone(&self.block)?,
+            start: self.start + at,
+            len,
         })
     }
 
@@ -85,9 +113,10 @@ impl Name {
         ensures rest { OnOk result (self.new ≡ drop count self.old) }
         ensures err { OnErr result (self.new ≡ self.old) }
     {
-        Ok(Name {
-            bytes: self.bytes.split_to(count)?,
-        })
+        let front = self.part(0, count)?;
+        self.start += count;
+        self.len -= count;
+        Ok(front)
     }
 }
 
