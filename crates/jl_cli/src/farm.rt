@@ -12,11 +12,12 @@ ghost use Rattle.jl_cli.specs.Farms.{job_of_each, outcome_name, reports_data, la
 ghost use Rattle.jl_cli.specs.Means.Farms.{IsUnwritten};
 
 use crate::farm_fault::FarmLineFault;
-use crate::served::{Served, text_of};
+use crate::served::Served;
 use jl_farm::{Gate, JobOutcome, Report, run};
 use jl_json::farm_value;
 use jl_names::Seq;
 use jl_server::{Caller, Name};
+use jl_session::text_of;
 use jl_types::SiteNo;
 use serde_json::{Value, json};
 use std::alloc::{AllocError, Global};

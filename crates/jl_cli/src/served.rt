@@ -1,20 +1,17 @@
 //! Commands, a line each, on a link server.
 
-ghost use Rattle.std.specs.Prelude.{◌≡◌, false, IfOk, OnErr};
+ghost use Rattle.std.specs.Prelude.{IfOk, OnErr};
 ghost use Rattle.serde_json.specs.View.{view};
-ghost use Rattle.serde_json.specs.Written.{has_float, compact_text};
 ghost use Rattle.jl_json.specs.declared.command.ClassSource.TheVariants as source;
-ghost use Rattle.jl_json.specs.Commands.{command_of};
-ghost use Rattle.jl_session.specs.Jsons.{IsReadAs};
 ghost use Rattle.jl_cli.specs.Farms.{IsServed, IsFileServed, IsDefineServed, IsAskedEventServed, IsCommandServed, IsLineServed};
 ghost use Rattle.jl_cli.specs.Farms.{IsFarmAnswer};
 ghost use Rattle.jl_cli.specs.Means.Farms.{LacksServed};
 
 use jl_classfile::read_class;
-use jl_json::{AskedEvent, ClassSource, Command, event_refusal_value, read_command, reply_value};
+use jl_json::{AskedEvent, ClassSource, Command, event_refusal_value, reply_value};
 use jl_lines::{Answer, add_answer};
 use jl_server::{Caller, LinkServer, Name};
-use jl_session::{bad_command, fault_value, json_in, sketch_fault_value};
+use jl_session::{bad_command, command_in, fault_value, sketch_fault_value, text_of};
 use jl_sketch::{Sketch, write_class};
 use jl_types::{Event, LoaderId};
 use serde_json::Value;
@@ -27,24 +24,6 @@ pub(crate) struct Served<'a, K: Name, H: Wait, S: Wait + Drop> {
     pub(crate) rt: &'a H,
     pub(crate) alloc: Global,
     pub(crate) server: &'a LinkServer<K, S>,
-}
-
-/// The text of an answer.
-pub(crate) fn text_of(alloc: Global, answer: &Value) -> Result<Vec<u8>, AllocError>
-    requires { has_float (view answer.now) ≡ false }
-    ensures { IfOk result (λ text. text.items ≡ compact_text (view answer.now)) }
-{
-    answer.to_vec(alloc)
-}
-
-/// The command that the line's JSON is, if it is one.
-fn command_in(alloc: Global, line: &[u8]) -> Result<Option<Command>, AllocError>
-    ensures { IfOk result (IsReadAs command_of line.now) }
-{
-    match json_in(alloc, line)? {
-        Some(value) => read_command(alloc, &value),
-        None => Ok(None),
-    }
 }
 
 impl<'a, K: Name, H: Wait, S: Wait + Drop> Served<'a, K, H, S> {

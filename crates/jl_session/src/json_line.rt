@@ -9,7 +9,7 @@ use serde_json::{Value, json};
 use std::alloc::{AllocError, Global};
 
 /// The JSON that the line is, if it is any.
-pub fn json_in(alloc: Global, line: &[u8]) -> Result<Option<Value>, AllocError>
+pub(crate) fn json_in(alloc: Global, line: &[u8]) -> Result<Option<Value>, AllocError>
     ensures { IfOk result (λ value. IsReadAs Some line.now (option_map view value)) }
 {
     match Value::from_slice(alloc, line) {
@@ -24,8 +24,8 @@ pub fn json_in(alloc: Global, line: &[u8]) -> Result<Option<Value>, AllocError>
     }
 }
 
-/// The text of an answer.
-pub(crate) fn text_of(alloc: Global, answer: &Value) -> Result<Vec<u8>, AllocError>
+/// The text of an answer, which has no floating-point number. Want of memory is an error.
+pub fn text_of(alloc: Global, answer: &Value) -> Result<Vec<u8>, AllocError>
     requires { has_float (view answer.now) ≡ false }
     ensures { IfOk result (λ text. text.items ≡ compact_text (view answer.now)) }
 {

@@ -13,8 +13,8 @@ mod sketch;
 mod session;
 mod target_text;
 
-pub use json_line::{bad_command, json_in};
+pub use json_line::{bad_command, text_of};
 pub use scan::{add_scan_answer, fault_value};
-pub use session::Session;
+pub use session::{Session, command_in};
 pub use sketch::{sketch_answer, sketch_fault_value};
 pub use target_text::read_target;

@@ -57,8 +57,8 @@ impl Model for Session {
     ghost view = { λ s. record { core = s.core; batches = s.batches.items } };
 }
 
-/// The command that the line's JSON is, if it is one.
-fn command_in(alloc: Global, line: &[u8]) -> Result<Option<Command>, AllocError>
+/// The command that the line's JSON is, if it is one. Want of memory is an error.
+pub fn command_in(alloc: Global, line: &[u8]) -> Result<Option<Command>, AllocError>
     ensures { IfOk result (IsReadAs command_of line.now) }
 {
     match json_in(alloc, line)? {
