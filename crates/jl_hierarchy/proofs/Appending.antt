@@ -2,7 +2,8 @@
 use Rattle.std.specs.Prelude.{◌≡◌, ℕ, zero, suc, ◌+◌, ◌<◌, ◌==◌, ◌||◌, Bool, true, false, if◌then◌else◌, List, [], ◌∷◌, ◌++◌, length, get_or}
 use Rattle.std.specs.Prelude.{slice_set, take, drop}
 use Rattle.std.specs.List.{list_any, AllByRecursion}
-use Rattle.smallvec.specs.SmallVec.{SmallVec, HasRoomFor}
+use Rattle.std.specs.Prelude.{Vec}
+use Rattle.std.specs.declared.alloc.Global.{Global}
 use Rattle.std.proofs.Common.{refl, ap, sym, subst, ◌∙◌, arith}
 use Rattle.std.proofs.Math.Seq.{take-append_seam}
 use Rattle.std.proofs.lemmas.Bool.Decides.{Decides-eqb}
@@ -13,36 +14,36 @@ use Rattle.std.proofs.lemmas.Cmp.{nat_eq_equiv}
 use Rattle.jl_types.proofs.Bools.{or_none}
 use Rattle.jl_hierarchy.proofs.Rising.{other_number, above_at}
 use Rattle.jl_hierarchy.proofs.KeptLaws.{get_or-lists}
-use Rattle.jl_hierarchy.specs.Means.Kept.{HasRoom, Rises, AreChanged, lists}
+use Rattle.jl_hierarchy.specs.Means.Kept.{HasRoom, HasRoomForOne, Rises, AreChanged, lists}
 
 -- ---- one list is changed
 
 -- the elements of all lists stay where those of the changed one do
-pub same_lists : (below : List (SmallVec ℕ)) (i : ℕ) (d v : SmallVec ℕ) → v.items ≡ (get_or below i d).items
+pub same_lists : (below : List (Vec ℕ Global)) (i : ℕ) (d v : Vec ℕ Global) → v.items ≡ (get_or below i d).items
     → lists (slice_set below i v) ≡ lists below
 same_lists [] i d v e = refl
 same_lists (x ∷ below) zero d v e = ap (λ (l : List ℕ). l ∷ lists below) e
 same_lists (x ∷ below) (suc i) d v e = ap (λ (ls : List (List ℕ)). x.items ∷ ls) (same_lists below i d v e)
 
 -- room where the changed list has some, and elsewhere where there was
-pub room_set : (below : List (SmallVec ℕ)) (i c : ℕ) (v : SmallVec ℕ) → i < length below → ((i == c) ≡ true → HasRoomFor v 1)
+pub room_set : (below : List (Vec ℕ Global)) (i c : ℕ) (v : Vec ℕ Global) → i < length below → ((i == c) ≡ true → HasRoomForOne v)
     → ((i == c) ≡ false → HasRoom below c) → HasRoom (slice_set below i v) c
 room_set below i c v lt room old d = by_test (i == c) refl
   where
-    by_test : (b : Bool) → (i == c) ≡ b → HasRoomFor (get_or (slice_set below i v) c d) 1
+    by_test : (b : Bool) → (i == c) ≡ b → HasRoomForOne (get_or (slice_set below i v) c d)
     by_test true e =
-        subst (λ k. HasRoomFor (get_or (slice_set below i v) k d) 1) ((Decides-eqb i c).0 e)
-        (subst (λ (w : SmallVec ℕ). HasRoomFor w 1) (sym (get_or-set_same below i v d lt)) (room e))
-    by_test false e = subst (λ (w : SmallVec ℕ). HasRoomFor w 1)
+        subst (λ k. HasRoomForOne (get_or (slice_set below i v) k d)) ((Decides-eqb i c).0 e)
+        (subst (λ (w : Vec ℕ Global). HasRoomForOne w) (sym (get_or-set_same below i v d lt)) (room e))
+    by_test false e = subst (λ (w : Vec ℕ Global). HasRoomForOne w)
         (sym (get_or-set_other below i c v d (λ same. both_ways (i == c) e ((Decides-eqb i c).1 (sym same))))) (old e d)
 
 -- the lists that were written in place, and one behind them
-pub with_own : (n : ℕ) (old new : List (SmallVec ℕ)) (own : SmallVec ℕ) → length new ≡ n
+pub with_own : (n : ℕ) (old new : List (Vec ℕ Global)) (own : Vec ℕ Global) → length new ≡ n
     → lists (take n (new ++ drop (length new) old) ++ own ∷ []) ≡ lists new ++ own.items ∷ []
 with_own n old new own e =
-    ap (λ (vs : List (SmallVec ℕ)). lists (vs ++ own ∷ []))
+    ap (λ (vs : List (Vec ℕ Global)). lists (vs ++ own ∷ []))
     (ap (λ (k : ℕ). take k (new ++ drop (length new) old)) (sym e) ∙ take-append_seam new (drop (length new) old))
-    ∙ map-append (λ (v : SmallVec ℕ). v.items) new (own ∷ [])
+    ∙ map-append (λ (v : Vec ℕ Global). v.items) new (own ∷ [])
 
 -- ---- one list more is changed
 
@@ -59,9 +60,9 @@ has_more classes n c d lt =
     ∙ ap (λ (b : Bool). list_any (λ k. k == c) (take n classes) || b) (or_none (get_or classes n d == c))
 
 -- as many lists as vectors
-pub as_many_lists : (vectors others : List (SmallVec ℕ)) → lists vectors ≡ lists others → length vectors ≡ length others
+pub as_many_lists : (vectors others : List (Vec ℕ Global)) → lists vectors ≡ lists others → length vectors ≡ length others
 as_many_lists vectors others e =
-    sym (length-map vectors (λ (u : SmallVec ℕ). u.items)) ∙ ap length e ∙ length-map others (λ (u : SmallVec ℕ). u.items)
+    sym (length-map vectors (λ (u : Vec ℕ Global). u.items)) ∙ ap length e ∙ length-map others (λ (u : Vec ℕ Global). u.items)
 
 pub same_default : {X : Type 0} (xs : List X) (i : ℕ) (d e : X) → i < length xs → get_or xs i d ≡ get_or xs i e
 same_default [] i d e lt = absurd (omega arith)
@@ -89,20 +90,20 @@ not_before (x ∷ classes) (suc n) d r lt =
     (other_number x (get_or classes n d) (above_any x classes n d r.0 (omega arith)))
     ∙ not_before classes n d r.1 (omega arith)
 
-module _ (classes : List ℕ) (f : List ℕ → List ℕ) (old : List (List ℕ)) (below : List (SmallVec ℕ)) (n d : ℕ) (r : Rises classes) (lt : n < length classes)
-    (h : AreChanged (take n classes) f old (lists below)) (v : SmallVec ℕ) (w : SmallVec ℕ)
+module _ (classes : List ℕ) (f : List ℕ → List ℕ) (old : List (List ℕ)) (below : List (Vec ℕ Global)) (n d : ℕ) (r : Rises classes) (lt : n < length classes)
+    (h : AreChanged (take n classes) f old (lists below)) (v : Vec ℕ Global) (w : Vec ℕ Global)
     (there : get_or classes n d < length below) (e : v.items ≡ f (get_or below (get_or classes n d) w).items) where
   abbrev at : ℕ
   at = get_or classes n d
 
   lists_set : lists (slice_set below at v) ≡ slice_set (lists below) at v.items
-  lists_set = map-set (λ (u : SmallVec ℕ). u.items) below at v
+  lists_set = map-set (λ (u : Vec ℕ Global). u.items) below at v
 
   abbrev with : Bool → ℕ → List ℕ
   with b c = if b then f (get_or old c []) else get_or old c []
 
   there_too : at < length (lists below)
-  there_too = let m = length-map below (λ (u : SmallVec ℕ). u.items) in omega arith
+  there_too = let m = length-map below (λ (u : Vec ℕ Global). u.items) in omega arith
 
   at_place : get_or (lists (slice_set below at v)) at [] ≡ changed (take (n + 1) classes) f old at
   at_place =

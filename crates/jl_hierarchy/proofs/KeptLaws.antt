@@ -1,6 +1,7 @@
 -- What the kept lists are at a class.
 use Rattle.std.specs.Prelude.{◌≡◌, ℕ, zero, suc, ◌<◌, List, [], ◌∷◌, length, get_or, Option, Some, None, IfSome}
-use Rattle.smallvec.specs.SmallVec.{SmallVec}
+use Rattle.std.specs.Prelude.{Vec}
+use Rattle.std.specs.declared.alloc.Global.{Global}
 use Rattle.std.proofs.Common.{refl, ap, subst, sym, ◌∙◌, arith}
 use Rattle.std.proofs.lemmas.List.FromFn.{get_or-map-range_with_len, length-map-range_with_len}
 use Rattle.std.proofs.lemmas.List.{length-map}
@@ -15,7 +16,7 @@ found_there : (cs : Classes) → IsGood cs → (loader : ℕ) (name : List ℕ) 
 found_there cs good loader name None e = tt
 found_there cs good loader name (Some c) e = looked_up cs good loader name c e
 
-pub get_or-lists : (vectors : List (SmallVec ℕ)) (c : ℕ) (d : SmallVec ℕ) → get_or (lists vectors) c d.items ≡ (get_or vectors c d).items
+pub get_or-lists : (vectors : List (Vec ℕ Global)) (c : ℕ) (d : Vec ℕ Global) → get_or (lists vectors) c d.items ≡ (get_or vectors c d).items
 get_or-lists [] c d = refl
 get_or-lists (v ∷ vectors) zero d = refl
 get_or-lists (v ∷ vectors) (suc c) d = get_or-lists vectors c d
@@ -35,9 +36,9 @@ module _ (inside : Classes) (above below : List (List ℕ)) (kept : IsKept insid
   there_here = found_there cs good
 
   -- as many lists of receivers as classes
-  pub many_below : (vectors : List (SmallVec ℕ)) → lists vectors ≡ below → length cs.rows ≡ length vectors
+  pub many_below : (vectors : List (Vec ℕ Global)) → lists vectors ≡ below → length cs.rows ≡ length vectors
   many_below vectors whole =
-      sym (sym (length-map vectors (λ (v : SmallVec ℕ). v.items)) ∙ ap length (whole ∙ kept.receivers_kept)
+      sym (sym (length-map vectors (λ (v : Vec ℕ Global). v.items)) ∙ ap length (whole ∙ kept.receivers_kept)
       ∙ length-map-range_with_len (receivers inside) 0 (length inside.rows) ∙ ap (λ (k : Classes). length k.rows) same)
 
   -- as many lists of ancestors as classes
@@ -57,11 +58,11 @@ module _ (inside : Classes) (above below : List (List ℕ)) (kept : IsKept insid
         (omega arith)
         ∙ ap (λ (k : Classes). ancestors k.rows c) same
 
-  module _ (slice : List (SmallVec ℕ)) (whole : lists slice ≡ below) (at c : ℕ) (number : at ≡ c) (lt : c < length cs.rows) where
+  module _ (slice : List (Vec ℕ Global)) (whole : lists slice ≡ below) (at c : ℕ) (number : at ≡ c) (lt : c < length cs.rows) where
     pub below_here : at < length slice
     below_here = let n = many_below slice whole in omega arith
 
-    pub receivers_here : (d : SmallVec ℕ) → (get_or slice at d).items ≡ receivers cs c
+    pub receivers_here : (d : Vec ℕ Global) → (get_or slice at d).items ≡ receivers cs c
     receivers_here d =
         sym (get_or-lists slice at d)
         ∙ ap (λ (xs : List (List ℕ)). get_or xs at d.items) (whole ∙ kept.receivers_kept)

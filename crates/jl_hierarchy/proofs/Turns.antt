@@ -2,8 +2,7 @@
 use Rattle.std.specs.Prelude.{◌≡◌, ℕ, suc, ◌+◌, ◌-◌, ◌<◌, ◌≤◌, Bool, true, false, cond, ◌||◌, List, [], ◌∷◌, ◌++◌, find, filter, drop, take, length}
 use Rattle.std.specs.Prelude.{get_or, slice_get, Some, None, if◌then◌else◌, nat_eq, ◌==◌}
 use Rattle.std.specs.List.{list_any, range_with_len}
-use Rattle.std.specs.List.Retain.{RetainsInTurn}
-use Rattle.std.proofs.Common.{refl, ap, sym, subst, ◌∙◌, arith, Vec}
+use Rattle.std.proofs.Common.{refl, ap, sym, ◌∙◌, arith, Vec}
 use Rattle.std.proofs.lemmas.Cmp.{nat_eq_equiv}
 use Rattle.std.proofs.lemmas.List.{take_more}
 use Rattle.std.proofs.lemmas.List.Elements.{filter-append}
@@ -15,16 +14,6 @@ use Rattle.jl_hierarchy.specs.Retiring.{is_row_of, own_recorded}
 grouped : {A : Type 0} (xs ys zs : List A) → (xs ++ ys) ++ zs ≡ xs ++ (ys ++ zs)
 grouped [] ys zs = refl
 grouped (x ∷ xs) ys zs = ap (λ (us : List _). x ∷ us) (grouped xs ys zs)
-
--- ---- what a closure over elements that are lent keeps
-
-pub retained : {S X : Type 0} (R : S → X → Bool → S → X → Type 0) (test : X → Bool) (s : S)
-    → ((x : X) (b : Bool) (t : S) (y : X) → R s x b t y → (b ≡ test x) × (t ≡ s) × (y ≡ x)) → (xs ys : List X) → RetainsInTurn R s xs ys → ys ≡ filter test xs
-retained R test s says [] ys h = h
-retained R test s says (x ∷ xs) ys (b, t, y, called, zs, rest, is) =
-    let said = says x b t y called in
-    let more = retained R test s says xs zs (subst (λ u. RetainsInTurn R u xs zs) said.1 rest) in
-    is ∙ (λ i. cond (said.0 i) (said.2 i ∷ more i) (more i))
 
 -- a number is sought either way round
 pub any_turned : (k : ℕ) (xs : List ℕ) → list_any (nat_eq k) xs ≡ list_any (λ x. x == k) xs

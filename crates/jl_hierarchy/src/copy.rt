@@ -11,7 +11,6 @@ use crate::row::Row;
 use indexmap::IndexSet;
 use jl_pages::Paged;
 use jl_types::LoaderId;
-use smallvec::SmallVec;
 use std::alloc::{AllocError, Global};
 use std::sync::Arc;
 
@@ -76,7 +75,7 @@ fn copy_below(alloc: Global, below: &[Receivers]) -> Result<Vec<Receivers>, Allo
 {
     let mut made = Vec::with_capacity(alloc, below.len())?;
     for receivers in below {
-        made.push(SmallVec::from_slice(alloc, receivers.as_slice())?)?;
+        made.push(receivers.as_slice().to_vec(alloc)?)?;
     }
     Ok(made)
 }

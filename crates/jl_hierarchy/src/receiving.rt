@@ -7,7 +7,6 @@ ghost use Rattle.jl_hierarchy.specs.Means.Kept.{HasRoom, Rises, IsAppended, list
 
 use jl_class::{ABSTRACT, ClassFile, INTERFACE, has_flag};
 use jl_types::{Class, ClassId};
-use smallvec::SmallVec;
 use std::alloc::{AllocError, Global};
 
 /// Whether objects may be of the class: it is neither an interface nor abstract.
@@ -31,8 +30,8 @@ pub(crate) fn receiving<'a>(is_concrete: bool, ancestors: &'a [ClassId]) -> &'a 
     if is_concrete { ancestors } else { &[] }
 }
 
-/// The receivers of a class, rising. Most classes have none below them.
-pub(crate) type Receivers = SmallVec<ClassId, 4>;
+/// The receivers of a class, rising.
+pub(crate) type Receivers = Vec<ClassId>;
 
 /// The receivers of a class that has none below it. Want of memory is an error.
 pub(crate) fn own_receivers(
@@ -42,7 +41,7 @@ pub(crate) fn own_receivers(
 ) -> Result<Receivers, AllocError>
     ensures { IfOk result (λ own. own.items ≡ (if is_concrete then class ∷ [] else [])) }
 {
-    let mut own = SmallVec::new(alloc);
+    let mut own = Vec::new(alloc);
     if is_concrete {
         own.push(class)?;
     }

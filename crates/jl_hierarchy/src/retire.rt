@@ -19,7 +19,6 @@ use crate::row::Row;
 use indexmap::IndexSet;
 use jl_pages::Paged;
 use jl_types::{ClassId, LoaderId, RetireFault};
-use smallvec::SmallVec;
 use std::alloc::{AllocError, Global};
 
 impl Classes {
@@ -319,7 +318,7 @@ fn drop_from(alloc: Global, rows: &Paged<Row>, receivers: &mut Receivers, loader
 {
     retain_others(rows, receivers, loader);
     if receivers.is_empty() {
-        *receivers = SmallVec::new(alloc);
+        *receivers = Vec::new(alloc);
     }
 }
 

@@ -2,7 +2,8 @@
 use Rattle.std.specs.Prelude.{◌≡◌, ℕ, ◌<◌, ◌≤◌, ◌==◌, Bool, true, ◌&&◌, if◌then◌else◌, List, ◌∷◌, [], ◌++◌, Vec, map, length, get_or, slice_get}
 use Rattle.std.specs.Prelude.{is_none, Some, false, ⊤}
 use Rattle.std.specs.List.{AllByRecursion, list_any}
-use Rattle.smallvec.specs.SmallVec.{SmallVec, HasRoomFor}
+use Rattle.std.specs.Vec.{vec_len, vec_capacity}
+use Rattle.std.specs.declared.alloc.Global.{Global}
 use Rattle.jl_types.specs.Values.World.{Class, Classes}
 use Rattle.jl_types.specs.Values.Members.{numbers, recorded, is_retired, lookup}
 use Rattle.jl_types.specs.Values.Ancestry.{AreOrdered, ancestors, receivers}
@@ -18,7 +19,7 @@ are_new older [] = true
 are_new older (r ∷ recent) = is_none (recorded r.0 older) && are_new (older ++ r ∷ []) recent
 
 -- what the lists that grow hold
-abbrev pub lists : List (SmallVec ℕ) → List (List ℕ)
+abbrev pub lists : List (Vec ℕ Global) → List (List ℕ)
 lists vectors = map (λ v. v.items) vectors
 
 -- a class of a loader that isn't retired stands in the loader's records, under its name
@@ -38,9 +39,13 @@ pub record IsKept (cs : Classes) (above below : List (List ℕ)) : Type 0 where
   pub ancestors_kept : above ≡ map (ancestors cs.rows) (numbers cs)
   pub receivers_kept : below ≡ map (receivers cs) (numbers cs)
 
+-- a list has room for one more
+abbrev pub HasRoomForOne : Vec ℕ Global → Type 0
+HasRoomForOne v = vec_len v < vec_capacity v
+
 -- the list of the class has room for one more
-abbrev pub HasRoom : List (SmallVec ℕ) → ℕ → Type 0
-HasRoom vectors c = (d : SmallVec ℕ) → HasRoomFor (get_or vectors c d) 1
+abbrev pub HasRoom : List (Vec ℕ Global) → ℕ → Type 0
+HasRoom vectors c = (d : Vec ℕ Global) → HasRoomForOne (get_or vectors c d)
 
 -- each number is below those after it
 abbrev pub Rises : List ℕ → Type 0

@@ -1,18 +1,15 @@
 use Rattle.std.specs.Prelude.{◌≡◌, ℕ, ◌+◌, ◌<◌, ◌≤◌, ◌==◌, ◌++◌, ◌∷◌, [], true, length, get_or, slice_set, take}
-use Rattle.smallvec.specs.SmallVec.{HasRoomFor}
 use Rattle.std.proofs.Common.{ap, sym, subst, ◌∙◌, arith}
 use Rattle.std.proofs.lemmas.Bool.Decides.{Decides-eqb}
-use Rattle.jl_hierarchy.specs.Means.Kept.{IsAppended, lists}
+use Rattle.jl_hierarchy.specs.Means.Kept.{HasRoomForOne, IsAppended, lists}
 use Rattle.jl_hierarchy.proofs.Appending.{changed_more, room_set, rises_at}
 use Rattle.jl_hierarchy.proofs.receiving.append_to_each.Goals as goal
 
 pub push_reserved-requires : goal.push_reserved-requires
 push_reserved-requires c =
-    let list = c.index-below-number.result in (
-      omega arith,
-      subst (λ n. HasRoomFor (get_or c.loop-to.below n list) 1) (sym (c.number.ensures ∙ c.to-item.is))
-          (c.loop-to.invariant.1 c.loop-to.to-index c.to-item.result (omega arith) c.loop-to-test.true list),
-    )
+    let list = c.index-below-number.result in
+    subst (λ n. HasRoomForOne (get_or c.loop-to.below n list)) (sym (c.number.ensures ∙ c.to-item.is))
+    (c.loop-to.invariant.1 c.loop-to.to-index c.to-item.result (omega arith) c.loop-to-test.true list)
 
 apart : (c : goal.After-push_reserved) (k d : ℕ) → c.loop-to.to-index + 1 ≤ k → k < length c.args.classes.now
     → (c.number.result == get_or c.args.classes.now k d) ≡ true → ⊥

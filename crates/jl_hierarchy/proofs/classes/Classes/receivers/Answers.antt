@@ -1,5 +1,5 @@
-use Rattle.std.specs.Prelude.{ℕ}
-use Rattle.smallvec.specs.SmallVec.{SmallVec}
+use Rattle.std.specs.Prelude.{ℕ, Vec}
+use Rattle.std.specs.declared.alloc.Global.{Global}
 use Rattle.std.proofs.Common.{ap, ◌∙◌}
 use Rattle.jl_hierarchy.specs.Means.Kept.{lists}
 use Rattle.jl_hierarchy.proofs.KeptLaws.{receivers_here, below_here}
@@ -12,6 +12,6 @@ bounds-as_slice-number c =
 
 pub returns : goal.returns
 returns c =
-    c.as_slice-2.ensures ∙ ap (λ (v : SmallVec ℕ). v.items) c.index-as_slice-number.is
+    c.as_slice-2.ensures.value ∙ ap (λ (v : Vec ℕ Global). v.items) c.index-as_slice-number.is
     ∙ receivers_here _ _ _ c.self.invariant.0 c.args.self.now c.self.view_is c.as_slice.result.now (ap lists c.as_slice.ensures.value) c.number.result
     c.args.class c.number.ensures c.requires c.index-as_slice-number.result
