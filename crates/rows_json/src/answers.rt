@@ -202,6 +202,11 @@ fn reply(alloc: Global, made: Made) -> Result<Value, AllocError> {
     reply_value(alloc, &Reply { made, dropped })
 }
 
+/// What the event's refusal is answered.
+fn refusal_value(alloc: Global, refusal: Refusal) -> Result<Value, AllocError> {
+    event_refusal_value(alloc, &refusal)
+}
+
 fn event(place: usize) -> Refusal {
     let site = SiteNo::new(0);
     match place {
@@ -227,7 +232,7 @@ fn event(place: usize) -> Refusal {
 
 fn parent(alloc: Global) -> Result<Value, AllocError> {
     let parent = DefineFault::MissingParent(Name::copied(alloc, b"p/A")?);
-    event_refusal_value(alloc, &Refusal::Define(parent))
+    refusal_value(alloc, Refusal::Define(parent))
 }
 
 fn call_site(place: usize) -> CallSiteFault {
@@ -261,6 +266,10 @@ fn sketch(place: usize) -> SketchFault {
     }
 }
 
+fn sketch_value(alloc: Global, fault: SketchFault) -> Result<Value, AllocError> {
+    FileRefusal::from(fault).to_value(alloc)
+}
+
 /// The value of this kind at this place.
 fn value(alloc: Global, kind: Kind, place: usize) -> Result<Value, AllocError> {
     match kind {
@@ -269,11 +278,11 @@ fn value(alloc: Global, kind: Kind, place: usize) -> Result<Value, AllocError> {
         Lists => list(alloc, place),
         Calls => answer_value(alloc, answer(place)),
         Replies => reply(alloc, made(place)),
-        Events => event_refusal_value(alloc, &event(place)),
+        Events => refusal_value(alloc, event(place)),
         Parents => parent(alloc),
-        CallSites => event_refusal_value(alloc, &Refusal::CallSite(call_site(place))),
+        CallSites => refusal_value(alloc, Refusal::CallSite(call_site(place))),
         Preparations => prepare_refusal_value(alloc, preparation(place)),
-        Sketches => FileRefusal::from(sketch(place)).to_value(alloc),
+        Sketches => sketch_value(alloc, sketch(place)),
     }
 }
 
@@ -293,13 +302,21 @@ fn is_so(alloc: Global, kind: Kind, place: usize, want: &str) -> bool {
     }
 }
 
-/// The first text that differs, if there is one.
-fn other(alloc: Global) -> Option<&'static str> {
-    for (kind, texts) in TEXTS {
-        for (place, want) in texts.iter().enumerate() {
-            if !is_so(alloc, *kind, place, want) {
-                return Some(want);
-            }
+/// The place of the first of these texts that differs, if there is one.
+fn other_of(alloc: Global, kind: Kind, texts: &[&str]) -> Option<usize> {
+    for (place, want) in texts.iter().enumerate() {
+        if !is_so(alloc, kind, place, want) {
+            return Some(place);
+        }
+    }
+    None
+}
+
+/// The first row with a text that differs and that text's place there, if there is one.
+fn other(alloc: Global, rows: &[(Kind, &[&str])]) -> Option<(usize, usize)> {
+    for (row, (kind, texts)) in rows.iter().enumerate() {
+        if let Some(place) = other_of(alloc, *kind, texts) {
+            return Some((row, place));
         }
     }
     None
@@ -307,5 +324,5 @@ fn other(alloc: Global) -> Option<&'static str> {
 
 #[test]
 fn answers(rt: HostRuntime) {
-    assert_eq!(rt; other(rt.alloc()), None);
+    assert_eq!(rt; other(rt.alloc(), TEXTS), None);
 }

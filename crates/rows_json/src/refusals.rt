@@ -25,7 +25,7 @@ fn says<F: Display>(alloc: Global, fault: &F, name: &str) -> bool {
 }
 
 /// Whether the answer refuses by this name.
-fn refuses(answer: &Result<Value, AllocError>, name: &str) -> bool {
+fn refuses(answer: Result<Value, AllocError>, name: &str) -> bool {
     match answer {
         Ok(value) => value.get("refused").and_then(|name| name.as_str()) == Some(name),
         Err(_) => false,
@@ -34,7 +34,7 @@ fn refuses(answer: &Result<Value, AllocError>, name: &str) -> bool {
 
 /// Whether both the refusal of a class file or a sketch and its answer have the name.
 fn is_file_fault(alloc: Global, fault: SketchFault, name: &str) -> bool {
-    says(alloc, &fault, name) && refuses(&FileRefusal::from(fault).to_value(alloc), name)
+    says(alloc, &fault, name) && refuses(FileRefusal::from(fault).to_value(alloc), name)
 }
 
 /// Faults of class files, of their pools and their codes, and of sketches.
@@ -112,8 +112,8 @@ const FILES: &[(SketchFault, &str)] = &[
 ];
 
 /// The first place whose fault, or its answer, has another name, if there is one.
-fn other_file(alloc: Global) -> Option<usize> {
-    for (place, row) in FILES.iter().enumerate() {
+fn other_file(alloc: Global, rows: &[(SketchFault, &str)]) -> Option<usize> {
+    for (place, row) in rows.iter().enumerate() {
         if !is_file_fault(alloc, row.0, row.1) {
             return Some(place);
         }
@@ -141,10 +141,10 @@ const PREPARATIONS: &[&str] = &[
 ];
 
 /// The first of the names that isn't that of the preparation's refusal, if there is one.
-fn other_preparation(alloc: Global) -> Option<usize> {
-    for (place, name) in PREPARATIONS.iter().enumerate() {
+fn other_preparation(alloc: Global, names: &[&str]) -> Option<usize> {
+    for (place, name) in names.iter().enumerate() {
         let fault = prepare_fault(place);
-        if !says(alloc, &fault, name) || !refuses(&prepare_refusal_value(alloc, fault), name) {
+        if !says(alloc, &fault, name) || !refuses(prepare_refusal_value(alloc, fault), name) {
             return Some(place);
         }
     }
@@ -273,7 +273,7 @@ const PLAIN: &[&str] = &[
 
 /// Whether both the refusal's text and its answer have the name.
 fn is_refused(alloc: Global, refusal: &Refusal, name: &str) -> bool {
-    says(alloc, refusal, name) && refuses(&event_refusal_value(alloc, refusal), name)
+    says(alloc, refusal, name) && refuses(event_refusal_value(alloc, refusal), name)
 }
 
 /// Whether a definition that is refused for what is above it has the name.
@@ -290,24 +290,43 @@ const PARENTS: &[&str] = &[
     "Define.InaccessibleParent",
 ];
 
-/// The first of the names that isn't that of the event's refusal, if there is one.
-fn other_refusal(alloc: Global) -> Option<&'static str> {
-    for (place, name) in PLAIN.iter().enumerate() {
+/// The first of the names that isn't that of the event's refusal with no more than a name, if there is one.
+fn other_plain(alloc: Global, names: &[&str]) -> Option<usize> {
+    for (place, name) in names.iter().enumerate() {
         if !is_refused(alloc, &plain(place), name) {
-            return Some(name);
-        }
-    }
-    for (place, name) in NUMBERED.iter().enumerate() {
-        if !is_refused(alloc, &numbered(place), name) {
-            return Some(name);
-        }
-    }
-    for (place, name) in PARENTS.iter().enumerate() {
-        if !is_parent_fault(alloc, place, name) {
-            return Some(name);
+            return Some(place);
         }
     }
     None
+}
+
+/// The same with no more than a number.
+fn other_numbered(alloc: Global, names: &[&str]) -> Option<usize> {
+    for (place, name) in names.iter().enumerate() {
+        if !is_refused(alloc, &numbered(place), name) {
+            return Some(place);
+        }
+    }
+    None
+}
+
+/// The same of a definition for what is above it.
+fn other_parent(alloc: Global, names: &[&str]) -> Option<usize> {
+    for (place, name) in names.iter().enumerate() {
+        if !is_parent_fault(alloc, place, name) {
+            return Some(place);
+        }
+    }
+    None
+}
+
+/// The first of the names of each kind that isn't that of the event's refusal, if there is one.
+fn other_refusals(alloc: Global) -> [Option<usize>; 3] {
+    [
+        other_plain(alloc, PLAIN),
+        other_numbered(alloc, NUMBERED),
+        other_parent(alloc, PARENTS),
+    ]
 }
 
 /// A name is refused where it is part of something, and so by no answer of its own.
@@ -320,40 +339,98 @@ const NAMES: &[(NameFault, &str)] = &[
 ];
 
 /// The first of the names that isn't that of the fault, if there is one.
-fn other_name(alloc: Global) -> Option<&'static str> {
-    for (fault, name) in NAMES {
+fn other_name(alloc: Global, rows: &[(NameFault, &str)]) -> Option<usize> {
+    for (place, (fault, name)) in rows.iter().enumerate() {
         if !says(alloc, fault, name) {
-            return Some(name);
+            return Some(place);
         }
     }
     None
 }
 
 #[test]
+fn file_faults_say_their_names(rt: HostRuntime) {
+    assert_eq!(rt; other_file(rt.alloc(), FILES), None);
+}
+
+#[test]
+fn preparations_say_their_names(rt: HostRuntime) {
+    assert_eq!(rt; other_preparation(rt.alloc(), PREPARATIONS), None);
+}
+
+#[test]
 fn refusals_say_their_names(rt: HostRuntime) {
-    let alloc = rt.alloc();
-    assert_eq!(rt; other_file(alloc), None);
-    assert_eq!(rt; other_preparation(alloc), None);
-    assert_eq!(rt; other_refusal(alloc), None);
-    assert_eq!(rt; other_name(alloc), None);
-    assert!(rt; says(alloc, &LoaderFault::Full, "LoadersFull"));
-    assert!(rt; says(alloc, &LoaderFault::Memory, "Memory"));
-    assert!(rt; says(alloc, &SitesFault::Unknown(SiteNo::new(3)), "UnknownSite"));
-    assert!(rt; says(alloc, &SitesFault::Repeated(SiteNo::new(3)), "Repeated"));
+    assert_eq!(rt; other_refusals(rt.alloc()), [None; 3]);
+}
+
+#[test]
+fn name_faults_say_their_names(rt: HostRuntime) {
+    assert_eq!(rt; other_name(rt.alloc(), NAMES), None);
+}
+
+#[test]
+fn loader_faults_say_their_names(rt: HostRuntime) {
+    assert!(rt; says(rt.alloc(), &LoaderFault::Full, "LoadersFull"));
+    assert!(rt; says(rt.alloc(), &LoaderFault::Memory, "Memory"));
+}
+
+#[test]
+fn site_faults_say_their_names(rt: HostRuntime) {
+    assert!(rt;
+        says(
+            rt.alloc(),
+            &SitesFault::Unknown(SiteNo::new(3)),
+            "UnknownSite"
+        )
+    );
+    assert!(rt;
+        says(
+            rt.alloc(),
+            &SitesFault::Repeated(SiteNo::new(3)),
+            "Repeated"
+        )
+    );
+}
+
+#[test]
+fn faults_or_memory_say_their_names(rt: HostRuntime) {
     let array = OrMemory::Fault(NotLinkable::ArrayReceiver);
-    assert!(rt; says(alloc, &array, "NotLinkable.ArrayReceiver"));
+    assert!(rt; says(rt.alloc(), &array, "NotLinkable.ArrayReceiver"));
     let memory: OrMemory<NotLinkable> = OrMemory::Memory;
-    assert!(rt; says(alloc, &memory, "Memory"));
+    assert!(rt; says(rt.alloc(), &memory, "Memory"));
+}
+
+/// Whether the refusal of a file is answered by this name.
+fn is_answered(alloc: Global, refusal: FileRefusal, name: &str) -> bool {
+    refuses(refusal.to_value(alloc), name)
 }
 
 /// The faults of a part of a class file are answered by themselves, too.
 #[test]
 fn parts_are_refused_by_name(rt: HostRuntime) {
-    let alloc = rt.alloc();
-    let tag = FileRefusal::from(PoolFault::BadTag(3));
-    assert!(rt; refuses(&tag.to_value(alloc), "Pool.BadTag"));
-    let cut = FileRefusal::from(CodeFault::CutShort(3));
-    assert!(rt; refuses(&cut.to_value(alloc), "Code.CutShort"));
-    let magic = FileRefusal::from(ClassFault::BadMagic);
-    assert!(rt; refuses(&magic.to_value(alloc), "BadMagic"));
+    assert!(rt;
+        is_answered(
+            rt.alloc(),
+            FileRefusal::from(PoolFault::BadTag(3)),
+            "Pool.BadTag"
+        )
+    );
+    assert!(rt;
+        is_answered(
+            rt.alloc(),
+            FileRefusal::from(CodeFault::CutShort(3)),
+            "Code.CutShort"
+        )
+    );
+}
+
+#[test]
+fn files_are_refused_by_name(rt: HostRuntime) {
+    assert!(rt;
+        is_answered(
+            rt.alloc(),
+            FileRefusal::from(ClassFault::BadMagic),
+            "BadMagic"
+        )
+    );
 }

@@ -4,7 +4,6 @@ use jl_types::{
     Answer, CallSiteId, ClassId, Link, LoaderId, MethodId, Missing, Outcome, SiteNo, SwitchId,
     Table, TableKind, Throwable, Unlinked, same_answer, same_link,
 };
-use std::test::Fail;
 
 fn runs() -> Outcome {
     Outcome::Run(MethodId {
@@ -14,7 +13,7 @@ fn runs() -> Outcome {
 }
 
 #[test]
-fn numbers(rt: HostRuntime) -> Result<(), Fail> {
+fn numbers(rt: HostRuntime) {
     let rows = [
         LoaderId::new(7).number(),
         ClassId::new(7).number(),
@@ -23,7 +22,6 @@ fn numbers(rt: HostRuntime) -> Result<(), Fail> {
         SwitchId::new(7).number(),
     ];
     assert!(rt; rows == [7; 5]);
-    Ok(())
 }
 
 fn full() -> Table {
@@ -43,25 +41,35 @@ fn full() -> Table {
 }
 
 #[test]
-fn fills_a_table(rt: HostRuntime) -> Result<(), Fail> {
-    let empty = Table::new();
-    assert!(rt; !empty.is_full());
+fn fills_a_table(rt: HostRuntime) {
+    assert!(rt; !Table::new().is_full());
+    assert!(rt; full().is_full());
+}
+
+#[test]
+fn keeps_the_rows_of_a_table(rt: HostRuntime) {
     let table = full();
-    assert!(rt; table.is_full());
     let last = (
         ClassId::new(7),
         Outcome::Throws(Throwable::AbstractMethodError),
     );
     assert!(rt; table.as_slice().len() == 8);
     assert!(rt; table.as_slice().last() == Some(&last));
-    Ok(())
+}
+
+/// A link by a full table.
+fn of(kind: TableKind) -> Link {
+    Link::Table(kind, full())
 }
 
 #[test]
-fn compares_by_value(rt: HostRuntime) -> Result<(), Fail> {
-    let of = |kind| Link::Table(kind, full());
+fn compares_tables_by_value(rt: HostRuntime) {
     assert!(rt; same_link(of(TableKind::Virtual), of(TableKind::Virtual)));
     assert!(rt; !same_link(of(TableKind::Virtual), of(TableKind::Interface)));
+}
+
+#[test]
+fn compares_links_by_value(rt: HostRuntime) {
     assert!(rt;
         !same_link(
             of(TableKind::Virtual),
@@ -69,14 +77,25 @@ fn compares_by_value(rt: HostRuntime) -> Result<(), Fail> {
         )
     );
     assert!(rt; same_link(Link::Mega, Link::Mega));
-    let waits = |missing| Answer::Unlinked(Unlinked::NotReady(missing));
+}
+
+/// That a site isn't ready for want of this.
+fn waits(missing: Missing) -> Answer {
+    Answer::Unlinked(Unlinked::NotReady(missing))
+}
+
+#[test]
+fn compares_answers_by_value(rt: HostRuntime) {
     assert!(rt; same_answer(waits(Missing::Named), waits(Missing::Named)));
     assert!(rt; !same_answer(waits(Missing::Named), waits(Missing::CallerHost)));
+}
+
+#[test]
+fn compares_answers_of_two_kinds(rt: HostRuntime) {
     assert!(rt;
         !same_answer(
             waits(Missing::Named),
             Answer::Throws(Throwable::AbstractMethodError)
         )
     );
-    Ok(())
 }
