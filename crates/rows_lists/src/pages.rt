@@ -42,10 +42,15 @@ fn add_all(
 /// Places on both sides of the ends of pages.
 const PLACES: &[usize] = &[0, 1, 62, 63, 64, 65, 127, 128, 191, 192, 198, 199];
 
+/// Whether the list has this number at this place.
+fn has(list: &Paged<Number>, place: usize, number: u32) -> bool {
+    list.get(place) == Some(&Number(number))
+}
+
 /// Whether the list has its place's number at each of these places, and 200 numbers.
 fn has_numbers(list: &Paged<Number>) -> bool {
     for place in PLACES {
-        if list.get(*place) != Some(&Number(*place as u32)) {
+        if !has(list, *place, *place as u32) {
             return false;
         }
     }
@@ -53,18 +58,18 @@ fn has_numbers(list: &Paged<Number>) -> bool {
 }
 
 /// Asserts that a copy goes on by itself, and so does the list that it is a copy of.
-fn assert_copied(
+fn assert_apart(
     rt: &(impl Abort + AllocGlobal),
     list: &mut Paged<Number>,
+    copy: &mut Paged<Number>,
 ) -> Result<(), AllocError> {
-    let mut copy = list.copy(rt.alloc())?;
-    assert!(rt; has_numbers(&copy));
-    add_all(rt.alloc(), &mut copy, 1_000, 100)?;
+    assert!(rt; has_numbers(copy));
+    add_all(rt.alloc(), copy, 1_000, 100)?;
     assert!(rt; has_numbers(list));
-    assert!(rt; copy.len() == 300 && copy.get(199) == Some(&Number(199)));
-    assert!(rt; copy.get(200) == Some(&Number(1_000)) && copy.get(299) == Some(&Number(1_099)));
+    assert!(rt; copy.len() == 300 && has(copy, 199, 199));
+    assert!(rt; has(copy, 200, 1_000) && has(copy, 299, 1_099));
     add(rt.alloc(), list, 7)?;
-    assert!(rt; list.get(200) == Some(&Number(7)) && copy.get(200) == Some(&Number(1_000)));
+    assert!(rt; has(list, 200, 7) && has(copy, 200, 1_000));
     Ok(())
 }
 
@@ -73,13 +78,22 @@ fn has_first(list: &Paged<Number>) -> bool {
     list.len() > 0 && *list.at(0) == Number(0)
 }
 
+/// Asserts that the list, which is a new one, is filled and copied.
+fn assert_filled(
+    rt: &(impl Abort + AllocGlobal),
+    list: &mut Paged<Number>,
+) -> Result<(), AllocError> {
+    assert!(rt; list.is_empty() && list.get(0).is_none());
+    add(rt.alloc(), list, 0)?;
+    assert!(rt; !list.is_empty());
+    add_all(rt.alloc(), list, 1, 199)?;
+    assert!(rt; has_numbers(list) && has_first(list));
+    let mut copy = list.copy(rt.alloc())?;
+    assert_apart(rt, list, &mut copy)
+}
+
 #[test]
 fn shares_pages(rt: HostRuntime) -> Result<(), AllocError> {
     let mut list = Paged::new(rt.alloc());
-    assert!(rt; list.is_empty() && list.get(0).is_none());
-    add(rt.alloc(), &mut list, 0)?;
-    assert!(rt; !list.is_empty());
-    add_all(rt.alloc(), &mut list, 1, 199)?;
-    assert!(rt; has_numbers(&list) && has_first(&list));
-    assert_copied(&rt, &mut list)
+    assert_filled(&rt, &mut list)
 }

@@ -41,6 +41,15 @@ pub(crate) fn keys(alloc: Global, set: KeySet) -> Result<Footprint, AllocError> 
     Ok(Seq::of(keys))
 }
 
+/// Whether there is a footprint, of the keys of this set.
+fn is_footprint(alloc: Global, found: Option<&Footprint>, set: KeySet) -> Result<bool, AllocError> {
+    let want = keys(alloc, set)?;
+    Ok(match found {
+        Some(footprint) => footprint.as_slice() == want.as_slice(),
+        None => false,
+    })
+}
+
 impl Plain {
     /// No site has a footprint.
     pub(crate) fn new(alloc: Global) -> Result<Plain, AllocError> {
@@ -67,13 +76,7 @@ impl Plain {
     ) -> Result<bool, AllocError> {
         let found = index.footprint(SiteNo::new(site));
         match self.footprints.get(site as usize) {
-            Some(Some(set)) => {
-                let want = keys(alloc, *set)?;
-                Ok(match found {
-                    Some(footprint) => footprint.as_slice() == want.as_slice(),
-                    None => false,
-                })
-            }
+            Some(Some(set)) => is_footprint(alloc, found, *set),
             _ => Ok(found.is_none()),
         }
     }

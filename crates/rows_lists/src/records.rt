@@ -129,10 +129,16 @@ fn are_apart(alloc: Global, classes: &mut Classes, copies: &mut Vec<Classes>) ->
         && finds_all(alloc, classes)
 }
 
+/// The same with classes of which none is defined.
+fn are_apart_at_first(alloc: Global) -> bool {
+    let mut copies = Vec::new(alloc);
+    match Classes::new(alloc) {
+        Ok(mut classes) => are_apart(alloc, &mut classes, &mut copies),
+        Err(_) => false,
+    }
+}
+
 #[test]
-fn shares_records(rt: HostRuntime) -> Result<(), AllocError> {
-    let mut classes = Classes::new(rt.alloc())?;
-    let mut copies = Vec::new(rt.alloc());
-    assert!(rt; are_apart(rt.alloc(), &mut classes, &mut copies));
-    Ok(())
+fn shares_records(rt: HostRuntime) {
+    assert!(rt; are_apart_at_first(rt.alloc()));
 }

@@ -11,17 +11,22 @@ const SITES: u32 = 65_536;
 
 /// The receivers of class 0 and of another class.
 fn footprint(alloc: Global, site: u32) -> Result<Footprint, AllocError> {
-    let mut keys = Vec::new(alloc);
-    keys.push(Key::Receivers(ClassId::new(0)))?;
-    keys.push(Key::Receivers(ClassId::new(1 + site % 7)))?;
+    let other = Key::Receivers(ClassId::new(1 + site % 7));
+    let keys = vec![in alloc; Key::Receivers(ClassId::new(0)), other]?;
     Ok(Seq::of(keys))
+}
+
+/// Adds the site.
+fn add(alloc: Global, index: &mut Index, site: u32) -> Result<(), AllocError> {
+    let footprint = footprint(alloc, site)?;
+    Ok(index.add(alloc, SiteNo::new(site), footprint)?)
 }
 
 /// All sites, each under class 0.
 fn full(alloc: Global) -> Result<Index, AllocError> {
     let mut index = Index::new(alloc);
     for site in 0..SITES {
-        index.add(alloc, SiteNo::new(site), footprint(alloc, site)?)?;
+        add(alloc, &mut index, site)?;
     }
     Ok(index)
 }
@@ -50,25 +55,25 @@ fn remove_odd(index: &mut Index) {
 fn emptied(alloc: Global) -> Result<[bool; 3], AllocError> {
     let mut index = Index::new(alloc);
     let first = index.is_empty();
-    index.add(alloc, SiteNo::new(0), footprint(alloc, 0)?)?;
+    add(alloc, &mut index, 0)?;
     let full = index.is_empty();
     index.remove(SiteNo::new(0));
     Ok([first, full, index.is_empty()])
 }
 
 /// How many sites there are under class 0 at first, once every other one is gone, and once all are, and then under class 3.
+fn counts_of(alloc: Global, index: &mut Index) -> Result<[usize; 4], AllocError> {
+    let all = count(alloc, index, 0)?;
+    remove_odd(index);
+    let half = count(alloc, index, 0)?;
+    remove_even(index);
+    Ok([all, half, count(alloc, index, 0)?, count(alloc, index, 3)?])
+}
+
+/// The same of an index of all sites.
 fn counts(alloc: Global) -> Result<[usize; 4], AllocError> {
     let mut index = full(alloc)?;
-    let all = count(alloc, &index, 0)?;
-    remove_odd(&mut index);
-    let half = count(alloc, &index, 0)?;
-    remove_even(&mut index);
-    Ok([
-        all,
-        half,
-        count(alloc, &index, 0)?,
-        count(alloc, &index, 3)?,
-    ])
+    counts_of(alloc, &mut index)
 }
 
 #[test]

@@ -15,11 +15,6 @@ pub(crate) const WITHOUT_LINK: u32 = 256;
 /// How many events each snapshot has.
 const SERIAL: u64 = 7;
 
-/// Calls of the method f of class A, and of interface I.
-const CALLS: [CallRow; 256] = [CallRow::Virtual("A", "f"); 256];
-
-const INTERFACE_CALLS: [CallRow; 256] = [CallRow::Interface("I", "f"); 256];
-
 const F: [MethodRow; 1] = [("f", "()V", 1)];
 
 const ABSTRACT_F: [MethodRow; 1] = [("f", "()V", 1025)];
@@ -47,15 +42,21 @@ fn define(alloc: Global, world: &mut World, file: Option<ClassFile>) -> bool {
     }
 }
 
-/// The receiver of this number, from 1 on.
-fn receiver(alloc: Global, shape: Shape, number: u32) -> Option<ClassFile> {
-    let name = format!(in alloc; "C{number}").ok()?;
+/// The receiver of this name and this number, from 1 on.
+fn named_receiver(alloc: Global, shape: Shape, name: &str, number: u32) -> Option<ClassFile> {
     match shape {
-        Shape::Flat => class(alloc, name.as_str(), 33, Some("A"), &[], &[]),
-        Shape::Beside => class(alloc, name.as_str(), 33, Some("A"), &[], &[]),
-        Shape::Own => class(alloc, name.as_str(), 33, Some("A"), &[], &F),
-        Shape::Chain => below_the_one_before(alloc, name.as_str(), number),
-        Shape::Implementers => class(alloc, name.as_str(), 33, Some(OBJECT), &["I"], &F),
+        Shape::Flat | Shape::Beside => class(alloc, name, 33, Some("A"), &[], &[]),
+        Shape::Own => class(alloc, name, 33, Some("A"), &[], &F),
+        Shape::Chain => below_the_one_before(alloc, name, number),
+        Shape::Implementers => class(alloc, name, 33, Some(OBJECT), &["I"], &F),
+    }
+}
+
+/// The same of this number.
+fn receiver(alloc: Global, shape: Shape, number: u32) -> Option<ClassFile> {
+    match format!(in alloc; "C{number}") {
+        Ok(name) => named_receiver(alloc, shape, &name, number),
+        Err(_) => None,
     }
 }
 
@@ -64,16 +65,26 @@ fn below_the_one_before(alloc: Global, name: &str, number: u32) -> Option<ClassF
     if number == 1 {
         return class(alloc, name, 33, Some("A"), &[], &[]);
     }
-    let before = format!(in alloc; "C{}", number.saturating_sub(1)).ok()?;
-    class(alloc, name, 33, Some(before.as_str()), &[], &[])
+    match format!(in alloc; "C{}", number.saturating_sub(1)) {
+        Ok(before) => class(alloc, name, 33, Some(&before), &[], &[]),
+        Err(_) => None,
+    }
+}
+
+/// A class that makes the calls, each of the method f of class A, or of interface I.
+fn caller(alloc: Global, shape: Shape) -> Option<ClassFile> {
+    let call = match shape {
+        Shape::Implementers => CallRow::Interface("I", "f"),
+        _ => CallRow::Virtual("A", "f"),
+    };
+    match vec![in alloc; call; SITES as usize] {
+        Ok(calls) => calling(alloc, "X", 33, OBJECT, &[], &calls, &[]),
+        Err(_) => None,
+    }
 }
 
 /// Defines the classes above the receivers, and class 3, which makes the calls.
 fn define_callers(alloc: Global, world: &mut World, shape: Shape) -> bool {
-    let calls = match shape {
-        Shape::Implementers => &INTERFACE_CALLS,
-        _ => &CALLS,
-    };
     define(alloc, world, class(alloc, OBJECT, 33, None, &[], &[]))
         && define(
             alloc,
@@ -81,11 +92,7 @@ fn define_callers(alloc: Global, world: &mut World, shape: Shape) -> bool {
             class(alloc, "I", 1537, Some(OBJECT), &[], &ABSTRACT_F),
         )
         && define(alloc, world, class(alloc, "A", 33, Some(OBJECT), &[], &F))
-        && define(
-            alloc,
-            world,
-            calling(alloc, "X", 33, OBJECT, &[], calls, &[]),
-        )
+        && define(alloc, world, caller(alloc, shape))
 }
 
 /// Defines the abstract subclass of A that has an f of its own, where the shape wants it.
