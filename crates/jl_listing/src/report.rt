@@ -10,7 +10,7 @@ use crate::progress::Progress;
 use jl_class::ClassFile;
 use jl_hierarchy::Classes;
 use jl_names::Name;
-use jl_paths::{Gathered, PathFault, read_all};
+use jl_paths::{Gathered, NoClass, PathFault, read_all};
 use jl_report::{Report, define_all, order_by_name};
 use jl_texts::LeftOut;
 use jl_types::{ClassId, LoaderId};
@@ -57,35 +57,65 @@ fn report<R: Files + AllocGlobal + Clock + Clone + Drop, W: Write, E: Write + Is
         left_out: Vec::new(rt.alloc()),
         faults: Vec::new(rt.alloc()),
     };
+    add_all(rt, asked, &mut page, &mut missed, out, errors)?;
+    write_end(rt, asked, &mut page, missed, out, errors)
+}
+
+/// Adds all invocations that are reported, and what further classes drop, and writes most of it.
+fn add_all<R: Files + AllocGlobal + Clock + Clone + Drop, W: Write, E: Write + IsTerminal>(
+    rt: &R,
+    asked: &Asked,
+    page: &mut Page,
+    missed: &mut Missed,
+    out: &mut W,
+    errors: &mut E,
+) -> Result<(), ReportFault> {
     let mut classes = Classes::new(rt.alloc())?;
-    let own = read_all(rt, &asked.paths, &asked.beside)?;
-    let own = define_gathered(rt.alloc(), &mut classes, own, &mut missed)?;
-    let listed = chosen_of(rt.alloc(), &classes, own, &asked.chosen)?;
+    let listed = listed_of(rt, asked, &mut classes, missed)?;
     let mut report = Report::of(rt.alloc(), classes);
-    let mut progress = Progress::new(rt, errors);
-    add_classes(
-        rt,
-        asked,
-        &mut report,
-        &listed,
-        &mut page,
-        &mut progress,
-        out,
-        errors,
-    )?;
+    add_classes(rt, asked, &mut report, &listed, page, out, errors)?;
     if !asked.breaks.is_empty() {
-        add_breaks(rt, asked, &mut report, &mut page, &mut missed, out)?;
+        add_breaks(rt, asked, &mut report, page, missed, out)?;
     }
+    Ok(())
+}
+
+/// Defines the classes of the paths, and gives those that are reported, by name.
+fn listed_of<R: Files + AllocGlobal + Clone + Drop>(
+    rt: &R,
+    asked: &Asked,
+    classes: &mut Classes,
+    missed: &mut Missed,
+) -> Result<Vec<ClassId>, ReportFault> {
+    let own = read_all(rt, &asked.paths, &asked.beside)?;
+    let own = define_gathered(rt.alloc(), classes, own, missed)?;
+    chosen_of(rt.alloc(), classes, own, &asked.chosen)
+}
+
+/// Writes what is left of the report, its end, and the page of HTML, and tells of paths that couldn't be read.
+fn write_end<R: Files + AllocGlobal, W: Write, E: Write>(
+    rt: &R,
+    asked: &Asked,
+    page: &mut Page,
+    missed: Missed,
+    out: &mut W,
+    errors: &mut E,
+) -> Result<(), ReportFault> {
     let Missed { left_out, faults } = missed;
-    let mut left_out = left_out;
-    left_out.sort_by(|a, b| a.path.as_str().cmp(b.path.as_str()))?;
-    page.add_end(rt.alloc(), left_out)?;
-    page.write(out)?;
     let mut faults = faults;
+    add_end(rt.alloc(), page, left_out)?;
+    page.write(out)?;
     if let Some(path) = &asked.html {
-        write_html(rt, path.as_str(), &page, &mut faults)?;
+        write_html(rt, path.as_str(), page, &mut faults)?;
     }
     tell_faults(&faults, errors)
+}
+
+/// Adds the files that are left out, by path, and the totals.
+fn add_end(alloc: Global, page: &mut Page, left_out: Vec<LeftOut>) -> Result<(), ReportFault> {
+    let mut left_out = left_out;
+    left_out.sort_by(|a, b| a.path.as_str().cmp(b.path.as_str()))?;
+    page.add_end(alloc, left_out)
 }
 
 /// Writes the page of HTML, if there is one, into the file of this path.
@@ -112,16 +142,16 @@ fn write_html<R: Files + AllocGlobal>(
 }
 
 /// Adds the invocations of the classes that are reported, and writes most of them.
-fn add_classes<R: AllocGlobal + Clock, W: Write, E: Write>(
+fn add_classes<R: AllocGlobal + Clock, W: Write, E: Write + IsTerminal>(
     rt: &R,
     asked: &Asked,
     report: &mut Report,
     listed: &[ClassId],
     page: &mut Page,
-    progress: &mut Progress,
     out: &mut W,
     errors: &mut E,
 ) -> Result<(), ReportFault> {
+    let mut progress = Progress::new(rt, errors);
     for (done, class) in listed.iter().enumerate() {
         progress.tell(rt, done, listed.len(), errors);
         page.add_class(rt.alloc(), report, &asked.chosen, *class)?;
@@ -146,8 +176,7 @@ fn add_breaks<R: Files + AllocGlobal + Clone + Drop, W: Write>(
         no_classes,
         faults,
     } = read_all(rt, &asked.breaks, &[])?;
-    add_no_classes(rt.alloc(), no_classes, &mut missed.left_out)?;
-    missed.faults.extend(faults)?;
+    add_missed(rt.alloc(), no_classes, faults, missed)?;
     let refused = add_further(rt.alloc(), report, &asked.chosen, files, page, out)?;
     let _is_listed = add_refused(rt.alloc(), &sources, refused, &mut missed.left_out)?;
     page.add_breaks()
@@ -166,13 +195,33 @@ fn define_gathered(
         no_classes,
         faults,
     } = gathered;
-    add_no_classes(alloc, no_classes, &mut missed.left_out)?;
-    missed.faults.extend(faults)?;
+    add_missed(alloc, no_classes, faults, missed)?;
     let names = names_of(alloc, &files)?;
     let refused = define_all(alloc, classes, files)?;
     let is_listed = add_refused(alloc, &sources, refused, &mut missed.left_out)?;
+    listed_by_name(alloc, classes, &names, &is_listed)
+}
+
+/// Adds the files that are no class files, and the paths that couldn't be read.
+fn add_missed(
+    alloc: Global,
+    no_classes: Vec<NoClass>,
+    faults: Vec<PathFault>,
+    missed: &mut Missed,
+) -> Result<(), ReportFault> {
+    add_no_classes(alloc, no_classes, &mut missed.left_out)?;
+    Ok(missed.faults.extend(faults)?)
+}
+
+/// The classes of the names that are marked.
+fn listed_by_name(
+    alloc: Global,
+    classes: &Classes,
+    names: &[Name],
+    are_listed: &[bool],
+) -> Result<Vec<ClassId>, ReportFault> {
     let mut listed = Vec::new(alloc);
-    for (name, is_listed) in names.iter().zip(&is_listed) {
+    for (name, is_listed) in names.iter().zip(are_listed) {
         if *is_listed {
             push_class(classes, name, &mut listed)?;
         }
