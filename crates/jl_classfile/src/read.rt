@@ -11,7 +11,8 @@ ghost use Rattle.jl_classfile.specs.Faults.{HeadFault, CodesFault, IsFault};
 ghost use Rattle.jl_pool.specs.Pools.{class_at};
 ghost use Rattle.jl_classfile.specs.Shown.{shown, name_or_nothing};
 ghost use Rattle.jl_classfile.specs.Conditions.{IsVersion, codes_of, super_fits};
-ghost use Rattle.jl_classfile.specs.Means.Passes.{HasHead, fault_of_code, IsMethodFault, SitesAdded, MethodAdded, MethodsKept, NamesShown, BodyShown, HasPool, Lies};
+ghost use Rattle.jl_classfile.specs.Means.Passes.{HasHead, fault_of_code, IsMethodFault, SitesAdded, MethodAdded};
+ghost use Rattle.jl_classfile.specs.Means.Passes.{MethodsKept, NamesShown, BodyShown, HasPool, Lies};
 
 use crate::body::{Body, Member, body_at, code_in};
 use crate::fault::ClassFault;

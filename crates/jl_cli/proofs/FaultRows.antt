@@ -173,8 +173,8 @@ module _ (from : Session) where
   nothing_of_no_line unread b left = by_lines left.first.before left.first.after left.first.output left.first.last left.first.split left.first.answers
       left.first.written
     where
-      by_lines : (before after : List (List ℕ)) (output : List ℕ) (last : Session) → [] ≡ before ++ after → AreAnswers (IsAnswer Scan) from before output last → b
-          ∷ [] ≡ output → ⊥
+      by_lines : (before after : List (List ℕ)) (output : List ℕ) (last : Session) → [] ≡ before ++ after
+          → AreAnswers (IsAnswer Scan) from before output last → b ∷ [] ≡ output → ⊥
       by_lines [] after output last none answers written = let clash : b ∷ [] ≡ [] = written ∙ answers.0 in cc clash
       by_lines (line ∷ before) after output last none answers written = cc none
 

@@ -24,7 +24,8 @@ unfolding lines_of
 lines_none = refl
 
 -- two lines that are answered by the mode alone
-two_answers : (session : Session) → AreAnswers (IsAnswer Scan) session ([] ∷ codes "0g" ∷ []) (codes "{\"error\":\"BadCommand\"}\n{\"error\":\"BadCommand\"}\n") session
+two_answers : (session : Session)
+    → AreAnswers (IsAnswer Scan) session ([] ∷ codes "0g" ∷ []) (codes "{\"error\":\"BadCommand\"}\n{\"error\":\"BadCommand\"}\n") session
 unfolding hex_on_literals serde_json_on_literals
 two_answers session =
     let said = codes "{\"error\":\"BadCommand\"}" in

@@ -68,20 +68,6 @@ module _ (w : World) (rows : List Class) (e : Event) (s : ℕ) where
   retired_then (event.Bind site c) is = sym (retires_so (event.Bind site c) is)
   retired_then (event.Install links) is = sym (retires_so (event.Install links) is)
 
--- another event retires no site
-pub none_retired : (w : World) (e : Event) (s : ℕ) → ((loader : ℕ) → e ≡ event.Retire loader → ⊥) → retires w e s ≡ false
-none_retired w event.NewLoader s other = refl
-none_retired w (event.Define loader file) s other = refl
-none_retired w (event.Delegate loader name to) s other = refl
-none_retired w (event.Request place) s other = refl
-none_retired w (event.NewCallSite kind ty target) s other = refl
-none_retired w (event.SetTarget c target) s other = refl
-none_retired w event.NewSwitch s other = refl
-none_retired w (event.Invalidate points) s other = refl
-none_retired w (event.Bind site c) s other = refl
-none_retired w (event.Install links) s other = refl
-none_retired w (event.Retire loader) s other = absurd (other loader refl)
-
 -- a retired site is gone, and isn't installed
 module _ (w : World) (s : ℕ) where
   pub gone_so : (e : Event) → retires w e s ≡ true → (scratch (step w e) s ≡ Err Gone) × (installs s e ≡ false)

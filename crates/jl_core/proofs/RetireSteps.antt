@@ -21,7 +21,8 @@ use Rattle.jl_events.proofs.InstallCounts.{no_more, few_by}
 use Rattle.jl_core.specs.Means.Changes.{AreScratch, retires_at}
 use Rattle.jl_core.specs.Means.Steps.{AreGone, AreRetired, IsLed, most_told}
 use Rattle.jl_core.specs.Means.Touched.{has}
-use Rattle.jl_core.proofs.RetireLaws.{retires_so, retired_then, dropped_all, taken_all, lost_all, links_left, index_left, kept_left, touched_left, few_in_sum, lost_or_gone}
+use Rattle.jl_core.proofs.RetireLaws.{retires_so, retired_then, dropped_all, taken_all, lost_all, links_left, index_left}
+use Rattle.jl_core.proofs.RetireLaws.{kept_left, touched_left, few_in_sum, lost_or_gone}
 use Rattle.jl_core.proofs.StepLaws.{defined_so, few_touched}
 
 has_both : (s : ℕ) (xs ys : List ℕ) → has s (xs ++ ys) ≡ (has s xs || has s ys)

@@ -1,8 +1,7 @@
 //! Outcomes and links.
 
-ghost use Rattle.std.specs.Prelude.{◌≡◌, map, IfOk};
-ghost use Rattle.serde_json.specs.Data.{array};
-ghost use Rattle.serde_json.specs.View.{view, items_of};
+ghost use Rattle.std.specs.Prelude.{◌≡◌, IfOk};
+ghost use Rattle.serde_json.specs.View.{view};
 ghost use Rattle.jl_types.specs.declared.link.Link.TheVariants.{Table};
 ghost use Rattle.jl_json.specs.LinkAnswers as answers;
 ghost use Rattle.jl_json.specs.LinkAnswers.{throwable_data, method_id_data, outcome_data};

@@ -1,5 +1,5 @@
 -- What is right to remember stays right, and answers by it are those of the calls.
-use Rattle.std.specs.Prelude.{◌≡◌, ℕ, ◌<◌, not, ◌&&◌, Bool, true, false, List, ◌++◌, length, replicate, slice_get, Option, Some, None, Ok, is_some}
+use Rattle.std.specs.Prelude.{◌≡◌, ℕ, ◌<◌, not, ◌&&◌, Bool, true, false, List, ◌++◌, length, slice_get, Option, Some, None, Ok, is_some}
 use Rattle.std.specs.Prelude.{if◌then◌else◌}
 use Rattle.std.specs.Option.{option_map_or}
 use Rattle.std.proofs.Common.{refl, ap, sym, subst, ◌∙◌, inl, inr}
@@ -30,11 +30,11 @@ use Rattle.jl_types.proofs.Lists.{element_at}
 use Rattle.jl_hierarchy.specs.Constancy.{AreInOrder, IsClosed}
 use Rattle.jl_memo.specs.declared.set.Row.{Row}
 use Rattle.jl_memo.specs.declared.set.Set.{Set}
-use Rattle.jl_memo.specs.Memos.{no_rows, remembered, put}
+use Rattle.jl_memo.specs.Memos.{remembered, put}
 use Rattle.jl_memo.specs.Answers.{is_mega, outcome_answer, remembered_answer, outcome_of, noted, told, selects}
 use Rattle.jl_memo.specs.Answers.{has_site, is_site_present, IsRight, IsObject, AreRight}
 use Rattle.jl_memo.proofs.Staying.{StaysOn, all_events, still_there, present_before, concrete_before, selecting, selects_stays, call_stays}
-use Rattle.jl_memo.proofs.Rows.{others_were_there, nothing_at_first}
+use Rattle.jl_memo.proofs.Rows.{others_were_there}
 
 -- ---- megamorphic sites
 
@@ -188,9 +188,6 @@ module _ (h more : List Event) (s x : ℕ) (o : Outcome) (right : IsRight (world
   }
 
 -- ---- all rows
-
-pub right_at_first : (w : World) (n : ℕ) → AreRight w (replicate n no_rows)
-right_at_first w n s x o is = absurd (nothing_at_first n s x o is)
 
 module _ (h more : List Event) (sets : List Set) (right : AreRight (world_after h) sets) where
   abbrev after : World

@@ -1,6 +1,6 @@
 -- What is remembered once a row was put.
-use Rattle.std.specs.Prelude.{◌≡◌, ◌≢◌, ◌⊎◌, ℕ, zero, suc, ◌+◌, ◌*◌, ◌/◌, ◌%◌, ◌^◌, ◌<◌, ◌≤◌, ◌==◌, ◌&&◌, Bool, true, false, List, length, get_or}
-use Rattle.std.specs.Prelude.{replicate, Option, Some, None, if◌then◌else◌}
+use Rattle.std.specs.Prelude.{◌≡◌, ◌≢◌, ◌⊎◌, ℕ, ◌+◌, ◌*◌, ◌/◌, ◌%◌, ◌^◌, ◌<◌, ◌≤◌, ◌==◌, ◌&&◌, Bool, true, false, List, length, get_or}
+use Rattle.std.specs.Prelude.{Option, Some, None, if◌then◌else◌}
 use Rattle.std.specs.Option.{option_or}
 use Rattle.std.proofs.Common.{refl, ap, sym, ◌∙◌, arith, inl, inr}
 use Rattle.std.proofs.Math.Nat.{mod-lt, mod-le, div-lt_iff_lt-mul, mul-le-mul_right}
@@ -128,15 +128,3 @@ module _ (sets : List Set) (row : Row) where
         by_place : (b : Bool) → (place == at) ≡ b → Before
         by_place true is = in_same_set ((Decides-eqb place at).0 is) (cases_lt at (length sets)) found
         by_place false is = in_other_set (λ same. both_ways (place == at) is ((Decides-eqb place at).1 same)) found
-
--- nothing is remembered at first
-pub nothing_at_first : (n s x : ℕ) (o : Outcome) → remembered (replicate n no_rows) s x ≡ Some o → ⊥
-nothing_at_first n s x o e = both_options (sym (ap (λ (set : Set). in_set set s x) (blank n (place_of (length (replicate n no_rows)) s x))) ∙ e)
-  where
-    both_options : ◌≡◌ {A = Option Outcome} None (Some o) → ⊥
-    both_options e = cc
-
-    blank : (n i : ℕ) → get_or (replicate n no_rows) i no_rows ≡ no_rows
-    blank zero i = refl
-    blank (suc n) zero = refl
-    blank (suc n) (suc i) = blank n i

@@ -1,6 +1,6 @@
 //! The memo.
 
-ghost use Rattle.std.specs.Prelude.{◌≡◌, replicate, get_or, IfOk};
+ghost use Rattle.std.specs.Prelude.{◌≡◌, replicate, IfOk};
 ghost use Rattle.jl_memo.specs.Memos.{no_rows, place_of, remembered, put};
 
 use crate::set::{Row, Set};

@@ -34,10 +34,14 @@ impl Drop for Name {
     }
 }
 
-/// A name is printed as its own bytes, without the others of its block.
+/// A name is printed as a byte string, without the others of its block.
 impl fmt::Debug for Name {
     fn fmt<W: fmt::Write>(&self, f: &mut fmt::Formatter<W>) -> fmt::Result {
-        f.debug_tuple("Name").field(&self.as_slice()).finish()
+        f.write_str("b\"")?;
+        for byte in self.as_slice() {
+            write!(f, "{}", byte.escape_ascii())?;
+        }
+        f.write_str("\"")
     }
 }
 

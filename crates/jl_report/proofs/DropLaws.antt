@@ -112,13 +112,3 @@ module _ (cs : Classes) (keys : List Key) (first rows left : List Row) (row : Ro
         ∙ sym (ap (λ (xs : List Row). told ++ dropped_among cs keys xs) (last_first rows row))
         ∙ so.all_told;
   }
-
-pub left_ended : (cs : Classes) (keys : List Key) (first rows left : List Row) (earlier told : List Dropped)
-    → Parted cs keys first rows left earlier told → rows ≡ [] → left ≡ left_among cs keys first
-left_ended cs keys first rows left earlier told so none =
-    sym (append-nil left) ∙ sym (ap (λ (xs : List Row). left ++ left_among cs keys (reverse xs)) none) ∙ so.all_left
-
-pub told_ended : (cs : Classes) (keys : List Key) (first rows left : List Row) (earlier told : List Dropped)
-    → Parted cs keys first rows left earlier told → rows ≡ [] → told ≡ earlier ++ dropped_among cs keys first
-told_ended cs keys first rows left earlier told so none =
-    sym (append-nil told) ∙ sym (ap (λ (xs : List Row). told ++ dropped_among cs keys (reverse xs)) none) ∙ so.all_told

@@ -4,7 +4,7 @@ use Rattle.std.proofs.Common.{ℕ, ◌+◌, ◌≤◌, List, [], ◌∷◌, ◌+
 use Rattle.std.specs.Prelude.{slice_get, Option, Some, None, is_some, is_none, Bool, not, true, false, All}
 use Rattle.std.specs.List.{range_with_len}
 use Rattle.std.proofs.lemmas.List.{map-append, reverse-append, reverse-reverse, length-append}
-use Rattle.std.proofs.lemmas.List.Elements.{All-push, All-nil}
+use Rattle.std.proofs.lemmas.List.Elements.{All-push}
 use Rattle.jl_names.proofs.Tests.{All-front, All-back, All-both}
 use Rattle.jl_types.proofs.Lists.{range_end}
 use Rattle.jl_class.specs.Class.{ClassFile}
@@ -134,9 +134,6 @@ pub record HavePlaces (files : List ClassFile) (front : List ClassFile) (all : L
   pub places : places all ++ reverse (range_with_len 0 (length front)) ≡ reverse (range_with_len 0 (length files))
   pub of : AreOf files all
 
-pub none_placed : (files : List ClassFile) → HavePlaces files files []
-none_placed files = record { back = []; split = sym (append-nil files); places = refl; of = tt }
-
 pub one_placed : (files front : List ClassFile) (file : ClassFile) (all : List Waiting) (one : Waiting) → HavePlaces files (front ++ file ∷ []) all
     → one.place ≡ length front → one.file ≡ file → HavePlaces files front (all ++ one ∷ [])
 one_placed files front file all one h place is = record {
@@ -168,18 +165,12 @@ one_placed files front file all one h place is = record {
         ∙ slice_get_here front h.back file
         ∙ ap Some (sym is)
 
-pub all_placed : (files : List ClassFile) (all : List Waiting) → HavePlaces files [] all → places all ≡ reverse (range_with_len 0 (length files))
-all_placed files all h = sym (append-nil (places all)) ∙ h.places
-
 -- ---- those that are left in the end
 
 pub record AreToldOf (cs : Classes) (before waiting : List Waiting) (refused : List Refused) : Type 0 where
   pub places : numbers refused ++ reverse (places waiting) ≡ reverse (places before)
   pub stuck : AreStuck cs waiting
   pub told : (files : List ClassFile) → AreOf files before → AreOf files waiting × All (IsRefused files cs) refused
-
-pub none_told : (cs : Classes) (before : List Waiting) → AreStuck cs before → AreToldOf cs before before []
-none_told cs before stuck = record { places = refl; stuck = stuck; told = λ files of. (of, All-nil (IsRefused files cs)) }
 
 pub one_told : (cs : Classes) (before waiting : List Waiting) (one : Waiting) (refused : List Refused) (r : Refused)
     → AreToldOf cs before (waiting ++ one ∷ []) refused → r.place ≡ one.place

@@ -16,13 +16,13 @@ const COMMANDS: &[(&str, &str)] = &[
     ),
     (
         r#"{"do":"define","loader":1,"sketch":{"name":"M","flags":33}}"#,
-        r#"Some(Apply(Define(LoaderId(1), Sketch(Sketch { name: Name([77]), flags: 33, superclass: None, interfaces: Seq { items: [] }, methods: Seq { items: [] }, host: None, members: Seq { items: [] } }))))"#,
+        r#"Some(Apply(Define(LoaderId(1), Sketch(Sketch { name: b"M", flags: 33, superclass: None, interfaces: Seq { items: [] }, methods: Seq { items: [] }, host: None, members: Seq { items: [] } }))))"#,
     ),
     (r#"{"do":"loader"}"#, "Some(Apply(NewLoader))"),
     // A text becomes modified UTF-8: the two bytes of the zero.
     (
         r#"{"do":"delegate","loader":2,"name":"A\u0000","to":4294967295}"#,
-        r#"Some(Apply(Delegate(LoaderId(2), Name([65, 192, 128]), LoaderId(4294967295))))"#,
+        r#"Some(Apply(Delegate(LoaderId(2), b"A\xc0\x80", LoaderId(4294967295))))"#,
     ),
     (
         r#"{"do":"request","class":65536,"method":65535,"pc":65536}"#,
@@ -52,24 +52,24 @@ const COMMANDS: &[(&str, &str)] = &[
 const CALL_SITES: &[(&str, &str)] = &[
     (
         r#"{"do":"callsite","kind":"mutable","type":"()V","target":{"method":[0,1]}}"#,
-        r#"Some(Apply(NewCallSite(Mutable, Name([40, 41, 86]), Target { part: Method(MethodId { class: ClassId(0), index: 1 }) })))"#,
+        r#"Some(Apply(NewCallSite(Mutable, b"()V", Target { part: Method(MethodId { class: ClassId(0), index: 1 }) })))"#,
     ),
     (
         r#"{"type":"(J[DLA;I)D","target":{"method":[4294967295,65535]},"kind":"constant","do":"callsite"}"#,
-        r#"Some(Apply(NewCallSite(Constant, Name([40, 74, 91, 68, 76, 65, 59, 73, 41, 68]), Target { part: Method(MethodId { class: ClassId(4294967295), index: 65535 }) })))"#,
+        r#"Some(Apply(NewCallSite(Constant, b"(J[DLA;I)D", Target { part: Method(MethodId { class: ClassId(4294967295), index: 65535 }) })))"#,
     ),
     (
         r#"{"do":"callsite","kind":"volatile","type":"()I","target":{"guard":4294967295,"target":{"method":[1,2]},"fallback":{"fallback":{"method":[3,4]},"guard":0,"target":{"method":[5,6]}}}}"#,
-        r#"Some(Apply(NewCallSite(Volatile, Name([40, 41, 73]), Target { part: Guard(SwitchId(4294967295), Target { part: Method(MethodId { class: ClassId(1), index: 2 }) }, Target { part: Guard(SwitchId(0), Target { part: Method(MethodId { class: ClassId(5), index: 6 }) }, Target { part: Method(MethodId { class: ClassId(3), index: 4 }) }) }) })))"#,
+        r#"Some(Apply(NewCallSite(Volatile, b"()I", Target { part: Guard(SwitchId(4294967295), Target { part: Method(MethodId { class: ClassId(1), index: 2 }) }, Target { part: Guard(SwitchId(0), Target { part: Method(MethodId { class: ClassId(5), index: 6 }) }, Target { part: Method(MethodId { class: ClassId(3), index: 4 }) }) }) })))"#,
     ),
     // Two bytes for the zero; and 255 slots.
     (
         r#"{"do":"callsite","kind":"mutable","type":"(L\u0000;)V","target":{"method":[0,1]}}"#,
-        r#"Some(Apply(NewCallSite(Mutable, Name([40, 76, 192, 128, 59, 41, 86]), Target { part: Method(MethodId { class: ClassId(0), index: 1 }) })))"#,
+        r#"Some(Apply(NewCallSite(Mutable, b"(L\xc0\x80;)V", Target { part: Method(MethodId { class: ClassId(0), index: 1 }) })))"#,
     ),
     (
         r#"{"do":"callsite","kind":"mutable","type":"(JJJJJJJJJJJJJJJJJJJJJJJJJJJJJJJJJJJJJJJJJJJJJJJJJJJJJJJJJJJJJJJJJJJJJJJJJJJJJJJJJJJJJJJJJJJJJJJJJJJJJJJJJJJJJJJJJJJJJJJJJJJJJJJI)V","target":{"method":[0,1]}}"#,
-        r#"Some(Apply(NewCallSite(Mutable, Name([40, 74, 74, 74, 74, 74, 74, 74, 74, 74, 74, 74, 74, 74, 74, 74, 74, 74, 74, 74, 74, 74, 74, 74, 74, 74, 74, 74, 74, 74, 74, 74, 74, 74, 74, 74, 74, 74, 74, 74, 74, 74, 74, 74, 74, 74, 74, 74, 74, 74, 74, 74, 74, 74, 74, 74, 74, 74, 74, 74, 74, 74, 74, 74, 74, 74, 74, 74, 74, 74, 74, 74, 74, 74, 74, 74, 74, 74, 74, 74, 74, 74, 74, 74, 74, 74, 74, 74, 74, 74, 74, 74, 74, 74, 74, 74, 74, 74, 74, 74, 74, 74, 74, 74, 74, 74, 74, 74, 74, 74, 74, 74, 74, 74, 74, 74, 74, 74, 74, 74, 74, 74, 74, 74, 74, 74, 74, 74, 73, 41, 86]), Target { part: Method(MethodId { class: ClassId(0), index: 1 }) })))"#,
+        r#"Some(Apply(NewCallSite(Mutable, b"(JJJJJJJJJJJJJJJJJJJJJJJJJJJJJJJJJJJJJJJJJJJJJJJJJJJJJJJJJJJJJJJJJJJJJJJJJJJJJJJJJJJJJJJJJJJJJJJJJJJJJJJJJJJJJJJJJJJJJJJJJJJJJJJI)V", Target { part: Method(MethodId { class: ClassId(0), index: 1 }) })))"#,
     ),
     (
         r#"{"do":"target","callsite":4294967295,"target":{"method":[0,0]}}"#,
@@ -85,7 +85,7 @@ const CALL_SITES: &[(&str, &str)] = &[
     ),
     (
         r#"{"do":"callsite","kind":"constant","type":"()V","target":{"fallback":{"invoker":4294967295},"guard":0,"target":{"invoker":0}}}"#,
-        r#"Some(Apply(NewCallSite(Constant, Name([40, 41, 86]), Target { part: Guard(SwitchId(0), Target { part: Invoker(CallSiteId(0)) }, Target { part: Invoker(CallSiteId(4294967295)) }) })))"#,
+        r#"Some(Apply(NewCallSite(Constant, b"()V", Target { part: Guard(SwitchId(0), Target { part: Invoker(CallSiteId(0)) }, Target { part: Invoker(CallSiteId(4294967295)) }) })))"#,
     ),
     // Of equal keys the last one.
     (
@@ -115,52 +115,52 @@ const CALL_SITES: &[(&str, &str)] = &[
 const SKETCHES: &[(&str, &str)] = &[
     (
         r#"{"do":"define","loader":0,"sketch":{"name":"M","super":"java/lang/Object","flags":33,"methods":[{"name":"run","type":"()V","flags":9,"calls":[{"kind":"invokevirtual","of":"A","name":"f","type":"()V"}]}]}}"#,
-        r#"Some(Apply(Define(LoaderId(0), Sketch(Sketch { name: Name([77]), flags: 33, superclass: Some(Name([106, 97, 118, 97, 47, 108, 97, 110, 103, 47, 79, 98, 106, 101, 99, 116])), interfaces: Seq { items: [] }, methods: Seq { items: [SketchMethod { name: Name([114, 117, 110]), ty: Name([40, 41, 86]), flags: 9, calls: Seq { items: [Virtual(MethodName { owner: Name([65]), name: Name([102]), ty: Name([40, 41, 86]) })] } }] }, host: None, members: Seq { items: [] } }))))"#,
+        r#"Some(Apply(Define(LoaderId(0), Sketch(Sketch { name: b"M", flags: 33, superclass: Some(b"java/lang/Object"), interfaces: Seq { items: [] }, methods: Seq { items: [SketchMethod { name: b"run", ty: b"()V", flags: 9, calls: Seq { items: [Virtual(MethodName { owner: b"A", name: b"f", ty: b"()V" })] } }] }, host: None, members: Seq { items: [] } }))))"#,
     ),
     (
         r#"{"do":"define","loader":0,"sketch":{"name":"I","flags":1537,"interfaces":["J"],"host":"H","members":["K","L"]}}"#,
-        r#"Some(Apply(Define(LoaderId(0), Sketch(Sketch { name: Name([73]), flags: 1537, superclass: None, interfaces: Seq { items: [Name([74])] }, methods: Seq { items: [] }, host: Some(Name([72])), members: Seq { items: [Name([75]), Name([76])] } }))))"#,
+        r#"Some(Apply(Define(LoaderId(0), Sketch(Sketch { name: b"I", flags: 1537, superclass: None, interfaces: Seq { items: [b"J"] }, methods: Seq { items: [] }, host: Some(b"H"), members: Seq { items: [b"K", b"L"] } }))))"#,
     ),
     (
         r#"{"do":"define","loader":0,"sketch":{"name":"M","flags":33,"methods":[{"name":"m","type":"()V","flags":1,"calls":[{"name":"f","type":")","kind":"invokevirtual","of":"A"}]}]}}"#,
-        r#"Some(Apply(Define(LoaderId(0), Sketch(Sketch { name: Name([77]), flags: 33, superclass: None, interfaces: Seq { items: [] }, methods: Seq { items: [SketchMethod { name: Name([109]), ty: Name([40, 41, 86]), flags: 1, calls: Seq { items: [Virtual(MethodName { owner: Name([65]), name: Name([102]), ty: Name([41]) })] } }] }, host: None, members: Seq { items: [] } }))))"#,
+        r#"Some(Apply(Define(LoaderId(0), Sketch(Sketch { name: b"M", flags: 33, superclass: None, interfaces: Seq { items: [] }, methods: Seq { items: [SketchMethod { name: b"m", ty: b"()V", flags: 1, calls: Seq { items: [Virtual(MethodName { owner: b"A", name: b"f", ty: b")" })] } }] }, host: None, members: Seq { items: [] } }))))"#,
     ),
     (
         r#"{"do":"define","loader":0,"sketch":{"name":"M","flags":33,"methods":[{"name":"m","type":"()V","flags":1,"calls":[{"name":"f","type":")","kind":"invokespecial","of":"A"}]}]}}"#,
-        r#"Some(Apply(Define(LoaderId(0), Sketch(Sketch { name: Name([77]), flags: 33, superclass: None, interfaces: Seq { items: [] }, methods: Seq { items: [SketchMethod { name: Name([109]), ty: Name([40, 41, 86]), flags: 1, calls: Seq { items: [Special(false, MethodName { owner: Name([65]), name: Name([102]), ty: Name([41]) })] } }] }, host: None, members: Seq { items: [] } }))))"#,
+        r#"Some(Apply(Define(LoaderId(0), Sketch(Sketch { name: b"M", flags: 33, superclass: None, interfaces: Seq { items: [] }, methods: Seq { items: [SketchMethod { name: b"m", ty: b"()V", flags: 1, calls: Seq { items: [Special(false, MethodName { owner: b"A", name: b"f", ty: b")" })] } }] }, host: None, members: Seq { items: [] } }))))"#,
     ),
     (
         r#"{"do":"define","loader":0,"sketch":{"name":"M","flags":33,"methods":[{"name":"m","type":"()V","flags":1,"calls":[{"name":"f","type":")","kind":"invokespecial","of":"A","itf":true}]}]}}"#,
-        r#"Some(Apply(Define(LoaderId(0), Sketch(Sketch { name: Name([77]), flags: 33, superclass: None, interfaces: Seq { items: [] }, methods: Seq { items: [SketchMethod { name: Name([109]), ty: Name([40, 41, 86]), flags: 1, calls: Seq { items: [Special(true, MethodName { owner: Name([65]), name: Name([102]), ty: Name([41]) })] } }] }, host: None, members: Seq { items: [] } }))))"#,
+        r#"Some(Apply(Define(LoaderId(0), Sketch(Sketch { name: b"M", flags: 33, superclass: None, interfaces: Seq { items: [] }, methods: Seq { items: [SketchMethod { name: b"m", ty: b"()V", flags: 1, calls: Seq { items: [Special(true, MethodName { owner: b"A", name: b"f", ty: b")" })] } }] }, host: None, members: Seq { items: [] } }))))"#,
     ),
     (
         r#"{"do":"define","loader":0,"sketch":{"name":"M","flags":33,"methods":[{"name":"m","type":"()V","flags":1,"calls":[{"name":"f","type":")","kind":"invokestatic","of":"A","itf":false}]}]}}"#,
-        r#"Some(Apply(Define(LoaderId(0), Sketch(Sketch { name: Name([77]), flags: 33, superclass: None, interfaces: Seq { items: [] }, methods: Seq { items: [SketchMethod { name: Name([109]), ty: Name([40, 41, 86]), flags: 1, calls: Seq { items: [Static(false, MethodName { owner: Name([65]), name: Name([102]), ty: Name([41]) })] } }] }, host: None, members: Seq { items: [] } }))))"#,
+        r#"Some(Apply(Define(LoaderId(0), Sketch(Sketch { name: b"M", flags: 33, superclass: None, interfaces: Seq { items: [] }, methods: Seq { items: [SketchMethod { name: b"m", ty: b"()V", flags: 1, calls: Seq { items: [Static(false, MethodName { owner: b"A", name: b"f", ty: b")" })] } }] }, host: None, members: Seq { items: [] } }))))"#,
     ),
     (
         r#"{"do":"define","loader":0,"sketch":{"name":"M","flags":33,"methods":[{"name":"m","type":"()V","flags":1,"calls":[{"name":"f","type":")","kind":"invokeinterface","of":"A"}]}]}}"#,
-        r#"Some(Apply(Define(LoaderId(0), Sketch(Sketch { name: Name([77]), flags: 33, superclass: None, interfaces: Seq { items: [] }, methods: Seq { items: [SketchMethod { name: Name([109]), ty: Name([40, 41, 86]), flags: 1, calls: Seq { items: [Interface(MethodName { owner: Name([65]), name: Name([102]), ty: Name([41]) })] } }] }, host: None, members: Seq { items: [] } }))))"#,
+        r#"Some(Apply(Define(LoaderId(0), Sketch(Sketch { name: b"M", flags: 33, superclass: None, interfaces: Seq { items: [] }, methods: Seq { items: [SketchMethod { name: b"m", ty: b"()V", flags: 1, calls: Seq { items: [Interface(MethodName { owner: b"A", name: b"f", ty: b")" })] } }] }, host: None, members: Seq { items: [] } }))))"#,
     ),
     (
         r#"{"do":"define","loader":0,"sketch":{"name":"M","flags":33,"methods":[{"name":"m","type":"()V","flags":1,"calls":[{"kind":"invokedynamic","name":"f","type":")"}]}]}}"#,
-        r#"Some(Apply(Define(LoaderId(0), Sketch(Sketch { name: Name([77]), flags: 33, superclass: None, interfaces: Seq { items: [] }, methods: Seq { items: [SketchMethod { name: Name([109]), ty: Name([40, 41, 86]), flags: 1, calls: Seq { items: [Dynamic(Name([102]), Name([41]))] } }] }, host: None, members: Seq { items: [] } }))))"#,
+        r#"Some(Apply(Define(LoaderId(0), Sketch(Sketch { name: b"M", flags: 33, superclass: None, interfaces: Seq { items: [] }, methods: Seq { items: [SketchMethod { name: b"m", ty: b"()V", flags: 1, calls: Seq { items: [Dynamic(b"f", b")")] } }] }, host: None, members: Seq { items: [] } }))))"#,
     ),
     // A text becomes modified UTF-8.
     (
         r#"{"do":"define","loader":0,"sketch":{"name":"\u0000","flags":0}}"#,
-        r#"Some(Apply(Define(LoaderId(0), Sketch(Sketch { name: Name([192, 128]), flags: 0, superclass: None, interfaces: Seq { items: [] }, methods: Seq { items: [] }, host: None, members: Seq { items: [] } }))))"#,
+        r#"Some(Apply(Define(LoaderId(0), Sketch(Sketch { name: b"\xc0\x80", flags: 0, superclass: None, interfaces: Seq { items: [] }, methods: Seq { items: [] }, host: None, members: Seq { items: [] } }))))"#,
     ),
     (
         r#"{"do":"define","loader":0,"sketch":{"name":"\ud83d\ude00","flags":0}}"#,
-        r#"Some(Apply(Define(LoaderId(0), Sketch(Sketch { name: Name([237, 160, 189, 237, 184, 128]), flags: 0, superclass: None, interfaces: Seq { items: [] }, methods: Seq { items: [] }, host: None, members: Seq { items: [] } }))))"#,
+        r#"Some(Apply(Define(LoaderId(0), Sketch(Sketch { name: b"\xed\xa0\xbd\xed\xb8\x80", flags: 0, superclass: None, interfaces: Seq { items: [] }, methods: Seq { items: [] }, host: None, members: Seq { items: [] } }))))"#,
     ),
     (
         "{\"do\":\"define\",\"loader\":0,\"sketch\":{\"name\":\"\u{1f600}\",\"flags\":0}}",
-        r#"Some(Apply(Define(LoaderId(0), Sketch(Sketch { name: Name([237, 160, 189, 237, 184, 128]), flags: 0, superclass: None, interfaces: Seq { items: [] }, methods: Seq { items: [] }, host: None, members: Seq { items: [] } }))))"#,
+        r#"Some(Apply(Define(LoaderId(0), Sketch(Sketch { name: b"\xed\xa0\xbd\xed\xb8\x80", flags: 0, superclass: None, interfaces: Seq { items: [] }, methods: Seq { items: [] }, host: None, members: Seq { items: [] } }))))"#,
     ),
     (
         "{\"do\":\"define\",\"loader\":0,\"sketch\":{\"name\":\"a\u{e9}\",\"flags\":0}}",
-        r#"Some(Apply(Define(LoaderId(0), Sketch(Sketch { name: Name([97, 195, 169]), flags: 0, superclass: None, interfaces: Seq { items: [] }, methods: Seq { items: [] }, host: None, members: Seq { items: [] } }))))"#,
+        r#"Some(Apply(Define(LoaderId(0), Sketch(Sketch { name: b"a\xc3\xa9", flags: 0, superclass: None, interfaces: Seq { items: [] }, methods: Seq { items: [] }, host: None, members: Seq { items: [] } }))))"#,
     ),
 ];
 
