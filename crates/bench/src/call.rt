@@ -159,11 +159,21 @@ fn calls_together<K: Name>(caller: &mut Caller<K>, sites: u32, calls: u32) -> u6
 }
 
 /// One thread's caller and memo, and whether it applies events.
-#[derive(Drop)]
 struct Job<K: Name> {
     writes: bool,
     caller: Caller<K>,
     memo: Memo<K>,
+}
+
+/// Written out, so that what drops one makes one call of it and doesn't take apart what it holds.
+impl<K: Name> Drop for Job<K> {
+    fn drop(self) {
+        let Job {
+            writes: _writes,
+            caller: _caller,
+            memo: _memo,
+        } = self;
+    }
 }
 
 /// What all threads share: of the counts, how many threads still call, how many events there were, and how many answers.

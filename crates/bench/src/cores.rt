@@ -22,12 +22,22 @@ pub(crate) enum Way {
 }
 
 /// A core that is watched.
-#[derive(Drop)]
 pub(crate) struct OnCore {
     core: Core,
     way: Way,
     /// The world before the last event, where snapshots are held.
     held: Option<Snapshot>,
+}
+
+/// Written out, so that what drops one makes one call of it and doesn't take apart what it holds.
+impl Drop for OnCore {
+    fn drop(self) {
+        let OnCore {
+            core: _core,
+            way: _way,
+            held: _held,
+        } = self;
+    }
 }
 
 impl OnCore {

@@ -5,10 +5,19 @@ use std::alloc::{AllocError, Global};
 use std::io::{self, BufRead, BufReader};
 
 /// The class files and the places, in order. A line that is neither is left out.
-#[derive(Drop)]
 pub(crate) struct Input {
     pub(crate) files: Vec<Vec<u8>>,
     pub(crate) places: Vec<Place>,
+}
+
+/// Written out, so that what drops one makes one call of it and doesn't take apart what it holds.
+impl Drop for Input {
+    fn drop(self) {
+        let Input {
+            files: _files,
+            places: _places,
+        } = self;
+    }
 }
 
 impl Input {

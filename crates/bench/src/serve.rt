@@ -19,11 +19,21 @@ use std::thread::Threads;
 const MOST: u32 = 16;
 
 /// A caller with its server, and what it waits by.
-#[derive(Drop)]
 pub(crate) struct Desk<K: Name, S: Wait + Drop> {
     pub(crate) handle: S,
     pub(crate) server: LinkServer<K, S>,
     pub(crate) caller: Caller<K>,
+}
+
+/// Written out, so that what drops one makes one call of it and doesn't take apart what it holds.
+impl<K: Name, S: Wait + Drop> Drop for Desk<K, S> {
+    fn drop(self) {
+        let Desk {
+            handle: _handle,
+            server: _server,
+            caller: _caller,
+        } = self;
+    }
 }
 
 impl<K: Name, S: Wait + Drop> Desk<K, S> {

@@ -12,7 +12,6 @@ use std::io::{self, ErrorKind};
 use std::sync::Wait;
 
 /// A server that is watched, and its one caller.
-#[derive(Drop)]
 pub(crate) struct OnServer<K: Name, S: Wait + Drop> {
     handle: S,
     server: LinkServer<K, S>,
@@ -21,6 +20,19 @@ pub(crate) struct OnServer<K: Name, S: Wait + Drop> {
     shares: bool,
     /// The world before the last event, where snapshots are held.
     held: Option<Snapshot>,
+}
+
+/// Written out, so that what drops one makes one call of it and doesn't take apart what it holds.
+impl<K: Name, S: Wait + Drop> Drop for OnServer<K, S> {
+    fn drop(self) {
+        let OnServer {
+            handle: _handle,
+            server: _server,
+            caller: _caller,
+            shares: _shares,
+            held: _held,
+        } = self;
+    }
 }
 
 /// A look at a part of the state.

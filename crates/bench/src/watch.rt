@@ -30,10 +30,19 @@ pub(crate) trait Watched {
 }
 
 /// Two texts of a state, with room.
-#[derive(Drop)]
 pub(crate) struct Marks {
     before: String,
     after: String,
+}
+
+/// Written out, so that what drops one makes one call of it and doesn't take apart what it holds.
+impl Drop for Marks {
+    fn drop(self) {
+        let Marks {
+            before: _before,
+            after: _after,
+        } = self;
+    }
 }
 
 impl Marks {

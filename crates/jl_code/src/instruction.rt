@@ -11,7 +11,7 @@ use jl_names::Text;
 use jl_pool::{bytes_at, u2_at, u4_at};
 
 /// An instruction as it stands in a code.
-#[derive(Debug, Drop)]
+#[derive(Drop)]
 pub enum Instruction<'a> {
     /// An opcode and its operand bytes.
     Plain(u8, Text<'a>),
@@ -26,7 +26,7 @@ pub enum Instruction<'a> {
 }
 
 /// Why no instruction stands at the front.
-#[derive(Clone, Copy, Debug, PartialEq, Eq)]
+#[derive(Clone, Copy)]
 pub enum Stop {
     /// The bytes end before.
     Cut,

@@ -10,7 +10,7 @@ use std::marker::Model;
 use std::sync::Arc;
 
 /// A class, and the print of a method that it sees.
-#[derive(Clone, Copy, Debug, PartialEq, Eq, Hash)]
+#[derive(Clone, Copy, PartialEq, Eq, Hash)]
 pub(crate) struct Mark {
     pub(crate) class: ClassId,
     pub(crate) print: u64,

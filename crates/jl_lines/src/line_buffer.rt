@@ -18,7 +18,7 @@ const MOST_IN_READ: usize = 65_536;
 
 /// The bytes that were read and not yet answered, up to a longest line and its newline. A clause
 /// sees these bytes.
-#[derive(Debug, Drop)]
+#[derive(Drop)]
 pub struct LineBuffer {
     bytes: Vec<u8>,
     filled: usize,

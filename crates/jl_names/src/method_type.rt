@@ -106,7 +106,7 @@ pub fn method_slots(text: &[u8]) -> Option<u8>
 // ---- read at the front
 
 /// Where parameters can't go on, or want of memory.
-#[derive(Debug, Drop)]
+#[derive(Drop)]
 enum Broken<'a> {
     At(&'a [u8]),
     Memory,

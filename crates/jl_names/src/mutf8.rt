@@ -62,7 +62,7 @@ pub fn encode_mutf8(alloc: Global, units: &[u16]) -> Result<Vec<u8>, NameFault>
 // ---- a unit read
 
 /// Why no unit stands at the front.
-#[derive(Clone, Copy, Debug, PartialEq, Eq)]
+#[derive(Clone, Copy)]
 enum Broken {
     /// The first byte asks for more bytes than are there.
     Cut,

@@ -17,7 +17,7 @@ use crate::pool_fault::PoolFault;
 use jl_names::is_text;
 
 /// Whether what an entry names is of the right kinds.
-#[derive(Clone, Copy, Debug)]
+#[derive(Clone, Copy)]
 struct Names {
     /// Each number holds a constant of the right kind.
     linked: bool,

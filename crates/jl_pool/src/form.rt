@@ -41,7 +41,7 @@ impl Form {
 }
 
 /// Which bytes that matter to a name stand in a text, and whether it has a byte that is no unit by itself.
-#[derive(Clone, Copy, Debug, PartialEq, Eq)]
+#[derive(Clone, Copy)]
 pub(crate) struct Marks {
     /// One of `.`, `;` and `[`, which stand in no class name.
     barred: bool,

@@ -325,7 +325,7 @@ pub fn no_fault_in_a_pool()
 {}
 
 /// Why no constant stands at the front.
-#[derive(Clone, Copy, Debug, PartialEq, Eq)]
+#[derive(Clone, Copy)]
 pub enum Stop {
     /// The bytes end before.
     Cut,

@@ -9,7 +9,7 @@ use jl_types::{ClassId, MethodId, Outcome, TableKind, Work};
 
 /// An invokevirtual or an invokeinterface whose method is resolved: the instruction, the class that the reference names, and
 /// the method.
-#[derive(Clone, Copy, Debug)]
+#[derive(Clone, Copy)]
 pub(crate) struct Selection {
     pub(crate) kind: TableKind,
     pub(crate) named: ClassId,

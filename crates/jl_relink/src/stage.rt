@@ -16,7 +16,7 @@ use jl_resolve::{Resolved, resolve_reference};
 use jl_types::{ClassId, MethodId, ResolveAnswer, TableKind, Throwable, Unlinked};
 
 /// What an invocation of a reference comes to before its receiver is looked at.
-#[derive(Clone, Copy, Debug)]
+#[derive(Clone, Copy)]
 pub(crate) enum Stage {
     /// It has no link yet.
     Waits(Unlinked),

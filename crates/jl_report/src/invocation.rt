@@ -10,7 +10,7 @@ use jl_types::{ClassId, NotLinkable, Place, is_polymorphic, names_array};
 use std::alloc::{AllocError, Global};
 
 /// An invocation: where it stands, its instruction, and why it is never linked, if so.
-#[derive(Clone, Copy, Debug)]
+#[derive(Clone, Copy)]
 pub(crate) struct Invocation {
     pub(crate) place: Place,
     pub(crate) kind: Kind,

@@ -11,7 +11,7 @@ use std::alloc::{AllocError, Global};
 use std::marker::Model;
 
 /// A constant. A number names another one, counted from 1.
-#[derive(Clone, Copy, Debug, PartialEq, Eq, Hash)]
+#[derive(Clone, Copy, PartialEq, Eq, Hash)]
 pub(crate) enum NewConstant<'a> {
     Utf8(&'a [u8]),
     Class(usize),
@@ -23,9 +23,15 @@ pub(crate) enum NewConstant<'a> {
 }
 
 /// Constants in the order in which they were entered.
-#[derive(Drop)]
 pub(crate) struct Constants<'a> {
     entries: IndexSet<NewConstant<'a>>,
+}
+
+/// Written out, so that what drops one makes one call of it and doesn't take apart what it holds.
+impl<'a> Drop for Constants<'a> {
+    fn drop(self) {
+        let Constants { entries: _entries } = self;
+    }
 }
 
 impl<'a> Model for Constants<'a> {

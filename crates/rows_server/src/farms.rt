@@ -418,7 +418,7 @@ fn crew_of<K: Name>(
     let mut crew = Vec::new(alloc);
     for _ in 0..count {
         if let (Some(last), Some(first)) = (workers.pop(), workers.first()) {
-            let Worker { mut caller, .. } = last;
+            let mut caller = last.into_caller();
             caller.learn(first.caller.seen());
             crew.push(caller)?;
         }

@@ -10,19 +10,39 @@ use std::sync::atomic::AtomicU64;
 use std::sync::{Mutex, Wait};
 
 /// An event that was accepted, and what it was answered.
-#[derive(Drop)]
 pub(crate) struct Told {
     pub(crate) serial: u64,
     pub(crate) deed: Deed,
     pub(crate) reply: Reply,
 }
 
+/// Written out, so that what drops one makes one call of it and doesn't take apart what it holds.
+impl Drop for Told {
+    fn drop(self) {
+        let Told {
+            serial: _serial,
+            deed: _deed,
+            reply: _reply,
+        } = self;
+    }
+}
+
 /// One caller, its accepted events, and how often something was not as it must be.
-#[derive(Drop)]
 pub(crate) struct Worker<K: Name> {
     pub(crate) caller: Caller<K>,
     pub(crate) told: Vec<Told>,
     pub(crate) wrong: u64,
+}
+
+/// Written out, so that what drops one makes one call of it and doesn't take apart what it holds.
+impl<K: Name> Drop for Worker<K> {
+    fn drop(self) {
+        let Worker {
+            caller: _caller,
+            told: _told,
+            wrong: _wrong,
+        } = self;
+    }
 }
 
 /// What an event was answered, behind a list of so many events. It is none where the answer shows another list.
@@ -60,6 +80,16 @@ pub(crate) fn receiver(class: Option<u32>) -> Recv {
 }
 
 impl<K: Name> Worker<K> {
+    /// The caller alone.
+    pub(crate) fn into_caller(self) -> Caller<K> {
+        let Worker {
+            caller,
+            told: _told,
+            wrong: _wrong,
+        } = self;
+        caller
+    }
+
     pub(crate) fn expect(&mut self, so: bool) {
         if !so {
             self.wrong = self.wrong.saturating_add(1);
