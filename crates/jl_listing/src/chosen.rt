@@ -1,8 +1,8 @@
 //! Which invocations are reported.
 
+use crate::texts::{open_class, push_name};
 use jl_hierarchy::Classes;
 use jl_report::{Row, Shape};
-use jl_texts::{open_class, push_name};
 use std::alloc::{AllocError, Global};
 
 /// What an invocation comes to, as it is asked for.

@@ -3,9 +3,25 @@
 use jl_json::{FileRefusal, event_refusal_value};
 use jl_paths::{NoClass, Source, are_reported};
 use jl_report::Refused;
-use jl_texts::LeftOut;
 use jl_types::{DefineFault, Refusal};
+use serde_json::Value;
 use std::alloc::{AllocError, Global};
+
+/// A file that is left out, and the answer that refuses it, as a scan or a run gives it.
+pub(crate) struct LeftOut {
+    pub(crate) path: String,
+    pub(crate) answer: Value,
+}
+
+/// Written out, so that what drops one makes one call of it and doesn't take apart what it holds.
+impl Drop for LeftOut {
+    fn drop(self) {
+        let LeftOut {
+            path: _path,
+            answer: _answer,
+        } = self;
+    }
+}
 
 /// Adds the files that are no class files. Want of memory is an error.
 pub(crate) fn add_no_classes(

@@ -1,12 +1,19 @@
 //! A report as a user of the program has it: what each invocation of the class files below paths comes to.
 //!
-//! What a report says is a contract of jl_report, and its words are those of jl_texts. Here nothing is proved but that each call returns:
-//! what a file holds and what a terminal shows can't be stated.
+//! What a report says is a contract of jl_report. Here nothing is proved but that each call returns: what a file holds and what a terminal
+//! shows can't be stated.
+//!
+//! The forms of a report, `texts` and `html`, are modules here, which makes a large crate: a library of their own would write all that a
+//! report's types state once more.
 #![tactic(auto)]
 
 // What is asked for.
 mod asked;
 mod chosen;
+
+// The forms of a report.
+mod html;
+mod texts;
 
 // From paths to what is written.
 mod breaks;

@@ -3,14 +3,15 @@
 use crate::asked::{Asked, Form};
 use crate::chosen::Chosen;
 use crate::fault::ReportFault;
-use jl_class::{ClassFile, Method, Site};
-use jl_hierarchy::Classes;
-use jl_page::{Bar, ClassPart, HtmlPage};
-use jl_report::{Dropped, Report, Row, Shape, keep_open};
-use jl_texts::{
-    Former, LeftOut, MissingClasses, Summary, push_dropped, push_left_out, push_left_out_line,
+use crate::html::{Bar, ClassPart, HtmlPage};
+use crate::left_out::LeftOut;
+use crate::texts::{
+    Former, MissingClasses, Summary, push_dropped, push_left_out, push_left_out_line,
     push_method_line, push_name, push_reasons, push_site_line, write_line, write_totals,
 };
+use jl_class::{ClassFile, Method, Site};
+use jl_hierarchy::Classes;
+use jl_report::{Dropped, Report, Row, Shape, keep_open};
 use jl_types::ClassId;
 use json::Writer;
 use std::alloc::Global;

@@ -1,8 +1,8 @@
 //! A report as text.
 
 use crate::left_out::LeftOut;
-use crate::links::{push_class, push_finding, push_number, push_operand};
-use crate::names::push_name;
+use crate::texts::links::{push_class, push_finding, push_number, push_operand};
+use crate::texts::names::push_name;
 use indexmap::IndexMap;
 use jl_class::{ClassFile, Method, Site};
 use jl_hierarchy::Classes;
@@ -13,7 +13,7 @@ use serde_json::Value;
 use std::alloc::{AllocError, Global};
 
 /// Appends the class and the method. Want of memory is an error.
-pub fn push_method_line(
+pub(crate) fn push_method_line(
     alloc: Global,
     file: &ClassFile,
     method: &Method<'_>,
@@ -32,7 +32,7 @@ fn push_method_end(alloc: Global, method: &Method<'_>, out: &mut String) -> Resu
 }
 
 /// Appends the invocation and what it comes to. Want of memory is an error.
-pub fn push_site_line(
+pub(crate) fn push_site_line(
     alloc: Global,
     classes: &Classes,
     site: &Site<'_>,
@@ -49,7 +49,7 @@ pub fn push_site_line(
 }
 
 /// Appends the invocation, which stands in this method, and what it comes to once this class drops its link. Want of memory is an error.
-pub fn push_dropped(
+pub(crate) fn push_dropped(
     alloc: Global,
     classes: &Classes,
     class: ClassId,
@@ -70,7 +70,7 @@ pub fn push_dropped(
 }
 
 /// Appends the file that is left out and why. Want of memory is an error.
-pub fn push_left_out(one: &LeftOut, out: &mut String) -> Result<(), AllocError> {
+pub(crate) fn push_left_out(one: &LeftOut, out: &mut String) -> Result<(), AllocError> {
     out.push_str("    ")?;
     out.push_str(one.path.as_str())?;
     out.push_str("  ")?;
@@ -87,7 +87,7 @@ fn push_reason(answer: &Value, out: &mut String) -> Result<(), AllocError> {
 }
 
 /// Appends how many files are left out for each reason, and the first of them. Want of memory is an error.
-pub fn push_reasons(
+pub(crate) fn push_reasons(
     alloc: Global,
     left_out: &[LeftOut],
     out: &mut String,

@@ -1,6 +1,6 @@
 //! What an invocation comes to, in words.
 
-use crate::names::push_name;
+use crate::texts::names::push_name;
 use jl_class::{ClassFile, FINAL, INTERFACE, Operand, Site, has_flag};
 use jl_hierarchy::Classes;
 use jl_json::throwable_name;
@@ -12,7 +12,7 @@ use jl_types::{
 use std::alloc::{AllocError, Global};
 
 /// Why an invocation is never linked, in words of FORMATS.
-pub fn never_name(reason: NotLinkable) -> &'static str {
+fn never_name(reason: NotLinkable) -> &'static str {
     match reason {
         NotLinkable::ArrayReceiver => "ArrayReceiver",
         NotLinkable::PolymorphicSignature => "PolymorphicSignature",
@@ -20,12 +20,12 @@ pub fn never_name(reason: NotLinkable) -> &'static str {
 }
 
 /// Appends a decimal number. Want of memory is an error.
-pub fn push_number(number: u64, out: &mut String) -> Result<(), AllocError> {
+pub(crate) fn push_number(number: u64, out: &mut String) -> Result<(), AllocError> {
     write!(out, "{number}")
 }
 
 /// Appends the name of the class. Want of memory is an error.
-pub fn push_class(
+pub(crate) fn push_class(
     alloc: Global,
     classes: &Classes,
     class: ClassId,
@@ -38,7 +38,7 @@ pub fn push_class(
 }
 
 /// Appends the class and the name of the method. Want of memory is an error.
-pub fn push_method(
+fn push_method(
     alloc: Global,
     classes: &Classes,
     method: &MethodId,
@@ -67,7 +67,7 @@ fn push_method_name(
 }
 
 /// Appends what the invocation names. Want of memory is an error.
-pub fn push_operand(
+pub(crate) fn push_operand(
     alloc: Global,
     operand: &Operand<LentName<'_>>,
     out: &mut String,
@@ -175,7 +175,7 @@ fn push_mega(classes: &Classes, row: &Row, out: &mut String) -> Result<(), Alloc
 }
 
 /// How many classes of receivers the row's link looks at.
-pub fn receiver_count(classes: &Classes, row: &Row) -> usize {
+fn receiver_count(classes: &Classes, row: &Row) -> usize {
     match looked_at(row) {
         Some(class) if classes.has_class(class) => classes.receivers(class).len(),
         _ => 0,
@@ -192,7 +192,7 @@ fn looked_at(row: &Row) -> Option<ClassId> {
 
 /// The class or interface of which a further one below may change the row's link, if there is one. A final class gets none
 /// (JVMS SE 17 §5.3.5).
-pub fn open_class(classes: &Classes, row: &Row) -> Option<ClassId> {
+pub(crate) fn open_class(classes: &Classes, row: &Row) -> Option<ClassId> {
     let class = looked_at(row)?;
     let flags = classes.class_at(class)?.file().flags();
     if has_flag(flags, FINAL) && !has_flag(flags, INTERFACE) {
@@ -251,7 +251,7 @@ fn push_host(
 }
 
 /// Appends what the invocation comes to. Want of memory is an error.
-pub fn push_finding(
+pub(crate) fn push_finding(
     alloc: Global,
     classes: &Classes,
     site: &Site<'_>,

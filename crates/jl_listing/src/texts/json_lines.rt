@@ -1,9 +1,9 @@
 //! A report as JSON, an object a line.
 
 use crate::left_out::LeftOut;
-use crate::links::open_class;
-use crate::names::push_name;
-use crate::totals::{KINDS_BY_NAME, SHAPES_BY_KEY, Summary};
+use crate::texts::links::open_class;
+use crate::texts::names::push_name;
+use crate::texts::totals::{KINDS_BY_NAME, SHAPES_BY_KEY, Summary};
 use jl_class::{Kind, Method, Operand, Site};
 use jl_hierarchy::Classes;
 use jl_json::{instruction, table_kind, throwable_name};
@@ -186,14 +186,14 @@ fn write_mega(out: &mut Writer) -> Result<(), AllocError> {
 
 /// What an invocation came to, before this class was defined behind the others.
 #[derive(Clone, Copy)]
-pub struct Former<'a> {
-    pub row: &'a Row,
-    pub class: ClassId,
+pub(crate) struct Former<'a> {
+    pub(crate) row: &'a Row,
+    pub(crate) class: ClassId,
 }
 
 /// Writes the invocation of the row, which stands in this method, and what it comes to, with the link that it had and the class that dropped
 /// it, if one did. Keys are in byte order. Want of memory is an error.
-pub fn write_line(
+pub(crate) fn write_line(
     alloc: Global,
     classes: &Classes,
     row: &Row,
@@ -368,7 +368,7 @@ fn missing_name(missing: Missing) -> &'static str {
 }
 
 /// Appends the file that is left out and why, as a line. Want of memory is an error.
-pub fn push_left_out_line(
+pub(crate) fn push_left_out_line(
     alloc: Global,
     one: LeftOut,
     out: &mut Vec<u8>,
@@ -393,7 +393,11 @@ fn push_value_line(alloc: Global, value: &Value, out: &mut Vec<u8>) -> Result<()
 }
 
 /// Writes the totals. Want of memory is an error.
-pub fn write_totals(summary: &Summary, left_out: u64, out: &mut Writer) -> Result<(), AllocError> {
+pub(crate) fn write_totals(
+    summary: &Summary,
+    left_out: u64,
+    out: &mut Writer,
+) -> Result<(), AllocError> {
     out.begin_object()?;
     write_number("classes", summary.classes, out)?;
     write_number("leftOut", left_out, out)?;

@@ -4,8 +4,8 @@ use jl_report::Shape;
 use std::alloc::AllocError;
 
 /// How many invocations come to what, in four parts.
-#[derive(Clone, Copy, Debug, PartialEq, Eq)]
-pub struct Bar {
+#[derive(Clone, Copy)]
+pub(crate) struct Bar {
     /// To one method.
     direct: u64,
     /// To a table of receivers.
@@ -18,7 +18,7 @@ pub struct Bar {
 
 impl Bar {
     /// None.
-    pub fn new() -> Bar {
+    pub(crate) fn new() -> Bar {
         Bar {
             direct: 0,
             table: 0,
@@ -28,7 +28,7 @@ impl Bar {
     }
 
     /// One more.
-    pub fn add(&mut self, shape: Shape) {
+    pub(crate) fn add(&mut self, shape: Shape) {
         match shape {
             Shape::Direct => self.direct = self.direct.saturating_add(1),
             Shape::Table => self.table = self.table.saturating_add(1),
@@ -47,7 +47,7 @@ impl Bar {
     }
 
     /// How many there are.
-    pub fn all(&self) -> u64 {
+    pub(crate) fn all(&self) -> u64 {
         self.direct
             .saturating_add(self.table)
             .saturating_add(self.open)

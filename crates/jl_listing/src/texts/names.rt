@@ -6,7 +6,7 @@ use std::str::from_utf8;
 
 /// Appends a name in modified UTF-8 as text (JVMS SE 17 §4.4.7): two surrogates are their character, a lone one is U+FFFD. Want of
 /// memory is an error.
-pub fn push_name(alloc: Global, name: &[u8], out: &mut String) -> Result<(), AllocError> {
+pub(crate) fn push_name(alloc: Global, name: &[u8], out: &mut String) -> Result<(), AllocError> {
     // What is UTF-8, too, is the same text in both.
     if let Ok(text) = from_utf8(name) {
         return out.push_str(text);

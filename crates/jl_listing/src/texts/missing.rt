@@ -1,6 +1,6 @@
 //! Classes that aren't there, and how many invocations wait for each.
 
-use crate::names::push_name;
+use crate::texts::names::push_name;
 use indexmap::IndexMap;
 use jl_class::{Operand, Site};
 use jl_report::{Finding, Row};
@@ -11,7 +11,7 @@ use std::alloc::{AllocError, Global};
 const MOST_TOLD: usize = 10;
 
 /// How many invocations name each class that isn't there.
-pub struct MissingClasses {
+pub(crate) struct MissingClasses {
     counts: IndexMap<String, u64>,
 }
 
@@ -31,14 +31,19 @@ struct Counted<'a> {
 
 impl MissingClasses {
     /// None.
-    pub fn new(alloc: Global) -> Self {
+    pub(crate) fn new(alloc: Global) -> Self {
         MissingClasses {
             counts: IndexMap::new(alloc),
         }
     }
 
     /// Counts the invocation, where it waits for the class that it names. Want of memory is an error.
-    pub fn add(&mut self, alloc: Global, site: &Site<'_>, row: &Row) -> Result<(), AllocError> {
+    pub(crate) fn add(
+        &mut self,
+        alloc: Global,
+        site: &Site<'_>,
+        row: &Row,
+    ) -> Result<(), AllocError> {
         match (&row.finding, site.operand()) {
             (Finding::Unlinked(Unlinked::NotReady(Missing::Named)), Operand::Method(reference)) =>
                 self.count(alloc, reference.owner.as_slice()),
@@ -55,7 +60,7 @@ impl MissingClasses {
     }
 
     /// Appends the classes for which most invocations wait, if there are any. Want of memory is an error.
-    pub fn push(&self, alloc: Global, out: &mut String) -> Result<(), AllocError> {
+    pub(crate) fn push(&self, alloc: Global, out: &mut String) -> Result<(), AllocError> {
         if self.counts.is_empty() {
             return Ok(());
         }

@@ -1,6 +1,6 @@
 //! How many invocations come to what, in words.
 
-use crate::links::push_number;
+use crate::texts::links::push_number;
 use jl_class::Kind;
 use jl_json::instruction;
 use jl_report::{Shape, Totals};
@@ -27,7 +27,7 @@ const SHAPES: [(Shape, &str); 8] = [
 ];
 
 /// The instructions by name.
-pub const KINDS_BY_NAME: [Kind; 5] = [
+pub(crate) const KINDS_BY_NAME: [Kind; 5] = [
     Kind::Dynamic,
     Kind::Interface,
     Kind::Special,
@@ -36,7 +36,7 @@ pub const KINDS_BY_NAME: [Kind; 5] = [
 ];
 
 /// The shapes by the keys that stand for them in JSON.
-pub const SHAPES_BY_KEY: [(Shape, &str); 8] = [
+pub(crate) const SHAPES_BY_KEY: [(Shape, &str); 8] = [
     (Shape::Direct, "direct"),
     (Shape::Mega, "mega"),
     (Shape::NoReceivers, "noReceivers"),
@@ -48,11 +48,10 @@ pub const SHAPES_BY_KEY: [(Shape, &str); 8] = [
 ];
 
 /// How many invocations of each instruction come to each shape, and in how many classes and methods.
-#[derive(Debug)]
-pub struct Summary {
-    pub totals: Totals,
-    pub classes: u64,
-    pub methods: u64,
+pub(crate) struct Summary {
+    pub(crate) totals: Totals,
+    pub(crate) classes: u64,
+    pub(crate) methods: u64,
 }
 
 /// Written out, so that what drops one makes one call of it and doesn't take apart what it holds.
@@ -68,7 +67,7 @@ impl Drop for Summary {
 
 impl Summary {
     /// None.
-    pub fn new() -> Self {
+    pub(crate) fn new() -> Self {
         Summary {
             totals: Totals::new(),
             classes: 0,
@@ -95,7 +94,7 @@ impl Summary {
     }
 
     /// Appends them, those that there are. Want of memory is an error.
-    pub fn push(&self, out: &mut String) -> Result<(), AllocError> {
+    pub(crate) fn push(&self, out: &mut String) -> Result<(), AllocError> {
         push_number(self.all(), out)?;
         out.push_str(" invocations in ")?;
         push_number(self.methods, out)?;

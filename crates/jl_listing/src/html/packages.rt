@@ -1,7 +1,7 @@
 //! Packages, classes and methods, each with its bar.
 
-use crate::bar::Bar;
-use crate::escape::push_escaped;
+use crate::html::bar::Bar;
+use crate::html::escape::push_escaped;
 use indexmap::IndexMap;
 use std::alloc::{AllocError, Global};
 
@@ -24,8 +24,7 @@ i{display:block}.d{background:#1b9e77}.t{background:#e6ab02}.o{background:#d95f0
 const TAIL: &str = "</body></html>\n";
 
 /// A class's methods, each with its bar.
-#[derive(Debug)]
-pub struct ClassPart {
+pub(crate) struct ClassPart {
     bar: Bar,
     methods: String,
 }
@@ -42,7 +41,7 @@ impl Drop for ClassPart {
 
 impl ClassPart {
     /// No methods.
-    pub fn new(alloc: Global) -> ClassPart {
+    pub(crate) fn new(alloc: Global) -> ClassPart {
         ClassPart {
             bar: Bar::new(),
             methods: String::new(alloc),
@@ -50,7 +49,7 @@ impl ClassPart {
     }
 
     /// Adds a method. Want of memory is an error.
-    pub fn add_method(&mut self, name: &str, bar: &Bar) -> Result<(), AllocError> {
+    pub(crate) fn add_method(&mut self, name: &str, bar: &Bar) -> Result<(), AllocError> {
         self.bar.join(bar);
         self.methods.push_str("<li>")?;
         push_named(name, bar, &mut self.methods)?;
@@ -59,7 +58,6 @@ impl ClassPart {
 }
 
 /// A package's classes, each with its methods.
-#[derive(Debug)]
 struct Package {
     bar: Bar,
     classes: String,
@@ -76,7 +74,7 @@ impl Drop for Package {
 }
 
 /// Packages, in the order of their first classes.
-pub struct HtmlPage {
+pub(crate) struct HtmlPage {
     bar: Bar,
     packages: IndexMap<String, Package>,
 }
@@ -93,7 +91,7 @@ impl Drop for HtmlPage {
 
 impl HtmlPage {
     /// No packages.
-    pub fn new(alloc: Global) -> HtmlPage {
+    pub(crate) fn new(alloc: Global) -> HtmlPage {
         HtmlPage {
             bar: Bar::new(),
             packages: IndexMap::new(alloc),
@@ -101,7 +99,7 @@ impl HtmlPage {
     }
 
     /// Adds the class of this name, if an invocation of it is reported. Want of memory is an error.
-    pub fn add_class(
+    pub(crate) fn add_class(
         &mut self,
         alloc: Global,
         name: &str,
@@ -136,7 +134,7 @@ impl HtmlPage {
     }
 
     /// The page. Want of memory is an error.
-    pub fn text(&self, alloc: Global) -> Result<String, AllocError> {
+    pub(crate) fn text(&self, alloc: Global) -> Result<String, AllocError> {
         let mut out = String::from_str(alloc, HEAD)?;
         out.push_str("<p class=\"all\">")?;
         push_named("All", &self.bar, &mut out)?;

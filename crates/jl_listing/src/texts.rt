@@ -1,0 +1,19 @@
+//! What stands in a report, as text and as JSON: invocations with what they come to, files that are left out, and totals.
+//!
+//! What the words and keys are is in docs/FORMATS.md.
+
+mod json_lines;
+mod links;
+mod missing;
+mod names;
+mod text;
+mod totals;
+
+pub(crate) use json_lines::{Former, push_left_out_line, write_line, write_totals};
+pub(crate) use links::open_class;
+pub(crate) use missing::MissingClasses;
+pub(crate) use names::push_name;
+pub(crate) use text::{
+    push_dropped, push_left_out, push_method_line, push_reasons, push_site_line,
+};
+pub(crate) use totals::Summary;
