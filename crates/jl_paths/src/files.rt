@@ -46,12 +46,33 @@ pub struct Gathered {
     pub faults: Vec<PathFault>,
 }
 
+impl Gathered {
+    /// Adds the files that were found, and where each was. Want of memory is an error.
+    fn add_all(&mut self, found: Vec<Found>) -> Result<(), AllocError> {
+        for one in found {
+            self.files.push(one.file)?;
+            self.sources.push(one.source)?;
+        }
+        Ok(())
+    }
+}
+
 /// What is read of the paths, and of those beside them.
-#[derive(Drop)]
 struct Reading {
     found: Vec<Found>,
     no_classes: Vec<NoClass>,
     faults: Vec<PathFault>,
+}
+
+/// Written out, so that what drops one makes one call of it and doesn't take apart what it holds.
+impl Drop for Reading {
+    fn drop(self) {
+        let Reading {
+            found: _found,
+            no_classes: _no_classes,
+            faults: _faults,
+        } = self;
+    }
 }
 
 impl Reading {
@@ -103,6 +124,23 @@ impl Reading {
         }
         Ok(())
     }
+
+    /// What was read, in the order in which it was found. Want of memory is an error.
+    fn gathered(self, alloc: Global) -> Result<Gathered, AllocError> {
+        let Reading {
+            found,
+            no_classes,
+            faults,
+        } = self;
+        let mut gathered = Gathered {
+            files: Vec::new(alloc),
+            sources: Vec::new(alloc),
+            no_classes,
+            faults,
+        };
+        gathered.add_all(found)?;
+        Ok(gathered)
+    }
 }
 
 /// The class file of this path, or why it is none.
@@ -142,24 +180,17 @@ pub fn read_all<R: Files + AllocGlobal + Clone + Drop>(
     };
     reading.add_all(rt, paths, true)?;
     reading.add_all(rt, beside, false)?;
-    let mut found = reading.found;
-    found.sort_by(|a, b| a.file.name().as_slice().cmp(b.file.name().as_slice()))?;
-    rank_all(rt.alloc(), &mut found)?;
-    let mut files = Vec::with_capacity(rt.alloc(), found.len())?;
-    let mut sources = Vec::with_capacity(rt.alloc(), found.len())?;
-    for one in found {
-        files.push(one.file)?;
-        sources.push(one.source)?;
-    }
-    Ok(Gathered {
-        files,
-        sources,
-        no_classes: reading.no_classes,
-        faults: reading.faults,
-    })
+    sort_all(rt.alloc(), &mut reading.found)?;
+    reading.gathered(rt.alloc())
 }
 
 /// Puts the files into the order of definition.
+fn sort_all(alloc: Global, found: &mut Vec<Found>) -> Result<(), AllocError> {
+    found.sort_by(|a, b| a.file.name().as_slice().cmp(b.file.name().as_slice()))?;
+    rank_all(alloc, found)
+}
+
+/// Puts the files, which are by name, behind their parents.
 fn rank_all(alloc: Global, found: &mut Vec<Found>) -> Result<(), AllocError> {
     let order = parents_first(alloc, found)?;
     for (rank, place) in order.iter().enumerate() {

@@ -13,7 +13,6 @@ struct Visit {
 }
 
 /// Files, of which those that are ordered come behind their parents.
-#[derive(Drop)]
 struct Order<'a> {
     files: &'a [Found],
     /// The first file of each name.
@@ -23,22 +22,41 @@ struct Order<'a> {
     ordered: Vec<usize>,
 }
 
+/// Written out, so that what drops one makes one call of it and doesn't take apart what it holds.
+impl<'a> Drop for Order<'a> {
+    fn drop(self) {
+        let Order {
+            files: _files,
+            places: _places,
+            seen: _seen,
+            ordered: _ordered,
+        } = self;
+    }
+}
+
 impl<'a> Order<'a> {
     /// No file is ordered. Want of memory is an error.
     fn new(alloc: Global, files: &'a [Found]) -> Result<Self, AllocError> {
-        let mut places = IndexMap::new(alloc);
-        for (place, one) in files.iter().enumerate() {
+        let seen = vec![in alloc; false; files.len()]?;
+        let mut order = Order {
+            files,
+            places: IndexMap::new(alloc),
+            seen,
+            ordered: Vec::new(alloc),
+        };
+        order.add_names()?;
+        Ok(order)
+    }
+
+    /// Notes the first file of each name. Want of memory is an error.
+    fn add_names(&mut self) -> Result<(), AllocError> {
+        for (place, one) in self.files.iter().enumerate() {
             let name = one.file.name().as_slice();
-            if places.get(name).is_none() {
-                places.insert(name, place)?;
+            if self.places.get(name).is_none() {
+                self.places.insert(name, place)?;
             }
         }
-        Ok(Order {
-            files,
-            places,
-            seen: vec![in alloc; false; files.len()]?,
-            ordered: Vec::with_capacity(alloc, files.len())?,
-        })
+        Ok(())
     }
 
     /// Orders the file, behind its parents. Want of memory is an error.
@@ -92,6 +110,17 @@ impl<'a> Order<'a> {
             None => false,
         }
     }
+
+    /// The places of those that are ordered.
+    fn into_ordered(self) -> Vec<usize> {
+        let Order {
+            files: _files,
+            places: _places,
+            seen: _seen,
+            ordered,
+        } = self;
+        ordered
+    }
 }
 
 /// The places of the files, of which those of parents come first; of a circle of parents one comes first. Want of memory is an error.
@@ -100,5 +129,5 @@ pub(crate) fn parents_first(alloc: Global, files: &[Found]) -> Result<Vec<usize>
     for place in 0..files.len() {
         order.add(alloc, place)?;
     }
-    Ok(order.ordered)
+    Ok(order.into_ordered())
 }

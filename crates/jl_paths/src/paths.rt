@@ -14,21 +14,21 @@ pub struct PathFault {
 }
 
 /// Paths of class files, in order, and those that couldn't be read.
-#[derive(Debug, Drop)]
+#[derive(Drop)]
 pub(crate) struct Paths {
     pub(crate) found: Vec<String>,
     pub(crate) faults: Vec<PathFault>,
 }
 
 /// What is in a folder.
-#[derive(Debug, Drop)]
+#[derive(Drop)]
 struct Entry {
     path: String,
     is_folder: bool,
 }
 
 /// What is in a folder, and why a name in it couldn't be read, if one couldn't.
-#[derive(Debug, Drop)]
+#[derive(Drop)]
 struct Listed {
     entries: Vec<Entry>,
     fault: Option<ErrorKind>,
