@@ -137,22 +137,11 @@ fn push_kept<R: Files + AllocGlobal + Clone + Drop>(
     entry: &DirEntry<R, Global>,
     entries: &mut Vec<Entry>,
 ) -> io::Result<()> {
-    if let Some(kept) = kept_of(rt, entry)? {
-        entries.push(kept)?;
-    }
-    Ok(())
-}
-
-/// The entry, where it is a folder or a class file.
-fn kept_of<R: Files + AllocGlobal + Clone + Drop>(
-    rt: &R,
-    entry: &DirEntry<R, Global>,
-) -> io::Result<Option<Entry>> {
     let kind = entry.file_type()?;
     let is_folder = kind.is_dir();
-    if !is_folder && !(kind.is_file() && entry.file_name().ends_with(".class")) {
-        return Ok(None);
+    if is_folder || (kind.is_file() && entry.file_name().ends_with(".class")) {
+        let path = String::from_str(rt.alloc(), entry.path().as_str())?;
+        entries.push(Entry { path, is_folder })?;
     }
-    let path = String::from_str(rt.alloc(), entry.path().as_str())?;
-    Ok(Some(Entry { path, is_folder }))
+    Ok(())
 }
