@@ -710,6 +710,43 @@ const TEXTS: &[PoolRow] = &[
         &[b"\x01\x00\x04a//b", b"\x07\x00\x01"],
         Some(PoolFault::BadDescriptor(2)),
     ),
+    // Of a text of more than 16 bytes the bytes behind these count, too: the last one, and one in the midst of 48.
+    Fault(
+        3,
+        &[b"\x01\x00\x11java/lang/Objects", b"\x07\x00\x01"],
+        None,
+    ),
+    Fault(
+        3,
+        &[b"\x01\x00\x11java_lang_Object.", b"\x07\x00\x01"],
+        Some(PoolFault::BadDescriptor(2)),
+    ),
+    Fault(
+        3,
+        &[
+            b"\x01\x00\x30java_lang_invoke_Method.HandleNatives_and_others",
+            b"\x07\x00\x01",
+        ],
+        Some(PoolFault::BadDescriptor(2)),
+    ),
+    Fault(
+        2,
+        &[b"\x01\x00\x11java/lang/Object\x80"],
+        Some(PoolFault::BadUtf8(1)),
+    ),
+    // The Fieldref of A.f:Ljava/lang/String;.
+    Fault(
+        7,
+        &[
+            b"\x01\x00\x01A",
+            b"\x07\x00\x01",
+            b"\x01\x00\x01f",
+            b"\x01\x00\x12Ljava/lang/String;",
+            b"\x0c\x00\x03\x00\x04",
+            b"\x09\x00\x02\x00\x05",
+        ],
+        None,
+    ),
     // A String, a Module, a Package and the name of a NameAndType.
     Fault(3, &[b"\x01\x00\x04a.b;", b"\x08\x00\x01"], None),
     Fault(3, &[b"\x01\x00\x04a.b;", b"\x13\x00\x01"], None),

@@ -105,20 +105,42 @@ fn finds(alloc: Global, classes: &Classes, count: u32) -> bool {
     true
 }
 
-/// Whether each copy finds the classes of its own time and the one that it has defined itself.
+/// Whether these are the classes of the numbers below the count, each once and in the order in which they were recorded.
+fn are_first(own: &[ClassId], count: u32) -> bool {
+    let mut all = own.len() == count as usize;
+    for (class, number) in own.iter().zip(0..count) {
+        all = all && *class == ClassId::new(number);
+    }
+    all
+}
+
+/// Whether loader 0 has defined just these.
+fn has_defined(alloc: Global, classes: &Classes, count: u32) -> bool {
+    match classes.own_classes(alloc, LoaderId::new(0)) {
+        Ok(own) => are_first(own.as_slice(), count),
+        Err(_) => false,
+    }
+}
+
+/// Whether each copy finds the classes of its own time and the one that it has defined itself, and has defined no others.
 fn find_their_own(alloc: Global, copies: &[Classes]) -> bool {
     for (copy, count) in copies.iter().zip(COUNTS) {
         let own = copy.lookup(LoaderId::new(0), OWN.as_bytes());
-        if !finds(alloc, copy, *count) || own != Some(ClassId::new(*count)) {
+        if !finds(alloc, copy, *count)
+            || own != Some(ClassId::new(*count))
+            || !has_defined(alloc, copy, count.saturating_add(1))
+        {
             return false;
         }
     }
     true
 }
 
-/// Whether all classes are found, and no name of the copies.
+/// Whether all classes are found, and no name of the copies; and loader 0 has defined all.
 fn finds_all(alloc: Global, classes: &Classes) -> bool {
-    finds(alloc, classes, MOST) && classes.lookup(LoaderId::new(0), OWN.as_bytes()).is_none()
+    finds(alloc, classes, MOST)
+        && classes.lookup(LoaderId::new(0), OWN.as_bytes()).is_none()
+        && has_defined(alloc, classes, MOST)
 }
 
 /// Whether the classes and their copies find each their own.
