@@ -1,7 +1,7 @@
 #!/usr/bin/env python3
 """Holds the pages to the sources. Of docs/PROMISES.md each call is a public function, with a clause of each name that stands behind it
-in brackets, and each crate and script is there; of docs/DEFINITIONS.md each definition stands in its file, and each call that carries it is
-public and has a clause; docs/CRATES.md names each crate below those that it uses; and each link of a page leads to a file.
+in brackets, and each crate and script is there; of docs/DEFINITIONS.md each definition stands in its file; docs/CRATES.md names each crate
+below those that it uses; and each link of a page leads to a file.
 
     bench/promises.py     at the top of the repository; prints what isn't so, and ends with status 0 where all is
 """
@@ -39,24 +39,25 @@ def is_stated(name, text):
     return re.search(rf"(?:^|\s){word}(?: \(.*\))?(?: \{{.*\}})? :|\b(?:data|record|struct|enum) {word}\b", text, re.M)
 
 
-def definitions(calls):
-    """What the tables of docs/DEFINITIONS.md name that isn't in the file of its row, or is no public call, and no public type; a type of the
-    code stands in its crate's sources."""
+def definitions():
+    """What the tables of docs/DEFINITIONS.md name that isn't in the file of its row; a type of the code stands in its crate's sources. A row
+    of several files has the definitions of each behind a semicolon."""
     wrong, page = [], (TOP / "docs/DEFINITIONS.md").read_text()
     types = {crate.name: "\n".join(path.read_text() for path in crate.glob("src/*.rt")) for crate in (TOP / "crates").iterdir()}
-    shown = set(re.findall(r"^pub (?:struct|enum|trait) (\w+)", "\n".join(types.values()), re.M))
     for row in re.findall(r"^\|(.*)\|$", page.split("\n## ", 2)[2], re.M):
-        file, _, names, carriers = row.split("|")
-        path = re.search(r"\]\(\.\./(crates/(\w+)/.*)\)", file)
-        if not path or not (TOP / path.group(1)).exists():
+        cells = row.split("|")
+        files = re.findall(r"\]\(\.\./(crates/(\w+)/[^)]*)\)", cells[0])
+        lists = cells[-1].split(";")
+        if len(cells) != 3 or files and len(lists) != len(files):
+            wrong.append(f"docs/DEFINITIONS.md: a row of {len(cells)} cells has {len(files)} files and {len(lists)} lists: {cells[0]}")
             continue
-        text = (TOP / path.group(1)).read_text()
-        for name in re.findall(r"`([^`]+)`", names):
-            if not is_stated(name, text) and not is_stated(name, types[path.group(2)]):
-                wrong.append(f"docs/DEFINITIONS.md: {path.group(1)} has no {name}")
-        for call in re.findall(r"`(?:jl_\w+::)?([^`]+)`", carriers):
-            if not calls.get(call) and call not in shown:
-                wrong.append(f"docs/DEFINITIONS.md: {call} is no public call with a clause")
+        for (file, crate), names in zip(files, lists):
+            text = (TOP / file).read_text() if (TOP / file).exists() else ""
+            if not re.search("`", names):
+                wrong.append(f"docs/DEFINITIONS.md: no definition of {file}")
+            for name in re.findall(r"`([^`]+)`", names):
+                if not is_stated(name, text) and not is_stated(name, types[crate]):
+                    wrong.append(f"docs/DEFINITIONS.md: {file} has no {name}")
     return wrong
 
 
@@ -78,7 +79,7 @@ def crates():
 
 def main():
     page, found = (TOP / "docs/PROMISES.md").read_text(), clauses()
-    wrong = definitions(found) + crates()
+    wrong = definitions() + crates()
     for row in re.findall(r"^\|.*\|$", page.split("## What no clause says")[0], re.M):
         for call, names in re.findall(r"`([A-Za-z_:]+)`(?: \(([\w, ]+)\))?", row.split("|")[2]):
             if "/" in call or call.startswith("proofs"):
