@@ -1,8 +1,8 @@
 #!/usr/bin/env python3
 """Counts the rows, by crate and by kind.
 
-    bench/rows.py [--since REVISION]     prints a table; with a revision, what there was then, too
-    bench/rows.py --held                 whether docs/ROWS.md has this very table; in the gate, so that no row goes unseen
+    bench/rows.py [--since REVISION]     prints the sum of each kind and its crates; with a revision, what there was then, too
+    bench/rows.py --held                 whether docs/ROWS.md has these very lines; in the gate, so that no row goes unseen
 
 The kinds: `text`, commands in data/ of crates of rows, and lines in rows/, each with its answer, and lines of reports there; `tables`,
 elements of constant arrays in tests, which one assertion goes over; `asserts`, assertions of tests; `theorems`, statements of a crate's
@@ -18,6 +18,7 @@ import subprocess
 import sys
 import tarfile
 import tempfile
+import textwrap
 
 TOP = pathlib.Path(__file__).resolve().parent.parent
 KINDS = ("text", "tables", "asserts", "theorems")
@@ -77,15 +78,17 @@ def at_revision(revision):
         return counts(pathlib.Path(room))
 
 
-def table(now, before):
-    """The lines of the table."""
-    lines = ["| | " + " | ".join(KINDS) + " |", "|---|" + "---|" * len(KINDS)]
-    for crate in [*sorted(now.keys() | before.keys()), "all"]:
+def lines_of(now, before):
+    """The lines that tell them, a kind after the other: its sum, and behind it the crates that have some."""
+    lines = []
+    for kind in KINDS:
         told = []
-        for kind in KINDS:
-            count, was = (sum(rows[kind] for name, rows in each.items() if crate in (name, "all")) for each in (now, before))
-            told.append(str(count or "") if not before or count == was else f"{was} → {count}")
-        lines.append(f"| {crate} | " + " | ".join(told) + " |")
+        for crate in ["", *sorted(now.keys() | before.keys())]:
+            count, was = (sum(rows[kind] for name, rows in each.items() if crate in (name, "")) for each in (now, before))
+            if count or was or not crate:
+                told.append(f"{crate or kind} " + (str(count) if not before or count == was else f"{was} → {count}"))
+        text = f"- {told[0]}: " + ", ".join(told[1:])
+        lines += textwrap.wrap(text, 140, subsequent_indent="  ", break_long_words=False, break_on_hyphens=False)
     return lines
 
 
@@ -94,13 +97,17 @@ def main():
     read.add_argument("--since")
     read.add_argument("--held", action="store_true")
     said = read.parse_args()
-    lines = table(counts(TOP), at_revision(said.since) if said.since else {})
+    lines = lines_of(counts(TOP), at_revision(said.since) if said.since else {})
     if said.held:
-        page = (TOP / "docs/ROWS.md").read_text().split("\n")
-        missing = [line for line in lines if line not in page]
-        for line in missing:
-            print(f"docs/ROWS.md hasn't this count of rows: {line}", file=sys.stderr)
-        return 1 if missing else 0
+        section = (TOP / "docs/ROWS.md").read_text().split("## How many\n")[-1].split("\n## ")[0].split("\n")
+        page = [line for line in section if line.startswith(("- ", "  "))]
+        for line in page:
+            if line not in lines:
+                print(f"docs/ROWS.md has a count of rows that isn't so: {line}", file=sys.stderr)
+        for line in lines:
+            if line not in page:
+                print(f"docs/ROWS.md hasn't this count of rows: {line}", file=sys.stderr)
+        return 0 if page == lines else 1
     print("\n".join(lines))
     return 0
 
