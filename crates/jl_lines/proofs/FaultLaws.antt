@@ -12,7 +12,7 @@ use Rattle.jl_lines.specs.declared.line_fault.LineFault.TheVariants.{TooLong, De
 use Rattle.jl_lines.specs.Devices.{one_more, HasRisen}
 use Rattle.jl_lines.specs.Lines.{newline, most_in_line, lines_of, NoNewline, ended}
 use Rattle.jl_lines.specs.Answers.{AreAnswers, LacksFirst, AnswersAll, AnswersFirst, AnswersRead, AnswersEarlier, LongIf, LeftBy}
-use Rattle.jl_lines.specs.Means.Progress.{IsLine, Answered, Writes, Runs, LacksNext, StopsBy}
+use Rattle.jl_lines.specs.Means.Progress.{IsLine, Answered, Writes, Runs, LacksNext, StopsBy, Leaves}
 use Rattle.jl_lines.proofs.LineLaws.{all_append, line_first, answers_append, read_lines, short_each, over_first, runs_first, runs_read, runs_write, runs_all}
 
 pub risen : (old new : ℕ) → new ≡ one_more old → HasRisen old new
@@ -27,32 +27,13 @@ nothing : (xs : List ℕ) → length xs ≡ 0 → xs ≡ []
 nothing [] e = refl
 nothing (x ∷ xs) e = absurd (omega (arith, e))
 
-pub same_at_end : (input piece held : List ℕ) (n : ℕ) → held ≡ input ++ piece → length piece ≡ n → n ≡ 0 → held ≡ input
-same_at_end input piece held n is size none =
-    is ∙ (ap (λ (l : List ℕ). input ++ l) (nothing piece (size ∙ none)) ∙ append-nil input)
-
 pub exactly : {T E : Type 0} (r : Result T E) (f : E) (P : E → Type 0) → IsErrAnd r (λ g. g ≡ f) → P f → IfErr r P
 exactly (Ok x) f P is p = tt
 exactly (Err g) f P is p = subst P (sym is) p
 
-abbrev failing : (T : Type 0) → LineFault → Result T LineFault
-failing T f = Err f
-
-err_is : (T : Type 0) (g h : LineFault) → failing T g ≡ failing T h → g ≡ h
-err_is T g h e = cc
-
-pub fault_is : {T : Type 0} (r : Result T LineFault) (f h : LineFault) → IsErrAnd r (λ g. g ≡ f) → r ≡ Err h → f ≡ h
-fault_is (Ok x) f h is e = absurd is
-fault_is {T = T} (Err g) f h is e = sym is ∙ err_is T g h e
-
 nothing_written : (old : Option (List ℕ)) → Appends old old []
 nothing_written None = tt
 nothing_written (Some xs) = sym (append-nil xs)
-
--- what an error has, of a result that is this one
-pub err_at : {T : Type 0} (r : Result T LineFault) (f : LineFault) (P : LineFault → Type 0) → IfErr r P → r ≡ Err f → P f
-err_at (Ok x) f P h e = absurd cc
-err_at {T = T} (Err g) f P h e = subst P (err_is T g f e) h
 
 -- ---- lines that are answered so
 
@@ -92,78 +73,6 @@ module _ {S : Type 0} (says : S → List ℕ → List ℕ → S → Type 0) wher
       → StopsBy f says last held session → Whole says from session start old new failed f
   ends from last session start now held old new failed f r stop =
       λ _. runs_first says from last session start now held old new f r (λ ys is. stops f last session held ys stop)
-
-  pub piece_fault : (from last session : S) (start now : Option (List ℕ)) (held text : List ℕ)
-      (old mid new : Option (List ℕ)) (failed : Type 0) (f : LineFault) → Runs says from last start now held old mid
-      → (f ≢ Device → (w : Writes says last held mid new) × StopsBy f says w.last w.left session × (text ≡ []))
-      → (f ≡ Device → failed) → Whole says from session start old new failed f
-  piece_fault from last session start now held text old mid new failed TooLong r h device =
-      let w = h (λ e. absurd cc) in ends from w.0.last session start now w.0.left old new failed TooLong
-      (runs_write says from last start now held old mid new r w.0) w.1
-  piece_fault from last session start now held text old mid new failed Device r h device =
-      λ none. absurd (none refl (device refl))
-  piece_fault from last session start now held text old mid new failed Memory r h device =
-      let w = h (λ e. absurd cc) in ends from w.0.last session start now w.0.left old new failed Memory
-      (runs_write says from last start now held old mid new r w.0) w.1
-
-  runs_kept : (from last : S) (start now : Option (List ℕ)) (held : List ℕ)
-      (old mid new : Option (List ℕ))
-      → Runs says from last start now held old mid → Keeps mid new → Runs says from last start now held old new
-  runs_kept from last start now held old mid new r kept =
-      record {
-        done = r.done;
-        output = r.output;
-        answered = r.answered;
-        read = r.read;
-        written = Appends-kept old
-            mid new r.output r.written kept;
-      }
-
-  rest_fault : (from last session : S) (start now : Option (List ℕ)) (held : List ℕ)
-      (old mid new : Option (List ℕ)) (failed : Type 0) (f : LineFault)
-      → Runs says from last start now held old mid → IsAtEnd now
-      → (f ≢ Device → Keeps mid new × (f ≢ TooLong) × LacksFirst says last (lines_of held) session)
-      → (f ≡ Device → failed) → Whole says from session start old new failed f
-  rest_fault from last session start now held old mid new failed TooLong r end h device =
-      absurd ((h (λ e. absurd cc)).1 refl)
-  rest_fault from last session start now held old mid new failed Device r end h device =
-      λ none. absurd (none refl (device refl))
-  rest_fault from last session start now held old mid new failed Memory r end h device =
-      let lacks = h (λ e. absurd cc) in
-      λ _. runs_first says from last session start now held old new Memory
-      (runs_kept from last start now held old mid new r lacks.0)
-      (λ ys is. (
-        tt,
-        subst (λ (l : List ℕ). LacksFirst says last (lines_of l) session) (sym (held_alone now held ys end is)) lacks.2,
-      ))
-
-  pub rest_whole : {T : Type 0} (from last session : S) (start now : Option (List ℕ))
-      (held : List ℕ) (old mid new : Option (List ℕ)) (failed : Type 0) (r : Result T LineFault)
-      → Runs says from last start now held old mid → IsAtEnd now
-      → IfErr r (λ f. f ≢ Device → Keeps mid new × (f ≢ TooLong) × LacksFirst says last (lines_of held) session)
-      → (r ≡ Err Device → failed)
-      → IfErr r (Whole says from session start old new failed)
-  rest_whole from last session start now held old mid new failed (Ok x) run end h device = tt
-  rest_whole from last session start now held old mid new failed (Err f) run end h device =
-      rest_fault from last session start now held old mid new failed f run end h (λ e. device (ap Err e))
-
-  pub rest_answered : {T E : Type 0} (from last session : S) (start now : Option (List ℕ))
-      (held : List ℕ) (old mid new : Option (List ℕ)) (r : Result T E)
-      → Runs says from last start now held old mid → IsAtEnd now → NoNewline held → length held ≤ most_in_line
-      → OnOk r ((output : List ℕ) × AreAnswers says last (lines_of held) output session × Appends mid new output)
-      → OnOk r (IsAtEnd now × IfSome start (λ input. (all : AnswersAll says from input old new) × (session ≡ all.last)))
-  rest_answered from last session start now held old mid new (Ok x) run end one short h = (
-    end,
-    runs_all says from last session start now held h.0 old mid new run end one short h.1 h.2,
-  )
-  rest_answered from last session start now held old mid new (Err e) run end one short h = tt
-
-  pub runs_held : (from last : S) (start now then' : Option (List ℕ)) (input piece held : List ℕ)
-      (old new : Option (List ℕ)) → Runs says from last start now input old new
-      → Consumes now then' piece → held ≡ input ++ piece → Runs says from last start then' held old new
-  runs_held from last start now then' input piece held old new r consumed is =
-      subst (λ (l : List ℕ). Runs says from last start then' l old new) (sym is)
-      (runs_read says from last start now then' input piece old new r consumed)
 
   pub runs_left : (from last session : S) (start now : Option (List ℕ)) (left held : List ℕ)
       (old new : Option (List ℕ)) → left ≡ held → last ≡ session
@@ -299,17 +208,6 @@ module _ {S : Type 0} (says : S → List ℕ → List ℕ → S → Type 0) wher
             (stops Memory w.last session w.left ys lacks).1),
       )
 
-  -- memory lacked behind a read
-  pub piece_memory : (from last session : S) (start now then' unread : Option (List ℕ))
-      (held piece bytes : List ℕ) (old mid new : Option (List ℕ)) → Runs says from last start now held old mid → NoNewline held
-      → Consumes now then' piece → bytes ≡ held ++ piece → unread ≡ now
-      → (w : Writes says last bytes mid new) × LacksNext says w.last w.left session
-      → Earlier says from session start unread old new
-  piece_memory from last session start now then' unread held piece bytes old mid new r one consumed is left h =
-      let p = subst (λ (l : List ℕ). (w : Writes says last l mid new) × LacksNext says w.last w.left session) is h in
-      subst (λ (u : Option (List ℕ)). Earlier says from session start u old new) (sym left)
-      (piece_earlier from last session start now then' held piece old mid new r one consumed p.0 p.1)
-
   rest_earlier : (from last session : S) (start now then' : Option (List ℕ)) (held piece : List ℕ)
       (old mid new : Option (List ℕ)) → Runs says from last start now held old mid → NoNewline held → Consumes now then' piece
       → IsAtEnd then' → Keeps mid new → LacksFirst says last (lines_of (held ++ piece)) session
@@ -341,20 +239,125 @@ module _ {S : Type 0} (says : S → List ℕ → List ℕ → S → Type 0) wher
         subst (λ (l : List ℕ). LacksFirst says last (lines_of l) session) (sym (held_alone (Some ys) (held ++ piece) ys end refl)) lacks,
       )
 
-  -- memory lacked at the end of the input
-  pub rest_memory : (from last session : S) (start now then' unread : Option (List ℕ))
-      (held piece bytes : List ℕ) (old mid new : Option (List ℕ)) → Runs says from last start now held old mid → NoNewline held
-      → Consumes now then' piece → bytes ≡ held ++ piece → IsAtEnd then' → unread ≡ now
-      → Keeps mid new → LacksFirst says last (lines_of bytes) session
-      → Earlier says from session start unread old new
-  rest_memory from last session start now then' unread held piece bytes old mid new r one consumed is end left kept lacks =
-      subst (λ (u : Option (List ℕ)). Earlier says from session start u old new) (sym left)
-      (rest_earlier from last session start now then' held piece old mid new r one consumed end kept
-      (subst (λ (l : List ℕ). LacksFirst says last (lines_of l) session) is lacks))
-
   -- of a run with a session that isn't looked at afterwards
   pub earlier_of : (from fresh session : S) (start unread old new : Option (List ℕ)) → from ≡ fresh
       → Earlier says from session start unread old new → IfSome start (λ input. AnswersEarlier says fresh input unread old new)
   earlier_of from fresh session None unread old new is h = tt
   earlier_of from fresh session (Some xs) unread old new is h =
       subst (λ (s : S). AnswersEarlier says s xs unread old new) is h.0
+
+-- ---- a run that ends
+
+-- a run that holds no whole line, and a piece that was read behind what it holds
+pub record Reads {S : Type 0} (says : S → List ℕ → List ℕ → S → Type 0) (from last : S) (start now then' : Option (List ℕ))
+    (held bytes : List ℕ) (count : ℕ) (old new : Option (List ℕ)) : Type 0 where
+  pub ran : Runs says from last start now held old new
+  pub one : NoNewline held
+  pub piece : List ℕ
+  pub size : length piece ≡ count
+  pub is : bytes ≡ held ++ piece
+  pub read : Consumes now then' piece
+
+module _ {S : Type 0} {says : S → List ℕ → List ℕ → S → Type 0} where
+  pub read_on : {from last : S} {start now : Option (List ℕ)} (then' : Option (List ℕ)) {held bytes : List ℕ} {count : ℕ}
+      {old new : Option (List ℕ)} → Runs says from last start now held old new → NoNewline held
+      → (piece : List ℕ) × (length piece ≡ count) × (bytes ≡ held ++ piece) × Consumes now then' piece
+      → Reads says from last start now then' held bytes count old new
+  read_on then' r one more = record { ran = r; one = one; piece = more.0; size = more.1; is = more.2; read = more.3 }
+
+  pub ran_on : {from last : S} {start now then' : Option (List ℕ)} {held bytes : List ℕ} {count : ℕ} {old new : Option (List ℕ)}
+      → Reads says from last start now then' held bytes count old new → Runs says from last start then' bytes old new
+  ran_on {from} {last} {start} {now} {then'} {held} {bytes} {old = old} {new} on =
+      subst (λ (l : List ℕ). Runs says from last start then' l old new) (sym on.is)
+      (runs_read says from last start now then' held on.piece old new on.ran on.read)
+
+  -- a failed write says nothing of what was answered
+  write_failed : {from last : S} {start now unread old new : Option (List ℕ)} {failed : Type 0} → failed
+      → Leaves says from last start now unread old new failed Device
+  write_failed fail = record { whole = λ none. absurd (none refl fail); read = λ e none. absurd (none fail); memory = λ e. absurd cc }
+
+  -- what is said of want of memory says the rest, too
+  memory_lacked : {from last : S} (start : Option (List ℕ)) {now unread old new : Option (List ℕ)} {failed : Type 0}
+      → Earlier says from last start unread old new → Leaves says from last start now unread old new failed Memory
+  memory_lacked None h = record { whole = λ _. tt; read = λ e none. tt; memory = λ _. tt }
+  memory_lacked (Some xs) h = record { whole = λ _. (h.0.first, tt, h.1); read = λ e none. absurd cc; memory = λ _. h }
+
+  -- a read failed, or there were as many as are counted
+  pub device_failed : {from last : S} {start now : Option (List ℕ)} {held : List ℕ} {old new : Option (List ℕ)} {failed : Type 0}
+      (then' unread : Option (List ℕ)) → Runs says from last start now held old new → NoNewline held → Keeps now then'
+      → Leaves says from last start then' unread old new failed Device
+  device_failed {from} {last} {start} {now} {held} {old} {new} {failed} then' unread r one kept = record {
+    whole = ends says from last last start now held old new failed Device r refl;
+    read = λ _ _. runs_whole says from last start now then' held old new r one kept;
+    memory = λ e. absurd cc;
+  }
+
+  -- the whole lines of what was read aren't all answered
+  pub piece_failed : {from last session : S} {start now then' unread : Option (List ℕ)} {held bytes text : List ℕ}
+      {count : ℕ} {old mid new : Option (List ℕ)} {failed : Type 0} (f : LineFault)
+      → Reads says from last start now then' held bytes count old mid → unread ≡ now
+      → (f ≢ Device → (w : Writes says last bytes mid new) × StopsBy f says w.last w.left session × (text ≡ []))
+      → (f ≡ Device → failed) → Leaves says from session start then' unread old new failed f
+  piece_failed {from} {last} {session} {start} {now} {then'} {unread} {held} {bytes} {text} {old = old} {mid} {new} {failed} TooLong on left h device =
+      let w = h (λ e. absurd cc) in
+      record {
+        whole = ends says from w.0.last session start then' w.0.left old new failed TooLong
+            (runs_write says from last start then' bytes old mid new (ran_on on) w.0) w.1;
+        read = λ e none. absurd cc;
+        memory = λ e. absurd cc;
+      }
+  piece_failed Device on left h device = write_failed (device refl)
+  piece_failed {from} {last} {session} {start} {now} {then'} {unread} {held} {bytes} {text} {old = old} {mid} {new} {failed} Memory on left h device =
+      let w = h (λ e. absurd cc) in
+      let p = subst (λ (l : List ℕ). (w : Writes says last l mid new) × LacksNext says w.last w.left session) on.is (w.0, w.1) in
+      memory_lacked start (subst (λ (u : Option (List ℕ)). Earlier says from session start u old new) (sym left)
+      (piece_earlier says from last session start now then' held on.piece old mid new on.ran on.one on.read p.0 p.1))
+
+  -- what is left at the end isn't answered
+  rest_at : {from last session : S} {start now then' unread : Option (List ℕ)} {held bytes : List ℕ}
+      {count : ℕ} {old mid new : Option (List ℕ)} {failed : Type 0} (f : LineFault)
+      → Reads says from last start now then' held bytes count old mid → unread ≡ now → IsAtEnd then'
+      → (f ≢ Device → Keeps mid new × (f ≢ TooLong) × LacksFirst says last (lines_of bytes) session)
+      → (f ≡ Device → failed) → Leaves says from session start then' unread old new failed f
+  rest_at TooLong on left end h device = absurd ((h (λ e. absurd cc)).1 refl)
+  rest_at Device on left end h device = write_failed (device refl)
+  rest_at {from} {last} {session} {start} {now} {then'} {unread} {held} {bytes} {old = old} {mid} {new} {failed} Memory on left end h device =
+      let lacks = h (λ e. absurd cc) in
+      memory_lacked start (subst (λ (u : Option (List ℕ)). Earlier says from session start u old new) (sym left)
+      (rest_earlier says from last session start now then' held on.piece old mid new on.ran on.one on.read end lacks.0
+      (subst (λ (l : List ℕ). LacksFirst says last (lines_of l) session) on.is lacks.2)))
+
+  pub rest_failed : {T : Type 0} {from last : S} (session : S) {start now then' unread : Option (List ℕ)} {held bytes rest : List ℕ}
+      {count : ℕ} {old mid : Option (List ℕ)} (new : Option (List ℕ)) {failed : Type 0} (r : Result T LineFault)
+      → Reads says from last start now then' held bytes count old mid → unread ≡ now → IsAtEnd then' → rest ≡ bytes
+      → IfErr r (λ f. f ≢ Device → Keeps mid new × (f ≢ TooLong) × LacksFirst says last (lines_of rest) session)
+      → (r ≡ Err Device → failed) → IfErr r (λ f. Leaves says from session start then' unread old new failed f)
+  rest_failed session new (Ok x) on left end is h device = tt
+  rest_failed {last = last} session {mid = mid} new (Err f) on left end is h device =
+      rest_at f on left end
+      (subst (λ (l : List ℕ). f ≢ Device → Keeps mid new × (f ≢ TooLong) × LacksFirst says last (lines_of l) session) is h)
+      (λ e. device (ap Err e))
+
+  -- what is left at the end is answered
+  pub rest_answered : {T E : Type 0} {from last : S} (session : S) {start now then' : Option (List ℕ)} {held bytes rest : List ℕ}
+      {count : ℕ} {old mid : Option (List ℕ)} (new : Option (List ℕ)) (r : Result T E)
+      → Reads says from last start now then' held bytes count old mid
+      → count ≡ 0 → IsAtEnd then' → rest ≡ bytes → length held ≤ most_in_line
+      → OnOk r ((output : List ℕ) × AreAnswers says last (lines_of rest) output session × Appends mid new output)
+      → OnOk r (IsAtEnd then' × IfSome start (λ input. (all : AnswersAll says from input old new) × (session ≡ all.last)))
+  rest_answered {from = from} {last} session {start} {now} {then'} {held} {bytes} {rest} {old = old} {mid} new (Ok x) on none end is short h =
+      let same : rest ≡ held = is ∙ on.is ∙ ap (λ (l : List ℕ). held ++ l) (nothing on.piece (on.size ∙ none)) ∙ append-nil held in
+      let answers = subst (λ (l : List ℕ). AreAnswers says last (lines_of l) h.0 session) is h.1 in
+      let same_as : held ≡ bytes = sym same ∙ is in (
+        end,
+        runs_all says from last session start then' bytes h.0 old mid new (ran_on on) end (subst NoNewline same_as on.one)
+            (subst (λ (l : List ℕ). length l ≤ most_in_line) same_as short) answers h.2,
+      )
+  rest_answered session new (Err e) on none end is short h = tt
+
+  -- the same of a result that is this fault
+  pub left_by : {T : Type 0} {from last : S} {start now unread old new : Option (List ℕ)} {failed : Type 0} {f : LineFault}
+      (r : Result T LineFault) → IsErrAnd r (λ g. g ≡ f) → Leaves says from last start now unread old new failed f
+      → IfErr r (λ g. Leaves says from last start now unread old new failed g)
+  left_by {from = from} {last} {start} {now} {unread} {old} {new} {failed} r is h =
+      exactly r _ (λ g. Leaves says from last start now unread old new failed g) is h

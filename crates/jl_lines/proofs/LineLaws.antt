@@ -1,6 +1,6 @@
 -- Lines, and what stands of an input when some of them are answered.
-use Rattle.std.proofs.Common.{◌≡◌, ◌∙◌, sym, ap, subst, refl, ℕ, ◌<◌, ◌≤◌, List, [], ◌∷◌, ◌++◌}
-use Rattle.std.proofs.Common.{length, drop, Option, Some, None, IfSome, append_assoc, append-nil}
+use Rattle.std.proofs.Common.{◌≡◌, ◌∙◌, sym, ap, subst, refl, ℕ, suc, ◌+◌, ◌<◌, ◌≤◌, List, [], ◌∷◌, ◌++◌}
+use Rattle.std.proofs.Common.{length, length-append, drop, Option, Some, None, IfSome, append_assoc, append-nil}
 use Rattle.std.proofs.Common.{Result, Ok, Err, MatchResult, arith}
 use Rattle.std.specs.Result.{IsErrAnd}
 use Rattle.std.proofs.lemmas.Grind.{flat_map-append}
@@ -79,6 +79,13 @@ pub short_each : (lines : List (List ℕ)) → AllByRecursion IsLine lines → A
 short_each [] h = tt
 short_each (line ∷ lines) h = (h.0.short, short_each lines h.1)
 
+-- a line of what is held is no longer than that, but for the newline
+pub held_line : (bytes line behind : List ℕ) → bytes ≡ line ++ newline ∷ behind → length bytes ≤ most_in_line + 1 → NoNewline line
+    → IsLine line × (length behind < length bytes)
+held_line bytes line behind split held one =
+    let size : length bytes ≡ length line + suc (length behind) = ap length split ∙ length-append line (newline ∷ behind) in
+    (record { one = one; short = omega (arith, size) }, omega (arith, size))
+
 pub over_first : (left rest : List ℕ) → IsOver left → FirstIsLong (lines_of (left ++ rest))
 over_first [] rest h = absurd (omega (arith, h.long))
 over_first (b ∷ left) rest h =
@@ -109,7 +116,7 @@ module _ {S : Type 0} (says : S → List ℕ → List ℕ → S → Type 0) wher
     answers_append h.2 mid last ls ms h.1 p h.5 k,
   )
 
-  pub answered_none : (session : S) → Answered says session [] [] session
+  answered_none : (session : S) → Answered says session [] [] session
   answered_none session = record { lines = []; whole = refl; each = tt; answers = (refl, refl) }
 
   answered_one : (old new : S) (line : List ℕ) (answer : List ℕ) → IsLine line
@@ -131,6 +138,23 @@ module _ {S : Type 0} (says : S → List ℕ → List ℕ → S → Type 0) wher
     each = all_append IsLine h.lines k.lines h.each k.each;
     answers = answers_append from mid last h.lines k.lines x y h.answers k.answers;
   }
+
+  -- no line is answered yet
+  pub gathers_none : (session : S) (bytes old : List ℕ)
+      → (g : Gathers says session bytes old old) × (g.left ≡ bytes) × (session ≡ g.last)
+  gathers_none session bytes old = (
+    record {
+      done = [];
+      left = bytes;
+      output = [];
+      last = session;
+      split = refl;
+      answered = answered_none session;
+      added = sym (append-nil old);
+    },
+    refl,
+    refl,
+  )
 
   -- one more line is answered
   pub gathers_more : (from next : S) (bytes old mid new line after : List ℕ) (answer : List ℕ)

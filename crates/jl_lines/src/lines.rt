@@ -8,7 +8,7 @@ ghost use Rattle.jl_lines.specs.Devices.{one_more, HasRisen};
 ghost use Rattle.jl_lines.specs.Lines.{lines_of, NoNewline};
 ghost use Rattle.jl_lines.specs.Answers.{AreAnswers, LacksFirst, AnswersAll, AnswersFirst, AnswersRead, AnswersEarlier};
 ghost use Rattle.jl_lines.specs.Answers.{LongIf, LeftBy};
-ghost use Rattle.jl_lines.specs.Means.Progress.{Writes, StopsBy};
+ghost use Rattle.jl_lines.specs.Means.Progress.{Writes, StopsBy, Leaves};
 
 use crate::answer::Answer;
 use crate::answers::Answers;
@@ -93,20 +93,9 @@ fn answer_all<S, A: Answer<S>, R: Source, W: Sink>(
     ensures answered { OnOk result (IsAtEnd (R.remaining reader.new)
         × IfSome (R.remaining reader.old) (λ text. (all : AnswersAll A.says session.old text
         (W.contents writer.old) (W.contents writer.new)) × (session.new ≡ all.last))) }
-    ensures whole { IfErr result
-        (λ f. (f ≡ Device → ¬ HasRisen (W.failures writer.old) (W.failures writer.new))
-        → IfSome (R.remaining reader.old) (λ text. (first : AnswersFirst A.says session.old
-        text (W.contents writer.old) (W.contents writer.new)) × LongIf f first.after
-        × LeftBy f A.says first.last first.after session.new)) }
-    ensures read { IsErrOf result LineFault.Device
-        → ¬ HasRisen (W.failures writer.old) (W.failures writer.new)
-        → IfSome (R.remaining reader.old) (λ text. (read : AnswersRead A.says session.old text
-        (R.remaining reader.new) (W.contents writer.old) (W.contents writer.new))
-        × (session.new ≡ read.last)) }
-    ensures memory { IsErrOf result LineFault.Memory
-        → IfSome (R.remaining reader.old) (λ text. (earlier : AnswersEarlier A.says session.old text
-        (R.before reader.new) (W.contents writer.old) (W.contents writer.new))
-        × LacksFirst A.says earlier.first.last earlier.first.after session.new) }
+    ensures left { IfErr result (λ f. Leaves A.says session.old session.new (R.remaining reader.old)
+        (R.remaining reader.new) (R.before reader.new) (W.contents writer.old) (W.contents writer.new)
+        (HasRisen (W.failures writer.old) (W.failures writer.new)) f) }
     ensures ok { OnOk result (W.failures writer.new ≡ W.failures writer.old) }
     ensures device { IsErrOf result LineFault.Device
         → HasRisen (R.failures reader.old) (R.failures reader.new)

@@ -1,11 +1,11 @@
 -- How far the lines of an input are answered. Only private clauses cite this.
-use Rattle.std.specs.Prelude.{◌≡◌, ◌<◌, ◌≤◌, ◌+◌, take, drop, ℕ, List, ◌∷◌, ◌++◌, length, Option}
+use Rattle.std.specs.Prelude.{◌≡◌, ◌<◌, ◌≤◌, ◌+◌, take, drop, ℕ, List, ◌∷◌, ◌++◌, length, Option, IfSome}
 use Rattle.std.specs.List.{flat_map, AllByRecursion}
 use Rattle.std.specs.Io.KnownBytes.{Appends, Consumes}
 use Rattle.jl_lines.specs.declared.line_fault.LineFault.{LineFault}
 use Rattle.jl_lines.specs.declared.line_fault.LineFault.TheVariants.{TooLong, Device, Memory}
 use Rattle.jl_lines.specs.Lines.{newline, most_in_line, NoNewline, ended}
-use Rattle.jl_lines.specs.Answers.{AreAnswers, Lacks}
+use Rattle.jl_lines.specs.Answers.{AreAnswers, Lacks, LacksFirst, AnswersFirst, AnswersRead, AnswersEarlier, LongIf, LeftBy}
 
 -- the first newline stands at this place
 pub record IsFirstNewline (bytes : List ℕ) (at : ℕ) : Type 0 where
@@ -72,3 +72,13 @@ abbrev pub StopsBy : {S : Type 0} → LineFault → (S → List ℕ → List ℕ
 StopsBy TooLong says last left new = IsOver left × (new ≡ last)
 StopsBy Device says last left new = new ≡ last
 StopsBy Memory says last left new = LacksNext says last left new
+
+-- What a run leaves that ends with this fault. This is left to read now, that was unread before the last read, and the writer held the
+-- old and holds the new bytes; whether a write failed is said apart.
+pub record Leaves {S : Type 0} (says : S → List ℕ → List ℕ → S → Type 0) (from last : S) (start now unread old new : Option (List ℕ))
+    (failed : Type 0) (f : LineFault) : Type 0 where
+  pub whole : (f ≡ Device → ¬ failed) → IfSome start (λ text. (first : AnswersFirst says from text old new)
+      × LongIf f first.after × LeftBy f says first.last first.after last)
+  pub read : f ≡ Device → ¬ failed → IfSome start (λ text. (read : AnswersRead says from text now old new) × (last ≡ read.last))
+  pub memory : f ≡ Memory → IfSome start (λ text. (earlier : AnswersEarlier says from text unread old new)
+      × LacksFirst says earlier.first.last earlier.first.after last)

@@ -1,8 +1,6 @@
-use Rattle.std.proofs.Common.{◌≡◌, ◌∙◌, sym, ap, subst, refl, ◌+◌, [], ◌∷◌, ◌++◌, length}
-use Rattle.std.proofs.Common.{length-append, append-nil, arith}
+use Rattle.std.proofs.Common.{◌≡◌, ◌∙◌, sym, ap, subst, length, length-append, arith}
 use Rattle.jl_lines.specs.Lines.{NoNewline}
-use Rattle.jl_lines.specs.Means.Progress.{IsLine}
-use Rattle.jl_lines.proofs.LineLaws.{answered_none, gathers_more, gathers_stop, match_err}
+use Rattle.jl_lines.proofs.LineLaws.{gathers_none, gathers_more, gathers_stop, held_line, match_err}
 use Rattle.jl_lines.proofs.answers.Answers.answer_lines.Goals as goal
 
 pub loop-line-init : goal.loop-line-init
@@ -10,42 +8,21 @@ loop-line-init g c = record {
   within = c.requires.within;
   short = omega arith;
   none = c.requires.none;
-  gathered = (
-    record {
-      done = [];
-      left = c.args.text.now;
-      output = [];
-      last = c.args.session.now;
-      split = refl;
-      answered = answered_none g.A.Answer.says c.args.session.now;
-      added = sym (append-nil c.args.self.now.text.items);
-    },
-    refl,
-    refl,
-  );
+  gathered = gathers_none g.A.Answer.says c.args.session.now c.args.text.now c.args.self.now.text.items;
 }
 
 pub loop-line-preserved : goal.loop-line-preserved
 loop-line-preserved g c =
-    let line = c.in-Some.line.now in
-    let behind = c.in-Some.behind.now in
-    let gathered = c.loop-line.invariant.gathered.0 in
-    let split : c.loop-line.rest.now ≡ line ++ 10 ∷ behind = c.in-Some.ensures.1 in
-    let size : length c.loop-line.rest.now ≡ length line + length (10 ∷ behind) =
-    ap length split ∙ length-append line (10 ∷ behind) in
-    let fits : IsLine line = record {
-      one = c.in-Some.ensures.0;
-      short = omega
-          (arith, size, c.loop-line.invariant.short, c.requires.short);
-    } in
+    let gathered = c.loop-line.invariant.gathered in
+    let line = held_line _ _ _ c.in-Some.ensures.1 (omega arith) c.in-Some.ensures.0 in
     let answer = c.in_ok-answer.ensures.ok in
     record {
       within = omega arith;
-      short = omega (arith, size, c.loop-line.invariant.short);
+      short = omega (arith, line.1, c.loop-line.invariant.short);
       none = tt;
-      gathered = gathers_more _ _ c.answer.new.session _ _ _ _ line behind answer.0 gathered
-          (c.loop-line.invariant.gathered.1 ∙ split) fits
-          (subst (λ s. g.A.Answer.says s line answer.0 c.answer.new.session) c.loop-line.invariant.gathered.2 answer.1) answer.2;
+      gathered = gathers_more _ _ c.answer.new.session _ _ _ _ c.in-Some.line.now c.in-Some.behind.now answer.0 gathered.0
+          (gathered.1 ∙ c.in-Some.ensures.1) line.0
+          (subst (λ s. g.A.Answer.says s c.in-Some.line.now answer.0 c.answer.new.session) gathered.2 answer.1) answer.2;
     }
 
 pub returns-clause-gathered : goal.returns-clause-gathered
@@ -55,8 +32,7 @@ returns-clause-gathered g c =
       gathered,
       (
         omega (arith, ap length gathered.split, length-append gathered.done gathered.left, ap length left),
-        subst NoNewline
-            (sym left) c.in_default.ensures,
+        subst NoNewline (sym left) c.in_default.ensures,
         c.loop-line.invariant.gathered.2,
       ),
     )
