@@ -21,14 +21,17 @@ use Rattle.jl_farm.proofs.Installs.{between_both, between_least, installs_both, 
 
 -- ---- lists that are popped
 
-pub all_popped : {X : Type 0} (P : X → Type 0) (xs : List X) (x : X) → All P (xs ++ x ∷ []) → All P xs × P x
-all_popped P [] x all = ((λ k d lt. absurd (omega arith)), all 0 x (omega arith))
-all_popped {X = X} P (y ∷ xs) x all =
-    let rest = all_popped P xs x (λ k d lt. all (suc k) d (omega arith)) in (by_place rest.0, rest.1)
+all_parts : {X : Type 0} (P : X → Type 0) (xs : List X) (x : X) → All P (xs ++ x ∷ []) → All P xs × P x
+all_parts P [] x all = ((λ k d lt. absurd (omega arith)), all 0 x (omega arith))
+all_parts {X = X} P (y ∷ xs) x all =
+    let rest = all_parts P xs x (λ k d lt. all (suc k) d (omega arith)) in (by_place rest.0, rest.1)
   where
     by_place : All P xs → All P (y ∷ xs)
     by_place rest zero d lt = all 0 d (omega arith)
     by_place rest (suc k) d lt = rest k d (omega arith)
+
+pub all_popped : {X : Type 0} (P : X → Type 0) (all xs : List X) (x : X) → all ≡ xs ++ x ∷ [] → All P all → All P xs × P x
+all_popped P all xs x is each = all_parts P xs x (subst (All P) is each)
 
 pub all_pushed : {X : Type 0} (P : X → Type 0) (xs ys : List X) (x : X) → ys ≡ xs ++ x ∷ [] → All P xs → P x → All P ys
 all_pushed P xs ys x is all one = subst (All P) (sym is) (All-append P xs (x ∷ []) all by_place)
@@ -175,6 +178,13 @@ module _ {K : Type 0} (n : ℕ) (jobs : List (List ℕ)) where
 
     -- all workers, once each has served
     module _ (Pass : Worker K → Type 0) where
+      -- the last worker, and the others
+      pub crew_popped : (crew others : List (Worker K)) (last : Worker K) → crew ≡ others ++ last ∷ []
+          → All (λ worker. Pass worker × HasOne worker × HasReported n callers jobs worker) crew
+          → All (λ worker. Pass worker × HasOne worker × HasReported n callers jobs worker) others
+          × (Pass last × HasOne last × HasReported n callers jobs last)
+      crew_popped = all_popped (λ worker. Pass worker × HasOne worker × HasReported n callers jobs worker)
+
       pub crew_reported : (old new : List (Worker K)) → All (λ worker. IsHired callers worker × Pass worker) old
           → AllZip (λ a b. Pass b × Works n jobs a b) old new → All (λ worker. Pass worker × HasOne worker × HasReported n callers jobs worker) new
       crew_reported [] [] hired served = all_none (λ worker. Pass worker × HasOne worker × HasReported n callers jobs worker)

@@ -1,28 +1,22 @@
-use Rattle.std.proofs.Common.{◌∙◌, ◌+◌, All, refl, subst, arith, vec_len}
+use Rattle.std.proofs.Common.{◌∙◌, ◌+◌, refl, arith, vec_len}
 use Rattle.crossbeam_queue.specs.Passes.{IsPassOf}
-use Rattle.jl_farm.specs.declared.worker.Worker.{Worker}
-use Rattle.jl_farm.specs.Means.Work.{HasOne, HasReported}
 use Rattle.jl_farm.proofs.Installs.{taken_none, taken_more, taken_most}
-use Rattle.jl_farm.proofs.Shifts.{all_popped}
+use Rattle.jl_farm.proofs.Shifts.{crew_popped}
 use Rattle.jl_farm.proofs.crew.gather.Goals as goal
 
 pub take_in-requires-clause-turns : goal.take_in-requires-clause-turns
-take_in-requires-clause-turns g c =
-    let P : Worker g.row.K.Denot → Type 0 = λ worker. IsPassOf c.args.queue.now worker.pass × HasOne worker
-    × HasReported g.K.Name.max_sites c.args.callers.now.value.items c.args.jobs.now worker in
-    (c.loop-other.invariant.pass, (all_popped P c.pop.new.self.items c.in-Some.other (subst (All P) c.in-Some.ensures.items c.loop-other.invariant.crew)).1.0)
+take_in-requires-clause-turns g c = (
+  c.loop-other.invariant.pass,
+  (crew_popped _ _ _ (λ worker. IsPassOf c.args.queue.now worker.pass) _ _ _ c.in-Some.ensures.items c.loop-other.invariant.crew).1.0,
+)
 
 pub take_in-requires-clause-one : goal.take_in-requires-clause-one
 take_in-requires-clause-one g c =
-    let P : Worker g.row.K.Denot → Type 0 = λ worker. IsPassOf c.args.queue.now worker.pass × HasOne worker
-    × HasReported g.K.Name.max_sites c.args.callers.now.value.items c.args.jobs.now worker in
-    (all_popped P c.pop.new.self.items c.in-Some.other (subst (All P) c.in-Some.ensures.items c.loop-other.invariant.crew)).1.1
+    (crew_popped _ _ _ (λ worker. IsPassOf c.args.queue.now worker.pass) _ _ _ c.in-Some.ensures.items c.loop-other.invariant.crew).1.1
 
 pub take_in-requires-clause-other : goal.take_in-requires-clause-other
 take_in-requires-clause-other g c =
-    let P : Worker g.row.K.Denot → Type 0 = λ worker. IsPassOf c.args.queue.now worker.pass × HasOne worker
-    × HasReported g.K.Name.max_sites c.args.callers.now.value.items c.args.jobs.now worker in
-    (all_popped P c.pop.new.self.items c.in-Some.other (subst (All P) c.in-Some.ensures.items c.loop-other.invariant.crew)).1.2
+    (crew_popped _ _ _ (λ worker. IsPassOf c.args.queue.now worker.pass) _ _ _ c.in-Some.ensures.items c.loop-other.invariant.crew).1.2
 
 pub loop-other-init : goal.loop-other-init
 loop-other-init g c = record {
@@ -36,12 +30,10 @@ loop-other-init g c = record {
 
 pub loop-other-preserved : goal.loop-other-preserved
 loop-other-preserved g c =
-    let P : Worker g.row.K.Denot → Type 0 = λ worker. IsPassOf c.args.queue.now worker.pass × HasOne worker
-    × HasReported g.K.Name.max_sites c.args.callers.now.value.items c.args.jobs.now worker in
     record {
       pass = c.in_ok-take_in.ensures.pass;
       lead = c.in_ok-take_in.ensures.lead;
-      crew = (all_popped P c.pop.new.self.items c.in-Some.other (subst (All P) c.in-Some.ensures.items c.loop-other.invariant.crew)).0;
+      crew = (crew_popped _ _ _ (λ worker. IsPassOf c.args.queue.now worker.pass) _ _ _ c.in-Some.ensures.items c.loop-other.invariant.crew).0;
       put = c.in_ok-take_in.ensures.put ∙ c.loop-other.invariant.put;
       parts = omega (arith, c.in_ok-take_in.ensures.parts, c.in-Some.ensures.cases, c.loop-other.invariant.parts);
       taken = (

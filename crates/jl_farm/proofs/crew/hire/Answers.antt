@@ -1,4 +1,4 @@
-use Rattle.std.proofs.Common.{◌∙◌, All, Contains, ap, refl, subst, arith, length}
+use Rattle.std.proofs.Common.{◌∙◌, Contains, ap, refl, arith, length}
 use Rattle.std.proofs.lemmas.List.Elements.{Contains-get_or}
 use Rattle.crossbeam_queue.specs.Passes.{IsPassOf}
 use Rattle.jl_farm.specs.declared.job_queue.PassView.{PassView}
@@ -23,8 +23,7 @@ loop-caller-preserved g c =
     let before = c.loop-caller.invariant in
     let left = c.one_more.ensures.left in
     let P : Worker g.row.K.Denot → Type 0 = λ worker. IsHired c.args.callers.items worker × IsPassOf c.args.queue.now worker.pass in
-    let popped = all_popped (Contains c.args.callers.items) c.pop.new.self.items c.in-Some.caller
-    (subst (All (Contains c.args.callers.items)) c.in-Some.ensures.items before.left) in
+    let popped = all_popped (Contains c.args.callers.items) _ _ _ c.in-Some.ensures.items before.left in
     record {
       pass = c.one_more.ensures.turns.0;
       parts = omega (

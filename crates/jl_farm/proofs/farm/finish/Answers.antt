@@ -1,35 +1,27 @@
-use Rattle.std.proofs.Common.{◌≡◌, ◌∙◌, ◌++◌, All, ap, refl, subst, arith}
+use Rattle.std.proofs.Common.{◌≡◌, ◌∙◌, ◌++◌, ap, refl, subst, arith}
 use Rattle.std.proofs.lemmas.List.{append-nil}
 use Rattle.crossbeam_queue.specs.Passes.{view, IsPassOf}
 use Rattle.jl_farm.specs.declared.job_queue.PassView.{PassView}
-use Rattle.jl_farm.specs.declared.worker.Worker.{Worker}
 use Rattle.jl_farm.specs.Reports.{AreOfOneHistory}
-use Rattle.jl_farm.specs.Means.Work.{HasOne, HasReported}
 use Rattle.jl_server.proofs.Beginnings.{prefix_length}
 use Rattle.jl_farm.proofs.Installs.{installs_at_most}
-use Rattle.jl_farm.proofs.Shifts.{all_popped, reported_turn, reported_more, all_taken}
+use Rattle.jl_farm.proofs.Shifts.{crew_popped, reported_turn, reported_more, all_taken}
 use Rattle.jl_farm.proofs.farm.finish.Goals as goal
 
 pub gather-requires-clause-lead : goal.gather-requires-clause-lead
 gather-requires-clause-lead g c =
-    let P : Worker g.row.K.Denot → Type 0 = λ worker. IsPassOf c.args.floor.now.queue.now worker.pass × HasOne worker
-    × HasReported g.K.Name.max_sites c.args.callers.now.value.items c.args.floor.now.jobs.now worker in
-    let popped = all_popped P c.pop.new.self.items c.in-Some.lead (subst (All P) c.in-Some.ensures.items c.requires.crew) in
+    let popped = crew_popped _ _ _ (λ worker. IsPassOf c.args.floor.now.queue.now worker.pass) _ _ _ c.in-Some.ensures.items c.requires.crew in
     let mine = (view c.in-Some.lead.pass).taken in
     reported_turn _ _ _ _ _ popped.1.2 refl (ap (λ (v : PassView). v.taken) c.take_over.ensures.both ∙ ap (λ js. mine ++ js) c.requires.pass.1
     ∙ append-nil mine) refl
 
 pub gather-requires-clause-crew : goal.gather-requires-clause-crew
 gather-requires-clause-crew g c =
-    let P : Worker g.row.K.Denot → Type 0 = λ worker. IsPassOf c.args.floor.now.queue.now worker.pass × HasOne worker
-    × HasReported g.K.Name.max_sites c.args.callers.now.value.items c.args.floor.now.jobs.now worker in
-    (all_popped P c.pop.new.self.items c.in-Some.lead (subst (All P) c.in-Some.ensures.items c.requires.crew)).0
+    (crew_popped _ _ _ (λ worker. IsPassOf c.args.floor.now.queue.now worker.pass) _ _ _ c.in-Some.ensures.items c.requires.crew).0
 
 pub returns-clause-weighs : goal.returns-clause-weighs
 returns-clause-weighs g c =
-    let P : Worker g.row.K.Denot → Type 0 = λ worker. IsPassOf c.args.floor.now.queue.now worker.pass × HasOne worker
-    × HasReported g.K.Name.max_sites c.args.callers.now.value.items c.args.floor.now.jobs.now worker in
-    let one = (all_popped P c.pop.new.self.items c.in-Some.lead (subst (All P) c.in-Some.ensures.items c.requires.crew)).1.1 in
+    let one = (crew_popped _ _ _ (λ worker. IsPassOf c.args.floor.now.queue.now worker.pass) _ _ _ c.in-Some.ensures.items c.requires.crew).1.1 in
     let works = c.work.ensures.works in
     let parts : (view c.work.new.worker.pass).parts ≡ 1024 =
     omega (
@@ -54,9 +46,7 @@ returns-clause-history g c = subst (AreOfOneHistory {K = g.row.K.Denot}) c.as_sl
 
 pub returns-clause-installs : goal.returns-clause-installs
 returns-clause-installs g c =
-    let P : Worker g.row.K.Denot → Type 0 = λ worker. IsPassOf c.args.floor.now.queue.now worker.pass × HasOne worker
-    × HasReported g.K.Name.max_sites c.args.callers.now.value.items c.args.floor.now.jobs.now worker in
-    let one = (all_popped P c.pop.new.self.items c.in-Some.lead (subst (All P) c.in-Some.ensures.items c.requires.crew)).1.1 in
+    let one = (crew_popped _ _ _ (λ worker. IsPassOf c.args.floor.now.queue.now worker.pass) _ _ _ c.in-Some.ensures.items c.requires.crew).1.1 in
     let works = c.work.ensures.works in
     λ serial. omega (
       arith,
