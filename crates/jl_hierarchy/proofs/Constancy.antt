@@ -4,7 +4,7 @@ use Rattle.std.specs.Prelude.{◌∷◌, ◌++◌, length, find, slice_get, slic
 use Rattle.std.specs.List.{list_any}
 use Rattle.std.specs.Option.{option_map_or}
 use Rattle.std.specs.Str.{bytes_eq}
-use Rattle.std.proofs.Common.{refl, ap, sym, ◌∙◌}
+use Rattle.std.proofs.Common.{refl, ap, sym, subst, ◌∙◌}
 use Rattle.std.proofs.lemmas.List.{append-nil}
 use Rattle.std.proofs.lemmas.Option.{same_Some, slice_get_within}
 use Rattle.jl_class.specs.Class.{ClassFile}
@@ -18,7 +18,7 @@ use Rattle.jl_types.proofs.Lists.{before_end}
 use Rattle.jl_types.proofs.Orders.{IsGood, looked_up}
 use Rattle.jl_types.specs.Happenings.Retirement.{retired}
 use Rattle.jl_types.proofs.Retiring.{retired_after, found_after}
-use Rattle.jl_hierarchy.specs.Constancy.{Stays, AddsReceiver}
+use Rattle.jl_hierarchy.specs.Constancy.{AreInOrder, Stays, AddsReceiver}
 
 -- ---- records
 
@@ -111,7 +111,7 @@ stays_defined cs good loader file = record {
       (λ l name c alive h. with_record_stays cs.loaders loader file.name (length cs.rows) l name c h);
 }
 
-pub adds_receiver : (cs : Classes) → AreOrdered cs.rows → (loader : ℕ) (file : ClassFile) → AddsReceiver cs (defined cs loader file)
+adds_receiver : (cs : Classes) → AreOrdered cs.rows → (loader : ℕ) (file : ClassFile) → AddsReceiver cs (defined cs loader file)
 adds_receiver cs o loader file c =
     let new = defined cs loader file in
     receivers_after cs o loader file c ∙ by_test (is_concrete new (length cs.rows) && is_ancestor new c (length cs.rows))
@@ -119,6 +119,14 @@ adds_receiver cs o loader file c =
     by_test : (b : Bool) → receivers cs c ++ cond b (length cs.rows ∷ []) [] ≡ (if b then receivers cs c ++ length cs.rows ∷ [] else receivers cs c)
     by_test true = refl
     by_test false = append-nil (receivers cs c)
+
+-- the same of what the classes are then
+module _ (cs new : Classes) (before : AreInOrder cs) (loader : ℕ) (file : ClassFile) (now : new ≡ defined cs loader file) where
+  pub stays_after : Stays cs new
+  stays_after = subst (Stays cs) (sym now) (stays_defined cs (record { there = before.there; ordered = before.ordered }) loader file)
+
+  pub receiver_after : AddsReceiver cs new
+  receiver_after = subst (AddsReceiver cs) (sym now) (adds_receiver cs before.ordered loader file)
 
 -- only records are added
 stays_recorded : (cs : Classes) → IsGood cs → (loaders : List (List (List ℕ × ℕ)))

@@ -11,6 +11,7 @@ use Rattle.jl_types.specs.Values.Ancestry.{ancestors, receivers}
 use Rattle.jl_types.proofs.Orders.{IsGood, looked_up}
 use Rattle.jl_hierarchy.specs.Constancy.{AreInOrder}
 use Rattle.jl_hierarchy.specs.Means.Kept.{IsKept, AreRecorded, lists}
+use Rattle.jl_hierarchy.specs.Means.Growing.{AreEven}
 
 found_there : (cs : Classes) → IsGood cs → (loader : ℕ) (name : List ℕ) (o : Option ℕ) → lookup cs loader name ≡ o → IfSome o (λ c. c < length cs.rows)
 found_there cs good loader name None e = tt
@@ -69,3 +70,11 @@ module _ (inside : Classes) (above below : List (List ℕ)) (kept : IsKept insid
         ∙ get_or-map-range_with_len (receivers inside) 0 (length inside.rows) at c d.items (let n = ap (λ (k : Classes). length k.rows) same in omega arith)
         (omega arith)
         ∙ ap (λ (k : Classes). receivers k c) same
+
+-- as many of each list as classes
+pub even : {cs : Classes} {above below : List (List ℕ)} → IsKept cs above below → AreEven cs.rows above below
+even {cs} kept = record {
+  few = kept.few;
+  many_above = ap length kept.ancestors_kept ∙ length-map-range_with_len (ancestors cs.rows) 0 (length cs.rows);
+  many_below = ap length kept.receivers_kept ∙ length-map-range_with_len (receivers cs) 0 (length cs.rows);
+}

@@ -22,3 +22,4 @@ pub mod Lines
 pub mod MarkLaws
 pub mod Redeclaring
 pub mod NewMarks
+pub mod Growing

@@ -1,6 +1,6 @@
 -- What is kept once a class is defined.
 use Rattle.std.specs.Prelude.{◌≡◌, ℕ, zero, suc, ◌+◌, ◌<◌, ◌==◌, ◌||◌, ◌&&◌, Bool, true, false, cond, if◌then◌else◌, not}
-use Rattle.std.specs.Prelude.{List, [], ◌∷◌, ◌++◌, length, get_or, map, filter, slice_get, slice_set, Option, Some, None, All}
+use Rattle.std.specs.Prelude.{List, [], ◌∷◌, ◌++◌, length, get_or, map, filter, slice_get, slice_set, Option, Some, None}
 use Rattle.std.specs.List.{range_with_len}
 use Rattle.std.specs.Option.{option_map_or}
 use Rattle.std.proofs.Common.{refl, ap, sym, subst, ◌∙◌, arith, length-append}
@@ -10,7 +10,6 @@ use Rattle.std.proofs.lemmas.List.{ext_get_or, length-set, append-nil}
 use Rattle.std.proofs.lemmas.List.Folds.{list_any-append}
 use Rattle.std.proofs.lemmas.List.FromFn.{get_or-map-range_with_len, length-map-range_with_len, map-range_with_len_more}
 use Rattle.jl_class.specs.Class.{ClassFile}
-use Rattle.jl_class.specs.Flags.{extends_object}
 use Rattle.jl_types.specs.Values.World.{Class, Classes}
 use Rattle.jl_types.specs.Values.Members.{numbers, is_retired, is_concrete, is_concrete_row}
 use Rattle.jl_types.specs.Values.Ancestry.{is_ancestor, ancestors, receivers}
@@ -22,7 +21,6 @@ use Rattle.jl_types.proofs.Orders.{IsGood, defined_good}
 use Rattle.jl_hierarchy.specs.Constancy.{ObjectComesFirst}
 use Rattle.jl_hierarchy.specs.Means.Kept.{IsKept, IsAppended}
 use Rattle.jl_hierarchy.proofs.FaultLaws.{has_room}
-use Rattle.jl_hierarchy.proofs.Objects.{first_defined}
 use Rattle.jl_hierarchy.proofs.Closed.{closed_defined, live_loader}
 use Rattle.jl_hierarchy.proofs.OwnRecords.{own_defined}
 use Rattle.jl_hierarchy.proofs.Rising.{has}
@@ -188,42 +186,7 @@ pub kept_as : (cs cs' : Classes) (over over' under under' : List (List ℕ)) →
 kept_as cs cs' over over' under under' e f g kept =
     subst (λ (k : Classes). IsKept k over under) (sym e) (subst (λ o. IsKept cs' o under) (sym f) (subst (λ u. IsKept cs' over' u) (sym g) kept))
 
--- the class that is added, as its loader makes it of its file
-module _ (cs : Classes) (over under : List (List ℕ)) (kept : IsKept cs over under) (row : Class) (made : row ≡ class_made cs row.loader row.file)
-    (none : define_fault cs row.loader row.file ≡ None) (extends : extends_object row.file.flags row.file.superclass ≡ true)
-    (concrete : Bool) (proper own name : List ℕ) (class : ℕ) (front : List (List ℕ)) (concrete_is : concrete ≡ is_concrete_row row)
-    (listed : proper ++ length cs.rows ∷ [] ≡ ancestors (cs.rows ++ row ∷ []) (length cs.rows))
-    (own_is : own ≡ (if is_concrete_row row then length cs.rows ∷ [] else []))
-    (name_is : name ≡ row.file.name) (class_is : class ≡ length cs.rows)
-    (appended : IsAppended (if concrete then proper else []) class under front) where
-  abbrev with_row : Classes
-  with_row = defined cs row.loader row.file
-
-  pub classes_are : (loaders' : List (List (List ℕ × ℕ))) (rows' : List Class) (retired' : List ℕ)
-      → loaders' ≡ with_record cs.loaders row.loader name class → rows' ≡ cs.rows ++ row ∷ [] → retired' ≡ cs.retired
-      → ◌≡◌ {A = Classes} (record { loaders = loaders'; rows = rows'; retired = retired' }) with_row
-  classes_are loaders' rows' retired' l r t = λ i. record {
-    loaders = (l ∙ (λ j. with_record cs.loaders row.loader (name_is j) (class_is j))) i;
-    rows = (r ∙ (λ j. cs.rows ++ made j ∷ [])) i;
-    retired = t i;
-  }
-
-  pub kept_all : (loaders' : List (List (List ℕ × ℕ))) (rows' : List Class) (retired' : List ℕ) (above' below' : List (List ℕ))
-      → loaders' ≡ with_record cs.loaders row.loader name class → rows' ≡ cs.rows ++ row ∷ [] → retired' ≡ cs.retired
-      → above' ≡ over ++ (proper ++ class ∷ []) ∷ [] → below' ≡ front ++ own ∷ []
-      → IsKept (record { loaders = loaders'; rows = rows'; retired = retired' }) above' below'
-  kept_all loaders' rows' retired' above' below' l r t a b =
-      kept_as (record { loaders = loaders'; rows = rows'; retired = retired' }) with_row above' (over ++ (proper ++ length cs.rows ∷ []) ∷ [])
-      below' (front ++ (if is_concrete_row (class_made cs row.loader row.file) then length cs.rows ∷ [] else []) ∷ [])
-      (classes_are loaders' rows' retired' l r t) (a ∙ (λ i. over ++ (proper ++ class_is i ∷ []) ∷ []))
-      (b ∙ (λ i. front ++ (own_is ∙ (λ j. if is_concrete_row (made j) then length cs.rows ∷ [] else [])) i ∷ []))
-      (kept_now cs over under kept row.loader row.file none proper
-      (listed ∙ (λ i. ancestors (cs.rows ++ made i ∷ []) (length cs.rows))) front
-      (subst (λ k. IsAppended (if k then proper else []) (length cs.rows) under front) (concrete_is ∙ ap is_concrete_row made)
-      (subst (λ k. IsAppended (if concrete then proper else []) k under front) class_is appended))
-      (first_defined cs kept.object row.loader row.file none extends))
-
--- those that get the class as a receiver are there
-pub there_chosen : (concrete : Bool) (xs ys : List ℕ) (n m : ℕ) → ys ≡ (if concrete then xs else []) → n ≡ m → All (λ a. a < n) xs → All (λ a. a < m) ys
-there_chosen true xs ys n m e same h = subst (All (λ a. a < m)) (sym e) (subst (λ k. All (λ a. a < k) xs) same h)
-there_chosen false xs ys n m e same h = subst (All (λ a. a < m)) (sym e) (λ k d lt. absurd (omega arith))
+-- what holds of all ancestors, and of none, holds of those that get the class as a receiver
+pub chosen : (P : List ℕ → Type 0) (concrete : Bool) (xs : List ℕ) → P [] → P xs → P (if concrete then xs else [])
+chosen P true xs none all = all
+chosen P false xs none all = none

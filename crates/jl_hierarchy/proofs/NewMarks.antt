@@ -1,5 +1,5 @@
 -- What is marked once a class is defined.
-use Rattle.std.specs.Prelude.{◌≡◌, ℕ, zero, suc, ◌+◌, ◌<◌, ◌≤◌, ◌==◌, ◌||◌, Bool, IfSome, true, false, List, [], ◌∷◌, ◌++◌, length, slice_get, Option}
+use Rattle.std.specs.Prelude.{◌≡◌, ℕ, zero, suc, ◌+◌, ◌<◌, ◌≤◌, ◌==◌, ◌||◌, Bool, true, false, List, [], ◌∷◌, ◌++◌, length, slice_get, Option}
 use Rattle.std.specs.Prelude.{Some, None}
 use Rattle.std.specs.List.{list_any, AllByRecursion}
 use Rattle.std.specs.Option.{option_map_or}
@@ -10,15 +10,14 @@ use Rattle.std.proofs.lemmas.Bool.Decides.{Decides-eqb}
 use Rattle.std.proofs.lemmas.List.Folds.{list_any-append}
 use Rattle.std.proofs.lemmas.Option.{slice_get_within}
 use Rattle.jl_class.specs.Flags.{has_flag, INTERFACE}
-use Rattle.jl_types.specs.Values.World.{Class, Classes}
+use Rattle.jl_types.specs.Values.World.{Class}
 use Rattle.jl_types.specs.Values.Members.{is_interface}
 use Rattle.jl_types.specs.Values.Ancestry.{IsAncestor, itself, over, superclasses_within, superclasses, is_ancestor, is_subclass, ancestors, AreOrdered}
 use Rattle.jl_types.proofs.Ancestors.{superclass_below, superclasses_is, ancestor_decides}
 use Rattle.jl_types.proofs.Grown.{above, among_ancestors, old_within}
 use Rattle.jl_types.proofs.Lists.{before_end, at_end}
 use Rattle.jl_types.proofs.Orders.{none_behind}
-use Rattle.jl_hierarchy.specs.declared.marks.Mark.{Mark}
-use Rattle.jl_hierarchy.specs.Redeclared.{of_rows, Marked, is_listed, is_marked, has_method, declares_print, sees_print, line_above, line_from}
+use Rattle.jl_hierarchy.specs.Redeclared.{of_rows, Marked, is_marked, has_method, declares_print, sees_print, line_above, line_from}
 use Rattle.jl_hierarchy.specs.Redeclared.{is_above, is_on, AreMarked, AreLines, IsIndexed, IsTold}
 
 module _ (rows : List Class) (row : Class) (ordered : AreOrdered (rows ++ row ∷ [])) where
@@ -237,17 +236,3 @@ none_indexed = record {
     no_ancestor : {B : Type 0} (a : ℕ) {x : ℕ} → IsAncestor [] a x → B
     no_ancestor a (itself {row = r} e) = no_row a r e
     no_ancestor a (over {x = x} {row = r} e m up) = no_row x r e
-
--- what is told of a new class: by the marks that were found, or by those of every print at each ancestor
-pub told_by : {A : Type 0} (cs : Classes) (row : Class) (marks_of : A → List Mark) (found : Option A) (classes : List ℕ) (new : Marked)
-    → IfSome found (λ ms. (s p : ℕ) → has_method p row.file.methods ≡ true → is_on s (line_above cs row) ≡ true → sees_print cs p s ≡ true
-    → IsTold cs p (is_listed (marks_of ms)) s)
-    → IfSome found (λ ms. (s p : ℕ) → is_listed (marks_of ms) s p ≡ true → is_marked new s p ≡ true)
-    → (found ≡ None → (s p : ℕ) → is_on s classes ≡ true → is_marked new s p ≡ true)
-    → ((s : ℕ) → is_on s (line_above cs row) ≡ true → is_on s classes ≡ true)
-    → (s p : ℕ) → has_method p row.file.methods ≡ true → is_on s (line_above cs row) ≡ true → sees_print cs p s ≡ true → IsTold cs p (is_marked new) s
-told_by cs row marks_of None classes new told each every above s p h on seen = inl (every refl s p (above s on))
-told_by cs row marks_of (Some ms) classes new told each every above s p h on seen = elim (told s p h on seen) [
-  | inl listed ↦ inl (each s p listed)
-  | inr before ↦ inr before
-]

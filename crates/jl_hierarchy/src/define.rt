@@ -1,21 +1,21 @@
 //! The definition of a class (JVMS SE 17 §5.3.5).
 
-ghost use Rattle.std.specs.Prelude.{◌≡◌, ◌<◌, ◌^◌, ◌++◌, ◌∷◌, [], Some, None, Err, length, List, ℕ, if◌then◌else◌, true, false, All, IfOk, IfSome, OnOk, OnErr};
+ghost use Rattle.std.specs.Prelude.{◌≡◌, ◌<◌, ◌^◌, ◌++◌, ◌∷◌, [], Some, None, Err, length, slice_get, option_and_then, true, All, IfOk, OnOk, OnErr};
 ghost use Rattle.std.specs.Vec.{vec_len, vec_capacity};
 ghost use Rattle.jl_types.specs.declared.refusal.DefineFault.{DefineFault};
 ghost use Rattle.jl_types.specs.declared.refusal.OrMemory.TheVariants as or_memory;
-ghost use Rattle.jl_types.specs.Values.Members as members;
-ghost use Rattle.jl_types.specs.Values.Ancestry as ancestry;
+ghost use Rattle.jl_types.specs.Values.Members.{recorded};
 ghost use Rattle.jl_types.specs.Happenings.Definitions as definitions;
+ghost use Rattle.jl_types.specs.Happenings.Definitions.{with_record};
 ghost use Rattle.jl_class.specs.Flags.{extends_object};
 ghost use Rattle.jl_hierarchy.specs.Constancy.{AreInOrder, Stays, AddsReceiver};
-ghost use Rattle.jl_hierarchy.specs.Means.Kept.{HasRoom, Rises, IsAppended, lists};
-ghost use Rattle.jl_hierarchy.specs.Redeclared.{has_method, sees_print, line_above, is_above, is_listed, is_on, IsTold};
+ghost use Rattle.jl_hierarchy.specs.Means.Kept.{HasRoom, Rises, lists};
+ghost use Rattle.jl_hierarchy.specs.Means.Growing.{AreEven, IsGrowth, gaining, IsReceived, AreKept, AreAdded};
 
 use crate::ancestor_list::AncestorList;
 use crate::classes::Classes;
-use crate::loader::record_in;
-use crate::marks::{Mark, add_marks};
+use crate::loader::{Loader, record_in};
+use crate::marks::{Mark, Redeclared, add_marks};
 use crate::receiving::{
     Receivers, append_to_each, is_concrete, own_receivers, receiving, reserve_each,
 };
@@ -24,11 +24,14 @@ use jl_class::ClassFile;
 use jl_pages::Paged;
 use jl_types::{ClassId, DefineFault, LoaderId, OrMemory};
 use std::alloc::{AllocError, Global};
+use std::sync::Arc;
 
 /// What the definition of a class adds.
 #[derive(Drop)]
 pub(crate) struct Growth {
     row: Row,
+    /// The number that the class gets.
+    class: ClassId,
     is_concrete: bool,
     /// The ancestors but the class itself, by rising number.
     ancestors: Vec<ClassId>,
@@ -92,6 +95,8 @@ impl Classes {
         ensures receivers { OnOk result (AddsReceiver self.old self.new) }
         ensures err { OnErr result (self.new ≡ self.old) }
     {
+        // The count tells that the classes came in order.
+        let _count = self.count_in_order();
         let row = self.row_made(alloc, loader, file)?;
         let class = self.add_row(alloc, row)?;
         Ok(class)
@@ -117,54 +122,28 @@ impl Classes {
         requires interface { extends_object row.file.flags row.file.superclass ≡ true }
         ensures number { IfOk result (λ class. class ≡ length self.old.rows) }
         ensures ok { OnOk result (self.new ≡ definitions.defined self.old row.loader row.file) }
-        ensures in_order { OnOk result (AreInOrder self.old) }
-        ensures stays { OnOk result (Stays self.old self.new) }
-        ensures receivers { OnOk result (AddsReceiver self.old self.new) }
         ensures err { OnErr result (self.new ≡ self.old) }
     {
-        let loader = row.class().loader();
-        let name = name_of(alloc, &row)?;
         let growth = self.growth(alloc, row)?;
-        let class = ClassId::new(self.rows.len() as u32);
-        reserve_all(
+        let class = growth.class;
+        let is_line = growth.is_line;
+        add_all(
             alloc,
+            &mut self.loaders,
             &mut self.rows,
             &mut self.above,
             &mut self.below,
-            receiving(growth.is_concrete, &growth.ancestors),
-        )?;
-        add_marks(&mut self.marks, &growth.marks, &growth.ancestors)?;
-        record_in(&mut self.loaders, loader, name, class)?;
-        self.are_superclass_chains &= growth.is_line;
-        push_all(
-            &mut self.rows,
-            &mut self.above,
-            &mut self.below,
+            &mut self.marks,
             growth,
-            class,
-        );
+        )?;
+        self.are_superclass_chains &= is_line;
         Ok(class)
     }
 
     /// What a class adds, which its loader makes of its file. Want of memory is an error.
     fn growth(&self, alloc: Global, row: Row) -> Result<Growth, AllocError>
         requires { row ≡ definitions.class_made self.now row.loader row.file }
-        ensures row { IfOk result (λ growth. growth.row ≡ row) }
-        ensures concrete { IfOk result (λ growth. growth.is_concrete ≡ members.is_concrete_row row) }
-        ensures all { IfOk result (λ growth. growth.ancestors.items ++ length self.now.rows ∷ []
-            ≡ ancestry.ancestors (self.now.rows ++ row ∷ []) (length self.now.rows)) }
-        ensures rising { IfOk result (λ growth. Rises growth.ancestors.items) }
-        ensures there { IfOk result (λ growth. All (λ a. a < length self.now.rows) growth.ancestors.items) }
-        ensures with_itself { IfOk result (λ growth. growth.with_itself ≡ growth.ancestors.items ++ length self.now.rows ∷ []) }
-        ensures own { IfOk result (λ growth. growth.own.items
-            ≡ (if members.is_concrete_row row then length self.now.rows ∷ [] else [])) }
-        ensures marks { IfOk result (λ growth. IfSome growth.marks (λ marks. (s p : ℕ) → has_method p row.file.methods ≡ true
-            → is_on s (line_above self.now row) ≡ true → sees_print self.now p s ≡ true
-            → IsTold self.now p (is_listed marks.items) s)) }
-        ensures above { IfOk result (λ growth. (s : ℕ) → is_on s (line_above self.now row) ≡ true
-            → is_on s growth.ancestors.items ≡ true) }
-        ensures line { IfOk result (λ growth. growth.is_line ≡ true → (a : ℕ) → is_on a growth.ancestors.items ≡ true
-            → members.is_interface self.now a ≡ false → is_above self.now row a ≡ true) }
+        ensures { IfOk result (IsGrowth self.now row) }
     {
         let class = ClassId::new(self.rows.len() as u32);
         let is_concrete = is_concrete(row.class());
@@ -175,6 +154,7 @@ impl Classes {
         let is_line = self.is_line(row.class());
         Ok(Growth {
             row,
+            class,
             is_concrete,
             ancestors,
             with_itself,
@@ -183,6 +163,83 @@ impl Classes {
             is_line,
         })
     }
+}
+
+/// Adds the class behind the others, and its loader records it. Every growth comes before the first change, or is it.
+///
+/// # Errors
+///
+/// Want of memory. Nothing has changed then, but that more may be marked.
+fn add_all(
+    alloc: Global,
+    loaders: &mut Vec<Loader>,
+    rows: &mut Paged<Row>,
+    above: &mut Paged<AncestorList>,
+    below: &mut Vec<Receivers>,
+    marks: &mut Arc<Redeclared>,
+    growth: Growth,
+) -> Result<(), AllocError>
+    requires even { AreEven rows.old.items above.old.items (lists below.old.items) }
+    requires there { All (λ c. c < length rows.old.items) (gaining growth) }
+    requires rising { Rises (gaining growth) }
+    requires loader { growth.row.loader < length loaders.old.items }
+    requires fresh { option_and_then (recorded growth.row.file.name) (slice_get loaders.old.items growth.row.loader) ≡ None }
+    ensures loaders { OnOk result (loaders.new.items
+        ≡ with_record loaders.old.items growth.row.loader growth.row.file.name growth.class) }
+    ensures rows { OnOk result (rows.new.items ≡ rows.old.items ++ growth.row ∷ []) }
+    ensures above { OnOk result (above.new.items ≡ above.old.items ++ growth.with_itself ∷ []) }
+    ensures below { OnOk result (IsReceived growth (lists below.old.items) (lists below.new.items)) }
+    ensures marks { OnOk result (AreAdded growth marks.new.value) }
+    ensures kept { AreKept marks.old.value marks.new.value }
+    ensures err { OnErr result ((loaders.new.items ≡ loaders.old.items) × (rows.new.items ≡ rows.old.items)
+        × (above.new.items ≡ above.old.items) × (lists below.new.items ≡ lists below.old.items)) }
+{
+    make_ready(alloc, loaders, rows, above, below, marks, &growth)?;
+    push_all(rows, above, below, growth);
+    Ok(())
+}
+
+/// All that can fail where the class is added: makes room for it, marks what it marks, and at last its loader records it.
+///
+/// # Errors
+///
+/// Want of memory. Nothing has changed then, but that there may be more room, and more may be marked.
+fn make_ready(
+    alloc: Global,
+    loaders: &mut Vec<Loader>,
+    rows: &mut Paged<Row>,
+    above: &mut Paged<AncestorList>,
+    below: &mut Vec<Receivers>,
+    marks: &mut Arc<Redeclared>,
+    growth: &Growth,
+) -> Result<(), AllocError>
+    requires there { All (λ c. c < length below.old.items) (gaining growth.now) }
+    requires loader { growth.now.row.loader < length loaders.old.items }
+    requires fresh { option_and_then (recorded growth.now.row.file.name) (slice_get loaders.old.items growth.now.row.loader) ≡ None }
+    ensures loaders { OnOk result (loaders.new.items
+        ≡ with_record loaders.old.items growth.now.row.loader growth.now.row.file.name growth.now.class) }
+    ensures rows { rows.new.items ≡ rows.old.items }
+    ensures above { above.new.items ≡ above.old.items }
+    ensures below { lists below.new.items ≡ lists below.old.items }
+    ensures row_room { OnOk result (rows.new.room ≡ true) }
+    ensures above_room { OnOk result (above.new.room ≡ true) }
+    ensures below_room { OnOk result (vec_len below.new < vec_capacity below.new) }
+    ensures room { OnOk result (All (HasRoom below.new.items) (gaining growth.now)) }
+    ensures marks { OnOk result (AreAdded growth.now marks.new.value) }
+    ensures kept { AreKept marks.old.value marks.new.value }
+    ensures err { OnErr result (loaders.new.items ≡ loaders.old.items) }
+{
+    let name = name_of(alloc, &growth.row)?;
+    let loader = growth.row.class().loader();
+    reserve_all(
+        alloc,
+        rows,
+        above,
+        below,
+        receiving(growth.is_concrete, &growth.ancestors),
+    )?;
+    add_marks(marks, &growth.marks, &growth.ancestors)?;
+    record_in(loaders, loader, name, growth.class)
 }
 
 /// The class's name, as a loader records it. Want of memory is an error.
@@ -223,24 +280,21 @@ fn push_all(
     above: &mut Paged<AncestorList>,
     below: &mut Vec<Receivers>,
     growth: Growth,
-    class: ClassId,
 )
     requires row_room { rows.old.room ≡ true }
     requires above_room { above.old.room ≡ true }
     requires few { (length rows.old.items < 2 ^ 32) × (length above.old.items < 2 ^ 32) }
     requires below_room { vec_len below.old < vec_capacity below.old }
-    requires with_itself { growth.with_itself ≡ growth.ancestors.items ++ class ∷ [] }
-    requires there { All (λ c. c < length below.old.items) (if growth.is_concrete then growth.ancestors.items else []) }
-    requires rising { Rises (if growth.is_concrete then growth.ancestors.items else []) }
-    requires room { All (HasRoom below.old.items) (if growth.is_concrete then growth.ancestors.items else []) }
+    requires there { All (λ c. c < length below.old.items) (gaining growth) }
+    requires rising { Rises (gaining growth) }
+    requires room { All (HasRoom below.old.items) (gaining growth) }
     ensures rows { rows.new.items ≡ rows.old.items ++ growth.row ∷ [] }
-    ensures above { above.new.items ≡ above.old.items ++ (growth.ancestors.items ++ class ∷ []) ∷ [] }
-    ensures below { (front : List (List ℕ))
-        × IsAppended (if growth.is_concrete then growth.ancestors.items else []) class (lists below.old.items) front
-        × (lists below.new.items ≡ front ++ growth.own.items ∷ []) }
+    ensures above { above.new.items ≡ above.old.items ++ growth.with_itself ∷ [] }
+    ensures below { IsReceived growth (lists below.old.items) (lists below.new.items) }
 {
     let Growth {
         row,
+        class,
         is_concrete,
         ancestors,
         with_itself,
