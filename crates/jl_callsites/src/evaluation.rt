@@ -15,6 +15,7 @@ impl Sites {
         requires { site < length self.now.call_sites }
         ensures { method_of self.now site ≡ Some result }
     {
+        // Shows that the switch points of all guards are there, so that an evaluation ends at a method.
         let _switches = self.known_switches();
         self.method_of(site).unwrap()
     }

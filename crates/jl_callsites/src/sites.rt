@@ -68,6 +68,7 @@ impl Sites {
         ensures few { length self.now.call_sites ≤ 65536 }
         ensures count { result ≡ length self.now.call_sites }
     {
+        // Opens the invariant, which bounds the count.
         let _ = &self.switches;
         self.call_site_count()
     }
@@ -84,6 +85,7 @@ impl Sites {
         ensures known { are_known self.now ≡ true }
         ensures count { result ≡ length self.now.switches }
     {
+        // Opens the invariant, by which the switch points of all guards are there.
         let _ = &self.call_sites;
         self.switch_count()
     }

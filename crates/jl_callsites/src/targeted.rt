@@ -24,6 +24,7 @@ impl Sites {
         ensures first { result ≡ retirement.targeted classes.now self.now.call_sites loader }
         ensures few { IfSome result (λ place. place < 65536) }
     {
+        // Shows that a place fits a call site's number.
         let _count = self.few_call_sites();
         self.call_sites
             .as_slice()

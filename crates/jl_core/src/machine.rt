@@ -197,6 +197,7 @@ impl Core {
     pub fn last_work(&self) -> u64
         ensures { result ≤ most_of_last (events self.now) }
     {
+        // Shows which events the core has.
         let _present = &self.present;
         self.last_work
     }

@@ -91,6 +91,7 @@ impl Planned {
     pub fn work(&self) -> u64
         ensures { result ≤ most_of_last (events self.now.after) }
     {
+        // Shows which events the planned core has.
         let _after = &self.after;
         self.work
     }

@@ -68,6 +68,7 @@ impl Index {
     {
         let mut copy = Index::new(alloc);
         add_all(alloc, &self.footprints, &mut copy)?;
+        // Shows that the sites rise, so that equal footprints are equal indexes.
         let _count = copy.len();
         Ok(copy)
     }
@@ -141,6 +142,7 @@ fn add_all(alloc: Global, footprints: &Footprints, copy: &mut Index) -> Result<(
     requires { copy.old ≡ [] }
     ensures { OnOk result ((s : ℕ) → footprint_at copy.new s ≡ get nat_eq footprints.now s) }
 {
+    // Shows that each site stands once, and bounds the loop.
     let _len = footprints.len();
     let mut place = 0;
     while let Some((site, footprint)) = footprints.get_index(place) {

@@ -19,6 +19,7 @@ pub(crate) fn install_refusal(
     ensures ticks { work.new ≤ most_of_rows world.now rows.now }
     ensures small { work.new ≤ 16777216 }
 {
+    // Shows how few classes there are, which bounds the work.
     let _classes = world.classes.count_in_order();
     batch_refusal(world, rows, work)
 }

@@ -104,6 +104,7 @@ impl Classes {
     pub fn class_count(&self) -> usize
         ensures { result ≡ length self.now.rows }
     {
+        // Opens the invariant of the classes.
         let _ = &self.loaders;
         self.rows.len()
     }
@@ -114,6 +115,7 @@ impl Classes {
         ensures few { length self.now.rows ≤ 65536 }
         ensures count { result ≡ length self.now.rows }
     {
+        // Opens the invariant of the classes.
         let _ = &self.loaders;
         self.class_count()
     }
@@ -130,6 +132,7 @@ impl Classes {
         ensures found { result ≡ members.lookup self.now loader name.now }
         ensures there { IfSome result (λ class. class < length self.now.rows) }
     {
+        // Opens the invariant: what is recorded is a class.
         let _ = &self.rows;
         self.found(loader, name)
     }

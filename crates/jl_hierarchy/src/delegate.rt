@@ -55,6 +55,7 @@ impl Classes {
     pub fn has_all_loaders(&self) -> bool
         ensures { result ≡ nat_le 1024 (length self.now.loaders) }
     {
+        // Opens the invariant of the classes.
         let _ = &self.rows;
         self.loaders.len() >= MOST_LOADERS
     }

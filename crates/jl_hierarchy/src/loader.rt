@@ -238,6 +238,7 @@ impl Records {
     fn has_one_of(&self, rows: &Paged<Row>, loader: LoaderId) -> bool
         ensures { result ≡ list_any (λ r. is_row_of rows.now.items loader r.1) self.now }
     {
+        // Bounds the loop.
         let _count = self.records.len();
         let mut place = 0;
         while let Some((_, class)) = self.records.get_index(place) {
@@ -258,6 +259,7 @@ impl Records {
     ) -> Result<(), AllocError>
         ensures { OnOk result (own.new.items ≡ own.old.items ++ own_recorded rows.now.items loader self.now) }
     {
+        // Bounds the loop.
         let _count = self.records.len();
         let mut place = 0;
         while let Some((_, class)) = self.records.get_index(place) {

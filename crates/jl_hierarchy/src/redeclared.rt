@@ -140,6 +140,7 @@ impl Classes {
         ensures { result ≡ false → sees self.now sought.now.name sought.now.ty class ≡ true
             → IsNotRedeclared self.now sought.now.name sought.now.ty class }
     {
+        // Opens the classes' invariant: what must be marked is.
         let _ = self.class_at(class);
         self.marks.has(class, sought.print())
     }

@@ -26,6 +26,7 @@ impl Classes {
     pub fn is_retired(&self, loader: LoaderId) -> bool
         ensures { result ≡ members.is_retired self.now loader }
     {
+        // Opens the invariant of the classes.
         let _ = &self.rows;
         self.retired.contains(&loader)
     }
@@ -138,6 +139,7 @@ impl Classes {
         ensures few { length self.now.loaders ≤ 1024 }
         ensures count { result ≡ length self.now.loaders }
     {
+        // Opens the invariant of the classes.
         let _ = &self.rows;
         self.loaders.len()
     }
@@ -168,6 +170,7 @@ impl Classes {
     ) -> Result<Vec<ClassId>, AllocError>
         ensures { IfOk result (λ losing. losing.items ≡ retirement.losing_receivers self.now loader) }
     {
+        // Opens the invariant of the classes.
         let _ = &self.rows;
         let own = self.own_classes(alloc, loader)?;
         let concrete = self.concrete_among(alloc, &own)?;
@@ -181,6 +184,7 @@ impl Classes {
         ensures { IfOk result (λ own. (c : ℕ) → list_any (λ k. k == c) own.items
             ≡ (members.is_present self.now c && retirement.is_of self.now loader c)) }
     {
+        // Opens the invariant of the classes.
         let _ = &self.rows;
         if self.is_retired(loader) {
             return Ok(Vec::new(alloc));

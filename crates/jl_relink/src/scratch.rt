@@ -22,6 +22,7 @@ use jl_types::{CallSiteId, ClassId, Link, Missing, SiteNo, Unlinked, Work};
 pub fn link_of(world: &World, site: SiteNo) -> Result<Link, Unlinked>
     ensures { result ≡ links.scratch world.now site }
 {
+    // Shows how few classes there are, which bounds the work.
     let _count = world.classes.class_count();
     let mut work = Work::new();
     link_counted(world, site, &mut work)

@@ -34,6 +34,7 @@ pub fn runs_below(classes: &Classes, named: ClassId, resolved: &MethodId) -> boo
 fn may_run(classes: &Classes, named: ClassId, resolved: &MethodId) -> bool
     ensures { result ≡ true → MayRun classes.now named resolved.now }
 {
+    // Shows that parents have smaller numbers.
     let _ = classes.class_at(named);
     !classes.is_interface(named)
         && classes.are_superclass_chains()

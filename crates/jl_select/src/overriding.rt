@@ -18,6 +18,7 @@ pub fn can_override(classes: &Classes, lower: &MethodId, upper: &MethodId) -> bo
     ensures test { result ≡ overriding.can_override classes.now lower.now upper.now }
     ensures relation { Decides result (CanOverride classes.now lower.now upper.now) }
 {
+    // Shows that parents have smaller numbers.
     let _ = classes.class_at(lower.class);
     match (classes.method_at(lower), classes.method_at(upper)) {
         (Some(method), Some(overridden)) => overrides(classes, lower, upper, &method, &overridden),

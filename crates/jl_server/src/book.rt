@@ -155,6 +155,7 @@ impl<K: Name, R: Wait + Drop> Book<K, R> {
         ensures link { result.1 ≡ installed (events_of self.now) site }
         ensures order { AreInOrder (world_after (events_of self.now)).classes }
     {
+        // Shows that the classes came in order.
         let _classes = self.core.world().classes.count_in_order();
         (self.core.call(site, recv), self.core.links().get(site))
     }
@@ -417,6 +418,7 @@ fn denied_after<K: Name>(list: &Seen<K>, refusal: Refusal) -> Denied<K>
     ensures denied { (result.refusal ≡ refusal) × (result.seen ≡ list.now) }
     ensures legal { IsLegal K.max_sites list.now }
 {
+    // Shows that the list is legal.
     let _serial = list.serial();
     Denied {
         refusal,

@@ -274,6 +274,7 @@ fn entered<K: Name>(
     match enter(looking) {
         Ok(reading) => found(reading, seen),
         Err(looking) => {
+            // Shows that the list is legal.
             let _serial = seen.serial();
             seen.begins(&seen);
             Err((looking, seen))
@@ -298,6 +299,7 @@ fn found<K: Name>(
     ensures given { IfErr result (λ r. (seat_view r.0.place ≡ seat_view reading.place) × (r.1 ≡ seen)) }
     ensures same { IfErr result (λ r. IsPrefix seen r.1 × IsLegal K.max_sites r.1) }
 {
+    // Shows that the list is legal.
     let _serial = seen.serial();
     let table = reading.get();
     let list = Seen::<K>::of(&table.list);

@@ -75,6 +75,7 @@ impl<K: Name> Memo<K> {
         ensures remembered { result ≡ remembered self.now.sets site class }
         ensures stays { IfSome result (HoldsFrom K.max_sites self.now.seen site class) }
     {
+        // Opens the invariant: what is remembered holds from the seen list on.
         let _seen = &self.seen;
         self.rows.get(site, class)
     }
@@ -84,6 +85,7 @@ impl<K: Name> Memo<K> {
         ensures rows { result.now ≡ self.now.sets }
         ensures right { AreRight (world_after (events_of self.now.seen)) self.now.sets }
     {
+        // Opens the invariant: what is remembered holds from the seen list on.
         let _seen = &self.seen;
         &self.rows
     }

@@ -66,6 +66,7 @@ impl<K: Name, R: Wait + Drop> LinkServer<K, R> {
         ensures rows { IfOk result (λ list. list.rows ≡ installed_links (events_of caller.new)) }
         ensures unchanged { OnErr result (caller.new ≡ caller.old) }
     {
+        // Shows that the list is legal.
         let _serial = caller.seen().serial();
         caller.seen().begins(caller.seen());
         let (rows, seen) = links_after(rt, alloc, self, caller.seen())?;
@@ -168,6 +169,7 @@ impl<K: Name> Caller<K> {
         ensures sites { IfOk result (λ r. length r.0.world.places ≤ K.max_sites) }
         ensures unchanged { OnErr result (self.new ≡ self.old) }
     {
+        // Shows that the list is legal.
         let _serial = self.seen().serial();
         self.seen().begins(self.seen());
         let (snapshot, seen) = snapshot_after(rt, alloc, server, self.seen())?;

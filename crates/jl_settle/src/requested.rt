@@ -77,6 +77,7 @@ fn push_of_method(
         ≡ (list_any (λ t. t == s) sites.old.items || requested_where (is_in_method class number method.now.sites) places.now.keys s)) }
 {
     let invocations = method.sites();
+    // Bounds the loop.
     let _count = invocations.len();
     let mut at = 0;
     while let Some(invocation) = invocations.at(at) {
@@ -101,6 +102,7 @@ fn push_requested(
     ensures { OnOk result ((s : ℕ) → list_any (λ t. t == s) sites.new.items
         ≡ (list_any (λ t. t == s) sites.old.items || requested_where (same_place place.now) places.now.keys s)) }
 {
+    // Shows that each place is requested once.
     let _len = places.len();
     match places.get_index_of(place) {
         Some(site) => {

@@ -97,6 +97,7 @@ fn keys(told: &mut Told, world: &World, words: &[&str]) {
 
 /// How many ticks the link of the site takes.
 fn ticks(world: &World, site: SiteNo) -> u64 {
+    // Shows how few classes there are, which bounds the work.
     let _count = world.classes.class_count();
     let mut work = Work::new();
     let _link = link_counted(world, site, &mut work);
