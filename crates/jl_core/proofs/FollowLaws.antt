@@ -21,9 +21,8 @@ use Rattle.jl_cache.specs.Links.{link_at}
 use Rattle.jl_deps.specs.Indexes.{AreRising, IsIndex}
 use Rattle.jl_events.specs.Accepted.{event_of}
 use Rattle.jl_events.specs.Changes.{IsNext}
-use Rattle.jl_core.specs.declared.log.Entry.{Entry}
 use Rattle.jl_core.specs.State.{State, events, world_of, AreAnswered}
-use Rattle.jl_core.specs.Logs.{told, are_told, shown, IsLogged}
+use Rattle.jl_core.specs.Logs.{Entry, told, are_told, shown, IsLogged}
 use Rattle.jl_core.specs.Means.Replays.{IsBehind, IsFurther}
 use Rattle.jl_core.proofs.LogLaws.{length_told}
 use Rattle.jl_core.proofs.HistoryLaws.{core_of, IsExact, exact_links, shown_further, told_further}
@@ -81,6 +80,11 @@ take_whole (x ∷ xs) zero le = absurd (omega arith)
 take_whole (x ∷ xs) (suc n) le = ap (λ ys. x ∷ ys) (take_whole xs n (omega arith))
 
 -- ---- no event behind
+
+-- it is so of what is seen of both, as it is of what they have
+pub behind_inside : {inner core inner_ahead ahead : State} → inner ≡ core → inner_ahead ≡ ahead → IsBehind core ahead → IsBehind inner inner_ahead
+behind_inside {inner} {core} {inner_ahead} {ahead} same same_ahead behind =
+    subst (λ (s : State). IsBehind s inner_ahead) (sym same) (subst (IsBehind core) (sym same_ahead) behind)
 
 pub not_behind : (core ahead : State) → IsBehind core ahead → length ahead.log ≤ length core.log → core ≡ ahead
 not_behind core ahead behind le = behind.0 ∙ ap (λ (log : List (Event × Reply)). record ahead { log = log }) (take_whole ahead.log (length core.log) le)
@@ -208,3 +212,7 @@ module _ (m : ℕ) (old : World) (links : List (ℕ × Link)) (log : List Entry)
       told = told_further old new log more e reply exact.told (came ∙ moved) is_logged;
       answered = subst AreAnswered (sym same_core) answered;
     }
+
+    -- with no more places than may be requested
+    pub kept_so : length ahead.places ≤ k → IsExact m new after more × (length new.places ≤ m)
+    kept_so few = (exact_so, few_so new came few)

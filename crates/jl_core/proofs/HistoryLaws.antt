@@ -1,5 +1,5 @@
 -- One event more, as the whole history says it.
-use Rattle.std.specs.Prelude.{◌≡◌, ℕ, ◌&&◌, true, List, [], ◌∷◌, ◌++◌, map, filter, length, slice_get, Some, option_map, Ok, IsOk, is_some, is_none}
+use Rattle.std.specs.Prelude.{◌≡◌, ◌≤◌, ℕ, ◌&&◌, true, List, [], ◌∷◌, ◌++◌, map, filter, length, slice_get, Some, option_map, Ok, IsOk, is_some, is_none}
 use Rattle.std.specs.List.{range_with_len}
 use Rattle.std.proofs.Common.{ap, sym, subst, ◌∙◌}
 use Rattle.std.proofs.lemmas.List.{map-append}
@@ -14,15 +14,15 @@ use Rattle.jl_types.specs.Happenings.History.{world_after, installed, installs, 
 use Rattle.jl_types.specs.Happenings.History as history
 use Rattle.jl_types.proofs.Installed.{installed_to, settled_now}
 use Rattle.jl_types.proofs.OneMore.{installed_step}
+use Rattle.jl_types.proofs.Places.{limit_step}
 use Rattle.jl_select.specs.Constancy.{IsConstant}
 use Rattle.jl_types.specs.declared.key.Key.{Key}
 use Rattle.jl_types.specs.Happenings.Footprints.{footprint}
 use Rattle.jl_cache.specs.Links.{link_at}
 use Rattle.jl_deps.specs.Indexes.{footprint_at, IsIndex}
 use Rattle.jl_events.proofs.AcceptedLaws.{rows_stay}
-use Rattle.jl_core.specs.declared.log.Entry.{Entry}
 use Rattle.jl_core.specs.State.{State, events, world_of, AreAnswered, IsAccepted}
-use Rattle.jl_core.specs.Logs.{are_told, shown, IsLogged}
+use Rattle.jl_core.specs.Logs.{Entry, are_told, shown, IsLogged}
 use Rattle.jl_core.specs.Means.Changes.{AreScratch, IsDone}
 use Rattle.jl_core.proofs.LogLaws.{all_still, told_more, shown_more}
 use Rattle.jl_core.proofs.HeadlineLaws.{answered_more}
@@ -111,6 +111,17 @@ module _ (m : ℕ) (old new : World) (before after : List (ℕ × Link)) (log mo
     constant = subst (λ (w : World). IsConstant w.classes (world_of (core_of m new more)).classes) exact.world
         (subst (λ (w : World). IsConstant old.classes w.classes) (world_more ∙ ap world_after (sym events_after)) done.moved.constant);
   }
+
+  -- with no more places than may be requested
+  pub kept_after : length old.places ≤ m → IsExact m new after more × (length new.places ≤ m)
+  kept_after few =
+      (exact_after, subst (λ (w : World). length w.places ≤ m) (sym done.moved.step) (limit_step m old e reply.made (done.moved.made_is m accepted) few))
+
+-- the same verdict, by what the core's parts are
+pub accepted_inside : (m : ℕ) (w : World) (log : List Entry) (core : State) (e : Event) → w ≡ world_of (core_of m w log) → core_of m w log ≡ core
+    → IsOk (verdict core.max_sites (world_of core) e) → IsOk (verdict m w e)
+accepted_inside m w log core e world same accepted =
+    subst (λ (v : World). IsOk (verdict m v e)) (sym world) (subst (λ (s : State). IsOk (verdict s.max_sites (world_of s) e)) (sym same) accepted)
 
 -- the same world, links and log
 pub exact_same : (m : ℕ) (w v : World) (links same : List (ℕ × Link)) (log more : List Entry) → v ≡ w → same ≡ links → more ≡ log

@@ -2,7 +2,7 @@
 use Rattle.std.specs.Prelude.{◌≡◌, ℕ, ◌<◌, ◌≤◌, List, [], ◌∷◌, ◌++◌, filter_map, slice_get, Option, Some, None}
 use Rattle.std.specs.Option.{option_map_or}
 use Rattle.std.proofs.Common.{ap, sym, ◌∙◌, append-nil, append_assoc}
-use Rattle.jl_types.specs.Values.Target.{Invoker}
+use Rattle.jl_types.specs.Values.Target.{Target, Invoker}
 use Rattle.jl_types.specs.Values.World.{Sites, CallSite}
 use Rattle.jl_types.specs.declared.key.Key.{Key}
 use Rattle.jl_types.specs.declared.key.Key.TheVariants as key
@@ -40,3 +40,27 @@ goes_on before after all ks rest c is pushed e =
 pub passes : (before all : List ℕ) (ks rest : List Key) (c : ℕ) → ks ≡ key.Target c ∷ rest → before ++ filter_map point_in ks ≡ all
     → before ++ filter_map point_in rest ≡ all
 passes before all ks rest c is e = ap (λ (ks : List Key). before ++ filter_map point_in ks) (sym is) ∙ e
+
+-- ---- at an invoker
+
+module _ (sites : Sites) (n c : ℕ) (target : Target) (is : target ≡ Invoker c) where
+  -- of a later call site nothing comes
+  pub none_later : (f : Key → Option ℕ) (before all : List ℕ) → n ≤ c → before ++ filter_map f (way sites n target) ≡ all → before ≡ all
+  none_later f before all le = ends f before all (way sites n target) (ap (way sites n) is ∙ way_later sites n c le)
+
+  module _ (lt : c < n) where
+    -- of one that isn't there itself alone
+    pub absent_call_site : slice_get sites.call_sites c ≡ None → (before after all : List ℕ) → after ≡ before ++ c ∷ []
+        → before ++ filter_map call_site_in (way sites n target) ≡ all → after ≡ all
+    absent_call_site at before after all pushed e =
+        sym (append-nil after) ∙ goes_on before after all (way sites n target) [] c (ap (way sites n) is ∙ way_absent sites n c lt at) pushed e
+
+    pub absent_point : slice_get sites.call_sites c ≡ None → (before all : List ℕ) → before ++ filter_map point_in (way sites n target) ≡ all → before ≡ all
+    absent_point at before all e =
+        sym (append-nil before) ∙ passes before all (way sites n target) [] c (ap (way sites n) is ∙ way_absent sites n c lt at) e
+
+    -- of an earlier one itself, and then what its target comes by
+    pub goes_by : (row : CallSite) (next : Target) → slice_get sites.call_sites c ≡ Some row → next ≡ row.target
+        → way sites n target ≡ key.Target c ∷ way sites c next
+    goes_by row next at made =
+        ap (way sites n) is ∙ way_invoked sites n c row lt at ∙ ap (λ (t : Target). key.Target c ∷ way sites c t) (sym made)

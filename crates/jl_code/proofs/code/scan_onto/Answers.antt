@@ -15,11 +15,8 @@ loop-rest-init c =
 
 pub loop-rest-smaller : goal.loop-rest-smaller
 loop-rest-smaller c =
-    let read =
-    shorter c.args.pool.now c.args.code.now c.loop-rest.rest.now c.in-Ok.after.now c.loop-rest.invariant.sites
-    (length c.args.code.now - length c.loop-rest.rest.now)
-    c.in-Ok.instruction c.loop-rest.invariant.scanned c.in-Ok.ensures
-    in
+    let read = shorter c.args.pool.now c.args.code.now c.loop-rest.rest.now c.in-Ok.after.now c.loop-rest.invariant.sites
+    (length c.args.code.now - length c.loop-rest.rest.now) c.in-Ok.instruction c.loop-rest.invariant.scanned c.in-Ok.ensures in
     let skipped = no_longer c.in-Ok.after.now c.behind_plain-rest-in-Ok.result.now c.behind_plain-rest-in-Ok.ensures in
     omega (arith, read, skipped)
 
@@ -42,25 +39,22 @@ loop-rest-preserved c =
 pub returns-in-Err-Cut-clause-fault : goal.returns-in-Err-Cut-clause-fault
 returns-in-Err-Cut-clause-fault c =
     Scanned-cut c.args.pool.now c.args.code.now c.loop-rest.rest.now c.loop-rest.invariant.sites (length c.args.code.now - length c.loop-rest.rest.now) refl
-    c.loop-rest.invariant.scanned
-    (sym c.is_empty.ensures ∙ c.loop-rest-test.true) (rw c.in-Err-Cut.field-0-is at c.in-Err-Cut.ensures)
+    c.loop-rest.invariant.scanned (sym c.is_empty.ensures ∙ c.loop-rest-test.true) (rw c.in-Err-Cut.field-0-is at c.in-Err-Cut.ensures)
 
 pub returns-in-Err-Opcode-clause-fault : goal.returns-in-Err-Opcode-clause-fault
 returns-in-Err-Opcode-clause-fault c =
     Scanned-unknown c.args.pool.now c.args.code.now c.loop-rest.rest.now c.loop-rest.invariant.sites (length c.args.code.now - length c.loop-rest.rest.now) refl
-    c.loop-rest.invariant.scanned
-    (rw c.in-Err-Opcode.field-0-is at c.in-Err-Opcode.ensures)
+    c.loop-rest.invariant.scanned (rw c.in-Err-Opcode.field-0-is at c.in-Err-Opcode.ensures)
 
 pub returns-in-Err-Switch-clause-fault : goal.returns-in-Err-Switch-clause-fault
 returns-in-Err-Switch-clause-fault c =
     Scanned-switch c.args.pool.now c.args.code.now c.loop-rest.rest.now c.loop-rest.invariant.sites (length c.args.code.now - length c.loop-rest.rest.now) refl
-    c.loop-rest.invariant.scanned
-    (rw c.in-Err-Switch.field-0-is at c.in-Err-Switch.ensures)
+    c.loop-rest.invariant.scanned (rw c.in-Err-Switch.field-0-is at c.in-Err-Switch.ensures)
 
 pub returns-in_err-site-in-Ok-clause-fault : goal.returns-in_err-site-in-Ok-clause-fault
 returns-in_err-site-in-Ok-clause-fault c =
     let p = err_from_is_err_and c.from_residual.result c.from_residual.ensures.1 in
     rw (p.1, p.2)
     (Scanned-operand c.args.pool.now c.args.code.now c.loop-rest.rest.now c.in-Ok.after.now c.loop-rest.invariant.sites
-    (length c.args.code.now - length c.loop-rest.rest.now)
-    c.in-Ok.instruction c.in_err-site-in-Ok.field-0.0 refl c.loop-rest.invariant.scanned c.in-Ok.ensures c.in_err-site-in-Ok.ensures.fault)
+    (length c.args.code.now - length c.loop-rest.rest.now) c.in-Ok.instruction c.in_err-site-in-Ok.field-0.0 refl c.loop-rest.invariant.scanned
+    c.in-Ok.ensures c.in_err-site-in-Ok.ensures.fault)

@@ -4,21 +4,13 @@ use Rattle.jl_types.specs.Values.World.{World}
 use Rattle.jl_relink.specs.Laws.{IsInOrder}
 use Rattle.jl_cache.specs.Links.{link_at}
 use Rattle.jl_deps.specs.Indexes.{IsIndex}
-use Rattle.jl_core.specs.State.{State}
-use Rattle.jl_core.specs.Means.Replays.{IsBehind}
-use Rattle.jl_core.proofs.HistoryLaws.{core_of}
-use Rattle.jl_core.proofs.FollowLaws.{none_behind, is_further, exact_so, same_core, few_so}
+use Rattle.jl_core.proofs.FollowLaws.{behind_inside, none_behind, is_further, kept_so, same_core}
 use Rattle.jl_core.proofs.instance.Instance.follow.Goals as goal
 
 pub returns-in_default : goal.returns-in_default
 returns-in_default c =
-    let old = c.self.inside in
-    let ahead = c.ahead.inside in
-    let behind =
-    subst (λ (s : State). IsBehind s (core_of ahead.max_sites ahead.world.value ahead.log.items)) (sym c.self.view_is)
-    (subst (IsBehind c.args.self) (sym c.ahead.view_is) c.requires)
-    in
-    none_behind old.max_sites ahead.max_sites old.world.value ahead.world.value old.log.items ahead.log.items c.self.invariant.2 c.ahead.invariant.2 behind
+    none_behind c.self.inside.max_sites c.ahead.inside.max_sites c.self.inside.world.value c.ahead.inside.world.value c.self.inside.log.items
+    c.ahead.inside.log.items c.self.invariant.2 c.ahead.invariant.2 (behind_inside c.self.view_is c.ahead.view_is c.requires)
     ((λ i. slice_get (sym c.as_slice.ensures.value i) (length (sym c.as_slice-place.ensures.value i))) ∙ sym c.in_default.ensures)
     ∙ c.ahead.view_is
 
@@ -27,41 +19,28 @@ follow-requires-clause-further c =
     is_further c.self.inside.max_sites c.self.inside.world.value c.self.inside.links c.self.inside.log.items
     c.ahead.inside.max_sites c.ahead.inside.world.value c.ahead.inside.log.items c.in-Some.entry.now
     (record { world = c.self.invariant.0; links = c.self.invariant.1; told = c.self.invariant.2; answered = c.self.invariant.5 })
-    c.ahead.invariant.0 c.ahead.invariant.2 c.ahead.invariant.5
-    (subst (λ (s : State). IsBehind s (core_of c.ahead.inside.max_sites c.ahead.inside.world.value c.ahead.inside.log.items)) (sym c.self.view_is)
-    (subst (IsBehind c.args.self) (sym c.ahead.view_is) c.requires))
+    c.ahead.invariant.0 c.ahead.invariant.2 c.ahead.invariant.5 (behind_inside c.self.view_is c.ahead.view_is c.requires)
     ((λ i. slice_get (sym c.as_slice.ensures.value i) (length (sym c.as_slice-place.ensures.value i))) ∙ sym c.in-Some.ensures)
-    c.self.inside.index c.ahead.inside.index
-    (subst IsInOrder c.deref.ensures c.note_order.ensures)
+    c.self.inside.index c.ahead.inside.index (subst IsInOrder c.deref.ensures c.note_order.ensures)
     c.len-sites.ensures.rising c.self.invariant.6 c.ahead.inside.links c.ahead.invariant.1 c.ahead.invariant.6
 
 pub invariant_of-result-2 : goal.invariant_of-result-2
 invariant_of-result-2 c =
-    let behind =
-    subst (λ (s : State). IsBehind s (core_of c.ahead.inside.max_sites c.ahead.inside.world.value c.ahead.inside.log.items)) (sym c.self.view_is)
-    (subst (IsBehind c.args.self) (sym c.ahead.view_is) c.requires)
-    in
-    let at =
-    (λ i. slice_get (sym c.as_slice.ensures.value i) (length (sym c.as_slice-place.ensures.value i))) ∙ sym c.in-Some.ensures
-    in
-    let now =
-    exact_so c.self.inside.max_sites c.self.inside.world.value c.self.inside.links c.self.inside.log.items
+    let next =
+    kept_so c.self.inside.max_sites c.self.inside.world.value c.self.inside.links c.self.inside.log.items
     c.ahead.inside.max_sites c.ahead.inside.world.value c.ahead.inside.log.items c.in-Some.entry.now
     (record { world = c.self.invariant.0; links = c.self.invariant.1; told = c.self.invariant.2; answered = c.self.invariant.5 })
-    c.ahead.invariant.0 c.ahead.invariant.2 c.ahead.invariant.5 behind at
+    c.ahead.invariant.0 c.ahead.invariant.2 c.ahead.invariant.5 (behind_inside c.self.view_is c.ahead.view_is c.requires)
+    ((λ i. slice_get (sym c.as_slice.ensures.value i) (length (sym c.as_slice-place.ensures.value i))) ∙ sym c.in-Some.ensures)
     c.follow.new.world.value c.follow.new.links c.follow.new.log.items c.in_ok-follow.ensures.world
-    c.ahead.inside.links c.ahead.invariant.1 c.in_ok-follow.ensures.links c.in_ok-follow.ensures.log
+    c.ahead.inside.links c.ahead.invariant.1 c.in_ok-follow.ensures.links c.in_ok-follow.ensures.log c.ahead.invariant.3
     in (
-      now.world,
-      now.links,
-      now.told,
-      few_so c.self.inside.max_sites c.self.inside.world.value c.self.inside.links c.self.inside.log.items
-          c.ahead.inside.max_sites c.ahead.inside.world.value c.ahead.inside.log.items c.in-Some.entry.now
-          (record { world = c.self.invariant.0; links = c.self.invariant.1; told = c.self.invariant.2; answered = c.self.invariant.5 })
-          c.ahead.invariant.0 c.ahead.invariant.2 c.ahead.invariant.5 behind at
-          c.follow.new.world.value c.in_ok-follow.ensures.world c.ahead.invariant.3,
+      next.0.world,
+      next.0.links,
+      next.0.told,
+      next.1,
       c.self.invariant.4,
-      now.answered,
+      next.0.answered,
       subst (λ (w : World). IsIndex w (link_at c.follow.new.links) c.follow.new.index) (sym c.in_ok-follow.ensures.world) c.in_ok-follow.ensures.index,
     )
 
@@ -70,9 +49,7 @@ returns c =
     same_core c.self.inside.max_sites c.self.inside.world.value c.self.inside.links c.self.inside.log.items
     c.ahead.inside.max_sites c.ahead.inside.world.value c.ahead.inside.log.items c.in-Some.entry.now
     (record { world = c.self.invariant.0; links = c.self.invariant.1; told = c.self.invariant.2; answered = c.self.invariant.5 })
-    c.ahead.invariant.0 c.ahead.invariant.2 c.ahead.invariant.5
-    (subst (λ (s : State). IsBehind s (core_of c.ahead.inside.max_sites c.ahead.inside.world.value c.ahead.inside.log.items)) (sym c.self.view_is)
-    (subst (IsBehind c.args.self) (sym c.ahead.view_is) c.requires))
+    c.ahead.invariant.0 c.ahead.invariant.2 c.ahead.invariant.5 (behind_inside c.self.view_is c.ahead.view_is c.requires)
     ((λ i. slice_get (sym c.as_slice.ensures.value i) (length (sym c.as_slice-place.ensures.value i))) ∙ sym c.in-Some.ensures)
     c.follow.new.world.value c.follow.new.links c.follow.new.log.items c.in_ok-follow.ensures.world
     c.ahead.inside.links c.ahead.invariant.1 c.in_ok-follow.ensures.links c.in_ok-follow.ensures.log

@@ -1,22 +1,20 @@
-use Rattle.std.specs.Prelude.{◌≡◌, ◌≤◌, IsOk, length}
+use Rattle.std.specs.Prelude.{◌≤◌}
 use Rattle.std.proofs.Common.{ap, sym, subst, ◌∙◌, arith}
-use Rattle.jl_types.specs.Happenings.Events.{verdict}
 use Rattle.jl_types.specs.Happenings.Footprints.{bound}
 use Rattle.jl_types.specs.Values.World.{World}
-use Rattle.jl_types.proofs.Places.{limit_step}
 use Rattle.jl_relink.specs.Laws.{IsInOrder}
 use Rattle.jl_cache.specs.Links.{link_at}
 use Rattle.jl_events.specs.Judging.{most_to_judge}
 use Rattle.jl_core.specs.State.{State, events, world_of, IsAccepted}
-use Rattle.jl_core.proofs.HistoryLaws.{core_of, exact_links, exact_after, accepted_after}
+use Rattle.jl_core.proofs.HistoryLaws.{core_of, exact_links, kept_after, accepted_after, accepted_inside}
 use Rattle.jl_core.proofs.WorkLaws.{are_bounded}
 use Rattle.jl_core.proofs.instance.Instance.perform.Goals as goal
 
 pub perform-requires-clause-accepted : goal.perform-requires-clause-accepted
 perform-requires-clause-accepted c = (
   c.self.inside.max_sites,
-  subst (λ (core : State). IsOk (verdict core.max_sites c.self.inside.world.value c.args.event)) (sym c.self.view_is)
-      (subst (λ (w : World). IsOk (verdict c.args.self.max_sites w c.args.event)) (sym (c.self.invariant.0 ∙ ap world_of c.self.view_is)) c.requires.accepted),
+  accepted_inside c.self.inside.max_sites c.self.inside.world.value c.self.inside.log.items c.args.self c.args.event c.self.invariant.0 c.self.view_is
+      c.requires.accepted,
 )
 
 pub perform-requires-clause-sound : goal.perform-requires-clause-sound
@@ -30,47 +28,30 @@ perform-requires-clause-sound c = record {
 
 pub invariant_of-next : goal.invariant_of-next
 invariant_of-next c =
-    let accepted : IsOk (verdict c.self.inside.max_sites c.self.inside.world.value c.args.event) =
-    subst (λ (core : State). IsOk (verdict core.max_sites c.self.inside.world.value c.args.event)) (sym c.self.view_is)
-    (subst (λ (w : World). IsOk (verdict c.args.self.max_sites w c.args.event)) (sym (c.self.invariant.0 ∙ ap world_of c.self.view_is)) c.requires.accepted) in
-    let now =
-    exact_after c.self.inside.max_sites c.self.inside.world.value c.perform.new.world.value
-    c.self.inside.links c.perform.new.links c.self.inside.log.items c.perform.new.log.items
-    c.args.event c.in_ok-reply.reply
+    let next = kept_after c.self.inside.max_sites c.self.inside.world.value c.perform.new.world.value
+    c.self.inside.links c.perform.new.links c.self.inside.log.items c.perform.new.log.items c.args.event c.in_ok-reply.reply
     (record { world = c.self.invariant.0; links = c.self.invariant.1; told = c.self.invariant.2; answered = c.self.invariant.5 })
-    accepted c.in_ok-reply.ensures.done
-    in (
-      now.world,
-      now.links,
-      now.told,
-      subst (λ (w : World). length w.places ≤ c.self.inside.max_sites) (sym c.in_ok-reply.ensures.done.moved.step)
-          (limit_step c.self.inside.max_sites c.self.inside.world.value c.args.event c.in_ok-reply.reply.made
-          (c.in_ok-reply.ensures.done.moved.made_is c.self.inside.max_sites accepted) c.self.invariant.3),
-      c.self.invariant.4,
-      now.answered,
-      c.in_ok-reply.ensures.indexed,
-    )
+    (accepted_inside c.self.inside.max_sites c.self.inside.world.value c.self.inside.log.items c.args.self c.args.event c.self.invariant.0 c.self.view_is
+    c.requires.accepted) c.in_ok-reply.ensures.done c.self.invariant.3 in
+    (next.0.world, next.0.links, next.0.told, next.1, c.self.invariant.4, next.0.answered, c.in_ok-reply.ensures.indexed)
 
 pub returns-clause-accepted : goal.returns-clause-accepted
 returns-clause-accepted c =
-    let next = core_of c.self.inside.max_sites c.perform.new.world.value c.perform.new.log.items in
-    subst (λ (core : State). IsAccepted core next c.args.event c.in_ok-reply.reply) c.self.view_is
+    subst (λ (core : State). IsAccepted core (core_of c.self.inside.max_sites c.perform.new.world.value c.perform.new.log.items) c.args.event
+    c.in_ok-reply.reply) c.self.view_is
     (accepted_after c.self.inside.max_sites c.self.inside.world.value c.perform.new.world.value
-    c.self.inside.links c.perform.new.links c.self.inside.log.items c.perform.new.log.items
-    c.args.event c.in_ok-reply.reply
+    c.self.inside.links c.perform.new.links c.self.inside.log.items c.perform.new.log.items c.args.event c.in_ok-reply.reply
     (record { world = c.self.invariant.0; links = c.self.invariant.1; told = c.self.invariant.2; answered = c.self.invariant.5 })
-    (subst (λ (core : State). IsOk (verdict core.max_sites c.self.inside.world.value c.args.event)) (sym c.self.view_is)
-    (subst (λ (w : World). IsOk (verdict c.args.self.max_sites w c.args.event)) (sym (c.self.invariant.0 ∙ ap world_of c.self.view_is)) c.requires.accepted))
-    c.in_ok-reply.ensures.done)
+    (accepted_inside c.self.inside.max_sites c.self.inside.world.value c.self.inside.log.items c.args.self c.args.event c.self.invariant.0 c.self.view_is
+    c.requires.accepted) c.in_ok-reply.ensures.done)
 
 pub returns-clause-bounded : goal.returns-clause-bounded
 returns-clause-bounded c =
     let core = core_of c.self.inside.max_sites c.self.inside.world.value c.self.inside.log.items in
-    let same : world_of c.args.self ≡ c.self.inside.world.value = sym (c.self.invariant.0 ∙ ap world_of c.self.view_is) in
     let judged : c.args.work.now ≤ most_to_judge c.self.inside.world.value c.args.event =
-    subst (λ (w : World). c.args.work.now ≤ most_to_judge w c.args.event) same c.requires.judged in
+    subst (λ (w : World). c.args.work.now ≤ most_to_judge w c.args.event) (sym (c.self.invariant.0 ∙ ap world_of c.self.view_is)) c.requires.judged in
     let most = are_bounded (events core) c.self.inside.world.value (link_at c.self.inside.links) c.self.inside.index
     c.len-sites.ensures.rising c.self.invariant.0 c.self.invariant.1 c.self.invariant.6 c.args.event in
     let ticks = c.in_ok-reply.ensures.ticks in
-    subst (λ (s : State). c.perform.new.work ≤ bound (events s) c.args.event) c.self.view_is
-    (let le : c.perform.new.work ≤ bound (events core) c.args.event = omega arith in le)
+    let le : c.perform.new.work ≤ bound (events core) c.args.event = omega arith in
+    subst (λ (s : State). c.perform.new.work ≤ bound (events s) c.args.event) c.self.view_is le
