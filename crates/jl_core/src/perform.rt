@@ -1,8 +1,9 @@
 //! What an accepted event changes: the world, the installed links, their index and the log. Nothing is judged here.
 
-ghost use Rattle.std.specs.Prelude.{◌≡◌, ◌==◌, ◌&&◌, ◌+◌, ◌≤◌, ◌++◌, ◌∷◌, [], ℕ, false, length, IfOk, OnOk, is_some, is_none};
+ghost use Rattle.std.specs.Prelude.{◌≡◌, ◌==◌, ◌&&◌, ◌+◌, ◌≤◌, ◌++◌, ◌∷◌, [], ℕ, List, false, length, IfOk, OnOk, is_some, is_none};
 ghost use Rattle.std.specs.List.{list_any};
 ghost use Rattle.jl_types.specs.declared.event.EventOf.TheVariants as events;
+ghost use Rattle.jl_types.specs.declared.key.Key as keys;
 ghost use Rattle.jl_types.specs.Linkage.Links.{scratch};
 ghost use Rattle.jl_types.specs.Happenings.History.{kept};
 ghost use Rattle.jl_cache.specs.Links.{link_at};
@@ -19,7 +20,7 @@ use jl_events::{Accepted, defined_class, step_world};
 use jl_names::Seq;
 use jl_relink::World;
 use jl_settle::{forget, install_rows, settle, sites_of};
-use jl_types::{Event, Key, LoaderId, Made, Reply, SiteNo, Work};
+use jl_types::{Event, Key, Link, LoaderId, Made, Reply, SiteNo, Work};
 use std::alloc::{AllocError, Global};
 use std::sync::Arc;
 
@@ -99,8 +100,8 @@ fn relink(
 {
     match event {
         Accepted::Install(rows) => {
-            install_rows(alloc, world, links, index, rows.as_slice())?;
-            Ok(Vec::new(alloc))
+            let lost = install_links(alloc, world, links, index, rows.as_slice())?;
+            Ok(lost)
         }
         Accepted::Retire(loader) => {
             let lost = retire_links(alloc, world, links, index, keys, retired, *loader, work)?;
@@ -112,6 +113,25 @@ fn relink(
             Ok(lost)
         }
     }
+}
+
+/// The same for an install of these rows: no link goes.
+fn install_links(
+    alloc: Global,
+    world: &World,
+    links: &mut Cache,
+    index: &mut Index,
+    rows: &[(SiteNo, Link)],
+) -> Result<Vec<SiteNo>, AllocError>
+    requires { (keys : List keys.Key) × IsLed world.now keys (events.Install rows.now) links.old index.old }
+    ensures links { OnOk result ((s : ℕ) → link_at links.new s
+        ≡ kept (list_any (λ row. row.0 == s) rows.now) (link_at links.old s) (scratch world.now s)) }
+    ensures index { OnOk result (IsIndex world.now (link_at links.new) index.new) }
+    ensures lost { IfOk result (λ lost. (s : ℕ) → list_any (λ t. t == s) lost.items
+        ≡ (is_some (link_at links.old s) && is_none (link_at links.new s))) }
+{
+    install_rows(alloc, world, links, index, rows)?;
+    Ok(Vec::new(alloc))
 }
 
 /// The same for the retirement of the loader: the links of its sites are dropped without a look at them, and of the others those that
@@ -135,8 +155,10 @@ fn retire_links(
         ≡ (is_some (link_at links.old s) && is_none (link_at links.new s))) }
     ensures ticks { OnOk result (work.new ≤ work.old + most_told world.now (events.Retire loader) index.old keys.now) }
 {
+    // Shows how few classes there are, which bounds the work.
     let _classes = world.classes.count_in_order();
     let mut gone = forget(alloc, links, index, retired)?;
+    // Shows that the sites of the index rise.
     let _sites = index.len();
     let lost = settle(alloc, world, links, index, keys, None, work)?;
     gone.extend_from_slice(lost.as_slice())?;
@@ -158,10 +180,7 @@ fn answered(
 {
     let dropped = each_once(lost);
     let logged = dropped.as_slice().to_vec(alloc)?;
-    log.push(Entry {
-        event,
-        reply: reply(&made, logged),
-    })?;
+    log.push(Entry::new(alloc, event, reply(&made, logged))?)?;
     Ok(reply(&made, dropped))
 }
 

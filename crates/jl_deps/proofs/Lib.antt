@@ -7,3 +7,4 @@ pub mod BoundLaws
 pub mod ListLaws
 pub mod WayLaws
 pub mod StageLaws
+pub mod TellingLaws

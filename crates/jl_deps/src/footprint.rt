@@ -1,13 +1,17 @@
 //! What the link of a site rests on.
 
-ghost use Rattle.std.specs.Prelude.{◌≡◌, ◌++◌, [], ℕ, map, filter_map, IfOk, OnOk, option_to_list};
+ghost use Rattle.std.specs.Prelude.{◌≡◌, ◌⊎◌, ◌++◌, [], ℕ, map, filter_map, Ok, IfOk, IfSome, OnOk, option_to_list};
+ghost use Rattle.std.specs.Option.{option_copied};
 ghost use Rattle.jl_hierarchy.specs.Means.Kept.{Rises};
 ghost use Rattle.jl_types.specs.Linkage.Resolution as resolution;
 ghost use Rattle.jl_types.specs.Linkage.Stages as stages;
+ghost use Rattle.jl_types.specs.Linkage.Links.{link_of, scratch};
 ghost use Rattle.jl_types.specs.declared.key.Key.TheVariants as key;
 ghost use Rattle.jl_types.specs.Happenings.Footprints as footprints;
 ghost use Rattle.jl_types.specs.Happenings.Footprints.{of_stage, of_operand, call_site_in, point_in, path};
+ghost use Rattle.jl_deps.specs.Means.Telling.{tells_receivers};
 ghost use Rattle.jl_deps.specs.Ways.{has, way};
+ghost use Rattle.jl_class.specs.declared.site.Kind.TheVariants.{Virtual, Interface};
 
 use jl_callsites::Sites;
 use jl_class::{Kind, Operand, Site};
@@ -15,8 +19,8 @@ use jl_hierarchy::Classes;
 use jl_names::{LentName, Seq};
 use jl_pool::Reference;
 use jl_relink::{World, invocation_at};
-use jl_resolve::{Resolved, resolve_reference};
-use jl_types::{CallSiteId, ClassId, Key, Part, SiteNo, SwitchId, Target};
+use jl_resolve::{Resolved, named_class, resolve_reference};
+use jl_types::{CallSiteId, ClassId, Key, Link, Outcome, Part, SiteNo, SwitchId, Target};
 use std::alloc::{AllocError, Global};
 
 /// What the link of a site rests on: keys, rising, none of them twice.
@@ -29,8 +33,35 @@ pub fn copy_footprint(alloc: Global, footprint: &Footprint) -> Result<Footprint,
     Ok(Seq::of(footprint.as_slice().to_vec(alloc)?))
 }
 
-/// What the link of the site rests on. No receiver is looked at, and no method is looked up. Want of memory is an error.
+/// What the link of the site rests on. No receiver is looked at. Want of memory is an error.
 pub fn footprint_of(alloc: Global, world: &World, site: SiteNo) -> Result<Footprint, AllocError>
+    ensures { IfOk result (λ keys. keys ≡ footprints.footprint world.now site) }
+{
+    footprint_by(alloc, world, site, None)
+}
+
+/// The same of a site of which this is the link from scratch. It tells whether receivers are looked at, so that only the class is looked
+/// up that the reference names, and mostly no method. Want of memory is an error.
+pub fn footprint_of_linked(
+    alloc: Global,
+    world: &World,
+    site: SiteNo,
+    link: &Link,
+) -> Result<Footprint, AllocError>
+    requires { scratch world.now site ≡ Ok link.now }
+    ensures { IfOk result (λ keys. keys ≡ footprints.footprint world.now site) }
+{
+    footprint_by(alloc, world, site, Some(link))
+}
+
+/// What the link of the site rests on, which is this one where it is known. Want of memory is an error.
+fn footprint_by(
+    alloc: Global,
+    world: &World,
+    site: SiteNo,
+    link: Option<&Link>,
+) -> Result<Footprint, AllocError>
+    requires { IfSome (option_copied link) (λ l. scratch world.now site ≡ Ok l) }
     ensures { IfOk result (λ keys. keys ≡ footprints.footprint world.now site) }
 {
     let Some(place) = world.places.get_index(site.number() as usize) else {
@@ -40,7 +71,7 @@ pub fn footprint_of(alloc: Global, world: &World, site: SiteNo) -> Result<Footpr
         return Ok(Seq::of(Vec::new(alloc)));
     }
     match invocation_at(&world.classes, place) {
-        Some(invocation) => of_invocation(alloc, world, site, place.class, &invocation),
+        Some(invocation) => of_invocation(alloc, world, site, place.class, &invocation, link),
         None => Ok(Seq::of(Vec::new(alloc))),
     }
 }
@@ -52,13 +83,16 @@ fn of_invocation(
     site: SiteNo,
     caller: ClassId,
     invocation: &Site<'_>,
+    link: Option<&Link>,
 ) -> Result<Footprint, AllocError>
+    requires { IfSome (option_copied link) (λ l. link_of world.now.classes
+        (stages.by_operand world.now site caller invocation.now.kind invocation.now.operand) ≡ Ok l) }
     ensures { IfOk result (λ keys. keys ≡ of_operand world.now site caller invocation.now.kind invocation.now.operand) }
 {
     match invocation.operand() {
         Operand::Method(reference) => of_class(
             alloc,
-            looked_at(&world.classes, invocation.kind(), caller, reference),
+            looked_at(&world.classes, invocation.kind(), caller, reference, link),
         ),
         Operand::CallSite(_) => of_binding(alloc, &world.sites, world.bound_to(site)),
     }
@@ -82,20 +116,61 @@ fn looked_at(
     kind: Kind,
     caller: ClassId,
     reference: &Reference<LentName<'_>>,
+    link: Option<&Link>,
 ) -> Option<ClassId>
+    requires { IfSome (option_copied link) (λ l. link_of classes.now
+        (stages.by_resolution classes.now kind caller reference.now (resolution.resolved classes.now caller reference.now)) ≡ Ok l) }
     ensures { of_stage classes.now (stages.by_resolution classes.now kind caller reference.now
         (resolution.resolved classes.now caller reference.now)) ≡ map key.Receivers (option_to_list result) }
 {
     match kind {
-        Kind::Virtual => resolved_to(classes, kind, caller, reference),
-        Kind::Interface => resolved_to(classes, kind, caller, reference),
+        Kind::Virtual => selected_from(classes, kind, caller, reference, link),
+        Kind::Interface => selected_from(classes, kind, caller, reference, link),
         Kind::Special => None,
         Kind::Static => None,
         Kind::Dynamic => None,
     }
 }
 
-/// The same for any instruction.
+/// The same where the instruction may select by the receiver.
+fn selected_from(
+    classes: &Classes,
+    kind: Kind,
+    caller: ClassId,
+    reference: &Reference<LentName<'_>>,
+    link: Option<&Link>,
+) -> Option<ClassId>
+    requires selects { (kind ≡ Virtual) ⊎ (kind ≡ Interface) }
+    requires link { IfSome (option_copied link) (λ l. link_of classes.now
+        (stages.by_resolution classes.now kind caller reference.now (resolution.resolved classes.now caller reference.now)) ≡ Ok l) }
+    ensures { of_stage classes.now (stages.by_resolution classes.now kind caller reference.now
+        (resolution.resolved classes.now caller reference.now)) ≡ map key.Receivers (option_to_list result) }
+{
+    let Some(link) = link else {
+        return resolved_to(classes, kind, caller, reference);
+    };
+    if tells_receivers(classes, link) {
+        return named_class(classes, caller, reference);
+    }
+    resolved_to(classes, kind, caller, reference)
+}
+
+/// Whether the link of an instruction that may select by the receiver tells that it does: of a private method, and where linking fails,
+/// no receiver is looked at.
+fn tells_receivers(classes: &Classes, link: &Link) -> bool
+    ensures { result ≡ tells_receivers classes.now link.now }
+{
+    match link {
+        Link::Table(_, _) => true,
+        Link::Mega => true,
+        Link::Direct(Outcome::Run(method)) => !classes.is_private(method),
+        Link::Direct(Outcome::Throws(_)) => false,
+        Link::Fault(_) => false,
+        Link::Plain(_) => false,
+    }
+}
+
+/// The same for any instruction, by the method that the reference resolves to.
 fn resolved_to(
     classes: &Classes,
     kind: Kind,

@@ -4,3 +4,4 @@ pub mod InvocationLaws
 pub mod TotalLaws
 pub mod DropLaws
 pub mod StayLaws
+pub mod FindingLaws

@@ -8,10 +8,10 @@ ghost use Rattle.jl_report.specs.Reports as reports;
 ghost use Rattle.jl_report.specs.Drops as drops;
 
 use crate::defining::{define_one, first_loader, is_barred};
-use crate::report::{Report, request_alone};
+use crate::report::{Report, request_alone, rests_on};
 use crate::row::{Finding, Row};
 use jl_class::ClassFile;
-use jl_deps::{Keys, footprint_of, keys_of_definition};
+use jl_deps::{Keys, keys_of_definition};
 use jl_hierarchy::Classes;
 use jl_relink::{World, link_of};
 use jl_types::{Key, Link, SiteNo, Unlinked, same_link};
@@ -198,11 +198,12 @@ fn without(
     if is_link(&found, link) {
         return Ok(None);
     }
+    let finding = Finding::of(found);
     Ok(Some(Row {
         place: row.place,
         kind: row.kind,
-        finding: Finding::of(found),
-        rests_on: footprint_of(alloc, world, SiteNo::new(0))?,
+        finding,
+        rests_on: rests_on(alloc, world, &finding)?,
     }))
 }
 

@@ -1,13 +1,17 @@
 //! What each invocation of the classes comes to.
 
-ghost use Rattle.std.specs.Prelude.{◌≡◌, map, IfOk, OnOk};
+ghost use Rattle.std.specs.Prelude.{◌≡◌, map, Ok, IfOk, OnOk};
+ghost use Rattle.jl_types.specs.declared.link.Link.{Link};
+ghost use Rattle.jl_types.specs.Linkage.Links.{scratch};
+ghost use Rattle.jl_types.specs.Happenings.Footprints.{footprint};
+ghost use Rattle.jl_report.specs.declared.row.Finding.TheVariants.{Linked};
 ghost use Rattle.jl_report.specs.Reports as reports;
 
 use crate::invocation::{Invocation, invocations_in};
 use crate::row::{Finding, Row};
 use indexmap::{IndexMap, IndexSet};
 use jl_callsites::Sites;
-use jl_deps::footprint_of;
+use jl_deps::{Footprint, footprint_of, footprint_of_linked};
 use jl_hierarchy::Classes;
 use jl_relink::{World, link_of};
 use jl_types::{ClassId, NotLinkable, Place, SiteNo};
@@ -97,12 +101,28 @@ fn row_of(alloc: Global, world: &mut World, invocation: Invocation) -> Result<Ro
     ensures bare { reports.IsBare world.new }
 {
     request_alone(world, invocation.place)?;
+    let finding = finding_in(world, invocation.never);
     Ok(Row {
         place: invocation.place,
         kind: invocation.kind,
-        finding: finding_in(world, invocation.never),
-        rests_on: footprint_of(alloc, world, SiteNo::new(0))?,
+        finding,
+        rests_on: rests_on(alloc, world, &finding)?,
     })
+}
+
+/// What the world's only site rests on, where it comes to this. Want of memory is an error.
+pub(crate) fn rests_on(
+    alloc: Global,
+    world: &World,
+    finding: &Finding,
+) -> Result<Footprint, AllocError>
+    requires { (l : Link) → finding.now ≡ Linked l → scratch world.now 0 ≡ Ok l }
+    ensures { IfOk result (λ keys. keys ≡ footprint world.now 0) }
+{
+    match finding {
+        Finding::Linked(link) => footprint_of_linked(alloc, world, SiteNo::new(0), link),
+        _ => footprint_of(alloc, world, SiteNo::new(0)),
+    }
 }
 
 /// Requests the place alone. Want of memory is an error.

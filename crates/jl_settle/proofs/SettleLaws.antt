@@ -24,7 +24,7 @@ use Rattle.jl_types.specs.declared.key.Key.{Key}
 use Rattle.jl_types.specs.Linkage.Links.{outcome, scratch}
 use Rattle.jl_types.specs.Linkage.Stages.{stage}
 use Rattle.jl_types.specs.Happenings.Events.{step}
-use Rattle.jl_types.specs.Happenings.History.{is_link, kept}
+use Rattle.jl_types.specs.Happenings.History.{has_link, is_link, kept}
 use Rattle.jl_types.specs.Happenings.Footprints.{footprint, most_for, stays_with, touches}
 use Rattle.jl_hierarchy.proofs.Rising.{has}
 use Rattle.jl_relink.specs.Laws.{OneMore, changes_receivers}
@@ -89,6 +89,15 @@ some_none : (o : Option Link) → (is_some o && is_none o) ≡ false
 some_none None = refl
 some_none (Some l) = refl
 
+-- what is kept is the link from scratch
+pub kept_scratch : (installs_it : Bool) (o : Option Link) (r : Result Link Unlinked) (l : Link) → kept installs_it o r ≡ Some l → r ≡ Ok l
+kept_scratch installs_it o (Err reason) l e = cc
+kept_scratch installs_it o (Ok now) l e = by_test (installs_it || has_link o now) e
+  where
+    by_test : (b : Bool) → (if b then Some now else None) ≡ Some l → ◌≡◌ {A = Result Link Unlinked} (Ok now) (Ok l)
+    by_test true e = ap Ok (same_Some now l e)
+    by_test false e = cc
+
 -- ---- the sites that aren't touched, and those that are
 
 module _ (world : World) (keys : List Key) (defined : Option ℕ) (links : ℕ → Option Link) (index : List (ℕ × List Key))
@@ -125,6 +134,10 @@ module _ (world : World) (keys : List Key) (defined : Option ℕ) (links : ℕ �
 
     pub are_kept : (s : ℕ) → now s ≡ kept_at world links s
     are_kept s = removed s ∙ ap (λ (b : Bool). if b then None else links s) (are_lost s) ∙ kept_or (links s) (scratch world s)
+
+    -- which is the link from scratch
+    pub are_scratch : (s : ℕ) (l : Link) → now s ≡ Some l → scratch world s ≡ Ok l
+    are_scratch s l at = kept_scratch false (links s) (scratch world s) l (sym (are_kept s) ∙ at)
 
     -- the touched sites were looked up again
     pub refreshed : (left : List (ℕ × List Key))

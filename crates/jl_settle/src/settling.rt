@@ -1,7 +1,9 @@
 //! The links and the index once the world has changed.
 
-ghost use Rattle.std.specs.Prelude.{◌≡◌, ◌==◌, ◌+◌, ◌^◌, ◌<◌, ◌≤◌, ℕ, true, false, sum_by, None, option_map, is_some, IfOk, OnOk, if◌then◌else◌};
+ghost use Rattle.std.specs.Prelude.{◌≡◌, ◌==◌, ◌+◌, ◌^◌, ◌<◌, ◌≤◌, ℕ, true, false, sum_by, None, Some, Ok, option_map, is_some, IfOk, OnOk, if◌then◌else◌};
 ghost use Rattle.std.specs.List.{list_any};
+ghost use Rattle.jl_types.specs.declared.link.Link.{Link};
+ghost use Rattle.jl_types.specs.Linkage.Links.{scratch};
 ghost use Rattle.jl_types.specs.Happenings.Footprints.{footprint};
 ghost use Rattle.jl_cache.specs.Links.{link_at};
 ghost use Rattle.jl_deps.specs.Indexes.{footprint_at, IsIndex, touched_by};
@@ -9,7 +11,7 @@ ghost use Rattle.jl_settle.specs.Settling.{kept_at, goes, HasChanged, most_asked
 
 use crate::lost::lost_among;
 use jl_cache::Cache;
-use jl_deps::{Index, footprint_of};
+use jl_deps::{Index, footprint_of_linked};
 use jl_relink::World;
 use jl_types::{ClassId, Key, SiteNo, Work};
 use std::alloc::{AllocError, Global};
@@ -63,6 +65,7 @@ fn reindex(
     lost: &[SiteNo],
     defined: &Option<ClassId>,
 ) -> Result<(), AllocError>
+    requires { (s : ℕ) (l : Link) → link_at links.now s ≡ Some l → scratch world.now s ≡ Ok l }
     ensures taken { is_some defined.now ≡ true → OnOk result ((s : ℕ) → footprint_at index.new s
         ≡ (if list_any (λ t. t == s) lost.now then None else footprint_at index.old s)) }
     ensures looked_up { is_some defined.now ≡ false → OnOk result ((s : ℕ) → footprint_at index.new s ≡ (if list_any (λ t. t == s) sites.now
@@ -84,8 +87,8 @@ pub(crate) fn remove_all(index: &mut Index, sites: &[SiteNo])
     }
 }
 
-/// Each of these sites that has a link has its footprint in the index, and each other one none. Want of memory is an error; the index is
-/// of no use then.
+/// Each of these sites that has a link, which is the one from scratch, has its footprint in the index, and each other one none. Want of
+/// memory is an error; the index is of no use then.
 pub(crate) fn refresh(
     alloc: Global,
     world: &World,
@@ -93,6 +96,7 @@ pub(crate) fn refresh(
     index: &mut Index,
     sites: &[SiteNo],
 ) -> Result<(), AllocError>
+    requires { (s : ℕ) (l : Link) → link_at links.now s ≡ Some l → scratch world.now s ≡ Ok l }
     ensures { OnOk result ((s : ℕ) → footprint_at index.new s ≡ (if list_any (λ t. t == s) sites.now
         then option_map (λ l. footprint world.now s) (link_at links.now s) else footprint_at index.old s)) }
 {
@@ -110,13 +114,14 @@ fn refresh_site(
     index: &mut Index,
     site: SiteNo,
 ) -> Result<(), AllocError>
+    requires { (l : Link) → link_at links.now site ≡ Some l → scratch world.now site ≡ Ok l }
     ensures { OnOk result ((s : ℕ) → footprint_at index.new s ≡ (if site == s
         then option_map (λ l. footprint world.now site) (link_at links.now site) else footprint_at index.old s)) }
 {
-    if links.get(site).is_none() {
+    let Some(link) = links.get(site) else {
         index.remove(site);
         return Ok(());
-    }
-    let footprint = footprint_of(alloc, world, site)?;
+    };
+    let footprint = footprint_of_linked(alloc, world, site, &link)?;
     index.add(alloc, site, footprint)
 }

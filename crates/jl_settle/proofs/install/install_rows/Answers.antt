@@ -1,5 +1,5 @@
 use Rattle.std.specs.Prelude.{◌≡◌, ℕ, List, map, option_map, if◌then◌else◌}
-use Rattle.std.proofs.Common.{ap, ◌∙◌}
+use Rattle.std.proofs.Common.{ap, sym, ◌∙◌}
 use Rattle.jl_types.specs.declared.link.Link.{Link}
 use Rattle.jl_types.specs.Happenings.Footprints.{footprint}
 use Rattle.jl_hierarchy.proofs.Rising.{has}
@@ -8,6 +8,9 @@ use Rattle.jl_deps.specs.Indexes.{footprint_at}
 use Rattle.jl_settle.proofs.SettleLaws.{on_ok, installed_index}
 use Rattle.jl_settle.proofs.install.install_rows.Goals as goal
 
+pub refresh-requires : goal.refresh-requires
+refresh-requires c = λ s l at. c.requires.scratch s l (sym (c.in_ok-install.ensures.ok s) ∙ at)
+
 pub returns-clause-index : goal.returns-clause-index
 returns-clause-index c =
     let w = c.args.world.now in
@@ -15,6 +18,6 @@ returns-clause-index c =
     let sites : c.as_slice.result.now ≡ map (λ (row : ℕ × Link). row.0) c.args.rows.now = c.as_slice.ensures.value ∙ c.in_ok-sites.ensures in
     on_ok c.refresh.result
     (λ looked.
-    installed_index w c.args.rows.now (link_at c.args.links.now) links c.args.index.now c.refresh.new.index c.requires c.in_ok-install.ensures.ok
+    installed_index w c.args.rows.now (link_at c.args.links.now) links c.args.index.now c.refresh.new.index c.requires.indexed c.in_ok-install.ensures.ok
     (λ s. looked s ∙ ap (λ (ts : List ℕ). if has s ts then option_map (λ l. footprint w s) (links s) else footprint_at c.args.index.now s) sites))
     c.refresh.ensures

@@ -5,7 +5,7 @@ use Rattle.jl_hierarchy.proofs.Rising.{has}
 use Rattle.jl_cache.specs.Links.{link_at}
 use Rattle.jl_deps.specs.Indexes.{footprint_at, touched_by}
 use Rattle.jl_settle.specs.Settling.{goes}
-use Rattle.jl_settle.proofs.SettleLaws.{each_asked, is_there, are_lost, are_kept, are_indexed}
+use Rattle.jl_settle.proofs.SettleLaws.{each_asked, is_there, are_lost, are_kept, are_scratch, are_indexed}
 use Rattle.jl_settle.proofs.settling.settle.Goals as goal
 
 pub lost_among-requires-clause-there : goal.lost_among-requires-clause-there
@@ -17,13 +17,19 @@ lost_among-requires-clause-each c =
     each_asked c.args.world.now c.args.keys.now c.args.defined (link_at c.args.links.now) c.args.index.now c.requires.changed c.touched_by.ensures.rising
     c.as_slice.result.now (c.as_slice.ensures.value ∙ c.in_ok-sites.ensures.sites)
 
+pub reindex-requires : goal.reindex-requires
+reindex-requires c =
+    let sites : c.as_slice.result.now ≡ touched_by c.args.index.now c.args.keys.now = c.as_slice.ensures.value ∙ c.in_ok-sites.ensures.sites in
+    are_scratch _ _ _ _ _ c.requires.changed c.touched_by.ensures.rising c.in_ok-lost.lost.items (link_at c.drop_changed.new.self)
+    (λ s. c.in_ok-lost.ensures.lost s ∙ ap (λ (ts : List ℕ). has s ts && goes c.args.world.now (link_at c.args.links.now) s) sites)
+    (λ s. c.drop_changed.ensures.links s ∙ ap (λ (ts : List ℕ). if has s ts then None else link_at c.args.links.now s) c.as_slice-2.ensures.value)
+
 pub returns-clause-links : goal.returns-clause-links
 returns-clause-links c =
     let w = c.args.world.now in
     let links = link_at c.args.links.now in
     let sites : c.as_slice.result.now ≡ touched_by c.args.index.now c.args.keys.now = c.as_slice.ensures.value ∙ c.in_ok-sites.ensures.sites in
-    are_kept c.args.world.now c.args.keys.now c.args.defined (link_at c.args.links.now) c.args.index.now c.requires.changed c.touched_by.ensures.rising
-    c.in_ok-lost.lost.items (link_at c.drop_changed.new.self)
+    are_kept _ _ _ _ _ c.requires.changed c.touched_by.ensures.rising c.in_ok-lost.lost.items (link_at c.drop_changed.new.self)
     (λ s. c.in_ok-lost.ensures.lost s ∙ ap (λ (ts : List ℕ). has s ts && goes w links s) sites)
     (λ s. c.drop_changed.ensures.links s ∙ ap (λ (ts : List ℕ). if has s ts then None else links s) c.as_slice-2.ensures.value)
 
@@ -32,8 +38,7 @@ returns-clause-lost c =
     let w = c.args.world.now in
     let links = link_at c.args.links.now in
     let sites : c.as_slice.result.now ≡ touched_by c.args.index.now c.args.keys.now = c.as_slice.ensures.value ∙ c.in_ok-sites.ensures.sites in
-    are_lost c.args.world.now c.args.keys.now c.args.defined (link_at c.args.links.now) c.args.index.now c.requires.changed c.touched_by.ensures.rising
-    c.in_ok-lost.lost.items (link_at c.drop_changed.new.self)
+    are_lost _ _ _ _ _ c.requires.changed c.touched_by.ensures.rising c.in_ok-lost.lost.items (link_at c.drop_changed.new.self)
     (λ s. c.in_ok-lost.ensures.lost s ∙ ap (λ (ts : List ℕ). has s ts && goes w links s) sites)
     (λ s. c.drop_changed.ensures.links s ∙ ap (λ (ts : List ℕ). if has s ts then None else links s) c.as_slice-2.ensures.value)
 
