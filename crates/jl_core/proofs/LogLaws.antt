@@ -9,8 +9,7 @@ use Rattle.jl_types.specs.declared.event.Reply.{Reply}
 use Rattle.jl_types.specs.Values.World.{Class}
 use Rattle.jl_events.specs.Accepted.{Accepted, event_of}
 use Rattle.jl_events.proofs.AcceptedLaws.{event_still}
-use Rattle.jl_core.specs.declared.log.Entry.{Entry}
-use Rattle.jl_core.specs.Logs.{told, are_told, shown}
+use Rattle.jl_core.specs.Logs.{Entry, told, are_told, shown}
 
 -- ---- where the classes stay
 

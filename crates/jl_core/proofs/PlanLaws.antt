@@ -16,9 +16,8 @@ use Rattle.jl_types.proofs.Lists.{at_end}
 use Rattle.jl_types.proofs.Places.{accepted_of}
 use Rattle.jl_cache.specs.Links.{link_at}
 use Rattle.jl_events.specs.Accepted.{Accepted, event_of}
-use Rattle.jl_core.specs.declared.log.Entry.{Entry}
 use Rattle.jl_core.specs.State.{State, events, world_of, IsAccepted}
-use Rattle.jl_core.specs.Logs.{are_told, shown}
+use Rattle.jl_core.specs.Logs.{Entry, are_told, shown}
 use Rattle.jl_core.specs.Means.Touched.{has, touched_by, AreTouched, slot_at}
 use Rattle.jl_core.proofs.LogLaws.{length_told}
 use Rattle.jl_core.proofs.FollowLaws.{told_at, event_told, no_more}

@@ -11,9 +11,8 @@ use Rattle.jl_types.specs.Happenings.Footprints.{bound}
 use Rattle.jl_types.specs.Values.World.{Class, nothing_yet}
 use Rattle.jl_select.proofs.Constancy.{constant_itself}
 use Rattle.jl_relink.proofs.Loaders.{loader_constant}
-use Rattle.jl_core.specs.declared.log.Entry.{Entry}
 use Rattle.jl_core.specs.State.{State, empty_core, events, world_of, links_of}
-use Rattle.jl_core.specs.Logs.{are_told, shown}
+use Rattle.jl_core.specs.Logs.{Entry, are_told, shown}
 use Rattle.jl_core.specs.Headline.{AreApplied}
 use Rattle.jl_core.specs.Works.{most_of_last}
 

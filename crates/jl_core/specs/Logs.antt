@@ -5,7 +5,11 @@ use Rattle.jl_types.specs.Happenings.Event.{Event}
 use Rattle.jl_types.specs.declared.event.Reply.{Reply}
 use Rattle.jl_types.specs.Values.World.{Class}
 use Rattle.jl_events.specs.Accepted.{Accepted, event_of}
-use Rattle.jl_core.specs.declared.log.Entry.{Entry}
+
+-- an accepted event, a definition by the class that it made, and what it was answered
+pub record Entry : Type 0 where
+  pub event : Accepted
+  pub reply : Reply
 
 abbrev pub told : List Class → Entry → Option (Event × Reply)
 told rows entry = option_map (λ e. (e, entry.reply)) (event_of rows entry.event)

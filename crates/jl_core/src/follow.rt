@@ -12,7 +12,6 @@ ghost use Rattle.jl_core.specs.Means.Changes.{AreScratch, retires_at};
 ghost use Rattle.jl_core.specs.Means.Replays.{IsFurther, IsUntouched};
 ghost use Rattle.jl_core.specs.Means.Touched.{has};
 
-use crate::copy::copy_entry;
 use crate::log::Entry;
 use crate::slots::with_sites;
 use jl_cache::Cache;
@@ -47,10 +46,42 @@ pub(crate) fn follow(
     ensures index { OnOk result (IsIndex world_ahead.now.value (link_at links.new) index.new) }
     ensures log { OnOk result (log.new.items ≡ log.old.items ++ entry.now ∷ []) }
 {
-    forget_retired(alloc, world, links, index, &entry.event)?;
+    follow_links(
+        alloc,
+        world,
+        world_ahead,
+        links,
+        index,
+        links_ahead,
+        index_ahead,
+        entry.event(),
+    )?;
+    follow_world(world, alloc, world_ahead, entry.event())?;
+    log.push(entry.share()?)?;
+    Ok(())
+}
+
+/// The links and their index come after the event, which leads from the one world to the one ahead. Want of memory is an error; what is
+/// there is of no use then.
+fn follow_links(
+    alloc: Global,
+    world: &World,
+    ahead: &World,
+    links: &mut Cache,
+    index: &mut Index,
+    links_ahead: &Cache,
+    index_ahead: &Index,
+    event: &Accepted,
+) -> Result<(), AllocError>
+    requires further { IsFurther world.now ahead.now event.now links.old links_ahead.now index.old index_ahead.now }
+    requires few { length world.now.places ≤ 65536 }
+    ensures links { OnOk result ((s : ℕ) → link_at links.new s ≡ link_at links_ahead.now s) }
+    ensures index { OnOk result (IsIndex ahead.now (link_at links.new) index.new) }
+{
+    forget_retired(alloc, world, links, index, event)?;
+    // Shows that the sites of the index rise.
     let _sites = index.len();
-    let sites = changed_sites(alloc, world, world_ahead, index, &entry.event)?;
-    follow_world(world, alloc, world_ahead, &entry.event)?;
+    let sites = changed_sites(alloc, world, ahead, index, event)?;
     take_over(
         alloc,
         links,
@@ -59,7 +90,6 @@ pub(crate) fn follow(
         index_ahead,
         sites.as_slice(),
     )?;
-    log.push(copy_entry(alloc, entry)?)?;
     Ok(())
 }
 

@@ -11,9 +11,8 @@ ghost use Rattle.jl_core.specs.State.{empty_core, events, world_of, AreAnswered,
 ghost use Rattle.jl_core.specs.Logs.{shown, are_told};
 ghost use Rattle.jl_core.specs.Means.Replays.{IsBehind};
 
-use crate::copy::copy_log;
 use crate::follow::follow;
-use crate::log::Entry;
+use crate::log::{Entry, share_log};
 use crate::perform::perform;
 use jl_cache::Cache;
 use jl_deps::Index;
@@ -97,7 +96,7 @@ impl Instance {
             world: Arc::try_clone(&self.world)?,
             links: self.links.copy()?,
             index: self.index.copy(alloc)?,
-            log: copy_log(alloc, self.log.as_slice())?,
+            log: share_log(alloc, self.log.as_slice())?,
         })
     }
 
@@ -137,6 +136,7 @@ impl Instance {
             mut log,
         } = self;
         note_order(&world);
+        // Shows that the sites of the index rise.
         let _sites = index.len();
         let reply = perform(
             &mut world, &mut links, &mut index, &mut log, alloc, event, work,
@@ -164,6 +164,7 @@ impl Instance {
             mut log,
         } = self;
         note_order(&world);
+        // Shows that the sites of the index rise.
         let _sites = index.len();
         let place = log.as_slice().len();
         let Some(entry) = entry_at(ahead.log.as_slice(), place) else {
@@ -239,6 +240,7 @@ pub(crate) fn entry_at<'a>(log: &'a [Entry], place: usize) -> Option<&'a Entry>
 fn note_order(world: &World)
     ensures { IsInOrder world.now }
 {
+    // Both show what the invariants of the classes and of the call sites say.
     let _classes = world.classes.count_in_order();
     let _switches = world.sites.known_switches();
 }

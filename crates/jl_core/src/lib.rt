@@ -6,7 +6,6 @@
 //! other definitions here are means of proof.
 #![tactic(auto)]
 
-mod copy;
 mod follow;
 mod instance;
 mod laws;

@@ -13,7 +13,7 @@ mod judge;
 mod request;
 mod step;
 
-pub use accepted::{Accepted, copy_accepted, defined_class};
+pub use accepted::{Accepted, defined_class};
 pub use follow::follow_world;
 pub use judge::judged;
 pub use step::step_world;

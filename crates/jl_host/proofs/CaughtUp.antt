@@ -21,8 +21,7 @@ use Rattle.jl_types.proofs.Places.{accepted_of}
 use Rattle.jl_types.proofs.Written.{unrequested}
 use Rattle.jl_events.specs.Accepted.{Accepted, event_of}
 use Rattle.jl_core.specs.State.{State, empty_core, events, IsAccepted, IsApplied}
-use Rattle.jl_core.specs.Logs.{told, are_told, shown}
-use Rattle.jl_core.specs.declared.log.Entry.{Entry}
+use Rattle.jl_core.specs.Logs.{Entry, told, are_told, shown}
 use Rattle.jl_core.specs.Means.Touched.{has}
 use Rattle.jl_core.proofs.SlotLaws.{untouched}
 use Rattle.jl_core.proofs.LogLaws.{length_told}

@@ -122,8 +122,8 @@ fn write_entry(links: &mut Arc<Links>, core: &Core, entry: &Entry) -> Result<(),
     ensures kept { (s : ℕ) → IsNow core.now links.old.value s → IsNow core.now links.new.value s }
     ensures written { OnOk result ((s : ℕ) → s < 65536 → touched_by s entry.now ≡ true → IsNow core.now links.new.value s) }
 {
-    write_sites(links, core, entry.reply.dropped.as_slice())?;
-    write_installed(links, core, &entry.event)
+    write_sites(links, core, entry.reply().dropped.as_slice())?;
+    write_installed(links, core, entry.event())
 }
 
 /// Writes the links of the sites that these entries' events touched as they are now.

@@ -60,9 +60,9 @@ fn are_entries(alloc: Global, entries: &[Entry], log: &[&str]) -> bool {
 
 /// The name in the file of the class that the entry of a definition names.
 fn defined_name(core: &Core, entry: usize) -> Option<&[u8]> {
-    match core.log().get(entry)?.event {
+    match core.log().get(entry)?.event() {
         Accepted::Define(_, class) => {
-            let class = core.world().classes.class_at(class)?;
+            let class = core.world().classes.class_at(*class)?;
             Some(class.file().name().as_slice())
         }
         _ => None,

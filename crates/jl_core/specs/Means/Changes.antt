@@ -12,8 +12,7 @@ use Rattle.jl_types.specs.Happenings.History.{installs, kept}
 use Rattle.jl_cache.specs.Links.{link_at}
 use Rattle.jl_events.specs.Accepted.{Accepted}
 use Rattle.jl_events.specs.Changes.{IsMoved}
-use Rattle.jl_core.specs.declared.log.Entry.{Entry}
-use Rattle.jl_core.specs.Logs.{IsLogged}
+use Rattle.jl_core.specs.Logs.{Entry, IsLogged}
 
 -- ---- the links
 

@@ -16,9 +16,9 @@ use Rattle.jl_cache.specs.Links.{link_at}
 use Rattle.jl_deps.specs.Indexes.{AreRising, IsIndex, touched_by}
 use Rattle.jl_events.specs.Changes.{defined_by, IsAcceptable, class_of}
 use Rattle.jl_events.specs.Accepted.{Accepted, event_of}
-use Rattle.jl_core.specs.declared.log.Entry.{Entry}
 use Rattle.jl_core.specs.Means.Changes.{AreScratch, IsDone, retires_at}
 use Rattle.jl_core.specs.Means.Touched.{has}
+use Rattle.jl_core.specs.Logs.{Entry}
 
 -- Each link is the one from scratch, the index is that of the links, and the world came in order.
 pub record IsSound (w : World) (links : List (ℕ × Link)) (index : List (ℕ × List Key)) : Type 0 where

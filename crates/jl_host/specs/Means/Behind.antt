@@ -9,7 +9,7 @@ use Rattle.jl_types.specs.Happenings.History.{installs, installed}
 use Rattle.jl_events.specs.Accepted.{Accepted}
 use Rattle.jl_core.specs.State.{State, events}
 use Rattle.jl_core.specs.Means.Touched.{has}
-use Rattle.jl_core.specs.declared.log.Entry.{Entry}
+use Rattle.jl_core.specs.Logs.{Entry}
 
 -- the event installs the site, or drops it
 abbrev pub touches : ℕ → Event × Reply → Bool

@@ -8,8 +8,8 @@ pub invariant_of-result : goal.invariant_of-result
 invariant_of-result c =
     let old = c.self.inside in
     let now =
-    exact_same old.max_sites old.world.value c.in_ok-try_clone.field-0.value old.links c.in_ok-copy.field-0 old.log.items c.in_ok-copy_log.field-0.items
-    c.in_ok-try_clone.ensures c.in_ok-copy.ensures (c.in_ok-copy_log.ensures ∙ c.as_slice.ensures.value)
+    exact_same old.max_sites old.world.value c.in_ok-try_clone.field-0.value old.links c.in_ok-copy.field-0 old.log.items c.in_ok-share_log.field-0.items
+    c.in_ok-try_clone.ensures c.in_ok-copy.ensures (c.in_ok-share_log.ensures ∙ c.as_slice.ensures.value)
     (record { world = c.self.invariant.0; links = c.self.invariant.1; told = c.self.invariant.2; answered = c.self.invariant.5 })
     in (
       now.world,

@@ -1,5 +1,5 @@
 use Rattle.std.proofs.Common.{◌≡◌, take}
-use Rattle.jl_core.proofs.copy.copy_log.Given as goal
+use Rattle.jl_core.proofs.log.share_log.Given as goal
 
 -- those so far are made
 abbrev pub invariant-loop-entry : goal.invariant-loop-entry
