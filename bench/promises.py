@@ -1,7 +1,7 @@
 #!/usr/bin/env python3
-"""Holds the pages to the sources. Of docs/PROMISES.md each call is a public function, with a clause of each name that stands behind it
-in brackets, and each crate and script is there; of docs/DEFINITIONS.md each definition stands in its file; docs/CRATES.md names each crate
-below those that it uses; and each link of a page leads to a file.
+"""Holds the pages to the sources. Of docs/PROMISES.md each call is a public function of the file that it leads to, with a clause of each
+name that stands behind it in brackets, and so is each of README.md's promises; each crate and script is there; of docs/DEFINITIONS.md each
+definition stands in its file; docs/CRATES.md names each crate below those that it uses; and each link of a page leads to a file.
 
     bench/promises.py     at the top of the repository; prints what isn't so, and ends with status 0 where all is
 """
@@ -13,7 +13,7 @@ TOP = pathlib.Path(".")
 
 
 def clauses():
-    """The names of the clauses of each public function, by its name with its type."""
+    """The names of the clauses of each public function, by its file and its name with its type."""
     found = {}
     for file in sorted(TOP.glob("crates/*/src/*.rt")):
         owner, named = None, None
@@ -23,7 +23,7 @@ def clauses():
             elif line.startswith("}"):
                 owner, named = None, None
             if function := re.match(r"\s*(pub(?:\(crate\))? )?(?:extern \"C\" )?fn (\w+)", line):
-                named = (f"{owner}::" if owner else "") + function.group(2) if function.group(1) == "pub " else None
+                named = (str(file), (f"{owner}::" if owner else "") + function.group(2)) if function.group(1) == "pub " else None
                 if named:
                     found.setdefault(named, set())
             elif named and (clause := re.match(r"\s*ensures (\w+)? ?\{", line)):
@@ -77,21 +77,31 @@ def crates():
     ]
 
 
+def promised(page, rows, found, are_named):
+    """What the tables' calls aren't: public functions of the files that they lead to, each with a clause and with those that are named."""
+    wrong = []
+    for row in re.findall(r"^\|.*\|$", rows, re.M):
+        for call, path, names in re.findall(r"`([A-Za-z0-9_:]+)`(?:\]\(([^)]*)\))?(?: \(([\w, ]+)\))?", row.split("|")[2]):
+            if "/" in call or call.startswith("proofs"):
+                continue
+            stated = found.get((str((page.parent / path).resolve().relative_to(TOP.resolve())), call))
+            if not path or stated is None:
+                wrong.append(f"{page}: {call} is no public function of {path or 'a file that it leads to'}")
+            elif not stated:
+                wrong.append(f"{page}: {call} has no clause")
+            elif are_named:
+                wrong += [f"{page}: {call} has no clause {name}" for name in names.split(", ") if name and name not in stated]
+                if not names and "" not in stated:
+                    wrong.append(f"{page}: {call} has named clauses: {', '.join(sorted(stated))}")
+    return wrong
+
+
 def main():
     page, found = (TOP / "docs/PROMISES.md").read_text(), clauses()
     wrong = definitions() + crates()
-    for row in re.findall(r"^\|.*\|$", page.split("## What no clause says")[0], re.M):
-        for call, names in re.findall(r"`([A-Za-z_:]+)`(?: \(([\w, ]+)\))?", row.split("|")[2]):
-            if "/" in call or call.startswith("proofs"):
-                continue
-            if call not in found:
-                wrong.append(f"no public function {call}")
-            elif not found[call]:
-                wrong.append(f"{call} has no clause")
-            else:
-                wrong += [f"{call} has no clause {name}" for name in names.split(", ") if name and name not in found[call]]
-                if not names and "" not in found[call]:
-                    wrong.append(f"{call} has named clauses: {', '.join(sorted(found[call]))}")
+    wrong += promised(TOP / "docs/PROMISES.md", page.split("## What no clause says")[0], found, True)
+    first = (TOP / "README.md").read_text().split("## What is proved")[1].split("\n## ")[0]
+    wrong += promised(TOP / "README.md", first, found, False)
     for name in set(re.findall(r"`((?:rows|trial)_\w+)`", page)):
         if not (TOP / "crates" / name).is_dir():
             wrong.append(f"no crate {name}")
