@@ -1,4 +1,4 @@
-//! Plain values: each call once.
+//! Plain values of jl_types: each call once.
 
 use jl_types::{
     Answer, CallSiteId, ClassId, Link, LoaderId, MethodId, Missing, Outcome, SiteNo, SwitchId,

@@ -1,4 +1,4 @@
-//! Scripts, step by step.
+//! A linker, a seat and a memo as a host has them: scripts, step by step.
 
 use crate::steps::{Step, answer, numbers};
 use Step::*;

@@ -1,0 +1,27 @@
+//! Tests of the product's edges: commands, sketches and answers as JSON; readers and writers of one's own, with short reads and writes
+//! and devices that fail at any call; how the program ends, and how many workers words ask for; and linkers, seats and memos as a host has
+//! them. Nothing here is called by other crates.
+#![tactic(auto)]
+
+#[cfg(test)]
+mod answers;
+#[cfg(test)]
+mod commands;
+#[cfg(test)]
+mod devices;
+#[cfg(test)]
+mod endings;
+#[cfg(test)]
+mod farms;
+#[cfg(test)]
+mod hosts;
+#[cfg(test)]
+mod refusals;
+#[cfg(test)]
+mod steps;
+#[cfg(test)]
+mod streams;
+#[cfg(test)]
+mod values;
+#[cfg(test)]
+mod words;
