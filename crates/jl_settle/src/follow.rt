@@ -36,7 +36,7 @@ pub fn take_over(
     Ok(())
 }
 
-/// The site has this link, or none. Want of memory is an error; nothing has changed then.
+/// The site has this link, or none. Want of memory is an error; the links are of no use then.
 fn take_link(links: &mut Cache, site: SiteNo, link: Option<Link>) -> Result<(), AllocError>
     ensures { OnOk result ((s : ℕ) → link_at links.new s ≡ (if site == s then link else link_at links.old s)) }
 {
@@ -49,7 +49,7 @@ fn take_link(links: &mut Cache, site: SiteNo, link: Option<Link>) -> Result<(), 
     }
 }
 
-/// The site has this footprint, or none. Want of memory is an error; nothing has changed then.
+/// The site has this footprint, or none. Want of memory is an error; the index is of no use then.
 fn take_footprint(
     alloc: Global,
     index: &mut Index,
