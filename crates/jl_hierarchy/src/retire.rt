@@ -10,7 +10,7 @@ ghost use Rattle.jl_types.specs.Happenings.Definitions as definitions;
 ghost use Rattle.jl_types.specs.Happenings.Retirement as retirement;
 ghost use Rattle.jl_hierarchy.specs.Constancy.{AreInOrder};
 ghost use Rattle.jl_hierarchy.specs.Means.Kept.{AreChanged, Rises, lists};
-ghost use Rattle.jl_hierarchy.specs.Retiring.{is_row_of, own_recorded, without};
+ghost use Rattle.jl_hierarchy.specs.Retiring.{is_row_of, own_classes, own_recorded, without};
 
 use crate::classes::Classes;
 use crate::loader::Loader;
@@ -181,8 +181,9 @@ impl Classes {
     /// The classes that the loader has defined, in the order in which it recorded them, and none of a retired one: a walk over what it
     /// has recorded. Want of memory is an error.
     pub fn own_classes(&self, alloc: Global, loader: LoaderId) -> Result<Vec<ClassId>, AllocError>
-        ensures { IfOk result (λ own. (c : ℕ) → list_any (λ k. k == c) own.items
+        ensures members { IfOk result (λ own. (c : ℕ) → list_any (λ k. k == c) own.items
             ≡ (members.is_present self.now c && retirement.is_of self.now loader c)) }
+        ensures in_order { IfOk result (λ own. own.items ≡ own_classes self.now loader) }
     {
         // Opens the invariant of the classes.
         let _ = &self.rows;

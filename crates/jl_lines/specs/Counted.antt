@@ -6,9 +6,10 @@ use Rattle.jl_lines.specs.declared.counted.Counted.{Counted}
 abbrev pub inner_of : {T : Type 0} → Counted T → T
 inner_of c = c.inner
 
--- how many calls there were, and how many failed
-abbrev pub calls_of : {T : Type 0} → Counted T → ℕ
-calls_of c = c.calls
+-- how many reads there were
+abbrev pub reads_of : {T : Type 0} → Counted T → ℕ
+reads_of c = c.reads
 
+-- how many calls failed
 abbrev pub failures_of : {T : Type 0} → Counted T → ℕ
 failures_of c = c.failures

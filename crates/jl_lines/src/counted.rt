@@ -8,29 +8,29 @@ use crate::source::Source;
 use std::io::{Read, Write};
 use std::snapshot::Snapshot;
 
-/// A reader or writer of std that counts its calls, and those that failed, up to 2^64 - 1, where a
+/// A reader or writer of std that counts its reads, and the calls that failed, up to 2^64 - 1, where a
 /// count stays. A writer is not flushed, so it should hold no bytes back.
 #[derive(Drop)]
 pub struct Counted<T> {
     inner: T,
     /// What it was before the last read.
     last: Snapshot<T>,
-    calls: u64,
+    reads: u64,
     failures: u64,
 }
 
 impl<T> Counted<T> {
-    ghost use Rattle.jl_lines.specs.Counted.{inner_of, calls_of, failures_of};
+    ghost use Rattle.jl_lines.specs.Counted.{inner_of, reads_of, failures_of};
 
     /// Nothing counted yet.
     pub fn new(inner: T) -> Self
         ensures inner { inner_of result ≡ inner }
-        ensures none { (calls_of result ≡ 0) × (failures_of result ≡ 0) }
+        ensures none { (reads_of result ≡ 0) × (failures_of result ≡ 0) }
     {
         Counted {
             last: Snapshot::of(&inner),
             inner,
-            calls: 0,
+            reads: 0,
             failures: 0,
         }
     }
@@ -48,12 +48,12 @@ impl<T: Read> Source for Counted<T> {
 
     ghost before = { λ c. T.remaining c.last.value };
 
-    ghost reads = { λ c. c.calls };
+    ghost reads = { λ c. c.reads };
 
     ghost failures = { λ c. c.failures };
 
     fn read_some(&mut self, buffer: &mut [u8]) -> Result<usize, Failed> {
-        self.calls = self.calls.saturating_add(1);
+        self.reads = self.reads.saturating_add(1);
         self.last = Snapshot::of(&self.inner);
         match self.inner.read(buffer) {
             Ok(count) => Ok(count),
@@ -71,7 +71,6 @@ impl<T: Write> Sink for Counted<T> {
     ghost failures = { λ c. c.failures };
 
     fn write_some(&mut self, bytes: &[u8]) -> Result<usize, Failed> {
-        self.calls = self.calls.saturating_add(1);
         match self.inner.write(bytes) {
             Ok(count) if count > 0 || bytes.is_empty() => Ok(count),
             _ => {

@@ -1,13 +1,13 @@
 -- A loader is retired: what refuses it, what goes with it, and what is left, over the whole history.
-use Rattle.std.specs.Prelude.{◌≡◌, ℕ, true, false, List, [], ◌∷◌, ◌++◌, Some, None, Ok, Err, codes, refl}
+use Rattle.std.specs.Prelude.{◌≡◌, ℕ, true, false, List, [], ◌∷◌, ◌++◌, map, Some, None, Ok, Err, codes, refl}
 use Rattle.jl_class.specs.Class.{Method}
-use Rattle.jl_class.specs.declared.site.Kind.TheVariants.{Virtual}
+use Rattle.jl_class.specs.declared.site.Kind.TheVariants.{Virtual, Special, Static, Interface}
 use Rattle.jl_types.specs.declared.answer.Outcome.TheVariants.{Run}
 use Rattle.jl_types.specs.declared.answer.Recv.TheVariants.{Null, Of}
 use Rattle.jl_types.specs.declared.answer.Unlinked.TheVariants.{Gone}
 use Rattle.jl_types.specs.declared.answer.Answer.TheVariants as answer
 use Rattle.jl_types.specs.declared.link.Link.{Link}
-use Rattle.jl_types.specs.declared.link.Link.TheVariants.{Direct, Table}
+use Rattle.jl_types.specs.declared.link.Link.TheVariants.{Direct, Plain, Table}
 use Rattle.jl_types.specs.declared.link.TableKind.TheVariants as kind
 use Rattle.jl_types.specs.declared.target.CallSiteKind.TheVariants.{Mutable}
 use Rattle.jl_types.specs.Values.Target as target
@@ -27,7 +27,8 @@ use Rattle.jl_types.specs.Happenings.Events.{verdict}
 use Rattle.jl_types.specs.Happenings.History.{world_after, installed, dropped}
 use Rattle.jl_types.specs.declared.key.Key.TheVariants.{Receivers}
 use Rattle.jl_types.specs.Happenings.Footprints.{footprint, keys, touched, left_touched, bound}
-use Rattle.jl_types.proofs.Rows.Sketch.{method, calling, class_ref, first}
+use Rattle.jl_types.proofs.Rows.Sketch.{method, calling, class_ref, itf_ref, first}
+use Rattle.jl_types.proofs.Rows.CallSites.{bootstrapping}
 use Rattle.jl_types.proofs.Rows.Histories.{linked}
 
 abbrev object : List ℕ
@@ -192,6 +193,45 @@ not_bound = refl
 not_requested : verdict 65536 (world_after (inside ++ Retire 1 ∷ [])) (Request (record { class = 4; method = 0; pc = 0 })) ≡ Err refusal.UnknownClass
 not_requested = refl
 
+-- ---- sites of each instruction in a class that goes
+
+-- N 4 of loader 0 has a static m, on call site 0; D 5 of loader 1 has an invokedynamic, site 1, which is bound to that and linked, and an
+-- invokestatic, an invokespecial and an invokeinterface, sites 2 to 4
+abbrev of_each : List Event
+of_each = shared
+    ++ defines 0 object (codes "N") (method 9 (codes "m") ∷ [])
+    ∷ defines 1 (codes "A") (codes "D")
+    (bootstrapping
+    ∷ calling 9 (codes "s") Static (class_ref (codes "A") (codes "f"))
+    ∷ calling 9 (codes "p") Special (class_ref (codes "A") (codes "f"))
+    ∷ calling 9 (codes "i") Interface (itf_ref (codes "A") (codes "f"))
+    ∷ [])
+    ∷ Request (record { class = 5; method = 0; pc = 0 })
+    ∷ Request (record { class = 5; method = 1; pc = 0 })
+    ∷ Request (record { class = 5; method = 2; pc = 0 })
+    ∷ Request (record { class = 5; method = 3; pc = 0 })
+    ∷ NewCallSite Mutable (codes "()V") (target.Method (first 4))
+    ∷ Bind 1 0
+    ∷ Install ((1, Plain (first 4)) ∷ [])
+    ∷ []
+
+dynamic_is_linked : installed of_each 1 ≡ Some (Plain (first 4))
+dynamic_is_linked = refl
+
+dynamic_goes : dropped of_each (Retire 1) ≡ 1 ∷ []
+dynamic_goes = refl
+
+each_is_gone : map (scratch (world_after (of_each ++ Retire 1 ∷ []))) (1 ∷ 2 ∷ 3 ∷ 4 ∷ []) ≡ Err Gone ∷ Err Gone ∷ Err Gone ∷ Err Gone ∷ []
+each_is_gone = refl
+
+each_call_is_gone : map (λ s. dispatch (world_after (of_each ++ Retire 1 ∷ [])) s Null) (1 ∷ 2 ∷ 3 ∷ 4 ∷ [])
+    ≡ answer.Unlinked Gone ∷ answer.Unlinked Gone ∷ answer.Unlinked Gone ∷ answer.Unlinked Gone ∷ []
+each_call_is_gone = refl
+
+-- it was bound, and that isn't asked any more
+bound_is_not_bound : verdict 65536 (world_after (of_each ++ Retire 1 ∷ [])) (Bind 1 0) ≡ Err (refusal.UnknownSite 1)
+bound_is_not_bound = refl
+
 -- ---- another loader that needs it
 
 -- loader 2 finds Object in loader 0, and C in loader 1
@@ -207,6 +247,19 @@ inheriting = recording ++ defines 2 (codes "C") (codes "E") [] ∷ []
 
 is_inherited : verdict 65536 (world_after inheriting) (Retire 1) ≡ Err (refusal.Retire (Inherited 5))
 is_inherited = refl
+
+-- the least one of several: loader 3 records C, too; then E 5 below C is defined in it, and F 6 below C in loader 2
+abbrev recording_twice : List Event
+recording_twice = recording ++ NewLoader ∷ Delegate 3 object 0 ∷ Delegate 3 (codes "C") 1 ∷ []
+
+least_recorder : verdict 65536 (world_after recording_twice) (Retire 1) ≡ Err (refusal.Retire (Recorded 2))
+least_recorder = refl
+
+abbrev inheriting_twice : List Event
+inheriting_twice = recording_twice ++ defines 3 (codes "C") (codes "E") [] ∷ defines 2 (codes "C") (codes "F") [] ∷ []
+
+least_heir : verdict 65536 (world_after inheriting_twice) (Retire 1) ≡ Err (refusal.Retire (Inherited 5))
+least_heir = refl
 
 other_may_go : verdict 65536 (world_after inheriting) (Retire 2) ≡ Ok made.Nothing
 other_may_go = refl

@@ -10,7 +10,7 @@ use Rattle.jl_settle.proofs.requested.sites_of.Goals as goal
 pub returns-clause-only : goal.returns-clause-only
 returns-clause-only c = λ s listed.
     only_retired c.args.world.now c.args.loader c.in_ok-own.own.items
-    (λ k. c.in_ok-own.ensures k ∙ ap (λ (w : World). is_present w.classes k && is_of w.classes c.args.loader k) c.world.view_is) s
+    (λ k. c.in_ok-own.ensures.members k ∙ ap (λ (w : World). is_present w.classes k && is_of w.classes c.args.loader k) c.world.view_is) s
     (sym (c.in_ok-sites.ensures s
     ∙ ap (λ (cs : List ℕ). requested_where (is_among c.args.world.now.classes cs) c.args.world.now.places s) c.as_slice.ensures.value) ∙ listed)
 
@@ -19,4 +19,4 @@ returns-clause-linked c = λ s l scratch retired.
     c.in_ok-sites.ensures s
     ∙ ap (λ (cs : List ℕ). requested_where (is_among c.args.world.now.classes cs) c.args.world.now.places s) c.as_slice.ensures.value
     ∙ linked_listed c.args.world.now c.args.loader c.in_ok-own.own.items
-    (λ k. c.in_ok-own.ensures k ∙ ap (λ (w : World). is_present w.classes k && is_of w.classes c.args.loader k) c.world.view_is) s l scratch retired
+    (λ k. c.in_ok-own.ensures.members k ∙ ap (λ (w : World). is_present w.classes k && is_of w.classes c.args.loader k) c.world.view_is) s l scratch retired
