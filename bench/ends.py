@@ -123,6 +123,22 @@ def lines(rows, program):
     rows.expect("a line that isn't too long", run(program, ["run"], long[:-1]), (ENDED, NO_LINKS + b'{"error":"BadCommand"}\n'))
 
 
+# A site on A.f, whose link is prepared once more than 16 bits count.
+PREPARED_SITE = (
+    OBJECT
+    + b'{"do":"define","loader":0,"sketch":{"name":"A","super":"java/lang/Object","flags":33,"methods":[{"name":"f","type":"()V","flags":9},'
+    b'{"name":"g","type":"()V","flags":9,"calls":[{"kind":"invokestatic","of":"A","name":"f","type":"()V"}]}]}}\n'
+    b'{"do":"request","class":1,"method":1,"pc":0}\n'
+)
+BATCHES = (1 << 16) + 1
+
+
+def batches(rows, program):
+    came, answers = run(program, ["run"], PREPARED_SITE + b'{"do":"prepare","sites":[0]}\n' * BATCHES)
+    wanted = [b'{"prepared":%d,"rows":[[0,{"plain":[1,0]}]]}' % number for number in range(BATCHES)]
+    rows.expect(f"{BATCHES} batches", (came, answers.splitlines()[3:] == wanted), (ENDED, True))
+
+
 def devices(rows, program):
     for mode in MODES:
         with open("/dev/full", "wb") as full:
@@ -154,6 +170,7 @@ def main(*words_given):
     words(rows, program)
     reports(rows, program)
     lines(rows, program)
+    batches(rows, program)
     devices(rows, program)
     rooms(rows, program, ["run"], LINKS, [NO_MEMORY])
     rooms(rows, program, ["farm", "--workers", "16"], OBJECT, [NO_MEMORY, FARM_FAILED])

@@ -15,6 +15,9 @@ Of linkd farm, whose last line tells links and reports, it may also be one where
 Where all growths are refused from one on, such lines may stand before the status 4, too.
 Which line of linkd wanted the memory is told by the growths of runs of the first lines alone: no line before it is answered Memory, and
 where the run ends with status 4 each of these is answered.
+
+The named calls alone are those of NAMED, in `bench growths`, each by a core and by a server. Their growths are found by runs that have all
+refused from one on; then each is refused by itself, and there has to be one that the call is answered Memory for.
 """
 
 import bisect
@@ -116,6 +119,9 @@ STATELESS = ("reading: ", "parts: ", "snapshot: ")
 # The watched calls of the table: the name of each among the lines of one core or server, and which of that name it is.
 TABLE = [("definition of M", "M", 0), ("definition of C", "C", 0), ("install of site 0", "install", 0),
          ("first invalidation", "invalidation", 0), ("second invalidation", "invalidation", 1)]
+# The named calls: the table's, each by a core and by a server; the retirement; and the reading of M's file.
+OWNERS = ("core", "server")
+NAMED = [("reading", "M", 0)] + [(owner, call, which) for owner in OWNERS for _, call, which in [*TABLE, ("retirement", "retirement", 0)]]
 
 Run = collections.namedtuple("Run", "status lines error growths refused")
 
@@ -322,6 +328,63 @@ def sweep_watched(program, name, tells_calls):
         tell_calls(whole.lines, *calls.values())
 
 
+class Places:
+    """Where a run of `bench growths` leaves the lines of a whole one where all growths are refused from one on."""
+
+    def __init__(self, program, whole):
+        self.program, self.whole, self.known = program, whole, {}
+
+    def place(self, n):
+        """The number of the first line that isn't as in the whole run."""
+        if n not in self.known:
+            lines = self.program.run("", "FROM", n).lines
+            pairs = enumerate(zip(lines, self.whole))
+            self.known[n] = next((at for at, (line, wanted) in pairs if line != wanted), min(len(lines), len(self.whole)))
+        return self.known[n]
+
+    def first(self, place, growths):
+        """The first growth from which on this line is missing or another one, or one before it is."""
+        return bisect.bisect_left(range(1, growths + 1), place, key=self.place) + 1
+
+
+def sweep_named(program):
+    """Sweeps the named calls of `bench growths`: how each call's runs ended."""
+    whole = program.run()
+    if whole.status != 0 or whole.refused or any(map(is_of_memory, whole.lines)):
+        sys.exit(f"growths ends with {whole.status} without refusals")
+    places = Places(program, whole.lines)
+    jobs = int(os.environ.get("JOBS", "2"))
+    with concurrent.futures.ThreadPoolExecutor(jobs) as pool:
+        for owner, call, which in NAMED:
+            place = [at for at, line in enumerate(whole.lines) if called(line) == f"{owner}: {call}"][which]
+            numbers = range(places.first(place, whole.growths), places.first(place + 1, whole.growths))
+            tally, lacking = Tally(f"{owner}: {call}" + (", again" if which else ""), len(numbers)), 0
+            for n, run in zip(numbers, pool.map(lambda n: program.run("", "AT", n), numbers)):
+                kind, where = watched_kind(run, whole.lines, "AT")
+                tally.add(n, run, kind if run.refused else None)
+                lacking += kind == MEMORY and where == place
+            if not lacking:
+                tally.faults += 1
+                print(f"FAULT: {tally.name}: of {len(numbers)} growths that were refused the call is answered Memory for none")
+            yield tally
+
+
+def check_named(folder, bench, is_quiet):
+    """Sweeps the named calls, tells how many runs there were, and gives the exit status."""
+    tallies = list(sweep_named(Program(folder, os.path.abspath(bench), "growths")))
+    runs = sum(sum(tally.kinds.values()) for tally in tallies)
+    if not is_quiet:
+        tell_tallies(tallies)
+    print(f"growths: {runs} runs of {len(tallies)} named calls, each with one growth refused")
+    return 1 if not runs or any(tally.faults for tally in tallies) else 0
+
+
+def tell_tallies(tallies):
+    print(f"{'refused':38}{'growths':>8}{'runs':>8}{'Memory':>10}{LACKS:>10}{SAME:>10}{'faults':>8}")
+    for tally in tallies:
+        tally.tell()
+
+
 def sweep_script(program, name, lines):
     """Sweeps linkd over the lines."""
     script = Lines(program, lines)
@@ -335,15 +398,15 @@ def sweep_script(program, name, lines):
 
 def main():
     folder, bench, *others = sys.argv[1:]
+    if others[:1] == ["--named"]:
+        sys.exit(check_named(folder, bench, others[1:] == ["--quiet"]))
     tallies = list(sweep_watched(Program(folder, os.path.abspath(bench), "growths"), "growths", True))
     for path in others[:1]:
         for words, name, lines in MODES:
             tallies += sweep_script(Program(folder, os.path.abspath(path), *words.split()), name, lines)
     for path in others[1:]:
         tallies += sweep_watched(Program(folder, os.path.abspath(path)), "linker", False)
-    print(f"{'refused':38}{'growths':>8}{'runs':>8}{'Memory':>10}{LACKS:>10}{SAME:>10}{'faults':>8}")
-    for tally in tallies:
-        tally.tell()
+    tell_tallies(tallies)
     sys.exit(1 if any(tally.faults for tally in tallies) else 0)
 
 

@@ -45,11 +45,11 @@ enum linkd_status {
     LINKD_TYPE_MISMATCH = 9,
     LINKD_STALE = 10,          /* place is the site whose link isn't the one from scratch now */
     LINKD_NOT_READY = 11,      /* place is the site that has no link from scratch now */
-    LINKD_UNKNOWN_SITE = 12,   /* place is the number under which nothing was requested */
+    LINKD_UNKNOWN_SITE = 12,   /* place is the number under which nothing was requested; of a bind, also a site of a retired class */
     LINKD_REPEATED = 13,       /* place is the site that comes twice */
     LINKD_BATCH_SIZE = 14,     /* no sites, or more than 256 */
-    LINKD_MEMORY = 15,         /* want of memory */
-    LINKD_DELEGATE = 16,       /* fault 1: unknown loader; 2: not recorded; 3: already recorded */
+    LINKD_MEMORY = 15,         /* want of memory; of a call that is given bytes, text or an array, maybe in the place of another refusal */
+    LINKD_DELEGATE = 16,       /* fault 1: unknown loader, or retired; 2: not recorded; 3: already recorded */
     LINKD_LOADERS_FULL = 17,
     LINKD_RETIRE = 19,         /* fault is a linkd_retire_fault */
     LINKD_NO_CLASS_FILE = 32,  /* the bytes are no class file: fault is a linkd_class_fault */
@@ -69,7 +69,7 @@ typedef struct linkd_told {
 } linkd_told;
 
 enum linkd_define_fault {
-    LINKD_UNKNOWN_LOADER = 1,
+    LINKD_UNKNOWN_LOADER = 1, /* never made, or retired */
     LINKD_ALREADY_RECORDED = 2,
     LINKD_NAMES_ITSELF = 3,
     LINKD_MISSING_PARENT = 4,
@@ -248,7 +248,9 @@ size_t linkd_memo_size(void);
 size_t linkd_memo_align(void);
 void linkd_memo_blank(linkd_memo *at);
 /* Opens the memo, which remembers nothing, with so many sets, each of which remembers two calls; which set a call has is told by a hash.
- * So as many sets as there are calls that are made over and over are room enough. */
+ * Calls of which three have one set push each other out, so a memo wants several times as many sets as there are calls that are made over
+ * and over: of 9,000 calls in turn, 1,000 sites on 9 classes each, 75 of a hundred are remembered in 9,000 sets, 97 in 18,000, all in
+ * 36,000. */
 uint32_t linkd_memo_open(linkd_memo *at, uint32_t sets);
 /* As linkd_call, on the linker: what a call comes to now. It is remembered where the site's link is megamorphic and the answer runs a
  * method or throws, in the place of another one where its set is full. Such an answer stays right, whatever is defined later, while the

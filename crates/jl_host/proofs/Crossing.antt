@@ -1,4 +1,4 @@
--- A linker and a seat may go to another thread.
+-- A linker may go to another thread.
 use denote.Param.Send.{IsSend, sendable}
 use Rattle.std.proofs.Crossing.{crosses as of_std}
 use Rattle.jl_types.proofs.link.Link.TheSendSync as of_links
