@@ -106,6 +106,8 @@ const OVERRIDING: &[StepRow] = &[
     (SeatCall(0, 2), &[0, 0, 1, 0]),
     (Install(&[]), &[14]),
     (Install(&[0, 0]), &[13]),
+    (Install(&[0; 256]), &[13]),
+    (Install(&[0; 257]), &[14]),
     (Install(&[0, 7]), &[12, 0, 0, 7]),
     (Says("links", r#"{"error":"BadCommand"}"#), &[0, 0, 1]),
     (Leave, &[0]),
