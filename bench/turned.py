@@ -209,7 +209,7 @@ def main():
     read.add_argument("--list", action="store_true")
     read.add_argument("--seed", type=int, default=17)
     read.add_argument("--each", type=int, default=2)
-    read.add_argument("--check", default=f"rt check {{crate}} --only {LAW} --allow-holes")
+    read.add_argument("--check", default=f"env -C crates/{{crate}} rt check --only {LAW} --allow-holes")
     read.add_argument("crates", nargs="*")
     said = read.parse_args()
     uses = libraries()
