@@ -108,7 +108,7 @@ int main(void) {
     MUST(linkd_seat_call(seat, 0, LINKD_NULL, &answer) == LINKD_CLOSED);
 
     MUST(linkd_open(at, 0) == LINKD_MALFORMED);
-    MUST(linkd_open(at, 65537) == LINKD_MALFORMED);
+    MUST(linkd_open(at, 1048577) == LINKD_MALFORMED);
     MUST(linkd_open(at, 3) == LINKD_DONE);
     MUST(linkd_open(at, 3) == LINKD_OPEN_ALREADY);
 

@@ -183,7 +183,7 @@ size_t linkd_size(void);
 size_t linkd_align(void);
 void linkd_blank(linkd *at);
 
-/* Opens the linker, without classes; at most max_sites sites may be requested, 1 to 65,536 (else LINKD_MALFORMED). */
+/* Opens the linker, without classes; at most max_sites sites may be requested, 1 to 1,048,576 (else LINKD_MALFORMED). */
 uint32_t linkd_open(linkd *at, uint32_t max_sites);
 /* Lets all go that the linker has; it isn't open then. */
 void linkd_close(linkd *at);

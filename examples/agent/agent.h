@@ -11,7 +11,7 @@
 #include <stdint.h>
 #include <stdio.h>
 
-enum { MOST_SITES = 65536, MOST_ROWS = 8 };
+enum { MOST_SITES = 1 << 20, MOST_ROWS = 8 };
 
 /* A number that the linker hasn't given. */
 #define NO_NUMBER UINT32_MAX

@@ -54,7 +54,7 @@ fn number(status: u32, told: &Told) -> Result<u32, Error> {
 const OPEN: &str = "a linker is open until it is dropped";
 
 impl Linker {
-    /// A linker without classes, in which at most so many sites may be requested: 1 to 65,536, or else [`Error::Malformed`].
+    /// A linker without classes, in which at most so many sites may be requested: 1 to 1,048,576, or else [`Error::Malformed`].
     pub fn open(max_sites: u32) -> Result<Linker, Error> {
         // SAFETY: the block is as large and stands as the library asks, and is a linker from `linkd_blank` on.
         let (linker, status) = unsafe {

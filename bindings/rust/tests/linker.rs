@@ -171,7 +171,7 @@ fn requests_and_installs_are_refused_by_name() -> Result<(), Error> {
     assert_eq!(linker.install(&[]), Err(Error::BatchSize));
     assert_eq!(linker.install(&[site; 257]), Err(Error::BatchSize));
     assert_eq!(Linker::open(0).unwrap_err(), Error::Malformed);
-    assert_eq!(Linker::open(65_537).unwrap_err(), Error::Malformed);
+    assert_eq!(Linker::open(1_048_577).unwrap_err(), Error::Malformed);
     Ok(())
 }
 

@@ -121,7 +121,7 @@ pub(crate) fn measure<R: Threads + Wait + Sync>(
 ) -> io::Result<()> {
     let workers = number_or(words, 1, 1);
     let sites = number_or(words, 5, 65_536);
-    if workers > MOST || sites < 1 || sites > 65_536 {
+    if workers > MOST || sites < 1 {
         return Ok(());
     }
     match Parts::new(rt.alloc(), sites, workers as usize + 1) {

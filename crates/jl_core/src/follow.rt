@@ -1,7 +1,7 @@
 //! An accepted event once more, in an instance that is behind. It is not judged again, nothing is evaluated, and no footprint is
 //! looked up: what the event changed is taken over from the instance ahead.
 
-ghost use Rattle.std.specs.Prelude.{◌≡◌, ◌≤◌, ◌++◌, ◌∷◌, [], ℕ, false, Some, None, length, IfOk, OnOk, if◌then◌else◌};
+ghost use Rattle.std.specs.Prelude.{◌≡◌, ◌<◌, ◌^◌, ◌++◌, ◌∷◌, [], ℕ, false, Some, None, length, IfOk, OnOk, if◌then◌else◌};
 ghost use Rattle.jl_types.specs.Happenings.Event.{Event};
 ghost use Rattle.jl_types.specs.Happenings.Footprints as footprints;
 ghost use Rattle.jl_cache.specs.Links.{link_at};
@@ -40,7 +40,7 @@ pub(crate) fn follow(
     entry: &Entry,
 ) -> Result<(), AllocError>
     requires further { IsFurther world.old.value world_ahead.now.value entry.now.event links.old links_ahead.now index.old index_ahead.now }
-    requires few { length world.old.value.places ≤ 65536 }
+    requires few { length world.old.value.places < 2 ^ 32 }
     ensures world { OnOk result (world.new.value ≡ world_ahead.now.value) }
     ensures links { OnOk result ((s : ℕ) → link_at links.new s ≡ link_at links_ahead.now s) }
     ensures index { OnOk result (IsIndex world_ahead.now.value (link_at links.new) index.new) }
@@ -74,7 +74,7 @@ fn follow_links(
     event: &Accepted,
 ) -> Result<(), AllocError>
     requires further { IsFurther world.now ahead.now event.now links.old links_ahead.now index.old index_ahead.now }
-    requires few { length world.now.places ≤ 65536 }
+    requires few { length world.now.places < 2 ^ 32 }
     ensures links { OnOk result ((s : ℕ) → link_at links.new s ≡ link_at links_ahead.now s) }
     ensures index { OnOk result (IsIndex ahead.now (link_at links.new) index.new) }
 {
@@ -101,7 +101,7 @@ fn forget_retired(
     index: &mut Index,
     event: &Accepted,
 ) -> Result<(), AllocError>
-    requires few { length world.now.places ≤ 65536 }
+    requires few { length world.now.places < 2 ^ 32 }
     requires scratch { AreScratch world.now links.old }
     requires indexed { IsIndex world.now (link_at links.old) index.old }
     ensures links { OnOk result ((s : ℕ) → link_at links.new s

@@ -47,7 +47,7 @@ impl Drop for Instance {
 }
 
 impl Model for Instance {
-    ghost use Rattle.std.specs.Prelude.{◌≡◌, ◌≤◌, ℕ, true, length};
+    ghost use Rattle.std.specs.Prelude.{◌≡◌, ◌<◌, ◌≤◌, ◌^◌, ℕ, true, length};
     ghost use Rattle.std.specs.Coded.{codes};
     ghost use Rattle.jl_types.specs.Means.TargetCode.{target_code};
     ghost use Rattle.jl_types.specs.Happenings.History.{installed};
@@ -67,7 +67,7 @@ impl Model for Instance {
         × ((s : ℕ) → link_at c.links s ≡ installed (events (record { max_sites = c.max_sites; log = shown c.world.value.classes.rows c.log.items })) s)
         × (are_told c.world.value.classes.rows c.log.items ≡ true)
         × (length c.world.value.places ≤ c.max_sites)
-        × (c.max_sites ≤ 65536)
+        × (c.max_sites < 2 ^ 32)
         × AreAnswered (record { max_sites = c.max_sites; log = shown c.world.value.classes.rows c.log.items })
         × IsIndex c.world.value (link_at c.links) c.index };
 }
@@ -75,7 +75,6 @@ impl Model for Instance {
 impl Instance {
     /// One of no events. Want of memory is an error.
     pub(crate) fn new(alloc: Global, max_sites: u32) -> Result<Self, AllocError>
-        requires { max_sites ≤ 65536 }
         ensures { IfOk result (λ instance. instance ≡ empty_core max_sites) }
     {
         Ok(Instance {

@@ -70,7 +70,6 @@ impl Core {
     /// requested. Want of memory is an error.
     pub fn new(alloc: Global, max_sites: u32) -> Result<Self, AllocError>
         requires some { 1 ≤ max_sites }
-        requires most { max_sites ≤ 65536 }
         ensures { IfOk result (λ core. core ≡ empty_core max_sites) }
     {
         Ok(Core {

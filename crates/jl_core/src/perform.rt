@@ -1,6 +1,6 @@
 //! What an accepted event changes: the world, the installed links, their index and the log. Nothing is judged here.
 
-ghost use Rattle.std.specs.Prelude.{◌≡◌, ◌==◌, ◌&&◌, ◌+◌, ◌≤◌, ◌++◌, ◌∷◌, [], ℕ, List, false, length, IfOk, OnOk, is_some, is_none};
+ghost use Rattle.std.specs.Prelude.{◌≡◌, ◌<◌, ◌^◌, ◌==◌, ◌&&◌, ◌+◌, ◌≤◌, ◌++◌, ◌∷◌, [], ℕ, List, false, length, IfOk, OnOk, is_some, is_none};
 ghost use Rattle.std.specs.List.{list_any};
 ghost use Rattle.jl_types.specs.declared.event.EventOf.TheVariants as events;
 ghost use Rattle.jl_types.specs.declared.key.Key as keys;
@@ -41,7 +41,7 @@ pub(crate) fn perform(
 ) -> Result<Reply, AllocError>
     requires accepted { IsAcceptable world.old.value event }
     requires sound { IsSound world.old.value links.old index.old }
-    requires few { length world.old.value.places ≤ 65536 }
+    requires few { length world.old.value.places < 2 ^ 32 }
     requires small { work.old ≤ 16777216 }
     ensures { IfOk result (IsStep world.old.value world.new.value links.old links.new index.old index.new log.old.items log.new.items event work.old work.new) }
 {
@@ -65,7 +65,7 @@ pub(crate) fn perform(
 /// Sites that the event retires, each that has a link among them: what a retirement drops is found before the loader is gone. Want of
 /// memory is an error.
 fn retired_sites(alloc: Global, world: &World, event: &Event) -> Result<Vec<SiteNo>, AllocError>
-    requires { length world.now.places ≤ 65536 }
+    requires { length world.now.places < 2 ^ 32 }
     ensures { IfOk result (λ sites. AreRetired world.now event.now sites.items) }
 {
     match event {

@@ -1,7 +1,7 @@
 //! What an accepted event makes of the world. Nothing is judged, so an event that is new and one that is followed go the same way.
 //! Want of memory is an error of each, and then the world is of no use.
 
-ghost use Rattle.std.specs.Prelude.{◌≡◌, ◌≤◌, length, IfOk, OnOk};
+ghost use Rattle.std.specs.Prelude.{◌≡◌, ◌<◌, ◌^◌, length, IfOk, OnOk};
 ghost use Rattle.jl_types.specs.declared.event.EventOf.TheVariants as event;
 ghost use Rattle.jl_types.specs.declared.event.Made.TheVariants as made;
 ghost use Rattle.jl_events.specs.Changes.{IsAcceptable, IsMoved};
@@ -57,7 +57,7 @@ pub(crate) fn add_delegation(
 /// The place has a number. One that is requested already keeps it.
 pub(crate) fn add_place(world: &mut World, place: &Place) -> Result<SiteNo, AllocError>
     requires accepted { IsAcceptable world.old (event.Request place.now) }
-    requires few { length world.old.places ≤ 65536 }
+    requires few { length world.old.places < 2 ^ 32 }
     ensures { IfOk result (λ site. IsMoved world.old world.new (event.Request place.now) (made.Site site)) }
 {
     if let Some(site) = world.places.get_index_of(place) {

@@ -1,6 +1,6 @@
 //! The world after an accepted event that was made elsewhere. Nothing is judged again.
 
-ghost use Rattle.std.specs.Prelude.{◌≡◌, ◌≤◌, length, OnOk};
+ghost use Rattle.std.specs.Prelude.{◌≡◌, ◌<◌, ◌^◌, length, OnOk};
 ghost use Rattle.jl_events.specs.Changes.{IsNext};
 
 use crate::accepted::Accepted;
@@ -21,7 +21,7 @@ pub fn follow_world(
     event: &Accepted,
 ) -> Result<(), AllocError>
     requires next { IsNext world.old.value ahead.now.value event.now }
-    requires few { length world.old.value.places ≤ 65536 }
+    requires few { length world.old.value.places < 2 ^ 32 }
     ensures { OnOk result (world.new.value ≡ ahead.now.value) }
 {
     match Arc::get_mut(world) {
@@ -46,7 +46,7 @@ fn follow_owned(
     event: &Accepted,
 ) -> Result<(), AllocError>
     requires next { IsNext world.old ahead.now event.now }
-    requires few { length world.old.places ≤ 65536 }
+    requires few { length world.old.places < 2 ^ 32 }
     ensures { OnOk result (world.new ≡ ahead.now) }
 {
     match event {

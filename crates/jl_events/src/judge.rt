@@ -32,7 +32,6 @@ pub fn judged(
     work: &mut Work,
 ) -> Result<Event, Refusal>
     requires few { length world.now.places ≤ max_sites }
-    requires most { max_sites ≤ 65536 }
     requires nothing_yet { work.old ≡ 0 }
     ensures judged { IsJudged (verdict max_sites world.now event) event result }
     ensures ticks { work.new ≤ most_to_judge world.now event }

@@ -1,6 +1,6 @@
 //! The world after an accepted event, and what the log keeps of the event.
 
-ghost use Rattle.std.specs.Prelude.{◌≤◌, length, IfOk};
+ghost use Rattle.std.specs.Prelude.{◌<◌, ◌^◌, length, IfOk};
 ghost use Rattle.jl_types.specs.declared.event.EventOf.TheVariants as events;
 ghost use Rattle.jl_events.specs.Changes.{IsAcceptable, IsStepped};
 
@@ -24,7 +24,7 @@ pub fn step_world(
     event: Event,
 ) -> Result<(Accepted, Made), AllocError>
     requires accepted { IsAcceptable world.old.value event }
-    requires few { length world.old.value.places ≤ 65536 }
+    requires few { length world.old.value.places < 2 ^ 32 }
     ensures { IfOk result (λ told. IsStepped world.old.value world.new.value event told.0 told.1) }
 {
     match Arc::get_mut(world) {
@@ -40,7 +40,7 @@ fn step_copy(
     event: Event,
 ) -> Result<(Accepted, Made), AllocError>
     requires accepted { IsAcceptable world.old.value event }
-    requires few { length world.old.value.places ≤ 65536 }
+    requires few { length world.old.value.places < 2 ^ 32 }
     ensures { IfOk result (λ told. IsStepped world.old.value world.new.value event told.0 told.1) }
 {
     match event {
@@ -61,7 +61,7 @@ fn step_owned(
     event: Event,
 ) -> Result<(Accepted, Made), AllocError>
     requires accepted { IsAcceptable world.old event }
-    requires few { length world.old.places ≤ 65536 }
+    requires few { length world.old.places < 2 ^ 32 }
     ensures { IfOk result (λ told. IsStepped world.old world.new event told.0 told.1) }
 {
     match event {
@@ -117,7 +117,7 @@ fn delegate(
 /// The same for a request.
 fn request(world: &mut World, place: Place) -> Result<(Accepted, Made), AllocError>
     requires accepted { IsAcceptable world.old (events.Request place) }
-    requires few { length world.old.places ≤ 65536 }
+    requires few { length world.old.places < 2 ^ 32 }
     ensures { IfOk result (λ told. IsStepped world.old world.new (events.Request place) told.0 told.1) }
 {
     let site = add_place(world, &place)?;

@@ -9,6 +9,7 @@ use Rattle.std.proofs.lemmas.List.Folds.{list_any_more}
 use Rattle.jl_types.specs.declared.link.Link.{Link}
 use Rattle.jl_types.specs.Happenings.History.{installed}
 use Rattle.jl_core.specs.State.{State, events}
+use Rattle.jl_host.specs.Seats.{room_for}
 use Rattle.jl_host.specs.Means.Behind.{IsNow}
 
 module _ (core : State) (links : List (Option Link)) (n : ℕ) (x : Option Link) (few : n < length links) (is : x ≡ installed (events core) n) where
@@ -29,9 +30,9 @@ module _ (core : State) (links : List (Option Link)) (n : ℕ) (x : Option Link)
 
 -- what is right stays so, and each site that an item of these touches is right
 pub record IsWritten {A : Type 0} (core : State) (test : ℕ → A → Bool) (items : List A) (old new : List (Option Link)) : Type 0 where
-  pub all : length new ≡ 65536
+  pub all : length new ≡ room_for core.max_sites
   pub kept : (s : ℕ) → IsNow core old s → IsNow core new s
-  pub written : (s : ℕ) → s < 65536 → list_any (test s) items ≡ true → IsNow core new s
+  pub written : (s : ℕ) → s < room_for core.max_sites → list_any (test s) items ≡ true → IsNow core new s
 
 either : (a b : Bool) → (a || b) ≡ true → {P : Type 0} → (a ≡ true → P) → (b ≡ true → P) → P
 either true b e f g = f refl
@@ -39,8 +40,8 @@ either false b e f g = g e
 
 pub one_written : {A : Type 0} (core : State) (test : ℕ → A → Bool) (items : List A) (i : ℕ) (item : A) (old links new : List (Option Link)) → i < length items
     → item ≡ get_or items i item
-    → IsWritten core test (take i items) old links → length new ≡ 65536 → ((s : ℕ) → IsNow core links s → IsNow core new s)
-    → ((s : ℕ) → s < 65536 → test s item ≡ true → IsNow core new s) → IsWritten core test (take (i + 1) items) old new
+    → IsWritten core test (take i items) old links → length new ≡ room_for core.max_sites → ((s : ℕ) → IsNow core links s → IsNow core new s)
+    → ((s : ℕ) → s < room_for core.max_sites → test s item ≡ true → IsNow core new s) → IsWritten core test (take (i + 1) items) old new
 one_written core test items i item old links new few at so_far all kept written = record {
   all = all;
   kept = λ s now. kept s (so_far.kept s now);
@@ -50,8 +51,8 @@ one_written core test items i item old links new few at so_far all kept written 
 }
 
 -- a site that has this number
-pub at_site : (P : ℕ → Type 0) (k s : ℕ) → (k == s) ≡ true → (k < 65536 → P k) → s < 65536 → P s
-at_site P k s e h = subst (λ n. n < 65536 → P n) ((Decides-eqb k s).0 e) h
+pub at_site : (room : ℕ) (P : ℕ → Type 0) (k s : ℕ) → (k == s) ≡ true → (k < room → P k) → s < room → P s
+at_site room P k s e h = subst (λ n. n < room → P n) ((Decides-eqb k s).0 e) h
 
 -- ---- a write that may fail
 

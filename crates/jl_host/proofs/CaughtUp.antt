@@ -26,6 +26,7 @@ use Rattle.jl_core.specs.Means.Touched.{has}
 use Rattle.jl_core.proofs.SlotLaws.{untouched}
 use Rattle.jl_core.proofs.LogLaws.{length_told}
 use Rattle.jl_host.specs.Linkers.{last_dropped}
+use Rattle.jl_host.specs.Seats.{room_for}
 use Rattle.jl_host.specs.Means.Behind.{touches, installs_at, touched_by, IsNow, IsBehind}
 
 both_false : (a b : Bool) → (a || b) ≡ false → (a ≡ false) × (b ≡ false)
@@ -132,9 +133,10 @@ module _ (rows : List Class) (s : ℕ) where
 
 -- of links that were behind, once those of the touched sites were written
 pub caught_up : (core : State) (old new : List (Option Link)) (n : ℕ) (rows : List Class) (entries : List Entry) → IsBehind old n core
-    → are_told rows entries ≡ true → shown rows entries ≡ core.log → length new ≡ 65536
+    → are_told rows entries ≡ true → shown rows entries ≡ core.log → length new ≡ room_for core.max_sites
     → ((s : ℕ) → IsNow core old s → IsNow core new s)
-    → ((s : ℕ) → s < 65536 → list_any (touched_by s) (drop n entries) ≡ true → IsNow core new s) → (s : ℕ) → s < 65536 → IsNow core new s
+    → ((s : ℕ) → s < room_for core.max_sites → list_any (touched_by s) (drop n entries) ≡ true → IsNow core new s)
+    → (s : ℕ) → s < room_for core.max_sites → IsNow core new s
 caught_up core old new n rows entries is all_told shown_is all kept written s low = by_test (list_any (touched_by s) (drop n entries)) refl
   where
     by_test : (b : Bool) → list_any (touched_by s) (drop n entries) ≡ b → IsNow core new s
@@ -142,12 +144,14 @@ caught_up core old new n rows entries is all_told shown_is all kept written s lo
     by_test false e =
         kept s (is.same s low (ap (λ log. list_any (touches s) (drop n log)) (sym shown_is) ∙ sym (same_touches rows s entries n all_told) ∙ e))
 
-pub all_links : (core : State) (links : List (Option Link)) → length links ≡ 65536 → ((s : ℕ) → s < 65536 → IsNow core links s)
-    → links ≡ map (installed (events core)) (range_with_len 0 65536)
+pub all_links : (core : State) (links : List (Option Link)) → length links ≡ room_for core.max_sites
+    → ((s : ℕ) → s < room_for core.max_sites → IsNow core links s)
+    → links ≡ map (installed (events core)) (range_with_len 0 (room_for core.max_sites))
 all_links core links all now =
-    ext_get_or None links (map (installed (events core)) (range_with_len 0 65536)) (all ∙ sym (length-map-range_with_len (installed (events core)) 0 65536))
-    (λ i low. let few : i < 65536 = omega (arith, low, all) in
-    now i few ∙ sym (get_or-map-range_with_len (installed (events core)) 0 65536 i i None few (omega arith)))
+    ext_get_or None links (map (installed (events core)) (range_with_len 0 (room_for core.max_sites)))
+    (all ∙ sym (length-map-range_with_len (installed (events core)) 0 (room_for core.max_sites)))
+    (λ i low. let few : i < room_for core.max_sites = omega (arith, low, all) in
+    now i few ∙ sym (get_or-map-range_with_len (installed (events core)) 0 (room_for core.max_sites) i i None few (omega arith)))
 
 -- ---- the last entry
 
@@ -186,13 +190,14 @@ module _ (rows : List Class) where
 
 -- ---- a linker that was opened just now
 
-pub nothing_behind : (core : State) (max_sites : ℕ) (links : List (Option Link)) → core ≡ empty_core max_sites → links ≡ replicate 65536 None
+pub nothing_behind : (core : State) (max_sites : ℕ) (links : List (Option Link)) → core ≡ empty_core max_sites
+    → links ≡ replicate (room_for max_sites) None
     → IsBehind links 0 core
 nothing_behind core max_sites links is all =
     subst (IsBehind links 0) (sym is) (subst (λ xs. IsBehind xs 0 (empty_core max_sites)) (sym all) (record {
-      all = length-replicate 65536 none;
+      all = length-replicate (room_for max_sites) none;
       reached = omega arith;
-      same = λ s low quiet. get_or-replicate 65536 s none none low ∙ sym (unrequested [] s (omega arith));
+      same = λ s low quiet. get_or-replicate (room_for max_sites) s none none low ∙ sym (unrequested [] s (omega arith));
     }))
   where
     none : Option Link

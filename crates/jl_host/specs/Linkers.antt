@@ -1,5 +1,5 @@
 -- What stands behind a linker that is open, and what each call on a linker leaves, by the status that it answers.
-use Rattle.std.specs.Prelude.{◌≡◌, ◌⊎◌, ◌-◌, ◌<◌, ◌≤◌, ℕ, nat_lt, ◌==◌, List, [], length, slice_get, Option, Some, None, option_map, Result, Ok, Err}
+use Rattle.std.specs.Prelude.{◌^◌, ◌≡◌, ◌⊎◌, ◌-◌, ◌<◌, ◌≤◌, ℕ, nat_lt, ◌==◌, List, [], length, slice_get, Option, Some, None, option_map, Result, Ok, Err}
 use Rattle.std.specs.Prelude.{if◌then◌else◌}
 use Rattle.std.specs.Option.{option_map_or}
 use Rattle.jl_classfile.specs.declared.fault.ClassFault.{ClassFault}
@@ -41,13 +41,17 @@ newly_opened max_sites = record { session = session_of max_sites; said = [] }
 
 -- ---- opening
 
+-- the most sites that may be requested
+abbrev pub most_sites : ℕ
+most_sites = 2 ^ 20
+
 -- open already; no number of sites that may be; want of memory; or open, with nothing in it
 abbrev pub IsOpen : ℕ → Option Opened → ℕ → Option Opened → Type 0
 IsOpen max_sites (Some old) status new = (status ≡ open_already) × (new ≡ Some old)
 IsOpen max_sites None status new =
-    ((status ≡ done) × (1 ≤ max_sites) × (max_sites ≤ 65536) × (new ≡ Some (newly_opened max_sites)))
-    ⊎ ((status ≡ malformed) × ((max_sites ≡ 0) ⊎ (65536 < max_sites)) × (new ≡ None))
-    ⊎ ((status ≡ memory) × (1 ≤ max_sites) × (max_sites ≤ 65536) × (new ≡ None))
+    ((status ≡ done) × (1 ≤ max_sites) × (max_sites ≤ most_sites) × (new ≡ Some (newly_opened max_sites)))
+    ⊎ ((status ≡ malformed) × ((max_sites ≡ 0) ⊎ (most_sites < max_sites)) × (new ≡ None))
+    ⊎ ((status ≡ memory) × (1 ≤ max_sites) × (max_sites ≤ most_sites) × (new ≡ None))
 
 -- ---- events
 

@@ -1,5 +1,5 @@
 -- What a seat has, and what its calls leave.
-use Rattle.std.specs.Prelude.{◌≡◌, ◌⊎◌, ℕ, List, map, length, get_or, Option, Some, None}
+use Rattle.std.specs.Prelude.{◌≡◌, ◌⊎◌, ◌+◌, ◌*◌, ◌/◌, ℕ, List, map, length, get_or, Option, Some, None}
 use Rattle.std.specs.List.{range_with_len}
 use Rattle.jl_types.specs.declared.link.Link.{Link}
 use Rattle.jl_types.specs.Happenings.Fast.{fast_answer}
@@ -10,14 +10,18 @@ use Rattle.jl_host.specs.Numbers.{done, memory, closed}
 use Rattle.jl_host.specs.Showing.{recv_of, fast_shown}
 use Rattle.jl_host.specs.Linkers.{Opened}
 
--- the installed link of each of the 65,536 sites that there may be, or none, and how many classes there were
+-- so many places as whole pages of 256 have, one for each site that may be requested
+abbrev pub room_for : ℕ → ℕ
+room_for max_sites = 256 * ((max_sites + 255) / 256)
+
+-- the installed link at each place, or none, and how many classes there were
 pub record SeatView : Type 0 where
   pub links : List (Option Link)
   pub classes : ℕ
 
 abbrev pub seen_of : State → SeatView
 seen_of core = record {
-  links = map (installed (events core)) (range_with_len 0 65536);
+  links = map (installed (events core)) (range_with_len 0 (room_for core.max_sites));
   classes = length (world_of core).classes.rows;
 }
 

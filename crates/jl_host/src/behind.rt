@@ -1,8 +1,9 @@
 //! Links in shared pages, brought up to date where events have touched them.
 
-ghost use Rattle.std.specs.Prelude.{◌≡◌, ◌<◌, ◌≤◌, ◌==◌, ℕ, true, length, drop, replicate, slice_set, None, IfOk, OnOk, OnErr};
+ghost use Rattle.std.specs.Prelude.{◌≡◌, ◌<◌, ◌≤◌, ◌==◌, nat_lt, ℕ, true, length, drop, replicate, slice_set, None, IfOk, OnOk, OnErr};
 ghost use Rattle.std.specs.List.{list_any};
 ghost use Rattle.jl_core.specs.Means.Touched.{has};
+ghost use Rattle.jl_host.specs.Seats.{room_for};
 ghost use Rattle.jl_host.specs.Means.Behind.{IsNow, IsBehind, installs_at, touched_by};
 
 use jl_core::{Accepted, Core, Entry};
@@ -11,17 +12,25 @@ use jl_types::{Link, SiteNo};
 use std::alloc::{AllocError, Global};
 use std::sync::Arc;
 
-/// How many sites there may be, in pages.
-const PAGES: usize = 256;
+/// How many places a page has.
+const PAGE: usize = 256;
 
 /// The site's link or none, by the number of the site.
 pub(crate) type Links = Slots<Option<Link>>;
 
-/// No links. Want of memory is an error.
-pub(crate) fn no_links(alloc: Global) -> Result<Arc<Links>, AllocError>
-    ensures { IfOk result (λ links. links.value ≡ replicate 65536 None) }
+/// No links, with a place for each of so many sites. Want of memory is an error.
+pub(crate) fn no_links(alloc: Global, max_sites: u32) -> Result<Arc<Links>, AllocError>
+    ensures { IfOk result (λ links. links.value ≡ replicate (room_for max_sites) None) }
 {
-    Ok(Arc::new(alloc, Slots::filled(alloc, None, PAGES)?)?)
+    let pages = (max_sites as usize + (PAGE - 1)) / PAGE;
+    Ok(Arc::new(alloc, Slots::filled(alloc, None, pages)?)?)
+}
+
+/// Whether there is such a place.
+fn is_within(links: &Arc<Links>, place: usize) -> bool
+    ensures { result ≡ nat_lt place (length links.now.value) }
+{
+    links.get(place).is_some()
 }
 
 /// Writes the link, or none, at the place.
@@ -44,13 +53,13 @@ fn put(links: &mut Arc<Links>, place: usize, link: Option<Link>) -> Result<(), A
 ///
 /// Want of memory. What was right is right.
 fn write_site(links: &mut Arc<Links>, core: &Core, site: SiteNo) -> Result<(), AllocError>
-    requires { length links.old.value ≡ 65536 }
-    ensures all { length links.new.value ≡ 65536 }
+    requires { length links.old.value ≡ room_for core.now.max_sites }
+    ensures all { length links.new.value ≡ room_for core.now.max_sites }
     ensures kept { (s : ℕ) → IsNow core.now links.old.value s → IsNow core.now links.new.value s }
-    ensures written { OnOk result (site < 65536 → IsNow core.now links.new.value site) }
+    ensures written { OnOk result (site < room_for core.now.max_sites → IsNow core.now links.new.value site) }
 {
     let place = site.number() as usize;
-    if place >= 65_536 {
+    if !is_within(links, place) {
         return Ok(());
     }
     put(links, place, core.links().get(site))
@@ -62,10 +71,10 @@ fn write_site(links: &mut Arc<Links>, core: &Core, site: SiteNo) -> Result<(), A
 ///
 /// Want of memory. What was right is right.
 fn write_sites(links: &mut Arc<Links>, core: &Core, sites: &[SiteNo]) -> Result<(), AllocError>
-    requires { length links.old.value ≡ 65536 }
-    ensures all { length links.new.value ≡ 65536 }
+    requires { length links.old.value ≡ room_for core.now.max_sites }
+    ensures all { length links.new.value ≡ room_for core.now.max_sites }
     ensures kept { (s : ℕ) → IsNow core.now links.old.value s → IsNow core.now links.new.value s }
-    ensures written { OnOk result ((s : ℕ) → s < 65536 → has s sites.now ≡ true → IsNow core.now links.new.value s) }
+    ensures written { OnOk result ((s : ℕ) → s < room_for core.now.max_sites → has s sites.now ≡ true → IsNow core.now links.new.value s) }
 {
     for site in sites {
         write_site(links, core, *site)?;
@@ -83,10 +92,10 @@ fn write_rows(
     core: &Core,
     rows: &[(SiteNo, Link)],
 ) -> Result<(), AllocError>
-    requires { length links.old.value ≡ 65536 }
-    ensures all { length links.new.value ≡ 65536 }
+    requires { length links.old.value ≡ room_for core.now.max_sites }
+    ensures all { length links.new.value ≡ room_for core.now.max_sites }
     ensures kept { (s : ℕ) → IsNow core.now links.old.value s → IsNow core.now links.new.value s }
-    ensures written { OnOk result ((s : ℕ) → s < 65536 → list_any (λ row. row.0 == s) rows.now ≡ true → IsNow core.now links.new.value s) }
+    ensures written { OnOk result ((s : ℕ) → s < room_for core.now.max_sites → list_any (λ row. row.0 == s) rows.now ≡ true → IsNow core.now links.new.value s) }
 {
     for row in rows {
         write_site(links, core, row.0)?;
@@ -100,10 +109,10 @@ fn write_rows(
 ///
 /// Want of memory. What was right is right.
 fn write_installed(links: &mut Arc<Links>, core: &Core, event: &Accepted) -> Result<(), AllocError>
-    requires { length links.old.value ≡ 65536 }
-    ensures all { length links.new.value ≡ 65536 }
+    requires { length links.old.value ≡ room_for core.now.max_sites }
+    ensures all { length links.new.value ≡ room_for core.now.max_sites }
     ensures kept { (s : ℕ) → IsNow core.now links.old.value s → IsNow core.now links.new.value s }
-    ensures written { OnOk result ((s : ℕ) → s < 65536 → installs_at s event.now ≡ true → IsNow core.now links.new.value s) }
+    ensures written { OnOk result ((s : ℕ) → s < room_for core.now.max_sites → installs_at s event.now ≡ true → IsNow core.now links.new.value s) }
 {
     match event {
         Accepted::Install(rows) => write_rows(links, core, rows.as_slice()),
@@ -117,10 +126,10 @@ fn write_installed(links: &mut Arc<Links>, core: &Core, event: &Accepted) -> Res
 ///
 /// Want of memory. What was right is right.
 fn write_entry(links: &mut Arc<Links>, core: &Core, entry: &Entry) -> Result<(), AllocError>
-    requires { length links.old.value ≡ 65536 }
-    ensures all { length links.new.value ≡ 65536 }
+    requires { length links.old.value ≡ room_for core.now.max_sites }
+    ensures all { length links.new.value ≡ room_for core.now.max_sites }
     ensures kept { (s : ℕ) → IsNow core.now links.old.value s → IsNow core.now links.new.value s }
-    ensures written { OnOk result ((s : ℕ) → s < 65536 → touched_by s entry.now ≡ true → IsNow core.now links.new.value s) }
+    ensures written { OnOk result ((s : ℕ) → s < room_for core.now.max_sites → touched_by s entry.now ≡ true → IsNow core.now links.new.value s) }
 {
     write_sites(links, core, entry.reply().dropped.as_slice())?;
     write_installed(links, core, entry.event())
@@ -132,10 +141,10 @@ fn write_entry(links: &mut Arc<Links>, core: &Core, entry: &Entry) -> Result<(),
 ///
 /// Want of memory. What was right is right.
 fn write_entries(links: &mut Arc<Links>, core: &Core, entries: &[Entry]) -> Result<(), AllocError>
-    requires { length links.old.value ≡ 65536 }
-    ensures all { length links.new.value ≡ 65536 }
+    requires { length links.old.value ≡ room_for core.now.max_sites }
+    ensures all { length links.new.value ≡ room_for core.now.max_sites }
     ensures kept { (s : ℕ) → IsNow core.now links.old.value s → IsNow core.now links.new.value s }
-    ensures written { OnOk result ((s : ℕ) → s < 65536 → list_any (touched_by s) entries.now ≡ true → IsNow core.now links.new.value s) }
+    ensures written { OnOk result ((s : ℕ) → s < room_for core.now.max_sites → list_any (touched_by s) entries.now ≡ true → IsNow core.now links.new.value s) }
 {
     for entry in entries {
         write_entry(links, core, entry)?;
@@ -156,7 +165,7 @@ pub(crate) fn follow(
     requires { IsBehind links.old.value reached core.now }
     ensures still { IsBehind links.new.value reached core.now }
     ensures done { IfOk result (λ n. n ≡ length core.now.log) }
-    ensures now { OnOk result ((s : ℕ) → s < 65536 → IsNow core.now links.new.value s) }
+    ensures now { OnOk result ((s : ℕ) → s < room_for core.now.max_sites → IsNow core.now links.new.value s) }
 {
     let log = core.log();
     let count = log.len();

@@ -22,7 +22,7 @@ use std::alloc::{AllocError, Global};
 use std::marker::Model;
 
 /// The most places that may be requested.
-const MOST_SITES: u32 = 65_536;
+const MOST_SITES: u32 = 1 << 20;
 
 /// A linker that is open, or isn't. A clause sees what stands behind it.
 pub struct Linker {
@@ -57,7 +57,7 @@ impl Linker {
         Linker { opened: None }
     }
 
-    /// Opens it, without classes; so many places may be requested, 1 to 65,536. The status tells whether it was open already, no such
+    /// Opens it, without classes; so many places may be requested, 1 to 1,048,576. The status tells whether it was open already, no such
     /// number may be, or memory lacks.
     pub fn open(&mut self, alloc: Global, max_sites: u32) -> u32
         ensures { IsOpen max_sites self.old result self.new }

@@ -61,14 +61,13 @@ impl Model for Opened {
 impl Opened {
     /// One without classes. Want of memory is an error.
     pub(crate) fn new(alloc: Global, max_sites: u32) -> Result<Opened, AllocError>
-        requires some { 1 ≤ max_sites }
-        requires most { max_sites ≤ 65536 }
+        requires { 1 ≤ max_sites }
         ensures { IfOk result (λ opened. opened ≡ newly_opened max_sites) }
     {
         Ok(Opened {
             session: Session::with_sites(alloc, max_sites)?,
             said: Vec::new(alloc),
-            links: no_links(alloc)?,
+            links: no_links(alloc, max_sites)?,
             reached: 0,
         })
     }

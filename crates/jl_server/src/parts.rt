@@ -53,14 +53,14 @@ impl Model for Parts {
 }
 
 impl Parts {
-    /// Makes all that the server is to have but its callers, with room for so many: 1 to 65,536 sites that may be requested, and
+    /// Makes all that the server is to have but its callers, with room for so many: one or more sites that may be requested, and
     /// 1 to 64 callers.
     ///
     /// # Errors
     ///
     /// Unmade, where a growth was refused.
     pub fn new(alloc: Global, max_sites: u32, callers: usize) -> Result<Parts, Unmade>
-        requires sites { (1 ≤ max_sites) × (max_sites ≤ 65536) }
+        requires sites { 1 ≤ max_sites }
         requires callers { (1 ≤ callers) × (callers ≤ 64) }
         ensures { IfOk result (λ parts. (parts.max_sites ≡ max_sites) × (parts.callers ≡ callers)) }
     {

@@ -87,8 +87,7 @@ impl Session {
 
     /// The same, where so many places may be requested.
     pub fn with_sites(alloc: Global, max_sites: u32) -> Result<Self, AllocError>
-        requires some { 1 ≤ max_sites }
-        requires most { max_sites ≤ 65536 }
+        requires { 1 ≤ max_sites }
         ensures { IfOk result (λ session. session ≡ session_of max_sites) }
     {
         Ok(Session {

@@ -1,6 +1,6 @@
 //! The requested sites in a loader's classes.
 
-ghost use Rattle.std.specs.Prelude.{◌≡◌, ◌≤◌, ◌==◌, ◌||◌, ℕ, true, Ok, length, IfOk, OnOk};
+ghost use Rattle.std.specs.Prelude.{◌≡◌, ◌<◌, ◌^◌, ◌==◌, ◌||◌, ℕ, true, Ok, length, IfOk, OnOk};
 ghost use Rattle.std.specs.List.{list_any};
 ghost use Rattle.jl_types.specs.Linkage.Links.{scratch};
 ghost use Rattle.jl_types.specs.Happenings.Events.{same_place};
@@ -18,7 +18,7 @@ use std::alloc::{AllocError, Global};
 /// Sites in the classes that the loader has defined, each that has a link from scratch among them; none of a retired loader. It looks
 /// at the invocations of these classes alone. Want of memory is an error.
 pub fn sites_of(alloc: Global, world: &World, loader: LoaderId) -> Result<Vec<SiteNo>, AllocError>
-    requires few { length world.now.places ≤ 65536 }
+    requires few { length world.now.places < 2 ^ 32 }
     ensures only { IfOk result (λ sites. (s : ℕ) → list_any (λ t. t == s) sites.items ≡ true → retires_site world.now loader s ≡ true) }
     ensures linked { IfOk result (λ sites. (s : ℕ) (l : Link) → scratch world.now s ≡ Ok l → retires_site world.now loader s ≡ true
         → list_any (λ t. t == s) sites.items ≡ true) }
@@ -30,7 +30,7 @@ pub fn sites_of(alloc: Global, world: &World, loader: LoaderId) -> Result<Vec<Si
 
 /// The requested invocations of the classes. Want of memory is an error.
 fn sites_in(alloc: Global, world: &World, classes: &[ClassId]) -> Result<Vec<SiteNo>, AllocError>
-    requires { length world.now.places ≤ 65536 }
+    requires { length world.now.places < 2 ^ 32 }
     ensures { IfOk result (λ sites. (s : ℕ) → list_any (λ t. t == s) sites.items
         ≡ requested_where (is_among world.now.classes classes.now) world.now.places s) }
 {
@@ -48,7 +48,7 @@ fn push_of_class(
     classes: &Classes,
     class: ClassId,
 ) -> Result<(), AllocError>
-    requires { length places.now.keys ≤ 65536 }
+    requires { length places.now.keys < 2 ^ 32 }
     ensures { OnOk result ((s : ℕ) → list_any (λ t. t == s) sites.new.items
         ≡ (list_any (λ t. t == s) sites.old.items || requested_where (is_invoked classes.now class) places.now.keys s)) }
 {
@@ -72,7 +72,7 @@ fn push_of_method(
     number: u16,
     method: &Method<'_>,
 ) -> Result<(), AllocError>
-    requires { length places.now.keys ≤ 65536 }
+    requires { length places.now.keys < 2 ^ 32 }
     ensures { OnOk result ((s : ℕ) → list_any (λ t. t == s) sites.new.items
         ≡ (list_any (λ t. t == s) sites.old.items || requested_where (is_in_method class number method.now.sites) places.now.keys s)) }
 {
@@ -98,7 +98,7 @@ fn push_requested(
     places: &IndexSet<Place>,
     place: &Place,
 ) -> Result<(), AllocError>
-    requires { length places.now.keys ≤ 65536 }
+    requires { length places.now.keys < 2 ^ 32 }
     ensures { OnOk result ((s : ℕ) → list_any (λ t. t == s) sites.new.items
         ≡ (list_any (λ t. t == s) sites.old.items || requested_where (same_place place.now) places.now.keys s)) }
 {

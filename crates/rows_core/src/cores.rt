@@ -171,7 +171,7 @@ fn is_so_on(alloc: Global, core: &mut Core, row: &Row) -> bool {
 
 /// Whether the row, whose limit a core may have, is so on a new core.
 fn is_so(alloc: Global, row: &Row) -> bool {
-    if row.0 == 0 || row.0 > 65_536 {
+    if row.0 == 0 {
         return false;
     }
     match Core::new(alloc, row.0) {

@@ -43,8 +43,8 @@ fn assert_each(
 const OVERRIDING: &[StepRow] = &[
     (Call(0, NULL), &[34, 9, 9, 9]),
     (Open(0), &[33]),
-    (Open(65_537), &[33]),
-    (Open(65_536), &[0]),
+    (Open(1_048_577), &[33]),
+    (Open(1_048_576), &[0]),
     (Open(1), &[35]),
     (Dropped(4), &[0, 0, 9, 9, 9, 9]),
     (Define(0, A), &[1, 0, 4]),
@@ -83,6 +83,7 @@ const OVERRIDING: &[StepRow] = &[
     (SeatCall(0, 4), &[0, 4]),
     (SeatCall(65_535, 1), &[0, 4]),
     (SeatCall(70_000, 1), &[0, 4]),
+    (SeatCall(1_048_576, 1), &[0, 4]),
     (Call(0, 4), &[0, 2]),
     (
         Says(

@@ -2,8 +2,8 @@ package linkd;
 
 /** What the numbers of a linker have in common. */
 final class Ids {
-    /** How many classes, sites, call sites and switch points there are at most. */
-    static final int MOST = 65_536;
+    /** How many sites there are at most. There are fewer classes, call sites and switch points. */
+    static final int MOST = 1_048_576;
 
     private Ids() {
     }

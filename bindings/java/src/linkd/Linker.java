@@ -45,7 +45,7 @@ public final class Linker implements AutoCloseable {
     /**
      * A linker without classes, in which at most so many sites may be requested.
      *
-     * @param maxSites 1 to 65,536, or else this is {@link Refusal.Plain#MALFORMED}
+     * @param maxSites 1 to 1,048,576, or else this is {@link Refusal.Plain#MALFORMED}
      */
     public static Linker open(int maxSites) {
         Library.path(); // throws by name where the library isn't there

@@ -195,7 +195,7 @@ final class Tests {
             refused(new Refusal.Site(SiteFault.UNKNOWN_SITE, 9), () -> linker.install(List.of(new SiteId(9))));
             refused(Refusal.Plain.BATCH_SIZE, () -> linker.install(List.of()));
             refused(Refusal.Plain.MALFORMED, () -> Linker.open(0));
-            refused(Refusal.Plain.MALFORMED, () -> Linker.open(65_537));
+            refused(Refusal.Plain.MALFORMED, () -> Linker.open(1_048_577));
         }
     }
 

@@ -1,5 +1,5 @@
 -- What one accepted event does to the world, the links, their index and the log, and how many evaluations it takes. A means of proof.
-use Rattle.std.specs.Prelude.{◌≡◌, ◌≤◌, ◌+◌, ℕ, true, not, List, filter, sum_by, length, Some, Ok}
+use Rattle.std.specs.Prelude.{◌≡◌, ◌<◌, ◌≤◌, ◌+◌, ◌^◌, ℕ, true, not, List, filter, sum_by, length, Some, Ok}
 use Rattle.jl_types.specs.declared.link.Link.{Link}
 use Rattle.jl_types.specs.Happenings.Event.{Event}
 use Rattle.jl_types.specs.declared.event.EventOf.TheVariants as variant
@@ -33,7 +33,7 @@ pub record IsLed (w : World) (keys : List Key) (told : Accepted) (links : List (
   pub event : Event
   pub accepted : IsAcceptable before event
   pub sound : IsSound before links index
-  pub few : length before.places ≤ 65536
+  pub few : length before.places < 2 ^ 32
   pub step : w ≡ events.step before event
   pub keys_are : keys ≡ footprints.keys before event
   pub tells : event_of w.classes.rows told ≡ Some event

@@ -10,6 +10,7 @@ use Rattle.jl_events.specs.Accepted.{Accepted}
 use Rattle.jl_core.specs.State.{State, events}
 use Rattle.jl_core.specs.Means.Touched.{has}
 use Rattle.jl_core.specs.Logs.{Entry}
+use Rattle.jl_host.specs.Seats.{room_for}
 
 -- the event installs the site, or drops it
 abbrev pub touches : ℕ → Event × Reply → Bool
@@ -32,6 +33,6 @@ IsNow core links s = slot links s ≡ installed (events core) s
 
 -- the links are those of the core, but for the sites that its events from the n-th on touched
 pub record IsBehind (links : List (Option Link)) (n : ℕ) (core : State) : Type 0 where
-  pub all : length links ≡ 65536
+  pub all : length links ≡ room_for core.max_sites
   pub reached : n ≤ length core.log
-  pub same : (s : ℕ) → s < 65536 → list_any (touches s) (drop n core.log) ≡ false → IsNow core links s
+  pub same : (s : ℕ) → s < room_for core.max_sites → list_any (touches s) (drop n core.log) ≡ false → IsNow core links s

@@ -1,5 +1,6 @@
 use Rattle.std.proofs.Common.{◌==◌}
 use Rattle.jl_host.specs.Means.Behind.{IsNow}
+use Rattle.jl_host.specs.Seats.{room_for}
 use Rattle.jl_host.proofs.BehindLaws.{one_written, at_site}
 use Rattle.jl_host.proofs.behind.write_rows.Goals as goal
 
@@ -8,4 +9,4 @@ loop-row-preserved c =
     let new = c.in_ok-write_site.ensures in
     one_written c.args.core.now (λ s row. row.0 == s) c.args.rows.now c.loop-row.row-index c.row-item.result c.args.links.now.value c.loop-row.links.value
     c.write_site.new.links.value c.loop-row-test.true c.row-item.is c.loop-row.invariant new.all new.kept
-    (λ s low e. at_site (IsNow c.args.core.now c.write_site.new.links.value) c.row-item.result.0 s e new.written low)
+    (λ s low e. at_site (room_for c.args.core.now.max_sites) (IsNow c.args.core.now c.write_site.new.links.value) c.row-item.result.0 s e new.written low)
