@@ -1,11 +1,13 @@
 //! What lines of commands don't reach: a limit of places, rows made by hand, worlds of before, events that come later.
 
-use crate::classes::Class::{A, C, Itself, M, Object};
+use crate::classes::Class::{A, C, Itself, M, Object, T};
+use crate::steps::Shape::{Firsts, Method};
 use crate::steps::Step::*;
 use crate::steps::{Step, are_done, event, first, is_done, runs_first};
 use jl_core::Core;
 use jl_names::Seq;
 use jl_relink::{Prepared, Snapshot, World, dispatch, link_of, prepare};
+use jl_types::CallSiteKind::Mutable;
 use jl_types::{
     Answer, ClassId, Event, Link, Outcome, PrepareFault, Recv, Refusal, SiteNo, Table, TableKind,
     Unlinked,
@@ -118,7 +120,31 @@ const LOADERS: &Row = &Row(
     ],
 );
 
-const ROWS: &[&Row] = &[REQUESTS, INSTALLS, BY_HAND, LOADERS];
+/// A refused target goes without a call as deep as it is: the stack has no room for a million calls.
+const DEEP_TARGETS: &Row = &Row(
+    1,
+    &[
+        Define(0, Object),
+        Define(0, T),
+        Point,
+        CallSite(Mutable, "()V", Method((1, 1))),
+    ],
+    1,
+    &[
+        (
+            CallSite(Mutable, "()V", Firsts(1_000_000, 0, (1, 1))),
+            "Err(CallSite(TooDeep))",
+            false,
+        ),
+        (
+            Retarget(0, Firsts(1_000_000, 0, (1, 1))),
+            "Err(CallSite(TooDeep))",
+            false,
+        ),
+    ],
+);
+
+const ROWS: &[&Row] = &[REQUESTS, INSTALLS, BY_HAND, LOADERS, DEEP_TARGETS];
 
 /// How what the step is answered prints.
 fn printed(alloc: Global, core: &mut Core, step: &Step) -> Result<String, AllocError> {

@@ -26,6 +26,8 @@ pub(crate) enum Shape {
     Behind(u32, MethodAt, u32, MethodAt, MethodAt),
     /// A guard of a guard of two methods, with a method as its fallback.
     Within(u32, u32, MethodAt, MethodAt, MethodAt),
+    /// So many guards on a point, each the first part of the next one, round a method, which is the fallback of each.
+    Firsts(u32, u32, MethodAt),
     /// Whatever a call site runs.
     Invoker(u32),
     /// A guard of what a call site runs and a method.
@@ -131,6 +133,15 @@ fn guard_of_methods(
     guard(alloc, point, method(first), method(fallback))
 }
 
+/// So many guards, each the first part of the next one, round the method.
+fn firsts(alloc: Global, guards: u32, point: u32, at: &MethodAt) -> Result<Target, AllocError> {
+    let mut target = method(at);
+    for _ in 0..guards {
+        target = guard(alloc, point, target, method(at))?;
+    }
+    Ok(target)
+}
+
 /// The target of this shape.
 fn target(alloc: Global, shape: &Shape) -> Result<Target, AllocError> {
     match shape {
@@ -144,6 +155,7 @@ fn target(alloc: Global, shape: &Shape) -> Result<Target, AllocError> {
             let within = guard_of_methods(alloc, *inner, first, fallback)?;
             guard(alloc, *outer, within, method(behind))
         }
+        Shape::Firsts(guards, point, at) => firsts(alloc, *guards, *point, at),
         Shape::Invoker(site) => Ok(Target::invoker(CallSiteId::new(*site))),
         Shape::InvokerOr(point, site, fallback) => {
             let first = Target::invoker(CallSiteId::new(*site));
