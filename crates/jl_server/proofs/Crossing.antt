@@ -25,7 +25,7 @@ module _ (K R : RattleType) (g : name.Ghosts K.Denot) where
       let all : AllSend (declared.fields O) = (
         search core_send depth 9,
         (
-          search of_heads.the_field_send depth 9,
+          search of_heads.the_send depth 9,
           (
             search of_seen.the_send depth 9,
             (

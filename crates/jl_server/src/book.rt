@@ -1,6 +1,6 @@
 //! What lies under the lock: a core, and the one writer of the published table.
 
-ghost use Rattle.std.specs.Prelude.{◌≡◌, ◌≤◌, [], ◌∷◌, ◌++◌, true, length, drop, None, IsOk, IfOk, IfErr, IfSome, if◌then◌else◌};
+ghost use Rattle.std.specs.Prelude.{◌≡◌, ◌≤◌, [], ◌∷◌, ◌++◌, true, length, drop, None, IsOk, IfOk, IfErr, IfSome, IfNone, OnErr, if◌then◌else◌};
 ghost use Rattle.jl_types.specs.declared.refusal.Refusal.TheVariants.{Memory};
 ghost use Rattle.jl_types.specs.Happenings.Events.{verdict};
 ghost use Rattle.jl_types.specs.Linkage.Calls.{dispatch};
@@ -165,7 +165,8 @@ impl<K: Name, R: Wait + Drop> Book<K, R> {
     ///
     /// # Errors
     ///
-    /// The first refusal; want of memory where there is none. Nothing has changed then.
+    /// The first refusal; want of memory where there is none. Nothing has changed then; nor has the history, which grows behind every
+    /// other growth, unless it is the table's queue that lacks memory, which never happens.
     pub fn step<H: Wait>(
         &mut self,
         rt: &H,
@@ -201,7 +202,7 @@ impl<K: Name, R: Wait + Drop> Book<K, R> {
         match next_step(
             alloc,
             &mut self.core,
-            &self.head,
+            &mut self.head,
             &self.list,
             self.since,
             event,
@@ -246,11 +247,11 @@ impl<K: Name, R: Wait + Drop> Book<K, R> {
 }
 
 /// Plans the event after this list, which the core has come to, with all its room made. It is accepted after the judged list, where
-/// there is one. The entry is added to the history; the core is as it was.
+/// there is one. The entry is added to the history; the core is as it was. Where the event is refused, or memory lacks, so is the history.
 fn next_step<K: Name>(
     alloc: Global,
     core: &mut Core,
-    head: &Head<K>,
+    head: &mut Head<K>,
     list: &Seen<K>,
     since: u64,
     event: Event,
@@ -266,6 +267,8 @@ fn next_step<K: Name>(
     ensures legal { IfOk result (λ r. IsLegal K.max_sites r.1.list) }
     ensures refused { IfErr result (IsRefused (verdict K.max_sites (world_after (events_of list.now)) event)) }
     ensures unchanged { core.new ≡ core.old }
+    ensures grown { IfOk result (λ r. head.new ≡ r.1.list) }
+    ensures kept { OnErr result (head.new ≡ head.old) }
 {
     let installs = installs(&event);
     match plan(alloc, core, list, since, event, judged) {
@@ -358,10 +361,10 @@ fn is_as_after<K: Name>(list: &Seen<K>, since: u64, earlier: &Seen<K>) -> bool
 }
 
 /// The change that what was planned, an install or not, makes in the table, and this list with its entry, which is added to the history.
-/// There is nothing where there is no memory.
+/// There is nothing where there is no memory, and then the history is as it was: an entry that nothing follows would end the server.
 fn what_is_next<K: Name>(
     alloc: Global,
-    head: &Head<K>,
+    head: &mut Head<K>,
     list: &Seen<K>,
     planned: &Planned,
     installs: bool,
@@ -371,6 +374,8 @@ fn what_is_next<K: Name>(
     ensures change { IfSome result (λ next. IsChangeOf K.book planned.now next.list next.change) }
     ensures legal { IfSome result (λ next. IsLegal K.max_sites next.list) }
     ensures installs { IfSome result (λ next. next.installs ≡ installs) }
+    ensures grown { IfSome result (λ next. head.new ≡ next.list) }
+    ensures kept { IfNone result (head.new ≡ head.old) }
 {
     let Ok(slots) = copy(alloc, planned.slots()) else {
         return None;
@@ -388,10 +393,13 @@ fn what_is_next<K: Name>(
     })
 }
 
-/// This list with the entry of what was planned, which is added to the history. There is nothing where the history is longer.
-fn next_list<K: Name>(head: &Head<K>, list: &Seen<K>, planned: &Planned) -> Option<Seen<K>>
+/// This list with the entry of what was planned, which is added to the history. There is nothing where the history is longer, and then it
+/// is as it was.
+fn next_list<K: Name>(head: &mut Head<K>, list: &Seen<K>, planned: &Planned) -> Option<Seen<K>>
     requires { IsAsPlanned (core_of K.max_sites list.now) planned.now }
-    ensures { IfSome result (λ next. next ≡ list.now ++ planned_entry planned.now ∷ []) }
+    ensures list { IfSome result (λ next. next ≡ list.now ++ planned_entry planned.now ∷ []) }
+    ensures grown { IfSome result (λ next. head.new ≡ next) }
+    ensures kept { IfNone result (head.new ≡ head.old) }
 {
     let mut next = list.again();
     if !next.add(head, planned) {

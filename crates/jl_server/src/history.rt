@@ -8,7 +8,7 @@ use crate::mark::Mark;
 use crate::seen::Seen;
 use jl_core::Planned;
 use logbook::{Gain, Plain, Play, Rule, Seen as Reached, Start, Word};
-use std::marker::{Brand, PhantomData};
+use std::marker::{Brand, Model, PhantomData};
 
 /// The rule of the history: its one word is its length.
 pub struct Law;
@@ -115,12 +115,13 @@ impl Opened {
     /// The history's word under a name, and the token that has seen nothing.
     pub(crate) fn named<K: Name>(self) -> (Head<K>, Seen<K>)
         requires { self.reached.book ≡ K.book }
-        ensures { result.1 ≡ [] }
+        ensures { (result.0 ≡ []) × (result.1 ≡ []) }
     {
         let Opened { head, reached } = self;
         (
             Head {
                 word: head,
+                grown: reached.again(),
                 of: PhantomData,
             },
             Seen::first(reached),
@@ -128,10 +129,37 @@ impl Opened {
     }
 }
 
-/// The word of a server's history: its length.
-#[derive(Drop)]
+/// The word of a server's history: its length. A clause sees the list to which the history has grown by it.
 pub struct Head<K: Name> {
     pub(crate) word: Word<Entry, u64, Law>,
+    /// It has no bytes.
+    pub(crate) grown: Reached<Entry, u64, Law>,
     of: PhantomData<K>,
-    pub ghost word_is: { word ≡ head_of K.book },
+}
+
+/// Written out, so that what drops one makes one call of it and doesn't take apart what it holds.
+impl<K: Name> Drop for Head<K> {
+    fn drop(self) {
+        let Head {
+            word: _word,
+            grown: _grown,
+            of: _of,
+        } = self;
+    }
+}
+
+impl<K: Name> Model for Head<K> {
+    ghost use Rattle.std.specs.Prelude.{◌≡◌, List};
+    ghost use Rattle.std.specs.Coded.{codes};
+    ghost use Rattle.jl_types.specs.Means.TargetCode.{target_code};
+    ghost use Rattle.jl_types.specs.Happenings.Entries as plain;
+    ghost use Rattle.jl_server.specs.History.{head_of};
+
+    ghost Value = { List plain.Entry };
+
+    ghost coded = { Prim.hlevel (codes, target_code) };
+
+    ghost view = { λ h. h.grown.log };
+
+    ghost invariant = { λ h. (h.word ≡ head_of K.book) × (h.grown.book ≡ K.book) };
 }

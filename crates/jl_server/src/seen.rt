@@ -131,10 +131,11 @@ impl<K: Name> Seen<K> {
     }
 
     /// Adds what was planned to all that was seen, and says whether it did. It did not where the history is longer, or has 2^64 - 1
-    /// entries.
-    pub(crate) fn add(&mut self, head: &Head<K>, planned: &Planned) -> bool
+    /// entries; then the history is as it was.
+    pub(crate) fn add(&mut self, head: &mut Head<K>, planned: &Planned) -> bool
         requires { IsEntry K.max_sites (events_of self.old) (planned_entry planned.now) }
-        ensures { MatchBool result (self.new ≡ self.old ++ planned_entry planned.now ∷ []) (self.new ≡ self.old) }
+        ensures list { MatchBool result (self.new ≡ self.old ++ planned_entry planned.now ∷ []) (self.new ≡ self.old) }
+        ensures head { MatchBool result (head.new ≡ self.new) (head.new ≡ head.old) }
     {
         let serial = self.serial;
         let Some(next) = serial.checked_add(1) else {
@@ -151,6 +152,7 @@ impl<K: Name> Seen<K> {
         if found != serial {
             return false;
         }
+        head.grown = reached.again();
         self.serial = next;
         self.reached = reached;
         true

@@ -9,7 +9,7 @@ use Rattle.jl_server.proofs.seen.Seen.add.Goals as goal
 
 pub compare_exchange-found-requires : goal.compare_exchange-found-requires
 compare_exchange-found-requires g c =
-    let h = c.args.head.now.word_is in
+    let h = c.head.invariant.0 in
     let again = c.again-reached.ensures in
     let offer = c.plain-offer.ensures in
     let pen = c.no_pen-pen.ensures in
