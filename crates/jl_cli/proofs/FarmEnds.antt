@@ -1,6 +1,8 @@
 -- What a farm over lines leaves.
-use Rattle.std.proofs.Common.{◌≡◌, ◌≢◌, ◌∙◌, sym, ap, subst, refl, ℕ, zero, suc, List, [], ◌∷◌, ◌++◌, replicate}
-use Rattle.std.proofs.Common.{append-nil, Option, Some, None, IfSome}
+use Rattle.std.proofs.Common.{◌≡◌, ◌≢◌, ◌∙◌, sym, ap, subst, refl, inl, inr, ℕ, zero, suc, List, [], ◌∷◌, ◌++◌, replicate, length, take, arith}
+use Rattle.std.proofs.Common.{append-nil, Option, Some, None, IfSome, Result, Ok, Err}
+use Rattle.std.specs.Result.{IsErrAnd}
+use Rattle.std.proofs.lemmas.List.{take_all, take-append-le}
 use Rattle.std.specs.Io.KnownBytes.{Keeps, Appends}
 use Rattle.std.proofs.KnownBytes.{Appends-kept, Appends-trans, Keeps-refl}
 use Rattle.std.specs.Prelude.{All}
@@ -15,10 +17,10 @@ use Rattle.jl_lines.specs.declared.line_fault.LineFault.TheVariants.{TooLong, De
 use Rattle.jl_cli.specs.declared.farm_fault.FarmLineFault.{FarmLineFault}
 use Rattle.jl_cli.specs.declared.farm_fault.FarmLineFault.TheVariants.{Line, Farm}
 use Rattle.jl_lines.specs.Lines.{lines_of, ended}
-use Rattle.jl_lines.specs.Answers.{AreAnswers, AnswersAll, AnswersFirst, LongIf}
-use Rattle.jl_cli.specs.Farms.{IsFarmAnswer, IsLastLine, FarmsAll, FarmLongIf, job_of_each, last_data}
+use Rattle.jl_lines.specs.Answers.{AreAnswers, AnswersAll, AnswersFirst, AnswersEarlier, LacksFirst, LongIf}
+use Rattle.jl_cli.specs.Farms.{IsFarmAnswer, IsLastLine, FarmsAll, FarmsEarlier, FarmLongIf, job_of_each, last_data}
 use Rattle.jl_cli.specs.Means.Farms.{IsUnwritten}
-use Rattle.jl_lines.proofs.FaultLaws.{Whole, first_of, none_whole}
+use Rattle.jl_lines.proofs.FaultLaws.{Whole, first_of, none_whole, earlier_of}
 
 -- the first lines are answered, but for a failed write, and nothing else is written
 abbrev pub FarmWhole : ℕ → Option (List ℕ) → Option (List ℕ) → Option (List ℕ) → Type 0 → FarmLineFault → Type 0
@@ -38,17 +40,23 @@ last_same zero (x ∷ xs) y e = absurd cc
 last_same (suc n) [] y e = cc
 last_same (suc n) (x ∷ xs) y e = last_same n xs y cc
 
+-- what a vector has once a function was over all of it
+pub all_back : {X : Type 0} (P : X → Type 0) (new rest : List X) (len : ℕ) → length new ≡ len → All P new → All P (take len (new ++ rest))
+all_back P new rest len whole all = subst (All P) (sym (take-append-le len new rest (omega arith) ∙ take_all len new (omega arith))) all
+
 -- the last line, of the jobs that were made and the reports on them
 pub last_line : {K : Type 0} (max_sites : ℕ) {callers : List (List Entry)} (answered asked linked : List Entry) (reports : List (Report K))
     (jobs : List (List ℕ)) (text : List ℕ) → IsPrefix answered asked → jobs_of reports ≡ site_numbers (events_of asked)
     → jobs ≡ job_of_each (site_numbers (events_of asked)) → All (IsReport max_sites callers jobs) reports → AreOfOneHistory reports
-    → IsPrefix asked linked → IsLegal max_sites linked → text ≡ compact_text (last_data linked reports) → IsLastLine K max_sites answered text
-last_line max_sites {callers = callers} answered asked linked reports jobs text later each are shown history grown legal is = record {
+    → IsPrefix asked linked → IsLegal max_sites linked → text ≡ compact_text (last_data linked reports) → All (IsPrefix answered) callers
+    → IsLastLine K max_sites answered text
+last_line max_sites {callers = callers} answered asked linked reports jobs text later each are shown history grown legal is told = record {
   asked = asked;
   later = later;
   reports = reports;
   each = each;
   callers = callers;
+  told = told;
   shown = subst (λ (xs : List (List ℕ)). All (IsReport max_sites callers xs) reports) are shown;
   history = history;
   linked = linked;
@@ -56,6 +64,19 @@ last_line max_sites {callers = callers} answered asked linked reports jobs text 
   legal = legal;
   is = is;
 }
+
+-- a result that is a fault is no other one
+pub same_fault : {T E : Type 0} (r : Result T E) (f g : E) → IsErrAnd r (λ h. h ≡ f) → r ≡ Err g → f ≡ g
+same_fault (Ok x) f g is e = absurd is
+same_fault (Err h) f g is e = let same : h ≡ g = cc e in sym is ∙ same
+
+pub same_line : {T : Type 0} (r : Result T FarmLineFault) (f g : LineFault) → IsErrAnd r (λ h. h ≡ Line f) → r ≡ Err (Line g) → f ≡ g
+same_line r f g is e = let same : Line f ≡ Line g = same_fault r (Line f) (Line g) is e in cc same
+
+-- what comes behind the answers fails by no device
+pub no_device : {T : Type 0} (r : Result T FarmLineFault) (f : FarmLineFault) → IsErrAnd r (λ h. h ≡ f) → IsUnwritten f → r ≡ Err (Line Device) → ⊥
+no_device r f is unwritten e =
+    let clash : Device ≡ Memory = subst IsUnwritten (same_fault r f (Line Device) is e) unwritten in absurd cc
 
 module _ (max_sites : ℕ) where
   -- a fault of the lines
@@ -121,3 +142,26 @@ module _ (max_sites : ℕ) where
     last = subst (λ (s : List Entry). IsLastLine K max_sites s text) h.1 last;
     written = Appends-trans old middle new h.0.output (ended text) h.0.written written;
   }
+
+  -- memory lacks for the lines
+  pub lines_earlier : (from seen : List Entry) (start unread old new : Option (List ℕ)) → from ≡ []
+      → IfSome start (λ input. (earlier : AnswersEarlier (IsFarmAnswer max_sites) from input unread old new)
+      × LacksFirst (IsFarmAnswer max_sites) earlier.first.last earlier.first.after seen)
+      → IfSome start (λ input. FarmsEarlier max_sites input unread old new)
+  lines_earlier from seen None unread old new fresh h = tt
+  lines_earlier from seen (Some xs) unread old new fresh h =
+      inl (earlier_of (IsFarmAnswer max_sites) from [] seen (Some xs) unread old new fresh h)
+
+  -- memory lacks behind the answers
+  pub behind_all : (from seen : List Entry) (start unread old middle new : Option (List ℕ)) → from ≡ []
+      → Lined max_sites from seen start old middle → Keeps middle new
+      → IfSome start (λ input. FarmsEarlier max_sites input unread old new)
+  behind_all from seen None unread old middle new fresh h kept = tt
+  behind_all from seen (Some xs) unread old middle new fresh h kept =
+      inr (record {
+        short = h.0.short;
+        output = h.0.output;
+        last = h.0.last;
+        answers = subst (λ (s : List Entry). AreAnswers (IsFarmAnswer max_sites) s (lines_of xs) h.0.output h.0.last) fresh h.0.answers;
+        written = Appends-kept old middle new h.0.output h.0.written kept;
+      })

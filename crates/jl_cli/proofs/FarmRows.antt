@@ -1,6 +1,8 @@
 -- What the mode farm answers and how it ends, by computation.
-use Rattle.std.proofs.Common.{◌≡◌, ℕ, List, [], ◌∷◌, refl, inl, inr, arith, Ok, Err}
-use Rattle.std.specs.Prelude.{codes}
+use Rattle.std.proofs.Common.{◌≡◌, ℕ, List, [], ◌∷◌, refl, inl, inr, arith, subst, Ok, Err}
+use Rattle.std.specs.Prelude.{codes, All}
+use Rattle.std.proofs.lemmas.List.Elements.{All-head}
+use mathlib.Core.List.{IsPrefix}
 use Rattle.serde_json.specs.Data.{Data}
 use Rattle.serde_json.specs.Written.{compact_text}
 use Rattle.serde_json.proofs.OnLiterals.{serde_json_on_literals}
@@ -16,7 +18,7 @@ use Rattle.jl_farm.specs.declared.fault.FarmFault.{FarmFault}
 use Rattle.jl_farm.specs.declared.report.JobOutcome.TheVariants.{Installed, Stale, NotReady, Bad, Memory}
 use Rattle.jl_lines.specs.declared.line_fault.LineFault.TheVariants.{TooLong}
 use Rattle.jl_cli.specs.declared.farm_fault.FarmLineFault.TheVariants.{Line, Farm}
-use Rattle.jl_cli.specs.Farms.{IsServedAs, IsCommandServed, FarmLongIf, outcome_name, last_data, reports_data}
+use Rattle.jl_cli.specs.Farms.{IsServedAs, IsCommandServed, IsLastLine, FarmLongIf, outcome_name, last_data, reports_data}
 
 -- ---- a command
 
@@ -63,6 +65,12 @@ module _ (K : Type 0) where
       ≡ codes "{\"links\":[],\"reports\":[\"NotReady\",\"Memory\"]}"
   unfolding reports_data site_links_data serde_json_on_literals
   two_jobs list = refl
+
+  -- what a caller that has learnt nothing reports stands in no last line behind an accepted event
+  told_nothing : (entry : Entry) (text : List ℕ) (last : IsLastLine K 65536 (entry ∷ []) text) → last.callers ≡ [] ∷ [] → ⊥
+  told_nothing entry text last e =
+      let told : IsPrefix (entry ∷ []) [] = All-head _ [] [] (subst (λ (cs : List (List Entry)). All (IsPrefix (entry ∷ [])) cs) e last.told) in
+      absurd (cc told.1)
 
 -- ---- how a farm over lines ends
 

@@ -36,7 +36,7 @@ use Rattle.jl_farm.specs.Reports.{IsReport, AreOfOneHistory, jobs_of}
 use Rattle.jl_cli.specs.declared.farm_fault.FarmLineFault.{FarmLineFault}
 use Rattle.jl_cli.specs.declared.farm_fault.FarmLineFault.TheVariants.{Line, Farm}
 use Rattle.jl_lines.specs.Lines.{lines_of, ended}
-use Rattle.jl_lines.specs.Answers.{AreAnswers, AreShort, LongIf}
+use Rattle.jl_lines.specs.Answers.{AreAnswers, AnswersAll, AnswersEarlier, AreShort, LongIf}
 
 -- ---- what a command is answered
 
@@ -132,13 +132,14 @@ abbrev pub last_data : {K : Type 0} → List Entry → List (Report K) → Data
 last_data list reports = farm_data (installed_links (events_of list)) (reports_data reports)
 
 -- The text of the last line, after what was seen when the lines were answered: each site that is requested by then is a job, and the reports are of
--- these, each once, in order; the links are those after a list that comes later.
+-- these, each once, in order, by callers that had been told of what was seen; the links are those after a list that comes later.
 pub record IsLastLine (K : Type 0) (max_sites : ℕ) (answered : List Entry) (text : List ℕ) : Type 0 where
   pub asked : List Entry
   pub later : IsPrefix answered asked
   pub reports : List (Report K)
   pub each : jobs_of reports ≡ site_numbers (events_of asked)
   pub callers : List (List Entry)
+  pub told : All (IsPrefix answered) callers
   pub shown : All (IsReport max_sites callers (job_of_each (site_numbers (events_of asked)))) reports
   pub history : AreOfOneHistory reports
   pub linked : List Entry
@@ -162,3 +163,9 @@ pub record FarmsAll (K : Type 0) (max_sites : ℕ) (input : List ℕ) (old new :
 abbrev pub FarmLongIf : FarmLineFault → List (List ℕ) → Type 0
 FarmLongIf (Line fault) after = LongIf fault after
 FarmLongIf (Farm fault) after = after ≡ []
+
+-- Where memory lacks, the answers to some first lines were written whole, and among them those to all lines whose newline had been read when this was
+-- left to read; or all lines were answered, and it lacks for the last line.
+abbrev pub FarmsEarlier : ℕ → List ℕ → Option (List ℕ) → Option (List ℕ) → Option (List ℕ) → Type 0
+FarmsEarlier max_sites input unread old new =
+    AnswersEarlier (IsFarmAnswer max_sites) [] input unread old new ⊎ AnswersAll (IsFarmAnswer max_sites) [] input old new

@@ -9,14 +9,14 @@ ghost use Rattle.jl_types.specs.Happenings.History.{site_numbers};
 ghost use Rattle.jl_types.specs.Happenings.Entries.{IsLegal, events_of};
 ghost use Rattle.jl_farm.specs.Reports.{IsReport, AreOfOneHistory, jobs_of};
 ghost use Rattle.jl_cli.specs.Farms.{job_of_each, outcome_name, reports_data, last_data, IsLastLine};
-ghost use Rattle.jl_cli.specs.Means.Farms.{IsUnwritten};
+ghost use Rattle.jl_cli.specs.Means.Farms.{IsUnwritten, IsOfFarm};
 
 use crate::farm_fault::FarmLineFault;
 use crate::served::Served;
 use jl_farm::{Gate, JobOutcome, Report, run};
 use jl_json::farm_value;
 use jl_names::Seq;
-use jl_server::{Caller, Name};
+use jl_server::{Caller, Name, Seen};
 use jl_session::text_of;
 use jl_types::SiteNo;
 use serde_json::{Value, json};
@@ -97,7 +97,7 @@ impl Gate for Open {
     fn after_install(&self, _job: usize) {}
 }
 
-/// What each of these jobs came to by these workers.
+/// What each of these jobs came to by these workers. A fault is the farm's own, and is told as such.
 fn reports_on<K: Name + Send + Sync, H: Threads + Wait + Sync, S: Wait + Drop + Send + Sync>(
     served: &Served<'_, K, H, S>,
     jobs: Vec<Seq<SiteNo>>,
@@ -108,11 +108,21 @@ fn reports_on<K: Name + Send + Sync, H: Threads + Wait + Sync, S: Wait + Drop + 
     ensures jobs { IfOk result (λ reports. jobs_of reports.items ≡ range_with_len 0 (vec_len jobs)) }
     ensures shown { IfOk result (λ reports. All (IsReport K.max_sites workers.items jobs.items) reports.items) }
     ensures history { IfOk result (λ reports. AreOfOneHistory reports.items) }
+    ensures farm { IfErr result IsOfFarm }
     ensures unwritten { IfErr result IsUnwritten }
 {
     match run(served.rt, served.alloc, served.server, jobs, workers, &Open) {
         Ok(reports) => Ok(reports),
         Err(fault) => Err(FarmLineFault::Farm(fault)),
+    }
+}
+
+/// Each of these learns what was seen.
+fn tell_all<K: Name>(workers: &mut [Caller<K>], seen: &Seen<K>)
+    ensures { All (IsPrefix seen.now) workers.new }
+{
+    for worker in workers.iter_mut() {
+        worker.learn(seen);
     }
 }
 
@@ -137,9 +147,7 @@ pub(crate) fn farm_text<
     ensures unwritten { IfErr result IsUnwritten }
 {
     let mut workers = workers;
-    for worker in &mut workers {
-        worker.learn(caller.seen());
-    }
+    tell_all(workers.as_mut_slice(), caller.seen());
     let jobs = served.jobs(caller)?;
     let reports = reports_on(served, jobs, workers)?;
     Ok(last_text(served, caller, reports.as_slice())?)

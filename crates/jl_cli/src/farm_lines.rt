@@ -1,14 +1,14 @@
 //! A farm over the lines of an input.
 
-ghost use Rattle.std.specs.Prelude.{◌≡◌, ◌≢◌, ◌≤◌, [], vec_len, IfErr, IfSome, OnOk, IsErrOf};
+ghost use Rattle.std.specs.Prelude.{◌≡◌, ◌≢◌, ◌≤◌, ◌-◌, ◌^◌, ◌⊎◌, [], vec_len, IfErr, IfSome, OnOk, IsErrOf};
 ghost use Rattle.std.specs.Io.KnownBytes.{Appends, Keeps, IsAtEnd};
 ghost use Rattle.core.specs.declared.marker.Brand.{Brand};
 ghost use Rattle.jl_lines.specs.declared.line_fault.LineFault.TheVariants.{Device, Memory};
 ghost use Rattle.jl_cli.specs.declared.farm_fault.FarmLineFault.TheVariants.{Line};
 ghost use Rattle.jl_lines.specs.Devices.{one_more, HasRisen};
 ghost use Rattle.jl_lines.specs.Lines.{ended};
-ghost use Rattle.jl_lines.specs.Answers.{AnswersFirst};
-ghost use Rattle.jl_cli.specs.Farms.{IsFarmAnswer, FarmsAll, FarmLongIf};
+ghost use Rattle.jl_lines.specs.Answers.{AnswersFirst, AnswersRead};
+ghost use Rattle.jl_cli.specs.Farms.{IsFarmAnswer, FarmsAll, FarmsEarlier, FarmLongIf};
 
 use crate::farm::farm_text;
 use crate::farm_fault::FarmLineFault;
@@ -64,6 +64,17 @@ fn run_on<
         → IfSome (R.remaining reader.old) (λ input.
         (first : AnswersFirst (IsFarmAnswer K.max_sites) [] input (W.contents writer.old) (W.contents writer.new))
         × FarmLongIf fault first.after)) }
+    ensures read { IsErrOf result (Line Device)
+        → ¬ HasRisen (W.failures writer.old) (W.failures writer.new)
+        → IfSome (R.remaining reader.old) (λ input. AnswersRead (IsFarmAnswer K.max_sites) [] input
+        (R.remaining reader.new) (W.contents writer.old) (W.contents writer.new)) }
+    ensures memory { IsErrOf result (Line Memory) → R.reads reader.new ≢ R.reads reader.old
+        → IfSome (R.remaining reader.old) (λ input. FarmsEarlier K.max_sites input
+        (R.before reader.new) (W.contents writer.old) (W.contents writer.new)) }
+    ensures device { IsErrOf result (Line Device)
+        → HasRisen (R.failures reader.old) (R.failures reader.new)
+        ⊎ (HasRisen (W.failures writer.old) (W.failures writer.new)
+        ⊎ (2 ^ 64 - 1 ≤ R.reads reader.new)) }
 {
     answer_input(served.alloc, served.again(), caller, reader, writer)?;
     let text = farm_text(served, caller, workers)?;
@@ -89,6 +100,17 @@ fn run_started<K: Name + Send + Sync, H: Threads + Wait + Sync, R: Source, W: Si
         → IfSome (R.remaining reader.old) (λ input.
         (first : AnswersFirst (IsFarmAnswer K.max_sites) [] input (W.contents writer.old) (W.contents writer.new))
         × FarmLongIf fault first.after)) }
+    ensures read { IsErrOf result (Line Device)
+        → ¬ HasRisen (W.failures writer.old) (W.failures writer.new)
+        → IfSome (R.remaining reader.old) (λ input. AnswersRead (IsFarmAnswer K.max_sites) [] input
+        (R.remaining reader.new) (W.contents writer.old) (W.contents writer.new)) }
+    ensures memory { IsErrOf result (Line Memory) → R.reads reader.new ≢ R.reads reader.old
+        → IfSome (R.remaining reader.old) (λ input. FarmsEarlier K.max_sites input
+        (R.before reader.new) (W.contents writer.old) (W.contents writer.new)) }
+    ensures device { IsErrOf result (Line Device)
+        → HasRisen (R.failures reader.old) (R.failures reader.new)
+        ⊎ (HasRisen (W.failures writer.old) (W.failures writer.new)
+        ⊎ (2 ^ 64 - 1 ≤ R.reads reader.new)) }
 {
     let Ok((server, mut callers)) = parts.start::<K, &H>(alloc, rt) else {
         return Err(FarmLineFault::Line(LineFault::Memory));
@@ -133,6 +155,19 @@ pub fn run_farm<H: Threads + Wait + Sync, R: Source, W: Sink>(
         → IfSome (R.remaining reader.old) (λ input.
         (first : AnswersFirst (IsFarmAnswer 65536) [] input (W.contents writer.old) (W.contents writer.new))
         × FarmLongIf fault first.after)) }
+    // After a failed read these are all lines of which the newline was read.
+    ensures read { IsErrOf result (Line Device)
+        → ¬ HasRisen (W.failures writer.old) (W.failures writer.new)
+        → IfSome (R.remaining reader.old) (λ input. AnswersRead (IsFarmAnswer 65536) [] input
+        (R.remaining reader.new) (W.contents writer.old) (W.contents writer.new)) }
+    // Where memory lacks after a read, these are at least all lines of which the newline came with an earlier one.
+    ensures memory { IsErrOf result (Line Memory) → R.reads reader.new ≢ R.reads reader.old
+        → IfSome (R.remaining reader.old) (λ input. FarmsEarlier 65536 input
+        (R.before reader.new) (W.contents writer.old) (W.contents writer.new)) }
+    ensures device { IsErrOf result (Line Device)
+        → HasRisen (R.failures reader.old) (R.failures reader.new)
+        ⊎ (HasRisen (W.failures writer.old) (W.failures writer.new)
+        ⊎ (2 ^ 64 - 1 ≤ R.reads reader.new)) }
 {
     match Parts::new(alloc, MOST_SITES, usize::from(workers) + 1) {
         Ok(parts) => run_started::<Brand, H, R, W>(rt, alloc, parts, reader, writer),

@@ -14,3 +14,8 @@ LacksServed old IsSaid new = (new ≡ old) ⊎ ((answer : Data) × IsSaid answer
 abbrev pub IsUnwritten : FarmLineFault → Type 0
 IsUnwritten (Line fault) = fault ≡ Memory
 IsUnwritten (Farm fault) = ⊤
+
+-- a fault of the farm's own
+abbrev pub IsOfFarm : FarmLineFault → Type 0
+IsOfFarm (Line fault) = ⊥
+IsOfFarm (Farm fault) = ⊤

@@ -1,8 +1,12 @@
-use Rattle.std.proofs.Common.{◌∙◌, ap, Err}
+use Rattle.std.proofs.Common.{◌≡◌, ◌∙◌, sym, ap, inl, inr, Err}
+use Rattle.std.proofs.KnownBytes.{Keeps-refl}
 use Rattle.jl_cli.specs.declared.farm_fault.FarmLineFault.TheVariants.{Line}
 use Rattle.jl_lines.specs.Devices.{one_more, HasRisen}
-use Rattle.jl_lines.proofs.FaultLaws.{exactly, risen}
-use Rattle.jl_cli.proofs.FarmEnds.{FarmWhole, farm_lines_first, farm_unwritten, farm_last_fault, farms_all}
+use Rattle.jl_lines.specs.declared.line_fault.LineFault.TheVariants.{Device, Memory}
+use Rattle.jl_lines.proofs.FaultLaws.{exactly, risen, read_of}
+use Rattle.jl_cli.specs.Farms.{IsFarmAnswer}
+use Rattle.jl_cli.proofs.FarmEnds.{FarmWhole, farm_lines_first, farm_unwritten, farm_last_fault, farms_all, same_line, no_device}
+use Rattle.jl_cli.proofs.FarmEnds.{lines_earlier, behind_all}
 use Rattle.jl_cli.proofs.farm_lines.run_on.Goals as goal
 
 pub returns-clause-answered : goal.returns-clause-answered
@@ -43,3 +47,63 @@ returns-in_err-write_last-clause-whole g c =
     (farm_last_fault _ c.args.caller.now c.answer_input.new.session _ _ (g.W.Sink.contents c.answer_input.new.writer) _ _
     c.in_err-write_last.field-0.0 c.requires.fresh c.in_ok-answer_input.ensures.answered.1 c.in_err-write_last.ensures.memory
     (λ e. risen _ _ (c.in_err-write_last.ensures.device (ap Err e) ∙ ap one_more c.in_ok-answer_input.ensures.ok)))
+
+-- ---- a fault of the lines
+
+pub returns-in_err-answer_input-clause-read : goal.returns-in_err-answer_input-clause-read
+returns-in_err-answer_input-clause-read g c = λ e none.
+    let f = c.in_err-answer_input.field-0.0 in
+    read_of (IsFarmAnswer g.K.Name.max_sites) c.args.caller.now _ c.answer_input.new.session (g.R.Source.remaining c.args.reader.now)
+    (g.R.Source.remaining c.answer_input.new.reader) (g.W.Sink.contents c.args.writer.now) (g.W.Sink.contents c.answer_input.new.writer)
+    c.requires.fresh (c.in_err-answer_input.ensures.read (ap Err (same_line c.from_residual.result f Device c.from_residual.ensures.1 e)) none)
+
+pub returns-in_err-answer_input-clause-memory : goal.returns-in_err-answer_input-clause-memory
+returns-in_err-answer_input-clause-memory g c = λ e more.
+    let f = c.in_err-answer_input.field-0.0 in
+    lines_earlier g.K.Name.max_sites c.args.caller.now c.answer_input.new.session (g.R.Source.remaining c.args.reader.now)
+    (g.R.Source.before c.answer_input.new.reader) (g.W.Sink.contents c.args.writer.now) (g.W.Sink.contents c.answer_input.new.writer)
+    c.requires.fresh (c.in_err-answer_input.ensures.memory (ap Err (same_line c.from_residual.result f Memory c.from_residual.ensures.1 e)) more)
+
+pub returns-in_err-answer_input-clause-device : goal.returns-in_err-answer_input-clause-device
+returns-in_err-answer_input-clause-device g c = λ e.
+    let f = c.in_err-answer_input.field-0.0 in
+    c.in_err-answer_input.ensures.device (ap Err (same_line c.from_residual.result f Device c.from_residual.ensures.1 e))
+
+-- ---- one of the farm, or want of memory for its last line
+
+pub returns-in_err-text-clause-read : goal.returns-in_err-text-clause-read
+returns-in_err-text-clause-read g c = λ e none.
+    absurd (no_device c.from_residual-in_err-text.result c.in_err-text.field-0.0 c.from_residual-in_err-text.ensures.1 c.in_err-text.ensures.unwritten e)
+
+pub returns-in_err-text-clause-memory : goal.returns-in_err-text-clause-memory
+returns-in_err-text-clause-memory g c = λ e more.
+    behind_all g.K.Name.max_sites c.args.caller.now c.answer_input.new.session (g.R.Source.remaining c.args.reader.now) _
+    (g.W.Sink.contents c.args.writer.now) (g.W.Sink.contents c.answer_input.new.writer) (g.W.Sink.contents c.answer_input.new.writer)
+    c.requires.fresh c.in_ok-answer_input.ensures.answered.1 (Keeps-refl _)
+
+pub returns-in_err-text-clause-device : goal.returns-in_err-text-clause-device
+returns-in_err-text-clause-device g c = λ e.
+    absurd (no_device c.from_residual-in_err-text.result c.in_err-text.field-0.0 c.from_residual-in_err-text.ensures.1 c.in_err-text.ensures.unwritten e)
+
+-- ---- the last line isn't written
+
+pub returns-in_err-write_last-clause-read : goal.returns-in_err-write_last-clause-read
+returns-in_err-write_last-clause-read g c = λ e none.
+    let f = c.in_err-write_last.field-0.0 in
+    let is = same_line c.from_residual-in_err-write_last.result f Device c.from_residual-in_err-write_last.ensures.1 e in
+    absurd (none (risen _ _ (c.in_err-write_last.ensures.device (ap Err is) ∙ ap one_more c.in_ok-answer_input.ensures.ok)))
+
+pub returns-in_err-write_last-clause-memory : goal.returns-in_err-write_last-clause-memory
+returns-in_err-write_last-clause-memory g c = λ e more.
+    let f = c.in_err-write_last.field-0.0 in
+    let is = same_line c.from_residual-in_err-write_last.result f Memory c.from_residual-in_err-write_last.ensures.1 e in
+    behind_all g.K.Name.max_sites c.args.caller.now c.answer_input.new.session (g.R.Source.remaining c.args.reader.now) _
+    (g.W.Sink.contents c.args.writer.now) (g.W.Sink.contents c.answer_input.new.writer) (g.W.Sink.contents c.write_last.new.writer)
+    c.requires.fresh c.in_ok-answer_input.ensures.answered.1
+    (c.in_err-write_last.ensures.memory (λ d. let clash : Memory ≡ Device = sym is ∙ d in absurd cc)).1
+
+pub returns-in_err-write_last-clause-device : goal.returns-in_err-write_last-clause-device
+returns-in_err-write_last-clause-device g c = λ e.
+    let f = c.in_err-write_last.field-0.0 in
+    let is = same_line c.from_residual-in_err-write_last.result f Device c.from_residual-in_err-write_last.ensures.1 e in
+    inr (inl (risen _ _ (c.in_err-write_last.ensures.device (ap Err is) ∙ ap one_more c.in_ok-answer_input.ensures.ok)))
