@@ -31,35 +31,36 @@ one_fails test made x rest e = sym (ap (λ (b : Bool). made ++ cond b (x ∷ fil
 -- ---- the rows that are open
 
 -- those so far and those from here on are those of all
-pub record OpenSoFar (first rows before kept : List Row) : Type 0 where
-  pub all : kept ++ filter is_open (reverse rows) ≡ before ++ filter is_open first
+pub record OpenSoFar (cs : Classes) (first rows before kept : List Row) : Type 0 where
+  pub all : kept ++ filter (is_open cs) (reverse rows) ≡ before ++ filter (is_open cs) first
 
-pub open_begun : (first rows before : List Row) → rows ≡ reverse first → OpenSoFar first rows before before
-open_begun first rows before is =
-    record { all = ap (λ (xs : List Row). before ++ filter is_open xs) (ap reverse is ∙ reverse-reverse first) }
+pub open_begun : (cs : Classes) (first rows before : List Row) → rows ≡ reverse first → OpenSoFar cs first rows before before
+open_begun cs first rows before is =
+    record { all = ap (λ (xs : List Row). before ++ filter (is_open cs) xs) (ap reverse is ∙ reverse-reverse first) }
 
-pub open_kept : (first rows before kept new : List Row) (row : Row) → OpenSoFar first (rows ++ row ∷ []) before kept → is_open row ≡ true
-    → new ≡ kept ++ row ∷ [] → OpenSoFar first rows before new
-open_kept first rows before kept new row so passes is = record {
+pub open_kept : (cs : Classes) (first rows before kept new : List Row) (row : Row) → OpenSoFar cs first (rows ++ row ∷ []) before kept
+    → is_open cs row ≡ true → new ≡ kept ++ row ∷ [] → OpenSoFar cs first rows before new
+open_kept cs first rows before kept new row so passes is = record {
   all =
-      ap (λ (xs : List Row). xs ++ filter is_open (reverse rows)) is
-      ∙ one_passes is_open kept row (reverse rows) passes
-      ∙ sym (ap (λ (xs : List Row). kept ++ filter is_open xs) (last_first rows row))
+      ap (λ (xs : List Row). xs ++ filter (is_open cs) (reverse rows)) is
+      ∙ one_passes (is_open cs) kept row (reverse rows) passes
+      ∙ sym (ap (λ (xs : List Row). kept ++ filter (is_open cs) xs) (last_first rows row))
       ∙ so.all;
 }
 
-pub open_left : (first rows before kept : List Row) (row : Row) → OpenSoFar first (rows ++ row ∷ []) before kept → is_open row ≡ false
-    → OpenSoFar first rows before kept
-open_left first rows before kept row so fails = record {
+pub open_left : (cs : Classes) (first rows before kept : List Row) (row : Row) → OpenSoFar cs first (rows ++ row ∷ []) before kept
+    → is_open cs row ≡ false → OpenSoFar cs first rows before kept
+open_left cs first rows before kept row so fails = record {
   all =
-      one_fails is_open kept row (reverse rows) fails
-      ∙ sym (ap (λ (xs : List Row). kept ++ filter is_open xs) (last_first rows row))
+      one_fails (is_open cs) kept row (reverse rows) fails
+      ∙ sym (ap (λ (xs : List Row). kept ++ filter (is_open cs) xs) (last_first rows row))
       ∙ so.all;
 }
 
-pub open_ended : (first rows before kept : List Row) → OpenSoFar first rows before kept → rows ≡ [] → kept ≡ before ++ filter is_open first
-open_ended first rows before kept so none =
-    sym (append-nil kept) ∙ sym (ap (λ (xs : List Row). kept ++ filter is_open (reverse xs)) none) ∙ so.all
+pub open_ended : (cs : Classes) (first rows before kept : List Row) → OpenSoFar cs first rows before kept → rows ≡ []
+    → kept ≡ before ++ filter (is_open cs) first
+open_ended cs first rows before kept so none =
+    sym (append-nil kept) ∙ sym (ap (λ (xs : List Row). kept ++ filter (is_open cs) (reverse xs)) none) ∙ so.all
 
 -- ---- the rows whose links are dropped
 

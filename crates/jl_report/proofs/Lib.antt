@@ -3,5 +3,7 @@ pub mod GatherLaws
 pub mod InvocationLaws
 pub mod TotalLaws
 pub mod DropLaws
+pub mod FinalLaws
 pub mod StayLaws
 pub mod FindingLaws
+pub mod Rows

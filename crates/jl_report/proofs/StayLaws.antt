@@ -1,7 +1,7 @@
 -- Rows whose links a further class doesn't drop.
-use Rattle.std.proofs.Common.{◌≡◌, ◌∙◌, sym, ap, subst, refl, arith, ◌==◌, ◌&&◌, List, [], ◌∷◌, length, if◌then◌else◌}
-use Rattle.std.specs.Prelude.{Bool, true, false, not, Option, Some, None, option_map, Result, Ok, Err, IsOk, is_ok}
-use Rattle.std.proofs.lemmas.Bool.Decides.{nat_tests}
+use Rattle.std.proofs.Common.{◌≡◌, ◌∙◌, sym, ap, subst, refl, ◌&&◌, List, length, if◌then◌else◌}
+use Rattle.std.specs.Prelude.{Bool, true, false, Option, Some, None, option_map, Result, Ok, Err, IsOk, is_ok}
+use Rattle.std.specs.List.{list_any}
 use Rattle.jl_class.specs.Class.{ClassFile}
 use Rattle.jl_types.specs.declared.ids.Place.{Place}
 use Rattle.jl_types.specs.declared.key.Key.{Key}
@@ -28,19 +28,13 @@ use Rattle.jl_report.specs.declared.row.Row.{Row}
 use Rattle.jl_report.specs.declared.row.Finding.{Finding}
 use Rattle.jl_report.specs.declared.row.Finding.TheVariants as finding
 use Rattle.jl_report.specs.declared.invocation.Invocation.{Invocation}
-use Rattle.jl_report.specs.Reports.{asking, found, finding_in, row_of}
-use Rattle.jl_report.specs.Drops.{keys_of, row_now, now_without, now_changed, has_changing_link, is_open}
+use Rattle.jl_report.specs.Reports.{asking, found, finding_in, rests_on, row_of}
+use Rattle.jl_report.specs.Drops.{keys_of, row_now, now_without, now_changed, has_changing_link, may_grow, is_open, ExtendNoFinal}
+use Rattle.jl_report.proofs.FinalLaws.{none_met, closed_keys}
 
 found_is : (r : Result Link Unlinked) (l : Link) → found r ≡ finding.Linked l → r ≡ Ok l
 found_is (Ok m) l e = cc
 found_is (Err reason) l e = cc
-
-some_keys : (k : Key) (ks : List Key) → (length (k ∷ ks) == 0) ≡ false
-some_keys k ks = grind (arith, nat_tests)
-
-isnt_open : (b : Bool) → b ≡ false → (not b && true) ≡ false → ⊥
-isnt_open true is e = cc
-isnt_open false is e = cc
 
 module _ (cs : Classes) (file : ClassFile) (order : AreInOrder cs) (accepted : define_fault cs 0 file ≡ None) where
   abbrev after : Classes
@@ -86,14 +80,24 @@ module _ (cs : Classes) (file : ClassFile) (order : AreInOrder cs) (accepted : d
     same_finding (Some reason) l e is = cc
     same_finding None l e is = ap found (is ∙ sym (found_is (scratch (old place) 0) l e))
 
+    -- with a link it rests on what its link rests on
+    rests : (w : World) (f : Finding) (l : Link) → f ≡ finding.Linked l → rests_on w f ≡ footprint w 0
+    rests w f l e = ap (rests_on w) e
+
     same_row : (l : Link) → row.finding ≡ finding.Linked l → SiteStays (old place) (new place) 0 l → row_of after invocation ≡ row
     same_row l e stays =
         let f = same_finding invocation.never l e stays.link in
-        let r = stays.rests_on in
+        let r =
+        rests (new place) (finding_in (new place) invocation.never) l (f ∙ e)
+        ∙ stays.rests_on
+        ∙ sym (rests (old place) (finding_in (old place) invocation.never) l e) in
         λ i. record { place = invocation.place; kind = invocation.kind; finding = f i; rests_on = r i }
 
+    met_alike : (l : Link) → row.finding ≡ finding.Linked l → meets (footprint (old place) 0) (keys_of cs file) ≡ meets row.rests_on (keys_of cs file)
+    met_alike l e = ap (λ (ks : List Key). meets ks (keys_of cs file)) (sym (rests (old place) row.finding l e))
+
     pub untouched_row : (l : Link) → row.finding ≡ finding.Linked l → meets row.rests_on (keys_of cs file) ≡ false → row_of after invocation ≡ row
-    untouched_row l e none = same_row l e (untouched place l none (linked invocation.never l e))
+    untouched_row l e none = same_row l e (untouched place l (met_alike l e ∙ none) (linked invocation.never l e))
 
     -- a row whose link isn't dropped
     pub undropped_row : (l : Link) → row.finding ≡ finding.Linked l → now_changed after (keys_of cs file) row ≡ None → row_of after invocation ≡ row
@@ -110,7 +114,7 @@ module _ (cs : Classes) (file : ClassFile) (order : AreInOrder cs) (accepted : d
         by_met true is same =
             let with_link : now_without after row (finding.Linked l) ≡ None = subst (λ f. now_without after row f ≡ None) e same in
             same_row l e
-            (kept place l is (linked invocation.never l e) (by_link (is_link (scratch (new place) 0) l) refl with_link))
+            (kept place l (met_alike l e ∙ is) (linked invocation.never l e) (by_link (is_link (scratch (new place) 0) l) refl with_link))
 
     -- ---- a row that isn't open
 
@@ -121,24 +125,54 @@ module _ (cs : Classes) (file : ClassFile) (order : AreInOrder cs) (accepted : d
     mega : row.finding ≡ finding.Linked Mega → meets row.rests_on (keys_of cs file) ≡ true → now_without after row (finding.Linked Mega) ≡ None
     mega e met =
         ap (λ (b : Bool). if b then None else Some (row_now after row))
-        (one_more (old place) (in_order place) 0 file 0 Mega met (linked invocation.never Mega e)).link
+        (one_more (old place) (in_order place) 0 file 0 Mega (met_alike Mega e ∙ met) (linked invocation.never Mega e)).link
 
     by_meeting : row.finding ≡ finding.Linked Mega → (b : Bool) → meets row.rests_on (keys_of cs file) ≡ b
         → (if b then now_without after row (finding.Linked Mega) else None) ≡ None
     by_meeting e true met = mega e met
     by_meeting e false met = refl
 
-    by_finding : (f : Finding) (ks : List Key) → row.finding ≡ f → row.rests_on ≡ ks → (not (length ks == 0) && has_changing_link f) ≡ false
-        → (if meets ks (keys_of cs file) then now_without after row f else None) ≡ None
-    by_finding f [] is keys e = refl
-    by_finding (finding.Unlinked reason) (k ∷ ks) is keys e = if_none (meets (k ∷ ks) (keys_of cs file)) None refl
-    by_finding (finding.NotLinkable reason) (k ∷ ks) is keys e = if_none (meets (k ∷ ks) (keys_of cs file)) None refl
-    by_finding (finding.Linked Mega) (k ∷ ks) is keys e =
-        by_meeting is (meets (k ∷ ks) (keys_of cs file)) (ap (λ (xs : List Key). meets xs (keys_of cs file)) keys)
-    by_finding (finding.Linked (Fault throwable)) (k ∷ ks) is keys e = absurd (isnt_open (length (k ∷ ks) == 0) (some_keys k ks) e)
-    by_finding (finding.Linked (Plain m)) (k ∷ ks) is keys e = absurd (isnt_open (length (k ∷ ks) == 0) (some_keys k ks) e)
-    by_finding (finding.Linked (Direct outcome)) (k ∷ ks) is keys e = absurd (isnt_open (length (k ∷ ks) == 0) (some_keys k ks) e)
-    by_finding (finding.Linked (Table kind rows)) (k ∷ ks) is keys e = absurd (isnt_open (length (k ∷ ks) == 0) (some_keys k ks) e)
+    -- no link, or a megamorphic one
+    unchanging : (f : Finding) → row.finding ≡ f → has_changing_link f ≡ false
+        → (if meets row.rests_on (keys_of cs file) then now_without after row f else None) ≡ None
+    unchanging (finding.Unlinked reason) is e = if_none (meets row.rests_on (keys_of cs file)) None refl
+    unchanging (finding.NotLinkable reason) is e = if_none (meets row.rests_on (keys_of cs file)) None refl
+    unchanging (finding.Linked Mega) is e = by_meeting is (meets row.rests_on (keys_of cs file)) refl
+    unchanging (finding.Linked (Fault throwable)) is e = cc
+    unchanging (finding.Linked (Plain m)) is e = cc
+    unchanging (finding.Linked (Direct outcome)) is e = cc
+    unchanging (finding.Linked (Table kind rows)) is e = cc
 
-    pub closed_row : is_open row ≡ false → now_changed after (keys_of cs file) row ≡ None
-    closed_row e = by_finding row.finding row.rests_on refl refl e
+    pub unchanging_row : has_changing_link row.finding ≡ false → now_changed after (keys_of cs file) row ≡ None
+    unchanging_row e = unchanging row.finding refl e
+
+    module _ (free : ExtendNoFinal cs) where
+      unmet : (f : Finding) (ks : List Key) → list_any (may_grow cs) ks ≡ false
+          → (if meets ks (keys_of cs file) then now_without after row f else None) ≡ None
+      unmet f ks e =
+          ap (λ (b : Bool). if b then now_without after row f else None)
+          (none_met cs (record { there = order.there; ordered = order.ordered }) free 0 file accepted ks e)
+
+      by_finding : (f : Finding) (ks : List Key) → row.finding ≡ f → row.rests_on ≡ ks → (has_changing_link f && list_any (may_grow cs) ks) ≡ false
+          → (if meets ks (keys_of cs file) then now_without after row f else None) ≡ None
+      by_finding (finding.Unlinked reason) ks is keys e = if_none (meets ks (keys_of cs file)) None refl
+      by_finding (finding.NotLinkable reason) ks is keys e = if_none (meets ks (keys_of cs file)) None refl
+      by_finding (finding.Linked Mega) ks is keys e =
+          by_meeting is (meets ks (keys_of cs file)) (ap (λ (xs : List Key). meets xs (keys_of cs file)) keys)
+      by_finding (finding.Linked (Fault throwable)) ks is keys e = unmet (finding.Linked (Fault throwable)) ks e
+      by_finding (finding.Linked (Plain m)) ks is keys e = unmet (finding.Linked (Plain m)) ks e
+      by_finding (finding.Linked (Direct outcome)) ks is keys e = unmet (finding.Linked (Direct outcome)) ks e
+      by_finding (finding.Linked (Table kind rows)) ks is keys e = unmet (finding.Linked (Table kind rows)) ks e
+
+      pub closed_row : is_open cs row ≡ false → now_changed after (keys_of cs file) row ≡ None
+      closed_row e = by_finding row.finding row.rests_on refl refl e
+
+      pub closed_stays : (l : Link) → row.finding ≡ finding.Linked l → is_open cs row ≡ false → row_of after invocation ≡ row
+      closed_stays l linked e = undropped_row l linked (closed_row e)
+
+      still_closed : (b : Bool) (ks : List Key) → (b && list_any (may_grow cs) ks) ≡ false → (b && list_any (may_grow after) ks) ≡ false
+      still_closed true ks e = closed_keys cs (record { there = order.there; ordered = order.ordered }) free 0 file accepted ks e
+      still_closed false ks e = refl
+
+      pub remains_closed : (l : Link) → row.finding ≡ finding.Linked l → is_open cs row ≡ false → is_open after (row_of after invocation) ≡ false
+      remains_closed l linked e = ap (is_open after) (closed_stays l linked e) ∙ still_closed (has_changing_link row.finding) row.rests_on e

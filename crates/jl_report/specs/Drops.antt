@@ -1,20 +1,24 @@
 -- Which links a further class drops: those that aren't their invocations' any more, once it is defined behind the others.
-use Rattle.std.specs.Prelude.{◌≡◌, ◌==◌, ◌&&◌, ◌++◌, Bool, true, false, not, List, filter, filter_map, length, Option, Some, None, option_map}
-use Rattle.std.specs.Prelude.{is_some, is_none, if◌then◌else◌}
+use Rattle.std.specs.Prelude.{◌≡◌, ℕ, ◌&&◌, ◌||◌, ◌++◌, Bool, true, false, not, List, filter, filter_map, length, slice_get, Option, Some, None}
+use Rattle.std.specs.Prelude.{option_map, is_some, is_none, if◌then◌else◌}
+use Rattle.std.specs.List.{list_any}
 use Rattle.jl_class.specs.Class.{ClassFile}
 use Rattle.jl_types.specs.declared.key.Key.{Key}
+use Rattle.jl_types.specs.declared.key.Key.TheVariants as key
 use Rattle.jl_types.specs.declared.link.Link.{Link}
 use Rattle.jl_types.specs.declared.link.Link.TheVariants.{Fault, Plain, Direct, Table, Mega}
-use Rattle.jl_types.specs.Values.World.{Classes}
+use Rattle.jl_types.specs.Values.World.{Class, Classes}
+use Rattle.jl_types.specs.Values.Members.{is_interface}
+use Rattle.jl_types.specs.Values.Ancestry.{is_parent}
 use Rattle.jl_types.specs.Linkage.Links.{scratch}
-use Rattle.jl_types.specs.Happenings.Definitions.{define_fault, defined}
-use Rattle.jl_types.specs.Happenings.Footprints.{of_class, footprint, meets}
+use Rattle.jl_types.specs.Happenings.Definitions.{is_final, define_fault, defined}
+use Rattle.jl_types.specs.Happenings.Footprints.{of_class, meets}
 use Rattle.jl_types.specs.Happenings.History.{is_link}
 use Rattle.jl_report.specs.declared.row.Row.{Row}
 use Rattle.jl_report.specs.declared.row.Finding.{Finding}
 use Rattle.jl_report.specs.declared.row.Finding.TheVariants as finding
 use Rattle.jl_report.specs.declared.breaking.Dropped.{Dropped}
-use Rattle.jl_report.specs.Reports.{asking, found}
+use Rattle.jl_report.specs.Reports.{asking, found, row_with}
 
 -- what the class changes that loader 0 makes of the file behind these: the keys of its definition
 abbrev pub keys_of : Classes → ClassFile → List Key
@@ -22,12 +26,7 @@ keys_of cs file = of_class (defined cs 0 file) (length cs.rows)
 
 -- what the row's invocation comes to among these classes
 abbrev pub row_now : Classes → Row → Row
-row_now cs row = record {
-  place = row.place;
-  kind = row.kind;
-  finding = found (scratch (asking cs row.place) 0);
-  rests_on = footprint (asking cs row.place) 0;
-}
+row_now cs row = row_with (asking cs row.place) row.place row.kind (found (scratch (asking cs row.place) 0))
 
 -- what it comes to where it had a link, and hasn't this one among these classes
 abbrev pub now_without : Classes → Row → Finding → Option Row
@@ -74,6 +73,20 @@ has_changing_link (finding.Linked link) = may_change link
 has_changing_link (finding.Unlinked reason) = false
 has_changing_link (finding.NotLinkable reason) = false
 
--- and rests on something
-abbrev pub is_open : Row → Bool
-is_open row = not (length row.rests_on == 0) && has_changing_link row.finding
+-- a further class may be below it: what is FINAL has no subclass (JVMS 5.3.5), which isn't asked of a superinterface
+abbrev pub may_be_extended : Classes → ℕ → Bool
+may_be_extended cs c = not (is_final cs c) || is_interface cs c
+
+-- a further class may change it: it is the receivers of what may be extended
+abbrev pub may_grow : Classes → Key → Bool
+may_grow cs (key.Receivers c) = may_be_extended cs c
+may_grow cs (key.Target c) = false
+may_grow cs (key.Valid p) = false
+
+-- a further class may change the row's link: it is another one than Mega, and rests on something that a further class may change
+abbrev pub is_open : Classes → Row → Bool
+is_open cs row = has_changing_link row.finding && list_any (may_grow cs) row.rests_on
+
+-- what is a parent of a class may be extended
+abbrev pub ExtendNoFinal : Classes → Type 0
+ExtendNoFinal cs = (c p : ℕ) (row : Class) → slice_get cs.rows c ≡ Some row → is_parent row p ≡ true → may_be_extended cs p ≡ true

@@ -3,8 +3,10 @@ use Rattle.std.specs.Prelude.{◌≡◌, ℕ, ◌+◌, List, [], ◌∷◌, ◌+
 use Rattle.std.specs.Bool.{then_some}
 use Rattle.jl_class.specs.Class.{Method}
 use Rattle.jl_class.specs.Site.{Site}
+use Rattle.jl_class.specs.declared.site.Kind.{Kind}
 use Rattle.jl_class.specs.declared.site.Operand.{Operand}
 use Rattle.jl_types.specs.declared.ids.Place.{Place}
+use Rattle.jl_types.specs.declared.key.Key.{Key}
 use Rattle.jl_types.specs.declared.link.Link.{Link}
 use Rattle.jl_types.specs.declared.answer.Unlinked.{Unlinked}
 use Rattle.jl_types.specs.declared.refusal.NotLinkable.{NotLinkable}
@@ -65,14 +67,20 @@ abbrev pub finding_in : World → Option NotLinkable → Finding
 finding_in w (Some reason) = finding.NotLinkable reason
 finding_in w None = found (scratch w 0)
 
+-- what its link rests on, and nothing where it has none
+abbrev pub rests_on : World → Finding → List Key
+rests_on w (finding.Linked link) = footprint w 0
+rests_on w (finding.Unlinked reason) = []
+rests_on w (finding.NotLinkable reason) = []
+
+-- the row of the world's only site, where it comes to this
+abbrev pub row_with : World → Place → Kind → Finding → Row
+row_with w place kind found = record { place = place; kind = kind; finding = found; rests_on = rests_on w found }
+
 -- what the invocation comes to, and what its link rests on
 abbrev pub row_of : Classes → Invocation → Row
-row_of cs invocation = record {
-  place = invocation.place;
-  kind = invocation.kind;
-  finding = finding_in (asking cs invocation.place) invocation.never;
-  rests_on = footprint (asking cs invocation.place) 0;
-}
+row_of cs invocation =
+    row_with (asking cs invocation.place) invocation.place invocation.kind (finding_in (asking cs invocation.place) invocation.never)
 
 abbrev pub rows_in : Classes → ℕ → List Row
 rows_in cs c = map (row_of cs) (invocations_in cs c)

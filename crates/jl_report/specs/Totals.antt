@@ -71,6 +71,10 @@ count kind shape rows = length (filter (is_in (column kind shape)) rows)
 abbrev pub told : List ℕ → Kind → Shape → ℕ
 told totals kind shape = get_or totals (column kind shape) 0
 
--- the totals are those of the rows, where a count stands still at the largest number of 64 bits
+-- the largest number of 64 bits
+abbrev pub largest : ℕ
+largest = 2 ^ 64 - 1
+
+-- the totals are those of the rows, where a count stands still at the largest number
 abbrev pub AreTotals : List ℕ → List Row → Type 0
-AreTotals totals rows = (kind : Kind) (shape : Shape) → told totals kind shape ≡ min (count kind shape rows) (2 ^ 64 - 1)
+AreTotals totals rows = (kind : Kind) (shape : Shape) → told totals kind shape ≡ min (count kind shape rows) largest

@@ -1,6 +1,8 @@
 //! Which links a further class drops.
 
-ghost use Rattle.std.specs.Prelude.{◌≡◌, ◌++◌, not, filter, IfOk, OnOk};
+ghost use Rattle.std.specs.Prelude.{◌≡◌, ◌++◌, filter, IfOk, OnOk};
+ghost use Rattle.std.specs.List.{list_any};
+ghost use Rattle.jl_types.specs.Happenings.Definitions as definitions;
 ghost use Rattle.jl_types.specs.Happenings.Footprints as footprints;
 ghost use Rattle.jl_types.specs.Happenings.History.{is_link};
 ghost use Rattle.jl_report.specs.declared.row.Finding.TheVariants as finding;
@@ -10,11 +12,11 @@ ghost use Rattle.jl_report.specs.Drops as drops;
 use crate::defining::{define_one, first_loader, is_barred};
 use crate::report::{Report, request_alone, rests_on};
 use crate::row::{Finding, Row};
-use jl_class::ClassFile;
+use jl_class::{ClassFile, FINAL, has_flag};
 use jl_deps::{Keys, keys_of_definition};
 use jl_hierarchy::Classes;
 use jl_relink::{World, link_of};
-use jl_types::{Key, Link, SiteNo, Unlinked, same_link};
+use jl_types::{ClassId, Key, Link, SiteNo, Unlinked, same_link};
 use std::alloc::{AllocError, Global};
 
 /// An invocation whose link a further class drops.
@@ -58,25 +60,60 @@ impl Report {
     }
 }
 
-/// Those of the rows that a further class may drop go behind the others that are kept. Want of memory is an error.
-pub fn keep_open(rows: Vec<Row>, kept: &mut Vec<Row>) -> Result<(), AllocError>
-    ensures { OnOk result (kept.new.items ≡ kept.old.items ++ filter drops.is_open rows.items) }
+/// Those of the rows whose links a further class may change go behind the others that are kept. Want of memory is an error.
+pub fn keep_open(classes: &Classes, rows: Vec<Row>, kept: &mut Vec<Row>) -> Result<(), AllocError>
+    ensures { OnOk result (kept.new.items ≡ kept.old.items ++ filter (drops.is_open classes.now) rows.items) }
 {
     let mut rows = rows;
     rows.reverse();
     while let Some(row) = rows.pop() {
-        if is_open(&row) {
+        if is_open(classes, &row) {
             kept.push(row)?;
         }
     }
     Ok(())
 }
 
-/// Whether a further class may drop it: it has a link other than Mega, which rests on something.
-fn is_open(row: &Row) -> bool
-    ensures { result ≡ drops.is_open row.now }
+/// Whether a further class may change the row's link: it is another one than Mega, and rests on something that a further class may change.
+pub fn is_open(classes: &Classes, row: &Row) -> bool
+    ensures { result ≡ drops.is_open classes.now row.now }
 {
-    !row.rests_on.as_slice().is_empty() && has_changing_link(&row.finding)
+    has_changing_link(&row.finding) && has_growing(classes, row.rests_on.as_slice())
+}
+
+/// Whether a further class may change one of these.
+fn has_growing(classes: &Classes, keys: &[Key]) -> bool
+    ensures { result ≡ list_any (drops.may_grow classes.now) keys.now }
+{
+    keys.iter().any(|key| may_grow(classes, key))
+}
+
+/// Whether a further class may change it.
+fn may_grow(classes: &Classes, key: &Key) -> bool
+    ensures { result ≡ drops.may_grow classes.now key.now }
+{
+    match key {
+        Key::Receivers(class) => may_be_extended(classes, *class),
+        Key::Target(_) => false,
+        Key::Valid(_) => false,
+    }
+}
+
+/// Whether a further class may be below it.
+fn may_be_extended(classes: &Classes, class: ClassId) -> bool
+    ensures { result ≡ drops.may_be_extended classes.now class }
+{
+    !is_final(classes, class) || classes.is_interface(class)
+}
+
+/// Whether the class has the flag FINAL.
+fn is_final(classes: &Classes, class: ClassId) -> bool
+    ensures { result ≡ definitions.is_final classes.now class }
+{
+    match classes.class_at(class) {
+        Some(row) => has_flag(row.file().flags(), FINAL),
+        None => false,
+    }
 }
 
 /// Whether it has a link other than Mega.

@@ -22,9 +22,11 @@ mod breaking;
 // The laws of the definitions.
 mod laws;
 
-pub use breaking::{Dropped, keep_open};
+pub use breaking::{Dropped, is_open, keep_open};
 pub use defining::{Refused, define_all};
-pub use laws::{reported_links_are_from_scratch, undropped_links_stay};
+pub use laws::{
+    final_classes_are_not_extended, reported_links_are_from_scratch, undropped_links_stay,
+};
 pub use order::order_by_name;
 pub use report::Report;
 pub use row::{Finding, Row};

@@ -1,6 +1,6 @@
 //! The order in which classes are reported.
 
-ghost use Rattle.std.specs.Prelude.{◌≡◌, OnOk, IsPermutation};
+ghost use Rattle.std.specs.Prelude.{◌≡◌, OnOk, OnErr, IsPermutation};
 ghost use Rattle.jl_report.specs.Order as order;
 
 use jl_hierarchy::Classes;
@@ -19,6 +19,7 @@ pub fn order_by_name(
 ) -> Result<(), AllocError>
     ensures same { IsPermutation listed.old listed.new }
     ensures order { OnOk result (order.AreByName classes.now listed.new) }
+    ensures err { OnErr result (listed.new ≡ listed.old) }
 {
     listed.sort_by(alloc, |a, b| name_of(classes, *a).cmp(name_of(classes, *b)))
 }

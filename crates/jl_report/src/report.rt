@@ -3,7 +3,6 @@
 ghost use Rattle.std.specs.Prelude.{◌≡◌, map, Ok, IfOk, OnOk};
 ghost use Rattle.jl_types.specs.declared.link.Link.{Link};
 ghost use Rattle.jl_types.specs.Linkage.Links.{scratch};
-ghost use Rattle.jl_types.specs.Happenings.Footprints.{footprint};
 ghost use Rattle.jl_report.specs.declared.row.Finding.TheVariants.{Linked};
 ghost use Rattle.jl_report.specs.Reports as reports;
 
@@ -11,8 +10,9 @@ use crate::invocation::{Invocation, invocations_in};
 use crate::row::{Finding, Row};
 use indexmap::{IndexMap, IndexSet};
 use jl_callsites::Sites;
-use jl_deps::{Footprint, footprint_of, footprint_of_linked};
+use jl_deps::{Footprint, footprint_of_linked};
 use jl_hierarchy::Classes;
+use jl_names::Seq;
 use jl_relink::{World, link_of};
 use jl_types::{ClassId, NotLinkable, Place, SiteNo};
 use std::alloc::{AllocError, Global};
@@ -110,18 +110,19 @@ fn row_of(alloc: Global, world: &mut World, invocation: Invocation) -> Result<Ro
     })
 }
 
-/// What the world's only site rests on, where it comes to this. Want of memory is an error.
+/// What the link of the world's only site rests on, where the site comes to this: nothing, where it has none. Want of memory is an error.
 pub(crate) fn rests_on(
     alloc: Global,
     world: &World,
     finding: &Finding,
 ) -> Result<Footprint, AllocError>
     requires { (l : Link) → finding.now ≡ Linked l → scratch world.now 0 ≡ Ok l }
-    ensures { IfOk result (λ keys. keys ≡ footprint world.now 0) }
+    ensures { IfOk result (λ keys. keys ≡ reports.rests_on world.now finding.now) }
 {
     match finding {
         Finding::Linked(link) => footprint_of_linked(alloc, world, SiteNo::new(0), link),
-        _ => footprint_of(alloc, world, SiteNo::new(0)),
+        Finding::Unlinked(_) => Ok(Seq::of(Vec::new(alloc))),
+        Finding::NotLinkable(_) => Ok(Seq::of(Vec::new(alloc))),
     }
 }
 

@@ -1,0 +1,375 @@
+-- What the definitions of a report say of small classes.
+use Rattle.std.specs.Prelude.{◌≡◌, ℕ, ◌+◌, true, false, List, [], ◌∷◌, map, Some, None, codes, refl}
+use Rattle.std.specs.List.{range_with_len}
+use Rattle.jl_pool.specs.declared.reference.Reference.{Reference}
+use Rattle.jl_class.specs.Class.{ClassFile, Method}
+use Rattle.jl_class.specs.declared.site.Kind.{Kind}
+use Rattle.jl_class.specs.declared.site.Kind.TheVariants.{Virtual, Special, Static, Interface, Dynamic}
+use Rattle.jl_class.specs.declared.site.Operand.TheVariants as operand
+use Rattle.jl_types.specs.declared.answer.Missing.TheVariants.{Named}
+use Rattle.jl_types.specs.declared.answer.Outcome.TheVariants.{Run, Throws}
+use Rattle.jl_types.specs.declared.answer.Throwable.TheVariants.{AbstractMethodError, IncompatibleClassChangeError}
+use Rattle.jl_types.specs.declared.answer.Unlinked.TheVariants.{Unbound, NotReady, Gone, NoSite}
+use Rattle.jl_types.specs.declared.key.Key.{Key}
+use Rattle.jl_types.specs.declared.key.Key.TheVariants.{Receivers, Target, Valid}
+use Rattle.jl_types.specs.declared.link.Link.TheVariants.{Fault, Plain, Direct, Table, Mega}
+use Rattle.jl_types.specs.declared.link.TableKind.TheVariants as table
+use Rattle.jl_types.specs.declared.refusal.DefineFault.TheVariants.{FinalSuper}
+use Rattle.jl_types.specs.declared.refusal.NotLinkable.TheVariants.{ArrayReceiver, PolymorphicSignature}
+use Rattle.jl_types.specs.Values.World.{Class, Classes}
+use Rattle.jl_types.specs.Happenings.Definitions.{define_fault, defined}
+use Rattle.jl_types.specs.Happenings.Footprints.{footprint}
+use Rattle.jl_types.proofs.Rows.Sketch.{object, class, classes, file, method, first, calling, class_ref}
+use Rattle.jl_report.specs.declared.invocation.Invocation.{Invocation}
+use Rattle.jl_report.specs.declared.row.Finding.TheVariants as finding
+use Rattle.jl_report.specs.declared.row.Row.{Row}
+use Rattle.jl_report.specs.declared.shape.Shape.TheVariants as shape
+use Rattle.jl_report.specs.Order.{name_of}
+use Rattle.jl_report.specs.Reports.{asking, never_linked, invocation_of, invocations_in, rests_on, row_of, rows_in}
+use Rattle.jl_report.specs.Drops.{keys_of, row_now, now_changed, left_among, dropped_among, IsAdded}
+use Rattle.jl_report.specs.Drops.{may_change, has_changing_link, may_be_extended, may_grow, is_open, ExtendNoFinal}
+use Rattle.jl_report.specs.Totals.{shape_of, column, count, told, largest}
+
+-- the invocation of this by the first method of class 2
+abbrev invoking : Kind → Reference (List ℕ) → Invocation
+invoking kind ref = invocation_of 2 0 (record { pc = 0; kind = kind; operand = operand.Method ref })
+
+-- Object 0, class 1 of this name, flags and methods, M 2 that invokes this, and these
+abbrev world : List ℕ → ℕ → List Method → Kind → Reference (List ℕ) → List Class → Classes
+world name flags methods kind ref more = classes (
+    object
+    ∷ class name flags (Some 0) [] methods
+    ∷ class (codes "M") 33 (Some 0) [] (calling 9 (codes "run") kind ref ∷ [])
+    ∷ more)
+
+-- the row of M's invocation
+abbrev row : List ℕ → ℕ → List Method → Kind → Reference (List ℕ) → List Class → Row
+row name flags methods kind ref more = row_of (world name flags methods kind ref more) (invoking kind ref)
+
+abbrev f : Method
+f = method 1 (codes "f")
+
+-- ---- what is never linkable rests on nothing
+
+abbrev handle : List ℕ
+handle = codes "java/lang/invoke/MethodHandle"
+
+abbrev on_handle : Reference (List ℕ)
+on_handle = class_ref handle (codes "f")
+
+abbrev with_handle : Classes
+with_handle = world handle 33 (f ∷ []) Virtual on_handle []
+
+abbrev by_handle : Row
+by_handle = row handle 33 (f ∷ []) Virtual on_handle []
+
+-- the site would look at the receivers of the class that it names
+would_rest : footprint (asking with_handle by_handle.place) 0 ≡ Receivers 1 ∷ []
+would_rest = refl
+
+handle_finding : by_handle.finding ≡ finding.NotLinkable PolymorphicSignature
+handle_finding = refl
+
+handle_rests : by_handle.rests_on ≡ []
+handle_rests = refl
+
+handle_closed : is_open with_handle by_handle ≡ false
+handle_closed = refl
+
+-- nor does what has no link for another reason
+unlinked_rests : rests_on (asking with_handle by_handle.place) (finding.Unlinked Unbound) ≡ []
+unlinked_rests = refl
+
+var_handle_never : never_linked (operand.Method (class_ref (codes "java/lang/invoke/VarHandle") (codes "f"))) ≡ Some PolymorphicSignature
+var_handle_never = refl
+
+array_never : never_linked (operand.Method (class_ref (codes "[I") (codes "clone"))) ≡ Some ArrayReceiver
+array_never = refl
+
+other_linked : never_linked (operand.Method (class_ref (codes "java/lang/invoke/CallSite") (codes "f"))) ≡ None
+other_linked = refl
+
+-- ---- what a further class may change
+
+abbrev on_a : Reference (List ℕ)
+on_a = class_ref (codes "A") (codes "f")
+
+-- with A of these flags
+abbrev of_a : ℕ → Row
+of_a flags = row (codes "A") flags (f ∷ []) Virtual on_a []
+
+abbrev with_a : ℕ → Classes
+with_a flags = world (codes "A") flags (f ∷ []) Virtual on_a []
+
+direct : of_a 33 ≡ record {
+  place = record { class = 2; method = 0; pc = 0 };
+  kind = Virtual;
+  finding = finding.Linked (Direct (Run (first 1)));
+  rests_on = Receivers 1 ∷ [];
+}
+direct = refl
+
+direct_open : is_open (with_a 33) (of_a 33) ≡ true
+direct_open = refl
+
+-- the same of a FINAL class
+final_link : (of_a 49).finding ≡ finding.Linked (Direct (Run (first 1)))
+final_link = refl
+
+final_rests : (of_a 49).rests_on ≡ Receivers 1 ∷ []
+final_rests = refl
+
+final_closed : is_open (with_a 49) (of_a 49) ≡ false
+final_closed = refl
+
+-- no object is of an abstract class without one below it
+empty_table : (of_a 1057).finding ≡ finding.Linked (Table table.Virtual [])
+empty_table = refl
+
+empty_open : is_open (with_a 1057) (of_a 1057) ≡ true
+empty_open = refl
+
+-- an interface may be extended, whichever flags it has, and of a class that isn't there nothing is known
+interface_extended : may_be_extended (with_a 1537) 1 ≡ true
+interface_extended = refl
+
+final_interface_extended : may_be_extended (with_a 1585) 1 ≡ true
+final_interface_extended = refl
+
+final_not_extended : may_be_extended (with_a 49) 1 ≡ false
+final_not_extended = refl
+
+missing_extended : may_be_extended (with_a 33) 7 ≡ true
+missing_extended = refl
+
+-- of a call site and of a switch point
+targets_stay : may_grow (with_a 33) (Target 1) ≡ false
+targets_stay = refl
+
+points_stay : may_grow (with_a 33) (Valid 1) ≡ false
+points_stay = refl
+
+-- a static method
+abbrev static_row : Row
+static_row = row (codes "A") 33 (method 9 (codes "f") ∷ []) Static on_a []
+
+plain : static_row.finding ≡ finding.Linked (Plain (first 1))
+plain = refl
+
+plain_closed : is_open (world (codes "A") 33 (method 9 (codes "f") ∷ []) Static on_a []) static_row ≡ false
+plain_closed = refl
+
+-- invokestatic of one that isn't
+abbrev fault_row : Row
+fault_row = row (codes "A") 33 (f ∷ []) Static on_a []
+
+fault : fault_row.finding ≡ finding.Linked (Fault IncompatibleClassChangeError)
+fault = refl
+
+fault_rests : fault_row.rests_on ≡ []
+fault_rests = refl
+
+-- nothing is named B
+abbrev waiting : Row
+waiting = row (codes "A") 33 (f ∷ []) Virtual (class_ref (codes "B") (codes "f")) []
+
+waits : waiting.finding ≡ finding.Unlinked (NotReady Named)
+waits = refl
+
+waiting_rests : waiting.rests_on ≡ []
+waiting_rests = refl
+
+waiting_closed : is_open (world (codes "A") 33 (f ∷ []) Virtual (class_ref (codes "B") (codes "f")) []) waiting ≡ false
+waiting_closed = refl
+
+-- n classes below A with their own f
+abbrev children : ℕ → List Class
+children n = map (λ i. class (67 ∷ (48 + i) ∷ []) 33 (Some 1) [] (f ∷ [])) (range_with_len 0 n)
+
+-- abstract A, with n classes below it
+abbrev of_family : ℕ → Row
+of_family n = row (codes "A") 1057 (f ∷ []) Virtual on_a (children n)
+
+abbrev family : ℕ → Classes
+family n = world (codes "A") 1057 (f ∷ []) Virtual on_a (children n)
+
+mega : (of_family 9).finding ≡ finding.Linked Mega
+mega = refl
+
+mega_rests : (of_family 9).rests_on ≡ Receivers 1 ∷ []
+mega_rests = refl
+
+mega_closed : is_open (family 9) (of_family 9) ≡ false
+mega_closed = refl
+
+table_open : is_open (family 8) (of_family 8) ≡ true
+table_open = refl
+
+-- which links may change, and that it takes a link
+changing : map may_change (Fault AbstractMethodError ∷ Plain (first 1) ∷ Direct (Run (first 1)) ∷ Table table.Virtual [] ∷ Mega ∷ [])
+    ≡ true ∷ true ∷ true ∷ true ∷ false ∷ []
+changing = refl
+
+changing_findings : map has_changing_link
+    (finding.Linked (Plain (first 1)) ∷ finding.Linked Mega ∷ finding.Unlinked Unbound ∷ finding.NotLinkable ArrayReceiver ∷ [])
+    ≡ true ∷ false ∷ false ∷ false ∷ []
+changing_findings = refl
+
+-- ---- what a further class drops
+
+abbrev further : List Method → ClassFile
+further methods = record (file (codes "D") 33 methods) { superclass = Some (codes "A") }
+
+-- with D below A, behind the others
+abbrev with_d : List Method → Classes
+with_d methods = defined (with_a 33) 0 (further methods)
+
+abbrev keys_of_d : List Method → List Key
+keys_of_d methods = keys_of (with_a 33) (further methods)
+
+-- what the row of A's f comes to there, where D has its own f
+abbrev two_receivers : Row
+two_receivers = record {
+  place = record { class = 2; method = 0; pc = 0 };
+  kind = Virtual;
+  finding = finding.Linked (Table table.Virtual ((1, Run (first 1)) ∷ (3, Run (first 3)) ∷ []));
+  rests_on = Receivers 1 ∷ [];
+}
+
+receivers_change : keys_of_d [] ≡ Receivers 0 ∷ Receivers 1 ∷ Receivers 3 ∷ []
+receivers_change = refl
+
+now : row_now (with_a 33) (of_a 33) ≡ of_a 33
+now = refl
+
+now_with_d : row_now (with_d (f ∷ [])) (of_a 33) ≡ two_receivers
+now_with_d = refl
+
+-- the same, as if it rested on the receivers of another class
+abbrev elsewhere : Row
+elsewhere = record (of_a 33) { rests_on = Receivers 2 ∷ [] }
+
+-- D drops the direct link, and leaves a row that rests on other receivers; the dropped row isn't left
+drops : dropped_among (with_d (f ∷ [])) (keys_of_d (f ∷ [])) (elsewhere ∷ of_a 33 ∷ []) ≡ record { before = of_a 33; after = two_receivers } ∷ []
+drops = refl
+
+dropped_goes : left_among (with_d (f ∷ [])) (keys_of_d (f ∷ [])) (elsewhere ∷ of_a 33 ∷ []) ≡ elsewhere ∷ []
+dropped_goes = refl
+
+-- without an f of its own it drops nothing
+drops_none : dropped_among (with_d []) (keys_of_d []) (elsewhere ∷ of_a 33 ∷ []) ≡ []
+drops_none = refl
+
+leaves_all : left_among (with_d []) (keys_of_d []) (elsewhere ∷ of_a 33 ∷ []) ≡ elsewhere ∷ of_a 33 ∷ []
+leaves_all = refl
+
+mega_stays : now_changed (defined (family 9) 0 (further (f ∷ []))) (keys_of (family 9) (further (f ∷ []))) (of_family 9) ≡ None
+mega_stays = refl
+
+-- what has no link has none to drop
+waiting_stays : now_changed (with_d (f ∷ [])) (keys_of_d (f ∷ [])) (record (of_a 33) { finding = finding.Unlinked (NotReady Named) }) ≡ None
+waiting_stays = refl
+
+never_stays : now_changed (with_d (f ∷ [])) (keys_of_d (f ∷ [])) (record (of_a 33) { finding = finding.NotLinkable ArrayReceiver }) ≡ None
+never_stays = refl
+
+added : IsAdded (with_a 33) (with_d (f ∷ [])) (further (f ∷ [])) (of_a 33 ∷ []) [] [] (record { before = of_a 33; after = two_receivers } ∷ []) None
+added = (refl, refl, refl, refl)
+
+-- below a FINAL A it may not be defined
+given_back : IsAdded (with_a 49) (with_a 49) (further []) (of_a 49 ∷ []) (of_a 49 ∷ []) [] [] (Some (further []))
+given_back = (refl, refl, refl, refl, refl)
+
+final_super : define_fault (with_a 49) 0 (further []) ≡ Some FinalSuper
+final_super = refl
+
+-- C 3 below a FINAL A
+below_final : ¬ ExtendNoFinal (world (codes "A") 49 (f ∷ []) Virtual on_a (children 1))
+below_final h = let e = h 3 1 (class (67 ∷ 48 ∷ []) 33 (Some 1) [] (f ∷ [])) refl refl in cc
+
+-- ---- invocations, by method
+
+abbrev two_methods : Classes
+two_methods = classes (
+    object
+    ∷ class (codes "M") 33 (Some 0) [] (calling 9 (codes "run") Virtual on_a ∷ f ∷ calling 9 (codes "go") Static on_handle ∷ [])
+    ∷ [])
+
+in_order : invocations_in two_methods 1 ≡ (
+    record { place = record { class = 1; method = 0; pc = 0 }; kind = Virtual; never = None }
+    ∷ record { place = record { class = 1; method = 2; pc = 0 }; kind = Static; never = Some PolymorphicSignature }
+    ∷ [])
+in_order = refl
+
+rows_in_order : map (λ (r : Row). r.finding) (rows_in two_methods 1)
+    ≡ finding.Unlinked (NotReady Named) ∷ finding.NotLinkable PolymorphicSignature ∷ []
+rows_in_order = refl
+
+-- ---- names
+
+name : name_of (with_a 33) 1 ≡ codes "A"
+name = refl
+
+no_name : name_of (with_a 33) 7 ≡ []
+no_name = refl
+
+-- ---- totals
+
+link_shapes : map (λ link. shape_of (finding.Linked link)) (
+    Fault AbstractMethodError
+    ∷ Plain (first 1)
+    ∷ Direct (Run (first 1))
+    ∷ Direct (Throws AbstractMethodError)
+    ∷ Table table.Virtual []
+    ∷ Table table.Interface ((1, Throws AbstractMethodError) ∷ [])
+    ∷ Mega
+    ∷ [])
+    ≡ shape.Throws ∷ shape.Direct ∷ shape.Direct ∷ shape.Throws ∷ shape.NoReceivers ∷ shape.Table ∷ shape.Mega ∷ []
+link_shapes = refl
+
+unlinked_shapes : map (λ reason. shape_of (finding.Unlinked reason)) (Unbound ∷ NotReady Named ∷ Gone ∷ NoSite ∷ [])
+    ≡ shape.Unbound ∷ shape.Waits ∷ shape.Waits ∷ shape.Waits ∷ []
+unlinked_shapes = refl
+
+never_shape : shape_of (finding.NotLinkable ArrayReceiver) ≡ shape.NotLinkable
+never_shape = refl
+
+-- a column for each instruction and shape
+columns_of_shapes : map (column Virtual) (
+    shape.Direct
+    ∷ shape.Table
+    ∷ shape.Mega
+    ∷ shape.NoReceivers
+    ∷ shape.Throws
+    ∷ shape.Waits
+    ∷ shape.Unbound
+    ∷ shape.NotLinkable
+    ∷ [])
+    ≡ 0 ∷ 1 ∷ 2 ∷ 3 ∷ 4 ∷ 5 ∷ 6 ∷ 7 ∷ []
+columns_of_shapes = refl
+
+columns_of_kinds : map (λ kind. column kind shape.Direct) (Virtual ∷ Special ∷ Static ∷ Interface ∷ Dynamic ∷ []) ≡ 0 ∷ 8 ∷ 16 ∷ 24 ∷ 32 ∷ []
+columns_of_kinds = refl
+
+-- of three rows two are direct
+abbrev three : List Row
+three = of_a 33 ∷ by_handle ∷ of_a 49 ∷ []
+
+two_direct : count Virtual shape.Direct three ≡ 2
+two_direct = refl
+
+one_never : count Virtual shape.NotLinkable three ≡ 1
+one_never = refl
+
+none_static : count Static shape.Direct three ≡ 0
+none_static = refl
+
+-- what stands in a column, and nothing where there is none
+told_there : told (range_with_len 100 40) Special shape.Table ≡ 109
+told_there = refl
+
+told_nothing : told [] Virtual shape.Direct ≡ 0
+told_nothing = refl
+
+largest_is : largest ≡ 18446744073709551615
+largest_is = refl
