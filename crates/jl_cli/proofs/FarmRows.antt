@@ -69,8 +69,9 @@ module _ (K : Type 0) where
   -- what a caller that has learnt nothing reports stands in no last line behind an accepted event
   told_nothing : (entry : Entry) (text : List ℕ) (last : IsLastLine K 65536 (entry ∷ []) text) → last.callers ≡ [] ∷ [] → ⊥
   told_nothing entry text last e =
-      let told : IsPrefix (entry ∷ []) [] = All-head _ [] [] (subst (λ (cs : List (List Entry)). All (IsPrefix (entry ∷ [])) cs) e last.told) in
-      absurd (cc told.1)
+      let told : IsPrefix (entry ∷ []) [] =
+      All-head (IsPrefix (entry ∷ [])) [] [] (subst (λ (cs : List (List Entry)). All (IsPrefix (entry ∷ [])) cs) e last.told) in
+      let clash = told.1 in cc clash
 
 -- ---- how a farm over lines ends
 
