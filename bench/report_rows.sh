@@ -66,7 +66,7 @@ for n in range(2000):
     call = {"kind": "invokevirtual", "of": name, "name": "f", "type": "()V"}
     print(json.dumps({"name": name, "super": above, "flags": 33, "methods": [*own, {"name": "run", "type": "()V", "flags": 9, "calls": [call]}]}))
 END
-expect "a chain" 0 "" --json --only open --in C0000 --in C0001 --in C0007 --in C0008 --with lang chain << END
+expect "a chain" 0 "" --json --only open --only mega --in C0000 --in C0001 --in C0007 --in C0008 --with lang chain << END
 {"class":"C0000","kind":"invokevirtual","link":{"direct":{"run":"C0000"}},"method":"run","methodType":"()V","name":"f","of":"C0000","pc":0,\
 "restsOn":"C0000","type":"()V"}
 {"class":"C0001","kind":"invokevirtual","link":{"kind":"virtual","table":[["C0001",{"run":"C1999"}],["C0000",{"run":"C0000"}]]},"method":"run",\
@@ -74,8 +74,7 @@ expect "a chain" 0 "" --json --only open --in C0000 --in C0001 --in C0007 --in C
 {"class":"C0007","kind":"invokevirtual","link":{"kind":"virtual","table":[["C0007",{"run":"C1999"}],["C0006",{"run":"C1999"}],["C0005",\
 {"run":"C1999"}],["C0004",{"run":"C1999"}],["C0003",{"run":"C1999"}],["C0002",{"run":"C1999"}],["C0001",{"run":"C1999"}],["C0000",\
 {"run":"C0000"}]]},"method":"run","methodType":"()V","name":"f","of":"C0007","pc":0,"restsOn":"C0007","type":"()V"}
-{"class":"C0008","kind":"invokevirtual","link":{"mega":true},"method":"run","methodType":"()V","name":"f","of":"C0008","pc":0,"restsOn":"C0008",\
-"type":"()V"}
+{"class":"C0008","kind":"invokevirtual","link":{"mega":true},"method":"run","methodType":"()V","name":"f","of":"C0008","pc":0,"type":"()V"}
 {"classes":4,"leftOut":0,"totals":{"invokedynamic":{},"invokeinterface":{},"invokespecial":{},"invokestatic":{},"invokevirtual":{"direct":1,\
 "mega":1,"table":2}}}
 END

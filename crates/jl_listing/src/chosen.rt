@@ -1,8 +1,8 @@
 //! Which invocations are reported.
 
-use crate::texts::{open_class, push_name};
+use crate::texts::push_name;
 use jl_hierarchy::Classes;
-use jl_report::{Row, Shape};
+use jl_report::{Row, Shape, is_open};
 use std::alloc::{AllocError, Global};
 
 /// What an invocation comes to, as it is asked for.
@@ -43,7 +43,7 @@ impl Choice {
             Choice::Direct => shape == Shape::Direct,
             Choice::Table => shape == Shape::Table || shape == Shape::NoReceivers,
             Choice::Mega => shape == Shape::Mega,
-            Choice::Open => open_class(classes, row).is_some(),
+            Choice::Open => is_open(classes, row),
             Choice::Fault => shape == Shape::Throws,
             Choice::Waits => shape == Shape::Waits || shape == Shape::Unbound,
         }

@@ -182,7 +182,7 @@ impl Page {
         };
         self.add_rows(alloc, report, chosen, kept.file(), &rows)?;
         if self.keeps_rows {
-            keep_open(rows, &mut self.kept)?;
+            keep_open(report.classes(), rows, &mut self.kept)?;
         }
         Ok(())
     }

@@ -10,7 +10,6 @@ mod text;
 mod totals;
 
 pub(crate) use json_lines::{Former, push_left_out_line, write_line, write_totals};
-pub(crate) use links::open_class;
 pub(crate) use missing::MissingClasses;
 pub(crate) use names::push_name;
 pub(crate) use text::{

@@ -1,11 +1,11 @@
 //! What an invocation comes to, in words.
 
 use crate::texts::names::push_name;
-use jl_class::{ClassFile, FINAL, INTERFACE, Operand, Site, has_flag};
+use jl_class::{ClassFile, Operand, Site};
 use jl_hierarchy::Classes;
 use jl_json::throwable_name;
 use jl_names::LentName;
-use jl_report::{Finding, Row};
+use jl_report::{Finding, Row, is_open};
 use jl_types::{
     ClassId, Key, Link, MethodId, Missing, NotLinkable, Outcome, Table, Throwable, Unlinked,
 };
@@ -182,7 +182,7 @@ fn receiver_count(classes: &Classes, row: &Row) -> usize {
     }
 }
 
-/// The class on whose receivers the row's link rests, if there is one.
+/// The class whose receivers the row's link looks at, if there is one.
 fn looked_at(row: &Row) -> Option<ClassId> {
     match row.rests_on.as_slice().first() {
         Some(Key::Receivers(class)) => Some(*class),
@@ -190,15 +190,12 @@ fn looked_at(row: &Row) -> Option<ClassId> {
     }
 }
 
-/// The class or interface of which a further one below may change the row's link, if there is one. A final class gets none
-/// (JVMS SE 17 §5.3.5).
+/// The class or interface of which a further one below may change the row's link, if there is one.
 pub(crate) fn open_class(classes: &Classes, row: &Row) -> Option<ClassId> {
-    let class = looked_at(row)?;
-    let flags = classes.class_at(class)?.file().flags();
-    if has_flag(flags, FINAL) && !has_flag(flags, INTERFACE) {
-        return None;
+    if is_open(classes, row) {
+        return looked_at(row);
     }
-    Some(class)
+    None
 }
 
 /// Appends what the invocation waits for. Want of memory is an error.
