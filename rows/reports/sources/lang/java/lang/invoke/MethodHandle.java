@@ -1,0 +1,7 @@
+package java.lang.invoke;
+
+public class MethodHandle {
+    public Object invokeExact(Object... arguments) {
+        return null;
+    }
+}
