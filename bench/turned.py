@@ -98,7 +98,8 @@ def sentences(crate):
             head = line.index("=")
             for turn, into in TURNS:
                 for found in re.finditer(turn, line[head:]):
-                    new = line[: head + found.start()] + re.sub(turn, into, line[head:][found.start() :], count=1)
+                    turned = into(found) if callable(into) else into
+                    new = line[: head + found.start()] + turned + line[head + found.end() :]
                     word = {"&&": "◌&&◌", "||": "◌||◌"}.get(into, into)
                     lacks = isinstance(word, str) and not re.search(rf"use[^\n]*[{{ ]{re.escape(word)}[,}}]", text) and PRELUDE in text
                     first = re.search(rf"^{re.escape(PRELUDE)}.*", text, re.M)[0] if lacks else ""
