@@ -7,11 +7,12 @@ answers, its exit status, and its line on the standard error.
 The status and the line of each way to end are proved of a function of jl_cli; that the program tells them of the way in which it
 ended, and tells nothing else, is what is seen here. Want of memory and of threads is brought about by a limit on the room of the
 process, which rises until the program has all that it asks for: each lower one has to end it so, or keeps it from starting. A farm
-that has no thread wasn't seen so.
+without threads is one of a user that may have none; where this runs as root, that is nobody.
 It ends with status 0 only where all is as it must be, and takes a few seconds.
 """
 import os
 import resource
+import shutil
 import subprocess
 import sys
 import tempfile
@@ -51,6 +52,7 @@ NO_REPORTS = (["report"], ["report", "--only", "any", "/"], ["report", "--lines"
 NO_CLASSES = b"0 invocations in 0 methods of 0 classes\n"
 COUNTS = ("0", "17", "-1", "two", "", "256")
 MEGABYTE = 1 << 20
+NOBODY = 65534
 
 
 def run(program, words, given=b"", room=None, **devices):
@@ -164,6 +166,26 @@ def rooms(rows, program, mode, given, ways):
     rows.expect(f"{mode} with ever more room", (sorted(came - set(ways)), NO_MEMORY in came), ([], True))
 
 
+def without_threads():
+    """Has the process that begins make no thread. (The order matters: a user who has too many processes may begin none.)"""
+    if os.geteuid() == 0:
+        os.setgroups([])
+        os.setgid(NOBODY)
+        os.setuid(NOBODY)
+    resource.setrlimit(resource.RLIMIT_NPROC, (0, 0))
+
+
+def threads(rows, program):
+    with tempfile.TemporaryDirectory() as folder:
+        os.chmod(folder, 0o755)
+        copy = shutil.copy(program, folder)
+        os.chmod(copy, 0o755)
+        words = [copy, "farm", "--workers", "2"]
+        ran = subprocess.run(words, input=PREPARED_SITE, capture_output=True, cwd="/", preexec_fn=without_threads)
+        answers = b'{"class":0,"dropped":[]}\n{"class":1,"dropped":[]}\n{"dropped":[],"site":0}\n'
+        rows.expect("a farm without threads", ((ran.returncode, ran.stderr), ran.stdout), (FARM_FAILED, answers))
+
+
 def main(*words_given):
     program, quiet = words_given[-1], "--quiet" in words_given
     rows = Rows()
@@ -172,6 +194,7 @@ def main(*words_given):
     lines(rows, program)
     batches(rows, program)
     devices(rows, program)
+    threads(rows, program)
     rooms(rows, program, ["run"], LINKS, [NO_MEMORY])
     rooms(rows, program, ["farm", "--workers", "16"], OBJECT, [NO_MEMORY, FARM_FAILED])
     if rows.wrong or not quiet:
