@@ -1,5 +1,7 @@
 //! Class files, a line of hexadecimal each, and places, a line of class, method and pc each.
 
+ghost use Rattle.std.specs.Prelude.{◌≤◌};
+
 use jl_types::{ClassId, Place};
 use std::alloc::{AllocError, Global};
 use std::io::{self, BufRead, BufReader};
@@ -32,6 +34,13 @@ impl Input {
             input.add_line(alloc, line?.as_str())?;
         }
         Ok(input)
+    }
+
+    /// How many sites there may be: as many as there are places, and one at least.
+    pub(crate) fn max_sites(&self) -> u32
+        ensures { 1 ≤ result }
+    {
+        u32::try_from(self.places.len()).unwrap_or(u32::MAX).max(1)
     }
 
     /// Adds what the line is. Want of memory is an error.

@@ -12,9 +12,6 @@ use std::alloc::{AllocError, Global};
 use std::io;
 use std::time::Instant;
 
-/// How many sites there may be.
-pub(crate) const SITES: u32 = 65_536;
-
 /// How many sites are looked up and installed at a time.
 const BATCH: usize = 256;
 
@@ -168,7 +165,7 @@ fn time_all(rt: &HostRuntime, core: &mut Core, sites: &[SiteNo]) -> io::Result<(
 
 /// Measures all of it.
 pub(crate) fn measure(rt: &HostRuntime, input: &Input) -> io::Result<()> {
-    let mut core = Core::new(rt.alloc(), SITES)?;
+    let mut core = Core::new(rt.alloc(), input.max_sites())?;
     let count = fill(rt, &mut core, input)?;
     let sites = sites_of(rt.alloc(), count)?;
     time_all(rt, &mut core, sites.as_slice())

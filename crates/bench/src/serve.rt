@@ -120,7 +120,7 @@ pub(crate) fn measure<R: Threads + Wait + Sync>(
     words: &[String],
 ) -> io::Result<()> {
     let workers = number_or(words, 1, 1);
-    let sites = number_or(words, 5, 65_536);
+    let sites = number_or(words, 5, input.max_sites());
     if workers > MOST || sites < 1 {
         return Ok(());
     }

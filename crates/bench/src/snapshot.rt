@@ -2,7 +2,6 @@
 //! snapshot that is held through all; and with a snapshot after each definition, of which none, one and two are held.
 
 use crate::fill::define_each;
-use crate::link::SITES;
 use crate::told::{number_or, tell};
 use jl_core::Core;
 use jl_relink::Snapshot;
@@ -78,7 +77,7 @@ fn time_between(
 /// Measures all of it.
 pub(crate) fn measure(rt: &HostRuntime, files: &[Vec<u8>], words: &[String]) -> io::Result<()> {
     let size = number_or(words, 1, BATCH).max(1) as usize;
-    let mut core = Core::new(rt.alloc(), SITES)?;
+    let mut core = Core::new(rt.alloc(), 1)?;
     let last = files.len().min(size.saturating_mul(5));
     let (most, rest) = files.split_at(files.len() - last);
     let (plain, rest) = rest.split_at(rest.len().min(size));

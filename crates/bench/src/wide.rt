@@ -2,7 +2,7 @@
 
 use crate::fill::fill;
 use crate::input::Input;
-use crate::link::{SITES, sites_of};
+use crate::link::sites_of;
 use crate::told::{number_or, tell};
 use jl_core::Core;
 use jl_relink::{Prepared, Snapshot, prepare, prepare_wide};
@@ -41,7 +41,7 @@ pub(crate) fn measure(
     input: &Input,
     words: &[String],
 ) -> io::Result<()> {
-    let mut core = Core::new(rt.alloc(), SITES)?;
+    let mut core = Core::new(rt.alloc(), input.max_sites())?;
     let most = fill(rt, &mut core, input)?;
     let sites = sites_of(rt.alloc(), number_or(words, 1, 256).min(most))?;
     let snapshot = core.snapshot(rt.alloc())?;
