@@ -43,12 +43,19 @@ fn request(n: u32) -> Event {
     })
 }
 
+/// Whether the request of the n-th call is answered this number.
+fn is_numbered(alloc: Global, core: &mut Core, n: u32) -> bool {
+    match core.apply(alloc, request(n)) {
+        Ok(reply) => reply.made == Made::Site(SiteNo::new(n)),
+        Err(_) => false,
+    }
+}
+
 /// Whether the request of each of the first calls is answered its number.
 fn are_numbered(alloc: Global, core: &mut Core) -> bool {
     for n in 0..LIMIT {
-        match core.apply(alloc, request(n)) {
-            Ok(reply) if reply.made == Made::Site(SiteNo::new(n)) => {}
-            _ => return false,
+        if !is_numbered(alloc, core, n) {
+            return false;
         }
     }
     true
