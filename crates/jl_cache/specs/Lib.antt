@@ -1,2 +1,3 @@
--- What contracts cite.
+-- `Links` is what contracts cite, `Means` what proofs go by.
 pub mod Links
+pub mod Means

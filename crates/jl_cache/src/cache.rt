@@ -1,25 +1,30 @@
 //! The links that are installed.
 
-ghost use Rattle.std.specs.Prelude.{◌≡◌, ℕ, ◌≤◌, ◌==◌, [], None, length, IfOk, OnOk, OnErr, if◌then◌else◌};
+ghost use Rattle.std.specs.Prelude.{◌≡◌, ℕ, ◌≤◌, ◌==◌, ◌++◌, ◌∷◌, nat_eq, [], None, length, IfOk, OnOk, OnErr, if◌then◌else◌};
 ghost use Rattle.std.specs.List.{list_any};
+ghost use Rattle.std.specs.Option.{option_copied};
 ghost use Rattle.jl_cache.specs.Links.{link_at, AreRising, link_with};
-ghost use Rattle.indexmap.specs.IndexMap.{IsUnique};
+ghost use Rattle.indexmap.specs.IndexMap.{get, spare, IsUnique};
 
+use crate::kept::KeptLink;
 use indexmap::IndexMap;
 use jl_types::{Link, SiteNo};
 use std::alloc::{AllocError, Global};
-use std::hash::Hash;
 use std::marker::Model;
 
 /// The installed links, by site. A clause sees each site that has one, with it, by rising number.
 pub struct Cache {
-    links: IndexMap<SiteNo, Link>,
+    alloc: Global,
+    links: IndexMap<SiteNo, KeptLink>,
 }
 
 // Written out, since a derived drop is proved anew in each crate that lets one go.
 impl Drop for Cache {
     fn drop(self) {
-        let Cache { links: _links } = self;
+        let Cache {
+            alloc: _alloc,
+            links: _links,
+        } = self;
     }
 }
 
@@ -39,6 +44,7 @@ impl Cache {
         ensures { result ≡ [] }
     {
         Cache {
+            alloc,
             links: IndexMap::new(alloc),
         }
     }
@@ -48,6 +54,7 @@ impl Cache {
         ensures { IfOk result (λ copy. copy ≡ self.now) }
     {
         Ok(Cache {
+            alloc: self.alloc,
             links: self.links.clone()?,
         })
     }
@@ -57,7 +64,7 @@ impl Cache {
         ensures link { result ≡ link_at self.now site }
         ensures rising { AreRising self.now }
     {
-        self.links.get(&site).copied()
+        link_of(self.links.get(&site))
     }
 
     /// How many sites have a link. Takes no memory.
@@ -79,7 +86,7 @@ impl Cache {
         ensures items { IfOk result (λ rows. rows.items ≡ self.now) }
         ensures rising { AreRising self.now }
     {
-        let mut rows = entries_of(alloc, &self.links)?;
+        let mut rows = rows_of(alloc, &self.links)?;
         rows.sort_unstable_by_key(|row| row.0);
         Ok(rows)
     }
@@ -93,10 +100,9 @@ impl Cache {
         ensures ok { OnOk result ((s : ℕ) → link_at self.new s ≡ link_with rows.now (link_at self.old s) s) }
         ensures err { OnErr result (self.new ≡ self.old) }
     {
-        self.links.reserve(rows.len())?;
-        for row in rows {
-            self.links.insert(row.0, row.1).unwrap();
-        }
+        let kept = kept_rows(self.alloc, rows)?;
+        self.links.reserve(kept.len())?;
+        put_all(&mut self.links, kept);
         Ok(())
     }
 
@@ -111,13 +117,59 @@ impl Cache {
     }
 }
 
-/// The entries of a map, in its order. Want of memory is an error.
-fn entries_of<K: Copy + Eq + Hash, V: Copy>(
-    alloc: Global,
-    map: &IndexMap<K, V>,
-) -> Result<Vec<(K, V)>, AllocError>
-    ensures items { IfOk result (λ entries. entries.items ≡ map.now.entries) }
-    ensures unique { IsUnique K.eq map.now }
+/// The link that is kept, if there is one.
+fn link_of(kept: Option<&KeptLink>) -> Option<Link>
+    ensures { result ≡ option_copied kept.entry }
 {
-    map.iter().map(|(key, value)| (*key, *value)).collect(alloc)
+    match kept {
+        Some(kept) => Some(kept.get()),
+        None => None,
+    }
+}
+
+/// The entries of the map with their links, in its order. Want of memory is an error.
+fn rows_of(
+    alloc: Global,
+    map: &IndexMap<SiteNo, KeptLink>,
+) -> Result<Vec<(SiteNo, Link)>, AllocError>
+    ensures items { IfOk result (λ rows. rows.items ≡ map.now.entries) }
+    ensures unique { IsUnique nat_eq map.now }
+{
+    let mut rows = Vec::with_capacity(alloc, map.len())?;
+    let mut place = 0;
+    while let Some((site, kept)) = map.get_index(place) {
+        push_row(&mut rows, *site, kept.get())?;
+        place += 1;
+    }
+    Ok(rows)
+}
+
+/// Adds the site with its value. Want of memory is an error.
+fn push_row<T: Drop>(rows: &mut Vec<(SiteNo, T)>, site: SiteNo, value: T) -> Result<(), AllocError>
+    ensures { OnOk result (rows.new.items ≡ rows.old.items ++ (site, value) ∷ []) }
+{
+    rows.push((site, value))?;
+    Ok(())
+}
+
+/// What is kept of each row. Want of memory is an error.
+fn kept_rows(alloc: Global, rows: &[(SiteNo, Link)]) -> Result<Vec<(SiteNo, KeptLink)>, AllocError>
+    ensures { IfOk result (λ kept. kept.items ≡ rows.now) }
+{
+    let mut kept = Vec::with_capacity(alloc, rows.len())?;
+    for row in rows {
+        let link = KeptLink::new(alloc, &row.1)?;
+        push_row(&mut kept, row.0, link)?;
+    }
+    Ok(kept)
+}
+
+/// Puts the links of the rows in place of those that the sites have. Takes no memory.
+fn put_all(links: &mut IndexMap<SiteNo, KeptLink>, rows: Vec<(SiteNo, KeptLink)>)
+    requires { length rows.items ≤ spare links.old }
+    ensures { (s : ℕ) → get nat_eq links.new s ≡ link_with rows.items (get nat_eq links.old s) s }
+{
+    for row in rows {
+        links.insert(row.0, row.1).unwrap();
+    }
 }

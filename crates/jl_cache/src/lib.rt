@@ -6,6 +6,8 @@
 
 mod answers;
 mod cache;
+mod kept;
 
 pub use answers::{fast, fast_answer, link_answer};
 pub use cache::Cache;
+pub use kept::KeptLink;

@@ -5,7 +5,7 @@ use Rattle.jl_cache.proofs.cache.Cache.get.Goals as goal
 
 pub returns-clause-link : goal.returns-clause-link
 returns-clause-link c =
-    c.copied.ensures ∙ c.get.ensures.value
+    c.link_of.ensures ∙ c.get.ensures.value
     ∙ sym (found_by_site c.self.inside.links.entries c.args.site)
     ∙ ap (λ links. link_at links c.args.site) c.self.view_is
 

@@ -1,0 +1,2 @@
+-- Means of proof: what is promised does not rest on how these say it.
+pub mod Kept
