@@ -3,6 +3,7 @@
 ghost use Rattle.std.specs.Prelude.{◌≡◌, ◌<◌, length, replicate, slice_get, slice_set, IfOk, OnOk, OnErr};
 ghost use Rattle.std.specs.Option.{option_copied};
 
+use crate::again::Again;
 use std::alloc::{AllocError, Global};
 use std::marker::Model;
 use std::sync::Arc;
@@ -24,7 +25,7 @@ impl<T> Model for FixedPage<T> {
     ghost view = { λ p. p.kept.value };
 }
 
-impl<T: Copy + Drop> FixedPage<T> {
+impl<T: Again> FixedPage<T> {
     /// A page with this element at each place. Want of memory is an error.
     pub(crate) fn filled(alloc: Global, element: T) -> Result<FixedPage<T>, AllocError>
         ensures { IfOk result (λ page. page ≡ replicate 256 element) }
@@ -84,7 +85,7 @@ impl<T> Model for Kept<T> {
     ghost view = { λ k. k.elements.items };
 }
 
-impl<T: Copy + Drop> Clone for Kept<T> {
+impl<T: Again> Clone for Kept<T> {
     ghost is_clone = { λ kept copy. copy ≡ kept };
 
     fn clone(&self) -> Result<Kept<T>, AllocError> {
@@ -95,7 +96,7 @@ impl<T: Copy + Drop> Clone for Kept<T> {
     }
 }
 
-impl<T: Copy + Drop> Kept<T> {
+impl<T: Again> Kept<T> {
     /// So many copies of an element as a page has. Want of memory is an error.
     fn filled(alloc: Global, element: T) -> Result<Kept<T>, AllocError>
         ensures { IfOk result (λ kept. kept ≡ replicate 256 element) }
@@ -125,23 +126,23 @@ impl<T> Kept<T> {
 }
 
 /// So many copies of the element as a page has. Want of memory is an error.
-fn filled<T: Copy + Drop>(alloc: Global, element: T) -> Result<Vec<T>, AllocError>
+fn filled<T: Again>(alloc: Global, element: T) -> Result<Vec<T>, AllocError>
     ensures { IfOk result (λ made. made.items ≡ replicate 256 element) }
 {
     let mut made = Vec::with_capacity(alloc, PAGE)?;
     for _ in 0..PAGE {
-        made.push(element)?;
+        made.push(element.again(alloc)?)?;
     }
     Ok(made)
 }
 
 /// The same elements once more. Want of memory is an error.
-fn copied<T: Copy + Drop>(alloc: Global, elements: &[T]) -> Result<Vec<T>, AllocError>
+fn copied<T: Again>(alloc: Global, elements: &[T]) -> Result<Vec<T>, AllocError>
     ensures { IfOk result (λ made. made.items ≡ elements.now) }
 {
     let mut made = Vec::with_capacity(alloc, elements.len())?;
     for element in elements {
-        made.push(*element)?;
+        made.push(element.again(alloc)?)?;
     }
     Ok(made)
 }

@@ -4,6 +4,7 @@ ghost use Rattle.std.specs.Prelude.{◌≡◌, ◌<◌, ◌≤◌, ◌*◌, leng
 ghost use Rattle.std.specs.Option.{option_copied};
 ghost use Rattle.jl_pages.specs.Means.Pages.{elements, AreWhole};
 
+use crate::again::Again;
 use crate::fixed_page::{FixedPage, PAGE};
 use std::alloc::{AllocError, Global};
 use std::marker::Model;
@@ -35,7 +36,7 @@ impl<T> Model for Slots<T> {
     ghost invariant = { λ s. AreWhole s.pages.items };
 }
 
-impl<T: Copy + Drop> Slots<T> {
+impl<T: Again> Slots<T> {
     /// So many pages with this element at each place: one page that they share. Want of memory is an error.
     pub fn filled(alloc: Global, element: T, pages: usize) -> Result<Slots<T>, AllocError>
         ensures { IfOk result (λ slots. slots ≡ replicate (256 * pages) element) }
@@ -97,11 +98,7 @@ fn page_at<T>(pages: &[FixedPage<T>], place: usize) -> Option<&FixedPage<T>>
 /// # Errors
 ///
 /// Want of memory. Nothing has changed then.
-fn set_in<T: Copy + Drop>(
-    pages: &mut [FixedPage<T>],
-    place: usize,
-    element: T,
-) -> Result<(), AllocError>
+fn set_in<T: Again>(pages: &mut [FixedPage<T>], place: usize, element: T) -> Result<(), AllocError>
     requires whole { AreWhole pages.old }
     requires within { place < length (elements pages.old) }
     ensures whole { AreWhole pages.new }
