@@ -1,6 +1,7 @@
 -- The installed links as a list of sites and their links.
-use Rattle.std.specs.Prelude.{ℕ, ◌<◌, ◌==◌, List, find, fold, Option, Some, None, option_map, if◌then◌else◌, AllPairs}
+use Rattle.std.specs.Prelude.{ℕ, ◌<◌, ◌==◌, Bool, true, false, List, find, fold, Option, Some, None, option_map, if◌then◌else◌, AllPairs}
 use Rattle.jl_types.specs.declared.link.Link.{Link}
+use Rattle.jl_types.specs.declared.link.Link.TheVariants.{Fault, Plain, Direct, Table, Mega}
 use Rattle.jl_types.specs.declared.answer.Recv.{Recv}
 use Rattle.jl_types.specs.declared.answer.Fast.{Fast}
 use Rattle.jl_types.specs.declared.answer.Fast.TheVariants.{Miss}
@@ -22,3 +23,12 @@ link_with rows before s = fold (λ link row. if row.0 == s then Some row.1 else 
 abbrev pub fast_link : Option Link → Recv → Fast
 fast_link None recv = Miss
 fast_link (Some link) recv = link_answer link recv
+
+-- there is a link, and a megamorphic one
+abbrev pub is_mega : Option Link → Bool
+is_mega None = false
+is_mega (Some (Fault throwable)) = false
+is_mega (Some (Plain m)) = false
+is_mega (Some (Direct outcome)) = false
+is_mega (Some (Table kind rows)) = false
+is_mega (Some Mega) = true

@@ -20,25 +20,25 @@ pub fn fast(link: Option<Link>, recv: Recv) -> Fast
     }
 }
 
-/// What a call is answered by the link alone where there are so many classes: nothing either where the answer hangs on the receiver
-/// and its class is newer. Takes no memory.
-pub fn fast_answer(link: &Link, classes: usize, recv: Recv) -> Fast
-    ensures { result ≡ fast.fast_answer (Some link.now) classes recv }
+/// What a call is answered by a link of one outcome, where there are so many classes: nothing where the receiver's class is newer. Takes
+/// no memory.
+pub fn direct_answer(classes: usize, outcome: Outcome, recv: Recv) -> Fast
+    ensures { result ≡ fast.fast_answer (Some (variant.Direct outcome)) classes recv }
 {
-    if looks_at_receiver(link) && is_newer(classes, &recv) {
+    if is_newer(classes, &recv) {
         return Fast::Miss;
     }
-    link_answer(link, recv)
+    Fast::Now(outcome_on(outcome, recv))
 }
 
-/// Whether the link's answer hangs on the receiver.
-fn looks_at_receiver(link: &Link) -> bool
-    ensures { result ≡ fast.looks_at_receiver link.now }
+/// What a call is answered by a table, where there are so many classes: nothing where the receiver's class is newer. Takes no memory.
+pub fn table_answer(classes: usize, kind: TableKind, table: &Table, recv: Recv) -> Fast
+    ensures { result ≡ fast.fast_answer (Some (variant.Table kind table.now)) classes recv }
 {
-    match link {
-        Link::Fault(_) | Link::Plain(_) | Link::Mega => false,
-        Link::Direct(_) | Link::Table(_, _) => true,
+    if is_newer(classes, &recv) {
+        return Fast::Miss;
     }
+    Fast::Now(row_answer(kind, table, recv))
 }
 
 /// Whether the receiver's class came after so many classes.
@@ -51,21 +51,21 @@ fn is_newer(classes: usize, recv: &Recv) -> bool
     }
 }
 
-/// The link's answer for a receiver, of a link that is lent: what `fast` answers for it. It takes no memory.
-pub fn link_answer(link: &Link, recv: Recv) -> Fast
+/// The link's answer for a receiver.
+fn link_answer(link: &Link, recv: Recv) -> Fast
     ensures { result ≡ fast.link_answer link.now recv }
 {
     match link {
         Link::Fault(throwable) => Fast::Now(Answer::Throws(*throwable)),
         Link::Plain(method) => Fast::Now(Answer::Run(*method)),
-        Link::Direct(outcome) => Fast::Now(direct_answer(*outcome, recv)),
-        Link::Table(kind, table) => Fast::Now(table_answer(*kind, table, recv)),
+        Link::Direct(outcome) => Fast::Now(outcome_on(*outcome, recv)),
+        Link::Table(kind, table) => Fast::Now(row_answer(*kind, table, recv)),
         Link::Mega => Fast::Miss,
     }
 }
 
 /// The answer of a link with one outcome.
-fn direct_answer(outcome: Outcome, recv: Recv) -> Answer
+fn outcome_on(outcome: Outcome, recv: Recv) -> Answer
     ensures { Now result ≡ fast.link_answer (variant.Direct outcome) recv }
 {
     match recv {
@@ -75,7 +75,7 @@ fn direct_answer(outcome: Outcome, recv: Recv) -> Answer
 }
 
 /// The answer of a table.
-fn table_answer(kind: TableKind, table: &Table, recv: Recv) -> Answer
+fn row_answer(kind: TableKind, table: &Table, recv: Recv) -> Answer
     ensures { Now result ≡ fast.link_answer (variant.Table kind table.now) recv }
 {
     match recv {

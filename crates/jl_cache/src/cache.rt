@@ -1,6 +1,6 @@
 //! The links that are installed.
 
-ghost use Rattle.std.specs.Prelude.{◌≡◌, ℕ, ◌≤◌, ◌==◌, ◌++◌, ◌∷◌, nat_eq, [], None, length, IfOk, OnOk, OnErr, if◌then◌else◌};
+ghost use Rattle.std.specs.Prelude.{◌≡◌, ℕ, ◌≤◌, ◌==◌, ◌++◌, ◌∷◌, nat_eq, [], None, Some, length, IfOk, OnOk, OnErr, if◌then◌else◌};
 ghost use Rattle.std.specs.List.{list_any};
 ghost use Rattle.std.specs.Option.{option_copied};
 ghost use Rattle.jl_cache.specs.Links.{link_at, AreRising, link_with};
@@ -67,6 +67,13 @@ impl Cache {
         link_of(self.links.get(&site))
     }
 
+    /// The site's link as it is kept, if one is installed. Takes no memory.
+    pub fn kept(&self, site: SiteNo) -> Option<&KeptLink>
+        ensures { option_copied result ≡ link_at self.now site }
+    {
+        self.links.get(&site)
+    }
+
     /// How many sites have a link. Takes no memory.
     pub fn len(&self) -> usize
         ensures { result ≡ length self.now }
@@ -104,6 +111,35 @@ impl Cache {
         self.links.reserve(kept.len())?;
         put_all(&mut self.links, kept);
         Ok(())
+    }
+
+    /// Installs these links as they are kept, in place of those that the sites have. Their tables are shared.
+    ///
+    /// # Errors
+    ///
+    /// Want of memory. The links are of no use then.
+    pub fn install_kept(&mut self, rows: &[(SiteNo, KeptLink)]) -> Result<(), AllocError>
+        ensures { OnOk result ((s : ℕ) → link_at self.new s ≡ link_with rows.now (link_at self.old s) s) }
+    {
+        self.links.reserve(rows.len())?;
+        put_kept_rows(&mut self.links, rows)
+    }
+
+    /// The site has the link that it has ahead, or none. A table is shared.
+    ///
+    /// # Errors
+    ///
+    /// Want of memory. The links are of no use then.
+    pub fn take(&mut self, site: SiteNo, ahead: &Cache) -> Result<(), AllocError>
+        ensures { OnOk result ((s : ℕ) → link_at self.new s ≡ (if site == s then link_at ahead.now site else link_at self.old s)) }
+    {
+        match ahead.links.get(&site) {
+            Some(kept) => put_kept(&mut self.links, site, kept),
+            None => {
+                remove(&mut self.links, site);
+                Ok(())
+            }
+        }
     }
 
     /// Removes the links of these sites. A site without one stays without. Takes no memory.
@@ -153,7 +189,10 @@ fn push_row<T: Drop>(rows: &mut Vec<(SiteNo, T)>, site: SiteNo, value: T) -> Res
 }
 
 /// What is kept of each row. Want of memory is an error.
-fn kept_rows(alloc: Global, rows: &[(SiteNo, Link)]) -> Result<Vec<(SiteNo, KeptLink)>, AllocError>
+pub fn kept_rows(
+    alloc: Global,
+    rows: &[(SiteNo, Link)],
+) -> Result<Vec<(SiteNo, KeptLink)>, AllocError>
     ensures { IfOk result (λ kept. kept.items ≡ rows.now) }
 {
     let mut kept = Vec::with_capacity(alloc, rows.len())?;
@@ -172,4 +211,37 @@ fn put_all(links: &mut IndexMap<SiteNo, KeptLink>, rows: Vec<(SiteNo, KeptLink)>
     for row in rows {
         links.insert(row.0, row.1).unwrap();
     }
+}
+
+/// Puts the links of the rows in place of those that the sites have. Want of memory is an error; some of the rows are put then.
+fn put_kept_rows(
+    links: &mut IndexMap<SiteNo, KeptLink>,
+    rows: &[(SiteNo, KeptLink)],
+) -> Result<(), AllocError>
+    ensures { OnOk result ((s : ℕ) → get nat_eq links.new s ≡ link_with rows.now (get nat_eq links.old s) s) }
+{
+    for row in rows {
+        put_kept(links, row.0, &row.1)?;
+    }
+    Ok(())
+}
+
+/// Puts the link in place of the one that the site has. Want of memory is an error.
+fn put_kept(
+    links: &mut IndexMap<SiteNo, KeptLink>,
+    site: SiteNo,
+    kept: &KeptLink,
+) -> Result<(), AllocError>
+    ensures { OnOk result ((s : ℕ) → get nat_eq links.new s ≡ (if site == s then Some kept.now else get nat_eq links.old s)) }
+{
+    let copy = kept.clone()?;
+    links.insert(site, copy)?;
+    Ok(())
+}
+
+/// Removes the site's link. Takes no memory.
+fn remove(links: &mut IndexMap<SiteNo, KeptLink>, site: SiteNo)
+    ensures { (s : ℕ) → get nat_eq links.new s ≡ (if site == s then None else get nat_eq links.old s) }
+{
+    links.swap_remove(&site);
 }

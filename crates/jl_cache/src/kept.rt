@@ -1,20 +1,25 @@
 //! Links as they are kept.
 
-ghost use Rattle.std.specs.Prelude.{◌≡◌, IfOk};
+ghost use Rattle.std.specs.Prelude.{◌≡◌, Some, None, IfOk};
+ghost use Rattle.jl_types.specs.Happenings.Fast as fast;
+ghost use Rattle.jl_cache.specs.Links.{is_mega};
 
-use jl_types::{Link, MethodId, Outcome, Table, TableKind, Throwable};
+use crate::answers::{direct_answer, table_answer};
+use jl_pages::Again;
+use jl_types::{Answer, Fast, Link, MethodId, Outcome, Recv, Table, TableKind, Throwable};
 use std::alloc::{AllocError, Global};
 use std::marker::Model;
 use std::sync::Arc;
 
-/// A link as it is kept. A table stands apart, and copies share it, so that a link takes little room. A clause sees the link.
-pub struct KeptLink {
+/// A site's link as it is kept, or none, in sixteen bytes: a table stands apart, and copies share it. A clause sees the link or none.
+pub struct KeptSlot {
     kept: Kept,
 }
 
 /// What is kept of each link.
 #[derive(Drop)]
 enum Kept {
+    Nothing,
     Fault(Throwable),
     Plain(MethodId),
     Direct(Outcome),
@@ -23,41 +28,59 @@ enum Kept {
 }
 
 /// Written out, so that what drops one makes one call of it and doesn't take apart what it holds.
-impl Drop for KeptLink {
+impl Drop for KeptSlot {
     fn drop(self) {
-        let KeptLink { kept: _kept } = self;
+        let KeptSlot { kept: _kept } = self;
     }
 }
 
-impl Model for KeptLink {
+impl Model for KeptSlot {
+    ghost use Rattle.std.specs.Prelude.{Option};
     ghost use Rattle.jl_types.specs.declared.link.Link.{Link};
     ghost use Rattle.jl_cache.specs.Means.Kept.{link_of};
 
-    ghost Value = { Link };
+    ghost Value = { Option Link };
 
-    ghost view = { λ k. link_of k.kept };
+    ghost view = { λ s. link_of s.kept };
 }
 
-/// The same link once more, with the same table. More copies than can be counted are an error.
-impl Clone for KeptLink {
-    ghost is_clone = { λ kept copy. copy ≡ kept };
+/// The same once more, with the same table. More copies than can be counted are an error.
+impl Clone for KeptSlot {
+    ghost is_clone = { λ slot copy. copy ≡ slot };
 
-    fn clone(&self) -> Result<KeptLink, AllocError> {
+    fn clone(&self) -> Result<KeptSlot, AllocError> {
         let kept = match &self.kept {
+            Kept::Nothing => Kept::Nothing,
             Kept::Fault(throwable) => Kept::Fault(*throwable),
             Kept::Plain(method) => Kept::Plain(*method),
             Kept::Direct(outcome) => Kept::Direct(*outcome),
             Kept::Table(kind, table) => Kept::Table(*kind, Arc::try_clone(table)?),
             Kept::Mega => Kept::Mega,
         };
-        Ok(KeptLink { kept })
+        Ok(KeptSlot { kept })
     }
 }
 
-impl KeptLink {
+/// As it is cloned: it takes no memory.
+impl Again for KeptSlot {
+    fn again(&self, _alloc: Global) -> Result<KeptSlot, AllocError> {
+        self.clone()
+    }
+}
+
+impl KeptSlot {
+    /// No link.
+    pub fn nothing() -> KeptSlot
+        ensures { result ≡ None }
+    {
+        KeptSlot {
+            kept: Kept::Nothing,
+        }
+    }
+
     /// What is kept of the link. Want of memory is an error.
-    pub fn new(alloc: Global, link: &Link) -> Result<KeptLink, AllocError>
-        ensures { IfOk result (λ kept. kept ≡ link.now) }
+    fn new(alloc: Global, link: &Link) -> Result<KeptSlot, AllocError>
+        ensures { IfOk result (λ slot. slot ≡ Some link.now) }
     {
         let kept = match link {
             Link::Fault(throwable) => Kept::Fault(*throwable),
@@ -66,19 +89,123 @@ impl KeptLink {
             Link::Table(kind, table) => Kept::Table(*kind, Arc::new(alloc, *table)?),
             Link::Mega => Kept::Mega,
         };
-        Ok(KeptLink { kept })
+        Ok(KeptSlot { kept })
+    }
+
+    /// The link, if there is one. Takes no memory.
+    pub fn get(&self) -> Option<Link>
+        ensures { result ≡ self.now }
+    {
+        match &self.kept {
+            Kept::Nothing => None,
+            Kept::Fault(throwable) => Some(Link::Fault(*throwable)),
+            Kept::Plain(method) => Some(Link::Plain(*method)),
+            Kept::Direct(outcome) => Some(Link::Direct(*outcome)),
+            Kept::Table(kind, table) => Some(Link::Table(*kind, **table)),
+            Kept::Mega => Some(Link::Mega),
+        }
+    }
+
+    /// Whether there is a link, and a megamorphic one. Takes no memory.
+    pub fn is_mega(&self) -> bool
+        ensures { result ≡ is_mega self.now }
+    {
+        match &self.kept {
+            Kept::Mega => true,
+            Kept::Nothing | Kept::Fault(_) | Kept::Plain(_) | Kept::Direct(_) => false,
+            Kept::Table(_, _) => false,
+        }
+    }
+
+    /// What a call is answered by the link, where there are so many classes: nothing where there is none, where it is megamorphic, and
+    /// where the answer hangs on the receiver and its class is newer. Takes no memory.
+    pub fn answer(&self, classes: usize, recv: Recv) -> Fast
+        ensures { result ≡ fast.fast_answer self.now classes recv }
+    {
+        match &self.kept {
+            Kept::Nothing => Fast::Miss,
+            Kept::Fault(throwable) => Fast::Now(Answer::Throws(*throwable)),
+            Kept::Plain(method) => Fast::Now(Answer::Run(*method)),
+            Kept::Direct(outcome) => direct_answer(classes, *outcome, recv),
+            Kept::Table(kind, table) => table_answer(classes, *kind, table, recv),
+            Kept::Mega => Fast::Miss,
+        }
+    }
+}
+
+/// A link as it is kept, in sixteen bytes: a table stands apart, and copies share it. A clause sees the link.
+pub struct KeptLink {
+    slot: KeptSlot,
+}
+
+/// Written out, so that what drops one makes one call of it and doesn't take apart what it holds.
+impl Drop for KeptLink {
+    fn drop(self) {
+        let KeptLink { slot: _slot } = self;
+    }
+}
+
+impl Model for KeptLink {
+    ghost use Rattle.std.specs.Prelude.{◌≡◌, true, is_some};
+    ghost use Rattle.jl_types.specs.declared.link.Link.{Link};
+    ghost use Rattle.jl_cache.specs.Means.Kept.{link_in};
+
+    ghost Value = { Link };
+
+    ghost view = { λ k. link_in k.slot };
+
+    ghost invariant = { λ k. is_some k.slot ≡ true };
+}
+
+/// The same link once more, with the same table. More copies than can be counted are an error.
+impl Clone for KeptLink {
+    ghost is_clone = { λ kept copy. copy ≡ kept };
+
+    fn clone(&self) -> Result<KeptLink, AllocError> {
+        Ok(KeptLink {
+            slot: self.slot.clone()?,
+        })
+    }
+}
+
+impl KeptLink {
+    /// What is kept of the link. Want of memory is an error.
+    pub fn new(alloc: Global, link: &Link) -> Result<KeptLink, AllocError>
+        ensures { IfOk result (λ kept. kept ≡ link.now) }
+    {
+        Ok(KeptLink {
+            slot: KeptSlot::new(alloc, link)?,
+        })
     }
 
     /// The link. Takes no memory.
     pub fn get(&self) -> Link
         ensures { result ≡ self.now }
     {
-        match &self.kept {
-            Kept::Fault(throwable) => Link::Fault(*throwable),
-            Kept::Plain(method) => Link::Plain(*method),
-            Kept::Direct(outcome) => Link::Direct(*outcome),
-            Kept::Table(kind, table) => Link::Table(*kind, **table),
-            Kept::Mega => Link::Mega,
+        match self.slot.get() {
+            Some(link) => link,
+            None => Link::Mega,
         }
+    }
+
+    /// The same link for a slot, with the same table. More copies than can be counted are an error.
+    pub fn slot(&self) -> Result<KeptSlot, AllocError>
+        ensures { IfOk result (λ slot. slot ≡ Some self.now) }
+    {
+        self.slot.clone()
+    }
+
+    /// Whether it is megamorphic. Takes no memory.
+    pub fn is_mega(&self) -> bool
+        ensures { result ≡ is_mega (Some self.now) }
+    {
+        self.slot.is_mega()
+    }
+}
+
+/// A kept link is printed as the link.
+impl std::fmt::Debug for KeptLink {
+    fn fmt<W: std::fmt::Write>(&self, f: &mut std::fmt::Formatter<W>) -> std::fmt::Result {
+        write!(f, "{:?}", self.get())
     }
 }

@@ -8,6 +8,6 @@ mod answers;
 mod cache;
 mod kept;
 
-pub use answers::{fast, fast_answer, link_answer};
-pub use cache::Cache;
-pub use kept::KeptLink;
+pub use answers::{direct_answer, fast, table_answer};
+pub use cache::{Cache, kept_rows};
+pub use kept::{KeptLink, KeptSlot};

@@ -6,6 +6,7 @@ use Rattle.jl_types.proofs.link.Link.TheSendSync as of_links
 use Rattle.jl_types.proofs.Crossing.{target_send, target_sync}
 use Rattle.jl_relink.proofs.Crossing.{world_send, world_sync}
 use Rattle.jl_cache.proofs.cache.Cache.TheSendSync as of_caches
+use Rattle.jl_cache.proofs.kept.KeptLink.TheSendSync as of_kept
 use Rattle.jl_deps.proofs.index.Index.TheSendSync as of_indexes
 use Rattle.jl_core.specs.contracts.log.Logged as Logged
 use Rattle.jl_core.specs.contracts.log.Entry as Entry
@@ -14,10 +15,10 @@ use Rattle.jl_core.specs.contracts.machine.Core as Core
 use Rattle.jl_core.specs.contracts.plan.Planned as Planned
 
 logged_send : IsSend Logged.the_row
-logged_send = search (target_send, of_names.the_send, of_links.the_send, sendable, of_std) depth 60 fits 100000
+logged_send = search (target_send, of_names.the_send, of_kept.the_send, sendable, of_std) depth 60 fits 100000
 
 logged_sync : IsSync Logged.the_row
-logged_sync = search (target_sync, of_names.the_sync, of_links.the_sync, sendable, of_std) depth 60 fits 100000
+logged_sync = search (target_sync, of_names.the_sync, of_kept.the_sync, sendable, of_std) depth 60 fits 100000
 
 pub entry_send : IsSend Entry.the_row
 entry_send = search (logged_send, logged_sync, sendable, of_std) depth 20

@@ -1,6 +1,6 @@
 -- An instance that is one event behind another one, and what it is once the event was replayed.
 use Rattle.std.specs.Prelude.{◌≡◌, ℕ, zero, suc, ◌+◌, ◌≤◌, ◌&&◌, Bool, true, false, List, [], ◌∷◌, ◌++◌, map, take, length}
-use Rattle.std.specs.Prelude.{slice_get, Option, Some, None, option_map, is_some, IsOk, Ok}
+use Rattle.std.specs.Prelude.{slice_get, Option, Some, None, option_map, is_some, IsOk, Ok, if◌then◌else◌}
 use Rattle.std.specs.List.{cons_option}
 use Rattle.std.proofs.Common.{refl, ap, sym, subst, ◌∙◌, arith}
 use Rattle.std.proofs.lemmas.List.{map-append}
@@ -23,8 +23,11 @@ use Rattle.jl_events.specs.Accepted.{event_of}
 use Rattle.jl_events.specs.Changes.{IsNext}
 use Rattle.jl_core.specs.State.{State, events, world_of, AreAnswered}
 use Rattle.jl_core.specs.Logs.{Entry, told, are_told, shown, IsLogged}
-use Rattle.jl_core.specs.Means.Replays.{IsBehind, IsFurther}
+use Rattle.jl_core.specs.Means.Replays.{AreDropped, IsBehind, IsFurther}
+use Rattle.jl_core.specs.Means.Touched.{has}
 use Rattle.jl_core.proofs.LogLaws.{length_told}
+use Rattle.jl_core.proofs.ToldLaws.{installs_so}
+use Rattle.jl_core.proofs.SlotLaws.{left_after}
 use Rattle.jl_core.proofs.HistoryLaws.{core_of, IsExact, exact_links, shown_further, told_further}
 
 -- ---- what an entry tells
@@ -182,6 +185,14 @@ module _ (m : ℕ) (old : World) (links : List (ℕ × Link)) (log : List Entry)
           ∙ (λ i. kept (installs s e) (sym (exact.links s) i) (scratch (sym (is_world ∙ ap world_after events_further) i) s));
       ahead_indexed = ahead_indexed;
     }
+
+    -- and what is gone
+    pub are_gone : AreDropped entry links linked
+    unfolding is_next
+    are_gone s none =
+        (λ i. if has s ((ap (λ (r : Reply). r.dropped) tells.1 ∙ sym judged.1) i) then None else exact.links s i)
+        ∙ left_after h e s (installs_so ahead.classes.rows e s entry.event tells.0 ∙ none)
+        ∙ ap (λ (es : List Event). installed es s) (sym events_further) ∙ sym (are_links s)
 
   -- ---- once it has followed
 

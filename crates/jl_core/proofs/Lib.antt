@@ -4,6 +4,7 @@ pub mod RetireLaws
 pub mod StepLaws
 pub mod RetireSteps
 pub mod LogLaws
+pub mod ToldLaws
 pub mod HistoryLaws
 pub mod HeadlineLaws
 pub mod Rows

@@ -1,49 +1,32 @@
 -- An accepted event once more: what it needs, and what it leaves as it was.
-use Rattle.std.specs.Prelude.{◌≡◌, ℕ, Bool, true, false, List, map, Option, Some, None, option_map, slice_get, if◌then◌else◌}
-use Rattle.std.proofs.Common.{refl, ap, sym, ◌∙◌}
+use Rattle.std.specs.Prelude.{◌≡◌, ℕ, Bool, true, false, List, map, length, Option, Some, None, option_map, slice_get, if◌then◌else◌}
+use Rattle.std.proofs.Common.{refl, ap, sym, subst, ◌∙◌}
 use Rattle.std.proofs.lemmas.Option.{same_Some}
+use Rattle.jl_class.specs.Class.{ClassFile}
 use Rattle.jl_types.specs.declared.link.Link.{Link}
 use Rattle.jl_types.specs.Happenings.Event.{Event}
 use Rattle.jl_types.specs.declared.event.EventOf.TheVariants as event
 use Rattle.jl_types.specs.Values.World.{Class, World}
 use Rattle.jl_types.specs.Linkage.Links.{scratch}
+use Rattle.jl_types.specs.Happenings.Events.{step}
 use Rattle.jl_types.specs.Happenings.History.{installs, kept}
+use Rattle.jl_relink.specs.Laws.{IsInOrder}
 use Rattle.jl_types.specs.declared.key.Key.{Key}
 use Rattle.jl_types.specs.Happenings.Footprints.{footprint, keys, retires}
 use Rattle.jl_cache.specs.Links.{link_at}
 use Rattle.jl_deps.specs.Indexes.{footprint_at, touched_by, AreRising, IsIndex}
 use Rattle.jl_settle.specs.Settling.{HasChanged, defined_by}
-use Rattle.jl_settle.proofs.SettleLaws.{other}
+use Rattle.jl_settle.proofs.SettleLaws.{other, rests}
+use Rattle.jl_events.specs.Changes.{IsAcceptable}
 use Rattle.jl_events.specs.Accepted.{Accepted, event_of}
-use Rattle.jl_core.specs.Means.Changes.{installs_at, retires_at}
+use Rattle.jl_core.specs.Means.Changes.{AreScratch, installs_at, retires_at}
 use Rattle.jl_core.specs.Means.Replays.{IsFurther, IsUntouched}
 use Rattle.jl_core.specs.Means.Touched.{has}
 use Rattle.jl_core.proofs.RetireLaws.{retires_so, links_left, index_left, kept_left}
 use Rattle.jl_core.proofs.StepLaws.{none_touched}
 use Rattle.jl_core.proofs.PlanLaws.{installs_has}
 
--- ---- what the event installs
-
-module _ (rows : List Class) (e : Event) (s : ℕ) where
-  as_event : (x : Event) (b : Bool) → Some x ≡ Some e → installs s x ≡ b → installs s e ≡ b
-  as_event x b is none = ap (installs s) (sym (same_Some x e is)) ∙ none
-
-  of_row : (loader : ℕ) (o : Option Class) → option_map (λ (row : Class). event.Define loader row.file) o ≡ Some e → installs s e ≡ false
-  of_row loader None is = absurd (cc is)
-  of_row loader (Some row) is = as_event (event.Define loader row.file) false is refl
-
-  pub installs_so : (told : Accepted) → event_of rows told ≡ Some e → installs s e ≡ installs_at s told
-  installs_so event.NewLoader is = as_event event.NewLoader false is refl
-  installs_so (event.Define loader c) is = of_row loader (slice_get rows c) is
-  installs_so (event.Delegate loader name to) is = as_event (event.Delegate loader name to) false is refl
-  installs_so (event.Request place) is = as_event (event.Request place) false is refl
-  installs_so (event.NewCallSite kind ty target) is = as_event (event.NewCallSite kind ty target) false is refl
-  installs_so (event.SetTarget c target) is = as_event (event.SetTarget c target) false is refl
-  installs_so event.NewSwitch is = as_event event.NewSwitch false is refl
-  installs_so (event.Invalidate points) is = as_event (event.Invalidate points) false is refl
-  installs_so (event.Bind site c) is = as_event (event.Bind site c) false is refl
-  installs_so (event.Install links) is = as_event (event.Install links) (installs_at s (event.Install links)) is refl
-  installs_so (event.Retire loader) is = as_event (event.Retire loader) false is refl
+-- ---- an install
 
 -- an install changes no other sites
 pub install_untouched : (w : World) (rows : List Class) (index : List (ℕ × List Key)) (e : Event) (told : Accepted) (links : List (ℕ × Link))
@@ -53,6 +36,57 @@ install_untouched w rows index e told links is tells s none =
       ap (λ (x : Event). has s (touched_by index (keys w x))) (sym same) ∙ ap (has s) (none_touched index),
       ap (installs s) (sym same) ∙ installs_has s links ∙ none,
     )
+
+-- ---- once a class was defined
+
+module _ (old ahead : World) (links : List (ℕ × Link)) (index : List (ℕ × List Key)) (loader : ℕ) (file : ClassFile)
+    (order : IsInOrder old) (accepted : IsAcceptable old (event.Define loader file)) (stepped : ahead ≡ step old (event.Define loader file))
+    (were_scratch : AreScratch old links) (rising : AreRising index) (indexed : IsIndex old (link_at links) index) where
+  defined : HasChanged ahead (keys old (event.Define loader file)) (Some (length old.classes.rows)) (link_at links) index
+  defined = record {
+    before = old;
+    event = event.Define loader file;
+    step = stepped;
+    order = order;
+    accepted = accepted;
+    left = λ s l is. refl;
+    keys_are = refl;
+    defined_is = refl;
+    scratch = were_scratch;
+    index_is = indexed;
+  }
+
+  -- each link rests on what it rested on
+  rests_on : (s : ℕ) → footprint_at index s ≡ option_map (λ l. footprint ahead s) (link_at links s)
+  rests_on s = by_touched (has s (touched_by index (keys old (event.Define loader file)))) refl
+    where
+      by_touched : (b : Bool) → has s (touched_by index (keys old (event.Define loader file))) ≡ b
+          → footprint_at index s ≡ option_map (λ l. footprint ahead s) (link_at links s)
+      by_touched true is =
+          rests ahead (keys old (event.Define loader file)) (link_at links) index rising (length old.classes.rows) defined s is
+      by_touched false is =
+          sym (other ahead (keys old (event.Define loader file)) (Some (length old.classes.rows)) (link_at links) index defined rising s is).1
+
+-- the index once the sites whose links went were taken out
+pub definition_followed : (old ahead : World) (told : Accepted) (links linked after : List (ℕ × Link)) (index far near : List (ℕ × List Key))
+    → IsFurther old ahead told links linked index far → (loader c : ℕ) → told ≡ event.Define loader c → (gone : List ℕ)
+    → ((s : ℕ) → link_at after s ≡ (if has s gone then None else link_at links s))
+    → ((s : ℕ) → footprint_at near s ≡ (if has s gone then None else footprint_at index s))
+    → IsIndex ahead (link_at after) near
+definition_followed old ahead told links linked after index far near further loader c is gone left taken s =
+    taken s ∙ by_gone (has s gone) ∙ ap (option_map (λ l. footprint ahead s)) (sym (left s))
+  where
+    by_row : (o : Option Class) → option_map {U = Event} (λ (row : Class). event.Define loader row.file) o ≡ Some further.next.event
+        → footprint_at index s ≡ option_map (λ l. footprint ahead s) (link_at links s)
+    by_row None tells = absurd (cc tells)
+    by_row (Some row) tells =
+        let same : event.Define loader row.file ≡ further.next.event = same_Some (event.Define loader row.file) further.next.event tells in
+        rests_on old ahead links index loader row.file further.order (subst (IsAcceptable old) (sym same) further.next.accepted)
+        (further.next.step ∙ ap (step old) (sym same)) further.were_scratch further.rising further.indexed s
+
+    by_gone : (b : Bool) → (if b then None else footprint_at index s) ≡ option_map (λ l. footprint ahead s) (if b then None else link_at links s)
+    by_gone true = refl
+    by_gone false = by_row (slice_get ahead.classes.rows c) (ap (event_of ahead.classes.rows) (sym is) ∙ further.next.tells)
 
 -- ---- what is left once retired sites were dropped
 

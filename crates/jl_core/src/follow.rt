@@ -9,7 +9,7 @@ ghost use Rattle.jl_deps.specs.Indexes.{footprint_at, IsIndex};
 ghost use Rattle.jl_events.specs.Accepted.{event_of};
 ghost use Rattle.jl_events.specs.Changes.{IsNext};
 ghost use Rattle.jl_core.specs.Means.Changes.{AreScratch, retires_at};
-ghost use Rattle.jl_core.specs.Means.Replays.{IsFurther, IsUntouched};
+ghost use Rattle.jl_core.specs.Means.Replays.{AreDropped, IsFurther, IsUntouched};
 ghost use Rattle.jl_core.specs.Means.Touched.{has};
 
 use crate::log::Entry;
@@ -40,6 +40,7 @@ pub(crate) fn follow(
     entry: &Entry,
 ) -> Result<(), AllocError>
     requires further { IsFurther world.old.value world_ahead.now.value entry.now.event links.old links_ahead.now index.old index_ahead.now }
+    requires gone { AreDropped entry.now links.old links_ahead.now }
     requires few { length world.old.value.places < 2 ^ 32 }
     ensures world { OnOk result (world.new.value ≡ world_ahead.now.value) }
     ensures links { OnOk result ((s : ℕ) → link_at links.new s ≡ link_at links_ahead.now s) }
@@ -54,16 +55,52 @@ pub(crate) fn follow(
         index,
         links_ahead,
         index_ahead,
-        entry.event(),
+        entry,
     )?;
     follow_world(world, alloc, world_ahead, entry.event())?;
     log.push(entry.share()?)?;
     Ok(())
 }
 
-/// The links and their index come after the event, which leads from the one world to the one ahead. Want of memory is an error; what is
-/// there is of no use then.
+/// The links and their index come after the entry's event, which leads from the one world to the one ahead. What links rest on stays
+/// where a class was defined, so that the links that it dropped are all that is looked at then. Want of memory is an error; what is there
+/// is of no use then.
 fn follow_links(
+    alloc: Global,
+    world: &World,
+    ahead: &World,
+    links: &mut Cache,
+    index: &mut Index,
+    links_ahead: &Cache,
+    index_ahead: &Index,
+    entry: &Entry,
+) -> Result<(), AllocError>
+    requires further { IsFurther world.now ahead.now entry.now.event links.old links_ahead.now index.old index_ahead.now }
+    requires gone { AreDropped entry.now links.old links_ahead.now }
+    requires few { length world.now.places < 2 ^ 32 }
+    ensures links { OnOk result ((s : ℕ) → link_at links.new s ≡ link_at links_ahead.now s) }
+    ensures index { OnOk result (IsIndex ahead.now (link_at links.new) index.new) }
+{
+    match entry.event() {
+        Accepted::Define(_, _) => {
+            forget(alloc, links, index, entry.reply().dropped.as_slice())?;
+            Ok(())
+        }
+        event => follow_touched(
+            alloc,
+            world,
+            ahead,
+            links,
+            index,
+            links_ahead,
+            index_ahead,
+            event,
+        ),
+    }
+}
+
+/// The same for any event, at each site that it touches.
+fn follow_touched(
     alloc: Global,
     world: &World,
     ahead: &World,

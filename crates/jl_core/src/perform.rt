@@ -14,13 +14,13 @@ ghost use Rattle.jl_core.specs.Means.Steps.{AreGone, AreRetired, IsSound, IsLed,
 ghost use Rattle.jl_core.specs.Means.Touched.{AreTouched};
 
 use crate::log::Entry;
-use jl_cache::Cache;
+use jl_cache::{Cache, KeptLink};
 use jl_deps::{Index, keys_of};
 use jl_events::{Accepted, defined_class, step_world};
 use jl_names::Seq;
 use jl_relink::World;
 use jl_settle::{forget, install_rows, settle, sites_of};
-use jl_types::{Event, Key, Link, LoaderId, Made, Reply, SiteNo, Work};
+use jl_types::{Event, Key, LoaderId, Made, Reply, SiteNo, Work};
 use std::alloc::{AllocError, Global};
 use std::sync::Arc;
 
@@ -121,7 +121,7 @@ fn install_links(
     world: &World,
     links: &mut Cache,
     index: &mut Index,
-    rows: &[(SiteNo, Link)],
+    rows: &[(SiteNo, KeptLink)],
 ) -> Result<Vec<SiteNo>, AllocError>
     requires { (keys : List keys.Key) × IsLed world.now keys (events.Install rows.now) links.old index.old }
     ensures links { OnOk result ((s : ℕ) → link_at links.new s

@@ -12,7 +12,7 @@ ghost use Rattle.jl_core.specs.Means.Touched.{touched_by, AreTouched, slot_at};
 use crate::instance::{Instance, entry_at};
 use crate::log::Entry;
 use crate::perform::each_once;
-use jl_cache::Cache;
+use jl_cache::{Cache, KeptLink};
 use jl_events::Accepted;
 use jl_types::{Link, SiteNo};
 use std::alloc::{AllocError, Global};
@@ -55,7 +55,7 @@ fn listed(alloc: Global, entry: &Entry) -> Result<Vec<SiteNo>, AllocError>
 /// These sites, and behind them those of the links. Want of memory is an error.
 pub(crate) fn with_sites(
     sites: Vec<SiteNo>,
-    rows: &[(SiteNo, Link)],
+    rows: &[(SiteNo, KeptLink)],
 ) -> Result<Vec<SiteNo>, AllocError>
     ensures { IfOk result (λ all. all.items ≡ sites.items ++ map (λ row. row.0) rows.now) }
 {

@@ -3,12 +3,13 @@
 ghost use Rattle.std.specs.Prelude.{◌≡◌};
 ghost use Rattle.jl_events.specs.Changes.{class_of};
 
+use jl_cache::KeptLink;
 use jl_names::Seq;
-use jl_types::{ClassId, EventOf, Link, SiteNo};
+use jl_types::{ClassId, EventOf, SiteNo};
 
 /// An event that was accepted. A definition names the class that it made, which keeps its file for good, so that there is no second
-/// copy of the file.
-pub type Accepted = EventOf<ClassId, Seq<(SiteNo, Link)>>;
+/// copy of the file; an install has its links as they are kept, so that there is no second copy of a table.
+pub type Accepted = EventOf<ClassId, Seq<(SiteNo, KeptLink)>>;
 
 /// The class that the event defined, if it is a definition.
 pub fn defined_class(event: &Accepted) -> Option<ClassId>

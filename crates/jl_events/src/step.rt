@@ -1,7 +1,8 @@
 //! The world after an accepted event, and what the log keeps of the event.
 
-ghost use Rattle.std.specs.Prelude.{◌<◌, ◌^◌, length, IfOk};
+ghost use Rattle.std.specs.Prelude.{◌≡◌, ◌<◌, ◌^◌, length, IfOk};
 ghost use Rattle.jl_types.specs.declared.event.EventOf.TheVariants as events;
+ghost use Rattle.jl_types.specs.declared.event.Made.TheVariants as made;
 ghost use Rattle.jl_events.specs.Changes.{IsAcceptable, IsStepped};
 
 use crate::accepted::Accepted;
@@ -9,10 +10,13 @@ use crate::changes::{
     add_binding, add_call_site, add_class, add_delegation, add_loader, add_place, add_switch,
     put_invalid, put_target, retire_loader,
 };
+use jl_cache::kept_rows;
 use jl_class::ClassFile;
 use jl_names::{Name, Seq};
 use jl_relink::World;
-use jl_types::{CallSiteId, CallSiteKind, Event, LoaderId, Made, Place, SiteNo, SwitchId, Target};
+use jl_types::{
+    CallSiteId, CallSiteKind, Event, Link, LoaderId, Made, Place, SiteNo, SwitchId, Target,
+};
 use std::alloc::{AllocError, Global};
 use std::sync::Arc;
 
@@ -44,7 +48,7 @@ fn step_copy(
     ensures { IfOk result (λ told. IsStepped world.old.value world.new.value event told.0 told.1) }
 {
     match event {
-        Event::Install(rows) => Ok((Accepted::Install(rows), Made::Nothing)),
+        Event::Install(rows) => install(alloc, rows.as_slice()),
         event => {
             let mut copy = world.copy(alloc)?;
             let told = step_owned(&mut copy, alloc, event)?;
@@ -80,7 +84,7 @@ fn step_owned(
         }
         Event::Invalidate(points) => Ok(invalidate(world, points)),
         Event::Bind(site, call_site) => bind(world, site, call_site),
-        Event::Install(rows) => Ok((Accepted::Install(rows), Made::Nothing)),
+        Event::Install(rows) => install(alloc, rows.as_slice()),
         Event::Retire(loader) => retire(world, alloc, loader),
     }
 }
@@ -176,6 +180,14 @@ fn bind(
 {
     add_binding(world, site, call_site)?;
     Ok((Accepted::Bind(site, call_site), Made::Nothing))
+}
+
+/// What the log keeps of an install of these rows, which changes no world. Want of memory is an error.
+fn install(alloc: Global, rows: &[(SiteNo, Link)]) -> Result<(Accepted, Made), AllocError>
+    ensures { IfOk result (λ told. (told.0 ≡ events.Install rows.now) × (told.1 ≡ made.Nothing)) }
+{
+    let kept = kept_rows(alloc, rows)?;
+    Ok((Accepted::Install(Seq::of(kept)), Made::Nothing))
 }
 
 /// The same for a retirement.

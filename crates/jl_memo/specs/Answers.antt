@@ -11,25 +11,17 @@ use Rattle.jl_types.specs.declared.answer.Recv.TheVariants.{Null, Of}
 use Rattle.jl_types.specs.declared.answer.Fast.{Fast}
 use Rattle.jl_types.specs.declared.answer.Fast.TheVariants.{Now, Miss}
 use Rattle.jl_types.specs.declared.link.Link.{Link}
-use Rattle.jl_types.specs.declared.link.Link.TheVariants.{Fault, Plain, Direct, Table, Mega}
 use Rattle.jl_types.specs.Values.World.{World, Classes}
 use Rattle.jl_types.specs.Values.Members.{has_class, is_present, is_concrete}
 use Rattle.jl_types.specs.Linkage.Stages.{Stage, Waits, Fails, Calls, Selects, stage}
 use Rattle.jl_types.specs.Linkage.Calls.{answered, dispatch}
 use Rattle.jl_types.specs.Happenings.Fast.{fast_answer}
 use Rattle.jl_hierarchy.specs.Constancy.{AreInOrder}
+pub use Rattle.jl_cache.specs.Links.{is_mega}
 use Rattle.jl_memo.specs.declared.set.Set.{Set}
 use Rattle.jl_memo.specs.Memos.{remembered, put}
 
 -- ---- answers
-
-abbrev pub is_mega : Option Link → Bool
-is_mega None = false
-is_mega (Some (Fault throwable)) = false
-is_mega (Some (Plain m)) = false
-is_mega (Some (Direct outcome)) = false
-is_mega (Some (Table kind rows)) = false
-is_mega (Some Mega) = true
 
 abbrev pub outcome_answer : Option Outcome → Fast
 outcome_answer None = Miss

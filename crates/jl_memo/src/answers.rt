@@ -1,22 +1,22 @@
 //! Answers by a link, and at a megamorphic one by a memo.
 
-ghost use Rattle.std.specs.Prelude.{◌≡◌, Some};
+ghost use Rattle.std.specs.Prelude.{◌≡◌};
 ghost use Rattle.jl_memo.specs.Answers as by_memo;
 
 use crate::memo::Memo;
 use crate::set::Row;
-use jl_cache::fast_answer;
+use jl_cache::KeptSlot;
 use jl_types::{Answer, ClassId, Fast, Link, Outcome, Recv, SiteNo, Throwable};
 
-/// What a call of the site is answered at once by its link, where there are so many classes; at a megamorphic link by what is
+/// What a call of the site is answered at once by what stands there, where there are so many classes; at a megamorphic link by what is
 /// remembered. Takes no memory.
-pub fn answer(memo: &Memo, link: &Link, classes: usize, site: SiteNo, recv: Recv) -> Fast
-    ensures { result ≡ by_memo.answer_with memo.now (Some link.now) classes site recv }
+pub fn answer(memo: &Memo, slot: &KeptSlot, classes: usize, site: SiteNo, recv: Recv) -> Fast
+    ensures { result ≡ by_memo.answer_with memo.now slot.now classes site recv }
 {
-    if is_mega(link) {
+    if slot.is_mega() {
         return remembered_answer(memo, site, recv);
     }
-    fast_answer(link, classes, recv)
+    slot.answer(classes, recv)
 }
 
 /// What a call of the site is answered by what is remembered alone. Takes no memory.
@@ -39,25 +39,15 @@ pub fn told(memo: &mut Memo, link: &Option<Link>, site: SiteNo, recv: Recv, answ
     }
 }
 
-/// Whether the link is megamorphic.
-fn is_mega(link: &Link) -> bool
-    ensures { result ≡ by_memo.is_mega (Some link.now) }
-{
-    matches!(link, Link::Mega)
-}
-
 /// Whether there is a link, and a megamorphic one.
 fn is_mega_or_none(link: &Option<Link>) -> bool
     ensures { result ≡ by_memo.is_mega link.now }
 {
-    match link {
-        Some(link) => is_mega(link),
-        None => false,
-    }
+    matches!(link, Some(Link::Mega))
 }
 
-/// What is remembered of the call.
-fn remembered_answer(memo: &Memo, site: SiteNo, recv: Recv) -> Fast
+/// What a call of a site with a megamorphic link is answered by what is remembered. Takes no memory.
+pub fn remembered_answer(memo: &Memo, site: SiteNo, recv: Recv) -> Fast
     ensures { result ≡ by_memo.remembered_answer memo.now site recv }
 {
     match recv {

@@ -9,7 +9,7 @@ mod laws;
 mod memo;
 mod set;
 
-pub use answers::{answer, recalled, told};
+pub use answers::{answer, recalled, remembered_answer, told};
 pub use laws::{what_is_put_is_remembered, what_is_remembered_stays};
 pub use memo::Memo;
 pub use set::{Row, Set};

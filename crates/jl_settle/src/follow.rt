@@ -8,7 +8,7 @@ ghost use Rattle.jl_deps.specs.Indexes.{footprint_at};
 
 use jl_cache::Cache;
 use jl_deps::{Footprint, Index, copy_footprint};
-use jl_types::{Link, SiteNo};
+use jl_types::SiteNo;
 use std::alloc::{AllocError, Global};
 
 /// These sites have the links and the footprints that they have ahead. Nothing is evaluated, and no footprint is looked up.
@@ -30,23 +30,17 @@ pub fn take_over(
         ≡ (if list_any (λ t. t == s) sites.now then footprint_at index_ahead.now s else footprint_at index.old s)) }
 {
     for site in sites {
-        take_link(links, *site, links_ahead.get(*site))?;
+        take_link(links, *site, links_ahead)?;
         take_footprint(alloc, index, *site, index_ahead.footprint(*site))?;
     }
     Ok(())
 }
 
-/// The site has this link, or none. Want of memory is an error; the links are of no use then.
-fn take_link(links: &mut Cache, site: SiteNo, link: Option<Link>) -> Result<(), AllocError>
-    ensures { OnOk result ((s : ℕ) → link_at links.new s ≡ (if site == s then link else link_at links.old s)) }
+/// The site has the link that it has ahead, or none. Want of memory is an error; the links are of no use then.
+fn take_link(links: &mut Cache, site: SiteNo, ahead: &Cache) -> Result<(), AllocError>
+    ensures { OnOk result ((s : ℕ) → link_at links.new s ≡ (if site == s then link_at ahead.now site else link_at links.old s)) }
 {
-    match link {
-        Some(link) => links.install(&[(site, link)]),
-        None => {
-            links.drop_changed(&[site]);
-            Ok(())
-        }
-    }
+    links.take(site, ahead)
 }
 
 /// The site has this footprint, or none. Want of memory is an error; the index is of no use then.

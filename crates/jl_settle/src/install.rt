@@ -7,13 +7,13 @@ ghost use Rattle.jl_cache.specs.Links.{link_at, link_with};
 ghost use Rattle.jl_deps.specs.Indexes.{IsIndex};
 
 use crate::settling::refresh;
-use jl_cache::Cache;
+use jl_cache::{Cache, KeptLink};
 use jl_deps::Index;
 use jl_relink::World;
-use jl_types::{Link, SiteNo};
+use jl_types::SiteNo;
 use std::alloc::{AllocError, Global};
 
-/// Installs these links, in place of those that the sites have, and keeps in the index what they rest on. They and all others are those from
+/// Installs these links, in place of those that the sites have and with the same tables, and keeps in the index what they rest on. They and all others are those from
 /// scratch.
 ///
 /// # Errors
@@ -24,20 +24,20 @@ pub fn install_rows(
     world: &World,
     links: &mut Cache,
     index: &mut Index,
-    rows: &[(SiteNo, Link)],
+    rows: &[(SiteNo, KeptLink)],
 ) -> Result<(), AllocError>
     requires indexed { IsIndex world.now (link_at links.old) index.old }
     requires scratch { (s : ℕ) (l : Link) → link_with rows.now (link_at links.old s) s ≡ Some l → scratch world.now s ≡ Ok l }
     ensures links { OnOk result ((s : ℕ) → link_at links.new s ≡ link_with rows.now (link_at links.old s) s) }
     ensures index { OnOk result (IsIndex world.now (link_at links.new) index.new) }
 {
-    links.install(rows)?;
+    links.install_kept(rows)?;
     let sites = sites_of(alloc, rows)?;
     refresh(alloc, world, links, index, sites.as_slice())
 }
 
 /// The sites of the rows. Want of memory is an error.
-fn sites_of(alloc: Global, rows: &[(SiteNo, Link)]) -> Result<Vec<SiteNo>, AllocError>
+fn sites_of(alloc: Global, rows: &[(SiteNo, KeptLink)]) -> Result<Vec<SiteNo>, AllocError>
     ensures { IfOk result (λ sites. sites.items ≡ map (λ row. row.0) rows.now) }
 {
     rows.iter().map(|row| row.0).collect(alloc)

@@ -5,10 +5,11 @@ ghost use Rattle.std.specs.List.{AllByRecursion, list_any};
 ghost use Rattle.jl_types.specs.Linkage.Links.{scratch};
 ghost use Rattle.jl_types.specs.Happenings.History.{kept};
 ghost use Rattle.jl_types.specs.Happenings.Footprints.{most_for};
+ghost use Rattle.jl_relink.specs.Receivers.{TellsStay};
 ghost use Rattle.jl_cache.specs.Links.{link_at};
 ghost use Rattle.jl_settle.specs.Settling.{goes, MayBeAsked, most_asked};
 
-use jl_cache::Cache;
+use jl_cache::{Cache, KeptLink};
 use jl_relink::{World, link_counted, stays_with_receiver};
 use jl_types::{ClassId, Link, SiteNo, Work};
 use std::alloc::{AllocError, Global};
@@ -62,13 +63,28 @@ fn is_lost(
     ensures ticks { work.new ≤ work.old + most_asked world.now defined.now site }
     ensures lost { result ≡ goes world.now (link_at links.now) site }
 {
-    let Some(link) = links.get(site) else {
+    let Some(kept) = links.kept(site) else {
         return false;
     };
     match defined {
-        Some(receiver) => !stays_with_receiver(world, site, &link, *receiver, work),
-        None => !is_still(world, site, link, work),
+        Some(receiver) => !stays(world, site, kept, *receiver, work),
+        None => !is_still(world, site, kept.get(), work),
     }
+}
+
+/// Whether the link of a site that selects by its receiver stays, once this receiver has come. A megamorphic one does, without a look at
+/// the site.
+fn stays(world: &World, site: SiteNo, kept: &KeptLink, receiver: ClassId, work: &mut Work) -> bool
+    requires there { receiver < length world.now.classes.rows }
+    requires fits { work.old + 1 < 2 ^ 64 }
+    ensures stays { TellsStay world.now site kept.now receiver result }
+    ensures ticks { work.new ≤ work.old + 1 }
+{
+    if kept.is_mega() {
+        return true;
+    }
+    let link = kept.get();
+    stays_with_receiver(world, site, &link, receiver, work)
 }
 
 /// Whether the site's link from scratch is this one.

@@ -1,5 +1,5 @@
 -- An instance that is one event behind another one, and what it does to come after it. A means of proof.
-use Rattle.std.specs.Prelude.{◌≡◌, ◌+◌, ◌≤◌, ℕ, false, List, take, length}
+use Rattle.std.specs.Prelude.{◌≡◌, ◌+◌, ◌≤◌, ℕ, false, List, take, length, None, if◌then◌else◌}
 use Rattle.jl_types.specs.declared.link.Link.{Link}
 use Rattle.jl_types.specs.Happenings.Event.{Event}
 use Rattle.jl_types.specs.Values.World.{World}
@@ -12,7 +12,8 @@ use Rattle.jl_cache.specs.Links.{link_at}
 use Rattle.jl_deps.specs.Indexes.{AreRising, IsIndex, touched_by}
 use Rattle.jl_events.specs.Accepted.{Accepted}
 use Rattle.jl_events.specs.Changes.{IsNext}
-use Rattle.jl_core.specs.Means.Changes.{AreScratch}
+use Rattle.jl_core.specs.Means.Changes.{AreScratch, installs_at}
+use Rattle.jl_core.specs.Logs.{Entry}
 use Rattle.jl_core.specs.State.{State}
 use Rattle.jl_core.specs.Means.Touched.{has}
 
@@ -23,6 +24,11 @@ IsBehind core ahead = (core ≡ record ahead { log = take (length core.log) ahea
 -- the event changes neither the link of site s nor what it rests on
 abbrev pub IsUntouched : World → List (ℕ × List Key) → Event → ℕ → Type 0
 IsUntouched w index e s = (has s (touched_by index (keys w e)) ≡ false) × (installs s e ≡ false)
+
+-- where the entry's event installs nothing, the other's link of a site is the one's, but for those that the entry drops
+abbrev pub AreDropped : Entry → List (ℕ × Link) → List (ℕ × Link) → Type 0
+AreDropped entry links linked =
+    (s : ℕ) → installs_at s entry.event ≡ false → (if has s entry.reply.dropped then None else link_at links s) ≡ link_at linked s
 
 -- The event leads from the one world to the other, and from the one's links to the other's, and each index is that of the links.
 pub record IsFurther (old ahead : World) (told : Accepted) (links linked : List (ℕ × Link)) (index further : List (ℕ × List Key)) : Type 0 where

@@ -7,13 +7,11 @@ use Rattle.jl_core.proofs.follow.follow.Goals as goal
 
 pub follow_links-requires-clause-further : goal.follow_links-requires-clause-further
 follow_links-requires-clause-further c =
-    subst (λ (w : World). IsFurther w c.deref-2.result.now c.event.result.now
+    subst (λ (w : World). IsFurther w c.deref-2.result.now c.args.entry.now.event
     c.args.links.now c.args.links_ahead.now c.args.index.now c.args.index_ahead.now) (sym c.deref.ensures)
-    (subst (λ (w : World). IsFurther c.args.world.now.value w c.event.result.now
-    c.args.links.now c.args.links_ahead.now c.args.index.now c.args.index_ahead.now) (sym c.deref-2.ensures)
-    (subst (λ (told : Accepted). IsFurther c.args.world.now.value c.args.world_ahead.now.value told
-    c.args.links.now c.args.links_ahead.now c.args.index.now c.args.index_ahead.now) (sym c.event.ensures) c.requires.further))
+    (subst (λ (w : World). IsFurther c.args.world.now.value w c.args.entry.now.event
+    c.args.links.now c.args.links_ahead.now c.args.index.now c.args.index_ahead.now) (sym c.deref-2.ensures) c.requires.further)
 
 pub follow_world-requires-clause-next : goal.follow_world-requires-clause-next
 follow_world-requires-clause-next c =
-    subst (λ (told : Accepted). IsNext c.args.world.now.value c.args.world_ahead.now.value told) (sym c.event-2.ensures) c.requires.further.next
+    subst (λ (told : Accepted). IsNext c.args.world.now.value c.args.world_ahead.now.value told) (sym c.event.ensures) c.requires.further.next

@@ -11,7 +11,7 @@ use Rattle.jl_events.specs.Changes.{IsMoved}
 use Rattle.jl_core.specs.Means.Steps.{AreGone, AreRetired, most_told}
 use Rattle.jl_core.proofs.StepLaws.{lost_are, most_by_told}
 use Rattle.jl_core.proofs.RetireSteps.{are_gone}
-use Rattle.jl_core.proofs.ReplayLaws.{installs_so}
+use Rattle.jl_core.proofs.ToldLaws.{installs_so}
 use Rattle.jl_core.proofs.perform.perform.Goals as goal
 
 pub relink-requires-clause-gone : goal.relink-requires-clause-gone

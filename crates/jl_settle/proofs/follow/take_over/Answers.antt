@@ -2,7 +2,6 @@ use Rattle.std.specs.Prelude.{◌≡◌, ◌==◌, ℕ, List, ◌++◌, ◌∷�
 use Rattle.std.proofs.Common.{sym, ap, ◌∙◌}
 use Rattle.std.proofs.lemmas.List.{take_more}
 use Rattle.jl_types.specs.declared.key.Key.{Key}
-use Rattle.jl_types.specs.declared.link.Link.{Link}
 use Rattle.jl_hierarchy.proofs.Rising.{has}
 use Rattle.jl_cache.specs.Links.{link_at}
 use Rattle.jl_deps.specs.Indexes.{footprint_at}
@@ -18,9 +17,7 @@ loop-site-preserved c =
     record {
       links = λ s.
           one_more_at (link_at c.args.links_ahead.now) (link_at c.take_link.new.links s) (link_at c.loop-site.links s) (link_at c.args.links.now s)
-          front site s
-          (c.in_ok-take_link.ensures s ∙ ap (λ (o : Option Link). if site == s then o else link_at c.loop-site.links s) c.get.ensures.link)
-          (c.loop-site.invariant.links s)
+          front site s (c.in_ok-take_link.ensures s) (c.loop-site.invariant.links s)
           ∙ ap (λ (ts : List ℕ). if has s ts then link_at c.args.links_ahead.now s else link_at c.args.links.now s) more;
       index = λ s.
           one_more_at (footprint_at c.args.index_ahead.now) (footprint_at c.take_footprint.new.index s) (footprint_at c.loop-site.index s)

@@ -9,15 +9,15 @@ use Rattle.jl_settle.proofs.SettleLaws.{on_ok, installed_index}
 use Rattle.jl_settle.proofs.install.install_rows.Goals as goal
 
 pub refresh-requires : goal.refresh-requires
-refresh-requires c = λ s l at. c.requires.scratch s l (sym (c.in_ok-install.ensures.ok s) ∙ at)
+refresh-requires c = λ s l at. c.requires.scratch s l (sym (c.in_ok-install_kept.ensures s) ∙ at)
 
 pub returns-clause-index : goal.returns-clause-index
 returns-clause-index c =
     let w = c.args.world.now in
-    let links = link_at c.install.new.self in
+    let links = link_at c.install_kept.new.self in
     let sites : c.as_slice.result.now ≡ map (λ (row : ℕ × Link). row.0) c.args.rows.now = c.as_slice.ensures.value ∙ c.in_ok-sites.ensures in
     on_ok c.refresh.result
     (λ looked.
-    installed_index w c.args.rows.now (link_at c.args.links.now) links c.args.index.now c.refresh.new.index c.requires.indexed c.in_ok-install.ensures.ok
+    installed_index w c.args.rows.now (link_at c.args.links.now) links c.args.index.now c.refresh.new.index c.requires.indexed c.in_ok-install_kept.ensures
     (λ s. looked s ∙ ap (λ (ts : List ℕ). if has s ts then option_map (λ l. footprint w s) (links s) else footprint_at c.args.index.now s) sites))
     c.refresh.ensures

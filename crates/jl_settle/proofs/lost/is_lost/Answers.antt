@@ -11,5 +11,5 @@ returns-in-Some-defined-clause-lost c =
     let links = link_at c.args.links.now in
     let told : IsTold w c.in-Some-defined.receiver links c.args.site =
     subst (λ (o : Option ℕ). MayBeAsked w o links c.args.site) c.in-Some-defined.is c.requires.asked in
-    let is : links c.args.site ≡ Some c.in-Some.link = search rules in
-    told_gone w c.in-Some-defined.receiver links c.args.site c.in-Some.link c.stays_with_receiver.result told is c.stays_with_receiver.ensures.stays
+    let is : links c.args.site ≡ Some c.in-Some.kept.now = search rules in
+    told_gone w c.in-Some-defined.receiver links c.args.site c.in-Some.kept.now c.stays.result told is c.stays.ensures.stays

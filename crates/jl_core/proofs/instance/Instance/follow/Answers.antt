@@ -4,7 +4,7 @@ use Rattle.jl_types.specs.Values.World.{World}
 use Rattle.jl_relink.specs.Laws.{IsInOrder}
 use Rattle.jl_cache.specs.Links.{link_at}
 use Rattle.jl_deps.specs.Indexes.{IsIndex}
-use Rattle.jl_core.proofs.FollowLaws.{behind_inside, none_behind, is_further, kept_so, same_core}
+use Rattle.jl_core.proofs.FollowLaws.{behind_inside, none_behind, is_further, are_gone, kept_so, same_core}
 use Rattle.jl_core.proofs.instance.Instance.follow.Goals as goal
 
 pub returns-in_default : goal.returns-in_default
@@ -17,6 +17,16 @@ returns-in_default c =
 pub follow-requires-clause-further : goal.follow-requires-clause-further
 follow-requires-clause-further c =
     is_further c.self.inside.max_sites c.self.inside.world.value c.self.inside.links c.self.inside.log.items
+    c.ahead.inside.max_sites c.ahead.inside.world.value c.ahead.inside.log.items c.in-Some.entry.now
+    (record { world = c.self.invariant.0; links = c.self.invariant.1; told = c.self.invariant.2; answered = c.self.invariant.5 })
+    c.ahead.invariant.0 c.ahead.invariant.2 c.ahead.invariant.5 (behind_inside c.self.view_is c.ahead.view_is c.requires)
+    ((λ i. slice_get (sym c.as_slice.ensures.value i) (length (sym c.as_slice-place.ensures.value i))) ∙ sym c.in-Some.ensures)
+    c.self.inside.index c.ahead.inside.index (subst IsInOrder c.deref.ensures c.note_order.ensures)
+    c.len-sites.ensures.rising c.self.invariant.6 c.ahead.inside.links c.ahead.invariant.1 c.ahead.invariant.6
+
+pub follow-requires-clause-gone : goal.follow-requires-clause-gone
+follow-requires-clause-gone c =
+    are_gone c.self.inside.max_sites c.self.inside.world.value c.self.inside.links c.self.inside.log.items
     c.ahead.inside.max_sites c.ahead.inside.world.value c.ahead.inside.log.items c.in-Some.entry.now
     (record { world = c.self.invariant.0; links = c.self.invariant.1; told = c.self.invariant.2; answered = c.self.invariant.5 })
     c.ahead.invariant.0 c.ahead.invariant.2 c.ahead.invariant.5 (behind_inside c.self.view_is c.ahead.view_is c.requires)

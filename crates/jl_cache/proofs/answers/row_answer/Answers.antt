@@ -4,7 +4,7 @@ use Rattle.jl_types.specs.declared.answer.Fast.TheVariants.{Now}
 use Rattle.jl_types.specs.declared.answer.Outcome.{Outcome}
 use Rattle.jl_types.specs.declared.link.Link.TheVariants as variant
 use Rattle.jl_types.specs.Happenings.Fast as fast
-use Rattle.jl_cache.proofs.answers.table_answer.Goals as goal
+use Rattle.jl_cache.proofs.answers.row_answer.Goals as goal
 
 pub returns-in-Of : goal.returns-in-Of
 returns-in-Of c =
