@@ -2,6 +2,7 @@
 use denote.Param.Send.{IsSend, sendable}
 use Rattle.std.proofs.Crossing.{crosses as of_std}
 use Rattle.jl_types.proofs.link.Link.TheSendSync as of_links
+use Rattle.jl_cache.proofs.kept.KeptSlot.TheSendSync as of_slots
 use Rattle.jl_core.proofs.Crossing.{core_send}
 use Rattle.jl_session.specs.contracts.session.Session as Session
 use Rattle.jl_host.specs.contracts.opened.Opened as Opened
@@ -11,7 +12,7 @@ session_send : IsSend Session.the_row
 session_send = search (core_send, of_links.the_send, sendable, of_std) depth 40
 
 opened_send : IsSend Opened.the_row
-opened_send = search (session_send, of_links.the_send, of_links.the_sync, sendable, of_std) depth 40
+opened_send = search (session_send, of_slots.the_send, of_slots.the_sync, sendable, of_std) depth 40
 
 pub linker_send : IsSend Linker.the_row
 linker_send = search (opened_send, sendable) depth 12

@@ -2,28 +2,31 @@
 
 ghost use Rattle.std.specs.Prelude.{◌≡◌, ◌<◌, ◌≤◌, ◌==◌, nat_lt, ℕ, true, length, drop, replicate, slice_set, None, IfOk, OnOk, OnErr};
 ghost use Rattle.std.specs.List.{list_any};
+ghost use Rattle.jl_types.specs.Happenings.History.{installed};
+ghost use Rattle.jl_core.specs.State.{events};
 ghost use Rattle.jl_core.specs.Means.Touched.{has};
 ghost use Rattle.jl_host.specs.Seats.{room_for};
 ghost use Rattle.jl_host.specs.Means.Behind.{IsNow, IsBehind, installs_at, touched_by};
 
+use jl_cache::{KeptLink, KeptSlot};
 use jl_core::{Accepted, Core, Entry};
 use jl_pages::Slots;
-use jl_types::{Link, SiteNo};
+use jl_types::SiteNo;
 use std::alloc::{AllocError, Global};
 use std::sync::Arc;
 
 /// How many places a page has.
 const PAGE: usize = 256;
 
-/// The site's link or none, by the number of the site.
-pub(crate) type Links = Slots<Option<Link>>;
+/// The site's link or none, by the number of the site. Its table is the one that the core has.
+pub(crate) type Links = Slots<KeptSlot>;
 
 /// No links, with a place for each of so many sites. Want of memory is an error.
 pub(crate) fn no_links(alloc: Global, max_sites: u32) -> Result<Arc<Links>, AllocError>
     ensures { IfOk result (λ links. links.value ≡ replicate (room_for max_sites) None) }
 {
     let pages = (max_sites as usize + (PAGE - 1)) / PAGE;
-    Ok(Arc::new(alloc, Slots::filled(alloc, None, pages)?)?)
+    Ok(Arc::new(alloc, Slots::filled(alloc, KeptSlot::nothing(), pages)?)?)
 }
 
 /// Whether there is such a place.
@@ -38,13 +41,23 @@ fn is_within(links: &Arc<Links>, place: usize) -> bool
 /// # Errors
 ///
 /// Want of memory. Nothing has changed then.
-fn put(links: &mut Arc<Links>, place: usize, link: Option<Link>) -> Result<(), AllocError>
+fn put(links: &mut Arc<Links>, place: usize, slot: KeptSlot) -> Result<(), AllocError>
     requires { place < length links.old.value }
-    ensures ok { OnOk result (links.new.value ≡ slice_set links.old.value place link) }
+    ensures ok { OnOk result (links.new.value ≡ slice_set links.old.value place slot) }
     ensures err { OnErr result (links.new.value ≡ links.old.value) }
 {
     let slots = Arc::make_mut(links)?;
-    slots.set(place, link)
+    slots.set(place, slot)
+}
+
+/// What stands at the site now. More owners of a table than can be counted are an error.
+fn slot_now(core: &Core, site: SiteNo) -> Result<KeptSlot, AllocError>
+    ensures { IfOk result (λ slot. slot ≡ installed (events core.now) site) }
+{
+    match core.links().kept(site) {
+        Some(kept) => kept.slot(),
+        None => Ok(KeptSlot::nothing()),
+    }
 }
 
 /// Writes the site's link as it is now.
@@ -62,7 +75,8 @@ fn write_site(links: &mut Arc<Links>, core: &Core, site: SiteNo) -> Result<(), A
     if !is_within(links, place) {
         return Ok(());
     }
-    put(links, place, core.links().get(site))
+    let slot = slot_now(core, site)?;
+    put(links, place, slot)
 }
 
 /// Writes the links of these sites as they are now.
@@ -90,7 +104,7 @@ fn write_sites(links: &mut Arc<Links>, core: &Core, sites: &[SiteNo]) -> Result<
 fn write_rows(
     links: &mut Arc<Links>,
     core: &Core,
-    rows: &[(SiteNo, Link)],
+    rows: &[(SiteNo, KeptLink)],
 ) -> Result<(), AllocError>
     requires { length links.old.value ≡ room_for core.now.max_sites }
     ensures all { length links.new.value ≡ room_for core.now.max_sites }

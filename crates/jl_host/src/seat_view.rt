@@ -6,9 +6,9 @@ ghost use Rattle.jl_types.specs.Happenings.Fast as fast_of;
 ghost use Rattle.jl_memo.specs.Answers as by_memo;
 
 use crate::behind::Links;
-use jl_cache::fast_answer;
+use jl_cache::KeptSlot;
 use jl_memo::{Memo, answer};
-use jl_types::{Fast, Link, Recv, SiteNo};
+use jl_types::{Fast, Recv, SiteNo};
 use std::marker::Model;
 use std::sync::Arc;
 
@@ -50,7 +50,7 @@ impl SeatView {
         ensures { result ≡ fast_of.fast_answer (get_or self.now.links site None) self.now.classes recv }
     {
         match slot_at(&self.links, site) {
-            Some(slot) => slot_answer(slot, self.classes, recv),
+            Some(slot) => slot.answer(self.classes, recv),
             None => Fast::Miss,
         }
     }
@@ -60,41 +60,15 @@ impl SeatView {
         ensures { result ≡ by_memo.answer_with rows.now (get_or self.now.links site None) self.now.classes site recv }
     {
         match slot_at(&self.links, site) {
-            Some(slot) => slot_answer_with(rows, slot, self.classes, site, recv),
+            Some(slot) => answer(rows, slot, self.classes, site, recv),
             None => Fast::Miss,
         }
     }
 }
 
-/// What the link answers, if it is one, where there are so many classes; a megamorphic one what is remembered.
-fn slot_answer_with(
-    rows: &Memo,
-    slot: &Option<Link>,
-    classes: usize,
-    site: SiteNo,
-    recv: Recv,
-) -> Fast
-    ensures { result ≡ by_memo.answer_with rows.now slot.now classes site recv }
-{
-    match slot {
-        Some(link) => answer(rows, link, classes, site, recv),
-        None => Fast::Miss,
-    }
-}
-
 /// The site's link or none, if there may be such a site.
-fn slot_at(links: &Links, site: SiteNo) -> Option<&Option<Link>>
+fn slot_at(links: &Links, site: SiteNo) -> Option<&KeptSlot>
     ensures { option_copied result ≡ slice_get links.now site }
 {
     links.get(site.number() as usize)
-}
-
-/// What the link answers, if it is one, where there are so many classes.
-fn slot_answer(slot: &Option<Link>, classes: usize, recv: Recv) -> Fast
-    ensures { result ≡ fast_of.fast_answer slot.now classes recv }
-{
-    match slot {
-        Some(link) => fast_answer(link, classes, recv),
-        None => Fast::Miss,
-    }
 }

@@ -18,6 +18,6 @@ pub returns-clause-kept : goal.returns-clause-kept
 returns-clause-kept c =
     let few : c.number-place.result < length c.args.links.now.value =
     (Decides-ltb c.number-place.result (length c.args.links.now.value)).0 (sym c.is_within.ensures ∙ c.if-not-is_within.false) in
-    kept_by c.args.core.now c.args.links.now.value c.put.new.links.value c.number-place.result c.get.result c.put.result few
-    (c.get.ensures.link ∙ c.links.ensures c.args.site ∙ ap (installed (events c.args.core.now)) (sym c.number-place.ensures))
+    kept_by c.args.core.now c.args.links.now.value c.put.new.links.value c.number-place.result c.in_ok-slot.slot c.put.result few
+    (c.in_ok-slot.ensures ∙ ap (installed (events c.args.core.now)) (sym c.number-place.ensures))
     c.put.ensures.ok c.put.ensures.err
