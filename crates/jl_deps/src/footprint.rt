@@ -13,25 +13,16 @@ ghost use Rattle.jl_deps.specs.Means.Telling.{tells_receivers};
 ghost use Rattle.jl_deps.specs.Ways.{has, way};
 ghost use Rattle.jl_class.specs.declared.site.Kind.TheVariants.{Virtual, Interface};
 
+use crate::kept::Footprint;
 use jl_callsites::Sites;
 use jl_class::{Kind, Operand, Site};
 use jl_hierarchy::Classes;
-use jl_names::{LentName, Seq};
+use jl_names::LentName;
 use jl_pool::Reference;
 use jl_relink::{World, invocation_at};
 use jl_resolve::{Resolved, named_class, resolve_reference};
 use jl_types::{CallSiteId, ClassId, Key, Link, Outcome, Part, SiteNo, SwitchId, Target};
 use std::alloc::{AllocError, Global};
-
-/// What the link of a site rests on: keys, rising, none of them twice.
-pub type Footprint = Seq<Key>;
-
-/// The same keys once more. Want of memory is an error.
-pub fn copy_footprint(alloc: Global, footprint: &Footprint) -> Result<Footprint, AllocError>
-    ensures { IfOk result (λ copy. copy ≡ footprint.now) }
-{
-    Ok(Seq::of(footprint.as_slice().to_vec(alloc)?))
-}
 
 /// What the link of the site rests on. No receiver is looked at. Want of memory is an error.
 pub fn footprint_of(alloc: Global, world: &World, site: SiteNo) -> Result<Footprint, AllocError>
@@ -65,14 +56,14 @@ fn footprint_by(
     ensures { IfOk result (λ keys. keys ≡ footprints.footprint world.now site) }
 {
     let Some(place) = world.places.get_index(site.number() as usize) else {
-        return Ok(Seq::of(Vec::new(alloc)));
+        return Ok(Footprint::nothing());
     };
     if !world.classes.is_present(place.class) {
-        return Ok(Seq::of(Vec::new(alloc)));
+        return Ok(Footprint::nothing());
     }
     match invocation_at(&world.classes, place) {
         Some(invocation) => of_invocation(alloc, world, site, place.class, &invocation, link),
-        None => Ok(Seq::of(Vec::new(alloc))),
+        None => Ok(Footprint::nothing()),
     }
 }
 
@@ -90,23 +81,25 @@ fn of_invocation(
     ensures { IfOk result (λ keys. keys ≡ of_operand world.now site caller invocation.now.kind invocation.now.operand) }
 {
     match invocation.operand() {
-        Operand::Method(reference) => of_class(
-            alloc,
-            looked_at(&world.classes, invocation.kind(), caller, reference, link),
-        ),
+        Operand::Method(reference) => Ok(of_class(looked_at(
+            &world.classes,
+            invocation.kind(),
+            caller,
+            reference,
+            link,
+        ))),
         Operand::CallSite(_) => of_binding(alloc, &world.sites, world.bound_to(site)),
     }
 }
 
-/// The receivers of the class, if there is one. Want of memory is an error.
-fn of_class(alloc: Global, class: Option<ClassId>) -> Result<Footprint, AllocError>
-    ensures { IfOk result (λ keys. keys ≡ map key.Receivers (option_to_list class)) }
+/// The receivers of the class, if there is one. Takes no memory.
+fn of_class(class: Option<ClassId>) -> Footprint
+    ensures { result ≡ map key.Receivers (option_to_list class) }
 {
-    let mut keys = Vec::new(alloc);
-    if let Some(class) = class {
-        keys.push(Key::Receivers(class))?;
+    match class {
+        Some(class) => Footprint::one(Key::Receivers(class)),
+        None => Footprint::nothing(),
     }
-    Ok(Seq::of(keys))
 }
 
 /// The class whose receivers an invocation of the reference in the caller's class looks at. Where the instruction looks at none, nothing
@@ -228,7 +221,7 @@ fn of_binding(
 {
     match binding {
         Some(call_site) => of_call_site(alloc, sites, call_site),
-        None => Ok(Seq::of(Vec::new(alloc))),
+        None => Ok(Footprint::nothing()),
     }
 }
 
@@ -248,7 +241,7 @@ fn of_call_site(
     let mut keys = Vec::new(alloc);
     push_targets(&mut keys, call_sites.as_slice())?;
     push_points(&mut keys, points.as_slice())?;
-    Ok(Seq::of(keys))
+    Footprint::of(alloc, keys)
 }
 
 /// Adds the targets of these call sites. Want of memory is an error.

@@ -9,10 +9,9 @@ ghost use Rattle.jl_types.specs.declared.key.Key.{Key};
 ghost use Rattle.jl_types.specs.Happenings.Footprints.{has_key};
 ghost use Rattle.jl_deps.specs.Means.Lists.{AreListed, listed, rests};
 
-use crate::footprint::{Footprint, copy_footprint};
+use crate::kept::{Footprint, copy_footprint};
 use crate::lists::{Lists, relist, unlist_others};
 use indexmap::IndexMap;
-use jl_names::Seq;
 use jl_types::{Key, SiteNo};
 use std::alloc::{AllocError, Global};
 use std::marker::Model;

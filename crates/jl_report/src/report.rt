@@ -12,7 +12,6 @@ use indexmap::{IndexMap, IndexSet};
 use jl_callsites::Sites;
 use jl_deps::{Footprint, footprint_of_linked};
 use jl_hierarchy::Classes;
-use jl_names::Seq;
 use jl_relink::{World, link_of};
 use jl_types::{ClassId, NotLinkable, Place, SiteNo};
 use std::alloc::{AllocError, Global};
@@ -121,8 +120,8 @@ pub(crate) fn rests_on(
 {
     match finding {
         Finding::Linked(link) => footprint_of_linked(alloc, world, SiteNo::new(0), link),
-        Finding::Unlinked(_) => Ok(Seq::of(Vec::new(alloc))),
-        Finding::NotLinkable(_) => Ok(Seq::of(Vec::new(alloc))),
+        Finding::Unlinked(_) => Ok(Footprint::nothing()),
+        Finding::NotLinkable(_) => Ok(Footprint::nothing()),
     }
 }
 

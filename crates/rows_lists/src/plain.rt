@@ -1,7 +1,6 @@
 //! Footprints as a plain list, beside which an index is tried: keys stand by twelve numbers, of which four are each of a kind.
 
 use jl_deps::{Footprint, Index};
-use jl_names::Seq;
 use jl_types::{CallSiteId, ClassId, Key, SiteNo, SwitchId};
 use std::alloc::{AllocError, Global};
 
@@ -38,7 +37,7 @@ pub(crate) fn keys(alloc: Global, set: KeySet) -> Result<Footprint, AllocError> 
             keys.push(key(number))?;
         }
     }
-    Ok(Seq::of(keys))
+    Footprint::of(alloc, keys)
 }
 
 /// Whether there is a footprint, of the keys of this set.

@@ -1,7 +1,6 @@
 //! A key that very many sites rest on.
 
 use jl_deps::{Footprint, Index};
-use jl_names::Seq;
 use jl_types::{ClassId, Key, SiteNo};
 use std::alloc::{AllocError, Global};
 use std::process::Abort;
@@ -13,7 +12,7 @@ const SITES: u32 = 65_536;
 fn footprint(alloc: Global, site: u32) -> Result<Footprint, AllocError> {
     let other = Key::Receivers(ClassId::new(1 + site % 7));
     let keys = vec![in alloc; Key::Receivers(ClassId::new(0)), other]?;
-    Ok(Seq::of(keys))
+    Footprint::of(alloc, keys)
 }
 
 /// Adds the site.

@@ -4,7 +4,7 @@ use crate::targets::target;
 use crate::told::Told;
 use crate::words::{self, switch_points};
 use crate::{call_sites, definitions};
-use jl_deps::{footprint_of, keys_of};
+use jl_deps::{Footprint, footprint_of, keys_of};
 use jl_names::Seq;
 use jl_relink::{World, dispatch, link_counted, link_of, stays_with_receiver};
 use jl_types::{ClassId, Event, Key, Link, Place, Recv, SiteNo, Unlinked, Work};
@@ -88,6 +88,14 @@ fn tell_keys(told: &mut Told, keys: Result<Seq<Key>, AllocError>) {
     }
 }
 
+/// Tells the keys of a footprint, in order.
+fn tell_footprint(told: &mut Told, footprint: Result<Footprint, AllocError>) {
+    match footprint {
+        Ok(footprint) => told.keys(footprint.as_slice()),
+        Err(_) => told.lack(),
+    }
+}
+
 /// Tells the keys of the change of these words.
 fn keys(told: &mut Told, world: &World, words: &[&str]) {
     if let Some(event) = event(told, words) {
@@ -142,7 +150,7 @@ fn tell_site(told: &mut Told, world: &World, question: &str, site: &str) {
     let site = words::site(told, site);
     match question {
         "link" => tell_link(told, link_of(world, site)),
-        "footprint" => tell_keys(told, footprint_of(told.alloc(), world, site)),
+        "footprint" => tell_footprint(told, footprint_of(told.alloc(), world, site)),
         _ => told.show(&ticks(world, site)),
     }
 }

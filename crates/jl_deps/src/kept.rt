@@ -1,0 +1,115 @@
+//! Footprints as they are kept.
+
+ghost use Rattle.std.specs.Prelude.{◌≡◌, ◌∷◌, [], IfOk};
+
+use jl_names::Seq;
+use jl_types::Key;
+use std::alloc::{AllocError, Global};
+use std::marker::Model;
+use std::sync::Arc;
+use std::{fmt, slice};
+
+/// What the link of a site rests on: keys, rising, none of them twice. One key or none takes no memory of its own; more stand apart, and
+/// copies share them. A clause sees the keys.
+pub struct Footprint {
+    kept: Kept,
+}
+
+/// What is kept of each footprint.
+#[derive(Drop)]
+enum Kept {
+    Nothing,
+    One(Key),
+    Several(Arc<Seq<Key>>),
+}
+
+/// Written out, so that what drops one makes one call of it and doesn't take apart what it holds.
+impl Drop for Footprint {
+    fn drop(self) {
+        let Footprint { kept: _kept } = self;
+    }
+}
+
+impl Model for Footprint {
+    ghost use Rattle.std.specs.Prelude.{List};
+    ghost use Rattle.jl_types.specs.declared.key.Key.{Key};
+    ghost use Rattle.jl_deps.specs.Means.Kept.{keys_of};
+
+    ghost Value = { List Key };
+
+    ghost view = { λ f. keys_of f.kept };
+}
+
+/// The same keys once more, and of more than one the same list. More copies than can be counted are an error.
+impl Clone for Footprint {
+    ghost is_clone = { λ footprint copy. copy ≡ footprint };
+
+    fn clone(&self) -> Result<Footprint, AllocError> {
+        let kept = match &self.kept {
+            Kept::Nothing => Kept::Nothing,
+            Kept::One(key) => Kept::One(*key),
+            Kept::Several(keys) => Kept::Several(Arc::try_clone(keys)?),
+        };
+        Ok(Footprint { kept })
+    }
+}
+
+/// A footprint is printed as the list of its keys.
+impl fmt::Debug for Footprint {
+    fn fmt<W: fmt::Write>(&self, f: &mut fmt::Formatter<W>) -> fmt::Result {
+        f.debug_struct("Seq")
+            .field("items", &self.as_slice())
+            .finish()
+    }
+}
+
+impl Footprint {
+    /// No keys. Takes no memory.
+    pub fn nothing() -> Self
+        ensures { result ≡ [] }
+    {
+        Footprint {
+            kept: Kept::Nothing,
+        }
+    }
+
+    /// This key alone. Takes no memory.
+    pub fn one(key: Key) -> Self
+        ensures { result ≡ key ∷ [] }
+    {
+        Footprint {
+            kept: Kept::One(key),
+        }
+    }
+
+    /// These keys, in order. Want of memory is an error; one key or none wants none.
+    pub fn of(alloc: Global, keys: Vec<Key>) -> Result<Self, AllocError>
+        ensures { IfOk result (λ footprint. footprint ≡ keys.items) }
+    {
+        match keys.as_slice() {
+            [] => Ok(Footprint::nothing()),
+            [key] => Ok(Footprint::one(*key)),
+            _ => Ok(Footprint {
+                kept: Kept::Several(Arc::new(alloc, Seq::of(keys))?),
+            }),
+        }
+    }
+
+    /// The keys, in order. Takes no memory.
+    pub fn as_slice(&self) -> &[Key]
+        ensures { result.now ≡ self.now }
+    {
+        match &self.kept {
+            Kept::Nothing => &[],
+            Kept::One(key) => slice::from_ref(key),
+            Kept::Several(keys) => keys.as_slice(),
+        }
+    }
+}
+
+/// The same keys once more. Takes no memory. More copies than can be counted are an error.
+pub fn copy_footprint(_alloc: Global, footprint: &Footprint) -> Result<Footprint, AllocError>
+    ensures { IfOk result (λ copy. copy ≡ footprint.now) }
+{
+    footprint.clone()
+}
