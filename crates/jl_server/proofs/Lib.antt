@@ -6,6 +6,7 @@ pub mod Alone
 pub mod Next
 pub mod Ends
 pub mod Steps
+pub mod SlotLaws
 pub mod Opens
 pub mod FastLaws
 pub mod MemoLaws

@@ -90,9 +90,9 @@ row_stays max_sites m n same right s x (Some o) is = λ later p legal present co
 
 -- what is found in the published table
 pub with_shown : (y : Table) (sets : List Set) (s : ℕ) (recv : Recv) (zs : List Entry) (f : Fast) → IsShown (content y) → zs ≡ y.list.reached.log
-    → f ≡ answer_with sets (get_or y.links.items s None) y.classes s recv → f ≡ answer_with sets (installed (events_of zs) s) (classes_of zs) s recv
+    → f ≡ answer_with sets (get_or y.links s None) y.classes s recv → f ≡ answer_with sets (installed (events_of zs) s) (classes_of zs) s recv
 with_shown y sets s recv zs f shown same is =
     is ∙ (ap (λ (l : Option Link). answer_with sets l y.classes s recv)
-    (ap (λ (ls : List (Option Link)). get_or ls s None) shown.links ∙ legal_shows (length y.links.items) y.list.reached.log shown.legal s)
+    (ap (λ (ls : List (Option Link)). get_or ls s None) shown.links ∙ legal_shows (length y.links) y.list.reached.log shown.legal s)
     ∙ (ap (λ (k : ℕ). answer_with sets (installed (events_of y.list.reached.log) s) k s recv) shown.classes
     ∙ ap (λ (ws : List Entry). answer_with sets (installed (events_of ws) s) (classes_of ws) s recv) (sym same)))

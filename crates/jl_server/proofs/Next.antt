@@ -58,15 +58,15 @@ module _ (y : Table) where
 
   -- a call there gives the fast answer of what is installed
   pub answer_shown : (s : ℕ) (recv : Recv) (zs : List Entry) (f : Fast) → IsShown (content y) → zs ≡ y.list.reached.log
-      → f ≡ fast_answer (get_or y.links.items s None) y.classes recv → f ≡ fast_answer (installed (events_of zs) s) (classes_of zs) recv
+      → f ≡ fast_answer (get_or y.links s None) y.classes recv → f ≡ fast_answer (installed (events_of zs) s) (classes_of zs) recv
   answer_shown s recv zs f shown same is =
       is ∙ (ap (λ (l : Option Link). fast_answer l y.classes recv) (ap (λ (ls : List (Option Link)). get_or ls s None) shown.links
-      ∙ legal_shows (length y.links.items) y.list.reached.log shown.legal s)
+      ∙ legal_shows (length y.links) y.list.reached.log shown.legal s)
       ∙ (ap (λ (k : ℕ). fast_answer (installed (events_of y.list.reached.log) s) k recv) shown.classes
       ∙ ap (λ (ws : List Entry). fast_answer (installed (events_of ws) s) (classes_of ws) recv) (sym same)))
 
   -- so do several
   pub answers_shown : (calls : List (ℕ × Recv)) (zs : List Entry) (fs : List Fast) → IsShown (content y) → zs ≡ y.list.reached.log
-      → fs ≡ map (λ call. fast_answer (get_or y.links.items call.0 None) y.classes call.1) calls → fs ≡ answers_at zs calls
+      → fs ≡ map (λ call. fast_answer (get_or y.links call.0 None) y.classes call.1) calls → fs ≡ answers_at zs calls
   answers_shown calls zs fs shown same is =
-      is ∙ (λ i. map (λ call. answer_shown call.0 call.1 zs (fast_answer (get_or y.links.items call.0 None) y.classes call.1) shown same refl i) calls)
+      is ∙ (λ i. map (λ call. answer_shown call.0 call.1 zs (fast_answer (get_or y.links call.0 None) y.classes call.1) shown same refl i) calls)

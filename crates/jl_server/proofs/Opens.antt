@@ -28,7 +28,7 @@ only : (x : Table) (seat : ℕ) (v : Option Tag) → get_elem? (None ∷ []) sea
 only x zero v at = let e : ◌≡◌ {A = Option Tag} None v = cc at in subst (λ (u : Option Tag). Knows (content x) u) e tt
 only x (suc seat) v at = absurd (cc at)
 
-pub opens : (n : ℕ) (x : Table) → x.links.items ≡ replicate n None → x.classes ≡ 0 → x.list.reached.log ≡ [] → Ruled x (None ∷ [])
+pub opens : (n : ℕ) (x : Table) → x.links ≡ replicate n None → x.classes ≡ 0 → x.list.reached.log ≡ [] → Ruled x (None ∷ [])
 opens n x links classes log = (shown_first n (content x) links classes log, only x)
 
 -- a change of nothing leaves a first table one
@@ -52,5 +52,5 @@ known_server n b t u c v is known links slots book =
     (ap (λ (s : Content). length s.links) is ∙ ap length (blank_links n t.links c.slots.items links slots) ∙ length_fresh n)
 
 -- two tables with one content
-pub alike : (x y : Table) → x.links.items ≡ y.links.items → x.classes ≡ y.classes → x.list ≡ y.list → content x ≡ content y
+pub alike : (x y : Table) → x.links ≡ y.links → x.classes ≡ y.classes → x.list ≡ y.list → content x ≡ content y
 alike x y p q r i = record { links = p i; classes = q i; list = r i }

@@ -22,7 +22,7 @@ same_known : (s t : Content) (v : Option Tag) → t.list.reached.book ≡ s.list
 same_known s t None book wide knows = tt
 same_known s t (Some tag) book wide knows = (knows.0 ∙ sym book, knows.1 ∙ sym wide)
 
-module _ (seat : ℕ) (v : Option Tag) (x y : Table) (book : y.list.reached.book ≡ x.list.reached.book) (wide : length y.links.items ≡ length x.links.items) where
+module _ (seat : ℕ) (v : Option Tag) (x y : Table) (book : y.list.reached.book ≡ x.list.reached.book) (wide : length y.links ≡ length x.links) where
   -- a table of the same history, with as many sites
   pub turns : (w : Option Tag) → Knows (content y) w → (IsShown (content x) → IsShown (content y)) → (views : List (Option Tag)) → Ruled x views
       → Ruled y (set views seat w)
@@ -59,7 +59,7 @@ pub next_table : (seat : ℕ) (v : Option Tag) (x : Table) (change : Change) →
     → (y : Table) → content y ≡ changed (content x) change → TurnsAt Ruled seat v x y Publishes
 next_table seat v x change book shown y is =
     publishes seat v x y (ap (λ (t : Content). t.list.reached.book) is ∙ book)
-    (ap (λ (t : Content). length t.links) is ∙ length_written change.slots.items x.links.items)
+    (ap (λ (t : Content). length t.links) is ∙ length_written change.slots.items x.links)
     (λ s. subst IsShown (sym is) (shown s))
 
 -- what is pending, where one change was appended to nothing

@@ -1,4 +1,5 @@
--- `History`, `Receivers`, `Calls` and `Remembering` are what contracts cite; `Shown` is the rule of the published table, a means of proof.
+-- `History`, `Receivers`, `Calls` and `Remembering` are what contracts cite. `Shown`, the rule of the published table, and `Slots`, how it
+-- keeps links, are means of proof.
 pub mod History
 pub mod Receivers
 pub mod Calls

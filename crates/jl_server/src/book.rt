@@ -74,7 +74,7 @@ impl<K: Name, R: Wait + Drop> Model for Book<K, R> {
         (b.core ≡ core_of K.max_sites b.list)
         × (b.writer.desk.shown.value.list.reached.log ≡ b.list)
         × (b.writer.desk.shown.value.list.reached.book ≡ K.book)
-        × (length b.writer.desk.shown.value.links.items ≡ K.max_sites)
+        × (length b.writer.desk.shown.value.links ≡ K.max_sites)
         × (length (drop b.writer.behind b.writer.log.items) ≡ 0)
         × (installs_alone b.since b.list ≡ true) };
 }
@@ -106,7 +106,7 @@ impl<K: Name, R: Wait + Drop> Book<K, R> {
         requires core { core ≡ empty_core K.max_sites }
         requires list { list ≡ [] }
         requires shown { (writer.desk.shown.value.list.reached.log ≡ []) × (writer.desk.shown.value.list.reached.book ≡ K.book)
-            × (length writer.desk.shown.value.links.items ≡ K.max_sites) }
+            × (length writer.desk.shown.value.links ≡ K.max_sites) }
         requires settled { length (drop writer.behind writer.log.items) ≡ 0 }
         ensures { result ≡ [] }
     {

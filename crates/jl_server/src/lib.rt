@@ -11,6 +11,7 @@ mod caller;
 mod entry;
 mod history;
 mod laws;
+mod links;
 mod mark;
 mod memo;
 mod parts;

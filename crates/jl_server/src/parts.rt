@@ -48,7 +48,7 @@ impl Model for Parts {
         (p.core ≡ empty_core p.sites)
         × (p.writer.desk.shown.value.list.reached.log ≡ [])
         × (p.writer.desk.shown.value.list.reached.book ≡ p.history.reached.book)
-        × (p.writer.desk.shown.value.links.items ≡ replicate p.sites None)
+        × (p.writer.desk.shown.value.links ≡ replicate p.sites None)
         × (length (drop p.writer.behind p.writer.log.items) ≡ 0) };
 }
 
@@ -124,7 +124,7 @@ fn first_writer(
     requires callers { (1 ≤ callers) × (callers ≤ 64) }
     requires list { list.reached.log ≡ [] }
     ensures list { IfOk result (λ w. w.desk.shown.value.list ≡ list) }
-    ensures links { IfOk result (λ w. w.desk.shown.value.links.items ≡ replicate sites None) }
+    ensures links { IfOk result (λ w. w.desk.shown.value.links ≡ replicate sites None) }
     ensures settled { IfOk result (λ w. drop w.behind w.log.items ≡ []) }
 {
     let (first, second) = two_tables(alloc, sites, list)?;
@@ -133,7 +133,7 @@ fn first_writer(
 
 /// Two tables of one list, with no links. Want of memory is an error.
 fn two_tables(alloc: Global, sites: u32, list: Mark) -> Result<(Table, Table), AllocError>
-    ensures links { IfOk result (λ both. (both.0.links.items ≡ replicate sites None) × (both.1.links.items ≡ replicate sites None)) }
+    ensures links { IfOk result (λ both. (both.0.links ≡ replicate sites None) × (both.1.links ≡ replicate sites None)) }
     ensures classes { IfOk result (λ both. (both.0.classes ≡ 0) × (both.1.classes ≡ 0)) }
     ensures list { IfOk result (λ both. (both.0.list ≡ list) × (both.1.list ≡ list)) }
 {
@@ -155,11 +155,11 @@ fn first_shown<K: Name, R: Wait>(
     requires list { list.now ≡ [] }
     requires settled { length (drop writer.behind writer.log.items) ≡ 0 }
     requires book { writer.desk.shown.value.list.reached.book ≡ K.book }
-    requires links { writer.desk.shown.value.links.items ≡ replicate K.max_sites None }
+    requires links { writer.desk.shown.value.links ≡ replicate K.max_sites None }
     ensures settled { IfSome result (λ r. length (drop r.0.behind r.0.log.items) ≡ 0) }
     ensures log { IfSome result (λ r. r.0.desk.shown.value.list.reached.log ≡ []) }
     ensures book { IfSome result (λ r. r.0.desk.shown.value.list.reached.book ≡ K.book) }
-    ensures links { IfSome result (λ r. r.0.desk.shown.value.links.items ≡ replicate K.max_sites None) }
+    ensures links { IfSome result (λ r. r.0.desk.shown.value.links ≡ replicate K.max_sites None) }
     ensures callers { IfSome result (λ r. r.1.items ≡ replicate callers []) }
 {
     let writer = publish_blank(rt, alloc, writer, list)?;
@@ -183,11 +183,11 @@ fn publish_blank<K: Name, R: Wait>(
     requires list { list.now ≡ [] }
     requires settled { length (drop writer.behind writer.log.items) ≡ 0 }
     requires book { writer.desk.shown.value.list.reached.book ≡ K.book }
-    requires links { writer.desk.shown.value.links.items ≡ replicate K.max_sites None }
+    requires links { writer.desk.shown.value.links ≡ replicate K.max_sites None }
     ensures settled { IfSome result (λ w. length (drop w.behind w.log.items) ≡ 0) }
     ensures log { IfSome result (λ w. w.desk.shown.value.list.reached.log ≡ []) }
     ensures book { IfSome result (λ w. w.desk.shown.value.list.reached.book ≡ K.book) }
-    ensures links { IfSome result (λ w. w.desk.shown.value.links.items ≡ replicate K.max_sites None) }
+    ensures links { IfSome result (λ w. w.desk.shown.value.links ≡ replicate K.max_sites None) }
     ensures known { IfSome result (λ w. server_of (seat_view w.desk.place) ≡ Some (K.book, K.max_sites)) }
 {
     publish(rt, writer, blank(alloc, list))

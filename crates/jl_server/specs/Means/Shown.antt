@@ -13,7 +13,7 @@ use Rattle.jl_server.specs.declared.table.Content.{Content}
 
 -- what two copies of a table have in common
 abbrev pub content : Table → Content
-content t = record { links = t.links.items; classes = t.classes; list = t.list }
+content t = record { links = t.links; classes = t.classes; list = t.list }
 
 abbrev pub changed : Content → Change → Content
 changed t change = record { links = written t.links change.slots.items; classes = change.classes; list = change.list }

@@ -9,4 +9,4 @@ pub returns-in-Ok-clause-answer : goal.returns-in-Ok-clause-answer
 returns-in-Ok-clause-answer g c =
     let entered = c.in-Ok.ensures in
     inl (answer_shown c.in-Ok.reading.part.value c.args.site c.args.recv c.in-Ok.list c.answer-answer.result entered.shown entered.list
-    (c.answer-answer.ensures ∙ ap (λ (y : Table). fast_answer (get_or y.links.items c.args.site None) y.classes c.args.recv) c.get.ensures))
+    (c.answer-answer.ensures ∙ ap (λ (y : Table). fast_answer (get_or y.links c.args.site None) y.classes c.args.recv) c.get.ensures))

@@ -10,4 +10,4 @@ returns-in-Ok-clause-answers g c =
     let entered = c.in-Ok.ensures in
     let calls = c.args.calls.now in
     inl (answers_shown c.in-Ok.reading.part.value calls c.in-Ok.list c.answer_all.new.answers entered.shown entered.list
-    (c.answer_all.ensures ∙ ap (λ (y : Table). map (λ call. fast_answer (get_or y.links.items call.0 None) y.classes call.1) calls) c.get.ensures))
+    (c.answer_all.ensures ∙ ap (λ (y : Table). map (λ call. fast_answer (get_or y.links call.0 None) y.classes call.1) calls) c.get.ensures))

@@ -9,4 +9,4 @@ returns-in-Ok-clause-answer g c =
     let entered = c.in-Ok.ensures in
     inl (with_shown c.in-Ok.reading.part.value c.args.memo.now.sets c.args.site c.args.recv c.in-Ok.list c.answer_with-answer.result entered.shown entered.list
     (c.answer_with-answer.ensures
-    ∙ (λ i. answer_with (c.rows.ensures.rows i) (get_or (c.get.ensures i).links.items c.args.site None) (c.get.ensures i).classes c.args.site c.args.recv)))
+    ∙ (λ i. answer_with (c.rows.ensures.rows i) (get_or (c.get.ensures i).links c.args.site None) (c.get.ensures i).classes c.args.site c.args.recv)))

@@ -30,7 +30,7 @@ returns-clause-links g c =
     for_some
     (λ w shown.
     ap (λ t. t.links) shown
-    ∙ blank_links g.K.Name.max_sites c.args.writer.desk.shown.value.links.items c.blank.result.slots.items c.requires.links c.blank.ensures.0)
+    ∙ blank_links g.K.Name.max_sites c.args.writer.desk.shown.value.links c.blank.result.slots.items c.requires.links c.blank.ensures.0)
     c.publish.result c.publish.ensures.shown
 
 pub returns-clause-known : goal.returns-clause-known

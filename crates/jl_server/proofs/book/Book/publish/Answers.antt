@@ -31,7 +31,7 @@ invariant_of-self g c =
       ap (λ t. t.list.reached.log) shown ∙ change.log,
       ap (λ t. t.list.reached.book) shown ∙ change.book,
       ap (λ t. length t.links) shown
-          ∙ (length_written c.args.next.change.slots.items c.self.inside.writer.desk.shown.value.links.items ∙ c.self.invariant.3),
+          ∙ (length_written c.args.next.change.slots.items c.self.inside.writer.desk.shown.value.links ∙ c.self.invariant.3),
       c.in-Some.ensures.settled,
       alone_next c.args.next.installs c.self.inside.since c.since_after-self-inside.result c.self.inside.list xs c.args.next.list
           (planned_entry c.args.planned) c.self.view_is c.requires.list c.requires.installs

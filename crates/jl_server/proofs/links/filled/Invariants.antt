@@ -1,5 +1,5 @@
 use Rattle.std.proofs.Common.{◌≡◌, replicate}
-use Rattle.jl_server.proofs.table.filled.Given as goal
+use Rattle.jl_server.proofs.links.filled.Given as goal
 
 -- so many copies so far
 abbrev pub invariant-loop : goal.invariant-loop

@@ -1,6 +1,6 @@
 use Rattle.std.proofs.Common.{[], ◌∷◌, ◌++◌, ap, ◌∙◌}
 use Rattle.std.proofs.lemmas.List.{replicate_more}
-use Rattle.jl_server.proofs.table.filled.Goals as goal
+use Rattle.jl_server.proofs.links.filled.Goals as goal
 
 pub loop-preserved : goal.loop-preserved
 loop-preserved g c =
