@@ -1,13 +1,15 @@
 #!/usr/bin/env bash
-# Has one linker take every invocation of a JDK: a core of Rattle (`bench link`) and a host in C (whole.c), each with all classes defined, all
-# invocations requested and all links installed; then classes that come late. Told are seconds and the megabytes that are resident.
+# Has one linker take every invocation of a JDK, with all classes defined, all invocations requested and all links installed: a host in C
+# (whole.c), a core of Rattle (`bench link`) and a server of Rattle (`bench farm`). Told are seconds and the megabytes that are resident; of
+# the host also what events take behind all links and behind none. Beside them stands a Java program that keeps an object for each site.
 #
 #     bench/whole.sh LINKD BENCH
 #
 # LINKD is the built linkd, BENCH the built crates/bench; the library for C is built as for embed.sh. JAVA_HOME chooses a JDK 17 (else java of
-# the PATH). KEEP=DIR keeps the input and what was told there. How many links of each form the host has is compared with the totals of
-# `linkd report`. It ends with status 0 only where all is as it must be; needs cc, python3, 6 GB of disk and 2 GB of memory.
+# the PATH). KEEP=DIR keeps the input and what was told there. Each link of the host is compared with that of `linkd report --json`. It
+# ends with status 0 only where all is as it must be; needs cc, python3, xxd, 6 GB of disk and 2 GB of memory.
 set -eu
+set -o pipefail
 here=$(cd "$(dirname "$0")" && pwd)
 top=$(dirname "$here")
 . "$here/common.sh"
@@ -22,60 +24,67 @@ build_c "$work/whole" "$here/whole.c"
 
 echo "== the classes, parents first, and their invocations"
 run_java Links lines "$data"
-"$program" scan < "$data/ordered.hex" | python3 -c '
+"$program" scan < "$data/ordered.hex" > "$data/scanned.json"
+# All places, and those that wait for no call site.
+python3 - "$data/scanned.json" "$data/all_places.txt" "$data/ready_places.txt" <<'END'
 import json, sys
-for number, line in enumerate(sys.stdin):
-    for at, method in enumerate(json.loads(line)["methods"]):
-        for site in method["sites"]:
-            print(number, at, site["pc"])' > "$data/all_places.txt"
+
+with open(sys.argv[1]) as scanned, open(sys.argv[2], "w") as every, open(sys.argv[3], "w") as ready:
+    for number, line in enumerate(scanned):
+        for at, method in enumerate(json.loads(line)["methods"]):
+            for site in method["sites"]:
+                for out in [every] if site["kind"] == "invokedynamic" else [every, ready]:
+                    print(number, at, site["pc"], file=out)
+END
 wc -l < "$data/all_places.txt"
 cat "$data/ordered.hex" "$data/all_places.txt" > "$data/all.txt"
-late() {
-    echo "{\"name\":\"late/$1\",\"super\":\"$2\",\"flags\":33,\"methods\":[{\"name\":\"$3\",\"type\":\"$4\",\"flags\":1}]}" \
-        | "$program" sketch | xxd -r -p > "$data/$1.class"
+
+# The class file of late/$1, below $2, of these flags and methods.
+sketch() {
+    echo "{\"name\":\"late/$1\",\"super\":\"$2\",\"flags\":$3,\"methods\":[$4]}" | "$program" sketch | xxd -r -p > "$data/$1.class"
 }
-late List java/util/ArrayList size "()I"
-late Text java/lang/Object toString "()Ljava/lang/String;"
-late Other java/lang/Object other "()V"
+sketch List java/util/ArrayList 33 '{"name":"size","type":"()I","flags":1}'
+sketch Text java/lang/Object 33 '{"name":"toString","type":"()Ljava/lang/String;","flags":1}'
+sketch Other java/lang/Object 33 '{"name":"other","type":"()V","flags":1}'
+# It is abstract, so no object is of it, and it changes no link.
+m='{"name":"m","type":"()V","flags":9}'
+n='{"name":"n","type":"()V","flags":9}'
+r='{"name":"r","type":"()V","flags":9,"calls":[{"kind":"invokedynamic","name":"d","type":"()V"}]}'
+sketch Bound java/lang/Object 1057 "$m,$n,$r"
 
 echo "== a host in C"
-"$work/whole" "$data/all.txt" "$data/List.class" "$data/Text.class" "$data/Other.class" | tee "$data/host.txt"
+"$work/whole" "$data/all.txt" "$data/links.txt" "$data/Bound.class" "$data/List.class" "$data/Text.class" "$data/Other.class" \
+    | tee "$data/host.txt"
 
-echo "== a core of Rattle, in microseconds; the megabytes are read once a step is told"
-python3 -u -c '
-import subprocess, sys
-with open(sys.argv[2]) as given:
-    ran = subprocess.Popen([sys.argv[1], "link"], stdin=given, stdout=subprocess.DEVNULL, stderr=subprocess.PIPE, text=True)
-    for line in ran.stderr:
-        try:
-            status = open(f"/proc/{ran.pid}/status").read()
-            print(line.strip(), next(it.split()[1] for it in status.split("\n") if it.startswith("VmRSS")), "kB")
-        except (OSError, StopIteration):
-            print(line.strip())
-sys.exit(ran.wait())' "$bench" "$data/all.txt"
+# The lines of a kind and a count.
+kinds() {
+    grep -E '^(none|fault|plain|direct|virtual|interface|mega) [0-9]+$' "$1"
+}
 
-echo "== the totals of linkd report"
+echo "== a core of Rattle: the input alone, and all of it"
+"$here/resident.py" "$bench" < "$data/all.txt"
+"$here/resident.py" "$bench" link < "$data/all.txt" > "$data/core.txt"
+wanted=$(kinds "$data/host.txt" | awk -v OFS=", " '{ n[$1] = $2 }
+    END { print n["fault"], n["plain"], n["direct"], n["virtual"] + n["interface"], n["mega"] }')
+if ! grep -xF "faults, plain, direct, tables, megamorphic [$wanted]" "$data/core.txt"; then
+    echo "the core has other links than the host" >&2
+    exit 1
+fi
+
+echo "== a server of Rattle, without invokedynamic: the one worker of a farm links and installs 256 sites a job"
+cat "$data/ordered.hex" "$data/ready_places.txt" | "$here/resident.py" "$bench" farm 1 256 > "$data/farm.txt"
+if ! awk '{ n[$1] = $2 } END { exit !n["jobs"] || n["jobs"] != int((n["requests"] + 255) / 256) }' "$data/farm.txt"; then
+    echo "not every job is installed" >&2
+    exit 1
+fi
+
+echo "== a Java program that only keeps an object for each site: it has the host's links, finds none itself, and takes no event"
+run_java SiteObjects "$data/all.txt" "$data/links.txt" | tee "$data/objects.txt"
+diff <(kinds "$data/host.txt") <(kinds "$data/objects.txt")
+
+echo "== the host's links beside those of linkd report"
 jimage=$(dirname "$(readlink -f "$(command -v java)")")/jimage
 "$jimage" extract --dir "$work/jdk" "$(dirname "$(dirname "$jimage")")/lib/modules"
-"$program" report --json "$work/jdk" | tail -n 1 > "$data/totals.json"
-python3 - "$data/host.txt" "$data/totals.json" <<'END'
-import json, sys
-host = dict(line.rsplit(" ", 1) for line in open(sys.argv[1]) if line.count(" ") in (1, 2, 3) and line.split()[-1].isdigit())
-host = {key.strip(): int(value) for key, value in host.items()}
-totals = {}
-for forms in json.load(open(sys.argv[2]))["totals"].values():
-    for form, count in forms.items():
-        totals[form] = totals.get(form, 0) + count
-tables = host["virtual"] + host["interface"]
-wanted = {
-    "direct": host["plain"] + host["direct"] - host["direct that throws"],
-    "table": tables - host["empty tables"],
-    "noReceivers": host["empty tables"],
-    "mega": host["mega"],
-    "throws": host["fault"] + host["direct that throws"],
-    "notLinkable": host["never linkable:"],
-}
-wrong = {form: (count, totals.get(form, 0)) for form, count in wanted.items() if count != totals.get(form, 0)}
-print(wanted, "as in the report" if not wrong else f"NOT as in the report: {wrong}")
-sys.exit(1 if wrong else 0)
-END
+"$program" report --json "$work/jdk" > "$data/report.json"
+"$here/whole_rows.py" "$data/scanned.json" "$data/all_places.txt" "$data/links.txt" "$data/report.json"
+echo "all as it must be"
