@@ -9,6 +9,7 @@ use jl_pages::Again;
 use jl_types::{Answer, Fast, Link, MethodId, Outcome, Recv, Table, TableKind, Throwable};
 use std::alloc::{AllocError, Global};
 use std::marker::Model;
+use std::mem::size_of;
 use std::sync::Arc;
 
 /// A site's link as it is kept, or none, in sixteen bytes: a table stands apart, and copies share it. A clause sees the link or none.
@@ -26,6 +27,8 @@ enum Kept {
     Table(TableKind, Arc<Table>),
     Mega,
 }
+
+const _: () = prove!(size_of::<KeptSlot>() == 16);
 
 /// Written out, so that what drops one makes one call of it and doesn't take apart what it holds.
 impl Drop for KeptSlot {
@@ -137,6 +140,8 @@ impl KeptSlot {
 pub struct KeptLink {
     slot: KeptSlot,
 }
+
+const _: () = prove!(size_of::<KeptLink>() == 16);
 
 /// Written out, so that what drops one makes one call of it and doesn't take apart what it holds.
 impl Drop for KeptLink {

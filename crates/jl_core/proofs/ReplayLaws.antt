@@ -19,7 +19,7 @@ use Rattle.jl_settle.specs.Settling.{HasChanged, defined_by}
 use Rattle.jl_settle.proofs.SettleLaws.{other, rests}
 use Rattle.jl_events.specs.Changes.{IsAcceptable}
 use Rattle.jl_events.specs.Accepted.{Accepted, event_of}
-use Rattle.jl_core.specs.Means.Changes.{AreScratch, installs_at, retires_at}
+use Rattle.jl_core.specs.Means.Changes.{AreScratch, retires_at}
 use Rattle.jl_core.specs.Means.Replays.{IsFurther, IsUntouched}
 use Rattle.jl_core.specs.Means.Touched.{has}
 use Rattle.jl_core.proofs.RetireLaws.{retires_so, links_left, index_left, kept_left}

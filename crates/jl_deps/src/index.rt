@@ -9,7 +9,7 @@ ghost use Rattle.jl_types.specs.declared.key.Key.{Key};
 ghost use Rattle.jl_types.specs.Happenings.Footprints.{has_key};
 ghost use Rattle.jl_deps.specs.Means.Lists.{AreListed, listed, rests};
 
-use crate::kept::{Footprint, copy_footprint};
+use crate::kept::Footprint;
 use crate::lists::{Lists, relist, unlist_others};
 use indexmap::IndexMap;
 use jl_types::{Key, SiteNo};
@@ -145,7 +145,7 @@ fn add_all(alloc: Global, footprints: &Footprints, copy: &mut Index) -> Result<(
     let _len = footprints.len();
     let mut place = 0;
     while let Some((site, footprint)) = footprints.get_index(place) {
-        let keys = copy_footprint(alloc, footprint)?;
+        let keys = footprint.clone()?;
         copy.add(alloc, *site, keys)?;
         place += 1;
     }

@@ -6,6 +6,7 @@ use jl_names::Seq;
 use jl_types::Key;
 use std::alloc::{AllocError, Global};
 use std::marker::Model;
+use std::mem::size_of;
 use std::sync::Arc;
 use std::{fmt, slice};
 
@@ -22,6 +23,8 @@ enum Kept {
     One(Key),
     Several(Arc<Seq<Key>>),
 }
+
+const _: () = prove!(size_of::<Footprint>() == 16);
 
 /// Written out, so that what drops one makes one call of it and doesn't take apart what it holds.
 impl Drop for Footprint {
@@ -105,11 +108,4 @@ impl Footprint {
             Kept::Several(keys) => keys.as_slice(),
         }
     }
-}
-
-/// The same keys once more. Takes no memory. More copies than can be counted are an error.
-pub fn copy_footprint(_alloc: Global, footprint: &Footprint) -> Result<Footprint, AllocError>
-    ensures { IfOk result (λ copy. copy ≡ footprint.now) }
-{
-    footprint.clone()
 }

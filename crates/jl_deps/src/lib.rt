@@ -14,7 +14,7 @@ mod lists;
 
 pub use footprint::{footprint_of, footprint_of_linked};
 pub use index::Index;
-pub use kept::{Footprint, copy_footprint};
+pub use kept::Footprint;
 pub use keys::{
     Keys, keys_of, keys_of_definition, keys_of_points, keys_of_retirement, keys_of_target,
 };

@@ -7,7 +7,7 @@ ghost use Rattle.jl_cache.specs.Links.{link_at};
 ghost use Rattle.jl_deps.specs.Indexes.{footprint_at};
 
 use jl_cache::Cache;
-use jl_deps::{Footprint, Index, copy_footprint};
+use jl_deps::{Footprint, Index};
 use jl_types::SiteNo;
 use std::alloc::{AllocError, Global};
 
@@ -54,7 +54,7 @@ fn take_footprint(
 {
     match footprint {
         Some(footprint) => {
-            let copy = copy_footprint(alloc, footprint)?;
+            let copy = footprint.clone()?;
             index.add(alloc, site, copy)
         }
         None => {

@@ -15,7 +15,7 @@ loop-site-preserved c =
           entry_more entries c.loop-site.place c.in-Some.site.now c.in-Some.footprint.now (footprint_at c.add.new.self s) (footprint_at c.loop-site.copy s) s
           c.in-Some.ensures.entry c.in-Some.ensures.value
           (c.in_ok-add.ensures.ok s ∙ ap (λ (keys : List Key). if c.in-Some.site.now == s then Some keys else footprint_at c.loop-site.copy s)
-          c.in_ok-keys.ensures)
+          c.in_ok-keys.ensures.cases)
           (c.loop-site.invariant.added s);
     }
 
