@@ -1,6 +1,7 @@
 /* What calls at seats and by memos take beside look-ups under a lock, and what it takes to refresh a seat.
  *
- *     seats calls [CALLS]        nanoseconds of a call, by 1, 2 and 4 threads of CALLS (2,000,000) each: the middle of seven rounds
+ *     seats calls [CALLS]        nanoseconds of a call, by 1, 2 and 4 threads of CALLS (2,000,000) each: the middle of seven rounds; at
+ *                                1,024 sites beside each other, and spread over all
  *     seats memos [CALLS]        the same, of calls at megamorphic links
  *     seats refresh [EVENTS]     microseconds of a refresh behind one change, of EVENTS (500)
  *
@@ -17,7 +18,7 @@
 #include <string.h>
 #include <time.h>
 
-enum { SITES = 65536, CALLERS = 256, EACH = 128, BATCH = 256, CALLED = 1024, MOST_THREADS = 4, ROUNDS = 7, BELOW_E = 16, SETS = 4096 };
+enum { SITES = 65536, CALLERS = 256, EACH = 128, BATCH = 256, CALLED = 1024, SPREAD = SITES - 1, MOST_THREADS = 4, ROUNDS = 7, BELOW_E = 16, SETS = 4096 };
 
 static void must(bool holds, const char *what) {
     if (!holds) {
@@ -202,7 +203,8 @@ static linkd_seat *new_seat(void) {
 
 enum table { SEAT, ARRAY, MUTEX, RWLOCK, TABLES, MEMO = TABLES, SEAT_WITH_MEMO, LOCKED, ALL };
 
-static struct { uint32_t site, receiver; } called[CALLED];
+static struct { uint32_t site, receiver; } called[SPREAD];
+static uint32_t called_count = CALLED;
 static linkd_link *links;
 static pthread_mutex_t mutex = PTHREAD_MUTEX_INITIALIZER;
 static pthread_rwlock_t rwlock = PTHREAD_RWLOCK_INITIALIZER;
@@ -228,12 +230,12 @@ static void look_up(uint32_t site, uint32_t receiver, linkd_call_answer *answer)
 
 static struct spent { double start, end; } spent[MOST_THREADS];
 
-/* A memo that was asked for all that is called, behind the lock. */
+/* A memo that was asked for all that is called, where calls at memos are measured, behind the lock. */
 static linkd_memo *new_memo(void) {
     linkd_memo *memo = block(linkd_memo_size(), linkd_memo_align());
     linkd_memo_blank(memo);
     must(linkd_memo_open(memo, SETS) == LINKD_DONE, "a memo isn't opened");
-    for (int i = 0; i < CALLED; i++) {
+    for (int i = 0; i < CALLED && table >= MEMO; i++) {
         linkd_call_answer answer;
         must(linkd_memo_ask(memo, linker, called[i].site, called[i].receiver, &answer) == LINKD_DONE, "no answer");
     }
@@ -248,7 +250,7 @@ static void *thread(void *at) {
     pthread_mutex_unlock(&mutex);
     uint64_t sum = 0;
     enum table by = table;
-    uint32_t next = (uint32_t)(mine - spent) * (CALLED / MOST_THREADS);
+    uint32_t next = (uint32_t)(mine - spent) * (called_count / MOST_THREADS), end = called_count;
     pthread_barrier_wait(&together);
     mine->start = now();
     for (long i = 0; i < calls; i++) {
@@ -283,7 +285,7 @@ static void *thread(void *at) {
             look_up(site, receiver, &answer);
         }
         sum += answer.kind * UINT64_C(1000) + answer.class_number;
-        next = next + 1 == CALLED ? 0 : next + 1;
+        next = next + 1 == end ? 0 : next + 1;
     }
     mine->end = now();
     pthread_mutex_lock(&mutex);
@@ -350,22 +352,28 @@ static void measure_memos(void) {
     measure(MEMO, ALL, words);
 }
 
-static void measure_calls(void) {
+/* Calls at so many sites from 1 on, scattered by a step that has no factor with them. */
+static void measure_sites(uint32_t count, const char *where) {
     static const char *const words[] = {"a seat", "an array without a lock", "the array behind a mutex", "behind a read-write lock"};
-    links = block(SITES * sizeof *links, sizeof(void *));
-    for (uint32_t site = 0; site < SITES; site++) must(linkd_link_of(linker, site, &links[site]) == LINKD_DONE, "no link");
-    /* Sites beside each other, scattered by a step that has no factor with them. */
     int tables = 0;
-    for (uint32_t i = 0; i < CALLED; i++) {
-        uint32_t site = i * 2473 % CALLED + 1;
+    called_count = count;
+    for (uint32_t i = 0; i < count; i++) {
+        uint32_t site = i * 2473 % count + 1;
         bool of_a = (site - 1) / EACH % 2 == 0;
         called[i].site = site;
         called[i].receiver = of_a ? (i % 3 ? a : b) : (i % 3 ? c : d);
         tables += links[site].kind == LINKD_VIRTUAL_TABLE;
         must(links[site].kind == (of_a ? LINKD_VIRTUAL_TABLE : LINKD_DIRECT), "a link is of another kind");
     }
-    printf("%d sites of %d are called, %d through a table of 2 classes, the others direct; %ld calls a thread\n", CALLED, SITES, tables, calls);
+    printf("%u sites %s of %d are called, %d through a table of 2 classes, the others direct; %ld calls a thread\n", count, where, SITES, tables, calls);
     measure(SEAT, TABLES, words);
+}
+
+static void measure_calls(void) {
+    links = block(SITES * sizeof *links, sizeof(void *));
+    for (uint32_t site = 0; site < SITES; site++) must(linkd_link_of(linker, site, &links[site]) == LINKD_DONE, "no link");
+    measure_sites(CALLED, "beside each other");
+    measure_sites(SPREAD, "spread over all");
     free(links);
 }
 

@@ -3,6 +3,7 @@
 ghost use Rattle.std.specs.Prelude.{◌≡◌, ◌==◌, Some, find};
 ghost use Rattle.std.specs.Option.{option_copied};
 ghost use Rattle.jl_types.specs.declared.answer.Fast.TheVariants.{Now};
+ghost use Rattle.jl_types.specs.declared.answer.Recv.TheVariants.{Of};
 ghost use Rattle.jl_types.specs.declared.link.Link.TheVariants as variant;
 ghost use Rattle.jl_types.specs.Happenings.Fast as fast;
 ghost use Rattle.jl_cache.specs.Links.{fast_link};
@@ -25,30 +26,47 @@ pub fn fast(link: Option<Link>, recv: Recv) -> Fast
 pub fn direct_answer(classes: usize, outcome: Outcome, recv: Recv) -> Fast
     ensures { result ≡ fast.fast_answer (Some (variant.Direct outcome)) classes recv }
 {
-    if is_newer(classes, &recv) {
-        return Fast::Miss;
+    match recv {
+        Recv::Null => Fast::Now(Answer::Throws(Throwable::NullPointerException)),
+        Recv::Of(class) => outcome_for(classes, outcome, class),
     }
-    Fast::Now(outcome_on(outcome, recv))
 }
 
 /// What a call is answered by a table, where there are so many classes: nothing where the receiver's class is newer. Takes no memory.
 pub fn table_answer(classes: usize, kind: TableKind, table: &Table, recv: Recv) -> Fast
     ensures { result ≡ fast.fast_answer (Some (variant.Table kind table.now)) classes recv }
 {
-    if is_newer(classes, &recv) {
-        return Fast::Miss;
+    match recv {
+        Recv::Null => Fast::Now(Answer::Throws(Throwable::NullPointerException)),
+        Recv::Of(class) => row_for(classes, kind, table, class),
     }
-    Fast::Now(row_answer(kind, table, recv))
 }
 
-/// Whether the receiver's class came after so many classes.
-fn is_newer(classes: usize, recv: &Recv) -> bool
-    ensures { result ≡ fast.is_newer classes recv.now }
+/// The answer of an outcome on an object of the class.
+fn outcome_for(classes: usize, outcome: Outcome, class: ClassId) -> Fast
+    ensures { result ≡ fast.fast_answer (Some (variant.Direct outcome)) classes (Of class) }
 {
-    match recv {
-        Recv::Null => false,
-        Recv::Of(class) => classes <= class.number() as usize,
+    if is_newer(classes, class) {
+        return Fast::Miss;
     }
+    Fast::Now(Answer::from(outcome))
+}
+
+/// The answer of a table on an object of the class.
+fn row_for(classes: usize, kind: TableKind, table: &Table, class: ClassId) -> Fast
+    ensures { result ≡ fast.fast_answer (Some (variant.Table kind table.now)) classes (Of class) }
+{
+    if is_newer(classes, class) {
+        return Fast::Miss;
+    }
+    Fast::Now(entry_answer(kind, row_of(table.as_slice(), class)))
+}
+
+/// Whether the class came after so many classes.
+fn is_newer(classes: usize, class: ClassId) -> bool
+    ensures { result ≡ fast.is_newer classes (Of class) }
+{
+    classes <= class.number() as usize
 }
 
 /// The link's answer for a receiver.

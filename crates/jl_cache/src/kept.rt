@@ -1,8 +1,10 @@
 //! Links as they are kept.
 
-ghost use Rattle.std.specs.Prelude.{◌≡◌, Some, None, IfOk};
+ghost use Rattle.std.specs.Prelude.{◌≡◌, ℕ, Some, None, IfOk};
+ghost use Rattle.jl_types.specs.declared.answer.Recv.{Recv};
 ghost use Rattle.jl_types.specs.Happenings.Fast as fast;
-ghost use Rattle.jl_cache.specs.Links.{is_mega};
+ghost use Rattle.jl_cache.specs.Links as links;
+ghost use Rattle.jl_cache.specs.Means.Kept.{fixed_link};
 
 use crate::answers::{direct_answer, table_answer};
 use jl_pages::Again;
@@ -17,14 +19,20 @@ pub struct KeptSlot {
     kept: Kept,
 }
 
-/// What is kept of each link.
+/// What is kept of each link. One that looks at the receiver is told by its own variant, so that a call mostly makes one comparison.
 #[derive(Drop)]
 enum Kept {
+    Fixed(Fixed),
+    Direct(Outcome),
+    Table(TableKind, Arc<Table>),
+}
+
+/// What is kept of a link that looks at no receiver, of a megamorphic one, and of none.
+#[derive(Clone, Copy)]
+enum Fixed {
     Nothing,
     Fault(Throwable),
     Plain(MethodId),
-    Direct(Outcome),
-    Table(TableKind, Arc<Table>),
     Mega,
 }
 
@@ -53,12 +61,9 @@ impl Clone for KeptSlot {
 
     fn clone(&self) -> Result<KeptSlot, AllocError> {
         let kept = match &self.kept {
-            Kept::Nothing => Kept::Nothing,
-            Kept::Fault(throwable) => Kept::Fault(*throwable),
-            Kept::Plain(method) => Kept::Plain(*method),
+            Kept::Fixed(fixed) => Kept::Fixed(*fixed),
             Kept::Direct(outcome) => Kept::Direct(*outcome),
             Kept::Table(kind, table) => Kept::Table(*kind, Arc::try_clone(table)?),
-            Kept::Mega => Kept::Mega,
         };
         Ok(KeptSlot { kept })
     }
@@ -77,7 +82,7 @@ impl KeptSlot {
         ensures { result ≡ None }
     {
         KeptSlot {
-            kept: Kept::Nothing,
+            kept: Kept::Fixed(Fixed::Nothing),
         }
     }
 
@@ -86,11 +91,11 @@ impl KeptSlot {
         ensures { IfOk result (λ slot. slot ≡ Some link.now) }
     {
         let kept = match link {
-            Link::Fault(throwable) => Kept::Fault(*throwable),
-            Link::Plain(method) => Kept::Plain(*method),
+            Link::Fault(throwable) => Kept::Fixed(Fixed::Fault(*throwable)),
+            Link::Plain(method) => Kept::Fixed(Fixed::Plain(*method)),
             Link::Direct(outcome) => Kept::Direct(*outcome),
             Link::Table(kind, table) => Kept::Table(*kind, Arc::new(alloc, *table)?),
-            Link::Mega => Kept::Mega,
+            Link::Mega => Kept::Fixed(Fixed::Mega),
         };
         Ok(KeptSlot { kept })
     }
@@ -100,22 +105,19 @@ impl KeptSlot {
         ensures { result ≡ self.now }
     {
         match &self.kept {
-            Kept::Nothing => None,
-            Kept::Fault(throwable) => Some(Link::Fault(*throwable)),
-            Kept::Plain(method) => Some(Link::Plain(*method)),
+            Kept::Fixed(fixed) => fixed_link(*fixed),
             Kept::Direct(outcome) => Some(Link::Direct(*outcome)),
             Kept::Table(kind, table) => Some(Link::Table(*kind, **table)),
-            Kept::Mega => Some(Link::Mega),
         }
     }
 
     /// Whether there is a link, and a megamorphic one. Takes no memory.
     pub fn is_mega(&self) -> bool
-        ensures { result ≡ is_mega self.now }
+        ensures { result ≡ links.is_mega self.now }
     {
         match &self.kept {
-            Kept::Mega => true,
-            Kept::Nothing | Kept::Fault(_) | Kept::Plain(_) | Kept::Direct(_) => false,
+            Kept::Fixed(fixed) => is_mega(*fixed),
+            Kept::Direct(_) => false,
             Kept::Table(_, _) => false,
         }
     }
@@ -126,13 +128,44 @@ impl KeptSlot {
         ensures { result ≡ fast.fast_answer self.now classes recv }
     {
         match &self.kept {
-            Kept::Nothing => Fast::Miss,
-            Kept::Fault(throwable) => Fast::Now(Answer::Throws(*throwable)),
-            Kept::Plain(method) => Fast::Now(Answer::Run(*method)),
+            Kept::Fixed(fixed) => fixed_answer(*fixed),
             Kept::Direct(outcome) => direct_answer(classes, *outcome, recv),
             Kept::Table(kind, table) => table_answer(classes, *kind, table, recv),
-            Kept::Mega => Fast::Miss,
         }
+    }
+}
+
+/// The link of which this is kept, if there is one.
+fn fixed_link(fixed: Fixed) -> Option<Link>
+    ensures { result ≡ fixed_link fixed }
+{
+    match fixed {
+        Fixed::Nothing => None,
+        Fixed::Fault(throwable) => Some(Link::Fault(throwable)),
+        Fixed::Plain(method) => Some(Link::Plain(method)),
+        Fixed::Mega => Some(Link::Mega),
+    }
+}
+
+/// Whether it is a megamorphic link.
+fn is_mega(fixed: Fixed) -> bool
+    ensures { result ≡ links.is_mega (fixed_link fixed) }
+{
+    match fixed {
+        Fixed::Mega => true,
+        Fixed::Nothing | Fixed::Fault(_) | Fixed::Plain(_) => false,
+    }
+}
+
+/// What a call is answered at once, whatever its receiver is and however many classes there are.
+fn fixed_answer(fixed: Fixed) -> Fast
+    ensures { (classes : ℕ) (recv : Recv) → result ≡ fast.fast_answer (fixed_link fixed) classes recv }
+{
+    match fixed {
+        Fixed::Nothing => Fast::Miss,
+        Fixed::Fault(throwable) => Fast::Now(Answer::Throws(throwable)),
+        Fixed::Plain(method) => Fast::Now(Answer::Run(method)),
+        Fixed::Mega => Fast::Miss,
     }
 }
 
@@ -202,7 +235,7 @@ impl KeptLink {
 
     /// Whether it is megamorphic. Takes no memory.
     pub fn is_mega(&self) -> bool
-        ensures { result ≡ is_mega (Some self.now) }
+        ensures { result ≡ links.is_mega (Some self.now) }
     {
         self.slot.is_mega()
     }

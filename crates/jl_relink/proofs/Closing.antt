@@ -1,5 +1,5 @@
 -- What is present rests on what is present after each accepted event, too, and which sites stay present.
-use Rattle.std.specs.Prelude.{◌≡◌, ℕ, ◌+◌, ◌<◌, ◌≤◌, ◌==◌, not, ◌&&◌, ◌||◌, nat_le, Bool, true, false, cond, List, [], ◌∷◌, map, filter, length}
+use Rattle.std.specs.Prelude.{◌≡◌, ℕ, ◌<◌, ◌==◌, not, ◌&&◌, ◌||◌, nat_le, Bool, true, false, cond, List, [], ◌∷◌, map, filter, length}
 use Rattle.std.specs.Prelude.{slice_get, Option, Some, None, option_map, IsOk}
 use Rattle.std.specs.Option.{option_map_or}
 use Rattle.std.specs.List.{list_any}
@@ -21,7 +21,6 @@ use Rattle.jl_types.specs.Values.Ancestry.{AreOrdered, is_ancestor, receivers}
 use Rattle.jl_types.specs.Happenings.Definitions.{is_unknown, with_record, delegate_fault, delegated}
 use Rattle.jl_types.specs.Happenings.Retirement.{is_of, classes_fault, targeted, retire_fault, retired, losing_receivers}
 use Rattle.jl_types.specs.Happenings.Events.{unless, verdict, step}
-use Rattle.jl_types.specs.declared.key.Key.{Key}
 use Rattle.jl_types.specs.declared.key.Key.TheVariants as key
 use Rattle.jl_types.specs.Happenings.Footprints.{same_key, has_key, retires}
 use Rattle.jl_types.proofs.Ancestors.{ancestor_decides}

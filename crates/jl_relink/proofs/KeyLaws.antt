@@ -1,6 +1,6 @@
 -- An event that changes nothing of what a site's link rests on leaves the link, and what it rests on.
 use Rattle.std.specs.Prelude.{◌≡◌, ℕ, ◌<◌, ◌==◌, ◌&&◌, ◌||◌, Bool, true, false, cond, List, [], ◌∷◌, ◌++◌, length, map, slice_get, Option, Some, None}
-use Rattle.std.specs.Prelude.{option_and_then, Ok, if◌then◌else◌, ◌≢◌, IsOk}
+use Rattle.std.specs.Prelude.{option_and_then, Ok, if◌then◌else◌, IsOk}
 use Rattle.std.proofs.Common.{refl, ap, sym, ◌∙◌}
 use Rattle.std.proofs.lemmas.Bool.{both_ways}
 use Rattle.std.proofs.lemmas.Cmp.{nat_eq_equiv}

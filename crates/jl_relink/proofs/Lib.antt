@@ -10,6 +10,7 @@ pub mod Untouched
 pub mod Closing
 pub mod KeyLaws
 pub mod InOrder
+mod InheritedRuns
 pub mod OneReceiver
 pub mod Costs
 pub mod CountLaws

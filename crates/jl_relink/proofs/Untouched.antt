@@ -25,7 +25,7 @@ use Rattle.jl_types.specs.declared.answer.Unlinked.TheVariants.{Gone}
 use Rattle.jl_types.specs.declared.link.Link.{Link}
 use Rattle.jl_types.specs.declared.link.Link.TheVariants.{Direct}
 use Rattle.jl_types.specs.declared.link.TableKind.TheVariants as table
-use Rattle.jl_types.specs.Values.World.{Class, Classes, Sites, World}
+use Rattle.jl_types.specs.Values.World.{Classes, Sites, World}
 use Rattle.jl_types.specs.Values.Members.{is_present, is_private, is_static, is_interface, is_concrete, numbers, declared}
 use Rattle.jl_types.specs.Values.Ancestry.{receivers, is_ancestor, superclasses}
 use Rattle.jl_types.specs.Linkage.Access.{accessible, is_accessible_class}

@@ -4,7 +4,10 @@ use Rattle.std.specs.List.{list_all}
 use Rattle.jl_class.specs.Flags.{extends_object}
 use Rattle.jl_types.specs.Happenings.Event.{Event}
 use Rattle.jl_types.specs.declared.event.EventOf.TheVariants as event
+use Rattle.jl_types.specs.declared.ids.MethodId.{MethodId}
+use Rattle.jl_types.specs.declared.answer.Outcome.TheVariants.{Run}
 use Rattle.jl_types.specs.declared.link.Link.{Link}
+use Rattle.jl_types.specs.declared.link.Link.TheVariants.{Direct}
 use Rattle.jl_types.specs.Values.World.{World}
 use Rattle.jl_types.specs.Happenings.Events.{verdict, step}
 use Rattle.jl_types.specs.Linkage.Links.{outcome, scratch}
@@ -14,6 +17,7 @@ use Rattle.jl_types.specs.Happenings.History.{world_after, is_link}
 use Rattle.jl_hierarchy.specs.Constancy.{AreInOrder}
 use Rattle.jl_callsites.specs.Known.{are_known}
 use Rattle.jl_types.specs.Happenings.Footprints.{footprint, stays_with}
+use Rattle.jl_relink.specs.Receivers.{inherits}
 
 -- each site that has a link from scratch has the same one after the event
 pub record LinksStay (w : World) (e : Event) : Type 0 where
@@ -30,13 +34,16 @@ pub record SiteStays (w after : World) (s : ℕ) (l : Link) : Type 0 where
   pub rests_on : footprint after s ≡ footprint w s
 
 -- After the definition of a class that the site's link looks at, the site selects as before, by this invocation, and whether its link
--- stays is told by the link and by what the invocation comes to for the new class. What the link rests on stays.
+-- stays is told by the link and by what the invocation comes to for the new class: a link to one method stays where the class inherits that.
+-- What the link rests on stays.
 pub record OneMore (w : World) (loader : ℕ) (file : ClassFile) (s : ℕ) (l : Link) : Type 0 where
   pub invocation : ResolvedCall
   pub selects : stage (step w (event.Define loader file)) s ≡ Selects invocation
   pub selector : invocation.selector ≢ BySpecial
   pub link : is_link (scratch (step w (event.Define loader file)) s) l
       ≡ stays_with l (outcome (step w (event.Define loader file)).classes invocation (length w.classes.rows))
+  pub inherited : (m : MethodId) → l ≡ Direct (Run m) → inherits (step w (event.Define loader file)).classes (length w.classes.rows) m ≡ true
+      → is_link (scratch (step w (event.Define loader file)) s) l ≡ true
   pub rests_on : footprint (step w (event.Define loader file)) s ≡ footprint w s
 
 -- ---- lists of accepted events

@@ -13,10 +13,13 @@ use Rattle.std.proofs.lemmas.List.Sums.{sum_by-cons, sum_by_push}
 use Rattle.std.proofs.lemmas.List.Folds.{list_any-append}
 use Rattle.jl_class.specs.Class.{ClassFile}
 use Rattle.jl_types.specs.declared.answer.Unlinked.{Unlinked}
+use Rattle.jl_types.specs.declared.ids.MethodId.{MethodId}
+use Rattle.jl_types.specs.declared.answer.Outcome.TheVariants.{Run, Throws}
 use Rattle.jl_types.specs.declared.link.Link.{Link}
+use Rattle.jl_types.specs.declared.link.Link.TheVariants.{Fault, Plain, Direct, Table, Mega}
 use Rattle.jl_types.specs.Linkage.Links.{same_link}
 use Rattle.jl_types.specs.Means.SameLink.{link_decides}
-use Rattle.jl_types.specs.Values.World.{World}
+use Rattle.jl_types.specs.Values.World.{World, Classes}
 use Rattle.jl_types.specs.Happenings.Definitions.{class_made}
 use Rattle.jl_types.specs.Happenings.Event.{Event}
 use Rattle.jl_types.specs.declared.event.EventOf.TheVariants as event
@@ -28,13 +31,13 @@ use Rattle.jl_types.specs.Happenings.History.{has_link, is_link, kept}
 use Rattle.jl_types.specs.Happenings.Footprints.{footprint, most_for, stays_with, touches}
 use Rattle.jl_hierarchy.proofs.Rising.{has}
 use Rattle.jl_relink.specs.Laws.{OneMore, changes_receivers}
-use Rattle.jl_relink.specs.Receivers.{TellsStay}
+use Rattle.jl_relink.specs.Receivers.{TellsStay, inherits}
 use Rattle.jl_relink.proofs.OneReceiver.{one_more}
 use Rattle.jl_relink.proofs.Costs.{takes_one_evaluation}
 use Rattle.jl_cache.specs.Links.{link_with}
 use Rattle.jl_deps.specs.Indexes.{footprint_at, AreRising, IsIndex, StaysIndexed, touched_by}
 use Rattle.jl_deps.proofs.IndexLaws.{touched_of, others_stay}
-use Rattle.jl_settle.specs.Settling.{kept_at, goes, defined_by, HasChanged, IsTold, MayBeAsked, most_asked}
+use Rattle.jl_settle.specs.Settling.{kept_at, goes, defined_by, HasChanged, IsTold, MayBeAsked, inherits_run, most_asked}
 
 -- ---- loops over sites
 
@@ -179,6 +182,16 @@ same_turned a b =
     one_answer (same_link a b) (same_link b a) (λ e. e, λ e. e)
     (λ h. (link_decides a b).1 (sym ((link_decides b a).0 h)), λ h. (link_decides b a).1 (sym ((link_decides a b).0 h)))
 
+-- a link that runs one method, by that
+by_method : (cs : Classes) (x : ℕ) (l : Link) (G : Type 0) → ((m : MethodId) → l ≡ Direct (Run m) → inherits cs x m ≡ true → G)
+    → inherits_run cs x l ≡ true → G
+by_method cs x (Direct (Run m)) G f h = f m refl h
+by_method cs x (Direct (Throws throwable)) G f h = cc
+by_method cs x (Fault throwable) G f h = cc
+by_method cs x (Plain m) G f h = cc
+by_method cs x (Table kind rows) G f h = cc
+by_method cs x Mega G f h = cc
+
 told_kept : (l : Link) (r : Result Link Unlinked) → is_link r l ≡ is_some (kept false (Some l) r)
 told_kept l (Err reason) = refl
 told_kept l (Ok now) = same_turned now l ∙ by_test (same_link l now)
@@ -288,6 +301,11 @@ module _ (world : World) (keys : List Key) (links : ℕ → Option Link) (index 
               ∙ sym here.link
               ∙ ap (λ (w : World). is_link (scratch w s) l) (sym after)
               ∙ told_kept l (scratch world s);
+          inherited =
+              by_method world.classes x l (is_some (kept false (Some l) (scratch world s)) ≡ true) (λ m direct h.
+              sym (told_kept l (scratch world s))
+              ∙ ap (λ (w : World). is_link (scratch w s) l) after
+              ∙ here.inherited m direct (sym (λ i. inherits (after i).classes (is_definition.class i) m) ∙ h));
         }
 
     each_told : AllByRecursion (MayBeAsked world (Some x) links) (touched_by index keys)
@@ -332,6 +350,22 @@ told_gone w x links s l stays told is tells = sym (ap (λ (o : Option Link). is_
     by_kept : (o : Option Link) → stays ≡ is_some o → is_none o ≡ not stays
     by_kept None e = sym (ap not e)
     by_kept (Some k) e = sym (ap not e)
+
+-- a link stays whose method the class inherits
+pub inherited_stays : (w : World) (x : ℕ) (links : ℕ → Option Link) (s : ℕ) (l : Link) → IsTold w x links s → links s ≡ Some l
+    → inherits_run w.classes x l ≡ true → false ≡ goes w links s
+inherited_stays w x links s l told is h = sym (ap (λ (o : Option Link). is_some o && is_none (kept false o (scratch w s))) is
+    ∙ some_kept (kept false (Some l) (scratch w s)) there)
+  where
+    there : is_some (kept false (Some l) (scratch w s)) ≡ true
+    there =
+        let same : told.link ≡ l = same_Some told.link l (sym told.is ∙ is) in
+        sym (ap (λ (m : Link). is_some (kept false (Some m) (scratch w s))) same)
+        ∙ told.inherited (ap (inherits_run w.classes x) same ∙ h)
+
+    some_kept : (o : Option Link) → is_some o ≡ true → is_none o ≡ false
+    some_kept None e = cc
+    some_kept (Some k) e = refl
 
 -- ---- installs
 

@@ -1,9 +1,11 @@
 -- What is left of the links and the index once an event has changed the world.
-use Rattle.std.specs.Prelude.{◌≡◌, ℕ, Bool, false, length, ◌&&◌, List, Option, Some, None, Ok, IsOk, is_some, is_none, ⊤}
+use Rattle.std.specs.Prelude.{◌≡◌, ℕ, Bool, true, false, length, ◌&&◌, List, Option, Some, None, Ok, IsOk, is_some, is_none, ⊤}
 use Rattle.jl_types.specs.Happenings.Event.{Event}
 use Rattle.jl_types.specs.declared.event.EventOf.TheVariants as event
+use Rattle.jl_types.specs.declared.answer.Outcome.TheVariants.{Run, Throws}
 use Rattle.jl_types.specs.declared.link.Link.{Link}
-use Rattle.jl_types.specs.Values.World.{World}
+use Rattle.jl_types.specs.declared.link.Link.TheVariants.{Fault, Plain, Direct, Table, Mega}
+use Rattle.jl_types.specs.Values.World.{World, Classes}
 use Rattle.jl_types.specs.Linkage.Links.{scratch}
 use Rattle.jl_types.specs.Happenings.Events.{verdict, step}
 use Rattle.jl_types.specs.Happenings.History.{kept}
@@ -11,7 +13,7 @@ use Rattle.jl_types.specs.declared.key.Key.{Key}
 use Rattle.jl_types.specs.Happenings.Footprints as footprints
 use Rattle.jl_types.specs.Happenings.Footprints.{most_for}
 use Rattle.jl_relink.specs.Laws.{IsInOrder}
-use Rattle.jl_relink.specs.Receivers.{TellsStay}
+use Rattle.jl_relink.specs.Receivers.{TellsStay, inherits}
 use Rattle.jl_deps.specs.Indexes.{IsIndex}
 
 -- the site's link, where it is the one from scratch
@@ -43,11 +45,21 @@ pub record HasChanged (world : World) (keys : List Key) (defined : Option ℕ) (
 
 -- ---- a touched site
 
--- The site has a link, and the receiver x tells whether it stays.
+-- the link runs one method for each receiver, and the class x inherits that
+abbrev pub inherits_run : Classes → ℕ → Link → Bool
+inherits_run cs x (Direct (Run m)) = inherits cs x m
+inherits_run cs x (Direct (Throws throwable)) = false
+inherits_run cs x (Fault throwable) = false
+inherits_run cs x (Plain m) = false
+inherits_run cs x (Table kind rows) = false
+inherits_run cs x Mega = false
+
+-- The site has a link, and the receiver x tells whether it stays: it does where x inherits the one method that it runs.
 pub record IsTold (w : World) (x : ℕ) (links : ℕ → Option Link) (s : ℕ) : Type 0 where
   pub link : Link
   pub is : links s ≡ Some link
   pub told : (stays : Bool) → TellsStay w s link x stays → stays ≡ is_some (kept false (Some link) (scratch w s))
+  pub inherited : inherits_run w.classes x link ≡ true → is_some (kept false (Some link) (scratch w s)) ≡ true
 
 -- whether its link stays is known: by the class that was defined, or by the link from scratch
 abbrev pub MayBeAsked : World → Option ℕ → (ℕ → Option Link) → ℕ → Type 0

@@ -7,11 +7,12 @@ ghost use Rattle.jl_types.specs.Happenings.History.{kept};
 ghost use Rattle.jl_types.specs.Happenings.Footprints.{most_for};
 ghost use Rattle.jl_relink.specs.Receivers.{TellsStay};
 ghost use Rattle.jl_cache.specs.Links.{link_at};
-ghost use Rattle.jl_settle.specs.Settling.{goes, MayBeAsked, most_asked};
+ghost use Rattle.jl_settle.specs.Settling.{goes, MayBeAsked, inherits_run, most_asked};
 
 use jl_cache::{Cache, KeptLink};
-use jl_relink::{World, link_counted, stays_with_receiver};
-use jl_types::{ClassId, Link, SiteNo, Work};
+use jl_hierarchy::Classes;
+use jl_relink::{World, inherits, link_counted, stays_with_receiver};
+use jl_types::{ClassId, Link, Outcome, SiteNo, Work};
 use std::alloc::{AllocError, Global};
 
 /// Those of the sites whose links aren't the ones from scratch any more. Want of memory is an error.
@@ -67,8 +68,27 @@ fn is_lost(
         return false;
     };
     match defined {
-        Some(receiver) => !stays(world, site, kept, *receiver, work),
+        Some(receiver) => {
+            if inherits_run(&world.classes, *receiver, kept) {
+                return false;
+            }
+            !stays(world, site, kept, *receiver, work)
+        }
         None => !is_still(world, site, kept.get(), work),
+    }
+}
+
+/// Whether the link runs one method for each receiver, which the new class inherits: such a link stays, without a look at the site.
+fn inherits_run(classes: &Classes, receiver: ClassId, kept: &KeptLink) -> bool
+    ensures { result ≡ inherits_run classes.now receiver kept.now }
+{
+    match kept.get() {
+        Link::Direct(Outcome::Run(method)) => inherits(classes, receiver, &method),
+        Link::Direct(Outcome::Throws(_)) => false,
+        Link::Fault(_) => false,
+        Link::Plain(_) => false,
+        Link::Table(_, _) => false,
+        Link::Mega => false,
     }
 }
 
