@@ -146,13 +146,21 @@ static size_t fill(FILE *input) {
 /* The seconds that the longest of the last batches took. */
 static double longest;
 
-/* Installs the links of these sites, or of each alone that has one. */
+/* Installs the links of those of these sites that have one. */
 static size_t install(const uint32_t *batch, size_t count) {
-    uint32_t status = linkd_install(linker, batch, count, &told);
-    if (status == LINKD_DONE) return count;
-    must(status == LINKD_NOT_READY, "a batch is refused");
     size_t installed = 0;
-    for (size_t at = 0; count > 1 && at < count; at++) installed += install(batch + at, 1);
+    while (count > 0) {
+        uint32_t status = linkd_install(linker, batch, count, &told);
+        if (status == LINKD_DONE) return installed + count;
+        must(status == LINKD_NOT_READY, "a batch is refused");
+        size_t waiting = 0;
+        while (waiting < count && batch[waiting] != told.place) waiting++;
+        must(waiting < count, "a site that waits isn't of the batch");
+        if (waiting > 0) done(linkd_install(linker, batch, waiting, &told), "the sites before the one that waits");
+        installed += waiting;
+        batch += waiting + 1;
+        count -= waiting + 1;
+    }
     return installed;
 }
 

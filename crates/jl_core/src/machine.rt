@@ -1,8 +1,10 @@
 //! The event machine.
 
 ghost use Rattle.std.specs.Prelude.{◌≡◌, ◌≤◌, ◌⊎◌, ℕ, true, length, IsOk, IfOk, IfErr, OnOk, OnErr};
+ghost use Rattle.jl_types.specs.declared.event.Reply.{Reply};
 ghost use Rattle.jl_types.specs.declared.refusal.Refusal.TheVariants.{Memory};
 ghost use Rattle.jl_types.specs.Linkage.Calls as calls;
+ghost use Rattle.jl_types.specs.Happenings.Event.{Event};
 ghost use Rattle.jl_types.specs.Happenings.Events.{verdict};
 ghost use Rattle.jl_types.specs.Happenings.History.{installed};
 ghost use Rattle.jl_types.specs.Happenings.Footprints.{bound};
@@ -90,8 +92,11 @@ impl Core {
         ensures refused { IfErr result (IsRefused (verdict self.old.max_sites (world_of self.old) event)) }
         ensures unchanged { OnErr result (self.new ≡ self.old) }
     {
-        let planned = self.plan(alloc, event)?;
-        Ok(self.commit(planned))
+        let mut work = Work::new();
+        let event = self.present.judged(event, &mut work)?;
+        let (next, reply) = self.perform_next(alloc, event, &mut work)?;
+        self.come_to(next, work.ticks());
+        Ok(reply)
     }
 
     /// The first half of [`apply`](Core::apply): every refusal and every growth, and no change. The plan tells what the event is
@@ -160,9 +165,29 @@ impl Core {
         ensures unchanged { self.new ≡ self.old }
         ensures ticks { OnOk result (work.new ≤ bound (events self.old) event) }
     {
-        let next = self.take_next(alloc)?;
-        let (next, reply) = next.perform(alloc, event, work)?;
+        let (next, reply) = self.perform_next(alloc, event, work)?;
         Planned::new(alloc, &self.present, next, reply, work.ticks())
+    }
+
+    /// The second instance after an event that is accepted, with its reply; and counts what that takes beside what it took to judge the
+    /// event. Want of memory is an error.
+    fn perform_next(
+        &mut self,
+        alloc: Global,
+        event: Event,
+        work: &mut Work,
+    ) -> Result<(Instance, Reply), AllocError>
+        requires accepted { IsOk (verdict self.old.max_sites (world_of self.old) event) }
+        requires judged { work.old ≤ most_to_judge (world_of self.old) event }
+        requires small { work.old ≤ 16777216 }
+        ensures accepted { IfOk result (λ next. IsAccepted self.old next.0 event next.1) }
+        ensures unchanged { self.new ≡ self.old }
+        ensures ticks { OnOk result (work.new ≤ bound (events self.old) event) }
+        ensures work { IfOk result (λ next. work.new ≤ most_of_last (events next.0)) }
+    {
+        let next = self.take_next(alloc)?;
+        let (after, reply) = next.perform(alloc, event, work)?;
+        Ok((after, reply))
     }
 
     /// The second half of [`apply`](Core::apply): the core is as the plan left it, and comes to be what it was planned to be.
@@ -173,10 +198,19 @@ impl Core {
         ensures reply { result ≡ planned.reply }
     {
         let (after, reply, work) = planned.into_parts();
+        self.come_to(after, work);
+        reply
+    }
+
+    /// The core comes to be this instance, to which one event has led that took so much work. Takes no memory.
+    fn come_to(&mut self, after: Instance, work: u64)
+        requires after { (e : Event) × (reply : Reply) × IsAccepted self.old after e reply }
+        requires work { work ≤ most_of_last (events after) }
+        ensures { self.new ≡ after }
+    {
         let before = mem::replace(&mut self.present, after);
         self.next = Some(before);
         self.last_work = work;
-        reply
     }
 
     /// The second instance, which is as the core is. Want of memory is an error.
