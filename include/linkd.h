@@ -2,16 +2,17 @@
  *
  * A linker is a block of linkd_size() bytes at a multiple of linkd_align() that the caller has, as from aligned_alloc, the stack or
  * an arena. linkd_blank makes a linker of it, linkd_open opens it, and after linkd_close the block is only memory again: it holds
- * nothing. A seat is one thread's place to read links without a lock, and a memo what one thread remembers of calls at megamorphic
- * links; their blocks are made and left the same way.
+ * nothing. A seat is one thread's place to read links without a lock, a memo what one thread remembers of calls at megamorphic links,
+ * and a view what there was to link when it was taken, in which a compiler prepares links without a lock; their blocks are made and left
+ * the same way.
  *
  * What a caller owes, since nothing checks it:
- *  - a linker, a seat or a memo is passed only between its blank and the end of its block, which isn't moved or written in between;
- *  - one call at a time is made on a linker, on a seat, and on a memo. Another thread may make the next call if a lock, a join or a
- *    seq_cst atomic orders the two;
+ *  - a linker, a seat, a memo or a view is passed only between its blank and the end of its block, which isn't moved or written in between;
+ *  - one call at a time is made on a linker, on a seat, on a memo, and on a view. Another thread may make the next call if a lock, a
+ *    join or a seq_cst atomic orders the two;
  *  - texts, arrays and out places are valid for the call, also where their length is 0 (then, too, the pointer isn't null), and an
- *    out place is no part of the linker, of the seat, of the memo, of what is read, or of another out place;
- *  - a linker and a memo are closed, and a seat left, before its block goes; each may be done more than once;
+ *    out place is no part of the linker, of the seat, of the memo, of the view, of what is read, or of another out place;
+ *  - a linker and a memo are closed, and a seat and a view left, before its block goes; each may be done more than once;
  *  - no call is made from a signal handler, or in the forked child of a process with threads;
  *  - malloc, realloc and free come from one allocator.
  */
@@ -28,6 +29,7 @@ extern "C" {
 typedef struct linkd linkd;
 typedef struct linkd_seat linkd_seat;
 typedef struct linkd_memo linkd_memo;
+typedef struct linkd_view linkd_view;
 
 /* What a call answers: LINKD_DONE, why the linker refuses an event, or why it wasn't asked. But where it was done the linker and the
  * seat are as before, unless linkd_answer lacks memory (see there). The sections named are those of the Java Virtual Machine
@@ -43,8 +45,8 @@ enum linkd_status {
     LINKD_NOT_DYNAMIC = 7,     /* the site is no invokedynamic */
     LINKD_ALREADY_BOUND = 8,   /* place is the call site that it is bound to */
     LINKD_TYPE_MISMATCH = 9,
-    LINKD_STALE = 10,          /* place is the site whose link isn't the one from scratch now */
-    LINKD_NOT_READY = 11,      /* place is the site that has no link from scratch now */
+    LINKD_STALE = 10,          /* place is the first site whose given link isn't the one from scratch now */
+    LINKD_NOT_READY = 11,      /* place is the first site that has no link from scratch now, or in a view had none then */
     LINKD_UNKNOWN_SITE = 12,   /* place is the number under which nothing was requested; of a bind, also a site of a retired class */
     LINKD_REPEATED = 13,       /* place is the site that comes twice */
     LINKD_BATCH_SIZE = 14,     /* no sites, or more than 256 */
@@ -53,10 +55,10 @@ enum linkd_status {
     LINKD_LOADERS_FULL = 17,
     LINKD_RETIRE = 19,         /* fault is a linkd_retire_fault */
     LINKD_NO_CLASS_FILE = 32,  /* the bytes are no class file: fault is a linkd_class_fault */
-    LINKD_MALFORMED = 33,      /* a kind, type or target that is none, or a number that is too large */
-    LINKD_CLOSED = 34,         /* the linker or the memo isn't open, or the seat was never refreshed */
+    LINKD_MALFORMED = 33,      /* a kind, type, target or link that is none, or a number that is too large */
+    LINKD_CLOSED = 34,         /* the linker or the memo isn't open, the seat was never refreshed, or the view never taken */
     LINKD_OPEN_ALREADY = 35,
-    LINKD_TOO_SHORT = 36       /* the array is too short; the length that is wanted was written */
+    LINKD_TOO_SHORT = 36       /* the array is too short; the length that is wanted was written, where there is a place for it */
 };
 
 /* What an event made, or why it was refused; each number that says nothing is 0. It is written whatever the status is. */
@@ -174,6 +176,12 @@ typedef struct linkd_link {
     linkd_row rows[8];
 } linkd_link;
 
+/* A site with the link that it is to have. */
+typedef struct linkd_link_row {
+    uint32_t site;
+    linkd_link link;
+} linkd_link_row;
+
 /* The null reference, as a receiver. */
 #define LINKD_NULL UINT32_C(0xffffffff)
 
@@ -208,6 +216,12 @@ uint32_t linkd_retire(linkd *at, uint32_t loader, linkd_told *told);
 /* Links the sites from scratch, 1 to 256 of them, and installs their links: all of them or none. LINKD_NOT_READY names the first that
  * has no link now: a linkd_call there is LINKD_UNLINKED. */
 uint32_t linkd_install(linkd *at, const uint32_t *sites, size_t count, linkd_told *told);
+
+/* Installs these links, of 1 to 256 sites, all of them or none; each has to be its site's link from scratch now, wherever and whenever it
+ * was looked up. LINKD_STALE names the first site of which that isn't so, and writes its link from scratch into present, which no other
+ * status writes. LINKD_MALFORMED where a link is none by its kind, its count or one of its rows; what it doesn't say isn't looked at.
+ * The others are LINKD_BATCH_SIZE, LINKD_UNKNOWN_SITE, LINKD_REPEATED, LINKD_NOT_READY, LINKD_MEMORY and LINKD_CLOSED. */
+uint32_t linkd_install_links(linkd *at, const linkd_link_row *rows, size_t count, linkd_told *told, linkd_link *present);
 
 /* The sites, rising, whose links the last accepted event removed, whichever event that was: they are pending now. As many as may be
  * requested are always room enough. Takes no memory. */
@@ -264,6 +278,28 @@ uint32_t linkd_memo_call(linkd_memo *at, uint32_t site, uint32_t receiver, linkd
 /* Lets go what the memo remembers: it isn't open then. A memo that is to be asked of another linker, or of one that was closed and opened
  * again, is closed and opened first. Counts as a call on the memo alone. */
 void linkd_memo_close(linkd_memo *at);
+
+/* ---- a view */
+
+size_t linkd_view_size(void);
+size_t linkd_view_align(void);
+void linkd_view_blank(linkd_view *at);
+/* Gives the view what there is to link now, classes, sites and call sites, in the place of what it had. Nothing is copied here, but by
+ * a later event where the view still has it then: so leave a view once it isn't needed. Counts as a call on the view and on the linker.
+ * LINKD_CLOSED where the linker isn't open, LINKD_MEMORY where memory lacks: the view has what it had. */
+uint32_t linkd_view_take(linkd_view *at, linkd *from);
+/* After how many accepted events it was taken. Counts as a call on the view alone, as each that follows; it may outlive the linker. */
+uint32_t linkd_view_serial(linkd_view *at, uint64_t *serial);
+/* As linkd_call, when the view was taken. Takes no lock and no memory. */
+uint32_t linkd_view_call(linkd_view *at, uint32_t site, uint32_t receiver, linkd_call_answer *answer);
+/* The links of these sites from scratch, 1 to 256 of them, as they were when the view was taken, in the order of the sites: all are
+ * written or none. Nothing is installed, and no lock taken. capacity is that of links: LINKD_TOO_SHORT where it is less than count.
+ * Then, in this order: LINKD_BATCH_SIZE; LINKD_UNKNOWN_SITE or LINKD_REPEATED, whose place is the first site that wasn't requested or
+ * comes a second time; LINKD_NOT_READY, whose place is the first site that had no link; LINKD_MEMORY where there is none of these, or
+ * where memory lacks for the list of the sites. */
+uint32_t linkd_view_prepare(linkd_view *at, const uint32_t *sites, size_t count, linkd_link *links, size_t capacity, linkd_told *told);
+/* Lets go what the view has: it is as if it was never taken. */
+void linkd_view_leave(linkd_view *at);
 
 #ifdef __cplusplus
 }

@@ -8,14 +8,18 @@ ghost use Rattle.jl_host.specs.Showing.{recv_of};
 ghost use Rattle.jl_host.specs.Seats.{seen_of};
 ghost use Rattle.jl_host.specs.Linkers.{IsOpen, IsNewLoader, IsDefine, IsDelegate, IsRequest, IsNewCallSite, IsSetTarget, IsNewSwitch, IsInvalidate};
 ghost use Rattle.jl_host.specs.Linkers.{IsBind, IsRetire, IsInstall, IsDropped, IsTake, IsCall, IsLinkOf, IsAnswer, kind_of, IfOpen, IsAsked};
+ghost use Rattle.jl_session.specs.Sessions.{snapshot_of};
+ghost use Rattle.jl_host.specs.Views.{IsInstallLinks};
 ghost use Rattle.jl_host.specs.Linkers.{Opened as OpenedValue};
 
 use crate::arrays::{copy_sites, copy_text, sites_of, switches_of};
 use crate::opened::Opened;
+use crate::reading::{LinkRow, rows_of};
 use crate::seat_view::SeatView;
 use crate::shown::{CallAnswer, LinkShown, answer_shown, link_shown, recv_of};
 use crate::told::{CLOSED, DONE, MALFORMED, MEMORY, OPEN_ALREADY, Told, unasked};
 use jl_names::{Name, Seq};
+use jl_relink::Snapshot;
 use jl_session::read_target;
 use jl_types::{Answer, CallSiteId, CallSiteKind, ClassId, Event, Link, LoaderId, Place, SiteNo};
 use std::alloc::{AllocError, Global};
@@ -235,6 +239,29 @@ impl Linker {
         opened.install(alloc, sites.as_slice(), told)
     }
 
+    /// The links are installed, of 1 to 256 sites, each of which is its site's link from scratch now, wherever it was looked up: all or
+    /// none. The first site whose link is another one is told, and its present link written.
+    pub fn install_links(
+        &mut self,
+        alloc: Global,
+        rows: &[LinkRow],
+        told: &mut Told,
+        present: &mut LinkShown,
+    ) -> u32
+        ensures { IsInstallLinks rows.now self.old present.old result told.new present.new self.new }
+    {
+        let Some(opened) = &mut self.opened else {
+            return unasked(CLOSED, told);
+        };
+        let Ok(rows) = rows_of(alloc, rows) else {
+            return unasked(MEMORY, told);
+        };
+        let Some(rows) = rows else {
+            return unasked(MALFORMED, told);
+        };
+        opened.install_links(alloc, rows, told, present)
+    }
+
     /// Copies the sites, rising, whose links the last accepted event removed, and tells how many they are. Takes no memory.
     pub fn dropped(&mut self, out: &mut [u32], count: &mut usize) -> u32
         ensures { IsDropped self.old out.old count.old result out.new count.new self.new }
@@ -311,6 +338,18 @@ impl Linker {
             return Ok(None);
         };
         let seen = opened.seen(alloc)?;
+        Ok(Some(seen))
+    }
+
+    /// What there is to link now, with the count of its events, where it is open. Want of memory is an error.
+    pub(crate) fn snapshot(&self, alloc: Global) -> Result<Option<Snapshot>, AllocError>
+        ensures seen { IfOk result (λ seen. seen ≡ option_map (λ opened. snapshot_of opened.session) self.now) }
+        ensures open { OnErr result ((opened : OpenedValue) × (self.now ≡ Some opened)) }
+    {
+        let Some(opened) = &self.opened else {
+            return Ok(None);
+        };
+        let seen = opened.core().snapshot(alloc)?;
         Ok(Some(seen))
     }
 

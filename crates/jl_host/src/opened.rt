@@ -7,16 +7,18 @@ ghost use Rattle.jl_core.specs.State.{events, world_of};
 ghost use Rattle.jl_host.specs.Numbers.{memory};
 ghost use Rattle.jl_host.specs.Linkers.{newly_opened, IsAsked, IsAskedIf, IsUnasked, call_site_of, IsDefined, IsInstalled, IsAnswered, last_dropped};
 ghost use Rattle.jl_host.specs.Seats.{seen_of};
+ghost use Rattle.jl_host.specs.Views.{IsGiven, present_of};
 
 use crate::behind::{Links, follow, no_links};
 use crate::seat_view::SeatView;
+use crate::shown::{LinkShown, link_shown};
 use crate::told::{DONE, MALFORMED, MEMORY, Told, tell, tell_file, tell_unprepared, unasked};
 use jl_classfile::read_class;
 use jl_core::Core;
 use jl_json::is_method_descriptor;
-use jl_names::Name;
+use jl_names::{Name, Seq};
 use jl_session::Session;
-use jl_types::{Answer, CallSiteKind, Event, Link, LoaderId, Recv, SiteNo, Target};
+use jl_types::{Answer, CallSiteKind, Event, Link, LoaderId, Recv, Refusal, Reply, SiteNo, Target};
 use std::alloc::{AllocError, Global};
 use std::marker::Model;
 use std::sync::Arc;
@@ -155,6 +157,21 @@ impl Opened {
         }
     }
 
+    /// Asks for the install of these links, and shows the present one where a link is stale.
+    pub(crate) fn install_links(
+        &mut self,
+        alloc: Global,
+        rows: Vec<(SiteNo, Link)>,
+        told: &mut Told,
+        present: &mut LinkShown,
+    ) -> u32
+        ensures { IsGiven rows.items self.old present.old result told.new present.new self.new }
+    {
+        let outcome = self.session.submit(alloc, Event::Install(Seq::of(rows)));
+        show_present(&outcome, present);
+        tell(outcome, told)
+    }
+
     /// What the last accepted event dropped. Takes no memory.
     pub(crate) fn last_dropped(&self) -> &[SiteNo]
         ensures { result.now ≡ last_dropped self.now.session.core }
@@ -188,5 +205,14 @@ impl Opened {
         self.reached = reached;
         let links = Arc::try_clone(&self.links)?;
         Ok(SeatView::new(links, self.session.core().class_count()))
+    }
+}
+
+/// Shows the present link of a site whose link is stale.
+fn show_present(outcome: &Result<Reply, Refusal>, present: &mut LinkShown)
+    ensures { present.new ≡ present_of outcome.now present.old }
+{
+    if let Err(Refusal::Stale { present: link, .. }) = outcome {
+        *present = link_shown(Some(*link));
     }
 }

@@ -1,6 +1,6 @@
-//! A linker, a seat and a memo as a host has them: scripts, step by step.
+//! A linker, a seat, a memo and a view as a host has them: scripts, step by step.
 
-use crate::steps::{Step, answer, numbers};
+use crate::steps::{Compiler, Step, answer, numbers};
 use Step::*;
 use jl_host::{Linker, Memo, NULL, Seat};
 use std::process::Abort;
@@ -16,12 +16,13 @@ const OBJECT: &[u8] =
 const A: &[u8] =
     b"\xca\xfe\xba\xbe\x00\x00\x00\x3d\x00\x08\x01\x00\x01A\x07\x00\x01\x01\x00\x10java/lang/Object\x07\x00\x03\x01\x00\x01f\x01\x00\x03()V\x01\x00\x04Code\x00\x21\x00\x02\x00\x04\x00\x00\x00\x00\x00\x01\x00\x01\x00\x05\x00\x06\x00\x01\x00\x07\x00\x00\x00\x0d\x00\x00\x00\x00\x00\x00\x00\x01\xb1\x00\x00\x00\x00\x00\x00";
 
-/// Asserts each row of the script, on a linker, a seat and a memo that were made just now.
+/// Asserts each row of the script, on a linker, a seat, a memo and a view that were made just now.
 fn assert_rows(rt: &(impl Abort + AllocGlobal), script: &str, rows: &[StepRow]) {
     let mut linker = Linker::blank();
     let mut seat = Seat::blank();
     let mut memo = Memo::blank();
-    assert_each(rt, script, &mut linker, &mut seat, &mut memo, rows);
+    let mut by = Compiler::new();
+    assert_each(rt, script, &mut linker, &mut seat, &mut memo, &mut by, rows);
 }
 
 /// Asserts that each step comes to the numbers of its row, and zeros behind them.
@@ -31,10 +32,11 @@ fn assert_each(
     linker: &mut Linker,
     seat: &mut Seat,
     memo: &mut Memo,
+    by: &mut Compiler,
     rows: &[StepRow],
 ) {
     for (place, (step, wanted)) in rows.iter().enumerate() {
-        let came = answer(rt.alloc(), linker, seat, memo, step);
+        let came = answer(rt.alloc(), linker, seat, memo, by, step);
         assert!(rt; came == numbers(wanted), "{script}, step {place}: {came:?}");
     }
 }
@@ -123,6 +125,77 @@ const OVERRIDING: &[StepRow] = &[
     (Open(2), &[0]),
     (Refresh, &[0]),
     (SeatCall(0, 4), &[0, 4]),
+];
+
+/// A with B below it and M that calls A.f, in a view; then C that overrides f, of which the view knows nothing.
+const VIEWS: &[StepRow] = &[
+    (Take, &[34]),
+    (Serial, &[34, 99]),
+    (ViewCall(0, NULL), &[34, 9, 9, 9]),
+    (Prepare(&[0], 1), &[34, 0, 9, 9, 9]),
+    (InstallLinks(&[(0, 0)]), &[34, 0, 9, 1, 9]),
+    (Open(2), &[0]),
+    (Define(0, OBJECT), &[0, 0]),
+    (Define(0, A), &[0, 1]),
+    (
+        Says(
+            r#"{"do":"define","loader":0,"sketch":{"name":"M","super":"java/lang/Object","flags":33,"methods":[{"name":"run","type":"()V","flags":9,"calls":[{"kind":"invokevirtual","of":"A","name":"f","type":"()V"},{"kind":"invokestatic","of":"Z","name":"z","type":"()V"}]}]}}"#,
+            r#"{"class":2,"dropped":[]}"#,
+        ),
+        &[0, 0, 1],
+    ),
+    (Request(2, 0, 0), &[0, 0]),
+    (Take, &[0]),
+    (Serial, &[0, 4]),
+    (Request(2, 0, 3), &[0, 1]),
+    (ViewCall(0, 1), &[0, 0, 1, 0]),
+    (ViewCall(1, NULL), &[0, 3, 0, 6]),
+    (Prepare(&[0], 0), &[36, 0, 9, 9, 9]),
+    (Prepare(&[], 1), &[14, 0, 9, 9, 9]),
+    (Prepare(&[0, 1], 2), &[12, 1, 9, 9, 9]),
+    (Prepare(&[0, 0], 2), &[13, 0, 9, 9, 9]),
+    (Prepare(&[0], 1), &[0, 0, 3, 9, 9]),
+    (InstallLinks(&[(0, 1)]), &[33, 0, 9, 1, 9]),
+    (InstallLinks(&[(0, 0)]), &[0, 0, 9, 1, 9]),
+    (LinkOf(0), &[0, 3, 1, 0, 0, 1, 0]),
+    (
+        Says(
+            r#"{"do":"define","loader":0,"sketch":{"name":"C","super":"A","flags":33,"methods":[{"name":"f","type":"()V","flags":1}]}}"#,
+            r#"{"class":3,"dropped":[0]}"#,
+        ),
+        &[0, 0, 1],
+    ),
+    (Serial, &[0, 4]),
+    (ViewCall(0, 3), &[0, 2]),
+    (Prepare(&[0], 1), &[0, 0, 3, 9, 9]),
+    (InstallLinks(&[(0, 0)]), &[10, 0, 4, 2, 0]),
+    (LinkOf(0), &[0, 0, 0, 9, 9, 9, 9]),
+    (Take, &[0]),
+    (Serial, &[0, 7]),
+    (ViewCall(0, 3), &[0, 0, 3, 0]),
+    (Prepare(&[1, 0], 2), &[11, 1, 3, 9, 9]),
+    (Prepare(&[0], 4), &[0, 0, 4, 9, 9]),
+    (InstallLinks(&[]), &[14, 0, 9, 1, 9]),
+    (InstallLinks(&[(0, 0), (0, 0)]), &[13, 0, 9, 1, 9]),
+    (InstallLinks(&[(0, 0), (7, 0)]), &[12, 7, 9, 1, 9]),
+    (InstallLinks(&[(1, 0), (0, 0)]), &[11, 1, 9, 1, 9]),
+    (InstallLinks(&[(0, 0)]), &[0, 0, 9, 1, 9]),
+    (LinkOf(0), &[0, 4, 2, 3, 0, 3, 0]),
+    (Spoil(0, [4, 9, 0]), &[0]),
+    (InstallLinks(&[(0, 0)]), &[33, 0, 9, 1, 9]),
+    (Spoil(0, [4, 2, 2]), &[0]),
+    (InstallLinks(&[(0, 0)]), &[33, 0, 9, 1, 9]),
+    (Spoil(0, [7, 1, 0]), &[0]),
+    (InstallLinks(&[(0, 0)]), &[33, 0, 9, 1, 9]),
+    (Spoil(0, [5, 2, 0]), &[0]),
+    (InstallLinks(&[(0, 0)]), &[10, 0, 4, 2, 0]),
+    (Spoil(0, [6, 0, 0]), &[0]),
+    (InstallLinks(&[(0, 0)]), &[10, 0, 4, 2, 0]),
+    (Close, &[0]),
+    (ViewCall(0, 3), &[0, 0, 3, 0]),
+    (Take, &[34]),
+    (LeaveView, &[0]),
+    (Serial, &[34, 99]),
 ];
 
 /// T with static m and n, and r with an invokedynamic; one that names a class that isn't there; and loaders.
@@ -477,6 +550,7 @@ const RETIREMENT: &[StepRow] = &[
 fn scripts(rt: HostRuntime) {
     assert_rows(&rt, "overriding", OVERRIDING);
     assert_rows(&rt, "call_sites", CALL_SITES);
+    assert_rows(&rt, "views", VIEWS);
     assert_rows(&rt, "megamorphic", MEGAMORPHIC);
     assert_rows(&rt, "files", FILES);
     assert_rows(&rt, "session", SESSION);
