@@ -43,7 +43,10 @@ from pathlib import Path
 # ---- what is particular to this repository
 CRATE = Path(__file__).resolve().parent.parent / 'crates/linkd_c'
 LIBRARY = 'jl_host'
-MODULES = {'Linker': 'linker', 'Seat': 'seat', 'Memo': 'memo', 'Told': 'told', 'CallAnswer': 'shown', 'LinkShown': 'shown', 'LinkRow': 'reading', 'View': 'view'}
+MODULES = {
+    'Linker': 'linker', 'Seat': 'seat', 'Memo': 'memo', 'View': 'view',
+    'Told': 'told', 'CallAnswer': 'shown', 'LinkShown': 'shown', 'LinkRow': 'reading', 'Invocation': 'invocations',
+}
 # ----
 
 BITS = {'u8': 8, 'u16': 16, 'u32': 32, 'u64': 64, 'usize': 64}

@@ -5,11 +5,8 @@ use Rattle.std.specs.Bool.{then_some}
 use Rattle.std.proofs.Common.{refl, ap, sym, subst, ◌∙◌, arith, inl, inr}
 use Rattle.std.proofs.lemmas.List.{length-map}
 use Rattle.jl_types.specs.declared.event.EventOf.TheVariants as event
-use Rattle.jl_types.specs.declared.event.Made.{Made}
 use Rattle.jl_types.specs.declared.event.Made.TheVariants as made
 use Rattle.jl_types.specs.declared.event.Reply.{Reply}
-use Rattle.jl_types.specs.declared.answer.Outcome.{Outcome}
-use Rattle.jl_types.specs.declared.answer.Unlinked.{Unlinked}
 use Rattle.jl_types.specs.declared.link.Link.{Link}
 use Rattle.jl_types.specs.declared.refusal.PrepareFault.{PrepareFault}
 use Rattle.jl_types.specs.declared.refusal.PrepareFault.TheVariants as fault
@@ -37,8 +34,8 @@ use Rattle.jl_host.specs.declared.told.Told.{Told}
 use Rattle.jl_host.specs.Numbers.{done, memory, malformed, too_short, status_of_refusal, status_of_unprepared}
 use Rattle.jl_host.specs.Telling.{status_of}
 use Rattle.jl_host.specs.Showing.{shown}
-use Rattle.jl_host.specs.Reading.{all_of, with_first, link_of, row_of, rows_of, runs_declarable, is_shown_whole}
-use Rattle.jl_host.specs.Linkers.{Opened, IsAsked}
+use Rattle.jl_host.specs.Reading.{all_of, with_first, rows_of, runs_declarable}
+use Rattle.jl_host.specs.Linkers.{Opened}
 use Rattle.jl_host.specs.Views.{links_in, given, IsPreparedIn, IsPrepareOf, IsUnprepared, IsViewPrepare, IsGiven, IsNotGiven, IsInstalledLinks, IsInstallLinks}
 use Rattle.jl_host.proofs.ReadAgain.{read_again, whole_from_scratch}
 

@@ -1,8 +1,10 @@
 -- Items that are read one after another, and such that are written to the front of an array.
-use Rattle.std.specs.Prelude.{◌≡◌, ℕ, suc, ◌<◌, ◌≤◌, ◌+◌, List, [], ◌∷◌, ◌++◌, map, take, drop, length, get_or, slice_set, Option, Some, None, option_map}
+use Rattle.std.specs.Prelude.{◌≡◌, ℕ, suc, ◌<◌, ◌≤◌, ◌+◌, List, [], ◌∷◌, ◌++◌, map, take, drop, length, get_or, slice_get, slice_set, Option, Some}
+use Rattle.std.specs.Prelude.{None, option_map}
 use Rattle.std.specs.List.{AllZip}
-use Rattle.std.proofs.Common.{refl, sym, ap, ◌∙◌, subst, arith, add-one}
-use Rattle.std.proofs.lemmas.List.{append_assoc, append-nil, drop_all, take-append-drop, take_more, map-append, length-map, length-take-le}
+use Rattle.std.proofs.Common.{refl, sym, ap, ◌∙◌, subst, arith, add-one, inl, inr}
+use Rattle.std.proofs.lemmas.List.{append_assoc, append-nil, drop_all, take-append-drop, take_more, map-append, length-map, length-take-le, take_all}
+use Rattle.std.proofs.lemmas.Option.{slice_get_cases}
 use Rattle.std.proofs.Math.Seq.{drop-cons}
 use Rattle.jl_host.specs.Reading.{all_of, with_first}
 
@@ -103,3 +105,20 @@ one_at_front g rows before now i row v few room at is so_far =
 
     more : take (i + 1) rows ≡ take i rows ++ row ∷ []
     more = take_more rows i row few ∙ ap (λ r. take i rows ++ r ∷ []) (sym at)
+
+-- the last ones were written where there is no further one
+pub all_at_front : {A B : Type 0} (g : A → B) (rows : List A) (before now : List B) (i : ℕ) → i ≤ length rows → slice_get rows i ≡ None
+    → now ≡ map g (take i rows) ++ drop i before → now ≡ map g rows ++ drop (length rows) before
+all_at_front g rows before now i few none so_far =
+    elim ((slice_get_cases rows i).1) [
+      | inl h ↦ absurd (some_none (sym h.2 ∙ none))
+      | inr h ↦
+          let all : i ≡ length rows =
+          let past = h.0 in
+          omega (arith, few, past)
+          in
+          so_far ∙ ap (λ xs. map g xs ++ drop i before) (take_all i rows h.0) ∙ ap (λ k. map g rows ++ drop k before) all
+    ]
+  where
+    some_none : {A : Type 0} {x : A} → Some x ≡ None → ⊥
+    some_none e = cc

@@ -31,7 +31,7 @@ use Rattle.jl_host.specs.Numbers.{status_of_file, number_of}
 use Rattle.jl_host.specs.Telling.{told_of_refusal, told_of_reply, told_of_unprepared, told_of_file}
 use Rattle.jl_host.specs.Showing.{recv_of, answer_shown, fast_shown, link_shown, shown}
 use Rattle.jl_host.specs.declared.shown.LinkShown.{LinkShown}
-use Rattle.jl_host.specs.Reading.{throwable_of, link_of, all_of}
+use Rattle.jl_host.specs.Reading.{link_of, all_of}
 use Rattle.jl_host.specs.Linkers.{kind_of}
 
 -- ---- statuses

@@ -1,4 +1,4 @@
--- `Numbers`, `Telling`, `Showing`, `Copies`, `Linkers`, `Seats`, `Memos`, `Reading` and `Views` are what contracts cite; `Behind` is a means of proof.
+-- `Numbers`, `Telling`, `Showing`, `Copies`, `Linkers`, `Seats`, `Memos`, `Reading`, `Views` and `Asking` are what contracts cite; `Behind` is a means of proof.
 pub mod Numbers
 pub mod Telling
 pub mod Showing
@@ -8,4 +8,5 @@ pub mod Seats
 pub mod Memos
 pub mod Reading
 pub mod Views
+pub mod Asking
 pub mod Means

@@ -67,10 +67,14 @@ table_kind_of n = if n == 4 then Some Virtual else if n == 5 then Some Interface
 abbrev pub table_of : TableKind → ℕ → List Row → Option Link
 table_of kind count rows = if nat_le count 8 then option_map (Table kind) (all_of entry_of (take count rows)) else None
 
--- of no table's kind: megamorphic, without a row, or of one row
+-- megamorphic, without a row
+abbrev pub mega_of : ℕ → Option Link
+mega_of count = if count == 0 then Some Mega else None
+
+-- of no table's kind: megamorphic, or of one row
 abbrev pub no_table_of : ℕ → ℕ → Row → Option Link
 no_table_of kind count row =
-    if kind == 6 then (if count == 0 then Some Mega else None)
+    if kind == 6 then mega_of count
     else if count == 1 then option_and_then (single_of kind) (outcome_of row)
     else None
 

@@ -10,9 +10,14 @@ ghost use Rattle.jl_host.specs.Linkers.{IsOpen, IsNewLoader, IsDefine, IsDelegat
 ghost use Rattle.jl_host.specs.Linkers.{IsBind, IsRetire, IsInstall, IsDropped, IsTake, IsCall, IsLinkOf, IsAnswer, kind_of, IfOpen, IsAsked};
 ghost use Rattle.jl_session.specs.Sessions.{snapshot_of};
 ghost use Rattle.jl_host.specs.Views.{IsInstallLinks};
+ghost use Rattle.jl_host.specs.Asking.{IsLookup, IsClassName, IsMethodName, IsMethodType, IsInvocations, IsLastWork};
 ghost use Rattle.jl_host.specs.Linkers.{Opened as OpenedValue};
 
 use crate::arrays::{copy_sites, copy_text, sites_of, switches_of};
+use crate::asked::{
+    copy_class_name, copy_invocations_of, copy_method_name, copy_method_type, find_class,
+};
+use crate::invocations::Invocation;
 use crate::opened::Opened;
 use crate::reading::{LinkRow, rows_of};
 use crate::seat_view::SeatView;
@@ -305,6 +310,73 @@ impl Linker {
             return CLOSED;
         };
         *link = link_shown(opened.core().links().get(SiteNo::new(site)));
+        DONE
+    }
+
+    /// The class that the loader finds under the name (JVMS SE 17 §5.3): one that it has defined or was delegated. Takes no memory.
+    pub fn lookup(&mut self, loader: u32, name: &[u8], class: &mut u32) -> u32
+        ensures { IsLookup loader name.now self.old class.old result class.new self.new }
+    {
+        match &self.opened {
+            Some(opened) => find_class(opened.core(), loader, name, class),
+            None => CLOSED,
+        }
+    }
+
+    /// Copies the name of the class as its file has it (§4.2.1), be the class retired or not, and tells its length. Takes no memory.
+    pub fn class_name(&mut self, class: u32, out: &mut [u8], count: &mut usize) -> u32
+        ensures { IsClassName class self.old out.old count.old result out.new count.new self.new }
+    {
+        match &self.opened {
+            Some(opened) => copy_class_name(opened.core(), class, out, count),
+            None => CLOSED,
+        }
+    }
+
+    /// Copies the name of the method (§4.2.2) at the place among those that the class declares, and tells its length. Takes no memory.
+    pub fn method_name(&mut self, class: u32, method: u32, out: &mut [u8], count: &mut usize) -> u32
+        ensures { IsMethodName class method self.old out.old count.old result out.new count.new self.new }
+    {
+        match &self.opened {
+            Some(opened) => copy_method_name(opened.core(), class, method, out, count),
+            None => CLOSED,
+        }
+    }
+
+    /// Copies the descriptor of that method (§4.3.3), and tells its length. Takes no memory.
+    pub fn method_type(&mut self, class: u32, method: u32, out: &mut [u8], count: &mut usize) -> u32
+        ensures { IsMethodType class method self.old out.old count.old result out.new count.new self.new }
+    {
+        match &self.opened {
+            Some(opened) => copy_method_type(opened.core(), class, method, out, count),
+            None => CLOSED,
+        }
+    }
+
+    /// Copies the invocations in that method's code (§6.5), by rising pc, and tells how many there are. Takes no memory.
+    pub fn invocations(
+        &mut self,
+        class: u32,
+        method: u32,
+        out: &mut [Invocation],
+        count: &mut usize,
+    ) -> u32
+        ensures { IsInvocations class method self.old out.old count.old result out.new count.new self.new }
+    {
+        match &self.opened {
+            Some(opened) => copy_invocations_of(opened.core(), class, method, out, count),
+            None => CLOSED,
+        }
+    }
+
+    /// How many selections, special searches and evaluations of call sites the last accepted event took. Takes no memory.
+    pub fn last_work(&mut self, work: &mut u64) -> u32
+        ensures { IsLastWork self.old work.old result work.new self.new }
+    {
+        let Some(opened) = &self.opened else {
+            return CLOSED;
+        };
+        *work = opened.core().last_work();
         DONE
     }
 

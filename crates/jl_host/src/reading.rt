@@ -2,7 +2,6 @@
 
 ghost use Rattle.std.specs.Prelude.{◌≡◌, ◌≤◌, length, Some, None, option_map, IfOk, OnErr};
 ghost use Rattle.jl_types.specs.declared.answer.Outcome.TheVariants.{Run, Throws};
-ghost use Rattle.jl_host.specs.Showing.{no_row};
 ghost use Rattle.jl_host.specs.Reading as reading;
 
 use crate::fill::fill;
@@ -32,8 +31,8 @@ fn throwable_of(number: u32) -> Option<Throwable>
     }
 }
 
-/// The method of these numbers.
-fn method_of(class: u32, value: u32) -> Option<MethodId>
+/// The method of these numbers, where a class can have so many.
+pub(crate) fn method_of(class: u32, value: u32) -> Option<MethodId>
     ensures { result ≡ reading.method_of class value }
 {
     let Ok(index) = u16::try_from(value) else {
@@ -160,7 +159,7 @@ fn no_table_of(kind: u32, count: u32, row: &Row) -> Option<Link>
 
 /// A megamorphic link, which has no row.
 fn mega_of(count: u32) -> Option<Link>
-    ensures { result ≡ reading.no_table_of 6 count no_row }
+    ensures { result ≡ reading.mega_of count }
 {
     match count {
         0 => Some(Link::Mega),

@@ -15,16 +15,22 @@ use jl_types::{
 /// The status of a call that did what was asked.
 pub const DONE: u32 = 0;
 
+/// The status of a call with the number or the name of a class that isn't there: the number of that refusal.
+pub const UNKNOWN_CLASS: u32 = 2;
+
+/// The status of a call with the place of a method that isn't there: the number of that refusal.
+pub const NO_SUCH_PLACE: u32 = 3;
+
 /// The status of a call that wanted memory: the number of that refusal.
 pub const MEMORY: u32 = 15;
 
 /// The status of a definition by bytes that are no class file.
 pub const NO_CLASS_FILE: u32 = 32;
 
-/// The status of a call with a kind, a type or a target that is none, or with a number that is too large.
+/// The status of a call with a kind, a type, a target or a link that is none, or with a number that is too large.
 pub const MALFORMED: u32 = 33;
 
-/// The status of a call on a linker that isn't open, or on a seat that was never refreshed.
+/// The status of a call on a linker that isn't open, on a seat that was never refreshed, or on a view that was never taken.
 pub const CLOSED: u32 = 34;
 
 /// The status of an opening of a linker that is open.

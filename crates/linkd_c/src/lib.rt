@@ -3,8 +3,8 @@
 //! A C program gives a block of `linkd_size()` bytes at a multiple of `linkd_align()`; it makes it a linker by `linkd_blank`, opens
 //! it, calls it, closes it, and has its block for itself again. A seat is one thread's place to read: by a refresh it takes the
 //! linker's links as they are, and then reads them while other threads use the linker. A memo is what one thread remembers of calls at
-//! megamorphic links. A view has what there was to link when it was taken, and prepares links there. Each function is one call of jl_host, and says of what lies behind the handle what that call says of its value;
-//! `specs/Handle` says what lies there.
+//! megamorphic links. A view has what there was to link when it was taken, and prepares links there. Each function is one call of
+//! jl_host, and says of what lies behind the handle what that call says of its value; `specs/Handle` says what lies there.
 #![tactic(auto)]
 
 ghost use Rattle.std.specs.Prelude.{◌≡◌, List, Option, None};
@@ -13,6 +13,7 @@ ghost use Rattle.jl_host.specs.Linkers.{Opened, IsOpen, IsNewLoader, IsDefine, I
 ghost use Rattle.jl_host.specs.Linkers.{IsInvalidate, IsBind, IsRetire, IsInstall, IsDropped, IsCall, IsLinkOf, IsAnswer, IsTake};
 ghost use Rattle.jl_host.specs.Seats.{SeatView, IsRefresh, IsSeatCall};
 ghost use Rattle.jl_host.specs.Memos.{IsMemoOpen, IsMemoAsk, IsMemoCall, IsSeatCallWith};
+ghost use Rattle.jl_host.specs.Asking.{IsLookup, IsClassName, IsMethodName, IsMethodType, IsInvocations, IsLastWork};
 ghost use Rattle.jl_host.specs.Views.{IsViewTake, IsViewCall, IsViewSerial, IsViewPrepare, IsInstallLinks};
 ghost use Rattle.jl_relink.specs.Preparations.{Snapshot};
 ghost use Rattle.jl_memo.specs.declared.set.Set.{Set};
@@ -21,7 +22,7 @@ ghost use Rattle.linkd_c.specs.Handle.{seat_at, seat_left, both_left, seat_room,
 ghost use Rattle.linkd_c.specs.Handle.{memo_at, memo_left, asked_left, called_left, memo_room, memo_bytes, memo_multiple};
 ghost use Rattle.linkd_c.specs.Handle.{view_at, view_left, taken_left, view_room, view_bytes, view_multiple};
 
-use jl_host::{CallAnswer, LinkRow, LinkShown, Linker, Memo, Seat, Told, View};
+use jl_host::{CallAnswer, Invocation, LinkRow, LinkShown, Linker, Memo, Seat, Told, View};
 use std::alloc::Global;
 
 /// Shows that a value of the type may go from one thread to another.
@@ -61,6 +62,14 @@ pub struct LinkdMemo {
 #[derive(Drop)]
 pub struct LinkdView {
     hidden: u8,
+}
+
+/// Which header the library is of: LINKD_VERSION there.
+#[unsafe(no_mangle)]
+pub extern "C" fn linkd_version() -> u32
+    ensures { result ≡ 2 }
+{
+    2
 }
 
 /// The bytes of a linker.
@@ -321,6 +330,94 @@ pub unsafe extern "C" fn linkd_link_of(at: *mut Linkd, site: u32, link: &mut Lin
     ensures* { sem 𝓛 (linker_left at (λ new. IsLinkOf site old link.old result link.new new)) }
 {
     (*(at as *mut Linker)).link_of(site, link)
+}
+
+/// The class that the loader finds under the name. Takes no memory.
+#[unsafe(no_mangle)]
+pub unsafe extern "C" fn linkd_lookup(
+    at: *mut Linkd,
+    loader: u32,
+    name: &[u8],
+    class_number: &mut u32,
+) -> u32
+    ghost old: { Option Opened }
+    requires* { sem 𝓛 (linker_at at old) }
+    ensures* { sem 𝓛 (linker_left at (λ new. IsLookup loader name.now old class_number.old result class_number.new new)) }
+{
+    (*(at as *mut Linker)).lookup(loader, name, class_number)
+}
+
+/// Copies the name of a class. Takes no memory.
+#[unsafe(no_mangle)]
+pub unsafe extern "C" fn linkd_class_name(
+    at: *mut Linkd,
+    class_number: u32,
+    out: &mut [u8],
+    length: &mut usize,
+) -> u32
+    ghost old: { Option Opened }
+    requires* { sem 𝓛 (linker_at at old) }
+    ensures* { sem 𝓛 (linker_left at (λ new. IsClassName class_number old out.old length.old result out.new length.new new)) }
+{
+    (*(at as *mut Linker)).class_name(class_number, out, length)
+}
+
+/// Copies the name of a method. Takes no memory.
+#[unsafe(no_mangle)]
+pub unsafe extern "C" fn linkd_method_name(
+    at: *mut Linkd,
+    class_number: u32,
+    method: u32,
+    out: &mut [u8],
+    length: &mut usize,
+) -> u32
+    ghost old: { Option Opened }
+    requires* { sem 𝓛 (linker_at at old) }
+    ensures* { sem 𝓛 (linker_left at (λ new. IsMethodName class_number method old out.old length.old result out.new length.new new)) }
+{
+    (*(at as *mut Linker)).method_name(class_number, method, out, length)
+}
+
+/// Copies the descriptor of a method. Takes no memory.
+#[unsafe(no_mangle)]
+pub unsafe extern "C" fn linkd_method_type(
+    at: *mut Linkd,
+    class_number: u32,
+    method: u32,
+    out: &mut [u8],
+    length: &mut usize,
+) -> u32
+    ghost old: { Option Opened }
+    requires* { sem 𝓛 (linker_at at old) }
+    ensures* { sem 𝓛 (linker_left at (λ new. IsMethodType class_number method old out.old length.old result out.new length.new new)) }
+{
+    (*(at as *mut Linker)).method_type(class_number, method, out, length)
+}
+
+/// Copies the invocations in a method's code. Takes no memory.
+#[unsafe(no_mangle)]
+pub unsafe extern "C" fn linkd_invocations(
+    at: *mut Linkd,
+    class_number: u32,
+    method: u32,
+    out: &mut [Invocation],
+    length: &mut usize,
+) -> u32
+    ghost old: { Option Opened }
+    requires* { sem 𝓛 (linker_at at old) }
+    ensures* { sem 𝓛 (linker_left at (λ new. IsInvocations class_number method old out.old length.old result out.new length.new new)) }
+{
+    (*(at as *mut Linker)).invocations(class_number, method, out, length)
+}
+
+/// How much the last accepted event took. Takes no memory.
+#[unsafe(no_mangle)]
+pub unsafe extern "C" fn linkd_last_work(at: *mut Linkd, work: &mut u64) -> u32
+    ghost old: { Option Opened }
+    requires* { sem 𝓛 (linker_at at old) }
+    ensures* { sem 𝓛 (linker_left at (λ new. IsLastWork old work.old result work.new new)) }
+{
+    (*(at as *mut Linker)).last_work(work)
 }
 
 /// Answers any command of a session, as text, and keeps the answer.

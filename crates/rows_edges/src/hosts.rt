@@ -265,6 +265,57 @@ const CALL_SITES: &[StepRow] = &[
     (Delegate(2, "T", 0), &[16, 0, 1]),
 ];
 
+/// What T and its methods are called, and what r invokes; and what loader 1 finds once A is delegated to it, before it is retired.
+const NAMES: &[StepRow] = &[
+    (Lookup(0, "T"), &[34, 9]),
+    (ClassName(0, ""), &[34]),
+    (Method(0, 0, "", ""), &[34]),
+    (Invocations(0, 0, 4), &[34, 9, 9, 9, 9, 9]),
+    (LastWork, &[34]),
+    (Open(1), &[0]),
+    (LastWork, &[0, 1]),
+    (Lookup(0, "java/lang/Object"), &[2, 9]),
+    (Define(0, OBJECT), &[0, 0]),
+    (
+        Says(
+            r#"{"do":"define","loader":0,"sketch":{"name":"T","super":"java/lang/Object","flags":33,"methods":[{"name":"m","type":"()I","flags":9},{"name":"r","type":"()V","flags":9,"calls":[{"kind":"invokedynamic","name":"d","type":"()V"},{"kind":"invokeinterface","of":"Z","name":"z","type":"()V"},{"kind":"invokestatic","of":"Z","name":"z","type":"()V"}]}]}}"#,
+            r#"{"class":1,"dropped":[]}"#,
+        ),
+        &[0, 0, 1],
+    ),
+    (LastWork, &[0, 1]),
+    (Lookup(0, "T"), &[0, 1]),
+    (Lookup(0, "java/lang/Object"), &[0, 0]),
+    (Lookup(1, "T"), &[2, 9]),
+    (NewLoader, &[0, 1]),
+    (Lookup(1, "T"), &[2, 9]),
+    (Delegate(1, "T", 0), &[0]),
+    (Lookup(1, "T"), &[0, 1]),
+    (ClassName(0, "java/lang/Object"), &[0, 1]),
+    (ClassName(1, "T"), &[0, 1]),
+    (ClassName(2, ""), &[2]),
+    (Method(1, 0, "m", "()I"), &[0, 1]),
+    (Method(1, 1, "r", "()V"), &[0, 1]),
+    (Method(1, 2, "", ""), &[3]),
+    (Method(1, 65_536, "", ""), &[3]),
+    (Method(2, 0, "", ""), &[3]),
+    (Invocations(1, 1, 4), &[0, 3, 0, 186, 5, 185]),
+    (Invocations(1, 1, 3), &[0, 3, 0, 186, 5, 185]),
+    (Invocations(1, 1, 2), &[36, 3, 9, 9, 9, 9]),
+    (Invocations(1, 0, 0), &[0, 0, 9, 9, 9, 9]),
+    (Invocations(0, 0, 4), &[3, 9, 9, 9, 9, 9]),
+    (
+        Says(
+            r#"{"do":"define","loader":1,"sketch":{"name":"U","super":"T","flags":33}}"#,
+            r#"{"class":2,"dropped":[]}"#,
+        ),
+        &[0, 0, 1],
+    ),
+    (Retire(1), &[0]),
+    (Lookup(1, "T"), &[2, 9]),
+    (ClassName(2, "U"), &[0, 1]),
+];
+
 /// A with eight classes below it that override f, so that M's call of A.f has nine receivers' classes; then a class below one of them.
 const MEGAMORPHIC: &[StepRow] = &[
     (Open(4), &[0]),
@@ -551,6 +602,7 @@ fn scripts(rt: HostRuntime) {
     assert_rows(&rt, "overriding", OVERRIDING);
     assert_rows(&rt, "call_sites", CALL_SITES);
     assert_rows(&rt, "views", VIEWS);
+    assert_rows(&rt, "names", NAMES);
     assert_rows(&rt, "megamorphic", MEGAMORPHIC);
     assert_rows(&rt, "files", FILES);
     assert_rows(&rt, "session", SESSION);

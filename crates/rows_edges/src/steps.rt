@@ -1,6 +1,6 @@
 //! Steps on a linker, a seat, a memo and a view, each with numbers for an answer.
 
-use jl_host::{CallAnswer, LinkRow, LinkShown, Linker, Memo, Row, Seat, Told, View};
+use jl_host::{CallAnswer, Invocation, LinkRow, LinkShown, Linker, Memo, Row, Seat, Told, View};
 use std::alloc::Global;
 
 /// The most numbers of an answer.
@@ -53,6 +53,14 @@ pub enum Step {
     /// Sites get kept links, by their places.
     InstallLinks(&'static [(u32, usize)]),
     LeaveView,
+    Lookup(u32, &'static str),
+    /// The name of a class, which is to be this.
+    ClassName(u32, &'static str),
+    /// The name and the descriptor of a method, which are to be these.
+    Method(u32, u32, &'static str, &'static str),
+    /// The invocations of a method, copied to an array of so many.
+    Invocations(u32, u32, usize),
+    LastWork,
 }
 
 /// A view, and the links that were prepared in it.
@@ -179,6 +187,69 @@ fn short_numbers(linker: &mut Linker) -> Numbers {
     let mut count = 0;
     let status = linker.take(&mut array, &mut count);
     numbers(&[status, u32::from(count > 1), u32::from(array[0])])
+}
+
+/// The status of a copy, and 1 where it is of this text, of which so many bytes were told.
+fn copied_numbers(status: u32, text: &str, array: &[u8], count: usize) -> Numbers {
+    let is_so = array.get(..count) == Some(text.as_bytes());
+    numbers(&[status, u32::from(is_so)])
+}
+
+/// The status of the name's copy, and 1 where it and the descriptor are these.
+fn method_numbers(linker: &mut Linker, at: [u32; 2], name: &str, ty: &str) -> Numbers {
+    let mut array = [9; 40];
+    let mut count = 40;
+    let status = linker.method_name(at[0], at[1], &mut array, &mut count);
+    if array.get(..count) != Some(name.as_bytes()) {
+        return numbers(&[status, 0]);
+    }
+    let status = linker.method_type(at[0], at[1], &mut array, &mut count);
+    copied_numbers(status, ty, &array, count)
+}
+
+/// The status, how many invocations there are, and the first two with their instructions.
+fn invocation_numbers(linker: &mut Linker, class: u32, method: u32, room: usize) -> Numbers {
+    let mut array = [Invocation { pc: 9, opcode: 9 }; 4];
+    let mut count = 9;
+    let status = linker.invocations(class, method, &mut array[..room.min(4)], &mut count);
+    let [first, second, ..] = array;
+    numbers(&[
+        status,
+        u32::try_from(count).unwrap_or(99),
+        first.pc,
+        first.opcode,
+        second.pc,
+        second.opcode,
+    ])
+}
+
+/// What a question about classes, methods and work comes to.
+fn asked_numbers(linker: &mut Linker, step: &Step) -> Numbers {
+    match step {
+        Step::Lookup(loader, name) => {
+            let mut class = 9;
+            let status = linker.lookup(*loader, name.as_bytes(), &mut class);
+            numbers(&[status, class])
+        }
+        Step::ClassName(class, name) => {
+            let mut array = [9; 40];
+            let mut count = 40;
+            let status = linker.class_name(*class, &mut array, &mut count);
+            copied_numbers(status, name, &array, count)
+        }
+        Step::Method(class, method, name, ty) => {
+            method_numbers(linker, [*class, *method], name, ty)
+        }
+        Step::Invocations(class, method, room) => {
+            invocation_numbers(linker, *class, *method, *room)
+        }
+        Step::LastWork => {
+            let mut work = 99;
+            let status = linker.last_work(&mut work);
+            numbers(&[status, u32::from(work < 99)])
+        }
+        _ => numbers(&[99]),
+    }
 }
 
 /// What an event comes to.
@@ -350,6 +421,11 @@ pub fn answer(
         }
         Step::Says(line, text) => said_numbers(alloc, linker, line, text),
         Step::TakeShort => short_numbers(linker),
+        Step::Lookup(..)
+        | Step::ClassName(..)
+        | Step::Method(..)
+        | Step::Invocations(..)
+        | Step::LastWork => asked_numbers(linker, step),
         Step::Take
         | Step::Serial
         | Step::ViewCall(..)

@@ -1,4 +1,4 @@
-use Rattle.std.proofs.Common.{◌+◌, arith, length, length-append, sym, ap, ◌∙◌, ◌++◌, ◌∷◌, [], subst}
+use Rattle.std.proofs.Common.{◌+◌, arith, length, length-append, sym, ap, ◌∙◌, ◌∷◌, [], subst}
 use Rattle.jl_host.specs.Reading.{entry_of}
 use Rattle.jl_host.specs.Showing.{no_row}
 use Rattle.jl_host.proofs.ReadingLaws.{AreSoFar, one_more, one_is_none, all_made}

@@ -1,6 +1,5 @@
-use Rattle.std.proofs.Common.{refl, rules, sym, ap, subst, ◌∙◌}
+use Rattle.std.proofs.Common.{rules}
 use Rattle.jl_types.specs.declared.event.EventOf.TheVariants as event
-use Rattle.jl_core.specs.State.{IsApplied}
 use Rattle.jl_host.proofs.CaughtUp.{applied_behind}
 use Rattle.jl_host.proofs.opened.Opened.install_links.Goals as goal
 
