@@ -90,6 +90,8 @@ static void closed(linkd_seat *seat) {
     MUST(linkd_method_name(at, 0, 0, (uint8_t *)sites, sizeof sites, &length) == LINKD_CLOSED);
     MUST(linkd_method_type(at, 0, 0, (uint8_t *)sites, sizeof sites, &length) == LINKD_CLOSED);
     MUST(linkd_invocations(at, 0, 0, invocations, 4, &length) == LINKD_CLOSED);
+    MUST(linkd_named(at, (uint8_t *)sites, sizeof sites, &length) == LINKD_CLOSED);
+    MUST(linkd_awaited(at, 0, (uint8_t *)sites, sizeof sites, &length) == LINKD_CLOSED);
     MUST(linkd_last_work(at, &(uint64_t){0}) == LINKD_CLOSED);
     MUST(linkd_dropped(at, sites, 256, &length) == LINKD_CLOSED);
     MUST(linkd_call(at, 0, LINKD_NULL, &answer) == LINKD_CLOSED);
@@ -122,6 +124,9 @@ static void named(void) {
     MUST(invocations[0].pc == 0 && invocations[3].pc == 9 && invocations[3].opcode == 182);
     MUST(linkd_invocations(at, 3, 2, invocations, 4, &length) == LINKD_DONE && length == 1 && invocations[0].opcode == 186);
     MUST(linkd_invocations(at, 99, 0, invocations, 4, &length) == LINKD_NO_SUCH_PLACE && length == 1);
+    MUST(linkd_awaited(at, 0, text, 16, &length) == LINKD_DONE && length == 1 && text[0] == 'Z');
+    MUST(linkd_awaited(at, 0, text, 0, &length) == LINKD_TOO_SHORT && length == 1);
+    MUST(linkd_awaited(at, 1, text, 16, &length) == LINKD_UNKNOWN_CLASS && linkd_awaited(at, 9, text, 16, &length) == LINKD_UNKNOWN_CLASS);
     MUST(linkd_last_work(at, &work) == LINKD_DONE);
     MUST(strcmp(linkd_status_name(LINKD_STALE), "LINKD_STALE") == 0 && linkd_status_name(18) == NULL);
     MUST(strcmp(linkd_fault_name(LINKD_DELEGATE, 3), "LINKD_DELEGATE_ALREADY_RECORDED") == 0);

@@ -307,6 +307,14 @@ uint32_t linkd_method_type(linkd *at, uint32_t class_number, uint32_t method, ui
  * up to the first one that is LINKD_NO_SUCH_PLACE. LINKD_TOO_SHORT. */
 uint32_t linkd_invocations(linkd *at, uint32_t class_number, uint32_t method, linkd_invocation *out, size_t capacity, size_t *length);
 
+/* The name of the class that the refusal of the last event told of: LINKD_MISSING_PARENT, LINKD_NOT_AN_INTERFACE or
+ * LINKD_INACCESSIBLE_PARENT of a linkd_define. An event that isn't asked for, as what is LINKD_NO_CLASS_FILE or LINKD_MALFORMED, leaves it,
+ * and so does linkd_answer. LINKD_UNKNOWN_CLASS where the last event named none, LINKD_TOO_SHORT. */
+uint32_t linkd_named(linkd *at, uint8_t *out, size_t capacity, size_t *length);
+/* The name of the class for which the requested site waits, where a linkd_call there is LINKD_WANTS_NAMED, LINKD_WANTS_CALLER_HOST or
+ * LINKD_WANTS_METHOD_HOST; so what the place of LINKD_NOT_READY waits for. LINKD_UNKNOWN_CLASS where it waits for none, LINKD_TOO_SHORT. */
+uint32_t linkd_awaited(linkd *at, uint32_t site, uint8_t *out, size_t capacity, size_t *length);
+
 /* How many selections, special searches and evaluations of call sites the last accepted event took: what it cost beside the sites that
  * it dropped. */
 uint32_t linkd_last_work(linkd *at, uint64_t *work);

@@ -1,18 +1,21 @@
 //! What is asked of a core's classes and methods.
 
-ghost use Rattle.std.specs.Prelude.{◌≡◌, option_map, map};
+ghost use Rattle.std.specs.Prelude.{◌≡◌, option_copied, option_map, map};
 ghost use Rattle.jl_types.specs.Values.Members.{lookup};
 ghost use Rattle.jl_core.specs.State.{world_of};
+ghost use Rattle.jl_host.specs.Awaiting as awaiting;
 ghost use Rattle.jl_host.specs.Numbers.{unknown_class, no_such_place};
 ghost use Rattle.jl_host.specs.Asking.{IsFound, IsCopiedIf, class_name, method_in, invocation_shown};
 
 use crate::arrays::copy_text;
+use crate::awaited::awaited;
 use crate::invocations::{Invocation, copy_invocations};
 use crate::reading::method_of;
 use crate::told::{DONE, NO_SUCH_PLACE, UNKNOWN_CLASS};
 use jl_class::Method;
 use jl_core::Core;
-use jl_types::{ClassId, LoaderId};
+use jl_names::Name;
+use jl_types::{ClassId, LoaderId, SiteNo};
 
 /// Writes the number of the class that the loader finds under the name, if it finds one. Takes no memory.
 pub(crate) fn find_class(core: &Core, loader: u32, name: &[u8], class: &mut u32) -> u32
@@ -33,6 +36,26 @@ pub(crate) fn copy_class_name(core: &Core, class: u32, out: &mut [u8], count: &m
 {
     match core.world().classes.class_at(ClassId::new(class)) {
         Some(row) => copy_text(row.file().name().as_slice(), out, count),
+        None => UNKNOWN_CLASS,
+    }
+}
+
+/// Copies this name, if there is one. Takes no memory.
+pub(crate) fn copy_name(name: Option<&Name>, out: &mut [u8], count: &mut usize) -> u32
+    ensures { IsCopiedIf unknown_class (option_copied name.entry) out.old count.old result out.new count.new }
+{
+    match name {
+        Some(name) => copy_text(name.as_slice(), out, count),
+        None => UNKNOWN_CLASS,
+    }
+}
+
+/// Copies the name of the class for which the site waits, if it waits for one. Takes no memory.
+pub(crate) fn copy_awaited(core: &Core, site: u32, out: &mut [u8], count: &mut usize) -> u32
+    ensures { IsCopiedIf unknown_class (awaiting.awaited site (world_of core.now)) out.old count.old result out.new count.new }
+{
+    match awaited(core.world(), SiteNo::new(site)) {
+        Some(name) => copy_text(name, out, count),
         None => UNKNOWN_CLASS,
     }
 }

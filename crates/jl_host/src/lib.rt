@@ -2,7 +2,7 @@
 //! lock, and views, in which compilers prepare links without one. Everything that a call answers is a status and plain numbers.
 //!
 //! What each call leaves, by its status, stands in `specs/`, in reading order: `Numbers`, `Telling`, `Showing`, `Copies`, `Linkers`,
-//! `Seats`, `Memos`, `Reading`, `Views`, `Asking`.
+//! `Seats`, `Memos`, `Reading`, `Views`, `Awaiting`, `Asking`.
 #![tactic(auto)]
 
 // What is answered, as numbers.
@@ -17,6 +17,7 @@ mod reading;
 
 // Classes and methods by name and by number.
 mod asked;
+mod awaited;
 
 // What stands behind a linker, and the linker.
 mod behind;

@@ -10,12 +10,13 @@ ghost use Rattle.jl_host.specs.Linkers.{IsOpen, IsNewLoader, IsDefine, IsDelegat
 ghost use Rattle.jl_host.specs.Linkers.{IsBind, IsRetire, IsInstall, IsDropped, IsTake, IsCall, IsLinkOf, IsAnswer, kind_of, IfOpen, IsAsked};
 ghost use Rattle.jl_session.specs.Sessions.{snapshot_of};
 ghost use Rattle.jl_host.specs.Views.{IsInstallLinks};
-ghost use Rattle.jl_host.specs.Asking.{IsLookup, IsClassName, IsMethodName, IsMethodType, IsInvocations, IsLastWork};
+ghost use Rattle.jl_host.specs.Asking.{IsLookup, IsClassName, IsMethodName, IsMethodType, IsInvocations, IsNamed, IsAwaited, IsLastWork};
 ghost use Rattle.jl_host.specs.Linkers.{Opened as OpenedValue};
 
 use crate::arrays::{copy_sites, copy_text, sites_of, switches_of};
 use crate::asked::{
-    copy_class_name, copy_invocations_of, copy_method_name, copy_method_type, find_class,
+    copy_awaited, copy_class_name, copy_invocations_of, copy_method_name, copy_method_type,
+    copy_name, find_class,
 };
 use crate::invocations::Invocation;
 use crate::opened::Opened;
@@ -365,6 +366,28 @@ impl Linker {
     {
         match &self.opened {
             Some(opened) => copy_invocations_of(opened.core(), class, method, out, count),
+            None => CLOSED,
+        }
+    }
+
+    /// Copies the name of the class that the refusal of the last event told of, a parent that is missing, no interface or not accessible
+    /// (§5.3.5), and tells its length. Commands as text leave it. Takes no memory.
+    pub fn named(&mut self, out: &mut [u8], count: &mut usize) -> u32
+        ensures { IsNamed self.old out.old count.old result out.new count.new self.new }
+    {
+        match &self.opened {
+            Some(opened) => copy_name(opened.named(), out, count),
+            None => CLOSED,
+        }
+    }
+
+    /// Copies the name of the class for which the requested site waits, the one that its instruction names or a nest host that isn't
+    /// recorded (§5.4.4), and tells its length. Takes no memory.
+    pub fn awaited(&mut self, site: u32, out: &mut [u8], count: &mut usize) -> u32
+        ensures { IsAwaited site self.old out.old count.old result out.new count.new self.new }
+    {
+        match &self.opened {
+            Some(opened) => copy_awaited(opened.core(), site, out, count),
             None => CLOSED,
         }
     }

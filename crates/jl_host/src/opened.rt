@@ -1,6 +1,6 @@
 //! What stands behind a linker that is open.
 
-ghost use Rattle.std.specs.Prelude.{◌≡◌, ◌≤◌, ◌⊎◌, IfOk};
+ghost use Rattle.std.specs.Prelude.{◌≡◌, ◌≤◌, ◌⊎◌, option_copied, IfOk};
 ghost use Rattle.jl_types.specs.Linkage.Calls.{dispatch};
 ghost use Rattle.jl_types.specs.Happenings.History.{installed};
 ghost use Rattle.jl_core.specs.State.{events, world_of};
@@ -12,7 +12,9 @@ ghost use Rattle.jl_host.specs.Views.{IsGiven, present_of};
 use crate::behind::{Links, follow, no_links};
 use crate::seat_view::SeatView;
 use crate::shown::{LinkShown, link_shown};
-use crate::told::{DONE, MALFORMED, MEMORY, Told, tell, tell_file, tell_unprepared, unasked};
+use crate::told::{
+    DONE, MALFORMED, MEMORY, Told, class_named, tell, tell_file, tell_unprepared, unasked,
+};
 use jl_classfile::read_class;
 use jl_core::Core;
 use jl_json::is_method_descriptor;
@@ -23,11 +25,12 @@ use std::alloc::{AllocError, Global};
 use std::marker::Model;
 use std::sync::Arc;
 
-/// A session, the text of its last answer, and its links in pages that seats share, which are brought up to date when a seat asks. A
+/// A session, the text of its last answer, the class that the refusal of the last event named, and its links in pages that seats share, which are brought up to date when a seat asks. A
 /// clause sees the session and the text.
 pub(crate) struct Opened {
     session: Session,
     said: Vec<u8>,
+    named: Option<Name>,
     /// The links but for the sites that were touched by the events from the `reached`-th on.
     links: Arc<Links>,
     reached: usize,
@@ -39,6 +42,7 @@ impl Drop for Opened {
         let Opened {
             session: _session,
             said: _said,
+            named: _named,
             links: _links,
             reached: _reached,
         } = self;
@@ -55,7 +59,7 @@ impl Model for Opened {
 
     ghost coded = { Prim.hlevel (codes, target_code) };
 
-    ghost view = { λ o. record { session = o.session; said = o.said.items } };
+    ghost view = { λ o. record { session = o.session; said = o.said.items; named = o.named } };
 
     ghost invariant = { λ o. IsBehind o.links.value o.reached o.session.core };
 }
@@ -69,6 +73,7 @@ impl Opened {
         Ok(Opened {
             session: Session::with_sites(alloc, max_sites)?,
             said: Vec::new(alloc),
+            named: None,
             links: no_links(alloc, max_sites)?,
             reached: 0,
         })
@@ -97,12 +102,21 @@ impl Opened {
         self.said.as_slice()
     }
 
+    /// The class that the refusal of the last event told of by its name.
+    pub(crate) fn named(&self) -> Option<&Name>
+        ensures { option_copied result ≡ self.now.named }
+    {
+        self.named.as_ref()
+    }
+
     /// Asks the core for the event.
     pub(crate) fn ask(&mut self, alloc: Global, event: Event, told: &mut Told) -> u32
         ensures { IsAsked event self.old result told.new self.new }
     {
         let outcome = self.session.submit(alloc, event);
-        tell(outcome, told)
+        let status = tell(&outcome, told);
+        self.named = class_named(outcome);
+        status
     }
 
     /// Asks for the definition of the class that the bytes are.
@@ -169,7 +183,9 @@ impl Opened {
     {
         let outcome = self.session.submit(alloc, Event::Install(Seq::of(rows)));
         show_present(&outcome, present);
-        tell(outcome, told)
+        let status = tell(&outcome, told);
+        self.named = class_named(outcome);
+        status
     }
 
     /// What the last accepted event dropped. Takes no memory.

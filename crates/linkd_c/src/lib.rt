@@ -13,7 +13,7 @@ ghost use Rattle.jl_host.specs.Linkers.{Opened, IsOpen, IsNewLoader, IsDefine, I
 ghost use Rattle.jl_host.specs.Linkers.{IsInvalidate, IsBind, IsRetire, IsInstall, IsDropped, IsCall, IsLinkOf, IsAnswer, IsTake};
 ghost use Rattle.jl_host.specs.Seats.{SeatView, IsRefresh, IsSeatCall};
 ghost use Rattle.jl_host.specs.Memos.{IsMemoOpen, IsMemoAsk, IsMemoCall, IsSeatCallWith};
-ghost use Rattle.jl_host.specs.Asking.{IsLookup, IsClassName, IsMethodName, IsMethodType, IsInvocations, IsLastWork};
+ghost use Rattle.jl_host.specs.Asking.{IsLookup, IsClassName, IsMethodName, IsMethodType, IsInvocations, IsNamed, IsAwaited, IsLastWork};
 ghost use Rattle.jl_host.specs.Views.{IsViewTake, IsViewCall, IsViewSerial, IsViewPrepare, IsInstallLinks};
 ghost use Rattle.jl_relink.specs.Preparations.{Snapshot};
 ghost use Rattle.jl_memo.specs.declared.set.Set.{Set};
@@ -408,6 +408,31 @@ pub unsafe extern "C" fn linkd_invocations(
     ensures* { sem 𝓛 (linker_left at (λ new. IsInvocations class_number method old out.old length.old result out.new length.new new)) }
 {
     (*(at as *mut Linker)).invocations(class_number, method, out, length)
+}
+
+/// Copies the name of the class that the refusal of the last event told of. Takes no memory.
+#[unsafe(no_mangle)]
+pub unsafe extern "C" fn linkd_named(at: *mut Linkd, out: &mut [u8], length: &mut usize) -> u32
+    ghost old: { Option Opened }
+    requires* { sem 𝓛 (linker_at at old) }
+    ensures* { sem 𝓛 (linker_left at (λ new. IsNamed old out.old length.old result out.new length.new new)) }
+{
+    (*(at as *mut Linker)).named(out, length)
+}
+
+/// Copies the name of the class for which a site waits. Takes no memory.
+#[unsafe(no_mangle)]
+pub unsafe extern "C" fn linkd_awaited(
+    at: *mut Linkd,
+    site: u32,
+    out: &mut [u8],
+    length: &mut usize,
+) -> u32
+    ghost old: { Option Opened }
+    requires* { sem 𝓛 (linker_at at old) }
+    ensures* { sem 𝓛 (linker_left at (λ new. IsAwaited site old out.old length.old result out.new length.new new)) }
+{
+    (*(at as *mut Linker)).awaited(site, out, length)
 }
 
 /// How much the last accepted event took. Takes no memory.

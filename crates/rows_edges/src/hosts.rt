@@ -316,6 +316,66 @@ const NAMES: &[StepRow] = &[
     (ClassName(2, "U"), &[0, 1]),
 ];
 
+/// What the refusal of A's definition names, before its superclass is there; and for which class four sites wait: M's call of Z and of
+/// A.f, and the calls of P's private g by Q and by R, where neither P's nest host H nor Q's K is there.
+const WANTED: &[StepRow] = &[
+    (Named(""), &[34]),
+    (Awaited(0, ""), &[34]),
+    (Open(4), &[0]),
+    (Named(""), &[2]),
+    (Define(0, A), &[1, 0, 4]),
+    (Named("java/lang/Object"), &[0, 1]),
+    (Request(0, 0, 0), &[2]),
+    (Named(""), &[2]),
+    (Define(0, A), &[1, 0, 4]),
+    (Define(0, b""), &[32, 0, 4]),
+    (Named("java/lang/Object"), &[0, 1]),
+    (Define(0, OBJECT), &[0, 0]),
+    (Named(""), &[2]),
+    (Define(0, A), &[0, 1]),
+    (
+        Says(
+            r#"{"do":"define","loader":0,"sketch":{"name":"M","super":"java/lang/Object","flags":33,"methods":[{"name":"run","type":"()V","flags":9,"calls":[{"kind":"invokestatic","of":"Z","name":"z","type":"()V"},{"kind":"invokevirtual","of":"A","name":"f","type":"()V"}]}]}}"#,
+            r#"{"class":2,"dropped":[]}"#,
+        ),
+        &[0, 0, 1],
+    ),
+    (Request(2, 0, 0), &[0, 0]),
+    (Request(2, 0, 3), &[0, 1]),
+    (Awaited(0, "Z"), &[0, 1]),
+    (Awaited(1, ""), &[2]),
+    (Awaited(2, ""), &[2]),
+    (Install(&[1, 0]), &[11, 0, 0, 0]),
+    (Named(""), &[2]),
+    (
+        Says(
+            r#"{"do":"define","loader":0,"sketch":{"name":"P","super":"java/lang/Object","flags":33,"host":"H","methods":[{"name":"g","type":"()V","flags":2}]}}"#,
+            r#"{"class":3,"dropped":[]}"#,
+        ),
+        &[0, 0, 1],
+    ),
+    (
+        Says(
+            r#"{"do":"define","loader":0,"sketch":{"name":"Q","super":"java/lang/Object","flags":33,"host":"K","methods":[{"name":"run","type":"()V","flags":9,"calls":[{"kind":"invokevirtual","of":"P","name":"g","type":"()V"}]}]}}"#,
+            r#"{"class":4,"dropped":[]}"#,
+        ),
+        &[0, 0, 1],
+    ),
+    (
+        Says(
+            r#"{"do":"define","loader":0,"sketch":{"name":"R","super":"java/lang/Object","flags":33,"methods":[{"name":"run","type":"()V","flags":9,"calls":[{"kind":"invokevirtual","of":"P","name":"g","type":"()V"}]}]}}"#,
+            r#"{"class":5,"dropped":[]}"#,
+        ),
+        &[0, 0, 1],
+    ),
+    (Request(4, 0, 0), &[0, 2]),
+    (Request(5, 0, 0), &[0, 3]),
+    (Call(2, NULL), &[0, 3, 0, 2]),
+    (Awaited(2, "K"), &[0, 1]),
+    (Call(3, NULL), &[0, 3, 0, 3]),
+    (Awaited(3, "H"), &[0, 1]),
+];
+
 /// A with eight classes below it that override f, so that M's call of A.f has nine receivers' classes; then a class below one of them.
 const MEGAMORPHIC: &[StepRow] = &[
     (Open(4), &[0]),
@@ -603,6 +663,7 @@ fn scripts(rt: HostRuntime) {
     assert_rows(&rt, "call_sites", CALL_SITES);
     assert_rows(&rt, "views", VIEWS);
     assert_rows(&rt, "names", NAMES);
+    assert_rows(&rt, "wanted", WANTED);
     assert_rows(&rt, "megamorphic", MEGAMORPHIC);
     assert_rows(&rt, "files", FILES);
     assert_rows(&rt, "session", SESSION);

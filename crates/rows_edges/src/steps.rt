@@ -61,6 +61,10 @@ pub enum Step {
     /// The invocations of a method, copied to an array of so many.
     Invocations(u32, u32, usize),
     LastWork,
+    /// The class that the last refusal told of, which is to have this name.
+    Named(&'static str),
+    /// The class for which a site waits, which is to have this name.
+    Awaited(u32, &'static str),
 }
 
 /// A view, and the links that were prepared in it.
@@ -235,6 +239,18 @@ fn asked_numbers(linker: &mut Linker, step: &Step) -> Numbers {
             let mut array = [9; 40];
             let mut count = 40;
             let status = linker.class_name(*class, &mut array, &mut count);
+            copied_numbers(status, name, &array, count)
+        }
+        Step::Named(name) => {
+            let mut array = [9; 40];
+            let mut count = 40;
+            let status = linker.named(&mut array, &mut count);
+            copied_numbers(status, name, &array, count)
+        }
+        Step::Awaited(site, name) => {
+            let mut array = [9; 40];
+            let mut count = 40;
+            let status = linker.awaited(*site, &mut array, &mut count);
             copied_numbers(status, name, &array, count)
         }
         Step::Method(class, method, name, ty) => {
@@ -425,7 +441,9 @@ pub fn answer(
         | Step::ClassName(..)
         | Step::Method(..)
         | Step::Invocations(..)
-        | Step::LastWork => asked_numbers(linker, step),
+        | Step::LastWork
+        | Step::Named(..)
+        | Step::Awaited(..) => asked_numbers(linker, step),
         Step::Take
         | Step::Serial
         | Step::ViewCall(..)

@@ -15,6 +15,7 @@ returns c = (
     applied = search rules;
     batches = search rules;
     said = search rules;
+    named = search rules;
     status_is = search rules;
     told_is = search rules;
   },
