@@ -347,10 +347,9 @@ fn memo_numbers(
 /// The status of a preparation, the place that is told, and the kinds of the kept links.
 fn prepared_numbers(alloc: Global, by: &mut Compiler, sites: &[u32], room: usize) -> Numbers {
     let mut told = untold();
+    let links = &mut by.links[..];
     let room = room.min(4);
-    let status = by
-        .view
-        .prepare(alloc, sites, &mut by.links[..room], &mut told);
+    let status = by.view.prepare(alloc, sites, &mut links[..room], &mut told);
     let kinds = [by.links[0].kind, by.links[1].kind, by.links[2].kind];
     numbers(&[status, told.place, kinds[0], kinds[1], kinds[2]])
 }
