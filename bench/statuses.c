@@ -12,7 +12,9 @@
 
 static linkd *at;
 static linkd_told told;
-static linkd_link link;
+static linkd_link link, present;
+static linkd_link_row row;
+static linkd_invocation invocations[4];
 static linkd_call_answer answer;
 static uint32_t sites[257];
 static size_t length;
@@ -82,12 +84,102 @@ static void closed(linkd_seat *seat) {
     MUST(linkd_bind(at, 0, 0, &told) == LINKD_CLOSED);
     MUST(linkd_retire(at, 0, &told) == LINKD_CLOSED);
     MUST(linkd_install(at, sites, 1, &told) == LINKD_CLOSED);
+    MUST(linkd_install_links(at, &row, 1, &told, &present) == LINKD_CLOSED);
+    MUST(linkd_lookup(at, 0, bytes("A"), 1, sites) == LINKD_CLOSED);
+    MUST(linkd_class_name(at, 0, (uint8_t *)sites, sizeof sites, &length) == LINKD_CLOSED);
+    MUST(linkd_method_name(at, 0, 0, (uint8_t *)sites, sizeof sites, &length) == LINKD_CLOSED);
+    MUST(linkd_method_type(at, 0, 0, (uint8_t *)sites, sizeof sites, &length) == LINKD_CLOSED);
+    MUST(linkd_invocations(at, 0, 0, invocations, 4, &length) == LINKD_CLOSED);
+    MUST(linkd_named(at, (uint8_t *)sites, sizeof sites, &length) == LINKD_CLOSED);
+    MUST(linkd_awaited(at, 0, (uint8_t *)sites, sizeof sites, &length) == LINKD_CLOSED);
+    MUST(linkd_last_work(at, &(uint64_t){0}) == LINKD_CLOSED);
     MUST(linkd_dropped(at, sites, 256, &length) == LINKD_CLOSED);
     MUST(linkd_call(at, 0, LINKD_NULL, &answer) == LINKD_CLOSED);
     MUST(linkd_link_of(at, 0, &link) == LINKD_CLOSED);
     MUST(linkd_answer(at, bytes("{\"do\":\"links\"}"), 14, &length) == LINKD_CLOSED);
     MUST(linkd_take(at, (uint8_t *)sites, sizeof sites, &length) == LINKD_CLOSED);
     MUST(linkd_seat_refresh(seat, at) == LINKD_CLOSED);
+}
+
+/* What classes, methods and numbers are called. */
+static void named(void) {
+    uint32_t class_number = 99;
+    uint64_t work = 99;
+    uint8_t text[16];
+    MUST(linkd_version() == LINKD_VERSION);
+    MUST(linkd_lookup(at, 0, bytes("M"), 1, &class_number) == LINKD_DONE && class_number == 2);
+    MUST(linkd_lookup(at, 1, bytes("A"), 1, &class_number) == LINKD_DONE && class_number == 1);
+    MUST(linkd_lookup(at, 0, bytes("Z"), 1, &class_number) == LINKD_UNKNOWN_CLASS && class_number == 1);
+    MUST(linkd_lookup(at, 9, bytes("A"), 1, &class_number) == LINKD_UNKNOWN_CLASS && class_number == 1);
+    MUST(linkd_class_name(at, 0, text, 15, &length) == LINKD_TOO_SHORT && length == 16);
+    MUST(linkd_class_name(at, 0, text, 16, &length) == LINKD_DONE && length == 16 && memcmp(text, "java/lang/Object", 16) == 0);
+    MUST(linkd_class_name(at, 99, text, 16, &length) == LINKD_UNKNOWN_CLASS && length == 16);
+    MUST(linkd_method_name(at, 3, 3, text, 16, &length) == LINKD_DONE && length == 1 && text[0] == 'p');
+    MUST(linkd_method_type(at, 3, 3, text, 16, &length) == LINKD_DONE && length == 3 && memcmp(text, "()I", 3) == 0);
+    MUST(linkd_method_type(at, 3, 3, text, 2, &length) == LINKD_TOO_SHORT && length == 3);
+    MUST(linkd_method_name(at, 3, 4, text, 16, &length) == LINKD_NO_SUCH_PLACE && length == 3);
+    MUST(linkd_method_type(at, 3, 65536, text, 16, &length) == LINKD_NO_SUCH_PLACE);
+    MUST(linkd_invocations(at, 2, 0, invocations, 3, &length) == LINKD_TOO_SHORT && length == 4);
+    MUST(linkd_invocations(at, 2, 0, invocations, 4, &length) == LINKD_DONE && length == 4);
+    MUST(invocations[0].pc == 0 && invocations[3].pc == 9 && invocations[3].opcode == 182);
+    MUST(linkd_invocations(at, 3, 2, invocations, 4, &length) == LINKD_DONE && length == 1 && invocations[0].opcode == 186);
+    MUST(linkd_invocations(at, 99, 0, invocations, 4, &length) == LINKD_NO_SUCH_PLACE && length == 1);
+    MUST(linkd_awaited(at, 0, text, 16, &length) == LINKD_DONE && length == 1 && text[0] == 'Z');
+    MUST(linkd_awaited(at, 0, text, 0, &length) == LINKD_TOO_SHORT && length == 1);
+    MUST(linkd_awaited(at, 1, text, 16, &length) == LINKD_UNKNOWN_CLASS && linkd_awaited(at, 9, text, 16, &length) == LINKD_UNKNOWN_CLASS);
+    MUST(linkd_last_work(at, &work) == LINKD_DONE);
+    MUST(strcmp(linkd_status_name(LINKD_STALE), "LINKD_STALE") == 0 && linkd_status_name(18) == NULL);
+    MUST(strcmp(linkd_fault_name(LINKD_DELEGATE, 3), "LINKD_DELEGATE_ALREADY_RECORDED") == 0);
+    MUST(strcmp(linkd_fault_name(LINKD_DEFINE, 4), "LINKD_MISSING_PARENT") == 0);
+    MUST(linkd_fault_name(LINKD_NOT_LINKABLE, 3) == NULL && linkd_fault_name(LINKD_DONE, 1) == NULL);
+}
+
+/* A view, in which the invokedynamic's link is prepared before its target is another one. */
+static linkd_view *viewed(void) {
+    linkd_view *view = block(linkd_view_size(), linkd_view_align());
+    linkd_link links[2];
+    uint64_t serial = 0, later = 0;
+    linkd_view_blank(view);
+    MUST(linkd_view_serial(view, &serial) == LINKD_CLOSED && serial == 0);
+    MUST(linkd_view_call(view, 2, LINKD_NULL, &answer) == LINKD_CLOSED);
+    TELLS(linkd_view_prepare(view, sites, 1, links, 2, &told), LINKD_CLOSED, 0, 0, 0);
+    MUST(linkd_view_take(view, at) == LINKD_DONE);
+    MUST(linkd_view_serial(view, &serial) == LINKD_DONE && serial != 0);
+    sites[0] = sites[1] = 2;
+    TELLS(linkd_view_prepare(view, sites, 0, links, 2, &told), LINKD_BATCH_SIZE, 0, 0, 0);
+    TELLS(linkd_view_prepare(view, sites, 2, links, 1, &told), LINKD_TOO_SHORT, 0, 0, 0);
+    TELLS(linkd_view_prepare(view, sites, 2, links, 2, &told), LINKD_REPEATED, 0, 0, 2);
+    sites[1] = 9;
+    TELLS(linkd_view_prepare(view, sites, 2, links, 2, &told), LINKD_UNKNOWN_SITE, 0, 0, 9);
+    sites[1] = 0;
+    TELLS(linkd_view_prepare(view, sites, 2, links, 2, &told), LINKD_NOT_READY, 0, 0, 0);
+    sites[1] = 1;
+    TELLS(linkd_view_prepare(view, sites, 2, links, 2, &told), LINKD_DONE, 0, 0, 0);
+    MUST(links[0].kind == LINKD_PLAIN && row_is(&links[0].rows[0], 0, LINKD_RUN, 3, 0) && links[1].kind == LINKD_MEGA);
+
+    row.site = 2;
+    row.link = links[0];
+    present.kind = 99;
+    TELLS(linkd_install_links(at, &row, 0, &told, &present), LINKD_BATCH_SIZE, 0, 0, 0);
+    TELLS(linkd_install_links(at, &row, 1, &told, &present), LINKD_DONE, 0, 0, 0);
+    TELLS(set_target(1, "{\"method\":[3,1]}"), LINKD_DONE, 0, 0, 0);
+    MUST(linkd_view_serial(view, &later) == LINKD_DONE && later == serial);
+    MUST(comes_to(linkd_view_call(view, 2, LINKD_NULL, &answer), LINKD_RUN, 3, 0));
+    row.link.count = 2;
+    TELLS(linkd_install_links(at, &row, 1, &told, &present), LINKD_MALFORMED, 0, 0, 0);
+    MUST(present.kind == 99);
+    row.link.count = 1;
+    TELLS(linkd_install_links(at, &row, 1, &told, &present), LINKD_STALE, 0, 0, 2);
+    MUST(present.kind == LINKD_PLAIN && row_is(&present.rows[0], 0, LINKD_RUN, 3, 1));
+    row.link.rows[0].class_number = 99;
+    TELLS(linkd_install_links(at, &row, 1, &told, &present), LINKD_STALE, 0, 0, 2);
+    row.link = present;
+    TELLS(linkd_install_links(at, &row, 1, &told, &present), LINKD_DONE, 0, 0, 0);
+    row.site = 0;
+    TELLS(linkd_install_links(at, &row, 1, &told, &present), LINKD_NOT_READY, 0, 0, 0);
+    row.site = 9;
+    TELLS(linkd_install_links(at, &row, 1, &told, &present), LINKD_UNKNOWN_SITE, 0, 0, 9);
+    return view;
 }
 
 int main(void) {
@@ -138,8 +230,8 @@ int main(void) {
     TELLS(linkd_request(at, 9, 0, 0, &told), LINKD_UNKNOWN_CLASS, 0, 0, 0);
     TELLS(linkd_request(at, 2, 0, 1, &told), LINKD_NO_SUCH_PLACE, 0, 0, 0);
     TELLS(linkd_request(at, 2, 65536, 0, &told), LINKD_MALFORMED, 0, 0, 0);
-    TELLS(linkd_request(at, 2, 0, 6, &told), LINKD_NOT_LINKABLE, 0, 1, 0);
-    TELLS(linkd_request(at, 2, 0, 9, &told), LINKD_NOT_LINKABLE, 0, 2, 0);
+    TELLS(linkd_request(at, 2, 0, 6, &told), LINKD_NOT_LINKABLE, 0, LINKD_ARRAY_RECEIVER, 0);
+    TELLS(linkd_request(at, 2, 0, 9, &told), LINKD_NOT_LINKABLE, 0, LINKD_POLYMORPHIC_SIGNATURE, 0);
     TELLS(linkd_request(at, 2, 0, 0, &told), LINKD_DONE, 0, 0, 0);
     TELLS(linkd_request(at, 2, 0, 3, &told), LINKD_DONE, 1, 0, 0);
     TELLS(linkd_request(at, 2, 0, 3, &told), LINKD_DONE, 1, 0, 0);
@@ -230,10 +322,11 @@ int main(void) {
     /* Loaders. */
     TELLS(linkd_new_loader(at, &told), LINKD_DONE, 1, 0, 0);
     TELLS(linkd_define(at, 9, no_magic, 8, &told), LINKD_NO_CLASS_FILE, 0, LINKD_BAD_MAGIC, 0);
-    TELLS(delegate(9, "A", 0), LINKD_DELEGATE, 0, 1, 0);
-    TELLS(delegate(1, "Z", 0), LINKD_DELEGATE, 0, 2, 0);
+    TELLS(delegate(9, "A", 0), LINKD_DELEGATE, 0, LINKD_DELEGATE_UNKNOWN_LOADER, 0);
+    TELLS(delegate(1, "Z", 0), LINKD_DELEGATE, 0, LINKD_DELEGATE_NOT_RECORDED, 0);
     TELLS(delegate(1, "A", 0), LINKD_DONE, 0, 0, 0);
-    TELLS(delegate(1, "A", 0), LINKD_DELEGATE, 0, 3, 0);
+    TELLS(delegate(1, "A", 0), LINKD_DELEGATE, 0, LINKD_DELEGATE_ALREADY_RECORDED, 0);
+    named();
 
     /* Eight more classes below A, as 6 to 13, so that its call is megamorphic. */
     for (int i = 6; i < 14; i++) {
@@ -254,8 +347,15 @@ int main(void) {
     MUST(comes_to(linkd_seat_call_with(seat, memo, 1, LINKD_NULL, &answer), LINKD_THROWS, 0, LINKD_NULL_POINTER_EXCEPTION));
     MUST(linkd_memo_call(memo, 1, 12, &answer) == LINKD_DONE && answer.kind == LINKD_MISS);
 
+    linkd_view *view = viewed();
     linkd_close(at);
     closed(seat);
+    MUST(linkd_view_take(view, at) == LINKD_CLOSED);
+    MUST(comes_to(linkd_view_call(view, 2, LINKD_NULL, &answer), LINKD_RUN, 3, 0));
+    linkd_view_leave(view);
+    MUST(linkd_view_call(view, 2, LINKD_NULL, &answer) == LINKD_CLOSED);
+    linkd_view_leave(view);
+    free(view);
     MUST(linkd_memo_ask(memo, at, 1, 13, &answer) == LINKD_CLOSED);
     linkd_close(at);
     MUST(linkd_seat_call(seat, 1, 1, &answer) == LINKD_DONE);

@@ -21,8 +21,8 @@ same relation of its old and its new value:
 
 R and the structs that cross stand in a library below, and MODULES says in which of its modules. `alloc` stands first, where there is
 one, and then the handles. Of two handles, the method is the first one's, and takes the other as a `&mut`; `old` and `new` are pairs
-then. The other parameters are numbers, slices, and `&mut`s of numbers, of #[repr(C)] structs and of slices of numbers. The result is
-a u32, or there is none. An export may also write a new value into room, of which the method says `result ≡ VALUE`:
+then. The other parameters are numbers, slices, and `&mut`s of numbers, of #[repr(C)] structs and of slices, of numbers or of such structs.
+The result is a u32, or there is none. An export may also write a new value into room, of which the method says `result ≡ VALUE`:
 
     pub unsafe extern "C" fn linkd_blank(at: *mut Linkd)
         requires* { sem 𝓛 (linker_room at) }
@@ -43,7 +43,10 @@ from pathlib import Path
 # ---- what is particular to this repository
 CRATE = Path(__file__).resolve().parent.parent / 'crates/linkd_c'
 LIBRARY = 'jl_host'
-MODULES = {'Linker': 'linker', 'Seat': 'seat', 'Memo': 'memo', 'Told': 'told', 'CallAnswer': 'shown', 'LinkShown': 'shown'}
+MODULES = {
+    'Linker': 'linker', 'Seat': 'seat', 'Memo': 'memo', 'View': 'view',
+    'Told': 'told', 'CallAnswer': 'shown', 'LinkShown': 'shown', 'LinkRow': 'reading', 'Invocation': 'invocations',
+}
 # ----
 
 BITS = {'u8': 8, 'u16': 16, 'u32': 32, 'u64': 64, 'usize': 64}
@@ -478,7 +481,7 @@ def imports(source, export, body):
         lines.append(f'use {below}.specs.contracts.{h.path}.{{the_row as R{chr(39) * i}}}')
     if 'the_row_laws' in used:
         lines.append(f'use {below}.proofs.{export.handles[0].path}.TheLaws.{{the_row_laws}}')
-    for row in dict.fromkeys(p.row for p in export.params if p.kind == 'out' and p.row in MODULES):
+    for row in dict.fromkeys(p.row for p in export.params if p.kind in ('out', 'outs', 'slice') and p.row in MODULES):
         lines.append(f'use {below}.specs.contracts.{MODULES[row]}.{row}.{{the_row as {row}}}')
     method = f'{export.handles[0].path}.{export.method}'
     return lines + [

@@ -2,16 +2,17 @@
  *
  * A linker is a block of linkd_size() bytes at a multiple of linkd_align() that the caller has, as from aligned_alloc, the stack or
  * an arena. linkd_blank makes a linker of it, linkd_open opens it, and after linkd_close the block is only memory again: it holds
- * nothing. A seat is one thread's place to read links without a lock, and a memo what one thread remembers of calls at megamorphic
- * links; their blocks are made and left the same way.
+ * nothing. A seat is one thread's place to read links without a lock, a memo what one thread remembers of calls at megamorphic links,
+ * and a view what there was to link when it was taken, in which a compiler prepares links without a lock; their blocks are made and left
+ * the same way.
  *
  * What a caller owes, since nothing checks it:
- *  - a linker, a seat or a memo is passed only between its blank and the end of its block, which isn't moved or written in between;
- *  - one call at a time is made on a linker, on a seat, and on a memo. Another thread may make the next call if a lock, a join or a
- *    seq_cst atomic orders the two;
+ *  - a linker, a seat, a memo or a view is passed only between its blank and the end of its block, which isn't moved or written in between;
+ *  - one call at a time is made on a linker, on a seat, on a memo, and on a view. Another thread may make the next call if a lock, a
+ *    join or a seq_cst atomic orders the two;
  *  - texts, arrays and out places are valid for the call, also where their length is 0 (then, too, the pointer isn't null), and an
- *    out place is no part of the linker, of the seat, of the memo, of what is read, or of another out place;
- *  - a linker and a memo are closed, and a seat left, before its block goes; each may be done more than once;
+ *    out place is no part of the linker, of the seat, of the memo, of the view, of what is read, or of another out place;
+ *  - a linker and a memo are closed, and a seat and a view left, before its block goes; each may be done more than once;
  *  - no call is made from a signal handler, or in the forked child of a process with threads;
  *  - malloc, realloc and free come from one allocator.
  */
@@ -25,9 +26,13 @@
 extern "C" {
 #endif
 
+/* Grows with each change of this header; linkd_version() tells it of the library. */
+#define LINKD_VERSION 2
+
 typedef struct linkd linkd;
 typedef struct linkd_seat linkd_seat;
 typedef struct linkd_memo linkd_memo;
+typedef struct linkd_view linkd_view;
 
 /* What a call answers: LINKD_DONE, why the linker refuses an event, or why it wasn't asked. But where it was done the linker and the
  * seat are as before, unless linkd_answer lacks memory (see there). The sections named are those of the Java Virtual Machine
@@ -35,28 +40,28 @@ typedef struct linkd_memo linkd_memo;
 enum linkd_status {
     LINKD_DONE = 0,
     LINKD_DEFINE = 1,          /* a class isn't defined (5.3.5): fault is a linkd_define_fault */
-    LINKD_UNKNOWN_CLASS = 2,
-    LINKD_NO_SUCH_PLACE = 3,   /* the class has no invocation there */
-    LINKD_NOT_LINKABLE = 4,    /* fault 1: it names an array type; 2: MethodHandle or VarHandle of java.lang.invoke */
+    LINKD_UNKNOWN_CLASS = 2,   /* there is no class of this number or name; of a request, also a retired one */
+    LINKD_NO_SUCH_PLACE = 3,   /* the class has no such method, or no invocation there */
+    LINKD_NOT_LINKABLE = 4,    /* fault is a linkd_not_linkable_fault */
     LINKD_SITES_FULL = 5,
     LINKD_CALL_SITE = 6,       /* fault is a linkd_call_site_fault */
     LINKD_NOT_DYNAMIC = 7,     /* the site is no invokedynamic */
     LINKD_ALREADY_BOUND = 8,   /* place is the call site that it is bound to */
     LINKD_TYPE_MISMATCH = 9,
-    LINKD_STALE = 10,          /* place is the site whose link isn't the one from scratch now */
-    LINKD_NOT_READY = 11,      /* place is the site that has no link from scratch now */
+    LINKD_STALE = 10,          /* place is the first site whose given link isn't the one from scratch now */
+    LINKD_NOT_READY = 11,      /* place is the first site that has no link from scratch now, or in a view had none then */
     LINKD_UNKNOWN_SITE = 12,   /* place is the number under which nothing was requested; of a bind, also a site of a retired class */
     LINKD_REPEATED = 13,       /* place is the site that comes twice */
     LINKD_BATCH_SIZE = 14,     /* no sites, or more than 256 */
     LINKD_MEMORY = 15,         /* want of memory; of a call that is given bytes, text or an array, maybe in the place of another refusal */
-    LINKD_DELEGATE = 16,       /* fault 1: unknown loader, or retired; 2: not recorded; 3: already recorded */
+    LINKD_DELEGATE = 16,       /* fault is a linkd_delegate_fault */
     LINKD_LOADERS_FULL = 17,
     LINKD_RETIRE = 19,         /* fault is a linkd_retire_fault */
     LINKD_NO_CLASS_FILE = 32,  /* the bytes are no class file: fault is a linkd_class_fault */
-    LINKD_MALFORMED = 33,      /* a kind, type or target that is none, or a number that is too large */
-    LINKD_CLOSED = 34,         /* the linker or the memo isn't open, or the seat was never refreshed */
+    LINKD_MALFORMED = 33,      /* a kind, type, target or link that is none, or a number that is too large */
+    LINKD_CLOSED = 34,         /* the linker or the memo isn't open, the seat was never refreshed, or the view never taken */
     LINKD_OPEN_ALREADY = 35,
-    LINKD_TOO_SHORT = 36       /* the array is too short; the length that is wanted was written */
+    LINKD_TOO_SHORT = 36       /* the array is too short; the length that is wanted was written, where there is a place for it */
 };
 
 /* What an event made, or why it was refused; each number that says nothing is 0. It is written whatever the status is. */
@@ -79,6 +84,18 @@ enum linkd_define_fault {
     LINKD_INACCESSIBLE_PARENT = 8,
     LINKD_SECOND_OBJECT = 9,
     LINKD_CLASSES_FULL = 10
+};
+
+/* Why an invocation is never linked. */
+enum linkd_not_linkable_fault {
+    LINKD_ARRAY_RECEIVER = 1,       /* it names an array type */
+    LINKD_POLYMORPHIC_SIGNATURE = 2 /* it names a method of MethodHandle or VarHandle of java.lang.invoke (2.9.3) */
+};
+
+enum linkd_delegate_fault {
+    LINKD_DELEGATE_UNKNOWN_LOADER = 1, /* one of the two was never made, or is retired */
+    LINKD_DELEGATE_NOT_RECORDED = 2,   /* the other loader finds no class under the name */
+    LINKD_DELEGATE_ALREADY_RECORDED = 3
 };
 
 enum linkd_call_site_fault {
@@ -107,16 +124,34 @@ enum linkd_class_fault {
     LINKD_BAD_MAGIC = 2,
     LINKD_BAD_VERSION = 3,
     LINKD_TRUNCATED = 4,
-    LINKD_POOL = 5,             /* cause 1: cut short; 2: a tag; 3: an index; 4: a text; 5: a descriptor; place is the entry */
+    LINKD_POOL = 5,             /* cause is a linkd_pool_cause, place the entry */
     LINKD_MODULE_FILE = 6,
     LINKD_BAD_SUPER = 7,
     LINKD_DUPLICATE_METHOD = 8, /* place is the method */
     LINKD_TWO_CODES = 9,        /* place is the method */
-    LINKD_CODE = 10,            /* place is the method; cause 1: an opcode; 2: cut short; 3: a switch; 4: an operand; 5: layout */
+    LINKD_CODE = 10,            /* place is the method, cause a linkd_code_cause, and at the pc */
     LINKD_TRAILING_BYTES = 11,
     LINKD_BAD_MEMBER = 12,      /* place is the member, fields and methods together */
     LINKD_BAD_LINK = 13,        /* place is the number */
     LINKD_BAD_NEST = 14
+};
+
+/* What is wrong in the constant pool (4.4). */
+enum linkd_pool_cause {
+    LINKD_POOL_TRUNCATED = 1,
+    LINKD_POOL_BAD_TAG = 2,
+    LINKD_POOL_BAD_INDEX = 3,
+    LINKD_POOL_BAD_TEXT = 4,
+    LINKD_POOL_BAD_DESCRIPTOR = 5
+};
+
+/* What is wrong in a method's code (4.9.1, 4.10). */
+enum linkd_code_cause {
+    LINKD_CODE_BAD_OPCODE = 1,
+    LINKD_CODE_CUT_SHORT = 2,
+    LINKD_CODE_BAD_SWITCH = 3,
+    LINKD_CODE_BAD_OPERAND = 4,
+    LINKD_CODE_BAD_LAYOUT = 5 /* at is 0 */
 };
 
 /* What a call comes to. */
@@ -174,8 +209,22 @@ typedef struct linkd_link {
     linkd_row rows[8];
 } linkd_link;
 
+/* A site with the link that it is to have. */
+typedef struct linkd_link_row {
+    uint32_t site;
+    linkd_link link;
+} linkd_link_row;
+
+/* An invocation in a method's code. */
+typedef struct linkd_invocation {
+    uint32_t pc;     /* in bytes from the code's start */
+    uint32_t opcode; /* 182 invokevirtual, 183 invokespecial, 184 invokestatic, 185 invokeinterface, 186 invokedynamic (6.5) */
+} linkd_invocation;
+
 /* The null reference, as a receiver. */
 #define LINKD_NULL UINT32_C(0xffffffff)
+
+uint32_t linkd_version(void);
 
 /* ---- a linker */
 
@@ -183,43 +232,96 @@ size_t linkd_size(void);
 size_t linkd_align(void);
 void linkd_blank(linkd *at);
 
-/* Opens the linker, without classes; at most max_sites sites may be requested, 1 to 1,048,576 (else LINKD_MALFORMED). */
+/* Opens the linker, without classes; at most max_sites sites may be requested, 1 to 1,048,576 (else LINKD_MALFORMED). LINKD_OPEN_ALREADY,
+ * LINKD_MEMORY. */
 uint32_t linkd_open(linkd *at, uint32_t max_sites);
 /* Lets all go that the linker has; it isn't open then. */
 void linkd_close(linkd *at);
 
-/* Events. Loader 0 is there from the start; all numbers are given from 0 on. */
+/* Events. Loader 0 is there from the start; all numbers are given from 0 on. Each may be LINKD_DONE, LINKD_CLOSED and LINKD_MEMORY; the
+ * other statuses stand at each. Where nothing is said of place, it is 0. */
+
+/* number is the loader. LINKD_LOADERS_FULL: there are 1,024. */
 uint32_t linkd_new_loader(linkd *at, linkd_told *told);
+/* number is the class. LINKD_NO_CLASS_FILE, of which linkd_class_fault says the place; LINKD_DEFINE. */
 uint32_t linkd_define(linkd *at, uint32_t loader, const uint8_t *bytes, size_t length, linkd_told *told);
-/* The loader finds under the name the class that the loader `to` finds. */
+/* The loader finds under the name the class that the loader `to` finds. LINKD_DELEGATE. */
 uint32_t linkd_delegate(linkd *at, uint32_t loader, const uint8_t *name, size_t name_length, uint32_t to, linkd_told *told);
-/* The invocation at the pc of the class's method, by its place among those that the class declares. */
+/* The invocation at the pc of the class's method, by its place among those that the class declares. number is the site; a place that was
+ * requested keeps its number. In this order: LINKD_MALFORMED, a method above 65,535; LINKD_UNKNOWN_CLASS; LINKD_NO_SUCH_PLACE;
+ * LINKD_NOT_LINKABLE; LINKD_SITES_FULL. */
 uint32_t linkd_request(linkd *at, uint32_t class_number, uint32_t method, uint32_t pc, linkd_told *told);
 /* kind 1: constant, 2: mutable, 3: volatile; type: a method descriptor; target: {"method":[class,index]},
- * {"guard":switch,"target":..,"fallback":..} or {"invoker":call_site}, as JSON. */
+ * {"guard":switch,"target":..,"fallback":..} or {"invoker":call_site}, as JSON. number is the call site. LINKD_MALFORMED, where one of
+ * the three is none; LINKD_CALL_SITE, whose place is said at LINKD_INVOKER_ORDER. */
 uint32_t linkd_new_call_site(linkd *at, uint32_t kind, const uint8_t *type, size_t type_length, const uint8_t *target,
                              size_t target_length, linkd_told *told);
+/* LINKD_MALFORMED, where the target is none; LINKD_CALL_SITE as above. */
 uint32_t linkd_set_target(linkd *at, uint32_t call_site, const uint8_t *target, size_t target_length, linkd_told *told);
+/* number is the switch point. LINKD_CALL_SITE with LINKD_CALL_SITES_FULL: there are 65,536. */
 uint32_t linkd_new_switch(linkd *at, linkd_told *told);
+/* LINKD_CALL_SITE with LINKD_UNKNOWN_SWITCH: one of them is none, and none is invalidated. */
 uint32_t linkd_invalidate(linkd *at, const uint32_t *switches, size_t count, linkd_told *told);
+/* In this order: LINKD_UNKNOWN_SITE, whose place is the site; LINKD_NOT_DYNAMIC; LINKD_ALREADY_BOUND, whose place is the call site that it
+ * is bound to; LINKD_CALL_SITE with LINKD_UNKNOWN_CALL_SITE; LINKD_TYPE_MISMATCH. */
 uint32_t linkd_bind(linkd *at, uint32_t site, uint32_t call_site, linkd_told *told);
-/* The loader goes, with the classes that it has defined and the sites in them: they are LINKD_GONE. No number is given again. */
+/* The loader goes, with the classes that it has defined and the sites in them: they are LINKD_GONE. No number is given again. LINKD_RETIRE,
+ * of which linkd_retire_fault says the place. */
 uint32_t linkd_retire(linkd *at, uint32_t loader, linkd_told *told);
-/* Links the sites from scratch, 1 to 256 of them, and installs their links: all of them or none. LINKD_NOT_READY names the first that
- * has no link now: a linkd_call there is LINKD_UNLINKED. */
+/* Links the sites from scratch, 1 to 256 of them, and installs their links: all of them or none. In this order: LINKD_BATCH_SIZE;
+ * LINKD_UNKNOWN_SITE or LINKD_REPEATED, whose place is the first site that wasn't requested or comes a second time; LINKD_NOT_READY,
+ * whose place is the first site that has no link now: a linkd_call there is LINKD_UNLINKED. */
 uint32_t linkd_install(linkd *at, const uint32_t *sites, size_t count, linkd_told *told);
 
+/* Installs these links, of 1 to 256 sites, all of them or none; each has to be its site's link from scratch now, wherever and whenever it
+ * was looked up. LINKD_MALFORMED, where a link is none by its kind, its count or one of its rows, of 65,536 methods to a class; what it
+ * doesn't say isn't looked at. Then LINKD_BATCH_SIZE, LINKD_UNKNOWN_SITE and LINKD_REPEATED as above; LINKD_STALE, whose place is the
+ * first site whose link is another one now, be it that the given one names classes or methods that aren't there, and present is the one
+ * that it has; or LINKD_NOT_READY, whose place is the first site that has none, whichever of the two comes first. No other status
+ * writes present. */
+uint32_t linkd_install_links(linkd *at, const linkd_link_row *rows, size_t count, linkd_told *told, linkd_link *present);
+
+/* What follows is no event: it leaves the linker as it is, takes no memory, and is LINKD_DONE or LINKD_CLOSED, or what stands there.
+ * Where it isn't done nothing is written but a length, with LINKD_TOO_SHORT. */
+
 /* The sites, rising, whose links the last accepted event removed, whichever event that was: they are pending now. As many as may be
- * requested are always room enough. Takes no memory. */
+ * requested are always room enough. LINKD_TOO_SHORT. */
 uint32_t linkd_dropped(linkd *at, uint32_t *out, size_t capacity, size_t *length);
 
-/* What a call comes to now, linked or not. Takes no memory. */
+/* What a call comes to now, linked or not. */
 uint32_t linkd_call(linkd *at, uint32_t site, uint32_t receiver, linkd_call_answer *answer);
-/* The link that is installed at the site, or LINKD_NONE, also where nothing was requested. Takes no memory. */
+/* The link that is installed at the site, or LINKD_NONE, also where nothing was requested. */
 uint32_t linkd_link_of(linkd *at, uint32_t site, linkd_link *link);
 
-/* Any command of docs/FORMATS.md, as text. The answer is kept until the next one, and its length written; linkd_take copies it. On
- * LINKD_MEMORY the command was obeyed, or nothing has changed. What the command prepare prepares is kept until the linker is closed. */
+/* The class that the loader finds under the name (5.3): one that it has defined or was delegated. LINKD_UNKNOWN_CLASS where it finds none,
+ * or where there is no such loader, or a retired one. */
+uint32_t linkd_lookup(linkd *at, uint32_t loader, const uint8_t *name, size_t name_length, uint32_t *class_number);
+/* The name of the class as its file has it (4.2.1), in modified UTF-8, be the class retired or not. LINKD_UNKNOWN_CLASS,
+ * LINKD_TOO_SHORT. */
+uint32_t linkd_class_name(linkd *at, uint32_t class_number, uint8_t *out, size_t capacity, size_t *length);
+/* The name (4.2.2) and the descriptor (4.3.3) of the method at a place among those that the class declares, as of a linkd_call_answer.
+ * LINKD_NO_SUCH_PLACE where there is no such class or method, LINKD_TOO_SHORT. */
+uint32_t linkd_method_name(linkd *at, uint32_t class_number, uint32_t method, uint8_t *out, size_t capacity, size_t *length);
+uint32_t linkd_method_type(linkd *at, uint32_t class_number, uint32_t method, uint8_t *out, size_t capacity, size_t *length);
+/* The invocations in that method's code, by rising pc; some of them may be LINKD_NOT_LINKABLE. The methods of a class are those from 0 on
+ * up to the first one that is LINKD_NO_SUCH_PLACE. LINKD_TOO_SHORT. */
+uint32_t linkd_invocations(linkd *at, uint32_t class_number, uint32_t method, linkd_invocation *out, size_t capacity, size_t *length);
+
+/* The name of the class that the refusal of the last event told of: LINKD_MISSING_PARENT, LINKD_NOT_AN_INTERFACE or
+ * LINKD_INACCESSIBLE_PARENT of a linkd_define. An event that isn't asked for, as what is LINKD_NO_CLASS_FILE or LINKD_MALFORMED, leaves it,
+ * and so does linkd_answer. LINKD_UNKNOWN_CLASS where the last event named none, LINKD_TOO_SHORT. */
+uint32_t linkd_named(linkd *at, uint8_t *out, size_t capacity, size_t *length);
+/* The name of the class for which the requested site waits, where a linkd_call there is LINKD_WANTS_NAMED, LINKD_WANTS_CALLER_HOST or
+ * LINKD_WANTS_METHOD_HOST; so what the place of LINKD_NOT_READY waits for. LINKD_UNKNOWN_CLASS where it waits for none, LINKD_TOO_SHORT. */
+uint32_t linkd_awaited(linkd *at, uint32_t site, uint8_t *out, size_t capacity, size_t *length);
+
+/* How many selections, special searches and evaluations of call sites the last accepted event took: what it cost beside the sites that
+ * it dropped. */
+uint32_t linkd_last_work(linkd *at, uint64_t *work);
+
+/* Any command of docs/FORMATS.md, as text. The answer is kept until the next one, and its length written; linkd_take copies it.
+ * LINKD_CLOSED; LINKD_MEMORY: the command was obeyed, or nothing has changed. What the command prepare prepares is kept until the linker
+ * is closed. linkd_take may be LINKD_TOO_SHORT, too. */
 uint32_t linkd_answer(linkd *at, const uint8_t *line, size_t line_length, size_t *length);
 uint32_t linkd_take(linkd *at, uint8_t *out, size_t capacity, size_t *length);
 
@@ -228,11 +330,12 @@ uint32_t linkd_take(linkd *at, uint8_t *out, size_t capacity, size_t *length);
 size_t linkd_seat_size(void);
 size_t linkd_seat_align(void);
 void linkd_seat_blank(linkd_seat *at);
-/* Gives the seat the linker's links and count of classes as they are now. Counts as a call on the seat and on the linker. */
+/* Gives the seat the linker's links and count of classes as they are now. Counts as a call on the seat and on the linker. LINKD_CLOSED
+ * where the linker isn't open; LINKD_MEMORY, and the seat has what it had. */
 uint32_t linkd_seat_refresh(linkd_seat *at, linkd *from);
 /* What a call comes to by the links of the last refresh, at once: of null, and of each object that may stand there. LINKD_MISS where
- * the site had no link or a megamorphic one, or its link looks at the receiver, whose class is newer. Takes no lock and no memory, and
- * counts as a call on the seat alone, which may outlive the linker. */
+ * the site had no link or a megamorphic one, or its link looks at the receiver, whose class is newer. LINKD_CLOSED where the seat was
+ * never refreshed. Takes no lock and no memory, and counts as a call on the seat alone, which may outlive the linker. */
 uint32_t linkd_seat_call(linkd_seat *at, uint32_t site, uint32_t receiver, linkd_call_answer *answer);
 /* The same, but at a megamorphic link what the memo remembers of such calls, and LINKD_MISS where it remembers none; null throws there at
  * once. The memo was asked of the linker that the seat was refreshed from, and of no other one. LINKD_CLOSED also where the memo isn't
@@ -250,7 +353,7 @@ void linkd_memo_blank(linkd_memo *at);
 /* Opens the memo, which remembers nothing, with so many sets, each of which remembers two calls; which set a call has is told by a hash.
  * Calls of which three have one set push each other out, so a memo wants several times as many sets as there are calls that are made over
  * and over: of 9,000 calls in turn, 1,000 sites on 9 classes each, 75 of a hundred are remembered in 9,000 sets, 97 in 18,000, all in
- * 36,000. */
+ * 36,000. LINKD_OPEN_ALREADY; LINKD_MALFORMED, for no sets; LINKD_MEMORY. */
 uint32_t linkd_memo_open(linkd_memo *at, uint32_t sets);
 /* As linkd_call, on the linker: what a call comes to now. It is remembered where the site's link is megamorphic and the answer runs a
  * method or throws, in the place of another one where its set is full. Such an answer stays right, whatever is defined later, while the
@@ -264,6 +367,156 @@ uint32_t linkd_memo_call(linkd_memo *at, uint32_t site, uint32_t receiver, linkd
 /* Lets go what the memo remembers: it isn't open then. A memo that is to be asked of another linker, or of one that was closed and opened
  * again, is closed and opened first. Counts as a call on the memo alone. */
 void linkd_memo_close(linkd_memo *at);
+
+/* ---- a view */
+
+size_t linkd_view_size(void);
+size_t linkd_view_align(void);
+void linkd_view_blank(linkd_view *at);
+/* Gives the view what there is to link now, classes, sites and call sites, in the place of what it had. Nothing is copied here, but by
+ * a later event where the view still has it then: so leave a view once it isn't needed. Counts as a call on the view and on the linker.
+ * LINKD_CLOSED where the linker isn't open, LINKD_MEMORY where memory lacks: the view has what it had. */
+uint32_t linkd_view_take(linkd_view *at, linkd *from);
+/* After how many accepted events it was taken. Counts as a call on the view alone, as each that follows; it may outlive the linker. */
+uint32_t linkd_view_serial(linkd_view *at, uint64_t *serial);
+/* As linkd_call, when the view was taken. Takes no lock and no memory. */
+uint32_t linkd_view_call(linkd_view *at, uint32_t site, uint32_t receiver, linkd_call_answer *answer);
+/* The links of these sites from scratch, 1 to 256 of them, as they were when the view was taken, in the order of the sites: all are
+ * written or none. Nothing is installed, and no lock taken. capacity is that of links: LINKD_TOO_SHORT where it is less than count.
+ * Then, in this order: LINKD_BATCH_SIZE; LINKD_UNKNOWN_SITE or LINKD_REPEATED, whose place is the first site that wasn't requested or
+ * comes a second time; LINKD_NOT_READY, whose place is the first site that had no link; LINKD_MEMORY where there is none of these, or
+ * where memory lacks for the list of the sites. */
+uint32_t linkd_view_prepare(linkd_view *at, const uint32_t *sites, size_t count, linkd_link *links, size_t capacity, linkd_told *told);
+/* Lets go what the view has: it is as if it was never taken. */
+void linkd_view_leave(linkd_view *at);
+
+/* ---- names of numbers, as they stand above; NULL where there is none */
+
+#define LINKD_NAMED(number) case number: return #number
+
+static inline const char *linkd_status_name(uint32_t status) {
+    switch (status) {
+        LINKD_NAMED(LINKD_DONE);
+        LINKD_NAMED(LINKD_DEFINE);
+        LINKD_NAMED(LINKD_UNKNOWN_CLASS);
+        LINKD_NAMED(LINKD_NO_SUCH_PLACE);
+        LINKD_NAMED(LINKD_NOT_LINKABLE);
+        LINKD_NAMED(LINKD_SITES_FULL);
+        LINKD_NAMED(LINKD_CALL_SITE);
+        LINKD_NAMED(LINKD_NOT_DYNAMIC);
+        LINKD_NAMED(LINKD_ALREADY_BOUND);
+        LINKD_NAMED(LINKD_TYPE_MISMATCH);
+        LINKD_NAMED(LINKD_STALE);
+        LINKD_NAMED(LINKD_NOT_READY);
+        LINKD_NAMED(LINKD_UNKNOWN_SITE);
+        LINKD_NAMED(LINKD_REPEATED);
+        LINKD_NAMED(LINKD_BATCH_SIZE);
+        LINKD_NAMED(LINKD_MEMORY);
+        LINKD_NAMED(LINKD_DELEGATE);
+        LINKD_NAMED(LINKD_LOADERS_FULL);
+        LINKD_NAMED(LINKD_RETIRE);
+        LINKD_NAMED(LINKD_NO_CLASS_FILE);
+        LINKD_NAMED(LINKD_MALFORMED);
+        LINKD_NAMED(LINKD_CLOSED);
+        LINKD_NAMED(LINKD_OPEN_ALREADY);
+        LINKD_NAMED(LINKD_TOO_SHORT);
+        default: return NULL;
+    }
+}
+
+static inline const char *linkd_define_fault_name(uint32_t fault) {
+    switch (fault) {
+        LINKD_NAMED(LINKD_UNKNOWN_LOADER);
+        LINKD_NAMED(LINKD_ALREADY_RECORDED);
+        LINKD_NAMED(LINKD_NAMES_ITSELF);
+        LINKD_NAMED(LINKD_MISSING_PARENT);
+        LINKD_NAMED(LINKD_SUPER_IS_INTERFACE);
+        LINKD_NAMED(LINKD_FINAL_SUPER);
+        LINKD_NAMED(LINKD_NOT_AN_INTERFACE);
+        LINKD_NAMED(LINKD_INACCESSIBLE_PARENT);
+        LINKD_NAMED(LINKD_SECOND_OBJECT);
+        LINKD_NAMED(LINKD_CLASSES_FULL);
+        default: return NULL;
+    }
+}
+
+static inline const char *linkd_call_site_fault_name(uint32_t fault) {
+    switch (fault) {
+        LINKD_NAMED(LINKD_UNKNOWN_CALL_SITE);
+        LINKD_NAMED(LINKD_CONSTANT);
+        LINKD_NAMED(LINKD_WRONG_TYPE);
+        LINKD_NAMED(LINKD_UNKNOWN_METHOD);
+        LINKD_NAMED(LINKD_NOT_STATIC);
+        LINKD_NAMED(LINKD_UNKNOWN_SWITCH);
+        LINKD_NAMED(LINKD_TOO_DEEP);
+        LINKD_NAMED(LINKD_CALL_SITES_FULL);
+        LINKD_NAMED(LINKD_INVOKER_ORDER);
+        default: return NULL;
+    }
+}
+
+static inline const char *linkd_retire_fault_name(uint32_t fault) {
+    switch (fault) {
+        LINKD_NAMED(LINKD_NO_LOADER);
+        LINKD_NAMED(LINKD_FIRST_LOADER);
+        LINKD_NAMED(LINKD_INHERITED);
+        LINKD_NAMED(LINKD_RECORDED);
+        LINKD_NAMED(LINKD_TARGETED);
+        default: return NULL;
+    }
+}
+
+static inline const char *linkd_class_fault_name(uint32_t fault) {
+    switch (fault) {
+        LINKD_NAMED(LINKD_TOO_LARGE);
+        LINKD_NAMED(LINKD_BAD_MAGIC);
+        LINKD_NAMED(LINKD_BAD_VERSION);
+        LINKD_NAMED(LINKD_TRUNCATED);
+        LINKD_NAMED(LINKD_POOL);
+        LINKD_NAMED(LINKD_MODULE_FILE);
+        LINKD_NAMED(LINKD_BAD_SUPER);
+        LINKD_NAMED(LINKD_DUPLICATE_METHOD);
+        LINKD_NAMED(LINKD_TWO_CODES);
+        LINKD_NAMED(LINKD_CODE);
+        LINKD_NAMED(LINKD_TRAILING_BYTES);
+        LINKD_NAMED(LINKD_BAD_MEMBER);
+        LINKD_NAMED(LINKD_BAD_LINK);
+        LINKD_NAMED(LINKD_BAD_NEST);
+        default: return NULL;
+    }
+}
+
+static inline const char *linkd_not_linkable_fault_name(uint32_t fault) {
+    switch (fault) {
+        LINKD_NAMED(LINKD_ARRAY_RECEIVER);
+        LINKD_NAMED(LINKD_POLYMORPHIC_SIGNATURE);
+        default: return NULL;
+    }
+}
+
+static inline const char *linkd_delegate_fault_name(uint32_t fault) {
+    switch (fault) {
+        LINKD_NAMED(LINKD_DELEGATE_UNKNOWN_LOADER);
+        LINKD_NAMED(LINKD_DELEGATE_NOT_RECORDED);
+        LINKD_NAMED(LINKD_DELEGATE_ALREADY_RECORDED);
+        default: return NULL;
+    }
+}
+
+#undef LINKD_NAMED
+
+/* Of the fault that a linkd_told has beside this status. */
+static inline const char *linkd_fault_name(uint32_t status, uint32_t fault) {
+    switch (status) {
+        case LINKD_DEFINE: return linkd_define_fault_name(fault);
+        case LINKD_NOT_LINKABLE: return linkd_not_linkable_fault_name(fault);
+        case LINKD_CALL_SITE: return linkd_call_site_fault_name(fault);
+        case LINKD_DELEGATE: return linkd_delegate_fault_name(fault);
+        case LINKD_RETIRE: return linkd_retire_fault_name(fault);
+        case LINKD_NO_CLASS_FILE: return linkd_class_fault_name(fault);
+        default: return NULL;
+    }
+}
 
 #ifdef __cplusplus
 }

@@ -1,12 +1,14 @@
--- A linker may go to another thread.
+-- A linker, a seat and a view may go to another thread.
 use denote.Param.Send.{IsSend, sendable}
 use Rattle.std.proofs.Crossing.{crosses as of_std}
 use Rattle.jl_types.proofs.link.Link.TheSendSync as of_links
 use Rattle.jl_cache.proofs.kept.KeptSlot.TheSendSync as of_slots
+use Rattle.jl_relink.proofs.Crossing.{snapshot_send}
 use Rattle.jl_core.proofs.Crossing.{core_send}
 use Rattle.jl_session.specs.contracts.session.Session as Session
 use Rattle.jl_host.specs.contracts.opened.Opened as Opened
 use Rattle.jl_host.specs.contracts.linker.Linker as Linker
+use Rattle.jl_host.specs.contracts.view.View as View
 
 session_send : IsSend Session.the_row
 session_send = search (core_send, of_links.the_send, sendable, of_std) depth 40
@@ -16,3 +18,6 @@ opened_send = search (session_send, of_slots.the_send, of_slots.the_sync, sendab
 
 pub linker_send : IsSend Linker.the_row
 linker_send = search (opened_send, sendable) depth 12
+
+pub view_send : IsSend View.the_row
+view_send = search (snapshot_send, sendable) depth 12

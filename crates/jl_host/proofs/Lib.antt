@@ -3,4 +3,7 @@ pub mod BehindLaws
 pub mod CaughtUp
 pub mod FileLaws
 pub mod SeatLaws
+pub mod ReadingLaws
 pub mod Crossing
+pub mod ReadAgain
+pub mod GivenLaws

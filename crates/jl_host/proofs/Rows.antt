@@ -29,7 +29,9 @@ use Rattle.jl_host.specs.Numbers.{done, memory, no_class_file, malformed, closed
 use Rattle.jl_host.specs.Numbers.{status_of_refusal, define_number, call_site_number, delegate_number, not_linkable_number, status_of_unprepared}
 use Rattle.jl_host.specs.Numbers.{status_of_file, number_of}
 use Rattle.jl_host.specs.Telling.{told_of_refusal, told_of_reply, told_of_unprepared, told_of_file}
-use Rattle.jl_host.specs.Showing.{recv_of, answer_shown, fast_shown, link_shown}
+use Rattle.jl_host.specs.Showing.{recv_of, answer_shown, fast_shown, link_shown, shown}
+use Rattle.jl_host.specs.declared.shown.LinkShown.{LinkShown}
+use Rattle.jl_host.specs.Reading.{link_of, all_of}
 use Rattle.jl_host.specs.Linkers.{kind_of}
 
 -- ---- statuses
@@ -154,3 +156,27 @@ single_rows : map (λ l. (link_shown l).rows) (Some (link.Fault throwable.Illega
     ∷ (record { receiver = 0; kind = 0; class_number = 5; value = 6 } ∷ replicate 7 nothing)
     ∷ (record { receiver = 0; kind = 1; class_number = 0; value = 5 } ∷ replicate 7 nothing) ∷ []
 single_rows = refl
+
+-- ---- links that are given: what was shown is read again, and what no link is isn't
+
+read_again : map (λ l. link_of (shown l)) (link.Fault throwable.IllegalAccessError ∷ link.Plain m ∷ link.Direct (Run m)
+    ∷ link.Direct (Throws throwable.AbstractMethodError) ∷ link.Table Virtual [] ∷ link.Table Interface ((3, Run m) ∷ (4, Throws throwable.NoSuchMethodError) ∷ [])
+    ∷ link.Mega ∷ [])
+    ≡ map Some (link.Fault throwable.IllegalAccessError ∷ link.Plain m ∷ link.Direct (Run m)
+    ∷ link.Direct (Throws throwable.AbstractMethodError) ∷ link.Table Virtual [] ∷ link.Table Interface ((3, Run m) ∷ (4, Throws throwable.NoSuchMethodError) ∷ [])
+    ∷ link.Mega ∷ [])
+unfolding all_of
+read_again = refl
+
+abbrev given : ℕ → ℕ → ℕ → ℕ → LinkShown
+given kind count first value = record {
+  kind = kind;
+  count = count;
+  rows = record { receiver = 3; kind = first; class_number = 5; value = value } ∷ replicate 7 nothing;
+}
+
+no_links : map link_of (given 0 0 0 0 ∷ given 1 1 0 6 ∷ given 2 1 1 1 ∷ given 3 0 0 6 ∷ given 3 2 0 6 ∷ given 3 1 2 6 ∷ given 3 1 1 6 ∷ given 3 1 0 65536
+    ∷ given 4 9 0 6 ∷ given 4 1 2 6 ∷ given 6 1 0 6 ∷ given 7 1 0 6 ∷ [])
+    ≡ replicate 12 None
+unfolding all_of
+no_links = refl

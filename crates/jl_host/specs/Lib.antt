@@ -1,4 +1,5 @@
--- `Numbers`, `Telling`, `Showing`, `Copies`, `Linkers`, `Seats` and `Memos` are what contracts cite; `Behind` is a means of proof.
+-- `Numbers`, `Telling`, `Showing`, `Copies`, `Linkers`, `Seats`, `Memos`, `Reading`, `Views`, `Awaiting` and `Asking` are what contracts cite;
+-- `Behind` is a means of proof.
 pub mod Numbers
 pub mod Telling
 pub mod Showing
@@ -6,4 +7,8 @@ pub mod Copies
 pub mod Linkers
 pub mod Seats
 pub mod Memos
+pub mod Reading
+pub mod Views
+pub mod Awaiting
+pub mod Asking
 pub mod Means

@@ -28,16 +28,17 @@ use Rattle.jl_host.specs.declared.told.Told.{Told}
 use Rattle.jl_host.specs.declared.shown.CallAnswer.{CallAnswer}
 use Rattle.jl_host.specs.declared.shown.LinkShown.{LinkShown}
 use Rattle.jl_host.specs.Numbers.{done, memory, no_class_file, malformed, closed, open_already, status_of_unprepared}
-use Rattle.jl_host.specs.Telling.{nothing, status_of, told_of, told_of_unprepared, told_of_file}
+use Rattle.jl_host.specs.Telling.{nothing, status_of, told_of, told_of_unprepared, told_of_file, class_named}
 use Rattle.jl_host.specs.Copies.{IsCopied}
 use Rattle.jl_host.specs.Showing.{recv_of, answer_shown, link_shown}
 
 pub record Opened : Type 0 where
   pub session : Session  -- the core, and the batches of links that were prepared
   pub said : List ℕ  -- the text of the last answer
+  pub named : Option (List ℕ)  -- the class that the refusal of the last event told of by its name
 
 abbrev pub newly_opened : ℕ → Opened
-newly_opened max_sites = record { session = session_of max_sites; said = [] }
+newly_opened max_sites = record { session = session_of max_sites; said = []; named = None }
 
 -- ---- opening
 
@@ -61,6 +62,7 @@ pub record IsAsked (e : Event) (old : Opened) (status : ℕ) (told : Told) (new 
   pub applied : IsApplied old.session.core e outcome new.session.core
   pub batches : new.session.batches ≡ old.session.batches
   pub said : new.said ≡ old.said
+  pub named : new.named ≡ class_named outcome
   pub status_is : status ≡ status_of outcome
   pub told_is : told ≡ told_of outcome
 
@@ -189,12 +191,13 @@ IsLinkOf site = IsWritten (λ old. link_shown (installed (events old.session.cor
 
 -- ---- commands as text
 
--- the answer is kept, and its length told; or memory lacked for it, and the command was obeyed or the session stays
+-- The answer is kept, and its length told; what an event named stays. Or memory lacked for it, and the command was obeyed or the session stays
 abbrev pub IsAnswered : List ℕ → Opened → ℕ → ℕ → ℕ → Opened → Type 0
 IsAnswered line old before status count new =
-    ((status ≡ done) × IsTextOf (λ answer. IsSessionAnswer old.session line answer new.session) new.said × (count ≡ length new.said))
+    ((status ≡ done) × IsTextOf (λ answer. IsSessionAnswer old.session line answer new.session) new.said × (count ≡ length new.said)
+    × (new.named ≡ old.named))
     ⊎ ((status ≡ memory) × LacksAnswer old.session (λ answer. IsSessionAnswer old.session line answer new.session) new.session
-    × (new.said ≡ old.said) × (count ≡ before))
+    × (new.said ≡ old.said) × (count ≡ before) × (new.named ≡ old.named))
 
 abbrev pub IsAnswer : List ℕ → Option Opened → ℕ → ℕ → ℕ → Option Opened → Type 0
 IsAnswer line None before status count new = (status ≡ closed) × (count ≡ before) × (new ≡ None)

@@ -17,10 +17,16 @@ use Rattle.jl_types.specs.declared.refusal.PrepareFault.TheVariants as preparati
 use Rattle.jl_types.specs.declared.refusal.Refusal.{Refusal}
 use Rattle.jl_types.specs.declared.refusal.Refusal.TheVariants as refusal
 
--- ---- statuses beside those of refusals
+-- ---- statuses beside those of refusals, and such that calls without an event answer, too
 
 abbrev pub done : ℕ
 done = 0
+
+abbrev pub unknown_class : ℕ
+unknown_class = 2
+
+abbrev pub no_such_place : ℕ
+no_such_place = 3
 
 abbrev pub memory : ℕ
 memory = 15
@@ -44,8 +50,8 @@ too_short = 36
 
 abbrev pub status_of_refusal : Refusal → ℕ
 status_of_refusal (refusal.Define fault) = 1
-status_of_refusal refusal.UnknownClass = 2
-status_of_refusal refusal.NoSuchPlace = 3
+status_of_refusal refusal.UnknownClass = unknown_class
+status_of_refusal refusal.NoSuchPlace = no_such_place
 status_of_refusal (refusal.NotLinkable reason) = 4
 status_of_refusal refusal.SitesFull = 5
 status_of_refusal (refusal.CallSite fault) = 6

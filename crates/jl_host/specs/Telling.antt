@@ -1,5 +1,5 @@
 -- What is told of an event, or of bytes that are no class file.
-use Rattle.std.specs.Prelude.{ℕ, Result, Ok, Err}
+use Rattle.std.specs.Prelude.{ℕ, List, Option, Some, None, Result, Ok, Err}
 use Rattle.jl_pool.specs.declared.pool_fault.PoolFault.{PoolFault}
 use Rattle.jl_pool.specs.declared.pool_fault.PoolFault.TheVariants as pool
 use Rattle.jl_code.specs.declared.code_fault.CodeFault.{CodeFault}
@@ -7,6 +7,8 @@ use Rattle.jl_code.specs.declared.code_fault.CodeFault.TheVariants as code
 use Rattle.jl_classfile.specs.declared.fault.ClassFault.{ClassFault}
 use Rattle.jl_classfile.specs.declared.fault.ClassFault.TheVariants as file
 use Rattle.jl_types.specs.declared.event.Reply.{Reply}
+use Rattle.jl_types.specs.declared.refusal.DefineFault.{DefineFault}
+use Rattle.jl_types.specs.declared.refusal.DefineFault.TheVariants.{MissingParent, NotAnInterface, InaccessibleParent}
 use Rattle.jl_types.specs.declared.refusal.PrepareFault.{PrepareFault}
 use Rattle.jl_types.specs.declared.refusal.PrepareFault.TheVariants as preparation
 use Rattle.jl_types.specs.declared.refusal.RetireFault.{RetireFault}
@@ -68,6 +70,18 @@ status_of (Err r) = status_of_refusal r
 abbrev pub told_of : Result Reply Refusal → Told
 told_of (Ok reply) = told_of_reply reply
 told_of (Err r) = told_of_refusal r
+
+-- a parent that is missing, that is no interface where it has to be one, or that isn't accessible, by its name (JVMS 5.3.5)
+abbrev pub parent_named : DefineFault → Option (List ℕ)
+parent_named (MissingParent name) = Some name
+parent_named (NotAnInterface name) = Some name
+parent_named (InaccessibleParent name) = Some name
+parent_named _ = None
+
+-- the class that a refusal tells of by its name
+abbrev pub class_named : Result Reply Refusal → Option (List ℕ)
+class_named (Err (refusal.Define fault)) = parent_named fault
+class_named _ = None
 
 abbrev pub told_of_unprepared : PrepareFault → Told
 told_of_unprepared (preparation.NotReady s) = with_place s

@@ -1,15 +1,23 @@
-//! A linker as a host holds it: one core, its events by plain numbers, bytes and arrays, and seats, at which threads read its links
-//! without a lock. Everything that a call answers is a status and plain numbers.
+//! A linker as a host holds it: one core, its events by plain numbers, bytes and arrays, seats, at which threads read its links without a
+//! lock, and views, in which compilers prepare links without one. Everything that a call answers is a status and plain numbers.
 //!
-//! What each call leaves, by its status, stands in `specs/`, in reading order: `Numbers`, `Telling`, `Showing`, `Copies`, `Linkers`, `Seats`, `Memos`.
+//! What each call leaves, by its status, stands in `specs/`, in reading order: `Numbers`, `Telling`, `Showing`, `Copies`, `Linkers`,
+//! `Seats`, `Memos`, `Reading`, `Views`, `Awaiting`, `Asking`.
 #![tactic(auto)]
 
 // What is answered, as numbers.
 mod shown;
 mod told;
 
-// Arrays.
+// Arrays, and links that are given.
 mod arrays;
+mod fill;
+mod invocations;
+mod reading;
+
+// Classes and methods by name and by number.
+mod asked;
+mod awaited;
 
 // What stands behind a linker, and the linker.
 mod behind;
@@ -20,9 +28,20 @@ mod opened;
 mod memo;
 mod seat;
 mod seat_view;
+mod view;
 
+// What follows from the contracts.
+mod laws;
+
+pub use invocations::Invocation;
+pub use laws::{given_links_are_from_scratch, shown_links_are_read_again};
 pub use linker::Linker;
 pub use memo::Memo;
+pub use reading::LinkRow;
 pub use seat::Seat;
 pub use shown::{CallAnswer, LinkShown, MOST_ROWS, NULL, Row};
-pub use told::{CLOSED, DONE, MALFORMED, MEMORY, NO_CLASS_FILE, OPEN_ALREADY, TOO_SHORT, Told};
+pub use told::{
+    CLOSED, DONE, MALFORMED, MEMORY, NO_CLASS_FILE, NO_SUCH_PLACE, OPEN_ALREADY, TOO_SHORT, Told,
+    UNKNOWN_CLASS,
+};
+pub use view::View;

@@ -8,14 +8,24 @@ ghost use Rattle.jl_host.specs.Showing.{recv_of};
 ghost use Rattle.jl_host.specs.Seats.{seen_of};
 ghost use Rattle.jl_host.specs.Linkers.{IsOpen, IsNewLoader, IsDefine, IsDelegate, IsRequest, IsNewCallSite, IsSetTarget, IsNewSwitch, IsInvalidate};
 ghost use Rattle.jl_host.specs.Linkers.{IsBind, IsRetire, IsInstall, IsDropped, IsTake, IsCall, IsLinkOf, IsAnswer, kind_of, IfOpen, IsAsked};
+ghost use Rattle.jl_session.specs.Sessions.{snapshot_of};
+ghost use Rattle.jl_host.specs.Views.{IsInstallLinks};
+ghost use Rattle.jl_host.specs.Asking.{IsLookup, IsClassName, IsMethodName, IsMethodType, IsInvocations, IsNamed, IsAwaited, IsLastWork};
 ghost use Rattle.jl_host.specs.Linkers.{Opened as OpenedValue};
 
 use crate::arrays::{copy_sites, copy_text, sites_of, switches_of};
+use crate::asked::{
+    copy_awaited, copy_class_name, copy_invocations_of, copy_method_name, copy_method_type,
+    copy_name, find_class,
+};
+use crate::invocations::Invocation;
 use crate::opened::Opened;
+use crate::reading::{LinkRow, rows_of};
 use crate::seat_view::SeatView;
 use crate::shown::{CallAnswer, LinkShown, answer_shown, link_shown, recv_of};
 use crate::told::{CLOSED, DONE, MALFORMED, MEMORY, OPEN_ALREADY, Told, unasked};
 use jl_names::{Name, Seq};
+use jl_relink::Snapshot;
 use jl_session::read_target;
 use jl_types::{Answer, CallSiteId, CallSiteKind, ClassId, Event, Link, LoaderId, Place, SiteNo};
 use std::alloc::{AllocError, Global};
@@ -235,6 +245,29 @@ impl Linker {
         opened.install(alloc, sites.as_slice(), told)
     }
 
+    /// The links are installed, of 1 to 256 sites, each of which is its site's link from scratch now, wherever it was looked up: all or
+    /// none. The first site whose link is another one is told, and its present link written.
+    pub fn install_links(
+        &mut self,
+        alloc: Global,
+        rows: &[LinkRow],
+        told: &mut Told,
+        present: &mut LinkShown,
+    ) -> u32
+        ensures { IsInstallLinks rows.now self.old present.old result told.new present.new self.new }
+    {
+        let Some(opened) = &mut self.opened else {
+            return unasked(CLOSED, told);
+        };
+        let Ok(rows) = rows_of(alloc, rows) else {
+            return unasked(MEMORY, told);
+        };
+        let Some(rows) = rows else {
+            return unasked(MALFORMED, told);
+        };
+        opened.install_links(alloc, rows, told, present)
+    }
+
     /// Copies the sites, rising, whose links the last accepted event removed, and tells how many they are. Takes no memory.
     pub fn dropped(&mut self, out: &mut [u32], count: &mut usize) -> u32
         ensures { IsDropped self.old out.old count.old result out.new count.new self.new }
@@ -281,6 +314,95 @@ impl Linker {
         DONE
     }
 
+    /// The class that the loader finds under the name (JVMS SE 17 §5.3): one that it has defined or was delegated. Takes no memory.
+    pub fn lookup(&mut self, loader: u32, name: &[u8], class: &mut u32) -> u32
+        ensures { IsLookup loader name.now self.old class.old result class.new self.new }
+    {
+        match &self.opened {
+            Some(opened) => find_class(opened.core(), loader, name, class),
+            None => CLOSED,
+        }
+    }
+
+    /// Copies the name of the class as its file has it (§4.2.1), be the class retired or not, and tells its length. Takes no memory.
+    pub fn class_name(&mut self, class: u32, out: &mut [u8], count: &mut usize) -> u32
+        ensures { IsClassName class self.old out.old count.old result out.new count.new self.new }
+    {
+        match &self.opened {
+            Some(opened) => copy_class_name(opened.core(), class, out, count),
+            None => CLOSED,
+        }
+    }
+
+    /// Copies the name of the method (§4.2.2) at the place among those that the class declares, and tells its length. Takes no memory.
+    pub fn method_name(&mut self, class: u32, method: u32, out: &mut [u8], count: &mut usize) -> u32
+        ensures { IsMethodName class method self.old out.old count.old result out.new count.new self.new }
+    {
+        match &self.opened {
+            Some(opened) => copy_method_name(opened.core(), class, method, out, count),
+            None => CLOSED,
+        }
+    }
+
+    /// Copies the descriptor of that method (§4.3.3), and tells its length. Takes no memory.
+    pub fn method_type(&mut self, class: u32, method: u32, out: &mut [u8], count: &mut usize) -> u32
+        ensures { IsMethodType class method self.old out.old count.old result out.new count.new self.new }
+    {
+        match &self.opened {
+            Some(opened) => copy_method_type(opened.core(), class, method, out, count),
+            None => CLOSED,
+        }
+    }
+
+    /// Copies the invocations in that method's code (§6.5), by rising pc, and tells how many there are. Takes no memory.
+    pub fn invocations(
+        &mut self,
+        class: u32,
+        method: u32,
+        out: &mut [Invocation],
+        count: &mut usize,
+    ) -> u32
+        ensures { IsInvocations class method self.old out.old count.old result out.new count.new self.new }
+    {
+        match &self.opened {
+            Some(opened) => copy_invocations_of(opened.core(), class, method, out, count),
+            None => CLOSED,
+        }
+    }
+
+    /// Copies the name of the class that the refusal of the last event told of, a parent that is missing, no interface or not accessible
+    /// (§5.3.5), and tells its length. Commands as text leave it. Takes no memory.
+    pub fn named(&mut self, out: &mut [u8], count: &mut usize) -> u32
+        ensures { IsNamed self.old out.old count.old result out.new count.new self.new }
+    {
+        match &self.opened {
+            Some(opened) => copy_name(opened.named(), out, count),
+            None => CLOSED,
+        }
+    }
+
+    /// Copies the name of the class for which the requested site waits, the one that its instruction names or a nest host that isn't
+    /// recorded (§5.4.4), and tells its length. Takes no memory.
+    pub fn awaited(&mut self, site: u32, out: &mut [u8], count: &mut usize) -> u32
+        ensures { IsAwaited site self.old out.old count.old result out.new count.new self.new }
+    {
+        match &self.opened {
+            Some(opened) => copy_awaited(opened.core(), site, out, count),
+            None => CLOSED,
+        }
+    }
+
+    /// How many selections, special searches and evaluations of call sites the last accepted event took. Takes no memory.
+    pub fn last_work(&mut self, work: &mut u64) -> u32
+        ensures { IsLastWork self.old work.old result work.new self.new }
+    {
+        let Some(opened) = &self.opened else {
+            return CLOSED;
+        };
+        *work = opened.core().last_work();
+        DONE
+    }
+
     /// Answers any command of a session, as text. The answer is kept, and its length told.
     pub fn answer(&mut self, alloc: Global, line: &[u8], count: &mut usize) -> u32
         ensures { IsAnswer line.now self.old count.old result count.new self.new }
@@ -311,6 +433,18 @@ impl Linker {
             return Ok(None);
         };
         let seen = opened.seen(alloc)?;
+        Ok(Some(seen))
+    }
+
+    /// What there is to link now, with the count of its events, where it is open. Want of memory is an error.
+    pub(crate) fn snapshot(&self, alloc: Global) -> Result<Option<Snapshot>, AllocError>
+        ensures seen { IfOk result (λ seen. seen ≡ option_map (λ opened. snapshot_of opened.session) self.now) }
+        ensures open { OnErr result ((opened : OpenedValue) × (self.now ≡ Some opened)) }
+    {
+        let Some(opened) = &self.opened else {
+            return Ok(None);
+        };
+        let seen = opened.core().snapshot(alloc)?;
         Ok(Some(seen))
     }
 

@@ -1,31 +1,36 @@
 //! What stands behind a linker that is open.
 
-ghost use Rattle.std.specs.Prelude.{◌≡◌, ◌≤◌, ◌⊎◌, IfOk};
+ghost use Rattle.std.specs.Prelude.{◌≡◌, ◌≤◌, ◌⊎◌, option_copied, IfOk};
 ghost use Rattle.jl_types.specs.Linkage.Calls.{dispatch};
 ghost use Rattle.jl_types.specs.Happenings.History.{installed};
 ghost use Rattle.jl_core.specs.State.{events, world_of};
 ghost use Rattle.jl_host.specs.Numbers.{memory};
 ghost use Rattle.jl_host.specs.Linkers.{newly_opened, IsAsked, IsAskedIf, IsUnasked, call_site_of, IsDefined, IsInstalled, IsAnswered, last_dropped};
 ghost use Rattle.jl_host.specs.Seats.{seen_of};
+ghost use Rattle.jl_host.specs.Views.{IsGiven, present_of};
 
 use crate::behind::{Links, follow, no_links};
 use crate::seat_view::SeatView;
-use crate::told::{DONE, MALFORMED, MEMORY, Told, tell, tell_file, tell_unprepared, unasked};
+use crate::shown::{LinkShown, link_shown};
+use crate::told::{
+    DONE, MALFORMED, MEMORY, Told, class_named, tell, tell_file, tell_unprepared, unasked,
+};
 use jl_classfile::read_class;
 use jl_core::Core;
 use jl_json::is_method_descriptor;
-use jl_names::Name;
+use jl_names::{Name, Seq};
 use jl_session::Session;
-use jl_types::{Answer, CallSiteKind, Event, Link, LoaderId, Recv, SiteNo, Target};
+use jl_types::{Answer, CallSiteKind, Event, Link, LoaderId, Recv, Refusal, Reply, SiteNo, Target};
 use std::alloc::{AllocError, Global};
 use std::marker::Model;
 use std::sync::Arc;
 
-/// A session, the text of its last answer, and its links in pages that seats share, which are brought up to date when a seat asks. A
+/// A session, the text of its last answer, the class that the refusal of the last event named, and its links in pages that seats share, which are brought up to date when a seat asks. A
 /// clause sees the session and the text.
 pub(crate) struct Opened {
     session: Session,
     said: Vec<u8>,
+    named: Option<Name>,
     /// The links but for the sites that were touched by the events from the `reached`-th on.
     links: Arc<Links>,
     reached: usize,
@@ -37,6 +42,7 @@ impl Drop for Opened {
         let Opened {
             session: _session,
             said: _said,
+            named: _named,
             links: _links,
             reached: _reached,
         } = self;
@@ -53,7 +59,7 @@ impl Model for Opened {
 
     ghost coded = { Prim.hlevel (codes, target_code) };
 
-    ghost view = { λ o. record { session = o.session; said = o.said.items } };
+    ghost view = { λ o. record { session = o.session; said = o.said.items; named = o.named } };
 
     ghost invariant = { λ o. IsBehind o.links.value o.reached o.session.core };
 }
@@ -67,6 +73,7 @@ impl Opened {
         Ok(Opened {
             session: Session::with_sites(alloc, max_sites)?,
             said: Vec::new(alloc),
+            named: None,
             links: no_links(alloc, max_sites)?,
             reached: 0,
         })
@@ -95,12 +102,21 @@ impl Opened {
         self.said.as_slice()
     }
 
+    /// The class that the refusal of the last event told of by its name.
+    pub(crate) fn named(&self) -> Option<&Name>
+        ensures { option_copied result ≡ self.now.named }
+    {
+        self.named.as_ref()
+    }
+
     /// Asks the core for the event.
     pub(crate) fn ask(&mut self, alloc: Global, event: Event, told: &mut Told) -> u32
         ensures { IsAsked event self.old result told.new self.new }
     {
         let outcome = self.session.submit(alloc, event);
-        tell(outcome, told)
+        let status = tell(&outcome, told);
+        self.named = class_named(outcome);
+        status
     }
 
     /// Asks for the definition of the class that the bytes are.
@@ -155,6 +171,23 @@ impl Opened {
         }
     }
 
+    /// Asks for the install of these links, and shows the present one where a link is stale.
+    pub(crate) fn install_links(
+        &mut self,
+        alloc: Global,
+        rows: Vec<(SiteNo, Link)>,
+        told: &mut Told,
+        present: &mut LinkShown,
+    ) -> u32
+        ensures { IsGiven rows.items self.old present.old result told.new present.new self.new }
+    {
+        let outcome = self.session.submit(alloc, Event::Install(Seq::of(rows)));
+        show_present(&outcome, present);
+        let status = tell(&outcome, told);
+        self.named = class_named(outcome);
+        status
+    }
+
     /// What the last accepted event dropped. Takes no memory.
     pub(crate) fn last_dropped(&self) -> &[SiteNo]
         ensures { result.now ≡ last_dropped self.now.session.core }
@@ -188,5 +221,14 @@ impl Opened {
         self.reached = reached;
         let links = Arc::try_clone(&self.links)?;
         Ok(SeatView::new(links, self.session.core().class_count()))
+    }
+}
+
+/// Shows the present link of a site whose link is stale.
+fn show_present(outcome: &Result<Reply, Refusal>, present: &mut LinkShown)
+    ensures { present.new ≡ present_of outcome.now present.old }
+{
+    if let Err(Refusal::Stale { present: link, .. }) = outcome {
+        *present = link_shown(Some(*link));
     }
 }

@@ -6,6 +6,7 @@ ghost use Rattle.jl_host.specs.Telling as telling;
 
 use jl_classfile::ClassFault;
 use jl_code::CodeFault;
+use jl_names::Name;
 use jl_pool::PoolFault;
 use jl_types::{
     CallSiteFault, DefineFault, DelegateFault, Made, NotLinkable, PrepareFault, Refusal, Reply,
@@ -15,16 +16,22 @@ use jl_types::{
 /// The status of a call that did what was asked.
 pub const DONE: u32 = 0;
 
+/// The status of a call with the number or the name of a class that isn't there: the number of that refusal.
+pub const UNKNOWN_CLASS: u32 = 2;
+
+/// The status of a call with the place of a method that isn't there: the number of that refusal.
+pub const NO_SUCH_PLACE: u32 = 3;
+
 /// The status of a call that wanted memory: the number of that refusal.
 pub const MEMORY: u32 = 15;
 
 /// The status of a definition by bytes that are no class file.
 pub const NO_CLASS_FILE: u32 = 32;
 
-/// The status of a call with a kind, a type or a target that is none, or with a number that is too large.
+/// The status of a call with a kind, a type, a target or a link that is none, or with a number that is too large.
 pub const MALFORMED: u32 = 33;
 
-/// The status of a call on a linker that isn't open, or on a seat that was never refreshed.
+/// The status of a call on a linker that isn't open, on a seat that was never refreshed, or on a view that was never taken.
 pub const CLOSED: u32 = 34;
 
 /// The status of an opening of a linker that is open.
@@ -262,32 +269,42 @@ fn told_of_refusal(refusal: &Refusal) -> Told
 }
 
 /// The status of an event that came to this, and what is told of it.
-pub(crate) fn tell(outcome: Result<Reply, Refusal>, told: &mut Told) -> u32
-    ensures status { result ≡ telling.status_of outcome }
-    ensures told { told.new ≡ telling.told_of outcome }
+pub(crate) fn tell(outcome: &Result<Reply, Refusal>, told: &mut Told) -> u32
+    ensures status { result ≡ telling.status_of outcome.now }
+    ensures told { told.new ≡ telling.told_of outcome.now }
 {
     match outcome {
-        Ok(reply) => tell_reply(reply, told),
-        Err(refusal) => tell_refusal(refusal, told),
+        Ok(reply) => {
+            *told = told_of_reply(reply);
+            DONE
+        }
+        Err(refusal) => {
+            *told = told_of_refusal(refusal);
+            status_of_refusal(refusal)
+        }
     }
 }
 
-/// The same of an event that was accepted.
-fn tell_reply(reply: Reply, told: &mut Told) -> u32
-    ensures status { result ≡ 0 }
-    ensures told { told.new ≡ telling.told_of_reply reply }
+/// The class that the refusal of the event tells of by its name, if it does.
+pub(crate) fn class_named(outcome: Result<Reply, Refusal>) -> Option<Name>
+    ensures { result ≡ telling.class_named outcome }
 {
-    *told = told_of_reply(&reply);
-    DONE
+    match outcome {
+        Err(Refusal::Define(fault)) => parent_named(fault),
+        _ => None,
+    }
 }
 
-/// The same of one that was refused.
-fn tell_refusal(refusal: Refusal, told: &mut Told) -> u32
-    ensures status { result ≡ numbers.status_of_refusal refusal }
-    ensures told { told.new ≡ telling.told_of_refusal refusal }
+/// The parent that the fault of a definition names, if it names one.
+fn parent_named(fault: DefineFault) -> Option<Name>
+    ensures { result ≡ telling.parent_named fault }
 {
-    *told = told_of_refusal(&refusal);
-    status_of_refusal(&refusal)
+    match fault {
+        DefineFault::MissingParent(name) => Some(name),
+        DefineFault::NotAnInterface(name) => Some(name),
+        DefineFault::InaccessibleParent(name) => Some(name),
+        _ => None,
+    }
 }
 
 /// The status of sites that weren't prepared, and what is told of them.

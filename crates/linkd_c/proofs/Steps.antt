@@ -11,7 +11,7 @@ pub use types.Kit.{‵, raw, ◌⊛◌, prop, ◌$◌, ◌∵◌, !, qed, done, 
 pub use types.Run.{enter, of_opd, addr, stop, no_more, and_then, returns, unit_lit, init, assigns, from, fld, hop}
 pub use types.ByLocal.{alloc_all, pass_all, free_all, look_at, get, through, sets, lands_as, get_in, look_in_at}
 pub use prog.Wp.{WpFn}
-pub use denote.Builtin.{u32, u8, usize}
+pub use denote.Builtin.{u32, u64, u8, usize}
 pub use denote.Laws.{shows, Is, valss, Spells}
 pub use denote.Memory.{part_at}
 pub use denote.Plain.{uint_Lawful, uint_vals, uint_Tells}

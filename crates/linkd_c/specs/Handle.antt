@@ -9,6 +9,8 @@ use Rattle.jl_host.specs.Seats.{SeatView}
 use Rattle.jl_host.specs.contracts.linker.Linker.{the_row}
 use Rattle.jl_host.specs.contracts.seat.Seat.{the_row as seat_row}
 use Rattle.jl_host.specs.contracts.memo.Memo.{the_row as memo_row}
+use Rattle.jl_host.specs.contracts.view.View.{the_row as view_row}
+use Rattle.jl_relink.specs.Preparations.{Snapshot}
 use Rattle.jl_memo.specs.declared.set.Set.{Set}
 
 -- ---- linkers
@@ -85,3 +87,28 @@ memo_bytes = size (lone memo_row.mir)
 
 abbrev pub memo_multiple : ℕ
 memo_multiple = align (lone memo_row.mir)
+
+-- ---- views
+
+-- a view at p that has seen this, or nothing
+abbrev pub view_at : Ptr → Option Snapshot → Fml
+view_at p view = points_to view_row p view
+
+-- a view at p of which P holds
+abbrev pub view_left : Ptr → (Option Snapshot → Type 0) → Fml
+view_left p P = fex (Option Snapshot) (λ view. fsep (view_at p view) (fex (P view) (λ _. ftrue)))
+
+-- a view and a linker of which P holds
+abbrev pub taken_left : Ptr → Ptr → (Option Snapshot × Option Opened → Type 0) → Fml
+taken_left p q P = fex (Option Snapshot × Option Opened) (λ s. fsep (fsep (view_at p s.0) (linker_at q s.1)) (fex (P s) (λ _. ftrue)))
+
+-- room for a view at p
+abbrev pub view_room : Ptr → Fml
+view_room p = uninit_at view_row p
+
+-- the bytes of a view, and the number that its address is a multiple of
+abbrev pub view_bytes : ℕ
+view_bytes = size (lone view_row.mir)
+
+abbrev pub view_multiple : ℕ
+view_multiple = align (lone view_row.mir)

@@ -3,8 +3,8 @@
 //! A C program gives a block of `linkd_size()` bytes at a multiple of `linkd_align()`; it makes it a linker by `linkd_blank`, opens
 //! it, calls it, closes it, and has its block for itself again. A seat is one thread's place to read: by a refresh it takes the
 //! linker's links as they are, and then reads them while other threads use the linker. A memo is what one thread remembers of calls at
-//! megamorphic links. Each function is one call of jl_host, and says of what lies behind the handle what that call says of its value;
-//! `specs/Handle` says what lies there.
+//! megamorphic links. A view has what there was to link when it was taken, and prepares links there. Each function is one call of
+//! jl_host, and says of what lies behind the handle what that call says of its value; `specs/Handle` says what lies there.
 #![tactic(auto)]
 
 ghost use Rattle.std.specs.Prelude.{◌≡◌, List, Option, None};
@@ -13,22 +13,27 @@ ghost use Rattle.jl_host.specs.Linkers.{Opened, IsOpen, IsNewLoader, IsDefine, I
 ghost use Rattle.jl_host.specs.Linkers.{IsInvalidate, IsBind, IsRetire, IsInstall, IsDropped, IsCall, IsLinkOf, IsAnswer, IsTake};
 ghost use Rattle.jl_host.specs.Seats.{SeatView, IsRefresh, IsSeatCall};
 ghost use Rattle.jl_host.specs.Memos.{IsMemoOpen, IsMemoAsk, IsMemoCall, IsSeatCallWith};
+ghost use Rattle.jl_host.specs.Asking.{IsLookup, IsClassName, IsMethodName, IsMethodType, IsInvocations, IsNamed, IsAwaited, IsLastWork};
+ghost use Rattle.jl_host.specs.Views.{IsViewTake, IsViewCall, IsViewSerial, IsViewPrepare, IsInstallLinks};
+ghost use Rattle.jl_relink.specs.Preparations.{Snapshot};
 ghost use Rattle.jl_memo.specs.declared.set.Set.{Set};
 ghost use Rattle.linkd_c.specs.Handle.{linker_at, linker_left, linker_room, linker_bytes, linker_multiple};
 ghost use Rattle.linkd_c.specs.Handle.{seat_at, seat_left, both_left, seat_room, seat_bytes, seat_multiple};
 ghost use Rattle.linkd_c.specs.Handle.{memo_at, memo_left, asked_left, called_left, memo_room, memo_bytes, memo_multiple};
+ghost use Rattle.linkd_c.specs.Handle.{view_at, view_left, taken_left, view_room, view_bytes, view_multiple};
 
-use jl_host::{CallAnswer, LinkShown, Linker, Memo, Seat, Told};
+use jl_host::{CallAnswer, Invocation, LinkRow, LinkShown, Linker, Memo, Seat, Told, View};
 use std::alloc::Global;
 
 /// Shows that a value of the type may go from one thread to another.
 fn crosses<T: Send>() {}
 
-/// Linkers, seats and memos may: this is refused where one of them may not.
+/// Linkers, seats, memos and views may: this is refused where one of them may not.
 fn all_cross() {
     crosses::<Linker>();
     crosses::<Seat>();
     crosses::<Memo>();
+    crosses::<View>();
 }
 
 /// What C sees of a linker: nothing.
@@ -50,6 +55,21 @@ pub struct LinkdSeat {
 #[derive(Drop)]
 pub struct LinkdMemo {
     hidden: u8,
+}
+
+/// What C sees of a view: nothing.
+#[repr(C)]
+#[derive(Drop)]
+pub struct LinkdView {
+    hidden: u8,
+}
+
+/// Which header the library is of: LINKD_VERSION there.
+#[unsafe(no_mangle)]
+pub extern "C" fn linkd_version() -> u32
+    ensures { result ≡ 2 }
+{
+    2
 }
 
 /// The bytes of a linker.
@@ -261,6 +281,22 @@ pub unsafe extern "C" fn linkd_install(
     (*(at as *mut Linker)).install(alloc, sites, told)
 }
 
+/// Installs these links, each of which is its site's from scratch now, all or none.
+#[unsafe(no_mangle)]
+pub unsafe extern "C" fn linkd_install_links(
+    alloc: Global,
+    at: *mut Linkd,
+    rows: &[LinkRow],
+    told: &mut Told,
+    present: &mut LinkShown,
+) -> u32
+    ghost old: { Option Opened }
+    requires* { sem 𝓛 (linker_at at old) }
+    ensures* { sem 𝓛 (linker_left at (λ new. IsInstallLinks rows.now old present.old result told.new present.new new)) }
+{
+    (*(at as *mut Linker)).install_links(alloc, rows, told, present)
+}
+
 /// Copies the sites whose links the last accepted event removed. Takes no memory.
 #[unsafe(no_mangle)]
 pub unsafe extern "C" fn linkd_dropped(at: *mut Linkd, out: &mut [u32], length: &mut usize) -> u32
@@ -294,6 +330,119 @@ pub unsafe extern "C" fn linkd_link_of(at: *mut Linkd, site: u32, link: &mut Lin
     ensures* { sem 𝓛 (linker_left at (λ new. IsLinkOf site old link.old result link.new new)) }
 {
     (*(at as *mut Linker)).link_of(site, link)
+}
+
+/// The class that the loader finds under the name. Takes no memory.
+#[unsafe(no_mangle)]
+pub unsafe extern "C" fn linkd_lookup(
+    at: *mut Linkd,
+    loader: u32,
+    name: &[u8],
+    class_number: &mut u32,
+) -> u32
+    ghost old: { Option Opened }
+    requires* { sem 𝓛 (linker_at at old) }
+    ensures* { sem 𝓛 (linker_left at (λ new. IsLookup loader name.now old class_number.old result class_number.new new)) }
+{
+    (*(at as *mut Linker)).lookup(loader, name, class_number)
+}
+
+/// Copies the name of a class. Takes no memory.
+#[unsafe(no_mangle)]
+pub unsafe extern "C" fn linkd_class_name(
+    at: *mut Linkd,
+    class_number: u32,
+    out: &mut [u8],
+    length: &mut usize,
+) -> u32
+    ghost old: { Option Opened }
+    requires* { sem 𝓛 (linker_at at old) }
+    ensures* { sem 𝓛 (linker_left at (λ new. IsClassName class_number old out.old length.old result out.new length.new new)) }
+{
+    (*(at as *mut Linker)).class_name(class_number, out, length)
+}
+
+/// Copies the name of a method. Takes no memory.
+#[unsafe(no_mangle)]
+pub unsafe extern "C" fn linkd_method_name(
+    at: *mut Linkd,
+    class_number: u32,
+    method: u32,
+    out: &mut [u8],
+    length: &mut usize,
+) -> u32
+    ghost old: { Option Opened }
+    requires* { sem 𝓛 (linker_at at old) }
+    ensures* { sem 𝓛 (linker_left at (λ new. IsMethodName class_number method old out.old length.old result out.new length.new new)) }
+{
+    (*(at as *mut Linker)).method_name(class_number, method, out, length)
+}
+
+/// Copies the descriptor of a method. Takes no memory.
+#[unsafe(no_mangle)]
+pub unsafe extern "C" fn linkd_method_type(
+    at: *mut Linkd,
+    class_number: u32,
+    method: u32,
+    out: &mut [u8],
+    length: &mut usize,
+) -> u32
+    ghost old: { Option Opened }
+    requires* { sem 𝓛 (linker_at at old) }
+    ensures* { sem 𝓛 (linker_left at (λ new. IsMethodType class_number method old out.old length.old result out.new length.new new)) }
+{
+    (*(at as *mut Linker)).method_type(class_number, method, out, length)
+}
+
+/// Copies the invocations in a method's code. Takes no memory.
+#[unsafe(no_mangle)]
+pub unsafe extern "C" fn linkd_invocations(
+    at: *mut Linkd,
+    class_number: u32,
+    method: u32,
+    out: &mut [Invocation],
+    length: &mut usize,
+) -> u32
+    ghost old: { Option Opened }
+    requires* { sem 𝓛 (linker_at at old) }
+    ensures* { sem 𝓛 (linker_left at (λ new. IsInvocations class_number method old out.old length.old result out.new length.new new)) }
+{
+    (*(at as *mut Linker)).invocations(class_number, method, out, length)
+}
+
+/// Copies the name of the class that the refusal of the last event told of. Takes no memory.
+#[unsafe(no_mangle)]
+pub unsafe extern "C" fn linkd_named(at: *mut Linkd, out: &mut [u8], length: &mut usize) -> u32
+    ghost old: { Option Opened }
+    requires* { sem 𝓛 (linker_at at old) }
+    ensures* { sem 𝓛 (linker_left at (λ new. IsNamed old out.old length.old result out.new length.new new)) }
+{
+    (*(at as *mut Linker)).named(out, length)
+}
+
+/// Copies the name of the class for which a site waits. Takes no memory.
+#[unsafe(no_mangle)]
+pub unsafe extern "C" fn linkd_awaited(
+    at: *mut Linkd,
+    site: u32,
+    out: &mut [u8],
+    length: &mut usize,
+) -> u32
+    ghost old: { Option Opened }
+    requires* { sem 𝓛 (linker_at at old) }
+    ensures* { sem 𝓛 (linker_left at (λ new. IsAwaited site old out.old length.old result out.new length.new new)) }
+{
+    (*(at as *mut Linker)).awaited(site, out, length)
+}
+
+/// How much the last accepted event took. Takes no memory.
+#[unsafe(no_mangle)]
+pub unsafe extern "C" fn linkd_last_work(at: *mut Linkd, work: &mut u64) -> u32
+    ghost old: { Option Opened }
+    requires* { sem 𝓛 (linker_at at old) }
+    ensures* { sem 𝓛 (linker_left at (λ new. IsLastWork old work.old result work.new new)) }
+{
+    (*(at as *mut Linker)).last_work(work)
 }
 
 /// Answers any command of a session, as text, and keeps the answer.
@@ -479,4 +628,91 @@ pub unsafe extern "C" fn linkd_memo_close(at: *mut LinkdMemo)
     ensures* { sem 𝓛 (memo_left at (λ new. new ≡ None)) }
 {
     (*(at as *mut Memo)).close();
+}
+
+/// The bytes of a view.
+#[unsafe(no_mangle)]
+pub extern "C" fn linkd_view_size() -> usize
+    ensures { result ≡ view_bytes }
+{
+    std::mem::size_of::<View>()
+}
+
+/// The number that a view's address is a multiple of.
+#[unsafe(no_mangle)]
+pub extern "C" fn linkd_view_align() -> usize
+    ensures { result ≡ view_multiple }
+{
+    std::mem::align_of::<View>()
+}
+
+/// Makes a view that has seen nothing of room for one.
+#[unsafe(no_mangle)]
+pub unsafe extern "C" fn linkd_view_blank(at: *mut LinkdView)
+    requires* { sem 𝓛 (view_room at) }
+    ensures* { sem 𝓛 (view_at at None) }
+{
+    (at as *mut View).write(View::blank());
+}
+
+/// Gives the view what there is to link now.
+#[unsafe(no_mangle)]
+pub unsafe extern "C" fn linkd_view_take(alloc: Global, at: *mut LinkdView, from: *mut Linkd) -> u32
+    ghost old: { Option Snapshot × Option Opened }
+    requires* view { sem 𝓛 (view_at at old.0) }
+    requires* linker { sem 𝓛 (linker_at from old.1) }
+    ensures* { sem 𝓛 (taken_left at from (λ new. IsViewTake old.0 old.1 result new.0 new.1)) }
+{
+    (*(at as *mut View)).take(alloc, &mut *(from as *mut Linker))
+}
+
+/// After how many accepted events the view was taken. Takes no lock and no memory.
+#[unsafe(no_mangle)]
+pub unsafe extern "C" fn linkd_view_serial(at: *mut LinkdView, serial: &mut u64) -> u32
+    ghost old: { Option Snapshot }
+    requires* { sem 𝓛 (view_at at old) }
+    ensures* { sem 𝓛 (view_left at (λ new. IsViewSerial old serial.old result serial.new new)) }
+{
+    (*(at as *mut View)).serial(serial)
+}
+
+/// What a call came to when the view was taken, linked or not. Takes no lock and no memory.
+#[unsafe(no_mangle)]
+pub unsafe extern "C" fn linkd_view_call(
+    at: *mut LinkdView,
+    site: u32,
+    receiver: u32,
+    answer: &mut CallAnswer,
+) -> u32
+    ghost old: { Option Snapshot }
+    requires* { sem 𝓛 (view_at at old) }
+    ensures* { sem 𝓛 (view_left at (λ new. IsViewCall site receiver old answer.old result answer.new new)) }
+{
+    (*(at as *mut View)).call(site, receiver, answer)
+}
+
+/// The links of the sites from scratch, as they were when the view was taken. Takes no lock.
+#[unsafe(no_mangle)]
+pub unsafe extern "C" fn linkd_view_prepare(
+    alloc: Global,
+    at: *mut LinkdView,
+    sites: &[u32],
+    links: &mut [LinkShown],
+    told: &mut Told,
+) -> u32
+    ghost old: { Option Snapshot }
+    requires* { sem 𝓛 (view_at at old) }
+    ensures* { sem 𝓛 (view_left at (λ new. IsViewPrepare sites.now old links.old result links.new told.new new)) }
+{
+    (*(at as *mut View)).prepare(alloc, sites, links, told)
+}
+
+/// Lets go what the view has seen. It has no memory but its block then.
+#[unsafe(no_mangle)]
+pub unsafe extern "C" fn linkd_view_leave(at: *mut LinkdView)
+    ghost old: { Option Snapshot }
+    requires* { sem 𝓛 (view_at at old) }
+    ensures* { sem 𝓛 (view_left at (λ new. new ≡ None)) }
+{
+    (*(at as *mut View)).leave();
 }

@@ -1,6 +1,6 @@
-//! A linker, a seat and a memo as a host has them: scripts, step by step.
+//! A linker, a seat, a memo and a view as a host has them: scripts, step by step.
 
-use crate::steps::{Step, answer, numbers};
+use crate::steps::{Compiler, Step, answer, numbers};
 use Step::*;
 use jl_host::{Linker, Memo, NULL, Seat};
 use std::process::Abort;
@@ -16,12 +16,13 @@ const OBJECT: &[u8] =
 const A: &[u8] =
     b"\xca\xfe\xba\xbe\x00\x00\x00\x3d\x00\x08\x01\x00\x01A\x07\x00\x01\x01\x00\x10java/lang/Object\x07\x00\x03\x01\x00\x01f\x01\x00\x03()V\x01\x00\x04Code\x00\x21\x00\x02\x00\x04\x00\x00\x00\x00\x00\x01\x00\x01\x00\x05\x00\x06\x00\x01\x00\x07\x00\x00\x00\x0d\x00\x00\x00\x00\x00\x00\x00\x01\xb1\x00\x00\x00\x00\x00\x00";
 
-/// Asserts each row of the script, on a linker, a seat and a memo that were made just now.
+/// Asserts each row of the script, on a linker, a seat, a memo and a view that were made just now.
 fn assert_rows(rt: &(impl Abort + AllocGlobal), script: &str, rows: &[StepRow]) {
     let mut linker = Linker::blank();
     let mut seat = Seat::blank();
     let mut memo = Memo::blank();
-    assert_each(rt, script, &mut linker, &mut seat, &mut memo, rows);
+    let mut by = Compiler::new();
+    assert_each(rt, script, &mut linker, &mut seat, &mut memo, &mut by, rows);
 }
 
 /// Asserts that each step comes to the numbers of its row, and zeros behind them.
@@ -31,10 +32,11 @@ fn assert_each(
     linker: &mut Linker,
     seat: &mut Seat,
     memo: &mut Memo,
+    by: &mut Compiler,
     rows: &[StepRow],
 ) {
     for (place, (step, wanted)) in rows.iter().enumerate() {
-        let came = answer(rt.alloc(), linker, seat, memo, step);
+        let came = answer(rt.alloc(), linker, seat, memo, by, step);
         assert!(rt; came == numbers(wanted), "{script}, step {place}: {came:?}");
     }
 }
@@ -125,6 +127,77 @@ const OVERRIDING: &[StepRow] = &[
     (SeatCall(0, 4), &[0, 4]),
 ];
 
+/// A with B below it and M that calls A.f, in a view; then C that overrides f, of which the view knows nothing.
+const VIEWS: &[StepRow] = &[
+    (Take, &[34]),
+    (Serial, &[34, 99]),
+    (ViewCall(0, NULL), &[34, 9, 9, 9]),
+    (Prepare(&[0], 1), &[34, 0, 9, 9, 9]),
+    (InstallLinks(&[(0, 0)]), &[34, 0, 9, 1, 9]),
+    (Open(2), &[0]),
+    (Define(0, OBJECT), &[0, 0]),
+    (Define(0, A), &[0, 1]),
+    (
+        Says(
+            r#"{"do":"define","loader":0,"sketch":{"name":"M","super":"java/lang/Object","flags":33,"methods":[{"name":"run","type":"()V","flags":9,"calls":[{"kind":"invokevirtual","of":"A","name":"f","type":"()V"},{"kind":"invokestatic","of":"Z","name":"z","type":"()V"}]}]}}"#,
+            r#"{"class":2,"dropped":[]}"#,
+        ),
+        &[0, 0, 1],
+    ),
+    (Request(2, 0, 0), &[0, 0]),
+    (Take, &[0]),
+    (Serial, &[0, 4]),
+    (Request(2, 0, 3), &[0, 1]),
+    (ViewCall(0, 1), &[0, 0, 1, 0]),
+    (ViewCall(1, NULL), &[0, 3, 0, 6]),
+    (Prepare(&[0], 0), &[36, 0, 9, 9, 9]),
+    (Prepare(&[], 1), &[14, 0, 9, 9, 9]),
+    (Prepare(&[0, 1], 2), &[12, 1, 9, 9, 9]),
+    (Prepare(&[0, 0], 2), &[13, 0, 9, 9, 9]),
+    (Prepare(&[0], 1), &[0, 0, 3, 9, 9]),
+    (InstallLinks(&[(0, 1)]), &[33, 0, 9, 1, 9]),
+    (InstallLinks(&[(0, 0)]), &[0, 0, 9, 1, 9]),
+    (LinkOf(0), &[0, 3, 1, 0, 0, 1, 0]),
+    (
+        Says(
+            r#"{"do":"define","loader":0,"sketch":{"name":"C","super":"A","flags":33,"methods":[{"name":"f","type":"()V","flags":1}]}}"#,
+            r#"{"class":3,"dropped":[0]}"#,
+        ),
+        &[0, 0, 1],
+    ),
+    (Serial, &[0, 4]),
+    (ViewCall(0, 3), &[0, 2]),
+    (Prepare(&[0], 1), &[0, 0, 3, 9, 9]),
+    (InstallLinks(&[(0, 0)]), &[10, 0, 4, 2, 0]),
+    (LinkOf(0), &[0, 0, 0, 9, 9, 9, 9]),
+    (Take, &[0]),
+    (Serial, &[0, 7]),
+    (ViewCall(0, 3), &[0, 0, 3, 0]),
+    (Prepare(&[1, 0], 2), &[11, 1, 3, 9, 9]),
+    (Prepare(&[0], 4), &[0, 0, 4, 9, 9]),
+    (InstallLinks(&[]), &[14, 0, 9, 1, 9]),
+    (InstallLinks(&[(0, 0), (0, 0)]), &[13, 0, 9, 1, 9]),
+    (InstallLinks(&[(0, 0), (7, 0)]), &[12, 7, 9, 1, 9]),
+    (InstallLinks(&[(1, 0), (0, 0)]), &[11, 1, 9, 1, 9]),
+    (InstallLinks(&[(0, 0)]), &[0, 0, 9, 1, 9]),
+    (LinkOf(0), &[0, 4, 2, 3, 0, 3, 0]),
+    (Spoil(0, [4, 9, 0]), &[0]),
+    (InstallLinks(&[(0, 0)]), &[33, 0, 9, 1, 9]),
+    (Spoil(0, [4, 2, 2]), &[0]),
+    (InstallLinks(&[(0, 0)]), &[33, 0, 9, 1, 9]),
+    (Spoil(0, [7, 1, 0]), &[0]),
+    (InstallLinks(&[(0, 0)]), &[33, 0, 9, 1, 9]),
+    (Spoil(0, [5, 2, 0]), &[0]),
+    (InstallLinks(&[(0, 0)]), &[10, 0, 4, 2, 0]),
+    (Spoil(0, [6, 0, 0]), &[0]),
+    (InstallLinks(&[(0, 0)]), &[10, 0, 4, 2, 0]),
+    (Close, &[0]),
+    (ViewCall(0, 3), &[0, 0, 3, 0]),
+    (Take, &[34]),
+    (LeaveView, &[0]),
+    (Serial, &[34, 99]),
+];
+
 /// T with static m and n, and r with an invokedynamic; one that names a class that isn't there; and loaders.
 const CALL_SITES: &[StepRow] = &[
     (Open(2), &[0]),
@@ -190,6 +263,117 @@ const CALL_SITES: &[StepRow] = &[
     (Delegate(1, "java/lang/Object", 0), &[16, 0, 3]),
     (Delegate(1, "Q", 0), &[16, 0, 2]),
     (Delegate(2, "T", 0), &[16, 0, 1]),
+];
+
+/// What T and its methods are called, and what r invokes; and what loader 1 finds once A is delegated to it, before it is retired.
+const NAMES: &[StepRow] = &[
+    (Lookup(0, "T"), &[34, 9]),
+    (ClassName(0, ""), &[34]),
+    (Method(0, 0, "", ""), &[34]),
+    (Invocations(0, 0, 4), &[34, 9, 9, 9, 9, 9]),
+    (LastWork, &[34]),
+    (Open(1), &[0]),
+    (LastWork, &[0, 1]),
+    (Lookup(0, "java/lang/Object"), &[2, 9]),
+    (Define(0, OBJECT), &[0, 0]),
+    (
+        Says(
+            r#"{"do":"define","loader":0,"sketch":{"name":"T","super":"java/lang/Object","flags":33,"methods":[{"name":"m","type":"()I","flags":9},{"name":"r","type":"()V","flags":9,"calls":[{"kind":"invokedynamic","name":"d","type":"()V"},{"kind":"invokeinterface","of":"Z","name":"z","type":"()V"},{"kind":"invokestatic","of":"Z","name":"z","type":"()V"}]}]}}"#,
+            r#"{"class":1,"dropped":[]}"#,
+        ),
+        &[0, 0, 1],
+    ),
+    (LastWork, &[0, 1]),
+    (Lookup(0, "T"), &[0, 1]),
+    (Lookup(0, "java/lang/Object"), &[0, 0]),
+    (Lookup(1, "T"), &[2, 9]),
+    (NewLoader, &[0, 1]),
+    (Lookup(1, "T"), &[2, 9]),
+    (Delegate(1, "T", 0), &[0]),
+    (Lookup(1, "T"), &[0, 1]),
+    (ClassName(0, "java/lang/Object"), &[0, 1]),
+    (ClassName(1, "T"), &[0, 1]),
+    (ClassName(2, ""), &[2]),
+    (Method(1, 0, "m", "()I"), &[0, 1]),
+    (Method(1, 1, "r", "()V"), &[0, 1]),
+    (Method(1, 2, "", ""), &[3]),
+    (Method(1, 65_536, "", ""), &[3]),
+    (Method(2, 0, "", ""), &[3]),
+    (Invocations(1, 1, 4), &[0, 3, 0, 186, 5, 185]),
+    (Invocations(1, 1, 3), &[0, 3, 0, 186, 5, 185]),
+    (Invocations(1, 1, 2), &[36, 3, 9, 9, 9, 9]),
+    (Invocations(1, 0, 0), &[0, 0, 9, 9, 9, 9]),
+    (Invocations(0, 0, 4), &[3, 9, 9, 9, 9, 9]),
+    (
+        Says(
+            r#"{"do":"define","loader":1,"sketch":{"name":"U","super":"T","flags":33}}"#,
+            r#"{"class":2,"dropped":[]}"#,
+        ),
+        &[0, 0, 1],
+    ),
+    (Retire(1), &[0]),
+    (Lookup(1, "T"), &[2, 9]),
+    (ClassName(2, "U"), &[0, 1]),
+];
+
+/// What the refusal of A's definition names, before its superclass is there; and for which class four sites wait: M's call of Z and of
+/// A.f, and the calls of P's private g by Q and by R, where neither P's nest host H nor Q's K is there.
+const WANTED: &[StepRow] = &[
+    (Named(""), &[34]),
+    (Awaited(0, ""), &[34]),
+    (Open(4), &[0]),
+    (Named(""), &[2]),
+    (Define(0, A), &[1, 0, 4]),
+    (Named("java/lang/Object"), &[0, 1]),
+    (Request(0, 0, 0), &[2]),
+    (Named(""), &[2]),
+    (Define(0, A), &[1, 0, 4]),
+    (Define(0, b""), &[32, 0, 4]),
+    (Named("java/lang/Object"), &[0, 1]),
+    (Define(0, OBJECT), &[0, 0]),
+    (Named(""), &[2]),
+    (Define(0, A), &[0, 1]),
+    (
+        Says(
+            r#"{"do":"define","loader":0,"sketch":{"name":"M","super":"java/lang/Object","flags":33,"methods":[{"name":"run","type":"()V","flags":9,"calls":[{"kind":"invokestatic","of":"Z","name":"z","type":"()V"},{"kind":"invokevirtual","of":"A","name":"f","type":"()V"}]}]}}"#,
+            r#"{"class":2,"dropped":[]}"#,
+        ),
+        &[0, 0, 1],
+    ),
+    (Request(2, 0, 0), &[0, 0]),
+    (Request(2, 0, 3), &[0, 1]),
+    (Awaited(0, "Z"), &[0, 1]),
+    (Awaited(1, ""), &[2]),
+    (Awaited(2, ""), &[2]),
+    (Install(&[1, 0]), &[11, 0, 0, 0]),
+    (Named(""), &[2]),
+    (
+        Says(
+            r#"{"do":"define","loader":0,"sketch":{"name":"P","super":"java/lang/Object","flags":33,"host":"H","methods":[{"name":"g","type":"()V","flags":2}]}}"#,
+            r#"{"class":3,"dropped":[]}"#,
+        ),
+        &[0, 0, 1],
+    ),
+    (
+        Says(
+            r#"{"do":"define","loader":0,"sketch":{"name":"Q","super":"java/lang/Object","flags":33,"host":"K","methods":[{"name":"run","type":"()V","flags":9,"calls":[{"kind":"invokevirtual","of":"P","name":"g","type":"()V"}]}]}}"#,
+            r#"{"class":4,"dropped":[]}"#,
+        ),
+        &[0, 0, 1],
+    ),
+    (
+        Says(
+            r#"{"do":"define","loader":0,"sketch":{"name":"R","super":"java/lang/Object","flags":33,"methods":[{"name":"run","type":"()V","flags":9,"calls":[{"kind":"invokevirtual","of":"P","name":"g","type":"()V"}]}]}}"#,
+            r#"{"class":5,"dropped":[]}"#,
+        ),
+        &[0, 0, 1],
+    ),
+    (Request(4, 0, 0), &[0, 2]),
+    (Request(5, 0, 0), &[0, 3]),
+    (Call(2, NULL), &[0, 3, 0, 2]),
+    (Awaited(2, "K"), &[0, 1]),
+    (Call(3, NULL), &[0, 3, 0, 3]),
+    (Awaited(3, "H"), &[0, 1]),
 ];
 
 /// A with eight classes below it that override f, so that M's call of A.f has nine receivers' classes; then a class below one of them.
@@ -477,6 +661,9 @@ const RETIREMENT: &[StepRow] = &[
 fn scripts(rt: HostRuntime) {
     assert_rows(&rt, "overriding", OVERRIDING);
     assert_rows(&rt, "call_sites", CALL_SITES);
+    assert_rows(&rt, "views", VIEWS);
+    assert_rows(&rt, "names", NAMES);
+    assert_rows(&rt, "wanted", WANTED);
     assert_rows(&rt, "megamorphic", MEGAMORPHIC);
     assert_rows(&rt, "files", FILES);
     assert_rows(&rt, "session", SESSION);

@@ -1,6 +1,6 @@
-//! Steps on a linker, a seat and a memo, each with numbers for an answer.
+//! Steps on a linker, a seat, a memo and a view, each with numbers for an answer.
 
-use jl_host::{CallAnswer, LinkShown, Linker, Memo, Row, Seat, Told};
+use jl_host::{CallAnswer, Invocation, LinkRow, LinkShown, Linker, Memo, Row, Seat, Told, View};
 use std::alloc::Global;
 
 /// The most numbers of an answer.
@@ -9,7 +9,7 @@ const MOST: usize = 8;
 /// What a step comes to: the status, and what was written; what nothing was written to is 9.
 pub type Numbers = [u32; MOST];
 
-/// A call on a linker, a seat or a memo.
+/// A call on a linker, a seat, a memo or a view.
 pub enum Step {
     Open(u32),
     Close,
@@ -43,6 +43,60 @@ pub enum Step {
     CallWith(u32, u32),
     /// A call by the memo alone.
     Recall(u32, u32),
+    Take,
+    Serial,
+    ViewCall(u32, u32),
+    /// The sites are prepared, with room for so many links, which are kept.
+    Prepare(&'static [u32], usize),
+    /// A kept link gets this kind, this count and this kind of its first row.
+    Spoil(usize, [u32; 3]),
+    /// Sites get kept links, by their places.
+    InstallLinks(&'static [(u32, usize)]),
+    LeaveView,
+    Lookup(u32, &'static str),
+    /// The name of a class, which is to be this.
+    ClassName(u32, &'static str),
+    /// The name and the descriptor of a method, which are to be these.
+    Method(u32, u32, &'static str, &'static str),
+    /// The invocations of a method, copied to an array of so many.
+    Invocations(u32, u32, usize),
+    LastWork,
+    /// The class that the last refusal told of, which is to have this name.
+    Named(&'static str),
+    /// The class for which a site waits, which is to have this name.
+    Awaited(u32, &'static str),
+}
+
+/// A view, and the links that were prepared in it.
+#[derive(Drop)]
+pub struct Compiler {
+    pub view: View,
+    pub links: [LinkShown; 4],
+}
+
+impl Compiler {
+    /// One that has seen and prepared nothing.
+    pub fn new() -> Compiler {
+        Compiler {
+            view: View::blank(),
+            links: [unshown(); 4],
+        }
+    }
+}
+
+/// A link before one is shown.
+fn unshown() -> LinkShown {
+    let row = Row {
+        receiver: 9,
+        kind: 9,
+        class_number: 9,
+        value: 9,
+    };
+    LinkShown {
+        kind: 9,
+        count: 1,
+        rows: [row; 8],
+    }
 }
 
 /// These numbers, and 0 behind them.
@@ -95,20 +149,10 @@ fn unanswered() -> CallAnswer {
 
 /// A link's status, its kind and count, and its last row that says something.
 fn link_numbers(linker: &mut Linker, site: u32) -> Numbers {
-    let row = Row {
-        receiver: 9,
-        kind: 9,
-        class_number: 9,
-        value: 9,
-    };
-    let mut link = LinkShown {
-        kind: 9,
-        count: 1,
-        rows: [row; 8],
-    };
+    let mut link = unshown();
     let status = linker.link_of(site, &mut link);
     let place = (link.count as usize).wrapping_sub(1);
-    let last = link.rows.get(place).copied().unwrap_or(row);
+    let last = link.rows.get(place).copied().unwrap_or(unshown().rows[0]);
     numbers(&[
         status,
         link.kind,
@@ -147,6 +191,81 @@ fn short_numbers(linker: &mut Linker) -> Numbers {
     let mut count = 0;
     let status = linker.take(&mut array, &mut count);
     numbers(&[status, u32::from(count > 1), u32::from(array[0])])
+}
+
+/// The status of a copy, and 1 where it is of this text, of which so many bytes were told.
+fn copied_numbers(status: u32, text: &str, array: &[u8], count: usize) -> Numbers {
+    let is_so = array.get(..count) == Some(text.as_bytes());
+    numbers(&[status, u32::from(is_so)])
+}
+
+/// The status of the name's copy, and 1 where it and the descriptor are these.
+fn method_numbers(linker: &mut Linker, at: [u32; 2], name: &str, ty: &str) -> Numbers {
+    let mut array = [9; 40];
+    let mut count = 40;
+    let status = linker.method_name(at[0], at[1], &mut array, &mut count);
+    if array.get(..count) != Some(name.as_bytes()) {
+        return numbers(&[status, 0]);
+    }
+    let status = linker.method_type(at[0], at[1], &mut array, &mut count);
+    copied_numbers(status, ty, &array, count)
+}
+
+/// The status, how many invocations there are, and the first two with their instructions.
+fn invocation_numbers(linker: &mut Linker, class: u32, method: u32, room: usize) -> Numbers {
+    let mut array = [Invocation { pc: 9, opcode: 9 }; 4];
+    let mut count = 9;
+    let status = linker.invocations(class, method, &mut array[..room.min(4)], &mut count);
+    let [first, second, ..] = array;
+    numbers(&[
+        status,
+        u32::try_from(count).unwrap_or(99),
+        first.pc,
+        first.opcode,
+        second.pc,
+        second.opcode,
+    ])
+}
+
+/// What a question about classes, methods and work comes to.
+fn asked_numbers(linker: &mut Linker, step: &Step) -> Numbers {
+    match step {
+        Step::Lookup(loader, name) => {
+            let mut class = 9;
+            let status = linker.lookup(*loader, name.as_bytes(), &mut class);
+            numbers(&[status, class])
+        }
+        Step::ClassName(class, name) => {
+            let mut array = [9; 40];
+            let mut count = 40;
+            let status = linker.class_name(*class, &mut array, &mut count);
+            copied_numbers(status, name, &array, count)
+        }
+        Step::Named(name) => {
+            let mut array = [9; 40];
+            let mut count = 40;
+            let status = linker.named(&mut array, &mut count);
+            copied_numbers(status, name, &array, count)
+        }
+        Step::Awaited(site, name) => {
+            let mut array = [9; 40];
+            let mut count = 40;
+            let status = linker.awaited(*site, &mut array, &mut count);
+            copied_numbers(status, name, &array, count)
+        }
+        Step::Method(class, method, name, ty) => {
+            method_numbers(linker, [*class, *method], name, ty)
+        }
+        Step::Invocations(class, method, room) => {
+            invocation_numbers(linker, *class, *method, *room)
+        }
+        Step::LastWork => {
+            let mut work = 99;
+            let status = linker.last_work(&mut work);
+            numbers(&[status, u32::from(work < 99)])
+        }
+        _ => numbers(&[99]),
+    }
 }
 
 /// What an event comes to.
@@ -225,12 +344,81 @@ fn memo_numbers(
     }
 }
 
+/// The status of a preparation, the place that is told, and the kinds of the kept links.
+fn prepared_numbers(alloc: Global, by: &mut Compiler, sites: &[u32], room: usize) -> Numbers {
+    let mut told = untold();
+    let links = &mut by.links[..];
+    let room = room.min(4);
+    let status = by.view.prepare(alloc, sites, &mut links[..room], &mut told);
+    let kinds = [by.links[0].kind, by.links[1].kind, by.links[2].kind];
+    numbers(&[status, told.place, kinds[0], kinds[1], kinds[2]])
+}
+
+/// A site, which gets the kept link at the place.
+fn given(by: &Compiler, row: (u32, usize)) -> LinkRow {
+    LinkRow {
+        site: row.0,
+        link: by.links.get(row.1).copied().unwrap_or(unshown()),
+    }
+}
+
+/// The status of an install of kept links, the place that is told, and the kind, the count and the third row's receiver of what is present.
+fn installed_numbers(
+    alloc: Global,
+    linker: &mut Linker,
+    by: &Compiler,
+    rows: &[(u32, usize)],
+) -> Numbers {
+    let mut told = untold();
+    let mut present = unshown();
+    let first = rows.first().copied().unwrap_or((9, 9));
+    let second = rows.get(1).copied().unwrap_or((9, 9));
+    let both = [given(by, first), given(by, second)];
+    let count = rows.len().min(2);
+    let status = linker.install_links(alloc, &both[..count], &mut told, &mut present);
+    let third = present.rows[2].receiver;
+    numbers(&[status, told.place, present.kind, present.count, third])
+}
+
+/// What a step on the view comes to.
+fn view_numbers(alloc: Global, linker: &mut Linker, by: &mut Compiler, step: &Step) -> Numbers {
+    match step {
+        Step::Take => numbers(&[by.view.take(alloc, linker)]),
+        Step::Serial => {
+            let mut serial = 99;
+            let status = by.view.serial(&mut serial);
+            numbers(&[status, u32::try_from(serial).unwrap_or(98)])
+        }
+        Step::ViewCall(site, receiver) => {
+            let mut answer = unanswered();
+            let status = by.view.call(*site, *receiver, &mut answer);
+            call_numbers(status, &answer)
+        }
+        Step::Prepare(sites, room) => prepared_numbers(alloc, by, sites, *room),
+        Step::Spoil(place, [kind, count, first]) => {
+            if let Some(link) = by.links.get_mut(*place) {
+                link.kind = *kind;
+                link.count = *count;
+                link.rows[0].kind = *first;
+            }
+            numbers(&[])
+        }
+        Step::InstallLinks(rows) => installed_numbers(alloc, linker, by, rows),
+        Step::LeaveView => {
+            by.view.leave();
+            numbers(&[])
+        }
+        _ => numbers(&[99]),
+    }
+}
+
 /// What the step comes to.
 pub fn answer(
     alloc: Global,
     linker: &mut Linker,
     seat: &mut Seat,
     memo: &mut Memo,
+    by: &mut Compiler,
     step: &Step,
 ) -> Numbers {
     match step {
@@ -248,6 +436,20 @@ pub fn answer(
         }
         Step::Says(line, text) => said_numbers(alloc, linker, line, text),
         Step::TakeShort => short_numbers(linker),
+        Step::Lookup(..)
+        | Step::ClassName(..)
+        | Step::Method(..)
+        | Step::Invocations(..)
+        | Step::LastWork
+        | Step::Named(..)
+        | Step::Awaited(..) => asked_numbers(linker, step),
+        Step::Take
+        | Step::Serial
+        | Step::ViewCall(..)
+        | Step::Prepare(..)
+        | Step::Spoil(..)
+        | Step::InstallLinks(..)
+        | Step::LeaveView => view_numbers(alloc, linker, by, step),
         _ => memo_numbers(alloc, linker, seat, memo, step),
     }
 }

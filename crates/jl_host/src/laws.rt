@@ -1,0 +1,35 @@
+//! The laws of links as numbers: each is the contract of a function that does nothing.
+
+ghost use Rattle.std.specs.Prelude.{◌≡◌, ◌⊎◌, ℕ, true, List, Option, Some, Ok};
+ghost use Rattle.jl_types.specs.declared.link.Link.{Link};
+ghost use Rattle.jl_types.specs.Happenings.Events.{Accepts};
+ghost use Rattle.jl_types.specs.Linkage.Links.{scratch};
+ghost use Rattle.jl_relink.specs.Preparations.{Snapshot};
+ghost use Rattle.jl_core.specs.State.{world_of};
+ghost use Rattle.jl_host.specs.declared.reading.LinkRow.{LinkRow};
+ghost use Rattle.jl_host.specs.declared.shown.LinkShown.{LinkShown};
+ghost use Rattle.jl_host.specs.declared.told.Told.{Told};
+ghost use Rattle.jl_host.specs.Numbers.{done, memory};
+ghost use Rattle.jl_host.specs.Showing.{shown};
+ghost use Rattle.jl_host.specs.Reading.{link_of, rows_of, is_shown_whole, runs_declarable};
+ghost use Rattle.jl_host.specs.Linkers.{Opened};
+ghost use Rattle.jl_host.specs.Views.{given, IsViewPrepare, IsInstallLinks};
+
+/// What is shown of a link is read as that link, where it has at most eight rows and each method that it runs is among the first 2^16
+/// of its class, as those of a class file are (JVMS SE 17 §4.1).
+pub fn shown_links_are_read_again()
+    ensures { (link : Link) → is_shown_whole link ≡ true → link_of (shown link) ≡ Some link }
+{}
+
+/// What a view prepared is installed while the world is the one that was seen, unless memory lacks; and whenever links are installed that
+/// are given, each of them is its site's link from scratch then.
+pub fn given_links_are_from_scratch()
+    ensures prepared { (seen : Snapshot) (old : Opened) (sites : List ℕ) (before links : List LinkShown) (told : Told) (view : Option Snapshot)
+        → IsViewPrepare sites (Some seen) before done links told view → seen.world ≡ world_of old.session.core
+        → ((s : ℕ) (link : Link) → scratch seen.world s ≡ Ok link → runs_declarable link ≡ true)
+        → (present after : LinkShown) (status : ℕ) (said : Told) (new : Option Opened)
+        → IsInstallLinks (given sites links) (Some old) present status said after new → (status ≡ done) ⊎ (status ≡ memory) }
+    ensures installed { (rows : List LinkRow) (old : Opened) (present after : LinkShown) (told : Told) (new : Option Opened)
+        → IsInstallLinks rows (Some old) present done told after new
+        → (links : List (ℕ × Link)) × (rows_of rows ≡ Some links) × Accepts (world_of old.session.core) links }
+{}
