@@ -419,7 +419,8 @@ static void measure_refresh(long events) {
 
 int main(int argc, char **argv) {
     long count = argc > 2 ? atol(argv[2]) : 0;
-    if (argc < 2 || argc > 3 || (argc > 2 && count < 1) || (strcmp(argv[1], "calls") != 0 && strcmp(argv[1], "memos") != 0 && strcmp(argv[1], "refresh") != 0)) {
+    if (argc < 2 || argc > 3 || (argc > 2 && count < 1)
+        || (strcmp(argv[1], "calls") != 0 && strcmp(argv[1], "memos") != 0 && strcmp(argv[1], "refresh") != 0)) {
         fprintf(stderr, "seats: calls [CALLS], memos [CALLS], or refresh [EVENTS]\n");
         return 2;
     }

@@ -100,8 +100,8 @@ installed_by old next links (Ok reply) status fine applied is = inl is
 installed_by old next links (Err r) status fine applied is =
     elim applied.0 [ inl e ↦ absurd (unless_none (install_fault (world_of old) links) r fine e) | inr h ↦ inr (is ∙ ap status_of_refusal h.0) ]
 
-module _ (old : Opened) (rows : List LinkRow) (links : List (ℕ × Link)) (is : rows_of rows ≡ Some links) (fine : install_fault (world_of old.session.core) links ≡ None)
-    (present after : LinkShown) (status : ℕ) (told : Told) (next : Opened) where
+module _ (old : Opened) (rows : List LinkRow) (links : List (ℕ × Link)) (is : rows_of rows ≡ Some links)
+    (fine : install_fault (world_of old.session.core) links ≡ None) (present after : LinkShown) (status : ℕ) (told : Told) (next : Opened) where
   asked_for : IsGiven links old present status told after next → (status ≡ done) ⊎ (status ≡ memory)
   asked_for given = installed_by old.session.core next.session.core links given.0.outcome status fine given.0.applied given.0.status_is
 

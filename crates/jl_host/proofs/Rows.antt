@@ -160,11 +160,11 @@ single_rows = refl
 -- ---- links that are given: what was shown is read again, and what no link is isn't
 
 read_again : map (λ l. link_of (shown l)) (link.Fault throwable.IllegalAccessError ∷ link.Plain m ∷ link.Direct (Run m)
-    ∷ link.Direct (Throws throwable.AbstractMethodError) ∷ link.Table Virtual [] ∷ link.Table Interface ((3, Run m) ∷ (4, Throws throwable.NoSuchMethodError) ∷ [])
-    ∷ link.Mega ∷ [])
+    ∷ link.Direct (Throws throwable.AbstractMethodError) ∷ link.Table Virtual []
+    ∷ link.Table Interface ((3, Run m) ∷ (4, Throws throwable.NoSuchMethodError) ∷ []) ∷ link.Mega ∷ [])
     ≡ map Some (link.Fault throwable.IllegalAccessError ∷ link.Plain m ∷ link.Direct (Run m)
-    ∷ link.Direct (Throws throwable.AbstractMethodError) ∷ link.Table Virtual [] ∷ link.Table Interface ((3, Run m) ∷ (4, Throws throwable.NoSuchMethodError) ∷ [])
-    ∷ link.Mega ∷ [])
+    ∷ link.Direct (Throws throwable.AbstractMethodError) ∷ link.Table Virtual []
+    ∷ link.Table Interface ((3, Run m) ∷ (4, Throws throwable.NoSuchMethodError) ∷ []) ∷ link.Mega ∷ [])
 unfolding all_of
 read_again = refl
 

@@ -25,8 +25,8 @@ use std::alloc::{AllocError, Global};
 use std::marker::Model;
 use std::sync::Arc;
 
-/// A session, the text of its last answer, the class that the refusal of the last event named, and its links in pages that seats share, which are brought up to date when a seat asks. A
-/// clause sees the session and the text.
+/// A session, the text of its last answer, the class that the refusal of the last event named, and its links in pages that seats share,
+/// which are brought up to date when a seat asks. A clause sees the session, the text and the class.
 pub(crate) struct Opened {
     session: Session,
     said: Vec<u8>,
