@@ -27,7 +27,7 @@ extern "C" {
 #endif
 
 /* Grows with each change of this header; linkd_version() tells it of the library. */
-#define LINKD_VERSION 2
+#define LINKD_VERSION 1
 
 typedef struct linkd linkd;
 typedef struct linkd_seat linkd_seat;
@@ -274,11 +274,10 @@ uint32_t linkd_retire(linkd *at, uint32_t loader, linkd_told *told);
 uint32_t linkd_install(linkd *at, const uint32_t *sites, size_t count, linkd_told *told);
 
 /* Installs these links, of 1 to 256 sites, all of them or none; each has to be its site's link from scratch now, wherever and whenever it
- * was looked up. LINKD_MALFORMED, where a link is none by its kind, its count or one of its rows, of 65,536 methods to a class; what it
- * doesn't say isn't looked at. Then LINKD_BATCH_SIZE, LINKD_UNKNOWN_SITE and LINKD_REPEATED as above; LINKD_STALE, whose place is the
- * first site whose link is another one now, be it that the given one names classes or methods that aren't there, and present is the one
- * that it has; or LINKD_NOT_READY, whose place is the first site that has none, whichever of the two comes first. No other status
- * writes present. */
+ * was looked up. LINKD_MALFORMED, where a link is none by its kind, its count or one of its rows, as of a method above 65,535; what it
+ * doesn't say isn't looked at. Then LINKD_BATCH_SIZE, LINKD_UNKNOWN_SITE and LINKD_REPEATED as above; then, of the first site of which
+ * one is so, LINKD_NOT_READY, which has no link now, or LINKD_STALE, whose link is another one, also where the given one names a class or
+ * a method that isn't there: the one that it has is written to present. No other status writes present. */
 uint32_t linkd_install_links(linkd *at, const linkd_link_row *rows, size_t count, linkd_told *told, linkd_link *present);
 
 /* What follows is no event: it leaves the linker as it is, takes no memory, and is LINKD_DONE or LINKD_CLOSED, or what stands there.

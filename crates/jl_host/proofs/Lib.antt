@@ -7,3 +7,4 @@ pub mod ReadingLaws
 pub mod Crossing
 pub mod ReadAgain
 pub mod GivenLaws
+pub mod AwaitedLaws

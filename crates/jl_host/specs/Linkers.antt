@@ -191,7 +191,8 @@ IsLinkOf site = IsWritten (λ old. link_shown (installed (events old.session.cor
 
 -- ---- commands as text
 
--- The answer is kept, and its length told; what an event named stays. Or memory lacked for it, and the command was obeyed or the session stays
+-- The answer is kept, and its length told; or memory lacked for it, and the command was obeyed or the session stays. What an event named
+-- stays.
 abbrev pub IsAnswered : List ℕ → Opened → ℕ → ℕ → ℕ → Opened → Type 0
 IsAnswered line old before status count new =
     ((status ≡ done) × IsTextOf (λ answer. IsSessionAnswer old.session line answer new.session) new.said × (count ≡ length new.said)

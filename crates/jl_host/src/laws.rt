@@ -1,6 +1,8 @@
 //! The laws of links as numbers: each is the contract of a function that does nothing.
 
-ghost use Rattle.std.specs.Prelude.{◌≡◌, ◌⊎◌, ℕ, true, List, Option, Some, Ok};
+ghost use Rattle.std.specs.Prelude.{◌≡◌, ◌⊎◌, ℕ, true, List, Option, Some, Ok, Err};
+ghost use Rattle.jl_types.specs.declared.answer.Missing.{Missing};
+ghost use Rattle.jl_types.specs.declared.answer.Unlinked.TheVariants.{NotReady};
 ghost use Rattle.jl_types.specs.declared.link.Link.{Link};
 ghost use Rattle.jl_types.specs.Happenings.Events.{Accepts};
 ghost use Rattle.jl_types.specs.Linkage.Links.{scratch};
@@ -9,6 +11,8 @@ ghost use Rattle.jl_core.specs.State.{world_of};
 ghost use Rattle.jl_host.specs.declared.reading.LinkRow.{LinkRow};
 ghost use Rattle.jl_host.specs.declared.shown.LinkShown.{LinkShown};
 ghost use Rattle.jl_host.specs.declared.told.Told.{Told};
+ghost use Rattle.jl_types.specs.Values.World.{World};
+ghost use Rattle.jl_host.specs.Awaiting.{awaited};
 ghost use Rattle.jl_host.specs.Numbers.{done, memory};
 ghost use Rattle.jl_host.specs.Showing.{shown};
 ghost use Rattle.jl_host.specs.Reading.{link_of, rows_of, is_shown_whole, runs_declarable};
@@ -32,4 +36,10 @@ pub fn given_links_are_from_scratch()
     ensures installed { (rows : List LinkRow) (old : Opened) (present after : LinkShown) (told : Told) (new : Option Opened)
         → IsInstallLinks rows (Some old) present done told after new
         → (links : List (ℕ × Link)) × (rows_of rows ≡ Some links) × Accepts (world_of old.session.core) links }
+{}
+
+/// A site that isn't ready waits for a class that has a name: the one that its instruction names, or a nest host (JVMS SE 17 §5.4.4).
+pub fn awaited_classes_are_named()
+    ensures { (w : World) (s : ℕ) (missing : Missing) → scratch w s ≡ Err (NotReady missing)
+        → (name : List ℕ) × (awaited s w ≡ Some name) }
 {}

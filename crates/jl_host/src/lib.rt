@@ -34,7 +34,9 @@ mod view;
 mod laws;
 
 pub use invocations::Invocation;
-pub use laws::{given_links_are_from_scratch, shown_links_are_read_again};
+pub use laws::{
+    awaited_classes_are_named, given_links_are_from_scratch, shown_links_are_read_again,
+};
 pub use linker::Linker;
 pub use memo::Memo;
 pub use reading::LinkRow;

@@ -67,9 +67,9 @@ pub struct LinkdView {
 /// Which header the library is of: LINKD_VERSION there.
 #[unsafe(no_mangle)]
 pub extern "C" fn linkd_version() -> u32
-    ensures { result ≡ 2 }
+    ensures { result ≡ 1 }
 {
-    2
+    1
 }
 
 /// The bytes of a linker.
