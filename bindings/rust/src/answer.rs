@@ -84,21 +84,56 @@ impl fmt::Display for Answer {
 /// A receiver's class, and what a call on an object of it comes to.
 pub type Row = (ClassId, Outcome);
 
-/// A link that is installed at a site.
+/// What each call at a site comes to: a link that is installed there, or that was prepared for it.
 #[derive(Clone, Debug, PartialEq, Eq, Hash)]
 pub enum Link {
     /// Each call throws.
     Fault(Throwable),
-    /// Each call runs this method, and has no receiver.
+    /// Each call runs this method, and has no receiver. A plain link that throws is none.
     Plain(Outcome),
     /// Each call on an object comes to this.
     Direct(Outcome),
-    /// An invokevirtual, by the receiver's class.
+    /// An invokevirtual, by the receiver's class: at most eight rows, by rising class.
     VirtualTable(Vec<Row>),
-    /// An invokeinterface, by the receiver's class.
+    /// An invokeinterface, by the receiver's class, as well.
     InterfaceTable(Vec<Row>),
     /// There are too many classes for a table.
     Megamorphic,
+}
+
+/// An outcome in a link: `5.2` is method 2 of class 5.
+struct Short(Outcome);
+
+impl fmt::Display for Short {
+    fn fmt(&self, to: &mut fmt::Formatter<'_>) -> fmt::Result {
+        match self.0 {
+            Outcome::Run { class, method } => write!(to, "{}.{method}", class.number()),
+            throws @ Outcome::Throws(_) => throws.fmt(to),
+        }
+    }
+}
+
+fn write_table(kind: &str, rows: &[Row], to: &mut fmt::Formatter<'_>) -> fmt::Result {
+    to.write_str(kind)?;
+    for (place, &(receiver, outcome)) in rows.iter().enumerate() {
+        let comma = if place == 0 { "" } else { "," };
+        write!(to, "{comma} {} -> {}", receiver.number(), Short(outcome))?;
+    }
+    Ok(())
+}
+
+/// By numbers of classes and of methods in them: `direct 5.2`, `virtual 3 -> 4.0, 5 -> throws AbstractMethodError`, `megamorphic`.
+impl fmt::Display for Link {
+    fn fmt(&self, to: &mut fmt::Formatter<'_>) -> fmt::Result {
+        match self {
+            Link::Fault(throwable) => write!(to, "fault {throwable}"),
+            Link::Plain(outcome) => write!(to, "plain {}", Short(*outcome)),
+            Link::Direct(outcome) => write!(to, "direct {}", Short(*outcome)),
+            Link::VirtualTable(rows) => write_table("virtual", rows, to),
+            Link::InterfaceTable(rows) => write_table("interface", rows, to),
+            Link::Megamorphic => to.write_str("megamorphic"),
+        }
+    }
 }
 
 /// What a call site runs (java.lang.invoke.CallSite).
@@ -169,4 +204,38 @@ pub(crate) fn link(of: &raw::Link) -> Option<Link> {
         6 => Link::Megamorphic,
         _ => unreachable!("{NO_SUCH_NUMBER}"),
     })
+}
+
+fn raw_row(&(receiver, outcome): &Row) -> raw::Row {
+    let receiver = receiver.number();
+    match outcome {
+        Outcome::Run { class, method } => raw::Row { receiver, kind: 0, class_number: class.number(), value: method.into() },
+        Outcome::Throws(throwable) => raw::Row { receiver, kind: 1, class_number: 0, value: throwable as u32 },
+    }
+}
+
+/// A link of these rows. There is room for eight; that there are more is told by their count, and refused by the library.
+fn raw_rows(kind: u32, rows: &[Row]) -> raw::Link {
+    let count = u32::try_from(rows.len()).unwrap_or(u32::MAX);
+    let mut link = raw::Link { kind, count, ..raw::Link::default() };
+    for (place, row) in link.rows.iter_mut().zip(rows) {
+        *place = raw_row(row);
+    }
+    link
+}
+
+fn raw_single(kind: u32, outcome: Outcome) -> raw::Link {
+    raw_rows(kind, &[(ClassId(0), outcome)])
+}
+
+/// The numbers of a link.
+pub(crate) fn raw_link(of: &Link) -> raw::Link {
+    match of {
+        Link::Fault(throwable) => raw_single(1, Outcome::Throws(*throwable)),
+        Link::Plain(outcome) => raw_single(2, *outcome),
+        Link::Direct(outcome) => raw_single(3, *outcome),
+        Link::VirtualTable(rows) => raw_rows(4, rows),
+        Link::InterfaceTable(rows) => raw_rows(5, rows),
+        Link::Megamorphic => raw_rows(6, &[]),
+    }
 }

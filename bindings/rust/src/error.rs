@@ -1,16 +1,16 @@
 //! Why the linker refuses.
 use crate::raw::Told;
-use crate::{CallSiteId, ClassId, LoaderId, SiteId};
+use crate::{CallSiteId, ClassId, Link, LoaderId, SiteId};
 use std::fmt;
 
-/// An enum of the header's numbers from 1 on: its variants in their order, each with what it says to a reader.
+/// An enum of the header's numbers: its variants, each with its number and with what it says to a reader.
 macro_rules! numbered {
     ($(#[$doc:meta])* $name:ident { $($(#[$about:meta])* $variant:ident = $number:literal: $text:literal,)* }) => {
         $(#[$doc])*
         #[derive(Clone, Copy, Debug, PartialEq, Eq, Hash)]
         #[non_exhaustive]
         pub enum $name {
-            $($(#[$about])* $variant,)*
+            $($(#[$about])* $variant = $number,)*
         }
 
         impl $name {
@@ -168,7 +168,7 @@ impl fmt::Display for RetireFault {
 }
 
 /// Why the linker refuses a call, or couldn't obey it. It is as before then.
-#[derive(Clone, Copy, Debug, PartialEq, Eq, Hash)]
+#[derive(Clone, Debug, PartialEq, Eq, Hash)]
 #[non_exhaustive]
 pub enum Error {
     /// The class isn't defined.
@@ -186,7 +186,7 @@ pub enum Error {
     },
     /// There is no such class, or it is retired.
     UnknownClass,
-    /// The class has no invocation there.
+    /// The class has no such method, or no invocation there.
     NoSuchPlace,
     /// The invocation isn't linked.
     NotLinkable(NotLinkable),
@@ -200,9 +200,14 @@ pub enum Error {
     AlreadyBound(CallSiteId),
     /// The call site's type isn't the invokedynamic's.
     TypeMismatch,
-    /// The link isn't the site's link from scratch now.
-    Stale(SiteId),
-    /// The site has no link from scratch now.
+    /// The link that was given isn't the site's link from scratch now.
+    Stale {
+        /// The first such site of those that were given.
+        site: SiteId,
+        /// The link that it has from scratch now.
+        present: Link,
+    },
+    /// The site has no link from scratch now, or had none when the view was taken.
     NotReady(SiteId),
     /// Nothing is requested under this number.
     UnknownSite(SiteId),
@@ -218,7 +223,7 @@ pub enum Error {
     LoadersFull,
     /// The loader isn't retired.
     Retire(RetireFault),
-    /// A type or a target that is none, or a number that is too large.
+    /// A type, a target or a link that is none, or a number that is too large.
     Malformed,
     /// A status or a fault that this crate has no name for.
     Other {
@@ -244,8 +249,8 @@ impl fmt::Display for Error {
             Error::NotDynamic => to.write_str("the site is no invokedynamic"),
             Error::AlreadyBound(call_site) => write!(to, "the site is bound to {call_site}"),
             Error::TypeMismatch => to.write_str("the call site has another type than the invokedynamic"),
-            Error::Stale(site) => write!(to, "{site} has another link now"),
-            Error::NotReady(site) => write!(to, "{site} has no link now"),
+            Error::Stale { site, present } => write!(to, "{site} has another link now: {present}"),
+            Error::NotReady(site) => write!(to, "{site} has no link"),
             Error::UnknownSite(site) => write!(to, "{site} isn't requested"),
             Error::Repeated(site) => write!(to, "{site} comes twice"),
             Error::BatchSize => to.write_str("no sites, or more than 256"),
@@ -253,7 +258,7 @@ impl fmt::Display for Error {
             Error::Delegate(fault) => write!(to, "no delegation: {fault}"),
             Error::LoadersFull => to.write_str("there is no room for more loaders"),
             Error::Retire(fault) => write!(to, "the loader isn't retired: {fault}"),
-            Error::Malformed => to.write_str("a type or a target that is none, or a number that is too large"),
+            Error::Malformed => to.write_str("a type, a target or a link that is none, or a number that is too large"),
             Error::Other { status, fault } => write!(to, "status {status}, fault {fault}"),
         }
     }
@@ -273,7 +278,7 @@ fn retire_fault(told: &Told) -> Option<RetireFault> {
     })
 }
 
-/// The error of a status other than 0, or none where it has no name here.
+/// The error of a status other than 0, or none where it has no name here. A stale link is told with the present one, by its caller.
 fn named(status: u32, told: &Told) -> Option<Error> {
     let site = SiteId(told.place);
     Some(match status {
@@ -286,7 +291,6 @@ fn named(status: u32, told: &Told) -> Option<Error> {
         7 => Error::NotDynamic,
         8 => Error::AlreadyBound(CallSiteId(told.place)),
         9 => Error::TypeMismatch,
-        10 => Error::Stale(site),
         11 => Error::NotReady(site),
         12 => Error::UnknownSite(site),
         13 => Error::Repeated(site),

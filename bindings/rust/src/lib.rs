@@ -12,36 +12,55 @@
 //! # }
 //! ```
 //!
-//! What the header says that a host owes is kept by types: a linker, a seat and a memo lie in blocks that aren't moved and go with them, each
-//! call borrows its own alone (`&mut`), and ids come from a linker. Behind a `Mutex` a linker is shared by threads, of which each has a [`Seat`],
-//! and a [`Memo`] for megamorphic links. One thing is left to the program, since no type says it: it makes no call from a signal handler, or in a forked child of
-//! a process with threads.
+//! What the header says that a host owes is kept by types: a linker, a seat, a memo and a view lie in blocks that aren't moved and go with
+//! them, each call borrows its own alone (`&mut`), and ids are numbers that a linker may have given. Behind a `Mutex` a linker is shared by
+//! threads, of which each has a [`Seat`], a [`Memo`] for megamorphic links, and a [`View`] if it compiles. One thing is left to the
+//! program, since no type says it: it makes no call from a signal handler, or in a forked child of a process with threads.
 mod answer;
 mod block;
 mod error;
+mod invocation;
 mod linker;
 mod memo;
 mod raw;
 mod seat;
+mod view;
 
 pub use answer::{Answer, Link, Outcome, Row, Target, Throwable, Unlinked};
 pub use error::{CallSiteFault, ClassFault, DefineFault, DelegateFault, Error, NotLinkable, RetireFault};
+pub use invocation::{Instruction, Invocation};
 pub use linker::{CallSiteKind, Linker};
 pub use memo::Memo;
 pub use seat::Seat;
+pub use view::View;
 
 use std::fmt;
 
-/// A number of the linker, of one kind.
+/// The version of the header of the library that is linked with. [`Linker::open`] wants the one that this crate is written for.
+pub fn version() -> u32 {
+    // SAFETY: it only answers a number.
+    unsafe { raw::linkd_version() }
+}
+
+/// A number of the linker, of one kind, of which it gives at most so many.
 macro_rules! id {
-    ($(#[$doc:meta])* $name:ident, $word:literal) => {
+    ($(#[$doc:meta])* $name:ident, $word:literal, $most:literal) => {
         $(#[$doc])*
         #[derive(Clone, Copy, Debug, PartialEq, Eq, PartialOrd, Ord, Hash)]
         pub struct $name(pub(crate) u32);
 
         impl $name {
+            #[doc = concat!("The id of a number that was kept elsewhere, as in compiled code. A linker gives those below ", $most, ".")]
+            pub const fn from_number(number: u32) -> Option<$name> {
+                if number < $most {
+                    Some($name(number))
+                } else {
+                    None
+                }
+            }
+
             /// The number that the linker has given.
-            pub fn number(self) -> u32 {
+            pub const fn number(self) -> u32 {
                 self.0
             }
         }
@@ -57,27 +76,32 @@ macro_rules! id {
 id!(
     /// A class that is defined.
     ClassId,
-    "class"
+    "class",
+    65_536
 );
 id!(
     /// A loader.
     LoaderId,
-    "loader"
+    "loader",
+    1_024
 );
 id!(
     /// An invocation that is requested.
     SiteId,
-    "site"
+    "site",
+    1_048_576
 );
 id!(
     /// A call site of java.lang.invoke.
     CallSiteId,
-    "call site"
+    "call site",
+    65_536
 );
 id!(
     /// A switch point of java.lang.invoke.
     SwitchId,
-    "switch point"
+    "switch point",
+    65_536
 );
 
 impl LoaderId {

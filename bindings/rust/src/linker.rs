@@ -1,8 +1,9 @@
-use crate::answer::{answer, link};
+use crate::answer::{answer, link, raw_link};
 use crate::block::Block;
 use crate::error::done;
+use crate::invocation::{invocation, Invocation};
 use crate::raw::{self, Told};
-use crate::{Answer, CallSiteId, ClassId, Error, Link, LoaderId, Memo, Seat, SiteId, SwitchId, Target};
+use crate::{Answer, CallSiteId, ClassId, Error, Link, LoaderId, Memo, Seat, SiteId, SwitchId, Target, View};
 use std::fmt;
 use std::sync::atomic::{AtomicU64, Ordering};
 
@@ -53,9 +54,22 @@ fn number(status: u32, told: &Told) -> Result<u32, Error> {
 
 const OPEN: &str = "a linker is open until it is dropped";
 
+/// What a call writes into an array, and tells the length of. None where it tells of nothing.
+fn copied<T: Clone + Default>(mut call: impl FnMut(*mut T, usize, &mut usize) -> u32) -> Option<Vec<T>> {
+    let (mut items, mut length) = (Vec::new(), 0);
+    let mut status = call(items.as_mut_ptr(), 0, &mut length);
+    if status == raw::TOO_SHORT {
+        items.resize(length, T::default());
+        status = call(items.as_mut_ptr(), items.len(), &mut length);
+    }
+    assert_ne!(status, raw::CLOSED, "{OPEN}");
+    (status == raw::DONE).then_some(items)
+}
+
 impl Linker {
     /// A linker without classes, in which at most so many sites may be requested: 1 to 1,048,576, or else [`Error::Malformed`].
     pub fn open(max_sites: u32) -> Result<Linker, Error> {
+        assert_eq!(crate::version(), raw::VERSION, "the archive is of another version of the header than this crate");
         // SAFETY: the block is as large and stands as the library asks, and is a linker from `linkd_blank` on.
         let (linker, status) = unsafe {
             let block = Block::new(raw::linkd_size(), raw::linkd_align());
@@ -90,7 +104,8 @@ impl Linker {
         self.define_in(LoaderId::FIRST, file)
     }
 
-    /// Defines a class, behind its parents: [`DefineFault::MissingParent`](crate::DefineFault::MissingParent) is no end.
+    /// Defines a class, behind its parents: [`DefineFault::MissingParent`](crate::DefineFault::MissingParent) is no end, and
+    /// [`named_class`](Linker::named_class) names the parent.
     pub fn define_in(&mut self, loader: LoaderId, file: &[u8]) -> Result<ClassId, Error> {
         let mut told = Told::default();
         let status = unsafe { raw::linkd_define(self.at(), loader.0, file.as_ptr(), file.len(), &mut told) };
@@ -172,18 +187,38 @@ impl Linker {
         done(status, &told)
     }
 
+    /// Installs these links, of 1 to 256 sites: all or none. Each has to be its site's link from scratch now, wherever and whenever it was
+    /// looked up, as in a [`View`].
+    ///
+    /// In this order: [`Error::Malformed`], where a plain link throws or a table has more than eight rows; [`Error::BatchSize`];
+    /// [`Error::UnknownSite`] and [`Error::Repeated`], of the first site that wasn't requested or comes a second time; [`Error::Stale`],
+    /// of the first site whose link is another one now, or [`Error::NotReady`], of the first site that has none, whichever of the two
+    /// comes first.
+    pub fn install_links(&mut self, links: &[(SiteId, Link)]) -> Result<(), Error> {
+        let (mut told, mut present) = (Told::default(), raw::Link::default());
+        let rows: Vec<_> = links.iter().map(|(site, link)| raw::LinkRow { site: site.0, link: raw_link(link) }).collect();
+        let status = unsafe { raw::linkd_install_links(self.at(), rows.as_ptr(), rows.len(), &mut told, &mut present) };
+        if status == raw::STALE {
+            let present = link(&present).expect("a site whose link is stale has another one");
+            return Err(Error::Stale { site: SiteId(told.place), present });
+        }
+        done(status, &told)
+    }
+
     /// The sites, rising, whose links the last accepted event removed.
     pub fn dropped(&mut self) -> Vec<SiteId> {
-        let (mut numbers, mut length) = (Vec::<u32>::new(), 0);
-        let mut status = unsafe { raw::linkd_dropped(self.at(), numbers.as_mut_ptr(), 0, &mut length) };
-        // The length that is wanted was told where there is no room.
-        if status != raw::DONE {
-            numbers.resize(length, 0);
-            status = unsafe { raw::linkd_dropped(self.at(), numbers.as_mut_ptr(), numbers.len(), &mut length) };
-        }
+        let at = self.at();
+        let numbers = copied(|out, capacity, length| unsafe { raw::linkd_dropped(at, out, capacity, length) });
+        numbers.expect("there is always such a list").into_iter().map(SiteId).collect()
+    }
+
+    /// How many selections, special searches and evaluations of call sites the last accepted event took: what it cost beside the sites
+    /// that it dropped.
+    pub fn last_work(&mut self) -> u64 {
+        let mut work = 0;
+        let status = unsafe { raw::linkd_last_work(self.at(), &mut work) };
         assert_eq!(status, raw::DONE, "{OPEN}");
-        numbers.truncate(length);
-        numbers.into_iter().map(SiteId).collect()
+        work
     }
 
     /// What a call comes to now, on null or on an object of the class, linked or not.
@@ -203,6 +238,65 @@ impl Linker {
         link(&told)
     }
 
+    /// The class that the loader finds under the name, in modified UTF-8 (JVMS SE 17 §5.3): one that it has defined or was delegated. None
+    /// too where the loader was never made, or is retired.
+    pub fn lookup(&mut self, loader: LoaderId, name: &[u8]) -> Option<ClassId> {
+        let mut class = 0;
+        let status = unsafe { raw::linkd_lookup(self.at(), loader.0, name.as_ptr(), name.len(), &mut class) };
+        assert_ne!(status, raw::CLOSED, "{OPEN}");
+        (status == raw::DONE).then_some(ClassId(class))
+    }
+
+    /// The name of the class as its file has it (JVMS SE 17 §4.2.1), in modified UTF-8, be the class retired or not.
+    pub fn class_name(&mut self, class: ClassId) -> Option<Vec<u8>> {
+        let at = self.at();
+        copied(|out, capacity, length| unsafe { raw::linkd_class_name(at, class.0, out, capacity, length) })
+    }
+
+    /// The name (JVMS SE 17 §4.2.2) of the method at this place among those that the class declares, in modified UTF-8. None where there is
+    /// no such class or method.
+    pub fn method_name(&mut self, class: ClassId, method: u16) -> Option<Vec<u8>> {
+        let at = self.at();
+        copied(|out, capacity, length| unsafe { raw::linkd_method_name(at, class.0, method.into(), out, capacity, length) })
+    }
+
+    /// The descriptor of that method (JVMS SE 17 §4.3.3), as well.
+    pub fn method_descriptor(&mut self, class: ClassId, method: u16) -> Option<Vec<u8>> {
+        let at = self.at();
+        copied(|out, capacity, length| unsafe { raw::linkd_method_type(at, class.0, method.into(), out, capacity, length) })
+    }
+
+    /// The invocations in that method's code, by rising pc; a request of one may be [`Error::NotLinkable`]. None where there is no such
+    /// class or method.
+    pub fn method_invocations(&mut self, class: ClassId, method: u16) -> Option<Vec<Invocation>> {
+        let at = self.at();
+        let found = copied(|out, capacity, length| unsafe { raw::linkd_invocations(at, class.0, method.into(), out, capacity, length) });
+        Some(found?.iter().map(|of| invocation(method, of)).collect())
+    }
+
+    /// The invocations in the codes of all methods of the class, method by method. None where there is no such class.
+    pub fn invocations(&mut self, class: ClassId) -> Option<Vec<Invocation>> {
+        self.class_name(class)?;
+        Some((0..=u16::MAX).map_while(|method| self.method_invocations(class, method)).flatten().collect())
+    }
+
+    /// The name, in modified UTF-8, of the class that the refusal of the last event told of: the parent of
+    /// [`DefineFault::MissingParent`](crate::DefineFault::MissingParent), [`NotAnInterface`](crate::DefineFault::NotAnInterface) or
+    /// [`InaccessibleParent`](crate::DefineFault::InaccessibleParent). None where it told of none. [`Error::NoClassFile`] and
+    /// [`Error::Malformed`] leave what the event before has told, and so does [`answer`](Linker::answer).
+    pub fn named_class(&mut self) -> Option<Vec<u8>> {
+        let at = self.at();
+        copied(|out, capacity, length| unsafe { raw::linkd_named(at, out, capacity, length) })
+    }
+
+    /// The name, in modified UTF-8, of the class for which the site waits: where a call there is
+    /// [`Unlinked::WantsNamed`](crate::Unlinked::WantsNamed), [`WantsCallerHost`](crate::Unlinked::WantsCallerHost) or
+    /// [`WantsMethodHost`](crate::Unlinked::WantsMethodHost), and so an install of it [`Error::NotReady`]. None where it waits for none.
+    pub fn awaited_class(&mut self, site: SiteId) -> Option<Vec<u8>> {
+        let at = self.at();
+        copied(|out, capacity, length| unsafe { raw::linkd_awaited(at, site.0, out, capacity, length) })
+    }
+
     /// The answer to a command of docs/FORMATS.md. On [`Error::Memory`] it was obeyed, or nothing has changed.
     pub fn answer(&mut self, line: &str) -> Result<String, Error> {
         let (told, mut length) = (Told::default(), 0);
@@ -216,6 +310,11 @@ impl Linker {
     /// A place for one thread to read links.
     pub fn seat(&mut self) -> Result<Seat, Error> {
         Seat::of(self)
+    }
+
+    /// What there is to link now, in which a thread prepares links without a lock.
+    pub fn view(&mut self) -> Result<View, Error> {
+        View::of(self)
     }
 
     /// What one thread remembers of calls at megamorphic links, in so many sets of two.

@@ -57,6 +57,18 @@ impl Memo {
         assert_eq!(status, raw::DONE, "a linker and a memo are open until they are dropped");
         answer(told).expect("a linker doesn't miss")
     }
+
+    /// What it remembers that a call comes to, by itself: none where it remembers nothing, and for null. It knows nothing of a site's link,
+    /// nor that its loader is retired.
+    #[inline]
+    pub fn call(&mut self, site: SiteId, receiver: Option<ClassId>) -> Option<Answer> {
+        let mut told = raw::Answer::default();
+        let number = receiver.map_or(raw::NULL, ClassId::number);
+        // SAFETY: the memo is borrowed alone.
+        let status = unsafe { raw::linkd_memo_call(self.at(), site.number(), number, &mut told) };
+        assert_eq!(status, raw::DONE, "a memo is open until it is dropped");
+        answer(told)
+    }
 }
 
 impl Drop for Memo {

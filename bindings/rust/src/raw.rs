@@ -1,6 +1,8 @@
-//! The calls of `include/linkd.h`. Nothing compares these declarations with the header but the crate's tests.
+//! The calls of `include/linkd.h`, of this version. Nothing compares these declarations with the header but the crate's tests.
 
-/// A linker, a seat or a memo, in a block of a size that the library tells.
+pub const VERSION: u32 = 2;
+
+/// A linker, a seat, a memo or a view, in a block of a size that the library tells.
 #[repr(C)]
 pub struct Opaque {
     _hidden: [u8; 0],
@@ -41,10 +43,28 @@ pub struct Link {
     pub rows: [Row; 8],
 }
 
+#[repr(C)]
+#[derive(Clone, Copy, Default)]
+pub struct LinkRow {
+    pub site: u32,
+    pub link: Link,
+}
+
+#[repr(C)]
+#[derive(Clone, Copy, Default)]
+pub struct Invocation {
+    pub pc: u32,
+    pub opcode: u32,
+}
+
 pub const DONE: u32 = 0;
+pub const STALE: u32 = 10;
+pub const CLOSED: u32 = 34;
+pub const TOO_SHORT: u32 = 36;
 pub const NULL: u32 = u32::MAX;
 
 extern "C" {
+    pub fn linkd_version() -> u32;
     pub fn linkd_size() -> usize;
     pub fn linkd_align() -> usize;
     pub fn linkd_blank(at: *mut Opaque);
@@ -69,9 +89,25 @@ extern "C" {
     pub fn linkd_bind(at: *mut Opaque, site: u32, call_site: u32, told: *mut Told) -> u32;
     pub fn linkd_retire(at: *mut Opaque, loader: u32, told: *mut Told) -> u32;
     pub fn linkd_install(at: *mut Opaque, sites: *const u32, count: usize, told: *mut Told) -> u32;
+    pub fn linkd_install_links(at: *mut Opaque, rows: *const LinkRow, count: usize, told: *mut Told, present: *mut Link) -> u32;
     pub fn linkd_dropped(at: *mut Opaque, out: *mut u32, capacity: usize, length: *mut usize) -> u32;
     pub fn linkd_call(at: *mut Opaque, site: u32, receiver: u32, answer: *mut Answer) -> u32;
     pub fn linkd_link_of(at: *mut Opaque, site: u32, link: *mut Link) -> u32;
+    pub fn linkd_lookup(at: *mut Opaque, loader: u32, name: *const u8, name_length: usize, class_number: *mut u32) -> u32;
+    pub fn linkd_class_name(at: *mut Opaque, class_number: u32, out: *mut u8, capacity: usize, length: *mut usize) -> u32;
+    pub fn linkd_method_name(at: *mut Opaque, class_number: u32, method: u32, out: *mut u8, capacity: usize, length: *mut usize) -> u32;
+    pub fn linkd_method_type(at: *mut Opaque, class_number: u32, method: u32, out: *mut u8, capacity: usize, length: *mut usize) -> u32;
+    pub fn linkd_invocations(
+        at: *mut Opaque,
+        class_number: u32,
+        method: u32,
+        out: *mut Invocation,
+        capacity: usize,
+        length: *mut usize,
+    ) -> u32;
+    pub fn linkd_named(at: *mut Opaque, out: *mut u8, capacity: usize, length: *mut usize) -> u32;
+    pub fn linkd_awaited(at: *mut Opaque, site: u32, out: *mut u8, capacity: usize, length: *mut usize) -> u32;
+    pub fn linkd_last_work(at: *mut Opaque, work: *mut u64) -> u32;
     pub fn linkd_answer(at: *mut Opaque, line: *const u8, line_length: usize, length: *mut usize) -> u32;
     pub fn linkd_take(at: *mut Opaque, out: *mut u8, capacity: usize, length: *mut usize) -> u32;
     pub fn linkd_seat_size() -> usize;
@@ -86,5 +122,14 @@ extern "C" {
     pub fn linkd_memo_blank(at: *mut Opaque);
     pub fn linkd_memo_open(at: *mut Opaque, sets: u32) -> u32;
     pub fn linkd_memo_ask(at: *mut Opaque, from: *mut Opaque, site: u32, receiver: u32, answer: *mut Answer) -> u32;
+    pub fn linkd_memo_call(at: *mut Opaque, site: u32, receiver: u32, answer: *mut Answer) -> u32;
     pub fn linkd_memo_close(at: *mut Opaque);
+    pub fn linkd_view_size() -> usize;
+    pub fn linkd_view_align() -> usize;
+    pub fn linkd_view_blank(at: *mut Opaque);
+    pub fn linkd_view_take(at: *mut Opaque, from: *mut Opaque) -> u32;
+    pub fn linkd_view_serial(at: *mut Opaque, serial: *mut u64) -> u32;
+    pub fn linkd_view_call(at: *mut Opaque, site: u32, receiver: u32, answer: *mut Answer) -> u32;
+    pub fn linkd_view_prepare(at: *mut Opaque, sites: *const u32, count: usize, links: *mut Link, capacity: usize, told: *mut Told) -> u32;
+    pub fn linkd_view_leave(at: *mut Opaque);
 }

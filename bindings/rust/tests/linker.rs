@@ -1,15 +1,17 @@
-//! The worked example of the repository's README, and what a bad input gets. What is expected is what JVMS SE 17 §5.3.5, §5.4.6 and §6.5 say.
+//! The worked example of the repository's README, and what a bad input gets. What is expected is what JVMS SE 17 §5.3.5, §5.4.6 and §6.5
+//! say.
 mod file;
 
 use linkd::{
-    Answer, CallSiteFault, CallSiteKind, ClassFault, ClassId, DefineFault, DelegateFault, Error, Link, Linker, LoaderId, NotLinkable,
-    Outcome, RetireFault, SiteId, Target, Throwable, Unlinked,
+    Answer, CallSiteFault, CallSiteId, CallSiteKind, ClassFault, ClassId, DefineFault, DelegateFault, Error, Instruction, Invocation, Link,
+    Linker, LoaderId, NotLinkable, Outcome, RetireFault, SiteId, SwitchId, Target, Throwable, Unlinked,
 };
 use std::sync::{Arc, Mutex};
 
 const PUBLIC: u16 = 0x0001;
 const PUBLIC_STATIC: u16 = 0x0009;
 const INVOKEVIRTUAL: u8 = 182;
+const INVOKESTATIC: u8 = 184;
 
 const OBJECT: &str = "java/lang/Object";
 
@@ -232,6 +234,8 @@ fn a_memo_remembers_megamorphic_calls() -> Result<(), Error> {
     }
     assert_eq!(seat.call(site, Some(late[0])), None);
     assert_eq!(seat.call_with(&mut memo, site, Some(a)), None);
+    assert_eq!(memo.call(site, Some(late[0])), Some(answers(late[0])));
+    assert_eq!((memo.call(site, Some(a)), memo.call(site, None)), (None, None));
     let null = Answer::Outcome(Outcome::Throws(Throwable::NullPointerException));
     assert_eq!(seat.call_with(&mut memo, site, None), Some(null));
 
@@ -244,4 +248,288 @@ fn a_memo_remembers_megamorphic_calls() -> Result<(), Error> {
     assert_eq!(stranger.ask(&mut linker, site, Some(late[0])), answers(late[0]));
     assert_eq!(seat.call_with(&mut stranger, site, Some(late[0])), None);
     Ok(())
+}
+
+/// A class below A that overrides f, and the link of the world's call of A.f from then on.
+fn overridden(World { linker, a, b, .. }: &mut World) -> Result<(ClassId, Link), Error> {
+    let c = linker.define(&with_f("C", "A"))?;
+    Ok((c, Link::VirtualTable(vec![(*a, runs(*a)), (*b, runs(*a)), (c, runs(c))])))
+}
+
+#[test]
+fn a_view_is_of_when_it_was_taken() -> Result<(), Error> {
+    let mut world = world()?;
+    let (a, b, site) = (world.a, world.b, world.site);
+    let mut view = world.linker.view()?;
+    // Four definitions, a request and an install.
+    assert_eq!(view.serial(), 6);
+    let (c, table) = overridden(&mut world)?;
+    assert_eq!(view.serial(), 6);
+    assert_eq!(view.call(site, Some(b)), answers(a));
+    assert_eq!(view.call(site, Some(c)), Answer::BadReceiver);
+    assert_eq!(view.call(site, None), Answer::Outcome(Outcome::Throws(Throwable::NullPointerException)));
+    assert_eq!(view.prepare(&[site])?, [(site, Link::Direct(runs(a)))]);
+
+    view.take(&mut world.linker)?;
+    assert_eq!(view.serial(), 7);
+    assert_eq!(view.call(site, Some(c)), answers(c));
+    assert_eq!(view.prepare(&[site])?, [(site, table)]);
+    // Nothing was installed.
+    assert_eq!(world.linker.link_of(site), None);
+    Ok(())
+}
+
+#[test]
+fn a_view_outlives_its_linker_and_goes_to_another_thread() -> Result<(), Error> {
+    let World { mut linker, a, b, m, site } = world()?;
+    let other = linker.request(m, 0, 3)?;
+    linker.define(&with_f("Z", OBJECT))?;
+    let mut view = linker.view()?;
+    drop(linker);
+    let thread = std::thread::spawn(move || (view.call(site, Some(b)), view.prepare(&[other, site])));
+    let (answer, links) = thread.join().unwrap();
+    assert_eq!(answer, answers(a));
+    let z = ClassId::from_number(4).unwrap();
+    assert_eq!(links?, [(other, Link::Direct(runs(z))), (site, Link::Direct(runs(a)))]);
+    Ok(())
+}
+
+#[test]
+fn a_preparation_in_a_view_is_refused_by_name() -> Result<(), Error> {
+    let World { mut linker, m, site, .. } = world()?;
+    let pending = linker.request(m, 0, 3)?;
+    let mut view = linker.view()?;
+    let unknown = SiteId::from_number(9).unwrap();
+    assert_eq!(view.prepare(&[]), Err(Error::BatchSize));
+    assert_eq!(view.prepare(&[site; 257]), Err(Error::BatchSize));
+    assert_eq!(view.prepare(&[site, unknown]), Err(Error::UnknownSite(unknown)));
+    assert_eq!(view.prepare(&[site, site]), Err(Error::Repeated(site)));
+    assert_eq!(view.prepare(&[site, pending]), Err(Error::NotReady(pending)));
+    assert_eq!(view.call(pending, None), Answer::Unlinked(Unlinked::WantsNamed));
+    assert_eq!(view.call(unknown, None), Answer::Unlinked(Unlinked::NoSite));
+    Ok(())
+}
+
+#[test]
+fn an_install_of_links_is_stale_and_then_accepted() -> Result<(), Error> {
+    let mut world = world()?;
+    let (a, site) = (world.a, world.site);
+    let prepared = world.linker.view()?.prepare(&[site])?;
+    world.linker.install_links(&prepared)?;
+    let (_, table) = overridden(&mut world)?;
+
+    let mut linker = world.linker;
+    let stale = linker.install_links(&prepared);
+    assert_eq!(stale, Err(Error::Stale { site, present: table.clone() }));
+    assert_eq!(stale.unwrap_err().to_string(), "site 0 has another link now: virtual 1 -> 1.0, 2 -> 1.0, 4 -> 4.0");
+    assert_eq!(linker.link_of(site), None);
+    linker.install_links(&[(site, table.clone())])?;
+    assert_eq!(linker.link_of(site), Some(table.clone()));
+
+    // A link of another kind, or of classes that aren't there, is stale as well.
+    let Link::VirtualTable(rows) = table.clone() else { panic!("{table}") };
+    let stranger = Link::Direct(runs(ClassId::from_number(65_535).unwrap()));
+    for other in [Link::InterfaceTable(rows), stranger, Link::Plain(runs(a)), Link::Megamorphic, Link::VirtualTable(vec![])] {
+        assert_eq!(linker.install_links(&[(site, other)]), Err(Error::Stale { site, present: table.clone() }));
+    }
+    Ok(())
+}
+
+/// Prepares the site's link in a view without the lock, and installs it, again where it is stale then. How often it was.
+fn compile(shared: &Mutex<Linker>, site: SiteId) -> Result<u32, Error> {
+    let mut stale = 0;
+    loop {
+        let mut view = shared.lock().unwrap().view()?;
+        let links = view.prepare(&[site])?;
+        drop(view);
+        let installed = shared.lock().unwrap().install_links(&links);
+        match installed {
+            Err(Error::Stale { .. }) => stale += 1,
+            outcome => return outcome.map(|()| stale),
+        }
+    }
+}
+
+#[test]
+fn threads_compile_in_views_while_another_defines() -> Result<(), Error> {
+    const NAMES: [&str; 6] = ["C1", "C2", "C3", "C4", "C5", "C6"];
+    let World { linker, a, b, site, .. } = world()?;
+    let shared = Mutex::new(linker);
+    let mut rows = vec![(a, runs(a)), (b, runs(a))];
+    std::thread::scope(|threads| -> Result<(), Error> {
+        let compilers: Vec<_> = (0..2).map(|_| threads.spawn(|| (0..200).try_for_each(|_| compile(&shared, site).map(drop)))).collect();
+        for name in NAMES {
+            let class = shared.lock().unwrap().define(&with_f(name, "A"))?;
+            rows.push((class, runs(class)));
+        }
+        compilers.into_iter().try_for_each(|compiler| compiler.join().unwrap())
+    })?;
+    assert_eq!(compile(&shared, site)?, 0);
+    assert_eq!(shared.lock().unwrap().link_of(site), Some(Link::VirtualTable(rows)));
+    Ok(())
+}
+
+#[test]
+fn an_install_of_links_is_refused_by_name() -> Result<(), Error> {
+    let World { mut linker, a, m, site, .. } = world()?;
+    let pending = linker.request(m, 0, 3)?;
+    let unknown = SiteId::from_number(9).unwrap();
+    let direct = Link::Direct(runs(a));
+    let of = |sites: &[SiteId]| sites.iter().map(|&site| (site, direct.clone())).collect::<Vec<_>>();
+    assert_eq!(linker.install_links(&[]), Err(Error::BatchSize));
+    assert_eq!(linker.install_links(&of(&[site; 257])), Err(Error::BatchSize));
+    assert_eq!(linker.install_links(&of(&[site, unknown])), Err(Error::UnknownSite(unknown)));
+    assert_eq!(linker.install_links(&of(&[site, site])), Err(Error::Repeated(site)));
+    assert_eq!(linker.install_links(&of(&[site, pending])), Err(Error::NotReady(pending)));
+    let throws = Link::Plain(Outcome::Throws(Throwable::AbstractMethodError));
+    assert_eq!(linker.install_links(&[(site, throws)]), Err(Error::Malformed));
+    let nine = Link::VirtualTable(vec![(a, runs(a)); 9]);
+    assert_eq!(linker.install_links(&[(site, nine)]), Err(Error::Malformed));
+    assert_eq!(linker.link_of(site), Some(direct));
+    Ok(())
+}
+
+/// N, whose method x calls M.n and M.none, without an object, y nothing, and z M.n and A.f.
+fn other_caller() -> Vec<u8> {
+    let n = (INVOKESTATIC, "M", "n", "()V");
+    let x = vec![n, (INVOKESTATIC, "M", "none", "()V")];
+    let z = vec![n, (INVOKEVIRTUAL, "A", "f", "()V")];
+    file::class("N", Some(OBJECT), &[(PUBLIC_STATIC, "x", x), (PUBLIC_STATIC, "y", vec![]), (PUBLIC_STATIC, "z", z)])
+}
+
+#[test]
+fn links_of_each_form_are_installed_by_value() -> Result<(), Error> {
+    let World { mut linker, a, m, site, .. } = world()?;
+    let n = linker.define(&other_caller())?;
+    let (plain, fault) = (linker.request(n, 0, 0)?, linker.request(n, 0, 3)?);
+    let method = Outcome::Run { class: m, method: 1 };
+    let links = [(plain, Link::Plain(method)), (fault, Link::Fault(Throwable::NoSuchMethodError)), (site, Link::Direct(runs(a)))];
+    assert_eq!(linker.view()?.prepare(&[plain, fault, site])?, links);
+    linker.install_links(&links)?;
+    for (site, link) in links {
+        assert_eq!(linker.link_of(site), Some(link));
+    }
+    for name in ["C1", "C2", "C3", "C4", "C5", "C6", "C7"] {
+        linker.define(&with_f(name, "A"))?;
+    }
+    linker.install_links(&[(site, Link::Megamorphic)])?;
+    assert_eq!(linker.link_of(site), Some(Link::Megamorphic));
+    Ok(())
+}
+
+#[test]
+fn a_link_is_told_by_numbers() {
+    let class = |number| ClassId::from_number(number).unwrap();
+    let method = |of, method| Outcome::Run { class: class(of), method };
+    let throws = Outcome::Throws(Throwable::AbstractMethodError);
+    assert_eq!(Link::Fault(Throwable::NoSuchMethodError).to_string(), "fault NoSuchMethodError");
+    assert_eq!(Link::Plain(method(3, 1)).to_string(), "plain 3.1");
+    assert_eq!(Link::Direct(method(5, 2)).to_string(), "direct 5.2");
+    assert_eq!(Link::Direct(throws).to_string(), "direct throws AbstractMethodError");
+    let rows = vec![(class(3), method(4, 0)), (class(5), throws)];
+    assert_eq!(Link::VirtualTable(rows.clone()).to_string(), "virtual 3 -> 4.0, 5 -> throws AbstractMethodError");
+    assert_eq!(Link::InterfaceTable(rows).to_string(), "interface 3 -> 4.0, 5 -> throws AbstractMethodError");
+    assert_eq!(Link::VirtualTable(vec![]).to_string(), "virtual");
+    assert_eq!(Link::Megamorphic.to_string(), "megamorphic");
+}
+
+#[test]
+fn ids_are_made_of_the_numbers_that_a_linker_gives() -> Result<(), Error> {
+    let World { mut linker, a, m, site, .. } = world()?;
+    assert_eq!(ClassId::from_number(m.number()), Some(m));
+    assert_eq!(SiteId::from_number(site.number()), Some(site));
+    assert_eq!(linker.call(SiteId::from_number(0).unwrap(), ClassId::from_number(2)), answers(a));
+    assert_eq!((LoaderId::from_number(0), LoaderId::from_number(1_024)), (Some(LoaderId::FIRST), None));
+    assert_eq!(ClassId::from_number(65_535).map(ClassId::number), Some(65_535));
+    assert_eq!((ClassId::from_number(65_536), ClassId::from_number(u32::MAX)), (None, None));
+    assert_eq!(SiteId::from_number(1_048_575).map(SiteId::number), Some(1_048_575));
+    assert_eq!((SiteId::from_number(1_048_576), CallSiteId::from_number(65_536), SwitchId::from_number(65_536)), (None, None, None));
+    Ok(())
+}
+
+#[test]
+fn classes_and_methods_have_names() -> Result<(), Error> {
+    let World { mut linker, a, m, .. } = world()?;
+    assert_eq!(linker.lookup(LoaderId::FIRST, b"A"), Some(a));
+    assert_eq!(linker.lookup(LoaderId::FIRST, b"Z"), None);
+    let other = linker.new_loader()?;
+    assert_eq!(linker.lookup(other, b"A"), None);
+    linker.delegate(other, b"A", LoaderId::FIRST)?;
+    assert_eq!(linker.lookup(other, b"A"), Some(a));
+    let d = linker.define_in(other, &with_f("D", "A"))?;
+    assert_eq!(linker.lookup(other, b"D"), Some(d));
+    linker.retire(other)?;
+    assert_eq!(linker.lookup(other, b"D"), None);
+
+    let unknown = ClassId::from_number(99).unwrap();
+    assert_eq!(linker.class_name(m).as_deref(), Some(&b"M"[..]));
+    assert_eq!(linker.class_name(d).as_deref(), Some(&b"D"[..]));
+    assert_eq!(linker.class_name(unknown), None);
+    assert_eq!(linker.method_name(m, 1).as_deref(), Some(&b"n"[..]));
+    assert_eq!(linker.method_descriptor(m, 1).as_deref(), Some(&b"()V"[..]));
+    assert_eq!((linker.method_name(m, 2), linker.method_descriptor(m, 2)), (None, None));
+    assert_eq!(linker.method_name(unknown, 0), None);
+    Ok(())
+}
+
+#[test]
+fn invocations_are_those_of_the_code() -> Result<(), Error> {
+    let World { mut linker, a, b, m, site } = world()?;
+    let at = |method, pc, instruction| Invocation { method, pc, instruction };
+    let in_m = [0, 3, 6, 9].map(|pc| at(0, pc, Instruction::InvokeVirtual));
+    assert_eq!(linker.method_invocations(m, 0).as_deref(), Some(&in_m[..]));
+    assert_eq!(linker.method_invocations(m, 1), Some(vec![]));
+    assert_eq!(linker.method_invocations(m, 2), None);
+
+    let n = linker.define(&other_caller())?;
+    let static_at = |method, pc| at(method, pc, Instruction::InvokeStatic);
+    let in_n = vec![static_at(0, 0), static_at(0, 3), static_at(2, 0), at(2, 3, Instruction::InvokeVirtual)];
+    assert_eq!(linker.invocations(n), Some(in_n));
+    assert_eq!(linker.invocations(b), Some(vec![]));
+    assert_eq!(linker.invocations(ClassId::from_number(99).unwrap()), None);
+
+    let last = linker.invocations(n).and_then(|all| all.last().copied()).unwrap();
+    let again = linker.request(n, last.method, last.pc)?;
+    assert_ne!(again, site);
+    assert_eq!(linker.call(again, Some(b)), answers(a));
+    assert_eq!(last.instruction.to_string(), "invokevirtual");
+    Ok(())
+}
+
+#[test]
+fn what_is_missing_has_a_name() -> Result<(), Error> {
+    let World { mut linker, m, site, .. } = world()?;
+    assert_eq!(linker.named_class(), None);
+    assert_eq!(linker.define(&with_f("D", "Above")), Err(Error::Define(DefineFault::MissingParent)));
+    assert_eq!(linker.named_class().as_deref(), Some(&b"Above"[..]));
+    // Bytes that are no class file are no event.
+    assert!(linker.define(b"no class file").is_err());
+    assert_eq!(linker.named_class().as_deref(), Some(&b"Above"[..]));
+    let pending = linker.request(m, 0, 3)?;
+    assert_eq!(linker.named_class(), None);
+
+    assert_eq!(linker.install(&[pending]), Err(Error::NotReady(pending)));
+    assert_eq!(linker.awaited_class(pending).as_deref(), Some(&b"Z"[..]));
+    assert_eq!(linker.awaited_class(site), None);
+    linker.define(&with_f("Z", OBJECT))?;
+    assert_eq!(linker.awaited_class(pending), None);
+    linker.install(&[pending])
+}
+
+#[test]
+fn the_last_event_has_its_work() -> Result<(), Error> {
+    let mut world = world()?;
+    overridden(&mut world)?;
+    world.linker.install(&[world.site])?;
+    // A selection for each of A, B and C.
+    assert_eq!(world.linker.last_work(), 3);
+    world.linker.new_loader()?;
+    assert_eq!(world.linker.last_work(), 0);
+    Ok(())
+}
+
+#[test]
+fn the_library_is_of_the_header() {
+    let header = include_str!("../../../include/linkd.h");
+    assert!(header.contains(&format!("#define LINKD_VERSION {}\n", linkd::version())));
 }

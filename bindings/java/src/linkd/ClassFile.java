@@ -6,41 +6,25 @@ import java.io.IOException;
 import java.io.UncheckedIOException;
 import java.nio.ByteBuffer;
 import java.util.ArrayList;
-import java.util.Arrays;
 import java.util.List;
 
 /**
- * What a class file names and invokes (JVMS SE 17 §4.1). Only a file that the linker has accepted is read whole.
+ * What a class file defines (JVMS SE 17 §4.1).
  *
  * @param name the class
  * @param parents the superclass, where there is one, and the superinterfaces
- * @param invocations in order
  */
-record ClassFile(String name, List<String> parents, List<Invocation> invocations) {
+record ClassFile(String name, List<String> parents) {
     private static final int UTF8 = 1;
     private static final int LONG = 5;
     private static final int DOUBLE = 6;
     private static final int[] LENGTHS = {0, 3, 0, 5, 5, 9, 9, 3, 3, 5, 5, 5, 5, 0, 0, 4, 3, 5, 5, 3, 3};
-    private static final int FIRST_INVOKE = 182;
-    private static final int INVOKEDYNAMIC = 186;
-
-    /**
-     * An invocation.
-     *
-     * @param method the place of the method that has it
-     * @param pc its place in the method's code
-     * @param opcode 182 to 186
-     * @param of the class that it names; empty at an invokedynamic
-     */
-    record Invocation(int method, int pc, int opcode, String of) {
-    }
 
     /** A file while it is read. */
     private static final class Reader {
         private final byte[] bytes;
         private final ByteBuffer file;
         private int[] pool = {};
-        private final List<Invocation> invocations = new ArrayList<>();
 
         Reader(byte[] bytes) {
             this.bytes = bytes;
@@ -79,34 +63,6 @@ record ClassFile(String name, List<String> parents, List<Invocation> invocations
             return utf8(u2(pool[entry] + 1));
         }
 
-        void walk(int method, int from, int length) {
-            byte[] code = Arrays.copyOfRange(bytes, from, from + length);
-            for (int pc = 0; pc < length; pc += Instructions.length(code, pc)) {
-                int opcode = code[pc] & 0xff;
-                if (opcode >= FIRST_INVOKE && opcode <= INVOKEDYNAMIC) {
-                    int reference = pool[u2(from + pc + 1)];
-                    String of = opcode == INVOKEDYNAMIC ? "" : classAt(u2(reference + 1));
-                    invocations.add(new Invocation(method, pc, opcode, of));
-                }
-            }
-        }
-
-        /** Where the fields or methods end that begin here. A field has no Code. */
-        int readMembers(int from) {
-            int at = from + 2;
-            for (int member = 0; member < u2(from); member++) {
-                int attributes = u2(at + 6);
-                at += 8;
-                for (int attribute = 0; attribute < attributes; attribute++) {
-                    if (utf8(u2(at)).equals("Code")) {
-                        walk(member, at + 14, file.getInt(at + 10));
-                    }
-                    at += 6 + file.getInt(at + 2);
-                }
-            }
-            return at;
-        }
-
         List<String> readParents(int at) {
             List<String> parents = new ArrayList<>();
             if (u2(at + 4) != 0) {
@@ -124,8 +80,6 @@ record ClassFile(String name, List<String> parents, List<Invocation> invocations
         Reader reader = new Reader(bytes);
         int at = reader.readPool();
         String name = reader.classAt(reader.u2(at + 2));
-        List<String> parents = reader.readParents(at);
-        reader.readMembers(reader.readMembers(at + 8 + 2 * reader.u2(at + 6)));
-        return new ClassFile(name, parents, List.copyOf(reader.invocations));
+        return new ClassFile(name, reader.readParents(at));
     }
 }

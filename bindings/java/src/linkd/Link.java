@@ -2,7 +2,7 @@ package linkd;
 
 import java.util.List;
 
-/** A link that is installed at a site. */
+/** What each call at a site comes to: a link that is installed there, or that was prepared for it. */
 public sealed interface Link {
     /**
      * Each call throws.
@@ -13,7 +13,7 @@ public sealed interface Link {
     }
 
     /**
-     * Each call runs this method, and has no receiver.
+     * Each call runs this method, and has no receiver. A plain link that throws is none.
      *
      * @param outcome the method
      */

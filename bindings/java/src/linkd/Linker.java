@@ -3,24 +3,23 @@ package linkd;
 import static java.lang.foreign.ValueLayout.JAVA_INT;
 import static java.lang.foreign.ValueLayout.JAVA_LONG;
 
-import java.io.ByteArrayOutputStream;
-import java.io.DataOutputStream;
-import java.io.IOException;
-import java.io.UncheckedIOException;
 import java.lang.foreign.Arena;
 import java.lang.foreign.MemorySegment;
 import java.lang.foreign.ValueLayout;
 import java.nio.charset.StandardCharsets;
+import java.util.ArrayList;
 import java.util.Arrays;
 import java.util.Collection;
 import java.util.List;
 import java.util.Optional;
+import java.util.function.Function;
 
 /**
  * Which method does this JVM call run, now? A linker of include/linkd.h.
  *
- * <p>Many threads may use it, one at a time: each call holds the linker's monitor. Who wants to keep several calls together, as an event and
- * {@link #dropped}, holds it around them. Threads that read links often have a {@link Seat} each.
+ * <p>Many threads may use it, one at a time: each call holds the linker's monitor. Who wants to keep several calls together, as an event
+ * and {@link #dropped}, holds it around them. Threads that read links often have a {@link Seat} each, and a {@link Memo} for megamorphic
+ * links; those that compile have a {@link View}.
  *
  * <p>What is refused throws a {@link RefusedException}, which says why, and changes nothing; a closed linker refuses all.
  */
@@ -34,12 +33,11 @@ public final class Linker implements AutoCloseable {
 
     /** The memory is the collector's, which costs a call nothing; what the library keeps besides goes by {@link #close}. */
     private Linker(Arena arena) {
-        at = Native.block(arena);
+        at = Native.linker(arena);
         told = arena.allocate(JAVA_INT, Native.TOLD);
         answer = arena.allocate(JAVA_INT, Native.ANSWER);
         link = arena.allocate(JAVA_INT, Native.LINK);
         length = arena.allocate(JAVA_LONG);
-        Native.blank(at);
     }
 
     /**
@@ -48,17 +46,18 @@ public final class Linker implements AutoCloseable {
      * @param maxSites 1 to 1,048,576, or else this is {@link Refusal.Plain#MALFORMED}
      */
     public static Linker open(int maxSites) {
-        Library.path(); // throws by name where the library isn't there
+        Library.open(); // throws by name where the library isn't there
         Linker linker = new Linker(Arena.ofAuto());
-        int status = Native.open(linker.at, maxSites);
-        if (status != Native.DONE) {
+        try {
+            Numbers.done(Native.open(linker.at, maxSites));
+            return linker;
+        } catch (RefusedException refused) {
             linker.close();
-            throw new RefusedException(Numbers.refusal(status, MemorySegment.ofArray(new int[Native.TOLD])));
+            throw refused;
         }
-        return linker;
     }
 
-    /** Lets all go that the linker has. Its seats go on answering by the links that they have. */
+    /** Lets all go that the linker has. Its seats, memos and views go on answering by what they have. */
     @Override
     public synchronized void close() {
         if (open) {
@@ -76,9 +75,7 @@ public final class Linker implements AutoCloseable {
     }
 
     private int made(int status) {
-        if (status != Native.DONE) {
-            throw new RefusedException(Numbers.refusal(status, told));
-        }
+        Numbers.done(status, told);
         return Numbers.number(told);
     }
 
@@ -86,15 +83,26 @@ public final class Linker implements AutoCloseable {
         return call.allocateFrom(ValueLayout.JAVA_BYTE, bytes);
     }
 
-    /** The text in modified UTF-8, without its length. */
-    private static byte[] modified(String text) {
-        ByteArrayOutputStream bytes = new ByteArrayOutputStream();
-        try (DataOutputStream to = new DataOutputStream(bytes)) {
-            to.writeUTF(text);
-        } catch (IOException fault) {
-            throw new UncheckedIOException("a name is too long", fault);
+    /** A call that writes into an array as much as has room there, and tells the length that is wanted. */
+    private interface Copy {
+        int into(MemorySegment out);
+    }
+
+    /** What a call writes, of items of so many bytes, as it is read. None where the call tells of nothing. */
+    private <T> Optional<T> written(int size, Copy call, Function<MemorySegment, T> read) {
+        try (Arena arena = Arena.ofConfined()) {
+            MemorySegment out = arena.allocate(0, Integer.BYTES);
+            int status = call.into(out);
+            if (status == Native.TOO_SHORT) {
+                out = arena.allocate(size * length.get(JAVA_LONG, 0), Integer.BYTES);
+                status = call.into(out);
+            }
+            return status == Native.DONE ? Optional.of(read.apply(out)) : Optional.empty();
         }
-        return Arrays.copyOfRange(bytes.toByteArray(), Short.BYTES, bytes.size());
+    }
+
+    private Optional<String> name(Copy call) {
+        return written(Byte.BYTES, call, out -> Names.text(out.toArray(ValueLayout.JAVA_BYTE)));
     }
 
     /** A loader more. */
@@ -107,7 +115,9 @@ public final class Linker implements AutoCloseable {
         return define(LoaderId.FIRST, file);
     }
 
-    /** Defines a class, behind its parents: {@link Refusal.DefineFault#MISSING_PARENT} is no end. */
+    /**
+     * Defines a class, behind its parents: {@link Refusal.DefineFault#MISSING_PARENT} is no end, and {@link #namedClass} names the parent.
+     */
     public synchronized ClassId define(LoaderId loader, byte[] file) {
         MemorySegment open = at();
         try (Arena call = Arena.ofConfined()) {
@@ -119,7 +129,7 @@ public final class Linker implements AutoCloseable {
     public synchronized void delegate(LoaderId loader, String name, LoaderId to) {
         MemorySegment open = at();
         try (Arena call = Arena.ofConfined()) {
-            made(Native.delegate(open, loader.number(), copied(call, modified(name)), to.number(), told));
+            made(Native.delegate(open, loader.number(), copied(call, Names.bytes(name)), to.number(), told));
         }
     }
 
@@ -132,7 +142,7 @@ public final class Linker implements AutoCloseable {
     public synchronized CallSiteId newCallSite(CallSiteKind kind, String descriptor, Target target) {
         MemorySegment open = at();
         try (Arena call = Arena.ofConfined()) {
-            MemorySegment type = copied(call, modified(descriptor));
+            MemorySegment type = copied(call, Names.bytes(descriptor));
             MemorySegment json = copied(call, target.json().getBytes(StandardCharsets.UTF_8));
             return new CallSiteId(made(Native.newCallSite(open, kind.number(), type, json, told)));
         }
@@ -180,17 +190,48 @@ public final class Linker implements AutoCloseable {
         }
     }
 
+    /**
+     * Installs these links, of 1 to 256 sites: all or none. Each has to be its site's link from scratch now, wherever and whenever it was
+     * looked up, as in a {@link View}.
+     *
+     * <p>Refused in this order: {@link Refusal.Plain#MALFORMED}, where a plain link throws, or a table has more than eight rows;
+     * {@link Refusal.Plain#BATCH_SIZE}; {@link Refusal.SiteFault#UNKNOWN_SITE} or {@link Refusal.SiteFault#REPEATED} of the first site that
+     * wasn't requested or comes a second time; {@link Refusal.Stale} of the first site whose link is another one now, or
+     * {@link Refusal.SiteFault#NOT_READY} of the first site that has none, whichever of the two comes first.
+     */
+    public synchronized void installLinks(Collection<SiteLink> links) {
+        MemorySegment open = at();
+        try (Arena call = Arena.ofConfined()) {
+            MemorySegment rows = call.allocate(JAVA_INT, (long) links.size() * Native.LINK_ROW);
+            int count = 0;
+            for (SiteLink row : links) {
+                Numbers.write(row, rows, count++);
+            }
+            int status = Native.installLinks(open, rows, count, told, link);
+            if (status == Native.STALE) {
+                throw new RefusedException(new Refusal.Stale(new SiteId(Numbers.place(told)), Numbers.link(link).orElseThrow()));
+            }
+            made(status);
+        }
+    }
+
     /** The sites, rising, whose links the last accepted event removed. */
     public synchronized List<SiteId> dropped() {
         MemorySegment open = at();
-        if (Native.dropped(open, told, 0, length) == Native.DONE) {
-            return List.of();
-        }
-        long count = length.get(JAVA_LONG, 0);
+        Optional<int[]> numbers = written(Integer.BYTES, out -> Native.dropped(open, out, length), out -> out.toArray(JAVA_INT));
+        return Arrays.stream(numbers.orElseThrow()).mapToObj(SiteId::new).toList();
+    }
+
+    /**
+     * How many selections, special searches and evaluations of call sites the last accepted event took: what it cost beside the sites that
+     * it dropped.
+     */
+    public synchronized long lastWork() {
+        MemorySegment open = at();
         try (Arena call = Arena.ofConfined()) {
-            MemorySegment numbers = call.allocate(JAVA_INT, count);
-            made(Native.dropped(open, numbers, count, length));
-            return Arrays.stream(numbers.toArray(JAVA_INT)).mapToObj(SiteId::new).toList();
+            MemorySegment work = call.allocate(JAVA_LONG);
+            Numbers.done(Native.lastWork(open, work));
+            return work.get(JAVA_LONG, 0);
         }
     }
 
@@ -205,20 +246,91 @@ public final class Linker implements AutoCloseable {
     }
 
     private synchronized Answer call(int site, int receiver) {
-        int status = Native.call(at(), site, receiver, answer);
-        if (status != Native.DONE) {
-            throw new RefusedException(new Refusal.Other(status, 0));
-        }
+        Numbers.done(Native.call(at(), site, receiver, answer));
         return Numbers.answer(answer).orElseThrow();
     }
 
     /** The link that is installed at the site, if there is one. */
     public synchronized Optional<Link> linkOf(SiteId site) {
-        int status = Native.linkOf(at(), site.number(), link);
-        if (status != Native.DONE) {
-            throw new RefusedException(new Refusal.Other(status, 0));
-        }
+        Numbers.done(Native.linkOf(at(), site.number(), link));
         return Numbers.link(link);
+    }
+
+    /**
+     * The class that the loader finds under the name, such as java/lang/String (JVMS SE 17 §5.3): one that it has defined or was delegated.
+     * None too where the loader was never made, or is retired.
+     */
+    public synchronized Optional<ClassId> lookup(LoaderId loader, String name) {
+        MemorySegment open = at();
+        try (Arena call = Arena.ofConfined()) {
+            MemorySegment found = call.allocate(JAVA_INT);
+            int status = Native.lookup(open, loader.number(), copied(call, Names.bytes(name)), found);
+            return status == Native.DONE ? Optional.of(new ClassId(found.get(JAVA_INT, 0))) : Optional.empty();
+        }
+    }
+
+    /** The name of the class as its file has it (JVMS SE 17 §4.2.1), be the class retired or not. */
+    public synchronized Optional<String> className(ClassId type) {
+        MemorySegment open = at();
+        return name(out -> Native.className(open, type.number(), out, length));
+    }
+
+    /**
+     * The name of the method (JVMS SE 17 §4.2.2) at this place among those that the class declares. None where there is no such class or
+     * method.
+     */
+    public synchronized Optional<String> methodName(ClassId type, int method) {
+        MemorySegment open = at();
+        return name(out -> Native.methodName(open, type.number(), method, out, length));
+    }
+
+    /** The descriptor of that method (JVMS SE 17 §4.3.3), as well. */
+    public synchronized Optional<String> methodDescriptor(ClassId type, int method) {
+        MemorySegment open = at();
+        return name(out -> Native.methodType(open, type.number(), method, out, length));
+    }
+
+    /**
+     * The invocations in that method's code, by rising pc; a request of one may be {@link Refusal.NotLinkable}. None where there is no such
+     * class or method.
+     */
+    public synchronized Optional<List<Invocation>> invocations(ClassId type, int method) {
+        MemorySegment open = at();
+        return written(Native.INVOCATION * Integer.BYTES, out -> Native.invocations(open, type.number(), method, out, length),
+                out -> Numbers.invocations(method, out));
+    }
+
+    /** The invocations in the codes of all methods of the class, method by method. None where there is no such class. */
+    public synchronized Optional<List<Invocation>> invocations(ClassId type) {
+        if (className(type).isEmpty()) {
+            return Optional.empty();
+        }
+        List<Invocation> all = new ArrayList<>();
+        Optional<List<Invocation>> some = invocations(type, 0);
+        for (int method = 1; some.isPresent(); method++) {
+            all.addAll(some.get());
+            some = invocations(type, method);
+        }
+        return Optional.of(all);
+    }
+
+    /**
+     * The name of the class that the refusal of the last event told of: the parent of {@link Refusal.DefineFault#MISSING_PARENT},
+     * {@link Refusal.DefineFault#NOT_AN_INTERFACE} or {@link Refusal.DefineFault#INACCESSIBLE_PARENT}. None where it told of none.
+     * {@link Refusal.NoClassFile} and {@link Refusal.Plain#MALFORMED} leave what the event before has told, and so does {@link #answer}.
+     */
+    public synchronized Optional<String> namedClass() {
+        MemorySegment open = at();
+        return name(out -> Native.named(open, out, length));
+    }
+
+    /**
+     * The name of the class for which the site waits: where a call there wants the class that is named or a nest host
+     * ({@link Answer.Want}), and so an install of it is {@link Refusal.SiteFault#NOT_READY}. None where it waits for none.
+     */
+    public synchronized Optional<String> awaitedClass(SiteId site) {
+        MemorySegment open = at();
+        return name(out -> Native.awaited(open, site.number(), out, length));
     }
 
     /** The answer to a command of docs/FORMATS.md. On {@link Refusal.Plain#MEMORY} it was obeyed, or nothing has changed. */
@@ -236,5 +348,20 @@ public final class Linker implements AutoCloseable {
     /** A place for this thread to read links. */
     public Seat seat() {
         return new Seat(this);
+    }
+
+    /**
+     * What this thread remembers of calls at megamorphic links.
+     *
+     * @param sets how many sets, of two calls each: several times as many as there are calls that are made over and over. For less than 1
+     *     this is {@link Refusal.Plain#MALFORMED}
+     */
+    public Memo memo(int sets) {
+        return new Memo(this, sets);
+    }
+
+    /** What there is to link now, in which a thread prepares links without the linker's monitor. */
+    public View view() {
+        return new View(this);
     }
 }

@@ -1,8 +1,8 @@
 package linkd;
 
 import java.io.IOException;
-import java.io.InputStream;
 import java.io.PrintStream;
+import java.io.UncheckedIOException;
 import java.nio.file.Files;
 import java.nio.file.NoSuchFileException;
 import java.nio.file.Path;
@@ -11,7 +11,9 @@ import java.util.HashMap;
 import java.util.HashSet;
 import java.util.LinkedHashMap;
 import java.util.List;
+import java.util.Locale;
 import java.util.Map;
+import java.util.Optional;
 import java.util.Set;
 import java.util.stream.Stream;
 
@@ -19,12 +21,11 @@ import java.util.stream.Stream;
  * Links all invocations of some class files, and tells how many have a link of which form.
  *
  * <p>{@code java linkd.Main PATH..}, where a path is that of a class file or of a folder with class files in it. What they name beside each
- * other is taken from the JDK that runs this, where that has it. A class file of a later version than 61 is read as of version 61.
+ * other is taken from the JDK that runs this, where that has it. A class file of a later version than 61 is read as of version 61
+ * ({@link ClassFiles}).
  */
 public final class Main {
-    private static final int NEWEST = 61;
     private static final int BATCH = 256;
-    private static final String[] INSTRUCTIONS = {"invokevirtual", "invokespecial", "invokestatic", "invokeinterface", "invokedynamic"};
     private static final String[] FORMS = {"one method", "throws", "table", "megamorphic", "no link", "refused"};
 
     private final Linker linker;
@@ -32,15 +33,15 @@ public final class Main {
     private final Map<String, byte[]> given = new LinkedHashMap<>();
     private final Set<String> tried = new HashSet<>();
     private final Map<String, ClassId> defined = new HashMap<>();
-    private final int[][] counts = new int[FORMS.length][INSTRUCTIONS.length];
+    private final int[][] counts = new int[FORMS.length][Instruction.values().length];
 
     /**
      * A requested invocation.
      *
      * @param id its site
-     * @param instruction its place among INSTRUCTIONS
+     * @param instruction what invokes there
      */
-    private record Requested(SiteId id, int instruction) {
+    private record Requested(SiteId id, Instruction instruction) {
     }
 
     private Main(Linker linker) {
@@ -56,13 +57,6 @@ public final class Main {
         }
     }
 
-    private static byte[] asRead(byte[] file) {
-        if (file.length >= 8 && (file[6] & 0xff) == 0 && (file[7] & 0xff) > NEWEST) {
-            file[7] = NEWEST;
-        }
-        return file;
-    }
-
     /** The class files of a path. */
     private static List<Path> files(Path path) throws IOException {
         if (!Files.isDirectory(path)) {
@@ -75,7 +69,7 @@ public final class Main {
 
     /** Whether it is a class file is asked of a linker of its own, so that it is read only where it is one. */
     private void read(Path path) throws IOException {
-        byte[] file = asRead(Files.readAllBytes(path));
+        byte[] file = ClassFiles.asOfNewest(Files.readAllBytes(path));
         try (Linker reader = Linker.open(1)) {
             reader.define(file);
         } catch (RefusedException refused) {
@@ -87,18 +81,13 @@ public final class Main {
     }
 
     /** The class's file: of those that were handed in, or else of the JDK; null where neither has it. */
-    private byte[] find(String name) throws IOException {
+    private byte[] find(String name) {
         byte[] file = given.get(name);
-        if (file != null) {
-            return file;
-        }
-        try (InputStream from = ClassLoader.getPlatformClassLoader().getResourceAsStream(name + ".class")) {
-            return from == null ? null : asRead(from.readAllBytes());
-        }
+        return file == null ? ClassFiles.of(name).orElse(null) : file;
     }
 
     /** Defines the class behind its parents, where it is found. A class of the JDK may be refused; then what wants it has no link. */
-    private void define(String name) throws IOException {
+    private void define(String name) {
         byte[] file = tried.add(name) ? find(name) : null;
         if (file == null) {
             return;
@@ -115,30 +104,39 @@ public final class Main {
         }
     }
 
-    private void count(int form, int instruction) {
-        counts[form][instruction]++;
+    private void count(int form, Instruction instruction) {
+        counts[form][instruction.ordinal()]++;
     }
 
-    private void request(ClassId type, ClassFile.Invocation at, List<Requested> sites) {
-        int instruction = at.opcode() - 182;
+    /** Requests an invocation, if it isn't refused. */
+    private Optional<SiteId> request(ClassId type, Invocation at) {
         try {
-            sites.add(new Requested(linker.request(type, at.method(), at.pc()), instruction));
+            return Optional.of(linker.request(type, at.method(), at.pc()));
         } catch (RefusedException refused) {
-            count(5, instruction);
+            count(5, at.instruction());
+            return Optional.empty();
         }
     }
 
-    /** Requests all invocations of the classes that were handed in, once what they name is defined. */
-    private List<Requested> requestAll() throws IOException {
+    /** Defines what the site waits for, the class that it names and nest hosts, as far as that is found. */
+    private void defineAwaited(SiteId site) {
+        Optional<String> name = linker.awaitedClass(site);
+        while (name.isPresent() && !tried.contains(name.get())) {
+            define(name.get());
+            name = linker.awaitedClass(site);
+        }
+    }
+
+    /** Requests all invocations of the classes that were handed in, and defines what they wait for. */
+    private List<Requested> requestAll() {
         List<Requested> sites = new ArrayList<>();
-        for (Map.Entry<String, byte[]> entry : given.entrySet()) {
-            for (ClassFile.Invocation at : ClassFile.of(entry.getValue()).invocations()) {
-                if (!at.of().isEmpty() && !at.of().startsWith("[")) {
-                    define(at.of());
-                }
-                request(defined.get(entry.getKey()), at, sites);
+        for (String name : given.keySet()) {
+            ClassId type = defined.get(name);
+            for (Invocation at : linker.invocations(type).orElseThrow()) {
+                request(type, at).ifPresent(site -> sites.add(new Requested(site, at.instruction())));
             }
         }
+        sites.forEach(site -> defineAwaited(site.id()));
         return sites;
     }
 
@@ -150,7 +148,7 @@ public final class Main {
                 linker.install(left);
                 return;
             } catch (RefusedException refused) {
-                if (!(refused.refusal() instanceof Refusal.Site(Refusal.SiteFault fault, int place)) || fault != Refusal.SiteFault.NOT_READY) {
+                if (!(refused.refusal() instanceof Refusal.Site(var fault, int place)) || fault != Refusal.SiteFault.NOT_READY) {
                     throw refused;
                 }
                 left.remove(new SiteId(place));
@@ -179,8 +177,8 @@ public final class Main {
 
     private void tell(PrintStream to) {
         to.printf("%-12s", "");
-        for (String instruction : INSTRUCTIONS) {
-            to.printf(" %16s", instruction);
+        for (Instruction instruction : Instruction.values()) {
+            to.printf(" %16s", instruction.name().toLowerCase(Locale.ROOT));
         }
         to.printf(" %8s%n", "all");
         for (int form = 0; form < FORMS.length; form++) {
@@ -222,7 +220,7 @@ public final class Main {
             run(words);
         } catch (NoSuchFileException fault) {
             stop("there is no " + fault.getFile());
-        } catch (IOException | BadInput | RefusedException | MissingLibraryException fault) {
+        } catch (IOException | UncheckedIOException | BadInput | RefusedException | MissingLibraryException fault) {
             stop(fault.getMessage());
         }
     }

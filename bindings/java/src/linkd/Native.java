@@ -11,31 +11,42 @@ import java.lang.foreign.MemorySegment;
 import java.lang.foreign.SymbolLookup;
 import java.lang.invoke.MethodHandle;
 
-/** The calls of include/linkd.h. Nothing compares these declarations with the header but the tests. */
+/** The calls of include/linkd.h, of the version that {@link Library} asks for. Nothing compares these declarations but the tests. */
 final class Native {
     /** The statuses that are looked at apart from refusals. */
     static final int DONE = 0;
+    static final int STALE = 10;
     static final int TOO_SHORT = 36;
 
     /** The null reference, as a receiver. */
     static final int NULL = -1;
 
-    /** How many numbers a linkd_told, a linkd_call_answer and a linkd_link are. */
+    /** How many numbers a linkd_told, a linkd_call_answer, a linkd_link, a linkd_link_row and a linkd_invocation are. */
     static final int TOLD = 5;
     static final int ANSWER = 3;
-    static final int LINK = 2 + 8 * 4;
+    static final int MOST_ROWS = 8;
+    static final int LINK = 2 + MOST_ROWS * 4;
+    static final int LINK_ROW = 1 + LINK;
+    static final int INVOCATION = 2;
 
-    @SuppressWarnings("restricted")
-    private static final SymbolLookup LIBRARY = SymbolLookup.libraryLookup(Library.path(), Arena.global());
+    private static final SymbolLookup LIBRARY = Library.open();
 
     private static final MethodHandle SIZE = handle("linkd_size", FunctionDescriptor.of(JAVA_LONG));
     private static final MethodHandle ALIGN = handle("linkd_align", FunctionDescriptor.of(JAVA_LONG));
     private static final MethodHandle SEAT_SIZE = handle("linkd_seat_size", FunctionDescriptor.of(JAVA_LONG));
     private static final MethodHandle SEAT_ALIGN = handle("linkd_seat_align", FunctionDescriptor.of(JAVA_LONG));
+    private static final MethodHandle MEMO_SIZE = handle("linkd_memo_size", FunctionDescriptor.of(JAVA_LONG));
+    private static final MethodHandle MEMO_ALIGN = handle("linkd_memo_align", FunctionDescriptor.of(JAVA_LONG));
+    private static final MethodHandle VIEW_SIZE = handle("linkd_view_size", FunctionDescriptor.of(JAVA_LONG));
+    private static final MethodHandle VIEW_ALIGN = handle("linkd_view_align", FunctionDescriptor.of(JAVA_LONG));
     private static final MethodHandle BLANK = handle("linkd_blank", FunctionDescriptor.ofVoid(ADDRESS));
     private static final MethodHandle CLOSE = handle("linkd_close", FunctionDescriptor.ofVoid(ADDRESS));
     private static final MethodHandle SEAT_BLANK = handle("linkd_seat_blank", FunctionDescriptor.ofVoid(ADDRESS));
     private static final MethodHandle SEAT_LEAVE = handle("linkd_seat_leave", FunctionDescriptor.ofVoid(ADDRESS));
+    private static final MethodHandle MEMO_BLANK = handle("linkd_memo_blank", FunctionDescriptor.ofVoid(ADDRESS));
+    private static final MethodHandle MEMO_CLOSE = handle("linkd_memo_close", FunctionDescriptor.ofVoid(ADDRESS));
+    private static final MethodHandle VIEW_BLANK = handle("linkd_view_blank", FunctionDescriptor.ofVoid(ADDRESS));
+    private static final MethodHandle VIEW_LEAVE = handle("linkd_view_leave", FunctionDescriptor.ofVoid(ADDRESS));
     private static final MethodHandle OPEN = status("linkd_open", JAVA_INT);
     private static final MethodHandle NEW_LOADER = status("linkd_new_loader", ADDRESS);
     private static final MethodHandle DEFINE = status("linkd_define", JAVA_INT, ADDRESS, JAVA_LONG, ADDRESS);
@@ -49,13 +60,30 @@ final class Native {
     private static final MethodHandle BIND = status("linkd_bind", JAVA_INT, JAVA_INT, ADDRESS);
     private static final MethodHandle RETIRE = status("linkd_retire", JAVA_INT, ADDRESS);
     private static final MethodHandle INSTALL = status("linkd_install", ADDRESS, JAVA_LONG, ADDRESS);
+    private static final MethodHandle INSTALL_LINKS = status("linkd_install_links", ADDRESS, JAVA_LONG, ADDRESS, ADDRESS);
     private static final MethodHandle DROPPED = status("linkd_dropped", ADDRESS, JAVA_LONG, ADDRESS);
     private static final MethodHandle CALL = status("linkd_call", JAVA_INT, JAVA_INT, ADDRESS);
     private static final MethodHandle LINK_OF = status("linkd_link_of", JAVA_INT, ADDRESS);
+    private static final MethodHandle LOOKUP = status("linkd_lookup", JAVA_INT, ADDRESS, JAVA_LONG, ADDRESS);
+    private static final MethodHandle CLASS_NAME = status("linkd_class_name", JAVA_INT, ADDRESS, JAVA_LONG, ADDRESS);
+    private static final MethodHandle METHOD_NAME = status("linkd_method_name", JAVA_INT, JAVA_INT, ADDRESS, JAVA_LONG, ADDRESS);
+    private static final MethodHandle METHOD_TYPE = status("linkd_method_type", JAVA_INT, JAVA_INT, ADDRESS, JAVA_LONG, ADDRESS);
+    private static final MethodHandle INVOCATIONS = status("linkd_invocations", JAVA_INT, JAVA_INT, ADDRESS, JAVA_LONG, ADDRESS);
+    private static final MethodHandle NAMED = status("linkd_named", ADDRESS, JAVA_LONG, ADDRESS);
+    private static final MethodHandle AWAITED = status("linkd_awaited", JAVA_INT, ADDRESS, JAVA_LONG, ADDRESS);
+    private static final MethodHandle LAST_WORK = status("linkd_last_work", ADDRESS);
     private static final MethodHandle OBEY = status("linkd_answer", ADDRESS, JAVA_LONG, ADDRESS);
     private static final MethodHandle TAKE = status("linkd_take", ADDRESS, JAVA_LONG, ADDRESS);
     private static final MethodHandle SEAT_REFRESH = status("linkd_seat_refresh", ADDRESS);
     private static final MethodHandle SEAT_CALL = status("linkd_seat_call", JAVA_INT, JAVA_INT, ADDRESS);
+    private static final MethodHandle SEAT_CALL_WITH = status("linkd_seat_call_with", ADDRESS, JAVA_INT, JAVA_INT, ADDRESS);
+    private static final MethodHandle MEMO_OPEN = status("linkd_memo_open", JAVA_INT);
+    private static final MethodHandle MEMO_ASK = status("linkd_memo_ask", ADDRESS, JAVA_INT, JAVA_INT, ADDRESS);
+    private static final MethodHandle MEMO_CALL = status("linkd_memo_call", JAVA_INT, JAVA_INT, ADDRESS);
+    private static final MethodHandle VIEW_TAKE = status("linkd_view_take", ADDRESS);
+    private static final MethodHandle VIEW_SERIAL = status("linkd_view_serial", ADDRESS);
+    private static final MethodHandle VIEW_CALL = status("linkd_view_call", JAVA_INT, JAVA_INT, ADDRESS);
+    private static final MethodHandle VIEW_PREPARE = status("linkd_view_prepare", ADDRESS, JAVA_LONG, ADDRESS, JAVA_LONG, ADDRESS);
 
     private Native() {
     }
@@ -66,7 +94,7 @@ final class Native {
         return java.lang.foreign.Linker.nativeLinker().downcallHandle(function, type);
     }
 
-    /** A call on a linker or a seat that answers a status. */
+    /** A call on a linker, a seat, a memo or a view that answers a status. */
     private static MethodHandle status(String name, MemoryLayout... rest) {
         return handle(name, FunctionDescriptor.of(JAVA_INT, ADDRESS).appendArgumentLayouts(rest));
     }
@@ -76,54 +104,64 @@ final class Native {
         return new AssertionError("a call of C has thrown", fault);
     }
 
-    /** A block for a linker. */
-    static MemorySegment block(Arena arena) {
+    private static MemorySegment block(Arena arena, MethodHandle size, MethodHandle align) {
         try {
-            return arena.allocate((long) SIZE.invokeExact(), (long) ALIGN.invokeExact());
+            return arena.allocate((long) size.invokeExact(), (long) align.invokeExact());
         } catch (Throwable fault) {
             throw failed(fault);
         }
     }
 
-    /** A block for a seat. */
-    static MemorySegment seatBlock(Arena arena) {
+    private static void call(MethodHandle handle, MemorySegment at) {
         try {
-            return arena.allocate((long) SEAT_SIZE.invokeExact(), (long) SEAT_ALIGN.invokeExact());
+            handle.invokeExact(at);
         } catch (Throwable fault) {
             throw failed(fault);
         }
     }
 
-    static void blank(MemorySegment at) {
-        try {
-            BLANK.invokeExact(at);
-        } catch (Throwable fault) {
-            throw failed(fault);
-        }
+    /** A blank linker. */
+    static MemorySegment linker(Arena arena) {
+        MemorySegment at = block(arena, SIZE, ALIGN);
+        call(BLANK, at);
+        return at;
+    }
+
+    /** A blank seat. */
+    static MemorySegment seat(Arena arena) {
+        MemorySegment at = block(arena, SEAT_SIZE, SEAT_ALIGN);
+        call(SEAT_BLANK, at);
+        return at;
+    }
+
+    /** A blank memo. */
+    static MemorySegment memo(Arena arena) {
+        MemorySegment at = block(arena, MEMO_SIZE, MEMO_ALIGN);
+        call(MEMO_BLANK, at);
+        return at;
+    }
+
+    /** A blank view. */
+    static MemorySegment view(Arena arena) {
+        MemorySegment at = block(arena, VIEW_SIZE, VIEW_ALIGN);
+        call(VIEW_BLANK, at);
+        return at;
     }
 
     static void close(MemorySegment at) {
-        try {
-            CLOSE.invokeExact(at);
-        } catch (Throwable fault) {
-            throw failed(fault);
-        }
-    }
-
-    static void seatBlank(MemorySegment at) {
-        try {
-            SEAT_BLANK.invokeExact(at);
-        } catch (Throwable fault) {
-            throw failed(fault);
-        }
+        call(CLOSE, at);
     }
 
     static void seatLeave(MemorySegment at) {
-        try {
-            SEAT_LEAVE.invokeExact(at);
-        } catch (Throwable fault) {
-            throw failed(fault);
-        }
+        call(SEAT_LEAVE, at);
+    }
+
+    static void memoClose(MemorySegment at) {
+        call(MEMO_CLOSE, at);
+    }
+
+    static void viewLeave(MemorySegment at) {
+        call(VIEW_LEAVE, at);
     }
 
     static int open(MemorySegment at, int maxSites) {
@@ -222,9 +260,17 @@ final class Native {
         }
     }
 
-    static int dropped(MemorySegment at, MemorySegment out, long capacity, MemorySegment length) {
+    static int installLinks(MemorySegment at, MemorySegment rows, long count, MemorySegment told, MemorySegment present) {
         try {
-            return (int) DROPPED.invokeExact(at, out, capacity, length);
+            return (int) INSTALL_LINKS.invokeExact(at, rows, count, told, present);
+        } catch (Throwable fault) {
+            throw failed(fault);
+        }
+    }
+
+    static int dropped(MemorySegment at, MemorySegment out, MemorySegment length) {
+        try {
+            return (int) DROPPED.invokeExact(at, out, out.byteSize() / Integer.BYTES, length);
         } catch (Throwable fault) {
             throw failed(fault);
         }
@@ -241,6 +287,70 @@ final class Native {
     static int linkOf(MemorySegment at, int site, MemorySegment link) {
         try {
             return (int) LINK_OF.invokeExact(at, site, link);
+        } catch (Throwable fault) {
+            throw failed(fault);
+        }
+    }
+
+    static int lookup(MemorySegment at, int loader, MemorySegment name, MemorySegment type) {
+        try {
+            return (int) LOOKUP.invokeExact(at, loader, name, name.byteSize(), type);
+        } catch (Throwable fault) {
+            throw failed(fault);
+        }
+    }
+
+    static int className(MemorySegment at, int type, MemorySegment out, MemorySegment length) {
+        try {
+            return (int) CLASS_NAME.invokeExact(at, type, out, out.byteSize(), length);
+        } catch (Throwable fault) {
+            throw failed(fault);
+        }
+    }
+
+    static int methodName(MemorySegment at, int type, int method, MemorySegment out, MemorySegment length) {
+        try {
+            return (int) METHOD_NAME.invokeExact(at, type, method, out, out.byteSize(), length);
+        } catch (Throwable fault) {
+            throw failed(fault);
+        }
+    }
+
+    static int methodType(MemorySegment at, int type, int method, MemorySegment out, MemorySegment length) {
+        try {
+            return (int) METHOD_TYPE.invokeExact(at, type, method, out, out.byteSize(), length);
+        } catch (Throwable fault) {
+            throw failed(fault);
+        }
+    }
+
+    static int invocations(MemorySegment at, int type, int method, MemorySegment out, MemorySegment length) {
+        try {
+            return (int) INVOCATIONS.invokeExact(at, type, method, out, out.byteSize() / (Integer.BYTES * INVOCATION), length);
+        } catch (Throwable fault) {
+            throw failed(fault);
+        }
+    }
+
+    static int named(MemorySegment at, MemorySegment out, MemorySegment length) {
+        try {
+            return (int) NAMED.invokeExact(at, out, out.byteSize(), length);
+        } catch (Throwable fault) {
+            throw failed(fault);
+        }
+    }
+
+    static int awaited(MemorySegment at, int site, MemorySegment out, MemorySegment length) {
+        try {
+            return (int) AWAITED.invokeExact(at, site, out, out.byteSize(), length);
+        } catch (Throwable fault) {
+            throw failed(fault);
+        }
+    }
+
+    static int lastWork(MemorySegment at, MemorySegment work) {
+        try {
+            return (int) LAST_WORK.invokeExact(at, work);
         } catch (Throwable fault) {
             throw failed(fault);
         }
@@ -273,6 +383,70 @@ final class Native {
     static int seatCall(MemorySegment at, int site, int receiver, MemorySegment answer) {
         try {
             return (int) SEAT_CALL.invokeExact(at, site, receiver, answer);
+        } catch (Throwable fault) {
+            throw failed(fault);
+        }
+    }
+
+    static int seatCallWith(MemorySegment at, MemorySegment with, int site, int receiver, MemorySegment answer) {
+        try {
+            return (int) SEAT_CALL_WITH.invokeExact(at, with, site, receiver, answer);
+        } catch (Throwable fault) {
+            throw failed(fault);
+        }
+    }
+
+    static int memoOpen(MemorySegment at, int sets) {
+        try {
+            return (int) MEMO_OPEN.invokeExact(at, sets);
+        } catch (Throwable fault) {
+            throw failed(fault);
+        }
+    }
+
+    static int memoAsk(MemorySegment at, MemorySegment from, int site, int receiver, MemorySegment answer) {
+        try {
+            return (int) MEMO_ASK.invokeExact(at, from, site, receiver, answer);
+        } catch (Throwable fault) {
+            throw failed(fault);
+        }
+    }
+
+    static int memoCall(MemorySegment at, int site, int receiver, MemorySegment answer) {
+        try {
+            return (int) MEMO_CALL.invokeExact(at, site, receiver, answer);
+        } catch (Throwable fault) {
+            throw failed(fault);
+        }
+    }
+
+    static int viewTake(MemorySegment at, MemorySegment from) {
+        try {
+            return (int) VIEW_TAKE.invokeExact(at, from);
+        } catch (Throwable fault) {
+            throw failed(fault);
+        }
+    }
+
+    static int viewSerial(MemorySegment at, MemorySegment serial) {
+        try {
+            return (int) VIEW_SERIAL.invokeExact(at, serial);
+        } catch (Throwable fault) {
+            throw failed(fault);
+        }
+    }
+
+    static int viewCall(MemorySegment at, int site, int receiver, MemorySegment answer) {
+        try {
+            return (int) VIEW_CALL.invokeExact(at, site, receiver, answer);
+        } catch (Throwable fault) {
+            throw failed(fault);
+        }
+    }
+
+    static int viewPrepare(MemorySegment at, MemorySegment sites, long count, MemorySegment links, MemorySegment told) {
+        try {
+            return (int) VIEW_PREPARE.invokeExact(at, sites, count, links, count, told);
         } catch (Throwable fault) {
             throw failed(fault);
         }

@@ -7,7 +7,7 @@ import java.util.ArrayList;
 import java.util.List;
 import java.util.Optional;
 
-/** Reads what the library has written: a linkd_told, a linkd_call_answer, a linkd_link. */
+/** Reads what the library has written: a linkd_told, a linkd_call_answer, a linkd_link; and writes links for it. */
 final class Numbers {
     private static final int MISS = 4;
 
@@ -26,6 +26,25 @@ final class Numbers {
     /** What an event made. */
     static int number(MemorySegment told) {
         return at(told, 0);
+    }
+
+    /** What a refusal is about. */
+    static int place(MemorySegment told) {
+        return at(told, 2);
+    }
+
+    /** Throws where this isn't the status of what is done; so of a call that tells no more. */
+    static void done(int status) {
+        if (status != Native.DONE) {
+            throw new RefusedException(refusal(status, MemorySegment.ofArray(new int[Native.TOLD])));
+        }
+    }
+
+    /** The same of a call that has told more. */
+    static void done(int status, MemorySegment told) {
+        if (status != Native.DONE) {
+            throw new RefusedException(refusal(status, told));
+        }
     }
 
     private static Refusal site(Refusal.SiteFault fault, int place) {
@@ -60,9 +79,9 @@ final class Numbers {
         };
     }
 
-    /** The refusal of a status other than 0. */
-    static Refusal refusal(int status, MemorySegment told) {
-        int place = at(told, 2);
+    /** The refusal of a status other than 0. A stale link is told with the present one, by its caller. */
+    private static Refusal refusal(int status, MemorySegment told) {
+        int place = place(told);
         return switch (status) {
             case 1, 4, 6, 16, 19 -> faulty(status, at(told, 1), place);
             case 2 -> Refusal.Plain.UNKNOWN_CLASS;
@@ -71,7 +90,6 @@ final class Numbers {
             case 7 -> Refusal.Plain.NOT_DYNAMIC;
             case 8 -> site(Refusal.SiteFault.ALREADY_BOUND, place);
             case 9 -> Refusal.Plain.TYPE_MISMATCH;
-            case 10 -> site(Refusal.SiteFault.STALE, place);
             case 11 -> site(Refusal.SiteFault.NOT_READY, place);
             case 12 -> site(Refusal.SiteFault.UNKNOWN_SITE, place);
             case 13 -> site(Refusal.SiteFault.REPEATED, place);
@@ -124,5 +142,56 @@ final class Numbers {
             case 6 -> Optional.of(new Link.Megamorphic());
             default -> Optional.empty();
         };
+    }
+
+    /** The invocations of a method, each of them a linkd_invocation. */
+    static List<Invocation> invocations(int method, MemorySegment from) {
+        List<Invocation> all = new ArrayList<>();
+        for (int i = 0; i < from.byteSize() / Integer.BYTES; i += Native.INVOCATION) {
+            all.add(new Invocation(method, at(from, i), Instruction.of(at(from, i + 1))));
+        }
+        return all;
+    }
+
+    private static void put(MemorySegment to, int... numbers) {
+        MemorySegment.copy(numbers, 0, to, JAVA_INT, 0, numbers.length);
+    }
+
+    private static void write(Link.Row row, MemorySegment to) {
+        int receiver = row.receiver().number();
+        switch (row.outcome()) {
+            case Answer.Run run -> put(to, receiver, 0, run.type().number(), run.method());
+            case Answer.Throws thrown -> put(to, receiver, 1, 0, thrown.error().ordinal() + 1);
+        }
+    }
+
+    /** A link of these rows. There is room for eight; that there are more is told by their count, and refused by the library. */
+    private static void write(int kind, List<Link.Row> rows, MemorySegment to) {
+        put(to, kind, rows.size());
+        for (int row = 0; row < Math.min(rows.size(), Native.MOST_ROWS); row++) {
+            write(rows.get(row), to.asSlice((2 + 4L * row) * Integer.BYTES));
+        }
+    }
+
+    private static void write(int kind, Answer.Outcome outcome, MemorySegment to) {
+        write(kind, List.of(new Link.Row(new ClassId(0), outcome)), to);
+    }
+
+    /** Writes a linkd_link over zeros. */
+    private static void write(Link link, MemorySegment to) {
+        switch (link) {
+            case Link.Fault fault -> write(1, new Answer.Throws(fault.error()), to);
+            case Link.Plain plain -> write(2, plain.outcome(), to);
+            case Link.Direct direct -> write(3, direct.outcome(), to);
+            case Link.Table table -> write(table.ofInterface() ? 5 : 4, table.rows(), to);
+            case Link.Megamorphic _ -> write(6, List.of(), to);
+        }
+    }
+
+    /** Writes a linkd_link_row over zeros, at its place among others. */
+    static void write(SiteLink of, MemorySegment to, long place) {
+        MemorySegment row = to.asSlice(place * Native.LINK_ROW * Integer.BYTES);
+        put(row, of.site().number());
+        write(of.link(), row.asSlice(Integer.BYTES));
     }
 }

@@ -56,7 +56,7 @@ public sealed interface Refusal {
     }
 
     /**
-     * A site of those that were handed in can't be installed, or be bound.
+     * A site of those that were handed in can't be prepared, installed or bound.
      *
      * @param fault why not
      * @param place the site; of ALREADY_BOUND the call site that it is bound to
@@ -64,11 +64,20 @@ public sealed interface Refusal {
     record Site(SiteFault fault, int place) implements Refusal {
     }
 
+    /**
+     * A link that was given isn't its site's link from scratch now.
+     *
+     * @param site the first such site of those that were given
+     * @param present the link that it has from scratch now
+     */
+    record Stale(SiteId site, Link present) implements Refusal {
+    }
+
     /** A refusal of which its name says all. */
     enum Plain implements Refusal {
         /** There is no such class, or it is retired. */
         UNKNOWN_CLASS,
-        /** The class has no invocation there. */
+        /** The class has no such method, or no invocation there. */
         NO_SUCH_PLACE,
         /** As many sites are requested as may be. */
         SITES_FULL,
@@ -82,9 +91,9 @@ public sealed interface Refusal {
         MEMORY,
         /** There are 1,024 loaders. */
         LOADERS_FULL,
-        /** A type or a target that is none, or a number that is too large. */
+        /** A type, a target or a link that is none, or a number that is too large. */
         MALFORMED,
-        /** The linker or the seat is closed. */
+        /** The linker, the seat, the memo or the view is closed. */
         CLOSED
     }
 
@@ -167,7 +176,7 @@ public sealed interface Refusal {
     /** What is wrong with a site. */
     enum SiteFault {
         ALREADY_BOUND,
-        STALE,
+        /** It has no link from scratch now, or had none when the view was taken. */
         NOT_READY,
         UNKNOWN_SITE,
         REPEATED

@@ -7,22 +7,20 @@ import java.lang.foreign.MemorySegment;
 import java.util.Optional;
 
 /**
- * One thread's place to read links, which takes no lock. It belongs to the thread that has made it, which also closes it; in another one each
- * call throws a {@link WrongThreadException}. It may outlive its linker, and goes on answering by the links of its last refresh.
+ * One thread's place to read links, which takes no lock. It belongs to the thread that has made it, which also closes it; in another one
+ * each call throws a {@link WrongThreadException}. It may outlive its linker, and goes on answering by the links of its last refresh.
  */
 public final class Seat implements AutoCloseable {
-    private final Thread owner = Thread.currentThread();
+    private final Owner owner = new Owner();
     private final Linker linker;
     private final MemorySegment at;
     private final MemorySegment answer;
-    private boolean open = true;
 
     Seat(Linker linker) {
         this.linker = linker;
         Arena arena = Arena.ofAuto();
-        at = Native.seatBlock(arena);
+        at = Native.seat(arena);
         answer = arena.allocate(JAVA_INT, Native.ANSWER);
-        Native.seatBlank(at);
         try {
             refresh();
         } catch (RefusedException refused) {
@@ -32,12 +30,7 @@ public final class Seat implements AutoCloseable {
     }
 
     private MemorySegment at() {
-        if (Thread.currentThread() != owner) {
-            throw new WrongThreadException("a seat belongs to the thread that has made it");
-        }
-        if (!open) {
-            throw new RefusedException(Refusal.Plain.CLOSED);
-        }
+        owner.check();
         return at;
     }
 
@@ -45,10 +38,7 @@ public final class Seat implements AutoCloseable {
     public void refresh() {
         MemorySegment own = at();
         synchronized (linker) {
-            int status = Native.seatRefresh(own, linker.at());
-            if (status != Native.DONE) {
-                throw new RefusedException(Numbers.refusal(status, MemorySegment.ofArray(new int[Native.TOLD])));
-            }
+            Numbers.done(Native.seatRefresh(own, linker.at()));
         }
     }
 
@@ -63,21 +53,38 @@ public final class Seat implements AutoCloseable {
     }
 
     private Optional<Answer> call(int site, int receiver) {
-        int status = Native.seatCall(at(), site, receiver, answer);
-        if (status != Native.DONE) {
-            throw new RefusedException(new Refusal.Other(status, 0));
+        Numbers.done(Native.seatCall(at(), site, receiver, answer));
+        return Numbers.answer(answer);
+    }
+
+    /**
+     * The same as {@link #call(SiteId)}; at a megamorphic link, too, null throws at once, where the memo is of the seat's linker.
+     */
+    public Optional<Answer> callWith(Memo memo, SiteId site) {
+        return callWith(memo, site.number(), Native.NULL);
+    }
+
+    /**
+     * The same as {@link #call(SiteId, ClassId)}, and at a megamorphic link what the memo remembers of such calls, where it is of the
+     * seat's linker. None is a miss: ask by the memo.
+     */
+    public Optional<Answer> callWith(Memo memo, SiteId site, ClassId receiver) {
+        return callWith(memo, site.number(), receiver.number());
+    }
+
+    private Optional<Answer> callWith(Memo memo, int site, int receiver) {
+        MemorySegment with = memo.at();
+        if (!memo.isOf(linker)) {
+            return call(site, receiver);
         }
+        Numbers.done(Native.seatCallWith(at(), with, site, receiver, answer));
         return Numbers.answer(answer);
     }
 
     /** Lets the seat's links go. */
     @Override
     public void close() {
-        if (Thread.currentThread() != owner) {
-            throw new WrongThreadException("a seat belongs to the thread that has made it");
-        }
-        if (open) {
-            open = false;
+        if (owner.close()) {
             Native.seatLeave(at);
         }
     }

@@ -1,21 +1,25 @@
 package linkd;
 
+import java.nio.ByteBuffer;
 import java.util.ArrayList;
 import java.util.Collections;
 import java.util.List;
 import java.util.Objects;
 import java.util.Optional;
+import java.util.concurrent.CompletableFuture;
+import java.util.stream.IntStream;
 import linkd.Refusal.DefineFault;
 import linkd.Refusal.SiteFault;
 
 /**
- * The worked example of the repository's README, and what a bad input gets. What is expected is what JVMS SE 17 §5.3.5, §5.4.6 and §6.5 say.
- * It ends with status 1 where a test fails.
+ * The worked example of the repository's README, and what a bad input gets. What is expected is what JVMS SE 17 §5.3.5, §5.4.6 and §6.5
+ * say. It ends with status 1 where a test fails.
  */
 final class Tests {
     private static final int PUBLIC = 0x0001;
     private static final int PUBLIC_STATIC = 0x0009;
     private static final int INVOKEVIRTUAL = 182;
+    private static final int INVOKESTATIC = 184;
     private static final String OBJECT = "java/lang/Object";
 
     private Tests() {
@@ -81,6 +85,12 @@ final class Tests {
         return new Answer.Run(type, 0);
     }
 
+    /** The link of the call of A.f where A, B and C below it are its receivers, and C overrides f. */
+    private static Link table(World world, ClassId c) {
+        List<Link.Row> rows = List.of(new Link.Row(world.a, runs(world.a)), new Link.Row(world.b, runs(world.a)), new Link.Row(c, runs(c)));
+        return new Link.Table(false, rows);
+    }
+
     private static void aClassThatOverridesDropsTheLink() {
         try (World world = World.open()) {
             Linker linker = world.linker;
@@ -95,8 +105,7 @@ final class Tests {
             same(runs(c), linker.call(world.site, c));
 
             linker.install(List.of(world.site));
-            List<Link.Row> rows = List.of(new Link.Row(world.a, runs(world.a)), new Link.Row(world.b, runs(world.a)), new Link.Row(c, runs(c)));
-            same(Optional.of(new Link.Table(false, rows)), linker.linkOf(world.site));
+            same(Optional.of(table(world, c)), linker.linkOf(world.site));
         }
     }
 
@@ -117,16 +126,22 @@ final class Tests {
         refused(Refusal.Plain.CLOSED, () -> seat.call(world.site, c));
     }
 
-    private static void aSeatBelongsToItsThread() throws Exception {
+    /** What a call throws in another thread. */
+    private static Class<?> thrownBy(Runnable call) throws InterruptedException {
         List<Throwable> thrown = Collections.synchronizedList(new ArrayList<>());
-        try (World world = World.open(); Seat seat = world.linker.seat()) {
-            Thread other = new Thread(() -> seat.call(world.site));
-            other.setUncaughtExceptionHandler((thread, fault) -> thrown.add(fault));
-            other.start();
-            other.join();
-        }
+        Thread other = new Thread(call);
+        other.setUncaughtExceptionHandler((thread, fault) -> thrown.add(fault));
+        other.start();
+        other.join();
         same(1, thrown.size());
-        same(WrongThreadException.class, thrown.get(0).getClass());
+        return thrown.get(0).getClass();
+    }
+
+    private static void aSeatBelongsToItsThread() throws Exception {
+        try (World world = World.open(); Seat seat = world.linker.seat()) {
+            same(WrongThreadException.class, thrownBy(() -> seat.call(world.site)));
+            same(WrongThreadException.class, thrownBy(seat::close));
+        }
     }
 
     private static void threadsShareALinker() throws Exception {
@@ -223,6 +238,320 @@ final class Tests {
         }
     }
 
+    /** Nine classes below A that override f, by which the link of A.f is megamorphic. */
+    private static List<ClassId> manyReceivers(World world) {
+        List<ClassId> late = new ArrayList<>();
+        for (int i = 0; i < 9; i++) {
+            late.add(world.linker.define(withF("C" + i, "A")));
+        }
+        world.linker.install(List.of(world.site));
+        same(Optional.of(new Link.Megamorphic()), world.linker.linkOf(world.site));
+        return late;
+    }
+
+    private static void aMemoRemembersMegamorphicCalls() {
+        try (World world = World.open(); Memo memo = world.linker.memo(64)) {
+            List<ClassId> late = manyReceivers(world);
+            try (Seat seat = world.linker.seat()) {
+                for (ClassId type : late) {
+                    same(Optional.empty(), seat.callWith(memo, world.site, type));
+                    same(runs(type), memo.ask(world.site, type));
+                    same(Optional.of(runs(type)), seat.callWith(memo, world.site, type));
+                    same(Optional.of(runs(type)), memo.call(world.site, type));
+                }
+                same(Optional.empty(), seat.call(world.site, late.get(0)));
+                same(Optional.empty(), memo.call(world.site, world.a));
+                Answer.Throws onNull = new Answer.Throws(Answer.Error.NULL_POINTER_EXCEPTION);
+                same(onNull, memo.ask(world.site));
+                same(Optional.of(onNull), seat.callWith(memo, world.site));
+            }
+        }
+    }
+
+    private static void aMemoOfAnotherLinkerSaysNothing() {
+        try (World world = World.open(); World other = World.open()) {
+            ClassId late = manyReceivers(world).get(0);
+            same(late, manyReceivers(other).get(0));
+            try (Seat seat = world.linker.seat(); Memo memo = other.linker.memo(64)) {
+                same(runs(late), memo.ask(other.site, late));
+                same(Optional.of(runs(late)), memo.call(other.site, late));
+                same(Optional.empty(), seat.callWith(memo, world.site, late));
+            }
+        }
+    }
+
+    private static void memosAreRefusedByName() throws Exception {
+        World world = World.open();
+        refused(Refusal.Plain.MALFORMED, () -> world.linker.memo(0));
+        refused(Refusal.Plain.MALFORMED, () -> world.linker.memo(-1));
+        Memo memo = world.linker.memo(1);
+        world.close();
+        refused(Refusal.Plain.CLOSED, () -> memo.ask(world.site));
+        same(Optional.empty(), memo.call(world.site, world.a));
+        memo.close();
+        memo.close();
+        refused(Refusal.Plain.CLOSED, () -> memo.call(world.site, world.a));
+    }
+
+    private static void aMemoBelongsToItsThread() throws Exception {
+        try (World world = World.open(); Memo memo = world.linker.memo(1)) {
+            same(WrongThreadException.class, thrownBy(() -> memo.ask(world.site)));
+            same(WrongThreadException.class, thrownBy(memo::close));
+        }
+    }
+
+    private static void aViewIsOfWhenItWasTaken() throws Exception {
+        try (World world = World.open(); View view = world.linker.view()) {
+            // Four definitions, a request and an install.
+            same(6L, view.serial());
+            ClassId c = world.linker.define(withF("C", "A"));
+            same(6L, view.serial());
+            same(runs(world.a), view.call(world.site, world.b));
+            same(new Answer.BadReceiver(), view.call(world.site, c));
+            same(new Answer.Throws(Answer.Error.NULL_POINTER_EXCEPTION), view.call(world.site));
+            same(List.of(new SiteLink(world.site, new Link.Direct(runs(world.a)))), view.prepare(List.of(world.site)));
+
+            view.take();
+            same(7L, view.serial());
+            same(runs(c), view.call(world.site, c));
+            same(List.of(new SiteLink(world.site, table(world, c))), view.prepare(List.of(world.site)));
+            // Nothing was installed.
+            same(Optional.empty(), world.linker.linkOf(world.site));
+        }
+    }
+
+    private static void aViewOutlivesItsLinkerAndGoesToAnotherThread() throws Exception {
+        World world = World.open();
+        SiteId other = world.linker.request(world.m, 0, 3);
+        ClassId z = world.linker.define(withF("Z", OBJECT));
+        View view = world.linker.view();
+        world.close();
+        List<SiteLink> prepared = CompletableFuture.supplyAsync(() -> view.prepare(List.of(other, world.site))).get();
+        same(List.of(new SiteLink(other, new Link.Direct(runs(z))), new SiteLink(world.site, new Link.Direct(runs(world.a)))), prepared);
+        refused(Refusal.Plain.CLOSED, view::take);
+        same(runs(world.a), view.call(world.site, world.b));
+        view.close();
+        view.close();
+        refused(Refusal.Plain.CLOSED, view::serial);
+        refused(Refusal.Plain.CLOSED, () -> view.call(world.site));
+        refused(Refusal.Plain.CLOSED, () -> view.prepare(List.of(world.site)));
+    }
+
+    /** Prepares the site's link in a view without the linker's monitor, and installs it, again where it is stale then. How often it was. */
+    private static int compile(World world) {
+        for (int stale = 0;; stale++) {
+            List<SiteLink> links;
+            try (View view = world.linker.view()) {
+                links = view.prepare(List.of(world.site));
+            }
+            try {
+                world.linker.installLinks(links);
+                return stale;
+            } catch (RefusedException refused) {
+                same(Refusal.Stale.class, refused.refusal().getClass());
+            }
+        }
+    }
+
+    private static void threadsCompileInViewsWhileAnotherDefines() throws Exception {
+        try (World world = World.open()) {
+            List<CompletableFuture<Void>> compilers = new ArrayList<>();
+            for (int i = 0; i < 2; i++) {
+                compilers.add(CompletableFuture.runAsync(() -> IntStream.range(0, 200).forEach(turn -> compile(world))));
+            }
+            ClassId c = world.linker.define(withF("C", "A"));
+            for (CompletableFuture<Void> compiler : compilers) {
+                compiler.get();
+            }
+            same(0, compile(world));
+            same(Optional.of(table(world, c)), world.linker.linkOf(world.site));
+        }
+    }
+
+    private static void preparationsInAViewAreRefusedByName() throws Exception {
+        try (World world = World.open()) {
+            SiteId pending = world.linker.request(world.m, 0, 3);
+            SiteId unknown = new SiteId(9);
+            try (View view = world.linker.view()) {
+                refused(Refusal.Plain.BATCH_SIZE, () -> view.prepare(List.of()));
+                refused(Refusal.Plain.BATCH_SIZE, () -> view.prepare(Collections.nCopies(257, world.site)));
+                refused(new Refusal.Site(SiteFault.UNKNOWN_SITE, 9), () -> view.prepare(List.of(world.site, unknown)));
+                refused(new Refusal.Site(SiteFault.REPEATED, 0), () -> view.prepare(List.of(world.site, world.site)));
+                refused(new Refusal.Site(SiteFault.NOT_READY, 1), () -> view.prepare(List.of(world.site, pending)));
+                same(new Answer.Unlinked(Answer.Want.NAMED_CLASS), view.call(pending));
+                same(new Answer.Unlinked(Answer.Want.NO_SITE), view.call(unknown));
+            }
+        }
+    }
+
+    private static void anInstallOfLinksIsStaleAndThenAccepted() throws Exception {
+        try (World world = World.open(); View view = world.linker.view()) {
+            Linker linker = world.linker;
+            List<SiteLink> prepared = view.prepare(List.of(world.site));
+            linker.installLinks(prepared);
+            ClassId c = linker.define(withF("C", "A"));
+            Link present = table(world, c);
+            refused(new Refusal.Stale(world.site, present), () -> linker.installLinks(prepared));
+            same(Optional.empty(), linker.linkOf(world.site));
+            linker.installLinks(List.of(new SiteLink(world.site, present)));
+            same(Optional.of(present), linker.linkOf(world.site));
+
+            // A link of another kind, or of classes that aren't there, is stale as well.
+            List<Link.Row> rows = ((Link.Table) present).rows();
+            List<Link> others = List.of(new Link.Table(true, rows), new Link.Direct(runs(new ClassId(65_535))),
+                    new Link.Plain(runs(world.a)), new Link.Megamorphic(), new Link.Table(false, List.of()));
+            for (Link other : others) {
+                refused(new Refusal.Stale(world.site, present), () -> linker.installLinks(List.of(new SiteLink(world.site, other))));
+            }
+        }
+    }
+
+    private static void installsOfLinksAreRefusedByName() throws Exception {
+        try (World world = World.open()) {
+            Linker linker = world.linker;
+            SiteId pending = linker.request(world.m, 0, 3);
+            Link direct = new Link.Direct(runs(world.a));
+            SiteLink own = new SiteLink(world.site, direct);
+            SiteLink unknown = new SiteLink(new SiteId(9), direct);
+            refused(Refusal.Plain.BATCH_SIZE, () -> linker.installLinks(List.of()));
+            refused(Refusal.Plain.BATCH_SIZE, () -> linker.installLinks(Collections.nCopies(257, own)));
+            refused(new Refusal.Site(SiteFault.UNKNOWN_SITE, 9), () -> linker.installLinks(List.of(own, unknown)));
+            refused(new Refusal.Site(SiteFault.REPEATED, 0), () -> linker.installLinks(List.of(own, own)));
+            refused(new Refusal.Site(SiteFault.NOT_READY, 1), () -> linker.installLinks(List.of(own, new SiteLink(pending, direct))));
+            Link throwing = new Link.Plain(new Answer.Throws(Answer.Error.ABSTRACT_METHOD_ERROR));
+            Link nine = new Link.Table(false, Collections.nCopies(9, new Link.Row(world.a, runs(world.a))));
+            Link tooLarge = new Link.Direct(new Answer.Run(world.a, 65_536));
+            for (Link none : List.of(throwing, nine, tooLarge)) {
+                refused(Refusal.Plain.MALFORMED, () -> linker.installLinks(List.of(new SiteLink(world.site, none))));
+            }
+            same(Optional.of(direct), linker.linkOf(world.site));
+        }
+    }
+
+    /** N, whose method x calls M.n and M.none, without an object, y nothing, and z M.n and A.f. */
+    private static byte[] otherCaller() {
+        Written.Call n = new Written.Call(INVOKESTATIC, "M", "n", "()V");
+        Written.Call none = new Written.Call(INVOKESTATIC, "M", "none", "()V");
+        Written.Method x = new Written.Method(PUBLIC_STATIC, "x", List.of(n, none));
+        Written.Method y = new Written.Method(PUBLIC_STATIC, "y", List.of());
+        Written.Method z = new Written.Method(PUBLIC_STATIC, "z", List.of(n, call("A", "f", "()V")));
+        return Written.file("N", OBJECT, x, y, z);
+    }
+
+    private static void linksOfEachFormAreInstalledByValue() {
+        try (World world = World.open()) {
+            Linker linker = world.linker;
+            ClassId n = linker.define(otherCaller());
+            SiteId plain = linker.request(n, 0, 0);
+            SiteId fault = linker.request(n, 0, 3);
+            List<SiteLink> links = List.of(new SiteLink(plain, new Link.Plain(new Answer.Run(world.m, 1))),
+                    new SiteLink(fault, new Link.Fault(Answer.Error.NO_SUCH_METHOD_ERROR)),
+                    new SiteLink(world.site, new Link.Direct(runs(world.a))));
+            try (View view = linker.view()) {
+                same(links, view.prepare(List.of(plain, fault, world.site)));
+            }
+            linker.installLinks(links);
+            for (SiteLink link : links) {
+                same(Optional.of(link.link()), linker.linkOf(link.site()));
+            }
+            for (int i = 0; i < 7; i++) {
+                linker.define(withF("C" + i, "A"));
+            }
+            linker.installLinks(List.of(new SiteLink(world.site, new Link.Megamorphic())));
+            same(Optional.of(new Link.Megamorphic()), linker.linkOf(world.site));
+        }
+    }
+
+    private static void classesAndMethodsHaveNames() {
+        try (World world = World.open()) {
+            Linker linker = world.linker;
+            same(Optional.of(world.a), linker.lookup(LoaderId.FIRST, "A"));
+            same(Optional.empty(), linker.lookup(LoaderId.FIRST, "Z"));
+            LoaderId other = linker.newLoader();
+            same(Optional.empty(), linker.lookup(other, "A"));
+            linker.delegate(other, "A", LoaderId.FIRST);
+            same(Optional.of(world.a), linker.lookup(other, "A"));
+            ClassId d = linker.define(other, withF("D\u00e9\0", "A"));
+            same(Optional.of(d), linker.lookup(other, "D\u00e9\0"));
+            linker.retire(other);
+            same(Optional.empty(), linker.lookup(other, "D\u00e9\0"));
+
+            same(Optional.of("M"), linker.className(world.m));
+            same(Optional.of("D\u00e9\0"), linker.className(d));
+            same(Optional.empty(), linker.className(new ClassId(99)));
+            same(Optional.of("n"), linker.methodName(world.m, 1));
+            same(Optional.of("()V"), linker.methodDescriptor(world.m, 1));
+            same(Optional.empty(), linker.methodName(world.m, 2));
+            same(Optional.empty(), linker.methodDescriptor(new ClassId(99), 0));
+        }
+    }
+
+    private static Invocation at(int method, int pc, Instruction instruction) {
+        return new Invocation(method, pc, instruction);
+    }
+
+    private static void invocationsAreThoseOfTheCode() {
+        try (World world = World.open()) {
+            Linker linker = world.linker;
+            Instruction byClass = Instruction.INVOKEVIRTUAL;
+            Instruction byName = Instruction.INVOKESTATIC;
+            same(INVOKESTATIC, byName.opcode());
+            same(Optional.of(List.of(at(0, 0, byClass), at(0, 3, byClass), at(0, 6, byClass), at(0, 9, byClass))),
+                    linker.invocations(world.m, 0));
+            same(Optional.of(List.of()), linker.invocations(world.m, 1));
+            same(Optional.empty(), linker.invocations(world.m, 2));
+
+            ClassId n = linker.define(otherCaller());
+            same(Optional.of(List.of(at(0, 0, byName), at(0, 3, byName), at(2, 0, byName), at(2, 3, byClass))), linker.invocations(n));
+            same(Optional.of(List.of()), linker.invocations(world.b));
+            same(Optional.empty(), linker.invocations(new ClassId(99)));
+            same(runs(world.a), linker.call(linker.request(n, 2, 3), world.b));
+        }
+    }
+
+    private static void whatIsMissingHasAName() throws Exception {
+        try (World world = World.open()) {
+            Linker linker = world.linker;
+            same(Optional.empty(), linker.namedClass());
+            refused(new Refusal.Define(DefineFault.MISSING_PARENT), () -> linker.define(withF("D", "Above")));
+            same(Optional.of("Above"), linker.namedClass());
+            // Bytes that are no class file are no event.
+            refused(new Refusal.NoClassFile(Refusal.ClassFault.TRUNCATED, 0, 0, 0), () -> linker.define(new byte[0]));
+            same(Optional.of("Above"), linker.namedClass());
+            SiteId pending = linker.request(world.m, 0, 3);
+            same(Optional.empty(), linker.namedClass());
+            same(Optional.of("Z"), linker.awaitedClass(pending));
+            same(Optional.empty(), linker.awaitedClass(world.site));
+            linker.define(withF("Z", OBJECT));
+            same(Optional.empty(), linker.awaitedClass(pending));
+            linker.install(List.of(pending));
+        }
+    }
+
+    private static void theLastEventHasItsWork() {
+        try (World world = World.open()) {
+            world.linker.define(withF("C", "A"));
+            world.linker.install(List.of(world.site));
+            // A selection for each of A, B and C.
+            same(3L, world.linker.lastWork());
+            world.linker.newLoader();
+            same(0L, world.linker.lastWork());
+        }
+    }
+
+    private static void classesOfThisJdkAreDefined() {
+        byte[] file = ClassFiles.of(OBJECT).orElseThrow();
+        // Magic number, minor version, major version (JVMS SE 17 §4.1).
+        same(List.of(0xcafebabe, 61), List.of(ByteBuffer.wrap(file).getInt(), ByteBuffer.wrap(file).getInt(4)));
+        same(Optional.empty(), ClassFiles.of("no/such/Class"));
+        try (Linker linker = Linker.open(1)) {
+            same(Optional.of(OBJECT), linker.className(linker.define(file)));
+        }
+        byte[] older = Written.file("A", OBJECT);
+        older[7] = 52;
+        same(52, (int) ClassFiles.asOfNewest(older)[7]);
+    }
+
     private static void aClosedLinkerRefusesAll() throws Exception {
         World world = World.open();
         Linker linker = world.linker;
@@ -238,6 +567,18 @@ final class Tests {
         refused(Refusal.Plain.CLOSED, () -> linker.linkOf(world.site));
         refused(Refusal.Plain.CLOSED, () -> linker.answer("{}"));
         refused(Refusal.Plain.CLOSED, linker::seat);
+        refused(Refusal.Plain.CLOSED, linker::view);
+        refused(Refusal.Plain.CLOSED, () -> linker.memo(1).ask(world.site));
+        refused(Refusal.Plain.CLOSED, () -> linker.installLinks(List.of()));
+        refused(Refusal.Plain.CLOSED, () -> linker.lookup(LoaderId.FIRST, "A"));
+        refused(Refusal.Plain.CLOSED, () -> linker.className(world.a));
+        refused(Refusal.Plain.CLOSED, () -> linker.methodName(world.a, 0));
+        refused(Refusal.Plain.CLOSED, () -> linker.methodDescriptor(world.a, 0));
+        refused(Refusal.Plain.CLOSED, () -> linker.invocations(world.a));
+        refused(Refusal.Plain.CLOSED, () -> linker.invocations(world.a, 0));
+        refused(Refusal.Plain.CLOSED, linker::namedClass);
+        refused(Refusal.Plain.CLOSED, () -> linker.awaitedClass(world.site));
+        refused(Refusal.Plain.CLOSED, linker::lastWork);
     }
 
     private static boolean passes(String name, Test test) {
@@ -262,6 +603,22 @@ final class Tests {
                 & passes("sites are refused by name", Tests::sitesAreRefusedByName)
                 & passes("a call site has targets", Tests::aCallSiteHasTargets)
                 & passes("a command is answered as text", Tests::aCommandIsAnsweredAsText)
+                & passes("a memo remembers megamorphic calls", Tests::aMemoRemembersMegamorphicCalls)
+                & passes("a memo of another linker says nothing", Tests::aMemoOfAnotherLinkerSaysNothing)
+                & passes("memos are refused by name", Tests::memosAreRefusedByName)
+                & passes("a memo belongs to its thread", Tests::aMemoBelongsToItsThread)
+                & passes("a view is of when it was taken", Tests::aViewIsOfWhenItWasTaken)
+                & passes("a view outlives its linker and goes to another thread", Tests::aViewOutlivesItsLinkerAndGoesToAnotherThread)
+                & passes("threads compile in views while another defines", Tests::threadsCompileInViewsWhileAnotherDefines)
+                & passes("preparations in a view are refused by name", Tests::preparationsInAViewAreRefusedByName)
+                & passes("an install of links is stale and then accepted", Tests::anInstallOfLinksIsStaleAndThenAccepted)
+                & passes("installs of links are refused by name", Tests::installsOfLinksAreRefusedByName)
+                & passes("links of each form are installed by value", Tests::linksOfEachFormAreInstalledByValue)
+                & passes("classes and methods have names", Tests::classesAndMethodsHaveNames)
+                & passes("invocations are those of the code", Tests::invocationsAreThoseOfTheCode)
+                & passes("what is missing has a name", Tests::whatIsMissingHasAName)
+                & passes("the last event has its work", Tests::theLastEventHasItsWork)
+                & passes("classes of this JDK are defined", Tests::classesOfThisJdkAreDefined)
                 & passes("a closed linker refuses all", Tests::aClosedLinkerRefusesAll);
         System.exit(all ? 0 : 1);
     }
