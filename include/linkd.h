@@ -352,7 +352,7 @@ void linkd_memo_blank(linkd_memo *at);
 /* Opens the memo, which remembers nothing, with so many sets, each of which remembers two calls; which set a call has is told by a hash.
  * Calls of which three have one set push each other out, so a memo wants several times as many sets as there are calls that are made over
  * and over: of 9,000 calls in turn, 1,000 sites on 9 classes each, 75 of a hundred are remembered in 9,000 sets, 97 in 18,000, all in
- * 36,000. LINKD_OPEN_ALREADY; LINKD_MALFORMED, for no sets; LINKD_MEMORY. */
+ * 36,000. One of no sets remembers nothing. LINKD_OPEN_ALREADY, LINKD_MEMORY. */
 uint32_t linkd_memo_open(linkd_memo *at, uint32_t sets);
 /* As linkd_call, on the linker: what a call comes to now. It is remembered where the site's link is megamorphic and the answer runs a
  * method or throws, in the place of another one where its set is full. Such an answer stays right, whatever is defined later, while the
