@@ -268,20 +268,16 @@ static void compare(uint32_t dropped) {
             own++;
     }
     must(own > 0, NOTHING_SHOWN, "the late class overrides no method that is called", 0);
-    printf("%s is defined: %lu links dropped and installed again, %lu run a method of its own on it\n", late.file.name, (unsigned long)dropped,
-           (unsigned long)own);
+    printf("%s is defined: %lu links dropped and installed again, %lu run a method of its own on it\n", late.file.name,
+           (unsigned long)dropped, (unsigned long)own);
 }
 
 /* ---- a round */
 
-static void play(bool tell, bool let_see) {
-    pthread_t threads[THREADS];
-    uint32_t dropped[MOST_SITES], before[MOST_SITES];
-    size_t count = 0;
+static void start(bool tell, uint32_t *before) {
     linker = block(linkd_size(), linkd_align());
     sites = classes = unlinkable = 0;
     for (int change = 0; change < CHANGES; change++) atomic_store(&passed[change], 0);
-
     linkd_blank(linker);
     must(linkd_link_of(linker, 0, &(linkd_link){0}) == LINKD_CLOSED, WRONG_ANSWER, "a linker answers that isn't open", 0);
     done(linkd_open(linker, MOST_SITES), "the linker isn't opened");
@@ -291,13 +287,11 @@ static void play(bool tell, bool let_see) {
     if (tell) tell_links();
     for (uint32_t site = 0; site < sites; site++) before[site] = link_kind(site);
     publish(0);
+}
 
-    for (int i = 0; i < THREADS; i++) {
-        int fault = pthread_create(&threads[i], NULL, call, NULL);
-        must(fault == 0, NO_THREAD, "no thread", (uint32_t)fault);
-    }
-    wait_for(0);
-
+/* Defines LATE, and lists the links that went. */
+static size_t define_late(const uint32_t *before, uint32_t *dropped) {
+    size_t count = 0;
     pthread_mutex_lock(&lock);
     must(define(&late), REFUSED, "the late class has no parent", 0);
     must(late.number == all_count, REFUSED, "the late class has another number than the next one", late.number);
@@ -308,8 +302,10 @@ static void play(bool tell, bool let_see) {
     request(&late);
     publish(1);
     pthread_mutex_unlock(&lock);
-    if (let_see) wait_for(1);
+    return count;
+}
 
+static void link_again(bool tell, const uint32_t *dropped, size_t count) {
     pthread_mutex_lock(&lock);
     install_pending();
     for (size_t i = 0; i < count; i++)
@@ -318,6 +314,20 @@ static void play(bool tell, bool let_see) {
     if (tell) compare((uint32_t)count);
     if (tell) tell_links();
     pthread_mutex_unlock(&lock);
+}
+
+static void play(bool tell, bool let_see) {
+    pthread_t threads[THREADS];
+    uint32_t dropped[MOST_SITES], before[MOST_SITES];
+    start(tell, before);
+    for (int i = 0; i < THREADS; i++) {
+        int fault = pthread_create(&threads[i], NULL, call, NULL);
+        must(fault == 0, NO_THREAD, "no thread", (uint32_t)fault);
+    }
+    wait_for(0);
+    size_t count = define_late(before, dropped);
+    if (let_see) wait_for(1);
+    link_again(tell, dropped, count);
 
     /* A seat may outlive the linker. */
     linkd_seat *seat = block(linkd_seat_size(), linkd_seat_align());
