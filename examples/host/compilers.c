@@ -23,7 +23,7 @@ enum { COMPILERS = 4, CALLERS = 2, CHANGES = 60, MOST_LOADERS = 9, MOST_SITES = 
 
 /* Of loader 0, each behind its parents; Main's calls are requested there, too, and some of them wait for a Triangle for ever. */
 static const char *const NAMES[] = {"Object", "Measured", "Shape", "Circle", "Square", "Main", "Chosen"};
-enum { MAIN = 5, CHOSEN = 6, NAMED = 7, DELEGATED = 5 };
+enum { MAIN = 5, NAMED = 7, DELEGATED = 5 };
 
 static struct file files[NAMED], triangle;
 
