@@ -39,6 +39,16 @@ build_c "$work/statuses" "$top/bench/statuses.c"
 "$work/statuses"
 valgrind -q --leak-check=full --error-exitcode=99 "$work/statuses"
 
+echo "== the first program"
+build_c "$work/first" "$host/first.c"
+valgrind -q --leak-check=full --error-exitcode=99 "$work/first" | tee "$work/told.txt"
+diff "$work/told.txt" - <<'TOLD'
+on a B the method of A runs
+behind C's definition 1 link is gone
+on a B the method of A runs
+on a C the method of C runs
+TOLD
+
 echo "== the classes, and java/lang/Object of this JDK"
 mkdir "$work/classes"
 javac --release 17 -Xlint:all -d "$work/classes" "$host"/java/*.java
