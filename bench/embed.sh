@@ -3,10 +3,10 @@
 #
 #     bench/embed.sh
 #
-# It builds the archive first, by `rt lib` in crates/linkd_c, unless LINKD_ARCHIVE names one. It needs rt, cc, c++, ar, nm, cargo, valgrind, and
-# java and javac of JAVA_HOME or else of the PATH, of version 17 or later. ROUNDS (200) is how often the host in C plays its round, and
-# COMPILED (40) how often the one that compiles does. A sanitizer that cc doesn't have, or whose programs don't run here, is said and left
-# out. It ends with status 0 only where all is as it must be.
+# It builds the archive first, by `rt lib` in crates/linkd_c, unless LINKD_ARCHIVE names one. It needs rt, cc, c++, ar, nm, cargo,
+# valgrind, and java and javac of JAVA_HOME or else of the PATH, of version 17 or later. ROUNDS (200) is how often the host in C plays its
+# round, and COMPILED (40) how often the one that compiles does. A sanitizer that cc doesn't have, or whose programs don't run here, is said
+# and left out. It ends with status 0 only where all is as it must be.
 set -eu
 top=$(cd "$(dirname "$0")/.." && pwd)
 export LC_ALL=C
