@@ -3,9 +3,10 @@
 #
 #     bench/embed.sh
 #
-# It builds the archive first, by `rt lib` in crates/linkd_c, unless LINKD_ARCHIVE names one. It needs rt, cc, c++, ar, nm, cargo, valgrind, and
-# java and javac of JAVA_HOME or else of the PATH, of version 17 or later. ROUNDS (200) is how often the host in C plays its round. It ends
-# with status 0 only where all is as it must be.
+# It builds the archive first, by `rt lib` in crates/linkd_c, unless LINKD_ARCHIVE names one. It needs rt, cc, c++, ar, nm, cargo,
+# valgrind, and java and javac of JAVA_HOME or else of the PATH, of version 17 or later. ROUNDS (200) is how often the host in C plays its
+# round, and COMPILED (40) how often the one that compiles does. A sanitizer that cc doesn't have, or whose programs don't run here, is said
+# and left out. It ends with status 0 only where all is as it must be.
 set -eu
 top=$(cd "$(dirname "$0")/.." && pwd)
 export LC_ALL=C
@@ -38,6 +39,16 @@ build_c "$work/statuses" "$top/bench/statuses.c"
 "$work/statuses"
 valgrind -q --leak-check=full --error-exitcode=99 "$work/statuses"
 
+echo "== the first program"
+build_c "$work/first" "$host/first.c"
+valgrind -q --leak-check=full --error-exitcode=99 "$work/first" | tee "$work/told.txt"
+diff "$work/told.txt" - <<'TOLD'
+on a B the method of A runs
+behind C's definition 1 link is gone
+on a B the method of A runs
+on a C the method of C runs
+TOLD
+
 echo "== the classes, and java/lang/Object of this JDK"
 mkdir "$work/classes"
 javac --release 17 -Xlint:all -d "$work/classes" "$host"/java/*.java
@@ -61,15 +72,45 @@ class Take {
 JAVA
 java "$work/Take.java" "$work/classes/Object.class"
 java -cp "$work/classes" Main
+cp -r "$work/classes" "$work/compiled"
+javac --release 17 -Xlint:all -cp "$work/classes" -d "$work/compiled" "$host"/dynamic/*.java
 
-echo "== the host in C"
+echo "== the hosts in C"
 build_c "$work/host_c" "$host/host.c"
 "$work/host_c" "$work/classes" Triangle "${ROUNDS:-200}"
+build_c "$work/compilers" "$host/compilers.c"
+"$work/compilers" "$work/compiled" "${COMPILED:-40}"
 
-echo "== the host in C, under valgrind"
-valgrind -q --fair-sched=try --leak-check=full --show-leak-kinds=all --errors-for-leak-kinds=all --error-exitcode=99 \
-    "$work/host_c" "$work/classes" Triangle 4 > "$work/under.txt"
-tail -n 1 "$work/under.txt"
+echo "== the hosts in C, under valgrind"
+under_valgrind() {
+    valgrind -q --fair-sched=try --leak-check=full --show-leak-kinds=all --errors-for-leak-kinds=all --error-exitcode=99 "$@" \
+        > "$work/under.txt"
+    tail -n 1 "$work/under.txt"
+}
+under_valgrind "$work/host_c" "$work/classes" Triangle 4
+under_valgrind "$work/compilers" "$work/compiled" 4
+
+# The archive isn't built with them: they see the hosts, what these lend, and what is taken from malloc. Nor is the count seen by which
+# views and linkers share what they have, so that the thread sanitizer takes the free of the last one for a race with the others' reads.
+echo 'race:*::drop' > "$work/shared.txt"
+export TSAN_OPTIONS="suppressions=$work/shared.txt print_suppressions=0"
+for sanitizers in address,undefined thread; do
+    echo "== the hosts in C, by -fsanitize=$sanitizers"
+    sanitize="-fsanitize=$sanitizers -fno-sanitize-recover=all"
+    echo 'int main(void) { return 0; }' > "$work/nothing.c"
+    if ! cc $sanitize -o "$work/nothing" "$work/nothing.c" 2> "$work/under.txt" || ! "$work/nothing" 2> "$work/under.txt"; then
+        echo "left out: cc hasn't it, or its programs don't run here"
+        continue
+    fi
+    for program in host compilers; do
+        cc -std=c11 -O1 -g -Wall -Wextra -Werror $sanitize -pthread -I"$top/include" -o "$work/sanitized_$program" "$host/$program.c" \
+            "$work/liblinkd.a"
+    done
+    "$work/sanitized_host" "$work/classes" Triangle 10 > "$work/under.txt"
+    tail -n 1 "$work/under.txt"
+    "$work/sanitized_compilers" "$work/compiled" 10 > "$work/under.txt"
+    tail -n 1 "$work/under.txt"
+done
 
 echo "== the hosts in C++ and in Rust, which say the same"
 c++ -std=c++11 -O2 -Wall -Wextra -Werror -I"$top/include" -o "$work/host_cpp" "$host/host.cpp" "$work/liblinkd.a"

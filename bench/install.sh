@@ -1,5 +1,6 @@
 #!/usr/bin/env bash
 # Tries tools/install.sh: a host is built by pkg-config, with the shared library and with the archive, and makes each call of the header.
+# Where the program isn't built, nothing is installed but on demand.
 #
 #     bench/install.sh
 #
@@ -13,16 +14,41 @@ if ! command -v pkg-config > /dev/null; then
     exit 2
 fi
 prefix="$work/a prefix"
-"$top/tools/install.sh" "$prefix"
+"$top/tools/install.sh" --library "$prefix"
 export PKG_CONFIG_PATH="$prefix/lib/pkgconfig"
 # pkg-config quotes the blank, as eval wants it.
 flags="$(pkg-config --cflags linkd)"
 libraries="$(pkg-config --libs linkd)"
 eval "cc -std=c11 -O2 -Wall -Wextra -Werror -o '$work/shared' '$top/bench/statuses.c' $flags $libraries"
 eval "cc -std=c11 -O2 -Wall -Wextra -Werror -o '$work/static' '$top/bench/statuses.c' $flags '$prefix/lib/liblinkd.a'"
-LD_LIBRARY_PATH="$prefix/lib" "$work/shared"
+# It finds the library where that was installed.
+env -u LD_LIBRARY_PATH "$work/shared"
 "$work/static"
 nm -D --defined-only "$prefix/lib/liblinkd.so" | awk '{ print $3 }' | sort > "$work/exported"
 sed -nE 's/^[a-z][a-z0-9_ ]* (linkd_[a-z_]*)\(.*/\1/p' "$prefix/include/linkd.h" | sort > "$work/declared"
 diff "$work/declared" "$work/exported"
+
+# A copy of what is installed, with a program that isn't there, and then one in its place.
+mkdir -p "$work/copy/crates/linkd/out"
+cp -r "$top/tools" "$top/include" "$work/copy"
+export LINKD_ARCHIVE="$prefix/lib/liblinkd.a"
+refuses() {
+    local wanted=$1 status=0
+    shift
+    "$work/copy/tools/install.sh" "$@" 2> "$work/said.txt" || status=$?
+    if [ $status != 2 ] || ! grep -q "$wanted" "$work/said.txt" || [ -e "$work/whole" ]; then
+        cat "$work/said.txt" >&2
+        echo "install.sh $*: status $status, wanted 2, no folder, and: $wanted" >&2
+        exit 1
+    fi
+}
+refuses 'run `rt run` in crates/linkd' "$work/whole"
+refuses "PREFIX"
+refuses "PREFIX" --libary "$work/whole"
+LINKD_ARCHIVE="$work/none.a" refuses 'run `rt lib` in crates/linkd_c' --library "$work/whole"
+printf '#!/bin/sh\necho linkd\n' > "$work/copy/crates/linkd/out/linkd"
+chmod +x "$work/copy/crates/linkd/out/linkd"
+"$work/copy/tools/install.sh" "$work/whole"
+[ "$("$work/whole/bin/linkd")" = linkd ]
+[ ! -e "$prefix/bin" ]
 echo "all as it must be"

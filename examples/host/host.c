@@ -9,84 +9,28 @@
  * fails the program says which on standard error, and ends with a status of its own.
  */
 #define _POSIX_C_SOURCE 200809L
-#include "linkd.h"
-#include "names.h"
+#include "common.h"
 #include <dirent.h>
 #include <pthread.h>
 #include <sched.h>
 #include <stdatomic.h>
-#include <stdbool.h>
-#include <stdio.h>
-#include <stdlib.h>
-#include <string.h>
 #include <time.h>
 
 enum { THREADS = 4, BATCH = 256, MOST_SITES = 4096, CHANGES = 3, MEMO_SETS = 1024 };
 
-/* How the program ends. */
-enum { BAD_WORDS = 2, BAD_FILE = 3, NO_MEMORY = 4, REFUSED = 5, NO_CALL_THERE = 6, WRONG_ANSWER = 7, LOST_ANSWER = 8, STILL_LINKED = 9,
-       NOTHING_OVERRIDDEN = 10, NO_THREAD = 11 };
-
-static void must(bool holds, int status, const char *what, uint32_t number) {
-    if (!holds) {
-        fprintf(stderr, "host: %s (%lu)\n", what, (unsigned long)number);
-        _Exit(status);
-    }
-}
-
-/* A status of the linker that has to be LINKD_DONE. */
-static void done(uint32_t status, const char *what) {
-    if (status != LINKD_DONE) fprintf(stderr, "host: %s\n", status_name(status));
-    must(status == LINKD_DONE, REFUSED, what, status);
-}
-
-static void *memory(void *at) {
-    must(at != NULL, NO_MEMORY, "no memory", 0);
-    return at;
-}
-
-/* A block for a linker or a seat. */
-static void *block(size_t size, size_t align) {
-    if (align < sizeof(void *)) align = sizeof(void *);
-    return memory(aligned_alloc(align, (size + align - 1) / align * align));
-}
-
 /* ---- class files */
 
-struct place { uint32_t method, pc; };
-
-struct file {
-    char *name;
-    uint8_t *bytes;
-    size_t length;
-    struct place *places; /* of the class's invocations, once it was defined */
-    size_t place_count;
-    bool walked, defined;
-    uint32_t class_number;
+struct class_of {
+    struct file file;
+    bool defined;
+    uint32_t number; /* once it was defined */
 };
 
-static struct file *files, late;
-static size_t file_count;
-
-static void read_file(struct file *file, const char *folder, const char *name) {
-    char path[4096];
-    must((size_t)snprintf(path, sizeof path, "%s/%s.class", folder, name) < sizeof path, BAD_FILE, "a path is too long", 0);
-    FILE *from = fopen(path, "rb");
-    must(from != NULL, BAD_FILE, path, 0);
-    memset(file, 0, sizeof *file);
-    file->name = memory(strdup(name));
-    size_t room = 0;
-    do {
-        room = room * 2 + 4096;
-        file->bytes = memory(realloc(file->bytes, room));
-        file->length += fread(file->bytes + file->length, 1, room - file->length, from);
-    } while (file->length == room);
-    must(!ferror(from), BAD_FILE, path, 0);
-    fclose(from);
-}
+static struct class_of *all, late;
+static size_t all_count;
 
 static int by_name(const void *one, const void *other) {
-    return strcmp(((const struct file *)one)->name, ((const struct file *)other)->name);
+    return strcmp(((const struct class_of *)one)->file.name, ((const struct class_of *)other)->file.name);
 }
 
 static void read_folder(const char *folder, const char *late_name) {
@@ -97,77 +41,13 @@ static void read_folder(const char *folder, const char *late_name) {
         if (length < 7 || strcmp(entry->d_name + length - 6, ".class") != 0) continue;
         entry->d_name[length - 6] = 0;
         if (strcmp(entry->d_name, late_name) == 0) continue;
-        files = memory(realloc(files, (file_count + 1) * sizeof *files));
-        read_file(&files[file_count++], folder, entry->d_name);
+        all = memory(realloc(all, (all_count + 1) * sizeof *all));
+        all[all_count++] = (struct class_of){read_file(folder, entry->d_name), false, 0};
     }
     closedir(from);
-    must(file_count > 0, BAD_FILE, "no class file in the folder", 0);
-    qsort(files, file_count, sizeof *files, by_name);
-    read_file(&late, folder, late_name);
-}
-
-static void let_go(struct file *file) {
-    free(file->name);
-    free(file->bytes);
-    free(file->places);
-}
-
-static uint32_t u2(const uint8_t *at) { return (uint32_t)at[0] << 8 | at[1]; }
-static uint32_t u4(const uint8_t *at) { return u2(at) << 16 | u2(at + 2); }
-
-/* Where the instruction behind the one at pc begins (Java Virtual Machine Specification, SE 17, 6.5). */
-static uint32_t next_pc(const uint8_t *code, uint32_t pc) {
-    uint8_t op = code[pc];
-    uint32_t words = (pc + 4) & ~UINT32_C(3); /* where the words of a switch begin */
-    if (op == 170) return words + 12 + 4 * (u4(code + words + 8) - u4(code + words + 4) + 1);
-    if (op == 171) return words + 8 + 8 * u4(code + words + 4);
-    if (op == 196) return pc + (code[pc + 1] == 132 ? 6 : 4);
-    if (op == 185 || op == 186 || op == 200 || op == 201) return pc + 5;
-    if (op == 197) return pc + 4;
-    if (op == 17 || op == 19 || op == 20 || op == 132 || (op >= 153 && op <= 168) || (op >= 178 && op <= 184) || op == 187 || op == 189 ||
-        op == 192 || op == 193 || op == 198 || op == 199)
-        return pc + 3;
-    if (op == 16 || op == 18 || (op >= 21 && op <= 25) || (op >= 54 && op <= 58) || op == 169 || op == 188) return pc + 2;
-    return pc + 1;
-}
-
-static void walk_code(struct file *file, uint32_t method, const uint8_t *code, uint32_t length) {
-    for (uint32_t pc = 0; pc < length; pc = next_pc(code, pc)) {
-        if (code[pc] < 182 || code[pc] > 186) continue;
-        if ((file->place_count & (file->place_count - 1)) == 0)
-            file->places = memory(realloc(file->places, (file->place_count * 2 + 1) * sizeof *file->places));
-        file->places[file->place_count++] = (struct place){method, pc};
-    }
-}
-
-/* Lists the invocations of a file that the linker has accepted: it has read all of it, so nothing is checked here once more. */
-static void walk(struct file *file) {
-    static const uint8_t *pool[65536];
-    const uint8_t *at = file->bytes + 10;
-    uint32_t entries = u2(file->bytes + 8);
-    if (file->walked) return;
-    file->walked = true;
-    for (uint32_t entry = 1; entry < entries; entry++) {
-        static const uint8_t lengths[] = {0, 3, 0, 5, 5, 9, 9, 3, 3, 5, 5, 5, 5, 0, 0, 4, 3, 5, 5, 3, 3};
-        uint8_t tag = at[0];
-        pool[entry] = at;
-        at += lengths[tag] + (tag == 1 ? u2(at + 1) : 0);
-        if (tag == 5 || tag == 6) entry++; /* a Long and a Double take two numbers */
-    }
-    at += 8 + 2 * u2(at + 6);
-    for (int methods = 0; methods < 2; methods++) { /* fields first */
-        uint32_t members = u2(at);
-        at += 2;
-        for (uint32_t member = 0; member < members; member++) {
-            uint32_t attributes = u2(at + 6);
-            at += 8;
-            for (uint32_t attribute = 0; attribute < attributes; attribute++) {
-                const uint8_t *name = pool[u2(at)];
-                if (methods && u2(name + 1) == 4 && memcmp(name + 3, "Code", 4) == 0) walk_code(file, member, at + 14, u4(at + 10));
-                at += 6 + u4(at + 2);
-            }
-        }
-    }
+    must(all_count > 0, BAD_FILE, "no class file in the folder", 0);
+    qsort(all, all_count, sizeof *all, by_name);
+    late.file = read_file(folder, late_name);
 }
 
 /* ---- one linker */
@@ -175,48 +55,33 @@ static void walk(struct file *file) {
 static linkd *linker;
 static uint32_t sites, classes, unlinkable;
 
-static bool define(struct file *file) {
+static bool define(struct class_of *class) {
     linkd_told told;
-    uint32_t status = linkd_define(linker, 0, file->bytes, file->length, &told);
+    uint32_t status = linkd_define(linker, 0, class->file.bytes, class->file.length, &told);
     if (status == LINKD_DEFINE && told.fault == LINKD_MISSING_PARENT) return false;
     if (status != LINKD_DONE) fprintf(stderr, "host: %s\n", refusal_name(status, told.fault));
-    must(status == LINKD_DONE, REFUSED, file->name, status);
-    file->class_number = told.number;
+    must(status == LINKD_DONE, REFUSED, class->file.name, status);
+    class->number = told.number;
     classes = told.number + 1;
     return true;
 }
 
-/* Defines all files, each behind its parents: what has a parent that isn't there yet is tried again. */
+/* Defines all classes, each behind its parents: what has a parent that isn't there yet is tried again. */
 static void define_all(void) {
-    size_t left = file_count, before = 0;
-    for (size_t i = 0; i < file_count; i++) files[i].defined = false;
+    size_t left = all_count, before = 0;
+    for (size_t i = 0; i < all_count; i++) all[i].defined = false;
     while (left != before) {
         before = left;
-        for (size_t i = 0; i < file_count; i++) {
-            if (files[i].defined || !define(&files[i])) continue;
-            files[i].defined = true;
+        for (size_t i = 0; i < all_count; i++) {
+            if (all[i].defined || !define(&all[i])) continue;
+            all[i].defined = true;
             left--;
         }
     }
     must(left == 0, REFUSED, "classes without their parents", (uint32_t)left);
 }
 
-/* Requests the invocations of the class. Sites are numbered one behind another. */
-static void request(struct file *file) {
-    walk(file);
-    for (size_t i = 0; i < file->place_count; i++) {
-        linkd_told told;
-        uint32_t status = linkd_request(linker, file->class_number, file->places[i].method, file->places[i].pc, &told);
-        if (status == LINKD_NOT_LINKABLE) {
-            unlinkable++;
-            continue;
-        }
-        must(status != LINKD_NO_SUCH_PLACE, NO_CALL_THERE, "the linker finds no invocation where this program does, at pc", file->places[i].pc);
-        done(status, "an invocation is refused");
-        must(told.number == sites, NO_CALL_THERE, "a site has another number than the next one", told.number);
-        sites++;
-    }
-}
+static void request(const struct class_of *class) { unlinkable += request_all(linker, class->number, &sites); }
 
 static uint32_t link_kind(uint32_t site) {
     linkd_link link;
@@ -258,7 +123,8 @@ enum known { MISS, REMEMBERED, ANSWER, ANYTHING };
 
 struct question {
     linkd_call_answer answer; /* of the linker */
-    enum known known;         /* what a seat has to answer: a miss; this, once its memo was asked; this; or anything, since no object can be such a receiver */
+    /* What a seat has to answer: a miss; this, once its memo was asked; this; or anything, since no object can be such a receiver. */
+    enum known known;
 };
 
 static struct {
@@ -270,14 +136,10 @@ static struct {
 static pthread_mutex_t lock = PTHREAD_MUTEX_INITIALIZER;
 static atomic_uint changes, passed[CHANGES];
 
-static uint32_t receivers(void) { return (uint32_t)file_count + 2; }
+static uint32_t receivers(void) { return (uint32_t)all_count + 2; }
 static uint32_t receiver(uint32_t number) { return number == 0 ? LINKD_NULL : number - 1; }
 static struct question *question(unsigned change, uint32_t site, uint32_t number) {
     return &after[change].questions[site * receivers() + number];
-}
-
-static bool same(const linkd_call_answer *one, const linkd_call_answer *other) {
-    return one->kind == other->kind && one->class_number == other->class_number && one->value == other->value;
 }
 
 /* Writes down what is so after this change, and counts it. */
@@ -303,7 +165,8 @@ static void ask_linker(linkd_memo *memo, uint32_t site, uint32_t number) {
     linkd_call_answer answer;
     pthread_mutex_lock(&lock);
     done(linkd_memo_ask(memo, linker, site, receiver(number), &answer), "no call is answered");
-    must(same(&answer, &question(atomic_load(&changes), site, number)->answer), WRONG_ANSWER, "the linker takes an answer back at site", site);
+    must(same_answer(&answer, &question(atomic_load(&changes), site, number)->answer), WRONG_ANSWER,
+         "the linker takes an answer back at site", site);
     pthread_mutex_unlock(&lock);
 }
 
@@ -318,7 +181,8 @@ static void ask_all(linkd_seat *seat, linkd_memo *memo, unsigned seen, bool ask)
             } else if (asked->known == MISS) {
                 must(false, WRONG_ANSWER, "a seat answers what its links say nothing of, at site", site);
             } else if (asked->known != ANYTHING) {
-                must(same(&answer, &asked->answer), WRONG_ANSWER, "a seat doesn't answer as the linker did when the seat was refreshed, at site", site);
+                must(same_answer(&answer, &asked->answer), WRONG_ANSWER,
+                     "a seat doesn't answer as the linker did when the seat was refreshed, at site", site);
             }
         }
     }
@@ -381,7 +245,8 @@ static void tell_links(void) {
         else if (answer.kind == LINKD_UNLINKED && answer.value <= LINKD_UNBOUND) unlinked[answer.value]++;
         else must(false, WRONG_ANSWER, "a site has no link, and no reason for that is told", site);
     }
-    printf("%lu classes, %lu sites, %lu invocations that are never linked\n", (unsigned long)classes, (unsigned long)sites, (unsigned long)unlinkable);
+    printf("%lu classes, %lu sites, %lu invocations that are never linked\n", (unsigned long)classes, (unsigned long)sites,
+           (unsigned long)unlinkable);
     for (int kind = 1; kind < 7; kind++)
         if (kinds[kind]) printf("  %lu linked: %s\n", (unsigned long)kinds[kind], words[kind]);
     for (int reason = 1; reason < 5; reason++)
@@ -392,63 +257,77 @@ static void tell_links(void) {
 static void compare(uint32_t dropped) {
     uint32_t own = 0;
     for (uint32_t site = 0; site < after[0].sites; site++) {
-        for (uint32_t number = 0; number + 1 < receivers(); number++)
-            must(question(0, site, number)->known != ANSWER || same(&question(0, site, number)->answer, &question(2, site, number)->answer),
-                 WRONG_ANSWER, "a definition changes what runs on older classes, at site", site);
+        for (uint32_t number = 0; number + 1 < receivers(); number++) {
+            const struct question *then = question(0, site, number), *now = question(2, site, number);
+            must(then->known != ANSWER || same_answer(&then->answer, &now->answer), WRONG_ANSWER,
+                 "a definition changes what runs on older classes, at site", site);
+        }
         const struct question *on_late = question(2, site, receivers() - 1);
         if (question(0, site, 0)->known == ANSWER && on_late->known == ANSWER && on_late->answer.kind == LINKD_RUN &&
-            on_late->answer.class_number == late.class_number)
+            on_late->answer.class_number == late.number)
             own++;
     }
-    must(own > 0, NOTHING_OVERRIDDEN, "the late class overrides no method that is called", 0);
-    printf("%s is defined: %lu links dropped and installed again, %lu run a method of its own on it\n", late.name, (unsigned long)dropped,
-           (unsigned long)own);
+    must(own > 0, NOTHING_SHOWN, "the late class overrides no method that is called", 0);
+    printf("%s is defined: %lu links dropped and installed again, %lu run a method of its own on it\n", late.file.name,
+           (unsigned long)dropped, (unsigned long)own);
 }
 
 /* ---- a round */
 
-static void play(bool tell, bool let_see) {
-    pthread_t threads[THREADS];
-    uint32_t dropped[MOST_SITES], before[MOST_SITES];
-    size_t count = 0;
+static void start(bool tell, uint32_t *before) {
     linker = block(linkd_size(), linkd_align());
     sites = classes = unlinkable = 0;
     for (int change = 0; change < CHANGES; change++) atomic_store(&passed[change], 0);
-
     linkd_blank(linker);
     must(linkd_link_of(linker, 0, &(linkd_link){0}) == LINKD_CLOSED, WRONG_ANSWER, "a linker answers that isn't open", 0);
     done(linkd_open(linker, MOST_SITES), "the linker isn't opened");
     define_all();
-    for (size_t i = 0; i < file_count; i++) request(&files[i]);
+    for (size_t i = 0; i < all_count; i++) request(&all[i]);
     install_pending();
     if (tell) tell_links();
     for (uint32_t site = 0; site < sites; site++) before[site] = link_kind(site);
     publish(0);
+}
 
+/* Defines LATE, and lists the links that went. */
+static size_t define_late(const uint32_t *before, uint32_t *dropped) {
+    size_t count = 0;
+    pthread_mutex_lock(&lock);
+    must(define(&late), REFUSED, "the late class has no parent", 0);
+    must(late.number == all_count, REFUSED, "the late class has another number than the next one", late.number);
+    done(linkd_dropped(linker, dropped, MOST_SITES, &count), "it isn't told what was dropped");
+    for (size_t i = 0; i < count; i++)
+        must(before[dropped[i]] != LINKD_NONE && link_kind(dropped[i]) == LINKD_NONE, STILL_LINKED,
+             "what was dropped was pending, or is linked", dropped[i]);
+    request(&late);
+    publish(1);
+    pthread_mutex_unlock(&lock);
+    return count;
+}
+
+static void link_again(bool tell, const uint32_t *dropped, size_t count) {
+    pthread_mutex_lock(&lock);
+    install_pending();
+    for (size_t i = 0; i < count; i++)
+        must(link_kind(dropped[i]) != LINKD_NONE, STILL_LINKED, "what was dropped isn't linked again", dropped[i]);
+    publish(2);
+    if (tell) compare((uint32_t)count);
+    if (tell) tell_links();
+    pthread_mutex_unlock(&lock);
+}
+
+static void play(bool tell, bool let_see) {
+    pthread_t threads[THREADS];
+    uint32_t dropped[MOST_SITES], before[MOST_SITES];
+    start(tell, before);
     for (int i = 0; i < THREADS; i++) {
         int fault = pthread_create(&threads[i], NULL, call, NULL);
         must(fault == 0, NO_THREAD, "no thread", (uint32_t)fault);
     }
     wait_for(0);
-
-    pthread_mutex_lock(&lock);
-    must(define(&late), REFUSED, "the late class has no parent", 0);
-    must(late.class_number == file_count, REFUSED, "the late class has another number than the next one", late.class_number);
-    done(linkd_dropped(linker, dropped, MOST_SITES, &count), "it isn't told what was dropped");
-    for (size_t i = 0; i < count; i++)
-        must(before[dropped[i]] != LINKD_NONE && link_kind(dropped[i]) == LINKD_NONE, STILL_LINKED, "what was dropped was pending, or is linked", dropped[i]);
-    request(&late);
-    publish(1);
-    pthread_mutex_unlock(&lock);
+    size_t count = define_late(before, dropped);
     if (let_see) wait_for(1);
-
-    pthread_mutex_lock(&lock);
-    install_pending();
-    for (size_t i = 0; i < count; i++) must(link_kind(dropped[i]) != LINKD_NONE, STILL_LINKED, "what was dropped isn't linked again", dropped[i]);
-    publish(2);
-    if (tell) compare((uint32_t)count);
-    if (tell) tell_links();
-    pthread_mutex_unlock(&lock);
+    link_again(tell, dropped, count);
 
     /* A seat may outlive the linker. */
     linkd_seat *seat = block(linkd_seat_size(), linkd_seat_align());
@@ -478,8 +357,8 @@ int main(int argc, char **argv) {
     clock_gettime(CLOCK_MONOTONIC, &end);
     printf("%ld rounds of %d threads: each answer is that of the links that its seat was given; %.2f s\n", rounds, THREADS,
            (double)(end.tv_sec - start.tv_sec) + (double)(end.tv_nsec - start.tv_nsec) * 1e-9);
-    for (size_t i = 0; i < file_count; i++) let_go(&files[i]);
-    free(files);
-    let_go(&late);
+    for (size_t i = 0; i < all_count; i++) let_file_go(&all[i].file);
+    free(all);
+    let_file_go(&late.file);
     return fflush(stdout) == 0 ? 0 : BAD_FILE;
 }

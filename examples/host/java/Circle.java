@@ -1,4 +1,4 @@
-class Circle extends Shape {
+public class Circle extends Shape {
     private final int radius;
 
     Circle(int radius) {

@@ -1,4 +1,4 @@
 /** What has an area. */
-interface Measured {
+public interface Measured {
     int area();
 }

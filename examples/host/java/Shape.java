@@ -1,6 +1,6 @@
 /** A shape. Twice as large, it has four times the area. */
-abstract class Shape implements Measured {
-    int doubled() {
+public abstract class Shape implements Measured {
+    public int doubled() {
         return 4 * area();
     }
 }

@@ -1,4 +1,4 @@
-class Square extends Shape {
+public class Square extends Shape {
     private final int side;
 
     Square(int side) {

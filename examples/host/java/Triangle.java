@@ -14,7 +14,7 @@ class Triangle extends Shape {
     }
 
     @Override
-    int doubled() {
+    public int doubled() {
         return base * height % 2 == 0 ? super.doubled() : 2 * base * height;
     }
 }
