@@ -191,8 +191,8 @@ enum linkd_link_kind {
     LINKD_FAULT = 1,           /* each call throws: row 0 has it */
     LINKD_PLAIN = 2,           /* each call runs this method: row 0 */
     LINKD_DIRECT = 3,          /* each call on an object comes to this: row 0 */
-    LINKD_VIRTUAL_TABLE = 4,   /* by the receiver's class: `count` rows */
-    LINKD_INTERFACE_TABLE = 5,
+    LINKD_VIRTUAL_TABLE = 4,   /* by the receiver's class: `count` rows; a class without a row is none that can be a receiver */
+    LINKD_INTERFACE_TABLE = 5, /* the same; a class without a row throws IncompatibleClassChangeError (6.5) */
     LINKD_MEGA = 6             /* too many classes for a table */
 };
 
