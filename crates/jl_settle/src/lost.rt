@@ -70,6 +70,8 @@ fn is_lost(
     match defined {
         Some(receiver) => {
             if inherits_run(&world.classes, *receiver, kept) {
+                // The search upward counts as the selection in whose place it stands.
+                work.tick();
                 return false;
             }
             !stays(world, site, kept, *receiver, work)
