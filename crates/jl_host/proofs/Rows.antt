@@ -34,7 +34,7 @@ use Rattle.jl_host.specs.Telling.{told_of_refusal, told_of_reply, told_of_unprep
 use Rattle.jl_host.specs.Showing.{recv_of, answer_shown, fast_shown, link_shown, shown}
 use Rattle.jl_host.specs.declared.shown.LinkShown.{LinkShown}
 use Rattle.jl_host.specs.Reading.{link_of, all_of}
-use Rattle.jl_host.specs.Targets.{nesting, targets_of, target_of}
+use Rattle.jl_host.specs.Targets.{nesting, part, targets_of, target_of}
 use Rattle.jl_host.specs.Linkers.{kind_of}
 
 -- ---- statuses
@@ -185,9 +185,6 @@ unfolding all_of
 no_links = refl
 
 -- ---- targets that are given: the parts of a guard follow it, and those of its parts follow these
-
-abbrev part : ℕ → ℕ → ℕ → TargetPart
-part kind number value = record { kind = kind; number = number; value = value }
 
 abbrev runs : Target
 runs = Method m

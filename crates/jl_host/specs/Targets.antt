@@ -1,5 +1,5 @@
 -- Targets that a host gives, as parts: a guard stands before its first part and its fallback, each with all that belongs to it.
-use Rattle.std.specs.Prelude.{ℕ, nat_le, ◌==◌, ◌+◌, max, List, [], ◌∷◌, Option, Some, None, option_map, option_and_then}
+use Rattle.std.specs.Prelude.{ℕ, nat_le, ◌==◌, ◌+◌, max, List, [], ◌∷◌, ◌++◌, Option, Some, None, option_map, option_and_then}
 use Rattle.std.specs.Prelude.{if◌then◌else◌}
 use Rattle.serde_json.specs.Read.{max_depth}
 use Rattle.jl_types.specs.declared.event.EventOf.TheVariants as event
@@ -51,6 +51,17 @@ only (t ∷ u ∷ rest) = None
 
 abbrev pub target_of : List TargetPart → Option Target
 target_of parts = option_and_then only (targets_of parts)
+
+-- ---- the parts of a target
+
+abbrev pub part : ℕ → ℕ → ℕ → TargetPart
+part kind number value = record { kind = kind; number = number; value = value }
+
+-- a guard stands before the parts of its first part and of its fallback
+abbrev pub parts_of : Target → List TargetPart
+parts_of (Method m) = part 0 m.class m.index ∷ []
+parts_of (Guard p first fallback) = part 1 p 0 ∷ parts_of first ++ parts_of fallback
+parts_of (Invoker c) = part 2 c 0 ∷ []
 
 -- ---- events
 
