@@ -59,6 +59,15 @@ static uint32_t call_site(uint32_t kind, const char *type, const char *target) {
 
 static uint32_t set_target(uint32_t number, const char *target) { return linkd_set_target(at, number, bytes(target), strlen(target), &told); }
 
+/* The same by parts. */
+static uint32_t call_site_of(uint32_t kind, const char *type, const linkd_target_part *parts, size_t count) {
+    return linkd_new_call_site_of(at, kind, bytes(type), strlen(type), parts, count, &told);
+}
+
+static uint32_t set_target_of(uint32_t number, const linkd_target_part *parts, size_t count) {
+    return linkd_set_target_of(at, number, parts, count, &told);
+}
+
 static uint32_t delegate(uint32_t loader, const char *name, uint32_t to) {
     return linkd_delegate(at, loader, bytes(name), strlen(name), to, &told);
 }
@@ -79,6 +88,8 @@ static void closed(linkd_seat *seat) {
     MUST(linkd_request(at, 0, 0, 0, &told) == LINKD_CLOSED);
     MUST(call_site(2, "()V", "{\"method\":[0,0]}") == LINKD_CLOSED);
     MUST(set_target(0, "{\"method\":[0,0]}") == LINKD_CLOSED);
+    MUST(call_site_of(2, "()V", &(linkd_target_part){LINKD_METHOD_TARGET, 0, 0}, 1) == LINKD_CLOSED);
+    MUST(set_target_of(0, &(linkd_target_part){LINKD_METHOD_TARGET, 0, 0}, 1) == LINKD_CLOSED);
     MUST(linkd_new_switch(at, &told) == LINKD_CLOSED);
     MUST(linkd_invalidate(at, sites, 0, &told) == LINKD_CLOSED);
     MUST(linkd_bind(at, 0, 0, &told) == LINKD_CLOSED);
@@ -183,6 +194,7 @@ static linkd_view *viewed(void) {
 }
 
 int main(void) {
+    linkd_target_part parts[] = {{LINKD_GUARD_TARGET, 1, 0}, {LINKD_METHOD_TARGET, 3, 0}, {LINKD_METHOD_TARGET, 3, 1}, {LINKD_INVOKER_TARGET, 7, 0}};
     static const uint8_t truncated[] = {0xca, 0xfe, 0xba}, no_magic[] = {1, 2, 3, 4, 0, 0, 0, 61}, newer[] = {0xca, 0xfe, 0xba, 0xbe, 0, 0, 0, 62};
     linkd_seat *seat = block(linkd_seat_size(), linkd_seat_align());
     at = block(linkd_size(), linkd_align());
@@ -258,6 +270,17 @@ int main(void) {
     TELLS(set_target(9, "{\"method\":[3,0]}"), LINKD_CALL_SITE, 0, LINKD_UNKNOWN_CALL_SITE, 0);
     TELLS(set_target(0, "{\"method\":[3,1]}"), LINKD_CALL_SITE, 0, LINKD_CONSTANT, 0);
     TELLS(set_target(1, "[]"), LINKD_MALFORMED, 0, 0, 0);
+    TELLS(set_target_of(1, parts, 0), LINKD_MALFORMED, 0, 0, 0);
+    TELLS(set_target_of(1, parts, 2), LINKD_MALFORMED, 0, 0, 0);
+    TELLS(set_target_of(1, parts, 4), LINKD_MALFORMED, 0, 0, 0);
+    TELLS(set_target_of(1, parts, 3), LINKD_DONE, 0, 0, 0);
+    TELLS(set_target_of(9, parts, 3), LINKD_CALL_SITE, 0, LINKD_UNKNOWN_CALL_SITE, 0);
+    TELLS(call_site_of(2, "()V", parts, 4), LINKD_MALFORMED, 0, 0, 0);
+    TELLS(call_site_of(4, "()V", parts, 3), LINKD_MALFORMED, 0, 0, 0);
+    TELLS(call_site_of(2, "V", parts, 3), LINKD_MALFORMED, 0, 0, 0);
+    TELLS(call_site_of(2, "()V", parts + 3, 1), LINKD_CALL_SITE, 0, LINKD_INVOKER_ORDER, 7);
+    parts[3].kind = 3;
+    TELLS(call_site_of(2, "()V", parts + 3, 1), LINKD_MALFORMED, 0, 0, 0);
     TELLS(linkd_retire(at, 9, &told), LINKD_RETIRE, 0, LINKD_NO_LOADER, 0);
     TELLS(linkd_retire(at, 0, &told), LINKD_RETIRE, 0, LINKD_FIRST_LOADER, 0);
     TELLS(linkd_bind(at, 9, 1, &told), LINKD_UNKNOWN_SITE, 0, 0, 9);

@@ -45,7 +45,8 @@ CRATE = Path(__file__).resolve().parent.parent / 'crates/linkd_c'
 LIBRARY = 'jl_host'
 MODULES = {
     'Linker': 'linker', 'Seat': 'seat', 'Memo': 'memo', 'View': 'view',
-    'Told': 'told', 'CallAnswer': 'shown', 'LinkShown': 'shown', 'LinkRow': 'reading', 'Invocation': 'invocations',
+    'Told': 'told', 'CallAnswer': 'shown', 'LinkShown': 'shown', 'LinkRow': 'reading', 'TargetPart': 'targets',
+    'Invocation': 'invocations',
 }
 # ----
 

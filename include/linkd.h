@@ -215,6 +215,19 @@ typedef struct linkd_link_row {
     linkd_link link;
 } linkd_link_row;
 
+enum linkd_target_kind {
+    LINKD_METHOD_TARGET = 0, /* the method `value` of the class `number` */
+    LINKD_GUARD_TARGET = 1,  /* the first while the switch point `number` is valid, and then the fallback */
+    LINKD_INVOKER_TARGET = 2 /* whatever the call site `number` runs (CallSite.dynamicInvoker) */
+};
+
+/* A part of a target (java.lang.invoke). Behind a guard stand its first part and then its fallback, each with all that belongs to it. */
+typedef struct linkd_target_part {
+    uint32_t kind; /* a linkd_target_kind */
+    uint32_t number;
+    uint32_t value; /* not looked at but for LINKD_METHOD_TARGET */
+} linkd_target_part;
+
 /* An invocation in a method's code. */
 typedef struct linkd_invocation {
     uint32_t pc;     /* in bytes from the code's start */
@@ -256,8 +269,15 @@ uint32_t linkd_request(linkd *at, uint32_t class_number, uint32_t method, uint32
  * the three is none; LINKD_CALL_SITE, whose place is said at LINKD_INVOKER_ORDER. */
 uint32_t linkd_new_call_site(linkd *at, uint32_t kind, const uint8_t *type, size_t type_length, const uint8_t *target,
                              size_t target_length, linkd_told *told);
+/* As linkd_new_call_site, with the target as its parts, which are one target and no more. LINKD_MALFORMED, also where a part lacks or is
+ * left over, where a kind is none, where a method is above 65,535, or where guards stand deeper in one another than JSON may, which has at
+ * most 127 objects and arrays in one another; LINKD_CALL_SITE as above. */
+uint32_t linkd_new_call_site_of(linkd *at, uint32_t kind, const uint8_t *type, size_t type_length, const linkd_target_part *parts,
+                                size_t count, linkd_told *told);
 /* LINKD_MALFORMED, where the target is none; LINKD_CALL_SITE as above. */
 uint32_t linkd_set_target(linkd *at, uint32_t call_site, const uint8_t *target, size_t target_length, linkd_told *told);
+/* LINKD_MALFORMED, where the parts are none, as above; LINKD_CALL_SITE as above. */
+uint32_t linkd_set_target_of(linkd *at, uint32_t call_site, const linkd_target_part *parts, size_t count, linkd_told *told);
 /* number is the switch point. LINKD_CALL_SITE with LINKD_CALL_SITES_FULL: there are 65,536. */
 uint32_t linkd_new_switch(linkd *at, linkd_told *told);
 /* LINKD_CALL_SITE with LINKD_UNKNOWN_SWITCH: one of them is none, and none is invalidated. */

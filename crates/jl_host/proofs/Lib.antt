@@ -4,6 +4,7 @@ pub mod CaughtUp
 pub mod FileLaws
 pub mod SeatLaws
 pub mod ReadingLaws
+pub mod TargetLaws
 pub mod Crossing
 pub mod ReadAgain
 pub mod GivenLaws

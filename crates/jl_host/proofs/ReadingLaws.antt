@@ -24,7 +24,7 @@ moved : {B : Type 0} (made : List B) (y : B) (o : Option (List B))
 moved made y None = refl
 moved made y (Some ys) = ap Some (sym (append_assoc made (y ∷ []) ys))
 
-rest_from : {A : Type 0} (xs : List A) (i : ℕ) (d : A) → i < length xs → drop i xs ≡ get_or xs i d ∷ drop (i + 1) xs
+pub rest_from : {A : Type 0} (xs : List A) (i : ℕ) (d : A) → i < length xs → drop i xs ≡ get_or xs i d ∷ drop (i + 1) xs
 rest_from xs i d few = rw add-one (drop-cons xs i d few)
 
 module _ {A B : Type 0} (f : A → Option B) (xs : List A) (i : ℕ) (d : A) (made : List B) (few : i < length xs) where

@@ -1,5 +1,5 @@
 -- Numbers that hosts know by include/linkd.h, and what is shown of small values.
-use Rattle.std.specs.Prelude.{◌≡◌, ℕ, List, [], ◌∷◌, map, replicate, Some, None}
+use Rattle.std.specs.Prelude.{◌≡◌, ℕ, List, [], ◌∷◌, ◌++◌, map, replicate, Some, None, option_map}
 use Rattle.std.proofs.Common.{refl}
 use Rattle.jl_pool.specs.declared.pool_fault.PoolFault.TheVariants as pool
 use Rattle.jl_code.specs.declared.code_fault.CodeFault.TheVariants as code
@@ -23,8 +23,10 @@ use Rattle.jl_types.specs.declared.ids.MethodId.{MethodId}
 use Rattle.jl_types.specs.declared.link.Link.TheVariants as link
 use Rattle.jl_types.specs.declared.link.TableKind.TheVariants.{Virtual, Interface}
 use Rattle.jl_types.specs.declared.target.CallSiteKind.TheVariants.{Constant, Mutable, Volatile}
+use Rattle.jl_types.specs.Values.Target.{Target, Method, Guard, Invoker}
 use Rattle.jl_host.specs.declared.told.Told.{Told}
 use Rattle.jl_host.specs.declared.shown.Row.{Row}
+use Rattle.jl_host.specs.declared.targets.TargetPart.{TargetPart}
 use Rattle.jl_host.specs.Numbers.{done, memory, no_class_file, malformed, closed, open_already, too_short}
 use Rattle.jl_host.specs.Numbers.{status_of_refusal, define_number, call_site_number, delegate_number, not_linkable_number, status_of_unprepared}
 use Rattle.jl_host.specs.Numbers.{status_of_file, number_of}
@@ -32,6 +34,7 @@ use Rattle.jl_host.specs.Telling.{told_of_refusal, told_of_reply, told_of_unprep
 use Rattle.jl_host.specs.Showing.{recv_of, answer_shown, fast_shown, link_shown, shown}
 use Rattle.jl_host.specs.declared.shown.LinkShown.{LinkShown}
 use Rattle.jl_host.specs.Reading.{link_of, all_of}
+use Rattle.jl_host.specs.Targets.{nesting, part, targets_of, target_of}
 use Rattle.jl_host.specs.Linkers.{kind_of}
 
 -- ---- statuses
@@ -180,3 +183,37 @@ no_links : map link_of (given 0 0 0 0 ∷ given 1 1 0 6 ∷ given 2 1 1 1 ∷ gi
     ≡ replicate 12 None
 unfolding all_of
 no_links = refl
+
+-- ---- targets that are given: the parts of a guard follow it, and those of its parts follow these
+
+abbrev runs : Target
+runs = Method m
+
+targets : map target_of ((part 0 5 6 ∷ []) ∷ (part 0 5 65535 ∷ []) ∷ (part 1 7 9 ∷ part 0 5 6 ∷ part 2 8 9 ∷ []) ∷ (part 2 8 9 ∷ [])
+    ∷ (part 1 7 0 ∷ part 1 3 0 ∷ part 0 5 6 ∷ part 2 1 0 ∷ part 2 2 0 ∷ [])
+    ∷ (part 1 7 0 ∷ part 2 1 0 ∷ part 1 3 0 ∷ part 0 5 6 ∷ part 2 2 0 ∷ [])
+    ∷ (part 1 7 0 ∷ part 1 3 0 ∷ part 2 1 0 ∷ part 2 2 0 ∷ part 1 4 0 ∷ part 0 5 6 ∷ part 2 3 0 ∷ []) ∷ [])
+    ≡ map Some (runs ∷ Method (record { class = 5; index = 65535 }) ∷ Guard 7 runs (Invoker 8) ∷ Invoker 8
+    ∷ Guard 7 (Guard 3 runs (Invoker 1)) (Invoker 2) ∷ Guard 7 (Invoker 1) (Guard 3 runs (Invoker 2))
+    ∷ Guard 7 (Guard 3 (Invoker 1) (Invoker 2)) (Guard 4 runs (Invoker 3)) ∷ [])
+unfolding targets_of
+targets = refl
+
+-- none, one too many, one too few, a guard behind its parts, a kind that is none, and a method that is too large
+no_targets : map target_of ([] ∷ (part 0 5 6 ∷ part 2 8 0 ∷ []) ∷ (part 1 7 0 ∷ part 0 5 6 ∷ part 2 8 0 ∷ part 2 8 0 ∷ [])
+    ∷ (part 1 7 0 ∷ []) ∷ (part 1 7 0 ∷ part 0 5 6 ∷ []) ∷ (part 0 5 6 ∷ part 2 8 0 ∷ part 1 7 0 ∷ [])
+    ∷ (part 3 5 6 ∷ []) ∷ (part 1 7 0 ∷ part 0 5 6 ∷ part 3 5 6 ∷ []) ∷ (part 0 5 65536 ∷ []) ∷ [])
+    ≡ replicate 9 None
+unfolding targets_of
+no_targets = refl
+
+-- guards, so many below one another, each the first part of the one above it, and at the bottom this part
+abbrev firsts : ℕ → TargetPart → List TargetPart
+firsts n bottom = replicate n (part 1 0 0) ++ bottom ∷ replicate n (part 2 8 0)
+
+-- as deep as JSON may be, and one deeper
+deepest : map (λ parts. option_map nesting (target_of parts))
+    (firsts 125 (part 0 5 6) ∷ firsts 126 (part 0 5 6) ∷ firsts 126 (part 2 8 0) ∷ firsts 127 (part 2 8 0) ∷ [])
+    ≡ Some 127 ∷ None ∷ Some 127 ∷ None ∷ []
+unfolding targets_of
+deepest = refl

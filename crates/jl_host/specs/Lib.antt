@@ -1,5 +1,5 @@
--- `Numbers`, `Telling`, `Showing`, `Copies`, `Linkers`, `Seats`, `Memos`, `Reading`, `Views`, `Awaiting` and `Asking` are what contracts cite;
--- `Behind` is a means of proof.
+-- `Numbers`, `Telling`, `Showing`, `Copies`, `Linkers`, `Seats`, `Memos`, `Reading`, `Targets`, `Views`, `Awaiting` and `Asking` are what
+-- contracts cite; `Behind` is a means of proof.
 pub mod Numbers
 pub mod Telling
 pub mod Showing
@@ -8,6 +8,7 @@ pub mod Linkers
 pub mod Seats
 pub mod Memos
 pub mod Reading
+pub mod Targets
 pub mod Views
 pub mod Awaiting
 pub mod Asking

@@ -1,6 +1,6 @@
-//! The laws of links as numbers: each is the contract of a function that does nothing.
+//! The laws of links and targets as numbers: each is the contract of a function that does nothing.
 
-ghost use Rattle.std.specs.Prelude.{◌≡◌, ◌⊎◌, ℕ, true, List, Option, Some, Ok, Err};
+ghost use Rattle.std.specs.Prelude.{◌≡◌, ◌≤◌, ◌⊎◌, ℕ, true, List, Option, Some, Ok, Err};
 ghost use Rattle.jl_types.specs.declared.answer.Missing.{Missing};
 ghost use Rattle.jl_types.specs.declared.answer.Unlinked.TheVariants.{NotReady};
 ghost use Rattle.jl_types.specs.declared.link.Link.{Link};
@@ -16,6 +16,10 @@ ghost use Rattle.jl_host.specs.Awaiting.{awaited};
 ghost use Rattle.jl_host.specs.Numbers.{done, memory};
 ghost use Rattle.jl_host.specs.Showing.{shown};
 ghost use Rattle.jl_host.specs.Reading.{link_of, rows_of, is_shown_whole, runs_declarable};
+ghost use Rattle.serde_json.specs.Read.{max_depth};
+ghost use Rattle.jl_types.specs.Values.Target.{Target};
+ghost use Rattle.jl_json.specs.CommandForms.{IsTarget};
+ghost use Rattle.jl_host.specs.Targets.{nesting, parts_of, target_of};
 ghost use Rattle.jl_host.specs.Linkers.{Opened};
 ghost use Rattle.jl_host.specs.Views.{given, IsViewPrepare, IsInstallLinks};
 
@@ -23,6 +27,11 @@ ghost use Rattle.jl_host.specs.Views.{given, IsViewPrepare, IsInstallLinks};
 /// of its class, as those of a class file are (JVMS SE 17 §4.1).
 pub fn shown_links_are_read_again()
     ensures { (link : Link) → is_shown_whole link ≡ true → link_of (shown link) ≡ Some link }
+{}
+
+/// A target is read from its parts, unless it nests deeper than JSON may.
+pub fn targets_are_read_from_parts()
+    ensures { (t : Target) → IsTarget t → nesting t ≤ max_depth → target_of (parts_of t) ≡ Some t }
 {}
 
 /// What a view prepared is installed while the world is the one that was seen, unless memory lacks; and whenever links are installed that

@@ -2,18 +2,19 @@
 //! lock, and views, in which compilers prepare links without one. Everything that a call answers is a status and plain numbers.
 //!
 //! What each call leaves, by its status, stands in `specs/`, in reading order: `Numbers`, `Telling`, `Showing`, `Copies`, `Linkers`,
-//! `Seats`, `Memos`, `Reading`, `Views`, `Awaiting`, `Asking`.
+//! `Seats`, `Memos`, `Reading`, `Targets`, `Views`, `Awaiting`, `Asking`.
 #![tactic(auto)]
 
 // What is answered, as numbers.
 mod shown;
 mod told;
 
-// Arrays, and links that are given.
+// Arrays, and links and targets that are given.
 mod arrays;
 mod fill;
 mod invocations;
 mod reading;
+mod targets;
 
 // Classes and methods by name and by number.
 mod asked;
@@ -36,12 +37,14 @@ mod laws;
 pub use invocations::Invocation;
 pub use laws::{
     awaited_classes_are_named, given_links_are_from_scratch, shown_links_are_read_again,
+    targets_are_read_from_parts,
 };
 pub use linker::Linker;
 pub use memo::Memo;
 pub use reading::LinkRow;
 pub use seat::Seat;
 pub use shown::{CallAnswer, LinkShown, MOST_ROWS, NULL, Row};
+pub use targets::TargetPart;
 pub use told::{
     CLOSED, DONE, MALFORMED, MEMORY, NO_CLASS_FILE, NO_SUCH_PLACE, OPEN_ALREADY, TOO_SHORT, Told,
     UNKNOWN_CLASS,

@@ -9,6 +9,7 @@ ghost use Rattle.jl_host.specs.Seats.{seen_of};
 ghost use Rattle.jl_host.specs.Linkers.{IsOpen, IsNewLoader, IsDefine, IsDelegate, IsRequest, IsNewCallSite, IsSetTarget, IsNewSwitch, IsInvalidate};
 ghost use Rattle.jl_host.specs.Linkers.{IsBind, IsRetire, IsInstall, IsDropped, IsTake, IsCall, IsLinkOf, IsAnswer, kind_of, IfOpen, IsAsked};
 ghost use Rattle.jl_session.specs.Sessions.{snapshot_of};
+ghost use Rattle.jl_host.specs.Targets.{IsNewCallSiteOf, IsSetTargetOf};
 ghost use Rattle.jl_host.specs.Views.{IsInstallLinks};
 ghost use Rattle.jl_host.specs.Asking.{IsLookup, IsClassName, IsMethodName, IsMethodType, IsInvocations, IsNamed, IsAwaited, IsLastWork};
 ghost use Rattle.jl_host.specs.Linkers.{Opened as OpenedValue};
@@ -23,6 +24,7 @@ use crate::opened::Opened;
 use crate::reading::{LinkRow, rows_of};
 use crate::seat_view::SeatView;
 use crate::shown::{CallAnswer, LinkShown, answer_shown, link_shown, recv_of};
+use crate::targets::{TargetPart, target_of};
 use crate::told::{CLOSED, DONE, MALFORMED, MEMORY, OPEN_ALREADY, Told, unasked};
 use jl_names::{Name, Seq};
 use jl_relink::Snapshot;
@@ -174,6 +176,26 @@ impl Linker {
         opened.new_call_site(alloc, kind_of(kind), ty, target, told)
     }
 
+    /// One call site more, as by [`Linker::new_call_site`], with the first target that the parts are.
+    pub fn new_call_site_of(
+        &mut self,
+        alloc: Global,
+        kind: u32,
+        ty: &[u8],
+        parts: &[TargetPart],
+        told: &mut Told,
+    ) -> u32
+        ensures { IsNewCallSiteOf kind ty.now parts.now self.old result told.new self.new }
+    {
+        let Some(opened) = &mut self.opened else {
+            return unasked(CLOSED, told);
+        };
+        let Ok(target) = target_of(alloc, parts) else {
+            return unasked(MEMORY, told);
+        };
+        opened.new_call_site(alloc, kind_of(kind), ty, target, told)
+    }
+
     /// The call site gets another target, as JSON.
     pub fn set_target(
         &mut self,
@@ -188,6 +210,29 @@ impl Linker {
             return unasked(CLOSED, told);
         };
         let Ok(target) = read_target(alloc, target) else {
+            return unasked(MEMORY, told);
+        };
+        let Some(target) = target else {
+            return unasked(MALFORMED, told);
+        };
+        let event = Event::SetTarget(CallSiteId::new(call_site), target);
+        opened.ask(alloc, event, told)
+    }
+
+    /// The call site gets another target, which the parts are.
+    pub fn set_target_of(
+        &mut self,
+        alloc: Global,
+        call_site: u32,
+        parts: &[TargetPart],
+        told: &mut Told,
+    ) -> u32
+        ensures { IsSetTargetOf call_site parts.now self.old result told.new self.new }
+    {
+        let Some(opened) = &mut self.opened else {
+            return unasked(CLOSED, told);
+        };
+        let Ok(target) = target_of(alloc, parts) else {
             return unasked(MEMORY, told);
         };
         let Some(target) = target else {

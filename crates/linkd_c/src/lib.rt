@@ -14,6 +14,7 @@ ghost use Rattle.jl_host.specs.Linkers.{IsInvalidate, IsBind, IsRetire, IsInstal
 ghost use Rattle.jl_host.specs.Seats.{SeatView, IsRefresh, IsSeatCall};
 ghost use Rattle.jl_host.specs.Memos.{IsMemoOpen, IsMemoAsk, IsMemoCall, IsSeatCallWith};
 ghost use Rattle.jl_host.specs.Asking.{IsLookup, IsClassName, IsMethodName, IsMethodType, IsInvocations, IsNamed, IsAwaited, IsLastWork};
+ghost use Rattle.jl_host.specs.Targets.{IsNewCallSiteOf, IsSetTargetOf};
 ghost use Rattle.jl_host.specs.Views.{IsViewTake, IsViewCall, IsViewSerial, IsViewPrepare, IsInstallLinks};
 ghost use Rattle.jl_relink.specs.Preparations.{Snapshot};
 ghost use Rattle.jl_memo.specs.declared.set.Set.{Set};
@@ -22,7 +23,9 @@ ghost use Rattle.linkd_c.specs.Handle.{seat_at, seat_left, both_left, seat_room,
 ghost use Rattle.linkd_c.specs.Handle.{memo_at, memo_left, asked_left, called_left, memo_room, memo_bytes, memo_multiple};
 ghost use Rattle.linkd_c.specs.Handle.{view_at, view_left, taken_left, view_room, view_bytes, view_multiple};
 
-use jl_host::{CallAnswer, Invocation, LinkRow, LinkShown, Linker, Memo, Seat, Told, View};
+use jl_host::{
+    CallAnswer, Invocation, LinkRow, LinkShown, Linker, Memo, Seat, TargetPart, Told, View,
+};
 use std::alloc::Global;
 
 /// Shows that a value of the type may go from one thread to another.
@@ -194,6 +197,23 @@ pub unsafe extern "C" fn linkd_new_call_site(
     (*(at as *mut Linker)).new_call_site(alloc, kind, ty, target, told)
 }
 
+/// One call site more, of this kind, this type and with the first target that the parts are (java.lang.invoke).
+#[unsafe(no_mangle)]
+pub unsafe extern "C" fn linkd_new_call_site_of(
+    alloc: Global,
+    at: *mut Linkd,
+    kind: u32,
+    ty: &[u8],
+    parts: &[TargetPart],
+    told: &mut Told,
+) -> u32
+    ghost old: { Option Opened }
+    requires* { sem 𝓛 (linker_at at old) }
+    ensures* { sem 𝓛 (linker_left at (λ new. IsNewCallSiteOf kind ty.now parts.now old result told.new new)) }
+{
+    (*(at as *mut Linker)).new_call_site_of(alloc, kind, ty, parts, told)
+}
+
 /// The call site gets another target.
 #[unsafe(no_mangle)]
 pub unsafe extern "C" fn linkd_set_target(
@@ -208,6 +228,22 @@ pub unsafe extern "C" fn linkd_set_target(
     ensures* { sem 𝓛 (linker_left at (λ new. IsSetTarget call_site target.now old result told.new new)) }
 {
     (*(at as *mut Linker)).set_target(alloc, call_site, target, told)
+}
+
+/// The call site gets another target, which the parts are.
+#[unsafe(no_mangle)]
+pub unsafe extern "C" fn linkd_set_target_of(
+    alloc: Global,
+    at: *mut Linkd,
+    call_site: u32,
+    parts: &[TargetPart],
+    told: &mut Told,
+) -> u32
+    ghost old: { Option Opened }
+    requires* { sem 𝓛 (linker_at at old) }
+    ensures* { sem 𝓛 (linker_left at (λ new. IsSetTargetOf call_site parts.now old result told.new new)) }
+{
+    (*(at as *mut Linker)).set_target_of(alloc, call_site, parts, told)
 }
 
 /// One switch point more, valid.

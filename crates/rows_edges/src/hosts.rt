@@ -2,7 +2,7 @@
 
 use crate::steps::{Compiler, Step, answer, numbers};
 use Step::*;
-use jl_host::{Linker, Memo, NULL, Seat};
+use jl_host::{Linker, Memo, NULL, Seat, TargetPart};
 use std::process::Abort;
 
 /// A step, and the numbers that it is to come to.
@@ -15,6 +15,41 @@ const OBJECT: &[u8] =
 /// A, below java/lang/Object, with a public f of the type ()V.
 const A: &[u8] =
     b"\xca\xfe\xba\xbe\x00\x00\x00\x3d\x00\x08\x01\x00\x01A\x07\x00\x01\x01\x00\x10java/lang/Object\x07\x00\x03\x01\x00\x01f\x01\x00\x03()V\x01\x00\x04Code\x00\x21\x00\x02\x00\x04\x00\x00\x00\x00\x00\x01\x00\x01\x00\x05\x00\x06\x00\x01\x00\x07\x00\x00\x00\x0d\x00\x00\x00\x00\x00\x00\x00\x01\xb1\x00\x00\x00\x00\x00\x00";
+
+/// The method m of T.
+const M: TargetPart = TargetPart {
+    kind: 0,
+    number: 1,
+    value: 0,
+};
+
+/// The method n of T.
+const N: TargetPart = TargetPart {
+    kind: 0,
+    number: 1,
+    value: 1,
+};
+
+/// A guard on the switch point 0.
+const GUARD: TargetPart = TargetPart {
+    kind: 1,
+    number: 0,
+    value: 9,
+};
+
+/// The dynamicInvoker of the call site 0.
+const INVOKER: TargetPart = TargetPart {
+    kind: 2,
+    number: 0,
+    value: 9,
+};
+
+/// A part of a kind that is none.
+const NO_PART: TargetPart = TargetPart {
+    kind: 3,
+    number: 1,
+    value: 0,
+};
 
 /// Asserts each row of the script, on a linker, a seat, a memo and a view that were made just now.
 fn assert_rows(rt: &(impl Abort + AllocGlobal), script: &str, rows: &[StepRow]) {
@@ -120,6 +155,8 @@ const OVERRIDING: &[StepRow] = &[
     (Refresh, &[34]),
     (SeatCall(0, 4), &[0, 0, 4, 0]),
     (NewLoader, &[34]),
+    (NewCallSiteOf(1, "()V", &[M]), &[34]),
+    (SetTargetOf(0, &[NO_PART]), &[34]),
     (LinkOf(0), &[34, 9, 1, 9, 9, 9, 9]),
     (Dropped(1), &[34, 9, 9, 9, 9, 9]),
     (Open(2), &[0]),
@@ -230,6 +267,11 @@ const CALL_SITES: &[StepRow] = &[
     (NewCallSite(2, "()V", r#"{"invoker":7}"#), &[6, 0, 9, 7]),
     (NewCallSite(1, "()I", r#"{"invoker":0}"#), &[6, 0, 3]),
     (NewCallSite(1, "()V", r#"{"invoker":0}"#), &[0, 2]),
+    (NewCallSiteOf(0, "()V", &[M]), &[33]),
+    (NewCallSiteOf(1, "V", &[M]), &[33]),
+    (NewCallSiteOf(1, "()V", &[M, M]), &[33]),
+    (NewCallSiteOf(1, "()I", &[INVOKER]), &[6, 0, 3]),
+    (NewCallSiteOf(1, "()V", &[INVOKER]), &[0, 3]),
     (Bind(1, 0), &[7]),
     (Bind(0, 0), &[0]),
     (Bind(0, 1), &[8, 0, 0, 0]),
@@ -251,7 +293,18 @@ const CALL_SITES: &[StepRow] = &[
         ),
         &[0],
     ),
+    (SetTargetOf(0, &[]), &[33]),
+    (SetTargetOf(0, &[GUARD, M]), &[33]),
+    (SetTargetOf(0, &[GUARD, M, N, N]), &[33]),
+    (SetTargetOf(0, &[NO_PART]), &[33]),
+    (SetTargetOf(0, &[INVOKER]), &[6, 0, 9, 0]),
+    (SetTargetOf(1, &[M]), &[6, 0, 2]),
+    (SetTargetOf(0, &[GUARD, N, GUARD, M, N]), &[0]),
     (Install(&[0]), &[0]),
+    (LinkOf(0), &[0, 2, 1, 0, 0, 1, 1]),
+    (SetTargetOf(0, &[GUARD, M, N]), &[0]),
+    (Install(&[0]), &[0]),
+    (LinkOf(0), &[0, 2, 1, 0, 0, 1, 0]),
     (Invalidate(&[1]), &[0]),
     (Dropped(1), &[0, 0, 9, 9, 9, 9]),
     (Invalidate(&[2]), &[6, 0, 6]),

@@ -1,6 +1,8 @@
 //! Steps on a linker, a seat, a memo and a view, each with numbers for an answer.
 
-use jl_host::{CallAnswer, Invocation, LinkRow, LinkShown, Linker, Memo, Row, Seat, Told, View};
+use jl_host::{
+    CallAnswer, Invocation, LinkRow, LinkShown, Linker, Memo, Row, Seat, TargetPart, Told, View,
+};
 use std::alloc::Global;
 
 /// The most numbers of an answer.
@@ -19,6 +21,9 @@ pub enum Step {
     Request(u32, u32, u32),
     NewCallSite(u32, &'static str, &'static str),
     SetTarget(u32, &'static str),
+    /// The same, by the parts of the target.
+    NewCallSiteOf(u32, &'static str, &'static [TargetPart]),
+    SetTargetOf(u32, &'static [TargetPart]),
     NewSwitch,
     Invalidate(&'static [u32]),
     Bind(u32, u32),
@@ -290,6 +295,12 @@ fn event_numbers(alloc: Global, linker: &mut Linker, step: &Step) -> Numbers {
         }
         Step::SetTarget(call_site, target) => {
             linker.set_target(alloc, *call_site, target.as_bytes(), &mut told)
+        }
+        Step::NewCallSiteOf(kind, ty, parts) => {
+            linker.new_call_site_of(alloc, *kind, ty.as_bytes(), parts, &mut told)
+        }
+        Step::SetTargetOf(call_site, parts) => {
+            linker.set_target_of(alloc, *call_site, parts, &mut told)
         }
         _ => 99,
     };
