@@ -18,10 +18,10 @@ use Rattle.jl_types.specs.Linkage.Links.{scratch}
 use Rattle.jl_types.specs.Linkage.Resolution.{first_of}
 use Rattle.jl_types.specs.Means.SameLink.{link_decides}
 use Rattle.jl_types.specs.Happenings.Batches.{is_bad_size, sites_fault}
-use Rattle.jl_types.specs.Happenings.Events.{row_fault, install_fault, Accepts, unless, verdict}
+use Rattle.jl_types.specs.Happenings.Events.{row_fault, install_fault, Accepts, unless}
 use Rattle.jl_types.specs.Happenings.Events as events
 use Rattle.jl_types.specs.Happenings.History.{replied}
-use Rattle.jl_types.specs.Happenings.Preparation.{prepare_fault, ready_fault, ArePrepared}
+use Rattle.jl_types.specs.Happenings.Preparation.{prepare_fault, ArePrepared}
 use Rattle.jl_types.specs.Happenings.Preparation as preparation
 use Rattle.jl_types.proofs.Accepting.{accepted_installs}
 use Rattle.jl_types.proofs.Firsts.{first_none, test_none}

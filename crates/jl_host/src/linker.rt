@@ -238,8 +238,11 @@ impl Linker {
         let Some(target) = target else {
             return unasked(MALFORMED, told);
         };
-        let event = Event::SetTarget(CallSiteId::new(call_site), target);
-        opened.ask(alloc, event, told)
+        opened.ask(
+            alloc,
+            Event::SetTarget(CallSiteId::new(call_site), target),
+            told,
+        )
     }
 
     /// One switch point more, valid.
