@@ -194,7 +194,8 @@ static linkd_view *viewed(void) {
 }
 
 int main(void) {
-    linkd_target_part parts[] = {{LINKD_GUARD_TARGET, 1, 0}, {LINKD_METHOD_TARGET, 3, 0}, {LINKD_METHOD_TARGET, 3, 1}, {LINKD_INVOKER_TARGET, 7, 0}};
+    linkd_target_part parts[] = {
+        {LINKD_GUARD_TARGET, 1, 0}, {LINKD_METHOD_TARGET, 3, 0}, {LINKD_METHOD_TARGET, 3, 1}, {LINKD_INVOKER_TARGET, 7, 0}};
     static const uint8_t truncated[] = {0xca, 0xfe, 0xba}, no_magic[] = {1, 2, 3, 4, 0, 0, 0, 61}, newer[] = {0xca, 0xfe, 0xba, 0xbe, 0, 0, 0, 62};
     linkd_seat *seat = block(linkd_seat_size(), linkd_seat_align());
     at = block(linkd_size(), linkd_align());

@@ -53,8 +53,8 @@ known m few = grind (arith, nat_tests, few)
 fits : (t : Target) → nesting t ≤ max_depth → nat_le (nesting t) max_depth ≡ true
 fits t few = grind (arith, nat_tests, few)
 
-first_is : (t : Target) → IsTarget t → nesting t ≤ max_depth → (rest : List TargetPart) (behind : List Target) → targets_of rest ≡ Some behind
-    → targets_of (parts_of t ++ rest) ≡ Some (t ∷ behind)
+first_is : (t : Target) → IsTarget t → nesting t ≤ max_depth → (rest : List TargetPart) (behind : List Target)
+    → targets_of rest ≡ Some behind → targets_of (parts_of t ++ rest) ≡ Some (t ∷ behind)
 unfolding targets_of
 first_is (Method m) is few rest behind so_far =
     ap (option_and_then (read_before (part 0 m.class m.index))) so_far

@@ -64,7 +64,8 @@ fn guard_before(
     point: SwitchId,
     read: &mut Vec<Target>,
 ) -> Result<Option<Target>, AllocError>
-    ensures { IfOk result (λ guard. option_map (λ t. t ∷ reverse read.new.items) guard ≡ targets.guard_before point (reverse read.old.items)) }
+    ensures { IfOk result (λ guard.
+        option_map (λ t. t ∷ reverse read.new.items) guard ≡ targets.guard_before point (reverse read.old.items)) }
 {
     let Some(first) = read.pop() else {
         return Ok(None);
@@ -91,7 +92,8 @@ fn target_before(
     part: &TargetPart,
     read: &mut Vec<Target>,
 ) -> Result<Option<Target>, AllocError>
-    ensures { IfOk result (λ target. option_map (λ t. t ∷ reverse read.new.items) target ≡ targets.read_before part.now (reverse read.old.items)) }
+    ensures { IfOk result (λ target.
+        option_map (λ t. t ∷ reverse read.new.items) target ≡ targets.read_before part.now (reverse read.old.items)) }
 {
     match part.kind {
         0 => Ok(method_target(part.number, part.value)),
