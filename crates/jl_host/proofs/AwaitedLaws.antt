@@ -27,7 +27,8 @@ use Rattle.jl_types.specs.Linkage.Access.{by_subclass, by_package}
 use Rattle.jl_types.specs.Values.Members.{is_public}
 use Rattle.jl_types.specs.Linkage.Resolution.{Resolved, by_access, if_accessible, resolved_in, resolved_at, resolved, found, naming, named_class}
 use Rattle.jl_types.specs.Linkage.Selection.{is_init}
-use Rattle.jl_types.specs.Linkage.Stages.{Stage, Waits, Fails, Calls, Selects, Selector, ByVirtual, ByInterface, BySpecial, stage, stage_at, stage_of, by_operand}
+use Rattle.jl_types.specs.Linkage.Stages.{Stage, Waits, Fails, Calls, Selects, Selector, ByVirtual, ByInterface, BySpecial}
+use Rattle.jl_types.specs.Linkage.Stages.{stage, stage_at, stage_of, by_operand}
 use Rattle.jl_types.specs.Linkage.Stages.{ResolvedCall, by_resolution, by_kind, by_method, selecting, invocation_at, bound_method}
 use Rattle.jl_types.specs.Linkage.Links.{scratch, link_of}
 use Rattle.jl_host.specs.Awaiting.{nest_host_named, missing_named, awaited_by_answer, awaited_by, awaited_at, awaited}
@@ -58,7 +59,8 @@ module _ (cs : Classes) where
       subst (λ (o : Option Class). HasName (option_and_then (λ r. r.file.nest_host) o)) (sym is)
       (host_by_none c row row.file.nest_host (ap (option_and_then (λ (r : Class). host_by cs c r r.file.nest_host)) (sym is) ∙ none))
 
-  by_hosts : (missing : Missing) (h k : Option ℕ) → same_nest h k ≡ NotKnown missing → ((missing ≡ CallerHost) × (h ≡ None)) ⊎ ((missing ≡ MethodHost) × (k ≡ None))
+  by_hosts : (missing : Missing) (h k : Option ℕ) → same_nest h k ≡ NotKnown missing
+      → ((missing ≡ CallerHost) × (h ≡ None)) ⊎ ((missing ≡ MethodHost) × (k ≡ None))
   by_hosts missing None k e = inl (cc, refl)
   by_hosts missing (Some h) None e = inr (cc, refl)
   by_hosts missing (Some h) (Some k) e = by_test (h == k) e
@@ -131,7 +133,8 @@ module _ (cs : Classes) where
               let own = method_there (λ m. has_flag m.flags PRIVATE) f.method.index (slice_get cs.rows f.method.class) f.is_hidden.private_is in
               let m_is : option_and_then (found cs ref) (named_class cs d ref) ≡ Some f.method = ap (option_and_then (found cs ref)) is ∙ f.found_is in
               subst (λ x. HasName (missing_named cs d ref x)) (sym h.0)
-              (subst (λ (o : Option MethodId). HasName (option_and_then (λ m. nest_host_named cs m.class) o)) (sym m_is) (host_missing f.method.class own.0 own.1 h.1))
+              (subst (λ (o : Option MethodId). HasName (option_and_then (λ m. nest_host_named cs m.class) o)) (sym m_is)
+              (host_missing f.method.class own.0 own.1 h.1))
         ]
 
     not_resolved : (ref : Reference (List ℕ)) (o : Option ℕ) → named_class cs d ref ≡ o → resolved_at cs d ref o ≡ Err (resolve.NotReady missing)
