@@ -29,6 +29,7 @@ static const char *const FILES[CLASSES] = {
 
 static const char GUARD[] = "{\"guard\":0,\"target\":{\"method\":[5,0]},\"fallback\":{\"method\":[5,1]}}";
 static const char OTHER[] = "{\"method\":[5,1]}";
+static const linkd_target_part PARTS[] = {{LINKD_GUARD_TARGET, 0, 0}, {LINKD_METHOD_TARGET, 5, 0}, {LINKD_METHOD_TARGET, 5, 1}};
 
 static union { unsigned char bytes[1 << 16]; long double aligned; } linker_block, seat_block, view_block;
 static linkd *at;
@@ -134,6 +135,10 @@ static uint32_t bind(void) { return linkd_bind(at, 1, 0, &told); }
 static uint32_t install_1(void) { return install(1); }
 static uint32_t invalidation(void) { return invalidate(0); }
 static uint32_t retarget(void) { return linkd_set_target(at, 0, (const uint8_t *)OTHER, strlen(OTHER), &told); }
+static uint32_t retarget_by_parts(void) { return linkd_set_target_of(at, 0, PARTS, sizeof PARTS / sizeof *PARTS, &told); }
+static uint32_t guarded_by_parts(void) {
+    return linkd_new_call_site_of(at, 2, (const uint8_t *)"()V", 3, PARTS, sizeof PARTS / sizeof *PARTS, &told);
+}
 static uint32_t retire(void) { return linkd_retire(at, 1, &told); }
 
 /* Behind C and the invalidation what was prepared before is stale. The second event behind a view is the one that copies. */
@@ -147,7 +152,7 @@ static const struct {
     {"install by value", install_prepared_0}, {"install", install_0}, {"T", t}, {"request", request_t}, {"switch point", switch_point},
     {"call site", guarded}, {"bind", bind}, {"view", take}, {"preparation", prepare_all}, {"install by value", install_prepared_all},
     {"seat", refresh}, {"invalidation", invalidation}, {"install by value", install_prepared_all}, {"install", install_1},
-    {"target", retarget}, {"retirement", retire}, {"seat", refresh}, {"view", take},
+    {"target", retarget}, {"target by parts", retarget_by_parts}, {"call site by parts", guarded_by_parts}, {"retirement", retire}, {"seat", refresh}, {"view", take},
 };
 
 static void print_dropped(void) {
