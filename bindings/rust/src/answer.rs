@@ -147,6 +147,31 @@ pub enum Target {
     Invoker(CallSiteId),
 }
 
+impl Target {
+    /// Its parts as linkd.h has them, a guard before its first part and its fallback.
+    pub(crate) fn parts(&self) -> Vec<raw::TargetPart> {
+        let mut parts = Vec::new();
+        self.push_parts(&mut parts);
+        parts
+    }
+
+    fn push_parts(&self, parts: &mut Vec<raw::TargetPart>) {
+        match self {
+            Target::Method(class, method) => {
+                parts.push(raw::TargetPart { kind: 0, number: class.number(), value: (*method).into() });
+            }
+            Target::Guard(switch, first, fallback) => {
+                parts.push(raw::TargetPart { kind: 1, number: switch.number(), value: 0 });
+                first.push_parts(parts);
+                fallback.push_parts(parts);
+            }
+            Target::Invoker(call_site) => {
+                parts.push(raw::TargetPart { kind: 2, number: call_site.number(), value: 0 });
+            }
+        }
+    }
+}
+
 /// As docs/FORMATS.md has it, in JSON.
 impl fmt::Display for Target {
     fn fmt(&self, to: &mut fmt::Formatter<'_>) -> fmt::Result {

@@ -128,15 +128,15 @@ impl Linker {
 
     /// A call site of this type, a method descriptor.
     pub fn new_call_site(&mut self, kind: CallSiteKind, descriptor: &[u8], target: &Target) -> Result<CallSiteId, Error> {
-        let (mut told, target) = (Told::default(), target.to_string());
+        let (mut told, parts) = (Told::default(), target.parts());
         let status = unsafe {
-            raw::linkd_new_call_site(
+            raw::linkd_new_call_site_of(
                 self.at(),
                 kind.number(),
                 descriptor.as_ptr(),
                 descriptor.len(),
-                target.as_ptr(),
-                target.len(),
+                parts.as_ptr(),
+                parts.len(),
                 &mut told,
             )
         };
@@ -145,8 +145,8 @@ impl Linker {
 
     /// The call site has this target from now on.
     pub fn set_target(&mut self, call_site: CallSiteId, target: &Target) -> Result<(), Error> {
-        let (mut told, target) = (Told::default(), target.to_string());
-        let status = unsafe { raw::linkd_set_target(self.at(), call_site.0, target.as_ptr(), target.len(), &mut told) };
+        let (mut told, parts) = (Told::default(), target.parts());
+        let status = unsafe { raw::linkd_set_target_of(self.at(), call_site.0, parts.as_ptr(), parts.len(), &mut told) };
         done(status, &told)
     }
 

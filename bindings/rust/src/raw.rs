@@ -19,6 +19,14 @@ pub struct Told {
 }
 
 #[repr(C)]
+#[derive(Clone, Copy)]
+pub struct TargetPart {
+    pub kind: u32,
+    pub number: u32,
+    pub value: u32,
+}
+
+#[repr(C)]
 #[derive(Clone, Copy, Default)]
 pub struct Answer {
     pub kind: u32,
@@ -74,16 +82,16 @@ extern "C" {
     pub fn linkd_define(at: *mut Opaque, loader: u32, bytes: *const u8, length: usize, told: *mut Told) -> u32;
     pub fn linkd_delegate(at: *mut Opaque, loader: u32, name: *const u8, name_length: usize, to: u32, told: *mut Told) -> u32;
     pub fn linkd_request(at: *mut Opaque, class_number: u32, method: u32, pc: u32, told: *mut Told) -> u32;
-    pub fn linkd_new_call_site(
+    pub fn linkd_new_call_site_of(
         at: *mut Opaque,
         kind: u32,
         type_: *const u8,
         type_length: usize,
-        target: *const u8,
-        target_length: usize,
+        parts: *const TargetPart,
+        count: usize,
         told: *mut Told,
     ) -> u32;
-    pub fn linkd_set_target(at: *mut Opaque, call_site: u32, target: *const u8, target_length: usize, told: *mut Told) -> u32;
+    pub fn linkd_set_target_of(at: *mut Opaque, call_site: u32, parts: *const TargetPart, count: usize, told: *mut Told) -> u32;
     pub fn linkd_new_switch(at: *mut Opaque, told: *mut Told) -> u32;
     pub fn linkd_invalidate(at: *mut Opaque, switches: *const u32, count: usize, told: *mut Told) -> u32;
     pub fn linkd_bind(at: *mut Opaque, site: u32, call_site: u32, told: *mut Told) -> u32;

@@ -143,8 +143,8 @@ public final class Linker implements AutoCloseable {
         MemorySegment open = at();
         try (Arena call = Arena.ofConfined()) {
             MemorySegment type = copied(call, Names.bytes(descriptor));
-            MemorySegment json = copied(call, target.json().getBytes(StandardCharsets.UTF_8));
-            return new CallSiteId(made(Native.newCallSite(open, kind.number(), type, json, told)));
+            MemorySegment parts = call.allocateFrom(JAVA_INT, target.parts().toArray());
+            return new CallSiteId(made(Native.newCallSite(open, kind.number(), type, parts, told)));
         }
     }
 
@@ -152,8 +152,8 @@ public final class Linker implements AutoCloseable {
     public synchronized void setTarget(CallSiteId callSite, Target target) {
         MemorySegment open = at();
         try (Arena call = Arena.ofConfined()) {
-            MemorySegment json = copied(call, target.json().getBytes(StandardCharsets.UTF_8));
-            made(Native.setTarget(open, callSite.number(), json, told));
+            MemorySegment parts = call.allocateFrom(JAVA_INT, target.parts().toArray());
+            made(Native.setTarget(open, callSite.number(), parts, told));
         }
     }
 

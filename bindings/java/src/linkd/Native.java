@@ -27,6 +27,8 @@ final class Native {
     static final int MOST_ROWS = 8;
     static final int LINK = 2 + MOST_ROWS * 4;
     static final int LINK_ROW = 1 + LINK;
+    /** The bytes of a part of a target. */
+    private static final long TARGET_PART = 3 * JAVA_INT.byteSize();
     static final int INVOCATION = 2;
 
     private static final SymbolLookup LIBRARY = Library.open();
@@ -53,8 +55,8 @@ final class Native {
     private static final MethodHandle DELEGATE = status("linkd_delegate", JAVA_INT, ADDRESS, JAVA_LONG, JAVA_INT, ADDRESS);
     private static final MethodHandle REQUEST = status("linkd_request", JAVA_INT, JAVA_INT, JAVA_INT, ADDRESS);
     private static final MethodHandle NEW_CALL_SITE =
-            status("linkd_new_call_site", JAVA_INT, ADDRESS, JAVA_LONG, ADDRESS, JAVA_LONG, ADDRESS);
-    private static final MethodHandle SET_TARGET = status("linkd_set_target", JAVA_INT, ADDRESS, JAVA_LONG, ADDRESS);
+            status("linkd_new_call_site_of", JAVA_INT, ADDRESS, JAVA_LONG, ADDRESS, JAVA_LONG, ADDRESS);
+    private static final MethodHandle SET_TARGET = status("linkd_set_target_of", JAVA_INT, ADDRESS, JAVA_LONG, ADDRESS);
     private static final MethodHandle NEW_SWITCH = status("linkd_new_switch", ADDRESS);
     private static final MethodHandle INVALIDATE = status("linkd_invalidate", ADDRESS, JAVA_LONG, ADDRESS);
     private static final MethodHandle BIND = status("linkd_bind", JAVA_INT, JAVA_INT, ADDRESS);
@@ -204,17 +206,17 @@ final class Native {
         }
     }
 
-    static int newCallSite(MemorySegment at, int kind, MemorySegment type, MemorySegment target, MemorySegment told) {
+    static int newCallSite(MemorySegment at, int kind, MemorySegment type, MemorySegment parts, MemorySegment told) {
         try {
-            return (int) NEW_CALL_SITE.invokeExact(at, kind, type, type.byteSize(), target, target.byteSize(), told);
+            return (int) NEW_CALL_SITE.invokeExact(at, kind, type, type.byteSize(), parts, parts.byteSize() / TARGET_PART, told);
         } catch (Throwable fault) {
             throw failed(fault);
         }
     }
 
-    static int setTarget(MemorySegment at, int callSite, MemorySegment target, MemorySegment told) {
+    static int setTarget(MemorySegment at, int callSite, MemorySegment parts, MemorySegment told) {
         try {
-            return (int) SET_TARGET.invokeExact(at, callSite, target, target.byteSize(), told);
+            return (int) SET_TARGET.invokeExact(at, callSite, parts, parts.byteSize() / TARGET_PART, told);
         } catch (Throwable fault) {
             throw failed(fault);
         }

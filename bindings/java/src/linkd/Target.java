@@ -1,9 +1,14 @@
 package linkd;
 
+import java.util.stream.IntStream;
+
 /** What a call site runs (java.lang.invoke.CallSite). */
 public sealed interface Target {
     /** As docs/FORMATS.md has it, in JSON. */
     String json();
+
+    /** Its parts by three numbers each, as linkd.h has them: a guard stands before its first part and its fallback. */
+    IntStream parts();
 
     /**
      * A static method.
@@ -15,6 +20,11 @@ public sealed interface Target {
         @Override
         public String json() {
             return "{\"method\":[" + type.number() + "," + method + "]}";
+        }
+
+        @Override
+        public IntStream parts() {
+            return IntStream.of(0, type.number(), method);
         }
     }
 
@@ -30,6 +40,11 @@ public sealed interface Target {
         public String json() {
             return "{\"guard\":" + point.number() + ",\"target\":" + target.json() + ",\"fallback\":" + fallback.json() + "}";
         }
+
+        @Override
+        public IntStream parts() {
+            return IntStream.concat(IntStream.of(1, point.number(), 0), IntStream.concat(target.parts(), fallback.parts()));
+        }
     }
 
     /**
@@ -41,6 +56,11 @@ public sealed interface Target {
         @Override
         public String json() {
             return "{\"invoker\":" + callSite.number() + "}";
+        }
+
+        @Override
+        public IntStream parts() {
+            return IntStream.of(2, callSite.number(), 0);
         }
     }
 }
