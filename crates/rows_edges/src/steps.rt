@@ -267,7 +267,7 @@ fn asked_numbers(linker: &mut Linker, step: &Step) -> Numbers {
         Step::LastWork => {
             let mut work = 99;
             let status = linker.last_work(&mut work);
-            numbers(&[status, u32::from(work < 99)])
+            numbers(&[status, u32::try_from(work).unwrap_or(98)])
         }
         _ => numbers(&[99]),
     }
