@@ -42,7 +42,7 @@ impl Model for Sites {
     ghost use Rattle.jl_callsites.specs.Known.{are_known};
 
     ghost invariant = { λ s. (are_known (record { call_sites = s.call_sites.items; switches = s.switches.items }) ≡ true)
-        × (length s.call_sites.items ≤ 65536) };
+        × (length s.call_sites.items ≤ 65536) × (length s.switches.items ≤ 65536) };
 }
 
 impl Sites {
@@ -64,7 +64,7 @@ impl Sites {
     }
 
     /// How many call sites there are, which are as few as there may be. Takes no memory.
-    pub(crate) fn few_call_sites(&self) -> usize
+    pub fn few_call_sites(&self) -> usize
         ensures few { length self.now.call_sites ≤ 65536 }
         ensures count { result ≡ length self.now.call_sites }
     {
@@ -78,6 +78,16 @@ impl Sites {
         ensures { result ≡ length self.now.switches }
     {
         self.switches.as_slice().len()
+    }
+
+    /// How many switch points there are, which are as few as there may be. Takes no memory.
+    pub fn few_switches(&self) -> usize
+        ensures few { length self.now.switches ≤ 65536 }
+        ensures count { result ≡ length self.now.switches }
+    {
+        // Opens the invariant, which bounds the count.
+        let _ = &self.call_sites;
+        self.switch_count()
     }
 
     /// How many switch points there are, among which are those of all guards. Takes no memory.

@@ -8,6 +8,7 @@ use crate::site::{KeptSite, Sites};
 use jl_names::{LentName, Name, Seq};
 use jl_pool::Pool;
 use std::marker::Model;
+use std::sync::Arc;
 
 /// A method that is kept beside the pool of its class file and the invocations of all its methods: its access flags, the
 /// numbers of its name and descriptor, and where its invocations begin and end among them.
@@ -124,47 +125,88 @@ impl<'a> Methods<'a> {
     }
 }
 
+/// The methods of a class file as they are kept, which copies of the class file share. It owns the constant pool that was read; methods
+/// name their texts by number, and the invocations of all methods, by their numbers, stand in one vector. A clause sees the list of
+/// methods.
+#[derive(Debug)]
+pub struct KeptMethods {
+    pub pool: Pool,
+    pub sites: Vec<KeptSite>,
+    pub methods: Seq<KeptMethod>,
+}
+
+/// Written out, so that what drops one makes one call of it and doesn't take apart what it holds.
+impl Drop for KeptMethods {
+    fn drop(self) {
+        let KeptMethods {
+            pool: _pool,
+            sites: _sites,
+            methods: _methods,
+        } = self;
+    }
+}
+
+impl Model for KeptMethods {
+    ghost use Rattle.std.specs.Prelude.{List, ◌<◌, ◌^◌, length, map};
+    ghost use Rattle.jl_class.specs.Class as plain;
+    ghost use Rattle.jl_class.specs.Kept.{method_in, AreMethodsKept};
+
+    ghost Value = { List plain.Method };
+
+    ghost view = { λ k. map (method_in k.pool k.sites.items) k.methods };
+
+    ghost invariant = { λ k. (length k.methods < 2 ^ 16) × AreMethodsKept k.pool k.sites.items k.methods };
+}
+
+impl KeptMethods {
+    /// The methods, in the file's order: fewer than 65,536.
+    fn lent(&self) -> Methods<'_>
+        ensures methods { result ≡ self.now }
+        ensures few { length result < 2 ^ 16 }
+    {
+        Methods {
+            pool: &self.pool,
+            sites: &self.sites,
+            kept: self.methods.as_slice(),
+        }
+    }
+}
+
 /// What is kept of a class file (JVMS SE 17 §4.1): its name, access flags, superclass (java/lang/Object alone has
 /// none), direct superinterfaces, nest host and nest members as the file names them (§4.7.28, §4.7.29), and methods,
 /// in file order. Each text is in modified UTF-8. What it answers is lent, and takes no memory.
 ///
-/// It owns the constant pool that was read. Names are parts of the pool's bytes, methods name their texts by number, and
-/// the invocations of all methods, by their numbers, stand in one vector.
+/// Names are parts of the pool's bytes.
 #[derive(Debug)]
 pub struct ClassFile {
-    pub pool: Pool,
-    pub sites: Vec<KeptSite>,
+    pub kept: Arc<KeptMethods>,
     pub name: Name,
     pub flags: u16,
     pub superclass: Option<Name>,
     pub interfaces: Seq<Name>,
     pub nest_host: Option<Name>,
     pub nest_members: Seq<Name>,
-    pub methods: Seq<KeptMethod>,
 }
 
 /// Written out, so that what drops one makes one call of it and doesn't take apart what it holds.
 impl Drop for ClassFile {
     fn drop(self) {
         let ClassFile {
-            pool: _pool,
-            sites: _sites,
+            kept: _kept,
             name: _name,
             flags: _flags,
             superclass: _superclass,
             interfaces: _interfaces,
             nest_host: _nest_host,
             nest_members: _nest_members,
-            methods: _methods,
         } = self;
     }
 }
 
 impl Model for ClassFile {
-    ghost use Rattle.std.specs.Prelude.{◌≡◌, ◌<◌, ◌^◌, true, length, map};
+    ghost use Rattle.std.specs.Prelude.{◌≡◌, true};
     ghost use Rattle.jl_class.specs.Class as plain;
     ghost use Rattle.jl_class.specs.Flags.{extends_object};
-    ghost use Rattle.jl_class.specs.Kept.{method_in, AreMethodsKept};
 
     ghost Value = { plain.ClassFile };
 
@@ -175,11 +217,10 @@ impl Model for ClassFile {
       interfaces = f.interfaces;
       nest_host = f.nest_host;
       nest_members = f.nest_members;
-      methods = map (method_in f.pool f.sites.items) f.methods;
+      methods = f.kept.value;
     } };
 
-    ghost invariant = { λ f. (length f.methods < 2 ^ 16) × (extends_object f.flags f.superclass ≡ true)
-        × AreMethodsKept f.pool f.sites.items f.methods };
+    ghost invariant = { λ f. extends_object f.flags f.superclass ≡ true };
 }
 
 impl ClassFile {
@@ -250,15 +291,13 @@ impl ClassFile {
         ensures { result ≡ (self.superclass, self.interfaces) }
     {
         let ClassFile {
-            pool: _pool,
-            sites: _sites,
+            kept: _kept,
             name: _name,
             flags: _flags,
             superclass,
             interfaces,
             nest_host: _nest_host,
             nest_members: _nest_members,
-            methods: _methods,
         } = self;
         (superclass, interfaces)
     }
@@ -268,11 +307,7 @@ impl ClassFile {
         ensures methods { result ≡ self.now.methods }
         ensures few { length result < 2 ^ 16 }
     {
-        Methods {
-            pool: &self.pool,
-            sites: &self.sites,
-            kept: self.methods.as_slice(),
-        }
+        self.kept.lent()
     }
 }
 

@@ -5,11 +5,12 @@
 #![tactic(auto)]
 
 mod class;
+mod copy;
 mod flags;
 mod site;
 mod special;
 
-pub use class::{ClassFile, KeptMethod, Method, Methods};
+pub use class::{ClassFile, KeptMethod, KeptMethods, Method, Methods};
 pub use flags::{
     ABSTRACT, FINAL, INTERFACE, MODULE, NATIVE, PRIVATE, PROTECTED, PUBLIC, STATIC, has_flag,
 };

@@ -18,7 +18,7 @@ use Rattle.jl_class.specs.Class.{Method}
 use Rattle.jl_code.specs.declared.instruction.Instruction.{Instruction}
 use Rattle.jl_code.specs.declared.code_fault.CodeFault.{CodeFault}
 use Rattle.jl_code.specs.declared.code_fault.CodeFault.TheVariants as code
-use Rattle.jl_classfile.specs.declared.fault.ClassFault.TheVariants.{Code, Memory}
+use Rattle.jl_classfile.specs.declared.fault.ClassFault.TheVariants.{Code}
 use Rattle.jl_pool.specs.Pools.{Pool}
 use Rattle.jl_code.specs.Codes.{IsCode, sites_from}
 use Rattle.jl_classfile.specs.CodeAttributes.{HoldsCode, IsCodeOf}

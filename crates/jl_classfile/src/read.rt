@@ -12,18 +12,19 @@ ghost use Rattle.jl_pool.specs.Pools.{class_at};
 ghost use Rattle.jl_classfile.specs.Shown.{shown, name_or_nothing};
 ghost use Rattle.jl_classfile.specs.Conditions.{IsVersion, codes_of, super_fits};
 ghost use Rattle.jl_classfile.specs.Means.Passes.{HasHead, fault_of_code, IsMethodFault, SitesAdded, MethodAdded};
-ghost use Rattle.jl_classfile.specs.Means.Passes.{MethodsKept, NamesShown, BodyShown, HasPool, Lies};
+ghost use Rattle.jl_classfile.specs.Means.Passes.{MethodsKept, MethodsShown, NamesShown, BodyShown, HasPool, Lies};
 
 use crate::body::{Body, Member, body_at, code_in};
 use crate::fault::ClassFault;
 use crate::links::check_links;
 use crate::member::{CODE, check_attribute_names, check_members, first_called};
 use crate::nest::{NestNumbers, nest_of};
-use jl_class::{ClassFile, KeptMethod, KeptSite};
+use jl_class::{ClassFile, KeptMethod, KeptMethods, KeptSite};
 use jl_code::{CodeFault, scan};
 use jl_names::{Name, Seq};
 use jl_pool::{Pool, PoolFault, u2_at, u4_at};
 use std::alloc::{AllocError, Global};
+use std::sync::Arc;
 
 /// The most bytes of a class file.
 const MOST_BYTES: usize = 1_000_000;
@@ -204,6 +205,25 @@ fn methods_of(
     Ok((Seq::of(methods), sites))
 }
 
+/// The methods, kept with the pool and the invocations of all of them.
+fn kept_methods(
+    alloc: Global,
+    pool: Pool,
+    members: &[Member<'_>],
+) -> Result<KeptMethods, ClassFault>
+    requires few { length members.now < 2 ^ 16 }
+    requires one_code { All (λ m. length (codes_of pool m) ≤ 1) members.now }
+    ensures ok { IfOk result (MethodsShown pool members.now) }
+    ensures fault { IfErr result (λ f. f ≢ Memory → (i : ℕ) × (m : Member) × (slice_get members.now i ≡ Some m) × IsMethodFault pool i m f) }
+{
+    let (methods, sites) = methods_of(alloc, &pool, members)?;
+    Ok(KeptMethods {
+        pool,
+        sites,
+        methods,
+    })
+}
+
 /// The names that a class file shows.
 #[derive(Drop)]
 struct Names {
@@ -246,17 +266,15 @@ fn shown(
     ensures fault { IfErr result (λ f. f ≢ Memory → CodesFault pool body.now f) }
 {
     let names = names_of(alloc, &pool, body, nest)?;
-    let (methods, sites) = methods_of(alloc, &pool, body.methods.as_slice())?;
+    let kept = kept_methods(alloc, pool, body.methods.as_slice())?;
     Ok(ClassFile {
+        kept: Arc::new(alloc, kept)?,
         name: names.name,
         flags: body.flags,
         superclass: names.superclass,
         interfaces: names.interfaces,
         nest_host: names.nest_host,
         nest_members: names.nest_members,
-        methods,
-        sites,
-        pool,
     })
 }
 

@@ -6,6 +6,7 @@
 //! other definitions here are means of proof.
 #![tactic(auto)]
 
+mod event_machine;
 mod follow;
 mod instance;
 mod laws;
@@ -15,8 +16,9 @@ mod perform;
 mod plan;
 mod slots;
 
+pub use event_machine::EventMachine;
 pub use jl_events::Accepted;
 pub use laws::links_are_exact;
-pub use log::Entry;
+pub use log::{Entry, share_log};
 pub use machine::Core;
 pub use plan::Planned;

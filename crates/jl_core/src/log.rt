@@ -95,7 +95,7 @@ impl Entry {
 }
 
 /// The same entries once more, which both share. Want of memory is an error.
-pub(crate) fn share_log(alloc: Global, log: &[Entry]) -> Result<Vec<Entry>, AllocError>
+pub fn share_log(alloc: Global, log: &[Entry]) -> Result<Vec<Entry>, AllocError>
     ensures { IfOk result (λ copy. copy.items ≡ log.now) }
 {
     let mut copy = Vec::with_capacity(alloc, log.len())?;

@@ -120,6 +120,16 @@ impl Classes {
         self.class_count()
     }
 
+    /// How many loaders there are, retired ones among them. Takes no memory.
+    pub fn loader_count(&self) -> usize
+        ensures few { length self.now.loaders ≤ 1024 }
+        ensures count { result ≡ length self.now.loaders }
+    {
+        // Opens the invariant of the classes.
+        let _ = &self.rows;
+        self.loaders.len()
+    }
+
     /// Whether a class of this number was defined, be it retired or not.
     pub fn has_class(&self, class: ClassId) -> bool
         ensures { result ≡ members.has_class self.now class }

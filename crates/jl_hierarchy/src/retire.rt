@@ -134,16 +134,6 @@ impl Classes {
         None
     }
 
-    /// How many loaders there are, retired ones among them.
-    fn loader_count(&self) -> usize
-        ensures few { length self.now.loaders ≤ 1024 }
-        ensures count { result ≡ length self.now.loaders }
-    {
-        // Opens the invariant of the classes.
-        let _ = &self.rows;
-        self.loaders.len()
-    }
-
     /// Whether the other loader is another one, and records a class of this one.
     fn records_from(&self, loader: LoaderId, other: LoaderId) -> bool
         ensures { result ≡ retirement.records_from self.now loader other }

@@ -16,6 +16,7 @@ invariant_of-self-2 c =
       (let room = subst (λ (old : Sites). length old.call_sites < 65536) (sym c.self.view_is) c.requires.room in
           let longer = ap length pushed ∙ length-append c.self.inside.call_sites.items (site ∷ []) in
           omega (arith, room, longer)),
+      c.self.invariant.2,
     )
 
 pub returns-clause-runs : goal.returns-clause-runs

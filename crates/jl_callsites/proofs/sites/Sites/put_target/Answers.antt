@@ -16,6 +16,7 @@ invariant_of-self c =
       (let few = c.self.invariant.1 in
           let same = ap length c.retarget_in.ensures ∙ as_many_retargeted c.self.inside.call_sites.items c.args.site c.args.target in
           omega (arith, few, same)),
+      c.self.invariant.2,
     )
 
 pub returns-clause-runs : goal.returns-clause-runs
