@@ -1,0 +1,132 @@
+-- After accepted events a world is fit for a renewal.
+use Rattle.std.specs.Prelude.{◌≡◌, ◌≤◌, ◌+◌, ◌&&◌, ℕ, zero, suc, true, false, not, nat_le, List, [], ◌∷◌, ◌++◌, length, take, slice_get, Some, None}
+use Rattle.std.specs.Prelude.{option_map, IsOk}
+use Rattle.std.specs.Bool.{then_some}
+use Rattle.std.proofs.Common.{ap, sym, subst, ◌∙◌, arith, length-append}
+use Rattle.std.proofs.lemmas.Bool.{leb-false, or_parts}
+use Rattle.std.proofs.lemmas.List.{take_more, take_all}
+use Rattle.std.proofs.lemmas.Option.{slice_get_within, get_or_from_slice_get}
+use Rattle.jl_types.specs.declared.event.EventOf.TheVariants as event
+use Rattle.jl_types.specs.declared.event.Made.TheVariants as made
+use Rattle.jl_types.specs.declared.refusal.CallSiteFault.TheVariants as fault
+use Rattle.jl_types.specs.declared.refusal.Refusal.TheVariants.{Define, CallSite, LoadersFull, Retire}
+use Rattle.jl_types.specs.declared.refusal.RetireFault.TheVariants.{Targeted}
+use Rattle.jl_types.specs.Values.Target.{Target, Method, Guard, Invoker}
+use Rattle.jl_types.specs.Values.World.{World, CallSite as CallSiteRow, nothing_yet}
+use Rattle.jl_types.specs.Happenings.Definitions.{define_fault}
+use Rattle.jl_types.specs.Happenings.Retirement.{names_from, classes_fault, targeted, retire_fault}
+use Rattle.jl_types.specs.Happenings.Event.{Event}
+use Rattle.jl_types.specs.Happenings.Events.{most_of_a_kind, new_call_site_fault, set_target_fault, invalidated, bind_fault, verdict, step}
+use Rattle.jl_types.specs.Happenings.History.{world_after}
+use Rattle.jl_types.proofs.Firsts.{first_none, first_alone, test_none}
+use Rattle.jl_types.proofs.Lists.{element_at}
+use Rattle.jl_types.proofs.Orders.{IsGood, world_good}
+use Rattle.jl_types.proofs.Places.{world_more}
+use Rattle.jl_types.proofs.Retiring.{present_after}
+use Rattle.jl_hierarchy.proofs.Closed.{present_still}
+use Rattle.jl_events.proofs.AcceptedLaws.{rows_stay}
+use Rattle.jl_events.proofs.CallSiteLaws.{no_fault as no_refusal}
+use Rattle.jl_relink.proofs.Closing.{no_fault}
+use Rattle.jl_relink.proofs.Paths.{invalidated_length}
+use Rattle.jl_renewal.proofs.Fit.{AllAccepted, IsFit}
+use Rattle.jl_renewal.proofs.FitParts.{OfClasses, StaysPresent, of_all, none_mapped, none_placed}
+use Rattle.jl_renewal.proofs.FitClasses.{fit_with_loader, fit_delegated, fit_defined, fit_retired}
+use Rattle.jl_renewal.proofs.FitSites.{classes_fit, with_classes_fit, new_call_site_fit, set_target_fit, with_switches_fit, request_fit, bind_fit}
+
+-- ---- a retirement
+
+module _ (w : World) (loader : ℕ) where
+  -- what is present stays so where it isn't of the loader
+  left_present : (t : Target) → names_from w.classes loader t ≡ false → OfClasses (StaysPresent w (step w (event.Retire loader))) t
+  left_present (Method m) other = λ is. present_after w.classes loader m.class ∙ (λ i. is i && not (other i))
+  left_present (Guard p first fallback) other =
+      let both = or_parts (names_from w.classes loader first) (names_from w.classes loader fallback) other in
+      (left_present first both.0, left_present fallback both.1)
+  left_present (Invoker c) other = tt
+
+  -- no target names a method of a loader that may be retired
+  unnamed : retire_fault w loader ≡ None → (c : ℕ) (site : CallSiteRow) → slice_get w.sites.call_sites c ≡ Some site
+      → names_from w.classes loader site.target ≡ false
+  unnamed none =
+      let targets = (first_none (classes_fault w.classes loader) (option_map Targeted (targeted w.classes w.sites.call_sites loader) ∷ []) none).1 in
+      none_placed (λ (site : CallSiteRow). names_from w.classes loader site.target) w.sites.call_sites
+      (none_mapped Targeted (targeted w.classes w.sites.call_sites loader)
+      (sym (first_alone (option_map Targeted (targeted w.classes w.sites.call_sites loader))) ∙ targets))
+
+-- ---- each event
+
+-- what is fit stays so through an accepted event, where what loaders have recorded is there
+pub fit_step : (max_sites : ℕ) (w : World) (e : Event) → IsGood w.classes → IsFit w → IsOk (verdict max_sites w e) → IsFit (step w e)
+fit_step max_sites w event.NewLoader good fit accepted =
+    with_classes_fit w fit (step w event.NewLoader).classes
+    (fit_with_loader w.classes good (classes_fit w fit)
+    (leb-false 1024 (length w.classes.loaders)
+    (test_none (nat_le 1024 (length w.classes.loaders)) LoadersFull (no_refusal (then_some (nat_le 1024 (length w.classes.loaders)) LoadersFull) _ accepted))))
+    (rows_stay w event.NewLoader)
+    (λ c site at. of_all (StaysPresent w (step w event.NewLoader)) (λ c is. is) site.target)
+fit_step max_sites w (event.Define loader file) good fit accepted =
+    with_classes_fit w fit (step w (event.Define loader file)).classes
+    (fit_defined w.classes good (classes_fit w fit) loader file (no_fault Define (define_fault w.classes loader file) _ accepted))
+    (rows_stay w (event.Define loader file))
+    (λ c site at. of_all (StaysPresent w (step w (event.Define loader file))) (present_still w.classes good loader file) site.target)
+fit_step max_sites w (event.Delegate loader name to) good fit accepted =
+    with_classes_fit w fit (step w (event.Delegate loader name to)).classes (fit_delegated w.classes good (classes_fit w fit) loader name to)
+    (rows_stay w (event.Delegate loader name to))
+    (λ c site at. of_all (StaysPresent w (step w (event.Delegate loader name to))) (λ c is. is) site.target)
+fit_step max_sites w (event.Request place) good fit accepted = request_fit w fit max_sites place accepted
+fit_step max_sites w (event.NewCallSite kind ty t) good fit accepted =
+    new_call_site_fit w fit kind ty t (no_fault CallSite (new_call_site_fault w ty t) _ accepted)
+fit_step max_sites w (event.SetTarget c t) good fit accepted =
+    set_target_fit w fit c t (no_fault CallSite (set_target_fault w c (slice_get w.sites.call_sites c) t) _ accepted)
+fit_step max_sites w event.NewSwitch good fit accepted =
+    let n = length-append w.sites.switches (true ∷ []) in
+    let lt = leb-false 65536 (length w.sites.switches)
+    (test_none (nat_le most_of_a_kind (length w.sites.switches)) (CallSite fault.Full)
+    (no_refusal (then_some (nat_le most_of_a_kind (length w.sites.switches)) (CallSite fault.Full)) _ accepted)) in
+    with_switches_fit w fit (w.sites.switches ++ true ∷ []) (omega (arith, n)) (omega (arith, n, lt))
+fit_step max_sites w (event.Invalidate points) good fit accepted =
+    let n = invalidated_length w.sites.switches points in
+    let few = fit.few_switches in
+    with_switches_fit w fit (invalidated w.sites.switches points) (omega (arith, n)) (omega (arith, n, few))
+fit_step max_sites w (event.Bind s c) good fit accepted =
+    bind_fit w fit s c (no_refusal (bind_fault w s c (slice_get w.places s)) made.Nothing accepted)
+fit_step max_sites w (event.Install rows) good fit accepted = fit
+fit_step max_sites w (event.Retire loader) good fit accepted =
+    with_classes_fit w fit (step w (event.Retire loader)).classes (fit_retired w.classes good (classes_fit w fit) loader)
+    (rows_stay w (event.Retire loader))
+    (λ c site at. left_present w loader site.target (unnamed w loader (no_fault Retire (retire_fault w loader) _ accepted) c site at))
+
+-- ---- all events
+
+at_first : IsFit nothing_yet
+at_first = record {
+  named = λ loader name c row e at. cc;
+  found = λ c row e. cc;
+  few_loaders = omega arith;
+  few_classes = omega arith;
+  few_call_sites = omega arith;
+  few_switches = omega arith;
+  targets = λ c site e. cc;
+  places = λ s place e. cc;
+  once = λ s t p q e. cc;
+  bindings = λ i b e. cc;
+  bound_once = λ i j a b e. cc;
+}
+
+-- what accepted events leave is fit
+pub fit_after : (max_sites : ℕ) (h : List Event) → AllAccepted max_sites h → IsFit (world_after h)
+fit_after max_sites h all = subst (λ (es : List Event). IsFit (world_after es)) (take_all (length h) h (omega arith)) (first (length h) (omega arith))
+  where
+    -- one event more of them
+    next : (n : ℕ) (e : Event) → slice_get h n ≡ Some e → IsFit (world_after (take n h)) → IsFit (world_after (take (n + 1) h))
+    next n e at fit =
+        subst (λ (es : List Event). IsFit (world_after es))
+        (sym (take_more h n e (slice_get_within h n e at) ∙ ap (λ (f : Event). take n h ++ f ∷ []) (get_or_from_slice_get h n e e at)))
+        (subst IsFit (sym (world_more (take n h) e)) (fit_step max_sites (world_after (take n h)) e (world_good (take n h)) fit (all n e at)))
+
+    first : (n : ℕ) → n ≤ length h → IsFit (world_after (take n h))
+    first zero le = at_first
+    first (suc n) le =
+        let one = element_at h n (omega (arith, le)) in
+        let more : n + 1 ≡ suc n = omega arith in
+        subst (λ (k : ℕ). IsFit (world_after (take k h))) more (next n one.0 one.1 (first n (omega (arith, le))))

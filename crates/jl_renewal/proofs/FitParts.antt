@@ -1,0 +1,224 @@
+-- What goes on through an event: invocations, bindings, and that targets would be taken.
+use Rattle.std.specs.Prelude.{◌≡◌, ◌≤◌, ◌⊎◌, ◌||◌, ◌==◌, ℕ, zero, suc, Bool, true, false, cond, not, nat_le, nat_lt, List, [], ◌∷◌, ◌++◌, length}
+use Rattle.std.specs.Prelude.{slice_get, find, position, Option, Some, None, option_map, option_and_then, ⊤}
+use Rattle.std.specs.Bool.{then_some}
+use Rattle.std.specs.List.{position_or_len}
+use Rattle.std.specs.Option.{option_map_or}
+use Rattle.std.specs.Str.{bytes_eq}
+use Rattle.std.proofs.Common.{refl, ap, sym, subst, ◌∙◌, arith, inl, inr}
+use Rattle.std.proofs.lemmas.Bool.{and_from, not-false, leb-false, lt-leb, ltb-false}
+use Rattle.std.proofs.lemmas.List.Sums.{fails_before_first}
+use Rattle.std.proofs.lemmas.Option.{same_Some, slice_get_within, get_or_from_slice_get}
+use Rattle.jl_class.specs.Class.{Method as MethodRow}
+use Rattle.jl_class.specs.Flags.{has_flag, STATIC}
+use Rattle.jl_class.specs.Site.{Site}
+use Rattle.jl_class.specs.Special.{begins_special}
+use Rattle.jl_types.specs.declared.ids.MethodId.{MethodId}
+use Rattle.jl_types.specs.declared.ids.Place.{Place}
+use Rattle.jl_types.specs.declared.refusal.CallSiteFault.TheVariants.{UnknownMethod, NotStatic, WrongType, UnknownSwitch, TooDeep, InvokerOrder}
+use Rattle.jl_types.specs.Values.Target.{Target, Method, Guard, Invoker, depth}
+use Rattle.jl_types.specs.Values.World.{World, Class, CallSite}
+use Rattle.jl_types.specs.Values.Members.{is_retired, is_present, is_static, method_test}
+use Rattle.jl_types.specs.Linkage.Resolution.{first_of}
+use Rattle.jl_types.specs.Linkage.Stages.{invocation_at}
+use Rattle.jl_types.specs.Linkage.Targets.{may_be_named, is_of_type, invokes_type, part_fault, target_fault, parts}
+use Rattle.jl_types.proofs.Bools.{first_test, second_test}
+use Rattle.jl_types.proofs.Firsts.{first_none, test_none, first_alone}
+use Rattle.jl_renewal.proofs.Fit.{IsInvoked, IsBinding}
+
+-- ---- lists
+
+-- an element of a list with one more is one of the others or that one
+pub at_more : {A : Type 0} (xs : List A) (x : A) (n : ℕ) (y : A) → slice_get (xs ++ x ∷ []) n ≡ Some y → (slice_get xs n ≡ Some y) ⊎ ((n ≡ length xs) × (x ≡ y))
+at_more [] x zero y at = inr (refl, same_Some x y at)
+at_more [] x (suc n) y at = cc
+at_more (z ∷ xs) x zero y at = inl at
+at_more (z ∷ xs) x (suc n) y at = elim (at_more xs x n y at) [ inl h ↦ inl h | inr h ↦ inr (ap suc h.0, h.1) ]
+
+module _ {A : Type 0} (Same : A → A → Type 0) (xs : List A) (x : A)
+    (once : (i j : ℕ) (a b : A) → slice_get xs i ≡ Some a → slice_get xs j ≡ Some b → Same a b → i ≡ j)
+    (before : (i : ℕ) (a : A) → slice_get xs i ≡ Some a → Same a x → ⊥) (behind : (i : ℕ) (a : A) → slice_get xs i ≡ Some a → Same x a → ⊥) where
+  -- no two are the same where none is the same as the one that is added
+  pub once_more : (i j : ℕ) (a b : A) → slice_get (xs ++ x ∷ []) i ≡ Some a → slice_get (xs ++ x ∷ []) j ≡ Some b → Same a b → i ≡ j
+  once_more i j a b ai bj same = by_places (at_more xs x i a ai) (at_more xs x j b bj)
+    where
+      by_places : (slice_get xs i ≡ Some a) ⊎ ((i ≡ length xs) × (x ≡ a)) → (slice_get xs j ≡ Some b) ⊎ ((j ≡ length xs) × (x ≡ b)) → i ≡ j
+      by_places (inl one) (inl two) = once i j a b one two same
+      by_places (inl one) (inr two) = absurd (before i a one (subst (Same a) (sym two.1) same))
+      by_places (inr one) (inl two) = absurd (behind j b two (subst (λ y. Same y b) (sym one.1) same))
+      by_places (inr one) (inr two) = one.0 ∙ sym two.0
+
+-- before the first place that passes none does
+fails_before : {A : Type 0} (p : A → Bool) (xs : List A) → length xs ≤ position_or_len p xs → (i : ℕ) (x : A) → slice_get xs i ≡ Some x → p x ≡ false
+fails_before p xs le i x at =
+    let lt = slice_get_within xs i x at in
+    ap p (sym (get_or_from_slice_get xs i x x at)) ∙ fails_before_first p xs i x (omega (arith, le, lt))
+
+-- none passes where there is no place of one that does
+pub none_placed : {A : Type 0} (p : A → Bool) (xs : List A) → position p xs ≡ None → (i : ℕ) (x : A) → slice_get xs i ≡ Some x → p x ≡ false
+none_placed {A = A} p xs none = by_test (nat_lt (position_or_len p xs) (length xs)) refl none
+  where
+    by_test : (b : Bool) → nat_lt (position_or_len p xs) (length xs) ≡ b → cond b (Some (position_or_len p xs)) None ≡ None
+        → (i : ℕ) (x : A) → slice_get xs i ≡ Some x → p x ≡ false
+    by_test true is none = cc
+    by_test false is none = fails_before p xs (ltb-false (position_or_len p xs) (length xs) is)
+
+-- none passes where none is found
+pub none_found : {A : Type 0} (p : A → Bool) (xs : List A) → find p xs ≡ None → (i : ℕ) (x : A) → slice_get xs i ≡ Some x → p x ≡ false
+none_found {A = A} p [] none i x at = cc
+none_found {A = A} p (y ∷ xs) none i x at = by_test (p y) refl none i at (λ e j. none_found p xs e j x)
+  where
+    by_test : (b : Bool) → p y ≡ b → cond b (Some y) (find p xs) ≡ None → (i : ℕ) → slice_get (y ∷ xs) i ≡ Some x
+        → (find p xs ≡ None → (j : ℕ) → slice_get xs j ≡ Some x → p x ≡ false) → p x ≡ false
+    by_test true is e i at rest = cc
+    by_test false is e zero at rest = ap p (sym (same_Some y x at)) ∙ is
+    by_test false is e (suc i) at rest = rest e i at
+
+-- there is none where there is none once it is mapped
+pub none_mapped : {A B : Type 0} (f : A → B) (o : Option A) → option_map f o ≡ None → o ≡ None
+none_mapped f None e = refl
+none_mapped f (Some x) e = cc
+
+-- ---- what stays of a world
+
+-- classes stay where they are, switch points get no fewer, and call sites keep their types
+pub record GoesOn (w v : World) : Type 0 where
+  pub rows : (c : ℕ) (row : Class) → slice_get w.classes.rows c ≡ Some row → slice_get v.classes.rows c ≡ Some row
+  pub places : (s : ℕ) (place : Place) → slice_get w.places s ≡ Some place → slice_get v.places s ≡ Some place
+  pub switches : length w.sites.switches ≤ length v.sites.switches
+  pub call_sites : (c : ℕ) (site : CallSite) → slice_get w.sites.call_sites c ≡ Some site
+      → (after : CallSite) × (slice_get v.sites.call_sites c ≡ Some after) × (after.ty ≡ site.ty)
+
+-- what holds of the class of each method that the target names
+abbrev pub OfClasses : (ℕ → Type 0) → Target → Type 0
+OfClasses P (Method m) = P m.class
+OfClasses P (Guard p first fallback) = OfClasses P first × OfClasses P fallback
+OfClasses P (Invoker c) = ⊤
+
+-- what holds of each class holds of those
+pub of_all : (P : ℕ → Type 0) → ((c : ℕ) → P c) → (t : Target) → OfClasses P t
+of_all P all (Method m) = all m.class
+of_all P all (Guard p first fallback) = (of_all P all first, of_all P all fallback)
+of_all P all (Invoker c) = tt
+
+-- the class is present afterwards if it was before
+abbrev pub StaysPresent : World → World → ℕ → Type 0
+StaysPresent w v c = is_present w.classes c ≡ true → is_present v.classes c ≡ true
+
+-- there is no first fault where the first test and what comes behind it have none
+none_next : {A : Type 0} (b : Bool) (x : A) (rest : List (Option A)) → b ≡ false → first_of rest ≡ None → first_of (then_some b x ∷ rest) ≡ None
+none_next true x rest is e = cc
+none_next false x rest is e = e
+
+none_both : {A : Type 0} (o p : Option A) → o ≡ None → p ≡ None → first_of (o ∷ p ∷ []) ≡ None
+none_both None None e f = refl
+none_both None (Some y) e f = cc
+none_both (Some x) p e f = cc
+
+module _ (w v : World) (on : GoesOn w v) where
+  -- the invocation that a class has at the place
+  abbrev found_in : Place → Option Class → Option Site
+  found_in place o =
+      option_and_then (λ method. find (λ s. s.pc == place.pc) method.sites) (slice_get (option_map_or (λ row. row.file.methods) o []) place.method)
+
+  -- an invocation stays where it is
+  invocation_still : (place : Place) (site : Site) → invocation_at w.classes place ≡ Some site → invocation_at v.classes place ≡ Some site
+  invocation_still place site = by_row (slice_get w.classes.rows place.class) refl
+    where
+      by_row : (o : Option Class) → slice_get w.classes.rows place.class ≡ o → found_in place o ≡ Some site → invocation_at v.classes place ≡ Some site
+      by_row None is e = cc
+      by_row (Some row) is e = ap (found_in place) (on.rows place.class row is) ∙ e
+
+  pub invoked_still : (place : Place) → IsInvoked w place → IsInvoked v place
+  invoked_still place is = record {
+    site = is.site;
+    at = invocation_still place is.site is.at;
+    array = is.array;
+    polymorphic = is.polymorphic;
+  }
+
+  pub binding_still : (b : ℕ × ℕ) → IsBinding w b → IsBinding v b
+  binding_still b is =
+      let after = on.call_sites b.1 is.call_site is.there in
+      record {
+        place = is.place;
+        site = is.site;
+        specifier = is.specifier;
+        call_site = after.0;
+        requested = on.places b.0 is.place is.requested;
+        at = invocation_still is.place is.site is.at;
+        dynamic = is.dynamic;
+        there = after.1;
+        type = ap (λ ty. bytes_eq ty is.specifier.ty) after.2 ∙ is.type;
+      }
+
+  -- ---- targets
+
+  -- the test of the method that a class has there
+  abbrev tested_in : (MethodRow → Bool) → ℕ → Option Class → Bool
+  tested_in test index o = option_map_or test (slice_get (option_map_or (λ row. row.file.methods) o []) index) false
+
+  -- a method of a class that was present tells the same
+  test_still : (test : MethodRow → Bool) (m : MethodId) → is_present w.classes m.class ≡ true → method_test test v.classes m ≡ method_test test w.classes m
+  test_still test m = by_row (slice_get w.classes.rows m.class) refl
+    where
+      by_row : (o : Option Class) → slice_get w.classes.rows m.class ≡ o → option_map_or (λ row. not (is_retired w.classes row.loader)) o false ≡ true
+          → method_test test v.classes m ≡ tested_in test m.index o
+      by_row None is present = cc
+      by_row (Some row) is present = ap (tested_in test m.index) (on.rows m.class row is)
+
+  -- a call site is of the type that it was
+  type_still : (ty : List ℕ) (d : ℕ) → invokes_type w.sites ty d ≡ true → invokes_type v.sites ty d ≡ true
+  type_still ty d = by_site (slice_get w.sites.call_sites d) refl
+    where
+      by_site : (o : Option CallSite) → slice_get w.sites.call_sites d ≡ o → option_map_or (λ site. bytes_eq site.ty ty) o false ≡ true
+          → invokes_type v.sites ty d ≡ true
+      by_site None is e = cc
+      by_site (Some site) is e =
+          let after = on.call_sites d site is in
+          ap (λ o. option_map_or (λ (site : CallSite). bytes_eq site.ty ty) o false) after.1 ∙ ap (λ t. bytes_eq t ty) after.2 ∙ e
+
+  module _ (c : ℕ) (ty : List ℕ) where
+    method_still : (m : MethodId) → StaysPresent w v m.class → part_fault w c ty (Method m) ≡ None → part_fault v c ty (Method m) ≡ None
+    method_still m stays e =
+        let named = first_none (then_some (not (may_be_named w.classes m)) UnknownMethod) _ e in
+        let static = first_none (then_some (not (is_static w.classes m)) NotStatic) _ named.1 in
+        let typed = first_none (then_some (not (is_of_type w.classes ty m)) WrongType) [] static.1 in
+        let may = not-false (may_be_named w.classes m) (test_none (not (may_be_named w.classes m)) UnknownMethod named.0) in
+        let present = first_test (is_present w.classes m.class) (method_test (λ method. not (begins_special method.name)) w.classes m) may in
+        none_next (not (may_be_named v.classes m)) UnknownMethod _
+        (ap not (and_from (is_present v.classes m.class) (method_test (λ method. not (begins_special method.name)) v.classes m) (stays present)
+        (test_still (λ method. not (begins_special method.name)) m present
+        ∙ second_test (is_present w.classes m.class) (method_test (λ method. not (begins_special method.name)) w.classes m) may)))
+        (none_next (not (is_static v.classes m)) NotStatic _
+        (ap not (test_still (λ method. has_flag method.flags STATIC) m present) ∙ test_none (not (is_static w.classes m)) NotStatic static.0)
+        (none_next (not (is_of_type v.classes ty m)) WrongType []
+        (ap not (test_still (λ method. bytes_eq method.ty ty) m present) ∙ test_none (not (is_of_type w.classes ty m)) WrongType typed.0)
+        refl))
+
+    part_still : (t : Target) → OfClasses (StaysPresent w v) t → part_fault w c ty t ≡ None → part_fault v c ty t ≡ None
+    part_still (Method m) stay e = method_still m stay e
+    part_still (Guard p first fallback) stay e =
+        let n = length w.sites.switches in
+        let guard = first_none (then_some (nat_le n p) UnknownSwitch) (part_fault w c ty first ∷ part_fault w c ty fallback ∷ []) e in
+        let one = first_none (part_fault w c ty first) (part_fault w c ty fallback ∷ []) guard.1 in
+        let lt = leb-false n p (test_none (nat_le n p) UnknownSwitch guard.0) in
+        let more = on.switches in
+        none_next (nat_le (length v.sites.switches) p) UnknownSwitch (part_fault v c ty first ∷ part_fault v c ty fallback ∷ [])
+        (lt-leb (length v.sites.switches) p (omega (arith, lt, more)))
+        (none_both (part_fault v c ty first) (part_fault v c ty fallback) (part_still first stay.0 one.0)
+        (part_still fallback stay.1 (first_none (part_fault w c ty fallback) [] one.1).0))
+    part_still (Invoker d) stay e =
+        let order = first_none (then_some (nat_le c d) (InvokerOrder d)) _ e in
+        let typed = first_none (then_some (not (invokes_type w.sites ty d)) WrongType) [] order.1 in
+        none_next (nat_le c d) (InvokerOrder d) _ (test_none (nat_le c d) (InvokerOrder d) order.0)
+        (none_next (not (invokes_type v.sites ty d)) WrongType []
+        (ap not (type_still ty d (not-false (invokes_type w.sites ty d) (test_none (not (invokes_type w.sites ty d)) WrongType typed.0)))) refl)
+
+    -- a target that would be taken before would be taken afterwards
+    pub taken_still : (t : Target) → OfClasses (StaysPresent w v) t → target_fault w c ty t ≡ None → target_fault v c ty t ≡ None
+    taken_still t stay e =
+        let deep = first_none (then_some (nat_lt 64 (depth t) || nat_lt 255 (parts t)) TooDeep) (part_fault w c ty t ∷ []) e in
+        none_next (nat_lt 64 (depth t) || nat_lt 255 (parts t)) TooDeep (part_fault v c ty t ∷ [])
+        (test_none (nat_lt 64 (depth t) || nat_lt 255 (parts t)) TooDeep deep.0)
+        (first_alone (part_fault v c ty t) ∙ part_still t stay (first_none (part_fault w c ty t) [] deep.1).0)

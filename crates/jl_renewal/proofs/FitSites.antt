@@ -1,0 +1,336 @@
+-- What holds of a world after accepted events, of which a renewal makes use, once its classes, its call sites or its switch points are
+-- others, and once a place is requested or a site is bound.
+use Rattle.std.specs.Prelude.{◌≡◌, ◌≤◌, ◌⊎◌, ◌==◌, ℕ, zero, suc, Bool, true, false, not, List, [], ◌∷◌, ◌++◌, length, slice_get, slice_set, find, position}
+use Rattle.std.specs.Prelude.{◌&&◌, nat_le, get_or, Option, Some, None, option_map, Err, IsOk, if◌then◌else◌}
+use Rattle.std.specs.Bool.{then_some}
+use Rattle.std.specs.List.{list_any}
+use Rattle.std.specs.Option.{option_map_or}
+use Rattle.std.specs.Str.{bytes_eq}
+use Rattle.std.proofs.Common.{refl, ap, sym, subst, ◌∙◌, arith, inl, inr, length-append}
+use Rattle.std.proofs.lemmas.Bool.{both_ways, not-false}
+use Rattle.std.proofs.lemmas.Bool.Decides.{Decides-eqb}
+use Rattle.std.proofs.lemmas.Cmp.{nat_eq_equiv}
+use Rattle.std.proofs.lemmas.List.{length-set}
+use Rattle.std.proofs.lemmas.List.Quantifiers.{position-Some}
+use Rattle.std.proofs.lemmas.Map.Keys.{any_passes_from_place}
+use Rattle.std.proofs.lemmas.Option.{same_Some, slice_get_within, slice_get-get_or}
+use Rattle.jl_pool.specs.declared.reference.CallSiteSpecifier.{CallSiteSpecifier}
+use Rattle.jl_class.specs.declared.site.Operand.{Operand}
+use Rattle.jl_class.specs.declared.site.Operand.TheVariants as operand
+use Rattle.jl_class.specs.Site.{Site}
+use Rattle.jl_types.specs.declared.ids.Place.{Place}
+use Rattle.jl_types.specs.declared.event.Made.TheVariants as made
+use Rattle.jl_types.specs.declared.refusal.CallSiteFault.TheVariants as fault
+use Rattle.jl_types.specs.declared.refusal.NotLinkable.TheVariants.{ArrayReceiver, PolymorphicSignature}
+use Rattle.jl_types.specs.declared.refusal.Refusal.TheVariants as refusal
+use Rattle.jl_types.specs.declared.target.CallSiteKind.{CallSiteKind}
+use Rattle.jl_types.specs.Values.Target.{Target}
+use Rattle.jl_types.specs.Values.World.{World, Class, Classes, CallSite, Sites}
+use Rattle.jl_types.specs.Values.Members.{is_present}
+use Rattle.jl_types.specs.Linkage.Stages.{invocation_at, bound_to}
+use Rattle.jl_types.specs.Linkage.Targets.{target_fault}
+use Rattle.jl_types.specs.Happenings.Events.{same_place, names_array, is_polymorphic, new_place_fault, request_place, if_invoked, request_at, requested}
+use Rattle.jl_types.specs.Happenings.Events.{most_of_a_kind, is_constant, new_call_site_fault, set_target_fault, retargeted, type_fault, operand_fault, bind_at}
+use Rattle.jl_types.specs.Happenings.Events.{bind_fault, with_classes, with_call_sites, with_switches}
+use Rattle.jl_types.proofs.Firsts.{first_none, test_none}
+use Rattle.jl_types.proofs.Lists.{before_end}
+use Rattle.jl_callsites.proofs.Accepted.{site_room}
+use Rattle.jl_events.proofs.CallSiteLaws.{free_to_bind, no_fault}
+use Rattle.jl_renewal.proofs.Fit.{IsInvoked, IsBinding, IsFit}
+use Rattle.jl_renewal.proofs.FitClasses.{AreFit}
+use Rattle.jl_renewal.proofs.FitParts.{at_more, once_more, none_found, none_mapped}
+use Rattle.jl_renewal.proofs.FitParts.{GoesOn, OfClasses, StaysPresent, of_all, invoked_still, binding_still, taken_still}
+
+-- ---- one element is another
+
+-- an element once one is put in a place is what it was or that one
+set_at : {A : Type 0} (xs : List A) (c : ℕ) (x : A) (d : ℕ) (y : A) → slice_get (slice_set xs c x) d ≡ Some y → (slice_get xs d ≡ Some y) ⊎ ((c ≡ d) × (x ≡ y))
+set_at [] c x d y at = cc
+set_at (z ∷ xs) zero x zero y at = inr (refl, same_Some x y at)
+set_at (z ∷ xs) zero x (suc d) y at = inl at
+set_at (z ∷ xs) (suc c) x zero y at = inl at
+set_at (z ∷ xs) (suc c) x (suc d) y at = elim (set_at xs c x d y at) [ inl h ↦ inl h | inr h ↦ inr (ap suc h.0, h.1) ]
+
+-- call sites keep their types where one of the same type is put in the place of one
+types_set : (xs : List CallSite) (c : ℕ) (old new : CallSite) → slice_get xs c ≡ Some old → new.ty ≡ old.ty → (d : ℕ) (site : CallSite)
+    → slice_get xs d ≡ Some site → (after : CallSite) × (slice_get (slice_set xs c new) d ≡ Some after) × (after.ty ≡ site.ty)
+types_set [] c old new is same d site at = cc
+types_set (x ∷ xs) zero old new is same zero site at = (new, refl, same ∙ ap (λ (s : CallSite). s.ty) (same_Some old site (sym is ∙ at)))
+types_set (x ∷ xs) zero old new is same (suc d) site at = (site, at, refl)
+types_set (x ∷ xs) (suc c) old new is same zero site at = (site, at, refl)
+types_set (x ∷ xs) (suc c) old new is same (suc d) site at = types_set xs c old new is same d site at
+
+-- the same place, the other way round
+place_turned : (p q : Place) → same_place p q ≡ same_place q p
+place_turned p q = λ i. nat_eq_equiv.symm p.class q.class i && (nat_eq_equiv.symm p.method q.method i && nat_eq_equiv.symm p.pc q.pc i)
+
+module _ (w : World) (fit : IsFit w) where
+  -- ---- other classes
+
+  pub classes_fit : AreFit w.classes
+  classes_fit = record { named = fit.named; found = fit.found; few_loaders = fit.few_loaders; few_classes = fit.few_classes }
+
+  -- they stay where they are, and those that targets name stay present
+  pub with_classes_fit : (cs : Classes) → AreFit cs
+      → ((c : ℕ) (row : Class) → slice_get w.classes.rows c ≡ Some row → slice_get cs.rows c ≡ Some row)
+      → ((c : ℕ) (site : CallSite) → slice_get w.sites.call_sites c ≡ Some site → OfClasses (StaysPresent w (with_classes w cs)) site.target)
+      → IsFit (with_classes w cs)
+  with_classes_fit cs are rows stay = record {
+    named = are.named;
+    found = are.found;
+    few_loaders = are.few_loaders;
+    few_classes = are.few_classes;
+    few_call_sites = fit.few_call_sites;
+    few_switches = fit.few_switches;
+    targets = λ c site at. taken_still w v on c site.ty site.target (stay c site at) (fit.targets c site at);
+    places = λ s place at. invoked_still w v on place (fit.places s place at);
+    once = fit.once;
+    bindings = λ i b at. binding_still w v on b (fit.bindings i b at);
+    bound_once = fit.bound_once;
+  }
+    where
+      v : World
+      v = with_classes w cs
+
+      on : GoesOn w v
+      on = record { rows = rows; places = λ s place at. at; switches = omega arith; call_sites = λ c site at. (site, at, refl) }
+
+  -- ---- other call sites and switch points
+
+  -- they keep their types, and the targets would be taken before
+  with_sites_fit : (sites : Sites) → length w.sites.switches ≤ length sites.switches
+      → ((c : ℕ) (site : CallSite) → slice_get w.sites.call_sites c ≡ Some site
+      → (after : CallSite) × (slice_get sites.call_sites c ≡ Some after) × (after.ty ≡ site.ty))
+      → length sites.call_sites ≤ 65536 → length sites.switches ≤ 65536
+      → ((c : ℕ) (site : CallSite) → slice_get sites.call_sites c ≡ Some site → target_fault w c site.ty site.target ≡ None)
+      → IsFit (record w { sites = sites })
+  with_sites_fit sites more types few_call_sites few_switches targets = record {
+    named = fit.named;
+    found = fit.found;
+    few_loaders = fit.few_loaders;
+    few_classes = fit.few_classes;
+    few_call_sites = few_call_sites;
+    few_switches = few_switches;
+    targets = λ c site at. taken_still w v on c site.ty site.target (of_all (StaysPresent w v) (λ c is. is) site.target) (targets c site at);
+    places = λ s place at. invoked_still w v on place (fit.places s place at);
+    once = fit.once;
+    bindings = λ i b at. binding_still w v on b (fit.bindings i b at);
+    bound_once = fit.bound_once;
+  }
+    where
+      v : World
+      v = record w { sites = sites }
+
+      on : GoesOn w v
+      on = record { rows = λ c row at. at; places = λ s place at. at; switches = more; call_sites = types }
+
+  pub new_call_site_fit : (kind : CallSiteKind) (ty : List ℕ) (t : Target) → new_call_site_fault w ty t ≡ None
+      → IsFit (with_call_sites w (w.sites.call_sites ++ record { kind = kind; ty = ty; target = t } ∷ []))
+  new_call_site_fit kind ty t none =
+      with_sites_fit (record w.sites { call_sites = w.sites.call_sites ++ made ∷ [] }) (omega arith)
+      (λ c site at. (site, before_end w.sites.call_sites made c (slice_get_within w.sites.call_sites c site at) ∙ at, refl))
+      (let n = length-append w.sites.call_sites (made ∷ []) in let lt = site_room w ty t none in omega (arith, n, lt))
+      fit.few_switches
+      (λ c site at. by_place c site (at_more w.sites.call_sites made c site at))
+    where
+      made : CallSite
+      made = record { kind = kind; ty = ty; target = t }
+
+      taken : target_fault w (length w.sites.call_sites) ty t ≡ None
+      taken =
+          (first_none (target_fault w (length w.sites.call_sites) ty t) []
+          (first_none (then_some (nat_le most_of_a_kind (length w.sites.call_sites)) fault.Full) _ none).1).0
+
+      by_place : (c : ℕ) (site : CallSite) → (slice_get w.sites.call_sites c ≡ Some site) ⊎ ((c ≡ length w.sites.call_sites) × (made ≡ site))
+          → target_fault w c site.ty site.target ≡ None
+      by_place c site (inl at) = fit.targets c site at
+      by_place c site (inr last) = (λ i. target_fault w (last.0 i) (sym last.1 i).ty (sym last.1 i).target) ∙ taken
+
+  pub set_target_fit : (c : ℕ) (t : Target) → set_target_fault w c (slice_get w.sites.call_sites c) t ≡ None
+      → IsFit (with_call_sites w (retargeted w.sites.call_sites c t))
+  set_target_fit c t = by_site (slice_get w.sites.call_sites c) refl
+    where
+      with_target : (old : CallSite) → slice_get w.sites.call_sites c ≡ Some old → target_fault w c old.ty t ≡ None
+          → IsFit (with_call_sites w (slice_set w.sites.call_sites c (record old { target = t })))
+      with_target old is taken =
+          with_sites_fit (record w.sites { call_sites = slice_set w.sites.call_sites c (record old { target = t }) }) (omega arith)
+          (types_set w.sites.call_sites c old (record old { target = t }) is refl)
+          (let n = length-set w.sites.call_sites c (record old { target = t }) in let few = fit.few_call_sites in omega (arith, n, few))
+          fit.few_switches
+          (λ d site at. by_place d site (set_at w.sites.call_sites c (record old { target = t }) d site at))
+        where
+          by_place : (d : ℕ) (site : CallSite) → (slice_get w.sites.call_sites d ≡ Some site) ⊎ ((c ≡ d) × (record old { target = t } ≡ site))
+              → target_fault w d site.ty site.target ≡ None
+          by_place d site (inl at) = fit.targets d site at
+          by_place d site (inr here) = (λ i. target_fault w (sym here.0 i) (sym here.1 i).ty (sym here.1 i).target) ∙ taken
+
+      by_kind : (old : CallSite) (b : Bool) → slice_get w.sites.call_sites c ≡ Some old
+          → (if b then Some fault.Constant else target_fault w c old.ty t) ≡ None
+          → IsFit (with_call_sites w (slice_set w.sites.call_sites c (record old { target = t })))
+      by_kind old true is e = cc
+      by_kind old false is e = with_target old is e
+
+      by_site : (o : Option CallSite) → slice_get w.sites.call_sites c ≡ o → set_target_fault w c o t ≡ None
+          → IsFit (with_call_sites w (option_map_or (λ site. slice_set w.sites.call_sites c (record site { target = t })) o w.sites.call_sites))
+      by_site None is e = cc
+      by_site (Some old) is e = by_kind old (is_constant old.kind) is e
+
+  -- switch points, no fewer and not too many
+  pub with_switches_fit : (switches : List Bool) → length w.sites.switches ≤ length switches → length switches ≤ 65536 → IsFit (with_switches w switches)
+  with_switches_fit switches more few =
+      with_sites_fit (record w.sites { switches = switches }) more (λ c site at. (site, at, refl)) fit.few_call_sites few fit.targets
+
+  -- ---- a place more
+
+  module _ (max_sites : ℕ) (place : Place) where
+    -- an invocation that is new was judged
+    invoked_new : IsOk (request_at max_sites w place) → list_any (same_place place) w.places ≡ false → IsInvoked w place
+    invoked_new accepted new = by_class (is_present w.classes place.class) accepted
+      where
+        judged : (site : Site) → invocation_at w.classes place ≡ Some site → new_place_fault max_sites w site ≡ None → IsInvoked w place
+        judged site at none =
+            let array = first_none (then_some (names_array site.operand) (refusal.NotLinkable ArrayReceiver)) _ none in
+            let polymorphic = first_none (then_some (is_polymorphic site.operand) (refusal.NotLinkable PolymorphicSignature)) _ array.1 in
+            record {
+              site = site;
+              at = at;
+              array = test_none (names_array site.operand) (refusal.NotLinkable ArrayReceiver) array.0;
+              polymorphic = test_none (is_polymorphic site.operand) (refusal.NotLinkable PolymorphicSignature) polymorphic.0;
+            }
+
+        known : (s : ℕ) → position (same_place place) w.places ≡ Some s → list_any (same_place place) w.places ≡ true
+        known s at =
+            let found = position-Some (same_place place) w.places s place at in
+            any_passes_from_place (same_place place) w.places s (get_or w.places s place) (slice_get-get_or w.places s place found.0) found.1
+
+        by_number : (o : Option ℕ) (site : Site) → position (same_place place) w.places ≡ o → invocation_at w.classes place ≡ Some site
+            → IsOk (request_place max_sites w o site) → IsInvoked w place
+        by_number (Some s) site is at accepted = absurd (both_ways (list_any (same_place place) w.places) new (known s is))
+        by_number None site is at accepted = judged site at (no_fault (new_place_fault max_sites w site) (made.Site (length w.places)) accepted)
+
+        by_site : (o : Option Site) → invocation_at w.classes place ≡ o → IsOk (if_invoked max_sites w place o) → IsInvoked w place
+        by_site None at accepted = cc
+        by_site (Some site) at accepted = by_number (position (same_place place) w.places) site refl at accepted
+
+        by_class : (b : Bool) → IsOk (if b then if_invoked max_sites w place (invocation_at w.classes place) else Err refusal.UnknownClass) → IsInvoked w place
+        by_class true accepted = by_site (invocation_at w.classes place) refl accepted
+        by_class false accepted = cc
+
+    -- a place that is new is one more
+    one_more_place : IsInvoked w place → list_any (same_place place) w.places ≡ false → IsFit (record w { places = w.places ++ place ∷ [] })
+    one_more_place invoked new = record {
+      named = fit.named;
+      found = fit.found;
+      few_loaders = fit.few_loaders;
+      few_classes = fit.few_classes;
+      few_call_sites = fit.few_call_sites;
+      few_switches = fit.few_switches;
+      targets = λ c site at. taken_still w v on c site.ty site.target (of_all (StaysPresent w v) (λ c is. is) site.target) (fit.targets c site at);
+      places = λ s other at. invoked_still w v on other (by_place s other (at_more w.places place s other at));
+      once = once_more (λ p q. same_place p q ≡ true) w.places place fit.once
+          (λ s other at same. behind s other at (place_turned place other ∙ same)) behind;
+      bindings = λ i b at. binding_still w v on b (fit.bindings i b at);
+      bound_once = fit.bound_once;
+    }
+      where
+        v : World
+        v = record w { places = w.places ++ place ∷ [] }
+
+        on : GoesOn w v
+        on = record {
+          rows = λ c row at. at;
+          places = λ s other at. before_end w.places place s (slice_get_within w.places s other at) ∙ at;
+          switches = omega arith;
+          call_sites = λ c site at. (site, at, refl);
+        }
+
+        by_place : (s : ℕ) (other : Place) → (slice_get w.places s ≡ Some other) ⊎ ((s ≡ length w.places) × (place ≡ other)) → IsInvoked w other
+        by_place s other (inl at) = fit.places s other at
+        by_place s other (inr last) = subst (IsInvoked w) last.1 invoked
+
+        behind : (s : ℕ) (other : Place) → slice_get w.places s ≡ Some other → same_place place other ≡ true → ⊥
+        behind s other at same = both_ways (list_any (same_place place) w.places) new (any_passes_from_place (same_place place) w.places s other at same)
+
+    pub request_fit : IsOk (request_at max_sites w place) → IsFit (record w { places = requested w.places place })
+    request_fit accepted = by_test (list_any (same_place place) w.places) refl
+      where
+        by_test : (b : Bool) → list_any (same_place place) w.places ≡ b → IsFit (record w { places = if b then w.places else w.places ++ place ∷ [] })
+        by_test true is = fit
+        by_test false is = one_more_place (invoked_new accepted is) is
+
+  -- ---- a binding more
+
+  module _ (s c : ℕ) (none : bind_fault w s c (slice_get w.places s) ≡ None) where
+    -- what is judged for a binding holds of it
+    is_bound : IsBinding w (s, c)
+    is_bound = by_place (slice_get w.places s) refl none
+      where
+        by_call_site : (place : Place) (site : Site) (specifier : CallSiteSpecifier (List ℕ)) (o : Option CallSite) → slice_get w.places s ≡ Some place
+            → invocation_at w.classes place ≡ Some site → site.operand ≡ operand.CallSite specifier → slice_get w.sites.call_sites c ≡ o
+            → type_fault specifier.ty o ≡ None → IsBinding w (s, c)
+        by_call_site place site specifier None requested at dynamic there e = cc
+        by_call_site place site specifier (Some row) requested at dynamic there e = record {
+          place = place;
+          site = site;
+          specifier = specifier;
+          call_site = row;
+          requested = requested;
+          at = at;
+          dynamic = dynamic;
+          there = there;
+          type = not-false (bytes_eq row.ty specifier.ty) (test_none (not (bytes_eq row.ty specifier.ty)) refusal.TypeMismatch e);
+        }
+
+        by_operand : (place : Place) (site : Site) (o : Operand (List ℕ)) → slice_get w.places s ≡ Some place → invocation_at w.classes place ≡ Some site
+            → site.operand ≡ o → operand_fault w s c o ≡ None → IsBinding w (s, c)
+        by_operand place site (operand.Method ref) requested at is e = cc
+        by_operand place site (operand.CallSite specifier) requested at is e =
+            let free = first_none (option_map refusal.AlreadyBound (bound_to w s)) _ e in
+            by_call_site place site specifier (slice_get w.sites.call_sites c) requested at is refl
+            (first_none (type_fault specifier.ty (slice_get w.sites.call_sites c)) [] free.1).0
+
+        by_site : (place : Place) (o : Option Site) → slice_get w.places s ≡ Some place → invocation_at w.classes place ≡ o → bind_at w s c o ≡ None
+            → IsBinding w (s, c)
+        by_site place None requested at e = cc
+        by_site place (Some site) requested at e = by_operand place site site.operand requested at refl e
+
+        by_class : (place : Place) (b : Bool) → slice_get w.places s ≡ Some place
+            → (if b then bind_at w s c (invocation_at w.classes place) else Some (refusal.UnknownSite s)) ≡ None → IsBinding w (s, c)
+        by_class place true requested e = by_site place (invocation_at w.classes place) requested refl e
+        by_class place false requested e = cc
+
+        by_place : (o : Option Place) → slice_get w.places s ≡ o → bind_fault w s c o ≡ None → IsBinding w (s, c)
+        by_place None is e = cc
+        by_place (Some place) is e = by_class place (is_present w.classes place.class) is e
+
+    -- no earlier binding is of the site
+    apart : (i : ℕ) (b : ℕ × ℕ) → slice_get w.bindings i ≡ Some b → b.0 ≡ s → ⊥
+    apart i b at same = both_ways (b.0 == s) (none_found (λ (b : ℕ × ℕ). b.0 == s) w.bindings unfound i b at) ((Decides-eqb b.0 s).1 same)
+      where
+        unfound : find (λ (b : ℕ × ℕ). b.0 == s) w.bindings ≡ None
+        unfound = none_mapped (λ (b : ℕ × ℕ). b.1) (find (λ b. b.0 == s) w.bindings) (free_to_bind w s c none)
+
+    pub bind_fit : IsFit (record w { bindings = w.bindings ++ (s, c) ∷ [] })
+    bind_fit = record {
+      named = fit.named;
+      found = fit.found;
+      few_loaders = fit.few_loaders;
+      few_classes = fit.few_classes;
+      few_call_sites = fit.few_call_sites;
+      few_switches = fit.few_switches;
+      targets = λ d site at. taken_still w v on d site.ty site.target (of_all (StaysPresent w v) (λ d is. is) site.target) (fit.targets d site at);
+      places = λ n place at. invoked_still w v on place (fit.places n place at);
+      once = fit.once;
+      bindings = λ i b at. binding_still w v on b (by_binding i b (at_more w.bindings (s, c) i b at));
+      bound_once = once_more (λ (a b : ℕ × ℕ). a.0 ≡ b.0) w.bindings (s, c) fit.bound_once apart (λ i b at same. apart i b at (sym same));
+    }
+      where
+        v : World
+        v = record w { bindings = w.bindings ++ (s, c) ∷ [] }
+
+        on : GoesOn w v
+        on = record { rows = λ d row at. at; places = λ n place at. at; switches = omega arith; call_sites = λ d site at. (site, at, refl) }
+
+        by_binding : (i : ℕ) (b : ℕ × ℕ) → (slice_get w.bindings i ≡ Some b) ⊎ ((i ≡ length w.bindings) × (◌≡◌ {A = ℕ × ℕ} (s, c) b)) → IsBinding w b
+        by_binding i b (inl at) = fit.bindings i b at
+        by_binding i b (inr last) = subst (IsBinding w) last.1 is_bound

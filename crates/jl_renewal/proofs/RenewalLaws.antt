@@ -1,0 +1,128 @@
+-- From what was added to the fresh core to what was made of the old one.
+use Rattle.std.specs.Prelude.{◌≡◌, ◌<◌, ◌≤◌, ℕ, AllPairs, fold, List, [], ◌∷◌, ◌++◌, map, filter_map, Option, Some, None, option_map, option_and_then}
+use Rattle.std.specs.List.{cons_option}
+use Rattle.std.proofs.Common.{refl, sym, ap, subst, ◌∙◌}
+use Rattle.jl_types.specs.declared.event.EventOf.TheVariants as event
+use Rattle.jl_types.specs.declared.event.Reply.{Reply}
+use Rattle.jl_types.specs.declared.link.Link.{Link}
+use Rattle.jl_types.specs.Happenings.Event.{Event}
+use Rattle.jl_types.specs.Values.World.{World, nothing_yet}
+use Rattle.jl_types.specs.Happenings.Events.{step}
+use Rattle.jl_types.specs.Happenings.History.{world_after}
+use Rattle.jl_types.proofs.InstalledLinks.{links_rise}
+use Rattle.jl_hierarchy.specs.Constancy.{AreInOrder, IsClosed}
+use Rattle.jl_core.specs.State.{State, empty_core, events, world_of, links_of, AreAnswered}
+use Rattle.jl_core.specs.Logs.{Entry, shown}
+use Rattle.jl_events.specs.Accepted.{event_of}
+use Rattle.jl_renewal.specs.declared.released.Released.{Released}
+use Rattle.jl_renewal.specs.Numbers.{Numbers, how_many}
+use Rattle.jl_renewal.specs.Staying.{numbers_of, staying_sites}
+use Rattle.jl_renewal.specs.Renewal.{class_event, new_loaders, site_events, renewal, fresh_rows, AreBatches, IsRenewal}
+use Rattle.jl_renewal.specs.Renewed.{renewed}
+use Rattle.jl_renewal.specs.Told.{told_events}
+use Rattle.jl_renewal.specs.Adds.{MayAdd, AreFresh, Adds, Installs}
+use Rattle.jl_renewal.proofs.Phases.{Leads}
+use Rattle.jl_renewal.proofs.FollowLaws.{world_added}
+use Rattle.jl_renewal.proofs.InstallLaws.{rows_fresh}
+use Rattle.jl_renewal.proofs.LinkLaws.{same_world}
+use Rattle.jl_renewal.proofs.RenewalPhases.{all_accepted, renewal_leads}
+
+-- what the entries are told as is what the events that they tell are told as
+pub told_are_events : (w : World) (n : Numbers) (entries : List Entry)
+    → told_events w n entries ≡ filter_map (class_event w n) (map (λ (e : Event × Reply). e.0) (shown w.classes.rows entries))
+told_are_events w n [] = refl
+told_are_events w n (entry ∷ entries) =
+    one (class_event w n) (event_of w.classes.rows entry.event) entry.reply (told_events w n entries) (shown w.classes.rows entries)
+    (told_are_events w n entries)
+  where
+    one : (f : Event → Option Event) (o : Option Event) (reply : Reply) (made : List Event) (rest : List (Event × Reply))
+        → made ≡ filter_map f (map (λ (e : Event × Reply). e.0) rest)
+        → cons_option (option_and_then f o) made
+        ≡ filter_map f (map (λ (e : Event × Reply). e.0) (cons_option (option_map (λ e. (e, reply)) o) rest))
+    one f None reply made rest e = e
+    one f (Some x) reply made rest e = ap (cons_option (f x)) e
+
+-- the events that were told
+abbrev pub told_renewal : World → Numbers → List Entry → List Event
+told_renewal w n entries = new_loaders n.loaders ++ (told_events w n entries ++ site_events w n)
+
+-- what the old core, its world and entries, the numbers and the fresh core are
+pub record IsBegun (old : State) (released : Released) (max_sites : ℕ) (w : World) (entries : List Entry) (n : Numbers) (fresh : State) : Type 0 where
+  pub world : w ≡ world_of old
+  pub log : shown (world_of old).classes.rows entries ≡ old.log
+  pub answered : AreAnswered old
+  pub closed : IsClosed (world_of old).classes
+  pub few : how_many (staying_sites (world_of old).classes (world_of old).places) ≤ max_sites
+  pub numbers : n ≡ numbers_of (world_of old) released
+  pub empty : fresh ≡ empty_core max_sites
+
+module _ (old : State) (released : Released) (max_sites : ℕ) (w : World) (entries : List Entry) (n : Numbers) (fresh : State)
+    (begun : IsBegun old released max_sites w entries n fresh) where
+  leads : Leads max_sites nothing_yet (renewal old released) (renewed (world_of old) released)
+  leads = renewal_leads old released (all_accepted old begun.answered) begun.closed max_sites begun.few
+
+  told_is : told_renewal w n entries ≡ renewal old released
+  told_is =
+      (λ i. told_renewal (begun.world i) (begun.numbers i) entries)
+      ∙ ap (λ (es : List Event). new_loaders m.loaders ++ (es ++ site_events (world_of old) m))
+      (told_are_events (world_of old) m entries
+      ∙ ap (λ (log : List (Event × Reply)). filter_map (class_event (world_of old) m) (map (λ (x : Event × Reply). x.0) log)) begun.log)
+    where
+      m : Numbers
+      m = numbers_of (world_of old) released
+
+  -- none of them is refused
+  pub may_renew : MayAdd (told_renewal w n entries) fresh
+  may_renew =
+      subst (λ (es : List Event). MayAdd es fresh) (sym told_is)
+      (subst (λ (core : State). MayAdd (renewal old released) core) (sym begun.empty) leads.follow)
+
+  module _ (next : State) (added : Adds (told_renewal w n entries) fresh next) where
+    next_events : events next ≡ renewal old released
+    next_events = added.events ∙ (ap (λ (core : State). events core ++ told_renewal w n entries) begun.empty ∙ told_is)
+
+    next_world : world_of next ≡ renewed (world_of old) released
+    next_world =
+        world_added (told_renewal w n entries) fresh next added
+        ∙ ((λ i. fold step (world_of (begun.empty i)) (told_is i)) ∙ leads.after)
+
+    -- the rows are links from scratch there
+    pub rows_may : (rows linked : List (ℕ × Link)) → rows ≡ fresh_rows (world_of next) n linked → linked ≡ links_of old → AreFresh (world_of next) rows
+    rows_may rows linked are is =
+        subst (λ (xs : List (ℕ × Link)). AreFresh (world_of next) xs) (sym are)
+        (rows_fresh (world_of next) n (staying_sites (world_of old).classes (world_of old).places) (ap (λ (m : Numbers). m.sites) begun.numbers) linked
+        (subst (λ (xs : List (ℕ × Link)). AllPairs (λ a b. a.0 < b.0) xs) (sym is) (links_rise (events old))))
+
+    -- with the links it is what is made of the old core
+    pub is_renewal : (rows linked : List (ℕ × Link)) (last : State) → rows ≡ fresh_rows (world_of next) n linked → linked ≡ links_of old
+        → Installs rows next last → IsRenewal old released max_sites (last, n)
+    is_renewal rows linked last are is installed = record {
+      numbers = begun.numbers;
+      limit = installed.adds.limit ∙ (added.limit ∙ ap (λ (core : State). core.max_sites) begun.empty);
+      batches = installed.batches;
+      are_batches = subst (λ (xs : List (ℕ × Link)). AreBatches installed.batches xs)
+          (are ∙ (λ i. fresh_rows (world_at i) (begun.numbers i) (is i))) installed.are_batches;
+      events = all_events;
+      world = ap world_after all_events ∙ (same_world (renewal old released) installed.batches ∙ leads.after);
+    }
+      where
+        world_at : world_of next ≡ world_after (renewal old released)
+        world_at = ap world_after next_events
+
+        all_events : events last ≡ renewal old released ++ map event.Install installed.batches
+        all_events = installed.adds.events ∙ ap (λ (es : List Event). es ++ map event.Install installed.batches) next_events
+
+-- from what is known of the old core's world as it was lent
+pub begun_by : (old : State) (released : Released) (max_sites : ℕ) (inside w : World) (entries : List Entry) (n : Numbers) (fresh : State)
+    → inside ≡ w → w ≡ world_of old → AreInOrder inside.classes → shown (world_of old).classes.rows entries ≡ old.log → AreAnswered old
+    → how_many (staying_sites w.classes w.places) ≤ max_sites → n ≡ numbers_of w released → fresh ≡ empty_core max_sites
+    → IsBegun old released max_sites w entries n fresh
+begun_by old released max_sites inside w entries n fresh view world order log answered few numbers empty = record {
+  world = world;
+  log = log;
+  answered = answered;
+  closed = subst (λ (v : World). IsClosed v.classes) (view ∙ world) order.closed;
+  few = subst (λ (v : World). how_many (staying_sites v.classes v.places) ≤ max_sites) world few;
+  numbers = numbers ∙ ap (λ (v : World). numbers_of v released) world;
+  empty = empty;
+}

@@ -1,0 +1,174 @@
+-- Worked renewals: three loaders, of which one is retired that another one found classes through; call sites, switch points, links; and
+-- what its owner has let go.
+use Rattle.std.specs.Prelude.{◌≡◌, ℕ, Bool, true, false, ◌&&◌, List, [], ◌∷◌, ◌++◌, map, Option, Some, None, is_ok, codes, refl}
+use Rattle.jl_class.specs.Class.{Method}
+use Rattle.jl_class.specs.declared.site.Kind.{Kind}
+use Rattle.jl_class.specs.declared.site.Kind.TheVariants.{Virtual, Dynamic}
+use Rattle.jl_class.specs.declared.site.Operand.{Operand}
+use Rattle.jl_class.specs.declared.site.Operand.TheVariants as operand
+use Rattle.jl_types.specs.declared.ids.MethodId.{MethodId}
+use Rattle.jl_types.specs.declared.answer.Outcome.TheVariants.{Run}
+use Rattle.jl_types.specs.declared.link.Link.TheVariants.{Plain, Table}
+use Rattle.jl_types.specs.declared.link.TableKind.TheVariants as kind
+use Rattle.jl_types.specs.declared.target.CallSiteKind.TheVariants.{Constant, Mutable}
+use Rattle.jl_types.specs.Values.Target as target
+use Rattle.jl_types.specs.Happenings.Event.{Event}
+use Rattle.jl_types.specs.declared.event.EventOf.TheVariants.{NewLoader, Define, Delegate, Request, NewCallSite, SetTarget, NewSwitch, Invalidate, Bind, Install, Retire}
+use Rattle.jl_types.specs.declared.event.Made.TheVariants.{Nothing}
+use Rattle.jl_types.specs.declared.answer.Recv.TheVariants.{Of}
+use Rattle.jl_types.specs.Linkage.Links.{scratch}
+use Rattle.jl_types.specs.Linkage.Calls.{dispatch}
+use Rattle.jl_types.specs.Happenings.Events.{verdict}
+use Rattle.jl_types.specs.Happenings.History.{world_after, installed_links}
+use Rattle.jl_core.specs.State.{State, world_of}
+use Rattle.jl_renewal.specs.declared.released.Released.{Released}
+use Rattle.jl_renewal.specs.Numbers.{Numbers, how_many}
+use Rattle.jl_renewal.specs.Staying.{numbers_of, staying_sites}
+use Rattle.jl_renewal.specs.Renewal.{renewal, fresh_rows}
+use Rattle.jl_renewal.specs.Renewed.{renewed, renumbered_result, renumbered_answer}
+
+-- ---- small classes
+
+abbrev object : List ℕ
+object = codes "java/lang/Object"
+
+abbrev method : ℕ → List ℕ → Method
+method flags name = record { name = name; ty = codes "()V"; flags = flags; sites = [] }
+
+-- with an invocation at pc 0
+abbrev calling : Kind → Operand (List ℕ) → Method
+calling kind operand = record { name = codes "m"; ty = codes "()V"; flags = 9; sites = record { pc = 0; kind = kind; operand = operand } ∷ [] }
+
+abbrev calls_f : Method
+calls_f = calling Virtual (operand.Method (record { itf = false; owner = codes "A"; name = codes "f"; ty = codes "()V" }))
+
+abbrev dynamic : Method
+dynamic = calling Dynamic (operand.CallSite (record { bootstrap = 0; name = codes "d"; ty = codes "()V" }))
+
+abbrev defines : ℕ → Option (List ℕ) → List ℕ → List Method → Event
+defines loader parent name methods =
+    Define loader (record { name = name; flags = 33; superclass = parent; interfaces = []; nest_host = None; nest_members = []; methods = methods })
+
+abbrev at_first : ℕ → Event
+at_first c = Request (record { class = c; method = 0; pc = 0 })
+
+abbrev of_class : ℕ → ℕ → MethodId
+of_class c i = record { class = c; index = i }
+
+-- ---- the old core
+
+-- loader 2 finds Object and A through loader 1, which is retired at last, with C 3, the receiver that makes A.f a table, and site 0
+abbrev history : List Event
+history =
+    defines 0 None object []
+    ∷ defines 0 (Some object) (codes "A") (method 1 (codes "f") ∷ [])
+    ∷ defines 0 (Some object) (codes "T") (dynamic ∷ method 9 (codes "s") ∷ method 9 (codes "t") ∷ [])
+    ∷ NewLoader ∷ Delegate 1 object 0 ∷ Delegate 1 (codes "A") 0
+    ∷ defines 1 (Some (codes "A")) (codes "C") (calls_f ∷ method 1 (codes "f") ∷ [])
+    ∷ NewLoader ∷ Delegate 2 object 1 ∷ Delegate 2 (codes "A") 1
+    ∷ defines 2 (Some (codes "A")) (codes "D") (calls_f ∷ method 1 (codes "f") ∷ [])
+    ∷ NewSwitch ∷ NewSwitch
+    ∷ NewCallSite Mutable (codes "()V") (target.Method (of_class 2 1))
+    ∷ NewCallSite Constant (codes "()V") (target.Guard 1 (target.Invoker 0) (target.Method (of_class 2 2)))
+    ∷ Invalidate (0 ∷ []) ∷ SetTarget 0 (target.Guard 0 (target.Method (of_class 2 1)) (target.Method (of_class 2 2)))
+    ∷ at_first 3 ∷ at_first 4 ∷ at_first 2 ∷ Bind 2 1
+    ∷ Install ((2, Plain (of_class 2 2)) ∷ []) ∷ Retire 1
+    ∷ Install ((1, Table kind.Virtual ((1, Run (of_class 1 0)) ∷ (4, Run (of_class 4 1)) ∷ [])) ∷ [])
+    ∷ []
+
+abbrev old : State
+old = record { max_sites = 8; log = map (λ e. (e, record { made = Nothing; dropped = [] })) history }
+
+abbrev are_accepted : List Event → List Event → Bool
+are_accepted before [] = true
+are_accepted before (e ∷ es) = is_ok (verdict 8 (world_after before) e) && are_accepted (before ++ e ∷ []) es
+
+is_a_history : are_accepted [] history ≡ true
+is_a_history = refl
+
+-- ---- the fresh one
+
+abbrev nothing : Released
+nothing = record { call_sites = []; switches = [] }
+
+new_numbers : numbers_of (world_of old) nothing ≡ record {
+  loaders = Some 0 ∷ None ∷ Some 1 ∷ [];
+  classes = Some 0 ∷ Some 1 ∷ Some 2 ∷ None ∷ Some 3 ∷ [];
+  sites = None ∷ Some 0 ∷ Some 1 ∷ [];
+  call_sites = Some 0 ∷ Some 1 ∷ [];
+  switches = Some 0 ∷ Some 1 ∷ [];
+}
+new_numbers = refl
+
+two_sites_stay : how_many (staying_sites (world_of old).classes (world_of old).places) ≡ 2
+two_sites_stay = refl
+
+each_is_accepted : are_accepted [] (renewal old nothing) ≡ true
+each_is_accepted = refl
+
+has_what_is_present : world_after (renewal old nothing) ≡ renewed (world_of old) nothing
+has_what_is_present = refl
+
+abbrev numbers : Numbers
+numbers = numbers_of (world_of old) nothing
+
+same_link : scratch (renewed (world_of old) nothing) 0 ≡ renumbered_result numbers (scratch (world_of old) 1)
+same_link = refl
+
+same_dynamic : scratch (renewed (world_of old) nothing) 1 ≡ renumbered_result numbers (scratch (world_of old) 2)
+same_dynamic = refl
+
+same_answer : dispatch (renewed (world_of old) nothing) 0 (Of 3) ≡ renumbered_answer numbers (dispatch (world_of old) 1 (Of 4))
+same_answer = refl
+
+rows : fresh_rows (world_after (renewal old nothing)) numbers (installed_links history)
+    ≡ (0, Table kind.Virtual ((1, Run (of_class 1 0)) ∷ (3, Run (of_class 3 1)) ∷ [])) ∷ (1, Plain (of_class 2 2)) ∷ []
+rows = refl
+
+-- ---- what its owner has let go
+
+-- Call site 2 invokes 0; 1 is bound at a site that stays, and 3 at one that goes; 4, which invokes 3, nobody needs.
+abbrev with_released : List Event
+with_released =
+    defines 0 None object []
+    ∷ defines 0 (Some object) (codes "T") (dynamic ∷ method 9 (codes "s") ∷ method 9 (codes "t") ∷ [])
+    ∷ NewLoader ∷ Delegate 1 object 0 ∷ defines 1 (Some object) (codes "C") (dynamic ∷ [])
+    ∷ NewSwitch ∷ NewSwitch
+    ∷ NewCallSite Mutable (codes "()V") (target.Method (of_class 1 1))
+    ∷ NewCallSite Mutable (codes "()V") (target.Guard 0 (target.Method (of_class 1 1)) (target.Method (of_class 1 2)))
+    ∷ NewCallSite Mutable (codes "()V") (target.Invoker 0)
+    ∷ NewCallSite Mutable (codes "()V") (target.Method (of_class 1 1))
+    ∷ NewCallSite Mutable (codes "()V") (target.Guard 1 (target.Invoker 3) (target.Method (of_class 1 2)))
+    ∷ at_first 1 ∷ at_first 2 ∷ Bind 0 1 ∷ Bind 1 3 ∷ Retire 1
+    ∷ []
+
+abbrev owned : State
+owned = record { max_sites = 8; log = map (λ e. (e, record { made = Nothing; dropped = [] })) with_released }
+
+is_one_too : are_accepted [] with_released ≡ true
+is_one_too = refl
+
+abbrev let_go : Released
+let_go = record { call_sites = 0 ∷ 1 ∷ 3 ∷ 4 ∷ []; switches = 0 ∷ 1 ∷ [] }
+
+needed_ones_stay : numbers_of (world_of owned) let_go ≡ record {
+  loaders = Some 0 ∷ None ∷ [];
+  classes = Some 0 ∷ Some 1 ∷ None ∷ [];
+  sites = Some 0 ∷ None ∷ [];
+  call_sites = Some 0 ∷ Some 1 ∷ Some 2 ∷ None ∷ None ∷ [];
+  switches = Some 0 ∷ None ∷ [];
+}
+needed_ones_stay = refl
+
+all_stay_otherwise : (numbers_of (world_of owned) nothing).call_sites ≡ Some 0 ∷ Some 1 ∷ Some 2 ∷ Some 3 ∷ Some 4 ∷ []
+all_stay_otherwise = refl
+
+-- a call site that is held keeps what it invokes and guards by
+invoked_ones_stay : numbers_of (world_of owned) (record { call_sites = 3 ∷ []; switches = 1 ∷ [] }) ≡ numbers_of (world_of owned) nothing
+invoked_ones_stay = refl
+
+left_is_accepted : are_accepted [] (renewal owned let_go) ≡ true
+left_is_accepted = refl
+
+has_what_is_needed : world_after (renewal owned let_go) ≡ renewed (world_of owned) let_go
+has_what_is_needed = refl

@@ -1,0 +1,277 @@
+-- What a site in a class that is present comes to is under new numbers what it came to.
+use Rattle.std.specs.Prelude.{◌≡◌, ◌==◌, ◌&&◌, ℕ, zero, suc, Bool, true, false, not, List, [], ◌∷◌, map, filter, find, slice_get}
+use Rattle.std.specs.Prelude.{Option, Some, None, option_map, option_and_then, Result, Ok, Err, if◌then◌else◌}
+use Rattle.std.specs.Option.{option_map_or}
+use Rattle.std.proofs.Common.{refl, sym, ap, subst, ◌∙◌}
+use Rattle.std.proofs.lemmas.Bool.{both_ways}
+use Rattle.std.proofs.lemmas.Bool.Decides.{Decides-eqb}
+use Rattle.std.proofs.lemmas.Option.{same_Some, slice_get-map}
+use Rattle.jl_pool.specs.declared.reference.Reference.{Reference}
+use Rattle.jl_class.specs.declared.site.Kind.{Kind}
+use Rattle.jl_class.specs.declared.site.Kind.TheVariants.{Virtual, Special, Static, Interface, Dynamic}
+use Rattle.jl_class.specs.declared.site.Operand.{Operand}
+use Rattle.jl_class.specs.declared.site.Operand.TheVariants as operand
+use Rattle.jl_class.specs.Site.{Site}
+use Rattle.jl_types.specs.declared.ids.MethodId.{MethodId}
+use Rattle.jl_types.specs.declared.ids.Place.{Place}
+use Rattle.jl_types.specs.declared.answer.Throwable.TheVariants.{NoSuchMethodError, IncompatibleClassChangeError}
+use Rattle.jl_types.specs.declared.answer.ResolveAnswer.{ResolveAnswer}
+use Rattle.jl_types.specs.declared.answer.ResolveAnswer.TheVariants as resolve
+use Rattle.jl_types.specs.declared.answer.Unlinked.TheVariants.{Gone}
+use Rattle.jl_types.specs.Values.World.{World, Classes}
+use Rattle.jl_types.specs.Values.Members.{is_present, is_static}
+use Rattle.jl_types.specs.Linkage.Resolution.{Resolved, resolved}
+use Rattle.jl_types.specs.Linkage.Selection.{is_init}
+use Rattle.jl_types.specs.Linkage.Targets.{method_of}
+use Rattle.jl_types.specs.Linkage.Stages.{Selector, ByVirtual, ByInterface, BySpecial, ResolvedCall, Stage, Waits, Fails, Calls, Selects}
+use Rattle.jl_types.specs.Linkage.Stages.{selecting, by_kind, by_resolution, by_method, bound_method, invocation_at, by_operand, stage_of}
+use Rattle.jl_types.specs.Linkage.Stages.{stage_at, stage}
+use Rattle.jl_renewal.specs.declared.released.Released.{Released}
+use Rattle.jl_renewal.specs.Numbers.{Numbers, renumbered}
+use Rattle.jl_renewal.specs.Staying.{numbers_of, staying_sites, is_in_staying_class}
+use Rattle.jl_renewal.specs.Renewed.{renewed, renumbered_place, renumbered_binding, renumbered_method}
+use Rattle.jl_renewal.proofs.ClassSteps.{number_same}
+use Rattle.jl_renewal.proofs.StayLaws.{renumbered_at, site_stays, bound_stays}
+use Rattle.jl_renewal.proofs.FreshClasses.{fresh_invocation}
+use Rattle.jl_renewal.proofs.Fit.{IsFit}
+use Rattle.jl_renewal.proofs.Alike.{AreAlike}
+use Rattle.jl_renewal.proofs.AccessLaws.{static_same}
+use Rattle.jl_renewal.proofs.ResolutionLaws.{renumbered_resolved, resolved_same, resolved_present}
+use Rattle.jl_renewal.proofs.CallSiteLaws.{method_same}
+
+-- the call under new numbers
+abbrev pub renumbered_call : Numbers → ResolvedCall → ResolvedCall
+renumbered_call n i = record i {
+  caller = renumbered n.classes i.caller;
+  named = renumbered n.classes i.named;
+  method = renumbered_method n i.method;
+}
+
+-- the stage under new numbers
+abbrev pub renumbered_stage : Numbers → Stage → Stage
+renumbered_stage n (Waits reason) = Waits reason
+renumbered_stage n (Fails throwable) = Fails throwable
+renumbered_stage n (Calls m) = Calls (renumbered_method n m)
+renumbered_stage n (Selects i) = Selects (renumbered_call n i)
+
+-- the classes that the call names are present
+pub record IsCallThere (cs : Classes) (i : ResolvedCall) : Type 0 where
+  pub caller : is_present cs i.caller ≡ true
+  pub named : is_present cs i.named ≡ true
+  pub method : is_present cs i.method.class ≡ true
+
+-- what is found is among the elements, and passes
+record IsFound {A : Type 0} (p : A → Bool) (xs : List A) (x : A) : Type 0 where
+  place : ℕ
+  at : slice_get xs place ≡ Some x
+  passes : p x ≡ true
+
+is_found : {A : Type 0} (p : A → Bool) (xs : List A) (x : A) → find p xs ≡ Some x → IsFound p xs x
+is_found p [] x e = cc
+is_found {A = A} p (y ∷ xs) x e = by_test (p y) refl e (is_found p xs x)
+  where
+    by_test : (b : Bool) → p y ≡ b → (if b then Some y else find p xs) ≡ Some x → (find p xs ≡ Some x → IsFound p xs x) → IsFound p (y ∷ xs) x
+    by_test true is e rest = record { place = zero; at = e; passes = subst (λ (z : A). p z ≡ true) (same_Some y x e) is }
+    by_test false is e rest = let r = rest e in record { place = suc r.place; at = r.at; passes = r.passes }
+
+same_Selects : (i j : ResolvedCall) → Selects i ≡ Selects j → i ≡ j
+same_Selects i j e = cc
+
+module _ (w : World) (released : Released) (fit : IsFit w) (alike : AreAlike (numbers_of w released) w.classes (renewed w released).classes) where
+  abbrev n : Numbers
+  n = numbers_of w released
+
+  abbrev v : World
+  v = renewed w released
+
+  abbrev is_kept : ℕ × ℕ → Bool
+  is_kept b = is_in_staying_class w b.0
+
+  -- ---- an invokedynamic
+
+  module _ (s : ℕ) (kept : is_in_staying_class w s ≡ true) where
+    -- the binding of a site that stays is the one that it had
+    binding_same : (bs : List (ℕ × ℕ)) → find (λ b. b.0 == renumbered n.sites s) (map (renumbered_binding n) (filter is_kept bs))
+        ≡ option_map (renumbered_binding n) (find (λ b. b.0 == s) bs)
+    binding_same [] = refl
+    binding_same (b ∷ bs) = by_test (is_kept b) refl (binding_same bs)
+      where
+        rest : Option (ℕ × ℕ)
+        rest = find (λ a. a.0 == s) bs
+
+        found_or : (t : Bool) → (if t then Some (renumbered_binding n b) else option_map (renumbered_binding n) rest)
+            ≡ option_map (renumbered_binding n) (if t then Some b else rest)
+        found_or true = refl
+        found_or false = refl
+
+        other : is_kept b ≡ false → (t : Bool) → (b.0 == s) ≡ t → t ≡ false
+        other gone false is = refl
+        other gone true is = absurd (both_ways (is_in_staying_class w b.0) gone (ap (is_in_staying_class w) ((Decides-eqb b.0 s).0 is) ∙ kept))
+
+        by_test : (t : Bool) → is_kept b ≡ t
+            → find (λ a. a.0 == renumbered n.sites s) (map (renumbered_binding n) (filter is_kept bs)) ≡ option_map (renumbered_binding n) rest
+            → find (λ a. a.0 == renumbered n.sites s) (map (renumbered_binding n) (if t then b ∷ filter is_kept bs else filter is_kept bs))
+            ≡ option_map (renumbered_binding n) (if b.0 == s then Some b else rest)
+        by_test true is same =
+            (λ i. if number_same (staying_sites w.classes w.places) b.0 s (site_stays w b.0 is) (site_stays w s kept) i
+            then Some (renumbered_binding n b) else same i)
+            ∙ found_or (b.0 == s)
+        by_test false is same =
+            same ∙ sym (ap (λ (t : Bool). option_map (renumbered_binding n) (if t then Some b else rest)) (other is (b.0 == s) refl))
+
+    -- its call site stays, and runs what it ran
+    by_binding : (o : Option (ℕ × ℕ)) → find (λ b. b.0 == s) w.bindings ≡ o
+        → option_and_then (method_of v.sites) (option_map (λ b. b.1) (option_map (renumbered_binding n) o))
+        ≡ option_map (renumbered_method n) (option_and_then (method_of w.sites) (option_map (λ b. b.1) o))
+    by_binding None is = refl
+    by_binding (Some b) is =
+        let at = is_found (λ b. b.0 == s) w.bindings b is in
+        method_same w released fit alike b.1
+        (bound_stays w released at.place b (fit.bindings at.place b at.at).call_site at.at (fit.bindings at.place b at.at).there
+        (ap (is_in_staying_class w) ((Decides-eqb b.0 s).0 at.passes) ∙ kept))
+
+    bound_same : bound_method v (renumbered n.sites s) ≡ option_map (renumbered_method n) (bound_method w s)
+    bound_same =
+        ap (λ (o : Option (ℕ × ℕ)). option_and_then (method_of v.sites) (option_map (λ b. b.1) o)) (binding_same w.bindings)
+        ∙ by_binding (find (λ b. b.0 == s) w.bindings) refl
+
+  by_method_same : (o : Option MethodId) → by_method (option_map (renumbered_method n) o) ≡ renumbered_stage n (by_method o)
+  by_method_same None = refl
+  by_method_same (Some m) = refl
+
+  -- ---- the other instructions
+
+  either : (t : Bool) (a b : Stage) → (if t then renumbered_stage n a else renumbered_stage n b) ≡ renumbered_stage n (if t then a else b)
+  either true a b = refl
+  either false a b = refl
+
+  module _ (d : ℕ) (mine : is_present w.classes d ≡ true) (ref : Reference (List ℕ)) where
+    -- what the reference resolves to is under new numbers what it was
+    module _ (r : Resolved) (named : is_present w.classes r.named ≡ true) (at : is_present w.classes r.method.class ≡ true) where
+      abbrev renamed : Resolved
+      renamed = record { named = renumbered n.classes r.named; method = renumbered_method n r.method }
+
+      selecting_same : (selector : Selector) → selecting v.classes selector (renumbered n.classes d) ref renamed
+          ≡ renumbered_stage n (selecting w.classes selector d ref r)
+      selecting_same selector =
+          let call : ResolvedCall = record { selector = selector; caller = d; named = r.named; ref = ref; method = r.method } in
+          (λ i. if static_same n w.classes v.classes alike r.method at i then Fails IncompatibleClassChangeError else Selects (renumbered_call n call))
+          ∙ either (is_static w.classes r.method) (Fails IncompatibleClassChangeError) (Selects call)
+
+      kind_same : (kind : Kind) → by_kind v.classes kind (renumbered n.classes d) ref renamed ≡ renumbered_stage n (by_kind w.classes kind d ref r)
+      kind_same Static =
+          (λ i. if static_same n w.classes v.classes alike r.method at i then Calls (renumbered_method n r.method) else Fails IncompatibleClassChangeError)
+          ∙ either (is_static w.classes r.method) (Calls r.method) (Fails IncompatibleClassChangeError)
+      kind_same Virtual = selecting_same ByVirtual
+      kind_same Interface = selecting_same ByInterface
+      kind_same Special =
+          (λ i. if is_init ref.name && not (alike.same r.method.class r.named at named i) then Fails NoSuchMethodError else selecting_same BySpecial i)
+          ∙ either (is_init ref.name && not (r.method.class == r.named)) (Fails NoSuchMethodError) (selecting w.classes BySpecial d ref r)
+      kind_same Dynamic = refl
+
+    resolution_same : (kind : Kind) (r : Result Resolved ResolveAnswer) → resolved w.classes d ref ≡ r
+        → by_resolution v.classes kind (renumbered n.classes d) ref (renumbered_resolved n r) ≡ renumbered_stage n (by_resolution w.classes kind d ref r)
+    resolution_same kind (Err (resolve.NotReady missing)) is = refl
+    resolution_same kind (Err (resolve.Fault throwable)) is = refl
+    resolution_same kind (Ok r) is =
+        let there = resolved_present n w.classes v.classes alike d ref r mine is in
+        kind_same r there.0 there.1 kind
+
+  -- ---- a site
+
+  operand_same : (s d : ℕ) → is_in_staying_class w s ≡ true → is_present w.classes d ≡ true → (kind : Kind) (operand : Operand (List ℕ))
+      → by_operand v (renumbered n.sites s) (renumbered n.classes d) kind operand ≡ renumbered_stage n (by_operand w s d kind operand)
+  operand_same s d kept mine kind (operand.Method ref) =
+      ap (by_resolution v.classes kind (renumbered n.classes d) ref) (resolved_same n w.classes v.classes alike d ref mine)
+      ∙ resolution_same d mine ref kind (resolved w.classes d ref) refl
+  operand_same s d kept mine kind (operand.CallSite specifier) = ap by_method (bound_same s kept) ∙ by_method_same (bound_method w s)
+
+  site_same : (s d : ℕ) → is_in_staying_class w s ≡ true → is_present w.classes d ≡ true → (o : Option Site)
+      → stage_of v (renumbered n.sites s) (renumbered n.classes d) o ≡ renumbered_stage n (stage_of w s d o)
+  site_same s d kept mine None = refl
+  site_same s d kept mine (Some site) = operand_same s d kept mine site.kind site.operand
+
+  -- a site that stays comes to what it came to
+  pub stage_same : (s : ℕ) → slice_get (staying_sites w.classes w.places) s ≡ Some true → stage v (renumbered n.sites s) ≡ renumbered_stage n (stage w s)
+  stage_same s s_stays = by_place (slice_get w.places s) refl (sym (slice_get-map is_there w.places s) ∙ s_stays)
+    where
+      is_there : Place → Bool
+      is_there place = is_present w.classes place.class
+
+      by_place : (o : Option Place) → slice_get w.places s ≡ o → option_map is_there o ≡ Some true
+          → stage v (renumbered n.sites s) ≡ renumbered_stage n (stage_at w s o)
+      by_place None at e = cc
+      by_place (Some place) at e =
+          let there = same_Some (is_there place) true e in
+          ap (stage_at v (renumbered n.sites s))
+          (renumbered_at (renumbered_place n) (staying_sites w.classes w.places) w.places s place s_stays at)
+          ∙ ((λ i. if alike.present place.class there i
+          then stage_of v (renumbered n.sites s) (renumbered n.classes place.class) (fresh_invocation w released place there i) else Waits Gone)
+          ∙ (site_same s place.class (ap (λ (o : Option Place). option_map_or is_there o false) at ∙ there) there (invocation_at w.classes place)
+          ∙ sym (ap (λ (b : Bool). renumbered_stage n (if b then stage_of w s place.class (invocation_at w.classes place) else Waits Gone)) there)))
+
+  -- ---- the classes that a call names
+
+  module _ (d : ℕ) (mine : is_present w.classes d ≡ true) (ref : Reference (List ℕ)) (i : ResolvedCall) where
+    selecting_present : (r : Resolved) → is_present w.classes r.named ≡ true → is_present w.classes r.method.class ≡ true → (selector : Selector)
+        → selecting w.classes selector d ref r ≡ Selects i → IsCallThere w.classes i
+    selecting_present r named at selector = by_test (is_static w.classes r.method)
+      where
+        call : ResolvedCall
+        call = record { selector = selector; caller = d; named = r.named; ref = ref; method = r.method }
+
+        by_test : (t : Bool) → (if t then Fails IncompatibleClassChangeError else Selects call) ≡ Selects i → IsCallThere w.classes i
+        by_test true e = cc
+        by_test false e = subst (IsCallThere w.classes) (same_Selects call i e) (record { caller = mine; named = named; method = at })
+
+    kind_present : (r : Resolved) → is_present w.classes r.named ≡ true → is_present w.classes r.method.class ≡ true → (kind : Kind)
+        → by_kind w.classes kind d ref r ≡ Selects i → IsCallThere w.classes i
+    kind_present r named at Static = by_test (is_static w.classes r.method)
+      where
+        by_test : (t : Bool) → (if t then Calls r.method else Fails IncompatibleClassChangeError) ≡ Selects i → IsCallThere w.classes i
+        by_test true e = cc
+        by_test false e = cc
+    kind_present r named at Virtual = selecting_present r named at ByVirtual
+    kind_present r named at Interface = selecting_present r named at ByInterface
+    kind_present r named at Special = by_test (is_init ref.name && not (r.method.class == r.named)) (selecting_present r named at BySpecial)
+      where
+        by_test : (t : Bool) → (selecting w.classes BySpecial d ref r ≡ Selects i → IsCallThere w.classes i)
+            → (if t then Fails NoSuchMethodError else selecting w.classes BySpecial d ref r) ≡ Selects i → IsCallThere w.classes i
+        by_test true selected e = cc
+        by_test false selected e = selected e
+    kind_present r named at Dynamic = λ e. cc
+
+    resolution_present : (kind : Kind) (r : Result Resolved ResolveAnswer) → resolved w.classes d ref ≡ r → by_resolution w.classes kind d ref r ≡ Selects i
+        → IsCallThere w.classes i
+    resolution_present kind (Err (resolve.NotReady missing)) is e = cc
+    resolution_present kind (Err (resolve.Fault throwable)) is e = cc
+    resolution_present kind (Ok r) is e =
+        let there = resolved_present n w.classes v.classes alike d ref r mine is in
+        kind_present r there.0 there.1 kind e
+
+  -- what a call site runs isn't selected
+  method_called : (o : Option MethodId) (i : ResolvedCall) → ¬ (by_method o ≡ Selects i)
+  method_called None i e = cc
+  method_called (Some m) i e = cc
+
+  operand_present : (s d : ℕ) → is_present w.classes d ≡ true → (kind : Kind) (operand : Operand (List ℕ)) (i : ResolvedCall)
+      → by_operand w s d kind operand ≡ Selects i → IsCallThere w.classes i
+  operand_present s d mine kind (operand.Method ref) i is = resolution_present d mine ref i kind (resolved w.classes d ref) refl is
+  operand_present s d mine kind (operand.CallSite specifier) i is = absurd (method_called (bound_method w s) i is)
+
+  site_present : (s d : ℕ) → is_present w.classes d ≡ true → (o : Option Site) (i : ResolvedCall) → stage_of w s d o ≡ Selects i → IsCallThere w.classes i
+  site_present s d mine None i is = cc
+  site_present s d mine (Some site) i is = operand_present s d mine site.kind site.operand i is
+
+  -- a site that selects by the receiver is in a present class, and the classes that it names are present
+  pub stage_present : (s : ℕ) (i : ResolvedCall) → stage w s ≡ Selects i → IsCallThere w.classes i
+  stage_present s i is = by_place (slice_get w.places s) is
+    where
+      by_test : (place : Place) (t : Bool) → is_present w.classes place.class ≡ t
+          → (if t then stage_of w s place.class (invocation_at w.classes place) else Waits Gone) ≡ Selects i → IsCallThere w.classes i
+      by_test place true there e = site_present s place.class there (invocation_at w.classes place) i e
+      by_test place false there e = cc
+
+      by_place : (o : Option Place) → stage_at w s o ≡ Selects i → IsCallThere w.classes i
+      by_place None e = cc
+      by_place (Some place) e = by_test place (is_present w.classes place.class) refl e

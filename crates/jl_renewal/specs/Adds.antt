@@ -1,0 +1,59 @@
+-- What lists of events add to a core. A means of proof.
+use Rattle.std.specs.Prelude.{◌≡◌, ◌<◌, Some, Contains, ℕ, List, [], ◌∷◌, ◌++◌, map, Ok, IsOk, All, AllPairs, ⊤}
+use Rattle.jl_types.specs.declared.link.Link.{Link}
+use Rattle.jl_types.specs.declared.event.EventOf.TheVariants as event
+use Rattle.jl_types.specs.Happenings.Event.{Event}
+use Rattle.jl_types.specs.Happenings.Events.{verdict, step}
+use Rattle.jl_types.specs.Values.World.{World}
+use Rattle.jl_types.specs.Linkage.Links.{scratch}
+use Rattle.jl_core.specs.State.{State, events, world_of, links_of}
+use Rattle.jl_renewal.specs.Numbers.{Numbers, new_number}
+use Rattle.jl_renewal.specs.Renewal.{renewal_by, fresh_rows, AreBatches}
+
+-- each of the events is accepted, one after another, from this world on
+abbrev pub Follow : ℕ → World → List Event → Type 0
+Follow max_sites w [] = ⊤
+Follow max_sites w (e ∷ es) = IsOk (verdict max_sites w e) × Follow max_sites (step w e) es
+
+-- the core accepts them, one after another
+abbrev pub MayAdd : List Event → State → Type 0
+MayAdd es core = Follow core.max_sites (world_of core) es
+
+-- each row is the link that its site has from scratch, and their sites rise
+pub record AreFresh (w : World) (rows : List (ℕ × Link)) : Type 0 where
+  pub rises : AllPairs (λ a b. a.0 < b.0) rows
+  pub present : All (λ row. scratch w row.0 ≡ Ok row.1) rows
+
+-- a site that had one of these links has this number now
+pub record HasCome (linked : List (ℕ × Link)) (n : Numbers) (k : ℕ) : Type 0 where
+  pub site : ℕ
+  pub link : Link
+  pub had : Contains linked (site, link)
+  pub has : new_number n.sites site ≡ Some k
+
+-- the core has accepted these events, and no others
+pub record Adds (es : List Event) (old new : State) : Type 0 where
+  pub events : events new ≡ events old ++ es
+  pub limit : new.max_sites ≡ old.max_sites
+
+-- it has installed these links, and nothing else
+pub record Installs (rows : List (ℕ × Link)) (old new : State) : Type 0 where
+  pub batches : List (List (ℕ × Link))
+  pub are_batches : AreBatches batches rows
+  pub adds : Adds (map event.Install batches) old new
+
+-- it has installed these links but for those that are left, and nothing else
+pub record InstallsFront (rows left : List (ℕ × Link)) (old new : State) : Type 0 where
+  pub batches : List (List (ℕ × Link))
+  pub are_batches : (others : List (List (ℕ × Link))) → AreBatches others left → AreBatches (batches ++ others) rows
+  pub adds : Adds (map event.Install batches) old new
+
+-- the events by which the old core is renewed
+abbrev pub renewal_with : State → Numbers → List Event
+renewal_with old n = renewal_by (world_of old) n (events old)
+
+-- it has accepted the events by which the old core is renewed, and then those of its links
+pub record IsFilled (old : State) (n : Numbers) (before after : State) : Type 0 where
+  pub between : State
+  pub renewed : Adds (renewal_with old n) before between
+  pub linked : Installs (fresh_rows (world_of between) n (links_of old)) between after

@@ -1,0 +1,8 @@
+-- `Numbers`, `Staying`, `Renewal` and `Renewed` are what contracts cite; the others are means of proof.
+pub mod Numbers
+pub mod Staying
+pub mod Renewal
+pub mod Renewed
+pub mod Adds
+pub mod Told
+pub mod Marks

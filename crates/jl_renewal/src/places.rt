@@ -1,0 +1,93 @@
+//! The events that request places and bind invokedynamics.
+
+ghost use Rattle.std.specs.Prelude.{◌≡◌, filter_map, IfOk, OnOk};
+ghost use Rattle.jl_renewal.specs.Renewal as renewal;
+ghost use Rattle.jl_renewal.specs.Adds.{MayAdd, Adds};
+
+use crate::apply::add_if_any;
+use crate::numbers::Renumbering;
+use indexmap::{IndexMap, IndexSet};
+use jl_core::EventMachine;
+use jl_types::{CallSiteId, Event, Place, SiteNo};
+use std::alloc::{AllocError, Global};
+
+/// Requests the places in classes that stay, in order. Want of memory is an error.
+pub(crate) fn add_requests<M: EventMachine>(
+    alloc: Global,
+    fresh: &mut M,
+    places: &IndexSet<Place>,
+    numbers: &Renumbering,
+) -> Result<(), AllocError>
+    requires { MayAdd (filter_map (renewal.request numbers.now) places.now.keys) (M.state fresh.old) }
+    ensures { OnOk result (Adds (filter_map (renewal.request numbers.now) places.now.keys) (M.state fresh.old) (M.state fresh.new)) }
+{
+    let places = places.as_slice();
+    for place in places {
+        add_if_any(alloc, fresh, request(numbers, place))?;
+    }
+    Ok(())
+}
+
+/// The request of the place, if its class stays.
+fn request(numbers: &Renumbering, place: &Place) -> Option<Event>
+    ensures { result ≡ renewal.request numbers.now place.now }
+{
+    let class = numbers.class(place.class)?;
+    Some(Event::Request(Place {
+        class,
+        method: place.method,
+        pc: place.pc,
+    }))
+}
+
+/// Binds the invokedynamics that stay, in order. Want of memory is an error.
+pub(crate) fn add_bindings<M: EventMachine>(
+    alloc: Global,
+    fresh: &mut M,
+    bindings: &IndexMap<SiteNo, CallSiteId>,
+    numbers: &Renumbering,
+) -> Result<(), AllocError>
+    requires { MayAdd (filter_map (renewal.binding numbers.now) bindings.now.entries) (M.state fresh.old) }
+    ensures { OnOk result (Adds (filter_map (renewal.binding numbers.now) bindings.now.entries) (M.state fresh.old) (M.state fresh.new)) }
+{
+    let bound = entries_of(alloc, bindings)?;
+    add_each(alloc, fresh, bound.as_slice(), numbers)
+}
+
+/// The sites that are bound, each with its call site. Want of memory is an error.
+fn entries_of(
+    alloc: Global,
+    bindings: &IndexMap<SiteNo, CallSiteId>,
+) -> Result<Vec<(SiteNo, CallSiteId)>, AllocError>
+    ensures { IfOk result (λ bound. bound.items ≡ bindings.now.entries) }
+{
+    bindings
+        .iter()
+        .map(|(site, call_site)| (*site, *call_site))
+        .collect(alloc)
+}
+
+/// Binds those of these that stay, in order. Want of memory is an error.
+fn add_each<M: EventMachine>(
+    alloc: Global,
+    fresh: &mut M,
+    bound: &[(SiteNo, CallSiteId)],
+    numbers: &Renumbering,
+) -> Result<(), AllocError>
+    requires { MayAdd (filter_map (renewal.binding numbers.now) bound.now) (M.state fresh.old) }
+    ensures { OnOk result (Adds (filter_map (renewal.binding numbers.now) bound.now) (M.state fresh.old) (M.state fresh.new)) }
+{
+    for one in bound {
+        add_if_any(alloc, fresh, binding(numbers, one.0, one.1))?;
+    }
+    Ok(())
+}
+
+/// The binding of the site to the call site, if both stay.
+fn binding(numbers: &Renumbering, site: SiteNo, call_site: CallSiteId) -> Option<Event>
+    ensures { result ≡ renewal.binding numbers.now (site, call_site) }
+{
+    let site = numbers.site(site)?;
+    let call_site = numbers.call_site(call_site)?;
+    Some(Event::Bind(site, call_site))
+}

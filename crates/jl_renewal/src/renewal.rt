@@ -1,0 +1,85 @@
+//! A fresh core that has what stays of an old one.
+
+ghost use Rattle.std.specs.Prelude.{◌≤◌, ◌++◌, IfOk, IfErr, OnOk};
+ghost use Rattle.jl_types.specs.Happenings.Event.{Event};
+ghost use Rattle.jl_renewal.specs.Renewal.{IsRenewal, IsRefusedRenewal, new_loaders, site_events};
+ghost use Rattle.jl_renewal.specs.Told.{told_events};
+ghost use Rattle.jl_renewal.specs.Adds.{MayAdd, Adds};
+ghost use Rattle.jl_core.specs.State.{world_of};
+
+use crate::call_sites::{add_call_sites, add_invalidation, add_switches};
+use crate::classes::{add_classes, add_loaders};
+use crate::links::{add_batches, rows_of};
+use crate::numbers::Renumbering;
+use crate::places::{add_bindings, add_requests};
+use crate::released::Released;
+use crate::stays::renumbering;
+use jl_core::{Core, Entry, EventMachine};
+use jl_relink::World;
+use jl_types::Refusal;
+use std::alloc::{AllocError, Global};
+
+/// A fresh core that has what stays of the old one, in the same order, under new numbers; so many places may be requested there. What
+/// stays are the loaders that aren't retired with their classes and the sites in these, and of the call sites and switch points those that
+/// aren't released, or are still needed.
+///
+/// # Errors
+///
+/// `SitesFull` where more sites stay than may be requested there; want of memory. No event is refused but for that.
+pub fn renew(
+    alloc: Global,
+    core: &Core,
+    released: &Released,
+    max_sites: u32,
+) -> Result<(Core, Renumbering), Refusal>
+    requires { 1 ≤ max_sites }
+    ensures renewal { IfOk result (IsRenewal core.now released.now max_sites) }
+    ensures refused { IfErr result (IsRefusedRenewal (world_of core.now) max_sites) }
+{
+    let old = core.world();
+    // Shows that what is present rests on what is present.
+    let _classes = old.classes.count_in_order();
+    let numbers = renumbering(alloc, old, released, max_sites)?;
+    let mut fresh = Core::new(alloc, max_sites)?;
+    add_all(alloc, &mut fresh, old, core.log(), &numbers)?;
+    let linked = core.list_links(alloc)?;
+    let rows = rows_of(alloc, fresh.world(), linked.as_slice(), &numbers)?;
+    add_batches(alloc, &mut fresh, rows.as_slice())?;
+    Ok((fresh, numbers))
+}
+
+/// Gives the fresh core what stays of the old one, but for the links. Want of memory is an error.
+fn add_all<M: EventMachine>(
+    alloc: Global,
+    fresh: &mut M,
+    old: &World,
+    log: &[Entry],
+    numbers: &Renumbering,
+) -> Result<(), AllocError>
+    requires { MayAdd (new_loaders numbers.now.loaders ++ (told_events old.now numbers.now log.now ++ site_events old.now numbers.now)) (M.state fresh.old) }
+    ensures { OnOk result (Adds (new_loaders numbers.now.loaders ++ (told_events old.now numbers.now log.now ++ site_events old.now numbers.now))
+        (M.state fresh.old) (M.state fresh.new)) }
+{
+    add_loaders(alloc, fresh, numbers.loaders.as_slice())?;
+    add_classes(alloc, fresh, old, numbers, log)?;
+    add_sites(alloc, fresh, old, numbers)?;
+    Ok(())
+}
+
+/// Makes the switch points and call sites, requests the places and binds the invokedynamics. Want of memory is an error.
+fn add_sites<M: EventMachine>(
+    alloc: Global,
+    fresh: &mut M,
+    old: &World,
+    numbers: &Renumbering,
+) -> Result<(), AllocError>
+    requires { MayAdd (site_events old.now numbers.now) (M.state fresh.old) }
+    ensures { OnOk result (Adds (site_events old.now numbers.now) (M.state fresh.old) (M.state fresh.new)) }
+{
+    add_switches(alloc, fresh, numbers.switches.as_slice())?;
+    add_invalidation(alloc, fresh, &old.sites, numbers)?;
+    add_call_sites(alloc, fresh, &old.sites, numbers)?;
+    add_requests(alloc, fresh, &old.places, numbers)?;
+    add_bindings(alloc, fresh, &old.bindings, numbers)?;
+    Ok(())
+}

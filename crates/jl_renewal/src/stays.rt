@@ -1,0 +1,265 @@
+//! What stays.
+
+ghost use Rattle.std.specs.Prelude.{◌≡◌, ◌≤◌, ◌<◌, ◌^◌, ◌||◌, false, not, map, length, get_or, option_copied, IfOk, IfErr, OnOk};
+ghost use Rattle.std.specs.List.{list_any, range_with_len};
+ghost use Rattle.jl_types.specs.Values.Members as members;
+ghost use Rattle.jl_renewal.specs.Numbers.{numbered, staying, how_many};
+ghost use Rattle.jl_renewal.specs.Renewal.{IsRefusedRenewal};
+ghost use Rattle.jl_renewal.specs.Staying as what_stays;
+ghost use Rattle.jl_renewal.specs.Staying.{numbers_of, staying_loaders, staying_classes, staying_sites, staying_call_sites, staying_switches};
+ghost use Rattle.jl_renewal.specs.Staying.{staying_from, is_held, is_among, guards_by};
+ghost use Rattle.jl_renewal.specs.Marks.{marked, binds_staying, flagged_target};
+
+use crate::marks::{clear_call_sites, clear_switches, mark_guards, mark_invoked, set_flag};
+use crate::numbers::{Renumbering, how_many, numbered};
+use crate::released::Released;
+use indexmap::IndexSet;
+use jl_callsites::Sites;
+use jl_hierarchy::Classes;
+use jl_relink::World;
+use jl_types::{CallSiteId, ClassId, LoaderId, Place, Refusal, SiteNo, Target};
+use std::alloc::{AllocError, Global};
+
+/// The numbers that what stays of the world has in a fresh core, where so many places may be requested.
+///
+/// # Errors
+///
+/// `SitesFull` where more sites stay; want of memory.
+pub(crate) fn renumbering(
+    alloc: Global,
+    old: &World,
+    released: &Released,
+    max_sites: u32,
+) -> Result<Renumbering, Refusal>
+    ensures numbers { IfOk result (λ numbers. numbers ≡ numbers_of old.now released.now) }
+    ensures few { OnOk result (how_many (staying_sites old.now.classes old.now.places) ≤ max_sites) }
+    ensures refused { IfErr result (IsRefusedRenewal old.now max_sites) }
+{
+    let stays = sites_that_stay(alloc, &old.classes, &old.places)?;
+    if how_many(stays.as_slice()) > max_sites as usize {
+        return Err(Refusal::SitesFull);
+    }
+    Ok(numbers_by(alloc, old, released, stays.as_slice())?)
+}
+
+/// The same where these sites stay. Want of memory is an error.
+fn numbers_by(
+    alloc: Global,
+    old: &World,
+    released: &Released,
+    sites: &[bool],
+) -> Result<Renumbering, AllocError>
+    requires sites { sites.now ≡ staying_sites old.now.classes old.now.places }
+    requires few { how_many sites.now < 2 ^ 32 }
+    ensures { IfOk result (λ numbers. numbers ≡ numbers_of old.now released.now) }
+{
+    let (loaders, classes) = class_numbers(alloc, &old.classes)?;
+    let sites = numbered(alloc, sites)?;
+    let (call_sites, switches) = call_site_numbers(alloc, old, released)?;
+    Ok(Renumbering {
+        loaders,
+        classes,
+        sites,
+        call_sites,
+        switches,
+    })
+}
+
+/// The numbers of loaders and of classes. Want of memory is an error.
+#[tactic(auto, using(crate::proofs::NumberLaws::many_fewer))]
+fn class_numbers(
+    alloc: Global,
+    classes: &Classes,
+) -> Result<(Vec<Option<u32>>, Vec<Option<u32>>), AllocError>
+    ensures loaders { IfOk result (λ made. made.0.items ≡ numbered (staying_loaders classes.now)) }
+    ensures classes { IfOk result (λ made. made.1.items ≡ numbered (staying_classes classes.now)) }
+{
+    let loaders = numbered(alloc, loaders_that_stay(alloc, classes)?.as_slice())?;
+    let classes = numbered(alloc, classes_that_stay(alloc, classes)?.as_slice())?;
+    Ok((loaders, classes))
+}
+
+/// The numbers of call sites and of switch points. Want of memory is an error.
+#[tactic(auto, using(crate::proofs::NumberLaws::many_fewer))]
+fn call_site_numbers(
+    alloc: Global,
+    old: &World,
+    released: &Released,
+) -> Result<(Vec<Option<u32>>, Vec<Option<u32>>), AllocError>
+    ensures call_sites { IfOk result (λ made. made.0.items ≡ numbered (staying_call_sites old.now released.now)) }
+    ensures switches { IfOk result (λ made. made.1.items ≡ numbered (staying_switches old.now released.now)) }
+{
+    let stays = call_sites_that_stay(alloc, old, released)?;
+    let switches = switches_that_stay(alloc, &old.sites, stays.as_slice(), released)?;
+    Ok((
+        numbered(alloc, stays.as_slice())?,
+        numbered(alloc, switches.as_slice())?,
+    ))
+}
+
+/// Whether each loader stays. Want of memory is an error.
+fn loaders_that_stay(alloc: Global, classes: &Classes) -> Result<Vec<bool>, AllocError>
+    ensures stays { IfOk result (λ stays. stays.items ≡ staying_loaders classes.now) }
+    ensures few { IfOk result (λ stays. length stays.items ≤ 1024) }
+{
+    loaders_below(alloc, classes, classes.loader_count())
+}
+
+/// Whether each of the first so many loaders stays: those that aren't retired. Want of memory is an error.
+fn loaders_below(alloc: Global, classes: &Classes, count: usize) -> Result<Vec<bool>, AllocError>
+    requires { count ≤ 1024 }
+    ensures stays { IfOk result (λ stays. stays.items ≡ map (λ l. not (members.is_retired classes.now l)) (range_with_len 0 count)) }
+    ensures few { IfOk result (λ stays. length stays.items ≤ 1024) }
+{
+    let mut stays = Vec::with_capacity(alloc, count)?;
+    for loader in 0..count {
+        stays.push(!classes.is_retired(LoaderId::new(loader as u32)))?;
+    }
+    Ok(stays)
+}
+
+/// Whether each class stays: those that are present. Want of memory is an error.
+fn classes_that_stay(alloc: Global, classes: &Classes) -> Result<Vec<bool>, AllocError>
+    ensures stays { IfOk result (λ stays. stays.items ≡ staying_classes classes.now) }
+    ensures few { IfOk result (λ stays. length stays.items ≤ 65536) }
+{
+    let count = classes.count_in_order();
+    let mut stays = Vec::with_capacity(alloc, count)?;
+    for class in 0..count {
+        stays.push(classes.is_present(ClassId::new(class as u32)))?;
+    }
+    Ok(stays)
+}
+
+/// Whether each site stays: those in classes that are present. Want of memory is an error.
+fn sites_that_stay(
+    alloc: Global,
+    classes: &Classes,
+    places: &IndexSet<Place>,
+) -> Result<Vec<bool>, AllocError>
+    ensures { IfOk result (λ stays. stays.items ≡ staying_sites classes.now places.now.keys) }
+{
+    places
+        .iter()
+        .map(|place| classes.is_present(place.class))
+        .collect(alloc)
+}
+
+/// Whether each call site stays: those that are held, and those that the target of a later one which stays invokes. Want of memory is
+/// an error.
+fn call_sites_that_stay(
+    alloc: Global,
+    old: &World,
+    released: &Released,
+) -> Result<Vec<bool>, AllocError>
+    ensures stays { IfOk result (λ stays. stays.items ≡ staying_call_sites old.now released.now) }
+    ensures few { IfOk result (λ stays. length stays.items ≤ 65536) }
+{
+    // Bounds the result.
+    let _count = old.sites.few_call_sites();
+    let mut stays = held_call_sites(alloc, old, released)?;
+    keep_invoked(stays.as_mut_slice(), &old.sites);
+    Ok(stays)
+}
+
+/// Whether each call site is held: those that aren't released, and those to which a site is bound that stays. Want of memory is an
+/// error.
+fn held_call_sites(alloc: Global, old: &World, released: &Released) -> Result<Vec<bool>, AllocError>
+    ensures { IfOk result (λ held. held.items ≡ map (is_held old.now released.now) (range_with_len 0 (length old.now.sites.call_sites))) }
+{
+    let mut held = vec![in alloc; true; old.sites.call_site_count()]?;
+    let flags = held.as_mut_slice();
+    clear_call_sites(flags, released.call_sites.as_slice());
+    mark_bound(flags, old);
+    Ok(held)
+}
+
+/// Sets the flags of the call sites to which sites are bound that stay.
+fn mark_bound(held: &mut [bool], old: &World)
+    ensures { held.new ≡ marked (λ c. list_any (binds_staying old.now c) old.now.bindings) held.old }
+{
+    // Bounds the loop.
+    let _count = old.bindings.len();
+    let mut place = 0;
+    while let Some((site, call_site)) = old.bindings.get_index(place) {
+        mark_if_stays(held, old, *site, *call_site);
+        place += 1;
+    }
+}
+
+/// Sets the flag of the call site, if the site stays.
+fn mark_if_stays(held: &mut [bool], old: &World, site: SiteNo, call_site: CallSiteId)
+    ensures { held.new ≡ marked (λ c. binds_staying old.now c (site, call_site)) held.old }
+{
+    if is_in_staying_class(old, site) {
+        set_flag(held, call_site.number(), true);
+    }
+}
+
+/// Whether the site was requested, and its class is present.
+fn is_in_staying_class(old: &World, site: SiteNo) -> bool
+    ensures { result ≡ what_stays.is_in_staying_class old.now site }
+{
+    match old.places.get_index(site.number() as usize) {
+        Some(place) => old.classes.is_present(place.class),
+        None => false,
+    }
+}
+
+/// Goes from the last call site to the first, and sets the flags of those that the target of one whose flag is set invokes.
+fn keep_invoked(stays: &mut [bool], sites: &Sites)
+    requires { length stays.old ≡ length sites.now.call_sites }
+    ensures { stays.new ≡ staying_from (λ c. get_or stays.old c false) 0 sites.now.call_sites }
+{
+    // Shows that each target invokes call sites with smaller numbers.
+    let _points = sites.known_switches();
+    for number in (0..sites.few_call_sites()).rev() {
+        if let Some(target) = staying_target(stays, sites, number) {
+            mark_invoked(stays, target);
+        }
+    }
+}
+
+/// The target of the call site of this number, if its flag is set.
+fn staying_target<'a>(stays: &[bool], sites: &'a Sites, number: usize) -> Option<&'a Target>
+    requires { number < 65536 }
+    ensures { option_copied result ≡ flagged_target stays.now sites.now.call_sites number }
+{
+    let site = sites.call_site_at(CallSiteId::new(number as u32))?;
+    if *stays.get(number)? {
+        Some(site.target())
+    } else {
+        None
+    }
+}
+
+/// Whether each switch point stays: those that aren't released, and those by which the target of a call site guards that stays. Want of
+/// memory is an error.
+fn switches_that_stay(
+    alloc: Global,
+    sites: &Sites,
+    stays: &[bool],
+    released: &Released,
+) -> Result<Vec<bool>, AllocError>
+    ensures stays { IfOk result (λ kept. kept.items
+        ≡ map (λ p. not (is_among released.now.switches p) || list_any (λ site. guards_by p site.target) (staying stays.now sites.now.call_sites))
+        (range_with_len 0 (length sites.now.switches))) }
+    ensures few { IfOk result (λ kept. length kept.items ≤ 65536) }
+{
+    let mut kept = vec![in alloc; true; sites.few_switches()]?;
+    let flags = kept.as_mut_slice();
+    clear_switches(flags, released.switches.as_slice());
+    keep_guards(flags, sites, stays);
+    Ok(kept)
+}
+
+/// Sets the flags of the switch points by which the targets of call sites guard that stay.
+fn keep_guards(kept: &mut [bool], sites: &Sites, stays: &[bool])
+    ensures { kept.new ≡ marked (λ p. list_any (λ site. guards_by p site.target) (staying stays.now sites.now.call_sites)) kept.old }
+{
+    for number in 0..sites.few_call_sites() {
+        if let Some(target) = staying_target(stays, sites, number) {
+            mark_guards(kept, target);
+        }
+    }
+}
