@@ -20,7 +20,7 @@ use Rattle.jl_types.specs.Linkage.Stages.{Selector, ByVirtual, ByInterface, BySp
 use Rattle.jl_types.specs.Linkage.Links.{outcome_by, outcome, table_rows, table_or_mega, runs, virtual_link, link_by}
 use Rattle.jl_types.specs.Linkage.Calls.{answered, fits_named, is_receiver, selected}
 use Rattle.jl_renewal.specs.Numbers.{Numbers, renumbered}
-use Rattle.jl_renewal.specs.Renewed.{renumbered_method, renumbered_outcome, renumbered_link, renumbered_answer, renumbered_receiver, IsPresentReceiver}
+use Rattle.jl_renewal.specs.Renewed.{renumbered_method, renumbered_outcome, renumbered_row, renumbered_link, renumbered_answer, renumbered_receiver, IsPresentReceiver}
 use Rattle.jl_renewal.proofs.Alike.{AreAlike}
 use Rattle.jl_renewal.proofs.AccessLaws.{private_same}
 use Rattle.jl_renewal.proofs.SelectionLaws.{virtual_same, virtual_present, interface_same, special_same}
@@ -28,9 +28,6 @@ use Rattle.jl_renewal.proofs.StageLaws.{renumbered_call, IsCallThere}
 
 abbrev Row : Type 0
 Row = ℕ × Outcome
-
-abbrev pub renumbered_row : Numbers → Row → Row
-renumbered_row n row = (renumbered n.classes row.0, renumbered_outcome n row.1)
 
 -- what runs is of a present class
 abbrev RunsPresent : Classes → Outcome → Type 0

@@ -106,10 +106,6 @@ or_false : (a b : Bool) → a ≡ false → b ≡ false → (a || b) ≡ false
 or_false true b ea eb = cc
 or_false false b ea eb = eb
 
-first_false : (a b : Bool) → (a || b) ≡ false → a ≡ false
-first_false true b e = cc
-first_false false b e = refl
-
 le_false : (a b : ℕ) → b < a → nat_le a b ≡ false
 le_false a b lt = grind (arith, nat_tests, lt)
 

@@ -1,21 +1,23 @@
 -- The installs of a renewal are accepted.
-use Rattle.std.specs.Prelude.{◌≡◌, ◌<◌, ◌≤◌, ◌+◌, ℕ, zero, suc, Bool, List, [], ◌∷◌, ◌++◌, map, take, drop, length, get_or, Option, Some, None, option_and_then, Result, Ok, Err, IsOk, All, AllPairs}
+use Rattle.std.specs.Prelude.{◌≡◌, ◌<◌, ◌≤◌, ◌+◌, ℕ, zero, suc, Bool, List, [], ◌∷◌, ◌++◌, map, take, drop, min, length, get_or, Option, Some, None, option_and_then, Result, Ok, Err, IsOk, All, AllPairs}
 use Rattle.std.specs.List.{cons_option}
-use Rattle.std.proofs.Common.{refl, sym, ap, subst, ◌∙◌, arith, append_assoc}
-use Rattle.std.proofs.lemmas.List.{append-nil, map-append}
+use Rattle.std.proofs.Common.{refl, sym, ap, subst, ◌∙◌, arith, append_assoc, inl, inr}
+use Rattle.std.proofs.lemmas.List.{append-nil, map-append, take_min, drop_min}
 use Rattle.std.proofs.lemmas.List.Kept.{AllPairs-cons}
 use Rattle.jl_types.specs.declared.link.Link.{Link}
 use Rattle.jl_types.specs.declared.answer.Unlinked.{Unlinked}
 use Rattle.jl_types.specs.declared.event.EventOf.TheVariants as event
 use Rattle.jl_types.specs.declared.event.Made.{Made}
+use Rattle.jl_types.specs.declared.event.Reply.{Reply}
 use Rattle.jl_types.specs.declared.refusal.Refusal.{Refusal}
+use Rattle.jl_types.specs.declared.refusal.Refusal.TheVariants.{Memory}
 use Rattle.jl_types.specs.Values.World.{World}
 use Rattle.jl_types.specs.Linkage.Links.{scratch}
 use Rattle.jl_types.specs.Happenings.Event.{Event}
 use Rattle.jl_types.specs.Happenings.Events.{verdict}
 use Rattle.jl_types.proofs.Accepting.{accepted_installs}
 use Rattle.jl_types.proofs.InstalledLinks.{requested}
-use Rattle.jl_core.specs.State.{State, world_of}
+use Rattle.jl_core.specs.State.{State, events, world_of, IsAccepted, IsRefused}
 use Rattle.jl_renewal.specs.Numbers.{Numbers, numbered, new_number}
 use Rattle.jl_renewal.specs.Renewal.{row_of, fresh_rows, AreBatches}
 use Rattle.jl_renewal.specs.Adds.{AreFresh, MayAdd, Adds, Installs, InstallsFront}
@@ -196,3 +198,28 @@ pub still_fresh : (left batch rest : List Row) (b c : State) → rest ≡ drop 2
 still_fresh left batch rest b c behind one fresh =
     subst (λ (w : World). AreFresh w rest) (sym (world_added (event.Install batch ∷ []) b c one))
     (subst (λ (xs : List Row). AreFresh (world_of b) xs) (sym behind) (rest_fresh (world_of b) left fresh 256))
+
+-- what is accepted is added
+pub adds_of : (e : Event) (reply : Reply) (a b : State) → IsAccepted a b e reply → Adds (e ∷ []) a b
+adds_of e reply a b accepted = record {
+  events = ap events accepted.logged ∙ map-append (λ (entry : Event × Reply). entry.0) a.log ((e, reply) ∷ []);
+  limit = ap (λ (core : State). core.max_sites) accepted.logged;
+}
+
+-- what may be accepted is refused for want of memory alone
+lacks_memory : (verdict : Result Made Refusal) (r : Refusal) → IsOk verdict → IsRefused verdict r → r ≡ Memory
+lacks_memory (Ok m) r ok (inl e) = cc
+lacks_memory (Ok m) r ok (inr lacks) = lacks.0
+lacks_memory (Err s) r ok refused = cc
+
+-- what was split off, as the code has found it
+pub front_is : (left front made : List Row) (n : ℕ) → n ≡ min 256 (length left) → front ≡ take n left → made ≡ front → made ≡ take 256 left
+front_is left front made n is first copied = copied ∙ (first ∙ (ap (λ (k : ℕ). take k left) is ∙ take_min 256 left))
+
+pub behind_is : (left behind : List Row) (n : ℕ) → n ≡ min 256 (length left) → behind ≡ drop n left → behind ≡ drop 256 left
+behind_is left behind n is rest = rest ∙ (ap (λ (k : ℕ). drop k left) is ∙ drop_min 256 left)
+
+pub install_lacks : (left batch : List Row) (b : State) (r : Refusal) → 1 ≤ length left → batch ≡ take 256 left → AreFresh (world_of b) left
+    → IsRefused (verdict b.max_sites (world_of b) (event.Install batch)) r → r ≡ Memory
+install_lacks left batch b r some first fresh refused =
+    lacks_memory (verdict b.max_sites (world_of b) (event.Install batch)) r (may_install left batch b some first fresh).0 refused

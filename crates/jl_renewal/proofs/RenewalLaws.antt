@@ -17,7 +17,7 @@ use Rattle.jl_events.specs.Accepted.{event_of}
 use Rattle.jl_renewal.specs.declared.released.Released.{Released}
 use Rattle.jl_renewal.specs.Numbers.{Numbers, how_many}
 use Rattle.jl_renewal.specs.Staying.{numbers_of, staying_sites}
-use Rattle.jl_renewal.specs.Renewal.{class_event, new_loaders, site_events, renewal, fresh_rows, AreBatches, IsRenewal}
+use Rattle.jl_renewal.specs.Renewal.{class_event, new_loaders, site_events, renewal, renewal_by, fresh_rows, AreBatches, IsRenewal, IsPast, IsRefilled, logged}
 use Rattle.jl_renewal.specs.Renewed.{renewed}
 use Rattle.jl_renewal.specs.Told.{told_events}
 use Rattle.jl_renewal.specs.Adds.{MayAdd, AreFresh, Adds, Installs}
@@ -78,51 +78,90 @@ module _ (old : State) (released : Released) (max_sites : ℕ) (w : World) (entr
       (subst (λ (core : State). MayAdd (renewal old released) core) (sym begun.empty) leads.follow)
 
   module _ (next : State) (added : Adds (told_renewal w n entries) fresh next) where
-    next_events : events next ≡ renewal old released
+    pub next_events : events next ≡ renewal old released
     next_events = added.events ∙ (ap (λ (core : State). events core ++ told_renewal w n entries) begun.empty ∙ told_is)
 
-    next_world : world_of next ≡ renewed (world_of old) released
+    pub next_world : world_of next ≡ renewed (world_of old) released
     next_world =
         world_added (told_renewal w n entries) fresh next added
         ∙ ((λ i. fold step (world_of (begun.empty i)) (told_is i)) ∙ leads.after)
 
-    -- the rows are links from scratch there
-    pub rows_may : (rows linked : List (ℕ × Link)) → rows ≡ fresh_rows (world_of next) n linked → linked ≡ links_of old → AreFresh (world_of next) rows
-    rows_may rows linked are is =
-        subst (λ (xs : List (ℕ × Link)). AreFresh (world_of next) xs) (sym are)
-        (rows_fresh (world_of next) n (staying_sites (world_of old).classes (world_of old).places) (ap (λ (m : Numbers). m.sites) begun.numbers) linked
-        (subst (λ (xs : List (ℕ × Link)). AllPairs (λ a b. a.0 < b.0) xs) (sym is) (links_rise (events old))))
+-- ---- from the entries of a log
 
-    -- with the links it is what is made of the old core
-    pub is_renewal : (rows linked : List (ℕ × Link)) (last : State) → rows ≡ fresh_rows (world_of next) n linked → linked ≡ links_of old
-        → Installs rows next last → IsRenewal old released max_sites (last, n)
-    is_renewal rows linked last are is installed = record {
-      numbers = begun.numbers;
-      limit = installed.adds.limit ∙ (added.limit ∙ ap (λ (core : State). core.max_sites) begun.empty);
-      batches = installed.batches;
-      are_batches = subst (λ (xs : List (ℕ × Link)). AreBatches installed.batches xs)
-          (are ∙ (λ i. fresh_rows (world_at i) (begun.numbers i) (is i))) installed.are_batches;
-      events = all_events;
-      world = ap world_after all_events ∙ (same_world (renewal old released) installed.batches ∙ leads.after);
-    }
-      where
-        world_at : world_of next ≡ world_after (renewal old released)
-        world_at = ap world_after next_events
+module _ (w : World) (entries : List Entry) (past : IsPast w entries) where
+  abbrev old : State
+  old = logged past.max_sites w entries
 
-        all_events : events last ≡ renewal old released ++ map event.Install installed.batches
-        all_events = installed.adds.events ∙ ap (λ (es : List Event). es ++ map event.Install installed.batches) next_events
+  -- from what is known of the old core's world as it was lent
+  pub begun_by : (released : Released) (max_sites : ℕ) (inside : World) (n : Numbers) (fresh : State) → inside ≡ w → AreInOrder inside.classes
+      → how_many (staying_sites w.classes w.places) ≤ max_sites → n ≡ numbers_of w released → fresh ≡ empty_core max_sites
+      → IsBegun old released max_sites w entries n fresh
+  begun_by released max_sites inside n fresh view order few numbers empty = record {
+    world = past.world;
+    log = λ i. shown (sym past.world i).classes.rows entries;
+    answered = past.answered;
+    closed = subst (λ (v : World). IsClosed v.classes) (view ∙ past.world) order.closed;
+    few = subst (λ (v : World). how_many (staying_sites v.classes v.places) ≤ max_sites) past.world few;
+    numbers = numbers ∙ ap (λ (v : World). numbers_of v released) past.world;
+    empty = empty;
+  }
 
--- from what is known of the old core's world as it was lent
-pub begun_by : (old : State) (released : Released) (max_sites : ℕ) (inside w : World) (entries : List Entry) (n : Numbers) (fresh : State)
-    → inside ≡ w → w ≡ world_of old → AreInOrder inside.classes → shown (world_of old).classes.rows entries ≡ old.log → AreAnswered old
-    → how_many (staying_sites w.classes w.places) ≤ max_sites → n ≡ numbers_of w released → fresh ≡ empty_core max_sites
-    → IsBegun old released max_sites w entries n fresh
-begun_by old released max_sites inside w entries n fresh view world order log answered few numbers empty = record {
-  world = world;
-  log = log;
-  answered = answered;
-  closed = subst (λ (v : World). IsClosed v.classes) (view ∙ world) order.closed;
-  few = subst (λ (v : World). how_many (staying_sites v.classes v.places) ≤ max_sites) world few;
-  numbers = numbers ∙ ap (λ (v : World). numbers_of v released) world;
-  empty = empty;
+  pub is_refilled : (released : Released) (max_sites : ℕ) (n : Numbers) (fresh next : State) → n ≡ numbers_of w released
+      → IsBegun old released max_sites w entries n fresh → Adds (told_renewal w n entries) fresh next → IsRefilled w entries released n fresh next
+  is_refilled released max_sites n fresh next numbers begun added = record {
+    numbers = numbers;
+    limit = added.limit;
+    events = next_events old released max_sites w entries n fresh begun next added
+        ∙ (λ i. renewal_by (sym past.world i) (numbers_of (sym past.world i) released) (events old));
+    world = next_world old released max_sites w entries n fresh begun next added ∙ ap (λ (v : World). renewed v released) (sym past.world);
+  }
+
+-- ---- of a core
+
+-- a core's world and log are a past
+pub past_of : (core : State) (w : World) (entries : List Entry) → w ≡ world_of core → shown (world_of core).classes.rows entries ≡ core.log
+    → AreAnswered core → IsPast w entries
+past_of core w entries world log answered = record {
+  max_sites = core.max_sites;
+  world = world ∙ ap world_of (sym same);
+  answered = subst AreAnswered (sym same) answered;
 }
+  where
+    same : logged core.max_sites w entries ≡ core
+    same = λ i. record { max_sites = core.max_sites; log = ((λ j. shown (world j).classes.rows entries) ∙ log) i }
+
+-- the rows are links from scratch there
+pub rows_may : (core : State) (released : Released) (n : Numbers) (next : State) (rows linked : List (ℕ × Link)) → n ≡ numbers_of (world_of core) released
+    → rows ≡ fresh_rows (world_of next) n linked → linked ≡ links_of core → AreFresh (world_of next) rows
+rows_may core released n next rows linked numbers are is =
+    subst (λ (xs : List (ℕ × Link)). AreFresh (world_of next) xs) (sym are)
+    (rows_fresh (world_of next) n (staying_sites (world_of core).classes (world_of core).places) (ap (λ (m : Numbers). m.sites) numbers) linked
+    (subst (λ (xs : List (ℕ × Link)). AllPairs (λ a b. a.0 < b.0) xs) (sym is) (links_rise (events core))))
+
+-- with the links it is what is made of the old core
+pub is_renewal : (core : State) (released : Released) (max_sites : ℕ) (w : World) (entries : List Entry) (n : Numbers) (fresh next last : State)
+    (rows linked : List (ℕ × Link)) → w ≡ world_of core → shown (world_of core).classes.rows entries ≡ core.log → fresh ≡ empty_core max_sites
+    → IsRefilled w entries released n fresh next → rows ≡ fresh_rows (world_of next) n linked → linked ≡ links_of core → Installs rows next last
+    → IsRenewal core released max_sites (last, n)
+is_renewal core released max_sites w entries n fresh next last rows linked world log empty refilled are is installed = record {
+  numbers = numbers;
+  limit = installed.adds.limit ∙ (refilled.limit ∙ ap (λ (state : State). state.max_sites) empty);
+  batches = installed.batches;
+  are_batches = subst (λ (xs : List (ℕ × Link)). AreBatches installed.batches xs)
+      (are ∙ (λ i. fresh_rows (ap world_after next_is i) (numbers i) (is i))) installed.are_batches;
+  events = all_events;
+  world = ap world_after all_events ∙ (same_world (renewal core released) installed.batches ∙ (sym (ap world_after next_is)
+      ∙ (refilled.world ∙ ap (λ (v : World). renewed v released) world)));
+}
+  where
+    numbers : n ≡ numbers_of (world_of core) released
+    numbers = refilled.numbers ∙ ap (λ (v : World). numbers_of v released) world
+
+    next_is : events next ≡ renewal core released
+    next_is =
+        refilled.events
+        ∙ (λ i. renewal_by (world i) (numbers_of (world i) released)
+        (map (λ (x : Event × Reply). x.0) (((λ j. shown (world j).classes.rows entries) ∙ log) i)))
+
+    all_events : events last ≡ renewal core released ++ map event.Install installed.batches
+    all_events = installed.adds.events ∙ ap (λ (es : List Event). es ++ map event.Install installed.batches) next_is

@@ -16,7 +16,8 @@ use Rattle.jl_types.specs.Linkage.Targets.{is_valid}
 use Rattle.jl_types.specs.Linkage.Links.{scratch}
 use Rattle.jl_types.specs.Happenings.Event.{Event}
 use Rattle.jl_types.specs.Happenings.History.{world_after}
-use Rattle.jl_core.specs.State.{State, events, world_of, links_of}
+use Rattle.jl_core.specs.State.{State, events, world_of, links_of, AreAnswered}
+use Rattle.jl_core.specs.Logs.{Entry, shown}
 use Rattle.jl_renewal.specs.declared.released.Released.{Released}
 use Rattle.jl_renewal.specs.Numbers.{Numbers, how_many, new_number, renumbered_target}
 use Rattle.jl_renewal.specs.Staying.{numbers_of, staying_sites}
@@ -109,6 +110,25 @@ fresh_rows w n linked = filter_map (fresh_row w n) linked
 abbrev pub AreBatches : List (List (ℕ × Link)) → List (ℕ × Link) → Type 0
 AreBatches [] rows = rows ≡ []
 AreBatches (batch ∷ batches) rows = (1 ≤ length rows) × (batch ≡ take 256 rows) × AreBatches batches (drop 256 rows)
+
+-- ---- an old core as its log tells it
+
+-- the core of these entries
+abbrev pub logged : ℕ → World → List Entry → State
+logged max_sites w entries = record { max_sites = max_sites; log = shown w.classes.rows entries }
+
+-- the world is what these entries come to, each of which was answered as those before it say
+pub record IsPast (w : World) (entries : List Entry) : Type 0 where
+  pub max_sites : ℕ
+  pub world : w ≡ world_of (logged max_sites w entries)
+  pub answered : AreAnswered (logged max_sites w entries)
+
+-- What an empty core becomes: it has accepted the events of the renewal but for the links, and has what stays.
+pub record IsRefilled (w : World) (entries : List Entry) (released : Released) (n : Numbers) (before after : State) : Type 0 where
+  pub numbers : n ≡ numbers_of w released
+  pub limit : after.max_sites ≡ before.max_sites
+  pub events : events after ≡ renewal_by w (numbers_of w released) (events (logged before.max_sites w entries))
+  pub world : world_of after ≡ renewed w released
 
 -- ---- the fresh core
 

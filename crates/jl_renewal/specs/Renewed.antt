@@ -67,11 +67,14 @@ abbrev pub renumbered_outcome : Numbers → Outcome → Outcome
 renumbered_outcome n (Run m) = Run (renumbered_method n m)
 renumbered_outcome n (Throws throwable) = Throws throwable
 
+abbrev pub renumbered_row : Numbers → ℕ × Outcome → ℕ × Outcome
+renumbered_row n row = (renumbered n.classes row.0, renumbered_outcome n row.1)
+
 abbrev pub renumbered_link : Numbers → Link → Link
 renumbered_link n (Fault throwable) = Fault throwable
 renumbered_link n (Plain m) = Plain (renumbered_method n m)
 renumbered_link n (Direct outcome) = Direct (renumbered_outcome n outcome)
-renumbered_link n (Table kind rows) = Table kind (map (λ row. (renumbered n.classes row.0, renumbered_outcome n row.1)) rows)
+renumbered_link n (Table kind rows) = Table kind (map (renumbered_row n) rows)
 renumbered_link n Mega = Mega
 
 abbrev pub renumbered_result : Numbers → Result Link Unlinked → Result Link Unlinked

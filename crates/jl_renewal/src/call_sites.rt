@@ -1,12 +1,13 @@
 //! The events that make the switch points and call sites.
 
-ghost use Rattle.std.specs.Prelude.{◌≡◌, ◌++◌, option_map, option_to_list, IfOk, OnOk};
+ghost use Rattle.std.specs.Prelude.{◌≡◌, option_map, option_to_list, IfOk, OnOk};
 ghost use Rattle.jl_types.specs.declared.event.EventOf.TheVariants as event;
 ghost use Rattle.jl_renewal.specs.Renewal as renewal;
 ghost use Rattle.jl_renewal.specs.Renewal.{new_switches, invalidation, new_call_sites};
 ghost use Rattle.jl_renewal.specs.Adds.{MayAdd, Adds};
 
 use crate::apply::add_if_any;
+use crate::links::push_if_any;
 use crate::numbers::Renumbering;
 use crate::targets::renumbered_target;
 use jl_callsites::Sites;
@@ -80,19 +81,6 @@ fn invalid_points(
         )?;
     }
     Ok(points)
-}
-
-/// Adds the switch point, if there is one. Want of memory is an error.
-fn push_if_any(points: &mut Vec<SwitchId>, point: Option<SwitchId>) -> Result<(), AllocError>
-    ensures { OnOk result (points.new.items ≡ points.old.items ++ option_to_list point) }
-{
-    match point {
-        Some(point) => {
-            points.push(point)?;
-            Ok(())
-        }
-        None => Ok(()),
-    }
 }
 
 /// The new number of the switch point, if it stays and is invalid.

@@ -101,7 +101,7 @@ fn class_event(
 }
 
 /// The definition of the class by the loader, if that stays. Want of memory is an error.
-fn definition(
+pub(crate) fn definition(
     alloc: Global,
     numbers: &Renumbering,
     loader: LoaderId,

@@ -7,7 +7,9 @@
 
 mod apply;
 mod call_sites;
+mod carried;
 mod classes;
+mod entries;
 mod laws;
 mod links;
 mod marks;
@@ -18,7 +20,9 @@ mod renewal;
 mod stays;
 mod targets;
 
+pub use entries::{CarryFault, carry};
 pub use laws::{linking_commutes, links_come_over, renewals_are_accepted};
+pub use links::{fresh_links, install_all};
 pub use numbers::Renumbering;
 pub use released::Released;
-pub use renewal::renew;
+pub use renewal::{refill, renew};

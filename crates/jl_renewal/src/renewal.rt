@@ -1,15 +1,14 @@
 //! A fresh core that has what stays of an old one.
 
-ghost use Rattle.std.specs.Prelude.{◌≤◌, ◌++◌, IfOk, IfErr, OnOk};
-ghost use Rattle.jl_types.specs.Happenings.Event.{Event};
-ghost use Rattle.jl_renewal.specs.Renewal.{IsRenewal, IsRefusedRenewal, new_loaders, site_events};
+ghost use Rattle.std.specs.Prelude.{◌≡◌, ◌≤◌, ◌++◌, IfOk, IfErr, OnOk};
+ghost use Rattle.jl_renewal.specs.Renewal.{IsRenewal, IsRefusedRenewal, IsPast, IsRefilled, new_loaders, site_events};
 ghost use Rattle.jl_renewal.specs.Told.{told_events};
 ghost use Rattle.jl_renewal.specs.Adds.{MayAdd, Adds};
-ghost use Rattle.jl_core.specs.State.{world_of};
+ghost use Rattle.jl_core.specs.State.{world_of, empty_core};
 
 use crate::call_sites::{add_call_sites, add_invalidation, add_switches};
 use crate::classes::{add_classes, add_loaders};
-use crate::links::{add_batches, rows_of};
+use crate::links::{fresh_links, install_all};
 use crate::numbers::Renumbering;
 use crate::places::{add_bindings, add_requests};
 use crate::released::Released;
@@ -21,7 +20,7 @@ use std::alloc::{AllocError, Global};
 
 /// A fresh core that has what stays of the old one, in the same order, under new numbers; so many places may be requested there. What
 /// stays are the loaders that aren't retired with their classes and the sites in these, and of the call sites and switch points those that
-/// aren't released, or are still needed.
+/// aren't released, or are still needed. Each site that had a link has one.
 ///
 /// # Errors
 ///
@@ -36,16 +35,39 @@ pub fn renew(
     ensures renewal { IfOk result (IsRenewal core.now released.now max_sites) }
     ensures refused { IfErr result (IsRefusedRenewal (world_of core.now) max_sites) }
 {
+    let mut fresh = Core::new(alloc, max_sites)?;
     let old = core.world();
+    let numbers = refill(alloc, &mut fresh, old, core.log(), released, max_sites)?;
+    let linked = core.list_links(alloc)?;
+    let rows = fresh_links(alloc, fresh.world(), linked.as_slice(), &numbers)?;
+    install_all(alloc, &mut fresh, rows.as_slice())?;
+    Ok((fresh, numbers))
+}
+
+/// Gives an empty core, or what keeps one, what stays of an old one, whose world and log these are, but for its links: those that
+/// [`fresh_links`] tells are then to be installed by [`install_all`].
+///
+/// # Errors
+///
+/// Those of [`renew`].
+pub fn refill<M: EventMachine>(
+    alloc: Global,
+    fresh: &mut M,
+    old: &World,
+    log: &[Entry],
+    released: &Released,
+    max_sites: u32,
+) -> Result<Renumbering, Refusal>
+    requires past { IsPast old.now log.now }
+    requires empty { M.state fresh.old ≡ empty_core max_sites }
+    ensures refilled { IfOk result (λ numbers. IsRefilled old.now log.now released.now numbers (M.state fresh.old) (M.state fresh.new)) }
+    ensures refused { IfErr result (IsRefusedRenewal old.now max_sites) }
+{
     // Shows that what is present rests on what is present.
     let _classes = old.classes.count_in_order();
     let numbers = renumbering(alloc, old, released, max_sites)?;
-    let mut fresh = Core::new(alloc, max_sites)?;
-    add_all(alloc, &mut fresh, old, core.log(), &numbers)?;
-    let linked = core.list_links(alloc)?;
-    let rows = rows_of(alloc, fresh.world(), linked.as_slice(), &numbers)?;
-    add_batches(alloc, &mut fresh, rows.as_slice())?;
-    Ok((fresh, numbers))
+    add_all(alloc, fresh, old, log, &numbers)?;
+    Ok(numbers)
 }
 
 /// Gives the fresh core what stays of the old one, but for the links. Want of memory is an error.

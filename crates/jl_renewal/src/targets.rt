@@ -28,7 +28,7 @@ pub(crate) fn renumbered_target(
 }
 
 /// The method under its class's new number.
-fn renumbered_method(numbers: &Renumbering, method: &MethodId) -> MethodId
+pub(crate) fn renumbered_method(numbers: &Renumbering, method: &MethodId) -> MethodId
     ensures { result ≡ record method.now { class = renumbered numbers.now.classes method.now.class } }
 {
     MethodId {

@@ -67,9 +67,9 @@ alone_more true n entries entry is alone = by_length (cases_lt (length entries) 
         (and_from (is_install entry.event) true (sym is) refl))
 
 -- as the book comes by it
-pub alone_next : (installs : Bool) (since after : ℕ) (list entries next : List Entry) (entry : Entry) → list ≡ entries → next ≡ entries ++ entry ∷ []
+pub alone_next : (installs : Bool) (since after : ℕ) (entries next : List Entry) (entry : Entry) → next ≡ entries ++ entry ∷ []
     → installs ≡ is_install entry.event
-    → after ≡ (if installs then since else length next) → installs_alone since list ≡ true → installs_alone after next ≡ true
-alone_next installs since after list entries next entry same grown is now alone =
+    → after ≡ (if installs then since else length next) → installs_alone since entries ≡ true → installs_alone after next ≡ true
+alone_next installs since after entries next entry grown is now alone =
     (λ i. installs_alone ((now ∙ ap (λ (es : List Entry). if installs then since else length es) grown) i) (grown i))
-    ∙ alone_more installs since entries entry is (ap (installs_alone since) (sym same) ∙ alone)
+    ∙ alone_more installs since entries entry is alone

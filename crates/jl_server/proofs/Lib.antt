@@ -2,6 +2,7 @@ pub mod Beginnings
 pub mod Adding
 pub mod Rules
 pub mod Logs
+pub mod PastLaws
 pub mod Alone
 pub mod Next
 pub mod Ends

@@ -77,19 +77,14 @@ module _ (n : ℕ) (entries : List Entry) (e : Event) (plan : Plan) (planned : I
       inr (refl, subst (λ (r : Result Made Refusal). IsOk r) (sym said.0) refl)
 
   -- as a step of the book comes by it
-  module _ (now new : List Entry) (reply : Reply) (same : now ≡ entries) (grown : new ≡ now ++ planned_entry plan ∷ []) (replied : reply ≡ plan.reply) where
-    grown_here : new ≡ entries ++ planned_entry plan ∷ []
-    grown_here = grown ∙ ap (λ (es : List Entry). es ++ planned_entry plan ∷ []) same
-
+  module _ (new : List Entry) (reply : Reply) (grown : new ≡ entries ++ planned_entry plan ∷ []) (replied : reply ≡ plan.reply) where
     pub accepted_step : IsAccepted (core_of n entries) (core_of n new) e reply
     accepted_step =
         subst (λ (r : Reply). IsAccepted (core_of n entries) (core_of n new) e r) (sym replied)
-        (subst (λ (es : List Entry). IsAccepted (core_of n entries) (core_of n es) e plan.reply) (sym grown_here) accepted_next)
+        (subst (λ (es : List Entry). IsAccepted (core_of n entries) (core_of n es) e plan.reply) (sym grown) accepted_next)
 
     pub entry_step : new ≡ entries ++ entry_after entries e reply ∷ []
-    entry_step =
-        grown_here
-        ∙ ap (λ (x : Entry). entries ++ x ∷ []) (entry_exact ∙ ap (λ (r : Reply). entry_after entries e r) (sym replied))
+    entry_step = grown ∙ ap (λ (x : Entry). entries ++ x ∷ []) (entry_exact ∙ ap (λ (r : Reply). entry_after entries e r) (sym replied))
 
   pub refused_step : (r : Refusal) → r ≡ Memory → IsRefused (verdict n (world_after (events_of entries)) e) r
   refused_step r is = subst (λ (k : Refusal). IsRefused (verdict n (world_after (events_of entries)) e) k) (sym is) memory_refused

@@ -3,6 +3,8 @@ use Rattle.std.specs.Prelude.{◌≡◌, ℕ, ◌<◌, List, [], ◌∷◌, ◌+
 use Rattle.std.proofs.Common.{sym, subst, ◌∙◌}
 use mathlib.Core.List.{IsPrefix}
 use Rattle.jl_types.specs.Happenings.Event.{Event}
+use Rattle.jl_types.specs.declared.event.Reply.{Reply}
+use Rattle.jl_types.specs.declared.refusal.Refusal.{Refusal}
 use Rattle.jl_types.specs.declared.refusal.Refusal.TheVariants.{Memory}
 use Rattle.jl_types.specs.Happenings.Entries.{Entry, IsLegal, events_of}
 use Rattle.jl_types.specs.Happenings.Events.{verdict}
@@ -17,22 +19,21 @@ use Rattle.jl_server.proofs.Logs.{accepted_step, entry_step, refused_step}
 
 -- ---- once the event was planned after the list
 
-module _ {K : Type 0} (n : ℕ) (entries now new : List Entry) (e : Event) (plan : Plan) (planned : IsPlanned (core_of n entries) e plan)
-    (same : now ≡ entries) where
-  pub is_accepted : (r : Result (Receipt K) (Denied K)) → IfOk r (λ x. (new ≡ now ++ planned_entry plan ∷ []) × (x.reply ≡ plan.reply))
-      → IfOk r (λ x. IsAccepted (core_of n entries) (core_of n new) e x.reply)
-  is_accepted (Ok x) said = accepted_step n entries e plan planned now new x.reply same said.0 said.1
-  is_accepted (Err d) said = tt
+module _ (n : ℕ) (entries new : List Entry) (e : Event) (plan : Plan) (planned : IsPlanned (core_of n entries) e plan) where
+  pub is_accepted : (r : Result Reply Refusal) → IfOk r (λ reply. (new ≡ entries ++ planned_entry plan ∷ []) × (reply ≡ plan.reply))
+      → IfOk r (λ reply. IsAccepted (core_of n entries) (core_of n new) e reply)
+  is_accepted (Ok reply) said = accepted_step n entries e plan planned new reply said.0 said.1
+  is_accepted (Err refusal) said = tt
 
-  pub is_grown : (r : Result (Receipt K) (Denied K)) → IfOk r (λ x. (new ≡ now ++ planned_entry plan ∷ []) × (x.reply ≡ plan.reply))
-      → IfOk r (λ x. new ≡ entries ++ entry_after entries e x.reply ∷ [])
-  is_grown (Ok x) said = entry_step n entries e plan planned now new x.reply same said.0 said.1
-  is_grown (Err d) said = tt
+  pub is_grown : (r : Result Reply Refusal) → IfOk r (λ reply. (new ≡ entries ++ planned_entry plan ∷ []) × (reply ≡ plan.reply))
+      → IfOk r (λ reply. new ≡ entries ++ entry_after entries e reply ∷ [])
+  is_grown (Ok reply) said = entry_step n entries e plan planned new reply said.0 said.1
+  is_grown (Err refusal) said = tt
 
-  pub is_refused : (r : Result (Receipt K) (Denied K)) → IfErr r (λ d. (d.refusal ≡ Memory) × (d.seen ≡ now) × (new ≡ now))
-      → IfErr r (λ d. IsRefused (verdict n (world_after (events_of entries)) e) d.refusal)
-  is_refused (Ok x) said = tt
-  is_refused (Err d) said = refused_step n entries e plan planned d.refusal said.0
+  pub is_refused : (r : Result Reply Refusal) → IfErr r (λ refusal. (refusal ≡ Memory) × (new ≡ entries))
+      → IfErr r (λ refusal. IsRefused (verdict n (world_after (events_of entries)) e) refusal)
+  is_refused (Ok reply) said = tt
+  is_refused (Err refusal) said = refused_step n entries e plan planned refusal said.0
 
 -- ---- once it is done, after a list that begins the old one
 

@@ -7,16 +7,18 @@ ghost use Rattle.jl_types.specs.Linkage.Calls.{dispatch};
 ghost use Rattle.jl_types.specs.Happenings.History.{world_after, installed, installed_links};
 ghost use Rattle.jl_types.specs.Happenings.Entries.{IsLegal, events_of};
 ghost use Rattle.jl_hierarchy.specs.Constancy.{AreInOrder};
-ghost use Rattle.jl_core.specs.State.{IsAccepted, IsRefused, empty_core};
+ghost use Rattle.jl_core.specs.State.{AreAnswered, IsAccepted, IsRefused, empty_core};
+ghost use Rattle.jl_core.specs.Logs.{are_told, shown};
 ghost use Rattle.jl_core.specs.Plans.{IsPlanned, IsAsPlanned};
-ghost use Rattle.jl_server.specs.History.{core_of, entry_after, installs_alone, is_install, planned_entry};
+ghost use Rattle.jl_server.specs.History.{core_of, logged_of, entry_after, installs_alone, is_install, planned_entry};
 ghost use Rattle.jl_server.specs.Means.Shown.{content, changed, IsShown, IsChangeOf};
 
 use crate::history::{Head, Name};
+use crate::past::{Past, Standing, share_from};
 use crate::publish::{TableWriter, show_in};
 use crate::seen::Seen;
 use crate::table::Change;
-use jl_core::{Core, Planned};
+use jl_core::{Core, EventMachine, Planned};
 use jl_relink::Snapshot;
 use jl_types::{Answer, Event, Link, Recv, Refusal, Reply, SiteNo};
 use std::alloc::{AllocError, Global};
@@ -149,6 +151,38 @@ impl<K: Name, R: Wait + Drop> Book<K, R> {
         }
     }
 
+    /// What the published list comes to, and that list, with what of its entries is behind the first so many. Want of memory is an error.
+    pub fn past(&self, alloc: Global, from: usize) -> Result<Past<K>, AllocError>
+        ensures seen { IfOk result (λ r. r.seen ≡ self.now) }
+        ensures world { IfOk result (λ r. r.world ≡ record { world = world_after (events_of self.now); serial = length self.now }) }
+        ensures told { IfOk result (λ r. are_told r.world.world.classes.rows r.entries.items ≡ true) }
+        ensures entries { IfOk result (λ r. shown r.world.world.classes.rows r.entries.items ≡ drop from (logged_of self.now)) }
+        ensures answered { IfOk result (λ r. AreAnswered (core_of K.max_sites r.seen)) }
+    {
+        let log = self.core.log();
+        let entries = share_from(alloc, log, from)?;
+        let (world, seen) = self.snapshot(alloc)?;
+        Ok(Past {
+            world,
+            entries,
+            seen,
+        })
+    }
+
+    /// What the published list comes to, with all its entries and installed links, and that list. Want of memory is an error.
+    pub fn standing(&self, alloc: Global) -> Result<Standing<K>, AllocError>
+        ensures seen { IfOk result (λ r. r.past.seen ≡ self.now) }
+        ensures world { IfOk result (λ r. r.past.world ≡ record { world = world_after (events_of self.now); serial = length self.now }) }
+        ensures told { IfOk result (λ r. are_told r.past.world.world.classes.rows r.past.entries.items ≡ true) }
+        ensures entries { IfOk result (λ r. shown r.past.world.world.classes.rows r.past.entries.items ≡ logged_of self.now) }
+        ensures links { IfOk result (λ r. r.links.items ≡ installed_links (events_of self.now)) }
+        ensures answered { IfOk result (λ r. AreAnswered (core_of K.max_sites r.past.seen)) }
+    {
+        let links = self.links(alloc)?;
+        let past = self.past(alloc, 0)?;
+        Ok(Standing { past, links })
+    }
+
     /// What a call comes to after the published list, and the site's installed link, if there is one. Takes no memory.
     pub(crate) fn ask(&self, site: SiteNo, recv: Recv) -> (Answer, Option<Link>)
         ensures answer { dispatch (world_after (events_of self.now)) site recv ≡ result.0 }
@@ -199,50 +233,120 @@ impl<K: Name, R: Wait + Drop> Book<K, R> {
         ensures refused { IfErr result (λ d. IsRefused (verdict K.max_sites (world_after (events_of self.old)) event) d.refusal) }
         ensures denied { IfErr result (λ d. (d.seen ≡ self.old) × (self.new ≡ self.old)) }
     {
-        match next_step(
+        let stepped = step_on(
+            rt,
             alloc,
             &mut self.core,
             &mut self.head,
-            &self.list,
-            self.since,
+            &mut self.list,
+            &mut self.since,
+            &mut self.writer,
             event,
             judged,
-        ) {
-            Ok((planned, next)) => self.publish(rt, planned, next),
+        );
+        match stepped {
+            Ok(reply) => Ok(receipt_of(&self.list, reply)),
             Err(refusal) => Err(denied_after(&self.list, refusal)),
         }
     }
+}
 
-    /// Commits and shows what was planned, whose entry ends the next list. Want of memory is the only refusal.
-    fn publish<H: Wait>(
-        &mut self,
-        rt: &H,
-        planned: Planned,
-        next: Publication<K>,
-    ) -> Result<Receipt<K>, Denied<K>>
-        requires planned { IsAsPlanned (core_of K.max_sites self.old) planned }
-        requires installs { next.installs ≡ is_install (planned_entry planned).event }
-        requires list { next.list ≡ self.old ++ planned_entry planned ∷ [] }
-        requires change { IsChangeOf K.book planned next.list next.change }
-        requires legal { IsLegal K.max_sites next.list }
-        ensures list { IfOk result (λ r. (self.new ≡ self.old ++ planned_entry planned ∷ []) × (r.reply ≡ planned.reply)) }
-        ensures receipt { IfOk result (λ r. (r.seen ≡ self.new) × (r.serial ≡ length self.new)) }
-        ensures legal { IsLegal K.max_sites self.new }
-        ensures refused { IfErr result (λ d. (d.refusal ≡ Memory) × (d.seen ≡ self.old) × (self.new ≡ self.old)) }
-    {
-        let Publication {
-            change,
-            list,
-            installs,
-        } = next;
-        match commit_shown(rt, &mut self.core, &mut self.writer, planned, change) {
-            Some(reply) => {
-                self.since = since_after(installs, self.since, &list);
-                self.list = list;
-                Ok(receipt_of(&self.list, reply))
-            }
-            None => Err(denied_after(&self.list, Refusal::Memory)),
+/// A book takes events as a core does, and its table shows them: each is one [`step`](Book::step), of which the reply or the refusal alone
+/// is handed on.
+impl<K: Name, R: Wait + Drop> EventMachine for Book<K, R> {
+    ghost use Rattle.jl_server.specs.History.{core_of};
+
+    ghost state = { λ book. core_of K.max_sites book };
+
+    fn accept<'a>(&'a mut self, alloc: Global, event: Event) -> Result<Reply, Refusal> {
+        // Its lifetime is named, which a bare `None` would leave open.
+        let judged: Option<&'a Seen<K>> = None;
+        step_on(
+            &self.rt,
+            alloc,
+            &mut self.core,
+            &mut self.head,
+            &mut self.list,
+            &mut self.since,
+            &mut self.writer,
+            event,
+            judged,
+        )
+    }
+}
+
+/// One event after this list, over the fields of its book: it is planned, its entry is added to the history, and it is committed and shown.
+/// It is accepted after the judged list, where there is one.
+fn step_on<K: Name, H: Wait>(
+    rt: &H,
+    alloc: Global,
+    core: &mut Core,
+    head: &mut Head<K>,
+    list: &mut Seen<K>,
+    since: &mut u64,
+    writer: &mut TableWriter,
+    event: Event,
+    judged: Option<&Seen<K>>,
+) -> Result<Reply, Refusal>
+    requires so_far { (core.old ≡ core_of K.max_sites list.old) × (installs_alone since.old list.old ≡ true) }
+    requires shown { (writer.old.desk.shown.value.list.reached.log ≡ list.old) × (writer.old.desk.shown.value.list.reached.book ≡ K.book)
+        × (length writer.old.desk.shown.value.links ≡ K.max_sites) }
+    requires settled { length (drop writer.old.behind writer.old.log.items) ≡ 0 }
+    requires judged { IfSome judged (λ earlier. IsOk (verdict K.max_sites (world_after (events_of earlier.now)) event)) }
+    ensures accepted { IfOk result (IsAccepted (core_of K.max_sites list.old) (core_of K.max_sites list.new) event) }
+    ensures entry { IfOk result (λ reply. list.new ≡ list.old ++ entry_after list.old event reply ∷ []) }
+    ensures refused { IfErr result (IsRefused (verdict K.max_sites (world_after (events_of list.old)) event)) }
+    ensures unchanged { OnErr result (list.new ≡ list.old) }
+    ensures so_far { (core.new ≡ core_of K.max_sites list.new) × (installs_alone since.new list.new ≡ true) }
+    ensures shown { (writer.new.desk.shown.value.list.reached.log ≡ list.new) × (writer.new.desk.shown.value.list.reached.book ≡ K.book)
+        × (length writer.new.desk.shown.value.links ≡ K.max_sites) }
+    ensures settled { length (drop writer.new.behind writer.new.log.items) ≡ 0 }
+{
+    match next_step(alloc, core, head, list, *since, event, judged) {
+        Ok((planned, next)) => publish_next(rt, core, list, since, writer, planned, next),
+        Err(refusal) => Err(refusal),
+    }
+}
+
+/// Commits and shows what was planned after this list, whose entry ends the next list, to which the list comes. Want of memory is the only
+/// refusal.
+fn publish_next<K: Name, H: Wait>(
+    rt: &H,
+    core: &mut Core,
+    list: &mut Seen<K>,
+    since: &mut u64,
+    writer: &mut TableWriter,
+    planned: Planned,
+    next: Publication<K>,
+) -> Result<Reply, Refusal>
+    requires so_far { (core.old ≡ core_of K.max_sites list.old) × (installs_alone since.old list.old ≡ true) }
+    requires shown { (writer.old.desk.shown.value.list.reached.log ≡ list.old) × (writer.old.desk.shown.value.list.reached.book ≡ K.book)
+        × (length writer.old.desk.shown.value.links ≡ K.max_sites) }
+    requires settled { length (drop writer.old.behind writer.old.log.items) ≡ 0 }
+    requires planned { IsAsPlanned (core_of K.max_sites list.old) planned }
+    requires installs { next.installs ≡ is_install (planned_entry planned).event }
+    requires list { next.list ≡ list.old ++ planned_entry planned ∷ [] }
+    requires change { IsChangeOf K.book planned next.list next.change }
+    requires legal { IsLegal K.max_sites next.list }
+    ensures list { IfOk result (λ reply. (list.new ≡ list.old ++ planned_entry planned ∷ []) × (reply ≡ planned.reply)) }
+    ensures refused { IfErr result (λ refusal. (refusal ≡ Memory) × (list.new ≡ list.old)) }
+    ensures so_far { (core.new ≡ core_of K.max_sites list.new) × (installs_alone since.new list.new ≡ true) }
+    ensures shown { (writer.new.desk.shown.value.list.reached.log ≡ list.new) × (writer.new.desk.shown.value.list.reached.book ≡ K.book)
+        × (length writer.new.desk.shown.value.links ≡ K.max_sites) }
+    ensures settled { length (drop writer.new.behind writer.new.log.items) ≡ 0 }
+{
+    let Publication {
+        change,
+        list: longer,
+        installs,
+    } = next;
+    match commit_shown(rt, core, writer, planned, change) {
+        Some(reply) => {
+            *since = since_after(installs, *since, &longer);
+            *list = longer;
+            Ok(reply)
         }
+        None => Err(Refusal::Memory),
     }
 }
 

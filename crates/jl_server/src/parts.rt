@@ -80,8 +80,38 @@ impl Parts {
         })
     }
 
-    /// Starts the server under a name, with its callers, which have seen nothing. It publishes twice with no change, after which
-    /// the writer has room for every later change.
+    /// Opens the book under a name, with its callers, which have seen nothing. It publishes twice with no change, after which the writer
+    /// has room for every later change. So the book may take events before anybody calls there.
+    ///
+    /// # Errors
+    ///
+    /// Unmade, where a growth or a caller's place was refused.
+    pub fn open<K: Name, R: Wait + Drop>(
+        self,
+        alloc: Global,
+        rt: R,
+    ) -> Result<(Book<K, R>, Vec<Caller<K>>), Unmade>
+        requires book { self.book ≡ K.book }
+        requires sites { self.max_sites ≡ K.max_sites }
+        ensures book { IfOk result (λ made. made.0 ≡ []) }
+        ensures callers { IfOk result (λ made. made.1.items ≡ replicate self.callers []) }
+    {
+        let Parts {
+            core,
+            history,
+            writer,
+            sites: _,
+            callers,
+        } = self;
+        let (head, list) = history.named::<K>();
+        let Some((writer, made)) = first_shown(&rt, alloc, writer, &list, callers) else {
+            return Err(Unmade);
+        };
+        Ok((Book::new(core, head, list, writer, rt), made))
+    }
+
+    /// Starts the server under a name, with its callers, which have seen nothing: its book is [`open`](Parts::open)ed, and is under one
+    /// lock from now on.
     ///
     /// # Errors
     ///
@@ -95,21 +125,10 @@ impl Parts {
         requires sites { self.max_sites ≡ K.max_sites }
         ensures { IfOk result (λ made. made.1.items ≡ replicate self.callers []) }
     {
-        let Parts {
-            core,
-            history,
-            writer,
-            sites: _,
-            callers,
-        } = self;
-        let (head, list) = history.named::<K>();
-        let Some((writer, made)) = first_shown(&rt, alloc, writer, &list, callers) else {
-            return Err(Unmade);
-        };
-        Ok((
-            LinkServer::new(Book::new(core, head, list, writer, rt)),
-            made,
-        ))
+        match self.open(alloc, rt) {
+            Ok((book, callers)) => Ok((LinkServer::of(book), callers)),
+            Err(unmade) => Err(unmade),
+        }
     }
 }
 

@@ -36,7 +36,8 @@ impl<K: Name, R: Wait + Drop> Drop for LinkServer<K, R> {
 }
 
 impl<K: Name, R: Wait + Drop> LinkServer<K, R> {
-    pub(crate) fn new(book: Book<K, R>) -> LinkServer<K, R> {
+    /// A server of this book, from now on under one lock.
+    pub fn of(book: Book<K, R>) -> LinkServer<K, R> {
         LinkServer {
             book: Mutex::new(book),
         }
@@ -232,7 +233,7 @@ impl<K: Name> Caller<K> {
 }
 
 /// The book under the lock, which isn't behind this list. While it is behind, which never happens, the lock is let go and taken again.
-fn caught_up<'a, K: Name, H: Wait, R: Wait + Drop>(
+pub(crate) fn caught_up<'a, K: Name, H: Wait, R: Wait + Drop>(
     rt: &H,
     server: &'a LinkServer<K, R>,
     seen: &Seen<K>,

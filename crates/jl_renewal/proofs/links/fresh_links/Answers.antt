@@ -3,7 +3,7 @@ use Rattle.std.proofs.Common.{ap, ◌∙◌}
 use Rattle.jl_types.specs.Linkage.Links.{scratch}
 use Rattle.jl_renewal.specs.Renewal.{row_of, fresh_row}
 use Rattle.jl_renewal.proofs.AddLaws.{pushes_turn}
-use Rattle.jl_renewal.proofs.links.rows_of.Goals as goal
+use Rattle.jl_renewal.proofs.links.fresh_links.Goals as goal
 
 pub loop-one-preserved : goal.loop-one-preserved
 loop-one-preserved c =

@@ -2,7 +2,7 @@ use Rattle.std.specs.Prelude.{replicate, None}
 use Rattle.std.proofs.Common.{ℕ, ap, ◌∙◌}
 use Rattle.jl_core.specs.State.{empty_core}
 use Rattle.jl_server.specs.History.{Server}
-use Rattle.jl_server.proofs.parts.Parts.start.Goals as goal
+use Rattle.jl_server.proofs.parts.Parts.open.Goals as goal
 
 pub named-head-requires : goal.named-head-requires
 named-head-requires g c = ap (λ (s : Server). s.book) c.self.view_is ∙ c.requires.book

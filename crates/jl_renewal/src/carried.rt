@@ -1,0 +1,164 @@
+//! Events under new numbers, where what they name may be gone.
+
+ghost use Rattle.std.specs.Prelude.{◌≡◌, option_and_then, filter_map, IfOk};
+ghost use Rattle.jl_types.specs.declared.event.EventOf.TheVariants as event;
+ghost use Rattle.jl_events.specs.Accepted.{event_of};
+ghost use Rattle.jl_renewal.specs.Numbers.{new_number};
+ghost use Rattle.jl_renewal.specs.Carries as carries;
+
+use crate::classes::definition;
+use crate::links::push_if_any;
+use crate::numbers::Renumbering;
+use crate::targets::renumbered_method;
+use jl_core::Accepted;
+use jl_names::{Name, Seq};
+use jl_relink::World;
+use jl_types::{CallSiteId, Event, LoaderId, Part, Place, SiteNo, SwitchId, Target};
+use std::alloc::{AllocError, Global};
+
+/// The event under the new numbers, or none where it names what is gone, or installs links. Want of memory is an error.
+pub(crate) fn carried_event(
+    alloc: Global,
+    numbers: &Renumbering,
+    old: &World,
+    event: &Accepted,
+) -> Result<Option<Event>, AllocError>
+    ensures { IfOk result (λ made. made ≡ option_and_then (carries.carried numbers.now) (event_of old.now.classes.rows event.now)) }
+{
+    match event {
+        Accepted::NewLoader => Ok(Some(Event::NewLoader)),
+        Accepted::Define(loader, class) => {
+            definition(alloc, numbers, *loader, old.classes.class_at(*class))
+        }
+        Accepted::Delegate(loader, name, to) => delegation(alloc, numbers, *loader, name, *to),
+        Accepted::Request(place) => Ok(request(numbers, place)),
+        Accepted::NewCallSite(kind, ty, target) => {
+            let Some(target) = carried_target(alloc, numbers, target)? else {
+                return Ok(None);
+            };
+            Ok(Some(Event::NewCallSite(*kind, ty.copy(alloc)?, target)))
+        }
+        Accepted::SetTarget(site, target) => new_target(alloc, numbers, *site, target),
+        Accepted::NewSwitch => Ok(Some(Event::NewSwitch)),
+        Accepted::Invalidate(points) => {
+            let points = carried_points(alloc, numbers, points.as_slice())?;
+            Ok(Some(Event::Invalidate(Seq::of(points))))
+        }
+        Accepted::Bind(site, call_site) => Ok(binding(numbers, *site, *call_site)),
+        Accepted::Install(_) => Ok(None),
+        Accepted::Retire(loader) => Ok(retirement(numbers, *loader)),
+    }
+}
+
+/// That a loader finds under the name what another one finds. Want of memory is an error.
+fn delegation(
+    alloc: Global,
+    numbers: &Renumbering,
+    loader: LoaderId,
+    name: &Name,
+    to: LoaderId,
+) -> Result<Option<Event>, AllocError>
+    ensures { IfOk result (λ made. made ≡ carries.carried numbers.now (event.Delegate loader name.now to)) }
+{
+    let Some(loader) = numbers.loader(loader) else {
+        return Ok(None);
+    };
+    let Some(to) = numbers.loader(to) else {
+        return Ok(None);
+    };
+    Ok(Some(Event::Delegate(loader, name.copy(alloc)?, to)))
+}
+
+/// The request of a place.
+fn request(numbers: &Renumbering, place: &Place) -> Option<Event>
+    ensures { result ≡ carries.carried numbers.now (event.Request place.now) }
+{
+    let class = numbers.class(place.class)?;
+    Some(Event::Request(Place {
+        class,
+        method: place.method,
+        pc: place.pc,
+    }))
+}
+
+/// That a call site gets this target. Want of memory is an error.
+fn new_target(
+    alloc: Global,
+    numbers: &Renumbering,
+    site: CallSiteId,
+    target: &Target,
+) -> Result<Option<Event>, AllocError>
+    ensures { IfOk result (λ made. made ≡ carries.carried numbers.now (event.SetTarget site target.now)) }
+{
+    let Some(site) = numbers.call_site(site) else {
+        return Ok(None);
+    };
+    let Some(target) = carried_target(alloc, numbers, target)? else {
+        return Ok(None);
+    };
+    Ok(Some(Event::SetTarget(site, target)))
+}
+
+/// That the site is bound to the call site.
+fn binding(numbers: &Renumbering, site: SiteNo, call_site: CallSiteId) -> Option<Event>
+    ensures { result ≡ carries.carried numbers.now (event.Bind site call_site) }
+{
+    let site = numbers.site(site)?;
+    let call_site = numbers.call_site(call_site)?;
+    Some(Event::Bind(site, call_site))
+}
+
+/// The retirement of the loader.
+fn retirement(numbers: &Renumbering, loader: LoaderId) -> Option<Event>
+    ensures { result ≡ carries.carried numbers.now (event.Retire loader) }
+{
+    Some(Event::Retire(numbers.loader(loader)?))
+}
+
+/// The target, or none where a part of it is gone. Want of memory is an error. It goes as deep as the target, and no call site has one
+/// that is deeper than 64.
+fn carried_target(
+    alloc: Global,
+    numbers: &Renumbering,
+    target: &Target,
+) -> Result<Option<Target>, AllocError>
+    ensures { IfOk result (λ made. made ≡ carries.carried_target numbers.now target.now) }
+{
+    match &target.part {
+        Part::Method(method) => match numbers.class(method.class) {
+            Some(_) => Ok(Some(Target::method(renumbered_method(numbers, method)))),
+            None => Ok(None),
+        },
+        Part::Guard(point, first, fallback) => {
+            let Some(point) = numbers.switch(*point) else {
+                return Ok(None);
+            };
+            let Some(first) = carried_target(alloc, numbers, first)? else {
+                return Ok(None);
+            };
+            let Some(fallback) = carried_target(alloc, numbers, fallback)? else {
+                return Ok(None);
+            };
+            Ok(Some(Target::guard(point, Box::new(alloc, first)?, Box::new(alloc, fallback)?)))
+        }
+        Part::Invoker(site) => match numbers.call_site(*site) {
+            Some(site) => Ok(Some(Target::invoker(site))),
+            None => Ok(None),
+        },
+    }
+}
+
+/// The switch points that aren't gone. Want of memory is an error.
+fn carried_points(
+    alloc: Global,
+    numbers: &Renumbering,
+    points: &[SwitchId],
+) -> Result<Vec<SwitchId>, AllocError>
+    ensures { IfOk result (λ made. made.items ≡ filter_map (new_number numbers.now.switches) points.now) }
+{
+    let mut made = Vec::with_capacity(alloc, points.len())?;
+    for point in points {
+        push_if_any(&mut made, numbers.switch(*point))?;
+    }
+    Ok(made)
+}

@@ -1,0 +1,16 @@
+use Rattle.std.specs.Prelude.{IfErr}
+use Rattle.std.proofs.Common.{List, sym, subst}
+use Rattle.jl_types.specs.Happenings.Event.{Event}
+use Rattle.jl_types.specs.Happenings.Entries.{Entry, events_of}
+use Rattle.jl_types.specs.Happenings.Events.{verdict}
+use Rattle.jl_types.specs.Happenings.History.{world_after}
+use Rattle.jl_core.specs.State.{IsRefused}
+use Rattle.jl_server.proofs.Logs.{events_logged}
+use Rattle.jl_server.proofs.book.BookEventMachine.accept.Goals as goal
+
+pub returns-clause-refused : goal.returns-clause-refused
+returns-clause-refused g c =
+    let n = g.K.Name.max_sites in
+    subst (λ (h : List Event). IfErr c.step_on.result (IsRefused (verdict n (world_after h) c.args.event))) (sym (events_logged n c.args.self.now))
+    (subst (λ (xs : List Entry). IfErr c.step_on.result (IsRefused (verdict n (world_after (events_of xs)) c.args.event))) c.self.view_is
+    c.step_on.ensures.refused)
