@@ -1,4 +1,4 @@
--- A server may be shared by threads, and a caller, its memo, what it has seen and what it was answered may go to one.
+-- A server may be shared by threads, and its book before that, a caller, its memo, what it has seen and what it was answered may go to one.
 use denote.RattleType.{RattleType}
 use denote.Struct.Declared as declared
 use denote.Param.Send.{IsSend, IsSync, AllSend, view_send, recorded_send, struct_send, sendable}
@@ -19,7 +19,7 @@ use Rattle.jl_server.proofs.table.Change.TheSendSync as of_changes
 use Rattle.jl_server.proofs.table.Table.TheSendSync as of_tables
 
 module _ (K R : RattleType) (g : name.Ghosts K.Denot) where
-  book_send : IsSend R → IsSend (Book.the_row K R g)
+  pub book_send : IsSend R → IsSend (Book.the_row K R g)
   book_send r =
       let O = Inside.the_type K R g in
       let all : AllSend (declared.fields O) = (
