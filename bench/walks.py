@@ -46,7 +46,7 @@ LIBRARY = 'jl_host'
 MODULES = {
     'Linker': 'linker', 'Seat': 'seat', 'Memo': 'memo', 'View': 'view',
     'Told': 'told', 'CallAnswer': 'shown', 'LinkShown': 'shown', 'LinkRow': 'reading', 'TargetPart': 'targets',
-    'Invocation': 'invocations',
+    'Invocation': 'invocations', 'Counts': 'renew',
 }
 # ----
 

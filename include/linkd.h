@@ -27,7 +27,7 @@ extern "C" {
 #endif
 
 /* Grows with each change of this header; linkd_version() tells it of the library. */
-#define LINKD_VERSION 1
+#define LINKD_VERSION 2
 
 typedef struct linkd linkd;
 typedef struct linkd_seat linkd_seat;
@@ -234,8 +234,41 @@ typedef struct linkd_invocation {
     uint32_t opcode; /* 182 invokevirtual, 183 invokespecial, 184 invokestatic, 185 invokeinterface, 186 invokedynamic (6.5) */
 } linkd_invocation;
 
+/* How many of each a linker has ever had, retired ones among them: the numbers below are theirs. */
+typedef struct linkd_count {
+    uint32_t loaders;
+    uint32_t classes;
+    uint32_t sites;
+    uint32_t call_sites;
+    uint32_t switches;
+} linkd_count;
+
+/* What the host has let go, in any order: it asks for none of them again. A number that was never given is passed over. */
+typedef struct linkd_released {
+    const uint32_t *call_sites;
+    size_t call_site_count;
+    const uint32_t *switches;
+    size_t switch_count;
+} linkd_released;
+
+/* Arrays in which a renewal writes, in the place of each old number, the new one or LINKD_NO_NUMBER. */
+typedef struct linkd_numbers {
+    uint32_t *loaders;
+    size_t loader_capacity;
+    uint32_t *classes;
+    size_t class_capacity;
+    uint32_t *sites;
+    size_t site_capacity;
+    uint32_t *call_sites;
+    size_t call_site_capacity;
+    uint32_t *switches;
+    size_t switch_capacity;
+} linkd_numbers;
+
 /* The null reference, as a receiver. */
 #define LINKD_NULL UINT32_C(0xffffffff)
+/* The new number of what a renewal doesn't take over. */
+#define LINKD_NO_NUMBER UINT32_C(0xffffffff)
 
 uint32_t linkd_version(void);
 
@@ -338,11 +371,42 @@ uint32_t linkd_awaited(linkd *at, uint32_t site, uint8_t *out, size_t capacity, 
  * it dropped. */
 uint32_t linkd_last_work(linkd *at, uint64_t *work);
 
+/* How many loaders, classes, sites, call sites and switch points there ever were, retired ones among them. Where it is LINKD_CLOSED each
+ * count is written as 0. */
+uint32_t linkd_counts(linkd *at, linkd_count *counts);
+
 /* Any command of docs/FORMATS.md, as text. The answer is kept until the next one, and its length written; linkd_take copies it.
  * LINKD_CLOSED; LINKD_MEMORY: the command was obeyed, or nothing has changed. What the command prepare prepares is kept until the linker
  * is closed. linkd_take may be LINKD_TOO_SHORT, too. */
 uint32_t linkd_answer(linkd *at, const uint8_t *line, size_t line_length, size_t *length);
 uint32_t linkd_take(linkd *at, uint8_t *out, size_t capacity, size_t *length);
+
+/* ---- a renewal */
+
+/* Opens the linker `fresh`, which isn't open, over what stays of the linker `at`, which is left as it is: what a linker has of events only
+ * grows, so a process that runs for long goes over to a fresh one from time to time. What stays are the loaders that aren't retired, with
+ * their classes and the sites in these, and of the call sites and switch points those that aren't released, a call site also where a site
+ * that stays is bound to it or the target of a later one that stays invokes it, and a switch point also where the target of a call site
+ * that stays guards by it. They keep their order and get new numbers, from 0 on; a site that stays has its link there, too, if it had one.
+ * In each array the new number of each old one is written in its place, or LINKD_NO_NUMBER; behind as many as linkd_counts says it is as
+ * before. max_sites: as linkd_open. What linkd_named, linkd_take and the command prepare kept isn't taken over.
+ * Counts as a call on the two linkers, which are not one. What a seat, a memo or a view has is of `at` and its numbers: before it is used
+ * with `fresh`, the seat is refreshed and the view taken from it, and the memo closed and opened.
+ * In this order: LINKD_CLOSED, where `at` isn't open; LINKD_OPEN_ALREADY, where `fresh` is; LINKD_MALFORMED, as linkd_open;
+ * LINKD_TOO_SHORT, where an array is shorter than there are numbers for it; LINKD_SITES_FULL, where more than max_sites sites stay;
+ * LINKD_MEMORY, maybe in the place of LINKD_SITES_FULL. Where it isn't done, `fresh` and the arrays are as before. */
+uint32_t linkd_renew_into(linkd *at, linkd *fresh, uint32_t max_sites, const uint32_t *released_call_sites, size_t released_call_site_count,
+                          const uint32_t *released_switches, size_t released_switch_count, uint32_t *loaders, size_t loader_capacity,
+                          uint32_t *classes, size_t class_capacity, uint32_t *sites, size_t site_capacity, uint32_t *call_sites,
+                          size_t call_site_capacity, uint32_t *switches, size_t switch_capacity);
+
+/* The same, by structs. */
+static inline uint32_t linkd_renew(linkd *at, linkd *fresh, uint32_t max_sites, const linkd_released *released, linkd_numbers *numbers) {
+    return linkd_renew_into(at, fresh, max_sites, released->call_sites, released->call_site_count, released->switches,
+                            released->switch_count, numbers->loaders, numbers->loader_capacity, numbers->classes, numbers->class_capacity,
+                            numbers->sites, numbers->site_capacity, numbers->call_sites, numbers->call_site_capacity, numbers->switches,
+                            numbers->switch_capacity);
+}
 
 /* ---- a seat */
 

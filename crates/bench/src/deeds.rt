@@ -11,7 +11,7 @@ use std::alloc::{AllocError, Global};
 use std::io::{self, ErrorKind};
 
 /// A method, by its class and its number there.
-type MethodAt = (u32, u16);
+pub(crate) type MethodAt = (u32, u16);
 
 /// An event, of which the same can be made again.
 #[derive(Clone, Copy)]
@@ -121,7 +121,7 @@ pub(crate) const RETIREMENT: &[Deed] = &[
 ];
 
 /// The method.
-fn method(at: MethodAt) -> MethodId {
+pub(crate) fn method(at: MethodAt) -> MethodId {
     MethodId {
         class: ClassId::new(at.0),
         index: at.1,
@@ -144,7 +144,7 @@ fn delegation(alloc: Global, name: &str) -> Result<Event, AllocError> {
 }
 
 /// A guard of two methods.
-fn guard(
+pub(crate) fn guard(
     alloc: Global,
     point: u32,
     first: MethodAt,
@@ -156,13 +156,13 @@ fn guard(
 }
 
 /// A mutable call site of the type ()V with this target.
-fn call_site(alloc: Global, target: Target) -> Result<Event, AllocError> {
+pub(crate) fn call_site(alloc: Global, target: Target) -> Result<Event, AllocError> {
     let ty = Name::copied(alloc, b"()V")?;
     Ok(Event::NewCallSite(CallSiteKind::Mutable, ty, target))
 }
 
 /// The invalidation of the switch point.
-fn invalidation(alloc: Global, point: u32) -> Result<Event, AllocError> {
+pub(crate) fn invalidation(alloc: Global, point: u32) -> Result<Event, AllocError> {
     let mut points = Vec::new(alloc);
     points.push(SwitchId::new(point))?;
     Ok(Event::Invalidate(Seq::of(points)))
@@ -181,7 +181,7 @@ fn install(alloc: Global, link: Link) -> Result<Event, AllocError> {
 }
 
 /// The request of the first place in the method.
-fn request(at: MethodAt) -> Event {
+pub(crate) fn request(at: MethodAt) -> Event {
     Event::Request(Place {
         class: ClassId::new(at.0),
         method: at.1,

@@ -143,7 +143,7 @@ fn time_links(rt: &HostRuntime, core: &Core, sites: &[SiteNo]) -> io::Result<()>
 }
 
 /// Times the installs of all links.
-fn time_installs(rt: &HostRuntime, core: &mut Core, sites: &[SiteNo]) -> io::Result<()> {
+pub(crate) fn time_installs(rt: &HostRuntime, core: &mut Core, sites: &[SiteNo]) -> io::Result<()> {
     let mut batches = Vec::new(rt.alloc());
     add_all(rt.alloc(), core, sites, &mut batches)?;
     let kinds = kinds_of(batches.as_slice());

@@ -1,7 +1,7 @@
 //! Measures parts of the product, by itself or from outside, and makes the calls whose growths bench/growths.sh refuses. The first word
-//! names the part: `read`, `keep`, `hierarchy`, `link`, `snapshot`, `wide`, `farm`, `call` or `growths`; what the others are, and what is
-//! done, stands at each module. The word `then` stands between two parts. All have the classes and places of the standard input. What was
-//! done is printed, and, on the standard error, the microseconds that it took. Nothing is proved of it but that it is safe.
+//! names the part: `read`, `keep`, `hierarchy`, `link`, `renew`, `year`, `snapshot`, `wide`, `farm`, `call` or `growths`; what the others are,
+//! and what is done, stands at each module. The word `then` stands between two parts. All have the classes and places of the standard input.
+//! What was done is printed, and, on the standard error, the microseconds that it took. Nothing is proved of it but that it is safe.
 //!
 //! The exit status is 0, 4 where memory lacked, and 1 where it ended otherwise.
 #![tactic(auto)]
@@ -15,18 +15,22 @@ mod files;
 mod fill;
 mod fresh;
 mod growths;
+mod held;
 mod hierarchy;
 mod input;
 mod link;
 mod marks;
 mod read;
 mod readings;
+mod renew;
+mod rounds;
 mod serve;
 mod servers;
 mod snapshot;
 mod told;
 mod watch;
 mod wide;
+mod year;
 
 use crate::input::Input;
 use std::env;
@@ -48,6 +52,8 @@ fn measure(
         Some("hierarchy") => hierarchy::measure(rt, input.files.as_slice()),
         Some("snapshot") => snapshot::measure(rt, input.files.as_slice(), words),
         Some("link") => link::measure(rt, input),
+        Some("renew") => renew::measure(rt, input),
+        Some("year") => year::measure(rt, words),
         Some("wide") => wide::measure(rt, handle, input, words),
         Some("farm" | "call") => serve::measure(rt, handle, input, words),
         Some("growths") => growths::call_all(rt, handle),

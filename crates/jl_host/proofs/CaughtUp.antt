@@ -1,6 +1,6 @@
 -- That the links stay behind the core as it takes events, and are its links once the touched sites were written.
 use Rattle.std.specs.Prelude.{◌≡◌, ◌||◌, ◌<◌, ℕ, zero, suc, Bool, true, false, List, [], ◌∷◌, ◌++◌, map, drop, length, replicate, slice_get, Option}
-use Rattle.std.specs.Prelude.{Some, None, option_map, is_some, Result, Ok, Err, ◌-◌}
+use Rattle.std.specs.Prelude.{Some, None, option_map, is_some, Result, Ok, Err, ◌-◌, ◌+◌, ◌^◌, nat_le, if◌then◌else◌}
 use Rattle.std.specs.Option.{option_map_or}
 use Rattle.std.specs.Prelude.{◌&&◌}
 use Rattle.std.specs.List.{list_any, range_with_len, cons_option}
@@ -9,6 +9,7 @@ use Rattle.std.proofs.lemmas.List.{drop-append-le, ext_get_or, length-replicate,
 use Rattle.std.proofs.lemmas.List.Folds.{list_any-append}
 use Rattle.std.proofs.lemmas.List.FromFn.{get_or-map-range_with_len, length-map-range_with_len}
 use Rattle.std.proofs.lemmas.Option.{same_Some}
+use Rattle.jl_types.specs.declared.answer.Unlinked.{Unlinked}
 use Rattle.jl_types.specs.declared.link.Link.{Link}
 use Rattle.jl_types.specs.Happenings.Event.{Event}
 use Rattle.jl_types.specs.declared.event.EventOf.TheVariants as event
@@ -16,11 +17,12 @@ use Rattle.jl_types.specs.declared.event.Reply.{Reply}
 use Rattle.jl_types.specs.declared.refusal.Refusal.{Refusal}
 use Rattle.jl_types.specs.Values.World.{Class}
 use Rattle.jl_types.specs.Happenings.Events.{verdict}
-use Rattle.jl_types.specs.Happenings.History.{world_after, installed, installs, dropped}
+use Rattle.jl_types.specs.Happenings.History.{world_after, installed, installs, dropped, installed_at, installed_of, settled_since, scratch_after, is_link}
+use Rattle.jl_types.specs.Happenings.History.{all_below, any_below}
+use Rattle.jl_types.specs.Linkage.Links.{scratch}
 use Rattle.jl_types.proofs.Places.{accepted_of}
-use Rattle.jl_types.proofs.Written.{unrequested}
 use Rattle.jl_events.specs.Accepted.{Accepted, event_of}
-use Rattle.jl_core.specs.State.{State, empty_core, events, IsAccepted, IsApplied}
+use Rattle.jl_core.specs.State.{State, events, world_of, IsAccepted, IsApplied}
 use Rattle.jl_core.specs.Logs.{Entry, told, are_told, shown}
 use Rattle.jl_core.specs.Means.Touched.{has}
 use Rattle.jl_core.proofs.SlotLaws.{untouched}
@@ -53,6 +55,7 @@ module _ (links : List (Option Link)) (n m : ℕ) (log : List (Event × Reply)) 
 
   one_behind : IsBehind links n before → reply.dropped ≡ dropped (events before) e → IsBehind links n after
   one_behind is same = record {
+    few = is.few;
     all = is.all;
     reached = let le = is.reached in omega (arith, le, length-append log ((e, reply) ∷ []));
     same = λ s low quiet.
@@ -190,15 +193,37 @@ module _ (rows : List Class) where
 
 -- ---- a linker that was opened just now
 
-pub nothing_behind : (core : State) (max_sites : ℕ) (links : List (Option Link)) → core ≡ empty_core max_sites
-    → links ≡ replicate (room_for max_sites) None
-    → IsBehind links 0 core
-nothing_behind core max_sites links is all =
-    subst (IsBehind links 0) (sym is) (subst (λ xs. IsBehind xs 0 (empty_core max_sites)) (sym all) (record {
-      all = length-replicate (room_for max_sites) none;
+-- what no event has installed is not installed
+module _ (s : ℕ) where
+  touches_none : (log : List (Event × Reply)) → list_any (touches s) log ≡ false → (k : ℕ)
+      → option_map_or (installs s) (slice_get (map (λ (entry : Event × Reply). entry.0) log) k) false ≡ false
+  touches_none [] quiet k = refl
+  touches_none (entry ∷ log) quiet zero =
+      let first = both_false (touches s entry) (list_any (touches s) log) quiet in
+      (both_false (installs s entry.0) (has s entry.1.dropped) first.0).0
+  touches_none (entry ∷ log) quiet (suc k) = touches_none log (both_false (touches s entry) (list_any (touches s) log) quiet).1 k
+
+  none_below : (p : ℕ → Bool) → ((k : ℕ) → p k ≡ false) → (n : ℕ) → any_below p n ≡ false
+  none_below p none zero = refl
+  none_below p none (suc n) = ap (λ b. b || any_below p n) (none n) ∙ none_below p none n
+
+  unsettled : (h : List Event) → ((k : ℕ) → installed_at h k s ≡ false) → (r : Result Link Unlinked) → installed_of h s r ≡ None
+  unsettled h none (Ok l) =
+      ap (λ b. if b then Some l else None)
+      (none_below (settled_since h s l)
+      (λ k. ap (λ b. b && all_below (λ n. nat_le n k || is_link (scratch_after h n s) l) (length h + 1)) (none k)) (length h))
+  unsettled h none (Err reason) = refl
+
+pub nothing_behind : (core : State) (max_sites : ℕ) (links : List (Option Link)) → core.max_sites ≡ max_sites → max_sites < 2 ^ 32
+    → links ≡ replicate (room_for max_sites) None → IsBehind links 0 core
+nothing_behind core max_sites links is few all =
+    subst (λ xs. IsBehind xs 0 core) (sym (all ∙ ap (λ m. replicate (room_for m) none) (sym is))) (record {
+      few = omega (arith, is, few);
+      all = length-replicate (room_for core.max_sites) none;
       reached = omega arith;
-      same = λ s low quiet. get_or-replicate (room_for max_sites) s none none low ∙ sym (unrequested [] s (omega arith));
-    }))
+      same = λ s low quiet. get_or-replicate (room_for core.max_sites) s none none low
+          ∙ sym (unsettled s (events core) (touches_none s core.log quiet) (scratch (world_of core) s));
+    })
   where
     none : Option Link
     none = None

@@ -9,3 +9,4 @@ pub mod Crossing
 pub mod ReadAgain
 pub mod GivenLaws
 pub mod AwaitedLaws
+pub mod RenewLaws

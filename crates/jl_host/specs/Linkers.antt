@@ -19,11 +19,11 @@ use Rattle.jl_types.specs.Linkage.Calls.{dispatch}
 use Rattle.jl_types.specs.Happenings.History.{installed}
 use Rattle.jl_relink.specs.declared.preparation.Prepared.{Prepared}
 use Rattle.jl_relink.specs.Preparations.{IsPreparation}
-use Rattle.jl_core.specs.State.{State, events, world_of, IsApplied}
+use Rattle.jl_core.specs.State.{State, empty_core, events, world_of, IsApplied}
 use Rattle.jl_json.specs.Commands.{is_method_descriptor}
 use Rattle.jl_json.specs.Targets.{target_in}
 use Rattle.jl_session.specs.Jsons.{IsReadAs, IsTextOf}
-use Rattle.jl_session.specs.Sessions.{Session, session_of, snapshot_of, IsSessionAnswer, LacksAnswer}
+use Rattle.jl_session.specs.Sessions.{Session, session_over, snapshot_of, IsSessionAnswer, LacksAnswer}
 use Rattle.jl_host.specs.declared.told.Told.{Told}
 use Rattle.jl_host.specs.declared.shown.CallAnswer.{CallAnswer}
 use Rattle.jl_host.specs.declared.shown.LinkShown.{LinkShown}
@@ -37,8 +37,13 @@ pub record Opened : Type 0 where
   pub said : List ℕ  -- the text of the last answer
   pub named : Option (List ℕ)  -- the class that the refusal of the last event told of by its name
 
+-- nothing was said yet over this core
+abbrev pub opened_over : State → Opened
+opened_over core = record { session = session_over core; said = []; named = None }
+
+-- nothing happened yet, and so many places may be requested
 abbrev pub newly_opened : ℕ → Opened
-newly_opened max_sites = record { session = session_of max_sites; said = []; named = None }
+newly_opened max_sites = opened_over (empty_core max_sites)
 
 -- ---- opening
 

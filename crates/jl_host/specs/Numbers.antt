@@ -28,6 +28,9 @@ unknown_class = 2
 abbrev pub no_such_place : ℕ
 no_such_place = 3
 
+abbrev pub sites_full : ℕ
+sites_full = 5
+
 abbrev pub memory : ℕ
 memory = 15
 
@@ -53,7 +56,7 @@ status_of_refusal (refusal.Define fault) = 1
 status_of_refusal refusal.UnknownClass = unknown_class
 status_of_refusal refusal.NoSuchPlace = no_such_place
 status_of_refusal (refusal.NotLinkable reason) = 4
-status_of_refusal refusal.SitesFull = 5
+status_of_refusal refusal.SitesFull = sites_full
 status_of_refusal (refusal.CallSite fault) = 6
 status_of_refusal refusal.NotDynamic = 7
 status_of_refusal (refusal.AlreadyBound c) = 8
@@ -131,3 +134,9 @@ number_of (made.Class n) = n
 number_of (made.Site n) = n
 number_of (made.CallSite n) = n
 number_of (made.Switch n) = n
+
+-- ---- what is no longer there
+
+-- the new number of what a renewal doesn't take over
+abbrev pub gone : ℕ
+gone = 4294967295

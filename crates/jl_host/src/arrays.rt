@@ -4,7 +4,7 @@ ghost use Rattle.std.specs.Prelude.{◌≡◌, ◌≤◌, ◌++◌, length, drop
 ghost use Rattle.jl_host.specs.Copies.{IsCopied};
 
 use crate::told::{DONE, TOO_SHORT};
-use jl_types::{SiteNo, SwitchId};
+use jl_types::{CallSiteId, SiteNo, SwitchId};
 use std::alloc::{AllocError, Global};
 
 /// The sites of these numbers. Want of memory is an error.
@@ -16,6 +16,17 @@ pub(crate) fn sites_of(alloc: Global, numbers: &[u32]) -> Result<Vec<SiteNo>, Al
         sites.push(SiteNo::new(*number))?;
     }
     Ok(sites)
+}
+
+/// The call sites of these numbers. Want of memory is an error.
+pub(crate) fn call_sites_of(alloc: Global, numbers: &[u32]) -> Result<Vec<CallSiteId>, AllocError>
+    ensures { IfOk result (λ call_sites. call_sites.items ≡ numbers.now) }
+{
+    let mut call_sites = Vec::with_capacity(alloc, numbers.len())?;
+    for number in numbers {
+        call_sites.push(CallSiteId::new(*number))?;
+    }
+    Ok(call_sites)
 }
 
 /// The switch points of these numbers. Want of memory is an error.

@@ -2,7 +2,7 @@
 //! lock, and views, in which compilers prepare links without one. Everything that a call answers is a status and plain numbers.
 //!
 //! What each call leaves, by its status, stands in `specs/`, in reading order: `Numbers`, `Telling`, `Showing`, `Copies`, `Linkers`,
-//! `Seats`, `Memos`, `Reading`, `Targets`, `Views`, `Awaiting`, `Asking`.
+//! `Seats`, `Memos`, `Reading`, `Targets`, `Views`, `Awaiting`, `Asking`, `Renewals`.
 #![tactic(auto)]
 
 // What is answered, as numbers.
@@ -24,6 +24,7 @@ mod awaited;
 mod behind;
 mod linker;
 mod opened;
+mod renew;
 
 // Places to read, and what is remembered beside them.
 mod memo;
@@ -42,11 +43,12 @@ pub use laws::{
 pub use linker::Linker;
 pub use memo::Memo;
 pub use reading::LinkRow;
+pub use renew::{Counts, GONE};
 pub use seat::Seat;
 pub use shown::{CallAnswer, LinkShown, MOST_ROWS, NULL, Row};
 pub use targets::TargetPart;
 pub use told::{
-    CLOSED, DONE, MALFORMED, MEMORY, NO_CLASS_FILE, NO_SUCH_PLACE, OPEN_ALREADY, TOO_SHORT, Told,
-    UNKNOWN_CLASS,
+    CLOSED, DONE, MALFORMED, MEMORY, NO_CLASS_FILE, NO_SUCH_PLACE, OPEN_ALREADY, SITES_FULL,
+    TOO_SHORT, Told, UNKNOWN_CLASS,
 };
 pub use view::View;

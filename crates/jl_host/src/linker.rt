@@ -12,6 +12,7 @@ ghost use Rattle.jl_session.specs.Sessions.{snapshot_of};
 ghost use Rattle.jl_host.specs.Targets.{IsNewCallSiteOf, IsSetTargetOf};
 ghost use Rattle.jl_host.specs.Views.{IsInstallLinks};
 ghost use Rattle.jl_host.specs.Asking.{IsLookup, IsClassName, IsMethodName, IsMethodType, IsInvocations, IsNamed, IsAwaited, IsLastWork};
+ghost use Rattle.jl_host.specs.Renewals.{IsCounts, IsRenew, arrays_of, released_of};
 ghost use Rattle.jl_host.specs.Linkers.{Opened as OpenedValue};
 
 use crate::arrays::{copy_sites, copy_text, sites_of, switches_of};
@@ -22,10 +23,13 @@ use crate::asked::{
 use crate::invocations::Invocation;
 use crate::opened::Opened;
 use crate::reading::{LinkRow, rows_of};
+use crate::renew::{Counts, write_numbers};
 use crate::seat_view::SeatView;
 use crate::shown::{CallAnswer, LinkShown, answer_shown, link_shown, recv_of};
 use crate::targets::{TargetPart, target_of};
-use crate::told::{CLOSED, DONE, MALFORMED, MEMORY, OPEN_ALREADY, Told, unasked};
+use crate::told::{
+    CLOSED, DONE, MALFORMED, MEMORY, OPEN_ALREADY, TOO_SHORT, Told, status_of_refusal, unasked,
+};
 use jl_names::{Name, Seq};
 use jl_relink::Snapshot;
 use jl_session::read_target;
@@ -468,6 +472,64 @@ impl Linker {
         match &self.opened {
             Some(opened) => copy_text(opened.said(), out, count),
             None => CLOSED,
+        }
+    }
+
+    /// How many loaders, classes, sites, call sites and switch points there ever were, retired ones among them. Takes no memory.
+    pub fn counts(&mut self, counts: &mut Counts) -> u32
+        ensures { IsCounts self.old result counts.new self.new }
+    {
+        let Some(opened) = &self.opened else {
+            *counts = Counts::none();
+            return CLOSED;
+        };
+        *counts = opened.counts();
+        DONE
+    }
+
+    /// Opens the other linker over a fresh core that has what stays of this one's, but for the call sites and switch points that are
+    /// released; so many places may be requested there, 1 to 1,048,576. Of each loader, class, site, call site and switch point the new
+    /// number is written, or `GONE`, to the front of its array. The status tells whether one of the two isn't as it has to be, no such
+    /// number may be, an array is too short, more sites stay, or memory lacks.
+    pub fn renew(
+        &mut self,
+        alloc: Global,
+        fresh: &mut Linker,
+        max_sites: u32,
+        released_call_sites: &[u32],
+        released_switches: &[u32],
+        loaders: &mut [u32],
+        classes: &mut [u32],
+        sites: &mut [u32],
+        call_sites: &mut [u32],
+        switches: &mut [u32],
+    ) -> u32
+        ensures { IsRenew (released_of released_call_sites.now released_switches.now) max_sites self.old fresh.old
+            (arrays_of loaders.old classes.old sites.old call_sites.old switches.old) result self.new fresh.new
+            (arrays_of loaders.new classes.new sites.new call_sites.new switches.new) }
+    {
+        let Some(opened) = &self.opened else {
+            return CLOSED;
+        };
+        if fresh.opened.is_some() {
+            return OPEN_ALREADY;
+        }
+        if max_sites == 0 || max_sites > MOST_SITES {
+            return MALFORMED;
+        }
+        let counts = opened.counts();
+        if !counts.fit(loaders, classes, sites, call_sites, switches) {
+            return TOO_SHORT;
+        }
+        match opened.renewed(alloc, released_call_sites, released_switches, max_sites) {
+            Ok((made, numbers)) => {
+                write_numbers(
+                    &numbers, &counts, loaders, classes, sites, call_sites, switches,
+                );
+                fresh.opened = Some(made);
+                DONE
+            }
+            Err(refusal) => status_of_refusal(&refusal),
         }
     }
 

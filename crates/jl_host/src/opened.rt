@@ -1,15 +1,19 @@
 //! What stands behind a linker that is open.
 
-ghost use Rattle.std.specs.Prelude.{◌≡◌, ◌≤◌, ◌⊎◌, option_copied, IfOk};
+ghost use Rattle.std.specs.Prelude.{◌≡◌, ◌≤◌, ◌⊎◌, option_copied, IfOk, IfErr};
 ghost use Rattle.jl_types.specs.Linkage.Calls.{dispatch};
 ghost use Rattle.jl_types.specs.Happenings.History.{installed};
-ghost use Rattle.jl_core.specs.State.{events, world_of};
+ghost use Rattle.jl_core.specs.State.{State, events, world_of};
+ghost use Rattle.jl_renewal.specs.Renewal.{IsRenewal, IsRefusedRenewal};
 ghost use Rattle.jl_host.specs.Numbers.{memory};
-ghost use Rattle.jl_host.specs.Linkers.{newly_opened, IsAsked, IsAskedIf, IsUnasked, call_site_of, IsDefined, IsInstalled, IsAnswered, last_dropped};
+ghost use Rattle.jl_host.specs.Linkers.{opened_over, newly_opened, IsAsked, IsAskedIf, IsUnasked, call_site_of, IsDefined, IsInstalled, IsAnswered};
+ghost use Rattle.jl_host.specs.Linkers.{last_dropped};
 ghost use Rattle.jl_host.specs.Seats.{seen_of};
 ghost use Rattle.jl_host.specs.Views.{IsGiven, present_of};
+ghost use Rattle.jl_host.specs.Renewals.{counts_of, released_of};
 
 use crate::behind::{Links, follow, no_links};
+use crate::renew::{Counts, released_of};
 use crate::seat_view::SeatView;
 use crate::shown::{LinkShown, link_shown};
 use crate::told::{
@@ -19,6 +23,7 @@ use jl_classfile::read_class;
 use jl_core::Core;
 use jl_json::is_method_descriptor;
 use jl_names::{Name, Seq};
+use jl_renewal::{Renumbering, renew};
 use jl_session::Session;
 use jl_types::{Answer, CallSiteKind, Event, Link, LoaderId, Recv, Refusal, Reply, SiteNo, Target};
 use std::alloc::{AllocError, Global};
@@ -70,13 +75,53 @@ impl Opened {
         requires { 1 ≤ max_sites }
         ensures { IfOk result (λ opened. opened ≡ newly_opened max_sites) }
     {
+        Opened::of(alloc, Core::new(alloc, max_sites)?, max_sites)
+    }
+
+    /// One over this core, where so many places may be requested: seats take all its links. Want of memory is an error.
+    fn of(alloc: Global, core: Core, max_sites: u32) -> Result<Opened, AllocError>
+        requires { core.max_sites ≡ max_sites }
+        ensures { IfOk result (λ opened. opened ≡ opened_over core) }
+    {
+        let links = no_links(alloc, max_sites)?;
         Ok(Opened {
-            session: Session::with_sites(alloc, max_sites)?,
+            session: Session::of(alloc, core),
             said: Vec::new(alloc),
             named: None,
-            links: no_links(alloc, max_sites)?,
+            links,
             reached: 0,
         })
+    }
+
+    /// One over a fresh core that has what stays of this one's, where so many places may be requested, and the numbers of what stays.
+    ///
+    /// # Errors
+    ///
+    /// `SitesFull` where more sites stay; want of memory.
+    pub(crate) fn renewed(
+        &self,
+        alloc: Global,
+        call_sites: &[u32],
+        switches: &[u32],
+        max_sites: u32,
+    ) -> Result<(Opened, Renumbering), Refusal>
+        requires { 1 ≤ max_sites }
+        ensures renewal { IfOk result (λ made. (core : State) × (made.0 ≡ opened_over core)
+            × IsRenewal self.now.session.core (released_of call_sites.now switches.now) max_sites (core, made.1)) }
+        ensures refused { IfErr result (IsRefusedRenewal (world_of self.now.session.core) max_sites) }
+    {
+        let released = released_of(alloc, call_sites, switches)?;
+        let (core, numbers) = renew(alloc, self.core(), &released, max_sites)?;
+        Ok((Opened::of(alloc, core, max_sites)?, numbers))
+    }
+
+    /// How many there ever were of each.
+    pub(crate) fn counts(&self) -> Counts
+        ensures { result ≡ counts_of (world_of self.now.session.core) }
+    {
+        // Opens the invariant, which bounds the number of sites.
+        let _links = &self.links;
+        Counts::of(self.core())
     }
 
     /// The core.

@@ -22,6 +22,9 @@ pub const UNKNOWN_CLASS: u32 = 2;
 /// The status of a call with the place of a method that isn't there: the number of that refusal.
 pub const NO_SUCH_PLACE: u32 = 3;
 
+/// The status of a call for more sites than may be requested: the number of that refusal.
+pub const SITES_FULL: u32 = 5;
+
 /// The status of a call that wanted memory: the number of that refusal.
 pub const MEMORY: u32 = 15;
 
@@ -127,7 +130,7 @@ fn told_of_reply(reply: &Reply) -> Told
 }
 
 /// The number of a refusal: its status.
-fn status_of_refusal(refusal: &Refusal) -> u32
+pub(crate) fn status_of_refusal(refusal: &Refusal) -> u32
     ensures { result ≡ numbers.status_of_refusal refusal.now }
 {
     match refusal {

@@ -32,9 +32,13 @@ pub record Session : Type 0 where
   pub core : State
   pub batches : List (List (ℕ × Link))  -- those that were prepared, by number
 
+-- no batch was prepared yet
+abbrev pub session_over : State → Session
+session_over core = record { core = core; batches = [] }
+
 -- nothing happened yet, and so many places may be requested
 abbrev pub session_of : ℕ → Session
-session_of max_sites = record { core = empty_core max_sites; batches = [] }
+session_of max_sites = session_over (empty_core max_sites)
 
 abbrev pub new_session : Session
 new_session = session_of 65536

@@ -7,7 +7,7 @@ ghost use Rattle.jl_json.specs.declared.command.ClassSource.TheVariants as sourc
 ghost use Rattle.jl_core.specs.State.{IsApplied};
 ghost use Rattle.jl_json.specs.Commands.{command_of};
 ghost use Rattle.jl_session.specs.Jsons.{IsReadAs, IsTextOf};
-ghost use Rattle.jl_session.specs.Sessions.{session_of, new_session, IsEventData, IsEventAnswer, IsFileDefined, IsDefineAnswer};
+ghost use Rattle.jl_session.specs.Sessions.{session_of, session_over, new_session, IsEventData, IsEventAnswer, IsFileDefined, IsDefineAnswer};
 ghost use Rattle.jl_session.specs.Sessions.{IsPrepareAnswer, IsAskedEventAnswer, IsCommandAnswer, IsSessionAnswer, LacksAnswer};
 
 use crate::json_line::{bad_command, json_in, text_of};
@@ -94,6 +94,16 @@ impl Session {
             core: Core::new(alloc, max_sites)?,
             batches: Vec::new(alloc),
         })
+    }
+
+    /// A session over this core, without prepared batches.
+    pub fn of(alloc: Global, core: Core) -> Session
+        ensures { result ≡ session_over core }
+    {
+        Session {
+            core,
+            batches: Vec::new(alloc),
+        }
     }
 
     /// The core that commands are obeyed on.

@@ -23,6 +23,10 @@ linker_at p linker = points_to the_row p linker
 abbrev pub linker_left : Ptr → (Option Opened → Type 0) → Fml
 linker_left p P = fex (Option Opened) (λ linker. fsep (linker_at p linker) (fex (P linker) (λ _. ftrue)))
 
+-- two linkers of which P holds
+abbrev pub renewed_left : Ptr → Ptr → (Option Opened × Option Opened → Type 0) → Fml
+renewed_left p q P = fex (Option Opened × Option Opened) (λ s. fsep (fsep (linker_at p s.0) (linker_at q s.1)) (fex (P s) (λ _. ftrue)))
+
 -- room for a linker at p
 abbrev pub linker_room : Ptr → Fml
 linker_room p = uninit_at the_row p

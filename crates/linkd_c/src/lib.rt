@@ -16,15 +16,16 @@ ghost use Rattle.jl_host.specs.Memos.{IsMemoOpen, IsMemoAsk, IsMemoCall, IsSeatC
 ghost use Rattle.jl_host.specs.Asking.{IsLookup, IsClassName, IsMethodName, IsMethodType, IsInvocations, IsNamed, IsAwaited, IsLastWork};
 ghost use Rattle.jl_host.specs.Targets.{IsNewCallSiteOf, IsSetTargetOf};
 ghost use Rattle.jl_host.specs.Views.{IsViewTake, IsViewCall, IsViewSerial, IsViewPrepare, IsInstallLinks};
+ghost use Rattle.jl_host.specs.Renewals.{IsCounts, IsRenew, arrays_of, released_of};
 ghost use Rattle.jl_relink.specs.Preparations.{Snapshot};
 ghost use Rattle.jl_memo.specs.declared.set.Set.{Set};
-ghost use Rattle.linkd_c.specs.Handle.{linker_at, linker_left, linker_room, linker_bytes, linker_multiple};
+ghost use Rattle.linkd_c.specs.Handle.{linker_at, linker_left, renewed_left, linker_room, linker_bytes, linker_multiple};
 ghost use Rattle.linkd_c.specs.Handle.{seat_at, seat_left, both_left, seat_room, seat_bytes, seat_multiple};
 ghost use Rattle.linkd_c.specs.Handle.{memo_at, memo_left, asked_left, called_left, memo_room, memo_bytes, memo_multiple};
 ghost use Rattle.linkd_c.specs.Handle.{view_at, view_left, taken_left, view_room, view_bytes, view_multiple};
 
 use jl_host::{
-    CallAnswer, Invocation, LinkRow, LinkShown, Linker, Memo, Seat, TargetPart, Told, View,
+    CallAnswer, Counts, Invocation, LinkRow, LinkShown, Linker, Memo, Seat, TargetPart, Told, View,
 };
 use std::alloc::Global;
 
@@ -70,9 +71,9 @@ pub struct LinkdView {
 /// Which header the library is of: LINKD_VERSION there.
 #[unsafe(no_mangle)]
 pub extern "C" fn linkd_version() -> u32
-    ensures { result ≡ 1 }
+    ensures { result ≡ 2 }
 {
-    1
+    2
 }
 
 /// The bytes of a linker.
@@ -479,6 +480,52 @@ pub unsafe extern "C" fn linkd_last_work(at: *mut Linkd, work: &mut u64) -> u32
     ensures* { sem 𝓛 (linker_left at (λ new. IsLastWork old work.old result work.new new)) }
 {
     (*(at as *mut Linker)).last_work(work)
+}
+
+/// How many of each there ever were. Takes no memory.
+#[unsafe(no_mangle)]
+pub unsafe extern "C" fn linkd_counts(at: *mut Linkd, counts: &mut Counts) -> u32
+    ghost old: { Option Opened }
+    requires* { sem 𝓛 (linker_at at old) }
+    ensures* { sem 𝓛 (linker_left at (λ new. IsCounts old result counts.new new)) }
+{
+    (*(at as *mut Linker)).counts(counts)
+}
+
+/// Opens the other linker over what stays of this one, and writes the new numbers.
+#[unsafe(no_mangle)]
+pub unsafe extern "C" fn linkd_renew_into(
+    alloc: Global,
+    at: *mut Linkd,
+    fresh: *mut Linkd,
+    max_sites: u32,
+    released_call_sites: &[u32],
+    released_switches: &[u32],
+    loaders: &mut [u32],
+    classes: &mut [u32],
+    sites: &mut [u32],
+    call_sites: &mut [u32],
+    switches: &mut [u32],
+) -> u32
+    ghost old: { Option Opened × Option Opened }
+    requires* linker { sem 𝓛 (linker_at at old.0) }
+    requires* fresh { sem 𝓛 (linker_at fresh old.1) }
+    ensures* { sem 𝓛 (renewed_left at fresh (λ new. IsRenew (released_of released_call_sites.now released_switches.now) max_sites old.0 old.1
+        (arrays_of loaders.old classes.old sites.old call_sites.old switches.old) result new.0 new.1
+        (arrays_of loaders.new classes.new sites.new call_sites.new switches.new))) }
+{
+    (*(at as *mut Linker)).renew(
+        alloc,
+        &mut *(fresh as *mut Linker),
+        max_sites,
+        released_call_sites,
+        released_switches,
+        loaders,
+        classes,
+        sites,
+        call_sites,
+        switches,
+    )
 }
 
 /// Answers any command of a session, as text, and keeps the answer.

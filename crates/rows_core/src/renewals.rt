@@ -1,5 +1,8 @@
 //! Renewals: what stays of a core, under which numbers, and entries that are carried over.
 
+ghost use Rattle.std.specs.Prelude.{◌≡◌};
+ghost use Rattle.jl_core.specs.State.{empty_core};
+
 use crate::classes::Class::{A, C, D, E, M, Object, T};
 use crate::steps::Shape::{Guard, Invoker, Method};
 use crate::steps::Step::*;
@@ -135,19 +138,16 @@ fn is_renewed(alloc: Global, old: &Core, released: &Released) -> bool {
     }
 }
 
-/// Whether more sites stay than so many.
-fn is_too_small(alloc: Global, old: &Core, released: &Released, max_sites: u32) -> bool {
-    matches!(
-        renew(alloc, old, released, max_sites),
-        Err(Refusal::SitesFull)
-    )
+/// Whether more sites stay than two.
+fn is_too_small(alloc: Global, old: &Core, released: &Released) -> bool {
+    matches!(renew(alloc, old, released, 2), Err(Refusal::SitesFull))
 }
 
 /// All of it.
 fn renews(alloc: Global) -> bool {
     match (old_core(alloc), all_released(alloc)) {
         (Ok(old), Ok(released)) => {
-            is_renewed(alloc, &old, &released) && is_too_small(alloc, &old, &released, 2)
+            is_renewed(alloc, &old, &released) && is_too_small(alloc, &old, &released)
         }
         _ => false,
     }
@@ -204,17 +204,27 @@ fn carries_on(alloc: Global, fresh: &mut Core, numbers: &mut Renumbering, old: &
 }
 
 /// All of it, from a fresh core that is filled.
-fn fills(alloc: Global, fresh: &mut Core, old: &mut Core, released: &Released) -> bool {
+fn fills(alloc: Global, fresh: &mut Core, old: &mut Core, released: &Released) -> bool
+    requires { fresh.old ≡ empty_core 8 }
+{
     match refill(alloc, fresh, old.world(), old.log(), released, 8) {
         Ok(mut numbers) => are_numbers(&numbers) && carries_on(alloc, fresh, &mut numbers, old),
         Err(_) => false,
     }
 }
 
+/// The same on a fresh core of 8 sites.
+fn fills_fresh(alloc: Global, old: &mut Core, released: &Released) -> bool {
+    match Core::new(alloc, 8) {
+        Ok(mut fresh) => fills(alloc, &mut fresh, old, released),
+        Err(_) => false,
+    }
+}
+
 /// The same on new cores.
 fn carries(alloc: Global) -> bool {
-    match (old_core(alloc), Core::new(alloc, 8), all_released(alloc)) {
-        (Ok(mut old), Ok(mut fresh), Ok(released)) => fills(alloc, &mut fresh, &mut old, &released),
+    match (old_core(alloc), all_released(alloc)) {
+        (Ok(mut old), Ok(released)) => fills_fresh(alloc, &mut old, &released),
         _ => false,
     }
 }

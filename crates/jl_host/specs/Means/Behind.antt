@@ -1,5 +1,5 @@
 -- Links that are brought up to date only where events have touched them. A means of proof.
-use Rattle.std.specs.Prelude.{◌≡◌, ◌==◌, ◌||◌, ◌<◌, ◌≤◌, ℕ, Bool, false, List, drop, length, get_or, Option, None}
+use Rattle.std.specs.Prelude.{◌≡◌, ◌==◌, ◌||◌, ◌<◌, ◌≤◌, ◌^◌, ℕ, Bool, false, List, drop, length, get_or, Option, None}
 use Rattle.std.specs.List.{list_any}
 use Rattle.jl_types.specs.declared.link.Link.{Link}
 use Rattle.jl_types.specs.Happenings.Event.{Event}
@@ -31,8 +31,9 @@ slot links s = get_or links s None
 abbrev pub IsNow : State → List (Option Link) → ℕ → Type 0
 IsNow core links s = slot links s ≡ installed (events core) s
 
--- the links are those of the core, but for the sites that its events from the n-th on touched
+-- the links are those of the core, but for the sites that its events from the n-th on touched; all its sites have numbers of 32 bits
 pub record IsBehind (links : List (Option Link)) (n : ℕ) (core : State) : Type 0 where
+  pub few : core.max_sites < 2 ^ 32
   pub all : length links ≡ room_for core.max_sites
   pub reached : n ≤ length core.log
   pub same : (s : ℕ) → s < room_for core.max_sites → list_any (touches s) (drop n core.log) ≡ false → IsNow core links s
