@@ -2,7 +2,7 @@
 
 use crate::steps::{Compiler, Step, answer, numbers};
 use Step::*;
-use jl_host::{Linker, Memo, NULL, Seat, TargetPart};
+use jl_host::{GONE, Linker, Memo, NULL, Seat, TargetPart};
 use std::process::Abort;
 
 /// A step, and the numbers that it is to come to.
@@ -713,6 +713,56 @@ const RETIREMENT: &[StepRow] = &[
     (Retire(2), &[19, 0, 5, 0]),
 ];
 
+/// Loader 1 with W, which calls A.f and is retired, M, which calls A.f twice, a call site that is let go, and a switch point.
+const RENEWAL: &[StepRow] = &[
+    (Counts, &[34]),
+    (Renew(2, &[], 4), &[34, 9, 9, 9, 9, 9, 9, 9]),
+    (Open(3), &[0]),
+    (Counts, &[0, 1]),
+    (Define(0, OBJECT), &[0, 0]),
+    (Define(0, A), &[0, 1]),
+    (NewLoader, &[0, 1]),
+    (Delegate(1, "java/lang/Object", 0), &[0]),
+    (Delegate(1, "A", 0), &[0]),
+    (
+        Says(
+            r#"{"do":"define","loader":1,"sketch":{"name":"W","super":"java/lang/Object","flags":33,"methods":[{"name":"run","type":"()V","flags":9,"calls":[{"kind":"invokevirtual","of":"A","name":"f","type":"()V"}]}]}}"#,
+            r#"{"class":2,"dropped":[]}"#,
+        ),
+        &[0, 0, 1],
+    ),
+    (
+        Says(
+            r#"{"do":"define","loader":0,"sketch":{"name":"M","super":"java/lang/Object","flags":33,"methods":[{"name":"run","type":"()V","flags":9,"calls":[{"kind":"invokevirtual","of":"A","name":"f","type":"()V"},{"kind":"invokevirtual","of":"A","name":"f","type":"()V"}]}]}}"#,
+            r#"{"class":3,"dropped":[]}"#,
+        ),
+        &[0, 0, 1],
+    ),
+    (Request(2, 0, 0), &[0, 0]),
+    (Request(3, 0, 0), &[0, 1]),
+    (Request(3, 0, 3), &[0, 2]),
+    (Install(&[0, 1]), &[0]),
+    (NewCallSite(1, "()V", r#"{"method":[3,0]}"#), &[0, 0]),
+    (NewSwitch, &[0, 0]),
+    (Retire(1), &[0]),
+    (Counts, &[0, 2, 4, 3, 1, 1]),
+    (Renew(0, &[], 4), &[33, 9, 9, 9, 9, 9, 9, 9]),
+    (Renew(1_048_577, &[], 4), &[33, 9, 9, 9, 9, 9, 9, 9]),
+    (Renew(2, &[], 3), &[36, 9, 9, 9, 9, 9, 9, 9]),
+    (Renew(1, &[], 4), &[5, 9, 9, 9, 9, 9, 9, 9]),
+    (Renew(2, &[0], 4), &[0, GONE, GONE, 2, GONE, 0, GONE, 0]),
+    (Counts, &[0, 1, 3, 2, 0, 1]),
+    (LinkOf(0), &[0, 3, 1, 0, 0, 1, 0]),
+    (LinkOf(1), &[0, 0, 0, 9, 9, 9, 9]),
+    (Call(1, 1), &[0, 0, 1, 0]),
+    (Refresh, &[0]),
+    (SeatCall(0, 1), &[0, 0, 1, 0]),
+    (SeatCall(1, 1), &[0, 4]),
+    (Request(2, 0, 3), &[0, 1]),
+    (Close, &[0]),
+    (Renew(2, &[], 4), &[34, 9, 9, 9, 9, 9, 9, 9]),
+];
+
 #[test]
 fn scripts(rt: HostRuntime) {
     assert_rows(&rt, "overriding", OVERRIDING);
@@ -724,4 +774,5 @@ fn scripts(rt: HostRuntime) {
     assert_rows(&rt, "files", FILES);
     assert_rows(&rt, "session", SESSION);
     assert_rows(&rt, "retirement", RETIREMENT);
+    assert_rows(&rt, "renewal", RENEWAL);
 }

@@ -1,9 +1,11 @@
 //! Steps on a linker, a seat, a memo and a view, each with numbers for an answer.
 
 use jl_host::{
-    CallAnswer, Invocation, LinkRow, LinkShown, Linker, Memo, Row, Seat, TargetPart, Told, View,
+    CallAnswer, Counts, Invocation, LinkRow, LinkShown, Linker, Memo, Row, Seat, TargetPart, Told,
+    View,
 };
 use std::alloc::Global;
+use std::mem;
 
 /// The most numbers of an answer.
 const MOST: usize = 8;
@@ -70,6 +72,11 @@ pub enum Step {
     Named(&'static str),
     /// The class for which a site waits, which is to have this name.
     Awaited(u32, &'static str),
+    /// How many there are of each.
+    Counts,
+    /// A renewal for so many places, where these call sites were let go, with arrays of so many numbers. The fresh linker takes the old
+    /// one's place.
+    Renew(u32, &'static [u32], usize),
 }
 
 /// A view, and the links that were prepared in it.
@@ -273,6 +280,65 @@ fn asked_numbers(linker: &mut Linker, step: &Step) -> Numbers {
     }
 }
 
+/// The status, and how many there are of each.
+fn count_numbers(linker: &mut Linker) -> Numbers {
+    let mut counts = Counts {
+        loaders: 9,
+        classes: 9,
+        sites: 9,
+        call_sites: 9,
+        switches: 9,
+    };
+    let status = linker.counts(&mut counts);
+    numbers(&[
+        status,
+        counts.loaders,
+        counts.classes,
+        counts.sites,
+        counts.call_sites,
+        counts.switches,
+    ])
+}
+
+/// The status of a renewal, and the new numbers of loader 1, classes 2 and 3, sites 0 and 1, call site 0 and switch point 0.
+fn renewal_numbers(
+    alloc: Global,
+    linker: &mut Linker,
+    max_sites: u32,
+    gone: &[u32],
+    room: usize,
+) -> Numbers {
+    let mut fresh = Linker::blank();
+    let (mut loaders, mut classes, mut sites) = ([9; 4], [9; 4], [9; 4]);
+    let (mut call_sites, mut switches) = ([9; 4], [9; 4]);
+    let room = room.min(4);
+    let status = linker.renew(
+        alloc,
+        &mut fresh,
+        max_sites,
+        gone,
+        &[],
+        &mut loaders[..room],
+        &mut classes[..room],
+        &mut sites[..room],
+        &mut call_sites[..room],
+        &mut switches[..room],
+    );
+    if status == 0 {
+        mem::swap(linker, &mut fresh);
+    }
+    numbers(&[
+        status,
+        loaders[1],
+        classes[2],
+        classes[3],
+        sites[0],
+        sites[1],
+        call_sites[0],
+        switches[0],
+    ])
+}
+
 /// What an event comes to.
 fn event_numbers(alloc: Global, linker: &mut Linker, step: &Step) -> Numbers {
     let mut told = untold();
@@ -446,6 +512,10 @@ pub fn answer(
             call_numbers(status, &answer)
         }
         Step::Says(line, text) => said_numbers(alloc, linker, line, text),
+        Step::Counts => count_numbers(linker),
+        Step::Renew(max_sites, gone, room) => {
+            renewal_numbers(alloc, linker, *max_sites, gone, *room)
+        }
         Step::TakeShort => short_numbers(linker),
         Step::Lookup(..)
         | Step::ClassName(..)
