@@ -74,7 +74,7 @@ fn tell(newest: &AtomicU64, made: Made) -> bool {
 }
 
 /// Defines the class, and tells the others of it.
-fn define<K: Name, R: Wait, S: Wait + Drop>(
+pub(crate) fn define<K: Name, R: Wait, S: Wait + Drop>(
     shared: &Shared<'_, K, R, S>,
     worker: &mut Worker<K>,
     number: u32,
@@ -112,7 +112,7 @@ pub(crate) fn define_all<K: Name, R: Wait, S: Wait + Drop>(
 }
 
 /// The class that was told last, or 0.
-fn newest(told: &AtomicU64) -> u32 {
+pub(crate) fn newest(told: &AtomicU64) -> u32 {
     u32::try_from(told.load(Ordering::SeqCst)).unwrap_or(0)
 }
 
@@ -122,7 +122,12 @@ fn runs(class: u32) -> Answer {
 }
 
 /// Whether a call on an object of the class, if there is one, runs the other class's method or misses.
-fn is_legal<K: Name>(worker: &mut Worker<K>, site: u32, class: u32, runner: u32) -> bool {
+pub(crate) fn is_legal<K: Name>(
+    worker: &mut Worker<K>,
+    site: u32,
+    class: u32,
+    runner: u32,
+) -> bool {
     if class == 0 {
         return true;
     }
@@ -132,7 +137,7 @@ fn is_legal<K: Name>(worker: &mut Worker<K>, site: u32, class: u32, runner: u32)
 
 /// Whether calls of the site run A.f on an A, unless they miss, and on objects of the newest classes what these run. Where nothing
 /// overrides A.f its link stays, so that no call on an A misses.
-fn are_legal<K: Name, R: Wait, S: Wait + Drop>(
+pub(crate) fn are_legal<K: Name, R: Wait, S: Wait + Drop>(
     shared: &Shared<'_, K, R, S>,
     worker: &mut Worker<K>,
     site: u32,

@@ -13,6 +13,8 @@ mod farms;
 #[cfg(test)]
 mod races;
 #[cfg(test)]
+mod renewals;
+#[cfg(test)]
 mod replays;
 #[cfg(test)]
 mod rows;

@@ -11,8 +11,9 @@ use Rattle.jl_server.proofs.seen.Seen.TheSendSync as of_seen
 use Rattle.rows_server.specs.contracts.workers.Shared as Shared
 
 module _ (ℓ : NamedLft) (K R S : RattleType) (g : name.Ghosts K.Denot) where
-  pub shared_sync : IsSync R → IsSend S → IsSync (Shared.the_row ℓ K R S g)
-  shared_sync r s =
+  -- as a part of what else is shared
+  pub shared_field : IsSync R → IsSend S → IsSync (Shared.the_field ℓ K R S g).row
+  shared_field r s =
       let O = Shared.the_type ℓ K R S g in
       let all : AllSync (declared.fields O) = (
         search shr_sync depth 5,
@@ -33,4 +34,7 @@ module _ (ℓ : NamedLft) (K R S : RattleType) (g : name.Ghosts K.Denot) where
           ),
         ),
       ) in
-      recorded_sync _ O.D O.to O.to_one (struct_sync (declared.shape O) all)
+      struct_sync (declared.shape O) all
+
+  pub shared_sync : IsSync R → IsSend S → IsSync (Shared.the_row ℓ K R S g)
+  shared_sync r s = let O = Shared.the_type ℓ K R S g in recorded_sync _ O.D O.to O.to_one (shared_field r s)

@@ -1,0 +1,24 @@
+-- What stands in a server is what its entries come to.
+use Rattle.std.specs.Prelude.{◌≡◌, ℕ, List}
+use Rattle.std.proofs.Common.{ap, sym, ◌∙◌, subst}
+use Rattle.jl_types.specs.Happenings.Event.{Event}
+use Rattle.jl_types.specs.declared.event.Reply.{Reply}
+use Rattle.jl_types.specs.Happenings.Entries.{Entry, events_of}
+use Rattle.jl_types.specs.Happenings.History.{world_after}
+use Rattle.jl_types.specs.Values.World.{World}
+use Rattle.jl_core.specs.Logs as core
+use Rattle.jl_core.specs.State.{State, AreAnswered}
+use Rattle.jl_server.specs.History.{core_of, logged_of}
+use Rattle.jl_server.proofs.Logs.{world_logged}
+use Rattle.jl_renewal.specs.Renewal.{IsPast, logged}
+
+-- a world and entries, as they come to be after a list, are a past
+pub is_past : (n : ℕ) (w : World) (entries : List core.Entry) (seen : List Entry) → w ≡ world_after (events_of seen)
+    → core.shown w.classes.rows entries ≡ logged_of seen → AreAnswered (core_of n seen) → IsPast w entries
+is_past n w entries seen is told answered =
+    let same : logged n w entries ≡ core_of n seen = ap (λ (log : List (Event × Reply)). record { max_sites = n; log = log }) told in
+    record {
+      max_sites = n;
+      world = is ∙ sym (world_logged n seen (logged n w entries) same);
+      answered = subst (λ (s : State). AreAnswered s) (sym same) answered;
+    }
