@@ -5,7 +5,7 @@
 #
 # It builds the archive first, by `rt lib` in crates/linkd_c, unless LINKD_ARCHIVE names one. It needs rt, cc, c++, ar, nm, cargo,
 # valgrind, and java and javac of JAVA_HOME or else of the PATH, of version 17 or later. ROUNDS (200) is how often the host in C plays its
-# round, and COMPILED (40) how often the one that compiles does. A sanitizer that cc doesn't have, or whose programs don't run here, is said
+# round, COMPILED (40) how often the one that compiles does, and RENEWED (200) how often the one that renews does. A sanitizer that cc doesn't have, or whose programs don't run here, is said
 # and left out. It ends with status 0 only where all is as it must be.
 set -eu
 top=$(cd "$(dirname "$0")/.." && pwd)
@@ -21,7 +21,7 @@ also="c++ cargo valgrind java javac"
 host="$top/examples/host"
 
 echo "== the functions of the header, and those of the archive"
-sed -nE 's/^[a-z][a-z0-9_ ]* (linkd_[a-z_]*)\(.*/\1/p' "$top/include/linkd.h" | sort > "$work/declared"
+sed -nE '/^static /!s/^[a-z][a-z0-9_ ]* (linkd_[a-z_]*)\(.*/\1/p' "$top/include/linkd.h" | sort > "$work/declared"
 nm --defined-only -g "$work/liblinkd.a" | awk '$2 ~ /^[TW]$/ && $3 ~ /^linkd_/ { print $3 }' | sort > "$work/exported"
 diff "$work/declared" "$work/exported"
 test -s "$work/declared"
@@ -80,6 +80,8 @@ build_c "$work/host_c" "$host/host.c"
 "$work/host_c" "$work/classes" Triangle "${ROUNDS:-200}"
 build_c "$work/compilers" "$host/compilers.c"
 "$work/compilers" "$work/compiled" "${COMPILED:-40}"
+build_c "$work/renewing" "$host/renewing.c"
+"$work/renewing" "$work/classes" "${RENEWED:-200}"
 
 echo "== the hosts in C, under valgrind"
 under_valgrind() {
@@ -89,6 +91,7 @@ under_valgrind() {
 }
 under_valgrind "$work/host_c" "$work/classes" Triangle 4
 under_valgrind "$work/compilers" "$work/compiled" 4
+under_valgrind "$work/renewing" "$work/classes" 20
 
 # The archive isn't built with them: they see the hosts, what these lend, and what is taken from malloc. Nor is the count seen by which
 # views and linkers share what they have, so that the thread sanitizer takes the free of the last one for a race with the others' reads.
@@ -102,13 +105,15 @@ for sanitizers in address,undefined thread; do
         echo "left out: cc hasn't it, or its programs don't run here"
         continue
     fi
-    for program in host compilers; do
+    for program in host compilers renewing; do
         cc -std=c11 -O1 -g -Wall -Wextra -Werror $sanitize -pthread -I"$top/include" -o "$work/sanitized_$program" "$host/$program.c" \
             "$work/liblinkd.a"
     done
     "$work/sanitized_host" "$work/classes" Triangle 10 > "$work/under.txt"
     tail -n 1 "$work/under.txt"
     "$work/sanitized_compilers" "$work/compiled" 10 > "$work/under.txt"
+    tail -n 1 "$work/under.txt"
+    "$work/sanitized_renewing" "$work/classes" 30 > "$work/under.txt"
     tail -n 1 "$work/under.txt"
 done
 

@@ -25,7 +25,7 @@ eval "cc -std=c11 -O2 -Wall -Wextra -Werror -o '$work/static' '$top/bench/status
 env -u LD_LIBRARY_PATH "$work/shared"
 "$work/static"
 nm -D --defined-only "$prefix/lib/liblinkd.so" | awk '{ print $3 }' | sort > "$work/exported"
-sed -nE 's/^[a-z][a-z0-9_ ]* (linkd_[a-z_]*)\(.*/\1/p' "$prefix/include/linkd.h" | sort > "$work/declared"
+sed -nE '/^static /!s/^[a-z][a-z0-9_ ]* (linkd_[a-z_]*)\(.*/\1/p' "$prefix/include/linkd.h" | sort > "$work/declared"
 diff "$work/declared" "$work/exported"
 
 # A copy of what is installed, with a program that isn't there, and then one in its place.

@@ -104,6 +104,7 @@ static void closed(linkd_seat *seat) {
     MUST(linkd_named(at, (uint8_t *)sites, sizeof sites, &length) == LINKD_CLOSED);
     MUST(linkd_awaited(at, 0, (uint8_t *)sites, sizeof sites, &length) == LINKD_CLOSED);
     MUST(linkd_last_work(at, &(uint64_t){0}) == LINKD_CLOSED);
+    MUST(linkd_counts(at, &(linkd_count){0}) == LINKD_CLOSED);
     MUST(linkd_dropped(at, sites, 256, &length) == LINKD_CLOSED);
     MUST(linkd_call(at, 0, LINKD_NULL, &answer) == LINKD_CLOSED);
     MUST(linkd_link_of(at, 0, &link) == LINKD_CLOSED);
@@ -191,6 +192,40 @@ static linkd_view *viewed(void) {
     row.site = 9;
     TELLS(linkd_install_links(at, &row, 1, &told, &present), LINKD_UNKNOWN_SITE, 0, 0, 9);
     return view;
+}
+
+/* A fresh linker, in which of all call sites and switch points, which are let go, only call site 1 stays, which is bound. */
+static void renewed(linkd_seat *seat) {
+    static const uint32_t gone[] = {2, 1, 0, 9};
+    uint32_t loaders[2] = {7, 7}, classes[15] = {0}, renewed_sites[3], call_sites[3], switches[2];
+    linkd_released released = {gone, 4, gone + 1, 2};
+    linkd_numbers numbers = {loaders, 2, classes, 15, renewed_sites, 3, call_sites, 3, switches, 1};
+    linkd_count count = {9, 9, 9, 9, 9};
+    linkd *fresh = block(linkd_size(), linkd_align());
+    linkd_blank(fresh);
+    classes[14] = 7;
+    MUST(linkd_counts(fresh, &count) == LINKD_CLOSED && count.loaders == 0 && count.switches == 0);
+    MUST(linkd_counts(at, &count) == LINKD_DONE && count.loaders == 2 && count.classes == 14 && count.sites == 3);
+    MUST(count.call_sites == 3 && count.switches == 2);
+    MUST(linkd_renew(fresh, at, 3, &released, &numbers) == LINKD_CLOSED);
+    MUST(linkd_renew(at, fresh, 0, &released, &numbers) == LINKD_MALFORMED);
+    MUST(linkd_renew(at, fresh, 1048577, &released, &numbers) == LINKD_MALFORMED);
+    MUST(linkd_renew(at, fresh, 3, &released, &numbers) == LINKD_TOO_SHORT);
+    numbers.switch_capacity = 2;
+    MUST(linkd_renew(at, fresh, 2, &released, &numbers) == LINKD_SITES_FULL && loaders[1] == 7);
+    MUST(linkd_renew(at, fresh, 3, &released, &numbers) == LINKD_DONE);
+    MUST(linkd_renew(at, fresh, 3, &released, &numbers) == LINKD_OPEN_ALREADY);
+    MUST(loaders[0] == 0 && loaders[1] == 1 && classes[13] == 13 && classes[14] == 7 && renewed_sites[2] == 2);
+    MUST(call_sites[0] == LINKD_NO_NUMBER && call_sites[1] == 0 && call_sites[2] == LINKD_NO_NUMBER);
+    MUST(switches[0] == LINKD_NO_NUMBER && switches[1] == LINKD_NO_NUMBER);
+    MUST(linkd_counts(fresh, &count) == LINKD_DONE && count.loaders == 2 && count.call_sites == 1 && count.switches == 0);
+    MUST(linkd_link_of(fresh, 1, &link) == LINKD_DONE && link.kind == LINKD_MEGA);
+    MUST(linkd_link_of(fresh, 2, &link) == LINKD_DONE && link.kind == LINKD_PLAIN && row_is(&link.rows[0], 0, LINKD_RUN, 3, 1));
+    MUST(linkd_seat_refresh(seat, fresh) == LINKD_DONE);
+    MUST(comes_to(linkd_seat_call(seat, 2, LINKD_NULL, &answer), LINKD_RUN, 3, 1));
+    linkd_close(fresh);
+    free(fresh);
+    MUST(linkd_seat_refresh(seat, at) == LINKD_DONE);
 }
 
 int main(void) {
@@ -372,6 +407,7 @@ int main(void) {
     MUST(linkd_memo_call(memo, 1, 12, &answer) == LINKD_DONE && answer.kind == LINKD_MISS);
 
     linkd_view *view = viewed();
+    renewed(seat);
     linkd_close(at);
     closed(seat);
     MUST(linkd_view_take(view, at) == LINKD_CLOSED);

@@ -23,6 +23,7 @@ mod invocation;
 mod linker;
 mod memo;
 mod raw;
+mod renewal;
 mod seat;
 mod view;
 
@@ -31,6 +32,7 @@ pub use error::{CallSiteFault, ClassFault, DefineFault, DelegateFault, Error, No
 pub use invocation::{Instruction, Invocation};
 pub use linker::{CallSiteKind, Linker};
 pub use memo::Memo;
+pub use renewal::{Released, Renumbering};
 pub use seat::Seat;
 pub use view::View;
 

@@ -3,7 +3,7 @@ use crate::block::Block;
 use crate::error::done;
 use crate::invocation::{invocation, Invocation};
 use crate::raw::{self, Told};
-use crate::{Answer, CallSiteId, ClassId, Error, Link, LoaderId, Memo, Seat, SiteId, SwitchId, Target, View};
+use crate::{Answer, CallSiteId, ClassId, Error, Link, LoaderId, Memo, Released, Renumbering, Seat, SiteId, SwitchId, Target, View};
 use std::fmt;
 use std::sync::atomic::{AtomicU64, Ordering};
 
@@ -70,17 +70,21 @@ impl Linker {
     /// A linker without classes, in which at most so many sites may be requested: 1 to 1,048,576, or else [`Error::Malformed`].
     pub fn open(max_sites: u32) -> Result<Linker, Error> {
         assert_eq!(crate::version(), raw::VERSION, "the archive is of another version of the header than this crate");
+        let linker = Linker::blank(max_sites);
+        // SAFETY: the linker is no one else's yet.
+        done(unsafe { raw::linkd_open(linker.at(), max_sites) }, &Told::default())?;
+        Ok(linker)
+    }
+
+    /// One that isn't open yet.
+    fn blank(max_sites: u32) -> Linker {
         // SAFETY: the block is as large and stands as the library asks, and is a linker from `linkd_blank` on.
-        let (linker, status) = unsafe {
+        let block = unsafe {
             let block = Block::new(raw::linkd_size(), raw::linkd_align());
             raw::linkd_blank(block.at());
-            let number = OPENED.fetch_add(1, Ordering::Relaxed);
-            let linker = Linker { block, max_sites, number };
-            let status = raw::linkd_open(linker.at(), max_sites);
-            (linker, status)
+            block
         };
-        done(status, &Told::default())?;
-        Ok(linker)
+        Linker { block, max_sites, number: OPENED.fetch_add(1, Ordering::Relaxed) }
     }
 
     pub(crate) fn at(&self) -> *mut raw::Opaque {
@@ -305,6 +309,47 @@ impl Linker {
         done(unsafe { raw::linkd_take(self.at(), text.as_mut_ptr(), text.len(), &mut length) }, &told)?;
         text.truncate(length);
         Ok(String::from_utf8_lossy(&text).into_owned())
+    }
+
+    /// A fresh linker that has what stays of this one, which is left as it is, and the ids there: what a linker has of events only grows, so
+    /// a program that runs for long goes over to a fresh one from time to time. What stays are the loaders that aren't retired, their classes
+    /// and the sites in these, and call sites and switch points as [`Released`] says; a site that stays has its link. So many sites may be
+    /// requested there, 1 to 1,048,576, or else [`Error::Malformed`].
+    ///
+    /// A seat goes over by its next [`refresh`](Seat::refresh) from the fresh linker, and a view by its next [`take`](View::take); a memo is
+    /// one of the old linker.
+    ///
+    /// [`Error::SitesFull`], where more sites stay; [`Error::Memory`].
+    pub fn renew(&mut self, max_sites: u32, released: &Released) -> Result<(Linker, Renumbering), Error> {
+        let mut counts = raw::Counts::default();
+        assert_eq!(unsafe { raw::linkd_counts(self.at(), &mut counts) }, raw::DONE, "{OPEN}");
+        let (fresh, mut numbers) = (Linker::blank(max_sites), Renumbering::with_room(&counts));
+        let call_sites: Vec<u32> = released.call_sites.iter().map(|call_site| call_site.0).collect();
+        let switches: Vec<u32> = released.switches.iter().map(|switch| switch.0).collect();
+        // SAFETY: both linkers are borrowed alone, and are two; what is read and written is borrowed for the call.
+        let status = unsafe {
+            raw::linkd_renew_into(
+                self.at(),
+                fresh.at(),
+                max_sites,
+                call_sites.as_ptr(),
+                call_sites.len(),
+                switches.as_ptr(),
+                switches.len(),
+                numbers.loaders.as_mut_ptr(),
+                numbers.loaders.len(),
+                numbers.classes.as_mut_ptr(),
+                numbers.classes.len(),
+                numbers.sites.as_mut_ptr(),
+                numbers.sites.len(),
+                numbers.call_sites.as_mut_ptr(),
+                numbers.call_sites.len(),
+                numbers.switches.as_mut_ptr(),
+                numbers.switches.len(),
+            )
+        };
+        done(status, &Told::default())?;
+        Ok((fresh, numbers))
     }
 
     /// A place for one thread to read links.

@@ -65,11 +65,22 @@ pub struct Invocation {
     pub opcode: u32,
 }
 
+#[repr(C)]
+#[derive(Clone, Copy, Default)]
+pub struct Counts {
+    pub loaders: u32,
+    pub classes: u32,
+    pub sites: u32,
+    pub call_sites: u32,
+    pub switches: u32,
+}
+
 pub const DONE: u32 = 0;
 pub const STALE: u32 = 10;
 pub const CLOSED: u32 = 34;
 pub const TOO_SHORT: u32 = 36;
 pub const NULL: u32 = u32::MAX;
+pub const NO_NUMBER: u32 = u32::MAX;
 
 extern "C" {
     pub fn linkd_version() -> u32;
@@ -116,6 +127,26 @@ extern "C" {
     pub fn linkd_named(at: *mut Opaque, out: *mut u8, capacity: usize, length: *mut usize) -> u32;
     pub fn linkd_awaited(at: *mut Opaque, site: u32, out: *mut u8, capacity: usize, length: *mut usize) -> u32;
     pub fn linkd_last_work(at: *mut Opaque, work: *mut u64) -> u32;
+    pub fn linkd_counts(at: *mut Opaque, counts: *mut Counts) -> u32;
+    pub fn linkd_renew_into(
+        at: *mut Opaque,
+        fresh: *mut Opaque,
+        max_sites: u32,
+        released_call_sites: *const u32,
+        released_call_site_count: usize,
+        released_switches: *const u32,
+        released_switch_count: usize,
+        loaders: *mut u32,
+        loader_capacity: usize,
+        classes: *mut u32,
+        class_capacity: usize,
+        sites: *mut u32,
+        site_capacity: usize,
+        call_sites: *mut u32,
+        call_site_capacity: usize,
+        switches: *mut u32,
+        switch_capacity: usize,
+    ) -> u32;
     pub fn linkd_answer(at: *mut Opaque, line: *const u8, line_length: usize, length: *mut usize) -> u32;
     pub fn linkd_take(at: *mut Opaque, out: *mut u8, capacity: usize, length: *mut usize) -> u32;
     pub fn linkd_seat_size() -> usize;

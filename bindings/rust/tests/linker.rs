@@ -4,7 +4,7 @@ mod file;
 
 use linkd::{
     Answer, CallSiteFault, CallSiteId, CallSiteKind, ClassFault, ClassId, DefineFault, DelegateFault, Error, Instruction, Invocation, Link,
-    Linker, LoaderId, NotLinkable, Outcome, RetireFault, SiteId, SwitchId, Target, Throwable, Unlinked,
+    Linker, LoaderId, NotLinkable, Outcome, Released, RetireFault, SiteId, SwitchId, Target, Throwable, Unlinked,
 };
 use std::sync::{Arc, Mutex};
 
@@ -212,6 +212,47 @@ fn a_command_is_answered_as_text() -> Result<(), Error> {
     let World { mut linker, .. } = world()?;
     assert_eq!(linker.answer(r#"{"do":"links"}"#)?, r#"{"links":[[0,{"direct":{"run":[1,0]}}]]}"#);
     assert_eq!(linker.answer("")?, r#"{"error":"BadCommand"}"#);
+    Ok(())
+}
+
+/// Loader 1's class C 4 goes with it, so that D has another number in the fresh linker; of two call sites and two switch points the first
+/// ones are let go, but the first switch point guards the second call site.
+#[test]
+fn a_fresh_linker_has_what_stays() -> Result<(), Error> {
+    let World { mut linker, a, b, m, site } = world()?;
+    let loader = linker.new_loader()?;
+    linker.delegate(loader, OBJECT.as_bytes(), LoaderId::FIRST)?;
+    linker.delegate(loader, b"A", LoaderId::FIRST)?;
+    let c = linker.define_in(loader, &with_f("C", "A"))?;
+    linker.retire(loader)?;
+    let d = linker.define(&with_f("D", "A"))?;
+    linker.install(&[site])?;
+    let (first, second) = (linker.new_switch()?, linker.new_switch()?);
+    let plain = linker.new_call_site(CallSiteKind::Mutable, b"()V", &Target::Method(m, 1))?;
+    let target = Box::new(Target::Method(m, 1));
+    let guarded = linker.new_call_site(CallSiteKind::Mutable, b"()V", &Target::Guard(first, target.clone(), target))?;
+    let mut seat = linker.seat()?;
+
+    let released = Released { call_sites: &[plain], switches: &[first] };
+    let (mut fresh, numbers) = linker.renew(50, &released)?;
+    assert_eq!((numbers.loader(LoaderId::FIRST), numbers.loader(loader)), (Some(LoaderId::FIRST), None));
+    assert_eq!((numbers.class(m), numbers.class(c), numbers.class(d)), (Some(m), None, Some(c)));
+    assert_eq!((numbers.site(site), numbers.site(SiteId::from_number(1).unwrap())), (Some(site), None));
+    assert_eq!((numbers.call_site(plain), numbers.call_site(guarded)), (None, Some(plain)));
+    assert_eq!((numbers.switch(first), numbers.switch(second)), (Some(first), Some(second)));
+    // D is class 4 there. The seat goes on by the old numbers until it is refreshed, and the old linker by itself.
+    let rows = vec![(a, runs(a)), (b, runs(a)), (c, runs(c))];
+    assert_eq!(fresh.link_of(site), Some(Link::VirtualTable(rows)));
+    assert_eq!((seat.call(site, Some(d)), linker.call(site, Some(d))), (Some(answers(d)), answers(d)));
+    seat.refresh(&mut fresh)?;
+    drop(linker);
+    assert_eq!((seat.call(site, Some(c)), fresh.call(site, Some(c))), (Some(answers(c)), answers(c)));
+
+    assert_eq!(fresh.renew(0, &Released::default()).err(), Some(Error::Malformed));
+    let other = fresh.request(m, 0, 3)?;
+    assert_eq!(fresh.renew(1, &Released::default()).err(), Some(Error::SitesFull));
+    let (_, again) = fresh.renew(2, &Released::default())?;
+    assert_eq!((again.site(other), again.switch(second)), (Some(other), Some(second)));
     Ok(())
 }
 

@@ -345,6 +345,34 @@ public final class Linker implements AutoCloseable {
         }
     }
 
+    /**
+     * A fresh linker that has what stays of this one, which is left as it is, with the ids there: what a linker has of events only grows, so
+     * a program that runs for long goes over to a fresh one from time to time. What stays are the loaders that aren't retired, their classes
+     * and the sites in these, and call sites and switch points as {@link Released} says; a site that stays has its link. Each thread makes
+     * its seat, its memo and its view anew, of the fresh linker, and closes those that it had.
+     *
+     * @param maxSites how many sites may be requested there: 1 to 1,048,576, or else this is {@link Refusal.Plain#MALFORMED}; where more
+     *     stay this is {@link Refusal.Plain#SITES_FULL}
+     */
+    public synchronized Renewal renew(int maxSites, Released released) {
+        MemorySegment open = at();
+        Linker fresh = new Linker(Arena.ofAuto());
+        try (Arena call = Arena.ofConfined()) {
+            MemorySegment counts = call.allocate(JAVA_INT, Native.COUNTS);
+            Numbers.done(Native.counts(open, counts));
+            MemorySegment[] numbers = Arrays.stream(counts.toArray(JAVA_INT)).mapToObj(count -> call.allocate(JAVA_INT, count))
+                    .toArray(MemorySegment[]::new);
+            int[] callSites = released.callSites().stream().mapToInt(CallSiteId::number).toArray();
+            int[] points = released.points().stream().mapToInt(SwitchId::number).toArray();
+            Numbers.done(Native.renew(open, fresh.at, maxSites, call.allocateFrom(JAVA_INT, callSites), call.allocateFrom(JAVA_INT, points),
+                    numbers));
+            return new Renewal(fresh, Arrays.stream(numbers).map(array -> array.toArray(JAVA_INT)).toArray(int[][]::new));
+        } catch (RefusedException refused) {
+            fresh.close();
+            throw refused;
+        }
+    }
+
     /** A place for this thread to read links. */
     public Seat seat() {
         return new Seat(this);

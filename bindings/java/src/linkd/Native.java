@@ -21,6 +21,9 @@ final class Native {
     /** The null reference, as a receiver. */
     static final int NULL = -1;
 
+    /** The new number of what is gone. */
+    static final int NO_NUMBER = -1;
+
     /** How many numbers a linkd_told, a linkd_call_answer, a linkd_link, a linkd_link_row and a linkd_invocation are. */
     static final int TOLD = 5;
     static final int ANSWER = 3;
@@ -30,6 +33,8 @@ final class Native {
     /** The bytes of a part of a target. */
     private static final long TARGET_PART = 3 * JAVA_INT.byteSize();
     static final int INVOCATION = 2;
+    /** How many numbers a linkd_count is. */
+    static final int COUNTS = 5;
 
     private static final SymbolLookup LIBRARY = Library.open();
 
@@ -74,6 +79,9 @@ final class Native {
     private static final MethodHandle NAMED = status("linkd_named", ADDRESS, JAVA_LONG, ADDRESS);
     private static final MethodHandle AWAITED = status("linkd_awaited", JAVA_INT, ADDRESS, JAVA_LONG, ADDRESS);
     private static final MethodHandle LAST_WORK = status("linkd_last_work", ADDRESS);
+    private static final MethodHandle COUNT = status("linkd_counts", ADDRESS);
+    private static final MethodHandle RENEW = status("linkd_renew_into", ADDRESS, JAVA_INT, ADDRESS, JAVA_LONG, ADDRESS, JAVA_LONG,
+            ADDRESS, JAVA_LONG, ADDRESS, JAVA_LONG, ADDRESS, JAVA_LONG, ADDRESS, JAVA_LONG, ADDRESS, JAVA_LONG);
     private static final MethodHandle OBEY = status("linkd_answer", ADDRESS, JAVA_LONG, ADDRESS);
     private static final MethodHandle TAKE = status("linkd_take", ADDRESS, JAVA_LONG, ADDRESS);
     private static final MethodHandle SEAT_REFRESH = status("linkd_seat_refresh", ADDRESS);
@@ -353,6 +361,28 @@ final class Native {
     static int lastWork(MemorySegment at, MemorySegment work) {
         try {
             return (int) LAST_WORK.invokeExact(at, work);
+        } catch (Throwable fault) {
+            throw failed(fault);
+        }
+    }
+
+    static int counts(MemorySegment at, MemorySegment counts) {
+        try {
+            return (int) COUNT.invokeExact(at, counts);
+        } catch (Throwable fault) {
+            throw failed(fault);
+        }
+    }
+
+    private static long count(MemorySegment numbers) {
+        return numbers.byteSize() / Integer.BYTES;
+    }
+
+    /** The arrays are those of the new numbers, in the order of a linkd_count. */
+    static int renew(MemorySegment at, MemorySegment fresh, int maxSites, MemorySegment callSites, MemorySegment points, MemorySegment[] to) {
+        try {
+            return (int) RENEW.invokeExact(at, fresh, maxSites, callSites, count(callSites), points, count(points), to[0], count(to[0]),
+                    to[1], count(to[1]), to[2], count(to[2]), to[3], count(to[3]), to[4], count(to[4]));
         } catch (Throwable fault) {
             throw failed(fault);
         }

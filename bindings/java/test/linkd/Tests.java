@@ -231,6 +231,49 @@ final class Tests {
         }
     }
 
+    /**
+     * Loader 1's class C 4 goes with it, so that D has another number in the fresh linker; of two call sites and two switch points the first
+     * ones are let go, but the first switch point guards the second call site.
+     */
+    private static void aFreshLinkerHasWhatStays() throws Exception {
+        try (World world = World.open()) {
+            Linker linker = world.linker;
+            LoaderId loader = linker.newLoader();
+            linker.delegate(loader, OBJECT, LoaderId.FIRST);
+            linker.delegate(loader, "A", LoaderId.FIRST);
+            ClassId c = linker.define(loader, withF("C", "A"));
+            linker.retire(loader);
+            ClassId d = linker.define(withF("D", "A"));
+            linker.install(List.of(world.site));
+            SwitchId first = linker.newSwitch();
+            SwitchId second = linker.newSwitch();
+            Target method = new Target.Method(world.m, 1);
+            CallSiteId plain = linker.newCallSite(CallSiteKind.MUTABLE, "()V", method);
+            CallSiteId guarded = linker.newCallSite(CallSiteKind.MUTABLE, "()V", new Target.Guard(first, method, method));
+
+            Renewal renewal = linker.renew(50, new Released(List.of(plain), List.of(first)));
+            same(Optional.of(LoaderId.FIRST), renewal.loader(LoaderId.FIRST));
+            same(Optional.empty(), renewal.loader(loader));
+            same(List.of(Optional.of(world.m), Optional.empty(), Optional.of(c)),
+                    List.of(renewal.type(world.m), renewal.type(c), renewal.type(d)));
+            same(List.of(Optional.of(world.site), Optional.empty()), List.of(renewal.site(world.site), renewal.site(new SiteId(1))));
+            same(List.of(Optional.empty(), Optional.of(plain)), List.of(renewal.callSite(plain), renewal.callSite(guarded)));
+            same(List.of(Optional.of(first), Optional.of(second)), List.of(renewal.point(first), renewal.point(second)));
+            same(runs(d), linker.call(world.site, d));
+            try (Linker fresh = renewal.linker(); Seat seat = fresh.seat()) {
+                // D is class 4 there.
+                same(Optional.of(table(world, c)), fresh.linkOf(world.site));
+                same(Optional.of(runs(c)), seat.call(world.site, c));
+                refused(Refusal.Plain.MALFORMED, () -> fresh.renew(0, Released.NOTHING));
+                SiteId other = fresh.request(world.m, 0, 3);
+                refused(Refusal.Plain.SITES_FULL, () -> fresh.renew(1, Released.NOTHING));
+                Renewal again = fresh.renew(2, Released.NOTHING);
+                same(Optional.of(other), again.site(other));
+                again.linker().close();
+            }
+        }
+    }
+
     private static void aCommandIsAnsweredAsText() {
         try (World world = World.open()) {
             same("{\"links\":[[0,{\"direct\":{\"run\":[1,0]}}]]}", world.linker.answer("{\"do\":\"links\"}"));
@@ -579,6 +622,7 @@ final class Tests {
         refused(Refusal.Plain.CLOSED, linker::namedClass);
         refused(Refusal.Plain.CLOSED, () -> linker.awaitedClass(world.site));
         refused(Refusal.Plain.CLOSED, linker::lastWork);
+        refused(Refusal.Plain.CLOSED, () -> linker.renew(1, Released.NOTHING));
     }
 
     private static boolean passes(String name, Test test) {
@@ -602,6 +646,7 @@ final class Tests {
                 & passes("definitions are refused by name", Tests::definitionsAreRefusedByName)
                 & passes("sites are refused by name", Tests::sitesAreRefusedByName)
                 & passes("a call site has targets", Tests::aCallSiteHasTargets)
+                & passes("a fresh linker has what stays", Tests::aFreshLinkerHasWhatStays)
                 & passes("a command is answered as text", Tests::aCommandIsAnsweredAsText)
                 & passes("a memo remembers megamorphic calls", Tests::aMemoRemembersMegamorphicCalls)
                 & passes("a memo of another linker says nothing", Tests::aMemoOfAnotherLinkerSaysNothing)
