@@ -20,7 +20,8 @@ use Rattle.jl_types.proofs.InstalledLinks.{requested}
 use Rattle.jl_core.specs.State.{State, events, world_of, IsAccepted, IsRefused}
 use Rattle.jl_renewal.specs.Numbers.{Numbers, numbered, new_number}
 use Rattle.jl_renewal.specs.Renewal.{row_of, fresh_rows, AreBatches}
-use Rattle.jl_renewal.specs.Adds.{AreFresh, MayAdd, Adds, Installs, InstallsFront}
+use Rattle.jl_renewal.specs.Adds.{AreFresh, MayAdd, Adds, Installs, InstallsFront, StopsAt}
+use Rattle.jl_renewal.specs.Carries.{IsRefusedIn}
 use Rattle.jl_renewal.proofs.AddLaws.{adds_none, adds_both}
 use Rattle.jl_renewal.proofs.FollowLaws.{world_added}
 use Rattle.jl_renewal.proofs.NumberLaws.{some_stays, some_is, before_rises}
@@ -223,3 +224,19 @@ pub install_lacks : (left batch : List Row) (b : State) (r : Refusal) → 1 ≤ 
     → IsRefused (verdict b.max_sites (world_of b) (event.Install batch)) r → r ≡ Memory
 install_lacks left batch b r some first fresh refused =
     lacks_memory (verdict b.max_sites (world_of b) (event.Install batch)) r (may_install left batch b some first fresh).0 refused
+
+-- a refusal of a core, as its clause has it
+refused_in : (b : State) (e : Event) (r : Refusal) → IsRefused (verdict b.max_sites (world_of b) e) r → IsRefusedIn b e r
+refused_in b e r (inl is) = inr is
+refused_in b e r (inr lacks) = inl lacks.0
+
+-- where the core refuses the next of them
+pub stops : (rows left batch : List Row) (a b c : State) (r : Refusal) → c ≡ b → batch ≡ take 256 left → InstallsFront rows left a b
+    → IsRefused (verdict b.max_sites (world_of b) (event.Install batch)) r → StopsAt rows a c r
+stops rows left batch a b c r same first so_far refused = record {
+  left = left;
+  front = subst (λ (core : State). InstallsFront rows left a core) (sym same) so_far;
+  refused =
+      subst (λ (core : State). IsRefusedIn core (event.Install (take 256 left)) r) (sym same)
+      (subst (λ (xs : List Row). IsRefusedIn b (event.Install xs) r) first (refused_in b (event.Install batch) r refused));
+}

@@ -1,6 +1,6 @@
 -- Worked renewals: three loaders, of which one is retired that another one found classes through; call sites, switch points, links; and
 -- what its owner has let go.
-use Rattle.std.specs.Prelude.{◌≡◌, ℕ, Bool, true, false, ◌&&◌, List, [], ◌∷◌, ◌++◌, map, Option, Some, None, is_ok, codes, refl}
+use Rattle.std.specs.Prelude.{◌≡◌, ℕ, Bool, true, false, ◌&&◌, List, [], ◌∷◌, ◌++◌, map, filter_map, Option, Some, None, is_ok, codes, refl}
 use Rattle.jl_class.specs.Class.{Method}
 use Rattle.jl_class.specs.declared.site.Kind.{Kind}
 use Rattle.jl_class.specs.declared.site.Kind.TheVariants.{Virtual, Dynamic}
@@ -15,6 +15,7 @@ use Rattle.jl_types.specs.Values.Target as target
 use Rattle.jl_types.specs.Happenings.Event.{Event}
 use Rattle.jl_types.specs.declared.event.EventOf.TheVariants.{NewLoader, Define, Delegate, Request, NewCallSite, SetTarget, NewSwitch, Invalidate, Bind, Install, Retire}
 use Rattle.jl_types.specs.declared.event.Made.TheVariants.{Nothing}
+use Rattle.jl_types.specs.declared.event.Made.TheVariants as made
 use Rattle.jl_types.specs.declared.answer.Recv.TheVariants.{Of}
 use Rattle.jl_types.specs.Linkage.Links.{scratch}
 use Rattle.jl_types.specs.Linkage.Calls.{dispatch}
@@ -26,6 +27,7 @@ use Rattle.jl_renewal.specs.Numbers.{Numbers, how_many}
 use Rattle.jl_renewal.specs.Staying.{numbers_of, staying_sites}
 use Rattle.jl_renewal.specs.Renewal.{renewal, fresh_rows}
 use Rattle.jl_renewal.specs.Renewed.{renewed, renumbered_result, renumbered_answer}
+use Rattle.jl_renewal.specs.Carries.{carried, made_number, with_made}
 
 -- ---- small classes
 
@@ -172,3 +174,47 @@ left_is_accepted = refl
 
 has_what_is_needed : world_after (renewal owned let_go) ≡ renewed (world_of owned) let_go
 has_what_is_needed = refl
+
+-- ---- entries that are carried over
+
+each_is_carried : filter_map (carried numbers) (
+    NewLoader ∷ defines 2 (Some object) (codes "N") [] ∷ Delegate 2 (codes "N") 0 ∷ at_first 4
+    ∷ NewCallSite Mutable (codes "()V") (target.Guard 1 (target.Invoker 1) (target.Method (of_class 4 0)))
+    ∷ SetTarget 1 (target.Method (of_class 4 1)) ∷ NewSwitch ∷ Invalidate (0 ∷ 5 ∷ 1 ∷ []) ∷ Bind 1 1 ∷ Retire 2 ∷ [])
+    ≡ NewLoader ∷ defines 1 (Some object) (codes "N") [] ∷ Delegate 1 (codes "N") 0 ∷ at_first 3
+    ∷ NewCallSite Mutable (codes "()V") (target.Guard 1 (target.Invoker 1) (target.Method (of_class 3 0)))
+    ∷ SetTarget 1 (target.Method (of_class 3 1)) ∷ NewSwitch ∷ Invalidate (0 ∷ 1 ∷ []) ∷ Bind 0 1 ∷ Retire 1 ∷ []
+each_is_carried = refl
+
+-- what names what is gone, a part of a target among it, and links
+none_is_carried : filter_map (carried numbers) (
+    defines 1 (Some object) (codes "N") [] ∷ Delegate 1 (codes "N") 0 ∷ Delegate 2 (codes "N") 1 ∷ at_first 3
+    ∷ NewCallSite Mutable (codes "()V") (target.Method (of_class 3 0))
+    ∷ NewCallSite Mutable (codes "()V") (target.Guard 2 (target.Method (of_class 2 1)) (target.Method (of_class 2 2)))
+    ∷ NewCallSite Mutable (codes "()V") (target.Guard 1 (target.Invoker 2) (target.Method (of_class 2 2)))
+    ∷ NewCallSite Mutable (codes "()V") (target.Guard 1 (target.Method (of_class 2 1)) (target.Method (of_class 3 2)))
+    ∷ SetTarget 2 (target.Method (of_class 2 1)) ∷ SetTarget 1 (target.Method (of_class 3 1)) ∷ Bind 0 1 ∷ Bind 1 2
+    ∷ Install ((1, Plain (of_class 2 2)) ∷ []) ∷ Retire 1 ∷ [])
+    ≡ []
+none_is_carried = refl
+
+what_was_made : map made_number (Nothing ∷ made.Loader 2 ∷ made.Class 5 ∷ made.Site 3 ∷ made.CallSite 4 ∷ made.Switch 6 ∷ [])
+    ≡ None ∷ Some 2 ∷ Some 5 ∷ Some 3 ∷ Some 4 ∷ Some 6 ∷ []
+what_was_made = refl
+
+-- the old core's loader 3, class 5, site 3, call site 2 and switch point 2 have these new numbers
+new_ones_are_noted :
+    with_made (with_made (with_made (with_made (with_made numbers (made.Loader 3) (Some 7)) (made.Class 5) (Some 8)) (made.Site 3) None)
+    (made.CallSite 2) (Some 9)) (made.Switch 2) (Some 10)
+    ≡ record {
+      loaders = Some 0 ∷ None ∷ Some 1 ∷ Some 7 ∷ [];
+      classes = Some 0 ∷ Some 1 ∷ Some 2 ∷ None ∷ Some 3 ∷ Some 8 ∷ [];
+      sites = None ∷ Some 0 ∷ Some 1 ∷ None ∷ [];
+      call_sites = Some 0 ∷ Some 1 ∷ Some 9 ∷ [];
+      switches = Some 0 ∷ Some 1 ∷ Some 10 ∷ [];
+    }
+new_ones_are_noted = refl
+
+-- what was requested or delegated before keeps its number
+old_ones_are_kept : with_made (with_made numbers (made.Site 1) (Some 7)) Nothing (Some 8) ≡ numbers
+old_ones_are_kept = refl

@@ -1,7 +1,8 @@
 -- What lists of events add to a core. A means of proof.
-use Rattle.std.specs.Prelude.{◌≡◌, ◌<◌, Some, Contains, ℕ, List, [], ◌∷◌, ◌++◌, map, Ok, IsOk, All, AllPairs, ⊤}
+use Rattle.std.specs.Prelude.{◌≡◌, ◌<◌, Some, Contains, ℕ, List, [], ◌∷◌, ◌++◌, map, take, Ok, IsOk, All, AllPairs, ⊤}
 use Rattle.jl_types.specs.declared.link.Link.{Link}
 use Rattle.jl_types.specs.declared.event.EventOf.TheVariants as event
+use Rattle.jl_types.specs.declared.refusal.Refusal.{Refusal}
 use Rattle.jl_types.specs.Happenings.Event.{Event}
 use Rattle.jl_types.specs.Happenings.Events.{verdict, step}
 use Rattle.jl_types.specs.Values.World.{World}
@@ -9,6 +10,7 @@ use Rattle.jl_types.specs.Linkage.Links.{scratch}
 use Rattle.jl_core.specs.State.{State, events, world_of, links_of}
 use Rattle.jl_renewal.specs.Numbers.{Numbers, new_number}
 use Rattle.jl_renewal.specs.Renewal.{renewal_by, fresh_rows, AreBatches}
+use Rattle.jl_renewal.specs.Carries.{IsRefusedIn}
 
 -- each of the events is accepted, one after another, from this world on
 abbrev pub Follow : ℕ → World → List Event → Type 0
@@ -47,6 +49,12 @@ pub record InstallsFront (rows left : List (ℕ × Link)) (old new : State) : Ty
   pub batches : List (List (ℕ × Link))
   pub are_batches : (others : List (List (ℕ × Link))) → AreBatches others left → AreBatches (batches ++ others) rows
   pub adds : Adds (map event.Install batches) old new
+
+-- it has installed those before some that are left, and refuses the next of them for this, or memory lacks
+pub record StopsAt (rows : List (ℕ × Link)) (old new : State) (r : Refusal) : Type 0 where
+  pub left : List (ℕ × Link)
+  pub front : InstallsFront rows left old new
+  pub refused : IsRefusedIn new (event.Install (take 256 left)) r
 
 -- the events by which the old core is renewed
 abbrev pub renewal_with : State → Numbers → List Event

@@ -16,6 +16,7 @@ use Rattle.jl_core.specs.Logs.{Entry}
 use Rattle.jl_renewal.specs.declared.entries.CarryFault.{CarryFault}
 use Rattle.jl_renewal.specs.declared.entries.CarryFault.TheVariants.{Gone, Refused}
 use Rattle.jl_renewal.specs.Numbers.{Numbers, new_number}
+use Rattle.jl_renewal.specs.Renewal.{request, binding}
 
 -- ---- what it names, or none where that is gone
 
@@ -34,12 +35,12 @@ carried n event.NewLoader = Some event.NewLoader
 carried n (event.Define loader file) = option_map (λ l. event.Define l file) (new_number n.loaders loader)
 carried n (event.Delegate loader name to) =
     option_and_then (λ l. option_map (event.Delegate l name) (new_number n.loaders to)) (new_number n.loaders loader)
-carried n (event.Request place) = option_map (λ c. event.Request (record place { class = c })) (new_number n.classes place.class)
+carried n (event.Request place) = request n place
 carried n (event.NewCallSite kind ty target) = option_map (event.NewCallSite kind ty) (carried_target n target)
 carried n (event.SetTarget c target) = option_and_then (λ k. option_map (event.SetTarget k) (carried_target n target)) (new_number n.call_sites c)
 carried n event.NewSwitch = Some event.NewSwitch
 carried n (event.Invalidate points) = Some (event.Invalidate (filter_map (new_number n.switches) points))
-carried n (event.Bind s c) = option_and_then (λ k. option_map (event.Bind k) (new_number n.call_sites c)) (new_number n.sites s)
+carried n (event.Bind s c) = binding n (s, c)
 carried n (event.Install rows) = None
 carried n (event.Retire loader) = option_map event.Retire (new_number n.loaders loader)
 

@@ -9,11 +9,12 @@ ghost use Rattle.jl_renewal.specs.Carries as carries;
 use crate::classes::definition;
 use crate::links::push_if_any;
 use crate::numbers::Renumbering;
+use crate::places::{binding, request};
 use crate::targets::renumbered_method;
 use jl_core::Accepted;
 use jl_names::{Name, Seq};
 use jl_relink::World;
-use jl_types::{CallSiteId, Event, LoaderId, Part, Place, SiteNo, SwitchId, Target};
+use jl_types::{CallSiteId, Event, LoaderId, Part, SwitchId, Target};
 use std::alloc::{AllocError, Global};
 
 /// The event under the new numbers, or none where it names what is gone, or installs links. Want of memory is an error.
@@ -69,18 +70,6 @@ fn delegation(
     Ok(Some(Event::Delegate(loader, name.copy(alloc)?, to)))
 }
 
-/// The request of a place.
-fn request(numbers: &Renumbering, place: &Place) -> Option<Event>
-    ensures { result ≡ carries.carried numbers.now (event.Request place.now) }
-{
-    let class = numbers.class(place.class)?;
-    Some(Event::Request(Place {
-        class,
-        method: place.method,
-        pc: place.pc,
-    }))
-}
-
 /// That a call site gets this target. Want of memory is an error.
 fn new_target(
     alloc: Global,
@@ -97,15 +86,6 @@ fn new_target(
         return Ok(None);
     };
     Ok(Some(Event::SetTarget(site, target)))
-}
-
-/// That the site is bound to the call site.
-fn binding(numbers: &Renumbering, site: SiteNo, call_site: CallSiteId) -> Option<Event>
-    ensures { result ≡ carries.carried numbers.now (event.Bind site call_site) }
-{
-    let site = numbers.site(site)?;
-    let call_site = numbers.call_site(call_site)?;
-    Some(Event::Bind(site, call_site))
 }
 
 /// The retirement of the loader.

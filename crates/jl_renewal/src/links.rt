@@ -6,7 +6,7 @@ ghost use Rattle.jl_types.specs.Linkage.Links.{scratch};
 ghost use Rattle.jl_core.specs.State.{world_of};
 ghost use Rattle.jl_renewal.specs.Renewal as renewal;
 ghost use Rattle.jl_renewal.specs.Renewal.{fresh_rows};
-ghost use Rattle.jl_renewal.specs.Adds.{AreFresh, Installs};
+ghost use Rattle.jl_renewal.specs.Adds.{AreFresh, Installs, StopsAt};
 
 use crate::numbers::Renumbering;
 use jl_core::EventMachine;
@@ -30,6 +30,7 @@ pub fn install_all<M: EventMachine>(
     rows: &[(SiteNo, Link)],
 ) -> Result<(), Refusal>
     ensures installs { OnOk result (Installs rows.now (M.state fresh.old) (M.state fresh.new)) }
+    ensures stops { IfErr result (StopsAt rows.now (M.state fresh.old) (M.state fresh.new)) }
     ensures memory { AreFresh (world_of (M.state fresh.old)) rows.now → IfErr result (λ r. r ≡ Memory) }
 {
     let mut left = rows;

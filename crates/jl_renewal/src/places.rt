@@ -29,7 +29,7 @@ pub(crate) fn add_requests<M: EventMachine>(
 }
 
 /// The request of the place, if its class stays.
-fn request(numbers: &Renumbering, place: &Place) -> Option<Event>
+pub(crate) fn request(numbers: &Renumbering, place: &Place) -> Option<Event>
     ensures { result ≡ renewal.request numbers.now place.now }
 {
     let class = numbers.class(place.class)?;
@@ -84,7 +84,7 @@ fn add_each<M: EventMachine>(
 }
 
 /// The binding of the site to the call site, if both stay.
-fn binding(numbers: &Renumbering, site: SiteNo, call_site: CallSiteId) -> Option<Event>
+pub(crate) fn binding(numbers: &Renumbering, site: SiteNo, call_site: CallSiteId) -> Option<Event>
     ensures { result ≡ renewal.binding numbers.now (site, call_site) }
 {
     let site = numbers.site(site)?;

@@ -14,7 +14,7 @@ ghost use Rattle.jl_server.specs.History.{core_of, logged_of, entry_after, insta
 ghost use Rattle.jl_server.specs.Means.Shown.{content, changed, IsShown, IsChangeOf};
 
 use crate::history::{Head, Name};
-use crate::past::{Past, Standing, share_from};
+use crate::past::{Past, share_from};
 use crate::publish::{TableWriter, show_in};
 use crate::seen::Seen;
 use crate::table::Change;
@@ -167,20 +167,6 @@ impl<K: Name, R: Wait + Drop> Book<K, R> {
             entries,
             seen,
         })
-    }
-
-    /// What the published list comes to, with all its entries and installed links, and that list. Want of memory is an error.
-    pub fn standing(&self, alloc: Global) -> Result<Standing<K>, AllocError>
-        ensures seen { IfOk result (λ r. r.past.seen ≡ self.now) }
-        ensures world { IfOk result (λ r. r.past.world ≡ record { world = world_after (events_of self.now); serial = length self.now }) }
-        ensures told { IfOk result (λ r. are_told r.past.world.world.classes.rows r.past.entries.items ≡ true) }
-        ensures entries { IfOk result (λ r. shown r.past.world.world.classes.rows r.past.entries.items ≡ logged_of self.now) }
-        ensures links { IfOk result (λ r. r.links.items ≡ installed_links (events_of self.now)) }
-        ensures answered { IfOk result (λ r. AreAnswered (core_of K.max_sites r.past.seen)) }
-    {
-        let links = self.links(alloc)?;
-        let past = self.past(alloc, 0)?;
-        Ok(Standing { past, links })
     }
 
     /// What a call comes to after the published list, and the site's installed link, if there is one. Takes no memory.

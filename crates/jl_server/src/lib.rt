@@ -27,6 +27,6 @@ pub use history::Name;
 pub use laws::fast_answers_are_the_calls;
 pub use memo::Memo;
 pub use parts::{Parts, Unmade};
-pub use past::{Past, Standing};
+pub use past::Past;
 pub use seen::Seen;
 pub use server::{LinkList, LinkServer};

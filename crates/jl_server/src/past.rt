@@ -2,7 +2,7 @@
 
 ghost use Rattle.std.specs.Prelude.{◌≡◌, true, length, drop, IfOk, OnOk, OnErr};
 ghost use mathlib.Core.List.{IsPrefix};
-ghost use Rattle.jl_types.specs.Happenings.History.{world_after, installed_links};
+ghost use Rattle.jl_types.specs.Happenings.History.{world_after};
 ghost use Rattle.jl_types.specs.Happenings.Entries.{IsLegal, events_of};
 ghost use Rattle.jl_core.specs.State.{AreAnswered};
 ghost use Rattle.jl_core.specs.Logs.{are_told, shown};
@@ -14,7 +14,6 @@ use crate::seen::Seen;
 use crate::server::{LinkServer, caught_up};
 use jl_core::{Entry, share_log};
 use jl_relink::Snapshot;
-use jl_types::{Link, SiteNo};
 use std::alloc::{AllocError, Global};
 use std::sync::Wait;
 
@@ -32,22 +31,6 @@ impl<K: Name> Drop for Past<K> {
             world: _world,
             entries: _entries,
             seen: _seen,
-        } = self;
-    }
-}
-
-/// What a server has come to, all its entries, and each site that has an installed link then, with it, by rising number.
-pub struct Standing<K: Name> {
-    pub past: Past<K>,
-    pub links: Vec<(SiteNo, Link)>,
-}
-
-/// Written out, so that what drops one makes one call of it and doesn't take apart what it holds.
-impl<K: Name> Drop for Standing<K> {
-    fn drop(self) {
-        let Standing {
-            past: _past,
-            links: _links,
         } = self;
     }
 }
@@ -79,32 +62,6 @@ impl<K: Name> Caller<K> {
         self.see(&past.seen);
         Ok(past)
     }
-
-    /// What the server has come to after all that the caller has seen, with all its entries and installed links, in one hold of the
-    /// lock, for which it waits. Want of memory is an error; the caller has then seen what it had.
-    pub fn standing<H: Wait, R: Wait + Drop>(
-        &mut self,
-        rt: &H,
-        alloc: Global,
-        server: &LinkServer<K, R>,
-    ) -> Result<Standing<K>, AllocError>
-        ensures own { IsPrefix self.old self.new }
-        ensures legal { IsLegal K.max_sites self.new }
-        ensures seen { IfOk result (λ r. r.past.seen ≡ self.new) }
-        ensures world { IfOk result (λ r. r.past.world ≡ record { world = world_after (events_of self.new); serial = length self.new }) }
-        ensures told { IfOk result (λ r. are_told r.past.world.world.classes.rows r.past.entries.items ≡ true) }
-        ensures entries { IfOk result (λ r. shown r.past.world.world.classes.rows r.past.entries.items ≡ logged_of self.new) }
-        ensures links { IfOk result (λ r. r.links.items ≡ installed_links (events_of self.new)) }
-        ensures answered { OnOk result (AreAnswered (core_of K.max_sites self.new)) }
-        ensures unchanged { OnErr result (self.new ≡ self.old) }
-    {
-        // Shows that the list is legal.
-        let _serial = self.seen().serial();
-        self.seen().begins(self.seen());
-        let standing = standing_after(rt, alloc, server, self.seen())?;
-        self.see(&standing.past.seen);
-        Ok(standing)
-    }
 }
 
 /// What the book has come to after this list, with the entries behind the first so many.
@@ -123,24 +80,6 @@ fn past_after<K: Name, H: Wait, R: Wait + Drop>(
 {
     let book = caught_up(rt, server, seen);
     book.past(alloc, from)
-}
-
-/// What the book has come to after this list, with all its entries and installed links.
-fn standing_after<K: Name, H: Wait, R: Wait + Drop>(
-    rt: &H,
-    alloc: Global,
-    server: &LinkServer<K, R>,
-    seen: &Seen<K>,
-) -> Result<Standing<K>, AllocError>
-    ensures seen { IfOk result (λ r. IsPrefix seen.now r.past.seen × IsLegal K.max_sites r.past.seen) }
-    ensures world { IfOk result (λ r. r.past.world ≡ record { world = world_after (events_of r.past.seen); serial = length r.past.seen }) }
-    ensures told { IfOk result (λ r. are_told r.past.world.world.classes.rows r.past.entries.items ≡ true) }
-    ensures entries { IfOk result (λ r. shown r.past.world.world.classes.rows r.past.entries.items ≡ logged_of r.past.seen) }
-    ensures links { IfOk result (λ r. r.links.items ≡ installed_links (events_of r.past.seen)) }
-    ensures answered { IfOk result (λ r. AreAnswered (core_of K.max_sites r.past.seen)) }
-{
-    let book = caught_up(rt, server, seen);
-    book.standing(alloc)
 }
 
 /// What of a log is behind its first so many entries, once more. Want of memory is an error.

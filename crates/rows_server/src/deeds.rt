@@ -24,7 +24,7 @@ pub(crate) enum Class {
     /// Below A, which overrides A.f, and so R.
     C,
     R,
-    /// Below class D4, which overrides its method.
+    /// Below class Sub4, which overrides its method.
     E,
     /// It calls A.f by invokevirtual.
     M,
@@ -78,7 +78,7 @@ const C_ROW: &ClassRow = &ClassRow("C", Some("A"), &[], F);
 
 const R_ROW: &ClassRow = &ClassRow("R", Some("A"), &[], F);
 
-const E_ROW: &ClassRow = &ClassRow("E", Some("D4"), &[], F);
+const E_ROW: &ClassRow = &ClassRow("E", Some("Sub4"), &[], F);
 
 const M_ROW: &ClassRow = &ClassRow("M", OBJECT, &[CallRow::Virtual("A", "f")], &[]);
 
@@ -192,7 +192,7 @@ fn definition(loader: u32, file: Option<ClassFile>) -> Option<Event> {
 /// The class file of D of this number.
 fn below(alloc: Global, number: u32, overrides: bool) -> Option<ClassFile> {
     let methods = if overrides { F } else { NO_METHODS };
-    match format!(in alloc; "D{number}") {
+    match format!(in alloc; "Sub{number}") {
         Ok(name) => rows_files::class(alloc, &name, 33, Some("A"), &[], methods),
         Err(_) => None,
     }

@@ -315,9 +315,9 @@ fn begin<K: Name, L: Name, R: Wait, S: Wait + Drop>(
     requires sites { sites ≡ L.max_sites }
 {
     let (rt, alloc) = (renewal.old.rt, renewal.old.alloc);
-    match &caller.standing(rt, alloc, renewal.old.server) {
-        Ok(standing) => match refilled(alloc, book, &standing.past, sites) {
-            Ok(numbers) => Some((standing.past.seen.serial(), numbers)),
+    match &caller.entries(rt, alloc, renewal.old.server, 0) {
+        Ok(past) => match refilled(alloc, book, past, sites) {
+            Ok(numbers) => Some((past.seen.serial(), numbers)),
             Err(_) => None,
         },
         Err(_) => None,
