@@ -1,6 +1,8 @@
 pub mod AskingLaws
 pub mod GatherLaws
 pub mod InvocationLaws
+pub mod MethodLaws
+pub mod MadeLaws
 pub mod TotalLaws
 pub mod DropLaws
 pub mod FinalLaws

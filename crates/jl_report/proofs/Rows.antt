@@ -1,11 +1,14 @@
 -- What the definitions of a report say of small classes.
-use Rattle.std.specs.Prelude.{◌≡◌, ℕ, ◌+◌, true, false, List, [], ◌∷◌, map, Some, None, codes, refl}
+use Rattle.std.specs.Prelude.{◌≡◌, ℕ, ◌+◌, Bool, true, false, List, [], ◌∷◌, map, take, Some, None, codes, refl}
 use Rattle.std.specs.List.{range_with_len}
+use Rattle.jl_names.specs.declared.descriptor.Element.TheVariants as element
 use Rattle.jl_pool.specs.declared.reference.Reference.{Reference}
 use Rattle.jl_class.specs.Class.{ClassFile, Method}
 use Rattle.jl_class.specs.declared.site.Kind.{Kind}
 use Rattle.jl_class.specs.declared.site.Kind.TheVariants.{Virtual, Special, Static, Interface, Dynamic}
+use Rattle.jl_class.specs.declared.site.Operand.{Operand}
 use Rattle.jl_class.specs.declared.site.Operand.TheVariants as operand
+use Rattle.jl_types.specs.declared.answer.Answer.TheVariants as answer
 use Rattle.jl_types.specs.declared.answer.Missing.TheVariants.{Named}
 use Rattle.jl_types.specs.declared.answer.Outcome.TheVariants.{Run, Throws}
 use Rattle.jl_types.specs.declared.answer.Throwable.TheVariants.{AbstractMethodError, IncompatibleClassChangeError}
@@ -19,7 +22,7 @@ use Rattle.jl_types.specs.declared.refusal.NotLinkable.TheVariants.{ArrayReceive
 use Rattle.jl_types.specs.Values.World.{Class, Classes}
 use Rattle.jl_types.specs.Happenings.Definitions.{define_fault, defined}
 use Rattle.jl_types.specs.Happenings.Footprints.{footprint}
-use Rattle.jl_types.proofs.Rows.Sketch.{object, class, classes, file, method, first, calling, class_ref}
+use Rattle.jl_types.proofs.Rows.Sketch.{object, class, classes, file, method, first, calling, class_ref, itf_ref}
 use Rattle.jl_report.specs.declared.invocation.Invocation.{Invocation}
 use Rattle.jl_report.specs.declared.row.Finding.TheVariants as finding
 use Rattle.jl_report.specs.declared.row.Row.{Row}
@@ -28,6 +31,8 @@ use Rattle.jl_report.specs.Order.{name_of}
 use Rattle.jl_report.specs.Reports.{asking, never_linked, invocation_of, invocations_in, rests_on, row_of, rows_in}
 use Rattle.jl_report.specs.Drops.{keys_of, row_now, now_changed, left_among, dropped_among, IsAdded}
 use Rattle.jl_report.specs.Drops.{may_change, has_changing_link, may_be_extended, may_grow, is_open, ExtendNoFinal}
+use Rattle.jl_report.specs.Methods.{is_same, distinct, run_of, run_by, looked_at, runs, methods_run}
+use Rattle.jl_report.specs.Made.{class_of, named_result, made, meets_made, marks_of, meets_marks}
 use Rattle.jl_report.specs.Totals.{shape_of, column, count, told, largest}
 
 -- the invocation of this by the first method of class 2
@@ -286,6 +291,229 @@ final_super = refl
 -- C 3 below a FINAL A
 below_final : ¬ ExtendNoFinal (world (codes "A") 49 (f ∷ []) Virtual on_a (children 1))
 below_final h = let e = h 3 1 (class (67 ∷ 48 ∷ []) 33 (Some 1) [] (f ∷ [])) refl refl in cc
+
+-- ---- which methods run
+
+-- none, where there are no receivers, and of what has no link
+no_method : methods_run (with_a 1057) (of_a 1057) ≡ []
+no_method = refl
+
+waiting_runs : methods_run (with_a 33) waiting ≡ []
+waiting_runs = refl
+
+handle_runs : methods_run with_handle by_handle ≡ []
+handle_runs = refl
+
+one_method : methods_run (with_a 33) (of_a 33) ≡ first 1 ∷ []
+one_method = refl
+
+three_methods : methods_run (family 3) (of_family 3) ≡ first 3 ∷ first 4 ∷ first 5 ∷ []
+three_methods = refl
+
+two_of_three : take 2 (methods_run (family 3) (of_family 3)) ≡ first 3 ∷ first 4 ∷ []
+two_of_three = refl
+
+-- a megamorphic link looks at all of them
+nine_methods : methods_run (family 9) (of_family 9) ≡ map first (range_with_len 3 9)
+nine_methods = refl
+
+-- below A one class has its own f, the next one has A's, and the last one has its own
+abbrev some_own : List Class
+some_own =
+    class (codes "B") 33 (Some 1) [] (f ∷ []) ∷ class (codes "C") 33 (Some 1) [] [] ∷ class (codes "D") 33 (Some 1) [] (f ∷ []) ∷ []
+
+abbrev with_own : Classes
+with_own = world (codes "A") 33 (f ∷ []) Virtual on_a some_own
+
+abbrev of_own : Row
+of_own = row (codes "A") 33 (f ∷ []) Virtual on_a some_own
+
+four_runs : runs with_own of_own (Some 1) ≡ first 1 ∷ first 3 ∷ first 1 ∷ first 5 ∷ []
+four_runs = refl
+
+each_once : methods_run with_own of_own ≡ first 1 ∷ first 3 ∷ first 5 ∷ []
+each_once = refl
+
+-- what throws runs none: B has no f, and A's is abstract
+abbrev one_throws : List Class
+one_throws = class (codes "B") 33 (Some 1) [] [] ∷ class (codes "C") 33 (Some 1) [] (f ∷ []) ∷ []
+
+one_runs : methods_run (world (codes "A") 1057 (method 1025 (codes "f") ∷ []) Virtual on_a one_throws)
+    (row (codes "A") 1057 (method 1025 (codes "f") ∷ []) Virtual on_a one_throws) ≡ first 4 ∷ []
+one_runs = refl
+
+-- a link that looks at no receivers
+static_runs : methods_run (world (codes "A") 33 (method 9 (codes "f") ∷ []) Static on_a []) static_row ≡ first 1 ∷ []
+static_runs = refl
+
+fault_runs : methods_run (world (codes "A") 33 (f ∷ []) Static on_a []) fault_row ≡ []
+fault_runs = refl
+
+link_runs : map (λ link. run_by (finding.Linked link)) (
+    Fault AbstractMethodError
+    ∷ Plain (first 1)
+    ∷ Direct (Run (first 2))
+    ∷ Direct (Throws AbstractMethodError)
+    ∷ Table table.Virtual ((1, Run (first 1)) ∷ [])
+    ∷ Mega
+    ∷ [])
+    ≡ None ∷ Some (first 1) ∷ Some (first 2) ∷ None ∷ None ∷ None ∷ []
+link_runs = refl
+
+other_findings : map run_by (finding.Unlinked Unbound ∷ finding.NotLinkable ArrayReceiver ∷ []) ≡ None ∷ None ∷ []
+other_findings = refl
+
+answers_run : map run_of (
+    answer.Run (first 1)
+    ∷ answer.Throws AbstractMethodError
+    ∷ answer.Unlinked Unbound
+    ∷ answer.BadReceiver
+    ∷ [])
+    ≡ Some (first 1) ∷ None ∷ None ∷ None ∷ []
+answers_run = refl
+
+looked : map looked_at ([] ∷ (Receivers 2 ∷ []) ∷ (Target 2 ∷ []) ∷ (Valid 2 ∷ []) ∷ []) ≡ None ∷ Some 2 ∷ None ∷ None ∷ []
+looked = refl
+
+-- methods of one class, and of one number
+apart : map (is_same (first 1)) (first 1 ∷ first 2 ∷ record { class = 1; index = 1 } ∷ []) ≡ true ∷ false ∷ false ∷ []
+apart = refl
+
+where_first : distinct (first 2 ∷ first 1 ∷ first 2 ∷ first 3 ∷ first 1 ∷ []) ≡ first 2 ∷ first 1 ∷ first 3 ∷ []
+where_first = refl
+
+-- ---- objects of classes that no file has
+
+abbrev specified : List ℕ → Operand (List ℕ)
+specified ty = operand.CallSite (record { bootstrap = 0; name = codes "f"; ty = ty })
+
+-- the name of a class may have brackets
+results : map (λ ty. named_result (specified ty)) (
+    codes "()LF;"
+    ∷ codes "(I[JLG;[[LG;)LF;"
+    ∷ codes "()La/F;"
+    ∷ codes "()La)LF;"
+    ∷ codes "(La)LG;)LF;"
+    ∷ codes "()[LF;"
+    ∷ codes "(LF;)V"
+    ∷ codes "(LF;)J"
+    ∷ [])
+    ≡ Some (codes "F")
+    ∷ Some (codes "F")
+    ∷ Some (codes "a/F")
+    ∷ Some (codes "a)LF")
+    ∷ Some (codes "F")
+    ∷ None
+    ∷ None
+    ∷ None
+    ∷ []
+results = refl
+
+-- what an invocation of a method gives isn't made there
+call_makes_none : named_result (operand.Method (record { itf = false; owner = codes "A"; name = codes "f"; ty = codes "()LF;" })) ≡ None
+call_makes_none = refl
+
+class_types : map class_of (
+    record { dimensions = 0; element = element.Class (codes "F") }
+    ∷ record { dimensions = 1; element = element.Class (codes "F") }
+    ∷ record { dimensions = 0; element = element.Int }
+    ∷ [])
+    ≡ Some (codes "F") ∷ None ∷ None ∷ []
+class_types = refl
+
+abbrev interface : List ℕ → List ℕ → Class
+interface name above = class name 1537 (Some 0) above (method 1025 (codes "f") ∷ [])
+
+-- with an invokedynamic of this descriptor
+abbrev making : List ℕ → Method
+making ty = record { name = codes "make"; ty = codes "()V"; flags = 9; sites = record { pc = 0; kind = Dynamic; operand = specified ty } ∷ [] }
+
+-- Object 0, the interfaces G 1, F 2 below it and H 3, and M 4 that invokes f of this interface, and makes what this descriptor gives
+abbrev with_lambda : List ℕ → List ℕ → Classes
+with_lambda named ty = classes (
+    object
+    ∷ interface (codes "G") []
+    ∷ interface (codes "F") (1 ∷ [])
+    ∷ interface (codes "H") []
+    ∷ class (codes "M") 33 (Some 0) [] (calling 9 (codes "via") Interface (itf_ref named (codes "f")) ∷ making ty ∷ [])
+    ∷ [])
+
+abbrev via : List ℕ → List ℕ → Row
+via named ty =
+    row_of (with_lambda named ty)
+    (invocation_of 4 0 (record { pc = 0; kind = Interface; operand = operand.Method (itf_ref named (codes "f")) }))
+
+abbrev meets : List ℕ → List ℕ → Bool
+meets named ty = meets_made (with_lambda named ty) (via named ty)
+
+via_rests : (via (codes "F") (codes "()LF;")).rests_on ≡ Receivers 2 ∷ []
+via_rests = refl
+
+made_f : made (with_lambda (codes "F") (codes "()LF;")) ≡ 2 ∷ []
+made_f = refl
+
+-- itself, what is above it, and no interface beside it or below it
+result_met : meets (codes "F") (codes "()LF;") ≡ true
+result_met = refl
+
+above_met : meets (codes "G") (codes "()LF;") ≡ true
+above_met = refl
+
+beside_not_met : meets (codes "H") (codes "()LF;") ≡ false
+beside_not_met = refl
+
+below_not_met : meets (codes "F") (codes "()LG;") ≡ false
+below_not_met = refl
+
+-- an object is an Object, too
+lambda_marks : marks_of (with_lambda (codes "F") (codes "()LF;")) ≡ true ∷ true ∷ true ∷ false ∷ false ∷ []
+lambda_marks = refl
+
+-- no array, no class, and no name that loader 0 hasn't recorded
+array_not_met : meets (codes "F") (codes "()[LF;") ≡ false
+array_not_met = refl
+
+class_marks : marks_of (with_lambda (codes "F") (codes "()LM;")) ≡ false ∷ false ∷ false ∷ false ∷ false ∷ []
+class_marks = refl
+
+unrecorded : made (with_lambda (codes "F") (codes "()LX;")) ≡ []
+unrecorded = refl
+
+abbrev by_loader : ℕ → Classes
+by_loader loader =
+    classes (object ∷ record (interface (codes "F") []) { loader = loader } ∷ class (codes "M") 33 (Some 0) [] (making (codes "()LF;") ∷ []) ∷ [])
+
+of_loaders : map (λ loader. made (by_loader loader)) (0 ∷ 1 ∷ []) ≡ (1 ∷ []) ∷ [] ∷ []
+of_loaders = refl
+
+-- of each class and each method
+made_by_all : made (classes (
+    interface (codes "G") []
+    ∷ interface (codes "F") []
+    ∷ class (codes "M") 33 None [] (making (codes "()LF;") ∷ f ∷ making (codes "()LM;") ∷ [])
+    ∷ class (codes "N") 33 None [] (making (codes "()LG;") ∷ [])
+    ∷ [])) ≡ 1 ∷ 2 ∷ 0 ∷ []
+made_by_all = refl
+
+-- what names a class looks at no such object by its methods: nothing else runs for it there
+instructions_met : map (λ kind. meets_made (with_lambda (codes "F") (codes "()LF;")) (record (via (codes "F") (codes "()LF;")) { kind = kind }))
+    (Interface ∷ Virtual ∷ Special ∷ Static ∷ Dynamic ∷ [])
+    ≡ true ∷ false ∷ false ∷ false ∷ false ∷ []
+instructions_met = refl
+
+-- by receivers alone, among all that a row rests on
+abbrev resting : List Key → Row
+resting keys = record (via (codes "F") (codes "()LF;")) { rests_on = keys }
+
+keys_met : map (λ keys. meets_made (with_lambda (codes "F") (codes "()LF;")) (resting keys))
+    ([] ∷ (Target 2 ∷ []) ∷ (Valid 2 ∷ []) ∷ (Receivers 7 ∷ []) ∷ (Target 0 ∷ Receivers 2 ∷ []) ∷ [])
+    ≡ false ∷ false ∷ false ∷ false ∷ true ∷ []
+keys_met = refl
+
+keys_marked : map (λ keys. meets_marks (false ∷ true ∷ []) (resting keys))
+    ([] ∷ (Target 1 ∷ []) ∷ (Valid 1 ∷ []) ∷ (Receivers 0 ∷ []) ∷ (Receivers 2 ∷ []) ∷ (Target 0 ∷ Receivers 1 ∷ []) ∷ [])
+    ≡ false ∷ false ∷ false ∷ false ∷ false ∷ true ∷ []
+keys_marked = refl
 
 -- ---- invocations, by method
 

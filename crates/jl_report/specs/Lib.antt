@@ -4,4 +4,6 @@ pub mod Gathering
 pub mod Order
 pub mod Reports
 pub mod Drops
+pub mod Methods
+pub mod Made
 pub mod Totals

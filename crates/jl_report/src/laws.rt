@@ -1,20 +1,30 @@
 //! The laws of a report: contracts of functions that do nothing.
 
-ghost use Rattle.std.specs.Prelude.{◌≡◌, ℕ, List, Some, None, false, slice_get};
+ghost use Rattle.std.specs.Prelude.{◌≡◌, ℕ, List, Some, None, false, slice_get, option_and_then};
+ghost use Rattle.std.specs.List.{list_any, IsDistinct};
+ghost use Rattle.jl_names.specs.MethodTypes.{Signature, method_text, IsSignature};
+ghost use Rattle.jl_pool.specs.declared.reference.CallSiteSpecifier.{CallSiteSpecifier};
 ghost use Rattle.jl_class.specs.Class.{ClassFile};
+ghost use Rattle.jl_class.specs.Site.{Site};
+ghost use Rattle.jl_class.specs.declared.site.Operand.TheVariants as operand;
 ghost use Rattle.jl_types.specs.declared.ids.Place.{Place};
+ghost use Rattle.jl_types.specs.declared.ids.MethodId.{MethodId};
 ghost use Rattle.jl_types.specs.declared.link.Link.{Link};
 ghost use Rattle.jl_types.specs.Values.World.{World, Classes, nothing_yet};
+ghost use Rattle.jl_types.specs.Values.Members.{lookup};
 ghost use Rattle.jl_types.specs.Linkage.Stages.{bound_to};
 ghost use Rattle.jl_types.specs.Linkage.Links.{scratch};
 ghost use Rattle.jl_types.specs.Happenings.Definitions.{define_fault, defined};
 ghost use Rattle.jl_types.specs.Happenings.Footprints.{footprint, meets};
 ghost use Rattle.jl_hierarchy.specs.Constancy.{AreInOrder};
 ghost use Rattle.jl_report.specs.declared.invocation.Invocation.{Invocation};
+ghost use Rattle.jl_report.specs.declared.row.Row.{Row};
 ghost use Rattle.jl_report.specs.declared.row.Finding.TheVariants as finding;
 ghost use Rattle.jl_report.specs.Reports.{asking, row_of};
 ghost use Rattle.jl_report.specs.Drops.{keys_of, now_changed, has_changing_link, is_open, ExtendNoFinal};
 ghost use Rattle.jl_report.specs.Gathering.{Gathers};
+ghost use Rattle.jl_report.specs.Methods.{is_same, looked_at, runs, methods_run};
+ghost use Rattle.jl_report.specs.Made.{class_of, made_by, meets_made, marks_of, meets_marks};
 
 /// Whatever else is requested, and whatever call sites there are: in each world of the same classes a site that is bound to none has
 /// the link that a report of its place has, and rests on the same.
@@ -60,4 +70,21 @@ pub fn final_classes_are_not_extended()
         → define_fault cs loader file ≡ None → ExtendNoFinal (defined cs loader file) }
     ensures gathered { (files : List ClassFile) (out cs : Classes) (waiting left : List ℕ)
         → Gathers files out cs waiting left → AreInOrder cs → ExtendNoFinal cs → ExtendNoFinal out }
+{}
+
+/// Of the methods that a row is told to run each is run by a call, each that a call runs is told, and two are different ones.
+pub fn told_methods_run()
+    ensures run { (cs : Classes) (row : Row) (m : MethodId)
+        → list_any (λ n. is_same n m) (methods_run cs row) ≡ list_any (λ n. is_same n m) (runs cs row (looked_at row.rests_on)) }
+    ensures apart { (cs : Classes) (row : Row) → IsDistinct is_same (methods_run cs row) }
+{}
+
+/// An invokedynamic whose descriptor is the text of a signature (JVMS SE 17 §4.3.3) makes an object of the class or interface that loader 0
+/// has recorded by the name of the signature's result, where that is one. And by the marks of the classes a row meets such objects where
+/// it does by its own words.
+pub fn made_objects_are_marked()
+    ensures results { (cs : Classes) (site : Site) (specifier : CallSiteSpecifier (List ℕ)) (m : Signature)
+        → site.operand ≡ operand.CallSite specifier → IsSignature m → specifier.ty ≡ method_text m
+        → made_by cs site ≡ option_and_then (lookup cs 0) (option_and_then class_of m.returns) }
+    ensures marks { (cs : Classes) (row : Row) → meets_marks (marks_of cs) row ≡ meets_made cs row }
 {}

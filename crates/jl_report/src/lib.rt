@@ -1,8 +1,8 @@
 //! What each invocation of a closed set of classes comes to, which analysers and ahead-of-time compilers ask (JVMS SE 17 §6.5).
 //!
-//! Which files become classes stands in `specs/Gathering`, what a report says of classes, in `specs/Reports`, which links a further class
-//! drops, in `specs/Drops`, how many invocations come to what, in `specs/Totals`, and in which order classes are reported, in
-//! `specs/Order`.
+//! Which files become classes stands in `specs/Gathering`, what a report says of classes, in `specs/Reports`, which methods an invocation
+//! runs, in `specs/Methods`, which receivers may be of a class that no file has, in `specs/Made`, which links a further class drops, in
+//! `specs/Drops`, how many invocations come to what, in `specs/Totals`, and in which order classes are reported, in `specs/Order`.
 #![tactic(auto)]
 
 // Classes.
@@ -11,6 +11,8 @@ mod order;
 
 // What is reported of them.
 mod invocation;
+mod made;
+mod methods;
 mod report;
 mod row;
 mod shape;
@@ -25,8 +27,10 @@ mod laws;
 pub use breaking::{Dropped, is_open, keep_open};
 pub use defining::{Refused, define_all};
 pub use laws::{
-    final_classes_are_not_extended, reported_links_are_from_scratch, undropped_links_stay,
+    final_classes_are_not_extended, made_objects_are_marked, reported_links_are_from_scratch,
+    told_methods_run, undropped_links_stay,
 };
+pub use made::Made;
 pub use order::order_by_name;
 pub use report::Report;
 pub use row::{Finding, Row};

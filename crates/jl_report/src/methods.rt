@@ -1,0 +1,161 @@
+//! Which methods calls of an invocation run.
+
+ghost use Rattle.std.specs.Prelude.{◌≡◌, take, filter_map, option_to_list, IfOk, OnOk};
+ghost use Rattle.jl_types.specs.Values.Ancestry as ancestry;
+ghost use Rattle.jl_report.specs.Reports as reports;
+ghost use Rattle.jl_report.specs.Methods as methods;
+ghost use Rattle.jl_report.specs.Means.Found.{is_among, with_run};
+
+use crate::report::{Report, request_alone};
+use crate::row::{Finding, Row};
+use jl_hierarchy::Classes;
+use jl_relink::{World, dispatch};
+use jl_types::{Answer, ClassId, Key, Link, MethodId, Outcome, Recv, SiteNo};
+use std::alloc::{AllocError, Global};
+
+impl Report {
+    /// The different methods that calls of the row's invocation run, over all classes of receivers that its link looks at, in the order
+    /// of the first receiver that runs each; at most so many. A link that looks at no receivers runs one method, or none. No receiver is
+    /// asked behind the one that runs the last of so many. Each method is sought among those before it. Want of memory is an error.
+    pub fn methods_of(
+        &mut self,
+        alloc: Global,
+        row: &Row,
+        most: usize,
+    ) -> Result<Vec<MethodId>, AllocError>
+        ensures methods { IfOk result (λ found. found.items ≡ take most (methods.methods_run self.old row.now)) }
+        ensures stays { self.new ≡ self.old }
+    {
+        methods_in(alloc, &mut self.world, row, most)
+    }
+}
+
+/// The same in the world.
+fn methods_in(
+    alloc: Global,
+    world: &mut World,
+    row: &Row,
+    most: usize,
+) -> Result<Vec<MethodId>, AllocError>
+    requires { reports.IsBare world.old }
+    ensures methods { IfOk result (λ found. found.items ≡ take most (methods.methods_run world.old.classes row.now)) }
+    ensures classes { world.new.classes ≡ world.old.classes }
+    ensures bare { reports.IsBare world.new }
+{
+    match looked_at(row.rests_on.as_slice()) {
+        Some(class) => {
+            request_alone(world, row.place)?;
+            methods_on(alloc, world, receivers_of(&world.classes, class), most)
+        }
+        None => own_methods(alloc, &row.finding, most),
+    }
+}
+
+/// The class whose receivers a link looks at that rests on these, where it looks at any.
+fn looked_at(keys: &[Key]) -> Option<ClassId>
+    ensures { result ≡ methods.looked_at keys.now }
+{
+    match keys {
+        [Key::Receivers(class), ..] => Some(*class),
+        [Key::Target(_), ..] => None,
+        [Key::Valid(_), ..] => None,
+        [] => None,
+    }
+}
+
+/// The receivers of the class, none where there is no such class.
+fn receivers_of(classes: &Classes, class: ClassId) -> &[ClassId]
+    ensures { result.now ≡ ancestry.receivers classes.now class }
+{
+    if classes.has_class(class) {
+        return classes.receivers(class);
+    }
+    &[]
+}
+
+/// The different methods that calls of the world's only site run on objects of these classes, at most so many. Want of memory is an
+/// error.
+fn methods_on(
+    alloc: Global,
+    world: &World,
+    receivers: &[ClassId],
+    most: usize,
+) -> Result<Vec<MethodId>, AllocError>
+    ensures { IfOk result (λ found. found.items ≡ take most (methods.distinct (filter_map (methods.run_on world.now) receivers.now))) }
+{
+    let mut found = Vec::new(alloc);
+    for receiver in receivers {
+        if found.len() >= most {
+            return Ok(found);
+        }
+        add_run(&mut found, run_on(world, *receiver))?;
+    }
+    Ok(found)
+}
+
+/// What a call of the world's only site runs on an object of the class.
+fn run_on(world: &World, receiver: ClassId) -> Option<MethodId>
+    ensures { result ≡ methods.run_on world.now receiver }
+{
+    match dispatch(world, SiteNo::new(0), Recv::Of(receiver)) {
+        Answer::Run(method) => Some(method),
+        Answer::Throws(_) => None,
+        Answer::Unlinked(_) => None,
+        Answer::BadReceiver => None,
+    }
+}
+
+/// What the link runs, which looks at no receivers: one method, or none; at most so many. Want of memory is an error.
+fn own_methods(alloc: Global, finding: &Finding, most: usize) -> Result<Vec<MethodId>, AllocError>
+    ensures { IfOk result (λ found. found.items ≡ take most (methods.distinct (option_to_list (methods.run_by finding.now)))) }
+{
+    let mut found = Vec::new(alloc);
+    add_run(&mut found, run_by(finding))?;
+    found.truncate(most);
+    Ok(found)
+}
+
+/// What a link runs that looks at no receivers.
+fn run_by(finding: &Finding) -> Option<MethodId>
+    ensures { result ≡ methods.run_by finding.now }
+{
+    match finding {
+        Finding::Linked(link) => run_by_link(link),
+        Finding::Unlinked(_) => None,
+        Finding::NotLinkable(_) => None,
+    }
+}
+
+/// The same of a link.
+fn run_by_link(link: &Link) -> Option<MethodId>
+    ensures { result ≡ methods.run_by_link link.now }
+{
+    match link {
+        Link::Plain(method) => Some(*method),
+        Link::Direct(Outcome::Run(method)) => Some(*method),
+        Link::Direct(Outcome::Throws(_)) => None,
+        Link::Fault(_) => None,
+        Link::Table(_, _) => None,
+        Link::Mega => None,
+    }
+}
+
+/// Adds the method that a call runs, if it runs one that isn't among these. Want of memory is an error.
+fn add_run(found: &mut Vec<MethodId>, run: Option<MethodId>) -> Result<(), AllocError>
+    ensures { OnOk result (found.new.items ≡ with_run found.old.items run) }
+{
+    let Some(method) = run else {
+        return Ok(());
+    };
+    if !is_among(found.as_slice(), &method) {
+        found.push(method)?;
+    }
+    Ok(())
+}
+
+/// Whether the method is one of these.
+fn is_among(found: &[MethodId], method: &MethodId) -> bool
+    ensures { result ≡ is_among found.now method.now }
+{
+    found.iter().any(|other| *other == *method)
+}
