@@ -1,6 +1,7 @@
 #!/usr/bin/env python3
-"""Compares what words ask of `linkd`, how it takes lines, and how it ends with the tables of docs/FORMATS.md, "Lines" and "Reports": its
-answers, its exit status, and its line on the standard error.
+"""Compares what words ask of `linkd`, how it takes lines, and how it ends with the tables of docs/FORMATS.md, "Lines", "Reports" and
+"Usage": its answers, its exit status, and its line on the standard error. Each usage is held to the options that the documents name, to
+docs/linkd.1 and to the version of tools/install.sh, and its examples are run.
 
     bench/ends.py [--quiet] PROGRAM     PROGRAM is the built linkd; with --quiet nothing is printed where all is as it must be
 
@@ -11,12 +12,15 @@ without threads is one of a user that may have none; where this runs as root, th
 It ends with status 0 only where all is as it must be, and takes a few seconds.
 """
 import os
+import pathlib
+import re
 import resource
 import shutil
 import subprocess
 import sys
 import tempfile
 
+TOP = pathlib.Path(__file__).resolve().parent.parent
 LINKS, NO_LINKS = b'{"do":"links"}\n', b'{"links":[]}\n'
 FARM_OF_NONE = b'{"links":[],"reports":[]}\n'
 OBJECT = b'{"do":"define","loader":0,"sketch":{"name":"java/lang/Object","flags":33}}\n'
@@ -40,15 +44,25 @@ ASKING = (
     "farm --workers=4 --, farm --workers +4, farm --workers=0004"
 )
 ASKING_NOTHING = (
-    "--, -- scan, scan -- scan, , sketch scan, sketches, run scan, Scan, sc, help, help scan, --help, -h, --version, -V, scan scan, "
-    "scan --help, scan -h, scan help, scan --workers 2, farm, farm --, farm 4, farm --workers, farm --workers=, farm --workers 0, "
+    "--, -- scan, scan -- scan, sketch scan, sketches, run scan, Scan, sc, --version, -V, scan scan, scan -- --help, scan -- help, "
+    "sc help, scan scan help, helps, --hel, scan --workers 2, farm, farm --, farm 4, farm --workers, farm --workers=, farm --workers 0, "
     "farm --workers 17, farm --workers 260, farm --workers -1, farm --workers=-1, farm --workers four, farm --workers 4.0, "
     "farm --workers=4=4, farm --workers 4 --workers 4, farm --workers=4 --workers=4, farm --workers --workers 4, farm --workers 4 5, "
     "farm --workers 4 scan, farm --workers 4 -- 5, farm --workers -- 4, farm -- --workers 4, --workers 4 farm, farm --worker 4, farm -w 4, "
-    "farm --workers 4 --help, farms --workers 4"
+    "farms --workers 4"
 )
-NONE = ([], ["help"], ["--help"], ["scan", "run"], ["Scan"], ["farm"], ["farm", "--workers"], ["farm", "2"])
-NO_REPORTS = (["report"], ["report", "--only", "any", "/"], ["report", "--lines", "/"], ["report", "--help"])
+NONE = ([""], ["scan", "run"], ["Scan"], ["farm"], ["farm", "--workers"], ["farm", "2"])
+NO_REPORTS = (["report"], ["report", "--only", "any", "/"], ["report", "--lines", "/"])
+# Words that ask for help, by the subcommand whose usage it is, if any; and the sections of docs/FORMATS.md that name its options.
+HELP = {
+    "": ", help, --help, -h, help help, help unknown, help -- scan, help --help, --help scan, -h report /, --workers 4 --help, sc --help",
+    "scan": "help scan, scan help, scan --help, scan -h, scan help run, scan x --help, help scan --, help scan x, scan --help -- x",
+    "sketch": "help sketch, sketch help, sketch --help, sketch -h",
+    "run": "help run, run help, run --help, run -h, help run --help",
+    "farm": "help farm, farm help, farm --help, farm -h, farm --workers 4 --help, farm --workers -h, farm help --workers 4",
+    "report": "help report, report --help, report -h, report / --help, report help --help, report --only --help, report --html x -h -- /",
+}
+OPTIONS_IN = {"farm": "Commands", "report": "Reports"}
 NO_CLASSES = b"0 invocations in 0 methods of 0 classes\n"
 COUNTS = ("0", "17", "-1", "two", "", "256")
 MEGABYTE = 1 << 20
@@ -92,12 +106,76 @@ def reports(rows, program):
         nowhere = f"{folder}/nowhere"
         told = f"linkd: {nowhere}: entity not found\n".encode() + FAILED[1]
         rows.expect("a report of no path", run(program, ["report", nowhere, folder]), ((FAILED[0], told), NO_CLASSES))
+        for asked in (["help"], ["--", "--help"], ["--", "-h"]):
+            told = f"linkd: {asked[-1]}: entity not found\n".encode() + FAILED[1]
+            rows.expect(f"a report of the path {asked}", run(program, ["report", *asked], cwd=folder), ((FAILED[0], told), NO_CLASSES))
         with open("/dev/full", "wb") as full:
             rows.expect("a report into a full device", run(program, ["report", folder], stdout=full)[0], FAILED)
         reader, writer = os.pipe()
         os.close(reader)
         rows.expect("a report into a closed pipe", run(program, ["report", folder], stdout=writer)[0], ENDED)
         os.close(writer)
+
+
+def usage(rows, program, topic):
+    """The usage of the subcommand, or of the program, which is the same whatever words ask for it."""
+    texts = set()
+    for asked in map(str.split, HELP[topic].split(",")):
+        end, text = run(program, asked, LINKS)
+        rows.expect(f"the words {asked}", end, BAD_WORDS)
+        texts.add(text.decode())
+    rows.expect(f"how many usages there are of {topic!r}", len(texts), 1)
+    return texts.pop()
+
+
+def section(name):
+    """The section of docs/FORMATS.md."""
+    return (TOP / "docs/FORMATS.md").read_text().split(f"\n## {name}\n")[1].split("\n## ")[0]
+
+
+def options_in(text):
+    return set(re.findall(r"(?<![\w-])--[a-z][a-z-]*", text))
+
+
+def examples(rows, program, text):
+    """Runs the examples of a usage where it says so, which is there at hand as `linkd`."""
+    with tempfile.TemporaryDirectory() as folder:
+        os.symlink(program, f"{folder}/linkd")
+        devices = {"cwd": TOP / "crates/linkd", "env": os.environ | {"PATH": f"{folder}:{os.environ['PATH']}"}}
+        lines = re.findall("^  (.*)", text.split("\nExamples, in crates/linkd of the sources:\n")[1], re.MULTILINE)
+        for line in lines:
+            end, answers = run("bash", ["-o", "pipefail", "-c", line], **devices)
+            rows.expect(f"the example {line}", (end, answers != b"", b"BadCommand" in answers), (ENDED, True, False))
+        rows.expect("whether there are examples", lines != [], True)
+
+
+def helps(rows, program):
+    version = re.search("^Version: (.*)$", (TOP / "tools/install.sh").read_text(), re.MULTILINE)[1]
+    page = (TOP / "docs/linkd.1").read_text().replace("\\-", "-")
+    usages, taken = {topic: usage(rows, program, topic) for topic in HELP}, {"--help"}
+    for topic, text in usages.items():
+        named = set(re.findall("^ +(--[a-z-]+)", text.partition("\nOptions:\n")[2], re.MULTILINE))
+        wanted = options_in(section(OPTIONS_IN[topic])) if topic in OPTIONS_IN else set()
+        told = f"the usage of {topic!r}"
+        rows.expect(f"{told}, its first line", text.partition("\n")[0], f"linkd {version}")
+        rows.expect(f"{told}, the options that it lacks", wanted - named, set())
+        rows.expect(f"{told}, its call", text.partition("\nUsage: ")[2].startswith(f"linkd {topic}".strip()), True)
+        rows.expect(f"{told}, whether it says what prints it", f"`linkd {topic or 'COMMAND'} --help`" in text, True)
+        examples(rows, program, text)
+        taken |= named
+    rows.expect("usages that are alike", len(usages) - len(set(usages.values())), 0)
+    for topic in filter(None, HELP):
+        about = usages[topic].split("\n")[2]
+        rows.expect(f"what the program's usage says of {topic}", re.findall(f"^  {topic} +(.*)", usages[""], re.MULTILINE), [about])
+    rows.expect("the options of docs/linkd.1", options_in(re.sub(r"(?s)\n\.EX\n.*?\n\.EE\n", "\n", page)), taken)
+    rows.expect("the version of docs/linkd.1", f'"linkd {version}"' in page, True)
+    rows.expect("the version of docs/FORMATS.md", f"`linkd {version}`" in section("Usage"), True)
+    with open("/dev/full", "wb") as full:
+        rows.expect("a usage into a full device", run(program, ["help"], stdout=full)[0], FAILED)
+    reader, writer = os.pipe()
+    os.close(reader)
+    rows.expect("a usage into a closed pipe", run(program, ["help"], stdout=writer)[0], BAD_WORDS)
+    os.close(writer)
 
 
 # Inputs by their modes, and how many lines they have, all of them bad: an empty line is one, a last line without a newline is one unless
@@ -187,10 +265,11 @@ def threads(rows, program):
 
 
 def main(*words_given):
-    program, quiet = words_given[-1], "--quiet" in words_given
+    program, quiet = os.path.abspath(words_given[-1]), "--quiet" in words_given
     rows = Rows()
     words(rows, program)
     reports(rows, program)
+    helps(rows, program)
     lines(rows, program)
     batches(rows, program)
     devices(rows, program)

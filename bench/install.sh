@@ -1,6 +1,6 @@
 #!/usr/bin/env bash
 # Tries tools/install.sh: a host is built by pkg-config, with the shared library and with the archive, and makes each call of the header.
-# Where the program isn't built, nothing is installed but on demand.
+# Where the program isn't built, nothing is installed but on demand; its page is installed with it alone.
 #
 #     bench/install.sh
 #
@@ -29,8 +29,9 @@ sed -nE '/^static /!s/^[a-z][a-z0-9_ ]* (linkd_[a-z_]*)\(.*/\1/p' "$prefix/inclu
 diff "$work/declared" "$work/exported"
 
 # A copy of what is installed, with a program that isn't there, and then one in its place.
-mkdir -p "$work/copy/crates/linkd/out"
+mkdir -p "$work/copy/crates/linkd/out" "$work/copy/docs"
 cp -r "$top/tools" "$top/include" "$work/copy"
+cp "$top/docs/linkd.1" "$work/copy/docs"
 export LINKD_ARCHIVE="$prefix/lib/liblinkd.a"
 refuses() {
     local wanted=$1 status=0
@@ -50,5 +51,7 @@ printf '#!/bin/sh\necho linkd\n' > "$work/copy/crates/linkd/out/linkd"
 chmod +x "$work/copy/crates/linkd/out/linkd"
 "$work/copy/tools/install.sh" "$work/whole"
 [ "$("$work/whole/bin/linkd")" = linkd ]
+cmp "$top/docs/linkd.1" "$work/whole/share/man/man1/linkd.1"
 [ ! -e "$prefix/bin" ]
+[ ! -e "$prefix/share" ]
 echo "all as it must be"

@@ -1,10 +1,11 @@
 #!/usr/bin/env bash
-# Puts the program, the header, the library and its description for pkg-config below a folder.
+# Puts the program, its page for man, the header, the library and its description for pkg-config below a folder.
 #
 #     tools/install.sh PREFIX
-#     tools/install.sh --library PREFIX   all but the program
+#     tools/install.sh --library PREFIX   all but the program and its page
 #
 #     PREFIX/bin/linkd                    crates/linkd/out/linkd, which `rt run` in crates/linkd makes
+#     PREFIX/share/man/man1/linkd.1       its page for man
 #     PREFIX/include/linkd.h
 #     PREFIX/lib/liblinkd.a, liblinkd.so
 #     PREFIX/lib/pkgconfig/linkd.pc
@@ -50,6 +51,7 @@ Cflags: -I"\${includedir}"
 Libs: -L"\${libdir}" -Wl,-rpath,"\${libdir}" -llinkd
 PC
 if [ -n "$program" ]; then
-    mkdir -p "$prefix/bin"
+    mkdir -p "$prefix/bin" "$prefix/share/man/man1"
     install -m 755 "$program" "$prefix/bin/linkd"
+    install -m 644 "$top/docs/linkd.1" "$prefix/share/man/man1/linkd.1"
 fi

@@ -71,7 +71,7 @@ count_read (x ∷ xs) e =
     let small : nat_lt (number (x ∷ xs)) 256 ≡ true = lt-ltb _ _ (omega (arith, read.1.2)) in
     ap count_of same ∙ rw (numeral_test (x ∷ xs) read.1, small) refl
 
-no_minus : (text : Text) → IsCount text → starts_with_minus text ≡ true → ⊥
+pub no_minus : (text : Text) → IsCount text → starts_with_minus text ≡ true → ⊥
 no_minus [] h e = absurd (omega (arith, h.0.0))
 no_minus (x ∷ xs) h e =
     let minus : x ≡ 45 = eqb-true _ _ e in

@@ -5,10 +5,11 @@ ghost use Rattle.std.specs.Prelude.{string_bytes};
 ghost use Rattle.clap.specs.Words.{app_of, found_of, kind_of, one_text, rule_of, subcommand_rows_of};
 ghost use Rattle.clap.specs.declared.error.kind.ErrorKind.TheVariants.{OutOfMemory};
 ghost use Rattle.jl_words.specs.declared.words.WordsFault.TheVariants.{BadWords, Memory};
-ghost use Rattle.jl_words.specs.Words.{AskFor, AskForNothing};
-ghost use Rattle.jl_words.specs.Means.CommandLine.{with_scan, with_sketch, with_run, linkd, workers, farm};
+ghost use Rattle.jl_words.specs.Words.{AskFor, AskForNothing, word_of};
+ghost use Rattle.jl_words.specs.Means.CommandLine.{bare_command, with_scan, with_sketch, with_run, linkd, workers, farm};
 ghost use Rattle.jl_words.specs.Means.CommandLine.{mode_of, count_of, asked_by};
 
+use crate::texts;
 use clap::error::ErrorKind;
 use clap::{Arg, ArgAction, ArgMatches, Command, Error as ClapError, value_parser};
 use std::alloc::{AllocError, Global};
@@ -64,6 +65,29 @@ fn fault_of(error: &ClapError) -> WordsFault
     }
 }
 
+/// The subcommand that answers lines so.
+pub(crate) fn lines<'a>(alloc: Global, mode: Mode) -> Command<'a>
+    ensures { app_of result ≡ bare_command (word_of mode) }
+{
+    match mode {
+        Mode::Scan => Command::new(alloc, "scan")
+            .disable_help_flag(true)
+            .about(texts::SCAN)
+            .override_usage("linkd scan < FILE")
+            .after_help(texts::BEHIND_SCAN),
+        Mode::Sketch => Command::new(alloc, "sketch")
+            .disable_help_flag(true)
+            .about(texts::SKETCH)
+            .override_usage("linkd sketch < FILE")
+            .after_help(texts::BEHIND_SKETCH),
+        Mode::Run => Command::new(alloc, "run")
+            .disable_help_flag(true)
+            .about(texts::RUN)
+            .override_usage("linkd run < FILE")
+            .after_help(texts::BEHIND_RUN),
+    }
+}
+
 /// The program with its first subcommand.
 fn with_scan<'a>(alloc: Global) -> Result<Command<'a>, AllocError>
     ensures { IfOk result (λ command. app_of command ≡ with_scan) }
@@ -72,21 +96,23 @@ fn with_scan<'a>(alloc: Global) -> Result<Command<'a>, AllocError>
         .disable_help_flag(true)
         .disable_help_subcommand(true)
         .subcommand_required(true)
-        .subcommand(Command::new(alloc, "scan").disable_help_flag(true))
+        .about(texts::PROGRAM)
+        .after_help(texts::BEHIND_PROGRAM)
+        .subcommand(lines(alloc, Mode::Scan))
 }
 
 /// The program with its first two subcommands.
 fn with_sketch<'a>(alloc: Global) -> Result<Command<'a>, AllocError>
     ensures { IfOk result (λ command. app_of command ≡ with_sketch) }
 {
-    with_scan(alloc)?.subcommand(Command::new(alloc, "sketch").disable_help_flag(true))
+    with_scan(alloc)?.subcommand(lines(alloc, Mode::Sketch))
 }
 
 /// The program with its subcommands that answer lines.
 fn with_run<'a>(alloc: Global) -> Result<Command<'a>, AllocError>
     ensures { IfOk result (λ command. app_of command ≡ with_run) }
 {
-    with_sketch(alloc)?.subcommand(Command::new(alloc, "run").disable_help_flag(true))
+    with_sketch(alloc)?.subcommand(lines(alloc, Mode::Run))
 }
 
 /// The option that says how many workers a farm has.
@@ -99,19 +125,24 @@ fn workers<'a>(alloc: Global) -> Arg<'a>
         .required(true)
         .action(ArgAction::Set)
         .value_parser(value_parser!(u8).range(1..=16))
+        .value_name("N")
+        .help("How many workers link, from 1 to 16")
 }
 
 /// The subcommand that asks for a farm.
-fn farm<'a>(alloc: Global) -> Result<Command<'a>, AllocError>
+pub(crate) fn farm<'a>(alloc: Global) -> Result<Command<'a>, AllocError>
     ensures { IfOk result (λ command. app_of command ≡ farm) }
 {
     Command::new(alloc, "farm")
         .disable_help_flag(true)
+        .about(texts::FARM)
+        .override_usage("linkd farm --workers N < FILE")
+        .after_help(texts::BEHIND_FARM)
         .arg(workers(alloc))
 }
 
 /// The words of the program, as clap takes them.
-fn command<'a>(alloc: Global) -> Result<Command<'a>, AllocError>
+pub(crate) fn command<'a>(alloc: Global) -> Result<Command<'a>, AllocError>
     ensures { IfOk result (λ command. app_of command ≡ linkd) }
 {
     with_run(alloc)?.subcommand(farm(alloc)?)

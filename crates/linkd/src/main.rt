@@ -3,8 +3,8 @@
 //! `linkd scan` reads class files, a line each, and answers what they show. `linkd sketch` writes small class files. `linkd run` reads
 //! commands, a line each, and answers them on one core: it defines classes, links invocations and answers calls. `linkd farm` obeys
 //! commands on a link server, and then links all requested sites by a farm of workers. `linkd report` reads class files from paths, and says
-//! what each invocation comes to. How the program ends, with which exit status and which line on the standard error, is an `Ending` of
-//! jl_cli.
+//! what each invocation comes to. Words that ask for help are answered by the usage. How the program ends, with which exit status and which
+//! line on the standard error, is an `Ending` of jl_cli.
 #![tactic(auto)]
 
 ghost use Rattle.std.specs.Prelude.{◌≡◌, ◌≤◌};
@@ -12,9 +12,11 @@ ghost use Rattle.std.specs.Process.{exit_status};
 ghost use Rattle.jl_cli.specs.Endings.{status_of};
 
 use jl_cli::{Counted, Ending, Mode, Words, WordsFault, read_words, run_farm, run_lines};
-use jl_listing::{Asked, ReportFault, read_asked, run_report};
+use jl_listing::{Asked, ReportFault, read_asked, report_usage, run_report};
+use jl_words::{HEADING, REPORT, Topic, help_asked, usage_of};
+use std::alloc::{AllocError, Global};
 use std::env;
-use std::io::ErrorKind;
+use std::io::{ErrorKind, Write};
 use std::process::ExitCode;
 use std::sync::Wait;
 use std::thread::Threads;
@@ -82,6 +84,29 @@ fn obey(rt: &HostRuntime, threads: &(impl Threads + Wait + Sync), words: &[Strin
     }
 }
 
+/// The usage of the topic. Want of memory is an error.
+fn usage(alloc: Global, topic: Topic) -> Result<String, AllocError> {
+    match topic {
+        Topic::Report => report_usage(alloc, HEADING, REPORT),
+        _ => usage_of(alloc, topic),
+    }
+}
+
+/// Writes the usage of the topic. The words that ask for it are bad words nonetheless, also where its reader closed the pipe.
+fn explain(rt: &HostRuntime, topic: Topic) -> Ending {
+    let Ok(text) = usage(rt.alloc(), topic) else {
+        return Ending::OutOfMemory;
+    };
+    match rt.stdout().write_all(text.as_bytes()) {
+        Ok(()) => Ending::BadWords,
+        Err(error) => match error.kind() {
+            ErrorKind::BrokenPipe => Ending::BadWords,
+            ErrorKind::OutOfMemory => Ending::OutOfMemory,
+            _ => Ending::DeviceFailed,
+        },
+    }
+}
+
 /// The words behind the program's name, where the first of them is `report`.
 fn report_words(words: &[String]) -> Option<&[String]> {
     let (_name, rest) = words.split_first()?;
@@ -102,9 +127,10 @@ fn told(rt: &HostRuntime, ending: Ending) -> ExitCode
 
 fn main(rt: HostRuntime) -> ExitCode {
     let ending = match own_words(&rt) {
-        Ok(words) => match report_words(&words) {
-            Some(rest) => obey_report(&rt, rest),
-            None => obey(&rt, &rt, &words),
+        Ok(words) => match (help_asked(&words), report_words(&words)) {
+            (Some(topic), _) => explain(&rt, topic),
+            (None, Some(rest)) => obey_report(&rt, rest),
+            (None, None) => obey(&rt, &rt, &words),
         },
         Err(fault) => fault.into(),
     };

@@ -20,14 +20,18 @@ bare_command name = record (new_app name) {
   top = record (new_app name).top { disable_help_flag = true };
 }
 
-abbrev pub with_scan : App
-with_scan = with_subcommand (record (new_app (codes "linkd")) {
+-- the program, which wants a subcommand and has none
+abbrev pub without_subcommands : App
+without_subcommands = record (new_app (codes "linkd")) {
   top = record (new_app (codes "linkd")).top {
     disable_help_flag = true;
     disable_help_subcommand = true;
     subcommand_required = true;
   };
-}) (bare_command (word_of Scan)).top
+}
+
+abbrev pub with_scan : App
+with_scan = with_subcommand without_subcommands (bare_command (word_of Scan)).top
 
 abbrev pub with_sketch : App
 with_sketch = with_subcommand with_scan (bare_command (word_of Sketch)).top
@@ -41,6 +45,7 @@ workers = record (new_rule (codes "workers")) {
   long = Some (codes "workers");
   required = true;
   action = Some Set;
+  value_names = 1;
   parser = Some (Signed (pos 1) (pos 16));
 }
 

@@ -1,0 +1,103 @@
+//! Whether the words of the program ask for help, and on what.
+
+ghost use Rattle.std.specs.Prelude.{◌≡◌, map, string_bytes};
+ghost use Rattle.jl_words.specs.Help.{topic_of, first_topic, has_flag, has_help_first, takes_help};
+ghost use Rattle.jl_words.specs.Help.{asked_behind, help_asked};
+
+/// What a usage is of.
+#[derive(Clone, Copy, Debug, PartialEq, Eq)]
+pub enum Topic {
+    /// The whole program.
+    Program,
+    /// The subcommand that reads class files.
+    Scan,
+    /// The subcommand that writes class files.
+    Sketch,
+    /// The subcommand that obeys commands.
+    Run,
+    /// The subcommand that links by threads.
+    Farm,
+    /// The subcommand that reports class files on disk.
+    Report,
+}
+
+/// The subcommand of this name.
+fn topic_of(name: &str) -> Option<Topic>
+    ensures { result ≡ topic_of name.now }
+{
+    match name {
+        "scan" => Some(Topic::Scan),
+        "sketch" => Some(Topic::Sketch),
+        "run" => Some(Topic::Run),
+        "farm" => Some(Topic::Farm),
+        "report" => Some(Topic::Report),
+        _ => None,
+    }
+}
+
+/// The subcommand that the first word names, or else the program.
+fn first_topic(words: &[String]) -> Topic
+    ensures { result ≡ first_topic (map string_bytes words.now) }
+{
+    let Some((word, _rest)) = words.split_first() else {
+        return Topic::Program;
+    };
+    topic_of(word.as_str()).unwrap_or(Topic::Program)
+}
+
+/// Whether a flag for help stands among the words, before any word `--`.
+fn has_flag(words: &[String]) -> bool
+    ensures { result ≡ has_flag (map string_bytes words.now) }
+{
+    for word in words {
+        match word.as_str() {
+            "--" => return false,
+            "--help" | "-h" => return true,
+            _ => {}
+        }
+    }
+    false
+}
+
+/// Whether the first word is `help`.
+fn has_help_first(words: &[String]) -> bool
+    ensures { result ≡ has_help_first (map string_bytes words.now) }
+{
+    match words.split_first() {
+        Some((word, _rest)) => word.as_str() == "help",
+        None => false,
+    }
+}
+
+/// Whether the word names a subcommand behind which the word `help` asks for help.
+fn takes_help(word: &str) -> bool
+    ensures { result ≡ takes_help word.now }
+{
+    topic_of(word).is_some() && word != "report"
+}
+
+/// What the words ask for help on that stand behind the program's name.
+fn asked_behind(words: &[String]) -> Option<Topic>
+    ensures { result ≡ asked_behind (map string_bytes words.now) }
+{
+    let Some((word, rest)) = words.split_first() else {
+        return Some(Topic::Program);
+    };
+    if word.as_str() == "help" {
+        return Some(first_topic(rest));
+    }
+    if has_flag(words) || (has_help_first(rest) && takes_help(word.as_str())) {
+        return Some(first_topic(words));
+    }
+    None
+}
+
+/// What the words ask for help on, the program's name first; none, where they ask for no help.
+pub fn help_asked(words: &[String]) -> Option<Topic>
+    ensures { result ≡ help_asked (map string_bytes words.now) }
+{
+    match words.split_first() {
+        Some((_name, rest)) => asked_behind(rest),
+        None => Some(Topic::Program),
+    }
+}
