@@ -1,0 +1,299 @@
+#!/usr/bin/env python3
+"""Makes a folder of class files out of a class path as people have it: the classes that a JVM finds there, a file for each.
+
+    tools/classes.py [--release N] [--limit BYTES] OUT PATH.. [--jdk [HOME]]
+
+OUT/java/lang/Object.class is the file of java/lang/Object. A PATH is one of these, and of two files of one class the one that comes first
+is kept; the other is told on standard error:
+
+    a folder     the .class files at and below it
+    a jar        the same; where its manifest says `Multi-Release: true`, with those below META-INF/versions/K over them, the highest K
+                 up to N last (by --release; 17), all as java.util.jar.JarFile reads it: K from 8 on, and of two members of one name
+                 the last
+    a .war       WEB-INF/classes, then the jars in WEB-INF/lib by their names
+    a jar of Spring Boot    BOOT-INF/classes, then the jars in BOOT-INF/lib, first those that BOOT-INF/classpath.idx names, in its
+                 order, then the others in the archive's; the classes of its launcher, which lie beside these folders, are left out
+    a .jmod      what lies in its folder `classes`
+
+--jdk is a JDK's own classes, which come before all paths, as in a JVM: of HOME/lib/modules by HOME/bin/jimage, else of HOME/jmods. Without
+HOME it is JAVA_HOME, else that of the PATH's java. The script needs Python 3.8.
+
+A class has the name of its place, as for a class loader. Files module-info.class and those below META-INF are no classes. Jars in
+libraries aren't unpacked, and the Class-Path of a manifest isn't followed; that is told on standard error.
+It ends with status 0 and a line that counts the classes; or with status 2 and a line that says why, and makes nothing: a path that isn't
+there or is none of these; an OUT that isn't empty, or lies in a PATH; a name that leads out of OUT; a symbolic link in a folder or an
+archive; a .class that doesn't begin as a class file; an encrypted member; a damaged archive, or one in which a JVM finds nothing since its
+manifest is malformed; more than BYTES read (2,000,000,000), whatever the archives say; two classes that no file system has side by side.
+"""
+
+import argparse
+import os
+import re
+import shutil
+import stat
+import subprocess
+import sys
+import tempfile
+import zipfile
+import zlib
+
+MANIFEST = "META-INF/MANIFEST.MF"
+
+
+class Refused(Exception):
+    """Why nothing is made."""
+
+
+def tell(text):
+    print(f"classes.py: {text}", file=sys.stderr)
+
+
+def is_class(name):
+    """Whether a file of this name, below its path, is a class's."""
+    return name.endswith(".class") and not name.startswith("META-INF/") and name.split("/")[-1] != "module-info.class"
+
+
+def main_section(manifest):
+    """The attributes of a manifest's main section by their names in lower case, as java.util.jar.Attributes reads them, which drops a last
+    line without its end; None where it throws."""
+    attributes, name = {}, None
+    for line in re.finditer(rb"([^\r\n]*)(?:\r\n|\r|\n)|[^\r\n]{512}", manifest):
+        text = line[1]
+        if text is None or len(text) > 511:
+            return None
+        if not text:
+            break
+        if text.startswith(b" ") and name:
+            value += text[1:]
+        else:
+            name, colon, value = text.partition(b": ")
+            if not colon or not re.fullmatch(rb"[\w-]{1,70}", name):
+                return None
+        if manifest[line.end() : line.end() + 1] != b" ":
+            attributes[name.decode().lower()] = value.decode("utf-8", "replace")
+    return attributes
+
+
+def is_multi_release(manifest, source):
+    """Whether java.util.jar.JarFile takes it so: its bytes have to say it in one line, and the main section, too."""
+    if b"MULTI-RELEASE: TRUE" not in manifest.upper():
+        return False
+    attributes = main_section(manifest)
+    if attributes is None:
+        raise Refused(f"{source}: its manifest is malformed, and a JVM finds nothing in it")
+    return attributes.get("multi-release", "").lower() == "true"
+
+
+class Archive:
+    """An archive, with each member by its name: of two of one name the last, as java.util.zip.ZipFile finds it."""
+
+    def __init__(self, file, source):
+        self.zip, self.source, self.members = zipfile.ZipFile(file), source, {}
+        for member in self.zip.infolist():
+            name = member.orig_filename
+            if not member.flag_bits & 0x800:
+                name = name.encode("cp437").decode("utf-8")
+            if member.flag_bits & 1:
+                raise Refused(f"{source}: an encrypted member: {name!r}")
+            if stat.S_ISLNK(member.external_attr >> 16):
+                raise Refused(f"{source}: a symbolic link: {name!r}")
+            if member.compress_type not in (zipfile.ZIP_STORED, zipfile.ZIP_DEFLATED):
+                raise Refused(f"{source}: a member that a JVM can't unpack: {name!r}")
+            if name.endswith(".class") and name in self.members:
+                tell(f"{source}: {name} comes twice in it, and the last is kept, as by a JVM")
+            self.members[MANIFEST if name.upper() == MANIFEST else name] = member
+
+    def below(self, prefix):
+        """The member of each class below a folder, by its file."""
+        return {name[len(prefix) :]: name for name in self.members if name.startswith(prefix) and is_class(name[len(prefix) :])}
+
+    def versions(self, release):
+        """The versions that a JVM of this release looks at, rising."""
+        found = (re.match(r"META-INF/versions/([1-9]\d{0,8})/", name) for name in self.members)
+        return sorted(version for version in {int(place[1]) for place in found if place} if 8 <= version <= release)
+
+
+class Classes:
+    """The class files that are taken, in a folder."""
+
+    def __init__(self, room, release, limit):
+        self.room, self.release, self.limit = room, release, limit
+        self.count_read, self.sources = 0, {}
+
+    def chunks(self, stream):
+        """What a stream gives, counted as it comes."""
+        while chunk := stream.read(1 << 20):
+            self.count_read += len(chunk)
+            if self.count_read > self.limit:
+                raise Refused(f"more than {self.limit} bytes of classes and libraries")
+            yield chunk
+
+    def take(self, name, source, stream):
+        """Takes a class file, unless its class was found before."""
+        if {"", ".", ".."} & set(name.split("/")) or re.match("[A-Za-z]:", name) or re.search(r"[\\\0]", name):
+            raise Refused(f"{source}: a name that leads out of its folder: {name!r}")
+        if name in self.sources:
+            tell(f"{name[:-6]} is in {self.sources[name]} and in {source}, and the first is kept")
+            return
+        self.sources[name] = source
+        path, first = os.path.join(self.room, name), None
+        os.makedirs(os.path.dirname(path), exist_ok=True)
+        with open(path, "xb") as file:
+            for chunk in self.chunks(stream):
+                first = first or chunk[:4]
+                file.write(chunk)
+        if first != b"\xca\xfe\xba\xbe":
+            raise Refused(f"{source}: {name} is no class file")
+
+    def folder(self, top, source):
+        """Takes the class files of a folder."""
+        unread = []
+        for here, folders, files in os.walk(top, onerror=unread.append):
+            folders.sort()
+            below = "" if here == top else os.path.relpath(here, top).replace(os.sep, "/") + "/"
+            for name in sorted(files + folders):
+                path, is_wanted = os.path.join(here, name), name not in folders and is_class(below + name)
+                if os.path.islink(path) and (is_wanted or os.path.isdir(path)):
+                    raise Refused(f"{source}: a symbolic link: {path!r}")
+                if is_wanted:
+                    if not os.path.isfile(path):
+                        raise Refused(f"{source}: {below + name} is no file")
+                    with open(path, "rb") as stream:
+                        self.take(below + name, source, stream)
+        if unread:
+            raise unread[0]
+
+    def members(self, archive, found):
+        """Takes these members of an archive, by their classes' files."""
+        for name, member in found.items():
+            with archive.zip.open(archive.members[member]) as stream:
+                self.take(name, archive.source, stream)
+
+    def text(self, archive, name):
+        """The bytes of a member, none where it isn't there."""
+        return b"".join(self.chunks(archive.zip.open(archive.members[name]))) if name in archive.members else b""
+
+    def jar(self, archive):
+        """Takes the class files of a jar."""
+        manifest, found = self.text(archive, MANIFEST), archive.below("")
+        if is_multi_release(manifest, archive.source) and self.release > 8:
+            for version in archive.versions(self.release):
+                found.update(archive.below(f"META-INF/versions/{version}/"))
+        if class_path := (main_section(manifest) or {}).get("class-path"):
+            tell(f"{archive.source}: the Class-Path of its manifest isn't followed: {class_path}")
+        self.members(archive, found)
+
+    def application(self, archive, top):
+        """Takes the class files below the folder `classes`, and then those of the jars below `lib`."""
+        self.members(archive, archive.below(f"{top}/classes/"))
+        names = [name for name in archive.members if name.startswith(f"{top}/lib/") and name.endswith(".jar")]
+        if top == "WEB-INF":
+            names = index = sorted(name for name in names if name.count("/") == 2)
+        else:
+            index = re.findall(r'^\s*- "(.*)"\s*$', self.text(archive, f"{top}/classpath.idx").decode(), re.M)
+        for name in dict.fromkeys([*index, *names]):
+            if name not in names:
+                tell(f"{archive.source}: {top}/classpath.idx names {name}, which isn't there")
+                continue
+            with tempfile.TemporaryFile() as file:
+                with archive.zip.open(archive.members[name]) as stream:
+                    file.writelines(self.chunks(stream))
+                self.archive(file, f"{archive.source}!/{name}", is_library=True)
+
+    def archive(self, file, source, is_library=False):
+        """Takes the class files of an archive, by its form."""
+        try:
+            file.seek(0)
+            start, archive = file.read(4), Archive(file, source)
+            if is_library:
+                self.jar(archive)
+            elif start == b"JM\1\0":
+                self.members(archive, archive.below("classes/"))
+            elif source.lower().endswith(".war"):
+                self.application(archive, "WEB-INF")
+            elif any(name.startswith(("BOOT-INF/classes/", "BOOT-INF/lib/")) for name in archive.members):
+                self.application(archive, "BOOT-INF")
+            else:
+                self.jar(archive)
+        except (zipfile.BadZipFile, zlib.error, EOFError, UnicodeError, NotImplementedError, ValueError) as error:
+            raise Refused(f"{source}: neither a folder nor an archive that can be read: {error}") from error
+
+    def path(self, path):
+        """Takes the class files of a path."""
+        if os.path.isdir(path):
+            self.folder(path, path)
+        elif os.path.isfile(path):
+            with open(path, "rb") as file:
+                self.archive(file, path)
+        else:
+            raise Refused(f"{path}: there is no such folder or archive")
+
+    def jdk(self, home, room):
+        """Takes the classes of a JDK, with room for all that its modules have."""
+        jimage, modules, jmods = (f"{home}/{place}" for place in ("bin/jimage", "lib/modules", "jmods"))
+        if os.path.isfile(jimage) and os.path.isfile(modules):
+            subprocess.run([jimage, "extract", "--dir", room, modules], stdout=subprocess.DEVNULL, check=True)
+            for module in sorted(os.listdir(room)):
+                self.folder(f"{room}/{module}", f"{module} of {home}")
+        elif os.path.isdir(jmods):
+            for name in sorted(name for name in os.listdir(jmods) if name.endswith(".jmod")):
+                self.path(f"{jmods}/{name}")
+        else:
+            raise Refused(f"{home}: neither jimage with lib/modules nor jmods is there")
+
+
+def check_out(out, paths):
+    """Refuses an OUT that has something in it, or that lies in a folder that is read."""
+    if os.path.lexists(out) and (not os.path.isdir(out) or os.listdir(out)):
+        raise Refused(f"{out}: it is there, and no empty folder")
+    for path in paths:
+        if os.path.isdir(path) and os.path.commonpath([os.path.realpath(path), out]) == os.path.realpath(path):
+            raise Refused(f"{out}: it lies in {path}")
+
+
+def make(words, out):
+    """Makes the folder, and tells how many classes it has."""
+    check_out(out, words.paths)
+    is_new = not os.path.isdir(out)
+    os.makedirs(out, exist_ok=True)
+    room = tempfile.mkdtemp(prefix=".unfinished-", dir=out)
+    try:
+        made, image = os.path.join(room, "made"), os.path.join(room, "image")
+        os.mkdir(made)
+        classes = Classes(made, words.release, words.limit)
+        if words.jdk:
+            classes.jdk(words.jdk, image)
+        for path in words.paths:
+            classes.path(path)
+        for name in os.listdir(made):
+            os.rename(os.path.join(made, name), os.path.join(out, name))
+        is_new = False
+    finally:
+        shutil.rmtree(room)
+        if is_new:
+            os.rmdir(out)
+    print(f"{len(classes.sources)} classes of {len(words.paths) + bool(words.jdk)} paths")
+
+
+def main():
+    read = argparse.ArgumentParser(usage="tools/classes.py [--release N] [--limit BYTES] OUT PATH.. [--jdk [HOME]], or --help")
+    read.print_help = lambda file=None: print(__doc__.strip(), file=file)
+    read.add_argument("--release", type=int, default=17)
+    java = os.path.realpath(shutil.which("java") or "java")
+    read.add_argument("--jdk", nargs="?", const=os.environ.get("JAVA_HOME") or os.path.dirname(os.path.dirname(java)))
+    read.add_argument("--limit", type=int, default=2_000_000_000)
+    read.add_argument("out")
+    read.add_argument("paths", nargs="*")
+    words = read.parse_intermixed_args()
+    if not words.paths and not words.jdk:
+        read.error("no PATH, and no JDK")
+    try:
+        make(words, os.path.realpath(words.out))
+    except (Refused, OSError, subprocess.SubprocessError) as error:
+        tell(error)
+        return 2
+    return 0
+
+
+if __name__ == "__main__":
+    sys.exit(main())
