@@ -5,8 +5,8 @@
 #
 # 2,000 classes, each below the one whose name comes next, so that files by name have children first; links in folders, to a file, to a
 # folder and to nothing; a name that isn't UTF-8; class by class what further classes drop, whose files come in such an order, too. It
-# ends with status 0 only where each report is as it must be. It takes half a minute, most of it the links of the chain, each of which
-# walks up from each receiver.
+# ends with status 0 only where each report is as it must be. It takes a minute, most of it the links of the chain and their methods, each of
+# which walks up from each receiver.
 set -eu
 
 if [ $# != 1 ]; then
@@ -66,24 +66,29 @@ for n in range(2000):
     call = {"kind": "invokevirtual", "of": name, "name": "f", "type": "()V"}
     print(json.dumps({"name": name, "super": above, "flags": 33, "methods": [*own, {"name": "run", "type": "()V", "flags": 9, "calls": [call]}]}))
 END
+none='{"invokedynamic":{},"invokeinterface":{},"invokespecial":{},"invokestatic":{},"invokevirtual":{}}'
 expect "a chain" 0 "" --json --only open --only mega --in C0000 --in C0001 --in C0007 --in C0008 --with lang chain << END
 {"class":"C0000","kind":"invokevirtual","link":{"direct":{"run":"C0000"}},"method":"run","methodType":"()V","name":"f","of":"C0000","pc":0,\
 "restsOn":"C0000","type":"()V"}
 {"class":"C0001","kind":"invokevirtual","link":{"kind":"virtual","table":[["C0001",{"run":"C1999"}],["C0000",{"run":"C0000"}]]},"method":"run",\
-"methodType":"()V","name":"f","of":"C0001","pc":0,"restsOn":"C0001","type":"()V"}
+"methodType":"()V","methods":2,"name":"f","of":"C0001","pc":0,"restsOn":"C0001","type":"()V"}
 {"class":"C0007","kind":"invokevirtual","link":{"kind":"virtual","table":[["C0007",{"run":"C1999"}],["C0006",{"run":"C1999"}],["C0005",\
 {"run":"C1999"}],["C0004",{"run":"C1999"}],["C0003",{"run":"C1999"}],["C0002",{"run":"C1999"}],["C0001",{"run":"C1999"}],["C0000",\
-{"run":"C0000"}]]},"method":"run","methodType":"()V","name":"f","of":"C0007","pc":0,"restsOn":"C0007","type":"()V"}
-{"class":"C0008","kind":"invokevirtual","link":{"mega":true},"method":"run","methodType":"()V","name":"f","of":"C0008","pc":0,"type":"()V"}
-{"classes":4,"leftOut":0,"totals":{"invokedynamic":{},"invokeinterface":{},"invokespecial":{},"invokestatic":{},"invokevirtual":{"direct":1,\
-"mega":1,"table":2}}}
+{"run":"C0000"}]]},"method":"run","methodType":"()V","methods":2,"name":"f","of":"C0007","pc":0,"restsOn":"C0007","type":"()V"}
+{"class":"C0008","kind":"invokevirtual","link":{"mega":true},"method":"run","methodType":"()V","methods":2,"name":"f","of":"C0008","pc":0,\
+"runs":["C1999","C0000"],"type":"()V"}
+{"classes":4,"leftOut":0,"made":$none,"oneMethod":$none,"totals":{"invokedynamic":{},"invokeinterface":{},"invokespecial":{},"invokestatic":{},\
+"invokevirtual":{"direct":1,"mega":1,"table":2}},"twoMethods":{"invokedynamic":{},"invokeinterface":{},"invokespecial":{},"invokestatic":{},\
+"invokevirtual":{"mega":1,"table":2}}}
 END
 expect "the totals of a chain" 0 "" --with lang chain << 'END'
 2000 invocations in 2000 methods of 2000 classes
 invokevirtual                       2000
     direct                             1     0.0 %
     table                              7     0.3 %
+      of two methods                   7     0.3 %
     mega                            1992    99.6 %
+      of two methods                1992    99.6 %
 END
 
 # A link to a folder, one to a class file and one to nothing aren't followed in a folder; a path that is a link is.
@@ -132,7 +137,7 @@ classes further << END
 END
 expect "further classes" 0 "" --sites --with lang --breaks further two << 'END'
 A.run()V
-      0 invokevirtual A.f()V  table of 2: A -> A.f, B -> B.f; rests on the subclasses of A
+      0 invokevirtual A.f()V  table of 2 (2 methods): A -> A.f, B -> B.f; rests on the subclasses of A
       3 invokevirtual B.f()V  direct B.f; rests on the subclasses of B
 dropped by Upper: A.run()V
       0 invokevirtual A.f()V  table of 2: A -> A.f, B -> B.f; rests on the subclasses of A
@@ -143,5 +148,6 @@ links that they drop                   1
 invokevirtual                          2
     direct                             1    50.0 %
     table                              1    50.0 %
+      of two methods                   1    50.0 %
 END
 [ "$wrong" = 0 ] && echo "$count reports are as they must be"

@@ -2,6 +2,7 @@
 
 use crate::chosen::{Choice, Chosen};
 use crate::fault::ReportFault;
+use crate::usage;
 use clap::error::ErrorKind;
 use clap::{Arg, ArgAction, ArgMatches, Command, Error as ClapError};
 use std::alloc::{AllocError, Global};
@@ -21,6 +22,10 @@ pub enum Form {
 #[derive(Debug)]
 pub struct Asked {
     pub form: Form,
+    /// Whether each class is told, too, with what it declares.
+    pub classes: bool,
+    /// Whether all receivers of megamorphic links are asked which methods they run.
+    pub all_receivers: bool,
     /// Which invocations are reported.
     pub chosen: Chosen,
     /// Class files, and folders that have such, whose classes are reported.
@@ -38,6 +43,8 @@ impl Drop for Asked {
     fn drop(self) {
         let Asked {
             form: _form,
+            classes: _classes,
+            all_receivers: _all_receivers,
             chosen: _chosen,
             paths: _paths,
             beside: _beside,
@@ -48,13 +55,20 @@ impl Drop for Asked {
 }
 
 /// A flag that takes no value.
-fn flag<'a>(alloc: Global, name: &'a str) -> Arg<'a> {
-    Arg::new(alloc, name).long(name).action(ArgAction::SetTrue)
+fn flag<'a>(alloc: Global, name: &'a str, help: &'a str) -> Arg<'a> {
+    Arg::new(alloc, name)
+        .long(name)
+        .action(ArgAction::SetTrue)
+        .help(help)
 }
 
-/// An option that takes a path, and may come again.
-fn option<'a>(alloc: Global, name: &'a str) -> Arg<'a> {
-    Arg::new(alloc, name).long(name).action(ArgAction::Append)
+/// An option that takes a value, and may come again.
+fn option<'a>(alloc: Global, name: &'a str, value: &'a str, help: &'a str) -> Arg<'a> {
+    Arg::new(alloc, name)
+        .long(name)
+        .action(ArgAction::Append)
+        .value_name(value)
+        .help(help)
 }
 
 /// The paths, of which there is one at least.
@@ -63,24 +77,28 @@ fn paths<'a>(alloc: Global) -> Arg<'a> {
         .required(true)
         .num_args(1..)
         .action(ArgAction::Append)
+        .value_name("PATH")
+        .help(usage::PATHS)
 }
 
-/// The subcommand with its flags, and what is chosen.
-fn with_choices<'a>(alloc: Global) -> Result<Command<'a>, AllocError> {
+/// The subcommand with its flags.
+fn with_flags<'a>(alloc: Global) -> Result<Command<'a>, AllocError> {
     Command::new(alloc, "report")
         .disable_help_flag(true)
-        .arg(flag(alloc, "json"))?
-        .arg(flag(alloc, "sites"))?
-        .arg(option(alloc, "only"))?
-        .arg(option(alloc, "in"))
+        .arg(flag(alloc, "sites", usage::SITES))?
+        .arg(flag(alloc, "json", usage::JSON))?
+        .arg(flag(alloc, "classes", usage::CLASSES).requires_arg("json")?)?
+        .arg(flag(alloc, "all-receivers", usage::ALL_RECEIVERS))
 }
 
 /// The words of the subcommand, as clap takes them.
-fn command<'a>(alloc: Global) -> Result<Command<'a>, AllocError> {
-    with_choices(alloc)?
-        .arg(option(alloc, "with"))?
-        .arg(option(alloc, "breaks"))?
-        .arg(option(alloc, "html"))?
+pub(crate) fn command<'a>(alloc: Global) -> Result<Command<'a>, AllocError> {
+    with_flags(alloc)?
+        .arg(option(alloc, "only", "FORM", usage::ONLY))?
+        .arg(option(alloc, "in", "PREFIX", usage::IN))?
+        .arg(option(alloc, "with", "PATH", usage::WITH))?
+        .arg(option(alloc, "breaks", "PATH", usage::BREAKS))?
+        .arg(option(alloc, "html", "FILE", usage::HTML))?
         .arg(paths(alloc))
 }
 
@@ -146,6 +164,8 @@ fn asked_by(alloc: Global, matches: &ArgMatches) -> Result<Option<Asked>, Report
     };
     let mut asked = Asked {
         form: form_of(matches),
+        classes: matches.get_flag("classes"),
+        all_receivers: matches.get_flag("all-receivers"),
         chosen,
         paths: Vec::new(alloc),
         beside: Vec::new(alloc),
@@ -162,7 +182,7 @@ fn chosen_by(alloc: Global, matches: &ArgMatches) -> Result<Option<Chosen>, Allo
         return Ok(None);
     };
     let prefixes = texts(alloc, matches, "in")?;
-    Ok(Some(Chosen { choices, prefixes }))
+    Ok(Some(Chosen::new(alloc, choices, prefixes)?))
 }
 
 /// Reads the paths that are asked for. Want of memory is an error.

@@ -55,7 +55,7 @@ impl Choice {
 pub struct Chosen {
     /// Those that come to one of these, or all where there are none.
     pub choices: Vec<Choice>,
-    /// Those in classes whose names begin with one of these, or all where there are none.
+    /// Those in classes whose names begin with one of these, or all where there are none. Parts of a name are joined by `/`.
     pub prefixes: Vec<String>,
 }
 
@@ -70,6 +70,20 @@ impl Drop for Chosen {
 }
 
 impl Chosen {
+    /// Those that come to one of these, in classes whose names begin with one of these texts, where a dot stands for `/`, too. Want of
+    /// memory is an error.
+    pub(crate) fn new(
+        alloc: Global,
+        choices: Vec<Choice>,
+        texts: Vec<String>,
+    ) -> Result<Chosen, AllocError> {
+        let mut prefixes = Vec::with_capacity(alloc, texts.len())?;
+        for text in &texts {
+            prefixes.push(text.replace(alloc, ".", "/")?)?;
+        }
+        Ok(Chosen { choices, prefixes })
+    }
+
     /// Whether the invocation of the row is reported, where its class is.
     pub(crate) fn takes_row(&self, classes: &Classes, row: &Row) -> bool {
         if self.choices.is_empty() {

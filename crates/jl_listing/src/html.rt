@@ -1,9 +1,7 @@
-//! A report as one page of HTML, without anything from outside: a bar for each package, which opens to its classes, and these to their
-//! methods.
+//! A report as one page of HTML, without anything from outside: a fixed text, between whose parts the invocations stand as JSON, which a
+//! script of the page shows by package, class and method.
 
-mod bar;
-mod escape;
-mod packages;
+mod page_text;
+mod rows;
 
-pub(crate) use bar::Bar;
-pub(crate) use packages::{ClassPart, HtmlPage};
+pub(crate) use rows::{HtmlPage, Read};

@@ -1,16 +1,31 @@
 //! Files that are left out.
 
+use crate::texts::MissingClasses;
+use jl_classfile::ClassFault;
 use jl_json::{FileRefusal, event_refusal_value};
-use jl_paths::{NoClass, Source, are_reported};
+use jl_names::Name;
+use jl_paths::{NoClass, NoClassReason, Source, are_reported};
 use jl_report::Refused;
 use jl_types::{DefineFault, Refusal};
-use serde_json::Value;
+use serde_json::{Map, Value, put};
 use std::alloc::{AllocError, Global};
+
+/// Whose file is left out.
+#[derive(Clone, Copy, Debug, PartialEq, Eq)]
+pub(crate) enum Whose {
+    /// Its class would be reported.
+    Reported,
+    /// Its class would be there, and not reported.
+    Beside,
+    /// It is the file of a module, and of no class.
+    Module,
+}
 
 /// A file that is left out, and the answer that refuses it, as a scan or a run gives it.
 pub(crate) struct LeftOut {
     pub(crate) path: String,
     pub(crate) answer: Value,
+    pub(crate) whose: Whose,
 }
 
 /// Written out, so that what drops one makes one call of it and doesn't take apart what it holds.
@@ -19,7 +34,17 @@ impl Drop for LeftOut {
         let LeftOut {
             path: _path,
             answer: _answer,
+            whose: _whose,
         } = self;
+    }
+}
+
+/// Whose file it is, where it is no module's.
+fn whose_of(is_reported: bool) -> Whose {
+    if is_reported {
+        Whose::Reported
+    } else {
+        Whose::Beside
     }
 }
 
@@ -30,12 +55,35 @@ pub(crate) fn add_no_classes(
     left_out: &mut Vec<LeftOut>,
 ) -> Result<(), AllocError> {
     for file in files {
+        let NoClass { source, reason } = file;
+        let whose = match reason {
+            NoClassReason::Malformed(ClassFault::ModuleFile) => Whose::Module,
+            _ => whose_of(source.is_reported),
+        };
         left_out.push(LeftOut {
-            path: file.path,
-            answer: FileRefusal::from(file.fault).to_value(alloc)?,
+            path: source.path,
+            answer: no_class_answer(alloc, reason)?,
+            whose,
         })?;
     }
     Ok(())
+}
+
+/// The answer that refuses the file. Want of memory is an error.
+fn no_class_answer(alloc: Global, reason: NoClassReason) -> Result<Value, AllocError> {
+    match reason {
+        NoClassReason::Malformed(fault) => FileRefusal::from(fault).to_value(alloc),
+        NoClassReason::Archive => {
+            let mut members = Map::new(alloc);
+            put(
+                &mut members,
+                alloc,
+                "refused",
+                Value::try_from_str(alloc, "Archive")?,
+            )?;
+            Ok(Value::Object(members))
+        }
+    }
 }
 
 /// Adds the file of which no class was made. Want of memory is an error.
@@ -47,23 +95,35 @@ fn leave_out(
 ) -> Result<(), AllocError> {
     let answer = event_refusal_value(alloc, &Refusal::Define(fault))?;
     let path = String::from_str(alloc, source.path.as_str())?;
-    Ok(left_out.push(LeftOut { path, answer })?)
+    let whose = whose_of(source.is_reported);
+    Ok(left_out.push(LeftOut {
+        path,
+        answer,
+        whose,
+    })?)
 }
 
-/// Adds the files of which no classes were made, and tells of each file whether its class is there and is to be reported. Want of memory is
-/// an error.
+/// Adds the files of which no classes were made, with the parents that some of them miss, and tells of each file whether its class is there
+/// and is to be reported. Want of memory is an error.
 pub(crate) fn add_refused(
     alloc: Global,
     sources: &[Source],
+    names: &[Name],
     refused: Vec<Refused>,
+    missing: &mut MissingClasses,
     left_out: &mut Vec<LeftOut>,
 ) -> Result<Vec<bool>, AllocError> {
     let mut is_listed = are_reported(alloc, sources)?;
     for one in refused {
-        let place = one.place;
-        if place < sources.len() && place < is_listed.len() {
-            is_listed[place] = false;
-            leave_out(alloc, &sources[place], one.fault, left_out)?;
+        let Refused { place, fault } = one;
+        if let Some(listed) = is_listed.get_mut(place) {
+            *listed = false;
+        }
+        if let Some(source) = sources.get(place) {
+            if let (DefineFault::MissingParent(parent), Some(name)) = (&fault, names.get(place)) {
+                missing.add_parent(alloc, name, parent, source.is_reported)?;
+            }
+            leave_out(alloc, source, fault, left_out)?;
         }
     }
     Ok(is_listed)

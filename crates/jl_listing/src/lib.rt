@@ -10,6 +10,7 @@
 // What is asked for.
 mod asked;
 mod chosen;
+mod usage;
 
 // The forms of a report.
 mod html;
@@ -22,8 +23,10 @@ mod left_out;
 mod page;
 mod progress;
 mod report;
+mod told;
 
 pub use asked::{Asked, Form, read_asked};
 pub use chosen::{Choice, Chosen};
 pub use fault::ReportFault;
 pub use report::run_report;
+pub use usage::report_usage;

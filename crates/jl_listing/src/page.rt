@@ -3,15 +3,16 @@
 use crate::asked::{Asked, Form};
 use crate::chosen::Chosen;
 use crate::fault::ReportFault;
-use crate::html::{Bar, ClassPart, HtmlPage};
+use crate::html::{HtmlPage, Read};
 use crate::left_out::LeftOut;
 use crate::texts::{
-    Former, MissingClasses, Summary, push_dropped, push_left_out, push_left_out_line,
-    push_method_line, push_name, push_reasons, push_site_line, write_line, write_totals,
+    Former, MissingClasses, Summary, push_all_left_out, push_dropped, push_left_out_line,
+    push_method_line, push_site_line, write_class_line, write_line, write_totals,
 };
+use crate::told::{Note, notes_of};
 use jl_class::{ClassFile, Method, Site};
 use jl_hierarchy::Classes;
-use jl_report::{Dropped, Report, Row, Shape, keep_open};
+use jl_report::{Dropped, Made, Report, Row, keep_open};
 use jl_types::ClassId;
 use json::Writer;
 use std::alloc::Global;
@@ -27,7 +28,7 @@ pub(crate) struct Page {
     text: String,
     bytes: Vec<u8>,
     summary: Summary,
-    missing: MissingClasses,
+    pub(crate) missing: MissingClasses,
     html: Option<HtmlPage>,
     /// Whether further classes come.
     keeps_rows: bool,
@@ -131,7 +132,16 @@ impl Page {
                     row: &one.before,
                     class,
                 };
-                self.add_line(alloc, classes, &one.after, &method, &site, Some(&former))
+                let note = Note::nothing();
+                self.add_line(
+                    alloc,
+                    classes,
+                    &one.after,
+                    &note,
+                    &method,
+                    &site,
+                    Some(&former),
+                )
             }
         }
     }
@@ -142,12 +152,13 @@ impl Page {
         alloc: Global,
         classes: &Classes,
         row: &Row,
+        note: &Note,
         method: &Method<'_>,
         site: &Site<'_>,
         former: Option<&Former<'_>>,
     ) -> Result<(), ReportFault> {
         let mut out = Writer::new(mem::replace(&mut self.bytes, Vec::new(alloc)));
-        write_line(alloc, classes, row, method, site, former, &mut out)?;
+        write_line(alloc, classes, row, note, method, site, former, &mut out)?;
         self.bytes = out.into_inner();
         self.bytes.push(b'\n')?;
         Ok(())
@@ -167,41 +178,41 @@ impl Page {
         Ok(())
     }
 
-    /// Adds the invocations of the class that are reported.
+    /// Adds the class, if classes are told, and those of its invocations that are reported.
     pub(crate) fn add_class(
         &mut self,
         alloc: Global,
         report: &mut Report,
-        chosen: &Chosen,
+        made: &Made,
+        asked: &Asked,
         class: ClassId,
     ) -> Result<(), ReportFault> {
         let rows = report.rows_in(alloc, class)?;
+        let notes = notes_of(alloc, report, made, asked, &rows)?;
         self.summary.classes = self.summary.classes.saturating_add(1);
         let Some(kept) = report.classes().class_at(class) else {
             return Ok(());
         };
-        self.add_rows(alloc, report, chosen, kept.file(), &rows)?;
+        if asked.classes {
+            self.add_class_line(alloc, kept.file())?;
+        }
+        self.add_methods(alloc, report, &asked.chosen, kept.file(), &rows, &notes)?;
         if self.keeps_rows {
             keep_open(report.classes(), rows, &mut self.kept)?;
         }
         Ok(())
     }
 
-    /// Adds the invocations of the class that are reported, of all of which these are the rows.
-    fn add_rows(
-        &mut self,
-        alloc: Global,
-        report: &Report,
-        chosen: &Chosen,
-        file: &ClassFile,
-        rows: &[Row],
-    ) -> Result<(), ReportFault> {
-        let mut part = ClassPart::new(alloc);
-        self.add_methods(alloc, report, chosen, file, rows, &mut part)?;
-        self.add_part(alloc, file, &part)
+    /// Adds the class as a line of JSON.
+    fn add_class_line(&mut self, alloc: Global, file: &ClassFile) -> Result<(), ReportFault> {
+        let mut out = Writer::new(mem::replace(&mut self.bytes, Vec::new(alloc)));
+        write_class_line(alloc, file, &mut out)?;
+        self.bytes = out.into_inner();
+        self.bytes.push(b'\n')?;
+        Ok(())
     }
 
-    /// Adds those of each method.
+    /// Adds the invocations of each method of the class that are reported, of all of which these are the rows.
     fn add_methods(
         &mut self,
         alloc: Global,
@@ -209,46 +220,31 @@ impl Page {
         chosen: &Chosen,
         file: &ClassFile,
         rows: &[Row],
-        part: &mut ClassPart,
+        notes: &[Note],
     ) -> Result<(), ReportFault> {
         let methods = file.methods();
-        let mut rest = rows;
+        let mut rest = (rows, notes);
+        let mut has_methods = false;
         for index in 0..methods.len() {
             if let Some(method) = methods.at(index) {
                 let count = method.sites().len();
-                if let Some((own, after)) = rest.split_at_checked(count) {
-                    let bar = self.add_method(alloc, report, chosen, file, &method, own)?;
-                    if self.html.is_some() {
-                        push_method_part(alloc, &method, &bar, part)?;
+                let (rows, notes) = rest;
+                if let (Some(rows), Some(notes)) = (
+                    rows.split_at_checked(count),
+                    notes.split_at_checked(count),
+                ) {
+                    rest = (rows.1, notes.1);
+                    let own = (rows.0, notes.0);
+                    if self.add_method(alloc, report, chosen, file, &method, own, has_methods)? {
+                        has_methods = true;
                     }
-                    rest = after;
                 }
             }
         }
-        Ok(())
+        self.end_class(has_methods)
     }
 
-    /// Adds the class to the page of HTML, if there is one.
-    fn add_part(
-        &mut self,
-        alloc: Global,
-        file: &ClassFile,
-        part: &ClassPart,
-    ) -> Result<(), ReportFault> {
-        if let Some(html) = &mut self.html {
-            let mut name = String::new(alloc);
-            push_name(alloc, file.name().as_slice(), &mut name)?;
-            html.add_class(alloc, name.as_str(), part)?;
-        }
-        Ok(())
-    }
-
-    /// The page of HTML, if there is one.
-    pub(crate) fn html(&self) -> Option<&HtmlPage> {
-        self.html.as_ref()
-    }
-
-    /// Adds those invocations of the method that are reported, of all of which these are the rows, and tells what they come to.
+    /// Adds those of the method, of all of which these are the rows, and tells whether there are any.
     fn add_method(
         &mut self,
         alloc: Global,
@@ -256,50 +252,64 @@ impl Page {
         chosen: &Chosen,
         file: &ClassFile,
         method: &Method<'_>,
-        rows: &[Row],
-    ) -> Result<Bar, ReportFault> {
+        own: (&[Row], &[Note]),
+        is_class_begun: bool,
+    ) -> Result<bool, ReportFault> {
         let sites = method.sites();
-        let mut bar = Bar::new();
-        for (place, row) in rows.iter().enumerate() {
+        let (rows, notes) = own;
+        let mut is_begun = false;
+        for (place, (row, note)) in rows.iter().zip(notes).enumerate() {
             if let Some(site) = sites.at(place) {
                 if chosen.takes_row(report.classes(), row) {
-                    self.add_site(alloc, report, file, method, &site, row, &mut bar)?;
+                    if !is_begun {
+                        self.begin_method(alloc, file, method, is_class_begun)?;
+                        is_begun = true;
+                    }
+                    self.add_row(alloc, report, method, &site, row, note)?;
                 }
             }
         }
-        Ok(bar)
-    }
-
-    /// Adds the invocation of the row, behind its method where it is the first of it.
-    fn add_site(
-        &mut self,
-        alloc: Global,
-        report: &Report,
-        file: &ClassFile,
-        method: &Method<'_>,
-        site: &Site<'_>,
-        row: &Row,
-        bar: &mut Bar,
-    ) -> Result<(), ReportFault> {
-        if bar.all() == 0 {
-            self.begin_method(alloc, file, method)?;
+        if is_begun {
+            self.end_method()?;
         }
-        bar.add(Shape::of(&row.finding));
-        self.add_row(alloc, report, method, site, row)
+        Ok(is_begun)
     }
 
-    /// Adds the method, of which an invocation is reported.
+    /// Adds the method, of which an invocation is reported, and its class, unless another one of it is there.
     fn begin_method(
         &mut self,
         alloc: Global,
         file: &ClassFile,
         method: &Method<'_>,
+        is_class_begun: bool,
     ) -> Result<(), ReportFault> {
         self.summary.methods = self.summary.methods.saturating_add(1);
         if self.form == Form::Sites {
             push_method_line(alloc, file, method, &mut self.text)?;
         }
+        if let Some(html) = &mut self.html {
+            if !is_class_begun {
+                html.begin_class(alloc, file.name().as_slice())?;
+            }
+            html.begin_method(alloc, method)?;
+        }
         Ok(())
+    }
+
+    /// Ends the method on the page of HTML, if there is one.
+    fn end_method(&mut self) -> Result<(), ReportFault> {
+        match &mut self.html {
+            Some(html) => Ok(html.end_method()?),
+            None => Ok(()),
+        }
+    }
+
+    /// Ends the class there, if it has methods.
+    fn end_class(&mut self, has_methods: bool) -> Result<(), ReportFault> {
+        match &mut self.html {
+            Some(html) if has_methods => Ok(html.end_class()?),
+            _ => Ok(()),
+        }
     }
 
     /// Adds the invocation of the row.
@@ -310,17 +320,49 @@ impl Page {
         method: &Method<'_>,
         site: &Site<'_>,
         row: &Row,
+        note: &Note,
     ) -> Result<(), ReportFault> {
-        self.summary.totals.add(row);
+        self.summary.add(row, note);
         self.missing.add(alloc, site, row)?;
+        let classes = report.classes();
+        if let Some(html) = &mut self.html {
+            html.add_row(alloc, classes, site, row, note)?;
+        }
         match self.form {
             Form::Totals => {}
-            Form::Sites => push_site_line(alloc, report.classes(), site, row, &mut self.text)?,
-            Form::Json => {
-                self.add_line(alloc, report.classes(), row, method, site, None)?;
-            }
+            Form::Sites => push_site_line(alloc, classes, site, row, note, &mut self.text)?,
+            Form::Json => self.add_line(alloc, classes, row, note, method, site, None)?,
         }
         Ok(())
+    }
+
+    /// Adds that no class is there, since a parent of each is missing, and what to do.
+    pub(crate) fn add_advice(&mut self, alloc: Global) -> Result<(), ReportFault> {
+        if self.form == Form::Json {
+            return Ok(());
+        }
+        if let Some(root) = self.missing.sorted(alloc)?.first() {
+            let name = root.name;
+            self.text
+                .push_str("no class of these paths has its parents: ")?;
+            self.text.push_str(name)?;
+            self.text.push_str(
+                " is missing, and --with takes the classes of a JDK or a library\n",
+            )?;
+        }
+        Ok(())
+    }
+
+    /// The page of HTML, if there is one. Want of memory is an error.
+    pub(crate) fn html_text(
+        &self,
+        alloc: Global,
+        read: &Read<'_>,
+    ) -> Result<Option<String>, ReportFault> {
+        match &self.html {
+            Some(html) => Ok(Some(html.text(alloc, read, &self.missing)?)),
+            None => Ok(None),
+        }
     }
 
     /// Adds the files that are left out, and the totals.
@@ -329,37 +371,29 @@ impl Page {
         alloc: Global,
         left_out: Vec<LeftOut>,
     ) -> Result<(), ReportFault> {
-        let count = left_out.len() as u64;
+        if let Some(html) = &mut self.html {
+            html.add_left_out(alloc, &left_out)?;
+        }
         if self.form == Form::Json {
-            for one in left_out {
-                push_left_out_line(alloc, one, &mut self.bytes)?;
-            }
-            let mut out = Writer::new(mem::replace(&mut self.bytes, Vec::new(alloc)));
-            write_totals(&self.summary, count, &mut out)?;
-            self.bytes = out.into_inner();
-            self.bytes.push(b'\n')?;
-            return Ok(());
+            return self.add_end_lines(alloc, left_out);
         }
         self.summary.push(&mut self.text)?;
         self.missing.push(alloc, &mut self.text)?;
-        self.add_left_out(alloc, &left_out)
+        let is_each_told = self.form == Form::Sites;
+        push_all_left_out(alloc, &left_out, is_each_told, &mut self.text)?;
+        Ok(())
     }
 
-    /// Adds the files that are left out: each, or how many for each reason.
-    fn add_left_out(&mut self, alloc: Global, left_out: &[LeftOut]) -> Result<(), ReportFault> {
-        let count = left_out.len();
-        if count == 0 {
-            return Ok(());
-        }
-        let head = "files that are left out";
-        write!(self.text, "{head:<28}{count:>12}\n")?;
-        if self.form == Form::Totals {
-            push_reasons(alloc, left_out, &mut self.text)?;
-            return Ok(());
-        }
+    /// Adds the same as lines of JSON.
+    fn add_end_lines(&mut self, alloc: Global, left_out: Vec<LeftOut>) -> Result<(), ReportFault> {
+        let count = left_out.len() as u64;
         for one in left_out {
-            push_left_out(one, &mut self.text)?;
+            push_left_out_line(alloc, one, &mut self.bytes)?;
         }
+        let mut out = Writer::new(mem::replace(&mut self.bytes, Vec::new(alloc)));
+        write_totals(&self.summary, count, &mut out)?;
+        self.bytes = out.into_inner();
+        self.bytes.push(b'\n')?;
         Ok(())
     }
 
@@ -379,20 +413,4 @@ impl Page {
         self.bytes.clear();
         Ok(())
     }
-}
-
-/// Adds the method to its class's part of the page of HTML, if an invocation of it is reported.
-fn push_method_part(
-    alloc: Global,
-    method: &Method<'_>,
-    bar: &Bar,
-    part: &mut ClassPart,
-) -> Result<(), ReportFault> {
-    if bar.all() == 0 {
-        return Ok(());
-    }
-    let mut name = String::new(alloc);
-    push_name(alloc, method.name().as_slice(), &mut name)?;
-    push_name(alloc, method.ty().as_slice(), &mut name)?;
-    Ok(part.add_method(name.as_str(), bar)?)
 }

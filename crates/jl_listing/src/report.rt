@@ -4,20 +4,22 @@ use crate::asked::Asked;
 use crate::breaks::add_further;
 use crate::chosen::Chosen;
 use crate::fault::ReportFault;
+use crate::html::Read;
 use crate::left_out::{LeftOut, add_no_classes, add_refused};
 use crate::page::Page;
 use crate::progress::Progress;
+use crate::texts::MissingClasses;
 use jl_class::ClassFile;
 use jl_hierarchy::Classes;
 use jl_names::Name;
 use jl_paths::{Gathered, NoClass, PathFault, read_all};
-use jl_report::{Report, define_all, order_by_name};
+use jl_report::{Made, Report, define_all, order_by_name};
 use jl_types::{ClassId, LoaderId};
 use std::alloc::Global;
 use std::fs;
 use std::io::{ErrorKind, IsTerminal, Write};
 use std::rt::Files;
-use std::time::Clock;
+use std::time::{Clock, SystemTime, UNIX_EPOCH};
 
 /// What isn't in a report: files that are left out, and paths that couldn't be read.
 #[derive(Drop)]
@@ -70,29 +72,35 @@ fn add_all<R: Files + AllocGlobal + Clock + Clone + Drop, W: Write, E: Write + I
     errors: &mut E,
 ) -> Result<(), ReportFault> {
     let mut classes = Classes::new(rt.alloc())?;
-    let listed = listed_of(rt, asked, &mut classes, missed)?;
+    let listed = listed_of(rt, asked, &mut classes, page, missed)?;
+    let made = Made::of(rt.alloc(), &classes)?;
     let mut report = Report::of(rt.alloc(), classes);
-    add_classes(rt, asked, &mut report, &listed, page, out, errors)?;
+    add_classes(rt, asked, &mut report, &made, &listed, page, out, errors)?;
     if !asked.breaks.is_empty() {
         add_breaks(rt, asked, &mut report, page, missed, out)?;
     }
     Ok(())
 }
 
-/// Defines the classes of the paths, and gives those that are reported, by name.
+/// Defines the classes of the paths, and gives those that are reported, by name. Where none is there it is told why.
 fn listed_of<R: Files + AllocGlobal + Clone + Drop>(
     rt: &R,
     asked: &Asked,
     classes: &mut Classes,
+    page: &mut Page,
     missed: &mut Missed,
 ) -> Result<Vec<ClassId>, ReportFault> {
     let own = read_all(rt, &asked.paths, &asked.beside)?;
-    let own = define_gathered(rt.alloc(), classes, own, missed)?;
+    let own = define_gathered(rt.alloc(), classes, own, &mut page.missing, missed)?;
+    page.missing.count_classes(rt.alloc())?;
+    if own.is_empty() {
+        page.add_advice(rt.alloc())?;
+    }
     chosen_of(rt.alloc(), classes, own, &asked.chosen)
 }
 
 /// Writes what is left of the report, its end, and the page of HTML, and tells of paths that couldn't be read.
-fn write_end<R: Files + AllocGlobal, W: Write, E: Write>(
+fn write_end<R: Files + AllocGlobal + Clock, W: Write, E: Write>(
     rt: &R,
     asked: &Asked,
     page: &mut Page,
@@ -105,9 +113,20 @@ fn write_end<R: Files + AllocGlobal, W: Write, E: Write>(
     add_end(rt.alloc(), page, left_out)?;
     page.write(out)?;
     if let Some(path) = &asked.html {
-        write_html(rt, path.as_str(), page, &mut faults)?;
+        write_html(rt, asked, path.as_str(), page, &mut faults)?;
     }
     tell_faults(&faults, errors)
+}
+
+/// Seconds since 1970, or 0 where no clock tells them.
+fn seconds_now<R: Clock>(rt: &R) -> u64 {
+    match SystemTime::now(rt) {
+        Ok(now) => match now.duration_since(UNIX_EPOCH) {
+            Ok(since) => since.as_secs(),
+            Err(_) => 0,
+        },
+        Err(_) => 0,
+    }
 }
 
 /// Adds the files that are left out, by path, and the totals.
@@ -118,16 +137,21 @@ fn add_end(alloc: Global, page: &mut Page, left_out: Vec<LeftOut>) -> Result<(),
 }
 
 /// Writes the page of HTML, if there is one, into the file of this path.
-fn write_html<R: Files + AllocGlobal>(
+fn write_html<R: Files + AllocGlobal + Clock>(
     rt: &R,
+    asked: &Asked,
     path: &str,
     page: &Page,
     faults: &mut Vec<PathFault>,
 ) -> Result<(), ReportFault> {
-    let Some(html) = page.html() else {
+    let read = Read {
+        paths: &asked.paths,
+        beside: &asked.beside,
+        seconds: seconds_now(rt),
+    };
+    let Some(text) = page.html_text(rt.alloc(), &read)? else {
         return Ok(());
     };
-    let text = html.text(rt.alloc())?;
     match fs::write(rt, path, text.as_str()) {
         Ok(()) => Ok(()),
         Err(error) => match error.kind() {
@@ -145,6 +169,7 @@ fn add_classes<R: AllocGlobal + Clock, W: Write, E: Write + IsTerminal>(
     rt: &R,
     asked: &Asked,
     report: &mut Report,
+    made: &Made,
     listed: &[ClassId],
     page: &mut Page,
     out: &mut W,
@@ -153,7 +178,7 @@ fn add_classes<R: AllocGlobal + Clock, W: Write, E: Write + IsTerminal>(
     let mut progress = Progress::new(rt, errors);
     for (done, class) in listed.iter().enumerate() {
         progress.tell(rt, done, listed.len(), errors);
-        page.add_class(rt.alloc(), report, &asked.chosen, *class)?;
+        page.add_class(rt.alloc(), report, made, asked, *class)?;
         page.write_if_full(out)?;
     }
     progress.end(errors);
@@ -177,7 +202,14 @@ fn add_breaks<R: Files + AllocGlobal + Clone + Drop, W: Write>(
     } = read_all(rt, &asked.breaks, &[])?;
     add_missed(rt.alloc(), no_classes, faults, missed)?;
     let refused = add_further(rt.alloc(), report, &asked.chosen, files, page, out)?;
-    let _is_listed = add_refused(rt.alloc(), &sources, refused, &mut missed.left_out)?;
+    let _is_listed = add_refused(
+        rt.alloc(),
+        &sources,
+        &[],
+        refused,
+        &mut page.missing,
+        &mut missed.left_out,
+    )?;
     page.add_breaks()
 }
 
@@ -186,6 +218,7 @@ fn define_gathered(
     alloc: Global,
     classes: &mut Classes,
     gathered: Gathered,
+    missing: &mut MissingClasses,
     missed: &mut Missed,
 ) -> Result<Vec<ClassId>, ReportFault> {
     let Gathered {
@@ -197,7 +230,14 @@ fn define_gathered(
     add_missed(alloc, no_classes, faults, missed)?;
     let names = names_of(alloc, &files)?;
     let refused = define_all(alloc, classes, files)?;
-    let is_listed = add_refused(alloc, &sources, refused, &mut missed.left_out)?;
+    let is_listed = add_refused(
+        alloc,
+        &sources,
+        &names,
+        refused,
+        missing,
+        &mut missed.left_out,
+    )?;
     listed_by_name(alloc, classes, &names, &is_listed)
 }
 

@@ -9,10 +9,13 @@ mod names;
 mod text;
 mod totals;
 
-pub(crate) use json_lines::{Former, push_left_out_line, write_line, write_totals};
+pub(crate) use json_lines::{
+    Former, push_left_out_line, write_class_line, write_line, write_totals,
+};
+pub(crate) use links::push_finding;
 pub(crate) use missing::MissingClasses;
 pub(crate) use names::push_name;
 pub(crate) use text::{
-    push_dropped, push_left_out, push_method_line, push_reasons, push_site_line,
+    push_all_left_out, push_dropped, push_method_line, push_reason, push_site_line,
 };
 pub(crate) use totals::Summary;

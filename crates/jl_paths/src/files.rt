@@ -7,12 +7,15 @@ use crate::paths::{PathFault, Paths};
 use jl_class::ClassFile;
 use jl_classfile::{ClassFault, read_class};
 use std::alloc::{AllocError, Global};
-use std::io::ErrorKind;
+use std::fs::File;
+use std::io::{ErrorKind, Read};
 use std::rt::Files;
 use std::{fs, io};
 
 /// A class file longer than this isn't read.
 const MOST_BYTES: u64 = 1_000_000;
+/// What a zip file begins with, and so a jar.
+const ARCHIVE_START: &[u8] = b"PK";
 
 /// Where a file was, and whether its class is reported.
 #[derive(Debug, Drop)]
@@ -21,11 +24,20 @@ pub struct Source {
     pub is_reported: bool,
 }
 
+/// Why a file is no class file.
+#[derive(Clone, Copy, Debug, PartialEq, Eq)]
+pub enum NoClassReason {
+    /// It is an archive, as a jar, whose classes have to be unpacked first.
+    Archive,
+    /// It isn't one by this fault.
+    Malformed(ClassFault),
+}
+
 /// A file that is no class file, and why.
 #[derive(Debug, Drop)]
 pub struct NoClass {
-    pub path: String,
-    pub fault: ClassFault,
+    pub source: Source,
+    pub reason: NoClassReason,
 }
 
 /// A class file that was read.
@@ -109,11 +121,8 @@ impl Reading {
                 source,
                 rank: 0,
             })?,
-            Ok(Err(ClassFault::Memory)) => return Err(AllocError),
-            Ok(Err(fault)) => self.no_classes.push(NoClass {
-                path: source.path,
-                fault,
-            })?,
+            Ok(Err(NoClassReason::Malformed(ClassFault::Memory))) => return Err(AllocError),
+            Ok(Err(reason)) => self.no_classes.push(NoClass { source, reason })?,
             Err(error) => match error.kind() {
                 ErrorKind::OutOfMemory => return Err(AllocError),
                 kind => self.faults.push(PathFault {
@@ -147,12 +156,25 @@ impl Reading {
 fn read_file<R: Files + AllocGlobal>(
     rt: &R,
     path: &str,
-) -> io::Result<Result<ClassFile, ClassFault>> {
+) -> io::Result<Result<ClassFile, NoClassReason>> {
     if fs::metadata(rt, path)?.len() > MOST_BYTES {
-        return Ok(Err(ClassFault::TooLarge));
+        return Ok(Err(too_large(rt, path)?));
     }
     let bytes = fs::read(rt, path)?;
-    Ok(read_class(rt.alloc(), &bytes))
+    if bytes.starts_with(ARCHIVE_START) {
+        return Ok(Err(NoClassReason::Archive));
+    }
+    Ok(read_class(rt.alloc(), &bytes).map_err(NoClassReason::Malformed))
+}
+
+/// Why a file is none that is longer than a class file may be, by its first bytes.
+fn too_large<R: Files>(rt: &R, path: &str) -> io::Result<NoClassReason> {
+    let mut start = [0u8; 2];
+    let count = File::open(rt, path)?.read(&mut start)?;
+    if count == ARCHIVE_START.len() && start.starts_with(ARCHIVE_START) {
+        return Ok(NoClassReason::Archive);
+    }
+    Ok(NoClassReason::Malformed(ClassFault::TooLarge))
 }
 
 /// Whether the class of each source is reported, if it is there. Want of memory is an error.

@@ -7,5 +7,5 @@ mod files;
 mod order;
 mod paths;
 
-pub use files::{Gathered, NoClass, Source, are_reported, read_all};
+pub use files::{Gathered, NoClass, NoClassReason, Source, are_reported, read_all};
 pub use paths::PathFault;

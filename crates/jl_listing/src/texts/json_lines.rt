@@ -4,7 +4,8 @@ use crate::left_out::LeftOut;
 use crate::texts::links::open_class;
 use crate::texts::names::push_name;
 use crate::texts::totals::{KINDS_BY_NAME, SHAPES_BY_KEY, Summary};
-use jl_class::{Kind, Method, Operand, Site};
+use crate::told::{Methods, Note};
+use jl_class::{ClassFile, Kind, Method, Operand, Site};
 use jl_hierarchy::Classes;
 use jl_json::{instruction, table_kind, throwable_name};
 use jl_names::LentName;
@@ -197,6 +198,7 @@ pub(crate) fn write_line(
     alloc: Global,
     classes: &Classes,
     row: &Row,
+    note: &Note,
     method: &Method<'_>,
     site: &Site<'_>,
     former: Option<&Former<'_>>,
@@ -204,7 +206,8 @@ pub(crate) fn write_line(
 ) -> Result<(), AllocError> {
     out.begin_object()?;
     write_found(alloc, classes, row, site, former, out)?;
-    write_named(alloc, classes, row, method, site, out)?;
+    write_made(note, out)?;
+    write_named(alloc, classes, row, note, method, site, out)?;
     out.end_object()
 }
 
@@ -229,12 +232,14 @@ fn write_named(
     alloc: Global,
     classes: &Classes,
     row: &Row,
+    note: &Note,
     method: &Method<'_>,
     site: &Site<'_>,
     out: &mut Writer,
 ) -> Result<(), AllocError> {
     write_method(alloc, method, out)?;
-    write_operand(alloc, classes, row, site, out)?;
+    write_method_count(note, out)?;
+    write_operand(alloc, classes, row, note, site, out)?;
     write_unlinked(&row.finding, out)
 }
 
@@ -281,6 +286,42 @@ fn write_link_of(
     }
 }
 
+/// Writes that an invokedynamic may make further receivers, where that is so. Want of memory is an error.
+fn write_made(note: &Note, out: &mut Writer) -> Result<(), AllocError> {
+    if note.is_made {
+        out.key("made")?;
+        out.boolean(true)?;
+    }
+    Ok(())
+}
+
+/// Writes how many different methods can run, where that is known. Want of memory is an error.
+fn write_method_count(note: &Note, out: &mut Writer) -> Result<(), AllocError> {
+    match note.method_count() {
+        Some(count) => write_number("methods", count as u64, out),
+        None => Ok(()),
+    }
+}
+
+/// Writes the classes of the methods that can run, of a megamorphic link whose receivers were all asked. Want of memory is an error.
+fn write_runs(
+    alloc: Global,
+    classes: &Classes,
+    row: &Row,
+    note: &Note,
+    out: &mut Writer,
+) -> Result<(), AllocError> {
+    let (Finding::Linked(Link::Mega), Methods::All(methods)) = (&row.finding, &note.methods) else {
+        return Ok(());
+    };
+    out.key("runs")?;
+    out.begin_array()?;
+    for method in methods {
+        write_class(alloc, classes, method.class, out)?;
+    }
+    out.end_array()
+}
+
 fn write_method(alloc: Global, method: &Method<'_>, out: &mut Writer) -> Result<(), AllocError> {
     write_name_at(alloc, "method", method.name().as_slice(), out)?;
     write_name_at(alloc, "methodType", method.ty().as_slice(), out)
@@ -291,6 +332,7 @@ fn write_operand(
     alloc: Global,
     classes: &Classes,
     row: &Row,
+    note: &Note,
     site: &Site<'_>,
     out: &mut Writer,
 ) -> Result<(), AllocError> {
@@ -298,30 +340,32 @@ fn write_operand(
         Operand::Method(reference) => {
             write_name_at(alloc, "name", reference.name.as_slice(), out)?;
             write_name_at(alloc, "of", reference.owner.as_slice(), out)?;
-            write_between(alloc, classes, row, out)?;
+            write_between(alloc, classes, row, note, out)?;
             write_name_at(alloc, "type", reference.ty.as_slice(), out)
         }
         Operand::CallSite(specifier) => {
             write_name_at(alloc, "name", specifier.name.as_slice(), out)?;
-            write_between(alloc, classes, row, out)?;
+            write_between(alloc, classes, row, note, out)?;
             write_name_at(alloc, "type", specifier.ty.as_slice(), out)
         }
     }
 }
 
-/// Writes the pc, why the invocation is never linked, and what its link rests on. Want of memory is an error.
+/// Writes the pc, why the invocation is never linked, what its link rests on, and the classes of the methods that can run. Want of memory is
+/// an error.
 fn write_between(
     alloc: Global,
     classes: &Classes,
     row: &Row,
+    note: &Note,
     out: &mut Writer,
 ) -> Result<(), AllocError> {
     write_number("pc", u64::from(row.place.pc), out)?;
     write_refused(&row.finding, out)?;
-    match open_class(classes, row) {
-        Some(class) => write_class_at(alloc, "restsOn", classes, class, out),
-        None => Ok(()),
+    if let Some(class) = open_class(classes, row) {
+        write_class_at(alloc, "restsOn", classes, class, out)?;
     }
+    write_runs(alloc, classes, row, note, out)
 }
 
 /// Writes why the invocation is never linked, if that is so. Want of memory is an error.
@@ -374,16 +418,11 @@ pub(crate) fn push_left_out_line(
     out: &mut Vec<u8>,
 ) -> Result<(), AllocError> {
     let mut one = one;
-    add_file(alloc, one.path.as_str(), &mut one.answer)?;
-    push_value_line(alloc, &one.answer, out)
-}
-
-/// Adds the file to the answer that refuses it. Want of memory is an error.
-fn add_file(alloc: Global, path: &str, answer: &mut Value) -> Result<(), AllocError> {
-    match answer {
-        Value::Object(members) => put(members, alloc, "file", Value::try_from_str(alloc, path)?),
-        _ => Ok(()),
+    if let Value::Object(members) = &mut one.answer {
+        let path = Value::try_from_str(alloc, one.path.as_str())?;
+        put(members, alloc, "file", path)?;
     }
+    push_value_line(alloc, &one.answer, out)
 }
 
 /// Appends the value, as a line. Want of memory is an error.
@@ -401,13 +440,16 @@ pub(crate) fn write_totals(
     out.begin_object()?;
     write_number("classes", summary.classes, out)?;
     write_number("leftOut", left_out, out)?;
-    out.key("totals")?;
-    write_kinds(&summary.totals, out)?;
+    write_kinds("made", &summary.made, out)?;
+    write_kinds("oneMethod", &summary.one_method, out)?;
+    write_kinds("totals", &summary.totals, out)?;
+    write_kinds("twoMethods", &summary.two_methods, out)?;
     out.end_object()
 }
 
-/// Writes the totals of each instruction. Want of memory is an error.
-fn write_kinds(totals: &Totals, out: &mut Writer) -> Result<(), AllocError> {
+/// Writes the totals of each instruction under the key. Want of memory is an error.
+fn write_kinds(key: &str, totals: &Totals, out: &mut Writer) -> Result<(), AllocError> {
+    out.key(key)?;
     out.begin_object()?;
     for kind in &KINDS_BY_NAME {
         out.key(instruction(*kind))?;
@@ -426,4 +468,43 @@ fn write_shapes(totals: &Totals, kind: Kind, out: &mut Writer) -> Result<(), All
         }
     }
     out.end_object()
+}
+
+/// Writes the class: its name, what it declares, its flags, and the classes above it. Want of memory is an error.
+pub(crate) fn write_class_line(
+    alloc: Global,
+    file: &ClassFile,
+    out: &mut Writer,
+) -> Result<(), AllocError> {
+    out.begin_object()?;
+    write_name_at(alloc, "class", file.name().as_slice(), out)?;
+    write_declared(alloc, file, out)?;
+    write_number("flags", u64::from(file.flags()), out)?;
+    out.key("interfaces")?;
+    out.begin_array()?;
+    for name in file.interfaces() {
+        write_name(alloc, name.as_slice(), out)?;
+    }
+    out.end_array()?;
+    if let Some(name) = file.superclass() {
+        write_name_at(alloc, "super", name.as_slice(), out)?;
+    }
+    out.end_object()
+}
+
+/// Writes the methods that the class declares. Want of memory is an error.
+fn write_declared(alloc: Global, file: &ClassFile, out: &mut Writer) -> Result<(), AllocError> {
+    let methods = file.methods();
+    out.key("declares")?;
+    out.begin_array()?;
+    for index in 0..methods.len() {
+        if let Some(method) = methods.at(index) {
+            out.begin_object()?;
+            write_number("flags", u64::from(method.flags()), out)?;
+            write_name_at(alloc, "name", method.name().as_slice(), out)?;
+            write_name_at(alloc, "type", method.ty().as_slice(), out)?;
+            out.end_object()?;
+        }
+    }
+    out.end_array()
 }

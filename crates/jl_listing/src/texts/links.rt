@@ -1,6 +1,7 @@
 //! What an invocation comes to, in words.
 
 use crate::texts::names::push_name;
+use crate::told::{Methods, Note};
 use jl_class::{ClassFile, Operand, Site};
 use jl_hierarchy::Classes;
 use jl_json::throwable_name;
@@ -109,6 +110,7 @@ fn push_table(
     alloc: Global,
     classes: &Classes,
     table: &Table,
+    note: &Note,
     out: &mut String,
 ) -> Result<(), AllocError> {
     let rows = table.as_slice();
@@ -117,6 +119,10 @@ fn push_table(
     }
     out.push_str("table of ")?;
     push_number(rows.len() as u64, out)?;
+    push_methods(" (", note, out)?;
+    if note.method_count().is_some() {
+        out.push(')')?;
+    }
     let mut between = ": ";
     for row in rows {
         out.push_str(between)?;
@@ -144,6 +150,7 @@ fn push_link(
     alloc: Global,
     classes: &Classes,
     row: &Row,
+    note: &Note,
     link: &Link,
     out: &mut String,
 ) -> Result<(), AllocError> {
@@ -151,8 +158,8 @@ fn push_link(
         Link::Fault(throwable) => push_throws(*throwable, out),
         Link::Plain(method) => push_direct(alloc, classes, Outcome::Run(*method), out),
         Link::Direct(outcome) => push_direct(alloc, classes, *outcome, out),
-        Link::Table(_, table) => push_table(alloc, classes, table, out),
-        Link::Mega => push_mega(classes, row, out),
+        Link::Table(_, table) => push_table(alloc, classes, table, note, out),
+        Link::Mega => push_mega(classes, row, note, out),
     }
 }
 
@@ -168,10 +175,30 @@ fn push_direct(
     push_outcome(alloc, classes, outcome, out)
 }
 
-fn push_mega(classes: &Classes, row: &Row, out: &mut String) -> Result<(), AllocError> {
+fn push_mega(
+    classes: &Classes,
+    row: &Row,
+    note: &Note,
+    out: &mut String,
+) -> Result<(), AllocError> {
     out.push_str("mega (")?;
     push_number(receiver_count(classes, row) as u64, out)?;
-    out.push_str(" receivers)")
+    out.push_str(" receivers")?;
+    push_methods(", ", note, out)?;
+    out.push(')')
+}
+
+/// Appends how many different methods can run, where they were asked, behind this text. Want of memory is an error.
+fn push_methods(before: &str, note: &Note, out: &mut String) -> Result<(), AllocError> {
+    match &note.methods {
+        Methods::Unasked => Ok(()),
+        Methods::All(methods) => {
+            let count = methods.len();
+            let name = if count == 1 { "method" } else { "methods" };
+            write!(out, "{before}{count} {name}")
+        }
+        Methods::Several => write!(out, "{before}3 methods or more"),
+    }
 }
 
 /// How many classes of receivers the row's link looks at.
@@ -253,12 +280,14 @@ pub(crate) fn push_finding(
     classes: &Classes,
     site: &Site<'_>,
     row: &Row,
+    note: &Note,
     out: &mut String,
 ) -> Result<(), AllocError> {
     match &row.finding {
         Finding::Linked(link) => {
-            push_link(alloc, classes, row, link, out)?;
-            push_rests(alloc, classes, row, out)
+            push_link(alloc, classes, row, note, link, out)?;
+            push_rests(alloc, classes, row, out)?;
+            push_made(note, out)
         }
         Finding::Unlinked(reason) => push_waits(alloc, classes, site, row, *reason, out),
         Finding::NotLinkable(reason) => {
@@ -281,4 +310,12 @@ fn push_rests(
         }
         None => Ok(()),
     }
+}
+
+/// Appends that an invokedynamic may make further receivers, where that is so. Want of memory is an error.
+fn push_made(note: &Note, out: &mut String) -> Result<(), AllocError> {
+    if note.is_made {
+        out.push_str("; an invokedynamic may make further receivers")?;
+    }
+    Ok(())
 }

@@ -1,8 +1,9 @@
-//! Classes that aren't there, and how many invocations wait for each.
+//! Classes that aren't there, and what hangs on each: invocations that wait, and classes that are left out.
 
 use crate::texts::names::push_name;
-use indexmap::IndexMap;
+use indexmap::{IndexMap, IndexSet};
 use jl_class::{Operand, Site};
+use jl_names::Name;
 use jl_report::{Finding, Row};
 use jl_types::{Missing, Unlinked};
 use std::alloc::{AllocError, Global};
@@ -10,31 +11,111 @@ use std::alloc::{AllocError, Global};
 /// So many classes are told.
 const MOST_TOLD: usize = 10;
 
-/// How many invocations name each class that isn't there.
+/// What hangs on a class that isn't there.
+#[derive(Clone, Copy)]
+struct Hanging {
+    /// Invocations that wait for it, or for a class that is left out since it isn't there.
+    invocations: u64,
+    /// Classes that would be reported, and are left out since it isn't there.
+    classes: u64,
+}
+
+/// The classes that aren't there: those that invocations name, and parents, where none of the files has them.
 pub(crate) struct MissingClasses {
-    counts: IndexMap<String, u64>,
+    /// The parent that isn't there, of each class that is left out for that.
+    parents: IndexMap<String, String>,
+    /// Those of these classes that would be reported.
+    reported: IndexSet<String>,
+    hanging: IndexMap<String, Hanging>,
 }
 
 /// Written out, so that what drops one makes one call of it and doesn't take apart what it holds.
 impl Drop for MissingClasses {
     fn drop(self) {
-        let MissingClasses { counts: _counts } = self;
+        let MissingClasses {
+            parents: _parents,
+            reported: _reported,
+            hanging: _hanging,
+        } = self;
     }
 }
 
-/// A class that isn't there, and how many invocations name it.
-#[derive(Drop)]
-struct Counted<'a> {
-    name: &'a str,
-    count: u64,
+/// A class that isn't there, and what hangs on it.
+#[derive(Clone, Copy)]
+pub(crate) struct Told<'a> {
+    pub(crate) name: &'a str,
+    pub(crate) invocations: u64,
+    pub(crate) classes: u64,
+}
+
+/// A name as text. Want of memory is an error.
+fn text_of(alloc: Global, name: &[u8]) -> Result<String, AllocError> {
+    let mut text = String::new(alloc);
+    push_name(alloc, name, &mut text)?;
+    Ok(text)
 }
 
 impl MissingClasses {
     /// None.
     pub(crate) fn new(alloc: Global) -> Self {
         MissingClasses {
-            counts: IndexMap::new(alloc),
+            parents: IndexMap::new(alloc),
+            reported: IndexSet::new(alloc),
+            hanging: IndexMap::new(alloc),
         }
+    }
+
+    /// Notes that the class of this name is left out, since this parent isn't there. Want of memory is an error.
+    pub(crate) fn add_parent(
+        &mut self,
+        alloc: Global,
+        name: &Name,
+        parent: &Name,
+        is_reported: bool,
+    ) -> Result<(), AllocError> {
+        if is_reported {
+            self.reported.insert(text_of(alloc, name.as_slice())?)?;
+        }
+        let name = text_of(alloc, name.as_slice())?;
+        self.parents
+            .insert(name, text_of(alloc, parent.as_slice())?)?;
+        Ok(())
+    }
+
+    /// The class that isn't there in any file, where the class of this name is left out for it; or the name itself. (Of classes that are each
+    /// other's parents none comes first.)
+    fn root_of<'a>(&'a self, name: &'a str) -> &'a str {
+        let mut root = name;
+        for _ in 0..self.parents.len().saturating_add(1) {
+            match self.parents.get(root) {
+                Some(parent) => root = parent.as_str(),
+                None => return root,
+            }
+        }
+        name
+    }
+
+    /// Counts the classes that are left out, each at its root. Want of memory is an error.
+    pub(crate) fn count_classes(&mut self, alloc: Global) -> Result<(), AllocError> {
+        let mut counts: IndexMap<String, u64> = IndexMap::new(alloc);
+        for name in &self.reported {
+            let root = self.root_of(name.as_str());
+            if self.parents.get(root).is_none() {
+                let count = counts.get(root).copied().unwrap_or(0);
+                counts.insert(String::from_str(alloc, root)?, count.saturating_add(1))?;
+            }
+        }
+        for (name, classes) in counts {
+            let invocations = 0;
+            self.hanging.insert(
+                name,
+                Hanging {
+                    invocations,
+                    classes,
+                },
+            )?;
+        }
+        Ok(())
     }
 
     /// Counts the invocation, where it waits for the class that it names. Want of memory is an error.
@@ -52,37 +133,59 @@ impl MissingClasses {
     }
 
     fn count(&mut self, alloc: Global, owner: &[u8]) -> Result<(), AllocError> {
-        let mut name = String::new(alloc);
-        push_name(alloc, owner, &mut name)?;
-        let count = self.counts.get(name.as_str()).copied().unwrap_or(0);
-        self.counts.insert(name, count.saturating_add(1))?;
+        let name = text_of(alloc, owner)?;
+        let root = String::from_str(alloc, self.root_of(name.as_str()))?;
+        let mut hanging = Hanging {
+            invocations: 0,
+            classes: 0,
+        };
+        if let Some(before) = self.hanging.get(root.as_str()) {
+            hanging = *before;
+        }
+        hanging.invocations = hanging.invocations.saturating_add(1);
+        self.hanging.insert(root, hanging)?;
         Ok(())
     }
 
-    /// Appends the classes for which most invocations wait, if there are any. Want of memory is an error.
+    /// The classes that aren't there, those first on which most hangs. Want of memory is an error.
+    pub(crate) fn sorted(&self, alloc: Global) -> Result<Vec<Told<'_>>, AllocError> {
+        let mut sorted = Vec::with_capacity(alloc, self.hanging.len())?;
+        for (name, hanging) in &self.hanging {
+            let name = name.as_str();
+            let invocations = hanging.invocations;
+            let classes = hanging.classes;
+            sorted.push(Told {
+                name,
+                invocations,
+                classes,
+            })?;
+        }
+        sorted.sort_by(|a, b| {
+            let most = b.weight().cmp(&a.weight());
+            most.then(a.name.cmp(b.name))
+        })?;
+        Ok(sorted)
+    }
+
+    /// Appends the classes on which most hangs, if there are any. Want of memory is an error.
     pub(crate) fn push(&self, alloc: Global, out: &mut String) -> Result<(), AllocError> {
-        if self.counts.is_empty() {
+        if self.hanging.is_empty() {
             return Ok(());
         }
         let sorted = self.sorted(alloc)?;
-        push_counted(&sorted, out)
+        push_told(&sorted, out)
     }
+}
 
-    /// The classes, those first for which most invocations wait. Want of memory is an error.
-    fn sorted(&self, alloc: Global) -> Result<Vec<Counted<'_>>, AllocError> {
-        let mut sorted = Vec::with_capacity(alloc, self.counts.len())?;
-        for (name, count) in &self.counts {
-            let name = name.as_str();
-            let count = *count;
-            sorted.push(Counted { name, count })?;
-        }
-        sorted.sort_by(|a, b| b.count.cmp(&a.count).then(a.name.cmp(b.name)))?;
-        Ok(sorted)
+impl<'a> Told<'a> {
+    /// How much hangs on it.
+    fn weight(&self) -> u64 {
+        self.invocations.saturating_add(self.classes)
     }
 }
 
 /// Appends how many classes there are, and the first of them. Want of memory is an error.
-fn push_counted(sorted: &[Counted<'_>], out: &mut String) -> Result<(), AllocError> {
+fn push_told(sorted: &[Told<'_>], out: &mut String) -> Result<(), AllocError> {
     let all = sorted.len();
     let head = "classes that are missing";
     write!(out, "{head:<28}{all:>12}\n")?;
@@ -95,9 +198,14 @@ fn push_counted(sorted: &[Counted<'_>], out: &mut String) -> Result<(), AllocErr
     Ok(())
 }
 
-/// Appends a class, and how many invocations wait for it. Want of memory is an error.
-fn push_one(one: &Counted<'_>, out: &mut String) -> Result<(), AllocError> {
+/// Appends a class, how many invocations wait for it, and how many classes are left out below it. Want of memory is an error.
+fn push_one(one: &Told<'_>, out: &mut String) -> Result<(), AllocError> {
     let name = one.name;
-    let count = one.count;
-    write!(out, "    {count:>12}  {name}\n")
+    let invocations = one.invocations;
+    write!(out, "    {invocations:>12}  {name}")?;
+    if one.classes > 0 {
+        let classes = one.classes;
+        write!(out, ", below which {classes} classes are left out")?;
+    }
+    out.push('\n')
 }

@@ -1,8 +1,9 @@
 //! A report as text.
 
-use crate::left_out::LeftOut;
+use crate::left_out::{LeftOut, Whose};
 use crate::texts::links::{push_class, push_finding, push_number, push_operand};
 use crate::texts::names::push_name;
+use crate::told::Note;
 use indexmap::IndexMap;
 use jl_class::{ClassFile, Method, Site};
 use jl_hierarchy::Classes;
@@ -37,6 +38,7 @@ pub(crate) fn push_site_line(
     classes: &Classes,
     site: &Site<'_>,
     row: &Row,
+    note: &Note,
     out: &mut String,
 ) -> Result<(), AllocError> {
     let pc = site.pc();
@@ -44,7 +46,7 @@ pub(crate) fn push_site_line(
     write!(out, "{pc:>7} {name} ")?;
     push_operand(alloc, site.operand(), out)?;
     out.push_str("  ")?;
-    push_finding(alloc, classes, site, row, out)?;
+    push_finding(alloc, classes, site, row, note, out)?;
     out.push('\n')
 }
 
@@ -63,14 +65,15 @@ pub(crate) fn push_dropped(
     out.push_str(": ")?;
     push_class(alloc, classes, one.before.place.class, out)?;
     push_method_end(alloc, method, out)?;
-    push_site_line(alloc, classes, site, &one.before, out)?;
+    let nothing = Note::nothing();
+    push_site_line(alloc, classes, site, &one.before, &nothing, out)?;
     out.push_str("        now  ")?;
-    push_finding(alloc, classes, site, &one.after, out)?;
+    push_finding(alloc, classes, site, &one.after, &nothing, out)?;
     out.push('\n')
 }
 
 /// Appends the file that is left out and why. Want of memory is an error.
-pub(crate) fn push_left_out(one: &LeftOut, out: &mut String) -> Result<(), AllocError> {
+fn push_left_out(one: &LeftOut, out: &mut String) -> Result<(), AllocError> {
     out.push_str("    ")?;
     out.push_str(one.path.as_str())?;
     out.push_str("  ")?;
@@ -78,31 +81,75 @@ pub(crate) fn push_left_out(one: &LeftOut, out: &mut String) -> Result<(), Alloc
     out.push('\n')
 }
 
-/// Appends why a file is left out: the name of the refusal, and what it is about. Want of memory is an error.
-fn push_reason(answer: &Value, out: &mut String) -> Result<(), AllocError> {
-    push_member("", text_in(answer, "refused"), out)?;
+/// What to do with an archive.
+const ADVICE: &str = ": its classes have to be unpacked first (unzip, or tools/classes.py)";
+
+/// Appends why a file is left out: the name of the refusal, what it is about, and what to do, if that is known. Want of memory is an error.
+pub(crate) fn push_reason(answer: &Value, out: &mut String) -> Result<(), AllocError> {
+    let name = text_in(answer, "refused").unwrap_or("");
+    out.push_str(name)?;
     push_member(" ", text_in(answer, "name"), out)?;
     push_place(" method ", answer, "method", out)?;
-    push_place(" at ", answer, "at", out)
+    push_place(" at ", answer, "at", out)?;
+    push_advice(name, out)
 }
 
-/// Appends how many files are left out for each reason, and the first of them. Want of memory is an error.
-pub(crate) fn push_reasons(
+/// Appends what to do with files that are refused so, if that is known. Want of memory is an error.
+fn push_advice(name: &str, out: &mut String) -> Result<(), AllocError> {
+    if name == "Archive" {
+        out.push_str(ADVICE)?;
+    }
+    Ok(())
+}
+
+/// Appends how many files are left out: those of classes that would be reported, each or how many for each reason, and how many others.
+/// Want of memory is an error.
+pub(crate) fn push_all_left_out(
     alloc: Global,
     left_out: &[LeftOut],
+    is_each_told: bool,
     out: &mut String,
 ) -> Result<(), AllocError> {
-    let mut reasons = IndexMap::new(alloc);
-    count_reasons(left_out, &mut reasons)?;
-    push_counts(&reasons, out)
+    push_count("files that are left out", left_out, Whose::Reported, out)?;
+    if is_each_told {
+        for one in left_out {
+            if one.whose == Whose::Reported {
+                push_left_out(one, out)?;
+            }
+        }
+    } else {
+        let mut reasons = IndexMap::new(alloc);
+        count_reasons(left_out, &mut reasons)?;
+        push_reasons(&reasons, out)?;
+    }
+    push_count("files of modules", left_out, Whose::Module, out)?;
+    push_count("left out beside them", left_out, Whose::Beside, out)
 }
 
-/// Counts the files that are left out for each reason, and keeps the first of them. Want of memory is an error.
+/// Appends how many of the files that are left out are such, where there are any. Want of memory is an error.
+fn push_count(
+    head: &str,
+    left_out: &[LeftOut],
+    whose: Whose,
+    out: &mut String,
+) -> Result<(), AllocError> {
+    let count = left_out.iter().filter(|one| one.whose == whose).count();
+    if count == 0 {
+        return Ok(());
+    }
+    write!(out, "{head:<28}{count:>12}\n")
+}
+
+/// Counts the files for each reason that are left out and whose classes would be reported, and keeps the first of them. Want of memory is an
+/// error.
 fn count_reasons<'a>(
     left_out: &'a [LeftOut],
     reasons: &mut IndexMap<&'a str, (u64, &'a str)>,
 ) -> Result<(), AllocError> {
     for one in left_out {
+        if one.whose != Whose::Reported {
+            continue;
+        }
         let name = text_in(&one.answer, "refused").unwrap_or("");
         let (count, first) = match reasons.get(name) {
             Some((count, first)) => (count.saturating_add(1), *first),
@@ -113,17 +160,14 @@ fn count_reasons<'a>(
     Ok(())
 }
 
-/// Appends the reasons, each with its count. Want of memory is an error.
-fn push_counts(reasons: &IndexMap<&str, (u64, &str)>, out: &mut String) -> Result<(), AllocError> {
+/// Appends the reasons, each with its count and the first of its files. Want of memory is an error.
+fn push_reasons(reasons: &IndexMap<&str, (u64, &str)>, out: &mut String) -> Result<(), AllocError> {
     for (name, (count, first)) in reasons {
-        push_count(name, *count, first, out)?;
+        write!(out, "    {count:>12}  {name}, {first}")?;
+        push_advice(name, out)?;
+        out.push('\n')?;
     }
     Ok(())
-}
-
-/// Appends a reason, how many files are left out for it, and the first of them. Want of memory is an error.
-fn push_count(name: &str, count: u64, first: &str, out: &mut String) -> Result<(), AllocError> {
-    write!(out, "    {count:>12}  {name}, {first}\n")
 }
 
 /// The text under the key.

@@ -1,9 +1,10 @@
 //! How many invocations come to what, in words.
 
 use crate::texts::links::push_number;
+use crate::told::Note;
 use jl_class::Kind;
 use jl_json::instruction;
-use jl_report::{Shape, Totals};
+use jl_report::{Row, Shape, Totals};
 use std::alloc::AllocError;
 
 const KINDS: [Kind; 5] = [
@@ -50,6 +51,12 @@ pub(crate) const SHAPES_BY_KEY: [(Shape, &str); 8] = [
 /// How many invocations of each instruction come to each shape, and in how many classes and methods.
 pub(crate) struct Summary {
     pub(crate) totals: Totals,
+    /// Those of tables and megamorphic links whose receivers all run one method.
+    pub(crate) one_method: Totals,
+    /// Those whose receivers run two.
+    pub(crate) two_methods: Totals,
+    /// Those for which an invokedynamic may make further receivers.
+    pub(crate) made: Totals,
     pub(crate) classes: u64,
     pub(crate) methods: u64,
 }
@@ -59,6 +66,9 @@ impl Drop for Summary {
     fn drop(self) {
         let Summary {
             totals: _totals,
+            one_method: _one_method,
+            two_methods: _two_methods,
+            made: _made,
             classes: _classes,
             methods: _methods,
         } = self;
@@ -70,8 +80,24 @@ impl Summary {
     pub(crate) fn new() -> Self {
         Summary {
             totals: Totals::new(),
+            one_method: Totals::new(),
+            two_methods: Totals::new(),
+            made: Totals::new(),
             classes: 0,
             methods: 0,
+        }
+    }
+
+    /// Counts one more.
+    pub(crate) fn add(&mut self, row: &Row, note: &Note) {
+        self.totals.add(row);
+        match note.method_count() {
+            Some(1) => self.one_method.add(row),
+            Some(2) => self.two_methods.add(row),
+            _ => {}
+        }
+        if note.is_made {
+            self.made.add(row);
         }
     }
 
@@ -120,16 +146,23 @@ impl Summary {
         let name = instruction(kind);
         write!(out, "{name:<28}{all:>12}\n")?;
         for (shape, name) in &SHAPES {
-            let count = self.totals.count(kind, *shape);
-            if count > 0 {
-                push_share(name, count, all, out)?;
-            }
+            push_share(name, self.totals.count(kind, *shape), all, out)?;
+            let one = self.one_method.count(kind, *shape);
+            push_share("  of one method", one, all, out)?;
+            let two = self.two_methods.count(kind, *shape);
+            push_share("  of two methods", two, all, out)?;
+            let made = self.made.count(kind, *shape);
+            push_share("  with made receivers", made, all, out)?;
         }
         Ok(())
     }
 }
 
+/// Appends the share, where it is any. Want of memory is an error.
 fn push_share(name: &str, count: u64, all: u64, out: &mut String) -> Result<(), AllocError> {
+    if count == 0 {
+        return Ok(());
+    }
     let tenths = (u128::from(count) * 1000)
         .checked_div(u128::from(all))
         .unwrap_or(0);

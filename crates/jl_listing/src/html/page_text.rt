@@ -1,0 +1,167 @@
+//! The fixed text of a page: its looks, and the script that shows the rows.
+
+/// What comes before the rows.
+pub(crate) const BEFORE_ROWS: &str = r##"<!doctype html>
+<html lang="en"><head><meta charset="utf-8"><meta name="viewport" content="width=device-width">
+<title>linkd report</title><style>
+body{font:15px/1.5 system-ui,sans-serif;max-width:90em;margin:1.5em auto;padding:0 1em;color:#222;background:#fff}
+h1{font-size:1.4em;margin:0}h2{font-size:1.1em;margin:1.5em 0 .3em}p{margin:.4em 0}
+.row{display:flex;gap:.5rem;align-items:center}
+.name{flex:1;min-width:0;overflow-wrap:anywhere}
+.row b,.head span{width:4.6rem;text-align:right;font-weight:normal;font-variant-numeric:tabular-nums}
+.row b{border-bottom:2px solid var(--c)}.row b.none{border-color:transparent;color:#999}
+.head{position:sticky;top:0;background:#fff;border-bottom:1px solid #777;color:#555;font-size:.85em;line-height:1.2;align-items:end}
+.head .name{text-align:left}.bar,.head .bar{display:flex;flex:none;width:12rem;height:.8em;border:1px solid #777;text-align:left}.head .bar{visibility:hidden}
+.p0{--c:#1b9e77}.p1{--c:#e6ab02}.p2{--c:#d95f02}.p3{--c:#7a0177}.p4{--c:#a6cee3}.p5{--c:#999}
+i{display:block;background:var(--c)}.key i{display:inline-block;width:1em;height:.8em;border:1px solid #777;margin-left:.8em}
+summary{cursor:pointer}summary.row::before{content:"+";width:1em}details[open]>summary.row::before{content:"-"}
+details details,.site{margin-left:1.4em}
+.site{padding:.15em 0 .15em .6em;border-left:3px solid var(--c);overflow-wrap:anywhere}.site small{color:#555}
+input,select{font:inherit;margin-right:.8em}li{overflow-wrap:anywhere}
+@media(max-width:60em){.row{flex-wrap:wrap}.name{flex-basis:calc(100% - 2em)}.head span{display:none}.row b{width:auto;min-width:2.4em}.bar{width:5em}
+details details,.site{margin-left:.7em}}
+@media print{body{max-width:none;margin:0}.row{break-inside:avoid}i,.site{print-color-adjust:exact;-webkit-print-color-adjust:exact}form{display:none}}
+</style></head><body>
+<h1>What invocations come to</h1>
+<p id="read"></p><p class="key" id="key"></p>
+<form onsubmit="return false"><label>Find <input id="find" type="search" placeholder="class, method or type"></label>
+<label>Order <select id="order"><option value="name">by name</option><option value="worst">most open first</option></select></label></form>
+<div class="row head" id="head"></div><div id="all"></div>
+<div id="missing"></div><div id="left"></div>
+<noscript><p>The rows are shown by a script of this page.</p></noscript>
+<script type="application/json" id="report">"##;
+
+/// What comes behind them.
+pub(crate) const BEHIND_ROWS: &str = r##"</script><script>
+"use strict";
+const PARTS = ["one method", "table", "mega\u00admorphic", "throws", "no re\u00adceivers, never linked", "waits"];
+const D = JSON.parse(document.getElementById("report").textContent), T = D.texts;
+const at = id => document.getElementById(id);
+const items = list => list.filter(item => item !== 0);
+const dotted = text => text.replaceAll("/", ".");
+function make(tag, name, text) {
+  const made = document.createElement(tag);
+  if (name) made.className = name;
+  if (text !== undefined) made.textContent = text;
+  return made;
+}
+// A type of a descriptor from place i on, as Java writes it, and the place behind it.
+function javaType(text, i) {
+  let depth = 0;
+  for (; text[i] === "["; i++) depth++;
+  const end = text[i] === "L" ? text.indexOf(";", i) : i;
+  const plain = { B: "byte", C: "char", D: "double", F: "float", I: "int", J: "long", S: "short", Z: "boolean", V: "void" }[text[i]];
+  return [(text[i] === "L" ? dotted(text.slice(i + 1, end)) : plain) + "[]".repeat(depth), end + 1];
+}
+function javaMethod(owner, name, type) {
+  const taken = [];
+  let i = 1;
+  while (type[i] !== ")") {
+    const [one, next] = javaType(type, i);
+    taken.push(one);
+    i = next;
+  }
+  const of = owner === "" ? "" : (owner[0] === "[" ? javaType(owner, 0)[0] : dotted(owner)) + ".";
+  return javaType(type, i + 1)[0] + " " + of + name + "(" + taken.join(", ") + ")";
+}
+const join = (sums, more) => more.forEach((count, part) => sums[part] += count);
+const sum = counts => counts.reduce((a, b) => a + b, 0);
+// A node has a name, its six counts, and what is below it, which is made once it is opened.
+function methodNode([name, type, ...sites]) {
+  const node = { name: javaMethod("", T[name], T[type]), own: T[name], counts: [0, 0, 0, 0, 0, 0], sites: items(sites), below: [] };
+  for (const site of node.sites) node.counts[site[2]]++;
+  return node;
+}
+function parent(name, below) {
+  const node = { name, counts: [0, 0, 0, 0, 0, 0], below, sites: [] };
+  for (const one of below) join(node.counts, one.counts);
+  return node;
+}
+function packages() {
+  const found = new Map();
+  for (const [name, ...methods] of items(D.classes)) {
+    const full = T[name], cut = full.lastIndexOf("/"), of = cut < 0 ? "(no package)" : dotted(full.slice(0, cut));
+    if (!found.has(of)) found.set(of, []);
+    found.get(of).push(parent(full.slice(cut + 1), items(methods).map(methodNode)));
+  }
+  return [...found].map(([name, classes]) => parent(name, classes));
+}
+function row(tag, name, counts) {
+  const shown = make(tag, "row"), bar = make("span", "bar"), all = sum(counts);
+  bar.setAttribute("aria-hidden", "true");
+  shown.append(make("span", "name", name), bar);
+  counts.forEach((count, part) => {
+    const share = all ? (100 * count / all).toFixed(1) + " %" : "";
+    if (count) bar.append(make("i", "p" + part)), bar.lastChild.style.flexGrow = count;
+    shown.append(make("b", "p" + part + (count ? "" : " none"), count));
+    shown.lastChild.title = PARTS[part] + ": " + share;
+  });
+  return shown;
+}
+function site([pc, kind, part, owner, name, type, words]) {
+  const shown = make("div", "site p" + part), [first, ...more] = T[words].split("; ");
+  shown.append(make("small", "", pc + " " + T[kind] + " "), javaMethod(T[owner], T[name], T[type]), make("br"), dotted(first));
+  for (const one of more) shown.append(make("br"), make("small", "", dotted(one)));
+  return shown;
+}
+const open = counts => counts[2] + counts[3] + counts[4] + counts[5];
+function ordered(nodes) {
+  const worst = at("order").value === "worst";
+  return [...nodes].sort((a, b) => worst && open(b.counts) - open(a.counts) || (a.name < b.name ? -1 : a.name > b.name ? 1 : 0));
+}
+function tree(node, opened) {
+  const shown = make("details"), fill = () => {
+    if (shown.childElementCount > 1) return;
+    for (const one of ordered(node.below)) shown.append(tree(one, opened));
+    for (const one of node.sites) shown.append(site(one));
+  };
+  shown.append(row("summary", node.name, node.counts));
+  shown.addEventListener("toggle", () => shown.open && fill());
+  if (opened) shown.open = true, fill();
+  return shown;
+}
+// What of a node the text is found in: all, or those below it that have it.
+function part(node, above, text) {
+  const name = above + (node.own || node.name);
+  if ((name + " " + node.name).toLowerCase().includes(text)) return node;
+  if (!node.below.length) {
+    const sites = node.sites.filter(one => javaMethod(T[one[3]], T[one[4]], T[one[5]]).toLowerCase().includes(text));
+    if (!sites.length) return null;
+    const counts = [0, 0, 0, 0, 0, 0];
+    for (const one of sites) counts[one[2]]++;
+    return { name: node.name, counts, sites, below: [] };
+  }
+  const below = node.below.map(one => part(one, name + ".", text)).filter(one => one);
+  return below.length ? parent(node.name, below) : null;
+}
+const PACKAGES = packages();
+function show() {
+  const text = dotted(at("find").value.trim().toLowerCase());
+  const found = text ? PACKAGES.map(one => part(one, "", text)).filter(one => one) : PACKAGES;
+  const all = parent(text ? "Found" : "All", found), opened = location.hash === "#open" || text && sum(all.counts) < 500;
+  const list = ordered(found).map(one => tree(one, opened)), whole = row("div", all.name, all.counts), shares = row("div", "per cent", all.counts);
+  shares.querySelectorAll("b").forEach((cell, place) => cell.textContent = sum(all.counts) ? (100 * all.counts[place] / sum(all.counts)).toFixed(1) : "");
+  shares.querySelector(".bar").style.visibility = "hidden";
+  shares.id = "shares";
+  at("all").replaceChildren(whole, shares, ...list);
+}
+function told(id, head, rows, line) {
+  if (!rows.length) return;
+  const shown = make("details"), list = make("ul");
+  shown.append(make("summary", "", head + " (" + rows.length + ")"));
+  shown.addEventListener("toggle", () => list.childElementCount || list.append(...rows.map(one => make("li", "", line(one)))));
+  shown.append(list);
+  at(id).append(shown);
+}
+at("read").textContent = "Read from " + items(D.paths).join(", ") + (D.beside.length > 1 ? ", with " + items(D.beside).join(", ") : "")
+  + (D.seconds ? ", on " + new Date(1000 * D.seconds).toLocaleString() : "") + ".";
+at("key").append("What an invocation can run among these classes:");
+PARTS.forEach((name, part) => at("key").append(make("i", "p" + part), " " + name.replaceAll("\u00ad", "")));
+at("head").append(make("span", "name", "package, class, method"), make("span", "bar"), ...PARTS.map(name => make("span", "", name)));
+told("missing", "Classes that are missing", items(D.missing), one => dotted(one[0]) + ": " + one[1] + " invocations wait, " + one[2] + " classes are left out below it");
+told("left", "Files that are left out", items(D.leftOut), one => one[0] + ": " + one[1]);
+at("find").addEventListener("input", show);
+at("order").addEventListener("change", show);
+show();
+</script></body></html>
+"##;

@@ -1,0 +1,115 @@
+//! What is told of an invocation beside what it comes to.
+
+use crate::asked::Asked;
+use jl_report::{Made, Report, Row, Shape};
+use jl_types::MethodId;
+use std::alloc::{AllocError, Global};
+
+/// So many different methods are looked for, unless all are asked for.
+const MOST_METHODS: usize = 3;
+
+/// The different methods that an invocation can run.
+#[derive(Drop)]
+pub(crate) enum Methods {
+    /// It isn't asked: its link looks at no receivers, or tells the one method.
+    Unasked,
+    /// These are all.
+    All(Vec<MethodId>),
+    /// There are more than two, and not all receivers were asked.
+    Several,
+}
+
+/// What is told of an invocation beside what it comes to.
+pub(crate) struct Note {
+    pub(crate) methods: Methods,
+    /// Whether an invokedynamic may make further receivers.
+    pub(crate) is_made: bool,
+}
+
+/// Written out, so that what drops one makes one call of it and doesn't take apart what it holds.
+impl Drop for Note {
+    fn drop(self) {
+        let Note {
+            methods: _methods,
+            is_made: _is_made,
+        } = self;
+    }
+}
+
+impl Note {
+    /// Nothing.
+    pub(crate) fn nothing() -> Note {
+        Note {
+            methods: Methods::Unasked,
+            is_made: false,
+        }
+    }
+
+    /// How many different methods it can run, where that is known.
+    pub(crate) fn method_count(&self) -> Option<usize> {
+        match &self.methods {
+            Methods::All(methods) => Some(methods.len()),
+            _ => None,
+        }
+    }
+}
+
+/// What is told of these invocations, in order: nothing of those that aren't reported. Want of memory is an error.
+pub(crate) fn notes_of(
+    alloc: Global,
+    report: &mut Report,
+    made: &Made,
+    asked: &Asked,
+    rows: &[Row],
+) -> Result<Vec<Note>, AllocError> {
+    let mut notes = Vec::with_capacity(alloc, rows.len())?;
+    for row in rows {
+        notes.push(note_of(alloc, report, made, asked, row)?)?;
+    }
+    Ok(notes)
+}
+
+/// What is told of the invocation. Want of memory is an error.
+fn note_of(
+    alloc: Global,
+    report: &mut Report,
+    made: &Made,
+    asked: &Asked,
+    row: &Row,
+) -> Result<Note, AllocError> {
+    if !asked.chosen.takes_row(report.classes(), row) {
+        return Ok(Note::nothing());
+    }
+    Ok(Note {
+        methods: methods_of(alloc, report, asked, row)?,
+        is_made: made.meets(row),
+    })
+}
+
+/// The methods that the invocation can run, where its link may run several. Want of memory is an error.
+fn methods_of(
+    alloc: Global,
+    report: &mut Report,
+    asked: &Asked,
+    row: &Row,
+) -> Result<Methods, AllocError> {
+    match Shape::of(&row.finding) {
+        Shape::NoReceivers => Ok(Methods::All(Vec::new(alloc))),
+        Shape::Table => all_methods(alloc, report, row),
+        Shape::Mega if asked.all_receivers => all_methods(alloc, report, row),
+        Shape::Mega => {
+            let methods = report.methods_of(alloc, row, MOST_METHODS)?;
+            if methods.len() < MOST_METHODS {
+                Ok(Methods::All(methods))
+            } else {
+                Ok(Methods::Several)
+            }
+        }
+        _ => Ok(Methods::Unasked),
+    }
+}
+
+/// All methods that the invocation can run. Want of memory is an error.
+fn all_methods(alloc: Global, report: &mut Report, row: &Row) -> Result<Methods, AllocError> {
+    Ok(Methods::All(report.methods_of(alloc, row, usize::MAX)?))
+}
