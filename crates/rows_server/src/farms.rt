@@ -11,10 +11,11 @@ use jl_types::{Link, SiteNo};
 use std::alloc::{AllocError, Global};
 use std::sync::atomic::{AtomicU64, Ordering};
 use std::sync::{Mutex, Wait};
+use std::thread;
 use std::thread::Threads;
 
-/// How often a job that is held back looks before it gives up.
-const LOOKS: u64 = 200_000_000;
+/// How often a job that is held back looks, and lets other threads go on, before it gives up: for several seconds.
+const LOOKS: u64 = 20_000_000;
 
 /// What a job comes to.
 #[derive(Clone, Copy, PartialEq, Eq)]
@@ -222,6 +223,7 @@ impl<'a, K: Name, R: Wait, S: Wait + Drop> Turner<'a, K, R, S> {
             if self.met.load(Ordering::SeqCst) == 1 {
                 return;
             }
+            thread::yield_now();
         }
         self.gave_up.store(1, Ordering::SeqCst);
     }
