@@ -1,13 +1,16 @@
 #!/usr/bin/env bash
-# Builds the agent of examples/agent and runs it with `check` over three programs: lambdas and streams, javac that compiles a file, and 200
-# classes by 20 loaders. Each call is compared with what HotSpot runs.
+# Builds the agent of examples/agent and runs it with `check` over five programs: lambdas and streams, javac that compiles a file, 200 classes
+# by 20 loaders, 200 loaders that are dropped one after the other, and a Tomcat that deploys a web application 21 times. Each call is compared
+# with what HotSpot runs.
 #
 #     bench/agent.sh [FOLDER]
 #
 # It needs what tools/library.sh needs, and java, javac, jar and jvmti.h of one JDK, that of JAVA_HOME or else of java of the PATH. The agent is
-# for 11 to 17; the programs want 17. ENTRIES (10000000) is how many method entries are looked at in each; with all of them it takes four
-# minutes. The reports are left in FOLDER, if it is given, as streams.json, javac.json and loaders.json. It ends with status 0 only where no
-# call differs, and at least 3,000, 20,000 and 1,000 were compared.
+# for 11 to 17; the programs want 17. Tomcat is Debian's libtomcat10-java, whose jars are in the folder that TOMCAT names; else apt-get and
+# dpkg-deb fetch it without being root, and install nothing. ENTRIES (10000000) is how many method entries are looked at in each; Tomcat's
+# last deployment is behind nine million. With all of them it takes ten minutes. The reports are left in FOLDER, if it is given, as
+# streams.json, javac.json, loaders.json, dropping.json, tomcat.json and others. It ends with status 0 only where no call differs, at least as
+# many were compared as stand behind each program, and dropped loaders were retired with their classes and sites.
 set -eu
 top=$(cd "$(dirname "$0")/.." && pwd)
 export LC_ALL=C
@@ -39,6 +42,31 @@ mkdir -p "$reports"
 agent="$work/liblinkd_agent.so"
 "$home/bin/javac" --release 17 -Xlint:all -Werror -d "$work/classes" "$sources"/java/*.java
 
+# Fetches the jars of Tomcat, by lists of its own.
+fetch_tomcat() {
+    (
+        cd "$work"
+        mkdir -p lists/partial cache/archives/partial
+        options=(-q -o "Dir::State::lists=$work/lists" -o "Dir::Cache=$work/cache" -o "APT::Sandbox::User=$(id -un)")
+        apt-get "${options[@]}" update > said
+        apt-get "${options[@]}" download libtomcat10-java > said
+        dpkg-deb -x libtomcat10-java_*.deb fetched
+    )
+    tomcat="$work/fetched/usr/share/java"
+}
+
+tomcat=${TOMCAT:-}
+if [ -z "$tomcat" ]; then fetch_tomcat; fi
+jars=
+for name in catalina coyote util util-scan juli servlet-api annotations-api jaspic-api api jni; do
+    if [ ! -f "$tomcat/tomcat10-$name.jar" ]; then
+        echo "there is no $tomcat/tomcat10-$name.jar" >&2
+        exit 2
+    fi
+    jars="$jars:$tomcat/tomcat10-$name.jar"
+done
+jars=${jars#:}
+
 # The number behind a key of the report.
 number_of() { sed -nE "s/.*\"$2\":([0-9]+).*/\1/p" "$reports/$1.json"; }
 
@@ -56,6 +84,49 @@ look_at() {
     fi
 }
 
+# What was retired: of loaders, their classes and the sites in these so many at least.
+look_at_retired() {
+    local what number wanted
+    echo "$1: $(number_of "$1" retired_loaders) loaders retired, $(number_of "$1" retired_classes) classes," \
+        "$(number_of "$1" retired_sites) sites, $(number_of "$1" retired_links) links dropped by that," \
+        "$(number_of "$1" held_loaders) loaders held"
+    for what in loaders:"$2" classes:"$3" sites:"$4"; do
+        number=$(number_of "$1" "retired_${what%:*}")
+        wanted=${what#*:}
+        if [ "${number:-0}" -lt "$wanted" ]; then
+            echo "$1: at least $wanted ${what%:*} are to be retired" >&2
+            status=1
+        fi
+    done
+    if [ "$(number_of "$1" held_loaders)" != 0 ]; then
+        echo "$1: nothing holds a loader that HotSpot has collected" >&2
+        status=1
+    fi
+}
+
+# What the agent keeps: so many files, methods and places of calls at most. What it kept of 600 dropped classes would be more.
+look_at_kept() {
+    local what number most
+    for what in files:"$2" methods:"$3" places:"$4"; do
+        number=$(number_of "$1" "kept_${what%:*}")
+        most=${what#*:}
+        if [ "${number:-$((most + 1))}" -gt "$most" ]; then
+            echo "$1: ${number:-no} ${what%:*} are kept, and $most are enough" >&2
+            status=1
+        fi
+    done
+}
+
+# The link of the call, by the method that it names, at which all dropped classes were met: it has one of these forms at the end.
+look_at_call() {
+    local call="\"instruction\":\"invokeinterface\",\"calls\":\"$2\""
+    grep -oE "$call[^}]*" "$reports/$1.json" || true
+    if ! grep -qE "$call,\"form\":\"($3)\",\"rows\":[0-8],\"installed\":[0-9]{2,}\}" "$reports/$1.json"; then
+        echo "$1: this call has to be none of the megamorphic ones at the end, and was linked anew at least ten times" >&2
+        status=1
+    fi
+}
+
 words() { echo "check,json,report=$reports/$1.json,entries=$entries"; }
 
 "$home/bin/java" -Xshare:off -agentpath:"$agent=$(words streams)" -cp "$work/classes" Streams
@@ -69,6 +140,57 @@ if [ "$(number_of loaders loaders)" -lt 21 ]; then
     echo "the program has 20 loaders of its own" >&2
     status=1
 fi
+
+"$home/bin/java" -Xshare:off -agentpath:"$agent=$(words dropping),sites=Dropping" -cp "$work/classes" Dropping
+look_at dropping 100000
+look_at_retired dropping 180 540 1000
+look_at_kept dropping 900 2700 5300
+look_at_call dropping 'Step\.next\(I\)I' 'direct|interface_table'
+
+shop="$work/shop/WEB-INF/classes"
+"$home/bin/javac" --release 17 -Xlint:all,-path -Werror -cp "$jars" -d "$shop" "$sources"/tomcat/shop/*.java
+"$home/bin/javac" --release 17 -Xlint:all,-path -Werror -cp "$jars" -d "$work/tomcat" "$sources"/tomcat/*.java
+"$home/bin/java" -Xshare:off --add-opens=java.base/java.lang=ALL-UNNAMED --add-opens=java.base/java.io=ALL-UNNAMED \
+    --add-opens=java.rmi/sun.rmi.transport=ALL-UNNAMED \
+    -agentpath:"$agent=$(words tomcat),sites=org/apache/catalina/core/ApplicationFilterChain" \
+    -cp "$work/tomcat:$jars" Redeploying "$work/shop" "$work/base" 2> "$work/said" || {
+    cat "$work/said" >&2
+    status=1
+}
+look_at tomcat 100000
+look_at_retired tomcat 18 90 200
+look_at_call tomcat 'jakarta/servlet/Servlet\.service\([^"]*' 'pending|direct|interface_table'
+
+# Numbers of loaders aren't given again: behind 1,024 the machine runs on, and what it loads then is left out.
+"$home/bin/java" -Xshare:off -agentpath:"$agent=json,report=$reports/many.json" -cp "$work/classes" Dropping 800
+if [ "$(number_of many retired_loaders)" -lt 1000 ] || [ "$(number_of many LINKD_LOADERS_FULL)" -lt 40 ] ||
+    [ "$(number_of many classes_without_loader)" -lt 100 ] || [ "$(number_of many held_loaders)" != 0 ]; then
+    cat "$reports/many.json" >&2
+    echo "many: of 1,066 loaders the linker takes as many as make 1,024, and retires them" >&2
+    status=1
+fi
+
+# The loaders of HotSpot's accessors for reflective calls, which are more than 1,024, too, take none.
+"$home/bin/java" -Xshare:off -Dsun.reflect.noInflation=true -agentpath:"$agent=json,report=$reports/reflecting.json" -cp "$work/classes" \
+    Reflecting
+if [ "$(number_of reflecting classes_without_loader)" -lt 1100 ] || [ "$(number_of reflecting retired_loaders)" -lt 2 ] ||
+    grep -q LINKD_LOADERS_FULL "$reports/reflecting.json"; then
+    cat "$reports/reflecting.json" >&2
+    echo "reflecting: behind 1,100 accessors two loaders have numbers, and are retired" >&2
+    status=1
+fi
+
+# Each collector tells of its loaders in its own way.
+for collector in Serial Parallel Shenandoah Z; do
+    if ! "$home/bin/java" "-XX:+Use${collector}GC" -version > /dev/null 2>&1; then
+        echo "$collector: not in this JDK"
+        continue
+    fi
+    "$home/bin/java" "-XX:+Use${collector}GC" -Xshare:off -agentpath:"$agent=check,json,report=$reports/$collector.json,entries=200000" \
+        -cp "$work/classes" Dropping
+    look_at "$collector" 20000
+    look_at_retired "$collector" 180 540 40
+done
 
 # The linker's agent sees the class file before an agent of Java changes it, so one call differs.
 "$home/bin/javac" --release 17 -Xlint:all -Werror -d "$work/changed" "$sources"/changed/*.java
@@ -88,10 +210,12 @@ for words in "report=$work/nowhere/report" "entries=x" "nonsense"; do
     grep -q '^linkd: ' "$work/said"
     grep -q '^linkd: classes ' "$work/said"
 done
-"$home/bin/java" -Xcheck:jni -Xshare:off -agentpath:"$agent=check,entries=20000" -cp "$work/classes" Loaders > "$work/said" 2>&1
-if grep -E '^(WARNING|FATAL)' "$work/said"; then
-    status=1
-fi
+for program in Loaders Dropping; do
+    "$home/bin/java" -Xcheck:jni -Xshare:off -agentpath:"$agent=check,entries=100000" -cp "$work/classes" $program > "$work/said" 2>&1
+    if grep -E '^(WARNING|FATAL)' "$work/said"; then
+        status=1
+    fi
+done
 if [ $status = 0 ]; then
     echo "all as it must be"
 fi

@@ -1,7 +1,7 @@
 /* An agent for HotSpot, of a JDK from 11 to 17: it hands each class that the machine loads to a linker, and compares each method that the
  * machine runs with what the linker's link says.
  *
- *     java -Xshare:off -agentpath:.../liblinkd_agent.so=check,report=FILE[,json][,entries=N] ..
+ *     java -Xshare:off -agentpath:.../liblinkd_agent.so=check,report=FILE[,json][,entries=N][,sites=PREFIX] ..
  *
  * README.md beside this file says what the words mean and what the report has. Whatever is refused, the machine runs on.
  */
@@ -16,6 +16,7 @@
 static struct {
     bool check, json;
     FILE *report; /* where the report goes */
+    char *prefix; /* the sites of classes whose name begins so are told one by one; or null */
 } options;
 
 static void warn(const char *what, const char *more) { fprintf(stderr, "linkd: %s%s\n", what, more); }
@@ -41,6 +42,7 @@ static void read_option(const char *word) {
     else if (strcmp(word, "json") == 0) options.json = true;
     else if (strncmp(word, "report=", 7) == 0) open_report(word + 7);
     else if (strncmp(word, "entries=", 8) == 0) read_entries(word + 8);
+    else if (strncmp(word, "sites=", 6) == 0) options.prefix = strdup(word + 6);
     else warn("no such word: ", word);
 }
 
@@ -59,6 +61,7 @@ static void JNICALL on_class_file(jvmtiEnv *jvmti, JNIEnv *jni, jclass redefined
                                   const unsigned char *bytes, jint *new_length, unsigned char **new_bytes) {
     (void)jvmti, (void)domain, (void)new_length, (void)new_bytes;
     pthread_mutex_lock(&world.lock);
+    if (world.linker != NULL) retire_collected(jni);
     if (world.linker != NULL && redefined != NULL) forget_class(redefined);
     else if (world.linker != NULL && name != NULL) keep_file(jni, loader, name, bytes, (size_t)length);
     pthread_mutex_unlock(&world.lock);
@@ -67,20 +70,23 @@ static void JNICALL on_class_file(jvmtiEnv *jvmti, JNIEnv *jni, jclass redefined
 static void JNICALL on_class_load(jvmtiEnv *jvmti, JNIEnv *jni, jthread thread, jclass class) {
     (void)jvmti, (void)thread;
     pthread_mutex_lock(&world.lock);
-    if (world.linker != NULL) class_of(jni, class);
+    if (world.linker != NULL) {
+        retire_collected(jni);
+        class_of(jni, class);
+    }
     pthread_mutex_unlock(&world.lock);
 }
 
 /* How many classes the linker has. */
 static uint32_t defined(void) {
     uint32_t count = 0;
-    for (uint32_t i = 0; i < world.class_count; i++) count += world.classes[i]->number != NO_NUMBER;
+    for (uint32_t i = 0; i < world.class_count; i++) count += world.classes[i] != NULL && world.classes[i]->number != NO_NUMBER;
     return count;
 }
 
 static uint32_t without_file(void) {
     uint32_t count = 0;
-    for (uint32_t i = 0; i < world.class_count; i++) count += world.classes[i]->why == NO_FILE;
+    for (uint32_t i = 0; i < world.class_count; i++) count += world.classes[i] != NULL && world.classes[i]->why == NO_FILE;
     return count;
 }
 
@@ -114,9 +120,12 @@ static void JNICALL on_start(jvmtiEnv *jvmti, JNIEnv *jni, jthread thread) {
 }
 
 static void JNICALL on_end(jvmtiEnv *jvmti, JNIEnv *jni) {
-    (void)jvmti, (void)jni;
+    (void)jvmti;
     pthread_mutex_lock(&world.lock);
-    if (world.linker != NULL) report(options.report, options.json);
+    if (world.linker != NULL) {
+        retire_collected(jni);
+        report(options.report, options.json, options.prefix);
+    }
     close_world();
     pthread_mutex_unlock(&world.lock);
     bool written = options.report == stderr ? fflush(stderr) == 0 : fclose(options.report) == 0;
@@ -126,7 +135,8 @@ static void JNICALL on_end(jvmtiEnv *jvmti, JNIEnv *jni) {
 /* ---- the start */
 
 static bool set_up(jvmtiEnv *jvmti) {
-    jvmtiCapabilities wanted = {.can_generate_all_class_hook_events = 1, .can_generate_early_class_hook_events = 1, .can_tag_objects = 1};
+    jvmtiCapabilities wanted = {.can_generate_all_class_hook_events = 1, .can_generate_early_class_hook_events = 1, .can_tag_objects = 1,
+                                  .can_generate_object_free_events = 1};
     if (options.check) {
         wanted.can_generate_method_entry_events = 1;
         wanted.can_access_local_variables = 1;
@@ -135,6 +145,7 @@ static bool set_up(jvmtiEnv *jvmti) {
                                                   .VMDeath = on_end,
                                                   .ClassFileLoadHook = on_class_file,
                                                   .ClassLoad = on_class_load,
+                                                  .ObjectFree = on_object_free,
                                                   .MethodEntry = on_method_entry};
     if ((*jvmti)->AddCapabilities(jvmti, &wanted) != JVMTI_ERROR_NONE) return false;
     if ((*jvmti)->SetEventCallbacks(jvmti, &callbacks, (jint)sizeof callbacks) != JVMTI_ERROR_NONE) return false;
@@ -142,6 +153,7 @@ static bool set_up(jvmtiEnv *jvmti) {
     enable(jvmti, JVMTI_EVENT_CLASS_FILE_LOAD_HOOK);
     enable(jvmti, JVMTI_EVENT_VM_INIT);
     enable(jvmti, JVMTI_EVENT_VM_DEATH);
+    enable(jvmti, JVMTI_EVENT_OBJECT_FREE);
     return true;
 }
 

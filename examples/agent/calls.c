@@ -9,6 +9,7 @@ struct calls calls;
 struct method {
     jmethodID id;
     struct class *of;
+    struct loader *loader; /* of its class, be it hidden */
     uint32_t number; /* among those that its class declares, or NO_NUMBER */
     char *name, *type;
     bool is_static;
@@ -103,9 +104,10 @@ static struct method *new_method(JNIEnv *jni, jmethodID id) {
     struct method found = {.id = id, .number = NO_NUMBER};
     if ((*jvmti)->GetMethodDeclaringClass(jvmti, id, &from) != JVMTI_ERROR_NONE) return NULL;
     found.of = class_of(jni, from);
+    found.loader = loader_of(jni, from);
     (*jni)->DeleteLocalRef(jni, from);
     struct method *method = malloc(sizeof *method);
-    if (method == NULL || found.of == NULL || (*jvmti)->GetMethodModifiers(jvmti, id, &flags) != JVMTI_ERROR_NONE ||
+    if (method == NULL || found.of == NULL || found.loader == NULL || (*jvmti)->GetMethodModifiers(jvmti, id, &flags) != JVMTI_ERROR_NONE ||
         (*jvmti)->GetMethodName(jvmti, id, &found.name, &found.type, NULL) != JVMTI_ERROR_NONE) {
         free(method);
         return NULL;
@@ -136,7 +138,13 @@ static enum left_out kind_of(const struct invocation *named) {
 static struct site *new_site(const struct call *call) {
     struct site *site = calloc(1, sizeof *site);
     if (site == NULL) return NULL;
-    *site = (struct site){.caller = call->caller->id, .pc = call->pc, .of = call->caller->of, .method = call->caller->number, .number = NO_NUMBER};
+    const struct method *caller = call->caller;
+    *site = (struct site){.caller = caller->id,
+                          .pc = call->pc,
+                          .of = caller->of,
+                          .loader = caller->loader,
+                          .method = caller->number,
+                          .number = NO_NUMBER};
     if (site->of->why != COMPARED) site->why = site->of->why == HIDDEN_METHOD ? HIDDEN_CALLER : site->of->why;
     else if (site->method == NO_NUMBER) site->why = NOT_IN_FILE;
     else if (!invocation_at(&site->of->read, site->method, site->pc, &site->named)) site->why = BY_THE_MACHINE;
@@ -152,8 +160,15 @@ static struct site *site_of(const struct call *call) {
     return site != NULL ? site : new_site(call);
 }
 
-void drop_links(const uint32_t *dropped, size_t count) {
-    for (size_t i = 0; i < count; i++) calls.sites[dropped[i]]->linked = false;
+size_t drop_links(const uint32_t *dropped, size_t count) {
+    size_t kept = 0;
+    for (size_t i = 0; i < count; i++) {
+        struct site *site = calls.sites[dropped[i]];
+        if (site == NULL) continue;
+        site->linked = false;
+        kept++;
+    }
+    return kept;
 }
 
 static enum left_out request(struct site *site) {
@@ -183,8 +198,41 @@ static enum left_out install(JNIEnv *jni, struct site *site) {
     }
     if (status != LINKD_DONE) return status == LINKD_NOT_READY ? UNLINKED : status == LINKD_MEMORY ? NO_MEMORY : REFUSED_SITE;
     site->linked = true;
+    site->installed++;
     accepted(NULL);
     return COMPARED;
+}
+
+/* ---- what is gone: the machine may give its jmethodIDs to other methods */
+
+static bool let_site_go(void *item) {
+    struct site *site = item;
+    if (!site->loader->gone) return false;
+    if (site->number != NO_NUMBER) {
+        calls.sites[site->number] = NULL;
+        site->loader->sites++;
+    }
+    free(site);
+    return true;
+}
+
+static bool let_method_go(void *item) {
+    struct method *method = item;
+    if (!method->loader->gone) return false;
+    (*world.jvmti)->Deallocate(world.jvmti, (unsigned char *)method->name);
+    (*world.jvmti)->Deallocate(world.jvmti, (unsigned char *)method->type);
+    free(method);
+    return true;
+}
+
+void forget_calls(void) {
+    table_sweep(&sites, let_site_go);
+    table_sweep(&methods, let_method_go);
+}
+
+void count_records(size_t *method_count, size_t *site_count) {
+    *method_count = methods.count;
+    *site_count = sites.count;
 }
 
 /* ---- a call */
@@ -230,7 +278,7 @@ static uint32_t receiver_number(const struct call *call) { return call->receiver
 
 static const struct class *class_numbered(uint32_t number) {
     for (uint32_t i = 0; i < world.class_count; i++) {
-        if (world.classes[i]->number == number) return world.classes[i];
+        if (world.classes[i] != NULL && world.classes[i]->number == number) return world.classes[i];
     }
     return NULL;
 }
@@ -270,6 +318,7 @@ static enum left_out compare(struct call *call, jmethodID caller, jmethodID meth
     struct place *place = own_place();
     if (place == NULL) return NO_MEMORY;
     pthread_mutex_lock(&world.lock);
+    if (world.linker != NULL) retire_collected(call->jni);
     enum left_out why = world.linker == NULL ? NOT_TOLD : prepare(call, caller, method);
     if (why == COMPARED && !refresh(place)) why = NO_MEMORY;
     pthread_mutex_unlock(&world.lock);

@@ -4,7 +4,7 @@
 #include <stdlib.h>
 #include <string.h>
 
-enum { MOST_TOLD = 10, INSTRUCTIONS = 4, KINDS = 7 };
+enum { INSTRUCTIONS = 4, KINDS = 7 };
 
 static const char *const reasons[REASONS] = {
     [NO_CALLER] = "no caller",
@@ -35,36 +35,29 @@ static const char *const kinds[KINDS] = {"pending", "fault", "plain", "direct", 
 /* ---- what is counted at the end */
 
 struct counts {
-    uint32_t classes, waiting, loaders, requested, dynamic;
+    uint32_t classes, waiting, loaders, gone, requested;
+    size_t methods, places; /* that the agent keeps, also those of which no call is compared */
     uint32_t by_kind[KINDS], by_length[MOST_ROWS + 1], by_instruction[INSTRUCTIONS];
-    const struct class *most[MOST_TOLD]; /* the classes whose definitions dropped most, falling */
 };
-
-static void keep_most(struct counts *counts, const struct class *class) {
-    if (class->dropped == 0) return;
-    for (int i = 0; i < MOST_TOLD; i++) {
-        const struct class *there = counts->most[i];
-        if (there != NULL && there->dropped >= class->dropped) continue;
-        counts->most[i] = class;
-        class = there;
-        if (class == NULL) return;
-    }
-}
 
 static void count_classes(struct counts *counts) {
     for (uint32_t i = 0; i < world.class_count; i++) {
         const struct class *class = world.classes[i];
+        if (class == NULL) continue;
         if (class->number != NO_NUMBER) counts->classes++;
         if (class->waits) counts->waiting++;
-        keep_most(counts, class);
+        if (class->dropped > 0) keep_dropper(world.droppers, class->name, class->dropped);
     }
-    for (uint32_t i = 0; i < world.loader_count; i++) counts->loaders += world.loaders[i].number != NO_NUMBER;
+    for (uint32_t i = 0; i < world.loader_count; i++) {
+        if (world.loaders[i]->gone) counts->gone++;
+        else if (world.loaders[i]->number != NO_NUMBER) counts->loaders++;
+    }
 }
 
 static void count_sites(struct counts *counts) {
     for (uint32_t number = 0; number < calls.site_count; number++) {
         linkd_link link;
-        if (linkd_link_of(world.linker, number, &link) != LINKD_DONE) continue;
+        if (calls.sites[number] == NULL || linkd_link_of(world.linker, number, &link) != LINKD_DONE) continue;
         counts->requested++;
         counts->by_instruction[calls.sites[number]->named.opcode - 182]++;
         if (link.kind >= KINDS) continue;
@@ -77,6 +70,7 @@ static struct counts count_all(void) {
     struct counts counts = {0};
     count_classes(&counts);
     count_sites(&counts);
+    count_records(&counts.methods, &counts.places);
     return counts;
 }
 
@@ -118,35 +112,99 @@ static void tell_calls(FILE *to) {
     fprintf(to, "differences: %" PRIu64 "\n", loaded(&calls.differences));
 }
 
-static void report_text(FILE *to, const struct counts *counts) {
+static void tell_retirements(FILE *to, const struct counts *counts) {
+    const struct retired *retired = &world.retired;
+    fprintf(to, "loaders retired: %" PRIu32 ", with classes %" PRIu32 ", sites %" PRIu32 "\n", retired->loaders, retired->classes,
+            retired->sites);
+    tell_line(to, "links dropped by retirements", retired->links, 0);
+    tell_line(to, "of these, at sites that stay", retired->kept_links, 0);
+    for (uint32_t fault = 0; fault < RETIRE_FAULTS; fault++) {
+        const struct refused_retirements *refused = &world.refused_retirements[fault];
+        if (refused->count == 0) continue;
+        tell_line(to, refusal_name(LINKD_RETIRE, fault), refused->count, 0);
+        fprintf(to, "    the last: %s is held by %s\n", refused->loader, refused->holder);
+    }
+    fprintf(to, "loaders that the machine has collected and that the linker has: %" PRIu32 "\n", counts->gone);
+    for (uint32_t i = 0, told = 0; i < world.loader_count && told < MOST_TOLD; i++) {
+        char name[HOLDER_LENGTH], holder[HOLDER_LENGTH];
+        const struct loader *loader = world.loaders[i];
+        if (!loader->gone) continue;
+        name_loader(name, sizeof name, loader);
+        name_holder(holder, sizeof holder, loader->fault, loader->place);
+        fprintf(to, "    %s is held by %s\n", name, holder);
+        told++;
+    }
+    fprintf(to, "kept by the agent: files %zu, methods %zu, places of calls %zu\n", world.files.count, counts->methods, counts->places);
+}
+
+/* Whether a site is to be told by itself, and its link. */
+static bool told_alone(uint32_t number, const char *prefix, linkd_link *link) {
+    const struct site *site = calls.sites[number];
+    if (prefix == NULL || site == NULL || strncmp(site->of->name, prefix, strlen(prefix)) != 0) return false;
+    return linkd_link_of(world.linker, number, link) == LINKD_DONE && link->kind < KINDS;
+}
+
+static void tell_each_site(FILE *to, const char *prefix) {
+    for (uint32_t number = 0; number < calls.site_count; number++) {
+        linkd_link link;
+        if (!told_alone(number, prefix, &link)) continue;
+        const struct site *site = calls.sites[number];
+        const struct method_text *in = &site->of->read.methods[site->method];
+        const struct invocation *named = &site->named;
+        fprintf(to, "%s.%.*s%.*s, pc %" PRIu32 ": %s %.*s.%.*s%.*s: %s, rows %" PRIu32 ", installed %" PRIu32 " times\n", site->of->name,
+                (int)in->name.length, in->name.at, (int)in->type.length, in->type.at, site->pc, instructions[named->opcode - 182],
+                (int)named->of.length, named->of.at, (int)named->name.length, named->name.at, (int)named->type.length, named->type.at,
+                kinds[link.kind], link.count, site->installed);
+    }
+}
+
+static void report_text(FILE *to, const struct counts *counts, const char *prefix) {
     fprintf(to, "linkd: classes %" PRIu32 ", loaders %" PRIu32 ", classes that wait for a parent %" PRIu32 "\n", counts->classes, counts->loaders,
             counts->waiting);
     for (uint32_t i = 0; i < world.refusal_count; i++)
         tell_line(to, refusal_name(world.refusals[i].status, world.refusals[i].fault), world.refusals[i].count, 0);
+    tell_line(to, "classes of loaders without a number", world.loaderless, 0);
+    tell_retirements(to, counts);
     tell_sites(to, counts);
     fprintf(to, "links dropped by later classes: %" PRIu64 "\n", world.dropped);
-    for (int i = 0; i < MOST_TOLD && counts->most[i] != NULL; i++) tell_line(to, counts->most[i]->name, counts->most[i]->dropped, 0);
+    for (int i = 0; i < MOST_TOLD && world.droppers[i].name != NULL; i++)
+        tell_line(to, world.droppers[i].name, world.droppers[i].dropped, 0);
     tell_calls(to);
+    tell_each_site(to, prefix);
 }
 
 /* ---- JSON */
 
 /* Modified UTF-8 as a text of ASCII alone: each of its characters is a 16-bit unit, as JSON's escapes are. */
-static void put_string(FILE *to, const char *from) {
-    const uint8_t *at = (const uint8_t *)from;
-    fputc('"', to);
-    while (*at != 0) {
+static void put_text(FILE *to, struct text from) {
+    const uint8_t *at = from.at, *end = from.at + from.length;
+    while (at < end) {
         uint32_t unit = *at++;
-        if (unit >= 0xe0 && at[0] != 0 && at[1] != 0) {
+        if (unit >= 0xe0 && end - at >= 2) {
             unit = (unit & 0x0f) << 12 | (at[0] & 0x3fu) << 6 | (at[1] & 0x3fu);
             at += 2;
-        } else if (unit >= 0xc0 && at[0] != 0) {
+        } else if (unit >= 0xc0 && end - at >= 1) {
             unit = (unit & 0x1f) << 6 | (at[0] & 0x3fu);
             at += 1;
         }
         if (unit < 0x20 || unit > 0x7e || unit == '"' || unit == '\\') fprintf(to, "\\u%04" PRIx32, unit);
         else fputc((int)unit, to);
     }
+}
+
+static void put_string(FILE *to, const char *from) {
+    fputc('"', to);
+    put_text(to, text_of(from));
+    fputc('"', to);
+}
+
+/* A method by its class, its name and its type, as "a/B.m()V". */
+static void put_method(FILE *to, const char *key, struct text of, struct text name, struct text type) {
+    fprintf(to, "\"%s\":\"", key);
+    put_text(to, of);
+    fputc('.', to);
+    put_text(to, name);
+    put_text(to, type);
     fputc('"', to);
 }
 
@@ -184,12 +242,87 @@ static void put_refusals(FILE *to) {
 }
 
 /* Two classes may have one name, so these are pairs. */
-static void put_most(FILE *to, const struct counts *counts) {
+static void put_most(FILE *to) {
     fputs(",\"dropped_most\":[", to);
-    for (int i = 0; i < MOST_TOLD && counts->most[i] != NULL; i++) {
+    for (int i = 0; i < MOST_TOLD && world.droppers[i].name != NULL; i++) {
         fputs(i == 0 ? "[" : ",[", to);
-        put_string(to, counts->most[i]->name);
-        fprintf(to, ",%" PRIu32 "]", counts->most[i]->dropped);
+        put_string(to, world.droppers[i].name);
+        fprintf(to, ",%" PRIu32 "]", world.droppers[i].dropped);
+    }
+    fputc(']', to);
+}
+
+/* A loader with what holds it. */
+static void put_held(FILE *to, const char *loader, const char *holder) {
+    fputc('[', to);
+    put_string(to, loader);
+    fputc(',', to);
+    put_string(to, holder);
+    fputc(']', to);
+}
+
+/* Of each reason how often, and the last one. */
+static void put_refused_retirements(FILE *to) {
+    bool first = true;
+    fputs(",\"retirements_refused\":{", to);
+    for (uint32_t fault = 0; fault < RETIRE_FAULTS; fault++) {
+        const struct refused_retirements *refused = &world.refused_retirements[fault];
+        if (refused->count == 0) continue;
+        put_count(to, &first, refusal_name(LINKD_RETIRE, fault), refused->count);
+    }
+    fputs("},\"last_refused\":[", to);
+    first = true;
+    for (uint32_t fault = 0; fault < RETIRE_FAULTS; fault++) {
+        const struct refused_retirements *refused = &world.refused_retirements[fault];
+        if (refused->count == 0) continue;
+        if (!first) fputc(',', to);
+        first = false;
+        put_held(to, refused->loader, refused->holder);
+    }
+    fputc(']', to);
+}
+
+static void put_waiting_loaders(FILE *to) {
+    uint32_t told = 0;
+    fputs(",\"held\":[", to);
+    for (uint32_t i = 0; i < world.loader_count && told < MOST_TOLD; i++) {
+        char name[HOLDER_LENGTH], holder[HOLDER_LENGTH];
+        const struct loader *loader = world.loaders[i];
+        if (!loader->gone) continue;
+        name_loader(name, sizeof name, loader);
+        name_holder(holder, sizeof holder, loader->fault, loader->place);
+        if (told++ > 0) fputc(',', to);
+        put_held(to, name, holder);
+    }
+    fputc(']', to);
+}
+
+static void put_retirements(FILE *to, const struct counts *counts) {
+    const struct retired *retired = &world.retired;
+    fprintf(to, ",\"retired_loaders\":%" PRIu32 ",\"retired_classes\":%" PRIu32 ",\"retired_sites\":%" PRIu32, retired->loaders,
+            retired->classes, retired->sites);
+    fprintf(to, ",\"retired_links\":%" PRIu64 ",\"retired_links_of_sites_that_stay\":%" PRIu64, retired->links, retired->kept_links);
+    put_refused_retirements(to);
+    fprintf(to, ",\"held_loaders\":%" PRIu32, counts->gone);
+    put_waiting_loaders(to);
+    fprintf(to, ",\"classes_without_loader\":%" PRIu32, world.loaderless);
+    fprintf(to, ",\"kept_files\":%zu,\"kept_methods\":%zu,\"kept_places\":%zu", world.files.count, counts->methods, counts->places);
+}
+
+static void put_each_site(FILE *to, const char *prefix) {
+    bool first = true;
+    fputs(",\"each\":[", to);
+    for (uint32_t number = 0; number < calls.site_count; number++) {
+        linkd_link link;
+        if (!told_alone(number, prefix, &link)) continue;
+        const struct site *site = calls.sites[number];
+        const struct method_text *in = &site->of->read.methods[site->method];
+        fputs(first ? "{" : ",{", to);
+        first = false;
+        put_method(to, "in", text_of(site->of->name), in->name, in->type);
+        fprintf(to, ",\"pc\":%" PRIu32 ",\"instruction\":\"%s\",", site->pc, instructions[site->named.opcode - 182]);
+        put_method(to, "calls", site->named.of, site->named.name, site->named.type);
+        fprintf(to, ",\"form\":\"%s\",\"rows\":%" PRIu32 ",\"installed\":%" PRIu32 "}", kinds[link.kind], link.count, site->installed);
     }
     fputc(']', to);
 }
@@ -203,23 +336,25 @@ static void put_left_out(FILE *to) {
     fputc('}', to);
 }
 
-static void report_json(FILE *to, const struct counts *counts) {
+static void report_json(FILE *to, const struct counts *counts, const char *prefix) {
     fprintf(to, "{\"classes\":%" PRIu32 ",\"loaders\":%" PRIu32 ",\"waiting\":%" PRIu32, counts->classes, counts->loaders, counts->waiting);
     put_refusals(to);
+    put_retirements(to, counts);
     fprintf(to, ",\"sites\":%" PRIu32, counts->requested);
     put_counts(to, "forms", kinds, counts->by_kind, KINDS);
     put_lengths(to, counts);
     put_counts(to, "instructions", instructions, counts->by_instruction, INSTRUCTIONS);
     fprintf(to, ",\"dropped\":%" PRIu64, world.dropped);
-    put_most(to, counts);
+    put_most(to);
     fprintf(to, ",\"entries\":%" PRIu64 ",\"compared\":%" PRIu64 ",\"misses\":%" PRIu64 ",\"differences\":%" PRIu64, entries(),
             loaded(&calls.compared), loaded(&calls.missed), loaded(&calls.differences));
     put_left_out(to);
+    if (prefix != NULL) put_each_site(to, prefix);
     fputs("}\n", to);
 }
 
-void report(FILE *to, bool json) {
+void report(FILE *to, bool json, const char *prefix) {
     struct counts counts = count_all();
-    if (json) report_json(to, &counts);
-    else report_text(to, &counts);
+    if (json) report_json(to, &counts, prefix);
+    else report_text(to, &counts, prefix);
 }

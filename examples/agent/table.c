@@ -39,3 +39,22 @@ bool table_add(struct table *table, void *item) {
     table->count++;
     return true;
 }
+
+/* Empties a slot, and moves those behind it that were pushed on by it. */
+static void take_out(struct table *table, size_t hole) {
+    size_t mask = table->capacity - 1;
+    for (size_t at = (hole + 1) & mask; table->slots[at] != NULL; at = (at + 1) & mask) {
+        size_t home = table->hash(table->slots[at]) & mask;
+        if (((at - home) & mask) < ((at - hole) & mask)) continue; /* it would stand before its home */
+        table->slots[hole] = table->slots[at];
+        hole = at;
+    }
+    table->slots[hole] = NULL;
+    table->count--;
+}
+
+void table_sweep(struct table *table, bool (*let_go)(void *item)) {
+    for (size_t i = 0; i < table->capacity; i++) {
+        while (table->slots[i] != NULL && let_go(table->slots[i])) take_out(table, i);
+    }
+}

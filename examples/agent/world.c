@@ -2,8 +2,10 @@
 #include <stdlib.h>
 #include <string.h>
 
-/* A class's tag is its place here and 1; a loader's is its place below 0. The bootstrap loader is no object, and is loader 0 on both sides. */
+/* A class's tag is its place here and 1; a loader's is its address below 0. The bootstrap loader is no object. */
 struct world world = {.lock = PTHREAD_MUTEX_INITIALIZER};
+
+static struct loader bootstrap = {.name = "the bootstrap loader"};
 
 /* All array types, and all hidden classes. */
 static struct class arrays = {.name = "an array", .number = NO_NUMBER, .why = ARRAY_RECEIVER};
@@ -13,7 +15,7 @@ static struct class hidden = {.name = "a hidden class", .number = NO_NUMBER, .wh
 
 static uint64_t hash_file(const void *item) {
     const struct file *file = item;
-    return hash_bytes(file->name.at, file->name.length, file->loader);
+    return hash_bytes(file->name.at, file->name.length, (uintptr_t)file->loader);
 }
 
 static bool same_file(const void *item, const void *other) {
@@ -52,14 +54,30 @@ void count_refusal(uint32_t status, uint32_t fault) {
     world.refusals[i].count++;
 }
 
-void accepted(struct class *by) {
+/* Counts an event, and says how many links it dropped, and how many of these at sites that aren't gone. */
+static size_t count_event(size_t *kept) {
     static uint32_t sites[MOST_SITES];
     size_t count = 0;
     atomic_fetch_add(&world.changes, 1);
-    if (linkd_dropped(world.linker, sites, MOST_SITES, &count) != LINKD_DONE) return;
-    drop_links(sites, count);
+    *kept = 0;
+    if (linkd_dropped(world.linker, sites, MOST_SITES, &count) != LINKD_DONE) return 0;
+    *kept = drop_links(sites, count);
+    return count;
+}
+
+void accepted(struct class *by) {
+    size_t kept, count = count_event(&kept);
     world.dropped += count;
     if (by != NULL) by->dropped += (uint32_t)count;
+}
+
+void accepted_retirement(const struct loader *loader) {
+    size_t kept, count = count_event(&kept);
+    world.retired.loaders++;
+    world.retired.classes += loader->classes;
+    world.retired.sites += loader->sites;
+    world.retired.links += count;
+    world.retired.kept_links += kept;
 }
 
 bool open_world(jvmtiEnv *jvmti) {
@@ -75,7 +93,7 @@ bool open_world(jvmtiEnv *jvmti) {
         free(linker);
         return false;
     }
-    world.loaders[world.loader_count++] = (struct loader){0};
+    world.loaders[world.loader_count++] = &bootstrap;
     world.linker = linker;
     return true;
 }
@@ -91,13 +109,27 @@ void close_world(void) {
 
 /* ---- loaders */
 
-static uint32_t new_loader(JNIEnv *jni, jobject object) {
+/* The name of an object's class, or null. */
+static char *class_name(JNIEnv *jni, jobject object) {
+    char *signature = NULL, *name = NULL;
+    jclass of = (*jni)->GetObjectClass(jni, object);
+    if ((*world.jvmti)->GetClassSignature(world.jvmti, of, &signature, NULL) == JVMTI_ERROR_NONE) {
+        name = strndup(signature + 1, strlen(signature) - 2);
+        (*world.jvmti)->Deallocate(world.jvmti, (unsigned char *)signature);
+    }
+    (*jni)->DeleteLocalRef(jni, of);
+    return name;
+}
+
+/* HotSpot makes such a loader for each accessor of a reflective call, and lets its one class extend a class of another package that isn't
+ * public: the linker refuses that (5.3.5), so a number would be lost. */
+static bool is_of_accessor(const struct loader *loader) {
+    return loader->name != NULL && strcmp(loader->name, "jdk/internal/reflect/DelegatingClassLoader") == 0;
+}
+
+static void number_loader(struct loader *loader) {
     linkd_told told;
-    if (!make_room((void **)&world.loaders, &world.loader_room, world.loader_count, sizeof *world.loaders)) return NO_NUMBER;
-    struct loader *loader = &world.loaders[world.loader_count];
-    *loader = (struct loader){.number = NO_NUMBER};
-    if ((*world.jvmti)->SetTag(world.jvmti, object, -(jlong)world.loader_count) != JVMTI_ERROR_NONE) return NO_NUMBER;
-    loader->object = (*jni)->NewWeakGlobalRef(jni, object);
+    if (is_of_accessor(loader)) return;
     uint32_t status = linkd_new_loader(world.linker, &told);
     if (status == LINKD_DONE) {
         loader->number = told.number;
@@ -105,33 +137,45 @@ static uint32_t new_loader(JNIEnv *jni, jobject object) {
     } else {
         count_refusal(status, told.fault);
     }
-    return world.loader_count++;
 }
 
-/* The loader's place, or NO_NUMBER. */
-static uint32_t loader_place(JNIEnv *jni, jobject object) {
+static struct loader *new_loader(JNIEnv *jni, jobject object) {
+    struct loader *loader = calloc(1, sizeof *loader);
+    if (loader == NULL || !make_room((void **)&world.loaders, &world.loader_room, world.loader_count, sizeof *world.loaders) ||
+        (*world.jvmti)->SetTag(world.jvmti, object, -(jlong)(uintptr_t)loader) != JVMTI_ERROR_NONE) {
+        free(loader);
+        return NULL;
+    }
+    *loader = (struct loader){.object = (*jni)->NewWeakGlobalRef(jni, object), .name = class_name(jni, object), .number = NO_NUMBER};
+    number_loader(loader);
+    world.loaders[world.loader_count++] = loader;
+    return loader;
+}
+
+/* Null where memory lacks. */
+static struct loader *loader_of_object(JNIEnv *jni, jobject object) {
     jlong tag = 0;
-    if (object == NULL) return 0;
-    if ((*world.jvmti)->GetTag(world.jvmti, object, &tag) != JVMTI_ERROR_NONE) return NO_NUMBER;
-    return tag < 0 ? (uint32_t)-tag : new_loader(jni, object);
+    if (object == NULL) return &bootstrap;
+    if ((*world.jvmti)->GetTag(world.jvmti, object, &tag) != JVMTI_ERROR_NONE) return NULL;
+    return tag < 0 ? (struct loader *)(uintptr_t)-tag : new_loader(jni, object);
 }
 
-static uint32_t loader_of(JNIEnv *jni, jclass from) {
+struct loader *loader_of(JNIEnv *jni, jclass from) {
     jobject object = NULL;
-    if ((*world.jvmti)->GetClassLoader(world.jvmti, from, &object) != JVMTI_ERROR_NONE) return NO_NUMBER;
-    uint32_t place = loader_place(jni, object);
+    if ((*world.jvmti)->GetClassLoader(world.jvmti, from, &object) != JVMTI_ERROR_NONE) return NULL;
+    struct loader *loader = loader_of_object(jni, object);
     if (object != NULL) (*jni)->DeleteLocalRef(jni, object);
-    return place;
+    return loader;
 }
 
 /* The loader finds the class, which another has defined. */
-static void record(uint32_t loader, const struct class *class) {
+static void record(const struct loader *loader, const struct class *class) {
     linkd_told told;
-    uint32_t to = world.loaders[class->loader].number, from = world.loaders[loader].number;
-    if (class->number == NO_NUMBER || class->loader == loader || from == NO_NUMBER) return;
-    uint32_t status = linkd_delegate(world.linker, from, (const uint8_t *)class->name, strlen(class->name), to, &told);
+    if (class->number == NO_NUMBER || class->loader == loader || loader->number == NO_NUMBER) return;
+    uint32_t to = class->loader->number;
+    uint32_t status = linkd_delegate(world.linker, loader->number, (const uint8_t *)class->name, strlen(class->name), to, &told);
     if (status == LINKD_DONE) accepted(NULL);
-    else if (status != LINKD_DELEGATE || told.fault != 3) count_refusal(status, told.fault);
+    else if (status != LINKD_DELEGATE || told.fault != LINKD_DELEGATE_ALREADY_RECORDED) count_refusal(status, told.fault);
 }
 
 void expect_references(JNIEnv *jni, jint count) {
@@ -139,13 +183,13 @@ void expect_references(JNIEnv *jni, jint count) {
     if ((*jni)->EnsureLocalCapacity(jni, count + OWN) != JNI_OK) (*jni)->ExceptionClear(jni);
 }
 
-void record_all(JNIEnv *jni, uint32_t loader) {
+void record_all(JNIEnv *jni, struct loader *loader) {
     jint count = 0;
     jclass *found = NULL;
-    if (world.loaders[loader].going_on) return;
-    jobject object = loader == 0 ? NULL : (*jni)->NewLocalRef(jni, world.loaders[loader].object);
-    if (loader != 0 && object == NULL) return;
-    world.loaders[loader].going_on = true;
+    if (loader->going_on) return;
+    jobject object = loader == &bootstrap ? NULL : (*jni)->NewLocalRef(jni, loader->object);
+    if (loader != &bootstrap && object == NULL) return;
+    loader->going_on = true;
     if ((*world.jvmti)->GetClassLoaderClasses(world.jvmti, object, &count, &found) == JVMTI_ERROR_NONE) {
         expect_references(jni, count);
         for (jint i = 0; i < count; i++) {
@@ -155,18 +199,18 @@ void record_all(JNIEnv *jni, uint32_t loader) {
         }
         (*world.jvmti)->Deallocate(world.jvmti, (unsigned char *)found);
     }
-    world.loaders[loader].going_on = false;
+    loader->going_on = false;
     if (object != NULL) (*jni)->DeleteLocalRef(jni, object);
 }
 
 /* ---- class files */
 
-static struct file *find_file(uint32_t loader, const char *name) {
+static struct file *find_file(struct loader *loader, const char *name) {
     struct file probe = {.loader = loader, .name = text_of(name)};
     return table_find(&world.files, &probe);
 }
 
-static struct file *new_file(uint32_t loader, const char *name) {
+static struct file *new_file(struct loader *loader, const char *name) {
     struct file *file = calloc(1, sizeof *file);
     char *own = strdup(name);
     if (file != NULL && own != NULL) {
@@ -179,10 +223,10 @@ static struct file *new_file(uint32_t loader, const char *name) {
 }
 
 void keep_file(JNIEnv *jni, jobject loader, const char *name, const uint8_t *bytes, size_t length) {
-    uint32_t place = loader_place(jni, loader);
-    if (place == NO_NUMBER) return;
-    struct file *file = find_file(place, name);
-    if (file == NULL) file = new_file(place, name);
+    struct loader *by = loader_of_object(jni, loader);
+    if (by == NULL) return;
+    struct file *file = find_file(by, name);
+    if (file == NULL) file = new_file(by, name);
     if (file == NULL || file->taken) return;
     uint8_t *copy = malloc(length);
     if (copy == NULL) return;
@@ -194,13 +238,14 @@ void keep_file(JNIEnv *jni, jobject loader, const char *name, const uint8_t *byt
 
 void forget_class(jclass from) {
     jlong tag = 0;
-    if ((*world.jvmti)->GetTag(world.jvmti, from, &tag) == JVMTI_ERROR_NONE && tag > 0) world.classes[tag - 1]->why = REDEFINED;
+    if ((*world.jvmti)->GetTag(world.jvmti, from, &tag) != JVMTI_ERROR_NONE || tag <= 0) return;
+    if (world.classes[tag - 1] != NULL) world.classes[tag - 1]->why = REDEFINED;
 }
 
 /* ---- classes */
 
 /* The direct superclass and, where the machine tells them yet, the direct superinterfaces: they go to the linker first. */
-static void define_parents(JNIEnv *jni, jclass from, uint32_t loader) {
+static void define_parents(JNIEnv *jni, jclass from, struct loader *loader) {
     jint count = 0;
     jclass *interfaces = NULL;
     jclass super = (*jni)->GetSuperclass(jni, from);
@@ -225,19 +270,21 @@ static bool lacks_parent(uint32_t status, const linkd_told *told) {
 static void define(JNIEnv *jni, jclass from, struct class *class) {
     linkd_told told = {0};
     const struct file *file = class->file;
-    uint32_t loader = world.loaders[class->loader].number, status = LINKD_LOADERS_FULL;
+    uint32_t loader = class->loader->number;
+    class->why = REFUSED_CLASS;
+    if (loader == NO_NUMBER) {
+        world.loaderless++;
+        return;
+    }
     class->going_on = true;
     define_parents(jni, from, class->loader);
-    if (loader != NO_NUMBER) {
+    uint32_t status = linkd_define(world.linker, loader, file->bytes, file->length, &told);
+    if (lacks_parent(status, &told)) {
+        record_all(jni, class->loader);
         status = linkd_define(world.linker, loader, file->bytes, file->length, &told);
-        if (lacks_parent(status, &told)) {
-            record_all(jni, class->loader);
-            status = linkd_define(world.linker, loader, file->bytes, file->length, &told);
-        }
     }
     class->going_on = false;
     class->waits = lacks_parent(status, &told);
-    class->why = REFUSED_CLASS;
     if (status == LINKD_DONE) {
         class->number = told.number;
         class->why = read_class_file(file->bytes, &class->read) ? COMPARED : NO_MEMORY;
@@ -248,7 +295,7 @@ static void define(JNIEnv *jni, jclass from, struct class *class) {
 }
 
 /* A class of its own record: its name is the file's where it has one. */
-static struct class *new_class(uint32_t loader, const char *name) {
+static struct class *new_class(struct loader *loader, const char *name) {
     struct class *class = calloc(1, sizeof *class);
     if (class == NULL) return NULL;
     *class = (struct class){.loader = loader, .number = NO_NUMBER, .why = NO_FILE};
@@ -273,9 +320,9 @@ static struct class *make_class(JNIEnv *jni, jclass from, char *signature) {
     } else if (strchr(signature, '.') != NULL) { /* the names of hidden classes alone have it (JVM TI, GetClassSignature) */
         class = &hidden;
     } else if (signature[0] == 'L') {
-        uint32_t loader = loader_of(jni, from);
+        struct loader *loader = loader_of(jni, from);
         signature[length - 1] = 0;
-        if (loader != NO_NUMBER) class = new_class(loader, signature + 1);
+        if (loader != NULL) class = new_class(loader, signature + 1);
     }
     if (class == NULL) return NULL;
     jlong tag = class == &arrays ? 1 : class == &hidden ? 2 : keep_class(class);
@@ -290,11 +337,50 @@ struct class *class_of(JNIEnv *jni, jclass from) {
     if ((*world.jvmti)->GetTag(world.jvmti, from, &tag) != JVMTI_ERROR_NONE) return NULL;
     if (tag > 0) {
         struct class *class = world.classes[tag - 1];
-        if (class->waits && !class->going_on) define(jni, from, class);
+        if (class != NULL && class->waits && !class->going_on) define(jni, from, class);
         return class;
     }
     if ((*world.jvmti)->GetClassSignature(world.jvmti, from, &signature, NULL) != JVMTI_ERROR_NONE) return NULL;
     struct class *class = make_class(jni, from, signature);
     (*world.jvmti)->Deallocate(world.jvmti, (unsigned char *)signature);
     return class;
+}
+
+/* ---- classes that are gone */
+
+void keep_dropper(struct dropper *droppers, const char *name, uint32_t dropped) {
+    int at = MOST_TOLD;
+    while (at > 0 && droppers[at - 1].dropped < dropped) at--;
+    char *own = at == MOST_TOLD ? NULL : strdup(name);
+    if (own == NULL) return;
+    free(droppers[MOST_TOLD - 1].name);
+    memmove(&droppers[at + 1], &droppers[at], (size_t)(MOST_TOLD - 1 - at) * sizeof *droppers);
+    droppers[at] = (struct dropper){.name = own, .dropped = dropped};
+}
+
+static void let_class_go(struct class *class) {
+    if (class->number != NO_NUMBER) class->loader->classes++;
+    if (class->dropped > 0) keep_dropper(world.droppers, class->name, class->dropped);
+    let_class_file_go(&class->read);
+    if (class->file == NULL) free((char *)class->name);
+    free(class);
+}
+
+static bool let_file_go(void *item) {
+    struct file *file = item;
+    if (!file->loader->gone) return false;
+    free((uint8_t *)file->name.at);
+    free(file->bytes);
+    free(file);
+    return true;
+}
+
+void forget_classes(void) {
+    for (uint32_t i = 0; i < world.class_count; i++) {
+        struct class *class = world.classes[i];
+        if (class == NULL || class->loader == NULL || !class->loader->gone) continue;
+        world.classes[i] = NULL;
+        let_class_go(class);
+    }
+    table_sweep(&world.files, let_file_go);
 }
