@@ -113,12 +113,6 @@ fn texts(alloc: Global, matches: &ArgMatches, id: &str) -> Result<Vec<String>, A
     Ok(texts)
 }
 
-/// The last value of the option, if there is one. Want of memory is an error.
-fn last_text(alloc: Global, matches: &ArgMatches, id: &str) -> Result<Option<String>, AllocError> {
-    let mut texts = texts(alloc, matches, id)?;
-    Ok(texts.pop())
-}
-
 /// The form that the flags ask for.
 fn form_of(matches: &ArgMatches) -> Form {
     if matches.get_flag("json") {
@@ -159,9 +153,11 @@ pub fn read_asked(alloc: Global, words: &[String]) -> Result<Option<Asked>, Repo
 
 /// What the words ask for that are matched so.
 fn asked_by(alloc: Global, matches: &ArgMatches) -> Result<Option<Asked>, ReportFault> {
-    let Some(chosen) = chosen_by(alloc, matches)? else {
+    let Some(choices) = choices(alloc, matches)? else {
         return Ok(None);
     };
+    let prefixes = texts(alloc, matches, "in")?;
+    let chosen = Chosen::new(alloc, choices, prefixes)?;
     let mut asked = Asked {
         form: form_of(matches),
         classes: matches.get_flag("classes"),
@@ -176,21 +172,13 @@ fn asked_by(alloc: Global, matches: &ArgMatches) -> Result<Option<Asked>, Report
     Ok(Some(asked))
 }
 
-/// Which invocations are asked for; none, where a word names nothing. Want of memory is an error.
-fn chosen_by(alloc: Global, matches: &ArgMatches) -> Result<Option<Chosen>, AllocError> {
-    let Some(choices) = choices(alloc, matches)? else {
-        return Ok(None);
-    };
-    let prefixes = texts(alloc, matches, "in")?;
-    Ok(Some(Chosen::new(alloc, choices, prefixes)?))
-}
-
 /// Reads the paths that are asked for. Want of memory is an error.
 fn read_paths(alloc: Global, matches: &ArgMatches, asked: &mut Asked) -> Result<(), AllocError> {
     asked.paths = texts(alloc, matches, "paths")?;
     asked.beside = texts(alloc, matches, "with")?;
     asked.breaks = texts(alloc, matches, "breaks")?;
-    asked.html = last_text(alloc, matches, "html")?;
+    let mut pages = texts(alloc, matches, "html")?;
+    asked.html = pages.pop();
     Ok(())
 }
 

@@ -241,7 +241,10 @@ impl Page {
                 }
             }
         }
-        self.end_class(has_methods)
+        match &mut self.html {
+            Some(html) if has_methods => Ok(html.end_class()?),
+            _ => Ok(()),
+        }
     }
 
     /// Adds those of the method, of all of which these are the rows, and tells whether there are any.
@@ -269,8 +272,9 @@ impl Page {
                 }
             }
         }
-        if is_begun {
-            self.end_method()?;
+        match &mut self.html {
+            Some(html) if is_begun => html.end_method()?,
+            _ => {}
         }
         Ok(is_begun)
     }
@@ -294,22 +298,6 @@ impl Page {
             html.begin_method(alloc, method)?;
         }
         Ok(())
-    }
-
-    /// Ends the method on the page of HTML, if there is one.
-    fn end_method(&mut self) -> Result<(), ReportFault> {
-        match &mut self.html {
-            Some(html) => Ok(html.end_method()?),
-            None => Ok(()),
-        }
-    }
-
-    /// Ends the class there, if it has methods.
-    fn end_class(&mut self, has_methods: bool) -> Result<(), ReportFault> {
-        match &mut self.html {
-            Some(html) if has_methods => Ok(html.end_class()?),
-            _ => Ok(()),
-        }
     }
 
     /// Adds the invocation of the row.

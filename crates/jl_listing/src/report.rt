@@ -262,7 +262,9 @@ fn listed_by_name(
     let mut listed = Vec::new(alloc);
     for (name, is_listed) in names.iter().zip(are_listed) {
         if *is_listed {
-            push_class(classes, name, &mut listed)?;
+            if let Some(class) = classes.lookup(LoaderId::new(0), name.as_slice()) {
+                listed.push(class)?;
+            }
         }
     }
     Ok(listed)
@@ -294,18 +296,6 @@ fn chosen_of(
     }
     order_by_name(alloc, classes, &mut listed)?;
     Ok(listed)
-}
-
-/// Adds the class of the name.
-fn push_class(
-    classes: &Classes,
-    name: &Name,
-    listed: &mut Vec<ClassId>,
-) -> Result<(), ReportFault> {
-    if let Some(class) = classes.lookup(LoaderId::new(0), name.as_slice()) {
-        listed.push(class)?;
-    }
-    Ok(())
 }
 
 /// Tells of paths that couldn't be read.

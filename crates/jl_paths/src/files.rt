@@ -206,14 +206,9 @@ pub fn read_all<R: Files + AllocGlobal + Clone + Drop>(
     reading.gathered(rt.alloc())
 }
 
-/// Puts the files into the order of definition.
+/// Puts the files into the order of definition: parents first, else by name.
 fn sort_all(alloc: Global, found: &mut Vec<Found>) -> Result<(), AllocError> {
     found.sort_by(|a, b| a.file.name().as_slice().cmp(b.file.name().as_slice()))?;
-    rank_all(alloc, found)
-}
-
-/// Puts the files, which are by name, behind their parents.
-fn rank_all(alloc: Global, found: &mut Vec<Found>) -> Result<(), AllocError> {
     let order = parents_first(alloc, found)?;
     for (rank, place) in order.iter().enumerate() {
         if let Some(one) = found.get_mut(*place) {

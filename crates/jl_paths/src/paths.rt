@@ -116,19 +116,14 @@ fn entries_of<R: Files + AllocGlobal + Clone + Drop>(rt: &R, path: &str) -> io::
     for entry in fs::read_dir(rt, path)? {
         match entry {
             Ok(entry) => push_kept(rt, &entry, &mut entries)?,
-            Err(error) => fault = Some(name_fault(error)?),
+            Err(error) => match error.kind() {
+                ErrorKind::OutOfMemory => return Err(error),
+                kind => fault = Some(kind),
+            },
         }
     }
     entries.sort_unstable_by(|a, b| b.path.as_str().cmp(a.path.as_str()));
     Ok(Listed { entries, fault })
-}
-
-/// Why a name couldn't be read; want of memory is an error.
-fn name_fault(error: io::Error) -> io::Result<ErrorKind> {
-    match error.kind() {
-        ErrorKind::OutOfMemory => Err(error),
-        kind => Ok(kind),
-    }
 }
 
 /// Adds the entry, where it is a folder or a class file.

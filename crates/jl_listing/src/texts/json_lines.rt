@@ -8,7 +8,6 @@ use crate::told::{Methods, Note};
 use jl_class::{ClassFile, Kind, Method, Operand, Site};
 use jl_hierarchy::Classes;
 use jl_json::{instruction, table_kind, throwable_name};
-use jl_names::LentName;
 use jl_report::{Finding, Row, Totals};
 use jl_types::{ClassId, Link, Missing, NotLinkable, Outcome, Table, TableKind, Unlinked};
 use json::Writer;
@@ -82,61 +81,31 @@ fn write_outcome(
     out: &mut Writer,
 ) -> Result<(), AllocError> {
     out.begin_object()?;
-    write_outcome_member(alloc, classes, outcome, out)?;
+    match outcome {
+        Outcome::Run(method) => write_class_at(alloc, "run", classes, method.class, out)?,
+        Outcome::Throws(throwable) => write_text("throws", throwable_name(throwable), out)?,
+    }
     out.end_object()
 }
 
-/// Writes the member of an outcome. Want of memory is an error.
-fn write_outcome_member(
-    alloc: Global,
-    classes: &Classes,
-    outcome: Outcome,
-    out: &mut Writer,
-) -> Result<(), AllocError> {
-    match outcome {
-        Outcome::Run(method) => write_class_at(alloc, "run", classes, method.class, out),
-        Outcome::Throws(throwable) => write_text("throws", throwable_name(throwable), out),
-    }
-}
-
-/// Writes a table: each class with its outcome. Want of memory is an error.
+/// Writes the members of a link by a table: its kind, and each class with its outcome. Want of memory is an error.
 fn write_table(
     alloc: Global,
     classes: &Classes,
+    kind: TableKind,
     table: &Table,
     out: &mut Writer,
 ) -> Result<(), AllocError> {
+    write_text("kind", table_kind(kind), out)?;
+    out.key("table")?;
     out.begin_array()?;
     for row in table.as_slice() {
-        write_table_row(alloc, classes, row.0, row.1, out)?;
+        out.begin_array()?;
+        write_class(alloc, classes, row.0, out)?;
+        write_outcome(alloc, classes, row.1, out)?;
+        out.end_array()?;
     }
     out.end_array()
-}
-
-/// Writes a class with its outcome. Want of memory is an error.
-fn write_table_row(
-    alloc: Global,
-    classes: &Classes,
-    class: ClassId,
-    outcome: Outcome,
-    out: &mut Writer,
-) -> Result<(), AllocError> {
-    out.begin_array()?;
-    write_class(alloc, classes, class, out)?;
-    write_outcome(alloc, classes, outcome, out)?;
-    out.end_array()
-}
-
-/// Writes a link. Want of memory is an error.
-fn write_link(
-    alloc: Global,
-    classes: &Classes,
-    link: &Link,
-    out: &mut Writer,
-) -> Result<(), AllocError> {
-    out.begin_object()?;
-    write_link_members(alloc, classes, link, out)?;
-    out.end_object()
 }
 
 /// Writes the members of a link. Want of memory is an error.
@@ -149,40 +118,16 @@ fn write_link_members(
     match link {
         Link::Fault(throwable) => write_text("fault", throwable_name(*throwable), out),
         Link::Plain(method) => write_class_at(alloc, "plain", classes, method.class, out),
-        Link::Direct(outcome) => write_direct(alloc, classes, *outcome, out),
-        Link::Table(kind, table) => write_table_members(alloc, classes, *kind, table, out),
-        Link::Mega => write_mega(out),
+        Link::Direct(outcome) => {
+            out.key("direct")?;
+            write_outcome(alloc, classes, *outcome, out)
+        }
+        Link::Table(kind, table) => write_table(alloc, classes, *kind, table, out),
+        Link::Mega => {
+            out.key("mega")?;
+            out.boolean(true)
+        }
     }
-}
-
-/// Writes the member of a link that is the same for all receivers. Want of memory is an error.
-fn write_direct(
-    alloc: Global,
-    classes: &Classes,
-    outcome: Outcome,
-    out: &mut Writer,
-) -> Result<(), AllocError> {
-    out.key("direct")?;
-    write_outcome(alloc, classes, outcome, out)
-}
-
-/// Writes the members of a link by a table. Want of memory is an error.
-fn write_table_members(
-    alloc: Global,
-    classes: &Classes,
-    kind: TableKind,
-    table: &Table,
-    out: &mut Writer,
-) -> Result<(), AllocError> {
-    write_text("kind", table_kind(kind), out)?;
-    out.key("table")?;
-    write_table(alloc, classes, table, out)
-}
-
-/// Writes the member of a link with too many receivers for a table. Want of memory is an error.
-fn write_mega(out: &mut Writer) -> Result<(), AllocError> {
-    out.key("mega")?;
-    out.boolean(true)
 }
 
 /// What an invocation came to, before this class was defined behind the others.
@@ -205,29 +150,22 @@ pub(crate) fn write_line(
     out: &mut Writer,
 ) -> Result<(), AllocError> {
     out.begin_object()?;
-    write_found(alloc, classes, row, site, former, out)?;
-    write_made(note, out)?;
+    if let Operand::CallSite(specifier) = site.operand() {
+        write_number("bootstrap", u64::from(specifier.bootstrap), out)?;
+    }
+    write_class_at(alloc, "class", classes, row.place.class, out)?;
+    write_former(alloc, classes, former, out)?;
+    write_text("kind", instruction(row.kind), out)?;
+    write_link_of(alloc, "link", classes, row, out)?;
+    if note.is_made {
+        out.key("made")?;
+        out.boolean(true)?;
+    }
     write_named(alloc, classes, row, note, method, site, out)?;
     out.end_object()
 }
 
-/// Writes the members of a line up to the link. Want of memory is an error.
-fn write_found(
-    alloc: Global,
-    classes: &Classes,
-    row: &Row,
-    site: &Site<'_>,
-    former: Option<&Former<'_>>,
-    out: &mut Writer,
-) -> Result<(), AllocError> {
-    write_bootstrap(site.operand(), out)?;
-    write_class_at(alloc, "class", classes, row.place.class, out)?;
-    write_former(alloc, classes, former, out)?;
-    write_text("kind", instruction(row.kind), out)?;
-    write_link_of(alloc, "link", classes, row, out)
-}
-
-/// Writes the members of a line behind the link. Want of memory is an error.
+/// Writes the members of a line behind those of the link. Want of memory is an error.
 fn write_named(
     alloc: Global,
     classes: &Classes,
@@ -237,8 +175,11 @@ fn write_named(
     site: &Site<'_>,
     out: &mut Writer,
 ) -> Result<(), AllocError> {
-    write_method(alloc, method, out)?;
-    write_method_count(note, out)?;
+    write_name_at(alloc, "method", method.name().as_slice(), out)?;
+    write_name_at(alloc, "methodType", method.ty().as_slice(), out)?;
+    if let Some(count) = note.method_count() {
+        write_number("methods", count as u64, out)?;
+    }
     write_operand(alloc, classes, row, note, site, out)?;
     write_unlinked(&row.finding, out)
 }
@@ -259,16 +200,6 @@ fn write_former(
     }
 }
 
-/// Writes the number among the bootstrap methods, if there is one.
-fn write_bootstrap(operand: &Operand<LentName<'_>>, out: &mut Writer) -> Result<(), AllocError> {
-    match operand {
-        Operand::Method(_) => Ok(()),
-        Operand::CallSite(specifier) => {
-            write_number("bootstrap", u64::from(specifier.bootstrap), out)
-        }
-    }
-}
-
 /// Writes the link under the key, if there is one.
 fn write_link_of(
     alloc: Global,
@@ -280,26 +211,11 @@ fn write_link_of(
     match &row.finding {
         Finding::Linked(link) => {
             out.key(key)?;
-            write_link(alloc, classes, link, out)
+            out.begin_object()?;
+            write_link_members(alloc, classes, link, out)?;
+            out.end_object()
         }
         _ => Ok(()),
-    }
-}
-
-/// Writes that an invokedynamic may make further receivers, where that is so. Want of memory is an error.
-fn write_made(note: &Note, out: &mut Writer) -> Result<(), AllocError> {
-    if note.is_made {
-        out.key("made")?;
-        out.boolean(true)?;
-    }
-    Ok(())
-}
-
-/// Writes how many different methods can run, where that is known. Want of memory is an error.
-fn write_method_count(note: &Note, out: &mut Writer) -> Result<(), AllocError> {
-    match note.method_count() {
-        Some(count) => write_number("methods", count as u64, out),
-        None => Ok(()),
     }
 }
 
@@ -320,11 +236,6 @@ fn write_runs(
         write_class(alloc, classes, method.class, out)?;
     }
     out.end_array()
-}
-
-fn write_method(alloc: Global, method: &Method<'_>, out: &mut Writer) -> Result<(), AllocError> {
-    write_name_at(alloc, "method", method.name().as_slice(), out)?;
-    write_name_at(alloc, "methodType", method.ty().as_slice(), out)
 }
 
 /// Writes what the invocation names, and between these members its pc, why it is never linked, and what its link rests on.
@@ -361,21 +272,16 @@ fn write_between(
     out: &mut Writer,
 ) -> Result<(), AllocError> {
     write_number("pc", u64::from(row.place.pc), out)?;
-    write_refused(&row.finding, out)?;
+    if let Finding::NotLinkable(reason) = &row.finding {
+        write_text("refused", refusal_name(*reason), out)?;
+    }
     if let Some(class) = open_class(classes, row) {
         write_class_at(alloc, "restsOn", classes, class, out)?;
     }
     write_runs(alloc, classes, row, note, out)
 }
 
-/// Writes why the invocation is never linked, if that is so. Want of memory is an error.
-fn write_refused(finding: &Finding, out: &mut Writer) -> Result<(), AllocError> {
-    match finding {
-        Finding::NotLinkable(reason) => write_text("refused", refusal_name(*reason), out),
-        _ => Ok(()),
-    }
-}
-
+/// Why an invocation is never linked.
 fn refusal_name(reason: NotLinkable) -> &'static str {
     match reason {
         NotLinkable::ArrayReceiver => "NotLinkable.ArrayReceiver",
@@ -389,17 +295,14 @@ fn write_unlinked(finding: &Finding, out: &mut Writer) -> Result<(), AllocError>
         return Ok(());
     };
     match reason {
-        Unlinked::NotReady(missing) => write_wants(*missing, out),
+        Unlinked::NotReady(missing) => {
+            write_text("unlinked", "NotReady", out)?;
+            write_text("wants", missing_name(*missing), out)
+        }
         Unlinked::Unbound => write_text("unlinked", "Unbound", out),
         Unlinked::Gone => write_text("unlinked", "Gone", out),
         Unlinked::NoSite => write_text("unlinked", "NoSite", out),
     }
-}
-
-/// Writes that a class isn't there. Want of memory is an error.
-fn write_wants(missing: Missing, out: &mut Writer) -> Result<(), AllocError> {
-    write_text("unlinked", "NotReady", out)?;
-    write_text("wants", missing_name(missing), out)
 }
 
 /// Whose class isn't there.

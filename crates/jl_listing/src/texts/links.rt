@@ -2,7 +2,7 @@
 
 use crate::texts::names::push_name;
 use crate::told::{Methods, Note};
-use jl_class::{ClassFile, Operand, Site};
+use jl_class::{Operand, Site};
 use jl_hierarchy::Classes;
 use jl_json::throwable_name;
 use jl_names::LentName;
@@ -49,18 +49,8 @@ fn push_method(
         return Ok(());
     };
     push_name(alloc, row.file().name().as_slice(), out)?;
-    push_method_name(alloc, row.file(), method.index, out)
-}
-
-/// Appends the name of the method of this place, behind its class. Want of memory is an error.
-fn push_method_name(
-    alloc: Global,
-    file: &ClassFile,
-    index: u16,
-    out: &mut String,
-) -> Result<(), AllocError> {
-    let methods = file.methods();
-    let Some(found) = methods.at(index as usize) else {
+    let methods = row.file().methods();
+    let Some(found) = methods.at(method.index as usize) else {
         return Ok(());
     };
     out.push('.')?;
@@ -126,23 +116,12 @@ fn push_table(
     let mut between = ": ";
     for row in rows {
         out.push_str(between)?;
-        push_table_row(alloc, classes, row.0, row.1, out)?;
+        push_class(alloc, classes, row.0, out)?;
+        out.push_str(" -> ")?;
+        push_outcome(alloc, classes, row.1, out)?;
         between = ", ";
     }
     Ok(())
-}
-
-/// Appends a class with what it comes to. Want of memory is an error.
-fn push_table_row(
-    alloc: Global,
-    classes: &Classes,
-    class: ClassId,
-    outcome: Outcome,
-    out: &mut String,
-) -> Result<(), AllocError> {
-    push_class(alloc, classes, class, out)?;
-    out.push_str(" -> ")?;
-    push_outcome(alloc, classes, outcome, out)
 }
 
 /// Appends the link. Want of memory is an error.
@@ -159,7 +138,13 @@ fn push_link(
         Link::Plain(method) => push_direct(alloc, classes, Outcome::Run(*method), out),
         Link::Direct(outcome) => push_direct(alloc, classes, *outcome, out),
         Link::Table(_, table) => push_table(alloc, classes, table, note, out),
-        Link::Mega => push_mega(classes, row, note, out),
+        Link::Mega => {
+            out.push_str("mega (")?;
+            push_number(receiver_count(classes, row) as u64, out)?;
+            out.push_str(" receivers")?;
+            push_methods(", ", note, out)?;
+            out.push(')')
+        }
     }
 }
 
@@ -173,19 +158,6 @@ fn push_direct(
         out.push_str("direct ")?;
     }
     push_outcome(alloc, classes, outcome, out)
-}
-
-fn push_mega(
-    classes: &Classes,
-    row: &Row,
-    note: &Note,
-    out: &mut String,
-) -> Result<(), AllocError> {
-    out.push_str("mega (")?;
-    push_number(receiver_count(classes, row) as u64, out)?;
-    out.push_str(" receivers")?;
-    push_methods(", ", note, out)?;
-    out.push(')')
 }
 
 /// Appends how many different methods can run, where they were asked, behind this text. Want of memory is an error.
@@ -286,8 +258,14 @@ pub(crate) fn push_finding(
     match &row.finding {
         Finding::Linked(link) => {
             push_link(alloc, classes, row, note, link, out)?;
-            push_rests(alloc, classes, row, out)?;
-            push_made(note, out)
+            if let Some(class) = open_class(classes, row) {
+                out.push_str("; rests on the subclasses of ")?;
+                push_class(alloc, classes, class, out)?;
+            }
+            if note.is_made {
+                out.push_str("; an invokedynamic may make further receivers")?;
+            }
+            Ok(())
         }
         Finding::Unlinked(reason) => push_waits(alloc, classes, site, row, *reason, out),
         Finding::NotLinkable(reason) => {
@@ -295,27 +273,4 @@ pub(crate) fn push_finding(
             out.push_str(never_name(*reason))
         }
     }
-}
-
-fn push_rests(
-    alloc: Global,
-    classes: &Classes,
-    row: &Row,
-    out: &mut String,
-) -> Result<(), AllocError> {
-    match open_class(classes, row) {
-        Some(class) => {
-            out.push_str("; rests on the subclasses of ")?;
-            push_class(alloc, classes, class, out)
-        }
-        None => Ok(()),
-    }
-}
-
-/// Appends that an invokedynamic may make further receivers, where that is so. Want of memory is an error.
-fn push_made(note: &Note, out: &mut String) -> Result<(), AllocError> {
-    if note.is_made {
-        out.push_str("; an invokedynamic may make further receivers")?;
-    }
-    Ok(())
 }

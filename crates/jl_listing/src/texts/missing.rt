@@ -125,15 +125,13 @@ impl MissingClasses {
         site: &Site<'_>,
         row: &Row,
     ) -> Result<(), AllocError> {
-        match (&row.finding, site.operand()) {
-            (Finding::Unlinked(Unlinked::NotReady(Missing::Named)), Operand::Method(reference)) =>
-                self.count(alloc, reference.owner.as_slice()),
-            _ => Ok(()),
-        }
-    }
-
-    fn count(&mut self, alloc: Global, owner: &[u8]) -> Result<(), AllocError> {
-        let name = text_of(alloc, owner)?;
+        let (Finding::Unlinked(Unlinked::NotReady(Missing::Named)), Operand::Method(reference)) = (
+            &row.finding,
+            site.operand(),
+        ) else {
+            return Ok(());
+        };
+        let name = text_of(alloc, reference.owner.as_slice())?;
         let root = String::from_str(alloc, self.root_of(name.as_str()))?;
         let mut hanging = Hanging {
             invocations: 0,

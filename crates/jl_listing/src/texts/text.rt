@@ -88,7 +88,10 @@ const ADVICE: &str = ": its classes have to be unpacked first (unzip, or tools/c
 pub(crate) fn push_reason(answer: &Value, out: &mut String) -> Result<(), AllocError> {
     let name = text_in(answer, "refused").unwrap_or("");
     out.push_str(name)?;
-    push_member(" ", text_in(answer, "name"), out)?;
+    if let Some(about) = text_in(answer, "name") {
+        out.push(' ')?;
+        out.push_str(about)?;
+    }
     push_place(" method ", answer, "method", out)?;
     push_place(" at ", answer, "at", out)?;
     push_advice(name, out)
@@ -173,16 +176,6 @@ fn push_reasons(reasons: &IndexMap<&str, (u64, &str)>, out: &mut String) -> Resu
 /// The text under the key.
 fn text_in<'a>(answer: &'a Value, key: &str) -> Option<&'a str> {
     answer.get(key)?.as_str()
-}
-
-fn push_member(before: &str, text: Option<&str>, out: &mut String) -> Result<(), AllocError> {
-    match text {
-        Some(text) => {
-            out.push_str(before)?;
-            out.push_str(text)
-        }
-        None => Ok(()),
-    }
 }
 
 fn push_place(before: &str, answer: &Value, key: &str, out: &mut String) -> Result<(), AllocError> {

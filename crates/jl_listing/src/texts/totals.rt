@@ -127,11 +127,6 @@ impl Summary {
         out.push_str(" methods of ")?;
         push_number(self.classes, out)?;
         out.push_str(" classes\n")?;
-        self.push_kinds(out)
-    }
-
-    /// Appends those of each instruction. Want of memory is an error.
-    fn push_kinds(&self, out: &mut String) -> Result<(), AllocError> {
         for kind in &KINDS {
             self.push_kind(*kind, out)?;
         }
