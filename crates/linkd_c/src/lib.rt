@@ -1,9 +1,6 @@
 //! The C interface: `include/linkd.h` declares these functions, and says what a caller owes.
 //!
-//! A C program gives a block of `linkd_size()` bytes at a multiple of `linkd_align()`; it makes it a linker by `linkd_blank`, opens
-//! it, calls it, closes it, and has its block for itself again. A seat is one thread's place to read: by a refresh it takes the
-//! linker's links as they are, and then reads them while other threads use the linker. A memo is what one thread remembers of calls at
-//! megamorphic links. A view has what there was to link when it was taken, and prepares links there. Each function is one call of
+//! What linkers, seats, memos and views are, and how a caller makes one of a block of memory, the header says. Each function is one call of
 //! jl_host, and says of what lies behind the handle what that call says of its value; `specs/Handle` says what lies there.
 #![tactic(auto)]
 
