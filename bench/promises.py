@@ -1,7 +1,7 @@
 #!/usr/bin/env python3
 """Holds the pages to the sources. Of docs/PROMISES.md each call is a public function of the file that it leads to, with a clause of each
-name that stands behind it in brackets, and so is each of README.md's promises; each crate and script is there; of docs/DEFINITIONS.md each
-definition stands in its file; docs/CRATES.md names each crate below those that it uses; and each link of a page leads to a file.
+name that stands behind it in brackets, and so is each of README.md's promises; each crate and script is there; docs/DEFINITIONS.md
+names each file of definitions; docs/CRATES.md names each crate below those that it uses; and each link of a page leads to a file.
 
     bench/promises.py     at the top of the repository; prints what isn't so, and ends with status 0 where all is
 """
@@ -33,31 +33,18 @@ def clauses():
     return found
 
 
-def is_stated(name, text):
-    """Whether the definition stands in this text of specs, or of a crate's types."""
-    word = re.escape(name)
-    return re.search(rf"(?:^|\s){word}(?: \(.*\))?(?: \{{.*\}})? :|\b(?:data|record|struct|enum) {word}\b", text, re.M)
-
-
 def definitions():
-    """What the tables of docs/DEFINITIONS.md name that isn't in the file of its row; a type of the code stands in its crate's sources. A row
-    of several files has the definitions of each behind a semicolon."""
+    """The files of specs/ that docs/DEFINITIONS.md doesn't name exactly once in its tables: all but those that only list others, and such as
+    are a means of proof, by their folder or by their first line."""
     wrong, page = [], (TOP / "docs/DEFINITIONS.md").read_text()
-    types = {crate.name: "\n".join(path.read_text() for path in crate.glob("src/*.rt")) for crate in (TOP / "crates").iterdir()}
-    for row in re.findall(r"^\|(.*)\|$", page.split("\n## ", 2)[2], re.M):
-        cells = row.split("|")
-        files = re.findall(r"\]\(\.\./(crates/(\w+)/[^)]*)\)", cells[0])
-        lists = cells[-1].split(";")
-        if len(cells) != 3 or files and len(lists) != len(files):
-            wrong.append(f"docs/DEFINITIONS.md: a row of {len(cells)} cells has {len(files)} files and {len(lists)} lists: {cells[0]}")
-            continue
-        for (file, crate), names in zip(files, lists):
-            text = (TOP / file).read_text() if (TOP / file).exists() else ""
-            if not re.search("`", names):
-                wrong.append(f"docs/DEFINITIONS.md: no definition of {file}")
-            for name in re.findall(r"`([^`]+)`", names):
-                if not is_stated(name, text) and not is_stated(name, types[crate]):
-                    wrong.append(f"docs/DEFINITIONS.md: {file} has no {name}")
+    rows = re.findall(r"^\|(.*)\|$", page.split("\n## ", 2)[2], re.M)
+    named = [file for row in rows for file in re.findall(r"\]\(\.\./(crates/\w+/specs/[^)]*)\)", row)]
+    for path in sorted(TOP.glob("crates/*/specs/**/*.antt")):
+        text = path.read_text()
+        is_node = not re.sub(r"(?m)^(--.*|pub mod .*|\s*)$", "", text).strip()
+        is_means = "Means" in path.parts or path.stem == "Means" or "A means of proof." in text.split("use ")[0].replace("\n-- ", " ")
+        if named.count(str(path)) != (0 if is_node or is_means else 1):
+            wrong.append(f"docs/DEFINITIONS.md names {path} {named.count(str(path))} times")
     return wrong
 
 
@@ -112,7 +99,7 @@ def main():
         for link in re.findall(r"\]\(([^)#\s]+)(?:#[^)]*)?\)", file.read_text()):
             if "://" not in link and not (file.parent / link).exists():
                 wrong.append(f"{file}: no {link}")
-    print("\n".join(wrong) if wrong else "each promise names its clauses, and each definition stands in its file")
+    print("\n".join(wrong) if wrong else "each promise names its clauses, and each file of definitions is named")
     return 1 if wrong else 0
 
 

@@ -8,12 +8,10 @@ use Rattle.std.proofs.Math.Seq.{take-length}
 use Rattle.jl_types.specs.Happenings.Event.{Event}
 use Rattle.jl_types.specs.declared.event.Reply.{Reply}
 use Rattle.jl_types.specs.declared.link.Link.{Link}
-use Rattle.jl_types.specs.declared.answer.Unlinked.{Unlinked}
 use Rattle.jl_types.specs.declared.refusal.Refusal.{Refusal}
 use Rattle.jl_types.specs.Linkage.Links.{scratch}
 use Rattle.jl_types.specs.Happenings.History as history
 use Rattle.jl_types.specs.Happenings.History.{Settled}
-use Rattle.jl_types.proofs.Accepting.{linked}
 use Rattle.jl_types.proofs.Installed.{installed_to, installed_from, settled_now}
 use Rattle.jl_types.proofs.InstalledLinks.{links_are, installed_requested}
 use Rattle.jl_types.proofs.Lists.{before_end, at_end}
@@ -22,30 +20,18 @@ use Rattle.jl_core.specs.Headline.{AreApplied}
 
 -- ---- the links
 
-same_link : (l m : Link) → linked l ≡ linked m → l ≡ m
-same_link l m e = same_Some l m (ap as_option e)
-  where
-    as_option : Result Link Unlinked → Option Link
-    as_option (Ok k) = Some k
-    as_option (Err reason) = None
-
 pub links_exact : (core : State) (s : ℕ) (l : Link) → Contains (links_of core) (s, l)
-    ↔ ((s < length (world_of core).places) × ((m : Link) × Settled (events core) s m) × (scratch (world_of core) s ≡ Ok l))
-links_exact core s l = (to, from)
+    ↔ ((s < length (world_of core).places) × Settled (events core) s l × (scratch (world_of core) s ≡ Ok l))
+links_exact core s l = (to, λ p. (links_are h s l).0 (installed_from h s l p.1))
   where
     h : List Event
     h = events core
 
-    to : Contains (links_of core) (s, l) → (s < length (world_of core).places) × ((m : Link) × Settled (events core) s m) × (scratch (world_of core) s ≡ Ok l)
+    to : Contains (links_of core) (s, l) → (s < length (world_of core).places) × Settled (events core) s l × (scratch (world_of core) s ≡ Ok l)
     to c =
         let found = (links_are h s l).1 c in
         let settled = installed_to h s l found in
-        (installed_requested h s l found, (l, settled), settled_now h s l settled)
-
-    from : (s < length (world_of core).places) × ((m : Link) × Settled (events core) s m) × (scratch (world_of core) s ≡ Ok l) → Contains (links_of core) (s, l)
-    from p =
-        let same = same_link p.1.0 l (sym (settled_now h s p.1.0 p.1.1) ∙ p.2) in
-        (links_are h s l).0 (installed_from h s l (subst (λ (m : Link). Settled h s m) same p.1.1))
+        (installed_requested h s l found, settled, settled_now h s l settled)
 
 -- ---- the log
 

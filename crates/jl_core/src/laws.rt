@@ -16,7 +16,7 @@ pub fn links_are_exact()
     ensures links { (core : State) (s : ℕ) (l : Link)
         → Contains (links_of core) (s, l)
         ↔ ((s < length (world_of core).places)
-        × ((m : Link) × Settled (events core) s m)
+        × Settled (events core) s l
         × (scratch (world_of core) s ≡ Ok l)) }
     ensures log { (max_sites : ℕ) (es : List Event) (core : State) → AreApplied (empty_core max_sites) es core
         → (n : ℕ) (e : Event) (reply : Reply) → slice_get core.log n ≡ Some (e, reply)

@@ -28,7 +28,13 @@ module _ (inside : Classes) (above below : List (List ℕ)) (kept : IsKept insid
   good = subst IsGood same (record { there = kept.there; ordered = kept.ordered })
 
   pub in_order : AreInOrder cs
-  in_order = subst AreInOrder same (record { there = kept.there; ordered = kept.ordered; object = kept.object; closed = kept.closed })
+  in_order = subst AreInOrder same (record {
+    there = kept.there;
+    ordered = kept.ordered;
+    extended = kept.extended;
+    object = kept.object;
+    closed = kept.closed;
+  })
 
   pub own_here : AreRecorded cs
   own_here = subst AreRecorded same kept.own

@@ -14,6 +14,7 @@ pub mod PrintLaws
 pub mod Objects
 pub mod Closed
 pub mod OwnRecords
+pub mod Finals
 pub mod LoaderGone
 pub mod Turns
 pub mod NewRecords

@@ -103,6 +103,7 @@ module _ (cs : Classes) (loader : ℕ) (none : classes_fault cs loader ≡ None)
     kept_retired = record {
       there = all_set (AreBelow (length cs.rows)) cs.loaders loader [] tt kept.there;
       ordered = kept.ordered;
+      extended = kept.extended;
       object = first_retired kept.object;
       closed = closed_retired cs kept.ordered kept.closed loader none;
       own = own_retired cs (record { there = kept.there; ordered = kept.ordered }) kept.own loader;

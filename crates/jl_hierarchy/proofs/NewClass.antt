@@ -23,6 +23,7 @@ use Rattle.jl_hierarchy.specs.Means.Kept.{IsKept, IsAppended}
 use Rattle.jl_hierarchy.proofs.FaultLaws.{has_room}
 use Rattle.jl_hierarchy.proofs.Closed.{closed_defined, live_loader}
 use Rattle.jl_hierarchy.proofs.OwnRecords.{own_defined}
+use Rattle.jl_hierarchy.proofs.Finals.{still_extended}
 use Rattle.jl_hierarchy.proofs.Rising.{has}
 
 map_range : {A : Type 0} (f g : ℕ → A) (a n : ℕ) → ((c : ℕ) → c < a + n → f c ≡ g c) → map f (range_with_len a n) ≡ map g (range_with_len a n)
@@ -171,6 +172,7 @@ module _ (cs : Classes) (over under : List (List ℕ)) (kept : IsKept cs over un
       kept_now object = record {
         there = new_good.there;
         ordered = new_good.ordered;
+        extended = still_extended cs good kept.extended loader file none;
         object = object;
         closed = closed_defined cs good loader file kept.closed;
         own = own_defined cs good kept.own loader file none;

@@ -19,6 +19,7 @@ module _ (cs : Classes) (above below : List (List ℕ)) (kept : IsKept cs above 
   kept_with_loader lt = record {
     there = with_loader (length cs.rows) cs.loaders kept.there;
     ordered = kept.ordered;
+    extended = kept.extended;
     object = first_with_loader cs kept.object;
     closed = closed_with_loader cs kept.closed;
     own = own_with_loader cs good kept.own;
@@ -35,6 +36,7 @@ module _ (cs : Classes) (above below : List (List ℕ)) (kept : IsKept cs above 
         recorded_below (length cs.rows) cs.loaders loader name d kept.there
         (looked_up cs good to name d found);
     ordered = kept.ordered;
+    extended = kept.extended;
     object = first_with_record cs kept.object to loader name d found;
     closed = closed_with_record cs kept.closed loader name d (kept.closed.records to name d live found);
     own = own_with_record cs good kept.own loader name d;

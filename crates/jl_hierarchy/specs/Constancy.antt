@@ -1,14 +1,14 @@
 -- What definitions, delegations, new loaders and retirements leave as it was.
-use Rattle.std.specs.Prelude.{◌≡◌, ℕ, ◌<◌, ◌&&◌, Bool, true, false, List, [], ◌∷◌, ◌++◌, length, slice_get, Some, None, is_some, if◌then◌else◌}
+use Rattle.std.specs.Prelude.{◌≡◌, ℕ, ◌<◌, ◌&&◌, ◌||◌, not, Bool, true, false, List, [], ◌∷◌, ◌++◌, length, slice_get, Some, None, is_some, if◌then◌else◌}
 use Rattle.std.specs.List.{AllByRecursion}
 use Rattle.jl_class.specs.Class.{ClassFile}
 use Rattle.jl_class.specs.Flags.{object}
 use Rattle.jl_types.specs.Values.World.{Class, Classes}
 use Rattle.jl_types.specs.Values.Members.{lookup, is_retired, is_present, is_concrete, is_interface}
-use Rattle.jl_types.specs.Values.Ancestry.{is_ancestor, AreOrdered}
+use Rattle.jl_types.specs.Values.Ancestry.{is_parent, is_ancestor, AreOrdered}
 use Rattle.jl_types.specs.Values.Ancestry as ancestry
 use Rattle.jl_types.specs.Linkage.Access.{nest_host}
-use Rattle.jl_types.specs.Happenings.Definitions.{define_fault, defined}
+use Rattle.jl_types.specs.Happenings.Definitions.{is_final, define_fault, defined}
 
 -- the loader has recorded java/lang/Object
 abbrev pub has_object : Classes → ℕ → Bool
@@ -26,11 +26,20 @@ pub record IsClosed (cs : Classes) : Type 0 where
   pub ancestors : (a x : ℕ) → is_ancestor cs a x ≡ true → is_present cs x ≡ true → is_present cs a ≡ true
   pub records : (loader : ℕ) (name : List ℕ) (c : ℕ) → is_retired cs loader ≡ false → lookup cs loader name ≡ Some c → is_present cs c ≡ true
 
--- The order in which there come to be classes: what loaders have recorded is there, each class's parents were defined before it,
--- java/lang/Object comes first, and what is present rests on what is present.
+-- a class may have subclasses: what is FINAL has none (JVMS 5.3.5), which isn't asked of a superinterface
+abbrev pub may_be_extended : Classes → ℕ → Bool
+may_be_extended cs c = not (is_final cs c) || is_interface cs c
+
+-- what is a parent of a class may be extended
+abbrev pub ExtendNoFinal : Classes → Type 0
+ExtendNoFinal cs = (c p : ℕ) (row : Class) → slice_get cs.rows c ≡ Some row → is_parent row p ≡ true → may_be_extended cs p ≡ true
+
+-- The order in which there come to be classes: what loaders have recorded is there, each class's parents were defined before it and may
+-- be extended, java/lang/Object comes first, and what is present rests on what is present.
 pub record AreInOrder (cs : Classes) : Type 0 where
   pub there : AllByRecursion (AllByRecursion (λ r. r.1 < length cs.rows)) cs.loaders
   pub ordered : AreOrdered cs.rows
+  pub extended : ExtendNoFinal cs
   pub object : ObjectComesFirst cs
   pub closed : IsClosed cs
 

@@ -19,6 +19,7 @@ use Rattle.jl_types.proofs.Places.{world_more}
 use Rattle.jl_types.proofs.Lists.{all_set}
 use Rattle.jl_types.proofs.Orders.{AreBelow, IsGood, looked_up, recorded_below, defined_good, with_loader}
 use Rattle.jl_hierarchy.specs.Constancy.{has_object, IsClosed, AreInOrder}
+use Rattle.jl_hierarchy.proofs.Finals.{still_extended}
 use Rattle.jl_hierarchy.proofs.LoaderGone.{first_retired}
 use Rattle.jl_hierarchy.proofs.Objects.{first_with_record, first_with_loader, first_defined}
 use Rattle.jl_callsites.specs.Known.{all_known}
@@ -44,6 +45,9 @@ module _ (max_sites : ℕ) (w : World) (order : IsInOrder w) where
       record {
         there = more.there;
         ordered = more.ordered;
+        extended =
+            still_extended w.classes good order.classes.extended loader file
+            (no_fault Define (define_fault w.classes loader file) _ accepted);
         object = first_defined w.classes order.classes.object loader file (no_fault Define (define_fault w.classes loader file) _ accepted) read;
         closed = closed_after w order.classes max_sites (event.Define loader file) accepted;
       }
@@ -60,6 +64,7 @@ module _ (max_sites : ℕ) (w : World) (order : IsInOrder w) where
           record {
             there = recorded_below (length w.classes.rows) w.classes.loaders loader name c good.there (looked_up w.classes good to name c is);
             ordered = order.classes.ordered;
+            extended = order.classes.extended;
             object = first_with_record w.classes order.classes.object to loader name c is;
             closed = closed;
           }
@@ -69,6 +74,7 @@ module _ (max_sites : ℕ) (w : World) (order : IsInOrder w) where
     classes = record {
       there = with_loader (length w.classes.rows) w.classes.loaders order.classes.there;
       ordered = order.classes.ordered;
+      extended = order.classes.extended;
       object = first_with_loader w.classes order.classes.object;
       closed = closed_after w order.classes max_sites event.NewLoader accepted;
     };
@@ -103,6 +109,7 @@ module _ (max_sites : ℕ) (w : World) (order : IsInOrder w) where
     classes = record {
       there = all_set (AreBelow (length w.classes.rows)) w.classes.loaders loader [] tt order.classes.there;
       ordered = order.classes.ordered;
+      extended = order.classes.extended;
       object = first_retired w.classes loader (free_classes w loader (no_fault Retire (retire_fault w loader) _ accepted)) order.classes.object;
       closed = closed_after w order.classes max_sites (event.Retire loader) accepted;
     };
@@ -125,6 +132,7 @@ at_first = record {
   classes = record {
     there = (tt, tt);
     ordered = λ c row e. cc;
+    extended = λ c p row e. cc;
     object = record { recorded = λ l h. none l h; interfaces = λ c h. cc };
     closed = record {
       first = refl;

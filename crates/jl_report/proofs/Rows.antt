@@ -30,7 +30,8 @@ use Rattle.jl_report.specs.declared.shape.Shape.TheVariants as shape
 use Rattle.jl_report.specs.Order.{name_of}
 use Rattle.jl_report.specs.Reports.{asking, never_linked, invocation_of, invocations_in, rests_on, row_of, rows_in}
 use Rattle.jl_report.specs.Drops.{keys_of, row_now, now_changed, left_among, dropped_among, IsAdded}
-use Rattle.jl_report.specs.Drops.{may_change, has_changing_link, may_be_extended, may_grow, is_open, ExtendNoFinal}
+use Rattle.jl_hierarchy.specs.Constancy.{may_be_extended, ExtendNoFinal}
+use Rattle.jl_report.specs.Drops.{may_change, has_changing_link, may_grow, is_open}
 use Rattle.jl_report.specs.Methods.{is_same, distinct, run_of, run_by, looked_at, runs, methods_run}
 use Rattle.jl_report.specs.Made.{class_of, named_result, made, meets_made, marks_of, meets_marks}
 use Rattle.jl_report.specs.Totals.{shape_of, column, count, told, largest}

@@ -29,7 +29,7 @@ use Rattle.jl_report.specs.declared.row.Finding.{Finding}
 use Rattle.jl_report.specs.declared.row.Finding.TheVariants as finding
 use Rattle.jl_report.specs.declared.invocation.Invocation.{Invocation}
 use Rattle.jl_report.specs.Reports.{asking, found, finding_in, rests_on, row_of}
-use Rattle.jl_report.specs.Drops.{keys_of, row_now, now_without, now_changed, has_changing_link, may_grow, is_open, ExtendNoFinal}
+use Rattle.jl_report.specs.Drops.{keys_of, row_now, now_without, now_changed, has_changing_link, may_grow, is_open}
 use Rattle.jl_report.proofs.FinalLaws.{none_met, closed_keys}
 
 found_is : (r : Result Link Unlinked) (l : Link) → found r ≡ finding.Linked l → r ≡ Ok l
@@ -146,33 +146,32 @@ module _ (cs : Classes) (file : ClassFile) (order : AreInOrder cs) (accepted : d
     pub unchanging_row : has_changing_link row.finding ≡ false → now_changed after (keys_of cs file) row ≡ None
     unchanging_row e = unchanging row.finding refl e
 
-    module _ (free : ExtendNoFinal cs) where
-      unmet : (f : Finding) (ks : List Key) → list_any (may_grow cs) ks ≡ false
-          → (if meets ks (keys_of cs file) then now_without after row f else None) ≡ None
-      unmet f ks e =
-          ap (λ (b : Bool). if b then now_without after row f else None)
-          (none_met cs (record { there = order.there; ordered = order.ordered }) free 0 file accepted ks e)
+    unmet : (f : Finding) (ks : List Key) → list_any (may_grow cs) ks ≡ false
+        → (if meets ks (keys_of cs file) then now_without after row f else None) ≡ None
+    unmet f ks e =
+        ap (λ (b : Bool). if b then now_without after row f else None)
+        (none_met cs order 0 file accepted ks e)
 
-      by_finding : (f : Finding) (ks : List Key) → row.finding ≡ f → row.rests_on ≡ ks → (has_changing_link f && list_any (may_grow cs) ks) ≡ false
-          → (if meets ks (keys_of cs file) then now_without after row f else None) ≡ None
-      by_finding (finding.Unlinked reason) ks is keys e = if_none (meets ks (keys_of cs file)) None refl
-      by_finding (finding.NotLinkable reason) ks is keys e = if_none (meets ks (keys_of cs file)) None refl
-      by_finding (finding.Linked Mega) ks is keys e =
-          by_meeting is (meets ks (keys_of cs file)) (ap (λ (xs : List Key). meets xs (keys_of cs file)) keys)
-      by_finding (finding.Linked (Fault throwable)) ks is keys e = unmet (finding.Linked (Fault throwable)) ks e
-      by_finding (finding.Linked (Plain m)) ks is keys e = unmet (finding.Linked (Plain m)) ks e
-      by_finding (finding.Linked (Direct outcome)) ks is keys e = unmet (finding.Linked (Direct outcome)) ks e
-      by_finding (finding.Linked (Table kind rows)) ks is keys e = unmet (finding.Linked (Table kind rows)) ks e
+    by_finding : (f : Finding) (ks : List Key) → row.finding ≡ f → row.rests_on ≡ ks → (has_changing_link f && list_any (may_grow cs) ks) ≡ false
+        → (if meets ks (keys_of cs file) then now_without after row f else None) ≡ None
+    by_finding (finding.Unlinked reason) ks is keys e = if_none (meets ks (keys_of cs file)) None refl
+    by_finding (finding.NotLinkable reason) ks is keys e = if_none (meets ks (keys_of cs file)) None refl
+    by_finding (finding.Linked Mega) ks is keys e =
+        by_meeting is (meets ks (keys_of cs file)) (ap (λ (xs : List Key). meets xs (keys_of cs file)) keys)
+    by_finding (finding.Linked (Fault throwable)) ks is keys e = unmet (finding.Linked (Fault throwable)) ks e
+    by_finding (finding.Linked (Plain m)) ks is keys e = unmet (finding.Linked (Plain m)) ks e
+    by_finding (finding.Linked (Direct outcome)) ks is keys e = unmet (finding.Linked (Direct outcome)) ks e
+    by_finding (finding.Linked (Table kind rows)) ks is keys e = unmet (finding.Linked (Table kind rows)) ks e
 
-      pub closed_row : is_open cs row ≡ false → now_changed after (keys_of cs file) row ≡ None
-      closed_row e = by_finding row.finding row.rests_on refl refl e
+    pub closed_row : is_open cs row ≡ false → now_changed after (keys_of cs file) row ≡ None
+    closed_row e = by_finding row.finding row.rests_on refl refl e
 
-      pub closed_stays : (l : Link) → row.finding ≡ finding.Linked l → is_open cs row ≡ false → row_of after invocation ≡ row
-      closed_stays l linked e = undropped_row l linked (closed_row e)
+    pub closed_stays : (l : Link) → row.finding ≡ finding.Linked l → is_open cs row ≡ false → row_of after invocation ≡ row
+    closed_stays l linked e = undropped_row l linked (closed_row e)
 
-      still_closed : (b : Bool) (ks : List Key) → (b && list_any (may_grow cs) ks) ≡ false → (b && list_any (may_grow after) ks) ≡ false
-      still_closed true ks e = closed_keys cs (record { there = order.there; ordered = order.ordered }) free 0 file accepted ks e
-      still_closed false ks e = refl
+    still_closed : (b : Bool) (ks : List Key) → (b && list_any (may_grow cs) ks) ≡ false → (b && list_any (may_grow after) ks) ≡ false
+    still_closed true ks e = closed_keys cs order 0 file accepted ks e
+    still_closed false ks e = refl
 
-      pub remains_closed : (l : Link) → row.finding ≡ finding.Linked l → is_open cs row ≡ false → is_open after (row_of after invocation) ≡ false
-      remains_closed l linked e = ap (is_open after) (closed_stays l linked e) ∙ still_closed (has_changing_link row.finding) row.rests_on e
+    pub remains_closed : (l : Link) → row.finding ≡ finding.Linked l → is_open cs row ≡ false → is_open after (row_of after invocation) ≡ false
+    remains_closed l linked e = ap (is_open after) (closed_stays l linked e) ∙ still_closed (has_changing_link row.finding) row.rests_on e

@@ -1,5 +1,5 @@
 -- Which links a further class drops: those that aren't their invocations' any more, once it is defined behind the others.
-use Rattle.std.specs.Prelude.{◌≡◌, ℕ, ◌&&◌, ◌||◌, ◌++◌, Bool, true, false, not, List, filter, filter_map, length, slice_get, Option, Some, None}
+use Rattle.std.specs.Prelude.{◌≡◌, ℕ, ◌&&◌, ◌++◌, Bool, true, false, List, filter, filter_map, length, slice_get, Option, Some, None}
 use Rattle.std.specs.Prelude.{option_map, is_some, is_none, if◌then◌else◌}
 use Rattle.std.specs.List.{list_any}
 use Rattle.jl_class.specs.Class.{ClassFile}
@@ -8,12 +8,11 @@ use Rattle.jl_types.specs.declared.key.Key.TheVariants as key
 use Rattle.jl_types.specs.declared.link.Link.{Link}
 use Rattle.jl_types.specs.declared.link.Link.TheVariants.{Fault, Plain, Direct, Table, Mega}
 use Rattle.jl_types.specs.Values.World.{Class, Classes}
-use Rattle.jl_types.specs.Values.Members.{is_interface}
-use Rattle.jl_types.specs.Values.Ancestry.{is_parent}
 use Rattle.jl_types.specs.Linkage.Links.{scratch}
-use Rattle.jl_types.specs.Happenings.Definitions.{is_final, define_fault, defined}
+use Rattle.jl_types.specs.Happenings.Definitions.{define_fault, defined}
 use Rattle.jl_types.specs.Happenings.Footprints.{of_class, meets}
 use Rattle.jl_types.specs.Happenings.History.{is_link}
+use Rattle.jl_hierarchy.specs.Constancy.{may_be_extended}
 use Rattle.jl_report.specs.declared.row.Row.{Row}
 use Rattle.jl_report.specs.declared.row.Finding.{Finding}
 use Rattle.jl_report.specs.declared.row.Finding.TheVariants as finding
@@ -73,10 +72,6 @@ has_changing_link (finding.Linked link) = may_change link
 has_changing_link (finding.Unlinked reason) = false
 has_changing_link (finding.NotLinkable reason) = false
 
--- a further class may be below it: what is FINAL has no subclass (JVMS 5.3.5), which isn't asked of a superinterface
-abbrev pub may_be_extended : Classes → ℕ → Bool
-may_be_extended cs c = not (is_final cs c) || is_interface cs c
-
 -- a further class may change it: it is the receivers of what may be extended
 abbrev pub may_grow : Classes → Key → Bool
 may_grow cs (key.Receivers c) = may_be_extended cs c
@@ -86,7 +81,3 @@ may_grow cs (key.Valid p) = false
 -- a further class may change the row's link: it is another one than Mega, and rests on something that a further class may change
 abbrev pub is_open : Classes → Row → Bool
 is_open cs row = has_changing_link row.finding && list_any (may_grow cs) row.rests_on
-
--- what is a parent of a class may be extended
-abbrev pub ExtendNoFinal : Classes → Type 0
-ExtendNoFinal cs = (c p : ℕ) (row : Class) → slice_get cs.rows c ≡ Some row → is_parent row p ≡ true → may_be_extended cs p ≡ true

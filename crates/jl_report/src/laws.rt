@@ -10,7 +10,7 @@ ghost use Rattle.jl_class.specs.declared.site.Operand.TheVariants as operand;
 ghost use Rattle.jl_types.specs.declared.ids.Place.{Place};
 ghost use Rattle.jl_types.specs.declared.ids.MethodId.{MethodId};
 ghost use Rattle.jl_types.specs.declared.link.Link.{Link};
-ghost use Rattle.jl_types.specs.Values.World.{World, Classes, nothing_yet};
+ghost use Rattle.jl_types.specs.Values.World.{World, Classes};
 ghost use Rattle.jl_types.specs.Values.Members.{lookup};
 ghost use Rattle.jl_types.specs.Linkage.Stages.{bound_to};
 ghost use Rattle.jl_types.specs.Linkage.Links.{scratch};
@@ -21,8 +21,7 @@ ghost use Rattle.jl_report.specs.declared.invocation.Invocation.{Invocation};
 ghost use Rattle.jl_report.specs.declared.row.Row.{Row};
 ghost use Rattle.jl_report.specs.declared.row.Finding.TheVariants as finding;
 ghost use Rattle.jl_report.specs.Reports.{asking, row_of};
-ghost use Rattle.jl_report.specs.Drops.{keys_of, now_changed, has_changing_link, is_open, ExtendNoFinal};
-ghost use Rattle.jl_report.specs.Gathering.{Gathers};
+ghost use Rattle.jl_report.specs.Drops.{keys_of, now_changed, has_changing_link, is_open};
 ghost use Rattle.jl_report.specs.Methods.{is_same, looked_at, runs, methods_run};
 ghost use Rattle.jl_report.specs.Made.{class_of, made_by, meets_made, marks_of, meets_marks};
 
@@ -36,9 +35,8 @@ pub fn reported_links_are_from_scratch()
 {}
 
 /// Among classes that came in order a row that has a link is the same one once a further class is defined that doesn't drop the link.
-/// None is dropped of a row that rests on nothing that the class changes, nor of one with no link or a megamorphic one, and, where no
-/// class extends a FINAL one, none but of rows that are open: a row with a link that isn't open is the same one whichever class is
-/// defined, and isn't open then.
+/// None is dropped of a row that rests on nothing that the class changes, nor of one with no link or a megamorphic one, and none but of
+/// rows that are open: a row with a link that isn't open is the same one whichever class is defined, and isn't open then.
 pub fn undropped_links_stay()
     ensures undropped { (cs : Classes) (file : ClassFile) (invocation : Invocation) (l : Link) → AreInOrder cs
         → define_fault cs 0 file ≡ None → (row_of cs invocation).finding ≡ finding.Linked l
@@ -51,25 +49,15 @@ pub fn undropped_links_stay()
     ensures unchanging { (cs : Classes) (file : ClassFile) (invocation : Invocation) → AreInOrder cs → define_fault cs 0 file ≡ None
         → has_changing_link (row_of cs invocation).finding ≡ false
         → now_changed (defined cs 0 file) (keys_of cs file) (row_of cs invocation) ≡ None }
-    ensures closed { (cs : Classes) (file : ClassFile) (invocation : Invocation) → AreInOrder cs → ExtendNoFinal cs
+    ensures closed { (cs : Classes) (file : ClassFile) (invocation : Invocation) → AreInOrder cs
         → define_fault cs 0 file ≡ None → is_open cs (row_of cs invocation) ≡ false
         → now_changed (defined cs 0 file) (keys_of cs file) (row_of cs invocation) ≡ None }
-    ensures stays { (cs : Classes) (file : ClassFile) (invocation : Invocation) (l : Link) → AreInOrder cs → ExtendNoFinal cs
+    ensures stays { (cs : Classes) (file : ClassFile) (invocation : Invocation) (l : Link) → AreInOrder cs
         → define_fault cs 0 file ≡ None → (row_of cs invocation).finding ≡ finding.Linked l
         → is_open cs (row_of cs invocation) ≡ false → row_of (defined cs 0 file) invocation ≡ row_of cs invocation }
-    ensures remains { (cs : Classes) (file : ClassFile) (invocation : Invocation) (l : Link) → AreInOrder cs → ExtendNoFinal cs
+    ensures remains { (cs : Classes) (file : ClassFile) (invocation : Invocation) (l : Link) → AreInOrder cs
         → define_fault cs 0 file ≡ None → (row_of cs invocation).finding ≡ finding.Linked l
         → is_open cs (row_of cs invocation) ≡ false → is_open (defined cs 0 file) (row_of (defined cs 0 file) invocation) ≡ false }
-{}
-
-/// No class extends a FINAL one where there are none, nor once a further one is defined, so none does among files that became
-/// classes.
-pub fn final_classes_are_not_extended()
-    ensures first { ExtendNoFinal nothing_yet.classes }
-    ensures defined { (cs : Classes) (loader : ℕ) (file : ClassFile) → AreInOrder cs → ExtendNoFinal cs
-        → define_fault cs loader file ≡ None → ExtendNoFinal (defined cs loader file) }
-    ensures gathered { (files : List ClassFile) (out cs : Classes) (waiting left : List ℕ)
-        → Gathers files out cs waiting left → AreInOrder cs → ExtendNoFinal cs → ExtendNoFinal out }
 {}
 
 /// Of the methods that a row is told to run each is run by a call, each that a call runs is told, and two are different ones.

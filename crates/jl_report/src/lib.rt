@@ -27,8 +27,8 @@ mod laws;
 pub use breaking::{Dropped, is_open, keep_open};
 pub use defining::{Refused, define_all};
 pub use laws::{
-    final_classes_are_not_extended, made_objects_are_marked, reported_links_are_from_scratch,
-    told_methods_run, undropped_links_stay,
+    made_objects_are_marked, reported_links_are_from_scratch, told_methods_run,
+    undropped_links_stay,
 };
 pub use made::Made;
 pub use order::order_by_name;

@@ -7,7 +7,7 @@ use Rattle.std.specs.declared.alloc.Global.{Global}
 use Rattle.jl_types.specs.Values.World.{Class, Classes}
 use Rattle.jl_types.specs.Values.Members.{numbers, recorded, is_retired, lookup}
 use Rattle.jl_types.specs.Values.Ancestry.{AreOrdered, ancestors, receivers}
-use Rattle.jl_hierarchy.specs.Constancy.{ObjectComesFirst, IsClosed}
+use Rattle.jl_hierarchy.specs.Constancy.{ObjectComesFirst, ExtendNoFinal, IsClosed}
 
 -- the names of a map, each with its number
 abbrev pub named : {A : Type 0} → List (Vec ℕ A × ℕ) → List (List ℕ × ℕ)
@@ -27,10 +27,11 @@ abbrev pub AreRecorded : Classes → Type 0
 AreRecorded cs = (c : ℕ) (row : Class) → slice_get cs.rows c ≡ Some row → is_retired cs row.loader ≡ false → lookup cs row.loader row.file.name ≡ Some c
 
 -- Of each class its ancestors and its receivers are kept. What loaders have recorded is there, and parents come first, as
--- java/lang/Object does. What is present rests on what is present, and its own loader has recorded it.
+-- java/lang/Object does, and may be extended. What is present rests on what is present, and its own loader has recorded it.
 pub record IsKept (cs : Classes) (above below : List (List ℕ)) : Type 0 where
   pub there : AllByRecursion (AllByRecursion (λ r. r.1 < length cs.rows)) cs.loaders
   pub ordered : AreOrdered cs.rows
+  pub extended : ExtendNoFinal cs
   pub object : ObjectComesFirst cs
   pub closed : IsClosed cs
   pub own : AreRecorded cs

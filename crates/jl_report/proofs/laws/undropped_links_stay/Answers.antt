@@ -11,12 +11,10 @@ pub returns-clause-unchanging : goal.returns-clause-unchanging
 returns-clause-unchanging c = λ cs file invocation order accepted closed. unchanging_row cs file order accepted invocation closed
 
 pub returns-clause-closed : goal.returns-clause-closed
-returns-clause-closed c = λ cs file invocation order free accepted closed. closed_row cs file order accepted invocation free closed
+returns-clause-closed c = λ cs file invocation order accepted closed. closed_row cs file order accepted invocation closed
 
 pub returns-clause-stays : goal.returns-clause-stays
-returns-clause-stays c = λ cs file invocation l order free accepted linked closed.
-    closed_stays cs file order accepted invocation free l linked closed
+returns-clause-stays c = λ cs file invocation l order accepted linked closed. closed_stays cs file order accepted invocation l linked closed
 
 pub returns-clause-remains : goal.returns-clause-remains
-returns-clause-remains c = λ cs file invocation l order free accepted linked closed.
-    remains_closed cs file order accepted invocation free l linked closed
+returns-clause-remains c = λ cs file invocation l order accepted linked closed. remains_closed cs file order accepted invocation l linked closed
