@@ -1,8 +1,11 @@
+-- faults and sizes of targets
 pub mod Worlds
 pub mod Sizes
+pub mod Accepted
+-- what a call site runs, through every change
+pub mod Turns
 pub mod Walks
 pub mod Known
-pub mod Turns
 pub mod Invoked
+-- threads
 pub mod Crossing
-pub mod Accepted

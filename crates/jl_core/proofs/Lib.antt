@@ -1,16 +1,20 @@
+-- the links and the index behind an event
 pub mod KeptLaws
 pub mod InstallLaws
 pub mod RetireLaws
-pub mod StepLaws
 pub mod RetireSteps
+pub mod StepLaws
+-- the log, and what a core is after any events
 pub mod LogLaws
 pub mod ToldLaws
 pub mod HistoryLaws
-pub mod HeadlineLaws
-pub mod Rows
-pub mod SlotLaws
-pub mod FollowLaws
-pub mod PlanLaws
-pub mod ReplayLaws
 pub mod WorkLaws
+pub mod HeadlineLaws
+-- a planned event: its slots, and the instance that is behind
+pub mod SlotLaws
+pub mod PlanLaws
+pub mod FollowLaws
+pub mod ReplayLaws
+-- threads, and worked cores
 pub mod Crossing
+pub mod Rows

@@ -1,10 +1,13 @@
-pub mod Rows
+-- the index: sites by keys, and the bound
 pub mod KeyLists
-pub mod PointLaws
-pub mod TouchLaws
-pub mod IndexLaws
-pub mod BoundLaws
 pub mod ListLaws
+pub mod IndexLaws
+pub mod TouchLaws
+pub mod BoundLaws
+-- what a link rests on, and what an event changes of that
+pub mod PointLaws
 pub mod WayLaws
 pub mod StageLaws
 pub mod TellingLaws
+-- worked rows
+pub mod Rows

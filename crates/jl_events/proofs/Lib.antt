@@ -1,9 +1,12 @@
-pub mod CallSiteLaws
-pub mod ChangeLaws
-pub mod ConstantLaws
+-- verdicts, event by event
 pub mod PlaceLaws
+pub mod CallSiteLaws
 pub mod InstallLaws
 pub mod InstallCounts
+-- an accepted event: what it finds, what it changes, what is kept of it
+pub mod ChangeLaws
+pub mod ConstantLaws
 pub mod AcceptedLaws
 pub mod NextLaws
+-- worked events
 pub mod Rows

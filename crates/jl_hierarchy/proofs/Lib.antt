@@ -1,26 +1,32 @@
-pub mod Records
-pub mod KeptLaws
+-- walks and lists
+pub mod Turns
 pub mod Rising
-pub mod Ancestors
 pub mod Appending
 pub mod Found
+-- what loaders have recorded
+pub mod Records
+pub mod Recents
+pub mod OwnRecords
+-- what holds of classes through every change: the invariant, part by part
+pub mod KeptLaws
+pub mod Ancestors
 pub mod Parents
-pub mod FaultLaws
-pub mod NewClass
-pub mod Chains
-pub mod DefaultLaws
-pub mod Constancy
-pub mod PrintLaws
 pub mod Objects
 pub mod Closed
-pub mod OwnRecords
 pub mod Finals
-pub mod LoaderGone
-pub mod Turns
+pub mod Constancy
+-- a definition, a record more, a loader that goes
+pub mod FaultLaws
+pub mod NewClass
 pub mod NewRecords
-pub mod Recents
+pub mod Growing
+pub mod LoaderGone
+-- methods, superinterface methods, and walks up the superclasses
+pub mod PrintLaws
+pub mod DefaultLaws
+pub mod Chains
 pub mod Lines
+-- marks of methods that a subclass declares again
 pub mod MarkLaws
 pub mod Redeclaring
 pub mod NewMarks
-pub mod Growing

@@ -1,12 +1,16 @@
-pub mod Rows
-pub mod BehindLaws
-pub mod CaughtUp
-pub mod FileLaws
-pub mod SeatLaws
+-- what is read of numbers that a host gives
 pub mod ReadingLaws
 pub mod TargetLaws
-pub mod Crossing
+pub mod FileLaws
+-- what it is shown: links again, waiting sites, renewed numbers
 pub mod ReadAgain
 pub mod GivenLaws
 pub mod AwaitedLaws
 pub mod RenewLaws
+-- a seat, brought up to date
+pub mod BehindLaws
+pub mod CaughtUp
+pub mod SeatLaws
+-- threads, and worked rows
+pub mod Crossing
+pub mod Rows

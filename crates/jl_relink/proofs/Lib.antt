@@ -1,20 +1,26 @@
+-- the link from scratch: receivers, stages, costs
 pub mod RowLaws
 pub mod StageLaws
+pub mod CountLaws
+pub mod Costs
+pub mod OneForAll
+-- preparations
 pub mod BatchLaws
+pub mod WideLaws
+-- what stays through an event: classes, call sites, bindings
 pub mod Bindings
 pub mod Loaders
 pub mod Staying
 pub mod WayKeys
 pub mod Paths
-pub mod Untouched
 pub mod Closing
-pub mod KeyLaws
 pub mod InOrder
+-- an event that changes nothing of what a link rests on
+pub mod Untouched
+pub mod KeyLaws
+-- one receiver more
 mod InheritedRuns
 pub mod OneReceiver
-pub mod Costs
-pub mod CountLaws
+-- threads, and worked rows
 pub mod Crossing
 pub mod Rows
-pub mod WideLaws
-pub mod OneForAll

@@ -1,24 +1,30 @@
-pub mod Rows
+-- lists, tests and faults
 pub mod Lists
 pub mod Firsts
 pub mod Bools
+pub mod BySite
+-- ancestors and overriding
 pub mod Ancestors
 pub mod Overrides
 pub mod Walks
-pub mod Orders
 pub mod Grown
+-- one event more: what is there, what is installed
+pub mod Orders
+pub mod Retiring
+pub mod Places
+pub mod ClassCounts
 pub mod Settling
 pub mod Installed
 pub mod OneMore
 pub mod Accepting
 pub mod InstalledLinks
+-- links and the answers of calls
 pub mod Agreement
 pub mod SameAnswer
+-- lists of entries, and the table that they write
 pub mod Legal
-pub mod Places
 pub mod Written
 pub mod Emptied
-pub mod ClassCounts
-pub mod Retiring
-pub mod BySite
+-- threads, and worked worlds
 pub mod Crossing
+pub mod Rows
