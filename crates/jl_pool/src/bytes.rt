@@ -5,15 +5,6 @@ ghost use Rattle.jl_pool.specs.Means.Fields.{Finds, number_at, bytes_at, text_at
 
 use byteorder::{BigEndian, ByteOrder};
 
-fn u1_at(bytes: &[u8]) -> Option<(u8, &[u8])>
-    ensures { Finds (λ x. (x.0, x.1.now)) result (number_at 1 bytes.now) }
-{
-    match bytes {
-        [first, rest @ ..] => Some((*first, rest)),
-        [] => None,
-    }
-}
-
 pub fn u2_at(bytes: &[u8]) -> Option<(u16, &[u8])>
     ensures { Finds (λ x. (x.0, x.1.now)) result (number_at 2 bytes.now) }
 {
@@ -56,9 +47,13 @@ pub(crate) fn pair_at(bytes: &[u8]) -> Option<((u16, u16), &[u8])>
 pub(crate) fn handle_at(bytes: &[u8]) -> Option<((u8, u16), &[u8])>
     ensures { Finds (λ x. (x.0, x.1.now)) result (handle_at bytes.now) }
 {
-    let (kind, rest) = u1_at(bytes)?;
-    let (reference, rest) = u2_at(rest)?;
-    Some(((kind, reference), rest))
+    match bytes {
+        [kind, rest @ ..] => {
+            let (reference, rest) = u2_at(rest)?;
+            Some(((*kind, reference), rest))
+        }
+        [] => None,
+    }
 }
 
 /// Bytes behind their count.

@@ -1,6 +1,6 @@
 //! Tests of the constants of a pool.
 
-ghost use Rattle.std.specs.Prelude.{◌≡◌, Option, Some, IsTrue, OnOk, IfErr, MatchBool, ◌&&◌, ◌||◌, [], ◌∷◌, true, false};
+ghost use Rattle.std.specs.Prelude.{◌≡◌, Option, Some, IsTrue, OnOk, IfErr, ◌&&◌, ◌||◌, [], ◌∷◌, true, false};
 ghost use Rattle.std.specs.Option.{option_map_or};
 ghost use Rattle.jl_pool.specs.Constants.{handle_tags};
 ghost use Rattle.jl_pool.specs.declared.pool_fault.PoolFault.{PoolFault};
@@ -85,8 +85,8 @@ impl Pool {
             return Ok(());
         }
         for number in 0..self.count() {
-            if let Some(constant) = self.constant(number) {
-                if !has_text(&constant) {
+            if let Some(Constant::Utf8(text)) = self.constant(number) {
+                if !is_text(text.as_bytes()) {
                     return Err(PoolFault::BadUtf8(number));
                 }
             }
@@ -164,23 +164,16 @@ impl Pool {
     }
 
     /// Whether the text at a number is a class name or the descriptor of an array.
+    #[tactic(auto, unfolding(crate::specs::Means::Forms::form_of))]
     fn is_class_text(&self, number: u16) -> bool
         ensures { result ≡ option_map_or is_class_text (text_at self.now number) false }
     {
-        match self.utf8(number) {
-            Some(text) => names_class(text.as_slice(), self.form(number)),
-            None => false,
+        match (self.utf8(number), self.form(number)) {
+            (Some(text), Some(form)) => {
+                form.class_name || (form.field && begins_array(text.as_slice()))
+            }
+            _ => false,
         }
-    }
-}
-
-/// Whether a Utf8 is modified UTF-8.
-fn has_text(constant: &Constant<'_>) -> bool
-    ensures { MatchBool result (HasText constant.now) (¬ HasText constant.now) }
-{
-    match constant {
-        Constant::Utf8(text) => is_text(text.as_bytes()),
-        _ => true,
     }
 }
 
@@ -210,18 +203,6 @@ fn is_descriptor(form: Option<Form>) -> bool
 {
     match form {
         Some(form) => form.field | form.slots.is_some(),
-        None => false,
-    }
-}
-
-/// Whether a text of this form is a class name or the descriptor of an array.
-#[tactic(auto, unfolding(crate::specs::Means::Forms::form_of))]
-fn names_class(text: &[u8], form: Option<Form>) -> bool
-    requires { form ≡ Some (form_of text.now) }
-    ensures { result ≡ is_class_text text.now }
-{
-    match form {
-        Some(form) => form.class_name || (form.field && begins_array(text)),
         None => false,
     }
 }

@@ -1,6 +1,6 @@
 //! What a pool keeps of its constants.
 
-ghost use Rattle.std.specs.Prelude.{◌≡◌, ◌+◌, ◌<◌, ◌≤◌, ◌^◌, length, take, drop, true, false};
+ghost use Rattle.std.specs.Prelude.{◌≡◌, ◌+◌, ◌<◌, ◌≤◌, ◌^◌, length, drop, true, false};
 ghost use Rattle.std.specs.Option.{option_and_then};
 ghost use Rattle.byteorder.specs.Endian.{big_number};
 ghost use Rattle.jl_pool.specs.Pools.{text_of};
@@ -81,7 +81,10 @@ pub(crate) fn constant_in(block: &[u8], entry: KeptConstant) -> Option<Constant<
 {
     match entry {
         KeptConstant::Nothing => None,
-        KeptConstant::Utf8(at, len, _) => Some(Constant::Utf8(Text::of(bytes_in(block, at, len)))),
+        KeptConstant::Utf8(at, len, _) => {
+            let at = at as usize;
+            Some(Constant::Utf8(Text::of(&block[at..at + usize::from(len)])))
+        }
         KeptConstant::Integer(bits) => Some(Constant::Integer(bits)),
         KeptConstant::Float(bits) => Some(Constant::Float(bits)),
         KeptConstant::Long(at) => Some(Constant::Long(bits_in(block, at))),
@@ -105,15 +108,6 @@ pub(crate) fn constant_in(block: &[u8], entry: KeptConstant) -> Option<Constant<
         KeptConstant::Module(name) => Some(Constant::Module(name)),
         KeptConstant::Package(name) => Some(Constant::Package(name)),
     }
-}
-
-/// So many bytes of the block from here on.
-fn bytes_in(block: &[u8], at: u32, len: u16) -> &[u8]
-    requires { at + len ≤ length block.now }
-    ensures { result.now ≡ take len (drop at block.now) }
-{
-    let at = at as usize;
-    &block[at..at + usize::from(len)]
 }
 
 /// The number of eight bytes in the block from here on.

@@ -67,9 +67,8 @@ impl Model for Pool {
 }
 
 impl Pool {
-    ghost use Rattle.std.specs.Prelude.{if◌then◌else◌, MatchOption, IfSome};
+    ghost use Rattle.std.specs.Prelude.{MatchOption, IfSome};
     ghost use Rattle.std.specs.Option.{IsSomeAnd};
-    ghost use Rattle.jl_names.specs.ClassNames.{is_class_name};
     ghost use Rattle.jl_names.specs.MethodTypes.{IsMethodDescriptor, TakesSlots};
     ghost use Rattle.jl_pool.specs.Pools.{places, pool_text, IsSoundPool, constant_at as standing_at, named_descriptor, class_text_at, class_at};
     ghost use Rattle.jl_pool.specs.Pools.{both, signed_at, reference, reference_at, call_site_at};
@@ -171,22 +170,15 @@ impl Pool {
     }
 
     /// The name of the Class at a number, where it is no array's.
+    #[tactic(auto, unfolding(crate::specs::Means::Forms::form_of))]
     pub fn class_name(&self, number: u16) -> Option<LentName<'_>>
         ensures { result ≡ class_at self.now number }
     {
         match self.entry(number) {
-            KeptConstant::Class(name) => self.text_if_class_name(name),
-            _ => None,
-        }
-    }
-
-    /// The text of the Utf8 at a number, where it is a class name.
-    #[tactic(auto, unfolding(crate::specs::Means::Forms::form_of))]
-    fn text_if_class_name(&self, number: u16) -> Option<LentName<'_>>
-        ensures { result ≡ option_and_then (λ text. if is_class_name text then Some text else None) (text_at self.now number) }
-    {
-        match self.form(number) {
-            Some(form) if form.class_name => self.utf8(number),
+            KeptConstant::Class(name) => match self.form(name) {
+                Some(form) if form.class_name => self.utf8(name),
+                _ => None,
+            },
             _ => None,
         }
     }
@@ -468,23 +460,16 @@ fn push_entry(entries: &mut Vec<KeptConstant>, entry: KeptConstant) -> Result<u1
     Ok(1)
 }
 
-/// Whether these bytes begin with a text that has an odd byte and is no modified UTF-8.
+/// Whether these bytes, which have an odd byte, don't begin with a tag, a count and so many bytes that are modified UTF-8.
 fn is_bad_text(odd: bool, bytes: &[u8]) -> bool
     ensures { result ≡ false → odd ≡ true → BeginsText bytes.now }
 {
-    odd && !begins_text(bytes)
-}
-
-/// Whether these bytes begin with a tag, a count and so many bytes that are modified UTF-8.
-fn begins_text(bytes: &[u8]) -> bool
-    ensures { result ≡ true → BeginsText bytes.now }
-{
     match bytes {
-        [_, rest @ ..] => match text_at(rest) {
-            Some((text, _)) => is_text(text),
-            None => false,
+        [_, rest @ ..] if odd => match text_at(rest) {
+            Some((text, _)) => !is_text(text),
+            None => true,
         },
-        [] => false,
+        _ => odd,
     }
 }
 
