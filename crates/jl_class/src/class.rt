@@ -158,20 +158,6 @@ impl Model for KeptMethods {
     ghost invariant = { λ k. (length k.methods < 2 ^ 16) × AreMethodsKept k.pool k.sites.items k.methods };
 }
 
-impl KeptMethods {
-    /// The methods, in the file's order: fewer than 65,536.
-    fn lent(&self) -> Methods<'_>
-        ensures methods { result ≡ self.now }
-        ensures few { length result < 2 ^ 16 }
-    {
-        Methods {
-            pool: &self.pool,
-            sites: &self.sites,
-            kept: self.methods.as_slice(),
-        }
-    }
-}
-
 /// What is kept of a class file (JVMS SE 17 §4.1): its name, access flags, superclass (java/lang/Object alone has
 /// none), direct superinterfaces, nest host and nest members as the file names them (§4.7.28, §4.7.29), and methods,
 /// in file order. Each text is in modified UTF-8. What it answers is lent, and takes no memory.
@@ -307,7 +293,12 @@ impl ClassFile {
         ensures methods { result ≡ self.now.methods }
         ensures few { length result < 2 ^ 16 }
     {
-        self.kept.lent()
+        let kept = &*self.kept;
+        Methods {
+            pool: &kept.pool,
+            sites: &kept.sites,
+            kept: kept.methods.as_slice(),
+        }
     }
 }
 

@@ -1,7 +1,7 @@
 //! Instructions (JVMS SE 17 §6.5).
 
 ghost use Rattle.std.specs.Prelude.{◌≡◌};
-ghost use Rattle.jl_code.specs.Known.{plain_opcodes, wide_opcodes, invoke_rows};
+ghost use Rattle.jl_code.specs.Known.{plain_opcodes, invoke_rows};
 ghost use Rattle.jl_code.specs.Instructions.{operands_in, tail_in, from_least};
 ghost use Rattle.jl_pool.specs.Means.Fields.{Finds};
 ghost use Rattle.jl_code.specs.Means.Instructions.{Gives, invocation_at, plain_at, fixed_at, wide_at, padding_at, head_at, table_switch_at};
@@ -46,17 +46,6 @@ fn operand_count(opcode: u8) -> Option<u8>
         17 | 19..=20 | 132 | 153..=168 | 178..=181 | 187 | 189 | 192..=193 | 198..=199 => Some(2),
         197 => Some(3),
         200..=201 => Some(4),
-        _ => None,
-    }
-}
-
-/// How many operand bytes an instruction has behind a wide.
-fn wide_operand_count(opcode: u8) -> Option<u8>
-    ensures { result ≡ operands_in wide_opcodes opcode }
-{
-    match opcode {
-        21..=25 | 54..=58 | 169 => Some(2),
-        132 => Some(4),
         _ => None,
     }
 }
@@ -112,29 +101,23 @@ fn wide_at(bytes: &[u8]) -> Result<(Instruction<'_>, &[u8]), Stop>
         return Err(Stop::Cut);
     };
     let opcode = *opcode;
-    let Some(count) = wide_operand_count(opcode) else {
-        return Err(Stop::Opcode);
+    let count = match opcode {
+        21..=25 | 54..=58 | 169 => 2,
+        132 => 4,
+        _ => return Err(Stop::Opcode),
     };
-    let Some((operands, rest)) = bytes_at(usize::from(count), rest) else {
+    let Some((operands, rest)) = bytes_at(count, rest) else {
         return Err(Stop::Cut);
     };
     Ok((Instruction::Wide(opcode, Text::of(operands)), rest))
 }
 
-/// The padding of a switch up to a multiple of 4 from the code's start, and what comes after it.
-#[tactic(auto, unfolding(crate::specs::Means::Instructions::padding_at))]
-fn padding_at(pc: u16, bytes: &[u8]) -> Option<(&[u8], &[u8])>
-    ensures { Finds (λ x. (x.0.now, x.1.now)) result (padding_at pc bytes.now) }
-{
-    bytes_at(3 - usize::from(pc % 4), bytes)
-}
-
-/// The padding of a switch, its default, and low or the number of pairs, and what comes after them.
-#[tactic(auto, unfolding(crate::specs::Means::Instructions::head_at))]
+/// The padding of a switch up to a multiple of 4 from the code's start, its default, and low or the number of pairs, and what comes after them.
+#[tactic(auto, unfolding(crate::specs::Means::Instructions::head_at, crate::specs::Means::Instructions::padding_at))]
 fn head_at(pc: u16, bytes: &[u8]) -> Option<((Text<'_>, u32, u32), &[u8])>
     ensures { Finds (λ x. (x.0, x.1.now)) result (head_at pc bytes.now) }
 {
-    let (padding, rest) = padding_at(pc, bytes)?;
+    let (padding, rest) = bytes_at(3 - usize::from(pc % 4), bytes)?;
     let (default, rest) = u4_at(rest)?;
     let (number, rest) = u4_at(rest)?;
     Some(((Text::of(padding), default, number), rest))

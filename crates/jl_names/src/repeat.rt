@@ -5,7 +5,7 @@ ghost use Rattle.std.specs.HashMap.{get_by};
 ghost use Rattle.std.specs.Str.{bytes_eq};
 ghost use Rattle.std.specs.Option.{unwrap_or};
 ghost use Rattle.jl_names.specs.Repeats.{IsFirstRepeat, NoRepeat};
-ghost use Rattle.jl_names.specs.Means.Repeats.{Numbers, number_at, numbers_of, IsFirstAgain, NoneAgain};
+ghost use Rattle.jl_names.specs.Means.Repeats.{Numbers, numbers_of, IsFirstAgain, NoneAgain};
 
 use std::alloc::{AllocError, Global};
 use std::collections::{HashMap, HashSet};
@@ -87,12 +87,7 @@ fn first_again(
 fn numbers_of(numbers: &[Option<usize>], pair: (u16, u16)) -> Option<(usize, usize)>
     ensures { result ≡ numbers_of numbers.now pair }
 {
-    Some((number_at(numbers, pair.0)?, number_at(numbers, pair.1)?))
-}
-
-/// The number that stands at this place.
-fn number_at(numbers: &[Option<usize>], place: u16) -> Option<usize>
-    ensures { result ≡ number_at numbers.now place }
-{
-    *numbers.get(usize::from(place))?
+    let first = *numbers.get(usize::from(pair.0))?;
+    let second = *numbers.get(usize::from(pair.1))?;
+    Some((first?, second?))
 }
