@@ -1,21 +1,18 @@
 //! Fields and methods: their names, descriptors, flags and attributes.
 
-ghost use Rattle.std.specs.Prelude.{◌≡◌, ◌<◌, ◌+◌, ◌^◌, ◌≤◌, ◌≢◌, ◌∷◌, [], ◌&&◌, ℕ, List, Some, not, length, slice_get, true, false};
+ghost use Rattle.std.specs.Prelude.{◌≡◌, ◌<◌, ◌+◌, ◌^◌, ◌≤◌, ◌≢◌, ◌∷◌, [], ◌&&◌, ℕ, List, Some, length, slice_get, true, false};
 ghost use Rattle.std.specs.Prelude.{IfSome, All, OnOk, IfErr, MatchBool, MatchOption};
-ghost use Rattle.std.specs.Option.{option_map_or};
 ghost use Rattle.std.specs.List.{AllByRecursion, Contains};
-ghost use Rattle.std.specs.Str.{byte};
-ghost use Rattle.std.specs.Prelude.{◌==◌, ◌||◌, nat_le};
-ghost use Rattle.jl_names.specs.ClassNames.{is_unqualified};
+ghost use Rattle.std.specs.Prelude.{◌==◌, ◌||◌};
 ghost use Rattle.jl_classfile.specs.declared.body.Attribute.{Attribute};
 ghost use Rattle.jl_classfile.specs.declared.fault.ClassFault.TheVariants.{BadLink, Memory};
 ghost use Rattle.jl_pool.specs.Pools.{text_at};
-ghost use Rattle.jl_classfile.specs.Conditions.{one_if, IsTextNumber, is_method_name, are_method_flags, flags_fit, attributes_of, is_text, Members};
+ghost use Rattle.jl_classfile.specs.Conditions.{IsTextNumber, is_method_name, are_method_flags, flags_fit, attributes_of, Members};
 ghost use Rattle.jl_class.specs.Flags.{has_flag, PUBLIC, PRIVATE, PROTECTED, STATIC};
 ghost use Rattle.jl_classfile.specs.declared.body.Member.{Member};
 ghost use Rattle.jl_classfile.specs.Faults.{MembersFault};
-ghost use Rattle.jl_pool.specs.Means.Forms.{form_of, is_field};
-ghost use Rattle.jl_classfile.specs.Means.Members.{on_text, field_fits, takes_few, method_fits, is_at, FieldTested, MethodTested, IsFieldFault};
+ghost use Rattle.jl_pool.specs.Means.Forms.{form_of};
+ghost use Rattle.jl_classfile.specs.Means.Members.{on_text, field_fits, method_fits, is_at, FieldTested, MethodTested, IsFieldFault};
 ghost use Rattle.jl_classfile.specs.Means.Members.{IsMethodFault};
 
 use crate::body::{Attribute, Attributes, Body, Member};
@@ -53,33 +50,17 @@ pub fn check_attribute_names(pool: &Pool, attributes: &Attributes<'_>) -> Result
     Ok(())
 }
 
-/// Whether a name without a reserved byte stands at a number, or no text.
-#[tactic(auto, unfolding(crate::specs::Means::Members::form_of))]
-fn is_unqualified_at(pool: &Pool, number: u16) -> bool
-    ensures { result ≡ on_text is_unqualified (text_at pool.now number) }
-{
-    match pool.form(number) {
-        Some(form) => form.unqualified,
-        None => true,
-    }
-}
-
-/// Whether a field's descriptor stands at a number, or no text.
-#[tactic(auto, unfolding(crate::specs::Means::Members::form_of))]
-fn is_field_at(pool: &Pool, number: u16) -> bool
-    ensures { result ≡ on_text is_field (text_at pool.now number) }
-{
-    match pool.form(number) {
-        Some(form) => form.field,
-        None => true,
-    }
-}
-
 /// Whether the name and descriptor of a field may be so (JVMS SE 17 §4.5).
+#[tactic(auto, unfolding(crate::specs::Means::Members::form_of))]
 fn field_fits(pool: &Pool, field: &Member<'_>) -> bool
     ensures { result ≡ field_fits pool.now field.now }
 {
-    is_unqualified_at(pool, field.name) && is_field_at(pool, field.descriptor)
+    match (pool.form(field.name), pool.form(field.descriptor)) {
+        (Some(name), Some(descriptor)) => name.unqualified && descriptor.field,
+        (Some(name), None) => name.unqualified,
+        (None, Some(descriptor)) => descriptor.field,
+        (None, None) => true,
+    }
 }
 
 /// Whether a method may be called so: `<` and `>` stand in `<init>` and `<clinit>` alone (§4.2.2).
@@ -92,33 +73,17 @@ fn is_method_name(name: &[u8], form: Form) -> bool
         && (name == b"<init>".as_slice() || name == b"<clinit>".as_slice() || form.plain)
 }
 
-/// How many of PUBLIC, PRIVATE and PROTECTED are set.
-fn access_count(flags: u16) -> u8
-    ensures { result ≡ one_if (has_flag flags PUBLIC) + (one_if (has_flag flags PRIVATE) + one_if (has_flag flags PROTECTED)) }
-{
-    u8::from(has_flag(flags, PUBLIC))
-        + (u8::from(has_flag(flags, PRIVATE)) + u8::from(has_flag(flags, PROTECTED)))
-}
-
 /// Whether a method may have these flags: at most one of PUBLIC, PRIVATE and PROTECTED, ABSTRACT without PRIVATE and
 /// STATIC, and in an interface PUBLIC or PRIVATE (§4.6).
 fn are_method_flags(interface: bool, flags: u16) -> bool
     ensures { result ≡ are_method_flags interface flags }
 {
+    let public = has_flag(flags, PUBLIC);
     let private = has_flag(flags, PRIVATE);
-    access_count(flags) <= 1
+    let protected = has_flag(flags, PROTECTED);
+    u8::from(public) + (u8::from(private) + u8::from(protected)) <= 1
         && (!has_flag(flags, ABSTRACT) || (!private && !has_flag(flags, STATIC)))
-        && (!interface || has_flag(flags, PUBLIC) || private)
-}
-
-/// Whether the slots of a method's parameters fit, with the receiver's unless it is static.
-fn slots_fit(flags: u16, form: Form) -> bool
-    ensures { result ≡ option_map_or (λ n. nat_le (n + one_if (not (has_flag flags STATIC))) 255) form.slots false }
-{
-    match form.slots {
-        Some(slots) => slots < 255 || has_flag(flags, STATIC),
-        None => false,
-    }
+        && (!interface || public || private)
 }
 
 /// Whether the name and flags of a method may be so. `<clinit>` may have any flags.
@@ -137,31 +102,20 @@ fn name_fits(pool: &Pool, interface: bool, method: &Member<'_>) -> bool
     }
 }
 
-/// Whether the descriptor of a method may be so.
+/// Whether a method may be so (JVMS SE 17 §4.6). Its parameters take 255 slots at most, with the receiver's unless it is static.
 #[tactic(auto, unfolding(crate::specs::Means::Members::form_of))]
-fn descriptor_fits(pool: &Pool, method: &Member<'_>) -> bool
-    ensures { result ≡ on_text (takes_few method.now.flags) (text_at pool.now method.now.descriptor) }
-{
-    match pool.form(method.descriptor) {
-        Some(form) => slots_fit(method.flags, form),
-        None => true,
-    }
-}
-
-/// Whether a method may be so (JVMS SE 17 §4.6).
 fn method_fits(pool: &Pool, interface: bool, method: &Member<'_>) -> bool
     ensures { result ≡ method_fits pool.now interface method.now }
 {
-    name_fits(pool, interface, method) && descriptor_fits(pool, method)
-}
-
-/// Whether the attribute is called so.
-fn is_called(pool: &Pool, name: &[u8], attribute: &Attribute<'_>) -> bool
-    ensures { result ≡ is_text pool.now attribute.now.name name.now }
-{
-    match pool.utf8(attribute.name) {
-        Some(text) => text.as_slice() == name,
-        None => false,
+    if !name_fits(pool, interface, method) {
+        return false;
+    }
+    match pool.form(method.descriptor) {
+        Some(form) => match form.slots {
+            Some(slots) => slots < 255 || has_flag(method.flags, STATIC),
+            None => false,
+        },
+        None => true,
     }
 }
 
@@ -176,8 +130,9 @@ pub fn first_called<'a>(
 {
     let mut rest = attributes.all();
     while let Some((attribute, after)) = rest.split_first() {
-        if is_called(pool, name, &attribute) {
-            return Some((attribute, after));
+        match pool.utf8(attribute.name) {
+            Some(text) if text.as_slice() == name => return Some((attribute, after)),
+            _ => {}
         }
         rest = after;
     }

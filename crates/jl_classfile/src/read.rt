@@ -1,7 +1,6 @@
 //! Reads a class file, pass after pass.
 
 ghost use Rattle.std.specs.Prelude.{◌<◌, ◌≤◌, ◌^◌, ◌≡◌, ◌≢◌, length, map, [], slice_get, All, List, ℕ, Some, IsTrue, IfOk, OnOk, IfErr, MatchBool};
-ghost use Rattle.std.specs.Option.{option_and_then, unwrap_or};
 ghost use Rattle.jl_classfile.specs.declared.fault.ClassFault.{ClassFault};
 ghost use Rattle.jl_classfile.specs.Parts.{Parts};
 ghost use Rattle.jl_classfile.specs.ClassFiles.{IsClass};
@@ -139,30 +138,6 @@ fn kept_class_if_any(alloc: Global, pool: &Pool, number: u16) -> Result<Option<N
     }
 }
 
-/// The name of the nest host, kept, if the class has one.
-fn kept_host(alloc: Global, pool: &Pool, host: Option<u16>) -> Result<Option<Name>, AllocError>
-    ensures { IfOk result (λ name. name ≡ option_and_then (class_at pool.now) host) }
-{
-    match host {
-        Some(number) => kept_class_if_any(alloc, pool, number),
-        None => Ok(None),
-    }
-}
-
-/// The names of the nest members, kept, none where the class lists none.
-fn kept_members(
-    alloc: Global,
-    pool: &Pool,
-    members: &Option<Seq<u16>>,
-) -> Result<Seq<Name>, AllocError>
-    ensures { IfOk result (λ names. names ≡ map (name_or_nothing pool.now) (unwrap_or members.now [])) }
-{
-    match members {
-        Some(numbers) => kept_classes(alloc, pool, numbers.as_slice()),
-        None => Ok(Seq::of(Vec::new(alloc))),
-    }
-}
-
 /// A method, whose invocations are added.
 fn method_of(
     pool: &Pool,
@@ -247,8 +222,14 @@ fn names_of(
         name: kept_class(alloc, pool, body.this_class)?,
         superclass: kept_class_if_any(alloc, pool, body.super_class)?,
         interfaces: kept_classes(alloc, pool, body.interfaces.as_slice())?,
-        nest_host: kept_host(alloc, pool, nest.host)?,
-        nest_members: kept_members(alloc, pool, &nest.members)?,
+        nest_host: match nest.host {
+            Some(number) => kept_class_if_any(alloc, pool, number)?,
+            None => None,
+        },
+        nest_members: match &nest.members {
+            Some(numbers) => kept_classes(alloc, pool, numbers.as_slice())?,
+            None => Seq::of(Vec::new(alloc)),
+        },
     })
 }
 

@@ -84,14 +84,7 @@ fn print_onto(before: u64, pool: &Pool, number: u16) -> u64
     }
 }
 
-/// The print of a method's name and descriptor, which is the same for methods that share both.
-fn print_of(pool: &Pool, method: &Member<'_>) -> u64
-    ensures { result ≡ print_of pool.now method.now }
-{
-    print_onto(print_onto(0, pool, method.name), pool, method.descriptor)
-}
-
-/// The prints of methods, in order.
+/// The prints of the names and descriptors of methods, in order: the same for methods that share both.
 fn prints_of(alloc: Global, pool: &Pool, methods: &[Member<'_>]) -> Result<Vec<u64>, ClassFault>
     ensures ok { IfOk result (λ prints. prints.items ≡ map (print_of pool.now) methods.now) }
     ensures fault { IfErr result (λ f. f ≡ Memory) }
@@ -99,7 +92,7 @@ fn prints_of(alloc: Global, pool: &Pool, methods: &[Member<'_>]) -> Result<Vec<u
     Ok(
         methods
             .iter()
-            .map(|method| print_of(pool, method))
+            .map(|m| print_onto(print_onto(0, pool, m.name), pool, m.descriptor))
             .collect(alloc)?,
     )
 }
