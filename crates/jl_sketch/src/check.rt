@@ -20,18 +20,11 @@ pub(crate) fn has_code(flags: u16) -> bool
     !has_flag(flags, ABSTRACT) && !has_flag(flags, NATIVE)
 }
 
-/// Whether a method has calls, but no code for them.
-fn calls_without_code(method: &SketchMethod) -> bool
-    ensures { result ≡ calls_without_code method.now }
-{
-    !has_code(method.flags) && !method.calls.as_slice().is_empty()
-}
-
 /// The first method that has calls, but no code for them.
 pub(crate) fn first_without_code(methods: &[SketchMethod]) -> Option<usize>
     ensures { result ≡ position calls_without_code methods.now }
 {
-    methods.iter().position(calls_without_code)
+    methods.iter().position(|method| !has_code(method.flags) && !method.calls.as_slice().is_empty())
 }
 
 /// Whether there are more than 65,535.
@@ -109,21 +102,16 @@ fn is_one_method_long(methods: &[SketchMethod]) -> bool
     methods.iter().any(is_long_method)
 }
 
-/// Whether there are too many methods, or one of them has something too long.
-fn are_long_methods(methods: &[SketchMethod]) -> bool
-    ensures { result ≡ (is_long methods.now || list_any is_long_method methods.now) }
-{
-    is_long(methods) || is_one_method_long(methods)
-}
-
 /// Whether a text or a list of the sketch is too long.
 pub(crate) fn is_long_sketch(sketch: &Sketch) -> bool
     ensures { result ≡ is_long_sketch sketch.now }
 {
+    let methods = sketch.methods.as_slice();
     is_long_name(&sketch.name)
         || is_long_if_any(&sketch.superclass)
         || are_long(sketch.interfaces.as_slice())
-        || are_long_methods(sketch.methods.as_slice())
+        || is_long(methods)
+        || is_one_method_long(methods)
         || is_long_if_any(&sketch.host)
         || are_long(sketch.members.as_slice())
 }

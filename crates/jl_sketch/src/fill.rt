@@ -1,8 +1,8 @@
 //! Fills the pool: each constant behind its parts (JVMS SE 17 §4.4).
 
 ghost use Rattle.std.specs.Prelude.{◌≡◌, fold, IfOk, OnOk};
-ghost use Rattle.jl_sketch.specs.Constants.{with_text, with_class, with_signed, with_method, with_call_site, with_call, with_declared};
-ghost use Rattle.jl_sketch.specs.Constants.{with_class_if_any, with_host, with_members, with_classes, sketch_constants};
+ghost use Rattle.jl_sketch.specs.Constants.{with_text, with_class, with_signed, with_method, with_call, with_declared};
+ghost use Rattle.jl_sketch.specs.Constants.{with_class_if_any, with_host, with_members, sketch_constants};
 
 use crate::check::has_code;
 use crate::constants::{Constants, NewConstant};
@@ -59,13 +59,6 @@ impl<'a> Constants<'a> {
         self.enter(self.method(itf, method))
     }
 
-    fn enter_call_site(&mut self, name: &'a Name, ty: &'a Name) -> Result<(), AllocError>
-        ensures { OnOk result (self.new ≡ with_call_site self.old name.now ty.now) }
-    {
-        self.enter_signed(name, ty)?;
-        self.enter(self.call_site(name, ty))
-    }
-
     fn enter_call(&mut self, call: &'a Call) -> Result<(), AllocError>
         ensures { OnOk result (self.new ≡ with_call self.old call.now) }
     {
@@ -74,7 +67,10 @@ impl<'a> Constants<'a> {
             Call::Special(itf, method) => self.enter_method(*itf, method),
             Call::Static(itf, method) => self.enter_method(*itf, method),
             Call::Interface(method) => self.enter_method(true, method),
-            Call::Dynamic(name, ty) => self.enter_call_site(name, ty),
+            Call::Dynamic(name, ty) => {
+                self.enter_signed(name, ty)?;
+                self.enter(self.call_site(name, ty))
+            }
         }
     }
 
@@ -127,21 +123,14 @@ impl<'a> Constants<'a> {
         self.enter_classes(members)
     }
 
-    /// Enters this class, its superclass and its interfaces.
-    fn enter_supertypes(&mut self, sketch: &'a Sketch) -> Result<(), AllocError>
-        ensures { OnOk result (self.new ≡ with_classes self.old sketch.now) }
-    {
-        self.enter_class(&sketch.name)?;
-        self.enter_class_if_any(&sketch.superclass)?;
-        self.enter_classes(sketch.interfaces.as_slice())
-    }
-
     /// The constants of a sketch.
     pub(crate) fn of(alloc: Global, sketch: &'a Sketch) -> Result<Self, AllocError>
         ensures { IfOk result (λ constants. constants ≡ sketch_constants sketch.now) }
     {
         let mut constants = Constants::new(alloc);
-        constants.enter_supertypes(sketch)?;
+        constants.enter_class(&sketch.name)?;
+        constants.enter_class_if_any(&sketch.superclass)?;
+        constants.enter_classes(sketch.interfaces.as_slice())?;
         constants.enter_methods(sketch.methods.as_slice())?;
         constants.enter_host(&sketch.host)?;
         constants.enter_members(sketch.members.as_slice())?;

@@ -68,20 +68,15 @@ fn push_pair(out: &mut Vec<u8>, tag: u8, first: usize, second: usize) -> Result<
     push_u2(out, second)
 }
 
-/// Appends a Utf8.
-fn push_text(out: &mut Vec<u8>, text: &[u8]) -> Result<(), AllocError>
-    ensures { OnOk result (out.new.items ≡ out.old.items ++ 1 ∷ (u2 (length text.now) ++ text.now)) }
-{
-    push_naming(out, 1, text.len())?;
-    out.extend_from_slice(text)
-}
-
 /// Appends a constant.
 fn push_constant(out: &mut Vec<u8>, entry: &NewConstant<'_>) -> Result<(), AllocError>
     ensures { OnOk result (out.new.items ≡ out.old.items ++ constant_text (constant_of entry.now)) }
 {
     match entry {
-        NewConstant::Utf8(text) => push_text(out, text),
+        NewConstant::Utf8(text) => {
+            push_naming(out, 1, text.len())?;
+            out.extend_from_slice(text)
+        }
         NewConstant::Class(name) => push_naming(out, 7, *name),
         NewConstant::NameAndType(name, ty) => push_pair(out, 12, *name, *ty),
         NewConstant::Methodref(owner, signed) => push_pair(out, 10, *owner, *signed),

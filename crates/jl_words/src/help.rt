@@ -1,7 +1,7 @@
 //! Whether the words of the program ask for help, and on what.
 
 ghost use Rattle.std.specs.Prelude.{◌≡◌, map, string_bytes};
-ghost use Rattle.jl_words.specs.Help.{topic_of, first_topic, has_flag, has_help_first, takes_help};
+ghost use Rattle.jl_words.specs.Help.{topic_of, first_topic, has_flag, has_help_first};
 ghost use Rattle.jl_words.specs.Help.{asked_behind, help_asked};
 
 /// What a usage is of.
@@ -69,13 +69,6 @@ fn has_help_first(words: &[String]) -> bool
     }
 }
 
-/// Whether the word names a subcommand behind which the word `help` asks for help.
-fn takes_help(word: &str) -> bool
-    ensures { result ≡ takes_help word.now }
-{
-    topic_of(word).is_some() && word != "report"
-}
-
 /// What the words ask for help on that stand behind the program's name.
 fn asked_behind(words: &[String]) -> Option<Topic>
     ensures { result ≡ asked_behind (map string_bytes words.now) }
@@ -83,10 +76,12 @@ fn asked_behind(words: &[String]) -> Option<Topic>
     let Some((word, rest)) = words.split_first() else {
         return Some(Topic::Program);
     };
-    if word.as_str() == "help" {
+    let word = word.as_str();
+    if word == "help" {
         return Some(first_topic(rest));
     }
-    if has_flag(words) || (has_help_first(rest) && takes_help(word.as_str())) {
+    // Behind `report` the word `help` is a path.
+    if has_flag(words) || (has_help_first(rest) && topic_of(word).is_some() && word != "report") {
         return Some(first_topic(words));
     }
     None
