@@ -1,5 +1,5 @@
 -- Worked rows, by computation.
-use Rattle.std.proofs.Common.{◌≡◌, [], ◌∷◌, refl, true, Some, None}
+use Rattle.std.proofs.Common.{◌≡◌, ◌++◌, [], ◌∷◌, refl, true, Some, None}
 use Rattle.std.specs.Prelude.{codes}
 use Rattle.std.specs.Char.Utf16.{utf16_chars}
 use Rattle.std.specs.Fmt.{digits}
@@ -102,6 +102,8 @@ worked_sketch = record {
 }
 
 sketch_text : compact_text (sketch_data name_text worked_sketch)
-    ≡ codes "{\"flags\":1,\"interfaces\":[],\"members\":[\"B\"],\"methods\":[{\"calls\":[{\"itf\":true,\"kind\":\"invokestatic\",\"name\":\"f\",\"of\":\"A\",\"type\":\"()V\"}],\"flags\":9,\"name\":\"m\",\"type\":\"()V\"}],\"name\":\"M\",\"super\":\"N\"}"
+    ≡ codes "{\"flags\":1,\"interfaces\":[],\"members\":[\"B\"],\"methods\":[{\"calls\":["
+    ++ (codes "{\"itf\":true,\"kind\":\"invokestatic\",\"name\":\"f\",\"of\":\"A\",\"type\":\"()V\"}"
+    ++ codes "],\"flags\":9,\"name\":\"m\",\"type\":\"()V\"}],\"name\":\"M\",\"super\":\"N\"}")
 unfolding name_text utf16_chars encode digits serde_json_on_literals
 sketch_text = refl

@@ -2,7 +2,6 @@
 
 ghost use Rattle.std.specs.Prelude.{◌≡◌, IfOk};
 ghost use Rattle.serde_json.specs.View.{view};
-ghost use Rattle.jl_types.specs.declared.answer.Unlinked.TheVariants.{NotReady};
 ghost use Rattle.jl_json.specs.CallAnswers.{missing_name, unlinked_data, answer_data};
 
 use crate::link_answer::outcome_value;
@@ -22,20 +21,15 @@ fn missing(missing: Missing) -> &'static str
     }
 }
 
-/// That a class isn't there.
-fn not_ready_value(alloc: Global, class: Missing) -> Result<Value, AllocError>
-    ensures { IfOk result (λ v. view v ≡ unlinked_data (NotReady class)) }
-{
-    let class = missing(class);
-    json!(in alloc; {"unlinked": "NotReady", "wants": class})
-}
-
 /// Why a site has no link.
 fn unlinked_value(alloc: Global, reason: Unlinked) -> Result<Value, AllocError>
     ensures { IfOk result (λ v. view v ≡ unlinked_data reason) }
 {
     match reason {
-        Unlinked::NotReady(class) => not_ready_value(alloc, class),
+        Unlinked::NotReady(class) => {
+            let class = missing(class);
+            json!(in alloc; {"unlinked": "NotReady", "wants": class})
+        }
         Unlinked::Unbound => single_text(alloc, "unlinked", "Unbound"),
         Unlinked::Gone => single_text(alloc, "unlinked", "Gone"),
         Unlinked::NoSite => single_text(alloc, "unlinked", "NoSite"),

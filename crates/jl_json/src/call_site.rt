@@ -4,9 +4,9 @@ ghost use Rattle.std.specs.Prelude.{◌≡◌, ◌^◌, ℕ, List, Some, IfOk};
 ghost use Rattle.serde_json.specs.Data.{Data};
 ghost use Rattle.serde_json.specs.View.{view};
 ghost use Rattle.jl_json.specs.Members.{number_in};
-ghost use Rattle.jl_json.specs.Commands.{kind_in, kind_at};
+ghost use Rattle.jl_json.specs.Commands.{kind_in};
 ghost use Rattle.jl_json.specs.Commands.{is_method_descriptor, method_type_at};
-ghost use Rattle.jl_json.specs.Commands.{new_call_site_of, set_target_of, invalidate_of, bind_of};
+ghost use Rattle.jl_json.specs.Commands.{new_call_site_of, set_target_of, bind_of};
 ghost use Rattle.jl_json.specs.Commands.{by_call_site_word, command_of};
 ghost use Rattle.jl_json.specs.declared.command.Command.TheVariants.{Apply};
 ghost use Rattle.jl_names.specs.MethodTypes.{IsMethodDescriptor};
@@ -33,13 +33,6 @@ fn kind_in(word: &str) -> Option<CallSiteKind>
         "volatile" => Some(CallSiteKind::Volatile),
         _ => None,
     }
-}
-
-/// The kind under the key.
-fn kind_at(value: &Value, key: &str) -> Option<CallSiteKind>
-    ensures { result ≡ kind_at key.now (view value.now) }
-{
-    kind_in(text_at(value, key)?)
 }
 
 /// Whether the text is a method descriptor (JVMS SE 17 §4.3.3).
@@ -78,7 +71,10 @@ impl FromJson for SwitchId {
 fn new_call_site(alloc: Global, value: &Value) -> Result<Option<AskedEvent>, AllocError>
     ensures { IfOk result (λ asked. asked ≡ new_call_site_of (view value.now)) }
 {
-    let Some(kind) = kind_at(value, "kind") else {
+    let Some(word) = text_at(value, "kind") else {
+        return Ok(None);
+    };
+    let Some(kind) = kind_in(word) else {
         return Ok(None);
     };
     let Some(ty) = method_type_at(alloc, value, "type")? else {
@@ -102,16 +98,6 @@ fn set_target(alloc: Global, value: &Value) -> Result<Option<AskedEvent>, AllocE
     };
     let call_site = CallSiteId::new(call_site);
     Ok(Some(AskedEvent::SetTarget(call_site, target)))
-}
-
-/// The event that invalidates switch points.
-fn invalidate(alloc: Global, value: &Value) -> Result<Option<AskedEvent>, AllocError>
-    ensures { IfOk result (λ asked. asked ≡ invalidate_of (view value.now)) }
-{
-    match list_at(alloc, value, "switches")? {
-        Some(switches) => Ok(Some(AskedEvent::Invalidate(switches))),
-        None => Ok(None),
-    }
 }
 
 /// The event that binds a site to a call site.
@@ -138,7 +124,7 @@ pub(crate) fn call_site_event(
         ("callsite", 4) => new_call_site(alloc, value),
         ("target", 3) => set_target(alloc, value),
         ("switch", 1) => Ok(Some(AskedEvent::NewSwitch)),
-        ("invalidate", 2) => invalidate(alloc, value),
+        ("invalidate", 2) => { Ok(list_at(alloc, value, "switches")?.map(AskedEvent::Invalidate)) }
         ("bind", 3) => Ok(bind(value)),
         _ => Ok(None),
     }

@@ -6,7 +6,7 @@ ghost use Rattle.serde_json.specs.Find.{as_object};
 ghost use Rattle.serde_json.specs.View.{view};
 ghost use Rattle.jl_json.specs.Members.{number_in, number_at, text_at, member_count, keys_of, AreAmong};
 ghost use Rattle.jl_json.specs.Commands.{file_at, recv_in, source_of};
-ghost use Rattle.jl_json.specs.Commands.{define_of, delegate_of, request_of, install_of, retire_of, prepare_of, call_of};
+ghost use Rattle.jl_json.specs.Commands.{define_of, delegate_of, request_of};
 ghost use Rattle.jl_json.specs.Commands.{call_on_of, by_event_word, by_word, command_of};
 ghost use Rattle.jl_json.specs.CommandForms.{IsCommand, command_data};
 ghost use Rattle.jl_json.specs.declared.command.Command.{Command};
@@ -174,40 +174,6 @@ fn request(value: &Value) -> Option<AskedEvent>
     Some(AskedEvent::Request(Place { class, method, pc }))
 }
 
-/// The event that installs a batch.
-fn install(value: &Value) -> Option<AskedEvent>
-    ensures { result ≡ install_of (view value.now) }
-{
-    let prepared = number_at(value, "prepared")?;
-    Some(AskedEvent::Install(prepared))
-}
-
-/// The event that retires a loader.
-fn retire(value: &Value) -> Option<AskedEvent>
-    ensures { result ≡ retire_of (view value.now) }
-{
-    let loader = number_at(value, "loader")?;
-    Some(AskedEvent::Retire(LoaderId::new(loader)))
-}
-
-/// The command to prepare links.
-fn prepare(alloc: Global, value: &Value) -> Result<Option<Command>, AllocError>
-    ensures { IfOk result (λ command. command ≡ prepare_of (view value.now)) }
-{
-    match list_at(alloc, value, "sites")? {
-        Some(sites) => Ok(Some(Command::Prepare(sites))),
-        None => Ok(None),
-    }
-}
-
-/// The command to call a site on null.
-fn call(value: &Value) -> Option<Command>
-    ensures { result ≡ call_of (view value.now) }
-{
-    let site = number_at(value, "site")?;
-    Some(Command::Call(SiteNo::new(site), Recv::Null))
-}
-
 /// The command to call a site on a receiver.
 fn call_on(value: &Value) -> Option<Command>
     ensures { result ≡ call_on_of (view value.now) }
@@ -239,8 +205,11 @@ fn event_of_word(
         ("define", 3) => define(alloc, value),
         ("delegate", 4) => delegate(alloc, value),
         ("request", 4) => Ok(request(value)),
-        ("install", 2) => Ok(install(value)),
-        ("retire", 2) => Ok(retire(value)),
+        ("install", 2) => Ok(number_at(value, "prepared").map(AskedEvent::Install)),
+        ("retire", 2) => match number_at(value, "loader") {
+            Some(loader) => Ok(Some(AskedEvent::Retire(LoaderId::new(loader)))),
+            None => Ok(None),
+        },
         _ => call_site_event(alloc, value, word, count),
     }
 }
@@ -255,8 +224,11 @@ fn command_of_word(
     ensures { IfOk result (λ command. command ≡ by_word word.now count (view value.now)) }
 {
     match (word, count) {
-        ("prepare", 2) => prepare(alloc, value),
-        ("call", 2) => Ok(call(value)),
+        ("prepare", 2) => Ok(list_at(alloc, value, "sites")?.map(Command::Prepare)),
+        ("call", 2) => match number_at(value, "site") {
+            Some(site) => Ok(Some(Command::Call(SiteNo::new(site), Recv::Null))),
+            None => Ok(None),
+        },
         ("call", 3) => Ok(call_on(value)),
         ("links", 1) => Ok(Some(Command::Links)),
         _ => Ok(event_of_word(alloc, value, word, count)?.map(Command::Apply)),

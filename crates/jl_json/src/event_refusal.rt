@@ -5,7 +5,7 @@ ghost use Rattle.serde_json.specs.Data.{member, no_members, object, string, put 
 ghost use Rattle.serde_json.specs.View.{view, members_view};
 ghost use Rattle.jl_json.specs.Means.NameReading.{name_text};
 ghost use Rattle.jl_json.specs.EventRefusals.{refused, refused_at, refused_bound, refused_for, refused_name, delegate_name, call_site_refusal_data};
-ghost use Rattle.jl_json.specs.EventRefusals.{not_linkable_name, define_refusal_data, refused_class, refused_loader, retire_refusal_data};
+ghost use Rattle.jl_json.specs.EventRefusals.{not_linkable_name, define_refusal_data, retire_refusal_data};
 ghost use Rattle.jl_json.specs.EventRefusals.{event_refusal_data, IsRefusalData};
 ghost use Rattle.jl_json.specs.EventRefusals.{prepare_refusal_data};
 
@@ -14,8 +14,8 @@ use crate::object::single_text;
 use crate::text::text_of;
 use jl_names::Name;
 use jl_types::{
-    CallSiteFault, CallSiteId, ClassId, DefineFault, DelegateFault, Link, LoaderId, NotLinkable,
-    PrepareFault, Refusal, RetireFault, SiteNo,
+    CallSiteFault, CallSiteId, DefineFault, DelegateFault, Link, NotLinkable, PrepareFault,
+    Refusal, RetireFault, SiteNo,
 };
 use serde_json::{Map, Value, put};
 use std::alloc::{AllocError, Global};
@@ -84,20 +84,6 @@ fn refused_bound_value(alloc: Global, fault: &str, bound: CallSiteId) -> Result<
     ensures { IfOk result (λ v. view v ≡ refused_bound fault.now bound) }
 {
     refused_about_value(alloc, fault, "callsite", Value::from(bound.number()))
-}
-
-/// A fault about a class.
-fn refused_class_value(alloc: Global, fault: &str, class: ClassId) -> Result<Value, AllocError>
-    ensures { IfOk result (λ v. view v ≡ refused_class fault.now class) }
-{
-    refused_about_value(alloc, fault, "class", Value::from(class.number()))
-}
-
-/// A fault about a loader.
-fn refused_loader_value(alloc: Global, fault: &str, loader: LoaderId) -> Result<Value, AllocError>
-    ensures { IfOk result (λ v. view v ≡ refused_loader fault.now loader) }
-{
-    refused_about_value(alloc, fault, "loader", Value::from(loader.number()))
 }
 
 /// A fault about a name.
@@ -182,8 +168,14 @@ fn retire_refusal_value(alloc: Global, fault: RetireFault) -> Result<Value, Allo
     match fault {
         RetireFault::UnknownLoader => refused_value(alloc, "Retire.UnknownLoader"),
         RetireFault::FirstLoader => refused_value(alloc, "Retire.FirstLoader"),
-        RetireFault::Inherited(class) => refused_class_value(alloc, "Retire.Inherited", class),
-        RetireFault::Recorded(loader) => refused_loader_value(alloc, "Retire.Recorded", loader),
+        RetireFault::Inherited(class) => {
+            let number = Value::from(class.number());
+            refused_about_value(alloc, "Retire.Inherited", "class", number)
+        }
+        RetireFault::Recorded(loader) => {
+            let number = Value::from(loader.number());
+            refused_about_value(alloc, "Retire.Recorded", "loader", number)
+        }
         RetireFault::Targeted(site) => refused_bound_value(alloc, "Retire.Targeted", site),
     }
 }

@@ -2,14 +2,13 @@
 
 ghost use Rattle.std.specs.Prelude.{◌≡◌, IfOk};
 ghost use Rattle.serde_json.specs.View.{view};
-ghost use Rattle.jl_types.specs.declared.link.Link.TheVariants.{Table};
 ghost use Rattle.jl_json.specs.LinkAnswers as answers;
-ghost use Rattle.jl_json.specs.LinkAnswers.{throwable_data, method_id_data, outcome_data};
+ghost use Rattle.jl_json.specs.LinkAnswers.{method_id_data, outcome_data};
 ghost use Rattle.jl_json.specs.LinkAnswers.{table_kind_name, table_row_data, link_data};
 ghost use Rattle.jl_json.specs.LinkAnswers.{site_link_data, site_links_data};
 ghost use Rattle.jl_json.specs.LinkAnswers.{links_data, farm_data, prepared_data};
 
-use crate::object::{double, pair, single};
+use crate::object::{double, pair, single, single_text};
 use crate::to_json::{ToJson, array_value};
 use jl_types::{ClassId, Link, MethodId, Outcome, SiteNo, TableKind, Throwable};
 use serde_json::Value;
@@ -38,13 +37,6 @@ pub fn table_kind(kind: TableKind) -> &'static str
     }
 }
 
-/// What is thrown, by its name.
-fn throwable_value(alloc: Global, throwable: Throwable) -> Result<Value, AllocError>
-    ensures { IfOk result (λ v. view v ≡ throwable_data throwable) }
-{
-    Value::try_from_str(alloc, throwable_name(throwable))
-}
-
 /// A method.
 fn method_id_value(alloc: Global, method: MethodId) -> Result<Value, AllocError>
     ensures { IfOk result (λ v. view v ≡ method_id_data method) }
@@ -65,7 +57,7 @@ pub fn outcome_value(alloc: Global, outcome: Outcome) -> Result<Value, AllocErro
 {
     match outcome {
         Outcome::Run(method) => single(alloc, "run", method_id_value(alloc, method)?),
-        Outcome::Throws(fault) => single(alloc, "throws", throwable_value(alloc, fault)?),
+        Outcome::Throws(fault) => single_text(alloc, "throws", throwable_name(fault)),
     }
 }
 
@@ -80,20 +72,6 @@ impl ToJson for (ClassId, Outcome) {
     }
 }
 
-/// A table: its kind, and its rows.
-#[tactic(auto, unfolding(crate::specs::LinkAnswers::link_data))]
-fn table_value(
-    alloc: Global,
-    kind: TableKind,
-    rows: &[(ClassId, Outcome)],
-) -> Result<Value, AllocError>
-    ensures { IfOk result (λ v. view v ≡ link_data (Table kind rows.now)) }
-{
-    let rows = array_value(alloc, rows)?;
-    let kind = Value::try_from_str(alloc, table_kind(kind))?;
-    double(alloc, "kind", kind, "table", rows)
-}
-
 /// A link: what the calls of its site come to, by the class of the receiver where that matters.
 ///
 /// # Errors
@@ -104,10 +82,14 @@ pub fn link_value(alloc: Global, link: Link) -> Result<Value, AllocError>
     ensures { IfOk result (λ v. view v ≡ link_data link) }
 {
     match link {
-        Link::Fault(fault) => single(alloc, "fault", throwable_value(alloc, fault)?),
+        Link::Fault(fault) => single_text(alloc, "fault", throwable_name(fault)),
         Link::Plain(method) => single(alloc, "plain", method_id_value(alloc, method)?),
         Link::Direct(outcome) => single(alloc, "direct", outcome_value(alloc, outcome)?),
-        Link::Table(kind, ref table) => table_value(alloc, kind, table.as_slice()),
+        Link::Table(kind, ref table) => {
+            let rows = array_value(alloc, table.as_slice())?;
+            let kind = Value::try_from_str(alloc, table_kind(kind))?;
+            double(alloc, "kind", kind, "table", rows)
+        }
         Link::Mega => single(alloc, "mega", Value::Bool(true)),
     }
 }
@@ -123,23 +105,16 @@ impl ToJson for (SiteNo, Link) {
     }
 }
 
-/// Sites with their links, in order.
-#[tactic(auto, unfolding(crate::specs::LinkAnswers::site_links_data))]
-fn site_links_value(alloc: Global, rows: &[(SiteNo, Link)]) -> Result<Value, AllocError>
-    ensures { IfOk result (λ v. view v ≡ site_links_data rows.now) }
-{
-    array_value(alloc, rows)
-}
-
 /// The answer that lists sites with their links, in the order given.
 ///
 /// # Errors
 ///
 /// Want of memory.
+#[tactic(auto, unfolding(crate::specs::LinkAnswers::site_links_data))]
 pub fn links_value(alloc: Global, links: &[(SiteNo, Link)]) -> Result<Value, AllocError>
     ensures { IfOk result (λ v. view v ≡ links_data links.now) }
 {
-    let links = site_links_value(alloc, links)?;
+    let links = array_value(alloc, links)?;
     single(alloc, "links", links)
 }
 
@@ -148,6 +123,7 @@ pub fn links_value(alloc: Global, links: &[(SiteNo, Link)]) -> Result<Value, All
 /// # Errors
 ///
 /// Want of memory.
+#[tactic(auto, unfolding(crate::specs::LinkAnswers::site_links_data))]
 pub fn farm_value(
     alloc: Global,
     links: &[(SiteNo, Link)],
@@ -155,7 +131,7 @@ pub fn farm_value(
 ) -> Result<Value, AllocError>
     ensures { IfOk result (λ v. view v ≡ farm_data links.now (view reports)) }
 {
-    let links = site_links_value(alloc, links)?;
+    let links = array_value(alloc, links)?;
     double(alloc, "links", links, "reports", reports)
 }
 
@@ -165,6 +141,7 @@ pub fn farm_value(
 /// # Errors
 ///
 /// Want of memory.
+#[tactic(auto, unfolding(crate::specs::LinkAnswers::site_links_data))]
 pub fn prepared_value(
     alloc: Global,
     batch: u32,
@@ -172,6 +149,6 @@ pub fn prepared_value(
 ) -> Result<Value, AllocError>
     ensures { IfOk result (λ v. view v ≡ prepared_data batch rows.now) }
 {
-    let rows = site_links_value(alloc, rows)?;
+    let rows = array_value(alloc, rows)?;
     double(alloc, "prepared", Value::from(batch), "rows", rows)
 }

@@ -1,7 +1,6 @@
 //! The answer to an accepted event.
 
-ghost use Rattle.std.specs.Prelude.{◌≡◌, codes, IfOk};
-ghost use Rattle.serde_json.specs.Data.{member, no_members, object, put as with_member};
+ghost use Rattle.std.specs.Prelude.{◌≡◌, IfOk};
 ghost use Rattle.serde_json.specs.View.{view};
 ghost use Rattle.jl_json.specs.ClassAnswers.{number_data};
 ghost use Rattle.jl_json.specs.Replies.{reply_data};
@@ -21,19 +20,6 @@ impl ToJson for SiteNo {
     }
 }
 
-/// The answer to an event that made something of this number.
-fn numbered_value(
-    alloc: Global,
-    dropped: Value,
-    key: &str,
-    number: u32,
-) -> Result<Value, AllocError>
-    ensures { IfOk result (λ v. view v ≡ object (with_member key.now (number_data number)
-        (member (codes "dropped") (view dropped) no_members))) }
-{
-    double(alloc, "dropped", dropped, key, Value::from(number))
-}
-
 /// The answer to an accepted event: what it gave a number to, and the sites that lost their link.
 ///
 /// # Errors
@@ -46,10 +32,28 @@ pub fn reply_value(alloc: Global, reply: &Reply) -> Result<Value, AllocError>
     let dropped = array_value(alloc, reply.dropped.as_slice())?;
     match reply.made {
         Made::Nothing => single(alloc, "dropped", dropped),
-        Made::Loader(id) => numbered_value(alloc, dropped, "loader", id.number()),
-        Made::Class(id) => numbered_value(alloc, dropped, "class", id.number()),
-        Made::Site(no) => numbered_value(alloc, dropped, "site", no.number()),
-        Made::CallSite(id) => numbered_value(alloc, dropped, "callsite", id.number()),
-        Made::Switch(id) => numbered_value(alloc, dropped, "switch", id.number()),
+        Made::Loader(id) => double(
+            alloc,
+            "dropped",
+            dropped,
+            "loader",
+            Value::from(id.number()),
+        ),
+        Made::Class(id) => double(alloc, "dropped", dropped, "class", Value::from(id.number())),
+        Made::Site(no) => double(alloc, "dropped", dropped, "site", Value::from(no.number())),
+        Made::CallSite(id) => double(
+            alloc,
+            "dropped",
+            dropped,
+            "callsite",
+            Value::from(id.number()),
+        ),
+        Made::Switch(id) => double(
+            alloc,
+            "dropped",
+            dropped,
+            "switch",
+            Value::from(id.number()),
+        ),
     }
 }
