@@ -37,26 +37,20 @@ impl<'a> Drop for Order<'a> {
 impl<'a> Order<'a> {
     /// No file is ordered. Want of memory is an error.
     fn new(alloc: Global, files: &'a [Found]) -> Result<Self, AllocError> {
-        let seen = vec![in alloc; false; files.len()]?;
-        let mut order = Order {
-            files,
-            places: IndexMap::new(alloc),
-            seen,
-            ordered: Vec::new(alloc),
-        };
-        order.add_names()?;
-        Ok(order)
-    }
-
-    /// Notes the first file of each name. Want of memory is an error.
-    fn add_names(&mut self) -> Result<(), AllocError> {
-        for (place, one) in self.files.iter().enumerate() {
+        let mut places = IndexMap::new(alloc);
+        for (place, one) in files.iter().enumerate() {
             let name = one.file.name().as_slice();
-            if self.places.get(name).is_none() {
-                self.places.insert(name, place)?;
+            if places.get(name).is_none() {
+                places.insert(name, place)?;
             }
         }
-        Ok(())
+        let seen = vec![in alloc; false; files.len()]?;
+        Ok(Order {
+            files,
+            places,
+            seen,
+            ordered: Vec::new(alloc),
+        })
     }
 
     /// Orders the file, behind its parents. Want of memory is an error.
@@ -110,17 +104,6 @@ impl<'a> Order<'a> {
             None => false,
         }
     }
-
-    /// The places of those that are ordered.
-    fn into_ordered(self) -> Vec<usize> {
-        let Order {
-            files: _files,
-            places: _places,
-            seen: _seen,
-            ordered,
-        } = self;
-        ordered
-    }
 }
 
 /// The places of the files, of which those of parents come first; of a circle of parents one comes first. Want of memory is an error.
@@ -129,5 +112,5 @@ pub(crate) fn parents_first(alloc: Global, files: &[Found]) -> Result<Vec<usize>
     for place in 0..files.len() {
         order.add(alloc, place)?;
     }
-    Ok(order.into_ordered())
+    Ok(mem::replace(&mut order.ordered, Vec::new(alloc)))
 }

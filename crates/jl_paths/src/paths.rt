@@ -81,22 +81,15 @@ impl Paths {
             return Ok(self.found.push(entry.path)?);
         }
         match entries_of(rt, entry.path.as_str()) {
-            Ok(listed) => self.take_listed(entry.path, listed, waiting),
+            Ok(listed) => {
+                waiting.extend(listed.entries)?;
+                if let Some(kind) = listed.fault {
+                    let path = entry.path;
+                    self.faults.push(PathFault { path, kind })?;
+                }
+                Ok(())
+            }
             Err(error) => self.fail(entry.path, error),
-        }
-    }
-
-    /// Adds what is in a folder to what is waiting, and notes that a name in it couldn't be read.
-    fn take_listed(
-        &mut self,
-        path: String,
-        listed: Listed,
-        waiting: &mut Vec<Entry>,
-    ) -> Result<(), AllocError> {
-        waiting.extend(listed.entries)?;
-        match listed.fault {
-            Some(kind) => Ok(self.faults.push(PathFault { path, kind })?),
-            None => Ok(()),
         }
     }
 
