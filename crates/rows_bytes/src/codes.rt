@@ -33,28 +33,20 @@ fn is_f(operand: &Operand<LentName<'_>>, kind: Kind) -> bool {
     }
 }
 
-/// Whether this is an invocation at this place.
-fn is_site(site: &Site<'_>, pc: u16, kind: Kind) -> bool {
-    site.pc() == pc && site.kind() == kind && is_f(site.operand(), kind)
-}
-
 /// Whether this is there, and an invocation at this place.
 fn is_there(site: Option<Site<'_>>, pc: u16, kind: Kind) -> bool {
     match site {
-        Some(site) => is_site(&site, pc, kind),
+        Some(site) => site.pc() == pc && site.kind() == kind && is_f(site.operand(), kind),
         None => false,
     }
-}
-
-/// Whether an invocation is there by its number and by its place.
-fn is_at(sites: &Sites<'_>, number: usize, pc: u16, kind: Kind) -> bool {
-    is_there(sites.at(number), pc, kind) && is_there(sites.at_pc(u32::from(pc)), pc, kind)
 }
 
 /// Whether these are invocations at these places, by their number and by their place, and nothing else.
 fn are_sites(sites: &Sites<'_>, expected: &[(u16, Kind)]) -> bool {
     for (number, (pc, kind)) in expected.iter().enumerate() {
-        if !is_at(sites, number, *pc, *kind) {
+        let by_number = is_there(sites.at(number), *pc, *kind);
+        let by_place = is_there(sites.at_pc(u32::from(*pc)), *pc, *kind);
+        if !by_number || !by_place {
             return false;
         }
     }

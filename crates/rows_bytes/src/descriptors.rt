@@ -24,11 +24,6 @@ enum DescriptorRow {
     Repeat(&'static [Option<&'static [u8]>], &'static [(u16, u16)], Option<usize>),
 }
 
-/// Whether the text is no field descriptor from here on.
-fn is_bad_field(text: &[u8], at: usize) -> bool {
-    FieldType::parse(text).err() == Some(NameFault::BadDescriptor(at))
-}
-
 /// Whether the text is an array of so many dimensions of the class.
 fn is_array_of(text: &[u8], dimensions: u8, class: &[u8]) -> bool {
     match FieldType::parse(text) {
@@ -63,36 +58,25 @@ fn has_slots(alloc: Global, text: &[u8], expected: Result<u8, NameFault>) -> boo
     slots_of(alloc, text) == expected && method_slots(text) == expected.ok()
 }
 
-/// Whether a method descriptor with this many parameters of one letter has so many slots, or this fault.
-fn have_slots(alloc: Global, letter: u8, count: usize, expected: Result<u8, NameFault>) -> bool {
-    match with_parameters(alloc, letter, count) {
-        Ok(text) => has_slots(alloc, &text, expected),
-        Err(_) => false,
-    }
-}
-
-/// Whether this is the first pair of texts that repeats an earlier one.
-fn is_repeat(
-    alloc: Global,
-    texts: &[Option<&[u8]>],
-    pairs: &[(u16, u16)],
-    expected: Option<usize>,
-) -> bool {
-    match first_repeat(alloc, texts, pairs) {
-        Ok(found) => found == expected,
-        Err(_) => false,
-    }
-}
-
 impl Row for DescriptorRow {
     fn is_so(&self, alloc: Global) -> bool {
         match self {
-            BadField(text, at) => is_bad_field(text, *at),
+            BadField(text, at) => {
+                FieldType::parse(text).err() == Some(NameFault::BadDescriptor(*at))
+            }
             Array(text, dimensions, class) => is_array_of(text, *dimensions, class),
             Dimensions(count, expected) => dimensions(alloc, *count) == *expected,
             Method(text, expected) => has_slots(alloc, text, *expected),
-            Parameters(letter, count, expected) => have_slots(alloc, *letter, *count, *expected),
-            Repeat(texts, pairs, expected) => is_repeat(alloc, texts, pairs, *expected),
+            Parameters(letter, count, expected) => {
+                match with_parameters(alloc, *letter, *count) {
+                    Ok(text) => has_slots(alloc, &text, *expected),
+                    Err(_) => false,
+                }
+            }
+            Repeat(texts, pairs, expected) => match first_repeat(alloc, texts, pairs) {
+                Ok(found) => found == *expected,
+                Err(_) => false,
+            },
         }
     }
 }

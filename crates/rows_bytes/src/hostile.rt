@@ -139,46 +139,18 @@ fn fault_with(alloc: Global, file: &[u8], place: usize, byte: u8) -> Option<Clas
     }
 }
 
-/// Whether the byte is one of these two or one between.
-fn is_between(byte: u8, bounds: Option<(u8, u8)>) -> bool {
-    match bounds {
-        Some((low, high)) => byte >= low && byte <= high,
-        None => false,
-    }
-}
-
-/// Whether the first file, with this byte at this place, has this fault, but none with a byte between the bounds.
-fn is_fault_with(
-    alloc: Global,
-    place: usize,
-    byte: u8,
-    fault: ClassFault,
-    bounds: Option<(u8, u8)>,
-) -> bool {
-    let expected = if is_between(byte, bounds) {
-        None
-    } else {
-        Some(fault)
-    };
-    fault_with(alloc, OBJECT, place, byte) == expected
-}
-
-/// The same with each other byte at this place.
+/// Whether the first file, with each other byte at this place, has this fault, but none with a byte of the bounds or between them.
 fn is_head(alloc: Global, place: usize, fault: ClassFault, bounds: Option<(u8, u8)>) -> bool {
     for byte in 0..=u8::MAX {
-        if OBJECT.get(place) != Some(&byte) && !is_fault_with(alloc, place, byte, fault, bounds) {
+        let expected = match bounds {
+            Some((low, high)) if byte >= low && byte <= high => None,
+            _ => Some(fault),
+        };
+        if OBJECT.get(place) != Some(&byte) && fault_with(alloc, OBJECT, place, byte) != expected {
             return false;
         }
     }
     true
-}
-
-/// The fault of the file with a tableswitch, with these four bytes for its high.
-fn fault_with_high(alloc: Global, high: &[u8; 4]) -> Option<ClassFault> {
-    match [&SWITCH[..102], high.as_slice(), &SWITCH[106..]].concat(alloc) {
-        Ok(bytes) => fault_of(alloc, &bytes),
-        Err(_) => Some(ClassFault::Memory),
-    }
 }
 
 /// The first file with an attribute of this length and these bytes.
@@ -191,14 +163,6 @@ fn sized(alloc: Global, len: usize) -> Result<Vec<u8>, AllocError> {
     let info_len = len.saturating_sub(52);
     let info = vec![in alloc; 0u8; info_len]?;
     with_attribute(alloc, &info_len.to_be_bytes()[4..], &info)
-}
-
-/// The fault of that file.
-fn fault_of_size(alloc: Global, len: usize) -> Option<ClassFault> {
-    match sized(alloc, len) {
-        Ok(bytes) => fault_of(alloc, &bytes),
-        Err(_) => Some(ClassFault::Memory),
-    }
 }
 
 // ---- shown
@@ -227,20 +191,15 @@ fn is_shown(file: &ClassFile, shown: &Shown) -> bool {
         && are_named(file.nest_members(), shown.members)
 }
 
-/// Whether the bytes are a class file that shows this.
-fn is_read_so(alloc: Global, bytes: &[u8], shown: &Shown) -> bool {
-    match read_class(alloc, bytes) {
-        Ok(file) => is_shown(&file, shown),
-        Err(_) => false,
-    }
-}
-
 /// Whether the file shows this with another version.
 fn shows(alloc: Global, file: &[u8], version: u8, shown: &Shown) -> bool {
     match file.to_vec(alloc) {
         Ok(mut bytes) => {
             set(&mut bytes, 7, version);
-            is_read_so(alloc, &bytes, shown)
+            match read_class(alloc, &bytes) {
+                Ok(file) => is_shown(&file, shown),
+                Err(_) => false,
+            }
         }
         Err(_) => false,
     }
@@ -251,8 +210,16 @@ impl Row for HostileRow {
         match self {
             Cut(file, pool_end) => is_cut(alloc, file, *pool_end),
             Head(place, fault, bounds) => is_head(alloc, *place, *fault, *bounds),
-            High(high, fault) => fault_with_high(alloc, high) == Some(*fault),
-            Sized(len, fault) => fault_of_size(alloc, *len) == *fault,
+            High(high, fault) => {
+                match [&SWITCH[..102], high.as_slice(), &SWITCH[106..]].concat(alloc) {
+                    Ok(bytes) => fault_of(alloc, &bytes) == Some(*fault),
+                    Err(_) => false,
+                }
+            }
+            Sized(len, fault) => match sized(alloc, *len) {
+                Ok(bytes) => fault_of(alloc, &bytes) == *fault,
+                Err(_) => false,
+            },
             Shows(file, version, shown) => shows(alloc, file, *version, shown),
         }
     }

@@ -37,22 +37,12 @@ enum NameRow {
     Print(u64, &'static [u8], u64),
 }
 
-/// Whether the bytes are no text, and have this fault.
-fn is_bad_text(alloc: Global, text: &[u8], fault: NameFault) -> bool {
-    !is_text(text) && decode_mutf8(alloc, text).err() == Some(fault)
-}
-
 /// Whether these are the items that were made.
 fn are_made<T: PartialEq + Drop>(made: Result<Vec<T>, NameFault>, items: &[T]) -> bool {
     match made {
         Ok(made) => made.as_slice() == items,
         Err(_) => false,
     }
-}
-
-/// Whether the name is a class name and an unqualified name, or not, as is said.
-fn is_named(name: &[u8], class: bool, unqualified: bool) -> bool {
-    is_class_name(name) == class && is_unqualified(name) == unqualified
 }
 
 /// The hash of a value.
@@ -67,64 +57,29 @@ fn list(alloc: Global, bytes: &[u8]) -> Result<Seq<u8>, AllocError> {
     Ok(Seq::of(bytes.to_vec(alloc)?))
 }
 
-/// Whether the lists are equal, and have the same hash.
-fn are_equal(run: &Seq<u8>, again: &Seq<u8>) -> bool {
-    run == again && hash_of(again) == hash_of(run)
-}
-
-/// Whether the list of these bytes has their hash, and is equal to another one of them.
-fn is_list_of(alloc: Global, run: &Seq<u8>, bytes: &[u8]) -> bool {
-    match list(alloc, bytes) {
-        Ok(again) => hash_of(run) == hash_of(&bytes) && are_equal(run, &again),
-        Err(_) => false,
-    }
-}
-
-/// Whether a list of these bytes has their hash, and is equal to another one of them.
+/// Whether a list of these bytes has their hash, and is equal to another one of them, which has it, too.
 fn is_list(alloc: Global, bytes: &[u8]) -> bool {
-    match list(alloc, bytes) {
-        Ok(run) => is_list_of(alloc, &run, bytes),
-        Err(_) => false,
-    }
-}
-
-/// Whether the list differs from one of these bytes.
-fn list_differs(alloc: Global, run: &Seq<u8>, others: &[u8]) -> bool {
-    match list(alloc, others) {
-        Ok(other) => *run != other,
-        Err(_) => false,
+    match (list(alloc, bytes), list(alloc, bytes)) {
+        (Ok(run), Ok(again)) => {
+            hash_of(&run) == hash_of(&bytes) && run == again && hash_of(&again) == hash_of(&run)
+        }
+        _ => false,
     }
 }
 
 /// Whether lists of these bytes and of those differ.
 fn lists_differ(alloc: Global, bytes: &[u8], others: &[u8]) -> bool {
-    match list(alloc, bytes) {
-        Ok(run) => list_differs(alloc, &run, others),
-        Err(_) => false,
-    }
-}
-
-/// Whether the name differs from one of these bytes.
-fn name_differs(alloc: Global, name: &Name, others: &[u8]) -> bool {
-    match Name::copied(alloc, others) {
-        Ok(other) => *name != other,
-        Err(_) => false,
+    match (list(alloc, bytes), list(alloc, others)) {
+        (Ok(run), Ok(other)) => run != other,
+        _ => false,
     }
 }
 
 /// Whether names of these bytes and of those differ.
 fn names_differ(alloc: Global, bytes: &[u8], others: &[u8]) -> bool {
-    match Name::copied(alloc, bytes) {
-        Ok(name) => name_differs(alloc, &name, others),
-        Err(_) => false,
-    }
-}
-
-/// Whether the copy of this name is equal to it and has these bytes.
-fn has_copy(alloc: Global, name: &Name, bytes: &[u8]) -> bool {
-    match name.copy(alloc) {
-        Ok(copy) => copy == *name && copy.as_slice() == bytes,
-        Err(_) => false,
+    match (Name::copied(alloc, bytes), Name::copied(alloc, others)) {
+        (Ok(name), Ok(other)) => name != other,
+        _ => false,
     }
 }
 
@@ -137,31 +92,15 @@ fn cut_byte(block: &mut Name) -> Option<Name> {
     }
 }
 
-/// Whether the first byte of the block, its second and what it keeps are these names.
-fn are_cut(first: &Name, second: &Name, block: &Name) -> bool {
-    is_a_f(first.as_slice(), second.as_slice(), block.as_slice())
-}
-
-/// Whether the first name was cut from the block, and the second name and the rest are cut then.
-fn is_cut_again(first: &Name, block: &mut Name) -> bool {
-    match cut_byte(block) {
-        Some(second) => are_cut(first, &second, block),
-        None => false,
-    }
-}
-
-/// Whether names are cut from the block.
-fn is_cut(block: &mut Name) -> bool {
-    match cut_byte(block) {
-        Some(first) => is_cut_again(&first, block),
-        None => false,
-    }
-}
-
-/// Whether names are cut from one block.
+/// Whether names are cut from one block: the first byte, the second and the rest.
 fn can_be_cut(alloc: Global) -> bool {
     match Name::copied(alloc, b"Af()V") {
-        Ok(mut block) => is_cut(&mut block),
+        Ok(mut block) => match (cut_byte(&mut block), cut_byte(&mut block)) {
+            (Some(first), Some(second)) => {
+                is_a_f(first.as_slice(), second.as_slice(), block.as_slice())
+            }
+            _ => false,
+        },
         Err(_) => false,
     }
 }
@@ -174,46 +113,45 @@ fn copy_alone(alloc: Global, bytes: &[u8]) -> Result<Name, AllocError> {
     }
 }
 
-/// Whether the copy of a name of these bytes has them once the name is let go.
-fn outlives(alloc: Global, bytes: &[u8]) -> bool {
-    match copy_alone(alloc, bytes) {
-        Ok(copy) => copy.as_slice() == bytes,
+/// Whether the name has these bytes and their hash, and so has its copy, which is equal to it.
+fn has_copy(alloc: Global, name: &Name, bytes: &[u8]) -> bool {
+    match name.copy(alloc) {
+        Ok(copy) => {
+            name.as_slice() == bytes
+                && hash_of(name) == hash_of(&bytes)
+                && copy == *name
+                && copy.as_slice() == bytes
+        }
         Err(_) => false,
     }
-}
-
-/// Whether the name has these bytes, and their hash.
-fn is_name(name: &Name, bytes: &[u8]) -> bool {
-    name.as_slice() == bytes && hash_of(name) == hash_of(&bytes)
-}
-
-/// Whether a name of these bytes is kept, and so is its copy.
-fn is_kept(alloc: Global, bytes: &[u8]) -> bool {
-    match Name::copied(alloc, bytes) {
-        Ok(name) => is_name(&name, bytes) && has_copy(alloc, &name, bytes),
-        Err(_) => false,
-    }
-}
-
-/// Whether the bytes are what these units are written as.
-fn are_units(alloc: Global, units: &[u16], text: &[u8]) -> bool {
-    is_text(text)
-        && are_made(encode_mutf8(alloc, units), text)
-        && are_made(decode_mutf8(alloc, text), units)
 }
 
 impl Row for NameRow {
     fn is_so(&self, alloc: Global) -> bool {
         match self {
-            BadText(text, fault) => is_bad_text(alloc, text, *fault),
-            Units(units, text) => are_units(alloc, units, text),
-            Named(name, class, unqualified) => is_named(name, *class, *unqualified),
+            BadText(text, fault) => {
+                !is_text(text) && decode_mutf8(alloc, text).err() == Some(*fault)
+            }
+            Units(units, text) => {
+                is_text(text)
+                    && are_made(encode_mutf8(alloc, units), text)
+                    && are_made(decode_mutf8(alloc, text), units)
+            }
+            Named(name, class, unqualified) => {
+                is_class_name(name) == *class && is_unqualified(name) == *unqualified
+            }
             Package(name, package) => package_of(name) == *package,
             Lent(bytes) => Text::of(bytes).as_bytes() == *bytes,
             List(bytes) => is_list(alloc, bytes),
             OtherList(bytes, others) => lists_differ(alloc, bytes, others),
-            Kept(bytes) => is_kept(alloc, bytes),
-            Outlives(bytes) => outlives(alloc, bytes),
+            Kept(bytes) => match Name::copied(alloc, bytes) {
+                Ok(name) => has_copy(alloc, &name, bytes),
+                Err(_) => false,
+            },
+            Outlives(bytes) => match copy_alone(alloc, bytes) {
+                Ok(copy) => copy.as_slice() == *bytes,
+                Err(_) => false,
+            },
             OtherName(bytes, others) => names_differ(alloc, bytes, others),
             Cut => can_be_cut(alloc),
             Print(before, bytes, print) => print_from(*before, bytes) == *print,

@@ -55,42 +55,34 @@ const TAGS: &[u8] = &[
     0, 1, 7, 1, 1, 12, 10, 11, 1, 12, 9, 8, 3, 4, 5, 0, 6, 0, 15, 16, 17, 18, 19, 20, 1, 7,
 ];
 
-/// The tag of the entry at a number, and 0 for none.
-fn tag_at(pool: &Pool, number: u16) -> u8 {
-    match pool.constant(number) {
-        Some(constant) => constant.tag(),
-        None => 0,
-    }
-}
-
-/// Whether these are the tags of the entries.
+/// Whether these are the tags of the entries, and 0 for a number that has none.
 fn have_tags(pool: &Pool, tags: &[u8]) -> bool {
     for (number, tag) in (0..u16::MAX).zip(tags) {
-        if tag_at(pool, number) != *tag {
+        let found = match pool.constant(number) {
+            Some(constant) => constant.tag(),
+            None => 0,
+        };
+        if found != *tag {
             return false;
         }
     }
     pool.len() == tags.len() && !pool.is_empty()
 }
 
-/// The bits of a value, or the two numbers of a method handle or of a dynamic constant.
-fn bits_of(constant: &Constant<'_>) -> (u64, u64) {
-    match constant {
-        Constant::Integer(bits) => (u64::from(*bits), 0),
-        Constant::Float(bits) => (u64::from(*bits), 0),
-        Constant::Long(bits) => (*bits, 0),
-        Constant::Double(bits) => (*bits, 0),
-        Constant::MethodHandle(kind, number) => (u64::from(*kind), u64::from(*number)),
-        Constant::Dynamic(bootstrap, number) => (u64::from(*bootstrap), u64::from(*number)),
-        _ => (0, 0),
-    }
-}
-
-/// Whether the constant at this number has these bits.
+/// Whether the constant at this number has these bits, or these two numbers of a method handle or of a dynamic constant.
 fn has_bits(pool: &Pool, number: u16, bits: (u64, u64)) -> bool {
     match pool.constant(number) {
-        Some(constant) => bits_of(&constant) == bits,
-        None => false,
+        Some(Constant::Integer(found)) => bits == (u64::from(found), 0),
+        Some(Constant::Float(found)) => bits == (u64::from(found), 0),
+        Some(Constant::Long(found)) => bits == (found, 0),
+        Some(Constant::Double(found)) => bits == (found, 0),
+        Some(Constant::MethodHandle(kind, number)) => {
+            bits == (u64::from(kind), u64::from(number))
+        }
+        Some(Constant::Dynamic(bootstrap, number)) => {
+            bits == (u64::from(bootstrap), u64::from(number))
+        }
+        _ => false,
     }
 }
 
@@ -135,13 +127,6 @@ fn has_call_site(pool: &Pool, number: u16) -> bool {
     }
 }
 
-/// Whether the number is no method and no call site.
-fn has_none(pool: &Pool, number: u16) -> bool {
-    pool.method_ref(number).is_none()
-        && pool.dynamic(number).is_none()
-        && pool.slots(number).is_none()
-}
-
 /// What is so of the pool that has each tag.
 enum EntryRow {
     /// Its entries have these tags.
@@ -168,22 +153,22 @@ fn is_so_of(row: &EntryRow, pool: &Pool) -> bool {
         }
         Method(number, interface) => has_method(pool, *number, *interface),
         CallSite(number) => has_call_site(pool, *number),
-        Neither(number) => has_none(pool, *number),
-    }
-}
-
-/// Whether the row is so of the pool in these bytes, of which the last one is not the pool's.
-fn is_so_in(alloc: Global, row: &EntryRow, bytes: &[u8]) -> bool {
-    match Pool::read(alloc, bytes) {
-        Ok((pool, used)) => bytes.len() == 111 && used == 110 && is_so_of(row, &pool),
-        Err(_) => false,
+        Neither(number) => {
+            pool.method_ref(*number).is_none()
+                && pool.dynamic(*number).is_none()
+                && pool.slots(*number).is_none()
+        }
     }
 }
 
 impl Row for EntryRow {
     fn is_so(&self, alloc: Global) -> bool {
+        // The last byte is not the pool's.
         match bytes_with(alloc, 26, EACH_TAG, &[0x01]) {
-            Ok(bytes) => is_so_in(alloc, self, &bytes),
+            Ok(bytes) => match Pool::read(alloc, &bytes) {
+                Ok((pool, used)) => bytes.len() == 111 && used == 110 && is_so_of(self, &pool),
+                Err(_) => false,
+            },
             Err(_) => false,
         }
     }
@@ -272,20 +257,16 @@ const REFERENCES: &[&[u8]] = &[
     b"\x0b\x00\x02\x00\x05",
 ];
 
-/// Whether a method handle of this kind may refer to this entry, or to no other place.
-fn is_handle(alloc: Global, kind: u8, reference: u8, good: bool) -> bool {
-    let fault = if good {
-        None
-    } else {
-        Some(PoolFault::BadIndex(12))
-    };
-    has_fault(alloc, 13, REFERENCES, &[0x0f, kind, 0x00, reference], fault)
-}
-
 /// Whether a method handle of this kind may refer to these, and to none of the other numbers from 0 on.
 fn are_handles(alloc: Global, kind: u8, good: &[u8]) -> bool {
     for reference in REFERENCE_NUMBERS {
-        if !is_handle(alloc, kind, *reference, good.contains(reference)) {
+        let fault = if good.contains(reference) {
+            None
+        } else {
+            Some(PoolFault::BadIndex(12))
+        };
+        let handle = &[0x0f, kind, 0x00, *reference];
+        if !has_fault(alloc, 13, REFERENCES, handle, fault) {
             return false;
         }
     }
@@ -295,15 +276,10 @@ fn are_handles(alloc: Global, kind: u8, good: &[u8]) -> bool {
 /// The numbers that handles below refer to.
 const REFERENCE_NUMBERS: &[u8] = &[0, 2, 8, 9, 10, 11, 12, 13];
 
-/// Whether the bytes end too early for a pool.
-fn is_cut(alloc: Global, bytes: &[u8]) -> bool {
-    Pool::read(alloc, bytes).err() == Some(PoolFault::Truncated)
-}
-
 /// Whether the bytes end too early for a pool wherever they are cut.
 fn are_cut(alloc: Global, bytes: &[u8]) -> bool {
     for len in 0..bytes.len() {
-        if !is_cut(alloc, &bytes[..len]) {
+        if Pool::read(alloc, &bytes[..len]).err() != Some(PoolFault::Truncated) {
             return false;
         }
     }
@@ -329,28 +305,13 @@ const DESCRIPTORS: &[&[u8]] = &[
     b"\x0c\x00\x03\x00\x06",
 ];
 
-/// Whether the constant may have its descriptor or not, as is said.
-fn is_described(alloc: Global, entry: &[u8], good: bool) -> bool {
-    let fault = if good {
-        None
-    } else {
-        Some(PoolFault::BadDescriptor(8))
-    };
-    has_fault(alloc, 9, DESCRIPTORS, entry, fault)
-}
-
-/// Whether the entry may name what it names, which are entries of the right kinds or not, as is said.
-fn is_linked(alloc: Global, entry: &[u8], good: bool) -> bool {
-    match bytes_with(alloc, 9, DESCRIPTORS, entry) {
-        Ok(bytes) => (Pool::read(alloc, &bytes).err() == Some(PoolFault::BadIndex(8))) != good,
-        Err(_) => false,
-    }
-}
-
-/// Whether an entry of these bytes, this number and these bytes may name it or not, as is said.
+/// Whether an entry of these bytes, this number and these bytes may name it, which is an entry of the right kind, or not, as is said.
 fn is_named(alloc: Global, front: &[u8], number: u8, back: &[u8], good: bool) -> bool {
     match [front, &[0, number], back].concat(alloc) {
-        Ok(entry) => is_linked(alloc, &entry, good),
+        Ok(entry) => match bytes_with(alloc, 9, DESCRIPTORS, &entry) {
+            Ok(bytes) => (Pool::read(alloc, &bytes).err() == Some(PoolFault::BadIndex(8))) != good,
+            Err(_) => false,
+        },
         Err(_) => false,
     }
 }
@@ -437,27 +398,26 @@ fn is_call_site_copied(alloc: Global) -> bool {
     }
 }
 
-/// Whether this is what is at the front of the bytes.
-fn is_front(row: &PoolRow) -> bool {
-    match row {
-        TwoBytes(bytes, found) => u2_at(bytes) == *found,
-        FourBytes(bytes, found) => u4_at(bytes) == *found,
-        Front(count, bytes, found) => bytes_at(*count, bytes) == *found,
-        _ => false,
-    }
-}
-
 impl Row for PoolRow {
     fn is_so(&self, alloc: Global) -> bool {
         match self {
             Fault(count, entries, fault) => has_fault(alloc, *count, entries, &[], *fault),
             Handle(kind, good) => are_handles(alloc, *kind, good),
             Names(front, good, back) => are_named(alloc, front, good, back),
-            Described(entry, good) => is_described(alloc, entry, *good),
+            Described(entry, good) => {
+                let fault = if *good {
+                    None
+                } else {
+                    Some(PoolFault::BadDescriptor(8))
+                };
+                has_fault(alloc, 9, DESCRIPTORS, entry, fault)
+            }
             CutShort => is_each_cut(alloc),
             CopiedMethod => is_method_copied(alloc),
             CopiedCallSite => is_call_site_copied(alloc),
-            _ => is_front(self),
+            TwoBytes(bytes, found) => u2_at(bytes) == *found,
+            FourBytes(bytes, found) => u4_at(bytes) == *found,
+            Front(count, bytes, found) => bytes_at(*count, bytes) == *found,
         }
     }
 }

@@ -63,9 +63,11 @@ fn one<T: Drop>(alloc: Global, item: T) -> Result<Seq<T>, AllocError> {
     Ok(Seq::of(items))
 }
 
-/// A public class of this name without methods.
-fn named(alloc: Global, name: Name, superclass: Name) -> Sketch {
-    Sketch {
+/// A public class of this name below this superclass, without methods.
+fn empty(alloc: Global, name: &[u8], superclass: &[u8]) -> Result<Sketch, AllocError> {
+    let name = Name::copied(alloc, name)?;
+    let superclass = Name::copied(alloc, superclass)?;
+    Ok(Sketch {
         name,
         flags: 33,
         superclass: Some(superclass),
@@ -73,30 +75,20 @@ fn named(alloc: Global, name: Name, superclass: Name) -> Sketch {
         methods: Seq::of(Vec::new(alloc)),
         host: None,
         members: Seq::of(Vec::new(alloc)),
-    }
-}
-
-/// The same below this superclass.
-fn empty(alloc: Global, name: &[u8], superclass: &[u8]) -> Result<Sketch, AllocError> {
-    let name = Name::copied(alloc, name)?;
-    Ok(named(alloc, name, Name::copied(alloc, superclass)?))
-}
-
-/// A method of this name and type.
-fn method_of(name: Name, ty: Name, flags: u16, calls: Seq<Call>) -> SketchMethod {
-    SketchMethod {
-        name,
-        ty,
-        flags,
-        calls,
-    }
+    })
 }
 
 /// A method of no parameters and no result that makes the part's calls.
 fn method(alloc: Global, name: &[u8], flags: u16, part: &Part) -> Result<SketchMethod, AllocError> {
     let name = Name::copied(alloc, name)?;
     let ty = Name::copied(alloc, b"()V")?;
-    Ok(method_of(name, ty, flags, calls(alloc, part)?))
+    let calls = calls(alloc, part)?;
+    Ok(SketchMethod {
+        name,
+        ty,
+        flags,
+        calls,
+    })
 }
 
 /// The method f of A.
@@ -106,12 +98,6 @@ fn f_of_a(alloc: Global, ty: &[u8]) -> Result<MethodName, AllocError> {
         name: Name::copied(alloc, b"f")?,
         ty: Name::copied(alloc, ty)?,
     })
-}
-
-/// An invokeinterface of A.f, with the descriptor in these parts.
-fn interface_call(alloc: Global, ty: &[&[u8]]) -> Result<Call, AllocError> {
-    let ty = ty.concat(alloc)?;
-    Ok(Call::Interface(f_of_a(alloc, &ty)?))
 }
 
 /// Calls of A.f, so many.
@@ -127,7 +113,10 @@ fn virtual_calls(alloc: Global, count: usize) -> Result<Seq<Call>, AllocError> {
 fn calls(alloc: Global, part: &Part) -> Result<Seq<Call>, AllocError> {
     match part {
         Calls(count, _) => virtual_calls(alloc, *count),
-        CallsWith(ty) => one(alloc, interface_call(alloc, ty)?),
+        CallsWith(ty) => {
+            let ty = ty.concat(alloc)?;
+            one(alloc, Call::Interface(f_of_a(alloc, &ty)?))
+        }
         _ => Ok(Seq::of(Vec::new(alloc))),
     }
 }
@@ -179,15 +168,10 @@ fn names_of(alloc: Global, part: &Part) -> Result<Seq<Name>, AllocError> {
     }
 }
 
-/// A name of so many bytes.
-fn long_name(alloc: Global, length: usize) -> Result<Name, AllocError> {
-    Ok(Name::of(vec![in alloc; b'a'; length]?)?)
-}
-
 /// Gives the sketch names in place of what it has.
 fn give_names(alloc: Global, sketch: &mut Sketch, part: &Part) -> Result<(), AllocError> {
     match part {
-        Long(length) => sketch.name = long_name(alloc, *length)?,
+        Long(length) => sketch.name = Name::of(vec![in alloc; b'a'; *length]?)?,
         Host(name) => sketch.host = Some(Name::copied(alloc, name)?),
         Member(_) | Members(_) => sketch.members = names_of(alloc, part)?,
         Interfaces(_) | Again(_) => sketch.interfaces = names_of(alloc, part)?,
@@ -241,42 +225,26 @@ fn has_methods(alloc: Global, bytes: &[u8], count: usize) -> bool {
     }
 }
 
-/// Whether this comes of a sketch that is written as these bytes.
-fn is_written(alloc: Global, bytes: &[u8], outcome: &Outcome) -> bool {
-    match outcome {
-        Gives(parts) => are_parts(bytes, parts),
-        IsWritten => true,
-        HasMethods(count) => has_methods(alloc, bytes, *count),
-        _ => false,
-    }
-}
-
-/// Whether this comes of a sketch that has this fault.
-fn is_fault(fault: SketchFault, outcome: &Outcome) -> bool {
-    match outcome {
-        Has(expected) => fault == *expected,
-        HasCodeFault => matches!(fault, SketchFault::Refused(ClassFault::Code(0, _))),
-        _ => false,
-    }
-}
-
 /// Whether this comes of the sketch.
 fn has_outcome(alloc: Global, sketch: &Sketch, outcome: &Outcome) -> bool {
-    match write_class(alloc, sketch) {
-        Ok(bytes) => is_written(alloc, &bytes, outcome),
-        Err(fault) => is_fault(fault, outcome),
+    match (write_class(alloc, sketch), outcome) {
+        (Ok(bytes), Gives(parts)) => are_parts(&bytes, parts),
+        (Ok(_), IsWritten) => true,
+        (Ok(bytes), HasMethods(count)) => has_methods(alloc, &bytes, *count),
+        (Err(fault), Has(expected)) => fault == *expected,
+        (Err(fault), HasCodeFault) => {
+            matches!(fault, SketchFault::Refused(ClassFault::Code(0, _)))
+        }
+        _ => false,
     }
-}
-
-/// Whether the outcome is that of the sketch, once it is given the parts.
-fn leads_to(alloc: Global, sketch: &mut Sketch, parts: &[Part], outcome: &Outcome) -> bool {
-    give_all(alloc, sketch, parts).is_ok() && has_outcome(alloc, sketch, outcome)
 }
 
 impl Row for SketchRow {
     fn is_so(&self, alloc: Global) -> bool {
         match empty(alloc, self.0, self.1) {
-            Ok(mut sketch) => leads_to(alloc, &mut sketch, self.2, &self.3),
+            Ok(mut sketch) => {
+                give_all(alloc, &mut sketch, self.2).is_ok() && has_outcome(alloc, &sketch, &self.3)
+            }
             Err(_) => false,
         }
     }
