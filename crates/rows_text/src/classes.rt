@@ -4,24 +4,8 @@ use crate::told::Told;
 use crate::words::{self, signature, text};
 use crate::{definitions, methods};
 use jl_hierarchy::{Classes, Sought};
-use jl_types::{Class, ClassId, DelegateFault, OrMemory};
-
-/// Makes a loader, and tells it.
-fn new_loader(told: &mut Told, classes: &mut Classes) {
-    match classes.new_loader(told.alloc()) {
-        Ok(loader) => told.show(&loader.number()),
-        Err(fault) => told.show(&fault),
-    }
-}
-
-/// Tells whether a delegation was made, or why not.
-fn delegation(told: &mut Told, answer: Result<(), OrMemory<DelegateFault>>) {
-    match answer {
-        Ok(()) => told.put("Ok"),
-        Err(OrMemory::Fault(fault)) => told.show(&fault),
-        Err(OrMemory::Memory) => told.lack(),
-    }
-}
+use jl_resolve::is_accessible_class;
+use jl_types::{Class, ClassId, OrMemory};
 
 /// Defines the class, and tells it.
 fn define(told: &mut Told, classes: &mut Classes, by: &str, name: &str, rest: &[&str]) {
@@ -57,19 +41,6 @@ fn tell_method(told: &mut Told, classes: &Classes, method: &str) {
     }
 }
 
-/// Tells what is asked of a class that has to be there.
-fn tell_present(told: &mut Told, classes: &Classes, question: &str, class: ClassId) {
-    if !classes.has_class(class) {
-        return told.put("no class");
-    }
-    match question {
-        "ancestors" => told.classes(classes.ancestors(class)),
-        "count-ancestors" => told.show(&classes.ancestors(class).len()),
-        "receivers" => told.classes(classes.receivers(class)),
-        _ => told.refuse(),
-    }
-}
-
 /// Tells what is asked of a class.
 fn tell_one(told: &mut Told, classes: &Classes, question: &str, class: &str) {
     let class = words::class(told, class);
@@ -79,7 +50,11 @@ fn tell_one(told: &mut Told, classes: &Classes, question: &str, class: &str) {
         "superclass" => told.class(classes.superclass(class)),
         "nest-host" => told.class(classes.nest_host(class)),
         "is-interface" => told.show(&classes.is_interface(class)),
-        _ => tell_present(told, classes, question, class),
+        _ if !classes.has_class(class) => told.put("no class"),
+        "ancestors" => told.classes(classes.ancestors(class)),
+        "count-ancestors" => told.show(&classes.ancestors(class).len()),
+        "receivers" => told.classes(classes.receivers(class)),
+        _ => told.refuse(),
     }
 }
 
@@ -96,22 +71,14 @@ fn tell_declared(told: &mut Told, classes: &Classes, question: &str, class: &str
     }
 }
 
-/// Tells whether the first class is an ancestor of the second, if there is that.
-fn tell_ancestor(told: &mut Told, classes: &Classes, ancestor: ClassId, class: ClassId) {
-    if classes.has_class(class) {
-        told.show(&classes.is_ancestor(ancestor, class));
-    } else {
-        told.put("no class");
-    }
-}
-
 /// Tells what is asked of two classes.
 fn tell_two(told: &mut Told, classes: &Classes, question: &str, first: &str, second: &str) {
     let (class, other) = (words::class(told, first), words::class(told, second));
     match question {
-        "is-ancestor" => tell_ancestor(told, classes, class, other),
+        "is-ancestor" if !classes.has_class(other) => told.put("no class"),
+        "is-ancestor" => told.show(&classes.is_ancestor(class, other)),
         "same-package" => told.show(&classes.same_package(class, other)),
-        _ => methods::tell_accessible(told, classes, class, other),
+        _ => told.show(&is_accessible_class(classes, class, other)),
     }
 }
 
@@ -149,14 +116,18 @@ fn tell(told: &mut Told, classes: &Classes, words: &[&str]) {
 /// Obeys the command, where it changes the loaders and classes.
 pub(crate) fn obey(told: &mut Told, classes: &mut Classes, words: &[&str]) {
     match *words {
-        ["loader"] => new_loader(told, classes),
+        ["loader"] => match classes.new_loader(told.alloc()) {
+            Ok(loader) => told.show(&loader.number()),
+            Err(fault) => told.show(&fault),
+        },
         ["define", by, name, ref rest @ ..] => define(told, classes, by, name, rest),
         ["delegate", from, name, to] => {
             let (from, to) = (words::loader(told, from), words::loader(told, to));
-            delegation(
-                told,
-                classes.delegate(told.alloc(), from, name.as_bytes(), to),
-            );
+            match classes.delegate(told.alloc(), from, name.as_bytes(), to) {
+                Ok(()) => told.put("Ok"),
+                Err(OrMemory::Fault(fault)) => told.show(&fault),
+                Err(OrMemory::Memory) => told.lack(),
+            }
         }
         _ => tell(told, classes, words),
     }

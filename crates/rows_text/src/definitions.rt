@@ -88,8 +88,14 @@ fn names_of(told: &mut Told, words: &[&str]) -> Seq<Name> {
     Seq::of(names)
 }
 
-/// The call of the method of these names by this instruction (JVMS SE 17 §6.5).
-fn call_of(told: &mut Told, opcode: &str, itf: bool, method: MethodName) -> Option<Call> {
+/// The call by this instruction (JVMS SE 17 §6.5).
+fn call(told: &mut Told, opcode: &str, itf: bool, word: &str) -> Option<Call> {
+    if opcode == "invokedynamic" {
+        let (name, ty) = two_names(told, word)?;
+        return Some(Call::Dynamic(name, ty));
+    }
+    let (owner, name, ty) = three_names(told, word)?;
+    let method = MethodName { owner, name, ty };
     match opcode {
         "invokevirtual" => Some(Call::Virtual(method)),
         "invokespecial" => Some(Call::Special(itf, method)),
@@ -100,16 +106,6 @@ fn call_of(told: &mut Told, opcode: &str, itf: bool, method: MethodName) -> Opti
             None
         }
     }
-}
-
-/// The call by this instruction.
-fn call(told: &mut Told, opcode: &str, itf: bool, word: &str) -> Option<Call> {
-    if opcode == "invokedynamic" {
-        let (name, ty) = two_names(told, word)?;
-        return Some(Call::Dynamic(name, ty));
-    }
-    let (owner, name, ty) = three_names(told, word)?;
-    call_of(told, opcode, itf, MethodName { owner, name, ty })
 }
 
 /// The calls of a method, in order. Behind each instruction's name comes a call.
@@ -186,26 +182,15 @@ fn sketch_of(told: &mut Told, name: &str, words: &[&str]) -> Option<Sketch> {
     })
 }
 
-/// What is read of the class file of these bytes.
-fn read(told: &mut Told, bytes: &[u8]) -> Option<ClassFile> {
-    match read_class(told.alloc(), bytes) {
-        Ok(file) => Some(file),
-        Err(_) => {
-            told.refuse();
-            None
-        }
-    }
-}
-
 /// What is read of the class file of the sketch.
 fn file_of(told: &mut Told, sketch: &Sketch) -> Option<ClassFile> {
-    match write_class(told.alloc(), sketch) {
-        Ok(bytes) => read(told, &bytes),
-        Err(_) => {
-            told.refuse();
-            None
+    if let Ok(bytes) = write_class(told.alloc(), sketch) {
+        if let Ok(file) = read_class(told.alloc(), &bytes) {
+            return Some(file);
         }
     }
+    told.refuse();
+    None
 }
 
 /// The class file of the class of this name, by the words behind it.

@@ -4,11 +4,10 @@ use crate::targets::target;
 use crate::told::Told;
 use crate::words::{self, switch_points};
 use crate::{call_sites, definitions};
-use jl_deps::{Footprint, footprint_of, keys_of};
+use jl_deps::{footprint_of, keys_of};
 use jl_names::Seq;
 use jl_relink::{World, dispatch, link_counted, link_of, stays_with_receiver};
-use jl_types::{ClassId, Event, Key, Link, Place, Recv, SiteNo, Unlinked, Work};
-use std::alloc::AllocError;
+use jl_types::{ClassId, Event, Place, Recv, SiteNo, Work};
 
 /// Requests the place, and tells its site.
 fn request(told: &mut Told, world: &mut World, place: Place) {
@@ -28,14 +27,6 @@ fn request_all(told: &mut Told, world: &mut World, method: &str, pcs: &[&str]) {
             pc: words::number(told, pc),
         };
         request(told, world, place);
-    }
-}
-
-/// Tells the link, or why there is none.
-fn tell_link(told: &mut Told, link: Result<Link, Unlinked>) {
-    match link {
-        Ok(link) => told.link(&link),
-        Err(unlinked) => told.show(&unlinked),
     }
 }
 
@@ -80,26 +71,13 @@ fn event(told: &mut Told, words: &[&str]) -> Option<Event> {
     }
 }
 
-/// Tells keys, in order.
-fn tell_keys(told: &mut Told, keys: Result<Seq<Key>, AllocError>) {
-    match keys {
-        Ok(keys) => told.keys(keys.as_slice()),
-        Err(_) => told.lack(),
-    }
-}
-
-/// Tells the keys of a footprint, in order.
-fn tell_footprint(told: &mut Told, footprint: Result<Footprint, AllocError>) {
-    match footprint {
-        Ok(footprint) => told.keys(footprint.as_slice()),
-        Err(_) => told.lack(),
-    }
-}
-
 /// Tells the keys of the change of these words.
 fn keys(told: &mut Told, world: &World, words: &[&str]) {
     if let Some(event) = event(told, words) {
-        tell_keys(told, keys_of(told.alloc(), world, &event));
+        match keys_of(told.alloc(), world, &event) {
+            Ok(keys) => told.keys(keys.as_slice()),
+            Err(_) => told.lack(),
+        }
     }
 }
 
@@ -149,8 +127,14 @@ fn copy(told: &mut Told, world: &mut World) {
 fn tell_site(told: &mut Told, world: &World, question: &str, site: &str) {
     let site = words::site(told, site);
     match question {
-        "link" => tell_link(told, link_of(world, site)),
-        "footprint" => tell_footprint(told, footprint_of(told.alloc(), world, site)),
+        "link" => match link_of(world, site) {
+            Ok(link) => told.link(&link),
+            Err(unlinked) => told.show(&unlinked),
+        },
+        "footprint" => match footprint_of(told.alloc(), world, site) {
+            Ok(footprint) => told.keys(footprint.as_slice()),
+            Err(_) => told.lack(),
+        },
         _ => told.show(&ticks(world, site)),
     }
 }

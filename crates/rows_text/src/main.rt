@@ -27,16 +27,11 @@ fn print_rows(rt: &(impl Print + AllocGlobal), file: &str, text: &str) -> io::Re
     }
 }
 
-/// Prints what comes of the rows of the file of this name.
-fn print_file(rt: &HostRuntime, file: &str) -> io::Result<()> {
-    let text = fs::read_to_string(rt, file)?;
-    print_rows(rt, file, text.as_str())
-}
-
 /// Prints what comes of the rows of these files.
 fn print_files(rt: &HostRuntime, files: &[String]) -> io::Result<()> {
     for file in files {
-        print_file(rt, file.as_str())?;
+        let text = fs::read_to_string(rt, file.as_str())?;
+        print_rows(rt, file.as_str(), text.as_str())?;
     }
     Ok(())
 }

@@ -5,36 +5,9 @@ use crate::words::{self, three_names};
 use jl_hierarchy::Classes;
 use jl_names::Name;
 use jl_pool::Reference;
-use jl_resolve::{Resolved, access_to_method, is_accessible_class, resolve, resolve_reference};
+use jl_resolve::{access_to_method, resolve, resolve_reference};
 use jl_select::{can_override, chosen, runs_below, select, select_interface, special};
-use jl_types::{Chosen, ClassId, MethodId, Outcome, ResolveAnswer};
-
-/// Tells the method that is resolved to, or why there is none.
-fn tell_resolved(told: &mut Told, answer: Result<MethodId, ResolveAnswer>) {
-    match answer {
-        Ok(method) => told.method(method),
-        Err(answer) => told.show(&answer),
-    }
-}
-
-/// Tells the class that is named and the method, or why there is none.
-fn tell_named(told: &mut Told, answer: Result<Resolved, ResolveAnswer>) {
-    match answer {
-        Ok(found) => {
-            told.show(&found.named.number());
-            told.method(found.method);
-        }
-        Err(answer) => told.show(&answer),
-    }
-}
-
-/// Tells what an invokespecial comes to, or that there are no such classes.
-fn tell_special(told: &mut Told, outcome: Option<Outcome>) {
-    match outcome {
-        Some(outcome) => told.outcome(outcome),
-        None => told.put("no class"),
-    }
-}
+use jl_types::{Chosen, ClassId, MethodId};
 
 /// Tells what is asked of a caller and a reference to a method.
 fn tell_reference(
@@ -46,9 +19,21 @@ fn tell_reference(
 ) {
     let lent = reference.lent();
     match question {
-        "resolve" => tell_resolved(told, resolve(classes, caller, &lent)),
-        "resolve-named" => tell_named(told, resolve_reference(classes, caller, &lent)),
-        "select-special" => tell_special(told, special(classes, caller, &lent)),
+        "resolve" => match resolve(classes, caller, &lent) {
+            Ok(method) => told.method(method),
+            Err(answer) => told.show(&answer),
+        },
+        "resolve-named" => match resolve_reference(classes, caller, &lent) {
+            Ok(found) => {
+                told.show(&found.named.number());
+                told.method(found.method);
+            }
+            Err(answer) => told.show(&answer),
+        },
+        "select-special" => match special(classes, caller, &lent) {
+            Some(outcome) => told.outcome(outcome),
+            None => told.put("no class"),
+        },
         _ => told.refuse(),
     }
 }
@@ -74,15 +59,6 @@ fn tell_caller(
     }
 }
 
-/// Tells the method that was chosen, or why none.
-fn tell_chosen(told: &mut Told, choice: Chosen) {
-    match choice {
-        Chosen::Method(method) => told.method(method),
-        Chosen::Several => told.put("Several"),
-        Chosen::Nothing => told.put("Nothing"),
-    }
-}
-
 /// Tells what is asked of a class that has to be there, and a method.
 fn tell_method(
     told: &mut Told,
@@ -95,25 +71,15 @@ fn tell_method(
         return told.put("no class");
     }
     match question {
-        "choose" => tell_chosen(told, chosen(classes, class, method)),
+        "choose" => match chosen(classes, class, method) {
+            Chosen::Method(method) => told.method(method),
+            Chosen::Several => told.put("Several"),
+            Chosen::Nothing => told.put("Nothing"),
+        },
         "select-virtual" => told.outcome(select(classes, class, method)),
         "runs-below" => told.show(&runs_below(classes, class, method)),
         _ => told.refuse(),
     }
-}
-
-/// Tells of access of the caller, which is there, to the method, if there is the class that is named.
-fn tell_access(
-    told: &mut Told,
-    classes: &Classes,
-    caller: ClassId,
-    named: ClassId,
-    method: &MethodId,
-) {
-    if !classes.has_class(caller) || !classes.has_class(named) {
-        return told.put("no class");
-    }
-    told.show(&access_to_method(classes, caller, named, method));
 }
 
 /// Tells what is asked of two classes and a method.
@@ -130,14 +96,10 @@ fn tell_classes(
     }
     match question {
         "select-interface" => told.outcome(select_interface(classes, class, named, method)),
-        "access" => tell_access(told, classes, class, named, method),
+        "access" if !classes.has_class(named) => told.put("no class"),
+        "access" => told.show(&access_to_method(classes, class, named, method)),
         _ => told.refuse(),
     }
-}
-
-/// Tells whether the class is accessible to the caller.
-pub(crate) fn tell_accessible(told: &mut Told, classes: &Classes, caller: ClassId, class: ClassId) {
-    told.show(&is_accessible_class(classes, caller, class));
 }
 
 /// Tells what is asked of a class or a method, and a method.

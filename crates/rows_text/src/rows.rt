@@ -36,21 +36,16 @@ impl<'a> Drop for Rows<'a> {
     }
 }
 
-/// Tells the last answer to the command, which is obeyed so many times.
-fn repeated(told: &mut Told, world: &mut World, count: u32, command: &[&str]) {
-    told.put("None");
-    for _ in 0..count {
-        told.clear();
-        answer(told, world, command);
-    }
-}
-
 /// Tells what the command is answered: the last answer where it is repeated.
 fn answered(told: &mut Told, world: &mut World, command: &[&str]) {
     match *command {
         ["repeat", count, ref command @ ..] => {
             let count = number(told, count);
-            repeated(told, world, count, command);
+            told.put("None");
+            for _ in 0..count {
+                told.clear();
+                answer(told, world, command);
+            }
         }
         _ => answer(told, world, command),
     }
@@ -121,13 +116,6 @@ impl<'a> Rows<'a> {
         Ok(())
     }
 
-    /// Begins a new table.
-    fn begin(&mut self, rt: &(impl Print + AllocGlobal)) -> io::Result<()> {
-        self.end_row(rt)?;
-        self.world = World::new(rt.alloc())?;
-        Ok(())
-    }
-
     /// Adds the words to the command or to the answer.
     fn add(&mut self, text: &'a str) -> io::Result<()> {
         if self.has_answer {
@@ -146,7 +134,12 @@ impl<'a> Rows<'a> {
     ) -> io::Result<()> {
         match text.as_bytes().first() {
             None | Some(b'#') => Ok(()),
-            Some(b'=') => self.begin(rt),
+            // A new table.
+            Some(b'=') => {
+                self.end_row(rt)?;
+                self.world = World::new(rt.alloc())?;
+                Ok(())
+            }
             Some(b'>') => {
                 self.has_answer = true;
                 self.add(text.strip_prefix('>').unwrap_or(text))

@@ -76,17 +76,14 @@ fn last(told: &mut Told, parts: &mut Vec<Target>) -> Option<Target> {
     part
 }
 
-/// The guard of the two parts behind it.
-fn guard_of(told: &mut Told, parts: &mut Vec<Target>, point: u32) -> Option<Target> {
-    let first = last(told, parts)?;
-    let fallback = last(told, parts)?;
-    guard(told, point, first, fallback)
-}
-
 /// The target that the word makes of the number and the parts behind it.
 fn made(told: &mut Told, parts: &mut Vec<Target>, number: u32, word: &str) -> Option<Target> {
     match word {
-        "guard" => guard_of(told, parts, number),
+        "guard" => {
+            let first = last(told, parts)?;
+            let fallback = last(told, parts)?;
+            guard(told, number, first, fallback)
+        }
         "invoker" => Some(Target::invoker(CallSiteId::new(number))),
         "firsts" => {
             let innermost = last(told, parts)?;

@@ -3,7 +3,7 @@
 
 use jl_names::Name;
 use jl_types::{
-    Answer, CallSiteFault, ClassId, DefineFault, Key, Link, MethodId, OrMemory, Outcome, Table,
+    Answer, CallSiteFault, ClassId, DefineFault, Key, Link, MethodId, OrMemory, Outcome,
 };
 use std::alloc::{AllocError, Global};
 use std::fmt::{Debug, Write};
@@ -28,11 +28,6 @@ impl Drop for Told {
             lacks: _lacks,
         } = self;
     }
-}
-
-/// A name as text.
-fn text_of(name: &[u8]) -> &str {
-    str::from_utf8(name).unwrap_or("?")
 }
 
 impl Told {
@@ -97,7 +92,7 @@ impl Told {
 
     /// Tells a name as it is.
     pub(crate) fn name(&mut self, name: &[u8]) {
-        self.put(text_of(name));
+        self.put(str::from_utf8(name).unwrap_or("?"));
     }
 
     /// Tells a number as it is.
@@ -152,21 +147,16 @@ impl Told {
         self.name(name.as_slice());
     }
 
-    /// Tells why a class isn't defined.
-    fn define_fault(&mut self, fault: &DefineFault) {
-        match fault {
-            DefineFault::MissingParent(name) => self.naming("MissingParent ", name),
-            DefineFault::NotAnInterface(name) => self.naming("NotAnInterface ", name),
-            DefineFault::InaccessibleParent(name) => self.naming("InaccessibleParent ", name),
-            _ => self.show(fault),
-        }
-    }
-
     /// Tells the defined class, or why there is none.
     pub(crate) fn definition(&mut self, answer: Result<ClassId, OrMemory<DefineFault>>) {
         match answer {
             Ok(class) => self.show(&class.number()),
-            Err(OrMemory::Fault(fault)) => self.define_fault(&fault),
+            Err(OrMemory::Fault(fault)) => match &fault {
+                DefineFault::MissingParent(name) => self.naming("MissingParent ", name),
+                DefineFault::NotAnInterface(name) => self.naming("NotAnInterface ", name),
+                DefineFault::InaccessibleParent(name) => self.naming("InaccessibleParent ", name),
+                _ => self.show(&fault),
+            },
             Err(OrMemory::Memory) => self.lack(),
         }
     }
@@ -195,15 +185,6 @@ impl Told {
         }
     }
 
-    /// Tells each class of a table with its outcome.
-    fn table(&mut self, table: &Table) {
-        for (class, outcome) in table.as_slice() {
-            self.number(class.number());
-            self.put(":");
-            self.outcome(*outcome);
-        }
-    }
-
     /// Tells a link, by its kind.
     pub(crate) fn link(&mut self, link: &Link) {
         match link {
@@ -221,7 +202,11 @@ impl Told {
             }
             Link::Table(kind, rows) => {
                 self.show(kind);
-                self.table(rows);
+                for (class, outcome) in rows.as_slice() {
+                    self.number(class.number());
+                    self.put(":");
+                    self.outcome(*outcome);
+                }
             }
             Link::Mega => self.put("Mega"),
         }
