@@ -27,7 +27,11 @@ pub(crate) fn add_further<W: Write>(
     out: &mut W,
 ) -> Result<Vec<Refused>, ReportFault> {
     let count = files.len();
-    let mut waiting = every_file(alloc, files)?;
+    let mut waiting = Vec::with_capacity(alloc, count)?;
+    for file in files {
+        let place = waiting.len();
+        waiting.push(Waiting { place, file })?;
+    }
     for _round in 0..count {
         let before = waiting.len();
         waiting = add_round(alloc, report, chosen, waiting, page, out)?;
@@ -36,16 +40,6 @@ pub(crate) fn add_further<W: Write>(
         }
     }
     Ok(refusals(alloc, report, waiting)?)
-}
-
-/// The files, each with its place.
-fn every_file(alloc: Global, files: Vec<ClassFile>) -> Result<Vec<Waiting>, AllocError> {
-    let mut waiting = Vec::with_capacity(alloc, files.len())?;
-    for file in files {
-        let place = waiting.len();
-        waiting.push(Waiting { place, file })?;
-    }
-    Ok(waiting)
 }
 
 /// Defines those of the files that may be defined when their turn comes, and gives the others.

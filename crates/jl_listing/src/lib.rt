@@ -8,8 +8,8 @@
 #![tactic(auto)]
 
 // What is asked for.
-mod asked;
 mod chosen;
+mod report_words;
 mod usage;
 
 // The forms of a report.
@@ -25,8 +25,8 @@ mod progress;
 mod report;
 mod told;
 
-pub use asked::{Asked, Form, read_asked};
 pub use chosen::{Choice, Chosen};
 pub use fault::ReportFault;
 pub use report::run_report;
+pub use report_words::{Form, ReportWords, read_report_words};
 pub use usage::report_usage;

@@ -1,10 +1,10 @@
 //! What a report writes.
 
-use crate::asked::{Asked, Form};
 use crate::chosen::Chosen;
 use crate::fault::ReportFault;
 use crate::html::{HtmlPage, Read};
 use crate::left_out::LeftOut;
+use crate::report_words::{Form, ReportWords};
 use crate::texts::{
     Former, MissingClasses, Summary, push_all_left_out, push_dropped, push_left_out_line,
     push_method_line, push_site_line, write_class_line, write_line, write_totals,
@@ -60,7 +60,7 @@ impl Drop for Page {
 
 impl Page {
     /// Nothing of what is asked for.
-    pub(crate) fn new(alloc: Global, asked: &Asked) -> Self {
+    pub(crate) fn new(alloc: Global, asked: &ReportWords) -> Self {
         Page {
             form: asked.form,
             text: String::new(alloc),
@@ -184,7 +184,7 @@ impl Page {
         alloc: Global,
         report: &mut Report,
         made: &Made,
-        asked: &Asked,
+        asked: &ReportWords,
         class: ClassId,
     ) -> Result<(), ReportFault> {
         let rows = report.rows_in(alloc, class)?;

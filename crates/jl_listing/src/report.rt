@@ -1,6 +1,5 @@
 //! A report, from paths to what is written.
 
-use crate::asked::Asked;
 use crate::breaks::add_further;
 use crate::chosen::Chosen;
 use crate::fault::ReportFault;
@@ -8,6 +7,7 @@ use crate::html::Read;
 use crate::left_out::{LeftOut, add_no_classes, add_refused};
 use crate::page::Page;
 use crate::progress::Progress;
+use crate::report_words::ReportWords;
 use crate::texts::MissingClasses;
 use jl_class::ClassFile;
 use jl_hierarchy::Classes;
@@ -36,7 +36,7 @@ struct Missed {
 /// A path that couldn't be read, behind the report of the others; a failed write; want of memory.
 pub fn run_report<R: Files + AllocGlobal + Clock + Clone + Drop, W: Write, E: Write + IsTerminal>(
     rt: &R,
-    asked: &Asked,
+    asked: &ReportWords,
     out: &mut W,
     errors: &mut E,
 ) -> Result<(), ReportFault> {
@@ -49,7 +49,7 @@ pub fn run_report<R: Files + AllocGlobal + Clock + Clone + Drop, W: Write, E: Wr
 /// The same, where a closed pipe is an error, too.
 fn report<R: Files + AllocGlobal + Clock + Clone + Drop, W: Write, E: Write + IsTerminal>(
     rt: &R,
-    asked: &Asked,
+    asked: &ReportWords,
     out: &mut W,
     errors: &mut E,
 ) -> Result<(), ReportFault> {
@@ -65,7 +65,7 @@ fn report<R: Files + AllocGlobal + Clock + Clone + Drop, W: Write, E: Write + Is
 /// Adds all invocations that are reported, and what further classes drop, and writes most of it.
 fn add_all<R: Files + AllocGlobal + Clock + Clone + Drop, W: Write, E: Write + IsTerminal>(
     rt: &R,
-    asked: &Asked,
+    asked: &ReportWords,
     page: &mut Page,
     missed: &mut Missed,
     out: &mut W,
@@ -85,7 +85,7 @@ fn add_all<R: Files + AllocGlobal + Clock + Clone + Drop, W: Write, E: Write + I
 /// Defines the classes of the paths, and gives those that are reported, by name. Where none is there it is told why.
 fn listed_of<R: Files + AllocGlobal + Clone + Drop>(
     rt: &R,
-    asked: &Asked,
+    asked: &ReportWords,
     classes: &mut Classes,
     page: &mut Page,
     missed: &mut Missed,
@@ -102,7 +102,7 @@ fn listed_of<R: Files + AllocGlobal + Clone + Drop>(
 /// Writes what is left of the report, its end, and the page of HTML, and tells of paths that couldn't be read.
 fn write_end<R: Files + AllocGlobal + Clock, W: Write, E: Write>(
     rt: &R,
-    asked: &Asked,
+    asked: &ReportWords,
     page: &mut Page,
     missed: Missed,
     out: &mut W,
@@ -139,7 +139,7 @@ fn add_end(alloc: Global, page: &mut Page, left_out: Vec<LeftOut>) -> Result<(),
 /// Writes the page of HTML, if there is one, into the file of this path.
 fn write_html<R: Files + AllocGlobal + Clock>(
     rt: &R,
-    asked: &Asked,
+    asked: &ReportWords,
     path: &str,
     page: &Page,
     faults: &mut Vec<PathFault>,
@@ -167,7 +167,7 @@ fn write_html<R: Files + AllocGlobal + Clock>(
 /// Adds the invocations of the classes that are reported, and writes most of them.
 fn add_classes<R: AllocGlobal + Clock, W: Write, E: Write + IsTerminal>(
     rt: &R,
-    asked: &Asked,
+    asked: &ReportWords,
     report: &mut Report,
     made: &Made,
     listed: &[ClassId],
@@ -188,7 +188,7 @@ fn add_classes<R: AllocGlobal + Clock, W: Write, E: Write + IsTerminal>(
 /// Adds what further classes drop, class by class.
 fn add_breaks<R: Files + AllocGlobal + Clone + Drop, W: Write>(
     rt: &R,
-    asked: &Asked,
+    asked: &ReportWords,
     report: &mut Report,
     page: &mut Page,
     missed: &mut Missed,

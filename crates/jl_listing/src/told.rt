@@ -1,6 +1,6 @@
 //! What is told of an invocation beside what it comes to.
 
-use crate::asked::Asked;
+use crate::report_words::ReportWords;
 use jl_report::{Made, Report, Row, Shape};
 use jl_types::MethodId;
 use std::alloc::{AllocError, Global};
@@ -59,38 +59,26 @@ pub(crate) fn notes_of(
     alloc: Global,
     report: &mut Report,
     made: &Made,
-    asked: &Asked,
+    asked: &ReportWords,
     rows: &[Row],
 ) -> Result<Vec<Note>, AllocError> {
     let mut notes = Vec::with_capacity(alloc, rows.len())?;
     for row in rows {
-        notes.push(note_of(alloc, report, made, asked, row)?)?;
+        let mut note = Note::nothing();
+        if asked.chosen.takes_row(report.classes(), row) {
+            note.methods = methods_of(alloc, report, asked, row)?;
+            note.is_made = made.meets(row);
+        }
+        notes.push(note)?;
     }
     Ok(notes)
-}
-
-/// What is told of the invocation. Want of memory is an error.
-fn note_of(
-    alloc: Global,
-    report: &mut Report,
-    made: &Made,
-    asked: &Asked,
-    row: &Row,
-) -> Result<Note, AllocError> {
-    if !asked.chosen.takes_row(report.classes(), row) {
-        return Ok(Note::nothing());
-    }
-    Ok(Note {
-        methods: methods_of(alloc, report, asked, row)?,
-        is_made: made.meets(row),
-    })
 }
 
 /// The methods that the invocation can run, where its link may run several. Want of memory is an error.
 fn methods_of(
     alloc: Global,
     report: &mut Report,
-    asked: &Asked,
+    asked: &ReportWords,
     row: &Row,
 ) -> Result<Methods, AllocError> {
     match Shape::of(&row.finding) {

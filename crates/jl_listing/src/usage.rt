@@ -1,6 +1,6 @@
 //! The usage of the subcommand.
 
-use crate::asked::command;
+use crate::report_words::command;
 use std::alloc::{AllocError, Global};
 
 // What is said of the option of this name, and of the paths.

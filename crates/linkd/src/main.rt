@@ -12,7 +12,7 @@ ghost use Rattle.std.specs.Process.{exit_status};
 ghost use Rattle.jl_cli.specs.Endings.{status_of};
 
 use jl_cli::{Counted, Ending, Mode, Words, WordsFault, read_words, run_farm, run_lines};
-use jl_listing::{Asked, ReportFault, read_asked, report_usage, run_report};
+use jl_listing::{ReportFault, ReportWords, read_report_words, report_usage, run_report};
 use jl_words::{HEADING, REPORT, Topic, help_asked, usage_of};
 use std::alloc::{AllocError, Global};
 use std::env;
@@ -48,7 +48,7 @@ fn farm(rt: &HostRuntime, threads: &(impl Threads + Wait + Sync), workers: u8) -
 }
 
 /// Reports the class files that are asked for.
-fn report(rt: &HostRuntime, asked: &Asked) -> Ending {
+fn report(rt: &HostRuntime, asked: &ReportWords) -> Ending {
     let mut output = rt.stdout();
     let mut errors = rt.stderr();
     match run_report(rt, asked, &mut output, &mut errors) {
@@ -68,7 +68,7 @@ fn ending_of(fault: ReportFault) -> Ending {
 
 /// Does what these words ask for, of which the first is `report`.
 fn obey_report(rt: &HostRuntime, words: &[String]) -> Ending {
-    match read_asked(rt.alloc(), words) {
+    match read_report_words(rt.alloc(), words) {
         Ok(Some(asked)) => report(rt, &asked),
         Ok(None) => Ending::BadWords,
         Err(fault) => ending_of(fault),

@@ -158,7 +158,8 @@ at("read").textContent = "Read from " + items(D.paths).join(", ") + (D.beside.le
 at("key").append("What an invocation can run among these classes:");
 PARTS.forEach((name, part) => at("key").append(make("i", "p" + part), " " + name.replaceAll("\u00ad", "")));
 at("head").append(make("span", "name", "package, class, method"), make("span", "bar"), ...PARTS.map(name => make("span", "", name)));
-told("missing", "Classes that are missing", items(D.missing), one => dotted(one[0]) + ": " + one[1] + " invocations wait, " + one[2] + " classes are left out below it");
+told("missing", "Classes that are missing", items(D.missing),
+  one => dotted(one[0]) + ": " + one[1] + " invocations wait, " + one[2] + " classes are left out below it");
 told("left", "Files that are left out", items(D.leftOut), one => one[0] + ": " + one[1]);
 at("find").addEventListener("input", show);
 at("order").addEventListener("change", show);

@@ -5,7 +5,7 @@ use crate::texts::links::open_class;
 use crate::texts::names::push_name;
 use crate::texts::totals::{KINDS_BY_NAME, SHAPES_BY_KEY, Summary};
 use crate::told::{Methods, Note};
-use jl_class::{ClassFile, Kind, Method, Operand, Site};
+use jl_class::{ClassFile, Method, Operand, Site};
 use jl_hierarchy::Classes;
 use jl_json::{instruction, table_kind, throwable_name};
 use jl_report::{Finding, Row, Totals};
@@ -154,7 +154,10 @@ pub(crate) fn write_line(
         write_number("bootstrap", u64::from(specifier.bootstrap), out)?;
     }
     write_class_at(alloc, "class", classes, row.place.class, out)?;
-    write_former(alloc, classes, former, out)?;
+    if let Some(former) = former {
+        write_link_of(alloc, "dropped", classes, former.row, out)?;
+        write_class_at(alloc, "droppedBy", classes, former.class, out)?;
+    }
     write_text("kind", instruction(row.kind), out)?;
     write_link_of(alloc, "link", classes, row, out)?;
     if note.is_made {
@@ -182,22 +185,6 @@ fn write_named(
     }
     write_operand(alloc, classes, row, note, site, out)?;
     write_unlinked(&row.finding, out)
-}
-
-/// Writes the link that the invocation had and the class that dropped it, if one did. Want of memory is an error.
-fn write_former(
-    alloc: Global,
-    classes: &Classes,
-    former: Option<&Former<'_>>,
-    out: &mut Writer,
-) -> Result<(), AllocError> {
-    match former {
-        Some(former) => {
-            write_link_of(alloc, "dropped", classes, former.row, out)?;
-            write_class_at(alloc, "droppedBy", classes, former.class, out)
-        }
-        None => Ok(()),
-    }
 }
 
 /// Writes the link under the key, if there is one.
@@ -273,20 +260,16 @@ fn write_between(
 ) -> Result<(), AllocError> {
     write_number("pc", u64::from(row.place.pc), out)?;
     if let Finding::NotLinkable(reason) = &row.finding {
-        write_text("refused", refusal_name(*reason), out)?;
+        let name = match reason {
+            NotLinkable::ArrayReceiver => "NotLinkable.ArrayReceiver",
+            NotLinkable::PolymorphicSignature => "NotLinkable.PolymorphicSignature",
+        };
+        write_text("refused", name, out)?;
     }
     if let Some(class) = open_class(classes, row) {
         write_class_at(alloc, "restsOn", classes, class, out)?;
     }
     write_runs(alloc, classes, row, note, out)
-}
-
-/// Why an invocation is never linked.
-fn refusal_name(reason: NotLinkable) -> &'static str {
-    match reason {
-        NotLinkable::ArrayReceiver => "NotLinkable.ArrayReceiver",
-        NotLinkable::PolymorphicSignature => "NotLinkable.PolymorphicSignature",
-    }
 }
 
 /// Writes why the invocation has no link, if it has none.
@@ -296,21 +279,17 @@ fn write_unlinked(finding: &Finding, out: &mut Writer) -> Result<(), AllocError>
     };
     match reason {
         Unlinked::NotReady(missing) => {
+            let wants = match missing {
+                Missing::Named => "named",
+                Missing::CallerHost => "callerHost",
+                Missing::MethodHost => "methodHost",
+            };
             write_text("unlinked", "NotReady", out)?;
-            write_text("wants", missing_name(*missing), out)
+            write_text("wants", wants, out)
         }
         Unlinked::Unbound => write_text("unlinked", "Unbound", out),
         Unlinked::Gone => write_text("unlinked", "Gone", out),
         Unlinked::NoSite => write_text("unlinked", "NoSite", out),
-    }
-}
-
-/// Whose class isn't there.
-fn missing_name(missing: Missing) -> &'static str {
-    match missing {
-        Missing::Named => "named",
-        Missing::CallerHost => "callerHost",
-        Missing::MethodHost => "methodHost",
     }
 }
 
@@ -325,12 +304,7 @@ pub(crate) fn push_left_out_line(
         let path = Value::try_from_str(alloc, one.path.as_str())?;
         put(members, alloc, "file", path)?;
     }
-    push_value_line(alloc, &one.answer, out)
-}
-
-/// Appends the value, as a line. Want of memory is an error.
-fn push_value_line(alloc: Global, value: &Value, out: &mut Vec<u8>) -> Result<(), AllocError> {
-    out.extend_from_slice(value.to_vec(alloc)?.as_slice())?;
+    out.extend_from_slice(one.answer.to_vec(alloc)?.as_slice())?;
     Ok(out.push(b'\n')?)
 }
 
@@ -350,25 +324,20 @@ pub(crate) fn write_totals(
     out.end_object()
 }
 
-/// Writes the totals of each instruction under the key. Want of memory is an error.
+/// Writes under the key how many invocations of each instruction come to each shape, where there are any. Want of memory is an error.
 fn write_kinds(key: &str, totals: &Totals, out: &mut Writer) -> Result<(), AllocError> {
     out.key(key)?;
     out.begin_object()?;
     for kind in &KINDS_BY_NAME {
         out.key(instruction(*kind))?;
-        write_shapes(totals, *kind, out)?;
-    }
-    out.end_object()
-}
-
-/// Writes how many invocations of the instruction come to each shape, where there are any. Want of memory is an error.
-fn write_shapes(totals: &Totals, kind: Kind, out: &mut Writer) -> Result<(), AllocError> {
-    out.begin_object()?;
-    for (shape, key) in &SHAPES_BY_KEY {
-        let count = totals.count(kind, *shape);
-        if count > 0 {
-            write_number(key, count, out)?;
+        out.begin_object()?;
+        for (shape, key) in &SHAPES_BY_KEY {
+            let count = totals.count(*kind, *shape);
+            if count > 0 {
+                write_number(key, count, out)?;
+            }
         }
+        out.end_object()?;
     }
     out.end_object()
 }

@@ -12,14 +12,6 @@ use jl_types::{
 };
 use std::alloc::{AllocError, Global};
 
-/// Why an invocation is never linked, in words of FORMATS.
-fn never_name(reason: NotLinkable) -> &'static str {
-    match reason {
-        NotLinkable::ArrayReceiver => "ArrayReceiver",
-        NotLinkable::PolymorphicSignature => "PolymorphicSignature",
-    }
-}
-
 /// Appends a decimal number. Want of memory is an error.
 pub(crate) fn push_number(number: u64, out: &mut String) -> Result<(), AllocError> {
     write!(out, "{number}")
@@ -139,9 +131,11 @@ fn push_link(
         Link::Direct(outcome) => push_direct(alloc, classes, *outcome, out),
         Link::Table(_, table) => push_table(alloc, classes, table, note, out),
         Link::Mega => {
-            out.push_str("mega (")?;
-            push_number(receiver_count(classes, row) as u64, out)?;
-            out.push_str(" receivers")?;
+            let count = match looked_at(row) {
+                Some(class) if classes.has_class(class) => classes.receivers(class).len(),
+                _ => 0,
+            };
+            write!(out, "mega ({count} receivers")?;
             push_methods(", ", note, out)?;
             out.push(')')
         }
@@ -173,14 +167,6 @@ fn push_methods(before: &str, note: &Note, out: &mut String) -> Result<(), Alloc
     }
 }
 
-/// How many classes of receivers the row's link looks at.
-fn receiver_count(classes: &Classes, row: &Row) -> usize {
-    match looked_at(row) {
-        Some(class) if classes.has_class(class) => classes.receivers(class).len(),
-        _ => 0,
-    }
-}
-
 /// The class whose receivers the row's link looks at, if there is one.
 fn looked_at(row: &Row) -> Option<ClassId> {
     match row.rests_on.as_slice().first() {
@@ -207,7 +193,13 @@ fn push_waits(
     out: &mut String,
 ) -> Result<(), AllocError> {
     match reason {
-        Unlinked::NotReady(Missing::Named) => push_named(alloc, site.operand(), out),
+        Unlinked::NotReady(Missing::Named) => {
+            out.push_str("waits for ")?;
+            match site.operand() {
+                Operand::Method(reference) => push_name(alloc, reference.owner.as_slice(), out),
+                Operand::CallSite(_) => out.push_str("its call site"),
+            }
+        }
         Unlinked::NotReady(Missing::CallerHost) => push_host(alloc, classes, row.place.class, out),
         Unlinked::NotReady(Missing::MethodHost) => {
             out.push_str("waits for the nest host of the method's class")
@@ -215,18 +207,6 @@ fn push_waits(
         Unlinked::Unbound => out.push_str("waits for its call site"),
         Unlinked::Gone => out.push_str("gone"),
         Unlinked::NoSite => out.push_str("no invocation"),
-    }
-}
-
-fn push_named(
-    alloc: Global,
-    operand: &Operand<LentName<'_>>,
-    out: &mut String,
-) -> Result<(), AllocError> {
-    out.push_str("waits for ")?;
-    match operand {
-        Operand::Method(reference) => push_name(alloc, reference.owner.as_slice(), out),
-        Operand::CallSite(_) => out.push_str("its call site"),
     }
 }
 
@@ -268,9 +248,11 @@ pub(crate) fn push_finding(
             Ok(())
         }
         Finding::Unlinked(reason) => push_waits(alloc, classes, site, row, *reason, out),
-        Finding::NotLinkable(reason) => {
-            out.push_str("not linkable: ")?;
-            out.push_str(never_name(*reason))
+        Finding::NotLinkable(NotLinkable::ArrayReceiver) => {
+            out.push_str("not linkable: ArrayReceiver")
+        }
+        Finding::NotLinkable(NotLinkable::PolymorphicSignature) => {
+            out.push_str("not linkable: PolymorphicSignature")
         }
     }
 }

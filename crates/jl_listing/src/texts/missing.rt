@@ -42,7 +42,7 @@ impl Drop for MissingClasses {
 
 /// A class that isn't there, and what hangs on it.
 #[derive(Clone, Copy)]
-pub(crate) struct Told<'a> {
+pub(crate) struct MissingClass<'a> {
     pub(crate) name: &'a str,
     pub(crate) invocations: u64,
     pub(crate) classes: u64,
@@ -146,13 +146,13 @@ impl MissingClasses {
     }
 
     /// The classes that aren't there, those first on which most hangs. Want of memory is an error.
-    pub(crate) fn sorted(&self, alloc: Global) -> Result<Vec<Told<'_>>, AllocError> {
+    pub(crate) fn sorted(&self, alloc: Global) -> Result<Vec<MissingClass<'_>>, AllocError> {
         let mut sorted = Vec::with_capacity(alloc, self.hanging.len())?;
         for (name, hanging) in &self.hanging {
             let name = name.as_str();
             let invocations = hanging.invocations;
             let classes = hanging.classes;
-            sorted.push(Told {
+            sorted.push(MissingClass {
                 name,
                 invocations,
                 classes,
@@ -171,39 +171,35 @@ impl MissingClasses {
             return Ok(());
         }
         let sorted = self.sorted(alloc)?;
-        push_told(&sorted, out)
+        push_missing_classes(&sorted, out)
     }
 }
 
-impl<'a> Told<'a> {
+impl<'a> MissingClass<'a> {
     /// How much hangs on it.
     fn weight(&self) -> u64 {
         self.invocations.saturating_add(self.classes)
     }
 }
 
-/// Appends how many classes there are, and the first of them. Want of memory is an error.
-fn push_told(sorted: &[Told<'_>], out: &mut String) -> Result<(), AllocError> {
+/// Appends how many classes there are, and of the first of them how many invocations wait for each, and how many classes are left out below it.
+/// Want of memory is an error.
+fn push_missing_classes(sorted: &[MissingClass<'_>], out: &mut String) -> Result<(), AllocError> {
     let all = sorted.len();
     let head = "classes that are missing";
     write!(out, "{head:<28}{all:>12}\n")?;
     for one in sorted.iter().take(MOST_TOLD) {
-        push_one(one, out)?;
+        let name = one.name;
+        let invocations = one.invocations;
+        write!(out, "    {invocations:>12}  {name}")?;
+        if one.classes > 0 {
+            let classes = one.classes;
+            write!(out, ", below which {classes} classes are left out")?;
+        }
+        out.push('\n')?;
     }
     if all > MOST_TOLD {
         out.push_str("              ..\n")?;
     }
     Ok(())
-}
-
-/// Appends a class, how many invocations wait for it, and how many classes are left out below it. Want of memory is an error.
-fn push_one(one: &Told<'_>, out: &mut String) -> Result<(), AllocError> {
-    let name = one.name;
-    let invocations = one.invocations;
-    write!(out, "    {invocations:>12}  {name}")?;
-    if one.classes > 0 {
-        let classes = one.classes;
-        write!(out, ", below which {classes} classes are left out")?;
-    }
-    out.push('\n')
 }

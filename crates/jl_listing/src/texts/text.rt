@@ -72,15 +72,6 @@ pub(crate) fn push_dropped(
     out.push('\n')
 }
 
-/// Appends the file that is left out and why. Want of memory is an error.
-fn push_left_out(one: &LeftOut, out: &mut String) -> Result<(), AllocError> {
-    out.push_str("    ")?;
-    out.push_str(one.path.as_str())?;
-    out.push_str("  ")?;
-    push_reason(&one.answer, out)?;
-    out.push('\n')
-}
-
 /// What to do with an archive.
 const ADVICE: &str = ": its classes have to be unpacked first (unzip, or tools/classes.py)";
 
@@ -117,7 +108,10 @@ pub(crate) fn push_all_left_out(
     if is_each_told {
         for one in left_out {
             if one.whose == Whose::Reported {
-                push_left_out(one, out)?;
+                let path = one.path.as_str();
+                write!(out, "    {path}  ")?;
+                push_reason(&one.answer, out)?;
+                out.push('\n')?;
             }
         }
     } else {

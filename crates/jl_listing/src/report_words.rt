@@ -4,7 +4,7 @@ use crate::chosen::{Choice, Chosen};
 use crate::fault::ReportFault;
 use crate::usage;
 use clap::error::ErrorKind;
-use clap::{Arg, ArgAction, ArgMatches, Command, Error as ClapError};
+use clap::{Arg, ArgAction, ArgMatches, Command};
 use std::alloc::{AllocError, Global};
 
 /// How a report is written.
@@ -18,9 +18,9 @@ pub enum Form {
     Json,
 }
 
-/// What is asked for.
+/// What the words of a report ask for.
 #[derive(Debug)]
-pub struct Asked {
+pub struct ReportWords {
     pub form: Form,
     /// Whether each class is told, too, with what it declares.
     pub classes: bool,
@@ -39,9 +39,9 @@ pub struct Asked {
 }
 
 /// Written out, so that what drops one makes one call of it and doesn't take apart what it holds.
-impl Drop for Asked {
+impl Drop for ReportWords {
     fn drop(self) {
-        let Asked {
+        let ReportWords {
             form: _form,
             classes: _classes,
             all_receivers: _all_receivers,
@@ -144,21 +144,27 @@ fn choices(alloc: Global, matches: &ArgMatches) -> Result<Option<Vec<Choice>>, A
 /// # Errors
 ///
 /// Want of memory.
-pub fn read_asked(alloc: Global, words: &[String]) -> Result<Option<Asked>, ReportFault> {
+pub fn read_report_words(
+    alloc: Global,
+    words: &[String],
+) -> Result<Option<ReportWords>, ReportFault> {
     match command(alloc)?.try_get_matches_from(words) {
         Ok(matches) => asked_by(alloc, &matches),
-        Err(error) => refused(&error),
+        Err(error) => match error.kind() {
+            ErrorKind::OutOfMemory => Err(ReportFault::Memory),
+            _ => Ok(None),
+        },
     }
 }
 
 /// What the words ask for that are matched so.
-fn asked_by(alloc: Global, matches: &ArgMatches) -> Result<Option<Asked>, ReportFault> {
+fn asked_by(alloc: Global, matches: &ArgMatches) -> Result<Option<ReportWords>, ReportFault> {
     let Some(choices) = choices(alloc, matches)? else {
         return Ok(None);
     };
     let prefixes = texts(alloc, matches, "in")?;
     let chosen = Chosen::new(alloc, choices, prefixes)?;
-    let mut asked = Asked {
+    let mut asked = ReportWords {
         form: form_of(matches),
         classes: matches.get_flag("classes"),
         all_receivers: matches.get_flag("all-receivers"),
@@ -168,24 +174,10 @@ fn asked_by(alloc: Global, matches: &ArgMatches) -> Result<Option<Asked>, Report
         breaks: Vec::new(alloc),
         html: None,
     };
-    read_paths(alloc, matches, &mut asked)?;
-    Ok(Some(asked))
-}
-
-/// Reads the paths that are asked for. Want of memory is an error.
-fn read_paths(alloc: Global, matches: &ArgMatches, asked: &mut Asked) -> Result<(), AllocError> {
     asked.paths = texts(alloc, matches, "paths")?;
     asked.beside = texts(alloc, matches, "with")?;
     asked.breaks = texts(alloc, matches, "breaks")?;
     let mut pages = texts(alloc, matches, "html")?;
     asked.html = pages.pop();
-    Ok(())
-}
-
-/// Nothing, where the words are bad.
-fn refused(error: &ClapError) -> Result<Option<Asked>, ReportFault> {
-    match error.kind() {
-        ErrorKind::OutOfMemory => Err(ReportFault::Memory),
-        _ => Ok(None),
-    }
+    Ok(Some(asked))
 }
