@@ -2,7 +2,6 @@
 
 ghost use Rattle.std.specs.Prelude.{◌≡◌, ◌==◌, Some, find};
 ghost use Rattle.std.specs.Option.{option_copied};
-ghost use Rattle.jl_types.specs.declared.answer.Fast.TheVariants.{Now};
 ghost use Rattle.jl_types.specs.declared.answer.Recv.TheVariants.{Of};
 ghost use Rattle.jl_types.specs.declared.link.Link.TheVariants as variant;
 ghost use Rattle.jl_types.specs.Happenings.Fast as fast;
@@ -15,9 +14,21 @@ use jl_types::{Answer, ClassId, Fast, Link, Outcome, Recv, Table, TableKind, Thr
 pub fn fast(link: Option<Link>, recv: Recv) -> Fast
     ensures { result ≡ fast_link link recv }
 {
-    match link {
-        None => Fast::Miss,
-        Some(link) => link_answer(&link, recv),
+    let Some(link) = link else {
+        return Fast::Miss;
+    };
+    match &link {
+        Link::Fault(throwable) => Fast::Now(Answer::Throws(*throwable)),
+        Link::Plain(method) => Fast::Now(Answer::Run(*method)),
+        Link::Direct(outcome) => match recv {
+            Recv::Null => Fast::Now(Answer::Throws(Throwable::NullPointerException)),
+            Recv::Of(_) => Fast::Now(Answer::from(*outcome)),
+        },
+        Link::Table(kind, table) => match recv {
+            Recv::Null => Fast::Now(Answer::Throws(Throwable::NullPointerException)),
+            Recv::Of(class) => Fast::Now(entry_answer(*kind, row_of(table.as_slice(), class))),
+        },
+        Link::Mega => Fast::Miss,
     }
 }
 
@@ -28,7 +39,13 @@ pub fn direct_answer(classes: usize, outcome: Outcome, recv: Recv) -> Fast
 {
     match recv {
         Recv::Null => Fast::Now(Answer::Throws(Throwable::NullPointerException)),
-        Recv::Of(class) => outcome_for(classes, outcome, class),
+        Recv::Of(class) => {
+            if is_newer(classes, class) {
+                Fast::Miss
+            } else {
+                Fast::Now(Answer::from(outcome))
+            }
+        }
     }
 }
 
@@ -40,16 +57,6 @@ pub fn table_answer(classes: usize, kind: TableKind, table: &Table, recv: Recv) 
         Recv::Null => Fast::Now(Answer::Throws(Throwable::NullPointerException)),
         Recv::Of(class) => row_for(classes, kind, table, class),
     }
-}
-
-/// The answer of an outcome on an object of the class.
-fn outcome_for(classes: usize, outcome: Outcome, class: ClassId) -> Fast
-    ensures { result ≡ fast.fast_answer (Some (variant.Direct outcome)) classes (Of class) }
-{
-    if is_newer(classes, class) {
-        return Fast::Miss;
-    }
-    Fast::Now(Answer::from(outcome))
 }
 
 /// The answer of a table on an object of the class.
@@ -67,39 +74,6 @@ fn is_newer(classes: usize, class: ClassId) -> bool
     ensures { result ≡ fast.is_newer classes (Of class) }
 {
     classes <= class.number() as usize
-}
-
-/// The link's answer for a receiver.
-fn link_answer(link: &Link, recv: Recv) -> Fast
-    ensures { result ≡ fast.link_answer link.now recv }
-{
-    match link {
-        Link::Fault(throwable) => Fast::Now(Answer::Throws(*throwable)),
-        Link::Plain(method) => Fast::Now(Answer::Run(*method)),
-        Link::Direct(outcome) => Fast::Now(outcome_on(*outcome, recv)),
-        Link::Table(kind, table) => Fast::Now(row_answer(*kind, table, recv)),
-        Link::Mega => Fast::Miss,
-    }
-}
-
-/// The answer of a link with one outcome.
-fn outcome_on(outcome: Outcome, recv: Recv) -> Answer
-    ensures { Now result ≡ fast.link_answer (variant.Direct outcome) recv }
-{
-    match recv {
-        Recv::Null => Answer::Throws(Throwable::NullPointerException),
-        Recv::Of(_) => Answer::from(outcome),
-    }
-}
-
-/// The answer of a table.
-fn row_answer(kind: TableKind, table: &Table, recv: Recv) -> Answer
-    ensures { Now result ≡ fast.link_answer (variant.Table kind table.now) recv }
-{
-    match recv {
-        Recv::Null => Answer::Throws(Throwable::NullPointerException),
-        Recv::Of(class) => entry_answer(kind, row_of(table.as_slice(), class)),
-    }
 }
 
 /// The row of the receiver's class.

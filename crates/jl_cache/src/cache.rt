@@ -136,7 +136,7 @@ impl Cache {
         match ahead.links.get(&site) {
             Some(kept) => put_kept(&mut self.links, site, kept),
             None => {
-                remove(&mut self.links, site);
+                self.links.swap_remove(&site);
                 Ok(())
             }
         }
@@ -237,11 +237,4 @@ fn put_kept(
     let copy = kept.clone()?;
     links.insert(site, copy)?;
     Ok(())
-}
-
-/// Removes the site's link. Takes no memory.
-fn remove(links: &mut IndexMap<SiteNo, KeptLink>, site: SiteNo)
-    ensures { (s : ℕ) → get nat_eq links.new s ≡ (if site == s then None else get nat_eq links.old s) }
-{
-    links.swap_remove(&site);
 }

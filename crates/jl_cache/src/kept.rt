@@ -1,10 +1,8 @@
 //! Links as they are kept.
 
-ghost use Rattle.std.specs.Prelude.{◌≡◌, ℕ, Some, None, IfOk};
-ghost use Rattle.jl_types.specs.declared.answer.Recv.{Recv};
+ghost use Rattle.std.specs.Prelude.{◌≡◌, Some, None, IfOk};
 ghost use Rattle.jl_types.specs.Happenings.Fast as fast;
 ghost use Rattle.jl_cache.specs.Links as links;
-ghost use Rattle.jl_cache.specs.Means.Kept.{fixed_link};
 
 use crate::answers::{direct_answer, table_answer};
 use jl_pages::Again;
@@ -105,7 +103,10 @@ impl KeptSlot {
         ensures { result ≡ self.now }
     {
         match &self.kept {
-            Kept::Fixed(fixed) => fixed_link(*fixed),
+            Kept::Fixed(Fixed::Nothing) => None,
+            Kept::Fixed(Fixed::Fault(throwable)) => Some(Link::Fault(*throwable)),
+            Kept::Fixed(Fixed::Plain(method)) => Some(Link::Plain(*method)),
+            Kept::Fixed(Fixed::Mega) => Some(Link::Mega),
             Kept::Direct(outcome) => Some(Link::Direct(*outcome)),
             Kept::Table(kind, table) => Some(Link::Table(*kind, **table)),
         }
@@ -116,7 +117,8 @@ impl KeptSlot {
         ensures { result ≡ links.is_mega self.now }
     {
         match &self.kept {
-            Kept::Fixed(fixed) => is_mega(*fixed),
+            Kept::Fixed(Fixed::Mega) => true,
+            Kept::Fixed(Fixed::Nothing | Fixed::Fault(_) | Fixed::Plain(_)) => false,
             Kept::Direct(_) => false,
             Kept::Table(_, _) => false,
         }
@@ -128,44 +130,12 @@ impl KeptSlot {
         ensures { result ≡ fast.fast_answer self.now classes recv }
     {
         match &self.kept {
-            Kept::Fixed(fixed) => fixed_answer(*fixed),
+            Kept::Fixed(Fixed::Nothing | Fixed::Mega) => Fast::Miss,
+            Kept::Fixed(Fixed::Fault(throwable)) => Fast::Now(Answer::Throws(*throwable)),
+            Kept::Fixed(Fixed::Plain(method)) => Fast::Now(Answer::Run(*method)),
             Kept::Direct(outcome) => direct_answer(classes, *outcome, recv),
             Kept::Table(kind, table) => table_answer(classes, *kind, table, recv),
         }
-    }
-}
-
-/// The link of which this is kept, if there is one.
-fn fixed_link(fixed: Fixed) -> Option<Link>
-    ensures { result ≡ fixed_link fixed }
-{
-    match fixed {
-        Fixed::Nothing => None,
-        Fixed::Fault(throwable) => Some(Link::Fault(throwable)),
-        Fixed::Plain(method) => Some(Link::Plain(method)),
-        Fixed::Mega => Some(Link::Mega),
-    }
-}
-
-/// Whether it is a megamorphic link.
-fn is_mega(fixed: Fixed) -> bool
-    ensures { result ≡ links.is_mega (fixed_link fixed) }
-{
-    match fixed {
-        Fixed::Mega => true,
-        Fixed::Nothing | Fixed::Fault(_) | Fixed::Plain(_) => false,
-    }
-}
-
-/// What a call is answered at once, whatever its receiver is and however many classes there are.
-fn fixed_answer(fixed: Fixed) -> Fast
-    ensures { (classes : ℕ) (recv : Recv) → result ≡ fast.fast_answer (fixed_link fixed) classes recv }
-{
-    match fixed {
-        Fixed::Nothing => Fast::Miss,
-        Fixed::Fault(throwable) => Fast::Now(Answer::Throws(throwable)),
-        Fixed::Plain(method) => Fast::Now(Answer::Run(method)),
-        Fixed::Mega => Fast::Miss,
     }
 }
 

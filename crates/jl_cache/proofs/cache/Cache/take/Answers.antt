@@ -20,4 +20,4 @@ returns-in-None c = λ s.
     sym (found_by_site c.self.inside.links.entries s) ∙ ap (λ links. link_at links s) c.self.view_is in
     let found : None ≡ link_at c.args.ahead.now c.args.site =
     c.in-None.ensures.value ∙ sym (found_by_site c.ahead.inside.links.entries c.args.site) ∙ ap (λ links. link_at links c.args.site) c.ahead.view_is in
-    found_by_site c.remove.new.links.entries s ∙ c.remove.ensures s ∙ (λ i. if c.args.site == s then found i else before i)
+    found_by_site c.swap_remove.new.self.entries s ∙ c.swap_remove.ensures.updates.0 s ∙ (λ i. if c.args.site == s then found i else before i)
