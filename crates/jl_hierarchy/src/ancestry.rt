@@ -42,7 +42,7 @@ impl Classes {
         ensures { result ≡ members.is_concrete self.now class }
     {
         match self.class_at(class) {
-            Some(row) => is_concrete(row) && !self.is_retired(row.loader()),
+            Some(row) => is_concrete(row.file()) && !self.is_retired(row.loader()),
             None => false,
         }
     }

@@ -1,7 +1,6 @@
 //! Superinterface methods (JVMS SE 17 §5.4.3.3).
 
 ghost use Rattle.std.specs.Prelude.{◌≡◌, ◌<◌, length};
-ghost use Rattle.jl_types.specs.Linkage.Resolution as resolution;
 ghost use Rattle.jl_types.specs.Linkage.Resolution.{candidates, defaults, first_element, pick};
 ghost use Rattle.jl_hierarchy.specs.Means.Defaults as by_ancestor;
 
@@ -41,7 +40,10 @@ impl Classes {
             }
             found = Some(method);
         }
-        one_of(found)
+        match found {
+            Some(method) => Chosen::Method(method),
+            None => Chosen::Nothing,
+        }
     }
 
     /// The method that the ancestor declares, where it is a superinterface of the class and the method is neither private nor
@@ -49,7 +51,7 @@ impl Classes {
     fn candidate(&self, class: ClassId, ancestor: ClassId, sought: &Sought<'_>) -> Option<MethodId>
         ensures { result ≡ by_ancestor.candidate_at self.now sought.now.name sought.now.ty class ancestor }
     {
-        if !self.is_other_interface(class, ancestor) {
+        if !self.is_interface(ancestor) || ancestor == class {
             return None;
         }
         let method = self.declared_by(ancestor, sought)?;
@@ -70,13 +72,6 @@ impl Classes {
         }
     }
 
-    /// Whether the ancestor is an interface other than the class.
-    fn is_other_interface(&self, class: ClassId, ancestor: ClassId) -> bool
-        ensures { result ≡ by_ancestor.is_other_interface self.now class ancestor }
-    {
-        self.is_interface(ancestor) && ancestor != class
-    }
-
     /// The candidate that the ancestor declares, where it isn't abstract and no subinterface of the ancestor declares another
     /// one.
     fn default_of(&self, class: ClassId, ancestor: ClassId, sought: &Sought<'_>) -> Option<MethodId>
@@ -84,53 +79,22 @@ impl Classes {
         ensures { result ≡ by_ancestor.default_at self.now sought.now.name sought.now.ty class ancestor }
     {
         let method = self.candidate(class, ancestor, sought)?;
-        if self.is_default(class, &method, sought) {
+        if !self.is_abstract(&method) && !self.is_redeclared(class, method.class, sought) {
             Some(method)
         } else {
             None
         }
     }
 
-    /// Whether the candidate isn't abstract, and no subinterface of its class declares another one.
-    fn is_default(&self, class: ClassId, method: &MethodId, sought: &Sought<'_>) -> bool
-        requires { class < length self.now.rows }
-        ensures { result ≡ by_ancestor.is_default self.now sought.now.name sought.now.ty class method.now }
-    {
-        !self.is_abstract(method) && !self.is_redeclared(class, method.class, sought)
-    }
-
-    /// Whether a superinterface of the class that is a subinterface of this one declares a method of the name and descriptor
+    /// Whether a superinterface of the class that is a proper subinterface of this one declares a method of the name and descriptor
     /// that is neither private nor static.
     fn is_redeclared(&self, class: ClassId, interface: ClassId, sought: &Sought<'_>) -> bool
         requires { class < length self.now.rows }
         ensures { result ≡ by_ancestor.is_redeclared self.now sought.now.name sought.now.ty class interface }
     {
-        self.ancestors(class)
-            .iter()
-            .any(|lower| self.redeclares(class, interface, *lower, sought))
-    }
-
-    /// Whether the ancestor is a subinterface of the interface, and declares such a method.
-    fn redeclares(
-        &self,
-        class: ClassId,
-        interface: ClassId,
-        ancestor: ClassId,
-        sought: &Sought<'_>,
-    ) -> bool
-        ensures { result ≡ by_ancestor.redeclares self.now sought.now.name sought.now.ty class interface ancestor }
-    {
-        self.is_proper_ancestor(interface, ancestor)
-            && self.candidate(class, ancestor, sought).is_some()
-    }
-}
-
-/// What was found, where there was no second one.
-fn one_of(found: Option<MethodId>) -> Chosen
-    ensures { result ≡ by_ancestor.one_found found }
-{
-    match found {
-        Some(method) => Chosen::Method(method),
-        None => Chosen::Nothing,
+        self.ancestors(class).iter().any(|lower| {
+            self.is_proper_ancestor(interface, *lower)
+                && self.candidate(class, *lower, sought).is_some()
+        })
     }
 }

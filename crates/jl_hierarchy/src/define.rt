@@ -102,15 +102,6 @@ impl Classes {
         Ok(class)
     }
 
-    /// The class that the loader makes of the file, as it is kept. Want of memory is an error.
-    fn row_made(&self, alloc: Global, loader: LoaderId, file: ClassFile) -> Result<Row, AllocError>
-        ensures row { IfOk result (λ row. row ≡ definitions.class_made self.now loader file) }
-        ensures interface { OnOk result (extends_object file.flags file.superclass ≡ true) }
-    {
-        let made = self.class_made(alloc, loader, file)?;
-        Row::new(alloc, made)
-    }
-
     /// Adds the class of the row, which its loader may define. Every growth comes before the first change, or is it.
     ///
     /// # Errors
@@ -146,7 +137,7 @@ impl Classes {
         ensures { IfOk result (IsGrowth self.now row) }
     {
         let class = ClassId::new(self.rows.len() as u32);
-        let is_concrete = is_concrete(row.class());
+        let is_concrete = is_concrete(row.class().file());
         let ancestors = self.proper_ancestors(alloc, row.class())?;
         let with_itself = AncestorList::of(alloc, &ancestors, class)?;
         let own = own_receivers(alloc, is_concrete, class)?;
@@ -229,8 +220,9 @@ fn make_ready(
     ensures kept { AreKept marks.old.value marks.new.value }
     ensures err { OnErr result (loaders.new.items ≡ loaders.old.items) }
 {
-    let name = name_of(alloc, &growth.row)?;
-    let loader = growth.row.class().loader();
+    let row = growth.row.class();
+    let name = row.file().name().as_slice().to_vec(alloc)?;
+    let loader = row.loader();
     reserve_all(
         alloc,
         rows,
@@ -240,13 +232,6 @@ fn make_ready(
     )?;
     add_marks(marks, &growth.marks, &growth.ancestors)?;
     record_in(loaders, loader, name, growth.class)
-}
-
-/// The class's name, as a loader records it. Want of memory is an error.
-fn name_of(alloc: Global, row: &Row) -> Result<Vec<u8>, AllocError>
-    ensures { IfOk result (λ name. name.items ≡ row.now.file.name) }
-{
-    row.class().file().name().as_slice().to_vec(alloc)
 }
 
 /// Makes room for one class more: for its row, its ancestors and its receivers, and in the list of each of these. Want of

@@ -1,6 +1,6 @@
 //! Why a class isn't defined (JVMS SE 17 §5.3.5).
 
-ghost use Rattle.std.specs.Prelude.{◌≡◌, ◌==◌, ◌&&◌, ◌||◌, not, nat_le, is_some, is_none, option_map, Some, None, length, position, List, IfOk};
+ghost use Rattle.std.specs.Prelude.{◌≡◌, ◌==◌, ◌&&◌, ◌||◌, not, nat_le, is_some, is_none, option_map, Some, None, length, position, IfOk};
 ghost use Rattle.std.specs.Prelude.{IfErr, IfSome, OnOk, ◌+◌, ◌<◌, ◌^◌};
 ghost use Rattle.std.specs.List.{list_any};
 ghost use Rattle.std.specs.Option.{option_copied};
@@ -8,7 +8,7 @@ ghost use Rattle.std.specs.Str.{bytes_eq};
 ghost use Rattle.jl_types.specs.Values.Members as members;
 ghost use Rattle.jl_types.specs.Happenings.Definitions as definitions;
 ghost use Rattle.jl_types.specs.Linkage.Resolution.{first_of};
-ghost use Rattle.jl_hierarchy.specs.Means.Faults.{first_faults, superclass_faults, is_open_row, named_class, first_place};
+ghost use Rattle.jl_hierarchy.specs.Means.Faults.{first_faults, superclass_faults, named_class, first_place};
 
 use crate::classes::Classes;
 use crate::nests::is_among;
@@ -189,12 +189,18 @@ impl Classes {
         Some(!self.is_open_parent(loader, file, file.superclass()?))
     }
 
-    /// Whether the parent of this name is accessible to the class that the loader makes of the file.
+    /// Whether the parent of this name is accessible to the class that the loader makes of the file: it is public, or in the run-time
+    /// package of that class.
     fn is_open_parent(&self, loader: LoaderId, file: &ClassFile, name: &Name) -> bool
         ensures { result ≡ definitions.is_open_parent self.now loader file.now name.now }
     {
         match self.named(loader, name.as_slice()) {
-            Some(row) => is_open_to(row, loader, file),
+            Some(row) => {
+                has_flag(row.file().flags(), PUBLIC)
+                    || row.loader() == loader
+                        && package_of(row.file().name().as_slice())
+                            == package_of(file.name().as_slice())
+            }
             None => false,
         }
     }
@@ -205,15 +211,6 @@ impl Classes {
     {
         self.class_at(self.lookup(loader, name)?)
     }
-}
-
-/// Whether the class is public, or in the run-time package of the class that the loader makes of the file.
-fn is_open_to(row: &Class, loader: LoaderId, file: &ClassFile) -> bool
-    ensures { result ≡ is_open_row row.now loader file.now }
-{
-    has_flag(row.file().flags(), PUBLIC)
-        || (row.loader() == loader
-            && package_of(row.file().name().as_slice()) == package_of(file.name().as_slice()))
 }
 
 /// The first place among the parents, where the superclass, if there is one, is so or not, and this is the first place among

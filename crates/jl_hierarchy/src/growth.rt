@@ -10,26 +10,28 @@ ghost use Rattle.jl_hierarchy.specs.Means.Kept.{Rises};
 ghost use Rattle.jl_types.specs.Happenings.Definitions as definitions;
 
 use crate::classes::Classes;
-use crate::receiving::is_concrete_file;
+use crate::receiving::is_concrete;
+use crate::row::Row;
 use jl_class::ClassFile;
 use jl_names::{Name, Seq};
 use jl_types::{Class, ClassId, LoaderId};
 use std::alloc::{AllocError, Global};
 
 impl Classes {
-    /// The class that the loader makes of the file. Want of memory is an error.
-    pub(crate) fn class_made(
+    /// The class that the loader makes of the file, as it is kept. Want of memory is an error.
+    pub(crate) fn row_made(
         &self,
         alloc: Global,
         loader: LoaderId,
         file: ClassFile,
-    ) -> Result<Class, AllocError>
+    ) -> Result<Row, AllocError>
         ensures row { IfOk result (λ row. row ≡ definitions.class_made self.now loader file) }
         ensures interface { OnOk result (extends_object file.flags file.superclass ≡ true) }
     {
         let superclass = self.found_superclass(loader, &file);
         let interfaces = self.found_all(alloc, loader, file.interfaces())?;
-        Ok(Class::new(loader, file, superclass, Seq::of(interfaces)))
+        let class = Class::new(loader, file, superclass, Seq::of(interfaces));
+        Row::new(alloc, class)
     }
 
     /// The class that the loader has recorded under the superclass's name.
@@ -102,7 +104,7 @@ impl Classes {
     fn makes_receiver(&self, loader: LoaderId, file: &ClassFile) -> bool
         ensures { result ≡ members.is_concrete (definitions.defined self.now loader file.now) (length self.now.rows) }
     {
-        is_concrete_file(file) && !self.is_retired(loader)
+        is_concrete(file) && !self.is_retired(loader)
     }
 
     /// The ancestors, by rising number, of the class that the loader would make of the file, and itself as the last. Want of

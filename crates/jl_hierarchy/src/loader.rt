@@ -138,7 +138,8 @@ fn record_behind(
     record_shared(recent, name, class)
 }
 
-/// Moves the recent records behind the older ones, where there are as many as there may be.
+/// Moves the recent records behind the older ones, to which they are new, where there are as many as there may be. Records that
+/// others hold, too, are copied first.
 ///
 /// # Errors
 ///
@@ -152,21 +153,6 @@ fn make_room(older: &mut Arc<Records>, recent: &mut Arc<Records>) -> Result<(), 
     if recent.len() < MOST_RECENT {
         return Ok(());
     }
-    move_recent(older, recent)
-}
-
-/// Moves the recent records behind the older ones, to which they are new. Records that others hold, too, are copied first.
-///
-/// # Errors
-///
-/// Want of memory. Nothing has changed then.
-fn move_recent(older: &mut Arc<Records>, recent: &mut Arc<Records>) -> Result<(), AllocError>
-    requires apart { are_new older.old.value recent.old.value ≡ true }
-    ensures older { OnOk result (older.new.value ≡ older.old.value ++ recent.old.value) }
-    ensures recent { OnOk result (recent.new.value ≡ []) }
-    ensures older_err { OnErr result (older.new.value ≡ older.old.value) }
-    ensures recent_err { OnErr result (recent.new.value ≡ recent.old.value) }
-{
     let moved = Arc::make_mut(recent)?;
     let records = Arc::make_mut(older)?;
     records.append(moved)

@@ -1,6 +1,6 @@
 //! Marks of methods that a subclass declares again.
 
-ghost use Rattle.std.specs.Prelude.{◌≡◌, ◌<◌, ℕ, [], None, true, false, length, slice_set, OnOk, IfSome};
+ghost use Rattle.std.specs.Prelude.{◌≡◌, ◌<◌, ℕ, [], None, true, false, OnOk, IfSome};
 ghost use Rattle.jl_hierarchy.specs.Redeclared.{tells, is_listed, is_every, is_marked, is_on};
 
 use indexmap::IndexSet;
@@ -66,7 +66,7 @@ impl Redeclared {
     pub(crate) fn has(&self, class: ClassId, print: u64) -> bool
         ensures { result ≡ is_marked self.now class print }
     {
-        self.has_every(class) || self.has_mark(class, print)
+        self.has_every(class) || self.marks.contains(&Mark { class, print })
     }
 
     /// Whether every method is marked at the class.
@@ -77,13 +77,6 @@ impl Redeclared {
             Some(every) => *every,
             None => false,
         }
-    }
-
-    /// Whether there is a mark of the class and the print.
-    fn has_mark(&self, class: ClassId, print: u64) -> bool
-        ensures { result ≡ is_listed self.now.0 class print }
-    {
-        self.marks.contains(&Mark { class, print })
     }
 
     /// Adds the mark, where it isn't there. Want of memory is an error; nothing has changed then.
@@ -112,16 +105,8 @@ fn set_every(every: &mut Vec<bool>, number: usize) -> Result<(), AllocError>
     while every.len() <= number {
         every.push(false)?;
     }
-    set(every.as_mut_slice(), number);
+    every.as_mut_slice()[number] = true;
     Ok(())
-}
-
-/// Sets the test of this number.
-fn set(every: &mut [bool], number: usize)
-    requires { number < length every.old }
-    ensures { every.new ≡ slice_set every.old number true }
-{
-    every[number] = true;
 }
 
 /// Adds the marks, where they aren't there; where none are given, marks every method at each of these classes. Marks that others
@@ -141,27 +126,19 @@ pub(crate) fn add_marks(
     }
 }
 
-/// Adds these marks. Want of memory is an error; some of them are added then.
+/// Adds these marks, where they aren't there. Want of memory is an error; some of them are added then.
 fn add_each(shared: &mut Arc<Redeclared>, marks: &[Mark]) -> Result<(), AllocError>
     ensures kept { (s p : ℕ) → is_marked shared.old.value s p ≡ true → is_marked shared.new.value s p ≡ true }
     ensures added { OnOk result ((s p : ℕ) → is_listed marks.now s p ≡ true → is_marked shared.new.value s p ≡ true) }
 {
     for mark in marks {
-        add_mark(shared, *mark)?;
+        if shared.has(mark.class, mark.print) {
+            continue;
+        }
+        let own = Arc::make_mut(shared)?;
+        own.add(*mark)?;
     }
     Ok(())
-}
-
-/// Adds the mark, where it isn't there. Want of memory is an error; nothing has changed then.
-fn add_mark(shared: &mut Arc<Redeclared>, mark: Mark) -> Result<(), AllocError>
-    ensures kept { (s p : ℕ) → is_marked shared.old.value s p ≡ true → is_marked shared.new.value s p ≡ true }
-    ensures added { OnOk result ((s p : ℕ) → tells s p mark ≡ true → is_marked shared.new.value s p ≡ true) }
-{
-    if shared.has(mark.class, mark.print) {
-        return Ok(());
-    }
-    let marks = Arc::make_mut(shared)?;
-    marks.add(mark)
 }
 
 /// Marks every method at each of these classes. Want of memory is an error; some of them are done then.
@@ -170,19 +147,11 @@ fn add_every(shared: &mut Arc<Redeclared>, classes: &[ClassId]) -> Result<(), Al
     ensures added { OnOk result ((s p : ℕ) → is_on s classes.now ≡ true → is_marked shared.new.value s p ≡ true) }
 {
     for class in classes {
-        add_every_mark(shared, *class)?;
+        if shared.has_every(*class) {
+            continue;
+        }
+        let own = Arc::make_mut(shared)?;
+        own.add_every(*class)?;
     }
     Ok(())
-}
-
-/// Marks every method at the class, where they aren't. Want of memory is an error.
-fn add_every_mark(shared: &mut Arc<Redeclared>, class: ClassId) -> Result<(), AllocError>
-    ensures kept { (s p : ℕ) → is_marked shared.old.value s p ≡ true → is_marked shared.new.value s p ≡ true }
-    ensures added { OnOk result ((p : ℕ) → is_marked shared.new.value class p ≡ true) }
-{
-    if shared.has_every(class) {
-        return Ok(());
-    }
-    let marks = Arc::make_mut(shared)?;
-    marks.add_every(class)
 }

@@ -1,6 +1,6 @@
 //! Superclasses and methods of a class. A class or a method that isn't there has no flag.
 
-ghost use Rattle.std.specs.Prelude.{◌≡◌, ◌&&◌, not};
+ghost use Rattle.std.specs.Prelude.{◌≡◌, ◌&&◌};
 ghost use Rattle.jl_class.specs.Flags as conditions;
 ghost use Rattle.jl_types.specs.Values.Members as members;
 ghost use Rattle.jl_types.specs.Values.Ancestry as ancestry;
@@ -103,7 +103,10 @@ impl Classes {
         ensures { result ≡ members.is_package_private self.now method.now }
     {
         match self.method_at(method) {
-            Some(method) => is_without_access_flag(method.flags()),
+            Some(method) => {
+                let flags = method.flags();
+                !has_flag(flags, PUBLIC) && !has_flag(flags, PROTECTED) && !has_flag(flags, PRIVATE)
+            }
             None => true,
         }
     }
@@ -117,12 +120,4 @@ impl Classes {
             None => false,
         }
     }
-}
-
-/// Whether none of the access flags is set.
-fn is_without_access_flag(flags: u16) -> bool
-    ensures { result ≡ (not (conditions.has_flag flags conditions.PUBLIC)
-        && (not (conditions.has_flag flags conditions.PROTECTED) && not (conditions.has_flag flags conditions.PRIVATE))) }
-{
-    !has_flag(flags, PUBLIC) && !has_flag(flags, PROTECTED) && !has_flag(flags, PRIVATE)
 }

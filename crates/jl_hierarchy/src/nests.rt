@@ -8,7 +8,7 @@ ghost use Rattle.jl_types.specs.Linkage.Access as access;
 
 use crate::classes::Classes;
 use jl_names::{Name, package_of};
-use jl_types::{Class, ClassId};
+use jl_types::ClassId;
 
 impl Classes {
     /// Whether the classes are of one run-time package: one defining loader and one package name (JVMS SE 17 §5.3).
@@ -16,7 +16,11 @@ impl Classes {
         ensures { result ≡ members.same_package self.now class other }
     {
         match (self.class_at(class), self.class_at(other)) {
-            (Some(row), Some(other)) => share_package(row, other),
+            (Some(row), Some(other)) => {
+                row.loader() == other.loader()
+                    && package_of(row.file().name().as_slice())
+                        == package_of(other.file().name().as_slice())
+            }
             _ => false,
         }
     }
@@ -47,14 +51,6 @@ impl Classes {
             None => false,
         }
     }
-}
-
-/// Whether the classes have one defining loader and one package name.
-pub(crate) fn share_package(row: &Class, other: &Class) -> bool
-    ensures { result ≡ members.share_package row.now other.now }
-{
-    row.loader() == other.loader()
-        && package_of(row.file().name().as_slice()) == package_of(other.file().name().as_slice())
 }
 
 /// Whether the name is one of these.

@@ -14,7 +14,7 @@ impl Classes {
         ensures { result ≡ resolution.declared_in_object self.now name.now ty.now }
     {
         let method = self.of_object(name, ty)?;
-        if self.is_public_instance(&method) {
+        if self.is_public(&method) && !self.is_static(&method) {
             Some(method)
         } else {
             None
@@ -27,12 +27,5 @@ impl Classes {
     {
         let object = self.lookup(LoaderId::new(0), b"java/lang/Object".as_slice())?;
         self.declared(object, name, ty)
-    }
-
-    /// Whether the method is public and not static.
-    fn is_public_instance(&self, method: &MethodId) -> bool
-        ensures { result ≡ members.is_public self.now method.now && not (members.is_static self.now method.now) }
-    {
-        self.is_public(method) && !self.is_static(method)
     }
 }

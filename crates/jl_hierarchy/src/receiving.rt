@@ -2,22 +2,14 @@
 
 ghost use Rattle.std.specs.Prelude.{◌≡◌, ◌<◌, ◌&&◌, not, length, if◌then◌else◌, [], ◌∷◌, All, OnOk, IfOk};
 ghost use Rattle.jl_class.specs.Flags.{has_flag, INTERFACE, ABSTRACT};
-ghost use Rattle.jl_types.specs.Values.Members as members;
 ghost use Rattle.jl_hierarchy.specs.Means.Kept.{HasRoom, Rises, IsAppended, lists};
 
 use jl_class::{ABSTRACT, ClassFile, INTERFACE, has_flag};
-use jl_types::{Class, ClassId};
+use jl_types::ClassId;
 use std::alloc::{AllocError, Global};
 
-/// Whether objects may be of the class: it is neither an interface nor abstract.
-pub(crate) fn is_concrete(row: &Class) -> bool
-    ensures { result ≡ members.is_concrete_row row.now }
-{
-    is_concrete_file(row.file())
-}
-
-/// Whether objects may be of the file's class.
-pub(crate) fn is_concrete_file(file: &ClassFile) -> bool
+/// Whether objects may be of the file's class: it is neither an interface nor abstract.
+pub(crate) fn is_concrete(file: &ClassFile) -> bool
     ensures { result ≡ (not (has_flag file.now.flags INTERFACE) && not (has_flag file.now.flags ABSTRACT)) }
 {
     !has_flag(file.flags(), INTERFACE) && !has_flag(file.flags(), ABSTRACT)

@@ -45,15 +45,11 @@ impl Classes {
 
     /// Whether every method is marked at the class or at its superclass, and the class has 16 superclasses or more.
     fn is_deep(&self, class: ClassId) -> bool {
-        self.is_every_near(class) && self.has_superclasses(class, LOOKS_A_METHOD)
-    }
-
-    /// Whether every method is marked at the class or at its superclass.
-    fn is_every_near(&self, class: ClassId) -> bool {
-        match self.superclass(class) {
-            Some(superclass) => self.marks.has_every(class) || self.marks.has_every(superclass),
-            None => self.marks.has_every(class),
-        }
+        let Some(superclass) = self.superclass(class) else {
+            return false;
+        };
+        (self.marks.has_every(class) || self.marks.has_every(superclass))
+            && self.has_superclasses(class, LOOKS_A_METHOD)
     }
 
     /// Whether the class has so many superclasses or more.

@@ -1,9 +1,8 @@
 //! The retirement of a loader with the classes that it has defined (JLS SE 17 §12.7).
 
-ghost use Rattle.std.specs.Prelude.{◌≡◌, ◌<◌, ◌≤◌, ◌&&◌, ◌==◌, ◌++◌, ◌∷◌, ℕ, None, All, find, not, filter, length, slice_get, slice_set, [], OnOk};
+ghost use Rattle.std.specs.Prelude.{◌≡◌, ◌<◌, ◌≤◌, ◌&&◌, ◌==◌, ◌++◌, ◌∷◌, ℕ, None, All, find, filter, length, slice_get, slice_set, [], OnOk};
 ghost use Rattle.std.specs.Prelude.{OnErr, IfOk, false, if◌then◌else◌};
 ghost use Rattle.std.specs.Option.{option_map_or};
-ghost use Rattle.jl_types.specs.Values.Ancestry as ancestry;
 ghost use Rattle.std.specs.List.{list_any, range_with_len};
 ghost use Rattle.jl_types.specs.Values.Members as members;
 ghost use Rattle.jl_types.specs.Happenings.Definitions as definitions;
@@ -99,16 +98,9 @@ impl Classes {
         requires { class < length self.now.rows }
         ensures { result ≡ retirement.inherits_from self.now loader class }
     {
-        self.is_present(class) && self.inherits_if_other(loader, class)
-    }
-
-    /// Whether the class is one of another loader, and has an ancestor of this one.
-    fn inherits_if_other(&self, loader: LoaderId, class: ClassId) -> bool
-        requires { class < length self.now.rows }
-        ensures { result ≡ (not (retirement.is_of self.now loader class)
-            && list_any (retirement.is_of self.now loader) (ancestry.ancestors self.now.rows class)) }
-    {
-        !self.is_of(loader, class) && self.has_one_of(loader, self.ancestors(class))
+        self.is_present(class)
+            && !self.is_of(loader, class)
+            && self.has_one_of(loader, self.ancestors(class))
     }
 
     /// Whether the loader has defined one of the classes.
@@ -138,15 +130,8 @@ impl Classes {
     fn records_from(&self, loader: LoaderId, other: LoaderId) -> bool
         ensures { result ≡ retirement.records_from self.now loader other }
     {
-        other != loader && self.records_any(loader, other)
-    }
-
-    /// Whether the other loader records a class of this one.
-    fn records_any(&self, loader: LoaderId, other: LoaderId) -> bool
-        ensures { result ≡ option_map_or (list_any (λ r. retirement.is_of self.now loader r.1)) (slice_get self.now.loaders other) false }
-    {
         match self.loaders.get(other.number() as usize) {
-            Some(records) => records.has_one_of(&self.rows, loader),
+            Some(records) => other != loader && records.has_one_of(&self.rows, loader),
             None => false,
         }
     }
@@ -263,7 +248,7 @@ fn empty_in(loaders: &mut Vec<Loader>, loader: LoaderId, bare: Loader)
     requires bare { bare ≡ [] }
     ensures { loaders.new.items ≡ slice_set loaders.old.items loader [] }
 {
-    empty(loaders.as_mut_slice(), loader, bare);
+    loaders.as_mut_slice()[loader.number() as usize] = bare;
 }
 
 /// Takes the classes of the loader out of the receivers of each of these.
@@ -279,15 +264,6 @@ fn drop_own_receivers(
     ensures { AreChanged losing.now (without rows.now.items loader) (lists below.old.items) (lists below.new.items) }
 {
     drop_receivers(alloc, rows, below.as_mut_slice(), loader, losing);
-}
-
-/// The same in a slice.
-fn empty(loaders: &mut [Loader], loader: LoaderId, bare: Loader)
-    requires there { loader < length loaders.old }
-    requires bare { bare ≡ [] }
-    ensures { loaders.new ≡ slice_set loaders.old loader [] }
-{
-    loaders[loader.number() as usize] = bare;
 }
 
 /// The same in a slice.

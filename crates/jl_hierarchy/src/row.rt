@@ -235,14 +235,9 @@ fn is_at(methods: &Methods<'_>, place: usize, sought: &Sought<'_>) -> bool
     ensures { result ≡ option_map_or (members.is_called sought.now.name sought.now.ty) (slice_get methods.now place) false }
 {
     match methods.at(place) {
-        Some(method) => is_called(&method, sought),
+        Some(method) => {
+            method.name().as_slice() == sought.name() && method.ty().as_slice() == sought.ty()
+        }
         None => false,
     }
-}
-
-/// Whether the method has this name and descriptor.
-fn is_called(method: &Method<'_>, sought: &Sought<'_>) -> bool
-    ensures { result ≡ members.is_called sought.now.name sought.now.ty method.now }
-{
-    method.name().as_slice() == sought.name() && method.ty().as_slice() == sought.ty()
 }

@@ -2,8 +2,6 @@
 use Rattle.std.specs.Prelude.{ℕ, Bool, not, ◌&&◌, ◌||◌, ◌==◌, List, Option, Some, None, option_and_then, is_some, if◌then◌else◌}
 use Rattle.std.specs.List.{list_any}
 use Rattle.jl_types.specs.declared.ids.MethodId.{MethodId}
-use Rattle.jl_types.specs.declared.answer.Chosen.{Chosen}
-use Rattle.jl_types.specs.declared.answer.Chosen.TheVariants.{Method as Picked, Nothing}
 use Rattle.jl_types.specs.Values.World.{Classes}
 use Rattle.jl_types.specs.Values.Members.{is_interface, is_private, is_static, is_abstract, declared}
 use Rattle.jl_types.specs.Values.Ancestry.{is_proper_ancestor}
@@ -39,8 +37,3 @@ is_default cs name ty c m = not (is_abstract cs m) && not (is_redeclared cs name
 -- the default of class c that its ancestor k declares
 abbrev pub default_at : Classes → List ℕ → List ℕ → ℕ → ℕ → Option MethodId
 default_at cs name ty c k = option_and_then (if_passes (is_default cs name ty c)) (candidate_at cs name ty c k)
-
--- what was found, if there was no second one
-abbrev pub one_found : Option MethodId → Chosen
-one_found None = Nothing
-one_found (Some m) = Picked m

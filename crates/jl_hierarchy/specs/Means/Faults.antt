@@ -1,13 +1,12 @@
 -- The faults of a definition as they are tested: before the parents are looked up, and those of the superclass alone. A means
 -- of proof.
-use Rattle.std.specs.Prelude.{ℕ, ◌+◌, Bool, true, false, not, ◌&&◌, ◌||◌, ◌==◌, List, [], ◌∷◌, slice_get, Option, Some, None, option_map}
+use Rattle.std.specs.Prelude.{ℕ, ◌+◌, Bool, true, false, not, ◌&&◌, ◌==◌, List, [], ◌∷◌, slice_get, Option, Some, None, option_map}
 use Rattle.std.specs.Prelude.{option_and_then, option_to_list, is_some}
 use Rattle.std.specs.List.{list_any}
 use Rattle.std.specs.Bool.{then_some}
 use Rattle.std.specs.Str.{bytes_eq}
-use Rattle.jl_names.specs.ClassNames.{package_of}
 use Rattle.jl_class.specs.Class.{ClassFile}
-use Rattle.jl_class.specs.Flags.{has_flag, object, PUBLIC}
+use Rattle.jl_class.specs.Flags.{object}
 use Rattle.jl_types.specs.declared.refusal.DefineFault.{DefineFault}
 use Rattle.jl_types.specs.declared.refusal.DefineFault.TheVariants.{UnknownLoader, SecondObject, AlreadyRecorded, NamesItself, SuperIsInterface, FinalSuper}
 use Rattle.jl_types.specs.Values.World.{Class, Classes}
@@ -31,12 +30,6 @@ superclass_faults cs loader file =
 -- the class that the loader has recorded under the name
 abbrev pub named_class : Classes → ℕ → List ℕ → Option Class
 named_class cs loader name = option_and_then (slice_get cs.rows) (lookup cs loader name)
-
--- public, or in the run-time package of the class that the loader makes of the file
-abbrev pub is_open_row : Class → ℕ → ClassFile → Bool
-is_open_row row loader file =
-    has_flag row.file.flags PUBLIC
-    || ((row.loader == loader) && bytes_eq (package_of row.file.name) (package_of file.name))
 
 -- the first place among the parents, from whether the superclass is such and from the first such place among the superinterfaces
 abbrev pub first_place : Option Bool → Option ℕ → Option ℕ

@@ -1,6 +1,5 @@
 use Rattle.std.specs.Prelude.{◌≡◌, ◌<◌, slice_get, option_and_then, length, All}
-use Rattle.std.proofs.Common.{ap, sym, subst, ◌∙◌, rules}
-use Rattle.jl_types.specs.Values.World.{Class}
+use Rattle.std.proofs.Common.{sym, subst, ◌∙◌, rules}
 use Rattle.jl_types.specs.Values.Members.{recorded}
 use Rattle.jl_hierarchy.specs.Means.Growing.{gaining}
 use Rattle.jl_hierarchy.proofs.define.make_ready.Goals as goal
@@ -12,5 +11,6 @@ reserve_all-requires c =
 
 pub record_in-requires-clause-fresh : goal.record_in-requires-clause-fresh
 record_in-requires-clause-fresh c =
-    (λ i. option_and_then (recorded (c.in_ok-name.ensures i)) (slice_get c.args.loaders.now.items
-    ((c.loader-loader.ensures ∙ ap (λ (k : Class). k.loader) c.class.ensures) i))) ∙ c.requires.fresh
+    let name : c.in_ok-name.name.items ≡ c.args.growth.now.row.file.name = search rules in
+    let loader : c.loader-loader.result ≡ c.args.growth.now.row.loader = search rules in
+    (λ i. option_and_then (recorded (name i)) (slice_get c.args.loaders.now.items (loader i))) ∙ c.requires.fresh
