@@ -1,6 +1,6 @@
 //! What the definition of a class adds.
 
-ghost use Rattle.std.specs.Prelude.{◌≡◌, ◌==◌, ◌<◌, ◌++◌, ◌∷◌, [], ℕ, length, filter_map, option_and_then, true, All, IfOk, OnOk, if◌then◌else◌};
+ghost use Rattle.std.specs.Prelude.{◌≡◌, ◌==◌, ◌<◌, ◌++◌, ◌∷◌, [], ℕ, length, filter_map, option_and_then, option_to_list, true, All, IfOk, OnOk, if◌then◌else◌};
 ghost use Rattle.jl_class.specs.Flags.{extends_object};
 ghost use Rattle.jl_types.specs.Values.Members as members;
 ghost use Rattle.std.specs.List.{flat_map, list_any};
@@ -76,7 +76,7 @@ impl Classes {
         ensures members { IfOk result (λ proper. (a : ℕ) → list_any (λ k. k == a) proper.items
             ≡ list_any (λ p. ancestry.is_ancestor self.now a p) (ancestry.parents row.now)) }
     {
-        let parents = parents_of(alloc, row)?;
+        let parents = parents_of(alloc, row.superclass(), row.interfaces())?;
         let proper = self.joined_ancestors(alloc, &parents)?;
         Ok(proper)
     }
@@ -119,31 +119,12 @@ impl Classes {
             ≡ ancestry.ancestors (definitions.defined self.now loader file.now).rows (length self.now.rows)) }
     {
         let class = ClassId::new(self.rows.len() as u32);
-        let parents = self.parents_found(alloc, loader, file)?;
+        let superclass = self.found_superclass(loader, file);
+        let interfaces = self.found_all(alloc, loader, file.interfaces())?;
+        let parents = parents_of(alloc, superclass, &interfaces)?;
         let mut all = self.joined_ancestors(alloc, &parents)?;
         all.push(class)?;
         Ok(all)
-    }
-
-    /// The superclass and the direct superinterfaces that the loader finds for the file. Want of memory is an error.
-    fn parents_found(
-        &self,
-        alloc: Global,
-        loader: LoaderId,
-        file: &ClassFile,
-    ) -> Result<Vec<ClassId>, AllocError>
-        ensures { IfOk result (λ parents. parents.items ≡ ancestry.parents (definitions.class_made self.now loader file.now)) }
-    {
-        let interfaces = self.found_all(alloc, loader, file.interfaces())?;
-        match self.found_superclass(loader, file) {
-            Some(superclass) => {
-                let mut parents = Vec::new(alloc);
-                parents.push(superclass)?;
-                parents.extend_from_slice(&interfaces)?;
-                Ok(parents)
-            }
-            None => Ok(interfaces),
-        }
     }
 
     /// The ancestors of these classes, each once, by rising number. Want of memory is an error.
@@ -181,17 +162,21 @@ impl Classes {
     }
 }
 
-/// The superclass and the direct superinterfaces of the class. Want of memory is an error.
-fn parents_of(alloc: Global, row: &Class) -> Result<Vec<ClassId>, AllocError>
-    ensures { IfOk result (λ parents. parents.items ≡ ancestry.parents row.now) }
+/// The superclass, if there is one, and then the superinterfaces. Want of memory is an error.
+fn parents_of(
+    alloc: Global,
+    superclass: Option<ClassId>,
+    interfaces: &[ClassId],
+) -> Result<Vec<ClassId>, AllocError>
+    ensures { IfOk result (λ parents. parents.items ≡ option_to_list superclass ++ interfaces.now) }
 {
-    match row.superclass() {
+    match superclass {
         Some(superclass) => {
             let mut parents = Vec::new(alloc);
             parents.push(superclass)?;
-            parents.extend_from_slice(row.interfaces())?;
+            parents.extend_from_slice(interfaces)?;
             Ok(parents)
         }
-        None => row.interfaces().to_vec(alloc),
+        None => interfaces.to_vec(alloc),
     }
 }

@@ -13,8 +13,9 @@ pub joined_ancestors-requires-clause-there : goal.joined_ancestors-requires-clau
 joined_ancestors-requires-clause-there c =
     let cs = c.args.self.now in
     let row = class_made cs c.args.loader c.args.file.now in
+    let found : c.deref-2.result.now ≡ parents row = search rules in
     let o = (defined_good cs (good _ _ _ c.self.invariant.0 cs c.self.view_is) c.args.loader c.args.file.now).ordered in
-    subst (All (λ p. p < length cs.rows)) (sym (c.deref.ensures.value ∙ c.in_ok-parents.ensures))
+    subst (All (λ p. p < length cs.rows)) (sym found)
     (All-from_recursion (λ p. p < length cs.rows) (parents row) (low cs row o))
 
 pub joined_ancestors-requires-clause-ordered : goal.joined_ancestors-requires-clause-ordered
@@ -27,9 +28,10 @@ pub returns : goal.returns
 returns c =
     let cs = c.args.self.now in
     let row = class_made cs c.args.loader c.args.file.now in
+    let found : c.deref-2.result.now ≡ parents row = search rules in
     let o = (defined_good cs (good _ _ _ c.self.invariant.0 cs c.self.view_is) c.args.loader c.args.file.now).ordered in
     let class_is : c.new-class.result ≡ length cs.rows = search rules in
     c.in_ok-push.ensures.items
     ∙ ap (λ (n : ℕ). c.in_ok-all.all.items ++ n ∷ []) class_is
     ∙ listed_next cs row o c.in_ok-all.all.items c.in_ok-all.ensures.rising
-    (λ a. c.in_ok-all.ensures.members a ∙ ap (list_any (λ p. is_ancestor cs a p)) (c.deref.ensures.value ∙ c.in_ok-parents.ensures))
+    (λ a. c.in_ok-all.ensures.members a ∙ ap (list_any (λ p. is_ancestor cs a p)) found)
