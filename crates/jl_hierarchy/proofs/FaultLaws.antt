@@ -1,6 +1,6 @@
 -- The first fault of a definition, test by test.
 use Rattle.std.specs.Prelude.{◌≡◌, ℕ, ◌+◌, ◌<◌, ◌==◌, ◌&&◌, Bool, true, false, cond, not, nat_le, is_none, is_some, List, []}
-use Rattle.std.specs.Prelude.{◌∷◌, ◌++◌, find, position, length, slice_get, Option, Some, None, option_map, option_and_then, option_to_list, nat_lt}
+use Rattle.std.specs.Prelude.{◌∷◌, ◌++◌, find, position, length, slice_get, Option, Some, None, option_map, option_and_then, option_to_list, nat_lt, zero, suc, IfSome}
 use Rattle.std.specs.Bool.{then_some}
 use Rattle.std.specs.List.{position_or_len, list_any}
 use Rattle.std.specs.Str.{bytes_eq}
@@ -19,7 +19,9 @@ use Rattle.jl_types.specs.Values.World.{Classes}
 use Rattle.jl_types.specs.Values.Members.{lookup, is_interface}
 use Rattle.jl_types.specs.Linkage.Resolution.{first_of}
 use Rattle.jl_types.specs.Happenings.Definitions.{is_unknown, parent_names, named_test, is_open_parent, define_fault}
-use Rattle.jl_hierarchy.specs.Means.Faults.{first_faults, superclass_faults, first_place}
+use Rattle.jl_hierarchy.specs.declared.faults.FaultAt.{FaultAt}
+use Rattle.jl_hierarchy.specs.declared.faults.FaultAt.TheVariants as found
+use Rattle.jl_hierarchy.specs.Means.Faults.{first_faults, superclass_faults, first_place, fault_of, IsThere}
 use Rattle.jl_hierarchy.proofs.PrintLaws.{none_yet}
 
 first_here : {A : Type 0} (p : A → Bool) (x : A) (xs : List A) → p x ≡ true → position p (x ∷ xs) ≡ Some 0
@@ -47,9 +49,6 @@ first_element p xs = find_at p xs ∙ by_test (nat_lt (position_or_len p xs) (le
     by_test true e = refl
     by_test false e = slice_get_past xs (position_or_len p xs) (grind (arith, common_steps))
 
-found_at : {A : Type 0} (p : A → Bool) (xs : List A) (i : ℕ) (x : A) → position p xs ≡ Some i → slice_get xs i ≡ Some x → find p xs ≡ Some x
-found_at p xs i x e h = first_element p xs ∙ ap (option_and_then (slice_get xs)) e ∙ h
-
 none_at : {A : Type 0} (p : A → Bool) (xs : List A) → position p xs ≡ None → find p xs ≡ None
 none_at p xs e = first_element p xs ∙ ap (option_and_then (slice_get xs)) e
 
@@ -67,15 +66,13 @@ as_found p (x ∷ xs) = by_test (p x) refl (as_found p xs)
     by_test true e rest = ap is_none (sym (first_here p x xs e))
     by_test false e rest = rest ∙ none_later (position p xs) ∙ ap is_none (sym (first_later p x xs e))
 
-found_first : {A B : Type 0} (f : A → B) (p : A → Bool) (xs : List A) (rest : List (Option B)) → is_some (position p xs) ≡ true
-    → is_none (first_of (option_map f (find p xs) ∷ rest)) ≡ false
-found_first f p xs rest e = by_found (find p xs) (as_found p xs ∙ not_none (position p xs) e)
+-- what is found is what is at the first place
+named_at : {A B : Type 0} (f : A → B) (p : A → Bool) (xs : List A) (i : ℕ) (rest : List (Option B)) → position p xs ≡ Some i
+    → first_of (option_map f (find p xs) ∷ rest) ≡ option_map f (slice_get xs i)
+named_at f p xs i rest e =
+    by_found (find p xs) (as_found p xs ∙ ap is_none e) ∙ ap (option_map f) (first_element p xs ∙ ap (option_and_then (slice_get xs)) e)
   where
-    not_none : (o : Option ℕ) → is_some o ≡ true → is_none o ≡ false
-    not_none None e = cc
-    not_none (Some i) e = refl
-
-    by_found : (o : Option _) → is_none o ≡ false → is_none (first_of (option_map f o ∷ rest)) ≡ false
+    by_found : (o : Option _) → is_none o ≡ false → first_of (option_map f o ∷ rest) ≡ option_map f o
     by_found None e = cc
     by_found (Some x) e = refl
 
@@ -90,13 +87,19 @@ before [] ys f e = cc
 before (None ∷ xs) ys f e = before xs ys f e
 before (Some x ∷ xs) ys f e = e
 
-some_of : {A : Type 0} (o : Option A) → is_some o ≡ true → (x : A) × (o ≡ Some x)
-some_of None e = cc
-some_of (Some x) e = (x, refl)
+there : {A B : Type 0} (f : A → B) (xs : List A) (i : ℕ) → i < length xs → is_none (option_map f (slice_get xs i)) ≡ false
+there f [] i lt = absurd (omega (arith, lt))
+there f (x ∷ xs) zero lt = refl
+there f (x ∷ xs) (suc i) lt = there f xs i (omega (arith, lt))
 
-pub none_of : {A : Type 0} (o : Option A) → is_some o ≡ false → o ≡ None
-none_of None e = refl
-none_of (Some x) e = cc
+-- the definition has a fault where one is found
+pub none_where : (cs : Classes) (loader : ℕ) (file : ClassFile) (found : Option FaultAt)
+    → define_fault cs loader file ≡ option_and_then (fault_of file) found → IfSome found (IsThere file) → is_none found ≡ is_none (define_fault cs loader file)
+none_where cs loader file None e at = ap is_none (sym e)
+none_where cs loader file (Some (found.Plain fault)) e at = ap is_none (sym e)
+none_where cs loader file (Some (found.Missing i)) e at = sym (ap is_none e ∙ there MissingParent (parent_names file) i at)
+none_where cs loader file (Some (found.NoInterface i)) e at = sym (ap is_none e ∙ there NotAnInterface file.interfaces i at)
+none_where cs loader file (Some (found.Closed i)) e at = sym (ap is_none e ∙ there InaccessibleParent (parent_names file) i at)
 
 module _ (cs : Classes) (loader : ℕ) (file : ClassFile) where
   abbrev is_missing : List ℕ → Bool
@@ -123,26 +126,14 @@ module _ (cs : Classes) (loader : ℕ) (file : ClassFile) where
   pub first_is : (f : DefineFault) → first_of (first_faults cs loader file) ≡ Some f → define_fault cs loader file ≡ Some f
   first_is f e = before (first_faults cs loader file) from_missing f e
 
-  pub refused_at_first : is_some (first_of (first_faults cs loader file)) ≡ true → false ≡ is_none (define_fault cs loader file)
-  refused_at_first e =
-      let found = some_of (first_of (first_faults cs loader file)) e in
-      sym (ap is_none (before (first_faults cs loader file) from_missing found.0 found.1))
-
   -- what is tested before has no fault
   module _ (first : first_of (first_faults cs loader file) ≡ None) where
     missing_next : define_fault cs loader file ≡ first_of from_missing
     missing_next = after (first_faults cs loader file) from_missing first
 
-    pub missing_is : (i : ℕ) (name : List ℕ) → position is_missing (parent_names file) ≡ Some i → slice_get (parent_names file) i ≡ Some name
-        → define_fault cs loader file ≡ Some (MissingParent name)
-    missing_is i name e h =
-        missing_next
-        ∙ ap (λ o. first_of (option_map MissingParent o ∷ superclass_faults cs loader file ++ from_interfaces))
-        (found_at is_missing (parent_names file) i name e h)
-
-    pub refused_as_missing : is_some (position is_missing (parent_names file)) ≡ true → false ≡ is_none (define_fault cs loader file)
-    refused_as_missing e = sym (ap is_none missing_next
-        ∙ found_first MissingParent is_missing (parent_names file) (superclass_faults cs loader file ++ from_interfaces) e)
+    pub missing_is : (i : ℕ) → position is_missing (parent_names file) ≡ Some i
+        → define_fault cs loader file ≡ option_map MissingParent (slice_get (parent_names file) i)
+    missing_is i e = missing_next ∙ named_at MissingParent is_missing (parent_names file) i (superclass_faults cs loader file ++ from_interfaces) e
 
     module _ (missing : position is_missing (parent_names file) ≡ None) where
       superclass_next : define_fault cs loader file ≡ first_of (superclass_faults cs loader file ++ from_interfaces)
@@ -154,33 +145,21 @@ module _ (cs : Classes) (loader : ℕ) (file : ClassFile) where
       pub superclass_is : (f : DefineFault) → first_of (superclass_faults cs loader file) ≡ Some f → define_fault cs loader file ≡ Some f
       superclass_is f e = superclass_next ∙ before (superclass_faults cs loader file) from_interfaces f e
 
-      pub refused_by_superclass : is_some (first_of (superclass_faults cs loader file)) ≡ true → false ≡ is_none (define_fault cs loader file)
-      refused_by_superclass e =
-          let found = some_of (first_of (superclass_faults cs loader file)) e in sym (ap is_none (superclass_is found.0 found.1))
-
       module _ (super : first_of (superclass_faults cs loader file) ≡ None) where
         interfaces_next : define_fault cs loader file ≡ first_of from_interfaces
         interfaces_next = superclass_next ∙ after (superclass_faults cs loader file) from_interfaces super
 
-        pub interface_is : (i : ℕ) (name : List ℕ) → position is_none_such file.interfaces ≡ Some i → slice_get file.interfaces i ≡ Some name
-            → define_fault cs loader file ≡ Some (NotAnInterface name)
-        interface_is i name e h = interfaces_next ∙ ap (λ o. first_of (option_map NotAnInterface o ∷ from_closed))
-            (found_at is_none_such file.interfaces i name e h)
-
-        pub refused_by_interface : is_some (position is_none_such file.interfaces) ≡ true → false ≡ is_none (define_fault cs loader file)
-        refused_by_interface e = sym (ap is_none interfaces_next ∙ found_first NotAnInterface is_none_such file.interfaces from_closed e)
+        pub interface_is : (i : ℕ) → position is_none_such file.interfaces ≡ Some i
+            → define_fault cs loader file ≡ option_map NotAnInterface (slice_get file.interfaces i)
+        interface_is i e = interfaces_next ∙ named_at NotAnInterface is_none_such file.interfaces i from_closed e
 
         module _ (interfaces : position is_none_such file.interfaces ≡ None) where
           closed_next : define_fault cs loader file ≡ first_of from_closed
           closed_next = interfaces_next ∙ ap (λ o. first_of (option_map NotAnInterface o ∷ from_closed)) (none_at is_none_such file.interfaces interfaces)
 
-          pub closed_is : (i : ℕ) (name : List ℕ) → position is_closed (parent_names file) ≡ Some i → slice_get (parent_names file) i ≡ Some name
-              → define_fault cs loader file ≡ Some (InaccessibleParent name)
-          closed_is i name e h = closed_next ∙ ap (λ o. first_of (option_map InaccessibleParent o ∷ from_full))
-              (found_at is_closed (parent_names file) i name e h)
-
-          pub refused_as_closed : is_some (position is_closed (parent_names file)) ≡ true → false ≡ is_none (define_fault cs loader file)
-          refused_as_closed e = sym (ap is_none closed_next ∙ found_first InaccessibleParent is_closed (parent_names file) from_full e)
+          pub closed_is : (i : ℕ) → position is_closed (parent_names file) ≡ Some i
+              → define_fault cs loader file ≡ option_map InaccessibleParent (slice_get (parent_names file) i)
+          closed_is i e = closed_next ∙ named_at InaccessibleParent is_closed (parent_names file) i from_full e
 
           module _ (closed : position is_closed (parent_names file) ≡ None) where
             full_next : define_fault cs loader file ≡ first_of from_full
@@ -191,13 +170,6 @@ module _ (cs : Classes) (loader : ℕ) (file : ClassFile) where
 
             pub accepted_is : nat_le 65536 (length cs.rows) ≡ false → define_fault cs loader file ≡ None
             accepted_is is = full_next ∙ ap (λ b. first_of (then_some b Full ∷ [])) is
-
-            pub admitted_unless_full : not (nat_le 65536 (length cs.rows)) ≡ is_none (define_fault cs loader file)
-            admitted_unless_full = by_room (nat_le 65536 (length cs.rows)) ∙ ap is_none (sym full_next)
-              where
-                by_room : (b : Bool) → not b ≡ is_none (first_of (then_some b Full ∷ []))
-                by_room true = refl
-                by_room false = refl
 
 last_none : {A : Type 0} (xs : List (Option A)) (o : Option A) → first_of (xs ++ o ∷ []) ≡ None → o ≡ None
 last_none [] None e = refl

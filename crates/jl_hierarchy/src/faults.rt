@@ -1,14 +1,14 @@
 //! Why a class isn't defined (JVMS SE 17 §5.3.5).
 
 ghost use Rattle.std.specs.Prelude.{◌≡◌, ◌==◌, ◌&&◌, ◌||◌, not, nat_le, is_some, is_none, option_map, Some, None, length, position, IfOk};
-ghost use Rattle.std.specs.Prelude.{IfErr, IfSome, OnOk, ◌+◌, ◌<◌, ◌^◌};
+ghost use Rattle.std.specs.Prelude.{IfErr, IfSome, OnOk, option_and_then, ◌+◌, ◌<◌, ◌^◌};
 ghost use Rattle.std.specs.List.{list_any};
 ghost use Rattle.std.specs.Option.{option_copied};
 ghost use Rattle.std.specs.Str.{bytes_eq};
 ghost use Rattle.jl_types.specs.Values.Members as members;
 ghost use Rattle.jl_types.specs.Happenings.Definitions as definitions;
 ghost use Rattle.jl_types.specs.Linkage.Resolution.{first_of};
-ghost use Rattle.jl_hierarchy.specs.Means.Faults.{first_faults, superclass_faults, named_class, first_place};
+ghost use Rattle.jl_hierarchy.specs.Means.Faults.{first_faults, superclass_faults, named_class, first_place, fault_of, IsThere};
 
 use crate::classes::Classes;
 use crate::nests::is_among;
@@ -18,6 +18,20 @@ use jl_types::{Class, DefineFault, LoaderId};
 
 /// The most classes.
 const MOST_CLASSES: usize = 65_536;
+
+/// A fault of a definition, where a parent stands for its name: by its place among the superclass, if there is one, and the
+/// superinterfaces behind it.
+#[derive(Drop)]
+enum FaultAt {
+    /// One that names no parent.
+    Plain(DefineFault),
+    /// A parent that isn't recorded.
+    Missing(usize),
+    /// A superinterface that is no interface, by its place among the superinterfaces alone.
+    NoInterface(usize),
+    /// A parent that isn't accessible.
+    Closed(usize),
+}
 
 impl Classes {
     /// The file of a class that the loader may define (JVMS SE 17 §5.3.5): the first half of [`define`](Classes::define),
@@ -31,25 +45,19 @@ impl Classes {
         ensures accepted { OnOk result (definitions.define_fault self.now loader file ≡ None) }
         ensures fault { IfErr result (λ f. definitions.define_fault self.now loader file ≡ Some f) }
     {
-        if let Some(fault) = self.first_fault(loader, &file) {
-            return Err(fault);
+        match self.fault_at(loader, &file) {
+            None => Ok(file),
+            Some(FaultAt::Plain(fault)) => Err(fault),
+            Some(FaultAt::Missing(place)) => {
+                Err(DefineFault::MissingParent(file.into_parent(place)))
+            }
+            Some(FaultAt::NoInterface(place)) => {
+                Err(DefineFault::NotAnInterface(file.into_interface(place)))
+            }
+            Some(FaultAt::Closed(place)) => {
+                Err(DefineFault::InaccessibleParent(file.into_parent(place)))
+            }
         }
-        if let Some(parent) = self.missing_parent(loader, &file) {
-            return Err(DefineFault::MissingParent(file.into_parent(parent)));
-        }
-        if let Some(fault) = self.superclass_fault(loader, &file) {
-            return Err(fault);
-        }
-        if let Some(interface) = self.no_interface(loader, &file) {
-            return Err(DefineFault::NotAnInterface(file.into_interface(interface)));
-        }
-        if let Some(parent) = self.inaccessible_parent(loader, &file) {
-            return Err(DefineFault::InaccessibleParent(file.into_parent(parent)));
-        }
-        if self.is_full() {
-            return Err(DefineFault::Full);
-        }
-        Ok(file)
     }
 
     /// Whether the loader may define the class of the file, for a caller that keeps the file: what [`admitted`](Classes::admitted)
@@ -57,22 +65,33 @@ impl Classes {
     pub fn admits(&self, loader: LoaderId, file: &ClassFile) -> bool
         ensures { result ≡ is_none (definitions.define_fault self.now loader file.now) }
     {
-        if self.first_fault(loader, file).is_some() {
-            return false;
+        self.fault_at(loader, file).is_none()
+    }
+
+    /// The first fault of the definition.
+    fn fault_at(&self, loader: LoaderId, file: &ClassFile) -> Option<FaultAt>
+        ensures first { definitions.define_fault self.now loader file.now ≡ option_and_then (fault_of file.now) result }
+        ensures there { IfSome result (IsThere file.now) }
+    {
+        if let Some(fault) = self.first_fault(loader, file) {
+            return Some(FaultAt::Plain(fault));
         }
-        if self.missing_parent(loader, file).is_some() {
-            return false;
+        if let Some(place) = self.missing_parent(loader, file) {
+            return Some(FaultAt::Missing(place));
         }
-        if self.superclass_fault(loader, file).is_some() {
-            return false;
+        if let Some(fault) = self.superclass_fault(loader, file) {
+            return Some(FaultAt::Plain(fault));
         }
-        if self.no_interface(loader, file).is_some() {
-            return false;
+        if let Some(place) = self.no_interface(loader, file) {
+            return Some(FaultAt::NoInterface(place));
         }
-        if self.inaccessible_parent(loader, file).is_some() {
-            return false;
+        if let Some(place) = self.inaccessible_parent(loader, file) {
+            return Some(FaultAt::Closed(place));
         }
-        !self.is_full()
+        if self.is_full() {
+            return Some(FaultAt::Plain(DefineFault::Full));
+        }
+        None
     }
 
     /// Whether there are as many classes as there may be.
