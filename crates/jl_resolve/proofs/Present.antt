@@ -1,5 +1,5 @@
 -- What a reference finds in a present class is a method of a present class.
-use Rattle.std.specs.Prelude.{◌≡◌, ℕ, zero, suc, ◌+◌, ◌<◌, ◌==◌, ◌||◌, ◌&&◌, not, Bool, true, false, cond, List, [], ◌∷◌, ◌++◌, filter, filter_map}
+use Rattle.std.specs.Prelude.{◌≡◌, ℕ, zero, suc, ◌+◌, ◌==◌, ◌||◌, ◌&&◌, not, Bool, true, false, cond, List, [], ◌∷◌, ◌++◌, filter, filter_map}
 use Rattle.std.specs.Prelude.{position, slice_get}
 use Rattle.std.specs.Prelude.{Option, Some, None, option_map, option_and_then, option_to_list, IfSome, if◌then◌else◌}
 use Rattle.std.specs.Option.{option_map_or}

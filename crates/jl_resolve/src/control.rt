@@ -1,8 +1,6 @@
 //! Access control (JVMS SE 17 §5.4.4).
 
-ghost use Rattle.std.specs.Prelude.{◌≡◌, ◌<◌, ◌&&◌, ◌||◌, Some, length};
-ghost use Rattle.jl_types.specs.Values.Members as members;
-ghost use Rattle.jl_types.specs.Values.Ancestry as ancestry;
+ghost use Rattle.std.specs.Prelude.{◌≡◌, ◌<◌, length};
 ghost use Rattle.jl_types.specs.Linkage.Access as access;
 ghost use Rattle.jl_resolve.specs.Answers.{IsAccess};
 
@@ -40,33 +38,17 @@ pub fn access_to_method(
     requires named { named < length classes.now.rows }
     ensures { IsAccess result (access.accessible classes.now caller named method.now) }
 {
-    if is_open(classes, caller, named, method) {
+    if classes.is_public(method)
+        || is_open_to_subclass(classes, caller, named, method)
+        || is_open_to_package(classes, caller, method)
+    {
         return Access::Allowed;
     }
     access_by_nest(classes, caller, method)
 }
 
-/// Whether the method is accessible whatever the nests are.
-fn is_open(classes: &Classes, caller: ClassId, named: ClassId, method: &MethodId) -> bool
-    requires caller { caller < length classes.now.rows }
-    requires named { named < length classes.now.rows }
-    ensures { result ≡ members.is_public classes.now method.now || (access.by_subclass classes.now caller named method.now
-        || access.by_package classes.now caller method.now) }
-{
-    classes.is_public(method) || is_open_to_some(classes, caller, named, method)
-}
-
-/// Whether the method is accessible as a superclass's one or as one of the package.
-fn is_open_to_some(classes: &Classes, caller: ClassId, named: ClassId, method: &MethodId) -> bool
-    requires caller { caller < length classes.now.rows }
-    requires named { named < length classes.now.rows }
-    ensures { result ≡ access.by_subclass classes.now caller named method.now || access.by_package classes.now caller method.now }
-{
-    is_open_to_subclass(classes, caller, named, method)
-        || is_open_to_package(classes, caller, method)
-}
-
-/// Whether the method is protected, the caller is a subclass of its class, and the reference may name this class.
+/// Whether the method is protected and of a superclass of the caller, and is static, or the class that the reference names is the
+/// caller, a subclass or a superclass of it.
 fn is_open_to_subclass(
     classes: &Classes,
     caller: ClassId,
@@ -77,50 +59,19 @@ fn is_open_to_subclass(
     requires named { named < length classes.now.rows }
     ensures { result ≡ access.by_subclass classes.now caller named method.now }
 {
-    classes.is_protected(method) && is_of_superclass(classes, caller, named, method)
-}
-
-/// Whether the caller is a subclass of the method's class, and the reference may name this class.
-fn is_of_superclass(classes: &Classes, caller: ClassId, named: ClassId, method: &MethodId) -> bool
-    requires caller { caller < length classes.now.rows }
-    requires named { named < length classes.now.rows }
-    ensures { result ≡ ancestry.is_subclass classes.now caller method.now.class && (members.is_static classes.now method.now
-        || (ancestry.is_subclass classes.now named caller || ancestry.is_subclass classes.now caller named)) }
-{
-    classes.is_subclass(caller, method.class) && may_name(classes, caller, named, method)
-}
-
-/// Whether the method is static, or the class that the reference names is the caller, a subclass or a superclass of it.
-fn may_name(classes: &Classes, caller: ClassId, named: ClassId, method: &MethodId) -> bool
-    requires caller { caller < length classes.now.rows }
-    requires named { named < length classes.now.rows }
-    ensures { result ≡ members.is_static classes.now method.now
-        || (ancestry.is_subclass classes.now named caller || ancestry.is_subclass classes.now caller named) }
-{
-    classes.is_static(method) || are_of_one_line(classes, named, caller)
-}
-
-/// Whether one of the classes is the other one or one of its subclasses.
-fn are_of_one_line(classes: &Classes, class: ClassId, other: ClassId) -> bool
-    requires class { class < length classes.now.rows }
-    requires other { other < length classes.now.rows }
-    ensures { result ≡ ancestry.is_subclass classes.now class other || ancestry.is_subclass classes.now other class }
-{
-    classes.is_subclass(class, other) || classes.is_subclass(other, class)
+    classes.is_protected(method)
+        && classes.is_subclass(caller, method.class)
+        && (classes.is_static(method)
+            || classes.is_subclass(named, caller)
+            || classes.is_subclass(caller, named))
 }
 
 /// Whether the method is protected or has no access flag, and its class is in the caller's run-time package.
 fn is_open_to_package(classes: &Classes, caller: ClassId, method: &MethodId) -> bool
     ensures { result ≡ access.by_package classes.now caller method.now }
 {
-    is_for_package(classes, method) && classes.same_package(method.class, caller)
-}
-
-/// Whether the method is protected or has no access flag.
-fn is_for_package(classes: &Classes, method: &MethodId) -> bool
-    ensures { result ≡ members.is_protected classes.now method.now || members.is_package_private classes.now method.now }
-{
-    classes.is_protected(method) || classes.is_package_private(method)
+    (classes.is_protected(method) || classes.is_package_private(method))
+        && classes.same_package(method.class, caller)
 }
 
 /// Whether the method is private and its class is in the caller's nest, as the caller itself is.
@@ -133,17 +84,10 @@ fn access_by_nest(classes: &Classes, caller: ClassId, method: &MethodId) -> Acce
     if method.class == caller {
         return Access::Allowed;
     }
-    match classes.nest_host(caller) {
-        Some(host) => access_in_nest(host, classes.nest_host(method.class)),
-        None => Access::NotKnown(Missing::CallerHost),
-    }
-}
-
-/// Whether the host of the method's class is the host of the caller's nest.
-fn access_in_nest(caller_host: ClassId, method_host: Option<ClassId>) -> Access
-    ensures { IsAccess result (access.same_nest (Some caller_host) method_host) }
-{
-    match method_host {
+    let Some(caller_host) = classes.nest_host(caller) else {
+        return Access::NotKnown(Missing::CallerHost);
+    };
+    match classes.nest_host(method.class) {
         None => Access::NotKnown(Missing::MethodHost),
         Some(host) => {
             if host == caller_host {

@@ -113,9 +113,13 @@ fn resolve_in(
     if reference.itf != classes.is_interface(named) {
         return Err(ResolveAnswer::Fault(Throwable::IncompatibleClassChangeError));
     }
-    match found(classes, reference, named) {
-        Some(method) => if_accessible(classes, caller, named, method),
-        None => Err(ResolveAnswer::Fault(Throwable::NoSuchMethodError)),
+    let Some(method) = found(classes, reference, named) else {
+        return Err(ResolveAnswer::Fault(Throwable::NoSuchMethodError));
+    };
+    match access_to_method(classes, caller, named, &method) {
+        Access::Allowed => Ok(method),
+        Access::Denied => Err(ResolveAnswer::Fault(Throwable::IllegalAccessError)),
+        Access::NotKnown(missing) => Err(ResolveAnswer::NotReady(missing)),
     }
 }
 
@@ -130,23 +134,5 @@ fn found(classes: &Classes, reference: &Reference<LentName<'_>>, named: ClassId)
         found_in_interface(classes, named, name, ty)
     } else {
         found_in_class(classes, named, name, ty)
-    }
-}
-
-/// The method, if it is accessible to the caller.
-fn if_accessible(
-    classes: &Classes,
-    caller: ClassId,
-    named: ClassId,
-    method: MethodId,
-) -> Result<MethodId, ResolveAnswer>
-    requires caller { caller < length classes.now.rows }
-    requires named { named < length classes.now.rows }
-    ensures { result ≡ resolution.if_accessible classes.now caller named (Some method) }
-{
-    match access_to_method(classes, caller, named, &method) {
-        Access::Allowed => Ok(method),
-        Access::Denied => Err(ResolveAnswer::Fault(Throwable::IllegalAccessError)),
-        Access::NotKnown(missing) => Err(ResolveAnswer::NotReady(missing)),
     }
 }
