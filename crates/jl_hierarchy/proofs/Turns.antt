@@ -1,8 +1,8 @@
--- Walks over ranges and over lists.
-use Rattle.std.specs.Prelude.{◌≡◌, ℕ, suc, ◌+◌, ◌-◌, ◌<◌, ◌≤◌, Bool, true, false, cond, ◌||◌, List, [], ◌∷◌, ◌++◌, find, filter, drop, take, length}
-use Rattle.std.specs.Prelude.{get_or, slice_get, Some, None, if◌then◌else◌, nat_eq, ◌==◌}
-use Rattle.std.specs.List.{list_any, range_with_len}
-use Rattle.std.proofs.Common.{refl, ap, sym, ◌∙◌, arith, Vec}
+-- Walks over lists.
+use Rattle.std.specs.Prelude.{◌≡◌, ℕ, ◌+◌, ◌<◌, Bool, true, false, cond, ◌||◌, List, [], ◌∷◌, ◌++◌, filter, drop, take, length}
+use Rattle.std.specs.Prelude.{get_or, slice_get, Some, if◌then◌else◌, nat_eq, ◌==◌}
+use Rattle.std.specs.List.{list_any}
+use Rattle.std.proofs.Common.{refl, ap, sym, ◌∙◌, Vec}
 use Rattle.std.proofs.lemmas.Cmp.{nat_eq_equiv}
 use Rattle.std.proofs.lemmas.List.{take_more}
 use Rattle.std.proofs.lemmas.List.Elements.{filter-append}
@@ -54,30 +54,3 @@ filtered_more p xs n x lt is =
     by_test : (b : Bool) → cond b (x ∷ []) [] ≡ (if b then x ∷ [] else [])
     by_test true = refl
     by_test false = refl
-
--- ---- ranges
-
-module _ (p : ℕ → Bool) (a n : ℕ) where
-  abbrev rest : List ℕ
-  rest = range_with_len (a + 1) (n - (a + 1))
-
-  first_of_rest : a < n → range_with_len a (n - a) ≡ a ∷ rest
-  first_of_rest lt = ap (range_with_len a) up
-    where
-      up : n - a ≡ suc (n - (a + 1))
-      up = omega (arith, lt)
-
-  pub found_here : a < n → p a ≡ true → find p (range_with_len a (n - a)) ≡ Some a
-  found_here lt is = ap (find p) (first_of_rest lt) ∙ ap (λ (b : Bool). cond b (Some a) (find p rest)) is
-
-  pub found_later : a < n → p a ≡ false → find p (range_with_len a (n - a)) ≡ find p rest
-  found_later lt is = ap (find p) (first_of_rest lt) ∙ ap (λ (b : Bool). cond b (Some a) (find p rest)) is
-
-  none_of_rest : n ≤ a → range_with_len a (n - a) ≡ []
-  none_of_rest le = ap (range_with_len a) none
-    where
-      none : n - a ≡ 0
-      none = omega (arith, le)
-
-  pub found_never : n ≤ a → find p (range_with_len a (n - a)) ≡ None
-  found_never le = ap (find p) (none_of_rest le)

@@ -1,6 +1,6 @@
 //! Why a class isn't defined (JVMS SE 17 §5.3.5).
 
-ghost use Rattle.std.specs.Prelude.{◌≡◌, ◌==◌, ◌&&◌, ◌||◌, not, nat_le, is_some, is_none, option_map, Some, None, length, position, IfOk};
+ghost use Rattle.std.specs.Prelude.{◌≡◌, not, nat_le, is_none, option_map, Some, None, length, position, IfOk};
 ghost use Rattle.std.specs.Prelude.{IfErr, IfSome, OnOk, option_and_then, ◌+◌, ◌<◌, ◌^◌};
 ghost use Rattle.std.specs.List.{list_any};
 ghost use Rattle.std.specs.Option.{option_copied};

@@ -1,6 +1,6 @@
 //! Marks of methods that a subclass declares again.
 
-ghost use Rattle.std.specs.Prelude.{◌≡◌, ◌<◌, ℕ, [], None, true, false, OnOk, IfSome};
+ghost use Rattle.std.specs.Prelude.{◌≡◌, ℕ, [], None, true, OnOk, IfSome};
 ghost use Rattle.jl_hierarchy.specs.Redeclared.{tells, is_listed, is_every, is_marked, is_on};
 
 use indexmap::IndexSet;

@@ -1,6 +1,6 @@
 //! Superclasses and methods of a class. A class or a method that isn't there has no flag.
 
-ghost use Rattle.std.specs.Prelude.{◌≡◌, ◌&&◌};
+ghost use Rattle.std.specs.Prelude.{◌≡◌};
 ghost use Rattle.jl_class.specs.Flags as conditions;
 ghost use Rattle.jl_types.specs.Values.Members as members;
 ghost use Rattle.jl_types.specs.Values.Ancestry as ancestry;

@@ -1,6 +1,6 @@
 //! The methods of java/lang/Object that interfaces find (JVMS SE 17 §5.4.3.4).
 
-ghost use Rattle.std.specs.Prelude.{◌≡◌, ◌&&◌, not, option_and_then};
+ghost use Rattle.std.specs.Prelude.{◌≡◌, option_and_then};
 ghost use Rattle.jl_class.specs.Flags.{object};
 ghost use Rattle.jl_types.specs.Values.Members as members;
 ghost use Rattle.jl_types.specs.Linkage.Resolution as resolution;

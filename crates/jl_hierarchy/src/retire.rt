@@ -1,6 +1,6 @@
 //! The retirement of a loader with the classes that it has defined (JLS SE 17 §12.7).
 
-ghost use Rattle.std.specs.Prelude.{◌≡◌, ◌<◌, ◌≤◌, ◌&&◌, ◌==◌, ◌++◌, ◌∷◌, ℕ, None, All, find, filter, length, slice_get, slice_set, [], OnOk};
+ghost use Rattle.std.specs.Prelude.{◌≡◌, ◌<◌, ◌&&◌, ◌==◌, ◌++◌, ◌∷◌, ℕ, None, All, find, filter, length, slice_get, slice_set, [], OnOk};
 ghost use Rattle.std.specs.Prelude.{OnErr, IfOk, false, if◌then◌else◌};
 ghost use Rattle.std.specs.Option.{option_map_or};
 ghost use Rattle.std.specs.List.{list_any, range_with_len};
@@ -69,33 +69,24 @@ impl Classes {
             return Some(RetireFault::FirstLoader);
         }
         if let Some(class) = self.first_heir(loader) {
-            return Some(RetireFault::Inherited(class));
+            return Some(RetireFault::Inherited(ClassId::new(class)));
         }
         if let Some(other) = self.first_recorder(loader) {
-            return Some(RetireFault::Recorded(other));
+            return Some(RetireFault::Recorded(LoaderId::new(other)));
         }
         None
     }
 
-    /// The least present class of another loader that has an ancestor of this one.
-    fn first_heir(&self, loader: LoaderId) -> Option<ClassId>
+    /// The number of the least present class of another loader that has an ancestor of this one.
+    fn first_heir(&self, loader: LoaderId) -> Option<u32>
         ensures { result ≡ find (retirement.inherits_from self.now loader) (members.numbers self.now) }
     {
-        let count = self.count_in_order();
-        let mut number = 0;
-        while number < count {
-            let class = ClassId::new(number as u32);
-            if self.inherits_from(loader, class) {
-                return Some(class);
-            }
-            number += 1;
-        }
-        None
+        let count = self.count_in_order() as u32;
+        (0..count).find(|class| self.inherits_from(loader, ClassId::new(*class)))
     }
 
     /// Whether the class is a present one of another loader, and has an ancestor of this one.
     fn inherits_from(&self, loader: LoaderId, class: ClassId) -> bool
-        requires { class < length self.now.rows }
         ensures { result ≡ retirement.inherits_from self.now loader class }
     {
         self.is_present(class)
@@ -110,20 +101,12 @@ impl Classes {
         classes.iter().any(|class| self.is_of(loader, *class))
     }
 
-    /// The least other loader that records a class of this one: a present one, since a retired one records nothing.
-    fn first_recorder(&self, loader: LoaderId) -> Option<LoaderId>
+    /// The number of the least other loader that records a class of this one: a present one, since a retired one records nothing.
+    fn first_recorder(&self, loader: LoaderId) -> Option<u32>
         ensures { result ≡ find (retirement.records_from self.now loader) (range_with_len 0 (length self.now.loaders)) }
     {
-        let count = self.loader_count();
-        let mut number = 0;
-        while number < count {
-            let other = LoaderId::new(number as u32);
-            if self.records_from(loader, other) {
-                return Some(other);
-            }
-            number += 1;
-        }
-        None
+        let count = self.loader_count() as u32;
+        (0..count).find(|other| self.records_from(loader, LoaderId::new(*other)))
     }
 
     /// Whether the other loader is another one, and records a class of this one.

@@ -1,15 +1,14 @@
-use Rattle.std.proofs.Common.{ap, sym, ◌∙◌, arith}
-use Rattle.jl_types.specs.Happenings.Retirement as retirement
-use Rattle.jl_hierarchy.proofs.Turns.{found_later}
+use Rattle.std.specs.Prelude.{length}
+use Rattle.std.proofs.Common.{sym, ◌∙◌, rules, arith}
+use Rattle.std.proofs.lemmas.Iterator.{YieldsList-from_range}
+use Rattle.std.proofs.lemmas.Iterator.Adapters.{option_map_id}
+use Rattle.std.proofs.lemmas.Iterator.Search.{find_from_yields_List}
+use Rattle.jl_types.specs.Happenings.Retirement.{inherits_from}
 use Rattle.jl_hierarchy.proofs.classes.Classes.first_heir.Goals as goal
 
-pub loop-number-preserved : goal.loop-number-preserved
-loop-number-preserved c =
-    let lt = c.loop-number-test.true in
-    record {
-      within = omega (arith, lt);
-      same =
-          c.loop-number.invariant.same
-          ∙ found_later (retirement.inherits_from c.args.self.now c.args.loader) c.loop-number.number c.count_in_order-count.result lt
-          (ap (retirement.inherits_from c.args.self.now c.args.loader) (sym c.new-class.ensures) ∙ sym c.inherits_from.ensures ∙ c.if-inherits_from.false);
-    }
+pub returns : goal.returns
+returns c =
+    let n = length c.args.self.now.rows in
+    sym (option_map_id c.find.result)
+    ∙ find_from_yields_List (inherits_from c.args.self.now c.args.loader) _ _ _ c.find.ensures.ran
+    (YieldsList-from_range 0 n n (λ i. record { start = 0; end = c.count_in_order-count.ensures.count i }) (omega arith)) (λ x b q k. search rules)

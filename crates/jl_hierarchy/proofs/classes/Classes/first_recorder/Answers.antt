@@ -1,15 +1,14 @@
-use Rattle.std.proofs.Common.{ap, sym, ◌∙◌, arith}
-use Rattle.jl_types.specs.Happenings.Retirement as retirement
-use Rattle.jl_hierarchy.proofs.Turns.{found_later}
+use Rattle.std.specs.Prelude.{length}
+use Rattle.std.proofs.Common.{sym, ◌∙◌, rules, arith}
+use Rattle.std.proofs.lemmas.Iterator.{YieldsList-from_range}
+use Rattle.std.proofs.lemmas.Iterator.Adapters.{option_map_id}
+use Rattle.std.proofs.lemmas.Iterator.Search.{find_from_yields_List}
+use Rattle.jl_types.specs.Happenings.Retirement.{records_from}
 use Rattle.jl_hierarchy.proofs.classes.Classes.first_recorder.Goals as goal
 
-pub loop-number-preserved : goal.loop-number-preserved
-loop-number-preserved c =
-    let lt = c.loop-number-test.true in
-    record {
-      within = omega (arith, lt);
-      same =
-          c.loop-number.invariant.same
-          ∙ found_later (retirement.records_from c.args.self.now c.args.loader) c.loop-number.number c.loader_count-count.result lt
-          (ap (retirement.records_from c.args.self.now c.args.loader) (sym c.new-other.ensures) ∙ sym c.records_from.ensures ∙ c.if-records_from.false);
-    }
+pub returns : goal.returns
+returns c =
+    let n = length c.args.self.now.loaders in
+    sym (option_map_id c.find.result)
+    ∙ find_from_yields_List (records_from c.args.self.now c.args.loader) _ _ _ c.find.ensures.ran
+    (YieldsList-from_range 0 n n (λ i. record { start = 0; end = c.loader_count-count.ensures.count i }) (omega arith)) (λ x b q k. search rules)
