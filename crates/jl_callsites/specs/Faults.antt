@@ -2,14 +2,13 @@
 -- at bindings, so a world of these classes and sites stands for each that has them.
 use Rattle.std.specs.Prelude.{ℕ, Bool, true, not, nat_le, List, [], ◌∷◌, ◌++◌, length, slice_get, Option}
 use Rattle.std.specs.Bool.{then_some}
-use Rattle.jl_class.specs.Special.{begins_special}
 use Rattle.jl_types.specs.declared.ids.MethodId.{MethodId}
 use Rattle.jl_types.specs.declared.target.CallSiteKind.{CallSiteKind}
 use Rattle.jl_types.specs.declared.refusal.CallSiteFault.{CallSiteFault}
 use Rattle.jl_types.specs.declared.refusal.CallSiteFault.TheVariants.{Full, UnknownMethod, NotStatic, WrongType, InvokerOrder}
 use Rattle.jl_types.specs.Values.Target.{Target}
 use Rattle.jl_types.specs.Values.World.{World, Classes, Sites}
-use Rattle.jl_types.specs.Values.Members.{method_test, is_static}
+use Rattle.jl_types.specs.Values.Members.{is_static}
 use Rattle.jl_types.specs.Linkage.Resolution.{first_of}
 use Rattle.jl_types.specs.Linkage.Targets.{may_be_named, is_of_type, invokes_type}
 use Rattle.jl_types.specs.Happenings.Events.{most_of_a_kind, new_call_site_fault, retargeted, invalidated}
@@ -47,9 +46,6 @@ invoker_fault sites c ty d = first_of (
     then_some (nat_le c d) (InvokerOrder d)
     ∷ then_some (not (invokes_type sites ty d)) WrongType
     ∷ [])
-
-abbrev pub has_plain_name : Classes → MethodId → Bool
-has_plain_name cs m = method_test (λ method. not (begins_special method.name)) cs m
 
 -- ---- the call sites and switch points afterwards
 

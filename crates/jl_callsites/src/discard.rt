@@ -27,7 +27,12 @@ fn turned(point: SwitchId, first: Box<Target>, fallback: Box<Target>) -> Target
     ensures { turns_left result < 2 * turns_left first.value + turns_left fallback.value + 1 }
 {
     let mut room = first;
-    let Target { part } = mem::replace(&mut *room, any_method());
+    // Stands there until another one comes.
+    let any = Target::method(MethodId {
+        class: ClassId::new(0),
+        index: 0,
+    });
+    let Target { part } = mem::replace(&mut *room, any);
     match part {
         Part::Method(_) => Box::into_inner(fallback),
         Part::Guard(inner, first, second) => {
@@ -36,12 +41,4 @@ fn turned(point: SwitchId, first: Box<Target>, fallback: Box<Target>) -> Target
         }
         Part::Invoker(_) => Box::into_inner(fallback),
     }
-}
-
-/// A target that stands where another one is to come.
-fn any_method() -> Target {
-    Target::method(MethodId {
-        class: ClassId::new(0),
-        index: 0,
-    })
 }

@@ -1,6 +1,6 @@
 //! Why a call site or a switch point isn't made or changed (java.lang.invoke).
 
-ghost use Rattle.std.specs.Prelude.{◌≡◌, ◌<◌, nat_le, nat_lt, true, false, None, Some, length};
+ghost use Rattle.std.specs.Prelude.{◌≡◌, ◌<◌, nat_le, nat_lt, true, false, None, length};
 ghost use Rattle.std.specs.List.{list_any};
 ghost use Rattle.jl_types.specs.Linkage.Targets as targets;
 ghost use Rattle.jl_callsites.specs.Faults as faults;
@@ -143,62 +143,29 @@ impl Sites {
         if invoked.number() >= site.number() {
             return Some(CallSiteFault::InvokerOrder(invoked));
         }
-        if !self.invokes_type(ty, invoked) {
-            return Some(CallSiteFault::WrongType);
-        }
-        None
-    }
-
-    /// Whether there is such a call site, and it is of this type.
-    fn invokes_type(&self, ty: &[u8], site: CallSiteId) -> bool
-        ensures { result ≡ targets.invokes_type self.now ty.now site }
-    {
-        match self.call_site_at(site) {
-            Some(row) => row.ty().as_slice() == ty,
-            None => false,
+        match self.call_site_at(invoked) {
+            Some(row) if row.ty().as_slice() == ty => None,
+            _ => Some(CallSiteFault::WrongType),
         }
     }
 }
 
-/// Why a call site of this type doesn't run the method.
+/// Why a call site of this type doesn't run the method: it isn't there or its name begins with `<`, it isn't static, or it is of another
+/// type.
 fn method_fault(classes: &Classes, ty: &[u8], method: &MethodId) -> Option<CallSiteFault>
     ensures { result ≡ faults.method_fault classes.now ty.now method.now }
 {
-    if !may_be_named(classes, method) {
+    let Some(found) = classes.method_at(method) else {
+        return Some(CallSiteFault::UnknownMethod);
+    };
+    if !classes.is_present(method.class) || begins_special(found.name().as_slice()) {
         return Some(CallSiteFault::UnknownMethod);
     }
     if !classes.is_static(method) {
         return Some(CallSiteFault::NotStatic);
     }
-    if !is_of_type(classes, ty, method) {
+    if found.ty().as_slice() != ty {
         return Some(CallSiteFault::WrongType);
     }
     None
-}
-
-/// Whether there is such a method, and its name doesn't begin with `<`.
-fn may_be_named(classes: &Classes, method: &MethodId) -> bool
-    ensures { result ≡ targets.may_be_named classes.now method.now }
-{
-    classes.is_present(method.class) && has_plain_name(classes, method)
-}
-
-/// Whether the class has such a method, and its name doesn't begin with `<`.
-fn has_plain_name(classes: &Classes, method: &MethodId) -> bool
-    ensures { result ≡ faults.has_plain_name classes.now method.now }
-{
-    match classes.method_at(method) {
-        Some(method) => !begins_special(method.name().as_slice()),
-        None => false,
-    }
-}
-
-/// Whether there is such a method, and it has this descriptor.
-fn is_of_type(classes: &Classes, ty: &[u8], method: &MethodId) -> bool
-    ensures { result ≡ targets.is_of_type classes.now ty.now method.now }
-{
-    match classes.method_at(method) {
-        Some(method) => method.ty().as_slice() == ty,
-        None => false,
-    }
 }
