@@ -2,7 +2,6 @@
 
 ghost use Rattle.std.specs.Prelude.{◌≡◌, ◌<◌, Some, true, length};
 ghost use Rattle.jl_types.specs.Linkage.Resolution as resolution;
-ghost use Rattle.jl_hierarchy.specs.Redeclared.{sees, IsNotRedeclared};
 ghost use Rattle.jl_select.specs.RunsBelow.{RunsBelow, MayRun};
 
 use crate::overriding::can_override;
@@ -26,7 +25,7 @@ pub fn runs_below(classes: &Classes, named: ClassId, resolved: &MethodId) -> boo
     if !is_first(classes, named, resolved, &sought) {
         return false;
     }
-    is_only_above(classes, named, &sought)
+    !classes.is_redeclared_below(named, &sought)
 }
 
 /// Whether the class is no interface, the method is neither private nor abstract and can override itself, and each ancestor
@@ -41,15 +40,6 @@ fn may_run(classes: &Classes, named: ClassId, resolved: &MethodId) -> bool
         && !classes.is_private(resolved)
         && !classes.is_abstract(resolved)
         && can_override(classes, resolved, resolved)
-}
-
-/// Whether it is known, where the class sees such a method, that none of its subclasses declares one.
-fn is_only_above(classes: &Classes, named: ClassId, sought: &Sought<'_>) -> bool
-    requires { named < length classes.now.rows }
-    ensures { result ≡ true → sees classes.now sought.now.name sought.now.ty named ≡ true
-        → IsNotRedeclared classes.now sought.now.name sought.now.ty named }
-{
-    !classes.is_redeclared_below(named, sought)
 }
 
 /// Whether the method is the first declaration in the class and its superclasses upward.

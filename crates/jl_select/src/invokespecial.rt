@@ -24,7 +24,8 @@ pub fn special(
         (resolution.named_class classes.now caller reference.now) }
 {
     let named = named_class(classes, caller, reference)?;
-    Some(special_outcome(classes, caller, named, reference))
+    let start = special_start(classes, caller, named, reference);
+    Some(ending(classes, special_choice(classes, start, reference)))
 }
 
 /// The same with one tick where the class or interface is recorded, since this is a special search then, and with none where it
@@ -45,31 +46,8 @@ pub fn special_counted(
     Some(outcome)
 }
 
-/// What it comes to where the reference names this class or interface.
-///
-/// The search begins at the caller's direct superclass if a proper superclass of the caller is named and the method isn't
+/// Where the search begins: at the caller's direct superclass if a proper superclass of the caller is named and the method isn't
 /// `<init>`, and else at the named class.
-fn special_outcome(
-    classes: &Classes,
-    caller: ClassId,
-    named: ClassId,
-    reference: &Reference<LentName<'_>>,
-) -> Outcome
-    requires caller { caller < length classes.now.rows }
-    requires named { named < length classes.now.rows }
-    ensures { result ≡ selection.special_outcome classes.now caller named reference.now }
-{
-    ending(
-        classes,
-        special_choice(
-            classes,
-            special_start(classes, caller, named, reference),
-            reference,
-        ),
-    )
-}
-
-/// Where the search begins.
 fn special_start(
     classes: &Classes,
     caller: ClassId,

@@ -1,8 +1,7 @@
 //! Selection (JVMS SE 17 §5.4.6), and what invokevirtual and invokeinterface make of it (§6.5).
 
-ghost use Rattle.std.specs.Prelude.{◌≡◌, ◌+◌, ◌^◌, ◌<◌, ◌≤◌, ◌||◌, length};
+ghost use Rattle.std.specs.Prelude.{◌≡◌, ◌+◌, ◌^◌, ◌<◌, ◌≤◌, length};
 ghost use Rattle.jl_types.specs.Values.Ancestry.{superclasses};
-ghost use Rattle.jl_types.specs.Values.Members as members;
 ghost use Rattle.jl_types.specs.Linkage.Overriding as overriding;
 ghost use Rattle.jl_types.specs.Linkage.Selection as selection;
 ghost use Rattle.jl_select.specs.Means.Walks.{own_passing, first_passing};
@@ -128,7 +127,7 @@ fn interface_ending(classes: &Classes, choice: Chosen) -> Outcome
 {
     match choice {
         Chosen::Method(method) => {
-            if is_open(classes, &method) {
+            if classes.is_public(&method) || classes.is_private(&method) {
                 ending(classes, Chosen::Method(method))
             } else {
                 Outcome::Throws(Throwable::IllegalAccessError)
@@ -137,13 +136,6 @@ fn interface_ending(classes: &Classes, choice: Chosen) -> Outcome
         Chosen::Several => ending(classes, Chosen::Several),
         Chosen::Nothing => ending(classes, Chosen::Nothing),
     }
-}
-
-/// Whether the method is public or private.
-fn is_open(classes: &Classes, method: &MethodId) -> bool
-    ensures { result ≡ members.is_public classes.now method.now || members.is_private classes.now method.now }
-{
-    classes.is_public(method) || classes.is_private(method)
 }
 
 /// The first declaration, in the class and its superclasses upward, that can override the resolved method.
