@@ -93,18 +93,11 @@ impl Classes {
             ≡ (if members.is_concrete (definitions.defined self.now loader file.now) (length self.now.rows)
             then ancestry.ancestors (definitions.defined self.now loader file.now).rows (length self.now.rows) else [])) }
     {
-        if !self.makes_receiver(loader, file) {
+        if !is_concrete(file) || self.is_retired(loader) {
             return Ok(Vec::new(alloc));
         }
         let gaining = self.ancestors_if_defined(alloc, loader, file)?;
         Ok(gaining)
-    }
-
-    /// Whether objects may be of the class that the loader would make of the file.
-    fn makes_receiver(&self, loader: LoaderId, file: &ClassFile) -> bool
-        ensures { result ≡ members.is_concrete (definitions.defined self.now loader file.now) (length self.now.rows) }
-    {
-        is_concrete(file) && !self.is_retired(loader)
     }
 
     /// The ancestors, by rising number, of the class that the loader would make of the file, and itself as the last. Want of

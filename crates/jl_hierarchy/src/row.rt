@@ -52,7 +52,7 @@ impl Row {
     pub(crate) fn class(&self) -> &Class
         ensures { result.now ≡ self.now }
     {
-        self.kept.class()
+        &self.kept.class
     }
 
     /// The same class once more, which both share. Too many copies are an error.
@@ -68,7 +68,8 @@ impl Row {
     pub(crate) fn place_of(&self, sought: &Sought<'_>) -> Option<u16>
         ensures { result ≡ position (members.is_called sought.now.name sought.now.ty) self.now.file.methods }
     {
-        self.kept.place_of(sought)
+        let methods = methods_of(&self.kept.class);
+        place_in(self.kept.prints.as_slice(), &methods, sought)
     }
 
     /// Whether a method has this print.
@@ -127,20 +128,6 @@ impl Indexed {
     {
         let prints = sorted_prints(alloc, &methods_of(&class))?;
         Ok(Indexed { class, prints })
-    }
-
-    /// The class.
-    fn class(&self) -> &Class
-        ensures { result.now ≡ self.now }
-    {
-        &self.class
-    }
-
-    /// The place of the method of this name and descriptor.
-    fn place_of(&self, sought: &Sought<'_>) -> Option<u16>
-        ensures { result ≡ position (members.is_called sought.now.name sought.now.ty) self.now.file.methods }
-    {
-        place_in(self.prints.as_slice(), &methods_of(&self.class), sought)
     }
 
     /// Whether a method has this print.
