@@ -76,7 +76,7 @@ impl Row {
     pub(crate) fn has_print(&self, print: u64) -> bool
         ensures { result ≡ has_method print self.now.file.methods }
     {
-        self.kept.has_print(print)
+        is_among(self.kept.prints.as_slice(), print)
     }
 }
 
@@ -128,13 +128,6 @@ impl Indexed {
     {
         let prints = sorted_prints(alloc, &methods_of(&class))?;
         Ok(Indexed { class, prints })
-    }
-
-    /// Whether a method has this print.
-    fn has_print(&self, print: u64) -> bool
-        ensures { result ≡ has_method print self.now.file.methods }
-    {
-        is_among(self.prints.as_slice(), print)
     }
 }
 
