@@ -6,7 +6,6 @@ ghost use Rattle.jl_hierarchy.specs.Means.Defaults as by_ancestor;
 
 use crate::classes::Classes;
 use crate::sought::Sought;
-use jl_class::{PRIVATE, STATIC, has_flag};
 use jl_types::{Chosen, ClassId, MethodId};
 
 impl Classes {
@@ -55,21 +54,10 @@ impl Classes {
             return None;
         }
         let method = self.declared_by(ancestor, sought)?;
-        if self.is_inherited(&method) {
-            Some(method)
-        } else {
-            None
+        if self.is_private(&method) || self.is_static(&method) {
+            return None;
         }
-    }
-
-    /// Whether the method is neither private nor static.
-    fn is_inherited(&self, method: &MethodId) -> bool
-        ensures { result ≡ by_ancestor.is_inherited self.now method.now }
-    {
-        match self.method_at(method) {
-            Some(method) => !has_flag(method.flags(), PRIVATE) && !has_flag(method.flags(), STATIC),
-            None => true,
-        }
+        Some(method)
     }
 
     /// The candidate that the ancestor declares, where it isn't abstract and no subinterface of the ancestor declares another

@@ -1,10 +1,8 @@
 //! Why a class isn't defined (JVMS SE 17 §5.3.5).
 
-ghost use Rattle.std.specs.Prelude.{◌≡◌, not, nat_le, is_none, option_map, Some, None, length, position, IfOk};
+ghost use Rattle.std.specs.Prelude.{◌≡◌, not, is_none, option_map, Some, None, position, IfOk};
 ghost use Rattle.std.specs.Prelude.{IfErr, IfSome, OnOk, option_and_then, ◌+◌, ◌<◌, ◌^◌};
-ghost use Rattle.std.specs.List.{list_any};
 ghost use Rattle.std.specs.Option.{option_copied};
-ghost use Rattle.std.specs.Str.{bytes_eq};
 ghost use Rattle.jl_types.specs.Values.Members as members;
 ghost use Rattle.jl_types.specs.Happenings.Definitions as definitions;
 ghost use Rattle.jl_types.specs.Linkage.Resolution.{first_of};
@@ -88,17 +86,10 @@ impl Classes {
         if let Some(place) = self.inaccessible_parent(loader, file) {
             return Some(FaultAt::Closed(place));
         }
-        if self.is_full() {
+        if self.rows.len() >= MOST_CLASSES {
             return Some(FaultAt::Plain(DefineFault::Full));
         }
         None
-    }
-
-    /// Whether there are as many classes as there may be.
-    fn is_full(&self) -> bool
-        ensures { result ≡ nat_le 65536 (length self.now.rows) }
-    {
-        self.rows.len() >= MOST_CLASSES
     }
 
     /// The first of the faults that are tested before the parents are looked up.
@@ -115,10 +106,11 @@ impl Classes {
         if self.lookup(loader, name).is_some() {
             return Some(DefineFault::AlreadyRecorded);
         }
-        if names_itself(file) {
-            return Some(DefineFault::NamesItself);
+        match file.superclass() {
+            Some(superclass) if name == superclass.as_slice() => Some(DefineFault::NamesItself),
+            _ if is_among(name, file.interfaces()) => Some(DefineFault::NamesItself),
+            _ => None,
         }
-        None
     }
 
     /// The place of the first parent that the loader hasn't recorded, the superclass before the superinterfaces.
@@ -166,19 +158,10 @@ impl Classes {
     fn no_interface(&self, loader: LoaderId, file: &ClassFile) -> Option<usize>
         ensures { result ≡ position (λ name. not (definitions.named_test (members.is_interface self.now) self.now loader name)) file.now.interfaces }
     {
-        file.interfaces()
-            .iter()
-            .position(|name| !self.names_interface(loader, name))
-    }
-
-    /// Whether the loader has recorded an interface under the name.
-    fn names_interface(&self, loader: LoaderId, name: &Name) -> bool
-        ensures { result ≡ definitions.named_test (members.is_interface self.now) self.now loader name.now }
-    {
-        match self.named(loader, name.as_slice()) {
-            Some(row) => has_flag(row.file().flags(), INTERFACE),
-            None => false,
-        }
+        file.interfaces().iter().position(|name| match self.named(loader, name.as_slice()) {
+            Some(row) => !has_flag(row.file().flags(), INTERFACE),
+            None => true,
+        })
     }
 
     /// The place of the first parent that isn't accessible to the class, the superclass before the superinterfaces.
@@ -243,16 +226,4 @@ fn place_of_parent(superclass: Option<bool>, interface: Option<usize>) -> Option
         Some(false) => Some(interface? + 1),
         None => interface,
     }
-}
-
-/// Whether the class is its own superclass or superinterface.
-fn names_itself(file: &ClassFile) -> bool
-    ensures { result ≡ list_any (bytes_eq file.now.name) (definitions.parent_names file.now) }
-{
-    let name = file.name().as_slice();
-    let by_superclass = match file.superclass() {
-        Some(superclass) => name == superclass.as_slice(),
-        None => false,
-    };
-    by_superclass || is_among(name, file.interfaces())
 }

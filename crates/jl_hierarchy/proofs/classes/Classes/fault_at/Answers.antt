@@ -1,4 +1,5 @@
-use Rattle.std.proofs.Common.{sym, ◌∙◌}
+use Rattle.std.specs.Prelude.{◌≡◌, nat_le, true, false, length}
+use Rattle.std.proofs.Common.{sym, rules}
 use Rattle.jl_hierarchy.proofs.FaultLaws.{first_is, missing_is, superclass_is, interface_is, closed_is, full_is, accepted_is}
 use Rattle.jl_hierarchy.proofs.classes.Classes.fault_at.Goals as goal
 
@@ -26,14 +27,14 @@ returns-in-Some-inaccessible_parent-clause-first c =
     (sym c.in_default-superclass_fault.ensures) (sym c.in_default-no_interface.ensures) c.in-Some-inaccessible_parent.place
     (sym c.in-Some-inaccessible_parent.ensures)
 
-pub returns-then-is_full-clause-first : goal.returns-then-is_full-clause-first
-returns-then-is_full-clause-first c =
+pub returns-then-len-ge-MOST_CLASSES-clause-first : goal.returns-then-len-ge-MOST_CLASSES-clause-first
+returns-then-len-ge-MOST_CLASSES-clause-first c =
+    let full : nat_le 65536 (length c.args.self.now.rows) ≡ true = search rules in
     full_is c.args.self.now c.args.loader c.args.file.now (sym c.in_default.ensures) (sym c.in_default-missing_parent.ensures)
-    (sym c.in_default-superclass_fault.ensures) (sym c.in_default-no_interface.ensures) (sym c.in_default-inaccessible_parent.ensures)
-    (sym c.is_full.ensures ∙ c.if-is_full.true)
+    (sym c.in_default-superclass_fault.ensures) (sym c.in_default-no_interface.ensures) (sym c.in_default-inaccessible_parent.ensures) full
 
 pub returns-clause-first : goal.returns-clause-first
 returns-clause-first c =
+    let few : nat_le 65536 (length c.args.self.now.rows) ≡ false = search rules in
     accepted_is c.args.self.now c.args.loader c.args.file.now (sym c.in_default.ensures) (sym c.in_default-missing_parent.ensures)
-    (sym c.in_default-superclass_fault.ensures) (sym c.in_default-no_interface.ensures) (sym c.in_default-inaccessible_parent.ensures)
-    (sym c.is_full.ensures ∙ c.if-is_full.false)
+    (sym c.in_default-superclass_fault.ensures) (sym c.in_default-no_interface.ensures) (sym c.in_default-inaccessible_parent.ensures) few
