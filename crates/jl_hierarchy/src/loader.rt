@@ -150,7 +150,7 @@ fn make_room(older: &mut Arc<Records>, recent: &mut Arc<Records>) -> Result<(), 
     ensures apart { are_new older.new.value recent.new.value ≡ true }
     ensures room { OnOk result (length recent.new.value < 256) }
 {
-    if recent.len() < MOST_RECENT {
+    if recent.records.len() < MOST_RECENT {
         return Ok(());
     }
     let moved = Arc::make_mut(recent)?;
@@ -254,13 +254,6 @@ impl Records {
             place += 1;
         }
         Ok(())
-    }
-
-    /// How many names there are.
-    fn len(&self) -> usize
-        ensures { result ≡ length self.now }
-    {
-        self.records.len()
     }
 
     /// Records the class under the name, which is new.
