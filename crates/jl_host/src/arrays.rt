@@ -70,14 +70,6 @@ pub(crate) fn copy_text(text: &[u8], out: &mut [u8], count: &mut usize) -> u32
     if text.len() > out.len() {
         return TOO_SHORT;
     }
-    write_text(text, out);
-    DONE
-}
-
-/// Writes the text to the front of the array, where it fits.
-fn write_text(text: &[u8], out: &mut [u8])
-    requires { length text.now ≤ length out.old }
-    ensures { out.new ≡ text.now ++ drop (length text.now) out.old }
-{
     out[..text.len()].copy_from_slice(text);
+    DONE
 }

@@ -6,7 +6,7 @@ ghost use Rattle.jl_host.specs.Awaiting as awaiting;
 
 use jl_class::Operand;
 use jl_hierarchy::Classes;
-use jl_names::{LentName, Name};
+use jl_names::LentName;
 use jl_pool::Reference;
 use jl_relink::{World, invocation_at};
 use jl_resolve::{found_in_class, found_in_interface, named_class, resolve_reference};
@@ -74,17 +74,7 @@ fn missing_named<'a>(
 fn nest_host_named(classes: &Classes, class: ClassId) -> Option<&[u8]>
     ensures { option_copied result ≡ awaiting.nest_host_named classes.now class }
 {
-    match host_of(classes, class) {
-        Some(host) => Some(host.as_slice()),
-        None => None,
-    }
-}
-
-/// The same as the file has it.
-fn host_of(classes: &Classes, class: ClassId) -> Option<&Name>
-    ensures { option_copied result ≡ awaiting.nest_host_named classes.now class }
-{
-    classes.class_at(class)?.file().nest_host()
+    Some(classes.class_at(class)?.file().nest_host()?.as_slice())
 }
 
 /// The nest host that the file names of the class whose method the reference finds.

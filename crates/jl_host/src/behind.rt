@@ -134,21 +134,6 @@ fn write_installed(links: &mut Arc<Links>, core: &Core, event: &Accepted) -> Res
     }
 }
 
-/// Writes the links of the sites that the entry's event touched as they are now.
-///
-/// # Errors
-///
-/// Want of memory. What was right is right.
-fn write_entry(links: &mut Arc<Links>, core: &Core, entry: &Entry) -> Result<(), AllocError>
-    requires { length links.old.value ≡ room_for core.now.max_sites }
-    ensures all { length links.new.value ≡ room_for core.now.max_sites }
-    ensures kept { (s : ℕ) → IsNow core.now links.old.value s → IsNow core.now links.new.value s }
-    ensures written { OnOk result ((s : ℕ) → s < room_for core.now.max_sites → touched_by s entry.now ≡ true → IsNow core.now links.new.value s) }
-{
-    write_sites(links, core, entry.reply().dropped.as_slice())?;
-    write_installed(links, core, entry.event())
-}
-
 /// Writes the links of the sites that these entries' events touched as they are now.
 ///
 /// # Errors
@@ -161,7 +146,8 @@ fn write_entries(links: &mut Arc<Links>, core: &Core, entries: &[Entry]) -> Resu
     ensures written { OnOk result ((s : ℕ) → s < room_for core.now.max_sites → list_any (touched_by s) entries.now ≡ true → IsNow core.now links.new.value s) }
 {
     for entry in entries {
-        write_entry(links, core, entry)?;
+        write_sites(links, core, entry.reply().dropped.as_slice())?;
+        write_installed(links, core, entry.event())?;
     }
     Ok(())
 }

@@ -1,7 +1,6 @@
 //! Links that a host gives, as numbers.
 
 ghost use Rattle.std.specs.Prelude.{◌≡◌, ◌≤◌, length, Some, None, option_map, IfOk, OnErr};
-ghost use Rattle.jl_types.specs.declared.answer.Outcome.TheVariants.{Run, Throws};
 ghost use Rattle.jl_host.specs.Reading as reading;
 
 use crate::fill::fill;
@@ -47,39 +46,9 @@ fn outcome_of(row: &Row) -> Option<Outcome>
     ensures { result ≡ reading.outcome_of row.now }
 {
     match row.kind {
-        0 => runs(method_of(row.class_number, row.value)),
-        1 => throws(throwable_of(row.value)),
+        0 => Some(Outcome::Run(method_of(row.class_number, row.value)?)),
+        1 => Some(Outcome::Throws(throwable_of(row.value)?)),
         _ => None,
-    }
-}
-
-/// Running the method, if it is one.
-fn runs(method: Option<MethodId>) -> Option<Outcome>
-    ensures { result ≡ option_map Run method }
-{
-    match method {
-        Some(method) => Some(Outcome::Run(method)),
-        None => None,
-    }
-}
-
-/// A throw of this, if it is something.
-fn throws(throwable: Option<Throwable>) -> Option<Outcome>
-    ensures { result ≡ option_map Throws throwable }
-{
-    match throwable {
-        Some(throwable) => Some(Outcome::Throws(throwable)),
-        None => None,
-    }
-}
-
-/// A table's row.
-fn entry_of(row: &Row) -> Option<(ClassId, Outcome)>
-    ensures { result ≡ reading.entry_of row.now }
-{
-    match outcome_of(row) {
-        Some(outcome) => Some((ClassId::new(row.receiver), outcome)),
-        None => None,
     }
 }
 
@@ -101,17 +70,6 @@ fn single_of(kind: u32, outcome: Outcome) -> Option<Link>
     }
 }
 
-/// The kind of table of this number.
-fn table_kind_of(number: u32) -> Option<TableKind>
-    ensures { result ≡ reading.table_kind_of number }
-{
-    match number {
-        4 => Some(TableKind::Virtual),
-        5 => Some(TableKind::Interface),
-        _ => None,
-    }
-}
-
 /// The rows of a table, if each is one.
 fn entries_of(rows: &[Row]) -> Option<Table>
     requires { length rows.now ≤ 8 }
@@ -119,10 +77,10 @@ fn entries_of(rows: &[Row]) -> Option<Table>
 {
     let mut table = Table::new();
     for row in rows {
-        let Some(entry) = entry_of(row) else {
+        let Some(outcome) = outcome_of(row) else {
             return None;
         };
-        table.push(entry.0, entry.1);
+        table.push(ClassId::new(row.receiver), outcome);
     }
     Some(table)
 }
@@ -141,28 +99,14 @@ fn table_of(kind: TableKind, count: u32, rows: &[Row; MOST_ROWS]) -> Option<Link
     }
 }
 
-/// A link that is no table.
+/// A link that is no table: a megamorphic one, which has no row, or one of one row.
 fn no_table_of(kind: u32, count: u32, row: &Row) -> Option<Link>
     ensures { result ≡ reading.no_table_of kind count row.now }
 {
-    if kind == 6 {
-        return mega_of(count);
-    }
-    if count != 1 {
-        return None;
-    }
-    match outcome_of(row) {
-        Some(outcome) => single_of(kind, outcome),
-        None => None,
-    }
-}
-
-/// A megamorphic link, which has no row.
-fn mega_of(count: u32) -> Option<Link>
-    ensures { result ≡ reading.mega_of count }
-{
-    match count {
-        0 => Some(Link::Mega),
+    match (kind, count) {
+        (6, 0) => Some(Link::Mega),
+        (6, _) => None,
+        (_, 1) => single_of(kind, outcome_of(row)?),
         _ => None,
     }
 }
@@ -171,9 +115,10 @@ fn mega_of(count: u32) -> Option<Link>
 fn link_of(shown: &LinkShown) -> Option<Link>
     ensures { result ≡ reading.link_of shown.now }
 {
-    match table_kind_of(shown.kind) {
-        Some(kind) => table_of(kind, shown.count, &shown.rows),
-        None => no_table_of(shown.kind, shown.count, &shown.rows[0]),
+    match shown.kind {
+        4 => table_of(TableKind::Virtual, shown.count, &shown.rows),
+        5 => table_of(TableKind::Interface, shown.count, &shown.rows),
+        kind => no_table_of(kind, shown.count, &shown.rows[0]),
     }
 }
 

@@ -1,8 +1,6 @@
 //! Targets that a host gives, as numbers.
 
 ghost use Rattle.std.specs.Prelude.{◌≡◌, ◌∷◌, nat_le, reverse, option_map, IfOk};
-ghost use Rattle.jl_types.specs.Values.Target.{Method};
-ghost use Rattle.jl_host.specs.Reading.{method_of};
 ghost use Rattle.jl_host.specs.Targets as targets;
 
 use crate::reading::method_of;
@@ -76,16 +74,6 @@ fn guard_before(
     guard_of(alloc, point, first, fallback)
 }
 
-/// The method of these numbers, if it is one.
-fn method_target(class: u32, value: u32) -> Option<Target>
-    ensures { result ≡ option_map Method (method_of class value) }
-{
-    match method_of(class, value) {
-        Some(method) => Some(Target::method(method)),
-        None => None,
-    }
-}
-
 /// The target of the part, which takes of those that were read behind it what belongs to it. Want of memory is an error.
 fn target_before(
     alloc: Global,
@@ -96,7 +84,10 @@ fn target_before(
         option_map (λ t. t ∷ reverse read.new.items) target ≡ targets.read_before part.now (reverse read.old.items)) }
 {
     match part.kind {
-        0 => Ok(method_target(part.number, part.value)),
+        0 => match method_of(part.number, part.value) {
+            Some(method) => Ok(Some(Target::method(method))),
+            None => Ok(None),
+        },
         1 => guard_before(alloc, SwitchId::new(part.number), read),
         2 => Ok(Some(Target::invoker(CallSiteId::new(part.number)))),
         _ => Ok(None),

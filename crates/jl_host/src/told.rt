@@ -119,16 +119,6 @@ fn number_of(made: &Made) -> u32
     }
 }
 
-/// What is told of an event that was accepted.
-fn told_of_reply(reply: &Reply) -> Told
-    ensures { result ≡ telling.told_of_reply reply.now }
-{
-    Told {
-        number: number_of(&reply.made),
-        ..Told::nothing()
-    }
-}
-
 /// The number of a refusal: its status.
 pub(crate) fn status_of_refusal(refusal: &Refusal) -> u32
     ensures { result ≡ numbers.status_of_refusal refusal.now }
@@ -200,38 +190,6 @@ fn invoked_in(fault: &CallSiteFault) -> u32
     }
 }
 
-/// The number of a delegation's fault.
-fn delegate_number(fault: &DelegateFault) -> u32
-    ensures { result ≡ numbers.delegate_number fault.now }
-{
-    match fault {
-        DelegateFault::UnknownLoader => 1,
-        DelegateFault::NotRecorded => 2,
-        DelegateFault::AlreadyRecorded => 3,
-    }
-}
-
-/// The number of what is never linked.
-fn not_linkable_number(reason: &NotLinkable) -> u32
-    ensures { result ≡ numbers.not_linkable_number reason.now }
-{
-    match reason {
-        NotLinkable::ArrayReceiver => 1,
-        NotLinkable::PolymorphicSignature => 2,
-    }
-}
-
-/// What is told of a call site's fault.
-fn told_of_call_site(fault: &CallSiteFault) -> Told
-    ensures { result ≡ telling.at_place (numbers.call_site_number fault.now) (numbers.invoked_in fault.now) }
-{
-    Told {
-        fault: call_site_number(fault),
-        place: invoked_in(fault),
-        ..Told::nothing()
-    }
-}
-
 /// What is told of a loader that isn't retired.
 fn told_of_retirement(fault: &RetireFault) -> Told
     ensures { result ≡ telling.told_of_retirement fault.now }
@@ -251,9 +209,12 @@ fn told_of_refusal(refusal: &Refusal) -> Told
 {
     match refusal {
         Refusal::Define(fault) => Told::fault(define_number(fault)),
-        Refusal::NotLinkable(reason) => Told::fault(not_linkable_number(reason)),
-        Refusal::CallSite(fault) => told_of_call_site(fault),
-        Refusal::Delegate(fault) => Told::fault(delegate_number(fault)),
+        Refusal::NotLinkable(NotLinkable::ArrayReceiver) => Told::fault(1),
+        Refusal::NotLinkable(NotLinkable::PolymorphicSignature) => Told::fault(2),
+        Refusal::CallSite(fault) => Told::at_place(call_site_number(fault), invoked_in(fault)),
+        Refusal::Delegate(DelegateFault::UnknownLoader) => Told::fault(1),
+        Refusal::Delegate(DelegateFault::NotRecorded) => Told::fault(2),
+        Refusal::Delegate(DelegateFault::AlreadyRecorded) => Told::fault(3),
         Refusal::AlreadyBound(call_site) => Told::place(call_site.number()),
         Refusal::Stale { site, .. } => Told::place(site.number()),
         Refusal::NotReady { site } => Told::place(site.number()),
@@ -278,7 +239,10 @@ pub(crate) fn tell(outcome: &Result<Reply, Refusal>, told: &mut Told) -> u32
 {
     match outcome {
         Ok(reply) => {
-            *told = told_of_reply(reply);
+            *told = Told {
+                number: number_of(&reply.made),
+                ..Told::nothing()
+            };
             DONE
         }
         Err(refusal) => {
@@ -293,19 +257,9 @@ pub(crate) fn class_named(outcome: Result<Reply, Refusal>) -> Option<Name>
     ensures { result ≡ telling.class_named outcome }
 {
     match outcome {
-        Err(Refusal::Define(fault)) => parent_named(fault),
-        _ => None,
-    }
-}
-
-/// The parent that the fault of a definition names, if it names one.
-fn parent_named(fault: DefineFault) -> Option<Name>
-    ensures { result ≡ telling.parent_named fault }
-{
-    match fault {
-        DefineFault::MissingParent(name) => Some(name),
-        DefineFault::NotAnInterface(name) => Some(name),
-        DefineFault::InaccessibleParent(name) => Some(name),
+        Err(Refusal::Define(DefineFault::MissingParent(name))) => Some(name),
+        Err(Refusal::Define(DefineFault::NotAnInterface(name))) => Some(name),
+        Err(Refusal::Define(DefineFault::InaccessibleParent(name))) => Some(name),
         _ => None,
     }
 }
@@ -405,25 +359,14 @@ fn told_of_file(fault: ClassFault) -> Told
         ClassFault::Pool(fault) => told_of_pool(fault),
         ClassFault::ModuleFile => Told::fault(6),
         ClassFault::BadSuper => Told::fault(7),
-        ClassFault::DuplicateMethod(method) => located(8, u32::from(method)),
-        ClassFault::TwoCodes(method) => located(9, u32::from(method)),
+        ClassFault::DuplicateMethod(method) => Told::at_place(8, u32::from(method)),
+        ClassFault::TwoCodes(method) => Told::at_place(9, u32::from(method)),
         ClassFault::Code(method, fault) => told_of_code(method, fault),
         ClassFault::TrailingBytes => Told::fault(11),
-        ClassFault::BadMember(member) => located(12, member),
-        ClassFault::BadLink(number) => located(13, u32::from(number)),
+        ClassFault::BadMember(member) => Told::at_place(12, member),
+        ClassFault::BadLink(number) => Told::at_place(13, u32::from(number)),
         ClassFault::BadNest => Told::fault(14),
         ClassFault::Memory => Told::nothing(),
-    }
-}
-
-/// What is told of a fault at a place.
-fn located(fault: u32, place: u32) -> Told
-    ensures { result ≡ telling.at_place fault place }
-{
-    Told {
-        fault,
-        place,
-        ..Told::nothing()
     }
 }
 
@@ -433,20 +376,9 @@ pub(crate) fn tell_file(fault: ClassFault, told: &mut Told) -> u32
     ensures told { told.new ≡ telling.told_of_file fault }
 {
     *told = told_of_file(fault);
-    if is_memory(fault) {
-        MEMORY
-    } else {
-        NO_CLASS_FILE
-    }
-}
-
-/// Whether memory lacked.
-fn is_memory(fault: ClassFault) -> bool
-    ensures { result ≡ numbers.is_memory fault }
-{
     match fault {
-        ClassFault::Memory => true,
-        _ => false,
+        ClassFault::Memory => MEMORY,
+        _ => NO_CLASS_FILE,
     }
 }
 
