@@ -460,7 +460,7 @@ fn push_entry(entries: &mut Vec<KeptConstant>, entry: KeptConstant) -> Result<u1
     Ok(1)
 }
 
-/// Whether these bytes, which have an odd byte, don't begin with a tag, a count and so many bytes that are modified UTF-8.
+/// Whether these bytes begin with a text that has an odd byte and is no modified UTF-8.
 fn is_bad_text(odd: bool, bytes: &[u8]) -> bool
     ensures { result ≡ false → odd ≡ true → BeginsText bytes.now }
 {
