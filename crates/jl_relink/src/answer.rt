@@ -4,9 +4,9 @@ ghost use Rattle.std.specs.Prelude.{◌≡◌};
 ghost use Rattle.jl_types.specs.Linkage.Resolution as resolution;
 ghost use Rattle.jl_types.specs.Linkage.Stages as stages;
 ghost use Rattle.jl_types.specs.Linkage.Calls as calls;
-ghost use Rattle.jl_relink.specs.Means.Rows.{selected_answer, special_answer, fits, fits_named};
+ghost use Rattle.jl_relink.specs.Means.Rows.{selected_answer, special_answer, fits};
 
-use crate::located::{Located, locate};
+use crate::located::locate;
 use crate::selection::{Selection, outcome};
 use crate::stage::{Stage, stage_of_reference};
 use crate::world::World;
@@ -21,17 +21,10 @@ use jl_types::{Answer, ClassId, Missing, Outcome, Recv, SiteNo, TableKind, Throw
 pub fn dispatch(world: &World, site: SiteNo, recv: Recv) -> Answer
     ensures { result ≡ calls.dispatch world.now site recv }
 {
-    match locate(world, site) {
-        Ok(found) => invocation_answer(world, site, &found, recv),
-        Err(reason) => Answer::Unlinked(reason),
-    }
-}
-
-/// The answer to a call of the site's invocation.
-fn invocation_answer(world: &World, site: SiteNo, found: &Located<'_>, recv: Recv) -> Answer
-    ensures { result ≡ calls.answer_of world.now.classes
-        (stages.by_operand world.now site found.now.caller found.now.invocation.kind found.now.invocation.operand) recv }
-{
+    let found = match locate(world, site) {
+        Ok(found) => found,
+        Err(reason) => return Answer::Unlinked(reason),
+    };
     match found.invocation.operand() {
         Operand::Method(reference) => reference_answer(
             &world.classes,
@@ -106,13 +99,9 @@ fn special_answer(classes: &Classes, outcome: Outcome, recv: Recv) -> Answer
 fn fits(classes: &Classes, selection: &Selection, class: ClassId) -> bool
     ensures { result ≡ fits classes.now selection.now class }
 {
-    classes.is_concrete(class) && fits_named(classes, selection, class)
-}
-
-/// Whether the class fits the one that is named.
-fn fits_named(classes: &Classes, selection: &Selection, class: ClassId) -> bool
-    ensures { result ≡ fits_named classes.now selection.now class }
-{
+    if !classes.is_concrete(class) {
+        return false;
+    }
     match selection.kind {
         TableKind::Virtual => classes.is_ancestor(selection.named, class),
         TableKind::Interface => true,

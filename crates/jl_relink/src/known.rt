@@ -1,6 +1,6 @@
 //! What every receiver of an invocation comes to, where that is known without a look at each.
 
-ghost use Rattle.std.specs.Prelude.{◌≡◌, ◌<◌, ◌≤◌, ◌==◌, ℕ, true, not, length};
+ghost use Rattle.std.specs.Prelude.{◌≡◌, ◌<◌, ◌≤◌, ℕ, true, length};
 ghost use Rattle.jl_types.specs.declared.answer.Outcome.TheVariants.{Run};
 ghost use Rattle.jl_types.specs.declared.link.Link.TheVariants.{Direct};
 ghost use Rattle.jl_types.specs.declared.link.TableKind.TheVariants.{Virtual};
@@ -20,30 +20,11 @@ pub(crate) fn all_run(classes: &Classes, selection: &Selection) -> bool
     ensures link { result ≡ true → link_by_rows selection.now.kind
         (rows_of classes.now selection.now (ancestry.receivers classes.now selection.now.named)) ≡ Direct (Run selection.now.method) }
 {
-    has_receiver(classes, selection.named) && each_runs(classes, selection)
-}
-
-/// Whether there is a receiver of the class.
-fn has_receiver(classes: &Classes, class: ClassId) -> bool
-    requires { class < length classes.now.rows }
-    ensures { result ≡ not (length (ancestry.receivers classes.now class) == 0) }
-{
-    !classes.receivers(class).is_empty()
-}
-
-/// Whether it is known that this receiver runs the method, since no subclass of the named class redeclares it.
-pub(crate) fn one_runs(classes: &Classes, selection: &Selection, receiver: ClassId) -> bool
-    requires { selection.now.named < length classes.now.rows }
-    ensures { result ≡ true → outcome_of classes.now selection.now receiver ≡ Run selection.now.method }
-{
-    if !classes.is_ancestor(selection.named, receiver) {
-        return false;
-    }
-    each_runs(classes, selection)
+    !classes.receivers(selection.named).is_empty() && each_runs(classes, selection)
 }
 
 /// Whether it is known, without a look at each, that every class below the named one runs the method.
-fn each_runs(classes: &Classes, selection: &Selection) -> bool
+pub(crate) fn each_runs(classes: &Classes, selection: &Selection) -> bool
     requires { selection.now.named < length classes.now.rows }
     ensures kind { result ≡ true → selection.now.kind ≡ Virtual }
     ensures run { result ≡ true → (x : ℕ) → ancestry.is_ancestor classes.now selection.now.named x ≡ true

@@ -53,17 +53,9 @@ fn plan_of(world: &World, site: SiteNo) -> Result<(SiteNo, Outline), PrepareFaul
     ensures ok { IfOk result (λ row. (row.0 ≡ site) × plans.IsPlanned world.now site row.1) }
     ensures err { IfErr result (λ f. link_fault site (scratch world.now site) ≡ Some f) }
 {
-    match planned_at(world, site) {
-        Some(planned) => Ok((site, planned)),
-        None => known_of(world, site),
+    if let Some(planned) = planned_at(world, site) {
+        return Ok((site, planned));
     }
-}
-
-/// The site with its link.
-fn known_of(world: &World, site: SiteNo) -> Result<(SiteNo, Outline), PrepareFault>
-    ensures ok { IfOk result (λ row. (row.0 ≡ site) × plans.IsPlanned world.now site row.1) }
-    ensures err { IfErr result (λ f. link_fault site (scratch world.now site) ≡ Some f) }
-{
     match link_of(world, site) {
         Ok(link) => Ok((site, Outline::Known(link))),
         Err(_) => Err(PrepareFault::NotReady(site)),

@@ -8,8 +8,8 @@ ghost use Rattle.jl_types.specs.Linkage.Stages.{stage};
 ghost use Rattle.jl_relink.specs.Receivers.{TellsStay, TellsRun, IsSelection};
 ghost use Rattle.jl_relink.specs.Means.Rows.{outcome_of};
 
-use crate::known::one_runs;
-use crate::located::{Located, locate};
+use crate::known::each_runs;
+use crate::located::locate;
 use crate::selection::{Selection, outcome_counted};
 use crate::stage::{Stage, stage_of_reference};
 use crate::world::World;
@@ -85,7 +85,7 @@ fn receiver_runs(
 }
 
 /// Whether it is known, without a search, that the invocation runs this method on an object of this class: it is the method that is
-/// resolved, and no subclass redeclares that.
+/// resolved, and no subclass of the named class redeclares that.
 fn is_known_to_run(
     classes: &Classes,
     selection: &Selection,
@@ -98,7 +98,10 @@ fn is_known_to_run(
     if !runs(Outcome::Run(selection.method), method) {
         return false;
     }
-    one_runs(classes, selection, receiver)
+    if !classes.is_ancestor(selection.named, receiver) {
+        return false;
+    }
+    each_runs(classes, selection)
 }
 
 /// Whether the outcome is that this method runs.
@@ -115,17 +118,9 @@ fn runs(outcome: Outcome, method: &MethodId) -> bool
 pub(crate) fn selection_at(world: &World, site: SiteNo) -> Option<Selection>
     ensures { IsSelection world.now.classes (stage world.now site) result }
 {
-    match locate(world, site) {
-        Ok(found) => selection_of(world, site, &found),
-        Err(_) => None,
-    }
-}
-
-/// The same of an invocation.
-fn selection_of(world: &World, site: SiteNo, found: &Located<'_>) -> Option<Selection>
-    ensures { IsSelection world.now.classes
-        (stages.by_operand world.now site found.now.caller found.now.invocation.kind found.now.invocation.operand) result }
-{
+    let Ok(found) = locate(world, site) else {
+        return None;
+    };
     match found.invocation.operand() {
         Operand::Method(reference) => selection_of_reference(
             &world.classes,

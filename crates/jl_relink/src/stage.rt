@@ -61,27 +61,12 @@ fn by_kind(
     ensures { IsStage classes.now caller reference.now result (stages.by_kind classes.now kind caller reference.now resolved.now) }
 {
     match kind {
-        Kind::Static => static_stage(classes, caller, reference, resolved),
+        Kind::Static if classes.is_static(&resolved.method) => Stage::Calls(resolved.method),
+        Kind::Static => Stage::Fails(Throwable::IncompatibleClassChangeError),
         Kind::Virtual => selecting(classes, TableKind::Virtual, caller, reference, resolved),
         Kind::Interface => selecting(classes, TableKind::Interface, caller, reference, resolved),
         Kind::Special => special_stage(classes, caller, reference, resolved),
         Kind::Dynamic => Stage::Waits(Unlinked::Unbound),
-    }
-}
-
-/// A static method where one has to be.
-fn static_stage(
-    classes: &Classes,
-    caller: ClassId,
-    reference: &Reference<LentName<'_>>,
-    resolved: &Resolved,
-) -> Stage
-    ensures { IsStage classes.now caller reference.now result (stages.if_static classes.now resolved.now.method) }
-{
-    if classes.is_static(&resolved.method) {
-        Stage::Calls(resolved.method)
-    } else {
-        Stage::Fails(Throwable::IncompatibleClassChangeError)
     }
 }
 

@@ -35,15 +35,8 @@ pub(crate) fn put_together(
 fn row_with(row: &(SiteNo, Outline), looked: &[(ClassId, Outcome)]) -> (SiteNo, Link)
     ensures { result ≡ (row.now.0, plans.link_with row.now.1 looked.now) }
 {
-    (row.0, link_with(&row.1, looked))
-}
-
-/// The row's link by what its pairs came to.
-fn link_with(planned: &Outline, looked: &[(ClassId, Outcome)]) -> Link
-    ensures { result ≡ plans.link_with planned.now looked.now }
-{
-    match planned {
-        Outline::Known(link) => *link,
-        Outline::Depends(selection) => link_by_rows(selection.kind, looked),
+    match &row.1 {
+        Outline::Known(link) => (row.0, *link),
+        Outline::Depends(selection) => (row.0, link_by_rows(selection.kind, looked)),
     }
 }
