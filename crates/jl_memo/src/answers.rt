@@ -34,16 +34,9 @@ pub fn recalled(memo: &Memo, site: SiteNo, recv: Recv) -> Fast
 pub fn told(memo: &mut Memo, link: &Option<Link>, site: SiteNo, recv: Recv, answer: Answer)
     ensures { memo.new ≡ by_memo.told memo.old link.now site recv answer }
 {
-    if is_mega_or_none(link) {
+    if matches!(link, Some(Link::Mega)) {
         note(memo, site, recv, outcome_of(answer));
     }
-}
-
-/// Whether there is a link, and a megamorphic one.
-fn is_mega_or_none(link: &Option<Link>) -> bool
-    ensures { result ≡ by_memo.is_mega link.now }
-{
-    matches!(link, Some(Link::Mega))
 }
 
 /// What a call of a site with a megamorphic link is answered by what is remembered. Takes no memory.
@@ -84,20 +77,13 @@ fn note(memo: &mut Memo, site: SiteNo, recv: Recv, outcome: Option<Outcome>)
 {
     match recv {
         Recv::Null => {}
-        Recv::Of(class) => note_class(memo, site, class, outcome),
-    }
-}
-
-/// Remembers the outcome, if there is one, for the class.
-fn note_class(memo: &mut Memo, site: SiteNo, class: ClassId, outcome: Option<Outcome>)
-    ensures { memo.new ≡ by_memo.noted_of memo.old site class outcome }
-{
-    match outcome {
-        None => {}
-        Some(outcome) => memo.put(Row {
-            site,
-            class,
-            outcome,
-        }),
+        Recv::Of(class) => match outcome {
+            None => {}
+            Some(outcome) => memo.put(Row {
+                site,
+                class,
+                outcome,
+            }),
+        },
     }
 }

@@ -35,8 +35,12 @@ impl Memo {
     pub fn new(alloc: Global, sets: u32) -> Result<Memo, AllocError>
         ensures { IfOk result (λ memo. memo ≡ replicate sets no_rows) }
     {
+        let no_rows = Set {
+            newer: None,
+            older: None,
+        };
         Ok(Memo {
-            sets: filled(alloc, Set::empty(), sets as usize)?,
+            sets: filled(alloc, no_rows, sets as usize)?,
         })
     }
 
@@ -55,17 +59,11 @@ impl Memo {
     pub fn put(&mut self, row: Row)
         ensures { self.new ≡ put self.old row }
     {
-        put_in(self.sets.as_mut_slice(), row);
-    }
-}
-
-/// Writes the row into its set.
-fn put_in(sets: &mut [Set], row: Row)
-    ensures { sets.new ≡ put sets.old row }
-{
-    let place = place_of(sets.len(), row.site, row.class);
-    if place < sets.len() {
-        sets[place] = sets[place].with(row);
+        let sets = self.sets.as_mut_slice();
+        let place = place_of(sets.len(), row.site, row.class);
+        if place < sets.len() {
+            sets[place] = sets[place].with(row);
+        }
     }
 }
 

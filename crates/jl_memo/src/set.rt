@@ -1,7 +1,7 @@
 //! The rows that share a place.
 
 ghost use Rattle.std.specs.Prelude.{◌≡◌};
-ghost use Rattle.jl_memo.specs.Memos.{is_of, outcome_in, in_set, no_rows, with_row};
+ghost use Rattle.jl_memo.specs.Memos.{is_of, outcome_in, in_set, with_row};
 
 use jl_types::{ClassId, Outcome, SiteNo};
 
@@ -21,16 +21,6 @@ pub struct Set {
 }
 
 impl Set {
-    /// No rows.
-    pub(crate) fn empty() -> Set
-        ensures { result ≡ no_rows }
-    {
-        Set {
-            newer: None,
-            older: None,
-        }
-    }
-
     /// What a row says of the site's calls on objects of the class.
     pub(crate) fn get(&self, site: SiteNo, class: ClassId) -> Option<Outcome>
         ensures { result ≡ in_set self.now site class }
