@@ -88,7 +88,10 @@ fn of_invocation(
             reference,
             link,
         ))),
-        Operand::CallSite(_) => of_binding(alloc, &world.sites, world.bound_to(site)),
+        Operand::CallSite(_) => match world.bound_to(site) {
+            Some(call_site) => of_call_site(alloc, &world.sites, call_site),
+            None => Ok(Footprint::nothing()),
+        },
     }
 }
 
@@ -208,20 +211,6 @@ fn looked_at_by(
         Kind::Special => None,
         Kind::Static => None,
         Kind::Dynamic => None,
-    }
-}
-
-/// What an invokedynamic rests on that is bound to this call site, or to none. Want of memory is an error.
-fn of_binding(
-    alloc: Global,
-    sites: &Sites,
-    binding: Option<CallSiteId>,
-) -> Result<Footprint, AllocError>
-    ensures { IfOk result (λ keys. keys ≡ footprints.of_binding sites.now binding) }
-{
-    match binding {
-        Some(call_site) => of_call_site(alloc, sites, call_site),
-        None => Ok(Footprint::nothing()),
     }
 }
 
