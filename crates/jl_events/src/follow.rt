@@ -26,16 +26,11 @@ pub fn follow_world(
 {
     match Arc::get_mut(world) {
         Some(world) => follow_owned(world, alloc, ahead, event),
-        None => share(world, ahead),
+        None => {
+            *world = Arc::try_clone(ahead)?;
+            Ok(())
+        }
     }
-}
-
-/// The world is the one ahead from then on. More holders than can be counted are an error.
-fn share(world: &mut Arc<World>, ahead: &Arc<World>) -> Result<(), AllocError>
-    ensures { OnOk result (world.new.value ≡ ahead.now.value) }
-{
-    *world = Arc::try_clone(ahead)?;
-    Ok(())
 }
 
 /// The world, which no other holds, comes to be the one ahead. Want of memory is an error; the world is of no use then.

@@ -1,6 +1,6 @@
 //! What an install is refused for.
 
-ghost use Rattle.std.specs.Prelude.{◌≡◌, ◌+◌, ◌^◌, ◌<◌, ◌≤◌, length};
+ghost use Rattle.std.specs.Prelude.{◌≡◌, ◌+◌, ◌^◌, ◌<◌, ◌≤◌};
 ghost use Rattle.jl_types.specs.Linkage.Resolution.{first_of};
 ghost use Rattle.jl_types.specs.Happenings.Events as events;
 ghost use Rattle.jl_events.specs.Judging.{row_faults, most_of_rows};
@@ -21,17 +21,6 @@ pub(crate) fn install_refusal(
 {
     // Shows how few classes there are, which bounds the work.
     let _classes = world.classes.count_in_order();
-    batch_refusal(world, rows, work)
-}
-
-/// The same where no more classes are known than there may be.
-fn batch_refusal(world: &World, rows: &[(SiteNo, Link)], work: &mut Work) -> Option<Refusal>
-    requires few { length world.now.classes.rows ≤ 65536 }
-    requires nothing_yet { work.old ≡ 0 }
-    ensures refusal { result ≡ events.install_fault world.now rows.now }
-    ensures ticks { work.new ≤ most_of_rows world.now rows.now }
-    ensures small { work.new ≤ 16777216 }
-{
     if is_bad_size(rows.len()) {
         return Some(Refusal::BatchSize);
     }

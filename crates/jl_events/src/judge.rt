@@ -39,7 +39,10 @@ pub fn judged(
 {
     match event {
         Event::NewLoader => unless(loader_refusal(&world.classes), Event::NewLoader),
-        Event::Define(loader, file) => judged_definition(world, loader, file),
+        Event::Define(loader, file) => match world.classes.admitted(loader, file) {
+            Ok(file) => Ok(Event::Define(loader, file)),
+            Err(fault) => Err(Refusal::Define(fault)),
+        },
         Event::Delegate(loader, name, to) => {
             let refusal = delegation_refusal(&world.classes, loader, name.as_slice(), to);
             unless(refusal, Event::Delegate(loader, name, to))
@@ -94,16 +97,6 @@ fn discard(event: Event) {
         Event::NewCallSite(_, _, target) => discard_target(target),
         Event::SetTarget(_, target) => discard_target(target),
         _ => {}
-    }
-}
-
-/// The same for a definition, by whose fault a name of the file is told.
-fn judged_definition(world: &World, loader: LoaderId, file: ClassFile) -> Result<Event, Refusal>
-    ensures { IsJudged (verdict 0 world.now (event.Define loader file)) (event.Define loader file) result }
-{
-    match world.classes.admitted(loader, file) {
-        Ok(file) => Ok(Event::Define(loader, file)),
-        Err(fault) => Err(Refusal::Define(fault)),
     }
 }
 
