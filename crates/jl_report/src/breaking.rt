@@ -13,7 +13,7 @@ use crate::defining::{define_one, first_loader, is_barred};
 use crate::report::{Report, request_alone, rests_on};
 use crate::row::{Finding, Row};
 use jl_class::{ClassFile, FINAL, has_flag};
-use jl_deps::{Keys, keys_of_definition};
+use jl_deps::keys_of_definition;
 use jl_hierarchy::Classes;
 use jl_relink::{World, link_of};
 use jl_types::{ClassId, Key, Link, SiteNo, Unlinked, same_link};
@@ -88,22 +88,15 @@ fn has_growing(classes: &Classes, keys: &[Key]) -> bool
     keys.iter().any(|key| may_grow(classes, key))
 }
 
-/// Whether a further class may change it.
+/// Whether a further class may change it: one may be below the class whose receivers it is.
 fn may_grow(classes: &Classes, key: &Key) -> bool
     ensures { result ≡ drops.may_grow classes.now key.now }
 {
     match key {
-        Key::Receivers(class) => may_be_extended(classes, *class),
+        Key::Receivers(class) => !is_final(classes, *class) || classes.is_interface(*class),
         Key::Target(_) => false,
         Key::Valid(_) => false,
     }
-}
-
-/// Whether a further class may be below it.
-fn may_be_extended(classes: &Classes, class: ClassId) -> bool
-    ensures { result ≡ drops.may_be_extended classes.now class }
-{
-    !is_final(classes, class) || classes.is_interface(class)
 }
 
 /// Whether the class has the flag FINAL.
@@ -116,27 +109,16 @@ fn is_final(classes: &Classes, class: ClassId) -> bool
     }
 }
 
-/// Whether it has a link other than Mega.
+/// Whether it has a link other than Mega, which one receiver more leaves.
 fn has_changing_link(finding: &Finding) -> bool
     ensures { result ≡ drops.has_changing_link finding.now }
 {
     match finding {
-        Finding::Linked(link) => may_change(link),
+        Finding::Linked(Link::Mega) => false,
+        Finding::Linked(Link::Fault(_) | Link::Plain(_) | Link::Direct(_) | Link::Table(_, _)) =>
+            true,
         Finding::Unlinked(_) => false,
         Finding::NotLinkable(_) => false,
-    }
-}
-
-/// Whether it is another link than Mega, which one receiver more leaves.
-fn may_change(link: &Link) -> bool
-    ensures { result ≡ drops.may_change link.now }
-{
-    match link {
-        Link::Mega => false,
-        Link::Fault(_) => true,
-        Link::Plain(_) => true,
-        Link::Direct(_) => true,
-        Link::Table(_, _) => true,
     }
 }
 
@@ -156,17 +138,10 @@ fn add_to(
     if is_barred(&world.classes, &file) {
         return Ok(Some(file));
     }
-    let keys = keys_of_class(alloc, &world.classes, &file)?;
+    let keys = keys_of_definition(alloc, &world.classes, first_loader(), &file)?;
     define_one(alloc, &mut world.classes, file)?;
     drop_some(alloc, world, keys.as_slice(), rows, dropped)?;
     Ok(None)
-}
-
-/// What the class changes that loader 0 makes of the file. Want of memory is an error.
-fn keys_of_class(alloc: Global, classes: &Classes, file: &ClassFile) -> Result<Keys, AllocError>
-    ensures { IfOk result (λ keys. keys ≡ drops.keys_of classes.now file.now) }
-{
-    keys_of_definition(alloc, classes, first_loader(), file)
 }
 
 /// Takes the rows away whose links are dropped, once these keys have changed. Want of memory is an error.
@@ -258,12 +233,5 @@ fn is_link(found: &Result<Link, Unlinked>, link: &Link) -> bool
 fn meets(footprint: &[Key], keys: &[Key]) -> bool
     ensures { result ≡ footprints.meets footprint.now keys.now }
 {
-    footprint.iter().any(|key| has_key(keys, key))
-}
-
-/// Whether the key is one of these.
-fn has_key(keys: &[Key], key: &Key) -> bool
-    ensures { result ≡ footprints.has_key keys.now key.now }
-{
-    keys.iter().any(|other| *other == *key)
+    footprint.iter().any(|key| keys.contains(key))
 }

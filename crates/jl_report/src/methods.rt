@@ -120,23 +120,12 @@ fn run_by(finding: &Finding) -> Option<MethodId>
     ensures { result ≡ methods.run_by finding.now }
 {
     match finding {
-        Finding::Linked(link) => run_by_link(link),
+        Finding::Linked(Link::Plain(method)) => Some(*method),
+        Finding::Linked(Link::Direct(Outcome::Run(method))) => Some(*method),
+        Finding::Linked(Link::Direct(Outcome::Throws(_))) => None,
+        Finding::Linked(Link::Fault(_) | Link::Table(_, _) | Link::Mega) => None,
         Finding::Unlinked(_) => None,
         Finding::NotLinkable(_) => None,
-    }
-}
-
-/// The same of a link.
-fn run_by_link(link: &Link) -> Option<MethodId>
-    ensures { result ≡ methods.run_by_link link.now }
-{
-    match link {
-        Link::Plain(method) => Some(*method),
-        Link::Direct(Outcome::Run(method)) => Some(*method),
-        Link::Direct(Outcome::Throws(_)) => None,
-        Link::Fault(_) => None,
-        Link::Table(_, _) => None,
-        Link::Mega => None,
     }
 }
 

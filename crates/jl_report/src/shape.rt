@@ -33,38 +33,17 @@ impl Shape {
         ensures { result ≡ totals.shape_of finding.now }
     {
         match finding {
-            Finding::Linked(link) => shape_of_link(link),
-            Finding::Unlinked(reason) => shape_unlinked(*reason),
+            Finding::Linked(Link::Plain(_) | Link::Direct(Outcome::Run(_))) => Shape::Direct,
+            Finding::Linked(Link::Fault(_) | Link::Direct(Outcome::Throws(_))) => Shape::Throws,
+            Finding::Linked(Link::Table(_, table)) => match table.as_slice() {
+                [] => Shape::NoReceivers,
+                _ => Shape::Table,
+            },
+            Finding::Linked(Link::Mega) => Shape::Mega,
+            Finding::Unlinked(Unlinked::Unbound) => Shape::Unbound,
+            Finding::Unlinked(Unlinked::NotReady(_) | Unlinked::Gone | Unlinked::NoSite) =>
+                Shape::Waits,
             Finding::NotLinkable(_) => Shape::NotLinkable,
         }
-    }
-}
-
-/// The shape of a link.
-fn shape_of_link(link: &Link) -> Shape
-    ensures { result ≡ totals.shape_of_link link.now }
-{
-    match link {
-        Link::Fault(_) => Shape::Throws,
-        Link::Plain(_) => Shape::Direct,
-        Link::Direct(Outcome::Run(_)) => Shape::Direct,
-        Link::Direct(Outcome::Throws(_)) => Shape::Throws,
-        Link::Table(_, table) => match table.as_slice() {
-            [] => Shape::NoReceivers,
-            _ => Shape::Table,
-        },
-        Link::Mega => Shape::Mega,
-    }
-}
-
-/// The shape of what has no link.
-fn shape_unlinked(reason: Unlinked) -> Shape
-    ensures { result ≡ totals.shape_unlinked reason }
-{
-    match reason {
-        Unlinked::Unbound => Shape::Unbound,
-        Unlinked::NotReady(_) => Shape::Waits,
-        Unlinked::Gone => Shape::Waits,
-        Unlinked::NoSite => Shape::Waits,
     }
 }
