@@ -4,7 +4,6 @@ ghost use Rattle.std.specs.Prelude.{◌≡◌, ◌++◌, ◌∷◌, [], map, fil
 ghost use Rattle.std.specs.List.{cons_option};
 ghost use Rattle.jl_types.specs.Happenings.Event.{Event};
 ghost use Rattle.jl_types.specs.declared.event.Reply.{Reply};
-ghost use Rattle.jl_types.specs.Happenings.History as history;
 ghost use Rattle.jl_types.specs.Happenings.Entries.{change, same_slot, slots_changed};
 ghost use Rattle.jl_core.specs.State.{events, IsAccepted};
 ghost use Rattle.jl_core.specs.Means.Touched.{touched_by, AreTouched, slot_at};
@@ -108,17 +107,10 @@ fn is_same(before: &Option<Link>, after: &Option<Link>) -> bool
     ensures { result ≡ same_slot before.now after.now }
 {
     match before {
-        Some(before) => has_link(after, before),
+        Some(before) => match after {
+            Some(after) => *after == *before,
+            None => false,
+        },
         None => after.is_none(),
-    }
-}
-
-/// Whether this link stands there.
-fn has_link(slot: &Option<Link>, link: &Link) -> bool
-    ensures { result ≡ history.has_link slot.now link.now }
-{
-    match slot {
-        Some(there) => *there == *link,
-        None => false,
     }
 }
