@@ -29,7 +29,8 @@ settle-requires-clause-changed c =
 
 pub settle-requires-clause-fits : goal.settle-requires-clause-fits
 settle-requires-clause-fits c =
-    fits_so _ _ _ _ _ c.requires.led c.in_default.not-Retire c.defined_class-defined.result (sym c.defined_class-defined.ensures) c.args.work.now c.requires.small
+    fits_so _ _ _ _ _ c.requires.led c.in_default.not-Retire c.defined_class-defined.result (sym c.defined_class-defined.ensures)
+    c.args.work.now c.requires.small
 
 pub returns-in_ok-lost-in_default-clause-ticks : goal.returns-in_ok-lost-in_default-clause-ticks
 returns-in_ok-lost-in_default-clause-ticks c =
