@@ -39,7 +39,15 @@ pub(crate) fn carried_event(
             };
             Ok(Some(Event::NewCallSite(*kind, ty.copy(alloc)?, target)))
         }
-        Accepted::SetTarget(site, target) => new_target(alloc, numbers, *site, target),
+        Accepted::SetTarget(site, target) => {
+            let Some(site) = numbers.call_site(*site) else {
+                return Ok(None);
+            };
+            let Some(target) = carried_target(alloc, numbers, target)? else {
+                return Ok(None);
+            };
+            Ok(Some(Event::SetTarget(site, target)))
+        }
         Accepted::NewSwitch => Ok(Some(Event::NewSwitch)),
         Accepted::Invalidate(points) => {
             let points = carried_points(alloc, numbers, points.as_slice())?;
@@ -47,7 +55,10 @@ pub(crate) fn carried_event(
         }
         Accepted::Bind(site, call_site) => Ok(binding(numbers, *site, *call_site)),
         Accepted::Install(_) => Ok(None),
-        Accepted::Retire(loader) => Ok(retirement(numbers, *loader)),
+        Accepted::Retire(loader) => match numbers.loader(*loader) {
+            Some(loader) => Ok(Some(Event::Retire(loader))),
+            None => Ok(None),
+        },
     }
 }
 
@@ -68,31 +79,6 @@ fn delegation(
         return Ok(None);
     };
     Ok(Some(Event::Delegate(loader, name.copy(alloc)?, to)))
-}
-
-/// That a call site gets this target. Want of memory is an error.
-fn new_target(
-    alloc: Global,
-    numbers: &Renumbering,
-    site: CallSiteId,
-    target: &Target,
-) -> Result<Option<Event>, AllocError>
-    ensures { IfOk result (λ made. made ≡ carries.carried numbers.now (event.SetTarget site target.now)) }
-{
-    let Some(site) = numbers.call_site(site) else {
-        return Ok(None);
-    };
-    let Some(target) = carried_target(alloc, numbers, target)? else {
-        return Ok(None);
-    };
-    Ok(Some(Event::SetTarget(site, target)))
-}
-
-/// The retirement of the loader.
-fn retirement(numbers: &Renumbering, loader: LoaderId) -> Option<Event>
-    ensures { result ≡ carries.carried numbers.now (event.Retire loader) }
-{
-    Some(Event::Retire(numbers.loader(loader)?))
 }
 
 /// The target, or none where a part of it is gone. Want of memory is an error. It goes as deep as the target, and no call site has one

@@ -129,21 +129,16 @@ fn delegation(
 ) -> Result<Option<Event>, AllocError>
     ensures { IfOk result (λ made. made ≡ renewal.delegation classes.now numbers.now loader name.now) }
 {
-    let definer = definer_of(classes, loader, name);
+    let Some(definer) = definer_of(classes, loader, name) else {
+        return Ok(None);
+    };
     let Some(loader) = numbers.loader(loader) else {
         return Ok(None);
     };
-    let Some(to) = new_loader(numbers, definer) else {
+    let Some(to) = numbers.loader(definer) else {
         return Ok(None);
     };
     Ok(Some(Event::Delegate(loader, name.copy(alloc)?, to)))
-}
-
-/// The new number of the loader, if there is one and it stays.
-fn new_loader(numbers: &Renumbering, loader: Option<LoaderId>) -> Option<LoaderId>
-    ensures { result ≡ option_and_then (numbering.new_number numbers.now.loaders) loader }
-{
-    numbers.loader(loader?)
 }
 
 /// The loader that has defined the class which the loader finds under the name.

@@ -1,8 +1,7 @@
 //! The numbers that what stays has in the fresh core.
 
 ghost use Rattle.std.specs.Prelude.{◌≡◌, ◌<◌, ◌^◌, IfOk};
-ghost use Rattle.std.specs.Bool.{then_some};
-ghost use Rattle.jl_renewal.specs.Numbers.{numbered, how_many, new_number, renumbered};
+ghost use Rattle.jl_renewal.specs.Numbers.{numbered, how_many, new_number};
 
 use jl_types::{CallSiteId, ClassId, LoaderId, SiteNo, SwitchId};
 use std::alloc::{AllocError, Global};
@@ -80,27 +79,6 @@ impl Renumbering {
     {
         Some(SwitchId::new(new_number(self.switches.as_slice(), old.number())?))
     }
-
-    /// The number in the fresh core of a class that stays.
-    pub(crate) fn staying_class(&self, old: ClassId) -> ClassId
-        ensures { result ≡ renumbered self.now.classes old }
-    {
-        ClassId::new(renumbered(self.classes.as_slice(), old.number()))
-    }
-
-    /// The number in the fresh core of a call site that stays.
-    pub(crate) fn staying_call_site(&self, old: CallSiteId) -> CallSiteId
-        ensures { result ≡ renumbered self.now.call_sites old }
-    {
-        CallSiteId::new(renumbered(self.call_sites.as_slice(), old.number()))
-    }
-
-    /// The number in the fresh core of a switch point that stays.
-    pub(crate) fn staying_switch(&self, old: SwitchId) -> SwitchId
-        ensures { result ≡ renumbered self.now.switches old }
-    {
-        SwitchId::new(renumbered(self.switches.as_slice(), old.number()))
-    }
 }
 
 /// The new number of what had this one, if it stays.
@@ -108,13 +86,6 @@ fn new_number(numbers: &[Option<u32>], old: u32) -> Option<u32>
     ensures { result ≡ new_number numbers.now old }
 {
     *numbers.get(old as usize)?
-}
-
-/// The new number of what had this one; of what goes, 0.
-fn renumbered(numbers: &[Option<u32>], old: u32) -> u32
-    ensures { result ≡ renumbered numbers.now old }
-{
-    new_number(numbers, old).unwrap_or(0)
 }
 
 /// The next numbers for those that stay, in order. Want of memory is an error.
@@ -125,7 +96,7 @@ pub(crate) fn numbered(alloc: Global, stays: &[bool]) -> Result<Vec<Option<u32>>
     let mut numbers = Vec::with_capacity(alloc, stays.len())?;
     let mut next = 0u32;
     for one in stays {
-        numbers.push(number_if(*one, next))?;
+        numbers.push(one.then_some(next))?;
         next += u32::from(*one);
     }
     Ok(numbers)
@@ -142,11 +113,4 @@ pub(crate) fn how_many(stays: &[bool]) -> usize
         count += usize::from(*one);
     }
     count
-}
-
-/// The number, if what is to have it stays.
-fn number_if(stays: bool, next: u32) -> Option<u32>
-    ensures { result ≡ then_some stays next }
-{
-    if stays { Some(next) } else { None }
 }

@@ -1,6 +1,6 @@
 //! The events that request places and bind invokedynamics.
 
-ghost use Rattle.std.specs.Prelude.{◌≡◌, filter_map, IfOk, OnOk};
+ghost use Rattle.std.specs.Prelude.{◌≡◌, filter_map, OnOk};
 ghost use Rattle.jl_renewal.specs.Renewal as renewal;
 ghost use Rattle.jl_renewal.specs.Adds.{MayAdd, Adds};
 
@@ -50,21 +50,11 @@ pub(crate) fn add_bindings<M: EventMachine>(
     requires { MayAdd (filter_map (renewal.binding numbers.now) bindings.now.entries) (M.state fresh.old) }
     ensures { OnOk result (Adds (filter_map (renewal.binding numbers.now) bindings.now.entries) (M.state fresh.old) (M.state fresh.new)) }
 {
-    let bound = entries_of(alloc, bindings)?;
-    add_each(alloc, fresh, bound.as_slice(), numbers)
-}
-
-/// The sites that are bound, each with its call site. Want of memory is an error.
-fn entries_of(
-    alloc: Global,
-    bindings: &IndexMap<SiteNo, CallSiteId>,
-) -> Result<Vec<(SiteNo, CallSiteId)>, AllocError>
-    ensures { IfOk result (λ bound. bound.items ≡ bindings.now.entries) }
-{
-    bindings
+    let bound: Vec<(SiteNo, CallSiteId)> = bindings
         .iter()
         .map(|(site, call_site)| (*site, *call_site))
-        .collect(alloc)
+        .collect(alloc)?;
+    add_each(alloc, fresh, bound.as_slice(), numbers)
 }
 
 /// Binds those of these that stay, in order. Want of memory is an error.

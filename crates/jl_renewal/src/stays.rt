@@ -39,22 +39,8 @@ pub(crate) fn renumbering(
     if how_many(stays.as_slice()) > max_sites as usize {
         return Err(Refusal::SitesFull);
     }
-    Ok(numbers_by(alloc, old, released, stays.as_slice())?)
-}
-
-/// The same where these sites stay. Want of memory is an error.
-fn numbers_by(
-    alloc: Global,
-    old: &World,
-    released: &Released,
-    sites: &[bool],
-) -> Result<Renumbering, AllocError>
-    requires sites { sites.now ≡ staying_sites old.now.classes old.now.places }
-    requires few { how_many sites.now < 2 ^ 32 }
-    ensures { IfOk result (λ numbers. numbers ≡ numbers_of old.now released.now) }
-{
     let (loaders, classes) = class_numbers(alloc, &old.classes)?;
-    let sites = numbered(alloc, sites)?;
+    let sites = numbered(alloc, stays.as_slice())?;
     let (call_sites, switches) = call_site_numbers(alloc, old, released)?;
     Ok(Renumbering {
         loaders,
@@ -74,7 +60,10 @@ fn class_numbers(
     ensures loaders { IfOk result (λ made. made.0.items ≡ numbered (staying_loaders classes.now)) }
     ensures classes { IfOk result (λ made. made.1.items ≡ numbered (staying_classes classes.now)) }
 {
-    let loaders = numbered(alloc, loaders_that_stay(alloc, classes)?.as_slice())?;
+    let loaders = numbered(
+        alloc,
+        loaders_below(alloc, classes, classes.loader_count())?.as_slice(),
+    )?;
     let classes = numbered(alloc, classes_that_stay(alloc, classes)?.as_slice())?;
     Ok((loaders, classes))
 }
@@ -95,14 +84,6 @@ fn call_site_numbers(
         numbered(alloc, stays.as_slice())?,
         numbered(alloc, switches.as_slice())?,
     ))
-}
-
-/// Whether each loader stays. Want of memory is an error.
-fn loaders_that_stay(alloc: Global, classes: &Classes) -> Result<Vec<bool>, AllocError>
-    ensures stays { IfOk result (λ stays. stays.items ≡ staying_loaders classes.now) }
-    ensures few { IfOk result (λ stays. length stays.items ≤ 1024) }
-{
-    loaders_below(alloc, classes, classes.loader_count())
 }
 
 /// Whether each of the first so many loaders stays: those that aren't retired. Want of memory is an error.

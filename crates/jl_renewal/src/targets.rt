@@ -4,11 +4,11 @@ ghost use Rattle.std.specs.Prelude.{◌≡◌, IfOk};
 ghost use Rattle.jl_renewal.specs.Numbers.{renumbered, renumbered_target};
 
 use crate::numbers::Renumbering;
-use jl_types::{MethodId, Part, Target};
+use jl_types::{CallSiteId, ClassId, MethodId, Part, SwitchId, Target};
 use std::alloc::{AllocError, Global};
 
-/// The target under new numbers. Want of memory is an error. It goes as deep as the target, and no call site has one that is deeper
-/// than 64.
+/// The target under new numbers, 0 for what goes. Want of memory is an error. It goes as deep as the target, and no call site has one that
+/// is deeper than 64.
 pub(crate) fn renumbered_target(
     alloc: Global,
     numbers: &Renumbering,
@@ -21,18 +21,21 @@ pub(crate) fn renumbered_target(
         Part::Guard(point, first, fallback) => {
             let first = Box::new(alloc, renumbered_target(alloc, numbers, first)?)?;
             let fallback = Box::new(alloc, renumbered_target(alloc, numbers, fallback)?)?;
-            Ok(Target::guard(numbers.staying_switch(*point), first, fallback))
+            let point = numbers.switch(*point).unwrap_or(SwitchId::new(0));
+            Ok(Target::guard(point, first, fallback))
         }
-        Part::Invoker(site) => Ok(Target::invoker(numbers.staying_call_site(*site))),
+        Part::Invoker(site) => Ok(Target::invoker(
+            numbers.call_site(*site).unwrap_or(CallSiteId::new(0)),
+        )),
     }
 }
 
-/// The method under its class's new number.
+/// The method under its class's new number, 0 where that goes.
 pub(crate) fn renumbered_method(numbers: &Renumbering, method: &MethodId) -> MethodId
     ensures { result ≡ record method.now { class = renumbered numbers.now.classes method.now.class } }
 {
     MethodId {
-        class: numbers.staying_class(method.class),
+        class: numbers.class(method.class).unwrap_or(ClassId::new(0)),
         index: method.index,
     }
 }
