@@ -18,6 +18,10 @@ adds_both es fs a b c first second = record {
   limit = second.limit ∙ first.limit;
 }
 
+-- what a list adds that is made of a value, it adds made of an equal one
+pub adds_as : {X : Type 0} {x y : X} {a b : State} (f : X → List Event) → x ≡ y → Adds (f x) a b → Adds (f y) a b
+adds_as {X = X} {a = a} {b = b} f = subst (λ (x : X). Adds (f x) a b)
+
 -- a list with one more is what it gave, and what that gives
 pub filter_map-take_more : {X Y : Type 0} (f : X → Option Y) (xs : List X) (i : ℕ) (d : X) → i < length xs
     → filter_map f (take (i + 1) xs) ≡ filter_map f (take i xs) ++ option_to_list (f (get_or xs i d))
