@@ -4,7 +4,8 @@ use Rattle.std.specs.Prelude.{◌≡◌, ℕ, ◌<◌, ◌==◌, Bool, true, All
 use Rattle.jl_types.specs.declared.ids.MethodId.{MethodId}
 use Rattle.jl_types.specs.Values.World.{Class, Classes}
 use Rattle.jl_types.specs.Values.Members.{lookup, class_test, is_present, is_interface, is_concrete, same_package, methods_of, method_at, declared}
-use Rattle.jl_types.specs.Values.Ancestry.{superclass_of, superclasses, is_subclass, is_proper_subclass, is_ancestor, is_proper_ancestor, superinterfaces, receivers, AreOrdered}
+use Rattle.jl_types.specs.Values.Ancestry.{superclass_of, superclasses, is_subclass, is_proper_subclass, is_ancestor, is_proper_ancestor}
+use Rattle.jl_types.specs.Values.Ancestry.{superinterfaces, receivers, AreOrdered}
 use Rattle.jl_hierarchy.specs.Constancy.{IsClosed}
 use Rattle.jl_renewal.specs.Numbers.{Numbers, renumbered}
 use Rattle.jl_renewal.specs.Renewed.{renumbered_class, renumbered_method}

@@ -20,7 +20,8 @@ use Rattle.jl_types.specs.Linkage.Stages.{Selector, ByVirtual, ByInterface, BySp
 use Rattle.jl_types.specs.Linkage.Links.{outcome_by, outcome, table_rows, table_or_mega, runs, virtual_link, link_by}
 use Rattle.jl_types.specs.Linkage.Calls.{answered, fits_named, is_receiver, selected}
 use Rattle.jl_renewal.specs.Numbers.{Numbers, renumbered}
-use Rattle.jl_renewal.specs.Renewed.{renumbered_method, renumbered_outcome, renumbered_row, renumbered_link, renumbered_answer, renumbered_receiver, IsPresentReceiver}
+use Rattle.jl_renewal.specs.Renewed.{renumbered_method, renumbered_outcome, renumbered_row, renumbered_link, renumbered_answer, renumbered_receiver}
+use Rattle.jl_renewal.specs.Renewed.{IsPresentReceiver}
 use Rattle.jl_renewal.proofs.Alike.{AreAlike}
 use Rattle.jl_renewal.proofs.AccessLaws.{private_same}
 use Rattle.jl_renewal.proofs.SelectionLaws.{virtual_same, virtual_present, interface_same, special_same}
@@ -44,7 +45,8 @@ table_same n kind rows =
     by_test false = refl
 
 module _ (n : Numbers) (cs ds : Classes) (alike : AreAlike n cs ds) where
-  runs_same : (m : MethodId) → is_present cs m.class ≡ true → (o : Outcome) → RunsPresent cs o → runs (renumbered_method n m) (renumbered_outcome n o) ≡ runs m o
+  runs_same : (m : MethodId) → is_present cs m.class ≡ true → (o : Outcome) → RunsPresent cs o
+      → runs (renumbered_method n m) (renumbered_outcome n o) ≡ runs m o
   runs_same m there (Run k) present = ap (λ (b : Bool). b && (m.index == k.index)) (alike.same m.class k.class there (present k refl))
   runs_same m there (Throws throwable) present = refl
 

@@ -388,7 +388,8 @@ module _ (old_sites : ℕ) (h : List Event) (released : Released) (closed : IsCl
       live_step =
           subst (λ (o : Option Event). OneStep max_sites (G front) o (G (front ++ e ∷ []))) (sym is_delegation) (
             accepted_by refusal.Delegate _ _ no_delegate_fault,
-            leads_to front e rest split _ (delegated_same w released sooner is l live loader_there name to (renumbered n.loaders d) given.0 given.1 fresh_finds),
+            leads_to front e rest split _
+                (delegated_same w released sooner is l live loader_there name to (renumbered n.loaders d) given.0 given.1 fresh_finds),
           )
 
     delegate_step : OneStep max_sites (G front) (class_event w n e) (G (front ++ e ∷ []))
@@ -397,7 +398,8 @@ module _ (old_sites : ℕ) (h : List Event) (released : Released) (closed : IsCl
         by_live : (b : Bool) → is_retired w.classes l ≡ b → OneStep max_sites (G front) (class_event w n e) (G (front ++ e ∷ []))
         by_live true gone =
             subst (λ (o : Option ℕ). OneStep max_sites (G front)
-            (option_and_then (λ j. option_map (event.Delegate j name) (option_and_then (new_number n.loaders) (definer w.classes l name))) o) (G (front ++ e ∷ [])))
+            (option_and_then (λ j. option_map (event.Delegate j name) (option_and_then (new_number n.loaders) (definer w.classes l name))) o)
+            (G (front ++ e ∷ [])))
             (sym (none_gone front e rest split l gone loader_there))
             (leaves front e rest split
             (delegated_gone w released sooner l gone (let le = is.loaders in let there = loader_there in omega (arith, le, there)) loader_there name to))

@@ -189,7 +189,8 @@ module _ (w : World) (released : Released) (mid : Classes) (earlier : IsEarlier 
   known_still =
       or_false (nat_le (length fresh.loaders) k) false
       (le_false (length fresh.loaders) k
-      (subst (λ (m : ℕ). k < m) (sym (length-map (staying (staying_loaders w.classes) (padded (length w.classes.loaders) mid.loaders)) (map (renumbered_record n))))
+      (subst (λ (m : ℕ). k < m)
+      (sym (length-map (staying (staying_loaders w.classes) (padded (length w.classes.loaders) mid.loaders)) (map (renumbered_record n))))
       (subst (λ (m : ℕ). m < length (staying (staying_loaders w.classes) (padded (length w.classes.loaders) mid.loaders)))
       (sym (renumbered_is (staying_loaders w.classes) l l_stays))
       (let records = element_at mid.loaders l there in

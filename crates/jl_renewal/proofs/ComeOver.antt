@@ -1,5 +1,6 @@
 -- What the laws of a renewal say, of every core whose events were accepted.
-use Rattle.std.specs.Prelude.{◌≡◌, ◌↔◌, ◌≤◌, ◌&&◌, ℕ, zero, suc, Bool, true, false, List, [], ◌∷◌, ◌++◌, fold, filter_map, drop, take, length, not, ◌==◌, slice_get, Option, Some, None, Result, Ok, Err, IsOk, Contains}
+use Rattle.std.specs.Prelude.{◌≡◌, ◌↔◌, ◌≤◌, ◌&&◌, ℕ, zero, suc, Bool, true, false, List, [], ◌∷◌, ◌++◌, fold, filter_map, drop, take, length, not}
+use Rattle.std.specs.Prelude.{◌==◌, slice_get, Option, Some, None, Result, Ok, Err, IsOk, Contains}
 use Rattle.std.specs.Prelude.{option_map, option_and_then, option_to_list}
 use Rattle.std.specs.Bool.{then_some}
 use Rattle.std.specs.Option.{option_map_or}
@@ -24,7 +25,8 @@ use Rattle.jl_core.specs.State.{State, events, world_of, links_of}
 use Rattle.jl_renewal.specs.declared.released.Released.{Released}
 use Rattle.jl_renewal.specs.Numbers.{Numbers, how_many, new_number, renumbered_target}
 use Rattle.jl_renewal.specs.Staying.{numbers_of, staying_sites}
-use Rattle.jl_renewal.specs.Renewal.{definer, class_event, new_loaders, new_switches, new_call_site, new_call_sites, request, binding, invalid_points, invalidation, site_events, renewal, IsRenewal, CameFrom}
+use Rattle.jl_renewal.specs.Renewal.{definer, class_event, new_loaders, new_switches, new_call_site, new_call_sites, request, binding, invalid_points}
+use Rattle.jl_renewal.specs.Renewal.{invalidation, site_events, renewal, IsRenewal, CameFrom}
 use Rattle.jl_renewal.specs.Renewed.{renewed, renumbered_link, renumbered_result}
 use Rattle.jl_renewal.specs.Adds.{Follow}
 use Rattle.jl_renewal.proofs.Fit.{IsFit}
@@ -112,7 +114,8 @@ read_sites w n =
     (read_both (invalidation (invalid_points w.sites n)) later (of_points (not (length (invalid_points w.sites n) == 0)) (invalid_points w.sites n))
     (read_both (new_call_sites w.sites n) (filter_map (request n) w.places ++ filter_map (binding n) w.bindings)
     (read_some (new_call_site w.sites n)
-    (λ c. read_then (λ (k : ℕ). option_map (λ (site : CallSite). event.NewCallSite site.kind site.ty (renumbered_target n site.target)) (slice_get w.sites.call_sites c))
+    (λ c. read_then
+    (λ (k : ℕ). option_map (λ (site : CallSite). event.NewCallSite site.kind site.ty (renumbered_target n site.target)) (slice_get w.sites.call_sites c))
     (λ k. read_map (λ (site : CallSite). event.NewCallSite site.kind site.ty (renumbered_target n site.target)) (λ site. refl) (slice_get w.sites.call_sites c))
     (new_number n.call_sites c)) (range_with_len 0 (length w.sites.call_sites)))
     (read_both (filter_map (request n) w.places) (filter_map (binding n) w.bindings)

@@ -109,7 +109,8 @@ module _ (w : World) (released : Released) (mid : Classes) where
       ∙ (ap (map (map (renumbered_record n)))
       (sym (set_staying stays (padded all mid.loaders) l (records.0 ++ (name, c) ∷ []) staying_l)
       ∙ ap (staying stays) (sym (padded_set all mid.loaders l (records.0 ++ (name, c) ∷ []) there)))
-      ∙ ap loaders_of (sym (ap (λ (o : Option Records). option_map_or (λ records. slice_set mid.loaders l (records ++ (name, c) ∷ [])) o mid.loaders) records.1))))))
+      ∙ ap loaders_of
+      (sym (ap (λ (o : Option Records). option_map_or (λ records. slice_set mid.loaders l (records ++ (name, c) ∷ [])) o mid.loaders) records.1))))))
 
   -- of a loader that goes
   pub record_gone : (l : ℕ) (name : List ℕ) (c : ℕ) → slice_get stays l ≡ Some false → l < length mid.loaders
@@ -224,7 +225,11 @@ module _ (w : World) (released : Released) (mid : Classes) (l : ℕ) (gone : is_
           (record mid { loaders = option_map_or (with_record mid.loaders l name) o mid.loaders })) is
       by_class (Some c) is =
           ap (λ (o : Option ℕ). fresh_of w released (record mid { loaders = option_map_or (with_record mid.loaders l name) o mid.loaders })) is
-          ∙ (λ i. record { loaders = record_gone w released mid l name c l_goes there i; rows = map (renumbered_class kk) (staying (staying_classes w.classes) mid.rows); retired = [] })
+          ∙ (λ i. record {
+            loaders = record_gone w released mid l name c l_goes there i;
+            rows = map (renumbered_class kk) (staying (staying_classes w.classes) mid.rows);
+            retired = [];
+          })
 
   pub retired_gone : fresh_of w released (retired mid l) ≡ fresh_of w released mid
   retired_gone = λ i. record {

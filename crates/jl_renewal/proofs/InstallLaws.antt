@@ -1,5 +1,6 @@
 -- The installs of a renewal are accepted.
-use Rattle.std.specs.Prelude.{◌≡◌, ◌<◌, ◌≤◌, ◌+◌, ℕ, zero, suc, Bool, List, [], ◌∷◌, ◌++◌, map, take, drop, min, length, get_or, Option, Some, None, option_and_then, Result, Ok, Err, IsOk, All, AllPairs}
+use Rattle.std.specs.Prelude.{◌≡◌, ◌<◌, ◌≤◌, ◌+◌, ℕ, zero, suc, Bool, List, [], ◌∷◌, ◌++◌, map, take, drop, min, length, get_or, Option, Some, None}
+use Rattle.std.specs.Prelude.{option_and_then, Result, Ok, Err, IsOk, All, AllPairs}
 use Rattle.std.specs.List.{cons_option}
 use Rattle.std.proofs.Common.{refl, sym, ap, subst, ◌∙◌, arith, append_assoc, inl, inr}
 use Rattle.std.proofs.lemmas.List.{append-nil, map-append, take_min, drop_min}

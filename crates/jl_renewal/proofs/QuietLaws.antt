@@ -1,5 +1,6 @@
 -- The events of a renewal without its links install nothing.
-use Rattle.std.specs.Prelude.{◌≡◌, ℕ, zero, suc, Bool, true, false, List, [], ◌∷◌, ◌++◌, filter_map, drop, length, not, ◌==◌, slice_get, Option, Some, None, option_map, option_and_then, option_to_list}
+use Rattle.std.specs.Prelude.{◌≡◌, ℕ, zero, suc, Bool, true, false, List, [], ◌∷◌, ◌++◌, filter_map, drop, length, not, ◌==◌, slice_get, Option, Some}
+use Rattle.std.specs.Prelude.{None, option_map, option_and_then, option_to_list}
 use Rattle.std.specs.List.{cons_option, range_with_len}
 use Rattle.std.specs.Option.{option_map_or}
 use Rattle.std.specs.Bool.{then_some}
@@ -15,7 +16,8 @@ use Rattle.jl_core.specs.State.{State, events, world_of}
 use Rattle.jl_renewal.specs.declared.released.Released.{Released}
 use Rattle.jl_renewal.specs.Numbers.{Numbers, new_number, renumbered_target}
 use Rattle.jl_renewal.specs.Staying.{numbers_of}
-use Rattle.jl_renewal.specs.Renewal.{definer, class_event, new_loaders, new_switches, new_call_site, new_call_sites, request, binding, invalid_points, invalidation, renewal, site_events}
+use Rattle.jl_renewal.specs.Renewal.{definer, class_event, new_loaders, new_switches, new_call_site, new_call_sites, request, binding, invalid_points}
+use Rattle.jl_renewal.specs.Renewal.{invalidation, renewal, site_events}
 
 module _ (k : ℕ) where
   -- none of these events installs a link at site k

@@ -114,7 +114,8 @@ module _ (n : Numbers) (cs ds : Classes) (alike : AreAlike n cs ds) where
         → overriding ds (renumbered n.classes x) (renumbered_method n r) method ≡ option_map (renumbered_method n) (overriding cs x r method)
     overriding_same method =
         let ms = filter_map (declared cs method.name method.ty) (superclasses cs x) in
-        ap (λ (ks : List MethodId). first_element (filter (λ m. can_override ds m (renumbered_method n r)) ks)) ((upward_same n cs ds alike) method.name method.ty x there)
+        ap (λ (ks : List MethodId). first_element (filter (λ m. can_override ds m (renumbered_method n r)) ks))
+        ((upward_same n cs ds alike) method.name method.ty x there)
         ∙ ap first_element
         (filter_alike (renumbered_method n) IsPresent (λ m. can_override ds m (renumbered_method n r)) (λ m. can_override cs m r)
         (λ m present. can_override_same n cs ds alike m r present at) ms ((upward_methods_present n cs ds alike) method.name method.ty x there))
