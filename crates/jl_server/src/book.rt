@@ -231,8 +231,19 @@ impl<K: Name, R: Wait + Drop> Book<K, R> {
             judged,
         );
         match stepped {
-            Ok(reply) => Ok(receipt_of(&self.list, reply)),
-            Err(refusal) => Err(denied_after(&self.list, refusal)),
+            Ok(reply) => Ok(Receipt {
+                serial: self.list.serial(),
+                reply,
+                seen: self.list.again(),
+            }),
+            Err(refusal) => {
+                // Shows that the list is legal.
+                let _serial = self.list.serial();
+                Err(Denied {
+                    refusal,
+                    seen: self.list.again(),
+                })
+            }
         }
     }
 }
@@ -467,7 +478,7 @@ fn what_is_next<K: Name>(
     ensures grown { IfSome result (λ next. head.new ≡ next.list) }
     ensures kept { IfNone result (head.new ≡ head.old) }
 {
-    let Ok(slots) = copy(alloc, planned.slots()) else {
+    let Ok(slots) = planned.slots().to_vec(alloc) else {
         return None;
     };
     let next = next_list(head, list, planned)?;
@@ -496,32 +507,6 @@ fn next_list<K: Name>(head: &mut Head<K>, list: &Seen<K>, planned: &Planned) -> 
         return None;
     }
     Some(next)
-}
-
-/// The receipt of the event that is the last of the list.
-fn receipt_of<K: Name>(list: &Seen<K>, reply: Reply) -> Receipt<K>
-    ensures reply { result.reply ≡ reply }
-    ensures seen { (result.seen ≡ list.now) × (result.serial ≡ length list.now) }
-    ensures legal { IsLegal K.max_sites list.now }
-{
-    Receipt {
-        serial: list.serial(),
-        reply,
-        seen: list.again(),
-    }
-}
-
-/// The refusal of an event after the list.
-fn denied_after<K: Name>(list: &Seen<K>, refusal: Refusal) -> Denied<K>
-    ensures denied { (result.refusal ≡ refusal) × (result.seen ≡ list.now) }
-    ensures legal { IsLegal K.max_sites list.now }
-{
-    // Shows that the list is legal.
-    let _serial = list.serial();
-    Denied {
-        refusal,
-        seen: list.again(),
-    }
 }
 
 /// The refusal of what was planned, for want of memory.
@@ -579,16 +564,4 @@ fn since_after<K: Name>(installs: bool, since: u64, list: &Seen<K>) -> u64
     ensures { result ≡ (if installs then since else length list.now) }
 {
     if installs { since } else { list.serial() }
-}
-
-/// The slots once more. Want of memory is an error.
-fn copy(
-    alloc: Global,
-    slots: &[(SiteNo, Option<Link>)],
-) -> Result<Vec<(SiteNo, Option<Link>)>, AllocError>
-    ensures { IfOk result (λ v. v.items ≡ slots.now) }
-{
-    let mut copied = Vec::with_capacity(alloc, slots.len())?;
-    copied.extend_from_slice(slots)?;
-    Ok(copied)
 }

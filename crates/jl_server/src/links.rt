@@ -104,14 +104,8 @@ impl PublishedLinks {
         ensures { result ≡ answer_with rows.now (get_or self.now site None) classes site recv }
     {
         match self.slots.as_slice().get(site.number() as usize) {
-            Some(slot) => slot_answer_with(
-                rows,
-                self.tables.as_slice(),
-                *slot,
-                classes,
-                site,
-                recv,
-            ),
+            Some(Slot::Mega) => remembered_answer(rows, site, recv),
+            Some(slot) => slot_answer(self.tables.as_slice(), *slot, classes, recv),
             None => Fast::Miss,
         }
     }
@@ -165,23 +159,6 @@ fn slot_answer(tables: &[Table], slot: Slot, classes: usize, recv: Recv) -> Fast
             None => Fast::Miss,
         },
         Slot::Mega => Fast::Miss,
-    }
-}
-
-/// The same, at a megamorphic link by what is remembered.
-fn slot_answer_with(
-    rows: &Memo,
-    tables: &[Table],
-    slot: Slot,
-    classes: usize,
-    site: SiteNo,
-    recv: Recv,
-) -> Fast
-    ensures { result ≡ answer_with rows.now (link_of tables.now slot) classes site recv }
-{
-    match slot {
-        Slot::Mega => remembered_answer(rows, site, recv),
-        slot => slot_answer(tables, slot, classes, recv),
     }
 }
 

@@ -146,20 +146,10 @@ fn first_writer(
     ensures links { IfOk result (λ w. w.desk.shown.value.links ≡ replicate sites None) }
     ensures settled { IfOk result (λ w. drop w.behind w.log.items ≡ []) }
 {
-    let (first, second) = two_tables(alloc, sites, list)?;
-    Writer::new(alloc, first, second, callers)
-}
-
-/// Two tables of one list, with no links. Want of memory is an error.
-fn two_tables(alloc: Global, sites: u32, list: Mark) -> Result<(Table, Table), AllocError>
-    ensures links { IfOk result (λ both. (both.0.links ≡ replicate sites None) × (both.1.links ≡ replicate sites None)) }
-    ensures classes { IfOk result (λ both. (both.0.classes ≡ 0) × (both.1.classes ≡ 0)) }
-    ensures list { IfOk result (λ both. (both.0.list ≡ list) × (both.1.list ≡ list)) }
-{
     let again = list.again();
     let first = Table::new(alloc, sites, list)?;
     let second = Table::new(alloc, sites, again)?;
-    Ok((first, second))
+    Writer::new(alloc, first, second, callers)
 }
 
 /// Publishes twice with no change, after which the writer has room for every later change, and makes so many callers, which have seen
