@@ -1,17 +1,12 @@
 -- What the lines of the mode farm are answered, by a link server, and the line that a farm ends with. What a caller of a server has seen is a
 -- list of accepted events with their replies; it only grows.
-use Rattle.std.specs.Prelude.{◌≡◌, ◌⊎◌, ◌<◌, ℕ, List, [], ◌∷◌, ◌++◌, codes, map, length, All, Option, Some, None, Result, Ok, Err}
+use Rattle.std.specs.Prelude.{◌≡◌, ◌⊎◌, ◌<◌, ℕ, List, [], ◌∷◌, ◌++◌, codes, map, length, All, Option, Result, Ok, Err}
 use mathlib.Core.List.{IsPrefix}
 use Rattle.std.specs.Io.KnownBytes.{Appends}
 use Rattle.serde_json.specs.Data.{Data, string, array}
 use Rattle.serde_json.specs.View.{items_of}
 use Rattle.serde_json.specs.Written.{compact_text}
-use Rattle.jl_classfile.specs.Parts.{Parts}
-use Rattle.jl_classfile.specs.ClassFiles.{IsClass}
-use Rattle.jl_classfile.specs.Shown.{shown}
-use Rattle.jl_sketch.specs.Faults.{IsWritten}
 use Rattle.jl_types.specs.Happenings.Event.{Event}
-use Rattle.jl_types.specs.declared.event.EventOf.TheVariants as event
 use Rattle.jl_types.specs.declared.event.Reply.{Reply}
 use Rattle.jl_types.specs.declared.refusal.Refusal.{Refusal}
 use Rattle.jl_types.specs.Happenings.Events.{verdict}
@@ -20,14 +15,9 @@ use Rattle.jl_types.specs.Happenings.Entries.{Entry, IsLegal, events_of}
 use Rattle.jl_core.specs.State.{IsRefused}
 use Rattle.jl_json.specs.declared.command.Command.{Command}
 use Rattle.jl_json.specs.declared.command.Command.TheVariants as command
-use Rattle.jl_json.specs.declared.command.ClassSource.{ClassSource}
-use Rattle.jl_json.specs.declared.command.ClassSource.TheVariants as source
-use Rattle.jl_json.specs.Commands.{AskedEvent, command_of}
 use Rattle.jl_json.specs.LinkAnswers.{farm_data}
-use Rattle.jl_session.specs.Jsons.{IsReadAs, IsTextOf, bad_command}
-use Rattle.jl_session.specs.Scans.{IsFaultAnswer}
-use Rattle.jl_session.specs.Sketches.{IsSketchRefusal}
-use Rattle.jl_session.specs.Sessions.{IsEventData}
+use Rattle.jl_session.specs.Jsons.{IsTextOf}
+use Rattle.jl_session.specs.Obeying.{IsEventData, IsNoCommand, IsObeyed, IsLineAnswer}
 use Rattle.jl_server.specs.History.{EndsWith}
 use Rattle.jl_farm.specs.declared.report.Report.{Report}
 use Rattle.jl_farm.specs.declared.report.JobOutcome.{JobOutcome}
@@ -53,54 +43,21 @@ pub record IsServed (max_sites : ℕ) (old : List Entry) (e : Event) (answer : D
   pub applied : IsServedAs max_sites old e outcome new
   pub said : IsEventData outcome answer
 
--- the event of the class that the bytes are; or their fault, or want of memory
-abbrev pub IsFileServed : ℕ → List Entry → ℕ → List ℕ → Data → List Entry → Type 0
-IsFileServed max_sites old loader bytes answer new =
-    ((p : Parts) × IsClass bytes p × IsServed max_sites old (event.Define loader (shown p)) answer new)
-    ⊎ ((new ≡ old) × IsFaultAnswer bytes answer)
-
--- by the bytes of a file, or those that a sketch is written as; or why the sketch isn't written
-abbrev pub IsDefineServed : ℕ → List Entry → ℕ → ClassSource → Data → List Entry → Type 0
-IsDefineServed max_sites old loader (source.File bytes) answer new = IsFileServed max_sites old loader bytes answer new
-IsDefineServed max_sites old loader (source.Sketch sketch) answer new =
-    ((bytes : List ℕ) × IsWritten sketch bytes × IsFileServed max_sites old loader bytes answer new)
-    ⊎ ((new ≡ old) × IsSketchRefusal sketch answer)
-
--- no command here
-abbrev pub IsNone : List Entry → Data → List Entry → Type 0
-IsNone old answer new = (answer ≡ bad_command) × (new ≡ old)
-
--- the event; an install is none here
-abbrev pub IsAskedEventServed : ℕ → List Entry → AskedEvent → Data → List Entry → Type 0
-IsAskedEventServed max_sites old event.NewLoader answer new = IsServed max_sites old event.NewLoader answer new
-IsAskedEventServed max_sites old (event.Define loader source) answer new = IsDefineServed max_sites old loader source answer new
-IsAskedEventServed max_sites old (event.Delegate loader name to) answer new = IsServed max_sites old (event.Delegate loader name to) answer new
-IsAskedEventServed max_sites old (event.Request place) answer new = IsServed max_sites old (event.Request place) answer new
-IsAskedEventServed max_sites old (event.NewCallSite kind ty target) answer new = IsServed max_sites old (event.NewCallSite kind ty target) answer new
-IsAskedEventServed max_sites old (event.SetTarget call_site target) answer new = IsServed max_sites old (event.SetTarget call_site target) answer new
-IsAskedEventServed max_sites old event.NewSwitch answer new = IsServed max_sites old event.NewSwitch answer new
-IsAskedEventServed max_sites old (event.Invalidate switches) answer new = IsServed max_sites old (event.Invalidate switches) answer new
-IsAskedEventServed max_sites old (event.Bind site call_site) answer new = IsServed max_sites old (event.Bind site call_site) answer new
-IsAskedEventServed max_sites old (event.Retire loader) answer new = IsServed max_sites old (event.Retire loader) answer new
-IsAskedEventServed max_sites old (event.Install batch) answer new = IsNone old answer new
+-- an install is no command here
+abbrev pub IsNoInstall : List Entry → ℕ → Data → List Entry → Type 0
+IsNoInstall old batch answer new = IsNoCommand old answer new
 
 -- an event; preparations, calls and lists of links are none here
 abbrev pub IsCommandServed : ℕ → List Entry → Command → Data → List Entry → Type 0
-IsCommandServed max_sites old (command.Apply asked) answer new = IsAskedEventServed max_sites old asked answer new
-IsCommandServed max_sites old (command.Prepare sites) answer new = IsNone old answer new
-IsCommandServed max_sites old (command.Call site recv) answer new = IsNone old answer new
-IsCommandServed max_sites old command.Links answer new = IsNone old answer new
-
-abbrev pub IsAskedServed : ℕ → List Entry → Option Command → Data → List Entry → Type 0
-IsAskedServed max_sites old (Some asked) answer new = IsCommandServed max_sites old asked answer new
-IsAskedServed max_sites old None answer new = IsNone old answer new
+IsCommandServed max_sites old (command.Apply asked) answer new = IsObeyed (IsServed max_sites) IsNoInstall old asked answer new
+IsCommandServed max_sites old (command.Prepare sites) answer new = IsNoCommand old answer new
+IsCommandServed max_sites old (command.Call site recv) answer new = IsNoCommand old answer new
+IsCommandServed max_sites old command.Links answer new = IsNoCommand old answer new
 
 -- ---- what a line is answered
 
-pub record IsLineServed (max_sites : ℕ) (old : List Entry) (line : List ℕ) (answer : Data) (new : List Entry) : Type 0 where
-  pub asked : Option Command
-  pub is : IsReadAs command_of line asked
-  pub said : IsAskedServed max_sites old asked answer new
+abbrev pub IsLineServed : ℕ → List Entry → List ℕ → Data → List Entry → Type 0
+IsLineServed max_sites old line answer new = IsLineAnswer (List Entry) (IsCommandServed max_sites) old line answer new
 
 -- the text that a line is answered, and what the caller has seen afterwards
 abbrev pub IsFarmAnswer : ℕ → List Entry → List ℕ → List ℕ → List Entry → Type 0

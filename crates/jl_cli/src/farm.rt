@@ -12,7 +12,7 @@ ghost use Rattle.jl_cli.specs.Farms.{job_of_each, outcome_name, reports_data, la
 ghost use Rattle.jl_cli.specs.Means.Farms.{IsUnwritten, IsOfFarm};
 
 use crate::farm_fault::FarmLineFault;
-use crate::served::Served;
+use crate::served::ServerCommands;
 use jl_farm::{Gate, JobOutcome, Report, run};
 use jl_json::farm_value;
 use jl_names::Seq;
@@ -24,7 +24,7 @@ use std::alloc::{AllocError, Global};
 use std::sync::Wait;
 use std::thread::Threads;
 
-impl<'a, K: Name, H: Wait, S: Wait + Drop> Served<'a, K, H, S> {
+impl<'a, K: Name, H: Wait, S: Wait + Drop> ServerCommands<'a, K, H, S> {
     /// One job for each requested site, in order.
     fn jobs(&self, caller: &mut Caller<K>) -> Result<Vec<Seq<SiteNo>>, AllocError>
         requires { K.max_sites ≤ 65536 }
@@ -51,7 +51,7 @@ impl<'a, K: Name, H: Wait, S: Wait + Drop> Served<'a, K, H, S> {
 
 /// The text of what the links and these reports are.
 fn last_text<K: Name, H: Wait, S: Wait + Drop>(
-    served: &Served<'_, K, H, S>,
+    served: &ServerCommands<'_, K, H, S>,
     caller: &mut Caller<K>,
     reports: &[Report<K>],
 ) -> Result<Vec<u8>, AllocError>
@@ -99,7 +99,7 @@ impl Gate for Open {
 
 /// What each of these jobs came to by these workers. A fault is the farm's own, and is told as such.
 fn reports_on<K: Name + Send + Sync, H: Threads + Wait + Sync, S: Wait + Drop + Send + Sync>(
-    served: &Served<'_, K, H, S>,
+    served: &ServerCommands<'_, K, H, S>,
     jobs: Vec<Seq<SiteNo>>,
     workers: Vec<Caller<K>>,
 ) -> Result<Vec<Report<K>>, FarmLineFault>
@@ -137,7 +137,7 @@ pub(crate) fn farm_text<
     H: Threads + Wait + Sync,
     S: Wait + Drop + Send + Sync,
 >(
-    served: &Served<'_, K, H, S>,
+    served: &ServerCommands<'_, K, H, S>,
     caller: &mut Caller<K>,
     workers: Vec<Caller<K>>,
 ) -> Result<Vec<u8>, FarmLineFault>

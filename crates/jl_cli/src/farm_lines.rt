@@ -12,7 +12,7 @@ ghost use Rattle.jl_cli.specs.Farms.{IsFarmAnswer, FarmsAll, FarmsEarlier, FarmL
 
 use crate::farm::farm_text;
 use crate::farm_fault::FarmLineFault;
-use crate::served::Served;
+use crate::served::ServerCommands;
 use jl_lines::{LineFault, Sink, Source, answer_input, write_all};
 use jl_server::{Caller, Name, Parts};
 use std::alloc::Global;
@@ -48,7 +48,7 @@ fn run_on<
     R: Source,
     W: Sink,
 >(
-    served: &Served<'_, K, H, S>,
+    served: &ServerCommands<'_, K, H, S>,
     caller: &mut Caller<K>,
     workers: Vec<Caller<K>>,
     reader: &mut R,
@@ -119,7 +119,7 @@ fn run_started<K: Name + Send + Sync, H: Threads + Wait + Sync, R: Source, W: Si
         unreachable!()
     };
     let mut caller = caller;
-    let served = Served {
+    let served = ServerCommands {
         rt,
         alloc,
         server: &server,

@@ -10,22 +10,22 @@ use std::alloc::{AllocError, Global};
 
 /// Answers lines of the mode scan: class files in hexadecimal.
 #[derive(Drop)]
-pub(crate) struct Scans {
+pub(crate) struct ClassFileLines {
     alloc: Global,
     /// For the bytes of a line.
     room: Vec<u8>,
     ghost roomy: { vec_len room ≡ 1050000 },
 }
 
-impl Scans {
+impl ClassFileLines {
     /// With room for the bytes of a longest line.
     pub(crate) fn new(alloc: Global) -> Result<Self, AllocError> {
         let room = vec![in alloc; 0u8; MOST_IN_LINE / 2]?;
-        Ok(Scans { alloc, room })
+        Ok(ClassFileLines { alloc, room })
     }
 }
 
-impl Answer<Session> for Scans {
+impl Answer<Session> for ClassFileLines {
     ghost says = { IsAnswer mode.Scan };
 
     fn answer(
@@ -46,11 +46,11 @@ impl Answer<Session> for Scans {
 
 /// Answers lines of the mode sketch.
 #[derive(Drop)]
-pub(crate) struct Sketches {
+pub(crate) struct SketchLines {
     pub(crate) alloc: Global,
 }
 
-impl Answer<Session> for Sketches {
+impl Answer<Session> for SketchLines {
     ghost says = { IsAnswer mode.Sketch };
 
     fn answer(
@@ -66,11 +66,11 @@ impl Answer<Session> for Sketches {
 
 /// Answers lines of the mode run: commands to the session.
 #[derive(Drop)]
-pub(crate) struct Commands {
+pub(crate) struct CoreCommands {
     pub(crate) alloc: Global,
 }
 
-impl Answer<Session> for Commands {
+impl Answer<Session> for CoreCommands {
     ghost says = { IsAnswer mode.Run };
 
     fn answer(

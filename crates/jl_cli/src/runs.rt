@@ -8,7 +8,7 @@ ghost use Rattle.jl_session.specs.Sessions.{new_session};
 ghost use Rattle.jl_cli.specs.Modes.{IsAnswer};
 ghost use Rattle.jl_lines.specs.Answers.{AnswersAll, AnswersFirst, AnswersRead, AnswersEarlier, LacksFirst, LongIf, LeftBy};
 
-use crate::modes::{Commands, Scans, Sketches};
+use crate::modes::{ClassFileLines, CoreCommands, SketchLines};
 use jl_lines::{LineFault, Sink, Source, answer_input};
 use jl_session::Session;
 use jl_words::Mode;
@@ -100,8 +100,8 @@ pub fn run_lines_with<R: Source, W: Sink>(
         ⊎ (2 ^ 64 - 1 ≤ R.reads reader.new)) }
 {
     match mode {
-        Mode::Scan => answer_input(alloc, Scans::new(alloc)?, session, reader, writer),
-        Mode::Sketch => answer_input(alloc, Sketches { alloc }, session, reader, writer),
-        Mode::Run => answer_input(alloc, Commands { alloc }, session, reader, writer),
+        Mode::Scan => answer_input(alloc, ClassFileLines::new(alloc)?, session, reader, writer),
+        Mode::Sketch => answer_input(alloc, SketchLines { alloc }, session, reader, writer),
+        Mode::Run => answer_input(alloc, CoreCommands { alloc }, session, reader, writer),
     }
 }

@@ -23,7 +23,8 @@ use Rattle.jl_core.specs.State.{State, empty_core, events, world_of, IsApplied}
 use Rattle.jl_json.specs.Commands.{is_method_descriptor}
 use Rattle.jl_json.specs.Targets.{target_in}
 use Rattle.jl_session.specs.Jsons.{IsReadAs, IsTextOf}
-use Rattle.jl_session.specs.Sessions.{Session, session_over, snapshot_of, IsSessionAnswer, LacksAnswer}
+use Rattle.jl_session.specs.Obeying.{LacksAnswer}
+use Rattle.jl_session.specs.Sessions.{Session, session_over, snapshot_of, IsSessionAnswer}
 use Rattle.jl_host.specs.declared.told.Told.{Told}
 use Rattle.jl_host.specs.declared.shown.CallAnswer.{CallAnswer}
 use Rattle.jl_host.specs.declared.shown.LinkShown.{LinkShown}

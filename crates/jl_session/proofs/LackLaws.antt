@@ -1,4 +1,4 @@
--- What a session is where memory lacks for an answer.
+-- What there is where memory lacks for an answer.
 use Rattle.std.proofs.Common.{◌≡◌, refl, inl, inr, ℕ, List, Result, Ok, Err, IfOk, IfErr, OnErr}
 use Rattle.serde_json.specs.Data.{Data}
 use Rattle.jl_sketch.specs.Faults.{IsWritten}
@@ -13,7 +13,8 @@ use Rattle.jl_json.specs.Means.NameReading.{name_text}
 use Rattle.jl_json.proofs.NameLaws.{spells}
 use Rattle.jl_json.specs.Replies.{reply_data}
 use Rattle.jl_json.specs.EventRefusals.{event_refusal_data}
-use Rattle.jl_session.specs.Sessions.{Session, LacksAnswer, IsEventData, IsEventAnswer, IsFileDefined, IsDefineAnswer}
+use Rattle.jl_session.specs.Obeying.{LacksAnswer, IsEventData, IsFileDefined, IsDefined}
+use Rattle.jl_session.specs.Sessions.{Session, IsEventAnswer}
 
 pub on_err : {X E : Type 0} {P Q : Type 0} → (P → Q) → (r : Result X E) → OnErr r P → OnErr r Q
 on_err f (Ok x) h = tt
@@ -24,12 +25,12 @@ if_err p (Ok x) = tt
 if_err p (Err e) = p
 
 -- where each of these answers gives one of those
-pub lacks_as : {A B : Type 0} (old new : Session) (P : A → Type 0) (Q : B → Type 0) → ((a : A) → P a → (b : B) × Q b)
+pub lacks_as : {S A B : Type 0} (old new : S) (P : A → Type 0) (Q : B → Type 0) → ((a : A) → P a → (b : B) × Q b)
     → LacksAnswer old P new → LacksAnswer old Q new
 lacks_as old new P Q f (inl e) = inl e
 lacks_as old new P Q f (inr p) = inr (f p.0 p.1)
 
-some_data : (outcome : Result Reply Refusal) → (answer : Data) × IsEventData outcome answer
+pub some_data : (outcome : Result Reply Refusal) → (answer : Data) × IsEventData outcome answer
 some_data (Ok reply) = (reply_data reply, refl)
 some_data (Err r) = (event_refusal_data name_text r, (name_text, spells, refl))
 
@@ -49,10 +50,10 @@ event_lacks old new e outcome applied same = inr (
   record { outcome = outcome; applied = applied; batches = same; said = (some_data outcome).1 },
 )
 
-pub sketch_lacks : (old new : Session) (loader : ℕ) (sketch : Sketch) (bytes : List ℕ) → IsWritten sketch bytes
-    → LacksAnswer old (λ answer. IsFileDefined old loader bytes answer new) new
-    → LacksAnswer old (λ answer. IsDefineAnswer old loader (source.Sketch sketch) answer new) new
-sketch_lacks old new loader sketch bytes written lacks =
-    lacks_as old new (λ answer. IsFileDefined old loader bytes answer new)
-    (λ answer. IsDefineAnswer old loader (source.Sketch sketch) answer new)
+pub sketch_lacks : {S : Type 0} (IsEvent : S → Event → Data → S → Type 0) (old new : S) (loader : ℕ) (sketch : Sketch) (bytes : List ℕ)
+    → IsWritten sketch bytes → LacksAnswer old (λ answer. IsFileDefined IsEvent old loader bytes answer new) new
+    → LacksAnswer old (λ answer. IsDefined IsEvent old loader (source.Sketch sketch) answer new) new
+sketch_lacks IsEvent old new loader sketch bytes written lacks =
+    lacks_as old new (λ answer. IsFileDefined IsEvent old loader bytes answer new)
+    (λ answer. IsDefined IsEvent old loader (source.Sketch sketch) answer new)
     (λ answer said. (answer, inl (bytes, written, said))) lacks

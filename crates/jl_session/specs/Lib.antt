@@ -1,4 +1,5 @@
 pub mod Jsons
 pub mod Scans
 pub mod Sketches
+pub mod Obeying
 pub mod Sessions

@@ -1,27 +1,23 @@
 //! Commands, a line each, on one core.
 
-ghost use Rattle.std.specs.Prelude.{◌≡◌, ◌≤◌, IfOk, OnErr, length};
+ghost use Rattle.std.specs.Prelude.{◌≡◌, ◌≤◌, IfOk, OnErr};
 ghost use Rattle.serde_json.specs.View.{view};
-ghost use Rattle.jl_types.specs.declared.event.EventOf.TheVariants.{Install};
-ghost use Rattle.jl_json.specs.declared.command.ClassSource.TheVariants as source;
 ghost use Rattle.jl_core.specs.State.{IsApplied};
 ghost use Rattle.jl_json.specs.Commands.{command_of};
 ghost use Rattle.jl_session.specs.Jsons.{IsReadAs, IsTextOf};
-ghost use Rattle.jl_session.specs.Sessions.{session_of, session_over, new_session, IsEventData, IsEventAnswer, IsFileDefined, IsDefineAnswer};
-ghost use Rattle.jl_session.specs.Sessions.{IsPrepareAnswer, IsAskedEventAnswer, IsCommandAnswer, IsSessionAnswer, LacksAnswer};
+ghost use Rattle.jl_session.specs.Obeying.{IsEventData, LacksAnswer};
+ghost use Rattle.jl_session.specs.Sessions.{session_of, session_over, new_session, IsEventAnswer, IsInstallAnswer, IsPrepareAnswer};
+ghost use Rattle.jl_session.specs.Sessions.{IsCommandAnswer, IsSessionAnswer};
 
 use crate::json_line::{bad_command, json_in, text_of};
-use crate::scan::fault_value;
-use crate::sketch::sketch_fault_value;
-use jl_classfile::read_class;
+use crate::obeying::{Obey, obey_event};
 use jl_core::Core;
 use jl_json::{
-    AskedEvent, ClassSource, Command, answer_value, event_refusal_value, links_value,
-    prepare_refusal_value, prepared_value, read_command, reply_value,
+    Command, answer_value, event_refusal_value, links_value, prepare_refusal_value, prepared_value,
+    read_command, reply_value,
 };
 use jl_names::Seq;
-use jl_sketch::{Sketch, write_class};
-use jl_types::{Event, Link, LoaderId, Refusal, Reply, SiteNo};
+use jl_types::{Event, Link, Refusal, Reply, SiteNo};
 use serde_json::Value;
 use std::alloc::{AllocError, Global};
 use std::marker::Model;
@@ -155,96 +151,13 @@ impl Session {
         ensures lacks { OnErr result (LacksAnswer self.old (λ answer. IsCommandAnswer self.old asked answer self.new) self.new) }
     {
         match asked {
-            Command::Apply(asked) => self.obey_event(alloc, asked),
+            Command::Apply(asked) => obey_event(&OnSession, alloc, self, asked),
             Command::Prepare(sites) => self.prepare(alloc, sites.as_slice()),
             Command::Call(site, recv) => answer_value(alloc, self.core.call(site, recv)),
             Command::Links => {
                 let links = self.core.list_links(alloc)?;
                 links_value(alloc, links.as_slice())
             }
-        }
-    }
-
-    /// The answer to an event that is asked for.
-    fn obey_event(&mut self, alloc: Global, asked: AskedEvent) -> Result<Value, AllocError>
-        ensures ok { IfOk result (λ v. IsAskedEventAnswer self.old asked (view v) self.new) }
-        ensures lacks { OnErr result (LacksAnswer self.old (λ answer. IsAskedEventAnswer self.old asked answer self.new) self.new) }
-    {
-        match asked {
-            AskedEvent::NewLoader => self.apply(alloc, Event::NewLoader),
-            AskedEvent::Define(loader, source) => self.define(alloc, loader, source),
-            AskedEvent::Delegate(loader, name, to) => {
-                self.apply(alloc, Event::Delegate(loader, name, to))
-            }
-            AskedEvent::Request(place) => self.apply(alloc, Event::Request(place)),
-            AskedEvent::NewCallSite(kind, ty, target) => {
-                self.apply(alloc, Event::NewCallSite(kind, ty, target))
-            }
-            AskedEvent::SetTarget(call_site, target) => {
-                self.apply(alloc, Event::SetTarget(call_site, target))
-            }
-            AskedEvent::NewSwitch => self.apply(alloc, Event::NewSwitch),
-            AskedEvent::Invalidate(switches) => self.apply(alloc, Event::Invalidate(switches)),
-            AskedEvent::Bind(site, call_site) => self.apply(alloc, Event::Bind(site, call_site)),
-            AskedEvent::Install(batch) => self.install(alloc, batch),
-            AskedEvent::Retire(loader) => self.apply(alloc, Event::Retire(loader)),
-        }
-    }
-
-    /// The answer to an event: its reply, or the refusal.
-    fn apply(&mut self, alloc: Global, event: Event) -> Result<Value, AllocError>
-        ensures ok { IfOk result (λ v. IsEventAnswer self.old event (view v) self.new) }
-        ensures lacks { OnErr result (LacksAnswer self.old (λ answer. IsEventAnswer self.old event answer self.new) self.new) }
-    {
-        let outcome = self.submit(alloc, event);
-        event_value(alloc, &outcome)
-    }
-
-    /// The answer to the definition of a class.
-    fn define(
-        &mut self,
-        alloc: Global,
-        loader: LoaderId,
-        source: ClassSource,
-    ) -> Result<Value, AllocError>
-        ensures ok { IfOk result (λ v. IsDefineAnswer self.old loader source (view v) self.new) }
-        ensures lacks { OnErr result (LacksAnswer self.old (λ answer. IsDefineAnswer self.old loader source answer self.new) self.new) }
-    {
-        match source {
-            ClassSource::File(bytes) => self.define_file(alloc, loader, bytes.as_slice()),
-            ClassSource::Sketch(sketch) => self.define_sketch(alloc, loader, &sketch),
-        }
-    }
-
-    /// The answer to the definition of a class by a sketch of its file.
-    fn define_sketch(
-        &mut self,
-        alloc: Global,
-        loader: LoaderId,
-        sketch: &Sketch,
-    ) -> Result<Value, AllocError>
-        ensures ok { IfOk result (λ v. IsDefineAnswer self.old loader (source.Sketch sketch.now) (view v) self.new) }
-        ensures lacks { OnErr result (LacksAnswer self.old (λ answer. IsDefineAnswer self.old loader (source.Sketch sketch.now) answer self.new) self.new) }
-    {
-        match write_class(alloc, sketch) {
-            Ok(bytes) => self.define_file(alloc, loader, &bytes),
-            Err(fault) => sketch_fault_value(alloc, fault),
-        }
-    }
-
-    /// The answer to the definition of a class by the bytes of its file.
-    fn define_file(
-        &mut self,
-        alloc: Global,
-        loader: LoaderId,
-        bytes: &[u8],
-    ) -> Result<Value, AllocError>
-        ensures ok { IfOk result (λ v. IsFileDefined self.old loader bytes.now (view v) self.new) }
-        ensures lacks { OnErr result (LacksAnswer self.old (λ answer. IsFileDefined self.old loader bytes.now answer self.new) self.new) }
-    {
-        match read_class(alloc, bytes) {
-            Ok(file) => self.apply(alloc, Event::Define(loader, file)),
-            Err(fault) => fault_value(alloc, fault),
         }
     }
 
@@ -255,30 +168,38 @@ impl Session {
     {
         match self.core.prepare(alloc, sites) {
             Ok(prepared) => {
-                let answer = prepared_value(alloc, self.next_batch()?, prepared.rows.as_slice())?;
+                // More batches than numbers want memory.
+                let Ok(number) = u32::try_from(self.batches.as_slice().len()) else {
+                    return Err(AllocError);
+                };
+                let answer = prepared_value(alloc, number, prepared.rows.as_slice())?;
                 self.batches.push(prepared.rows)?;
                 Ok(answer)
             }
             Err(fault) => prepare_refusal_value(alloc, fault),
         }
     }
+}
 
-    /// The number of the next batch. More batches than numbers is an error.
-    fn next_batch(&self) -> Result<u32, AllocError>
-        ensures { IfOk result (λ number. number ≡ length self.now.batches) }
-    {
-        u32::try_from(self.batches.as_slice().len()).map_err(|_| AllocError)
+/// Obeys commands on a session.
+#[derive(Drop)]
+struct OnSession;
+
+impl Obey<Session> for OnSession {
+    ghost applies = { IsEventAnswer };
+
+    ghost installs = { IsInstallAnswer };
+
+    fn apply(&self, alloc: Global, on: &mut Session, event: Event) -> Result<Value, AllocError> {
+        let outcome = on.submit(alloc, event);
+        event_value(alloc, &outcome)
     }
 
-    /// The answer to the install of a batch.
-    fn install(&mut self, alloc: Global, batch: u32) -> Result<Value, AllocError>
-        ensures ok { IfOk result (λ v. IsAskedEventAnswer self.old (Install batch) (view v) self.new) }
-        ensures lacks { OnErr result (LacksAnswer self.old (λ answer. IsAskedEventAnswer self.old (Install batch) answer self.new) self.new) }
-    {
-        let Some(rows) = self.batches.as_slice().get(batch as usize) else {
+    fn install(&self, alloc: Global, on: &mut Session, batch: u32) -> Result<Value, AllocError> {
+        let Some(rows) = on.batches.as_slice().get(batch as usize) else {
             return bad_command(alloc);
         };
         let rows = Seq::of(rows.as_slice().to_vec(alloc)?);
-        self.apply(alloc, Event::Install(rows))
+        self.apply(alloc, on, Event::Install(rows))
     }
 }

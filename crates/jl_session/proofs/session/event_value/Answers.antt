@@ -2,7 +2,7 @@ use Rattle.std.proofs.Common.{sym, subst, Result}
 use Rattle.serde_json.specs.View.{view}
 use Rattle.jl_types.specs.declared.event.Reply.{Reply}
 use Rattle.jl_types.specs.declared.refusal.Refusal.{Refusal}
-use Rattle.jl_session.specs.Sessions.{IsEventData}
+use Rattle.jl_session.specs.Obeying.{IsEventData}
 use Rattle.jl_session.proofs.ScanLaws.{for_ok}
 use Rattle.jl_session.proofs.session.event_value.Goals as goal
 

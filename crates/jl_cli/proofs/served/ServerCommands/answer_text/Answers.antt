@@ -1,10 +1,10 @@
 use Rattle.serde_json.specs.View.{view}
 use Rattle.jl_session.proofs.ScanLaws.{for_ok}
 use Rattle.jl_cli.proofs.FloatLaws.{line_floats}
-use Rattle.jl_cli.proofs.served.Served.answer_text.Goals as goal
+use Rattle.jl_cli.proofs.served.ServerCommands.answer_text.Goals as goal
 
 pub text_of-requires : goal.text_of-requires
-text_of-requires g c = line_floats _ _ _ (view c.in_ok-answer.answer) c.args.line.now c.in_ok-answer.ensures.ok
+text_of-requires g c = line_floats _ _ c.args.line.now (view c.in_ok-answer.answer) _ c.in_ok-answer.ensures.ok
 
 pub returns-clause-ok : goal.returns-clause-ok
 returns-clause-ok g c =

@@ -2,7 +2,7 @@ use Rattle.std.proofs.Common.{Ok, Err}
 use Rattle.jl_session.proofs.LackLaws.{if_err}
 use Rattle.jl_session.proofs.ScanLaws.{for_ok}
 use Rattle.jl_cli.proofs.LackLaws.{served_lacks}
-use Rattle.jl_cli.proofs.served.Served.apply.Goals as goal
+use Rattle.jl_cli.proofs.served.ServerCommandsObeyCaller.apply.Goals as goal
 
 pub returns-in-Ok-clause-ok : goal.returns-in-Ok-clause-ok
 returns-in-Ok-clause-ok g c = for_ok (λ v is. record {

@@ -1,9 +1,8 @@
 use Rattle.std.proofs.Common.{sym, subst, inl}
 use Rattle.jl_sketch.specs.Faults.{IsWritten}
-use Rattle.jl_session.proofs.LackLaws.{on_err}
+use Rattle.jl_session.proofs.LackLaws.{on_err, sketch_lacks}
 use Rattle.jl_session.proofs.ScanLaws.{for_ok}
-use Rattle.jl_cli.proofs.LackLaws.{sketch_lacks}
-use Rattle.jl_cli.proofs.served.Served.define_sketch.Goals as goal
+use Rattle.jl_session.proofs.obeying.define_sketch.Goals as goal
 
 pub returns-in-Ok-clause-ok : goal.returns-in-Ok-clause-ok
 returns-in-Ok-clause-ok g c =
@@ -12,6 +11,6 @@ returns-in-Ok-clause-ok g c =
 
 pub returns-in-Ok-clause-lacks : goal.returns-in-Ok-clause-lacks
 returns-in-Ok-clause-lacks g c =
-    on_err (sketch_lacks _ _ _ _ c.args.sketch.now c.deref.result.now
+    on_err (sketch_lacks g.O.Obey.applies _ _ _ c.args.sketch.now c.deref.result.now
     (subst (IsWritten c.args.sketch.now) (sym c.deref.ensures.value) c.in-Ok.ensures.ok))
     c.define_file.result c.define_file.ensures.lacks

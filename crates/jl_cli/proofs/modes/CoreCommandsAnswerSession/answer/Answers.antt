@@ -1,6 +1,6 @@
 use Rattle.jl_session.proofs.LackLaws.{if_err}
 use Rattle.jl_cli.proofs.LackLaws.{run_lacks}
-use Rattle.jl_cli.proofs.modes.CommandsAnswerSession.answer.Goals as goal
+use Rattle.jl_cli.proofs.modes.CoreCommandsAnswerSession.answer.Goals as goal
 
 pub returns-in_err-text-clause-lacks : goal.returns-in_err-text-clause-lacks
 returns-in_err-text-clause-lacks c =

@@ -1,6 +1,6 @@
 use Rattle.std.proofs.Common.{refl, inr}
 use Rattle.jl_session.proofs.ScanLaws.{refusal_answers, for_ok}
-use Rattle.jl_cli.proofs.served.Served.define_file.Goals as goal
+use Rattle.jl_session.proofs.obeying.define_file.Goals as goal
 
 pub returns-in-Err-clause-ok : goal.returns-in-Err-clause-ok
 returns-in-Err-clause-ok g c =

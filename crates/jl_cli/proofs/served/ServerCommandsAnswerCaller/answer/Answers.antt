@@ -1,6 +1,6 @@
 use Rattle.jl_session.proofs.LackLaws.{if_err}
 use Rattle.jl_cli.proofs.LackLaws.{farm_lacks}
-use Rattle.jl_cli.proofs.served.ServedAnswerCaller.answer.Goals as goal
+use Rattle.jl_cli.proofs.served.ServerCommandsAnswerCaller.answer.Goals as goal
 
 pub returns-in_err-text-clause-lacks : goal.returns-in_err-text-clause-lacks
 returns-in_err-text-clause-lacks g c =
