@@ -1,5 +1,5 @@
 -- Which links a further class drops: those that aren't their invocations' any more, once it is defined behind the others.
-use Rattle.std.specs.Prelude.{◌≡◌, ℕ, ◌&&◌, ◌++◌, Bool, true, false, List, filter, filter_map, length, slice_get, Option, Some, None}
+use Rattle.std.specs.Prelude.{◌≡◌, ◌&&◌, ◌++◌, Bool, true, false, List, filter, filter_map, length, Option, Some, None}
 use Rattle.std.specs.Prelude.{option_map, is_some, is_none, if◌then◌else◌}
 use Rattle.std.specs.List.{list_any}
 use Rattle.jl_class.specs.Class.{ClassFile}

@@ -84,19 +84,12 @@ fn are_marked(marks: &[bool], key: &Key) -> bool
     ensures { result ≡ made.marked_receivers marks.now key.now }
 {
     match key {
-        Key::Receivers(class) => is_marked(marks, *class),
+        Key::Receivers(class) => match marks.get(class.number() as usize) {
+            Some(mark) => *mark,
+            None => false,
+        },
         Key::Target(_) => false,
         Key::Valid(_) => false,
-    }
-}
-
-/// Whether the class is marked.
-fn is_marked(marks: &[bool], class: ClassId) -> bool
-    ensures { result ≡ made.is_marked marks.now class }
-{
-    match marks.get(class.number() as usize) {
-        Some(mark) => *mark,
-        None => false,
     }
 }
 

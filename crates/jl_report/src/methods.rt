@@ -30,6 +30,20 @@ impl Report {
     }
 }
 
+impl Row {
+    /// The class whose receivers the row's link looks at, where it looks at any.
+    pub fn looked_at(&self) -> Option<ClassId>
+        ensures { result ≡ methods.looked_at self.now.rests_on }
+    {
+        match self.rests_on.as_slice() {
+            [Key::Receivers(class), ..] => Some(*class),
+            [Key::Target(_), ..] => None,
+            [Key::Valid(_), ..] => None,
+            [] => None,
+        }
+    }
+}
+
 /// The same in the world.
 fn methods_in(
     alloc: Global,
@@ -42,24 +56,12 @@ fn methods_in(
     ensures classes { world.new.classes ≡ world.old.classes }
     ensures bare { reports.IsBare world.new }
 {
-    match looked_at(row.rests_on.as_slice()) {
+    match row.looked_at() {
         Some(class) => {
             request_alone(world, row.place)?;
             methods_on(alloc, world, receivers_of(&world.classes, class), most)
         }
         None => own_methods(alloc, &row.finding, most),
-    }
-}
-
-/// The class whose receivers a link looks at that rests on these, where it looks at any.
-fn looked_at(keys: &[Key]) -> Option<ClassId>
-    ensures { result ≡ methods.looked_at keys.now }
-{
-    match keys {
-        [Key::Receivers(class), ..] => Some(*class),
-        [Key::Target(_), ..] => None,
-        [Key::Valid(_), ..] => None,
-        [] => None,
     }
 }
 

@@ -8,7 +8,7 @@ use jl_json::throwable_name;
 use jl_names::LentName;
 use jl_report::{Finding, Row, is_open};
 use jl_types::{
-    ClassId, Key, Link, MethodId, Missing, NotLinkable, Outcome, Table, Throwable, Unlinked,
+    ClassId, Link, MethodId, Missing, NotLinkable, Outcome, Table, Throwable, Unlinked,
 };
 use std::alloc::{AllocError, Global};
 
@@ -131,7 +131,7 @@ fn push_link(
         Link::Direct(outcome) => push_direct(alloc, classes, *outcome, out),
         Link::Table(_, table) => push_table(alloc, classes, table, note, out),
         Link::Mega => {
-            let count = match looked_at(row) {
+            let count = match row.looked_at() {
                 Some(class) if classes.has_class(class) => classes.receivers(class).len(),
                 _ => 0,
             };
@@ -167,18 +167,10 @@ fn push_methods(before: &str, note: &Note, out: &mut String) -> Result<(), Alloc
     }
 }
 
-/// The class whose receivers the row's link looks at, if there is one.
-fn looked_at(row: &Row) -> Option<ClassId> {
-    match row.rests_on.as_slice().first() {
-        Some(Key::Receivers(class)) => Some(*class),
-        _ => None,
-    }
-}
-
 /// The class or interface of which a further one below may change the row's link, if there is one.
 pub(crate) fn open_class(classes: &Classes, row: &Row) -> Option<ClassId> {
     if is_open(classes, row) {
-        return looked_at(row);
+        return row.looked_at();
     }
     None
 }
