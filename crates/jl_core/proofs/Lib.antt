@@ -13,7 +13,7 @@ pub mod HeadlineLaws
 -- a planned event: its slots, and the instance that is behind
 pub mod SlotLaws
 pub mod PlanLaws
-pub mod FollowLaws
+pub mod CatchUpLaws
 pub mod ReplayLaws
 -- threads, and worked cores
 pub mod Crossing

@@ -20,7 +20,7 @@ use Rattle.jl_core.specs.State.{State, events, world_of, IsAccepted}
 use Rattle.jl_core.specs.Logs.{Entry, are_told, shown}
 use Rattle.jl_core.specs.Means.Touched.{has, touched_by, AreTouched, slot_at}
 use Rattle.jl_core.proofs.LogLaws.{length_told}
-use Rattle.jl_core.proofs.FollowLaws.{told_at, event_told, no_more}
+use Rattle.jl_core.proofs.CatchUpLaws.{told_at, event_told, no_more}
 use Rattle.jl_core.proofs.SlotLaws.{slots_are}
 
 has_both : (s : ℕ) (xs ys : List ℕ) → has s (xs ++ ys) ≡ false → (has s xs ≡ false) × (has s ys ≡ false)

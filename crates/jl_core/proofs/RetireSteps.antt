@@ -19,7 +19,7 @@ use Rattle.jl_settle.specs.Settling.{HasChanged, kept_at, goes, most_asked}
 use Rattle.jl_events.specs.Accepted.{Accepted, event_of}
 use Rattle.jl_events.proofs.InstallCounts.{no_more, few_by}
 use Rattle.jl_core.specs.Means.Changes.{AreScratch, retires_at}
-use Rattle.jl_core.specs.Means.Steps.{AreGone, AreRetired, IsLed, most_told}
+use Rattle.jl_core.specs.Means.Steps.{AreGone, AreRetired, HasStepped, most_told}
 use Rattle.jl_core.specs.Means.Touched.{has}
 use Rattle.jl_core.proofs.RetireLaws.{retires_so, retired_then, dropped_all, taken_all, lost_all, links_left, index_left}
 use Rattle.jl_core.proofs.RetireLaws.{kept_left, touched_left, few_in_sum, lost_or_gone}
@@ -34,7 +34,7 @@ has_both s (x ∷ xs) ys = ap (λ (b : Bool). (x == s) || b) (has_both s xs ys) 
     or_assoc false b c = refl
 
 module _ (w : World) (ks : List Key) (loader : ℕ) (links : List (ℕ × Link)) (index : List (ℕ × List Key))
-    (led : IsLed w ks (event.Retire loader) links index) where
+    (led : HasStepped w ks (event.Retire loader) links index) where
   same_event : event.Retire loader ≡ led.event
   same_event = same_Some (event.Retire loader) led.event led.tells
 

@@ -14,7 +14,7 @@ use Rattle.jl_relink.proofs.Loaders.{loader_constant}
 use Rattle.jl_core.specs.State.{State, empty_core, events, world_of, links_of}
 use Rattle.jl_core.specs.Logs.{Entry, are_told, shown}
 use Rattle.jl_core.specs.Headline.{AreApplied}
-use Rattle.jl_core.specs.Works.{most_of_last}
+use Rattle.jl_core.specs.WorkBounds.{most_of_last}
 
 -- ---- no events
 

@@ -31,7 +31,7 @@ use Rattle.jl_events.specs.Changes as changes
 use Rattle.jl_events.proofs.ChangeLaws.{rows_free}
 use Rattle.jl_events.proofs.InstallCounts.{few_of_range}
 use Rattle.jl_core.specs.Means.Changes.{installs_at, retires_at, lost}
-use Rattle.jl_core.specs.Means.Steps.{IsSound, IsLed, most_to_settle, most_told}
+use Rattle.jl_core.specs.Means.Steps.{IsSound, HasStepped, most_to_settle, most_told}
 use Rattle.jl_core.specs.Means.Touched.{has, AreTouched}
 use Rattle.jl_core.proofs.KeptLaws.{kept_once}
 use Rattle.jl_core.proofs.InstallLaws.{install_keeps}
@@ -187,7 +187,7 @@ module _ (old new : World) (index : List (ℕ × List Key)) (e : Event) (ks : Li
 
 -- ---- the event that was settled
 
-module _ (w : World) (ks : List Key) (told : Accepted) (links : List (ℕ × Link)) (index : List (ℕ × List Key)) (led : IsLed w ks told links index) where
+module _ (w : World) (ks : List Key) (told : Accepted) (links : List (ℕ × Link)) (index : List (ℕ × List Key)) (led : HasStepped w ks told links index) where
   -- where no loader goes
   pub has_changed : ((loader : ℕ) → told ≡ event.Retire loader → ⊥) → (defined : Option ℕ) → class_of told ≡ defined
       → HasChanged w ks defined (link_at links) index

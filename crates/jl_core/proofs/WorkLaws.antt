@@ -18,7 +18,7 @@ use Rattle.jl_events.specs.Judging.{most_to_judge}
 use Rattle.jl_core.specs.State.{State, events, IsAccepted}
 use Rattle.jl_core.specs.Means.Steps.{most_to_settle}
 use Rattle.jl_core.proofs.StepLaws.{none_touched}
-use Rattle.jl_core.specs.Works.{most_after, most_of_last}
+use Rattle.jl_core.specs.WorkBounds.{most_after, most_of_last}
 
 -- one event more
 last_more : (before h : List Event) (e : Event) → most_after before (h ++ e ∷ []) ≡ bound (before ++ h) e

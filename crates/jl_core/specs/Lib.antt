@@ -3,5 +3,5 @@ pub mod State
 pub mod Logs
 pub mod Plans
 pub mod Headline
-pub mod Works
+pub mod WorkBounds
 pub mod Means

@@ -11,7 +11,7 @@ ghost use Rattle.jl_core.specs.State.{empty_core, events, world_of, AreAnswered,
 ghost use Rattle.jl_core.specs.Logs.{shown, are_told};
 ghost use Rattle.jl_core.specs.Means.Replays.{IsBehind};
 
-use crate::follow::follow;
+use crate::catch_up::catch_up;
 use crate::log::{Entry, share_log};
 use crate::perform::perform;
 use jl_cache::Cache;
@@ -151,7 +151,7 @@ impl Instance {
     }
 
     /// Comes after the other one, which is one event ahead or none. Want of memory is an error; the instance is gone then.
-    pub(crate) fn follow(self, alloc: Global, ahead: &Instance) -> Result<Instance, AllocError>
+    pub(crate) fn catch_up(self, alloc: Global, ahead: &Instance) -> Result<Instance, AllocError>
         requires { IsBehind self ahead.now }
         ensures { IfOk result (λ next. next ≡ ahead.now) }
     {
@@ -175,7 +175,7 @@ impl Instance {
                 log,
             });
         };
-        follow(
+        catch_up(
             &mut world,
             &mut links,
             &mut index,

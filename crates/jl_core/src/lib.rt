@@ -6,8 +6,8 @@
 //! other definitions here are means of proof.
 #![tactic(auto)]
 
+mod catch_up;
 mod event_machine;
-mod follow;
 mod instance;
 mod laws;
 mod log;

@@ -14,7 +14,7 @@ ghost use Rattle.jl_events.specs.Judging.{most_to_judge};
 ghost use Rattle.jl_core.specs.State.{State, empty_core, events, world_of, links_of, AreAnswered, IsAccepted, IsRefused};
 ghost use Rattle.jl_core.specs.Plans.{IsPlanned, IsAsPlanned};
 ghost use Rattle.jl_core.specs.Logs.{shown, are_told};
-ghost use Rattle.jl_core.specs.Works.{most_of_last};
+ghost use Rattle.jl_core.specs.WorkBounds.{most_of_last};
 
 use crate::instance::Instance;
 use crate::log::Entry;
@@ -56,7 +56,7 @@ impl Model for Core {
     ghost use Rattle.jl_types.specs.Means.TargetCode.{target_code};
     ghost use Rattle.jl_core.specs.State.{State, events};
     ghost use Rattle.jl_core.specs.Means.Replays.{IsBehind};
-    ghost use Rattle.jl_core.specs.Works.{most_of_last};
+    ghost use Rattle.jl_core.specs.WorkBounds.{most_of_last};
 
     ghost Value = { State };
 
@@ -219,7 +219,7 @@ impl Core {
         ensures unchanged { self.new ≡ self.old }
     {
         match self.next.take() {
-            Some(next) => next.follow(alloc, &self.present),
+            Some(next) => next.catch_up(alloc, &self.present),
             None => self.present.copy(alloc),
         }
     }

@@ -10,7 +10,7 @@ ghost use Rattle.jl_cache.specs.Links.{link_at};
 ghost use Rattle.jl_deps.specs.Indexes.{IsIndex};
 ghost use Rattle.jl_events.specs.Changes.{IsAcceptable};
 ghost use Rattle.jl_core.specs.Means.Changes.{installs_at};
-ghost use Rattle.jl_core.specs.Means.Steps.{AreGone, AreRetired, IsSound, IsLed, IsStep, most_told};
+ghost use Rattle.jl_core.specs.Means.Steps.{AreGone, AreRetired, IsSound, HasStepped, IsStep, most_told};
 ghost use Rattle.jl_core.specs.Means.Touched.{AreTouched};
 
 use crate::log::Entry;
@@ -89,7 +89,7 @@ fn relink(
     event: &Accepted,
     work: &mut Work,
 ) -> Result<Vec<SiteNo>, AllocError>
-    requires led { IsLed world.now keys.now event.now links.old index.old }
+    requires led { HasStepped world.now keys.now event.now links.old index.old }
     requires gone { AreGone world.now event.now links.old retired.now }
     requires small { work.old ≤ 16777216 }
     ensures links { OnOk result ((s : ℕ) → link_at links.new s ≡ kept (installs_at s event.now) (link_at links.old s) (scratch world.now s)) }
@@ -123,7 +123,7 @@ fn install_links(
     index: &mut Index,
     rows: &[(SiteNo, KeptLink)],
 ) -> Result<Vec<SiteNo>, AllocError>
-    requires { (keys : List keys.Key) × IsLed world.now keys (events.Install rows.now) links.old index.old }
+    requires { (keys : List keys.Key) × HasStepped world.now keys (events.Install rows.now) links.old index.old }
     ensures links { OnOk result ((s : ℕ) → link_at links.new s
         ≡ kept (list_any (λ row. row.0 == s) rows.now) (link_at links.old s) (scratch world.now s)) }
     ensures index { OnOk result (IsIndex world.now (link_at links.new) index.new) }
@@ -146,7 +146,7 @@ fn retire_links(
     loader: LoaderId,
     work: &mut Work,
 ) -> Result<Vec<SiteNo>, AllocError>
-    requires led { IsLed world.now keys.now (events.Retire loader) links.old index.old }
+    requires led { HasStepped world.now keys.now (events.Retire loader) links.old index.old }
     requires gone { AreGone world.now (events.Retire loader) links.old retired.now }
     requires small { work.old ≤ 16777216 }
     ensures links { OnOk result ((s : ℕ) → link_at links.new s ≡ kept false (link_at links.old s) (scratch world.now s)) }

@@ -3,7 +3,7 @@
 ghost use Rattle.std.specs.Prelude.{◌≡◌, ◌≤◌, length, IfOk};
 ghost use Rattle.jl_types.specs.Happenings.Event.{Event};
 ghost use Rattle.jl_core.specs.State.{events, world_of, IsAccepted};
-ghost use Rattle.jl_core.specs.Works.{most_of_last};
+ghost use Rattle.jl_core.specs.WorkBounds.{most_of_last};
 ghost use Rattle.jl_core.specs.Plans.{IsPlanned};
 
 use crate::instance::Instance;
@@ -46,7 +46,7 @@ impl Model for Planned {
 
     ghost use Rattle.std.specs.Prelude.{◌≤◌};
     ghost use Rattle.jl_core.specs.State.{events};
-    ghost use Rattle.jl_core.specs.Works.{most_of_last};
+    ghost use Rattle.jl_core.specs.WorkBounds.{most_of_last};
 
     ghost invariant = { λ p. p.work ≤ most_of_last (events p.after) };
 }

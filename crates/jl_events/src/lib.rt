@@ -6,14 +6,14 @@
 
 mod accepted;
 mod binding;
+mod catch_up;
 mod changes;
-mod follow;
 mod install;
 mod judge;
 mod request;
 mod step;
 
 pub use accepted::{Accepted, defined_class};
-pub use follow::follow_world;
+pub use catch_up::catch_up_world;
 pub use judge::judged;
 pub use step::step_world;

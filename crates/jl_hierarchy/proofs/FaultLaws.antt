@@ -1,6 +1,7 @@
 -- The first fault of a definition, test by test.
 use Rattle.std.specs.Prelude.{◌≡◌, ℕ, ◌+◌, ◌<◌, ◌==◌, ◌&&◌, Bool, true, false, cond, not, nat_le, is_none, is_some, List, []}
-use Rattle.std.specs.Prelude.{◌∷◌, ◌++◌, find, position, length, slice_get, Option, Some, None, option_map, option_and_then, option_to_list, nat_lt, zero, suc, IfSome}
+use Rattle.std.specs.Prelude.{◌∷◌, ◌++◌, find, position, length, slice_get, Option, Some, None, option_map, option_and_then, option_to_list}
+use Rattle.std.specs.Prelude.{nat_lt, zero, suc, IfSome}
 use Rattle.std.specs.Bool.{then_some}
 use Rattle.std.specs.List.{position_or_len, list_any}
 use Rattle.std.specs.Str.{bytes_eq}

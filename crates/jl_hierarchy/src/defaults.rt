@@ -5,13 +5,13 @@ ghost use Rattle.jl_types.specs.Linkage.Resolution.{candidates, defaults, first_
 ghost use Rattle.jl_hierarchy.specs.Means.Defaults as by_ancestor;
 
 use crate::classes::Classes;
-use crate::sought::Sought;
+use crate::name_and_type::NameAndType;
 use jl_types::{Chosen, ClassId, MethodId};
 
 impl Classes {
     /// The method of the name and the descriptor that are sought of the superinterface of least number, among those that superinterfaces
     /// of the class declare and that are neither private nor static.
-    pub fn first_candidate_by(&self, class: ClassId, sought: &Sought<'_>) -> Option<MethodId>
+    pub fn first_candidate_by(&self, class: ClassId, sought: &NameAndType<'_>) -> Option<MethodId>
         requires { class < length self.now.rows }
         ensures { result ≡ first_element (candidates self.now sought.now.name sought.now.ty class) }
     {
@@ -25,7 +25,7 @@ impl Classes {
 
     /// The one maximally-specific superinterface method of the name and the descriptor that are sought that isn't abstract, or that there
     /// are several or none.
-    pub fn default_by(&self, class: ClassId, sought: &Sought<'_>) -> Chosen
+    pub fn default_by(&self, class: ClassId, sought: &NameAndType<'_>) -> Chosen
         requires { class < length self.now.rows }
         ensures { result ≡ pick (defaults self.now sought.now.name sought.now.ty class) }
     {
@@ -47,7 +47,12 @@ impl Classes {
 
     /// The method that the ancestor declares, where it is a superinterface of the class and the method is neither private nor
     /// static.
-    fn candidate(&self, class: ClassId, ancestor: ClassId, sought: &Sought<'_>) -> Option<MethodId>
+    fn candidate(
+        &self,
+        class: ClassId,
+        ancestor: ClassId,
+        sought: &NameAndType<'_>,
+    ) -> Option<MethodId>
         ensures { result ≡ by_ancestor.candidate_at self.now sought.now.name sought.now.ty class ancestor }
     {
         if !self.is_interface(ancestor) || ancestor == class {
@@ -62,7 +67,12 @@ impl Classes {
 
     /// The candidate that the ancestor declares, where it isn't abstract and no subinterface of the ancestor declares another
     /// one.
-    fn default_of(&self, class: ClassId, ancestor: ClassId, sought: &Sought<'_>) -> Option<MethodId>
+    fn default_of(
+        &self,
+        class: ClassId,
+        ancestor: ClassId,
+        sought: &NameAndType<'_>,
+    ) -> Option<MethodId>
         requires { class < length self.now.rows }
         ensures { result ≡ by_ancestor.default_at self.now sought.now.name sought.now.ty class ancestor }
     {
@@ -76,7 +86,7 @@ impl Classes {
 
     /// Whether a superinterface of the class that is a proper subinterface of this one declares a method of the name and descriptor
     /// that is neither private nor static.
-    fn is_redeclared(&self, class: ClassId, interface: ClassId, sought: &Sought<'_>) -> bool
+    fn is_redeclared(&self, class: ClassId, interface: ClassId, sought: &NameAndType<'_>) -> bool
         requires { class < length self.now.rows }
         ensures { result ≡ by_ancestor.is_redeclared self.now sought.now.name sought.now.ty class interface }
     {

@@ -1,6 +1,7 @@
 //! What the definition of a class adds.
 
-ghost use Rattle.std.specs.Prelude.{◌≡◌, ◌==◌, ◌<◌, ◌++◌, ◌∷◌, [], ℕ, length, filter_map, option_and_then, option_to_list, true, All, IfOk, OnOk, if◌then◌else◌};
+ghost use Rattle.std.specs.Prelude.{◌≡◌, ◌==◌, ◌<◌, ◌++◌, ◌∷◌, [], ℕ, length, filter_map, option_and_then, option_to_list};
+ghost use Rattle.std.specs.Prelude.{true, All, IfOk, OnOk, if◌then◌else◌};
 ghost use Rattle.jl_class.specs.Flags.{extends_object};
 ghost use Rattle.jl_types.specs.Values.Members as members;
 ghost use Rattle.std.specs.List.{flat_map, list_any};

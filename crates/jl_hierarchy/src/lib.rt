@@ -8,26 +8,26 @@
 
 mod ancestor_list;
 mod ancestry;
+mod catch_up;
 mod classes;
 mod copy;
 mod defaults;
 mod define;
 mod delegate;
 mod faults;
-mod follow;
 mod growth;
 mod loader;
 mod marks;
 mod members;
+mod name_and_type;
 mod nests;
 mod object;
 mod receiving;
 mod redeclared;
 mod retire;
 mod row;
-mod sought;
 mod upward;
 
 pub use classes::Classes;
 pub use delegate::LoaderFault;
-pub use sought::Sought;
+pub use name_and_type::NameAndType;

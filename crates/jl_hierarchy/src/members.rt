@@ -7,8 +7,8 @@ ghost use Rattle.jl_types.specs.Values.Ancestry as ancestry;
 ghost use Rattle.jl_types.specs.Values.Ancestry.{AreOrdered};
 
 use crate::classes::Classes;
+use crate::name_and_type::NameAndType;
 use crate::row::methods_of;
-use crate::sought::Sought;
 use jl_class::{ABSTRACT, INTERFACE, Method, PRIVATE, PROTECTED, PUBLIC, STATIC, has_flag};
 use jl_types::{ClassId, MethodId};
 
@@ -52,11 +52,11 @@ impl Classes {
     pub fn declared(&self, class: ClassId, name: &[u8], ty: &[u8]) -> Option<MethodId>
         ensures { result ≡ members.declared self.now name.now ty.now class }
     {
-        self.declared_by(class, &Sought::of(name, ty))
+        self.declared_by(class, &NameAndType::of(name, ty))
     }
 
     /// The same of a name and a descriptor that are sought in many classes.
-    pub fn declared_by(&self, class: ClassId, sought: &Sought<'_>) -> Option<MethodId>
+    pub fn declared_by(&self, class: ClassId, sought: &NameAndType<'_>) -> Option<MethodId>
         ensures { result ≡ members.declared self.now sought.now.name sought.now.ty class }
     {
         let index = self.row_at(class)?.place_of(sought)?;

@@ -9,8 +9,8 @@ ghost use Rattle.jl_hierarchy.specs.Redeclared.{AreLines, IsNotRedeclared, IsTol
 
 use crate::classes::Classes;
 use crate::marks::Mark;
+use crate::name_and_type::NameAndType;
 use crate::row::{methods_of, print_of_method};
-use crate::sought::Sought;
 use jl_class::Methods;
 use jl_types::{Class, ClassId};
 use std::alloc::{AllocError, Global};
@@ -132,7 +132,7 @@ impl Classes {
     }
 
     /// Whether a proper subclass of the class may declare such a method, which the class sees: one look at what is marked.
-    pub fn is_redeclared_below(&self, class: ClassId, sought: &Sought<'_>) -> bool
+    pub fn is_redeclared_below(&self, class: ClassId, sought: &NameAndType<'_>) -> bool
         ensures { result ≡ false → sees self.now sought.now.name sought.now.ty class ≡ true
             → IsNotRedeclared self.now sought.now.name sought.now.ty class }
     {

@@ -9,7 +9,7 @@ ghost use Rattle.jl_hierarchy.specs.declared.row.Printed.{Printed};
 ghost use Rattle.jl_hierarchy.specs.Redeclared.{has_method};
 ghost use Rattle.jl_hierarchy.specs.Prints.{print_of_method, printed_from, has_print, AreSorted};
 
-use crate::sought::{Sought, print_of};
+use crate::name_and_type::{NameAndType, print_of};
 use jl_class::{Method, Methods};
 use jl_pages::Again;
 use jl_types::Class;
@@ -65,7 +65,7 @@ impl Row {
     }
 
     /// The place of the method of this name and descriptor.
-    pub(crate) fn place_of(&self, sought: &Sought<'_>) -> Option<u16>
+    pub(crate) fn place_of(&self, sought: &NameAndType<'_>) -> Option<u16>
         ensures { result ≡ position (members.is_called sought.now.name sought.now.ty) self.now.file.methods }
     {
         let methods = methods_of(&self.kept.class);
@@ -174,7 +174,7 @@ pub(crate) fn print_of_method(method: &Method<'_>) -> u64
 }
 
 /// The place of the method of this name and descriptor, where these are the methods' prints.
-fn place_in(prints: &[Printed], methods: &Methods<'_>, sought: &Sought<'_>) -> Option<u16>
+fn place_in(prints: &[Printed], methods: &Methods<'_>, sought: &NameAndType<'_>) -> Option<u16>
     requires { AreSorted prints.now methods.now }
     ensures { result ≡ position (members.is_called sought.now.name sought.now.ty) methods.now }
 {
@@ -211,7 +211,7 @@ fn first_not_below(prints: &[Printed], print: u64) -> usize
 }
 
 /// Whether the method at the place has this name and descriptor.
-fn is_at(methods: &Methods<'_>, place: usize, sought: &Sought<'_>) -> bool
+fn is_at(methods: &Methods<'_>, place: usize, sought: &NameAndType<'_>) -> bool
     ensures { result ≡ option_map_or (members.is_called sought.now.name sought.now.ty) (slice_get methods.now place) false }
 {
     match methods.at(place) {

@@ -5,7 +5,7 @@ ghost use Rattle.jl_types.specs.Values.Ancestry as ancestry;
 ghost use Rattle.jl_types.specs.Linkage.Resolution as resolution;
 
 use crate::classes::Classes;
-use crate::sought::Sought;
+use crate::name_and_type::NameAndType;
 use jl_types::{ClassId, MethodId};
 
 impl Classes {
@@ -35,7 +35,7 @@ impl Classes {
     }
 
     /// The same of a name and a descriptor that are sought in many classes.
-    pub fn declared_upward_by(&self, class: ClassId, sought: &Sought<'_>) -> Option<MethodId>
+    pub fn declared_upward_by(&self, class: ClassId, sought: &NameAndType<'_>) -> Option<MethodId>
         ensures { result ≡ resolution.declared_upward self.now sought.now.name sought.now.ty class }
     {
         let mut at = class;

@@ -8,7 +8,7 @@ use Rattle.jl_class.specs.Site.{Site}
 use Rattle.jl_types.specs.Values.World.{World}
 use Rattle.jl_types.specs.Values.Members.{lookup, method_at}
 use Rattle.jl_core.specs.State.{events, world_of}
-use Rattle.jl_core.specs.Works.{most_of_last}
+use Rattle.jl_core.specs.WorkBounds.{most_of_last}
 use Rattle.jl_host.specs.declared.invocations.Invocation.{Invocation}
 use Rattle.jl_host.specs.Numbers.{done, unknown_class, no_such_place, closed}
 use Rattle.jl_host.specs.Copies.{IsCopied}

@@ -109,7 +109,8 @@ fn write_rows(
     requires { length links.old.value ≡ room_for core.now.max_sites }
     ensures all { length links.new.value ≡ room_for core.now.max_sites }
     ensures kept { (s : ℕ) → IsNow core.now links.old.value s → IsNow core.now links.new.value s }
-    ensures written { OnOk result ((s : ℕ) → s < room_for core.now.max_sites → list_any (λ row. row.0 == s) rows.now ≡ true → IsNow core.now links.new.value s) }
+    ensures written { OnOk result ((s : ℕ) → s < room_for core.now.max_sites → list_any (λ row. row.0 == s) rows.now ≡ true
+        → IsNow core.now links.new.value s) }
 {
     for row in rows {
         write_site(links, core, row.0)?;
@@ -157,7 +158,7 @@ fn write_entries(links: &mut Arc<Links>, core: &Core, entries: &[Entry]) -> Resu
 /// # Errors
 ///
 /// Want of memory. The links are behind the core as before.
-pub(crate) fn follow(
+pub(crate) fn catch_up(
     links: &mut Arc<Links>,
     core: &Core,
     reached: usize,

@@ -12,7 +12,7 @@ ghost use Rattle.jl_host.specs.Seats.{seen_of};
 ghost use Rattle.jl_host.specs.Views.{IsGiven, present_of};
 ghost use Rattle.jl_host.specs.Renewals.{counts_of, released_of};
 
-use crate::behind::{Links, follow, no_links};
+use crate::behind::{Links, catch_up, no_links};
 use crate::renew::{Counts, released_of};
 use crate::seat_view::SeatView;
 use crate::shown::{LinkShown, link_shown};
@@ -262,7 +262,7 @@ impl Opened {
         ensures same { self.new ≡ self.old }
         ensures seen { IfOk result (λ seen. seen ≡ seen_of self.old.session.core) }
     {
-        let reached = follow(&mut self.links, self.session.core(), self.reached)?;
+        let reached = catch_up(&mut self.links, self.session.core(), self.reached)?;
         self.reached = reached;
         let links = Arc::try_clone(&self.links)?;
         Ok(SeatView::new(links, self.session.core().class_count()))

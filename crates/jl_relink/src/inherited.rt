@@ -3,7 +3,7 @@
 ghost use Rattle.std.specs.Prelude.{◌≡◌};
 ghost use Rattle.jl_relink.specs.Receivers.{inherits};
 
-use jl_hierarchy::{Classes, Sought};
+use jl_hierarchy::{Classes, NameAndType};
 use jl_types::{ClassId, MethodId};
 
 /// Whether the method stands in a class, and is what this class, from itself upward, first declares of its name and descriptor. A new
@@ -18,7 +18,7 @@ pub fn inherits(classes: &Classes, class: ClassId, method: &MethodId) -> bool
         return false;
     };
     let (name, ty) = (found.name(), found.ty());
-    let sought = Sought::of(name.as_slice(), ty.as_slice());
+    let sought = NameAndType::of(name.as_slice(), ty.as_slice());
     match classes.declared_upward_by(class, &sought) {
         Some(first) => method.class == first.class && method.index == first.index,
         None => false,

@@ -4,7 +4,7 @@ ghost use Rattle.std.specs.Prelude.{◌≡◌, ◌<◌, [], ◌∷◌, length};
 ghost use Rattle.jl_types.specs.Linkage.Resolution as resolution;
 ghost use Rattle.jl_types.specs.Linkage.Resolution.{first_of, first_element, only, pick, defaults, candidates};
 
-use jl_hierarchy::{Classes, Sought};
+use jl_hierarchy::{Classes, NameAndType};
 use jl_types::{Chosen, ClassId, MethodId};
 
 /// What is found in a class: its own or its first superclass's declaration upward, else the one maximally-specific
@@ -14,7 +14,7 @@ pub fn found_in_class(classes: &Classes, class: ClassId, name: &[u8], ty: &[u8])
     requires { class < length classes.now.rows }
     ensures { result ≡ resolution.found_in_class classes.now name.now ty.now class }
 {
-    let sought = Sought::of(name, ty);
+    let sought = NameAndType::of(name, ty);
     match classes.declared_upward_by(class, &sought) {
         Some(method) => Some(method),
         None => found_in_superinterfaces(classes, class, &sought),
@@ -32,7 +32,7 @@ pub fn found_in_interface(
     requires { interface < length classes.now.rows }
     ensures { result ≡ resolution.found_in_interface classes.now name.now ty.now interface }
 {
-    let sought = Sought::of(name, ty);
+    let sought = NameAndType::of(name, ty);
     if let Some(method) = classes.declared_by(interface, &sought) {
         return Some(method);
     }
@@ -47,7 +47,7 @@ pub fn found_in_interface(
 fn found_in_superinterfaces(
     classes: &Classes,
     class: ClassId,
-    sought: &Sought<'_>,
+    sought: &NameAndType<'_>,
 ) -> Option<MethodId>
     requires { class < length classes.now.rows }
     ensures { result ≡ first_of (only (pick (defaults classes.now sought.now.name sought.now.ty class))

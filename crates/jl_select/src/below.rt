@@ -5,7 +5,7 @@ ghost use Rattle.jl_types.specs.Linkage.Resolution as resolution;
 ghost use Rattle.jl_select.specs.RunsBelow.{RunsBelow, MayRun};
 
 use crate::overriding::can_override;
-use jl_hierarchy::{Classes, Sought};
+use jl_hierarchy::{Classes, NameAndType};
 use jl_types::{ClassId, MethodId};
 
 /// Whether it is known, without a look at each, that an invokevirtual of the resolved method comes to that itself for each
@@ -21,7 +21,7 @@ pub fn runs_below(classes: &Classes, named: ClassId, resolved: &MethodId) -> boo
         return false;
     }
     let (name, ty) = (method.name(), method.ty());
-    let sought = Sought::of(name.as_slice(), ty.as_slice());
+    let sought = NameAndType::of(name.as_slice(), ty.as_slice());
     if !is_first(classes, named, resolved, &sought) {
         return false;
     }
@@ -43,7 +43,12 @@ fn may_run(classes: &Classes, named: ClassId, resolved: &MethodId) -> bool
 }
 
 /// Whether the method is the first declaration in the class and its superclasses upward.
-fn is_first(classes: &Classes, named: ClassId, resolved: &MethodId, sought: &Sought<'_>) -> bool
+fn is_first(
+    classes: &Classes,
+    named: ClassId,
+    resolved: &MethodId,
+    sought: &NameAndType<'_>,
+) -> bool
     ensures { result ≡ true → resolution.declared_upward classes.now sought.now.name sought.now.ty named ≡ Some resolved.now }
 {
     match classes.declared_upward_by(named, sought) {

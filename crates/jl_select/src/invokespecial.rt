@@ -7,7 +7,7 @@ ghost use Rattle.jl_types.specs.Linkage.Selection as selection;
 ghost use Rattle.jl_select.specs.Means.Walks.{own_passing};
 
 use crate::selection::ending;
-use jl_hierarchy::{Classes, Sought};
+use jl_hierarchy::{Classes, NameAndType};
 use jl_names::LentName;
 use jl_pool::Reference;
 use jl_resolve::named_class;
@@ -81,7 +81,7 @@ fn special_choice(
     let Some(class) = start else {
         return Chosen::Nothing;
     };
-    let sought = Sought::of(reference.name.as_slice(), reference.ty.as_slice());
+    let sought = NameAndType::of(reference.name.as_slice(), reference.ty.as_slice());
     match special_found(classes, class, &sought) {
         Some(method) => Chosen::Method(method),
         None => classes.default_by(class, &sought),
@@ -89,7 +89,7 @@ fn special_choice(
 }
 
 /// The instance method that the search finds before the defaults.
-fn special_found(classes: &Classes, class: ClassId, sought: &Sought<'_>) -> Option<MethodId>
+fn special_found(classes: &Classes, class: ClassId, sought: &NameAndType<'_>) -> Option<MethodId>
     ensures { result ≡ selection.special_found classes.now sought.now.name sought.now.ty class }
 {
     if classes.is_interface(class) {
@@ -103,7 +103,7 @@ fn special_found(classes: &Classes, class: ClassId, sought: &Sought<'_>) -> Opti
 }
 
 /// The first instance method of this name and descriptor, in the class and its superclasses upward.
-fn special_in_class(classes: &Classes, class: ClassId, sought: &Sought<'_>) -> Option<MethodId>
+fn special_in_class(classes: &Classes, class: ClassId, sought: &NameAndType<'_>) -> Option<MethodId>
     ensures { result ≡ selection.special_in_class classes.now sought.now.name sought.now.ty class }
 {
     let mut at = class;
@@ -119,7 +119,7 @@ fn special_in_class(classes: &Classes, class: ClassId, sought: &Sought<'_>) -> O
 }
 
 /// The class's own instance method of this name and descriptor.
-fn own_instance(classes: &Classes, class: ClassId, sought: &Sought<'_>) -> Option<MethodId>
+fn own_instance(classes: &Classes, class: ClassId, sought: &NameAndType<'_>) -> Option<MethodId>
     ensures { result ≡ own_passing (λ m. not (members.is_static classes.now m)) classes.now sought.now.name sought.now.ty class }
 {
     let method = classes.declared_by(class, sought)?;

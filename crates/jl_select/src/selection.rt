@@ -7,7 +7,7 @@ ghost use Rattle.jl_types.specs.Linkage.Selection as selection;
 ghost use Rattle.jl_select.specs.Means.Walks.{own_passing, first_passing};
 
 use crate::overriding::can_override;
-use jl_hierarchy::{Classes, Sought};
+use jl_hierarchy::{Classes, NameAndType};
 use jl_types::{Chosen, ClassId, MethodId, Outcome, Throwable, Work};
 
 /// The method that selection picks for a receiver's class and the resolved method (JVMS SE 17 §5.4.6). Takes no memory.
@@ -22,7 +22,7 @@ pub fn chosen(classes: &Classes, receiver: ClassId, resolved: &MethodId) -> Chos
         return Chosen::Nothing;
     };
     let (name, ty) = (method.name(), method.ty());
-    let sought = Sought::of(name.as_slice(), ty.as_slice());
+    let sought = NameAndType::of(name.as_slice(), ty.as_slice());
     match overriding(classes, receiver, resolved, &sought) {
         Some(found) => Chosen::Method(found),
         None => classes.default_by(receiver, &sought),
@@ -143,7 +143,7 @@ fn overriding(
     classes: &Classes,
     receiver: ClassId,
     resolved: &MethodId,
-    sought: &Sought<'_>,
+    sought: &NameAndType<'_>,
 ) -> Option<MethodId>
     ensures { result ≡ first_passing (λ m. overriding.can_override classes.now m resolved.now) classes.now sought.now.name sought.now.ty
         (superclasses classes.now receiver) }
@@ -165,7 +165,7 @@ fn own_overriding(
     classes: &Classes,
     class: ClassId,
     resolved: &MethodId,
-    sought: &Sought<'_>,
+    sought: &NameAndType<'_>,
 ) -> Option<MethodId>
     ensures { result ≡ own_passing (λ m. overriding.can_override classes.now m resolved.now) classes.now sought.now.name sought.now.ty class }
 {

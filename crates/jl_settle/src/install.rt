@@ -13,8 +13,8 @@ use jl_relink::World;
 use jl_types::SiteNo;
 use std::alloc::{AllocError, Global};
 
-/// Installs these links, in place of those that the sites have and with the same tables, and keeps in the index what they rest on. They and all others are those from
-/// scratch.
+/// Installs these links, in place of those that the sites have and with the same tables, and keeps in the index what they rest on.
+/// They and all others are those from scratch.
 ///
 /// # Errors
 ///

@@ -4,14 +4,14 @@
 //! `specs/Settling` says what is settled, and when.
 #![tactic(auto)]
 
-mod follow;
+mod catch_up;
 mod forgetting;
 mod install;
 mod lost;
 mod requested;
 mod settling;
 
-pub use follow::take_over;
+pub use catch_up::take_over;
 pub use forgetting::forget;
 pub use install::install_rows;
 pub use requested::sites_of;

@@ -3,7 +3,7 @@
 use crate::told::Told;
 use crate::words::{self, signature, text};
 use crate::{definitions, methods};
-use jl_hierarchy::{Classes, Sought};
+use jl_hierarchy::{Classes, NameAndType};
 use jl_resolve::is_accessible_class;
 use jl_types::{Class, ClassId, OrMemory};
 
@@ -63,7 +63,7 @@ fn tell_declared(told: &mut Told, classes: &Classes, question: &str, class: &str
     let class = words::class(told, class);
     let (name, ty) = signature(told, method);
     let (name, ty) = (name.as_bytes(), ty.as_bytes());
-    let sought = Sought::of(name, ty);
+    let sought = NameAndType::of(name, ty);
     match question {
         "declared" => told.found(classes.declared(class, name, ty)),
         "upward" => told.found(classes.declared_upward_by(class, &sought)),

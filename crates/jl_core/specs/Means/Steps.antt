@@ -28,7 +28,7 @@ pub record IsSound (w : World) (links : List (ℕ × Link)) (index : List (ℕ �
   pub order : IsInOrder w
 
 -- The accepted event with these keys led to the world from one in which all was sound.
-pub record IsLed (w : World) (keys : List Key) (told : Accepted) (links : List (ℕ × Link)) (index : List (ℕ × List Key)) : Type 0 where
+pub record HasStepped (w : World) (keys : List Key) (told : Accepted) (links : List (ℕ × Link)) (index : List (ℕ × List Key)) : Type 0 where
   pub before : World
   pub event : Event
   pub accepted : IsAcceptable before event

@@ -6,14 +6,14 @@ use Rattle.jl_types.specs.Happenings.History.{kept}
 use Rattle.jl_cache.specs.Links.{link_at}
 use Rattle.jl_events.specs.Accepted.{Accepted}
 use Rattle.jl_core.specs.Means.Changes.{installs_at}
-use Rattle.jl_core.specs.Means.Steps.{IsLed, most_told}
+use Rattle.jl_core.specs.Means.Steps.{HasStepped, most_told}
 use Rattle.jl_core.proofs.StepLaws.{has_changed, fits_so, ticks_so, links_kept, links_lost}
 use Rattle.jl_core.proofs.perform.relink.Goals as goal
 
 pub install_links-requires : goal.install_links-requires
 install_links-requires c = (
   c.args.keys.now,
-  subst (λ (told : Accepted). IsLed c.args.world.now c.args.keys.now told c.args.links.now c.args.index.now)
+  subst (λ (told : Accepted). HasStepped c.args.world.now c.args.keys.now told c.args.links.now c.args.index.now)
       (c.in-Install.is ∙ ap events.Install (sym c.as_slice.ensures)) c.requires.led,
 )
 
@@ -48,7 +48,7 @@ returns-in_ok-lost-in_default-clause-lost c = λ s.
 
 pub retire_links-requires-clause-led : goal.retire_links-requires-clause-led
 retire_links-requires-clause-led c =
-    subst (λ (told : Accepted). IsLed c.args.world.now c.args.keys.now told c.args.links.now c.args.index.now) c.in-Retire.is c.requires.led
+    subst (λ (told : Accepted). HasStepped c.args.world.now c.args.keys.now told c.args.links.now c.args.index.now) c.in-Retire.is c.requires.led
 
 pub returns-in_ok-lost-in-Retire-clause-links : goal.returns-in_ok-lost-in-Retire-clause-links
 returns-in_ok-lost-in-Retire-clause-links c = λ s.

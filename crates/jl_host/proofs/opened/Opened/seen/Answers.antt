@@ -12,7 +12,7 @@ returns-clause-seen c =
     let core_is = ap (λ (o : Opened). o.session.core) c.self.view_is in
     let links =
     c.new.ensures.links ∙ c.in_ok-links.ensures
-    ∙ all_links c.core.result.now c.follow.new.links.value c.in_ok-reached.ensures.still.all c.in_ok-reached.ensures.now
+    ∙ all_links c.core.result.now c.catch_up.new.links.value c.in_ok-reached.ensures.still.all c.in_ok-reached.ensures.now
     ∙ ap (λ core. map (installed (events core)) (range_with_len 0 (room_for core.max_sites))) (c.core.ensures ∙ core_is) in
     let classes =
     c.new.ensures.classes ∙ c.class_count.ensures ∙ ap (λ core. length (world_of core).classes.rows) (c.core-2.ensures ∙ core_is) in

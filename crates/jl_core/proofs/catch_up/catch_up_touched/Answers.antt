@@ -4,7 +4,7 @@ use Rattle.jl_cache.specs.Links.{link_at}
 use Rattle.jl_deps.specs.Indexes.{footprint_at}
 use Rattle.jl_core.specs.Means.Touched.{has}
 use Rattle.jl_core.proofs.ReplayLaws.{links_followed, index_followed}
-use Rattle.jl_core.proofs.follow.follow_touched.Goals as goal
+use Rattle.jl_core.proofs.catch_up.catch_up_touched.Goals as goal
 
 pub returns-clause-links : goal.returns-clause-links
 returns-clause-links c =

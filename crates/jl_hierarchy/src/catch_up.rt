@@ -1,4 +1,4 @@
-//! Classes that follow others, class by class.
+//! Classes that catch up with others, class by class.
 
 ghost use Rattle.std.specs.Prelude.{◌≡◌, OnOk, OnErr};
 ghost use Rattle.jl_hierarchy.specs.Constancy.{IsNext};
@@ -13,7 +13,7 @@ impl Classes {
     /// # Errors
     ///
     /// Want of memory. Nothing has changed then.
-    pub fn follow(&mut self, alloc: Global, ahead: &Classes) -> Result<(), AllocError>
+    pub fn catch_up(&mut self, alloc: Global, ahead: &Classes) -> Result<(), AllocError>
         requires next { IsNext self.old ahead.now }
         ensures ok { OnOk result (self.new ≡ ahead.now) }
         ensures err { OnErr result (self.new ≡ self.old) }

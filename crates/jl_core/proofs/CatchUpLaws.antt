@@ -166,7 +166,7 @@ module _ (m : ℕ) (old : World) (links : List (ℕ × Link)) (log : List Entry)
   pub is_next : IsNext old ahead entry.event
   is_next = record { event = e; tells = tells.0; accepted = (m, subst IsOk (sym judged.0) refl); step = moved }
 
-  -- ---- what it begins with to follow
+  -- ---- what it begins with to catch up
 
   module _ (index further_index : List (ℕ × List Key)) (order : IsInOrder old) (rising : AreRising index) (indexed : IsIndex old (link_at links) index)
       (linked : List (ℕ × Link)) (are_links : (s : ℕ) → link_at linked s ≡ installed (events further) s)

@@ -2,7 +2,7 @@ use Rattle.std.proofs.Common.{◌≡◌, ◌==◌, ℕ, take, if◌then◌else�
 use Rattle.std.specs.List.{list_any}
 use Rattle.jl_cache.specs.Links.{link_at}
 use Rattle.jl_deps.specs.Indexes.{footprint_at}
-use Rattle.jl_settle.proofs.follow.take_over.Given as goal
+use Rattle.jl_settle.proofs.catch_up.take_over.Given as goal
 
 -- those so far are as they are ahead
 abbrev pub invariant-loop-site : goal.invariant-loop-site

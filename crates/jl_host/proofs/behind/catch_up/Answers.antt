@@ -3,7 +3,7 @@ use Rattle.std.specs.List.{list_any}
 use Rattle.jl_core.specs.State.{world_of}
 use Rattle.jl_host.specs.Means.Behind.{touched_by}
 use Rattle.jl_host.proofs.CaughtUp.{caught_up, same_length}
-use Rattle.jl_host.proofs.behind.follow.Goals as goal
+use Rattle.jl_host.proofs.behind.catch_up.Goals as goal
 
 pub entries_from-requires : goal.entries_from-requires
 entries_from-requires c =

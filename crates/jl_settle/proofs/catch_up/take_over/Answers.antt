@@ -6,7 +6,7 @@ use Rattle.jl_hierarchy.proofs.Rising.{has}
 use Rattle.jl_cache.specs.Links.{link_at}
 use Rattle.jl_deps.specs.Indexes.{footprint_at}
 use Rattle.jl_settle.proofs.SettleLaws.{one_more_at}
-use Rattle.jl_settle.proofs.follow.take_over.Goals as goal
+use Rattle.jl_settle.proofs.catch_up.take_over.Goals as goal
 
 pub loop-site-preserved : goal.loop-site-preserved
 loop-site-preserved c =

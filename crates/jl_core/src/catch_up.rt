@@ -18,7 +18,7 @@ use jl_cache::Cache;
 use jl_deps::{
     Index, Keys, keys_of_definition, keys_of_points, keys_of_retirement, keys_of_target,
 };
-use jl_events::{Accepted, follow_world};
+use jl_events::{Accepted, catch_up_world};
 use jl_names::Seq;
 use jl_relink::World;
 use jl_settle::{forget, sites_of, take_over};
@@ -28,7 +28,7 @@ use std::sync::Arc;
 
 /// The world, the links, their index and the log come after the entry, the last one of those ahead. Want of memory is an error; what
 /// is there is of no use then.
-pub(crate) fn follow(
+pub(crate) fn catch_up(
     world: &mut Arc<World>,
     links: &mut Cache,
     index: &mut Index,
@@ -47,7 +47,7 @@ pub(crate) fn follow(
     ensures index { OnOk result (IsIndex world_ahead.now.value (link_at links.new) index.new) }
     ensures log { OnOk result (log.new.items ≡ log.old.items ++ entry.now ∷ []) }
 {
-    follow_links(
+    catch_up_links(
         alloc,
         world,
         world_ahead,
@@ -57,7 +57,7 @@ pub(crate) fn follow(
         index_ahead,
         entry,
     )?;
-    follow_world(world, alloc, world_ahead, entry.event())?;
+    catch_up_world(world, alloc, world_ahead, entry.event())?;
     log.push(entry.share()?)?;
     Ok(())
 }
@@ -65,7 +65,7 @@ pub(crate) fn follow(
 /// The links and their index come after the entry's event, which leads from the one world to the one ahead. What links rest on stays
 /// where a class was defined, so that the links that it dropped are all that is looked at then. Want of memory is an error; what is there
 /// is of no use then.
-fn follow_links(
+fn catch_up_links(
     alloc: Global,
     world: &World,
     ahead: &World,
@@ -86,7 +86,7 @@ fn follow_links(
             forget(alloc, links, index, entry.reply().dropped.as_slice())?;
             Ok(())
         }
-        event => follow_touched(
+        event => catch_up_touched(
             alloc,
             world,
             ahead,
@@ -100,7 +100,7 @@ fn follow_links(
 }
 
 /// The same for any event, at each site that it touches.
-fn follow_touched(
+fn catch_up_touched(
     alloc: Global,
     world: &World,
     ahead: &World,

@@ -6,15 +6,16 @@ ghost use Rattle.jl_hierarchy.specs.Prints.{print_of};
 use jl_names::print_from;
 use std::marker::Model;
 
-/// A name and a descriptor with their print, which is made once for many classes. A clause sees the two texts.
+/// A name and a descriptor, as a NameAndType has them (JVMS SE 17 §4.4.6), with their print, which is made once for many classes. A
+/// clause sees the two texts.
 #[derive(Debug, Drop)]
-pub struct Sought<'a> {
+pub struct NameAndType<'a> {
     name: &'a [u8],
     ty: &'a [u8],
     print: u64,
 }
 
-impl<'a> Model for Sought<'a> {
+impl<'a> Model for NameAndType<'a> {
     ghost use Rattle.std.specs.Prelude.{◌≡◌};
     ghost use Rattle.jl_hierarchy.specs.Prints.{Called, print_of};
 
@@ -25,13 +26,13 @@ impl<'a> Model for Sought<'a> {
     ghost invariant = { λ s. s.print ≡ print_of s.name.now s.ty.now };
 }
 
-impl<'a> Sought<'a> {
+impl<'a> NameAndType<'a> {
     /// This name and this descriptor.
     pub fn of(name: &'a [u8], ty: &'a [u8]) -> Self
         ensures name { result.name ≡ name.now }
         ensures ty { result.ty ≡ ty.now }
     {
-        Sought {
+        NameAndType {
             name,
             ty,
             print: print_of(name, ty),

@@ -3,7 +3,7 @@ use Rattle.std.proofs.Common.{sym, ap, ◌∙◌}
 use Rattle.jl_types.specs.declared.link.Link.{Link}
 use Rattle.jl_core.specs.Means.Touched.{has}
 use Rattle.jl_core.proofs.ReplayLaws.{install_untouched}
-use Rattle.jl_core.proofs.follow.changed_sites.Goals as goal
+use Rattle.jl_core.proofs.catch_up.changed_sites.Goals as goal
 
 pub returns-in_ok-sites-in-Install : goal.returns-in_ok-sites-in-Install
 returns-in_ok-sites-in-Install c = λ e tells s none.

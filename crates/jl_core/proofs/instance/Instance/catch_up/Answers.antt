@@ -4,8 +4,8 @@ use Rattle.jl_types.specs.Values.World.{World}
 use Rattle.jl_relink.specs.Laws.{IsInOrder}
 use Rattle.jl_cache.specs.Links.{link_at}
 use Rattle.jl_deps.specs.Indexes.{IsIndex}
-use Rattle.jl_core.proofs.FollowLaws.{behind_inside, none_behind, is_further, are_gone, kept_so, same_core}
-use Rattle.jl_core.proofs.instance.Instance.follow.Goals as goal
+use Rattle.jl_core.proofs.CatchUpLaws.{behind_inside, none_behind, is_further, are_gone, kept_so, same_core}
+use Rattle.jl_core.proofs.instance.Instance.catch_up.Goals as goal
 
 pub returns-in_default : goal.returns-in_default
 returns-in_default c =
@@ -14,8 +14,8 @@ returns-in_default c =
     ((λ i. slice_get (sym c.as_slice.ensures.value i) (length (sym c.as_slice-place.ensures.value i))) ∙ sym c.in_default.ensures)
     ∙ c.ahead.view_is
 
-pub follow-requires-clause-further : goal.follow-requires-clause-further
-follow-requires-clause-further c =
+pub catch_up-requires-clause-further : goal.catch_up-requires-clause-further
+catch_up-requires-clause-further c =
     is_further c.self.inside.max_sites c.self.inside.world.value c.self.inside.links c.self.inside.log.items
     c.ahead.inside.max_sites c.ahead.inside.world.value c.ahead.inside.log.items c.in-Some.entry.now
     (record { world = c.self.invariant.0; links = c.self.invariant.1; told = c.self.invariant.2; answered = c.self.invariant.5 })
@@ -24,8 +24,8 @@ follow-requires-clause-further c =
     c.self.inside.index c.ahead.inside.index (subst IsInOrder c.deref.ensures c.note_order.ensures)
     c.len-sites.ensures.rising c.self.invariant.6 c.ahead.inside.links c.ahead.invariant.1 c.ahead.invariant.6
 
-pub follow-requires-clause-gone : goal.follow-requires-clause-gone
-follow-requires-clause-gone c =
+pub catch_up-requires-clause-gone : goal.catch_up-requires-clause-gone
+catch_up-requires-clause-gone c =
     are_gone c.self.inside.max_sites c.self.inside.world.value c.self.inside.links c.self.inside.log.items
     c.ahead.inside.max_sites c.ahead.inside.world.value c.ahead.inside.log.items c.in-Some.entry.now
     (record { world = c.self.invariant.0; links = c.self.invariant.1; told = c.self.invariant.2; answered = c.self.invariant.5 })
@@ -42,8 +42,8 @@ invariant_of-result-2 c =
     (record { world = c.self.invariant.0; links = c.self.invariant.1; told = c.self.invariant.2; answered = c.self.invariant.5 })
     c.ahead.invariant.0 c.ahead.invariant.2 c.ahead.invariant.5 (behind_inside c.self.view_is c.ahead.view_is c.requires)
     ((λ i. slice_get (sym c.as_slice.ensures.value i) (length (sym c.as_slice-place.ensures.value i))) ∙ sym c.in-Some.ensures)
-    c.follow.new.world.value c.follow.new.links c.follow.new.log.items c.in_ok-follow.ensures.world
-    c.ahead.inside.links c.ahead.invariant.1 c.in_ok-follow.ensures.links c.in_ok-follow.ensures.log c.ahead.invariant.3
+    c.catch_up.new.world.value c.catch_up.new.links c.catch_up.new.log.items c.in_ok-catch_up.ensures.world
+    c.ahead.inside.links c.ahead.invariant.1 c.in_ok-catch_up.ensures.links c.in_ok-catch_up.ensures.log c.ahead.invariant.3
     in (
       next.0.world,
       next.0.links,
@@ -51,7 +51,7 @@ invariant_of-result-2 c =
       next.1,
       c.self.invariant.4,
       next.0.answered,
-      subst (λ (w : World). IsIndex w (link_at c.follow.new.links) c.follow.new.index) (sym c.in_ok-follow.ensures.world) c.in_ok-follow.ensures.index,
+      subst (λ (w : World). IsIndex w (link_at c.catch_up.new.links) c.catch_up.new.index) (sym c.in_ok-catch_up.ensures.world) c.in_ok-catch_up.ensures.index,
     )
 
 pub returns : goal.returns
@@ -61,6 +61,6 @@ returns c =
     (record { world = c.self.invariant.0; links = c.self.invariant.1; told = c.self.invariant.2; answered = c.self.invariant.5 })
     c.ahead.invariant.0 c.ahead.invariant.2 c.ahead.invariant.5 (behind_inside c.self.view_is c.ahead.view_is c.requires)
     ((λ i. slice_get (sym c.as_slice.ensures.value i) (length (sym c.as_slice-place.ensures.value i))) ∙ sym c.in-Some.ensures)
-    c.follow.new.world.value c.follow.new.links c.follow.new.log.items c.in_ok-follow.ensures.world
-    c.ahead.inside.links c.ahead.invariant.1 c.in_ok-follow.ensures.links c.in_ok-follow.ensures.log
+    c.catch_up.new.world.value c.catch_up.new.links c.catch_up.new.log.items c.in_ok-catch_up.ensures.world
+    c.ahead.inside.links c.ahead.invariant.1 c.in_ok-catch_up.ensures.links c.in_ok-catch_up.ensures.log
     ∙ c.ahead.view_is

@@ -14,7 +14,7 @@ use std::sync::Arc;
 
 /// The world comes to be the one ahead. One that others hold, too, is let go, and the one ahead is shared from then on. Want of memory
 /// is an error; the world is of no use then.
-pub fn follow_world(
+pub fn catch_up_world(
     world: &mut Arc<World>,
     alloc: Global,
     ahead: &Arc<World>,
@@ -25,7 +25,7 @@ pub fn follow_world(
     ensures { OnOk result (world.new.value ≡ ahead.now.value) }
 {
     match Arc::get_mut(world) {
-        Some(world) => follow_owned(world, alloc, ahead, event),
+        Some(world) => catch_up_owned(world, alloc, ahead, event),
         None => {
             *world = Arc::try_clone(ahead)?;
             Ok(())
@@ -34,7 +34,7 @@ pub fn follow_world(
 }
 
 /// The world, which no other holds, comes to be the one ahead. Want of memory is an error; the world is of no use then.
-fn follow_owned(
+fn catch_up_owned(
     world: &mut World,
     alloc: Global,
     ahead: &World,
@@ -49,7 +49,7 @@ fn follow_owned(
             add_loader(world, alloc)?;
             Ok(())
         }
-        Accepted::Define(_, _) => world.classes.follow(alloc, &ahead.classes),
+        Accepted::Define(_, _) => world.classes.catch_up(alloc, &ahead.classes),
         Accepted::Delegate(loader, name, to) => add_delegation(world, alloc, *loader, name, *to),
         Accepted::Request(place) => {
             add_place(world, place)?;

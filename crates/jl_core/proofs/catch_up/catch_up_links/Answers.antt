@@ -2,7 +2,7 @@ use Rattle.std.specs.Prelude.{◌≡◌}
 use Rattle.std.proofs.Common.{sym, ◌∙◌}
 use Rattle.jl_types.specs.declared.event.EventOf.TheVariants as variant
 use Rattle.jl_core.proofs.ReplayLaws.{definition_followed}
-use Rattle.jl_core.proofs.follow.follow_links.Goals as goal
+use Rattle.jl_core.proofs.catch_up.catch_up_links.Goals as goal
 
 pub returns-in_ok-forget-in-Define-clause-index : goal.returns-in_ok-forget-in-Define-clause-index
 returns-in_ok-forget-in-Define-clause-index c =

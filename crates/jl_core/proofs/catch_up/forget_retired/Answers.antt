@@ -7,7 +7,7 @@ use Rattle.jl_events.specs.Accepted.{Accepted}
 use Rattle.jl_core.specs.Means.Changes.{retires_at}
 use Rattle.jl_core.specs.Means.Touched.{has}
 use Rattle.jl_core.proofs.RetireLaws.{dropped_all, taken_all}
-use Rattle.jl_core.proofs.follow.forget_retired.Goals as goal
+use Rattle.jl_core.proofs.catch_up.forget_retired.Goals as goal
 
 pub returns-in_ok-forget-in-Retire-clause-links : goal.returns-in_ok-forget-in-Retire-clause-links
 returns-in_ok-forget-in-Retire-clause-links c = λ s.
