@@ -2,8 +2,7 @@
 //! two processors or more. Where `LEAST_PIECE` of jl_relink is over 16,384, one thread looks at all pairs in order, and the first test fails.
 
 use crate::worlds::{SITES, Shape, sites, snapshot};
-use jl_relink::{Prepared, Probe, Snapshot, prepare_wide_seen};
-use jl_types::PrepareFault;
+use jl_relink::{Probe, Snapshot, prepare_wide_seen};
 use std::alloc::Global;
 use std::sync::atomic::{AtomicU64, Ordering};
 use std::test::Fail;
@@ -27,27 +26,6 @@ struct Hold {
     count: AtomicU64,
 }
 
-impl Hold {
-    fn new(held: usize, until: usize) -> Hold {
-        Hold {
-            held,
-            until,
-            seen: AtomicU64::new(0),
-            gave_up: AtomicU64::new(0),
-            count: AtomicU64::new(0),
-        }
-    }
-
-    fn wait(&self) {
-        for _ in 0..LOOKS {
-            if self.seen.load(Ordering::SeqCst) == 1 {
-                return;
-            }
-        }
-        self.gave_up.store(1, Ordering::SeqCst);
-    }
-}
-
 impl Probe for Hold {
     fn at(&self, place: usize) {
         self.count.fetch_add(1, Ordering::SeqCst);
@@ -55,24 +33,17 @@ impl Probe for Hold {
             self.seen.store(1, Ordering::SeqCst);
         }
         if place == self.held {
-            self.wait();
+            for _ in 0..LOOKS {
+                if self.seen.load(Ordering::SeqCst) == 1 {
+                    return;
+                }
+            }
+            self.gave_up.store(1, Ordering::SeqCst);
         }
     }
 }
 
-/// Whether each pair was looked at once, and the hold was met.
-fn is_met(hold: &Hold, prepared: Result<Prepared, PrepareFault>) -> bool {
-    match prepared {
-        Ok(prepared) => {
-            prepared.rows.as_slice().len() == SITES as usize
-                && hold.gave_up.load(Ordering::SeqCst) == 0
-                && hold.count.load(Ordering::SeqCst) == LAST as u64 + 1
-        }
-        Err(_) => false,
-    }
-}
-
-/// Whether one pair, held until another one is looked at, is met by it.
+/// Whether one pair, held until another one is looked at, is met by it, and each pair is looked at once.
 fn meets(
     rt: &(impl Threads + Sync),
     alloc: Global,
@@ -80,12 +51,22 @@ fn meets(
     held: usize,
     until: usize,
 ) -> bool {
-    let hold = Hold::new(held, until);
-    match sites(alloc, SITES) {
-        Ok(sites) => is_met(
-            &hold,
-            prepare_wide_seen(rt, alloc, snapshot, sites.as_slice(), &hold),
-        ),
+    let hold = Hold {
+        held,
+        until,
+        seen: AtomicU64::new(0),
+        gave_up: AtomicU64::new(0),
+        count: AtomicU64::new(0),
+    };
+    let Ok(sites) = sites(alloc, SITES) else {
+        return false;
+    };
+    match prepare_wide_seen(rt, alloc, snapshot, sites.as_slice(), &hold) {
+        Ok(prepared) => {
+            prepared.rows.as_slice().len() == SITES as usize
+                && hold.gave_up.load(Ordering::SeqCst) == 0
+                && hold.count.load(Ordering::SeqCst) == LAST as u64 + 1
+        }
         Err(_) => false,
     }
 }

@@ -25,11 +25,6 @@ impl Draws {
         let number = u32::try_from(self.state >> 33).unwrap_or(0);
         number.checked_rem(bound).unwrap_or(0)
     }
-
-    /// A set of keys: each of twelve is in it once in four times.
-    fn key_set(&mut self) -> KeySet {
-        self.below(4096) & self.below(4096)
-    }
 }
 
 /// How often each operation was tried, and how many sites were touched in all.
@@ -47,21 +42,6 @@ struct Trial {
     index: Index,
     plain: Plain,
     counts: Counts,
-}
-
-/// Nothing was tried yet.
-fn begun(alloc: Global) -> Result<Trial, AllocError> {
-    let counts = Counts {
-        added: 0,
-        removed: 0,
-        asked: 0,
-        touched: 0,
-    };
-    Ok(Trial {
-        index: Index::new(alloc),
-        plain: Plain::new(alloc)?,
-        counts,
-    })
 }
 
 /// Adds the site to both. Answers whether they agree at it then.
@@ -94,7 +74,8 @@ fn ask(alloc: Global, trial: &mut Trial, set: KeySet) -> Result<bool, AllocError
 /// Tries one operation. Answers whether index and list agree.
 fn try_one(alloc: Global, trial: &mut Trial, draws: &mut Draws) -> Result<bool, AllocError> {
     let site = draws.below(SITES);
-    let set = draws.key_set();
+    // Each of twelve keys is in the set once in four times.
+    let set = draws.below(4096) & draws.below(4096);
     match draws.below(4) {
         0 => remove(alloc, trial, site),
         1 => ask(alloc, trial, set),
@@ -126,7 +107,18 @@ fn try_all(alloc: Global, trial: &mut Trial) -> Result<Option<Counts>, AllocErro
 
 /// The same with an index and a list of which nothing was tried yet.
 fn counted(alloc: Global) -> Result<Option<Counts>, AllocError> {
-    let mut trial = begun(alloc)?;
+    let plain = Plain::new(alloc)?;
+    let counts = Counts {
+        added: 0,
+        removed: 0,
+        asked: 0,
+        touched: 0,
+    };
+    let mut trial = Trial {
+        index: Index::new(alloc),
+        plain,
+        counts,
+    };
     try_all(alloc, &mut trial)
 }
 

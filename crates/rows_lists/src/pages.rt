@@ -73,11 +73,6 @@ fn assert_apart(
     Ok(())
 }
 
-/// Whether the first number is there, by its place.
-fn has_first(list: &Paged<Number>) -> bool {
-    list.len() > 0 && *list.at(0) == Number(0)
-}
-
 /// Asserts that the list, which is a new one, is filled and copied.
 fn assert_filled(
     rt: &(impl Abort + AllocGlobal),
@@ -87,7 +82,7 @@ fn assert_filled(
     add(rt.alloc(), list, 0)?;
     assert!(rt; !list.is_empty());
     add_all(rt.alloc(), list, 1, 199)?;
-    assert!(rt; has_numbers(list) && has_first(list));
+    assert!(rt; has_numbers(list) && list.len() > 0 && *list.at(0) == Number(0));
     let mut copy = list.copy(rt.alloc())?;
     assert_apart(rt, list, &mut copy)
 }

@@ -19,34 +19,21 @@ pub(crate) struct Plain {
     footprints: Vec<Option<KeySet>>,
 }
 
-/// The key of this number.
-fn key(number: u32) -> Key {
-    let place = number % 4;
-    match number / 4 {
-        0 => Key::Receivers(ClassId::new(place)),
-        1 => Key::Target(CallSiteId::new(place)),
-        _ => Key::Valid(SwitchId::new(place)),
-    }
-}
-
 /// The keys of the set, rising.
 pub(crate) fn keys(alloc: Global, set: KeySet) -> Result<Footprint, AllocError> {
     let mut keys = Vec::new(alloc);
     for number in 0..KEYS {
         if set & (1 << number) != 0 {
-            keys.push(key(number))?;
+            let place = number % 4;
+            let key = match number / 4 {
+                0 => Key::Receivers(ClassId::new(place)),
+                1 => Key::Target(CallSiteId::new(place)),
+                _ => Key::Valid(SwitchId::new(place)),
+            };
+            keys.push(key)?;
         }
     }
     Footprint::of(alloc, keys)
-}
-
-/// Whether there is a footprint, of the keys of this set.
-fn is_footprint(alloc: Global, found: Option<&Footprint>, set: KeySet) -> Result<bool, AllocError> {
-    let want = keys(alloc, set)?;
-    Ok(match found {
-        Some(footprint) => footprint.as_slice() == want.as_slice(),
-        None => false,
-    })
 }
 
 impl Plain {
@@ -75,7 +62,13 @@ impl Plain {
     ) -> Result<bool, AllocError> {
         let found = index.footprint(SiteNo::new(site));
         match self.footprints.get(site as usize) {
-            Some(Some(set)) => is_footprint(alloc, found, *set),
+            Some(Some(set)) => {
+                let want = keys(alloc, *set)?;
+                Ok(match found {
+                    Some(footprint) => footprint.as_slice() == want.as_slice(),
+                    None => false,
+                })
+            }
             _ => Ok(found.is_none()),
         }
     }

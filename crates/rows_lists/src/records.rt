@@ -1,7 +1,6 @@
 //! What a loader has recorded, and copies of the classes, each of which finds the names of its own time and those that it
 //! records itself.
 
-use jl_class::ClassFile;
 use jl_hierarchy::Classes;
 use jl_types::{ClassId, LoaderId};
 use rows_files::{OBJECT, class};
@@ -24,32 +23,14 @@ fn name_of(alloc: Global, number: u32) -> Result<String, AllocError> {
     }
 }
 
-/// The class file of the class of this number.
-fn file_of(alloc: Global, number: u32) -> Option<ClassFile> {
-    match name_of(alloc, number) {
-        Ok(name) => class(alloc, &name, 33, (number > 0).then_some(OBJECT), &[], &[]),
-        Err(_) => None,
-    }
-}
-
-/// Whether loader 0 defines the class of the file as the class of this number.
-fn is_defined(alloc: Global, classes: &mut Classes, file: Option<ClassFile>, number: u32) -> bool {
-    match file {
+/// Whether loader 0 defines a class of the name, below Object, as the class of this number.
+fn is_defined(alloc: Global, classes: &mut Classes, name: &str, number: u32) -> bool {
+    match class(alloc, name, 33, (number > 0).then_some(OBJECT), &[], &[]) {
         Some(file) => {
             classes.define(alloc, LoaderId::new(0), file).ok() == Some(ClassId::new(number))
         }
         None => false,
     }
-}
-
-/// Whether the classes from the first number to the one before the second are defined, in order.
-fn are_defined(alloc: Global, classes: &mut Classes, from: u32, to: u32) -> bool {
-    for number in from..to {
-        if !is_defined(alloc, classes, file_of(alloc, number), number) {
-            return false;
-        }
-    }
-    true
 }
 
 /// Whether a copy is made and kept.
@@ -64,7 +45,15 @@ fn is_copied(alloc: Global, classes: &Classes, copies: &mut Vec<Classes>) -> boo
 fn are_copied(alloc: Global, classes: &mut Classes, copies: &mut Vec<Classes>) -> bool {
     let mut from = 0;
     for count in COUNTS {
-        if !are_defined(alloc, classes, from, *count) || !is_copied(alloc, classes, copies) {
+        for number in from..*count {
+            let Ok(name) = name_of(alloc, number) else {
+                return false;
+            };
+            if !is_defined(alloc, classes, &name, number) {
+                return false;
+            }
+        }
+        if !is_copied(alloc, classes, copies) {
             return false;
         }
         from = *count;
@@ -75,51 +64,37 @@ fn are_copied(alloc: Global, classes: &mut Classes, copies: &mut Vec<Classes>) -
 /// Whether each copy records a name of its own.
 fn go_on(alloc: Global, copies: &mut [Classes]) -> bool {
     for (copy, count) in copies.iter_mut().zip(COUNTS) {
-        if !is_defined(
-            alloc,
-            copy,
-            class(alloc, OWN, 33, Some(OBJECT), &[], &[]),
-            *count,
-        ) {
+        if !is_defined(alloc, copy, OWN, *count) {
             return false;
         }
     }
     true
-}
-
-/// The class that loader 0 finds under the name of the class of this number.
-fn found(alloc: Global, classes: &Classes, number: u32) -> Option<ClassId> {
-    match name_of(alloc, number) {
-        Ok(name) => classes.lookup(LoaderId::new(0), name.as_bytes()),
-        Err(_) => None,
-    }
 }
 
 /// Whether loader 0 finds the classes of the numbers below the count, and none of the others.
 fn finds(alloc: Global, classes: &Classes, count: u32) -> bool {
     for number in 0..MOST {
-        if found(alloc, classes, number) != (number < count).then_some(ClassId::new(number)) {
+        let Ok(name) = name_of(alloc, number) else {
+            return false;
+        };
+        let found = classes.lookup(LoaderId::new(0), name.as_bytes());
+        if found != (number < count).then_some(ClassId::new(number)) {
             return false;
         }
     }
     true
 }
 
-/// Whether these are the classes of the numbers below the count, each once and in the order in which they were recorded.
-fn are_first(own: &[ClassId], count: u32) -> bool {
+/// Whether loader 0 has defined just the classes of the numbers below the count, each once and in the order in which they were recorded.
+fn has_defined(alloc: Global, classes: &Classes, count: u32) -> bool {
+    let Ok(own) = classes.own_classes(alloc, LoaderId::new(0)) else {
+        return false;
+    };
     let mut all = own.len() == count as usize;
-    for (class, number) in own.iter().zip(0..count) {
+    for (class, number) in own.as_slice().iter().zip(0..count) {
         all = all && *class == ClassId::new(number);
     }
     all
-}
-
-/// Whether loader 0 has defined just these.
-fn has_defined(alloc: Global, classes: &Classes, count: u32) -> bool {
-    match classes.own_classes(alloc, LoaderId::new(0)) {
-        Ok(own) => are_first(own.as_slice(), count),
-        Err(_) => false,
-    }
 }
 
 /// Whether each copy finds the classes of its own time and the one that it has defined itself, and has defined no others.
@@ -136,19 +111,14 @@ fn find_their_own(alloc: Global, copies: &[Classes]) -> bool {
     true
 }
 
-/// Whether all classes are found, and no name of the copies; and loader 0 has defined all.
-fn finds_all(alloc: Global, classes: &Classes) -> bool {
-    finds(alloc, classes, MOST)
-        && classes.lookup(LoaderId::new(0), OWN.as_bytes()).is_none()
-        && has_defined(alloc, classes, MOST)
-}
-
-/// Whether the classes and their copies find each their own.
+/// Whether the classes and their copies find each their own: all classes are found in the end, and no name of the copies.
 fn are_apart(alloc: Global, classes: &mut Classes, copies: &mut Vec<Classes>) -> bool {
     are_copied(alloc, classes, copies)
         && go_on(alloc, copies)
         && find_their_own(alloc, copies)
-        && finds_all(alloc, classes)
+        && finds(alloc, classes, MOST)
+        && classes.lookup(LoaderId::new(0), OWN.as_bytes()).is_none()
+        && has_defined(alloc, classes, MOST)
 }
 
 /// The same with classes of which none is defined.

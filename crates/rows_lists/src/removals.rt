@@ -8,46 +8,18 @@ use std::process::Abort;
 /// How many sites a core has at most.
 const SITES: u32 = 65_536;
 
-/// The receivers of class 0 and of another class.
-fn footprint(alloc: Global, site: u32) -> Result<Footprint, AllocError> {
+/// Adds the site, under the receivers of class 0 and of another class.
+fn add(alloc: Global, index: &mut Index, site: u32) -> Result<(), AllocError> {
     let other = Key::Receivers(ClassId::new(1 + site % 7));
     let keys = vec![in alloc; Key::Receivers(ClassId::new(0)), other]?;
-    Footprint::of(alloc, keys)
-}
-
-/// Adds the site.
-fn add(alloc: Global, index: &mut Index, site: u32) -> Result<(), AllocError> {
-    let footprint = footprint(alloc, site)?;
+    let footprint = Footprint::of(alloc, keys)?;
     Ok(index.add(alloc, SiteNo::new(site), footprint)?)
-}
-
-/// All sites, each under class 0.
-fn full(alloc: Global) -> Result<Index, AllocError> {
-    let mut index = Index::new(alloc);
-    for site in 0..SITES {
-        add(alloc, &mut index, site)?;
-    }
-    Ok(index)
 }
 
 /// How many sites rest on the receivers of the class.
 fn count(alloc: Global, index: &Index, class: u32) -> Result<usize, AllocError> {
     let sites = index.touched_by(alloc, &[Key::Receivers(ClassId::new(class))])?;
     Ok(sites.len())
-}
-
-/// Removes the sites of even numbers.
-fn remove_even(index: &mut Index) {
-    for half in 0..SITES / 2 {
-        index.remove(SiteNo::new(2 * half));
-    }
-}
-
-/// Removes the sites of odd numbers.
-fn remove_odd(index: &mut Index) {
-    for half in 0..SITES / 2 {
-        index.remove(SiteNo::new(2 * half + 1));
-    }
 }
 
 /// Whether the index is empty at first, once it has one site, and once that is gone.
@@ -60,18 +32,25 @@ fn emptied(alloc: Global) -> Result<[bool; 3], AllocError> {
     Ok([first, full, index.is_empty()])
 }
 
-/// How many sites there are under class 0 at first, once every other one is gone, and once all are, and then under class 3.
+/// How many sites there are under class 0 once all are added, once every other one is gone, and once all are, and then under class 3.
 fn counts_of(alloc: Global, index: &mut Index) -> Result<[usize; 4], AllocError> {
+    for site in 0..SITES {
+        add(alloc, index, site)?;
+    }
     let all = count(alloc, index, 0)?;
-    remove_odd(index);
+    for half in 0..SITES / 2 {
+        index.remove(SiteNo::new(2 * half + 1));
+    }
     let half = count(alloc, index, 0)?;
-    remove_even(index);
+    for half in 0..SITES / 2 {
+        index.remove(SiteNo::new(2 * half));
+    }
     Ok([all, half, count(alloc, index, 0)?, count(alloc, index, 3)?])
 }
 
-/// The same of an index of all sites.
+/// The same of an index that is empty at first.
 fn counts(alloc: Global) -> Result<[usize; 4], AllocError> {
-    let mut index = full(alloc)?;
+    let mut index = Index::new(alloc);
     counts_of(alloc, &mut index)
 }
 

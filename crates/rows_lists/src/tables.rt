@@ -103,30 +103,17 @@ fn kind_of(link: &Link) -> Kind {
     }
 }
 
-/// Whether each row has a link of this kind.
-fn all_are(prepared: &Prepared, kind: Kind) -> bool {
-    let mut all = prepared.rows.as_slice().len() == SITES as usize;
-    for row in prepared.rows.as_slice() {
-        all = all && kind_of(&row.1) == kind;
-    }
-    all
-}
-
-/// Whether both have the same rows, and the same number of events.
-fn are_same(a: &Prepared, b: &Prepared) -> bool {
-    let mut all = a.serial == b.serial && a.rows.as_slice().len() == b.rows.as_slice().len();
-    for (x, y) in a.rows.as_slice().iter().zip(b.rows.as_slice()) {
-        all = all && x == y;
-    }
-    all
-}
-
-/// Whether a preparation gives these rows.
+/// Whether a preparation gives these rows, and the same number of events.
 fn gives(prepared: Result<Prepared, PrepareFault>, alone: &Prepared) -> bool {
-    match prepared {
-        Ok(prepared) => are_same(&prepared, alone),
-        Err(_) => false,
+    let Ok(prepared) = prepared else {
+        return false;
+    };
+    let rows = prepared.rows.as_slice();
+    let mut all = prepared.serial == alone.serial && rows.len() == alone.rows.as_slice().len();
+    for (row, want) in rows.iter().zip(alone.rows.as_slice()) {
+        all = all && row == want;
     }
+    all
 }
 
 /// Whether both forms give these rows, and look at so many pairs, at each once.
@@ -156,27 +143,24 @@ fn is_of(
     sites: &[SiteNo],
     row: &Row,
 ) -> bool {
-    match prepare(alloc, snapshot, sites) {
-        Ok(alone) => {
-            all_are(&alone, row.2) && both_give(rt, alloc, snapshot, sites, &alone, row.3)
-        }
-        Err(_) => false,
+    let Ok(alone) = prepare(alloc, snapshot, sites) else {
+        return false;
+    };
+    let mut all = alone.rows.as_slice().len() == SITES as usize;
+    for prepared in alone.rows.as_slice() {
+        all = all && kind_of(&prepared.1) == row.2;
     }
-}
-
-/// The same in a snapshot.
-fn is_so_in(rt: &(impl Threads + Sync), alloc: Global, snapshot: &Snapshot, row: &Row) -> bool {
-    match sites(alloc, SITES) {
-        Ok(sites) => is_of(rt, alloc, snapshot, sites.as_slice(), row),
-        Err(_) => false,
-    }
+    all && both_give(rt, alloc, snapshot, sites, &alone, row.3)
 }
 
 /// Whether all forms give what the row says.
 fn is_so(rt: &(impl Threads + Sync), alloc: Global, row: &Row) -> bool {
-    match snapshot(alloc, row.0, row.1) {
-        Some(snapshot) => is_so_in(rt, alloc, &snapshot, row),
-        None => false,
+    let Some(snapshot) = snapshot(alloc, row.0, row.1) else {
+        return false;
+    };
+    match sites(alloc, SITES) {
+        Ok(sites) => is_of(rt, alloc, &snapshot, sites.as_slice(), row),
+        Err(_) => false,
     }
 }
 
@@ -203,16 +187,6 @@ enum Refused {
     Repeated,
     UnknownSite,
     NotReady,
-}
-
-/// The fault at the site.
-fn fault_at(refused: Refused, site: SiteNo) -> PrepareFault {
-    match refused {
-        Refused::BatchSize => PrepareFault::BatchSize,
-        Refused::Repeated => PrepareFault::Repeated(site),
-        Refused::UnknownSite => PrepareFault::UnknownSite(site),
-        Refused::NotReady => PrepareFault::NotReady(site),
-    }
 }
 
 /// Whether a preparation has this fault.
@@ -245,16 +219,15 @@ fn is_refused(
     row: &(u32, u32, Refused),
 ) -> bool {
     let last = SiteNo::new(row.1);
+    let fault = match row.2 {
+        Refused::BatchSize => PrepareFault::BatchSize,
+        Refused::Repeated => PrepareFault::Repeated(last),
+        Refused::UnknownSite => PrepareFault::UnknownSite(last),
+        Refused::NotReady => PrepareFault::NotReady(last),
+    };
     match sites(alloc, row.0) {
         Ok(mut sites) => {
-            sites.push(last).is_ok()
-                && all_fail(
-                    rt,
-                    alloc,
-                    snapshot,
-                    sites.as_slice(),
-                    &fault_at(row.2, last),
-                )
+            sites.push(last).is_ok() && all_fail(rt, alloc, snapshot, sites.as_slice(), &fault)
         }
         Err(_) => false,
     }

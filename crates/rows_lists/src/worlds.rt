@@ -42,21 +42,16 @@ fn define(alloc: Global, world: &mut World, file: Option<ClassFile>) -> bool {
     }
 }
 
-/// The receiver of this name and this number, from 1 on.
-fn named_receiver(alloc: Global, shape: Shape, name: &str, number: u32) -> Option<ClassFile> {
-    match shape {
-        Shape::Flat | Shape::Beside => class(alloc, name, 33, Some("A"), &[], &[]),
-        Shape::Own => class(alloc, name, 33, Some("A"), &[], &F),
-        Shape::Chain => below_the_one_before(alloc, name, number),
-        Shape::Implementers => class(alloc, name, 33, Some(OBJECT), &["I"], &F),
-    }
-}
-
-/// The same of this number.
+/// The receiver of this number, from 1 on.
 fn receiver(alloc: Global, shape: Shape, number: u32) -> Option<ClassFile> {
-    match format!(in alloc; "C{number}") {
-        Ok(name) => named_receiver(alloc, shape, &name, number),
-        Err(_) => None,
+    let Ok(name) = format!(in alloc; "C{number}") else {
+        return None;
+    };
+    match shape {
+        Shape::Flat | Shape::Beside => class(alloc, &name, 33, Some("A"), &[], &[]),
+        Shape::Own => class(alloc, &name, 33, Some("A"), &[], &F),
+        Shape::Chain => below_the_one_before(alloc, &name, number),
+        Shape::Implementers => class(alloc, &name, 33, Some(OBJECT), &["I"], &F),
     }
 }
 
@@ -95,21 +90,16 @@ fn define_callers(alloc: Global, world: &mut World, shape: Shape) -> bool {
         && define(alloc, world, caller(alloc, shape))
 }
 
-/// Defines the abstract subclass of A that has an f of its own, where the shape wants it.
-fn define_beside(alloc: Global, world: &mut World, shape: Shape) -> bool {
-    match shape {
-        Shape::Beside => define(alloc, world, class(alloc, "B", 1057, Some("A"), &[], &F)),
-        _ => true,
-    }
-}
-
 /// Defines classes, so that there are so many receivers. A is one of those of its own method.
 fn define_receivers(alloc: Global, world: &mut World, shape: Shape, receivers: u32) -> bool {
     let more = match shape {
         Shape::Implementers => receivers,
         _ => receivers.saturating_sub(1),
     };
-    let mut all = define_beside(alloc, world, shape);
+    let mut all = match shape {
+        Shape::Beside => define(alloc, world, class(alloc, "B", 1057, Some("A"), &[], &F)),
+        _ => true,
+    };
     for number in 0..more {
         all = all
             && define(
