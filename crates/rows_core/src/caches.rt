@@ -5,7 +5,7 @@ use crate::caches::Says::*;
 use crate::steps::first;
 use jl_cache::{Cache, fast};
 use jl_types::{Answer, ClassId, Fast, Link, Outcome, Recv, SiteNo, Table, TableKind, Throwable};
-use std::alloc::{AllocError, Global};
+use std::alloc::Global;
 use std::process::Abort;
 
 /// The second site's link and the first one's.
@@ -16,21 +16,16 @@ fn rows() -> [(SiteNo, Link); 2] {
     ]
 }
 
-/// Whether this is the list of the rows.
-fn are_listed(listed: Result<Vec<(SiteNo, Link)>, AllocError>) -> bool {
-    let [high, low] = rows();
-    match listed {
-        Ok(listed) => listed.as_slice() == [low, high].as_slice(),
-        Err(_) => false,
-    }
-}
-
-/// Whether the links are those of the rows.
+/// Whether the links are those of the rows, and listed so.
 fn are_both(alloc: Global, links: &Cache) -> bool {
+    let [high, low] = rows();
+    let Ok(listed) = links.list(alloc) else {
+        return false;
+    };
     links.len() == 2
         && links.get(SiteNo::new(7)) == Some(Link::Mega)
         && links.get(SiteNo::new(0)).is_none()
-        && are_listed(links.list(alloc))
+        && listed.as_slice() == [low, high].as_slice()
 }
 
 /// Whether the copy of links has both once one of them is dropped.
@@ -97,15 +92,6 @@ fn link_of(linked: Linked) -> Option<Link> {
     }
 }
 
-fn fast_of(says: Says) -> Fast {
-    match says {
-        Misses => Fast::Miss,
-        Runs => Fast::Now(Answer::Run(first(3))),
-        Throws(throwable) => Fast::Now(Answer::Throws(throwable)),
-        IsNoReceiver => Fast::Now(Answer::BadReceiver),
-    }
-}
-
 /// Links, the class of the receiver, which is null where there is none, and what they answer at once.
 const FAST: &[(Linked, Option<u32>, Says)] = &[
     // Links that look at no receiver.
@@ -136,17 +122,20 @@ const FAST: &[(Linked, Option<u32>, Says)] = &[
     ),
 ];
 
-fn receiver(class: Option<u32>) -> Recv {
-    match class {
-        Some(class) => Recv::Of(ClassId::new(class)),
-        None => Recv::Null,
-    }
-}
-
 /// The first row that isn't so, if there is one.
 fn other(rows: &[(Linked, Option<u32>, Says)]) -> Option<usize> {
     for (index, (linked, class, says)) in rows.iter().enumerate() {
-        if fast(link_of(*linked), receiver(*class)) != fast_of(*says) {
+        let receiver = match class {
+            Some(class) => Recv::Of(ClassId::new(*class)),
+            None => Recv::Null,
+        };
+        let answer = match says {
+            Misses => Fast::Miss,
+            Runs => Fast::Now(Answer::Run(first(3))),
+            Throws(throwable) => Fast::Now(Answer::Throws(*throwable)),
+            IsNoReceiver => Fast::Now(Answer::BadReceiver),
+        };
+        if fast(link_of(*linked), receiver) != answer {
             return Some(index);
         }
     }

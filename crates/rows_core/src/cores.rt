@@ -5,7 +5,6 @@ use crate::steps::Shape::{Firsts, Method};
 use crate::steps::Step::*;
 use crate::steps::{Step, are_done, event, first, is_done, runs_first};
 use jl_core::Core;
-use jl_names::Seq;
 use jl_relink::{Prepared, Snapshot, World, dispatch, link_of, prepare};
 use jl_types::CallSiteKind::Mutable;
 use jl_types::{
@@ -153,15 +152,6 @@ fn printed(alloc: Global, core: &mut Core, step: &Step) -> Result<String, AllocE
     format!(in alloc; "{answer:?}")
 }
 
-/// How the link of site 0 prints that runs class 1's first method on each object, or no link.
-fn links_text(is_linked: bool) -> &'static str {
-    if is_linked {
-        "[(SiteNo(0), Direct(Run(MethodId { class: ClassId(1), index: 0 })))]"
-    } else {
-        "[]"
-    }
-}
-
 /// How the installed links print.
 fn links_printed(alloc: Global, core: &Core) -> Result<String, AllocError> {
     let links = core.list_links(alloc)?;
@@ -188,8 +178,13 @@ fn is_so_on(alloc: Global, core: &mut Core, row: &Row) -> bool {
         all = are_done(alloc, core, row.1) && all;
     }
     for (step, answer, is_linked) in row.3 {
+        let links = if *is_linked {
+            "[(SiteNo(0), Direct(Run(MethodId { class: ClassId(1), index: 0 })))]"
+        } else {
+            "[]"
+        };
         all = is_text(printed(alloc, core, step), answer)
-            && is_text(links_printed(alloc, core), links_text(*is_linked))
+            && is_text(links_printed(alloc, core), links)
             && all;
     }
     all
@@ -246,7 +241,7 @@ fn is_prepared(
     let Ok(Prepared { serial, rows }) = prepared else {
         return false;
     };
-    let so = serial == after.0 && is_site_0(&rows, after.1);
+    let so = serial == after.0 && rows.as_slice() == [(site(), after.1)].as_slice();
     let refusal = core.apply(alloc, Event::Install(rows)).err();
     so && match (&refusal, present) {
         (Some(Refusal::Stale { site: at, present }), Some(link)) => {
@@ -257,16 +252,14 @@ fn is_prepared(
     }
 }
 
-/// Whether these are site 0 with this link.
-fn is_site_0(rows: &Seq<(SiteNo, Link)>, link: Link) -> bool {
-    rows.as_slice() == [(site(), link)].as_slice()
-}
-
-/// Whether a preparation in the snapshot, once the class C is defined, gives the link of before, which comes too late.
-fn is_of_before(alloc: Global, core: &mut Core, snapshot: &Snapshot) -> bool {
+/// Whether a preparation in a snapshot that is taken now, once the class C is defined, gives the link of before, which comes too late.
+fn is_of_before(alloc: Global, core: &mut Core) -> bool {
+    let Ok(snapshot) = core.snapshot(alloc) else {
+        return false;
+    };
     let is_defined = is_done(alloc, core, &Define(0, C));
     let so = snapshot.serial() == 4 && link_of(snapshot.world(), site()) == Ok(runs_first());
-    let prepared = prepare(alloc, snapshot, &[site()]);
+    let prepared = prepare(alloc, &snapshot, &[site()]);
     is_prepared(
         alloc,
         core,
@@ -286,20 +279,12 @@ fn is_of_now(alloc: Global, core: &mut Core) -> bool {
         && core.call(site(), Recv::Of(ClassId::new(3))) == Answer::Run(first(3))
 }
 
-/// The same in a snapshot that is taken now.
-fn is_late(alloc: Global, core: &mut Core) -> bool {
-    match core.snapshot(alloc) {
-        Ok(snapshot) => is_of_before(alloc, core, &snapshot),
-        Err(_) => false,
-    }
-}
-
 /// Whether both are so on a new core.
 fn are_prepared(alloc: Global) -> bool {
     match Core::new(alloc, 1) {
         Ok(mut core) => {
             are_done(alloc, &mut core, BY_HAND.1)
-                && is_late(alloc, &mut core)
+                && is_of_before(alloc, &mut core)
                 && is_of_now(alloc, &mut core)
         }
         Err(_) => false,
@@ -311,19 +296,17 @@ fn prepares_in_the_world_of_a_snapshot(rt: HostRuntime) {
     assert!(rt; are_prepared(rt.alloc()));
 }
 
-/// Whether nothing is in the snapshot, which has this count of events.
-fn is_empty(snapshot: &Snapshot) -> bool {
-    let answer = dispatch(snapshot.world(), site(), Recv::Null);
-    snapshot.serial() == 7
-        && link_of(snapshot.world(), site()) == Err(Unlinked::NoSite)
-        && answer == Answer::Unlinked(Unlinked::NoSite)
-}
-
-/// Whether nothing is in a snapshot of the copy of a new world.
+/// Whether nothing is in a snapshot of the copy of a new world, which has this count of events.
 fn is_copied(alloc: Global) -> Result<bool, AllocError> {
     let world = World::new(alloc)?;
     let copy = world.copy(alloc)?;
-    Ok(is_empty(&Snapshot::new(copy, 7)))
+    let snapshot = Snapshot::new(copy, 7);
+    let answer = dispatch(snapshot.world(), site(), Recv::Null);
+    Ok(
+        snapshot.serial() == 7
+            && link_of(snapshot.world(), site()) == Err(Unlinked::NoSite)
+            && answer == Answer::Unlinked(Unlinked::NoSite),
+    )
 }
 
 #[test]

@@ -1,5 +1,6 @@
 //! A core whose limit of sites is none that 16 bits count.
 
+use jl_class::ClassFile;
 use jl_core::Core;
 use jl_types::{ClassId, Event, LoaderId, Made, Place, Refusal, SiteNo};
 use rows_files::{CallRow, OBJECT, calling, class};
@@ -14,19 +15,9 @@ const LIMIT: u32 = 65_537;
 /// The classes behind java/lang/Object, whose methods make so many calls each: 87,376 in all.
 const NAMES: [&str; 4] = ["C", "D", "E", "F"];
 
-/// Whether loader 0 defines java/lang/Object.
-fn is_object_defined(alloc: Global, core: &mut Core) -> bool {
-    match class(alloc, OBJECT, 33, None, &[], &[]) {
-        Some(file) => core
-            .apply(alloc, Event::Define(LoaderId::new(0), file))
-            .is_ok(),
-        None => false,
-    }
-}
-
-/// Whether loader 0 defines a class of this name, whose method makes the calls.
-fn is_defined(alloc: Global, core: &mut Core, name: &str, calls: &[CallRow]) -> bool {
-    match calling(alloc, name, 33, OBJECT, &[], calls, &[]) {
+/// Whether there is a class file, and loader 0 defines the class.
+fn is_defined(alloc: Global, core: &mut Core, file: Option<ClassFile>) -> bool {
+    match file {
         Some(file) => core
             .apply(alloc, Event::Define(LoaderId::new(0), file))
             .is_ok(),
@@ -43,30 +34,17 @@ fn request(n: u32) -> Event {
     })
 }
 
-/// Whether the request of the n-th call is answered this number.
-fn is_numbered(alloc: Global, core: &mut Core, n: u32) -> bool {
-    match core.apply(alloc, request(n)) {
-        Ok(reply) => reply.made == Made::Site(SiteNo::new(n)),
-        Err(_) => false,
-    }
-}
-
-/// Whether the request of each of the first calls is answered its number.
+/// Whether the request of each of the first calls is answered its number, and that of the next one is refused, since there are enough.
 fn are_numbered(alloc: Global, core: &mut Core) -> bool {
     for n in 0..LIMIT {
-        if !is_numbered(alloc, core, n) {
+        let Ok(reply) = core.apply(alloc, request(n)) else {
+            return false;
+        };
+        if reply.made != Made::Site(SiteNo::new(n)) {
             return false;
         }
     }
-    true
-}
-
-/// Whether the request of the n-th call is refused, since there are enough.
-fn is_one_too_many(alloc: Global, core: &mut Core, n: u32) -> bool {
-    match core.apply(alloc, request(n)) {
-        Ok(_) => false,
-        Err(refusal) => matches!(&refusal, Refusal::SitesFull),
-    }
+    matches!(core.apply(alloc, request(LIMIT)), Err(Refusal::SitesFull))
 }
 
 /// Whether a core of this limit has all classes, numbers so many sites, and refuses one more.
@@ -74,11 +52,12 @@ fn is_full(alloc: Global, calls: &[CallRow]) -> bool {
     let Ok(mut core) = Core::new(alloc, LIMIT) else {
         return false;
     };
-    let mut all = is_object_defined(alloc, &mut core);
+    let mut all = is_defined(alloc, &mut core, class(alloc, OBJECT, 33, None, &[], &[]));
     for name in NAMES {
-        all = all && is_defined(alloc, &mut core, name, calls);
+        let file = calling(alloc, name, 33, OBJECT, &[], calls, &[]);
+        all = is_defined(alloc, &mut core, file) && all;
     }
-    all && are_numbered(alloc, &mut core) && is_one_too_many(alloc, &mut core, LIMIT)
+    all && are_numbered(alloc, &mut core)
 }
 
 #[test]

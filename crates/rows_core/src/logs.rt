@@ -49,15 +49,6 @@ fn printed(alloc: Global, entry: &Entry) -> Result<String, AllocError> {
     format!(in alloc; "{entry:?}")
 }
 
-/// Whether the entries print so.
-fn are_entries(alloc: Global, entries: &[Entry], log: &[&str]) -> bool {
-    let mut all = entries.len() == log.len();
-    for (entry, want) in entries.iter().zip(log) {
-        all = is_text(printed(alloc, entry), want) && all;
-    }
-    all
-}
-
 /// The name in the file of the class that the entry of a definition names.
 fn defined_name(core: &Core, entry: usize) -> Option<&[u8]> {
     match core.log().get(entry)?.event() {
@@ -69,30 +60,19 @@ fn defined_name(core: &Core, entry: usize) -> Option<&[u8]> {
     }
 }
 
-/// Whether these are accepted, or refused, as is said.
-fn are_accepted(alloc: Global, core: &mut Core, events: &[(Step, bool)]) -> bool {
+/// Whether the events are accepted, or refused, as is said, and have entries that print so.
+fn are_kept(alloc: Global, core: &mut Core, events: &[(Step, bool)], log: &[&str]) -> bool {
     let mut all = true;
     for (step, is_accepted) in events {
         all = is_done(alloc, core, step) == *is_accepted && all;
     }
-    all
-}
-
-/// Whether the events are accepted, or refused, as is said, and have these entries.
-fn are_kept(alloc: Global, core: &mut Core) -> bool {
-    are_accepted(alloc, core, EVENTS)
-        && are_entries(alloc, core.log(), LOG)
+    for (entry, want) in core.log().iter().zip(log) {
+        all = is_text(printed(alloc, entry), want) && all;
+    }
+    all && core.log().len() == log.len()
         && defined_name(core, 1) == Some(b"java/lang/Object".as_slice())
         && defined_name(core, 2) == Some(b"T".as_slice())
         && core.class_count() == 2
-}
-
-/// The count of accepted events in a snapshot.
-fn serial(alloc: Global, core: &Core) -> Option<u64> {
-    match core.snapshot(alloc) {
-        Ok(snapshot) => Some(snapshot.serial()),
-        Err(_) => None,
-    }
 }
 
 /// Whether the event is planned; it is committed then.
@@ -106,14 +86,18 @@ fn is_committed(alloc: Global, core: &mut Core, event: Event) -> bool {
     }
 }
 
-/// Whether a first loader is accepted, planned before or not, and then all this is so.
+/// Whether a first loader is accepted, planned before or not, and then all this is so, and a snapshot counts the accepted events.
 fn are_kept_behind(alloc: Global, core: &mut Core, is_planned: bool) -> bool {
     let first = if is_planned {
         is_committed(alloc, core, Event::NewLoader)
     } else {
         is_done(alloc, core, &Loader)
     };
-    are_kept(alloc, core) && serial(alloc, core) == Some(11) && first
+    let is_kept = are_kept(alloc, core, EVENTS, LOG);
+    match core.snapshot(alloc) {
+        Ok(snapshot) => snapshot.serial() == 11 && first && is_kept,
+        Err(_) => false,
+    }
 }
 
 /// The same on a new core.

@@ -5,7 +5,6 @@ use crate::cores::{is_text, refused};
 use crate::steps::Step::*;
 use crate::steps::{Step, are_done, event};
 use jl_core::{Core, Planned};
-use jl_types::Event;
 use std::alloc::{AllocError, Global};
 use std::process::Abort;
 
@@ -46,27 +45,7 @@ fn printed(alloc: Global, plan: &Planned) -> Result<String, AllocError> {
     format!(in alloc; "{:?} {:?}", plan.reply(), plan.slots())
 }
 
-/// How the event's plan prints, or its refusal. The plan is dropped.
-fn dropped(alloc: Global, core: &mut Core, event: Event) -> Result<String, AllocError> {
-    match core.plan(alloc, event) {
-        Ok(plan) => printed(alloc, &plan),
-        Err(refusal) => refused(alloc, &refusal),
-    }
-}
-
-/// The same where the plan is committed.
-fn committed(alloc: Global, core: &mut Core, event: Event) -> Result<String, AllocError> {
-    match core.plan(alloc, event) {
-        Ok(plan) => {
-            let text = printed(alloc, &plan);
-            let _reply = core.commit(plan);
-            text
-        }
-        Err(refusal) => refused(alloc, &refusal),
-    }
-}
-
-/// The same of a step, which is committed or not.
+/// How the plan of the step's event prints, or its refusal. The plan is committed, or dropped.
 fn planned(
     alloc: Global,
     core: &mut Core,
@@ -74,10 +53,16 @@ fn planned(
     step: &Step,
 ) -> Result<String, AllocError> {
     let event = event(alloc, core, step)?;
-    if commits {
-        committed(alloc, core, event)
-    } else {
-        dropped(alloc, core, event)
+    match core.plan(alloc, event) {
+        Ok(plan) => {
+            let text = printed(alloc, &plan);
+            if !commits {
+                return text;
+            }
+            let _reply = core.commit(plan);
+            text
+        }
+        Err(refusal) => refused(alloc, &refusal),
     }
 }
 

@@ -125,47 +125,27 @@ fn run_so(core: &Core) -> bool {
     all
 }
 
-/// Whether a renewal of the old core is this: of its 12 events the last one installs all three links.
+/// Whether a renewal of the old core is this: of its 12 events the last one installs all three links. Two sites are too few for it.
 fn is_renewed(alloc: Global, old: &Core, released: &Released) -> bool {
+    let is_too_small = matches!(renew(alloc, old, released, 2), Err(Refusal::SitesFull));
     match renew(alloc, old, released, 3) {
         Ok((fresh, numbers)) => {
             are_numbers(&numbers)
                 && fresh.log().len() == 12
                 && fresh.links().len() == 3
                 && run_so(&fresh)
+                && is_too_small
         }
         Err(_) => false,
     }
 }
 
-/// Whether more sites stay than two.
-fn is_too_small(alloc: Global, old: &Core, released: &Released) -> bool {
-    matches!(renew(alloc, old, released, 2), Err(Refusal::SitesFull))
-}
-
 /// All of it.
 fn renews(alloc: Global) -> bool {
     match (old_core(alloc), all_released(alloc)) {
-        (Ok(old), Ok(released)) => {
-            is_renewed(alloc, &old, &released) && is_too_small(alloc, &old, &released)
-        }
+        (Ok(old), Ok(released)) => is_renewed(alloc, &old, &released),
         _ => false,
     }
-}
-
-/// Whether the entries from this one on are carried over.
-fn are_carried(
-    alloc: Global,
-    fresh: &mut Core,
-    numbers: &mut Renumbering,
-    old: &Core,
-    from: usize,
-) -> bool {
-    let mut all = true;
-    for entry in old.log().iter().skip(from) {
-        all = carry(alloc, fresh, numbers, old.world(), entry).is_ok() && all;
-    }
-    all
 }
 
 /// Whether the last entry of the old core names what is gone.
@@ -193,9 +173,11 @@ fn links_come(alloc: Global, fresh: &mut Core, numbers: &Renumbering, old: &Core
 /// Whether what comes meanwhile is carried over, and then a retarget of a call site that was let go is not.
 fn carries_on(alloc: Global, fresh: &mut Core, numbers: &mut Renumbering, old: &mut Core) -> bool {
     let from = old.log().len();
-    are_done(alloc, old, MEANWHILE)
-        && are_carried(alloc, fresh, numbers, old, from)
-        && numbers.class(ClassId::new(6)) == Some(ClassId::new(5))
+    let mut all = are_done(alloc, old, MEANWHILE);
+    for entry in old.log().iter().skip(from) {
+        all = carry(alloc, fresh, numbers, old.world(), entry).is_ok() && all;
+    }
+    all && numbers.class(ClassId::new(6)) == Some(ClassId::new(5))
         && numbers.switch(SwitchId::new(2)) == Some(SwitchId::new(1))
         && fresh.class_count() == 6
         && links_come(alloc, fresh, numbers, old)

@@ -4,7 +4,7 @@ use crate::classes::Class::{A, M, Object};
 use crate::steps::Step::*;
 use crate::steps::{Step, are_done, is_done};
 use jl_core::Core;
-use jl_relink::{Snapshot, World, link_of};
+use jl_relink::{World, link_of};
 use jl_types::SiteNo;
 use std::alloc::Global;
 use std::process::Abort;
@@ -14,27 +14,24 @@ const SITES: u32 = 64;
 
 const BEFORE: &[Step] = &[Define(0, Object), Define(0, A), Define(0, M), Request(2, 0)];
 
-/// Whether each site has the same link from scratch in both worlds.
-fn have_same_links(one: &World, other: &World) -> bool {
+/// Whether as much is seen in both worlds: the same links from scratch, and as many classes, places and switch points.
+fn are_same(one: &World, other: &World) -> bool {
     for number in 0..SITES {
         let site = SiteNo::new(number);
         if link_of(one, site) != link_of(other, site) {
             return false;
         }
     }
-    true
-}
-
-/// Whether as much is seen in both worlds: as many classes, places and switch points, and the same links.
-fn are_same(one: &World, other: &World) -> bool {
     one.classes.class_count() == other.classes.class_count()
         && one.site_count() == other.site_count()
         && one.sites.switch_count() == other.sites.switch_count()
-        && have_same_links(one, other)
 }
 
 /// Whether a snapshot from after an install has the world of the one from before.
-fn is_same_after(alloc: Global, core: &mut Core, before: &Snapshot) -> bool {
+fn is_same(alloc: Global, core: &mut Core) -> bool {
+    let Ok(before) = core.snapshot(alloc) else {
+        return false;
+    };
     let is_installed = is_done(alloc, core, &Install(&[0]));
     match core.snapshot(alloc) {
         Ok(after) => {
@@ -43,14 +40,6 @@ fn is_same_after(alloc: Global, core: &mut Core, before: &Snapshot) -> bool {
                 && are_same(before.world(), after.world())
                 && is_installed
         }
-        Err(_) => false,
-    }
-}
-
-/// The same of a snapshot that is taken now.
-fn is_same(alloc: Global, core: &mut Core) -> bool {
-    match core.snapshot(alloc) {
-        Ok(before) => is_same_after(alloc, core, &before),
         Err(_) => false,
     }
 }

@@ -67,15 +67,6 @@ pub(crate) enum Step {
     ByHand,
 }
 
-/// The calls that the row's first method makes.
-fn calls_of(alloc: Global, row: &ClassRow) -> Result<Vec<CallRow>, AllocError> {
-    let mut calls = Vec::new(alloc);
-    for _ in 0..row.times {
-        calls.extend_from_slice(row.calls)?;
-    }
-    Ok(calls)
-}
-
 /// What is read of the row's class file, with these calls.
 fn file_with(alloc: Global, row: &ClassRow, calls: &[CallRow]) -> Option<ClassFile> {
     match row.superclass {
@@ -92,17 +83,14 @@ fn file_with(alloc: Global, row: &ClassRow, calls: &[CallRow]) -> Option<ClassFi
     }
 }
 
-/// What is read of the row's class file.
-fn file(alloc: Global, row: &ClassRow) -> Option<ClassFile> {
-    match calls_of(alloc, row) {
-        Ok(calls) => file_with(alloc, row, &calls),
-        Err(_) => None,
-    }
-}
-
 /// The definition of the class.
 fn definition(alloc: Global, loader: u32, class: Class) -> Result<Event, AllocError> {
-    match file(alloc, row_of(class)) {
+    let row = row_of(class);
+    let mut calls = Vec::new(alloc);
+    for _ in 0..row.times {
+        calls.extend_from_slice(row.calls)?;
+    }
+    match file_with(alloc, row, &calls) {
         Some(file) => Ok(Event::Define(LoaderId::new(loader), file)),
         None => Err(AllocError),
     }
@@ -133,15 +121,6 @@ fn guard_of_methods(
     guard(alloc, point, method(first), method(fallback))
 }
 
-/// So many guards, each the first part of the next one, round the method.
-fn firsts(alloc: Global, guards: u32, point: u32, at: &MethodAt) -> Result<Target, AllocError> {
-    let mut target = method(at);
-    for _ in 0..guards {
-        target = guard(alloc, point, target, method(at))?;
-    }
-    Ok(target)
-}
-
 /// The target of this shape.
 fn target(alloc: Global, shape: &Shape) -> Result<Target, AllocError> {
     match shape {
@@ -155,7 +134,13 @@ fn target(alloc: Global, shape: &Shape) -> Result<Target, AllocError> {
             let within = guard_of_methods(alloc, *inner, first, fallback)?;
             guard(alloc, *outer, within, method(behind))
         }
-        Shape::Firsts(guards, point, at) => firsts(alloc, *guards, *point, at),
+        Shape::Firsts(guards, point, at) => {
+            let mut target = method(at);
+            for _ in 0..*guards {
+                target = guard(alloc, *point, target, method(at))?;
+            }
+            Ok(target)
+        }
         Shape::Invoker(site) => Ok(Target::invoker(CallSiteId::new(*site))),
         Shape::InvokerOr(point, site, fallback) => {
             let first = Target::invoker(CallSiteId::new(*site));
@@ -175,12 +160,6 @@ fn call_site(
     Ok(Event::NewCallSite(kind, ty, target(alloc, shape)?))
 }
 
-/// Another target for the call site.
-fn retarget(alloc: Global, site: u32, shape: &Shape) -> Result<Event, AllocError> {
-    let target = target(alloc, shape)?;
-    Ok(Event::SetTarget(CallSiteId::new(site), target))
-}
-
 /// The invalidation of these switch points.
 fn invalidation(alloc: Global, numbers: &[u32]) -> Result<Event, AllocError> {
     let mut points = Vec::new(alloc);
@@ -188,21 +167,6 @@ fn invalidation(alloc: Global, numbers: &[u32]) -> Result<Event, AllocError> {
         points.push(SwitchId::new(*number))?;
     }
     Ok(Event::Invalidate(Seq::of(points)))
-}
-
-/// Loader 1 finds the class of this name that loader 0 finds.
-fn delegation(alloc: Global, name: &str) -> Result<Event, AllocError> {
-    let name = named(alloc, name)?;
-    Ok(Event::Delegate(LoaderId::new(1), name, LoaderId::new(0)))
-}
-
-/// These sites.
-fn numbered(alloc: Global, numbers: &[u32]) -> Result<Vec<SiteNo>, AllocError> {
-    let mut sites = Vec::new(alloc);
-    for number in numbers {
-        sites.push(SiteNo::new(*number))?;
-    }
-    Ok(sites)
 }
 
 /// These sites, each with the value.
@@ -224,15 +188,12 @@ fn install_each(alloc: Global, numbers: &[u32], link: Link) -> Result<Event, All
     Ok(Event::Install(Seq::of(rows)))
 }
 
-/// The install of a megamorphic link at site 0, so many times.
-fn install_again(alloc: Global, count: usize) -> Result<Event, AllocError> {
-    let sites = vec![in alloc; 0u32; count]?;
-    install_each(alloc, &sites, Link::Mega)
-}
-
 /// The install of the links that a preparation gives the sites now, or of links that they haven't, where it gives none.
 fn install(alloc: Global, core: &Core, numbers: &[u32]) -> Result<Event, AllocError> {
-    let sites = numbered(alloc, numbers)?;
+    let mut sites = Vec::new(alloc);
+    for number in numbers {
+        sites.push(SiteNo::new(*number))?;
+    }
     match core.prepare(alloc, sites.as_slice()) {
         Ok(Prepared { serial: _, rows }) => Ok(Event::Install(rows)),
         Err(_) => install_each(alloc, numbers, Link::Mega),
@@ -263,17 +224,26 @@ pub(crate) fn event(alloc: Global, core: &Core, step: &Step) -> Result<Event, Al
             pc: *pc,
         })),
         Step::CallSite(kind, ty, shape) => call_site(alloc, *kind, ty, shape),
-        Step::Retarget(site, shape) => retarget(alloc, *site, shape),
+        Step::Retarget(site, shape) => {
+            let target = target(alloc, shape)?;
+            Ok(Event::SetTarget(CallSiteId::new(*site), target))
+        }
         Step::Point => Ok(Event::NewSwitch),
         Step::Invalidate(points) => invalidation(alloc, points),
         Step::Bind(site, call_site) => {
             Ok(Event::Bind(SiteNo::new(*site), CallSiteId::new(*call_site)))
         }
-        Step::Delegate(name) => delegation(alloc, name),
+        Step::Delegate(name) => {
+            let name = named(alloc, name)?;
+            Ok(Event::Delegate(LoaderId::new(1), name, LoaderId::new(0)))
+        }
         Step::Install(sites) => install(alloc, core, sites),
         Step::InstallOne(site) => install(alloc, core, &[*site]),
         Step::Wrong(sites) => install_each(alloc, sites, Link::Mega),
-        Step::WrongAgain(count) => install_again(alloc, *count),
+        Step::WrongAgain(count) => {
+            let sites = vec![in alloc; 0u32; *count]?;
+            install_each(alloc, &sites, Link::Mega)
+        }
         Step::ByHand => install_each(alloc, &[0], runs_first()),
     }
 }

@@ -9,7 +9,7 @@ use crate::work::Said::*;
 use crate::work::Way::*;
 use jl_core::Core;
 use jl_types::CallSiteKind::Mutable;
-use jl_types::{Event, Refusal, Reply, Work};
+use jl_types::{Event, Reply, Work};
 use std::alloc::{AllocError, Global};
 use std::process::Abort;
 
@@ -426,36 +426,24 @@ fn dropped_by(alloc: Global, reply: &Reply) -> Result<String, AllocError> {
     format!(in alloc; "{:?}", reply.dropped.as_slice())
 }
 
-/// How the answer prints: the sites that go, or the refusal.
-fn printed(alloc: Global, answer: Result<Reply, Refusal>) -> Result<String, AllocError> {
-    match answer {
-        Ok(reply) => dropped_by(alloc, &reply),
-        Err(refusal) => refused(alloc, &refusal),
-    }
-}
-
-/// What the event is answered that is planned and then committed.
-fn committed(alloc: Global, core: &mut Core, event: Event) -> Result<Reply, Refusal> {
-    match core.plan(alloc, event) {
-        Ok(plan) => Ok(core.commit(plan)),
-        Err(refusal) => Err(refusal),
-    }
-}
-
-/// How the event's plan prints, or its refusal. The plan is dropped.
-fn planned(alloc: Global, core: &mut Core, event: Event) -> Result<String, AllocError> {
-    match core.plan(alloc, event) {
-        Ok(plan) => dropped_by(alloc, plan.reply()),
-        Err(refusal) => refused(alloc, &refusal),
-    }
-}
-
-/// How it prints what the event is answered.
+/// How it prints what the event is answered: the sites that go, or the refusal.
 fn answer(alloc: Global, core: &mut Core, way: Way, event: Event) -> Result<String, AllocError> {
     match way {
-        Applied => printed(alloc, core.apply(alloc, event)),
-        Committed => printed(alloc, committed(alloc, core, event)),
-        Dropped => planned(alloc, core, event),
+        Applied => match core.apply(alloc, event) {
+            Ok(reply) => dropped_by(alloc, &reply),
+            Err(refusal) => refused(alloc, &refusal),
+        },
+        Committed => match core.plan(alloc, event) {
+            Ok(plan) => {
+                let reply = core.commit(plan);
+                dropped_by(alloc, &reply)
+            }
+            Err(refusal) => refused(alloc, &refusal),
+        },
+        Dropped => match core.plan(alloc, event) {
+            Ok(plan) => dropped_by(alloc, plan.reply()),
+            Err(refusal) => refused(alloc, &refusal),
+        },
     }
 }
 
@@ -530,21 +518,17 @@ fn takes_one_walk_or_evaluation(rt: HostRuntime) {
     );
 }
 
-/// How much work the plan of the event takes, be the event refused or not.
-fn work_of(alloc: Global, core: &mut Core, event: Event) -> u64 {
-    let mut work = Work::new();
-    match core.plan_counted(alloc, event, &mut work) {
-        Ok(plan) => plan.work(),
-        Err(_) => work.ticks(),
-    }
-}
-
-/// Whether the plan of the step takes so much work, and leaves what the last accepted event took, which is none.
+/// Whether the plan of the step takes so much work, be it refused or not, and leaves what the last accepted event took, which is none.
 fn is_planned(alloc: Global, core: &mut Core, step: &Step, work: u64) -> bool {
-    match event(alloc, core, step) {
-        Ok(event) => work_of(alloc, core, event) == work && core.last_work() == 0,
-        Err(_) => false,
-    }
+    let Ok(event) = event(alloc, core, step) else {
+        return false;
+    };
+    let mut counted = Work::new();
+    let taken = match core.plan_counted(alloc, event, &mut counted) {
+        Ok(plan) => plan.work(),
+        Err(_) => counted.ticks(),
+    };
+    taken == work && core.last_work() == 0
 }
 
 /// The first step whose plan takes other work, if there is one.
