@@ -11,7 +11,7 @@
 use crate::serve::Desk;
 use crate::told::{number_or, tell};
 use jl_names::Seq;
-use jl_relink::{Prepared, Snapshot, prepare};
+use jl_relink::{Prepared, prepare};
 use jl_server::{Caller, LinkServer, Memo, Name};
 use jl_types::{Answer, ClassId, Event, Fast, Link, Recv, SiteNo};
 use rows_threads::{Round, at_once};
@@ -75,14 +75,6 @@ fn below(seed: &mut u32, limit: u32) -> u32 {
 fn low(seed: &mut u32, limit: u32) -> u32 {
     let most = below(seed, limit);
     below(seed, most.wrapping_add(1))
-}
-
-/// The site and the receiver's class of a call, of so many.
-fn draw(seed: &mut u32, sites: u32, classes: u32) -> (SiteNo, ClassId) {
-    let site = low(seed, sites);
-    let most = below(seed, classes);
-    let class = low(seed, most.wrapping_add(1));
-    (SiteNo::new(site), ClassId::new(FIRST.wrapping_add(class)))
 }
 
 /// How far the next call's site is, of so many.
@@ -221,22 +213,14 @@ impl<'a, K: Name, R: Wait, S: Wait + Drop> Common<'a, K, R, S> {
         let mut seed = 1u32;
         let mut answers = 0u64;
         for _ in 0..self.calls {
-            let (site, class) = draw(&mut seed, self.sites, classes);
-            if self.is_answered(job, site, class) {
+            let site = SiteNo::new(low(&mut seed, self.sites));
+            let most = below(&mut seed, classes);
+            let class = FIRST.wrapping_add(low(&mut seed, most.wrapping_add(1)));
+            if self.is_answered(job, site, ClassId::new(class)) {
                 answers = answers.wrapping_add(1);
             }
         }
         answers
-    }
-
-    /// The calls of one thread. Counts the answers.
-    fn calls(&self, job: &mut Job<K>) -> u64 {
-        match self.kind {
-            Kind::Null => null_calls(&mut job.caller, self.sites, self.calls),
-            Kind::Together => calls_together(&mut job.caller, self.sites, self.calls),
-            Kind::Table => self.drawn_calls(job, 8),
-            _ => self.drawn_calls(job, 64),
-        }
     }
 
     /// Installs of the last site until no thread calls. Counts them.
@@ -266,23 +250,20 @@ impl<'a, K: Name, R: Wait, S: Wait + Drop> Round<Job<K>> for Common<'a, K, R, S>
             let events = self.write_on(&mut job.caller);
             self.events.store(events, Ordering::SeqCst);
         } else {
-            let answers = self.calls(job);
+            let answers = match self.kind {
+                Kind::Null => null_calls(&mut job.caller, self.sites, self.calls),
+                Kind::Together => calls_together(&mut job.caller, self.sites, self.calls),
+                Kind::Table => self.drawn_calls(job, 8),
+                _ => self.drawn_calls(job, 64),
+            };
             self.answers.fetch_add(answers, Ordering::SeqCst);
             self.busy.fetch_sub(1, Ordering::SeqCst);
         }
     }
 }
 
-/// The site's link from scratch.
-fn prepared(alloc: Global, snapshot: &Snapshot, site: SiteNo) -> Option<Seq<(SiteNo, Link)>> {
-    match prepare(alloc, snapshot, [site].as_slice()) {
-        Ok(Prepared { serial: _, rows }) => Some(rows),
-        Err(_) => None,
-    }
-}
-
-/// The same in a snapshot that is let go.
-fn prepared_now<K: Name, R: Wait, S: Wait + Drop>(
+/// The site's link from scratch, in a snapshot that is let go.
+fn prepared<K: Name, R: Wait, S: Wait + Drop>(
     rt: &R,
     alloc: Global,
     server: &LinkServer<K, S>,
@@ -290,7 +271,10 @@ fn prepared_now<K: Name, R: Wait, S: Wait + Drop>(
     site: u32,
 ) -> Option<Seq<(SiteNo, Link)>> {
     match &caller.snapshot(rt, alloc, server) {
-        Ok((snapshot, _seen)) => prepared(alloc, snapshot, SiteNo::new(site)),
+        Ok((snapshot, _seen)) => match prepare(alloc, snapshot, [SiteNo::new(site)].as_slice()) {
+            Ok(Prepared { serial: _, rows }) => Some(rows),
+            Err(_) => None,
+        },
         Err(_) => None,
     }
 }
@@ -303,7 +287,7 @@ fn link<K: Name, R: Wait, S: Wait + Drop>(
     caller: &mut Caller<K>,
     site: u32,
 ) {
-    if let Some(rows) = prepared_now(rt, alloc, server, caller, site) {
+    if let Some(rows) = prepared(rt, alloc, server, caller, site) {
         let _ = caller.apply(rt, alloc, server, Event::Install(rows));
     }
 }

@@ -6,7 +6,7 @@ use crate::marks::{SITES, add_core};
 use crate::watch::Watched;
 use jl_core::Core;
 use jl_relink::{Prepared, Snapshot};
-use jl_types::{ClassId, Event, PrepareFault, Recv, Refusal, Reply, SiteNo};
+use jl_types::{ClassId, PrepareFault, Recv, Refusal, Reply, SiteNo};
 use std::alloc::AllocError;
 use std::io;
 
@@ -90,22 +90,6 @@ pub(crate) fn told_prepared(
     }
 }
 
-/// Applies the event.
-fn apply(rt: &HostRuntime, core: &mut Core, called: Called, event: Event) -> io::Result<bool> {
-    match &core.apply(rt.alloc(), event) {
-        Ok(reply) => told_reply(rt, called, reply),
-        Err(refusal) => told_refusal(rt, called, refusal),
-    }
-}
-
-/// Plans the event, and drops the plan. It gives whether memory lacked.
-fn plan(rt: &HostRuntime, core: &mut Core, event: Event) -> bool {
-    match &core.plan(rt.alloc(), event) {
-        Err(Refusal::Memory) => true,
-        _ => false,
-    }
-}
-
 /// Applies the event of the change.
 fn apply_change(
     rt: &HostRuntime,
@@ -114,7 +98,10 @@ fn apply_change(
     change: &Change,
 ) -> io::Result<bool> {
     let event = event(rt.alloc(), change)?;
-    apply(rt, core, called, event)
+    match &core.apply(rt.alloc(), event) {
+        Ok(reply) => told_reply(rt, called, reply),
+        Err(refusal) => told_refusal(rt, called, refusal),
+    }
 }
 
 /// The same after a plan of it was dropped.
@@ -125,7 +112,7 @@ fn apply_planned(
     change: &Change,
 ) -> io::Result<bool> {
     let planned = event(rt.alloc(), change)?;
-    if plan(rt, core, planned) {
+    if let Err(Refusal::Memory) = &core.plan(rt.alloc(), planned) {
         return Ok(true);
     }
     apply_change(rt, core, called, change)
@@ -146,28 +133,6 @@ fn apply_shared(
         *held = Some(snapshot);
     }
     Ok(lacks)
-}
-
-/// The installed links.
-fn links(rt: &HostRuntime, core: &Core, called: Called) -> io::Result<bool> {
-    match &core.list_links(rt.alloc()) {
-        Ok(links) => told(rt, called, links),
-        Err(_) => Ok(true),
-    }
-}
-
-/// A snapshot.
-fn snapshot(rt: &HostRuntime, core: &Core, called: Called) -> io::Result<bool> {
-    match &core.snapshot(rt.alloc()) {
-        Ok(snapshot) => told(rt, called, &("events", snapshot.serial())),
-        Err(_) => Ok(true),
-    }
-}
-
-/// A preparation of site 0.
-fn prepare(rt: &HostRuntime, core: &Core, called: Called) -> io::Result<bool> {
-    let sites = [SiteNo::new(0)];
-    told_prepared(rt, called, &core.prepare(rt.alloc(), sites.as_slice()))
 }
 
 impl Watched for OnCore {
@@ -194,9 +159,18 @@ impl Watched for OnCore {
 
     fn ask(&mut self, rt: &HostRuntime, called: Called, ask: &Ask) -> io::Result<bool> {
         match ask {
-            Ask::Links => links(rt, &self.core, called),
-            Ask::Snapshot => snapshot(rt, &self.core, called),
-            Ask::Prepare => prepare(rt, &self.core, called),
+            Ask::Links => match &self.core.list_links(rt.alloc()) {
+                Ok(links) => told(rt, called, links),
+                Err(_) => Ok(true),
+            },
+            Ask::Snapshot => match &self.core.snapshot(rt.alloc()) {
+                Ok(snapshot) => told(rt, called, &("events", snapshot.serial())),
+                Err(_) => Ok(true),
+            },
+            Ask::Prepare => {
+                let sites = [SiteNo::new(0)];
+                told_prepared(rt, called, &self.core.prepare(rt.alloc(), sites.as_slice()))
+            }
             Ask::Call(class) => {
                 told(
                     rt,

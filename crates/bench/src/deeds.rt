@@ -128,21 +128,6 @@ pub(crate) fn method(at: MethodAt) -> MethodId {
     }
 }
 
-/// The definition of the file's class by the loader. Want of memory is one error, and another one of the input all else.
-fn definition(alloc: Global, loader: u32, bytes: &[u8]) -> io::Result<Event> {
-    match read_class(alloc, bytes) {
-        Ok(file) => Ok(Event::Define(LoaderId::new(loader), file)),
-        Err(ClassFault::Memory) => Err(ErrorKind::OutOfMemory.into()),
-        Err(_) => Err(ErrorKind::InvalidData.into()),
-    }
-}
-
-/// The delegation of the name by loader 1 to loader 0.
-fn delegation(alloc: Global, name: &str) -> Result<Event, AllocError> {
-    let name = Name::copied(alloc, name.as_bytes())?;
-    Ok(Event::Delegate(LoaderId::new(1), name, LoaderId::new(0)))
-}
-
 /// A guard of two methods.
 pub(crate) fn guard(
     alloc: Global,
@@ -194,7 +179,10 @@ fn small_event(alloc: Global, change: &Change) -> Result<Event, AllocError> {
     match change {
         Change::Define(..) | Change::Switch => Ok(Event::NewSwitch),
         Change::Loader => Ok(Event::NewLoader),
-        Change::Delegate(name) => delegation(alloc, name),
+        Change::Delegate(name) => {
+            let name = Name::copied(alloc, name.as_bytes())?;
+            Ok(Event::Delegate(LoaderId::new(1), name, LoaderId::new(0)))
+        }
         Change::Retire => Ok(Event::Retire(LoaderId::new(1))),
         Change::Request(at) => Ok(request(*at)),
         Change::CallSite(point, first, fallback) => {
@@ -218,7 +206,11 @@ fn small_event(alloc: Global, change: &Change) -> Result<Event, AllocError> {
 /// Want of memory (ErrorKind::OutOfMemory), and a file that isn't read otherwise.
 pub(crate) fn event(alloc: Global, change: &Change) -> io::Result<Event> {
     match change {
-        Change::Define(loader, bytes) => definition(alloc, *loader, bytes),
+        Change::Define(loader, bytes) => match read_class(alloc, bytes) {
+            Ok(file) => Ok(Event::Define(LoaderId::new(*loader), file)),
+            Err(ClassFault::Memory) => Err(ErrorKind::OutOfMemory.into()),
+            Err(_) => Err(ErrorKind::InvalidData.into()),
+        },
         other => Ok(small_event(alloc, other)?),
     }
 }

@@ -10,7 +10,7 @@ use crate::marks::SITES;
 use jl_core::Core;
 use jl_relink::{Snapshot, prepare_wide};
 use jl_server::{Name, Parts};
-use jl_types::{Link, PrepareFault, SiteNo};
+use jl_types::{PrepareFault, SiteNo};
 use std::io::{self, ErrorKind};
 use std::marker::Brand;
 use std::sync::Wait;
@@ -80,22 +80,17 @@ fn apply_all(rt: &HostRuntime, core: &mut Core) -> io::Result<()> {
     Ok(())
 }
 
-/// Prints the link of the first site.
-fn told_first(rt: &HostRuntime, rows: &[(SiteNo, Link)]) -> io::Result<bool> {
-    match rows.first() {
-        Some((site, link)) => told_link(rt, WIDE, *site, link),
-        None => Ok(false),
-    }
-}
-
-/// Prepares site 0, and gives whether memory lacked.
+/// Prepares site 0 and prints its link, and gives whether memory lacked.
 fn prepare(
     rt: &HostRuntime,
     handle: &(impl Threads + Sync),
     snapshot: &Snapshot,
 ) -> io::Result<bool> {
     match &prepare_wide(handle, rt.alloc(), snapshot, [SiteNo::new(0)].as_slice()) {
-        Ok(prepared) => told_first(rt, prepared.rows.as_slice()),
+        Ok(prepared) => match prepared.rows.as_slice().first() {
+            Some((site, link)) => told_link(rt, WIDE, *site, link),
+            None => Ok(false),
+        },
         Err(PrepareFault::Memory) => Ok(true),
         Err(fault) => told(rt, WIDE, fault),
     }

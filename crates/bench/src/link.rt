@@ -52,22 +52,7 @@ fn add_rows(
     }
 }
 
-/// Adds the links of all these sites, or else of each alone that has one.
-fn add_batch(
-    alloc: Global,
-    core: &Core,
-    sites: &[SiteNo],
-    batches: &mut Vec<Rows>,
-) -> Result<(), AllocError> {
-    if !add_rows(alloc, core, sites, batches)? {
-        for site in sites {
-            let _has_link = add_rows(alloc, core, &[*site], batches)?;
-        }
-    }
-    Ok(())
-}
-
-/// Adds the links of these sites, 256 at a time.
+/// Adds the links of these sites, 256 at a time, or where one of them has none, of each alone that has one.
 fn add_all(
     alloc: Global,
     core: &Core,
@@ -75,29 +60,29 @@ fn add_all(
     batches: &mut Vec<Rows>,
 ) -> Result<(), AllocError> {
     for batch in sites.chunks(BATCH) {
-        add_batch(alloc, core, batch, batches)?;
+        if !add_rows(alloc, core, batch, batches)? {
+            for site in batch {
+                let _has_link = add_rows(alloc, core, &[*site], batches)?;
+            }
+        }
     }
     Ok(())
 }
 
-/// The number of the link's kind: a fault, one method, one outcome, a table, too many classes for one.
-fn kind_of(link: &Link) -> usize {
-    match link {
-        Link::Fault(_) => 0,
-        Link::Plain(_) => 1,
-        Link::Direct(_) => 2,
-        Link::Table(_, _) => 3,
-        Link::Mega => 4,
-    }
-}
-
-/// How many links there are of each kind.
+/// How many links there are of each kind: faults, one method, one outcome, a table, too many classes for one.
 fn kinds_of(batches: &[Rows]) -> [u32; 5] {
     let mut kinds = [0u32; 5];
     for rows in batches {
         for row in rows.as_slice() {
-            if let Some(kind) = kinds.get_mut(kind_of(&row.1)) {
-                *kind = kind.saturating_add(1);
+            let kind = match &row.1 {
+                Link::Fault(_) => 0,
+                Link::Plain(_) => 1,
+                Link::Direct(_) => 2,
+                Link::Table(_, _) => 3,
+                Link::Mega => 4usize,
+            };
+            if let Some(count) = kinds.get_mut(kind) {
+                *count = count.saturating_add(1);
             }
         }
     }
@@ -113,16 +98,6 @@ fn install_each(alloc: Global, core: &mut Core, batches: Vec<Rows>) -> u64 {
         }
     }
     installed
-}
-
-/// How many calls of these sites are answered, each on null.
-fn call_each(core: &Core, sites: &[SiteNo]) -> u64 {
-    let mut answered = 0u64;
-    for site in sites {
-        let _answer = core.call(*site, Recv::Null);
-        answered = answered.saturating_add(1);
-    }
-    answered
 }
 
 /// The sites of the numbers below the count.
@@ -160,7 +135,10 @@ fn time_all(rt: &HostRuntime, core: &mut Core, sites: &[SiteNo]) -> io::Result<(
     }
     time_installs(rt, core, sites)?;
     let start = Instant::now(rt)?;
-    tell(rt, "calls on null", call_each(core, sites), &start)
+    for site in sites {
+        let _answer = core.call(*site, Recv::Null);
+    }
+    tell(rt, "calls on null", sites.len() as u64, &start)
 }
 
 /// Measures all of it.

@@ -53,17 +53,12 @@ fn add_site(text: &mut String, world: &World, number: u32) -> Result<(), AllocEr
     add(text, &world.sites.is_valid(point))
 }
 
-/// Adds the counts of the world.
-fn add_counts(text: &mut String, world: &World) -> Result<(), AllocError> {
+/// Adds the world.
+pub(crate) fn add_world(text: &mut String, world: &World) -> Result<(), AllocError> {
     add(text, &world.classes.class_count())?;
     add(text, &world.site_count())?;
     add(text, &world.sites.call_site_count())?;
-    add(text, &world.sites.switch_count())
-}
-
-/// Adds the world.
-pub(crate) fn add_world(text: &mut String, world: &World) -> Result<(), AllocError> {
-    add_counts(text, world)?;
+    add(text, &world.sites.switch_count())?;
     let classes = world.classes.count_in_order() as u32;
     for number in 0..classes {
         add_class(text, world, ClassId::new(number), classes)?;

@@ -10,16 +10,11 @@ use std::time::Instant;
 /// How often all class files are read.
 const TIMES: u32 = 11;
 
-/// Whether the class file is read.
-fn is_read(alloc: Global, bytes: &[u8]) -> bool {
-    read_class(alloc, bytes).is_ok()
-}
-
 /// How many of the class files are read.
 pub(crate) fn read_each(alloc: Global, files: &[Vec<u8>]) -> u64 {
     let mut read: u64 = 0;
     for bytes in files {
-        if is_read(alloc, bytes) {
+        if read_class(alloc, bytes).is_ok() {
             read = read.saturating_add(1);
         }
     }

@@ -198,22 +198,16 @@ impl Owned {
     fn change_targets(&mut self, alloc: Global) -> Result<(), Refusal> {
         if let Made::Switch(point) = self.apply(alloc, Event::NewSwitch)? {
             self.held.hold_point(point)?;
-            self.add_call_site(alloc, point)?;
+            let target = self.guard(alloc, point)?;
+            if let Made::CallSite(site) = self.apply(alloc, call_site(alloc, target)?)? {
+                self.held.hold_call_site(site)?;
+            }
             for _ in 0..TARGETS {
                 self.set_target(alloc, point)?;
             }
         }
         if let Some(point) = self.held.ending_point() {
             let _made = self.apply(alloc, invalidation(alloc, point.number())?)?;
-        }
-        Ok(())
-    }
-
-    /// A new call site with a guard by the switch point.
-    fn add_call_site(&mut self, alloc: Global, point: SwitchId) -> Result<(), Refusal> {
-        let target = self.guard(alloc, point)?;
-        if let Made::CallSite(site) = self.apply(alloc, call_site(alloc, target)?)? {
-            self.held.hold_call_site(site)?;
         }
         Ok(())
     }

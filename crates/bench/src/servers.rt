@@ -7,7 +7,7 @@ use crate::marks::{add, add_world};
 use crate::watch::Watched;
 use jl_relink::{Snapshot, prepare};
 use jl_server::{Caller, LinkServer, Name};
-use jl_types::{ClassId, Event, Recv, SiteNo};
+use jl_types::{ClassId, Recv, SiteNo};
 use std::io::{self, ErrorKind};
 use std::sync::Wait;
 
@@ -58,17 +58,6 @@ impl<K: Name, S: Wait + Drop> OnServer<K, S> {
         }
     }
 
-    /// Applies the event.
-    fn apply_event(&mut self, rt: &HostRuntime, called: Called, event: Event) -> io::Result<bool> {
-        match &self
-            .caller
-            .apply(&self.handle, rt.alloc(), &self.server, event)
-        {
-            Ok(receipt) => told_reply(rt, called, &receipt.reply),
-            Err(denied) => told_refusal(rt, called, &denied.refusal),
-        }
-    }
-
     /// Applies the event of the change.
     fn apply_change(
         &mut self,
@@ -77,7 +66,13 @@ impl<K: Name, S: Wait + Drop> OnServer<K, S> {
         change: &Change,
     ) -> io::Result<bool> {
         let event = event(rt.alloc(), change)?;
-        self.apply_event(rt, called, event)
+        match &self
+            .caller
+            .apply(&self.handle, rt.alloc(), &self.server, event)
+        {
+            Ok(receipt) => told_reply(rt, called, &receipt.reply),
+            Err(denied) => told_refusal(rt, called, &denied.refusal),
+        }
     }
 
     /// The same while a snapshot holds the world and another one the world before, in whose place the first comes where the event is
@@ -98,25 +93,6 @@ impl<K: Name, S: Wait + Drop> OnServer<K, S> {
         Ok(lacks)
     }
 
-    /// The installed links.
-    fn links(&mut self, rt: &HostRuntime, called: Called) -> io::Result<bool> {
-        match &self
-            .server
-            .links(&self.handle, rt.alloc(), &mut self.caller)
-        {
-            Ok(list) => told(rt, called, &list.rows.as_slice()),
-            Err(_) => Ok(true),
-        }
-    }
-
-    /// A snapshot.
-    fn snapshot(&mut self, rt: &HostRuntime, called: Called) -> io::Result<bool> {
-        match &self.caller.snapshot(&self.handle, rt.alloc(), &self.server) {
-            Ok((snapshot, _seen)) => told(rt, called, &("events", snapshot.serial())),
-            Err(_) => Ok(true),
-        }
-    }
-
     /// A preparation of site 0 in a snapshot.
     fn prepare(&mut self, rt: &HostRuntime, called: Called) -> io::Result<bool> {
         let sites = [SiteNo::new(0)];
@@ -128,37 +104,27 @@ impl<K: Name, S: Wait + Drop> OnServer<K, S> {
         }
     }
 
-    /// Adds the installed links, and gives whether memory lacked.
-    fn add_links(&mut self, rt: &HostRuntime, text: &mut String) -> io::Result<bool> {
-        match &self
-            .server
-            .links(&self.handle, rt.alloc(), &mut self.caller)
-        {
-            Ok(list) => {
-                add(text, list)?;
-                Ok(false)
-            }
-            Err(_) => Ok(true),
-        }
-    }
-
-    /// Adds the world as a snapshot has it, and gives whether memory lacked.
-    fn add_snapshot(&mut self, rt: &HostRuntime, text: &mut String) -> io::Result<bool> {
-        match &self.caller.snapshot(&self.handle, rt.alloc(), &self.server) {
-            Ok((snapshot, seen)) => {
-                add(text, &(snapshot.serial(), seen.serial()))?;
-                add_world(text, snapshot.world())?;
-                Ok(false)
-            }
-            Err(_) => Ok(true),
-        }
-    }
-
-    /// Adds what is looked at, and gives whether memory lacked.
+    /// Adds what is looked at: the installed links, or the world as a snapshot has it. Gives whether memory lacked.
     fn look(&mut self, rt: &HostRuntime, look: Look, text: &mut String) -> io::Result<bool> {
         match look {
-            Look::Links => self.add_links(rt, text),
-            Look::World => self.add_snapshot(rt, text),
+            Look::Links => match &self
+                .server
+                .links(&self.handle, rt.alloc(), &mut self.caller)
+            {
+                Ok(list) => {
+                    add(text, list)?;
+                    Ok(false)
+                }
+                Err(_) => Ok(true),
+            },
+            Look::World => match &self.caller.snapshot(&self.handle, rt.alloc(), &self.server) {
+                Ok((snapshot, seen)) => {
+                    add(text, &(snapshot.serial(), seen.serial()))?;
+                    add_world(text, snapshot.world())?;
+                    Ok(false)
+                }
+                Err(_) => Ok(true),
+            },
         }
     }
 
@@ -215,8 +181,17 @@ impl<K: Name, S: Wait + Drop> Watched for OnServer<K, S> {
 
     fn ask(&mut self, rt: &HostRuntime, called: Called, ask: &Ask) -> io::Result<bool> {
         match ask {
-            Ask::Links => self.links(rt, called),
-            Ask::Snapshot => self.snapshot(rt, called),
+            Ask::Links => match &self
+                .server
+                .links(&self.handle, rt.alloc(), &mut self.caller)
+            {
+                Ok(list) => told(rt, called, &list.rows.as_slice()),
+                Err(_) => Ok(true),
+            },
+            Ask::Snapshot => match &self.caller.snapshot(&self.handle, rt.alloc(), &self.server) {
+                Ok((snapshot, _seen)) => told(rt, called, &("events", snapshot.serial())),
+                Err(_) => Ok(true),
+            },
             Ask::Prepare => self.prepare(rt, called),
             Ask::Call(class) => {
                 told(

@@ -12,21 +12,7 @@ use std::time::Instant;
 /// How many classes are timed at a time, where no word says it.
 const BATCH: u32 = 200;
 
-/// Holds one snapshot more, and lets the first go where there are more than so many.
-fn hold(
-    alloc: Global,
-    core: &Core,
-    held: &mut Vec<Snapshot>,
-    most: usize,
-) -> Result<(), AllocError> {
-    held.push(core.snapshot(alloc)?)?;
-    if held.len() > most && !held.is_empty() {
-        let _first = held.remove(0);
-    }
-    Ok(())
-}
-
-/// How many of the classes are defined, with a snapshot after each, of which so many are held.
+/// How many of the classes are defined, with a snapshot after each, of which so many are held: where there are more, the first goes.
 fn define_between(
     alloc: Global,
     core: &mut Core,
@@ -37,7 +23,10 @@ fn define_between(
     let mut defined = 0u64;
     for file in files.chunks(1) {
         defined = defined.saturating_add(define_each(alloc, core, file));
-        hold(alloc, core, held, most)?;
+        held.push(core.snapshot(alloc)?)?;
+        if held.len() > most && !held.is_empty() {
+            let _first = held.remove(0);
+        }
     }
     Ok(defined)
 }

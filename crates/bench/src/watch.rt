@@ -55,25 +55,7 @@ impl Marks {
     }
 }
 
-/// Prints that memory lacked, and whether the state is as before, and asks once more.
-fn ask_again<W: Watched>(
-    rt: &HostRuntime,
-    watched: &mut W,
-    marks: &mut Marks,
-    called: Called,
-    ask: &Ask,
-) -> io::Result<()> {
-    tell_memory(rt, called)?;
-    marks.after.clear();
-    watched.mark(rt, &mut marks.after)?;
-    tell_state(rt, called, marks.before == marks.after)?;
-    if watched.ask(rt, called, ask)? {
-        return Err(ErrorKind::OutOfMemory.into());
-    }
-    Ok(())
-}
-
-/// Asks, and once more where memory lacked.
+/// Asks. Where memory lacked, it prints that, and whether the state is as before, and asks once more.
 fn watch<W: Watched>(
     rt: &HostRuntime,
     watched: &mut W,
@@ -88,7 +70,13 @@ fn watch<W: Watched>(
     marks.before.clear();
     watched.mark(rt, &mut marks.before)?;
     if watched.ask(rt, called, ask)? {
-        ask_again(rt, watched, marks, called, ask)?;
+        tell_memory(rt, called)?;
+        marks.after.clear();
+        watched.mark(rt, &mut marks.after)?;
+        tell_state(rt, called, marks.before == marks.after)?;
+        if watched.ask(rt, called, ask)? {
+            return Err(ErrorKind::OutOfMemory.into());
+        }
     }
     Ok(())
 }

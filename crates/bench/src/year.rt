@@ -35,8 +35,12 @@ fn tell_end(rt: &HostRuntime, owned: &Owned, refusal: &Refusal) -> io::Result<bo
     Ok(false)
 }
 
-/// Times a renewal, and gives whether the core was renewed.
-fn time_renewal(rt: &HostRuntime, owned: &mut Owned) -> io::Result<bool> {
+/// Renews the core where that is due, and times it. Gives whether there is room for a round more.
+fn make_room(rt: &HostRuntime, owned: &mut Owned, entries: usize) -> io::Result<bool> {
+    let is_due = owned.is_used_up() || owned.core.log().len() >= entries;
+    if entries == 0 || !is_due {
+        return Ok(true);
+    }
     let events = owned.events;
     let before = owned.core.log().len();
     let start = Instant::now(rt)?;
@@ -50,15 +54,6 @@ fn time_renewal(rt: &HostRuntime, owned: &mut Owned) -> io::Result<bool> {
         "renewed behind {events} events: entries {before}, then {after}, in {micros} us"
     )?;
     Ok(true)
-}
-
-/// Renews the core where that is due, and gives whether there is room for a round more.
-fn make_room(rt: &HostRuntime, owned: &mut Owned, entries: usize) -> io::Result<bool> {
-    let is_due = owned.is_used_up() || owned.core.log().len() >= entries;
-    if entries == 0 || !is_due {
-        return Ok(true);
-    }
-    time_renewal(rt, owned)
 }
 
 /// One round, and a line where it is due. Gives whether it was accepted.
