@@ -49,23 +49,6 @@ fn is_refused<K: Name, R: Wait, S: Wait + Drop>(
     }
 }
 
-/// Whether the caller's snapshot comes after so many events, which it has seen.
-fn takes_snapshot<K: Name, R: Wait, S: Wait + Drop>(
-    shared: &Shared<'_, K, R, S>,
-    caller: &mut Caller<K>,
-    serial: u64,
-) -> bool {
-    match shared.snapshot(caller) {
-        Some(snapshot) => snapshot.serial() == serial && caller.seen().serial() == serial,
-        None => false,
-    }
-}
-
-/// Tells what the caller has seen.
-fn tells<K: Name, R: Wait, S: Wait + Drop>(shared: &Shared<'_, K, R, S>, caller: &Caller<K>) {
-    *shared.told.lock(shared.rt) = Some(caller.seen().again());
-}
-
 /// The caller learns what is told. It waits until there is something.
 fn hears<K: Name, R: Wait, S: Wait + Drop>(shared: &Shared<'_, K, R, S>, caller: &mut Caller<K>) {
     for _ in shared.rt.forever() {
@@ -95,30 +78,23 @@ pub(crate) fn acts<K: Name, R: Wait, S: Wait + Drop>(
         Act::Calls(site, class, says) => worker.call(*site, *class) == fast(*says),
         Act::CallsBoth(first, second) => calls_both(&mut worker.caller, *first, *second),
         Act::HasSeen(serial) => worker.caller.seen().serial() == *serial,
-        Act::TakesSnapshot(serial) => takes_snapshot(shared, &mut worker.caller, *serial),
+        Act::TakesSnapshot(serial) => match &shared.snapshot(&mut worker.caller) {
+            Some(snapshot) => {
+                snapshot.serial() == *serial && worker.caller.seen().serial() == *serial
+            }
+            None => false,
+        },
         Act::Lists(sites) => {
             let link = Link::Direct(Outcome::Run(method(1, 0)));
             shared.are_linked(&mut worker.caller, sites, &link)
         }
         Act::Tells => {
-            tells(shared, &worker.caller);
+            *shared.told.lock(shared.rt) = Some(worker.caller.seen().again());
             true
         }
         Act::Hears => {
             hears(shared, &mut worker.caller);
             true
         }
-    }
-}
-
-/// Acts one after another, each whether the one before was so or not.
-pub(crate) fn acts_all<K: Name, R: Wait, S: Wait + Drop>(
-    shared: &Shared<'_, K, R, S>,
-    worker: &mut Worker<K>,
-    all: &[Act],
-) {
-    for act in all {
-        let so = acts(shared, worker, act);
-        worker.expect(so);
     }
 }

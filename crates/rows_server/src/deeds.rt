@@ -3,7 +3,6 @@
 use crate::deeds::Class::*;
 use crate::deeds::Deed::*;
 use jl_class::ClassFile;
-use jl_names::Name;
 use jl_relink::Prepared;
 use jl_types::{
     CallSiteId, CallSiteKind, ClassId, Event, LoaderId, MethodId, Place, PrepareFault, SiteNo,
@@ -198,28 +197,11 @@ fn below(alloc: Global, number: u32, overrides: bool) -> Option<ClassFile> {
     }
 }
 
-/// The delegation of the class of this name.
-fn delegation(name: Result<Name, AllocError>) -> Option<Event> {
-    match name {
-        Ok(name) => Some(Event::Delegate(LoaderId::new(1), name, LoaderId::new(0))),
-        Err(_) => None,
-    }
-}
-
 /// The method of the class.
 pub(crate) fn method(class: u32, index: u16) -> MethodId {
     MethodId {
         class: ClassId::new(class),
         index,
-    }
-}
-
-/// A mutable call site of this type.
-fn call_site(ty: Result<Name, AllocError>) -> Option<Event> {
-    let target = Target::method(method(1, 1));
-    match ty {
-        Ok(ty) => Some(Event::NewCallSite(CallSiteKind::Mutable, ty, target)),
-        Err(_) => None,
     }
 }
 
@@ -229,13 +211,23 @@ pub(crate) fn event(alloc: Global, deed: &Deed) -> Option<Event> {
         Define(loader, class) => definition(*loader, file(alloc, *class)),
         Below(number, overrides) => definition(0, below(alloc, *number, *overrides)),
         Loader => Some(Event::NewLoader),
-        Delegate(class) => delegation(named(alloc, row_of(*class).0)),
+        Delegate(class) => match named(alloc, row_of(*class).0) {
+            Ok(name) => Some(Event::Delegate(LoaderId::new(1), name, LoaderId::new(0))),
+            Err(_) => None,
+        },
         Request(class, pc) => Some(Event::Request(Place {
             class: ClassId::new(*class),
             method: 0,
             pc: *pc,
         })),
-        CallSite => call_site(named(alloc, "()V")),
+        CallSite => match named(alloc, "()V") {
+            Ok(ty) => Some(Event::NewCallSite(
+                CallSiteKind::Mutable,
+                ty,
+                Target::method(method(1, 1)),
+            )),
+            Err(_) => None,
+        },
         Bind(number) => Some(Event::Bind(SiteNo::new(*number), CallSiteId::new(*number))),
         Retarget(number, index) => Some(Event::SetTarget(
             CallSiteId::new(*number),

@@ -303,32 +303,17 @@ impl<'a, K: Name, R: Wait, S: Wait + Drop> Gate for Turner<'a, K, R, S> {
     }
 }
 
-/// Whether the site of this number has a link.
-fn has_link(links: &[(SiteNo, Link)], number: u32) -> bool {
-    let mut has = false;
-    for link in links {
-        has = has || link.0.number() == number;
-    }
-    has
-}
-
 /// Whether each site of these numbers has a link.
 fn have_links(links: &[(SiteNo, Link)], numbers: &[u32]) -> bool {
     let mut all = true;
     for number in numbers {
-        all = all && has_link(links, *number);
+        let mut has = false;
+        for link in links {
+            has = has || link.0.number() == *number;
+        }
+        all = all && has;
     }
     all
-}
-
-/// Whether the job, which came to this, is of its kind, or stale where another one's thread retargets.
-fn is_of(farm: &Farm, job: usize, kind: Kind) -> bool {
-    match farm.jobs.get(job) {
-        Some((_sites, expected)) => {
-            kind == *expected || (kind == Stale && job > 0 && matches!(farm.turns, Turns::During))
-        }
-        None => false,
-    }
 }
 
 /// The bits of these sites.
@@ -359,14 +344,16 @@ fn heard<K: Name>(worker: &mut Worker<K>, job: &Job, outcome: JobOutcome<K>) -> 
     }
 }
 
-/// How many of the jobs were installed. There is to be one report for each job, in order, of its kind.
+/// How many of the jobs were installed. There is to be one report for each job, in order, of its kind, or stale where another one's thread
+/// retargets.
 fn installed<K: Name>(worker: &mut Worker<K>, farm: &Farm, reports: Vec<Report<K>>) -> u64 {
     let mut count = 0u64;
     worker.expect(reports.len() == farm.jobs.len());
     for (place, (report, job)) in reports.into_iter().zip(farm.jobs).enumerate() {
         worker.expect(report.job == place);
         let kind = heard(worker, job, report.outcome);
-        worker.expect(is_of(farm, place, kind));
+        let may_be_stale = place > 0 && matches!(farm.turns, Turns::During);
+        worker.expect(kind == job.1 || (kind == Stale && may_be_stale));
         if kind == Installed {
             count = count.saturating_add(1);
         }
@@ -382,12 +369,14 @@ fn jobs_of(alloc: Global, rows: &[Job]) -> Result<Vec<Seq<SiteNo>>, AllocError> 
     Ok(jobs)
 }
 
-/// The reports of the gate's farm on these jobs.
+/// The reports of the gate's farm.
 fn reports_on<K: Name + Send + Sync, R: Threads + Wait + Sync, S: Wait + Drop + Send + Sync>(
     gate: &Turner<'_, K, R, S>,
     crew: Vec<Caller<K>>,
-    jobs: Vec<Seq<SiteNo>>,
 ) -> Result<Vec<Report<K>>, FarmFault> {
+    let Ok(jobs) = jobs_of(gate.shared.alloc, gate.farm.jobs) else {
+        return Err(FarmFault::Memory);
+    };
     if crew.is_empty() || crew.len() > 16 || jobs.len() > 65_536 {
         return Err(FarmFault::NoThread);
     }
@@ -398,17 +387,6 @@ fn reports_on<K: Name + Send + Sync, R: Threads + Wait + Sync, S: Wait + Drop + 
         ..
     } = gate.shared;
     run(*rt, *alloc, *server, jobs, crew, gate)
-}
-
-/// The same on its own jobs.
-fn reports_of<K: Name + Send + Sync, R: Threads + Wait + Sync, S: Wait + Drop + Send + Sync>(
-    gate: &Turner<'_, K, R, S>,
-    crew: Vec<Caller<K>>,
-) -> Result<Vec<Report<K>>, FarmFault> {
-    match jobs_of(gate.shared.alloc, gate.farm.jobs) {
-        Ok(jobs) => reports_on(gate, crew, jobs),
-        Err(_) => Err(FarmFault::Memory),
-    }
 }
 
 /// So many of the callers, or all that there are, which have learnt what the first one has seen.
@@ -446,7 +424,7 @@ fn runs<K: Name + Send + Sync, R: Threads + Wait + Sync, S: Wait + Drop + Send +
         met: AtomicU64::new(0),
         gave_up: AtomicU64::new(0),
     };
-    let reports = reports_of(&gate, crew);
+    let reports = reports_on(&gate, crew);
     let mut second = gate.worker.lock(shared.rt);
     let turned = second.told.len();
     let so = match reports {
@@ -457,35 +435,8 @@ fn runs<K: Name + Send + Sync, R: Threads + Wait + Sync, S: Wait + Drop + Send +
     first.told.append(&mut second.told)
 }
 
-/// Whether the farm of this crew was as it says, on a server on which all that comes before is done. Of the other callers the first one
-/// is left.
-fn is_farm_of<K: Name + Send + Sync, R: Threads + Wait + Sync, S: Wait + Drop + Send + Sync>(
-    shared: &Shared<'_, K, R, S>,
-    workers: &mut Vec<Worker<K>>,
-    crew: Vec<Caller<K>>,
-    farm: &'static Farm,
-) -> bool {
-    match (workers.pop(), workers.first_mut()) {
-        (Some(second), Some(first)) => {
-            runs(shared, first, second, crew, farm).is_ok() && has_links(shared, first, farm)
-        }
-        _ => false,
-    }
-}
-
-/// Whether the sites have a link in the end that are to have one, where that is certain.
-fn has_links<K: Name, R: Wait, S: Wait + Drop>(
-    shared: &Shared<'_, K, R, S>,
-    worker: &mut Worker<K>,
-    farm: &Farm,
-) -> bool {
-    match farm.linked {
-        Some(sites) => { shared.are_linked(&mut worker.caller, sites, &Link::Plain(method(1, 1))) }
-        None => true,
-    }
-}
-
-/// The same of a crew of so many of the callers.
+/// Whether the farm of a crew of so many of the callers was as it says, on a server on which all that comes before is done. Of the other
+/// callers the first one is left.
 pub(crate) fn is_farm<
     K: Name + Send + Sync,
     R: Threads + Wait + Sync,
@@ -496,8 +447,19 @@ pub(crate) fn is_farm<
     count: usize,
     farm: &'static Farm,
 ) -> bool {
-    match crew_of(shared.alloc, workers, count) {
-        Ok(crew) => is_farm_of(shared, workers, crew, farm),
-        Err(_) => false,
+    let Ok(crew) = crew_of(shared.alloc, workers, count) else {
+        return false;
+    };
+    match (workers.pop(), workers.first_mut()) {
+        (Some(second), Some(first)) => {
+            runs(shared, first, second, crew, farm).is_ok()
+                && match farm.linked {
+                    Some(sites) => {
+                        shared.are_linked(&mut first.caller, sites, &Link::Plain(method(1, 1)))
+                    }
+                    None => true,
+                }
+        }
+        _ => false,
     }
 }

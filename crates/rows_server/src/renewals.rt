@@ -363,15 +363,7 @@ fn carries<K: Name, L: Name, R: Wait, S: Wait + Drop>(
     }
 }
 
-/// Whether the book has so many links, and there are some.
-fn has_links<L: Name, S: Wait + Drop>(alloc: Global, book: &Book<L, S>, count: usize) -> bool {
-    match &book.links(alloc) {
-        Ok(links) => count > 0 && links.len() == count,
-        Err(_) => false,
-    }
-}
-
-/// Whether all these links are installed in the book, as they are there.
+/// Whether all these links are installed in the book, as they are there, and there are some.
 fn are_installed<L: Name, S: Wait + Drop>(
     alloc: Global,
     book: &mut Book<L, S>,
@@ -385,7 +377,10 @@ fn are_installed<L: Name, S: Wait + Drop>(
     match &rows {
         Ok(rows) => {
             install_all(alloc, book, rows.as_slice()).is_ok()
-                && has_links(alloc, book, linked.len())
+                && match &book.links(alloc) {
+                    Ok(links) => !linked.is_empty() && links.len() == linked.len(),
+                    Err(_) => false,
+                }
         }
         Err(_) => false,
     }
@@ -503,17 +498,6 @@ fn run<
     at_once(renewal.old.rt, renewal, movers);
 }
 
-/// Whether the first caller does all that comes before.
-fn is_begun<K: Name, L: Name, R: Wait, S: Wait + Drop>(
-    shared: &Shared<'_, K, R, S>,
-    movers: &mut [Mover<K, L, S>],
-) -> bool {
-    match movers.first_mut() {
-        Some(first) => shared.does_all(&mut first.old, BEFORE),
-        None => false,
-    }
-}
-
 /// Whether nothing was wrong.
 fn are_right<K: Name, L: Name, S: Wait + Drop>(movers: &[Mover<K, L, S>]) -> bool {
     let mut wrong = 0u64;
@@ -545,7 +529,10 @@ fn holds<
         stop: AtomicU64::new(0),
         moved: AtomicU64::new(0),
     };
-    let begun = is_begun(&renewal.old, movers);
+    let begun = match movers.first_mut() {
+        Some(first) => renewal.old.does_all(&mut first.old, BEFORE),
+        None => false,
+    };
     run(&renewal, movers);
     begun && are_right(movers)
 }

@@ -4,7 +4,7 @@ use crate::deeds::{Deed, event, install, sites_of, turned};
 use crate::workers::{Shared, Told, Worker};
 use jl_core::Core;
 use jl_server::Name;
-use jl_types::{Event, Link, Refusal, Reply, SiteNo};
+use jl_types::{Event, Reply};
 use std::alloc::Global;
 use std::sync::Wait;
 use std::sync::atomic::Ordering;
@@ -22,15 +22,11 @@ const STRETCH: u32 = 100;
 /// The install of all links as they are then.
 pub(crate) const ALL: &Deed = &Deed::Install(15);
 
-/// How many have come once all threads have come as often as the one that came after so many.
-fn all_come(before: u64) -> u64 {
-    let threads = THREADS as u64;
-    (before / threads).saturating_add(1).saturating_mul(threads)
-}
-
-/// Waits until all threads have come.
+/// Waits until all threads have come, as often as this one.
 fn meet<K: Name, R: Wait, S: Wait + Drop>(shared: &Shared<'_, K, R, S>) {
-    let all = all_come(shared.come.fetch_add(1, Ordering::SeqCst));
+    let threads = THREADS as u64;
+    let before = shared.come.fetch_add(1, Ordering::SeqCst);
+    let all = (before / threads).saturating_add(1).saturating_mul(threads);
     for _ in shared.rt.forever() {
         if shared.come.load(Ordering::SeqCst) >= all {
             break;
@@ -78,37 +74,27 @@ pub(crate) fn gathered<K: Name>(alloc: Global, workers: &mut [Worker<K>]) -> Opt
     if wrong == 0 { Some(all) } else { None }
 }
 
-/// Whether it is the same reply.
-fn is_reply(answer: &Result<Reply, Refusal>, reply: &Reply) -> bool {
-    match answer {
-        Ok(again) => {
-            again.made == reply.made && again.dropped.as_slice() == reply.dropped.as_slice()
-        }
-        Err(_) => false,
-    }
-}
-
-/// The install of the links as they are in the core, of the sites whose bits are set.
-fn install_again(alloc: Global, core: &Core, bits: u64) -> Option<Event> {
-    match &sites_of(alloc, bits) {
-        Ok(sites) => install(core.prepare(alloc, sites.as_slice())),
-        Err(_) => None,
-    }
-}
-
-/// The deed's event, made again.
+/// The deed's event, made again. An install is of the links as they are in the core.
 fn event_again(alloc: Global, core: &Core, deed: &Deed) -> Option<Event> {
     match deed {
-        Deed::Install(bits) => install_again(alloc, core, *bits),
+        Deed::Install(bits) => match &sites_of(alloc, *bits) {
+            Ok(sites) => install(core.prepare(alloc, sites.as_slice())),
+            Err(_) => None,
+        },
         _ => event(alloc, deed),
     }
 }
 
 /// Whether the core accepts the event, and answers it as it was answered.
 fn is_again(alloc: Global, core: &mut Core, told: &Told) -> bool {
-    match event_again(alloc, core, &told.deed) {
-        Some(event) => is_reply(&core.apply(alloc, event), &told.reply),
-        None => false,
+    let Some(event) = event_again(alloc, core, &told.deed) else {
+        return false;
+    };
+    match &core.apply(alloc, event) {
+        Ok(Reply { made, dropped }) => {
+            *made == told.reply.made && dropped.as_slice() == told.reply.dropped.as_slice()
+        }
+        Err(_) => false,
     }
 }
 
@@ -123,42 +109,31 @@ pub(crate) fn are_dense(all: &[Told]) -> bool {
     so
 }
 
-/// Whether the core answers all events as they were answered.
-fn are_again(alloc: Global, core: &mut Core, all: &[Told]) -> bool {
-    let mut same = true;
-    for told in all {
-        same = is_again(alloc, core, told) && same;
-    }
-    same
-}
-
-/// Whether the server has these links, after so many events.
-fn has_links<K: Name, R: Wait, S: Wait + Drop>(
-    shared: &Shared<'_, K, R, S>,
-    worker: &mut Worker<K>,
-    serial: usize,
-    links: &[(SiteNo, Link)],
-) -> bool {
-    match &shared
-        .server
-        .links(shared.rt, shared.alloc, &mut worker.caller)
-    {
-        Ok(list) => list.serial == serial as u64 && list.rows.as_slice() == links,
-        Err(_) => false,
-    }
-}
-
-/// Whether the core that does the same in the order of the serials comes to the same.
+/// Whether the core that does the same in the order of the serials comes to the same, and has the server's links.
 fn is_same<K: Name, R: Wait, S: Wait + Drop>(
     shared: &Shared<'_, K, R, S>,
     worker: &mut Worker<K>,
     core: &mut Core,
     all: &[Told],
 ) -> bool {
-    let same = are_again(shared.alloc, core, all);
-    match &core.list_links(shared.alloc) {
-        Ok(links) => has_links(shared, worker, all.len(), links.as_slice()) && same,
-        Err(_) => false,
+    let mut same = true;
+    for told in all {
+        same = is_again(shared.alloc, core, told) && same;
+    }
+    let Shared {
+        rt,
+        alloc,
+        server,
+        ..
+    } = shared;
+    match (
+        &core.list_links(*alloc),
+        &server.links(*rt, *alloc, &mut worker.caller),
+    ) {
+        (Ok(links), Ok(list)) => {
+            same && list.serial == all.len() as u64 && list.rows.as_slice() == links.as_slice()
+        }
+        _ => false,
     }
 }
 

@@ -333,13 +333,18 @@ fn are_so<K: Name, R: Wait, S: Wait + Drop>(
     all
 }
 
-/// Whether the row is so of two callers.
-fn is_row_of<K: Name, R: Wait, S: Wait + Drop>(
+/// Whether the row is so of the first two of these callers.
+pub(crate) fn is_row<K: Name, R: Wait, S: Wait + Drop>(
     shared: &Shared<'_, K, R, S>,
-    first: &mut Worker<K>,
-    second: &mut Worker<K>,
+    workers: &mut [Worker<K>],
     row: &Row,
 ) -> bool {
+    let Some((first, rest)) = workers.split_first_mut() else {
+        return false;
+    };
+    let Some(second) = rest.first_mut() else {
+        return false;
+    };
     let kept = first.caller.seen().again();
     match Memo::new(shared.alloc, first.caller.seen(), row.0) {
         Ok(memo) => {
@@ -352,20 +357,5 @@ fn is_row_of<K: Name, R: Wait, S: Wait + Drop>(
             are_so(shared, &mut pair, row.1)
         }
         Err(_) => false,
-    }
-}
-
-/// The same of the first two of these.
-pub(crate) fn is_row<K: Name, R: Wait, S: Wait + Drop>(
-    shared: &Shared<'_, K, R, S>,
-    workers: &mut [Worker<K>],
-    row: &Row,
-) -> bool {
-    let Some((first, rest)) = workers.split_first_mut() else {
-        return false;
-    };
-    match rest.first_mut() {
-        Some(second) => is_row_of(shared, first, second, row),
-        None => false,
     }
 }

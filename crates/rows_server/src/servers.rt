@@ -2,7 +2,7 @@
 
 ghost use Rattle.std.specs.Prelude.{◌≡◌, ◌≤◌};
 
-use crate::acts::{acts_all, calls_both};
+use crate::acts::{acts, calls_both};
 use crate::deeds::{DYNAMIC, Deed};
 use crate::definitions::{BEFORE, are_called, request_all};
 use crate::farms::{BETWEEN, DURING, Farm, MEETING, MIXED, is_farm};
@@ -44,16 +44,6 @@ enum Test {
     Definitions(bool),
 }
 
-/// What the threads do.
-fn part_of(test: Test) -> Part {
-    match test {
-        Test::Race(retires) => Part::Race(retires),
-        Test::Storm => Part::Storm,
-        Test::Definitions(overriding) => Part::Definitions(overriding),
-        _ => Part::Nothing,
-    }
-}
-
 /// How many callers there are: beside a farm's workers one that prepares all, and one that retargets.
 fn callers_of(test: Test) -> usize
     ensures { (1 ≤ result) × (result ≤ 64) }
@@ -73,7 +63,10 @@ impl<'a, K: Name, R: Wait, S: Wait + Drop> Round<Worker<K>> for Shared<'a, K, R,
             Part::Race(retires) => {
                 let race = race_of(retires);
                 let all = if index == 0 { race.first } else { race.second };
-                acts_all(self, worker, all);
+                for act in all {
+                    let so = acts(self, worker, act);
+                    worker.expect(so);
+                }
             }
             Part::Storm => storm(self, worker, index),
             Part::Definitions(overriding) => {
@@ -173,11 +166,17 @@ fn holds<K: Name + Send + Sync, R: Threads + Wait + Sync, S: Wait + Drop + Send 
     workers: &mut Vec<Worker<K>>,
     test: Test,
 ) -> bool {
+    let part = match test {
+        Test::Race(retires) => Part::Race(retires),
+        Test::Storm => Part::Storm,
+        Test::Definitions(overriding) => Part::Definitions(overriding),
+        _ => Part::Nothing,
+    };
     let shared = Shared {
         rt,
         alloc,
         server,
-        part: part_of(test),
+        part,
         told: Mutex::new(None),
         come: AtomicU64::new(0),
         plain: AtomicU64::new(0),

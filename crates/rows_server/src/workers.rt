@@ -48,29 +48,6 @@ impl<K: Name> Drop for Worker<K> {
 /// What an event was answered, behind a list of so many events. It is none where the answer shows another list.
 type Answered = (u64, Result<Reply, Refusal>);
 
-/// The answer of a server.
-fn answered<K: Name>(answer: Result<Receipt<K>, Denied<K>>) -> Answered {
-    match answer {
-        Ok(receipt) => {
-            let Receipt {
-                serial,
-                reply,
-                seen,
-            } = receipt;
-            (if seen.serial() == serial { serial } else { 0 }, Ok(reply))
-        }
-        Err(denied) => {
-            let Denied { refusal, seen } = denied;
-            (seen.serial(), Err(refusal))
-        }
-    }
-}
-
-/// Whether it is an install that comes too late.
-fn is_late(deed: &Deed, refusal: &Refusal) -> bool {
-    matches!(deed, Deed::Install(_)) && matches!(refusal, Refusal::Stale { .. })
-}
-
 /// An object of the class, or null.
 pub(crate) fn receiver(class: Option<u32>) -> Recv {
     match class {
@@ -120,7 +97,8 @@ impl<K: Name> Worker<K> {
                 true
             }
             Err(refusal) => {
-                self.expect(is_late(deed, &refusal));
+                let is_late = matches!(&refusal, Refusal::Stale { .. });
+                self.expect(is_late && matches!(deed, Deed::Install(_)));
                 false
             }
         }
@@ -165,7 +143,20 @@ pub(crate) struct Shared<'a, K: Name, R: Wait, S: Wait + Drop> {
 impl<'a, K: Name, R: Wait, S: Wait + Drop> Shared<'a, K, R, S> {
     /// What the event is answered.
     pub(crate) fn answer(&self, caller: &mut Caller<K>, event: Event) -> Answered {
-        answered(caller.apply(self.rt, self.alloc, self.server, event))
+        match caller.apply(self.rt, self.alloc, self.server, event) {
+            Ok(receipt) => {
+                let Receipt {
+                    serial,
+                    reply,
+                    seen,
+                } = receipt;
+                (if seen.serial() == serial { serial } else { 0 }, Ok(reply))
+            }
+            Err(denied) => {
+                let Denied { refusal, seen } = denied;
+                (seen.serial(), Err(refusal))
+            }
+        }
     }
 
     /// The snapshot that the caller takes now.
@@ -184,18 +175,13 @@ impl<'a, K: Name, R: Wait, S: Wait + Drop> Shared<'a, K, R, S> {
         }
     }
 
-    /// The same of the sites whose bits are set.
-    fn install_bits(&self, caller: &mut Caller<K>, bits: u64) -> Option<Event> {
-        match &sites_of(self.alloc, bits) {
-            Ok(sites) => self.install(caller, sites.as_slice()),
-            Err(_) => None,
-        }
-    }
-
     /// The deed's event, if there is one now.
     pub(crate) fn event(&self, caller: &mut Caller<K>, deed: &Deed) -> Option<Event> {
         match deed {
-            Deed::Install(bits) => self.install_bits(caller, *bits),
+            Deed::Install(bits) => match &sites_of(self.alloc, *bits) {
+                Ok(sites) => self.install(caller, sites.as_slice()),
+                Err(_) => None,
+            },
             _ => event(self.alloc, deed),
         }
     }
