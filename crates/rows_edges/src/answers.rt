@@ -168,14 +168,6 @@ fn link(place: usize) -> Link {
     }
 }
 
-fn list(alloc: Global, place: usize) -> Result<Value, AllocError> {
-    let rows = [(SiteNo::new(0), Link::Mega), (SiteNo::new(3), Link::Mega)];
-    match place {
-        0 => links_value(alloc, &rows),
-        _ => prepared_value(alloc, 7, &rows[..1]),
-    }
-}
-
 fn answer(place: usize) -> Answer {
     match place {
         0 => Answer::Run(method(2)),
@@ -195,11 +187,6 @@ fn made(place: usize) -> Made {
         4 => Made::CallSite(CallSiteId::new(7)),
         _ => Made::Switch(SwitchId::new(7)),
     }
-}
-
-fn reply(alloc: Global, made: Made) -> Result<Value, AllocError> {
-    let dropped = Seq::of(vec![in alloc; SiteNo::new(1), SiteNo::new(4)]?);
-    reply_value(alloc, &Reply { made, dropped })
 }
 
 /// What the event's refusal is answered.
@@ -228,11 +215,6 @@ fn event(place: usize) -> Refusal {
             site: SiteNo::new(7),
         },
     }
-}
-
-fn parent(alloc: Global) -> Result<Value, AllocError> {
-    let parent = DefineFault::MissingParent(Name::copied(alloc, b"p/A")?);
-    refusal_value(alloc, Refusal::Define(parent))
 }
 
 fn call_site(place: usize) -> CallSiteFault {
@@ -266,57 +248,53 @@ fn sketch(place: usize) -> SketchFault {
     }
 }
 
-fn sketch_value(alloc: Global, fault: SketchFault) -> Result<Value, AllocError> {
-    FileRefusal::from(fault).to_value(alloc)
-}
-
 /// The value of this kind at this place.
 fn value(alloc: Global, kind: Kind, place: usize) -> Result<Value, AllocError> {
     match kind {
         Outcomes => outcome_value(alloc, outcome(place)),
         Links => link_value(alloc, link(place)),
-        Lists => list(alloc, place),
+        Lists => {
+            let rows = [(SiteNo::new(0), Link::Mega), (SiteNo::new(3), Link::Mega)];
+            match place {
+                0 => links_value(alloc, &rows),
+                _ => prepared_value(alloc, 7, &rows[..1]),
+            }
+        }
         Calls => answer_value(alloc, answer(place)),
-        Replies => reply(alloc, made(place)),
+        Replies => {
+            let made = made(place);
+            let dropped = Seq::of(vec![in alloc; SiteNo::new(1), SiteNo::new(4)]?);
+            reply_value(alloc, &Reply { made, dropped })
+        }
         Events => refusal_value(alloc, event(place)),
-        Parents => parent(alloc),
+        Parents => {
+            let fault = DefineFault::MissingParent(Name::copied(alloc, b"p/A")?);
+            refusal_value(alloc, Refusal::Define(fault))
+        }
         CallSites => refusal_value(alloc, Refusal::CallSite(call_site(place))),
         Preparations => prepare_refusal_value(alloc, preparation(place)),
-        Sketches => sketch_value(alloc, sketch(place)),
+        Sketches => FileRefusal::from(sketch(place)).to_value(alloc),
     }
 }
 
-/// Whether the value's text is this.
-fn has_text(alloc: Global, value: &Value, want: &str) -> bool {
+/// Whether the value of this kind at this place has this text.
+fn is_so(alloc: Global, kind: Kind, place: usize, want: &str) -> bool {
+    let Ok(value) = value(alloc, kind, place) else {
+        return false;
+    };
     match value.to_string(alloc) {
         Ok(text) => text.as_str() == want,
         Err(_) => false,
     }
 }
 
-/// Whether the value of this kind at this place has this text.
-fn is_so(alloc: Global, kind: Kind, place: usize, want: &str) -> bool {
-    match value(alloc, kind, place) {
-        Ok(value) => has_text(alloc, &value, want),
-        Err(_) => false,
-    }
-}
-
-/// The place of the first of these texts that differs, if there is one.
-fn other_of(alloc: Global, kind: Kind, texts: &[&str]) -> Option<usize> {
-    for (place, want) in texts.iter().enumerate() {
-        if !is_so(alloc, kind, place, want) {
-            return Some(place);
-        }
-    }
-    None
-}
-
 /// The first row with a text that differs and that text's place there, if there is one.
 fn other(alloc: Global, rows: &[(Kind, &[&str])]) -> Option<(usize, usize)> {
     for (row, (kind, texts)) in rows.iter().enumerate() {
-        if let Some(place) = other_of(alloc, *kind, texts) {
-            return Some((row, place));
+        for (place, want) in texts.iter().enumerate() {
+            if !is_so(alloc, *kind, place, want) {
+                return Some((row, place));
+            }
         }
     }
     None

@@ -1,7 +1,7 @@
 //! Commands and sketches as JSON: each form once. Lines that are none are rows of `rows/sessions`.
 
 use jl_json::{
-    Command, each_command_is_read, each_sketch_is_read, each_target_is_read, no_other_keys,
+    each_command_is_read, each_sketch_is_read, each_target_is_read, no_other_keys,
     no_other_sketch_keys, no_other_target_keys, read_command, read_sketch, types_are_descriptors,
 };
 use serde_json::Value;
@@ -164,29 +164,19 @@ const SKETCHES: &[(&str, &str)] = &[
     ),
 ];
 
-/// How it prints.
-fn shown(alloc: Global, command: &Option<Command>) -> Result<String, AllocError> {
-    format!(in alloc; "{command:?}")
-}
-
 /// How the command prints that the value is, or none.
-fn shown_value(alloc: Global, value: &Value) -> Result<String, AllocError> {
+fn shown(alloc: Global, value: &Value) -> Result<String, AllocError> {
     let command = read_command(alloc, value)?;
-    shown(alloc, &command)
-}
-
-/// Whether the value is a command that prints so.
-fn is_shown(alloc: Global, value: &Value, want: &str) -> bool {
-    match shown_value(alloc, value) {
-        Ok(told) => told.as_str() == want,
-        Err(_) => false,
-    }
+    format!(in alloc; "{command:?}")
 }
 
 /// Whether the text is a command that prints so.
 fn is_printed(alloc: Global, text: &str, want: &str) -> bool {
-    match Value::from_str(alloc, text) {
-        Ok(value) => is_shown(alloc, &value, want),
+    let Ok(value) = Value::from_str(alloc, text) else {
+        return false;
+    };
+    match shown(alloc, &value) {
+        Ok(told) => told.as_str() == want,
         Err(_) => false,
     }
 }
@@ -198,18 +188,13 @@ fn assert_printed(rt: &(impl Abort + AllocGlobal), rows: &[(&str, &str)]) {
     }
 }
 
-/// Whether the value is a sketch.
-fn is_sketch(alloc: Global, value: &Value) -> bool {
-    match read_sketch(alloc, value) {
-        Ok(sketch) => sketch.is_some(),
-        Err(_) => false,
-    }
-}
-
 /// Whether the text is a sketch.
-fn is_sketch_text(alloc: Global, text: &str) -> bool {
-    match Value::from_str(alloc, text) {
-        Ok(value) => is_sketch(alloc, &value),
+fn is_sketch(alloc: Global, text: &str) -> bool {
+    let Ok(value) = Value::from_str(alloc, text) else {
+        return false;
+    };
+    match read_sketch(alloc, &value) {
+        Ok(sketch) => sketch.is_some(),
         Err(_) => false,
     }
 }
@@ -226,5 +211,5 @@ fn commands(rt: HostRuntime) {
     assert_printed(&rt, COMMANDS);
     assert_printed(&rt, CALL_SITES);
     assert_printed(&rt, SKETCHES);
-    assert!(rt; is_sketch_text(rt.alloc(), r#"{"name":"M","flags":33}"#));
+    assert!(rt; is_sketch(rt.alloc(), r#"{"name":"M","flags":33}"#));
 }

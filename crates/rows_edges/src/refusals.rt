@@ -32,11 +32,6 @@ fn refuses(answer: Result<Value, AllocError>, name: &str) -> bool {
     }
 }
 
-/// Whether both the refusal of a class file or a sketch and its answer have the name.
-fn is_file_fault(alloc: Global, fault: SketchFault, name: &str) -> bool {
-    says(alloc, &fault, name) && refuses(FileRefusal::from(fault).to_value(alloc), name)
-}
-
 /// Faults of class files, of their pools and their codes, and of sketches.
 const FILES: &[(SketchFault, &str)] = &[
     (
@@ -113,23 +108,13 @@ const FILES: &[(SketchFault, &str)] = &[
 
 /// The first place whose fault, or its answer, has another name, if there is one.
 fn other_file(alloc: Global, rows: &[(SketchFault, &str)]) -> Option<usize> {
-    for (place, row) in rows.iter().enumerate() {
-        if !is_file_fault(alloc, row.0, row.1) {
+    for (place, (fault, name)) in rows.iter().enumerate() {
+        let answer = FileRefusal::from(*fault).to_value(alloc);
+        if !refuses(answer, name) || !says(alloc, fault, name) {
             return Some(place);
         }
     }
     None
-}
-
-/// Why a preparation is refused, by its place among the names below.
-fn prepare_fault(place: usize) -> PrepareFault {
-    match place {
-        0 => PrepareFault::UnknownSite(SiteNo::new(3)),
-        1 => PrepareFault::NotReady(SiteNo::new(3)),
-        2 => PrepareFault::Repeated(SiteNo::new(3)),
-        3 => PrepareFault::BatchSize,
-        _ => PrepareFault::Memory,
-    }
 }
 
 const PREPARATIONS: &[&str] = &[
@@ -143,32 +128,18 @@ const PREPARATIONS: &[&str] = &[
 /// The first of the names that isn't that of the preparation's refusal, if there is one.
 fn other_preparation(alloc: Global, names: &[&str]) -> Option<usize> {
     for (place, name) in names.iter().enumerate() {
-        let fault = prepare_fault(place);
+        let fault = match place {
+            0 => PrepareFault::UnknownSite(SiteNo::new(3)),
+            1 => PrepareFault::NotReady(SiteNo::new(3)),
+            2 => PrepareFault::Repeated(SiteNo::new(3)),
+            3 => PrepareFault::BatchSize,
+            _ => PrepareFault::Memory,
+        };
         if !says(alloc, &fault, name) || !refuses(prepare_refusal_value(alloc, fault), name) {
             return Some(place);
         }
     }
     None
-}
-
-/// Why a class isn't defined for what is above it, by its place among the names below.
-fn parent_fault(place: usize, parent: Name) -> DefineFault {
-    match place {
-        0 => DefineFault::MissingParent(parent),
-        1 => DefineFault::NotAnInterface(parent),
-        _ => DefineFault::InaccessibleParent(parent),
-    }
-}
-
-/// Why a loader isn't retired, by its place among the names below.
-fn retire_fault(place: usize) -> RetireFault {
-    match place {
-        0 => RetireFault::UnknownLoader,
-        1 => RetireFault::FirstLoader,
-        2 => RetireFault::Inherited(ClassId::new(3)),
-        3 => RetireFault::Recorded(LoaderId::new(3)),
-        _ => RetireFault::Targeted(CallSiteId::new(3)),
-    }
 }
 
 /// Why an event is refused, with no more than a number, by its place among the names below.
@@ -186,7 +157,11 @@ fn numbered(place: usize) -> Refusal {
             site,
             present: Link::Mega,
         },
-        _ => Refusal::Retire(retire_fault(place.saturating_sub(8))),
+        8 => Refusal::Retire(RetireFault::UnknownLoader),
+        9 => Refusal::Retire(RetireFault::FirstLoader),
+        10 => Refusal::Retire(RetireFault::Inherited(ClassId::new(3))),
+        11 => Refusal::Retire(RetireFault::Recorded(LoaderId::new(3))),
+        _ => Refusal::Retire(RetireFault::Targeted(CallSiteId::new(3))),
     }
 }
 
@@ -276,12 +251,17 @@ fn is_refused(alloc: Global, refusal: &Refusal, name: &str) -> bool {
     says(alloc, refusal, name) && refuses(event_refusal_value(alloc, refusal), name)
 }
 
-/// Whether a definition that is refused for what is above it has the name.
+/// Whether a definition that is refused for what is above it has the name, by its place among the names below.
 fn is_parent_fault(alloc: Global, place: usize, name: &str) -> bool {
-    match Name::copied(alloc, b"p/A") {
-        Ok(parent) => is_refused(alloc, &Refusal::Define(parent_fault(place, parent)), name),
-        Err(_) => false,
-    }
+    let Ok(parent) = Name::copied(alloc, b"p/A") else {
+        return false;
+    };
+    let fault = match place {
+        0 => DefineFault::MissingParent(parent),
+        1 => DefineFault::NotAnInterface(parent),
+        _ => DefineFault::InaccessibleParent(parent),
+    };
+    is_refused(alloc, &Refusal::Define(fault), name)
 }
 
 const PARENTS: &[&str] = &[
@@ -320,15 +300,6 @@ fn other_parent(alloc: Global, names: &[&str]) -> Option<usize> {
     None
 }
 
-/// The first of the names of each kind that isn't that of the event's refusal, if there is one.
-fn other_refusals(alloc: Global) -> [Option<usize>; 3] {
-    [
-        other_plain(alloc, PLAIN),
-        other_numbered(alloc, NUMBERED),
-        other_parent(alloc, PARENTS),
-    ]
-}
-
 /// A name is refused where it is part of something, and so by no answer of its own.
 const NAMES: &[(NameFault, &str)] = &[
     (NameFault::BadByte(3), "BadByte"),
@@ -360,7 +331,12 @@ fn preparations_say_their_names(rt: HostRuntime) {
 
 #[test]
 fn refusals_say_their_names(rt: HostRuntime) {
-    assert_eq!(rt; other_refusals(rt.alloc()), [None; 3]);
+    let others = [
+        other_plain(rt.alloc(), PLAIN),
+        other_numbered(rt.alloc(), NUMBERED),
+        other_parent(rt.alloc(), PARENTS),
+    ];
+    assert_eq!(rt; others, [None; 3]);
 }
 
 #[test]
