@@ -42,7 +42,7 @@ def definitions():
     for path in sorted(TOP.glob("crates/*/specs/**/*.antt")):
         text = path.read_text()
         is_node = not re.sub(r"(?m)^(--.*|pub mod .*|\s*)$", "", text).strip()
-        is_means = "Means" in path.parts or path.stem == "Means" or "A means of proof." in text.split("use ")[0].replace("\n-- ", " ")
+        is_means = "ForProofs" in path.parts or path.stem == "ForProofs" or "A means of proof." in text.split("use ")[0].replace("\n-- ", " ")
         if named.count(str(path)) != (0 if is_node or is_means else 1):
             wrong.append(f"docs/DEFINITIONS.md names {path} {named.count(str(path))} times")
     return wrong

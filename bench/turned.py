@@ -90,7 +90,7 @@ def sentences(crate):
     folder = TOP / "crates" / crate
     for file in sorted((folder / "specs").glob("**/*.antt")):
         text, path = file.read_text(), str(file.relative_to(folder))
-        if "Means" in path:
+        if "ForProofs" in path:
             continue
         for number, line in enumerate(text.split("\n"), 1):
             if re.match(r"use |--|pub mod|(pub )?(abbrev|data|record|unfoldable)? ?\S+ :", line) or text.count(line) != 1 or "=" not in line:

@@ -1,3 +1,3 @@
--- `Links` is what contracts cite, `Means` what proofs go by.
+-- `Links` is what contracts cite, `ForProofs` what proofs go by.
 pub mod Links
-pub mod Means
+pub mod ForProofs

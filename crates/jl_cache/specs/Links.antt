@@ -5,7 +5,7 @@ use Rattle.jl_types.specs.declared.link.Link.TheVariants.{Fault, Plain, Direct, 
 use Rattle.jl_types.specs.declared.answer.Recv.{Recv}
 use Rattle.jl_types.specs.declared.answer.Fast.{Fast}
 use Rattle.jl_types.specs.declared.answer.Fast.TheVariants.{Miss}
-use Rattle.jl_types.specs.Happenings.Fast.{link_answer}
+use Rattle.jl_types.specs.Events.Fast.{link_answer}
 
 -- the site's installed link
 abbrev pub link_at : List (ℕ × Link) → ℕ → Option Link

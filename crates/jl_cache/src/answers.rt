@@ -4,7 +4,7 @@ ghost use Rattle.std.specs.Prelude.{◌≡◌, ◌==◌, Some, find};
 ghost use Rattle.std.specs.Option.{option_copied};
 ghost use Rattle.jl_types.specs.declared.answer.Recv.TheVariants.{Of};
 ghost use Rattle.jl_types.specs.declared.link.Link.TheVariants as variant;
-ghost use Rattle.jl_types.specs.Happenings.Fast as fast;
+ghost use Rattle.jl_types.specs.Events.Fast as fast;
 ghost use Rattle.jl_cache.specs.Links.{fast_link};
 
 use jl_types::{Answer, ClassId, Fast, Link, Outcome, Recv, Table, TableKind, Throwable};

@@ -31,7 +31,7 @@ impl Drop for Cache {
 impl Model for Cache {
     ghost use Rattle.std.specs.Prelude.{List, ℕ};
     ghost use Rattle.jl_types.specs.declared.link.Link.{Link};
-    ghost use Rattle.jl_types.specs.Means.BySite.{by_site};
+    ghost use Rattle.jl_types.specs.ForProofs.BySite.{by_site};
 
     ghost Value = { List (ℕ × Link) };
 

@@ -1,7 +1,7 @@
 //! Links as they are kept.
 
 ghost use Rattle.std.specs.Prelude.{◌≡◌, Some, None, IfOk};
-ghost use Rattle.jl_types.specs.Happenings.Fast as fast;
+ghost use Rattle.jl_types.specs.Events.Fast as fast;
 ghost use Rattle.jl_cache.specs.Links as links;
 
 use crate::answers::{direct_answer, table_answer};
@@ -46,7 +46,7 @@ impl Drop for KeptSlot {
 impl Model for KeptSlot {
     ghost use Rattle.std.specs.Prelude.{Option};
     ghost use Rattle.jl_types.specs.declared.link.Link.{Link};
-    ghost use Rattle.jl_cache.specs.Means.Kept.{link_of};
+    ghost use Rattle.jl_cache.specs.ForProofs.Kept.{link_of};
 
     ghost Value = { Option Link };
 
@@ -156,7 +156,7 @@ impl Drop for KeptLink {
 impl Model for KeptLink {
     ghost use Rattle.std.specs.Prelude.{◌≡◌, true, is_some};
     ghost use Rattle.jl_types.specs.declared.link.Link.{Link};
-    ghost use Rattle.jl_cache.specs.Means.Kept.{link_in};
+    ghost use Rattle.jl_cache.specs.ForProofs.Kept.{link_in};
 
     ghost Value = { Link };
 

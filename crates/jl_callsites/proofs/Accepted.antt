@@ -11,7 +11,7 @@ use Rattle.jl_types.specs.Values.Target.{Target, Method, Guard, Invoker, depth}
 use Rattle.jl_types.specs.Values.World.{World, CallSite}
 use Rattle.jl_types.specs.Linkage.Resolution.{first_of}
 use Rattle.jl_types.specs.Linkage.Targets.{parts, invokes_type, part_fault, target_fault}
-use Rattle.jl_types.specs.Happenings.Events.{is_constant, most_of_a_kind, new_call_site_fault, set_target_fault, invalidate_fault}
+use Rattle.jl_types.specs.Events.Verdict.{is_constant, most_of_a_kind, new_call_site_fault, set_target_fault, invalidate_fault}
 use Rattle.jl_types.proofs.Firsts.{first_none, test_none}
 use Rattle.jl_callsites.specs.Known.{is_known}
 

@@ -12,8 +12,8 @@ use Rattle.jl_types.specs.declared.key.Key.TheVariants as key
 use Rattle.jl_types.specs.Values.Target.{Target, Method, Guard, Invoker}
 use Rattle.jl_types.specs.Values.World.{Sites, CallSite}
 use Rattle.jl_types.specs.Linkage.Targets.{is_valid, run_by, run_below, evaluated, method_of}
-use Rattle.jl_types.specs.Happenings.Footprints.{has_key, way_by, way_below, path}
-use Rattle.jl_types.specs.Happenings.Events.{retargeted}
+use Rattle.jl_types.specs.Events.Footprints.{has_key, way_by, way_below, path}
+use Rattle.jl_types.specs.Events.Verdict.{retargeted}
 use Rattle.jl_types.proofs.Bools.{first_test, second_test}
 use Rattle.jl_types.proofs.Lists.{before_end}
 use Rattle.jl_callsites.specs.Faults.{with_site, with_target, with_switch}

@@ -12,7 +12,7 @@ use Rattle.jl_types.specs.declared.key.Key.TheVariants as key
 use Rattle.jl_types.specs.Values.Target.{Target, Method, Guard, Invoker}
 use Rattle.jl_types.specs.Values.World.{Sites, CallSite}
 use Rattle.jl_types.specs.Linkage.Targets.{is_valid, run_by, run_below, method_of}
-use Rattle.jl_types.specs.Happenings.Footprints.{has_key, way_by, way_below, path}
+use Rattle.jl_types.specs.Events.Footprints.{has_key, way_by, way_below, path}
 use Rattle.jl_types.proofs.Bools.{first_test, second_test}
 use Rattle.jl_callsites.specs.Known.{is_known}
 

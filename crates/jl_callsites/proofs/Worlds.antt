@@ -13,8 +13,8 @@ use Rattle.jl_types.specs.Values.Target.{Target, Method, Guard, Invoker, depth}
 use Rattle.jl_types.specs.Values.World.{World, CallSite as CallSiteRow}
 use Rattle.jl_types.specs.Linkage.Resolution.{first_of}
 use Rattle.jl_types.specs.Linkage.Targets.{parts, part_fault, target_fault}
-use Rattle.jl_types.specs.Happenings.Events.{unless, is_constant, most_of_a_kind, new_call_site_fault}
-use Rattle.jl_types.specs.Happenings.Events as events
+use Rattle.jl_types.specs.Events.Verdict.{unless, is_constant, most_of_a_kind, new_call_site_fault}
+use Rattle.jl_types.specs.Events.Verdict as events
 use Rattle.jl_callsites.specs.Faults.{world_of, new_site_fault, set_target_fault, new_switch_fault, invalidate_fault, with_site, with_target}
 use Rattle.jl_callsites.specs.Faults.{with_switch, with_invalid}
 use Rattle.jl_callsites.specs.Laws.{ComesTo}

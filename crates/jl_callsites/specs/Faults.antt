@@ -11,8 +11,8 @@ use Rattle.jl_types.specs.Values.World.{World, Classes, Sites}
 use Rattle.jl_types.specs.Values.Members.{is_static}
 use Rattle.jl_types.specs.Linkage.Resolution.{first_of}
 use Rattle.jl_types.specs.Linkage.Targets.{may_be_named, is_of_type, invokes_type}
-use Rattle.jl_types.specs.Happenings.Events.{most_of_a_kind, new_call_site_fault, retargeted, invalidated}
-use Rattle.jl_types.specs.Happenings.Events as events
+use Rattle.jl_types.specs.Events.Verdict.{most_of_a_kind, new_call_site_fault, retargeted, invalidated}
+use Rattle.jl_types.specs.Events.Verdict as events
 
 -- a world of these classes and sites, with no requested place and no binding
 abbrev pub world_of : Classes → Sites → World

@@ -4,7 +4,7 @@ use Rattle.jl_types.specs.declared.key.Key.TheVariants as key
 use Rattle.jl_types.specs.Values.Target.{Target, Method, Guard, Invoker}
 use Rattle.jl_types.specs.Values.World.{CallSite, Sites}
 use Rattle.jl_types.specs.Linkage.Targets.{method_of}
-use Rattle.jl_types.specs.Happenings.Footprints.{has_key, path}
+use Rattle.jl_types.specs.Events.Footprints.{has_key, path}
 
 -- the switch points of the target's guards are among the first so many, and its invokers are of call sites before this one
 abbrev pub is_known : ℕ → ℕ → Target → Bool

@@ -1,7 +1,7 @@
--- Faults over classes and sites alone, which call sites run on, and what the events of call sites come to at a world. `Means` is a
+-- Faults over classes and sites alone, which call sites run on, and what the events of call sites come to at a world. `ForProofs` is a
 -- means of proof.
 pub mod Faults
 pub mod Known
 pub mod Earlier
 pub mod Laws
-pub mod Means
+pub mod ForProofs

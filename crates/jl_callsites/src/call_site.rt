@@ -1,7 +1,7 @@
 //! A call site as it is kept.
 
 ghost use Rattle.std.specs.Prelude.{◌≡◌, IfOk};
-ghost use Rattle.jl_types.specs.Happenings.Events as events;
+ghost use Rattle.jl_types.specs.Events.Verdict as events;
 
 use crate::copy::copy_target;
 use jl_names::Name;
@@ -30,7 +30,7 @@ impl Drop for CallSite {
 
 impl Model for CallSite {
     ghost use Rattle.jl_types.specs.Values.World.{CallSite};
-    ghost use Rattle.jl_callsites.specs.Means.{call_site_code};
+    ghost use Rattle.jl_callsites.specs.ForProofs.{call_site_code};
 
     ghost Value = { CallSite };
 

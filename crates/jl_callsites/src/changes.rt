@@ -4,7 +4,7 @@ ghost use Rattle.std.specs.Prelude.{◌≡◌, ◌<◌, nat_le, true, false, Non
 ghost use Rattle.std.specs.List.{list_any};
 ghost use Rattle.jl_types.specs.declared.refusal.CallSiteFault.{CallSiteFault};
 ghost use Rattle.jl_types.specs.declared.refusal.OrMemory.TheVariants as or_memory;
-ghost use Rattle.jl_types.specs.Happenings.Events as events;
+ghost use Rattle.jl_types.specs.Events.Verdict as events;
 ghost use Rattle.jl_types.specs.Linkage.Targets as targets;
 ghost use Rattle.jl_callsites.specs.Faults as faults;
 ghost use Rattle.jl_types.specs.Linkage.Targets.{method_of};

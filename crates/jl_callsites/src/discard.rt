@@ -1,7 +1,7 @@
 //! A target that is let go.
 
 ghost use Rattle.std.specs.Prelude.{◌<◌, ◌+◌, ◌*◌};
-ghost use Rattle.jl_callsites.specs.Means.{turns_left};
+ghost use Rattle.jl_callsites.specs.ForProofs.{turns_left};
 
 use jl_types::{ClassId, MethodId, Part, SwitchId, Target};
 use std::mem;

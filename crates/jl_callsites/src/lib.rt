@@ -3,7 +3,7 @@
 //!
 //! The contract of each question is its definition in jl_types (`Targets`), and that of each change is its fault and its
 //! step there (`Events`). A fault looks at classes, call sites and switch points alone; `specs/Faults` says it over
-//! these, and the laws of `laws` lead back to whole worlds. `specs/Means` is a means of proof.
+//! these, and the laws of `laws` lead back to whole worlds. `specs/ForProofs` is a means of proof.
 #![tactic(auto)]
 
 mod call_site;

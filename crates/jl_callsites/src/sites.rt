@@ -30,7 +30,7 @@ impl Drop for Sites {
 
 impl Model for Sites {
     ghost use Rattle.jl_types.specs.Values.World.{Sites};
-    ghost use Rattle.jl_callsites.specs.Means.{sites_code};
+    ghost use Rattle.jl_callsites.specs.ForProofs.{sites_code};
 
     ghost Value = { Sites };
 

@@ -1,7 +1,7 @@
 //! Which call sites name methods of a loader's classes.
 
 ghost use Rattle.std.specs.Prelude.{◌≡◌, ◌<◌, IfSome};
-ghost use Rattle.jl_types.specs.Happenings.Retirement as retirement;
+ghost use Rattle.jl_types.specs.Events.Retirement as retirement;
 
 use crate::sites::Sites;
 use jl_hierarchy::Classes;

@@ -6,8 +6,8 @@ use Rattle.jl_classfile.specs.declared.body.Member.{Member}
 use Rattle.jl_classfile.specs.declared.body.Body.{Body}
 use Rattle.jl_pool.specs.Numbers.{u2, counted}
 use Rattle.jl_classfile.specs.Layouts.{attribute_text, member_text, body_text, AttributeSized, Countable, MemberSized, BodySized}
-use Rattle.jl_pool.specs.Means.Fields.{number_at}
-use Rattle.jl_classfile.specs.Means.Bodies.{counted_at, attribute_at, member_at, pair_of, numbers_at, lists_at, body_of, body_at}
+use Rattle.jl_pool.specs.ForProofs.Fields.{number_at}
+use Rattle.jl_classfile.specs.ForProofs.Bodies.{counted_at, attribute_at, member_at, pair_of, numbers_at, lists_at, body_of, body_at}
 use Rattle.jl_pool.proofs.Fields.{Takes, u2_takes, u2_again}
 use Rattle.jl_names.proofs.Tests.{map-some}
 use Rattle.jl_classfile.proofs.ListLaws.{Taker, Again, counted-takes, counted-again, pair_text, Both, pair-takes, pair-again}

@@ -11,8 +11,8 @@ use Rattle.jl_classfile.specs.Layouts.{Layout}
 use Rattle.jl_classfile.specs.Parts.{Parts}
 use Rattle.jl_classfile.specs.Conditions.{codes_of, IsClassNumber, HoldsHost, HoldsMembers, Nest, HasCode, HaveCodes}
 use Rattle.jl_classfile.specs.ClassFiles.{IsClass, pool_of}
-use Rattle.jl_pool.specs.Means.Fields.{number_at}
-use Rattle.jl_classfile.specs.Means.Bodies.{counted_at}
+use Rattle.jl_pool.specs.ForProofs.Fields.{number_at}
+use Rattle.jl_classfile.specs.ForProofs.Bodies.{counted_at}
 use Rattle.jl_pool.proofs.Fields.{some_is, u2_again}
 use Rattle.jl_pool.proofs.PoolLaws.{u2_one}
 use Rattle.jl_classfile.proofs.ListLaws.{counted-again}

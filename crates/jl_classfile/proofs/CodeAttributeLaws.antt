@@ -9,8 +9,8 @@ use Rattle.jl_classfile.specs.declared.body.Attribute.{Attribute}
 use Rattle.jl_pool.specs.Numbers.{u2, u4, counted}
 use Rattle.jl_classfile.specs.Layouts.{attribute_text, AttributeSized, Countable}
 use Rattle.jl_classfile.specs.CodeAttributes.{HoldsCode}
-use Rattle.jl_pool.specs.Means.Fields.{◌>>=◌, number_at, bytes_at}
-use Rattle.jl_classfile.specs.Means.Bodies.{counted_at, attribute_at, if_filled, behind_code, code_in}
+use Rattle.jl_pool.specs.ForProofs.Fields.{◌>>=◌, number_at, bytes_at}
+use Rattle.jl_classfile.specs.ForProofs.Bodies.{counted_at, attribute_at, if_filled, behind_code, code_in}
 use Rattle.jl_pool.proofs.Fields.{IsBytes, bind_some, some_is, u2_takes, u2_again, u4_takes, u4_again, bytes_takes, bytes_again}
 use Rattle.jl_classfile.proofs.PartLaws.{attribute-takes, attribute-again}
 use Rattle.jl_classfile.proofs.ListLaws.{counted-takes, counted-again}

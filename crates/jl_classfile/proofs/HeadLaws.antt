@@ -2,7 +2,7 @@
 use Rattle.std.proofs.Common.{◌≡◌, ℕ, ◌<◌, ◌^◌, List, ◌++◌, Some, ap, ◌∙◌}
 use Rattle.jl_pool.specs.Numbers.{u2, u4}
 use Rattle.jl_classfile.specs.Layouts.{head_text}
-use Rattle.jl_pool.specs.Means.Fields.{number_at}
+use Rattle.jl_pool.specs.ForProofs.Fields.{number_at}
 use Rattle.jl_pool.proofs.Fields.{IsBytes, u2_takes, u4_takes}
 
 pub record IsHead (bytes : List ℕ) (minor major : ℕ) (rest : List ℕ) : Type 0 where

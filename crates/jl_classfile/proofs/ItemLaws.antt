@@ -3,8 +3,8 @@ use Rattle.std.proofs.Common.{◌≡◌, ℕ, suc, ◌+◌, ◌-◌, ◌<◌, �
 use Rattle.std.proofs.lemmas.List.{append-nil}
 use Rattle.std.specs.Prelude.{option_map, true}
 use Rattle.std.specs.Option.{is_some, option_map_or}
-use Rattle.jl_pool.specs.Means.Fields.{◌>>=◌}
-use Rattle.jl_classfile.specs.Means.Bodies.{Reader, with_front, items_at}
+use Rattle.jl_pool.specs.ForProofs.Fields.{◌>>=◌}
+use Rattle.jl_classfile.specs.ForProofs.Bodies.{Reader, with_front, items_at}
 
 front_twice : {X : Type 0} (a b : List X) (r : Option (List X × List ℕ)) → with_front a (with_front b r) ≡ with_front (a ++ b) r
 front_twice {X = X} a b None = refl

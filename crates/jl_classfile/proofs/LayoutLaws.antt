@@ -6,7 +6,7 @@ use Rattle.jl_classfile.specs.declared.body.Body.{Body}
 use Rattle.jl_pool.specs.Numbers.{u2}
 use Rattle.jl_pool.specs.Pools.{pool_text}
 use Rattle.jl_classfile.specs.Layouts.{Layout, body_text, head_text, file_text, IsLayout, BodySized}
-use Rattle.jl_classfile.specs.Means.Bodies.{body_at}
+use Rattle.jl_classfile.specs.ForProofs.Bodies.{body_at}
 use Rattle.jl_pool.proofs.Fields.{some_is}
 use Rattle.jl_pool.proofs.PoolLaws.{u2_one, u4_one, one_pool}
 use Rattle.jl_classfile.proofs.BodyLaws.{body-again}

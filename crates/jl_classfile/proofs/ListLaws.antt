@@ -3,8 +3,8 @@ use Rattle.std.proofs.Common.{◌≡◌, ℕ, zero, suc, List, [], ◌∷◌, �
 use Rattle.std.specs.List.{flat_map, AllByRecursion}
 use Rattle.jl_pool.specs.Numbers.{u2, counted}
 use Rattle.jl_classfile.specs.Layouts.{Countable}
-use Rattle.jl_pool.specs.Means.Fields.{◌>>=◌, number_at}
-use Rattle.jl_classfile.specs.Means.Bodies.{Reader, with_front, items_at, counted_at, pair_of}
+use Rattle.jl_pool.specs.ForProofs.Fields.{◌>>=◌, number_at}
+use Rattle.jl_classfile.specs.ForProofs.Bodies.{Reader, with_front, items_at, counted_at, pair_of}
 use Rattle.jl_pool.proofs.Fields.{IsBytes, Takes, takes, bind_some, some_is, u2_takes, u2_again}
 
 -- ---- what a reader of one item has to do

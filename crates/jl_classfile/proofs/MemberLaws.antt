@@ -14,7 +14,7 @@ use Rattle.jl_names.proofs.Tests.{All-both}
 use Rattle.jl_pool.specs.Pools.{Pool}
 use Rattle.jl_classfile.specs.Conditions.{FieldFits, MethodFits}
 use Rattle.jl_classfile.specs.Conditions.{MemberLinks, codes_of, is_interface, Members}
-use Rattle.jl_classfile.specs.Means.Members.{is_at, FieldTested, MethodTested, IsFieldFault, IsMethodFault, IsTwin, IsFirstTwin}
+use Rattle.jl_classfile.specs.ForProofs.Members.{is_at, FieldTested, MethodTested, IsFieldFault, IsMethodFault, IsTwin, IsFirstTwin}
 use Rattle.jl_classfile.proofs.TwinLaws.{distinct_unless, twin_at}
 
 contains_at : {X : Type 0} (xs : List X) (i : ℕ) (x : X) → slice_get xs i ≡ Some x → Contains xs x

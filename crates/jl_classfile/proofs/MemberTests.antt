@@ -12,8 +12,8 @@ use Rattle.jl_classfile.specs.declared.body.Member.{Member}
 use Rattle.jl_pool.specs.Pools.{Pool, text_at}
 use Rattle.jl_classfile.specs.Conditions.{one_if, is_method_name, flags_fit, TakesFew, FieldFits, MethodFits}
 use Rattle.jl_class.specs.Flags.{has_flag, STATIC}
-use Rattle.jl_pool.specs.Means.Forms.{is_field, method_slots}
-use Rattle.jl_classfile.specs.Means.Members.{on_text, field_fits, takes_few, method_fits}
+use Rattle.jl_pool.specs.ForProofs.Forms.{is_field, method_slots}
+use Rattle.jl_classfile.specs.ForProofs.Members.{on_text, field_fits, takes_few, method_fits}
 use Rattle.jl_pool.proofs.FormLaws.{is_field-is, SlotsAre, method_slots-is, one_slots}
 
 decides_on : (test : List ℕ → Bool) (IsKind : List ℕ → Type 0) → ((text : List ℕ) → Decides (test text) (IsKind text)) → (text : Option (List ℕ))

@@ -6,10 +6,10 @@ use Rattle.std.proofs.lemmas.List.{append-nil}
 use Rattle.std.proofs.lemmas.List.Elements.{recursion_from_All, All-from_recursion}
 use Rattle.jl_pool.specs.Numbers.{u2, counted}
 use Rattle.jl_pool.specs.Pools.{Pool}
-use Rattle.jl_pool.specs.Means.Fields.{number_at}
+use Rattle.jl_pool.specs.ForProofs.Fields.{number_at}
 use Rattle.jl_pool.proofs.Fields.{IsBytes, some_is, u2_takes, u2_again}
 use Rattle.jl_classfile.specs.Conditions.{IsClassNumber, AreMembers}
-use Rattle.jl_classfile.specs.Means.Bodies.{counted_at}
+use Rattle.jl_classfile.specs.ForProofs.Bodies.{counted_at}
 use Rattle.jl_classfile.proofs.ListLaws.{counted-takes, counted-again}
 
 both : (P Q : ℕ → Type 0) (ns : List ℕ) → AllByRecursion P ns → AllByRecursion Q ns → AllByRecursion (λ n. P n × Q n) ns

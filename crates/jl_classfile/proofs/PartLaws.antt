@@ -4,8 +4,8 @@ use Rattle.jl_classfile.specs.declared.body.Attribute.{Attribute}
 use Rattle.jl_classfile.specs.declared.body.Member.{Member}
 use Rattle.jl_pool.specs.Numbers.{u2, u4, counted}
 use Rattle.jl_classfile.specs.Layouts.{attribute_text, member_text, AttributeSized, MemberSized}
-use Rattle.jl_pool.specs.Means.Fields.{◌>>=◌, number_at, bytes_at}
-use Rattle.jl_classfile.specs.Means.Bodies.{counted_at, attribute_at, member_at}
+use Rattle.jl_pool.specs.ForProofs.Fields.{◌>>=◌, number_at, bytes_at}
+use Rattle.jl_classfile.specs.ForProofs.Bodies.{counted_at, attribute_at, member_at}
 use Rattle.jl_pool.proofs.Fields.{Takes, bind_some, some_is, u2_takes, u2_again, u4_takes, u4_again, bytes_takes, bytes_again}
 use Rattle.jl_classfile.proofs.ListLaws.{Taker, Again, counted-takes, counted-again}
 

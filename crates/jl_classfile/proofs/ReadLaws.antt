@@ -24,8 +24,8 @@ use Rattle.jl_pool.specs.Faults.{IsPoolFault}
 use Rattle.jl_classfile.specs.Faults.{Pass, SizeFault, HeadFault, PoolPass, LayoutFault, LinksFault, MembersFault, AttributesFault, CodesFault}
 use Rattle.jl_classfile.specs.Faults.{LaidFault, FailsWith, rank, IsFault}
 use Rattle.jl_classfile.specs.Faults.{Sizing, Heading, Pooling, Laying, Linking, Membership, Attribution, Coding}
-use Rattle.jl_classfile.specs.Means.Bodies.{body_at, Stops}
-use Rattle.jl_classfile.specs.Means.Passes.{fault_of_pool, fault_of_broken, HasHead, HasPool, Lies, BodyShown}
+use Rattle.jl_classfile.specs.ForProofs.Bodies.{body_at, Stops}
+use Rattle.jl_classfile.specs.ForProofs.Passes.{fault_of_pool, fault_of_broken, HasHead, HasPool, Lies, BodyShown}
 use Rattle.jl_classfile.proofs.FaultLaws.{no_size, no_head, no_pool, no_layout, laid_here, no_links, no_members, no_attributes}
 use Rattle.jl_classfile.proofs.MemberNumbers.{contains_name}
 use Rattle.jl_pool.proofs.PoolLaws.{one_pool}

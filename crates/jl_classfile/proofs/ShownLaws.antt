@@ -26,7 +26,7 @@ use Rattle.jl_classfile.specs.Conditions.{codes_of, HasCode, HaveCodes}
 use Rattle.jl_code.specs.Faults.{IsScanFault}
 use Rattle.jl_classfile.specs.Shown.{shown_method, shown_methods}
 use Rattle.jl_class.specs.Kept.{text_or_nothing}
-use Rattle.jl_classfile.specs.Means.Passes.{fault_of_code, IsMethodFault, SitesShown, MethodShown, MethodsShown, MethodAdded, MethodsKept}
+use Rattle.jl_classfile.specs.ForProofs.Passes.{fault_of_code, IsMethodFault, SitesShown, MethodShown, MethodsShown, MethodAdded, MethodsKept}
 
 -- ---- one method
 

@@ -20,7 +20,7 @@ use Rattle.jl_names.specs.Repeats.{NameOneText, SameTexts, IsRepeat, NoRepeat, I
 use Rattle.jl_classfile.specs.declared.body.Member.{Member}
 use Rattle.jl_pool.specs.Pools.{Pool, text_at}
 use Rattle.jl_classfile.specs.Conditions.{is_text, same_place_text, same_method, no_twins}
-use Rattle.jl_classfile.specs.Means.Members.{is_at, IsTwin, IsFirstTwin, IsTextAt, AreTexts, print_onto, print_of}
+use Rattle.jl_classfile.specs.ForProofs.Members.{is_at, IsTwin, IsFirstTwin, IsTextAt, AreTexts, print_onto, print_of}
 use Rattle.jl_pool.proofs.FormLaws.{and_true}
 
 -- ---- the texts of a pool, kept for the methods so far

@@ -5,4 +5,4 @@ pub mod Conditions
 pub mod ClassFiles
 pub mod Shown
 pub mod Faults
-pub mod Means
+pub mod ForProofs

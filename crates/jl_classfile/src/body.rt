@@ -3,8 +3,8 @@
 ghost use Rattle.std.specs.Prelude.{◌≡◌, ◌++◌, List, [], ◌∷◌, ℕ, IfOk, MatchOption, option_map};
 ghost use Rattle.jl_classfile.specs.Layouts.{body_text, BodySized};
 ghost use Rattle.jl_classfile.specs.CodeAttributes.{HoldsCode};
-ghost use Rattle.jl_pool.specs.Means.Fields.{Finds, number_at};
-ghost use Rattle.jl_classfile.specs.Means.Bodies.{Reads, items_at, counted_at, attribute_at, body_at, code_in};
+ghost use Rattle.jl_pool.specs.ForProofs.Fields.{Finds, number_at};
+ghost use Rattle.jl_classfile.specs.ForProofs.Bodies.{Reads, items_at, counted_at, attribute_at, body_at, code_in};
 
 use crate::fault::ClassFault;
 use jl_names::{Seq, Text};
@@ -33,7 +33,7 @@ impl<'a> Model for Attributes<'a> {
 
     ghost Value = { List Attribute };
 
-    ghost use Rattle.jl_classfile.specs.Means.Bodies.{attributes_in, are_attributes};
+    ghost use Rattle.jl_classfile.specs.ForProofs.Bodies.{attributes_in, are_attributes};
 
     ghost view = { λ a. attributes_in a.count a.bytes.now };
 
@@ -129,7 +129,7 @@ impl<T: Drop> From<AllocFailed<T>> for Broken {
 }
 
 impl From<Broken> for ClassFault {
-    ghost use Rattle.jl_classfile.specs.Means.Passes.{fault_of_broken};
+    ghost use Rattle.jl_classfile.specs.ForProofs.Passes.{fault_of_broken};
 
     ghost from_gives = { λ broken f. f ≡ fault_of_broken broken };
 
@@ -152,7 +152,7 @@ fn whole<T>(found: Option<T>) -> Result<T, Broken>
 }
 
 /// An attribute, and what comes after it.
-#[tactic(auto, unfolding(crate::specs::Means::Bodies::attribute_at))]
+#[tactic(auto, unfolding(crate::specs::ForProofs::Bodies::attribute_at))]
 fn attribute_at(bytes: &[u8]) -> Option<(Attribute<'_>, &[u8])>
     ensures { Finds (λ x. (x.0, x.1.now)) result (attribute_at bytes.now) }
 {
@@ -166,7 +166,7 @@ fn attribute_at(bytes: &[u8]) -> Option<(Attribute<'_>, &[u8])>
 /// What is read one after another, behind a count. An item takes two bytes or more.
 trait Item<'a> {
     ghost use Rattle.std.specs.Prelude.{List, ℕ, Option};
-    ghost use Rattle.jl_pool.specs.Means.Fields.{Finds};
+    ghost use Rattle.jl_pool.specs.ForProofs.Fields.{Finds};
 
     ghost reader: { List ℕ → Option (Self × List ℕ) };
 
@@ -176,7 +176,7 @@ trait Item<'a> {
 }
 
 impl<'a> Item<'a> for u16 {
-    ghost use Rattle.jl_pool.specs.Means.Fields.{number_at};
+    ghost use Rattle.jl_pool.specs.ForProofs.Fields.{number_at};
 
     ghost reader = { number_at 2 };
 
@@ -186,11 +186,11 @@ impl<'a> Item<'a> for u16 {
 }
 
 impl<'a> Item<'a> for Member<'a> {
-    ghost use Rattle.jl_classfile.specs.Means.Bodies.{member_at};
+    ghost use Rattle.jl_classfile.specs.ForProofs.Bodies.{member_at};
 
     ghost reader = { member_at };
 
-    #[tactic(auto, unfolding(crate::specs::Means::Bodies::member_at))]
+    #[tactic(auto, unfolding(crate::specs::ForProofs::Bodies::member_at))]
     fn at(bytes: &'a [u8]) -> Option<(Member<'a>, &'a [u8])> {
         let (flags, rest) = u2_at(bytes)?;
         let (name, rest) = u2_at(rest)?;
@@ -248,7 +248,7 @@ pub fn body_at<'a>(alloc: Global, bytes: &'a [u8]) -> Result<(Body<'a>, &'a [u8]
 }
 
 /// Reads what stands behind the pool, part after part.
-#[tactic(auto, unfolding(crate::specs::Means::Bodies::body_at))]
+#[tactic(auto, unfolding(crate::specs::ForProofs::Bodies::body_at))]
 fn read_body<'a>(alloc: Global, bytes: &'a [u8]) -> Result<(Body<'a>, &'a [u8]), Broken>
     ensures { Reads (λ x. (x.0, x.1.now)) result (body_at bytes.now) }
 {
@@ -279,7 +279,7 @@ pub fn code_in(info: &[u8]) -> Option<&[u8]>
 }
 
 /// Reads the code of a Code attribute, and all that stands behind it.
-#[tactic(auto, unfolding(crate::specs::Means::Bodies::code_in))]
+#[tactic(auto, unfolding(crate::specs::ForProofs::Bodies::code_in))]
 fn read_code(info: &[u8]) -> Option<&[u8]>
     ensures { option_map (λ code. code.now) result ≡ code_in info.now }
 {

@@ -5,7 +5,7 @@ ghost use Rattle.std.specs.List.{AllByRecursion};
 ghost use Rattle.jl_classfile.specs.declared.fault.ClassFault.TheVariants.{BadLink};
 ghost use Rattle.jl_classfile.specs.Conditions.{is_object, is_interface, is_module, super_fits, superclass_numbers, IsClassNumber, Links};
 ghost use Rattle.jl_classfile.specs.Faults.{LinksFault};
-ghost use Rattle.jl_classfile.specs.Means.Passes.{IsBadLink};
+ghost use Rattle.jl_classfile.specs.ForProofs.Passes.{IsBadLink};
 
 use crate::body::Body;
 use crate::fault::ClassFault;

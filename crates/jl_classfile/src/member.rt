@@ -11,9 +11,9 @@ ghost use Rattle.jl_classfile.specs.Conditions.{IsTextNumber, is_method_name, ar
 ghost use Rattle.jl_class.specs.Flags.{has_flag, PUBLIC, PRIVATE, PROTECTED, STATIC};
 ghost use Rattle.jl_classfile.specs.declared.body.Member.{Member};
 ghost use Rattle.jl_classfile.specs.Faults.{MembersFault};
-ghost use Rattle.jl_pool.specs.Means.Forms.{form_of};
-ghost use Rattle.jl_classfile.specs.Means.Members.{on_text, field_fits, method_fits, is_at, FieldTested, MethodTested, IsFieldFault};
-ghost use Rattle.jl_classfile.specs.Means.Members.{IsMethodFault};
+ghost use Rattle.jl_pool.specs.ForProofs.Forms.{form_of};
+ghost use Rattle.jl_classfile.specs.ForProofs.Members.{on_text, field_fits, method_fits, is_at, FieldTested, MethodTested, IsFieldFault};
+ghost use Rattle.jl_classfile.specs.ForProofs.Members.{IsMethodFault};
 
 use crate::body::{Attribute, Attributes, Body, Member};
 use crate::fault::ClassFault;
@@ -51,7 +51,7 @@ pub fn check_attribute_names(pool: &Pool, attributes: &Attributes<'_>) -> Result
 }
 
 /// Whether the name and descriptor of a field may be so (JVMS SE 17 §4.5).
-#[tactic(auto, unfolding(crate::specs::Means::Members::form_of))]
+#[tactic(auto, unfolding(crate::specs::ForProofs::Members::form_of))]
 fn field_fits(pool: &Pool, field: &Member<'_>) -> bool
     ensures { result ≡ field_fits pool.now field.now }
 {
@@ -64,7 +64,7 @@ fn field_fits(pool: &Pool, field: &Member<'_>) -> bool
 }
 
 /// Whether a method may be called so: `<` and `>` stand in `<init>` and `<clinit>` alone (§4.2.2).
-#[tactic(auto, unfolding(crate::specs::Means::Members::form_of))]
+#[tactic(auto, unfolding(crate::specs::ForProofs::Members::form_of))]
 fn is_method_name(name: &[u8], form: Form) -> bool
     requires { form ≡ form_of name.now }
     ensures { result ≡ is_method_name name.now }
@@ -87,7 +87,7 @@ fn are_method_flags(interface: bool, flags: u16) -> bool
 }
 
 /// Whether the name and flags of a method may be so. `<clinit>` may have any flags.
-#[tactic(auto, unfolding(crate::specs::Means::Members::form_of))]
+#[tactic(auto, unfolding(crate::specs::ForProofs::Members::form_of))]
 fn name_fits(pool: &Pool, interface: bool, method: &Member<'_>) -> bool
     ensures { result ≡ (on_text is_method_name (text_at pool.now method.now.name)
         && on_text (flags_fit interface method.now.flags) (text_at pool.now method.now.name)) }
@@ -103,7 +103,7 @@ fn name_fits(pool: &Pool, interface: bool, method: &Member<'_>) -> bool
 }
 
 /// Whether a method may be so (JVMS SE 17 §4.6). Its parameters take 255 slots at most, with the receiver's unless it is static.
-#[tactic(auto, unfolding(crate::specs::Means::Members::form_of))]
+#[tactic(auto, unfolding(crate::specs::ForProofs::Members::form_of))]
 fn method_fits(pool: &Pool, interface: bool, method: &Member<'_>) -> bool
     ensures { result ≡ method_fits pool.now interface method.now }
 {

@@ -3,7 +3,7 @@
 ghost use Rattle.std.specs.Prelude.{◌≡◌, ◌≢◌, ◌≤◌, ℕ, List, Option, option_map, length, All, IfOk, IfErr, MatchBool, MatchOption};
 ghost use Rattle.jl_classfile.specs.declared.fault.ClassFault.TheVariants.{BadNest, Memory};
 ghost use Rattle.jl_classfile.specs.Conditions.{IsClassNumber, IsHost, AreMembers, attributes_of, Nest};
-ghost use Rattle.jl_classfile.specs.Means.Nests.{IsOnly, Holds};
+ghost use Rattle.jl_classfile.specs.ForProofs.Nests.{IsOnly, Holds};
 
 use crate::body::{Attributes, Body, Broken, counted_at};
 use crate::fault::ClassFault;

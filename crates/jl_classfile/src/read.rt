@@ -10,8 +10,8 @@ ghost use Rattle.jl_classfile.specs.Faults.{HeadFault, CodesFault, IsFault};
 ghost use Rattle.jl_pool.specs.Pools.{class_at};
 ghost use Rattle.jl_classfile.specs.Shown.{shown, name_or_nothing};
 ghost use Rattle.jl_classfile.specs.Conditions.{IsVersion, codes_of, super_fits};
-ghost use Rattle.jl_classfile.specs.Means.Passes.{HasHead, fault_of_code, IsMethodFault, SitesAdded, MethodAdded};
-ghost use Rattle.jl_classfile.specs.Means.Passes.{MethodsKept, MethodsShown, NamesShown, BodyShown, HasPool, Lies};
+ghost use Rattle.jl_classfile.specs.ForProofs.Passes.{HasHead, fault_of_code, IsMethodFault, SitesAdded, MethodAdded};
+ghost use Rattle.jl_classfile.specs.ForProofs.Passes.{MethodsKept, MethodsShown, NamesShown, BodyShown, HasPool, Lies};
 
 use crate::body::{Body, Member, body_at, code_in};
 use crate::fault::ClassFault;
@@ -32,7 +32,7 @@ const MAGIC: u32 = 0xcafe_babe;
 
 impl From<PoolFault> for ClassFault {
     ghost use Rattle.std.specs.Prelude.{◌≡◌};
-    ghost use Rattle.jl_classfile.specs.Means.Passes.{fault_of_pool};
+    ghost use Rattle.jl_classfile.specs.ForProofs.Passes.{fault_of_pool};
 
     ghost from_gives = { λ fault f. f ≡ fault_of_pool fault };
 

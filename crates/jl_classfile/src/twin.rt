@@ -5,7 +5,7 @@ ghost use Rattle.std.specs.List.{IsDistinct};
 ghost use Rattle.jl_classfile.specs.declared.body.Member.{Member};
 ghost use Rattle.jl_classfile.specs.declared.fault.ClassFault.TheVariants.{Memory};
 ghost use Rattle.jl_pool.specs.Pools.{text_at};
-ghost use Rattle.jl_classfile.specs.Means.Members.{is_at, IsTwin, IsFirstTwin, IsTextAt, AreTexts, print_onto, print_of};
+ghost use Rattle.jl_classfile.specs.ForProofs.Members.{is_at, IsTwin, IsFirstTwin, IsTextAt, AreTexts, print_onto, print_of};
 
 use crate::body::Member;
 use crate::fault::ClassFault;

@@ -8,8 +8,8 @@ use Rattle.std.proofs.KnownBytes.{Appends-kept, Appends-trans, Keeps-refl}
 use Rattle.std.specs.Prelude.{All}
 use mathlib.Core.List.{IsPrefix}
 use Rattle.serde_json.specs.Written.{compact_text}
-use Rattle.jl_types.specs.Happenings.History.{site_numbers}
-use Rattle.jl_types.specs.Happenings.Entries.{Entry, IsLegal, events_of}
+use Rattle.jl_types.specs.Events.History.{site_numbers}
+use Rattle.jl_types.specs.Events.Entries.{Entry, IsLegal, events_of}
 use Rattle.jl_farm.specs.declared.report.Report.{Report}
 use Rattle.jl_farm.specs.Reports.{IsReport, AreOfOneHistory, jobs_of}
 use Rattle.jl_lines.specs.declared.line_fault.LineFault.{LineFault}
@@ -19,7 +19,7 @@ use Rattle.jl_cli.specs.declared.farm_fault.FarmLineFault.TheVariants.{Line, Far
 use Rattle.jl_lines.specs.Lines.{lines_of, ended}
 use Rattle.jl_lines.specs.Answers.{AreAnswers, AnswersAll, AnswersFirst, AnswersEarlier, LacksFirst, LongIf}
 use Rattle.jl_cli.specs.Farms.{IsFarmAnswer, IsLastLine, FarmsAll, FarmsEarlier, FarmLongIf, job_of_each, last_data}
-use Rattle.jl_cli.specs.Means.Farms.{IsUnwritten}
+use Rattle.jl_cli.specs.ForProofs.Farms.{IsUnwritten}
 use Rattle.jl_lines.proofs.FaultLaws.{Whole, first_of, none_whole, earlier_of}
 
 -- the first lines are answered, but for a failed write, and nothing else is written

@@ -9,7 +9,7 @@ use Rattle.serde_json.proofs.OnLiterals.{serde_json_on_literals}
 use Rattle.jl_types.specs.declared.event.EventOf.TheVariants as event
 use Rattle.jl_types.specs.declared.event.Reply.{Reply}
 use Rattle.jl_types.specs.declared.refusal.Refusal.TheVariants.{UnknownClass}
-use Rattle.jl_types.specs.Happenings.Entries.{Entry}
+use Rattle.jl_types.specs.Events.Entries.{Entry}
 use Rattle.jl_json.specs.declared.command.Command.TheVariants as command
 use Rattle.jl_json.specs.LinkAnswers.{site_links_data}
 use Rattle.jl_server.specs.declared.book.Receipt.{Receipt}

@@ -3,8 +3,8 @@ use Rattle.std.proofs.Common.{◌≡◌, ap, ℕ, List, [], ◌∷◌, Bool, tru
 use Rattle.serde_json.specs.Data.{Data}
 use Rattle.serde_json.specs.Written.{has_float, items_have_float}
 use Rattle.serde_json.specs.View.{items_of}
-use Rattle.jl_types.specs.Happenings.Entries.{Entry, events_of}
-use Rattle.jl_types.specs.Happenings.History.{installed_links}
+use Rattle.jl_types.specs.Events.Entries.{Entry, events_of}
+use Rattle.jl_types.specs.Events.History.{installed_links}
 use Rattle.jl_json.specs.LinkAnswers.{site_links_data}
 use Rattle.jl_json.specs.declared.command.Command.{Command}
 use Rattle.jl_json.specs.declared.command.Command.TheVariants as command

@@ -2,8 +2,8 @@
 use Rattle.std.proofs.Common.{◌≡◌, refl, inr, List, ℕ, Result}
 use mathlib.Core.List.{IsPrefix}
 use Rattle.serde_json.specs.Written.{compact_text}
-use Rattle.jl_types.specs.Happenings.Event.{Event}
-use Rattle.jl_types.specs.Happenings.Entries.{Entry, IsLegal}
+use Rattle.jl_types.specs.Events.Event.{Event}
+use Rattle.jl_types.specs.Events.Entries.{Entry, IsLegal}
 use Rattle.jl_types.specs.declared.event.Reply.{Reply}
 use Rattle.jl_types.specs.declared.refusal.Refusal.{Refusal}
 use Rattle.jl_session.specs.Obeying.{LacksAnswer}

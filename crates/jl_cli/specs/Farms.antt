@@ -6,12 +6,12 @@ use Rattle.std.specs.Io.KnownBytes.{Appends}
 use Rattle.serde_json.specs.Data.{Data, string, array}
 use Rattle.serde_json.specs.View.{items_of}
 use Rattle.serde_json.specs.Written.{compact_text}
-use Rattle.jl_types.specs.Happenings.Event.{Event}
+use Rattle.jl_types.specs.Events.Event.{Event}
 use Rattle.jl_types.specs.declared.event.Reply.{Reply}
 use Rattle.jl_types.specs.declared.refusal.Refusal.{Refusal}
-use Rattle.jl_types.specs.Happenings.Events.{verdict}
-use Rattle.jl_types.specs.Happenings.History.{world_after, site_numbers, installed_links}
-use Rattle.jl_types.specs.Happenings.Entries.{Entry, IsLegal, events_of}
+use Rattle.jl_types.specs.Events.Verdict.{verdict}
+use Rattle.jl_types.specs.Events.History.{world_after, site_numbers, installed_links}
+use Rattle.jl_types.specs.Events.Entries.{Entry, IsLegal, events_of}
 use Rattle.jl_core.specs.State.{IsRefused}
 use Rattle.jl_json.specs.declared.command.Command.{Command}
 use Rattle.jl_json.specs.declared.command.Command.TheVariants as command

@@ -1,4 +1,4 @@
 pub mod Endings
 pub mod Modes
 pub mod Farms
-pub mod Means
+pub mod ForProofs

@@ -5,11 +5,11 @@ ghost use Rattle.std.specs.List.{range_with_len};
 ghost use mathlib.Core.List.{IsPrefix};
 ghost use Rattle.serde_json.specs.View.{view};
 ghost use Rattle.serde_json.specs.Written.{compact_text};
-ghost use Rattle.jl_types.specs.Happenings.History.{site_numbers};
-ghost use Rattle.jl_types.specs.Happenings.Entries.{IsLegal, events_of};
+ghost use Rattle.jl_types.specs.Events.History.{site_numbers};
+ghost use Rattle.jl_types.specs.Events.Entries.{IsLegal, events_of};
 ghost use Rattle.jl_farm.specs.Reports.{IsReport, AreOfOneHistory, jobs_of};
 ghost use Rattle.jl_cli.specs.Farms.{job_of_each, outcome_name, reports_data, last_data, IsLastLine};
-ghost use Rattle.jl_cli.specs.Means.Farms.{IsUnwritten, IsOfFarm};
+ghost use Rattle.jl_cli.specs.ForProofs.Farms.{IsUnwritten, IsOfFarm};
 
 use crate::farm_fault::FarmLineFault;
 use crate::served::ServerCommands;

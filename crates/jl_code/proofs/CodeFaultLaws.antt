@@ -16,7 +16,7 @@ use Rattle.jl_pool.specs.Pools.{Pool}
 use Rattle.jl_code.specs.Instructions.{instruction_text, MayStand}
 use Rattle.jl_code.specs.Codes.{code_bytes, MayStandFrom, OperandFits, IsCode}
 use Rattle.jl_code.specs.Faults.{Runs, begins_opcode, IsBadSwitch, IsScanFault}
-use Rattle.jl_code.specs.Means.Instructions.{instruction_at}
+use Rattle.jl_code.specs.ForProofs.Instructions.{instruction_at}
 use Rattle.jl_code.proofs.OpcodeLaws.{begins_plain, begins_invocation, begins_wide, begins_table, begins_look_up}
 use Rattle.jl_code.proofs.InstructionLaws.{instruction_again, nothing_stands, bad_again}
 use Rattle.jl_code.proofs.CodeLaws.{text-some}

@@ -16,8 +16,8 @@ use Rattle.jl_pool.specs.Pools.{Pool}
 use Rattle.jl_code.specs.Instructions.{instruction_text, MayStand}
 use Rattle.jl_code.specs.Codes.{code_bytes, MayStandFrom, site_at, sites_from, OperandFits, IsCode}
 use Rattle.jl_code.specs.Faults.{Runs, IsScanFault}
-use Rattle.jl_code.specs.Means.Instructions.{instruction_at}
-use Rattle.jl_code.specs.Means.Sites.{IsSiteFault}
+use Rattle.jl_code.specs.ForProofs.Instructions.{instruction_at}
+use Rattle.jl_code.specs.ForProofs.Sites.{IsSiteFault}
 use Rattle.jl_pool.proofs.Fields.{IsBytes}
 use Rattle.jl_code.proofs.InstructionLaws.{instruction_again, instruction_takes, instruction_cut, instruction_unknown, instruction_bad}
 

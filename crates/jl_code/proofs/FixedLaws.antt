@@ -8,8 +8,8 @@ use Rattle.jl_pool.specs.Numbers.{u2}
 use Rattle.jl_code.specs.Known.{plain_opcodes, wide_opcodes, invoke_rows}
 use Rattle.jl_code.specs.Instructions.{operands_in, tail_in}
 use Rattle.jl_code.specs.Faults.{begins_opcode}
-use Rattle.jl_pool.specs.Means.Fields.{◌>>=◌, number_at, bytes_at}
-use Rattle.jl_code.specs.Means.Instructions.{or_cut, invocation_at, plain_at, by_row, fixed_at, wide_by_row, wide_at}
+use Rattle.jl_pool.specs.ForProofs.Fields.{◌>>=◌, number_at, bytes_at}
+use Rattle.jl_code.specs.ForProofs.Instructions.{or_cut, invocation_at, plain_at, by_row, fixed_at, wide_by_row, wide_at}
 use Rattle.jl_pool.proofs.Fields.{IsBytes, IsBytes-rest, Takes, bind_some, some_is, u2_takes, u2_again, bytes_takes, bytes_again}
 use Rattle.jl_code.proofs.StopLaws.{Read, found, stopped, Spelled, or_cut-ok, or_cut-err}
 use Rattle.jl_code.proofs.OpcodeLaws.{one_table, IsFixed, unknown, begins_plain, begins_invocation, begins_wide, begins_unknown}

@@ -8,7 +8,7 @@ use Rattle.jl_code.specs.declared.instruction.Stop.TheVariants.{Cut, Opcode, Swi
 use Rattle.jl_pool.specs.Numbers.{u2}
 use Rattle.jl_code.specs.Instructions.{instruction_text, MayStand}
 use Rattle.jl_code.specs.Faults.{begins_opcode, IsBadSwitch}
-use Rattle.jl_code.specs.Means.Instructions.{fixed_at, wide_at, table_switch_at, lookup_switch_at, instruction_at}
+use Rattle.jl_code.specs.ForProofs.Instructions.{fixed_at, wide_at, table_switch_at, lookup_switch_at, instruction_at}
 use Rattle.jl_pool.proofs.Fields.{IsBytes, IsBytes-rest}
 use Rattle.jl_code.proofs.StopLaws.{Read, found, stopped, Spelled}
 use Rattle.jl_code.proofs.OpcodeLaws.{IsFixed, fixed-plain, fixed-invocation, begins_table, begins_look_up}

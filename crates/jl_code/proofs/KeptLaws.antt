@@ -15,7 +15,7 @@ use Rattle.jl_code.specs.Codes.{kind_of, site_list, site_at, sites_from, Operand
 use Rattle.jl_class.specs.Operands.{operand_at}
 use Rattle.jl_code.specs.Kept.{IsKeptOf, Adds}
 use Rattle.jl_class.specs.Kept.{is_named, site_in}
-use Rattle.jl_code.specs.Means.Instructions.{instruction_at}
+use Rattle.jl_code.specs.ForProofs.Instructions.{instruction_at}
 use Rattle.jl_pool.proofs.Fields.{IsBytes}
 use Rattle.jl_code.proofs.CodeLaws.{Scanned, Scanned-none, Scanned-more, Scanned-done}
 

@@ -16,7 +16,7 @@ use Rattle.jl_pool.specs.Pools.{Pool}
 use Rattle.jl_code.specs.Known.{plain_opcodes}
 use Rattle.jl_code.specs.Instructions.{instruction_text, operands_in}
 use Rattle.jl_code.specs.Codes.{code_bytes}
-use Rattle.jl_code.specs.Means.Plain.{plain_length, IsPlain, IsBehindPlain}
+use Rattle.jl_code.specs.ForProofs.Plain.{plain_length, IsPlain, IsBehindPlain}
 use Rattle.jl_code.proofs.InstructionLaws.{instruction_again}
 use Rattle.jl_code.proofs.CodeLaws.{Scanned, Scanned-more}
 use Rattle.jl_code.proofs.KeptLaws.{KeptSoFar}

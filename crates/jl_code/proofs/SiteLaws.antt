@@ -17,8 +17,8 @@ use Rattle.jl_pool.specs.Pools.{Pool, constant_at, Signed, both, reference, sign
 use Rattle.jl_code.specs.Instructions.{invoke_row_in}
 use Rattle.jl_code.specs.Codes.{operand_name, operand_type, may_name, most_slots, tail_of, Invokes}
 use Rattle.jl_class.specs.Operands.{either_operand}
-use Rattle.jl_pool.specs.Means.Forms.{method_slots}
-use Rattle.jl_code.specs.Means.Sites.{may_name_tag, fits, signed_fits, names_method, is_invoked_of, is_invoked}
+use Rattle.jl_pool.specs.ForProofs.Forms.{method_slots}
+use Rattle.jl_code.specs.ForProofs.Sites.{may_name_tag, fits, signed_fits, names_method, is_invoked_of, is_invoked}
 use Rattle.jl_pool.proofs.FormLaws.{and_true, SlotsAre, method_slots-is, one_slots}
 
 -- ---- tests

@@ -4,7 +4,7 @@ use Rattle.jl_code.specs.declared.instruction.Instruction.{Instruction}
 use Rattle.jl_code.specs.declared.instruction.Stop.{Stop}
 use Rattle.jl_code.specs.declared.instruction.Stop.TheVariants.{Cut, Opcode, Switch}
 use Rattle.jl_code.specs.Instructions.{instruction_text, MayStand}
-use Rattle.jl_code.specs.Means.Instructions.{or_cut, with_part}
+use Rattle.jl_code.specs.ForProofs.Instructions.{or_cut, with_part}
 use Rattle.jl_pool.proofs.Fields.{Takes}
 
 -- an instruction and what comes after it

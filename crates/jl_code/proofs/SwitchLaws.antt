@@ -8,8 +8,8 @@ use Rattle.jl_code.specs.declared.instruction.Stop.TheVariants.{Cut, Opcode, Swi
 use Rattle.jl_pool.specs.Numbers.{u4}
 use Rattle.jl_code.specs.Instructions.{instruction_text, from_least, Pads, IsTableSwitch, IsLookupSwitch}
 use Rattle.jl_code.specs.Faults.{IsBadSwitch}
-use Rattle.jl_pool.specs.Means.Fields.{◌>>=◌, number_at, bytes_at}
-use Rattle.jl_code.specs.Means.Instructions.{with_part, padding_at, head_at, offsets_at, table_switch_at, pairs_at, lookup_switch_at}
+use Rattle.jl_pool.specs.ForProofs.Fields.{◌>>=◌, number_at, bytes_at}
+use Rattle.jl_code.specs.ForProofs.Instructions.{with_part, padding_at, head_at, offsets_at, table_switch_at, pairs_at, lookup_switch_at}
 use Rattle.jl_pool.proofs.Fields.{IsBytes, Takes, bind_some, some_is, u4_takes, u4_again, bytes_takes, bytes_again}
 use Rattle.jl_code.proofs.StopLaws.{Read, found, stopped, Spelled, with_part-some, ok_some, other_some, guarded-ok, guarded-bad, guarded-opcode}
 

@@ -3,4 +3,4 @@ pub mod Instructions
 pub mod Codes
 pub mod Kept
 pub mod Faults
-pub mod Means
+pub mod ForProofs

@@ -6,7 +6,7 @@ ghost use Rattle.std.specs.Option.{option_and_then};
 ghost use Rattle.std.specs.Str.{bytes_eq};
 ghost use Rattle.jl_code.specs.declared.instruction.Instruction.{Instruction};
 ghost use Rattle.jl_pool.specs.Pools.{Pool, text_at, signed_at};
-ghost use Rattle.jl_pool.specs.Means.Forms.{method_slots};
+ghost use Rattle.jl_pool.specs.ForProofs.Forms.{method_slots};
 ghost use Rattle.jl_code.specs.declared.code_fault.CodeFault.{CodeFault};
 ghost use Rattle.jl_code.specs.declared.code_fault.CodeFault.TheVariants.{Memory};
 ghost use Rattle.jl_class.specs.declared.site.KeptSite.{KeptSite};
@@ -14,7 +14,7 @@ ghost use Rattle.jl_code.specs.Kept.{IsKeptOf, Adds};
 ghost use Rattle.jl_code.specs.Codes.{kind_of, may_name, most_slots, tail_of, site_at, sites_from, OperandFits, IsCode};
 ghost use Rattle.jl_class.specs.Special.{begins_special};
 ghost use Rattle.jl_code.specs.Faults.{IsScanFault};
-ghost use Rattle.jl_code.specs.Means.Sites.{may_name_tag, signed_fits, names_method, is_invoked, IsSiteFault};
+ghost use Rattle.jl_code.specs.ForProofs.Sites.{may_name_tag, signed_fits, names_method, is_invoked, IsSiteFault};
 
 use crate::code_fault::CodeFault;
 use crate::instruction::{Instruction, Stop, instruction_at};

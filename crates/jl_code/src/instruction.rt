@@ -3,9 +3,9 @@
 ghost use Rattle.std.specs.Prelude.{◌≡◌};
 ghost use Rattle.jl_code.specs.Known.{plain_opcodes, invoke_rows};
 ghost use Rattle.jl_code.specs.Instructions.{operands_in, tail_in, from_least};
-ghost use Rattle.jl_pool.specs.Means.Fields.{Finds};
-ghost use Rattle.jl_code.specs.Means.Instructions.{Gives, invocation_at, plain_at, fixed_at, wide_at, padding_at, head_at, table_switch_at};
-ghost use Rattle.jl_code.specs.Means.Instructions.{lookup_switch_at, instruction_at};
+ghost use Rattle.jl_pool.specs.ForProofs.Fields.{Finds};
+ghost use Rattle.jl_code.specs.ForProofs.Instructions.{Gives, invocation_at, plain_at, fixed_at, wide_at, padding_at, head_at, table_switch_at};
+ghost use Rattle.jl_code.specs.ForProofs.Instructions.{lookup_switch_at, instruction_at};
 
 use jl_names::Text;
 use jl_pool::{bytes_at, u2_at, u4_at};
@@ -79,7 +79,7 @@ fn plain_at(opcode: u8, count: u8, bytes: &[u8]) -> Option<(Instruction<'_>, &[u
 }
 
 /// An instruction that is no switch and no wide, behind its opcode, and what comes after it.
-#[tactic(auto, unfolding(crate::specs::Means::Instructions::fixed_at))]
+#[tactic(auto, unfolding(crate::specs::ForProofs::Instructions::fixed_at))]
 fn fixed_at(opcode: u8, bytes: &[u8]) -> Result<(Instruction<'_>, &[u8]), Stop>
     ensures { Gives (λ x. (x.0, x.1.now)) result (fixed_at opcode bytes.now) }
 {
@@ -93,7 +93,7 @@ fn fixed_at(opcode: u8, bytes: &[u8]) -> Result<(Instruction<'_>, &[u8]), Stop>
 }
 
 /// An instruction behind a wide, and what comes after it.
-#[tactic(auto, unfolding(crate::specs::Means::Instructions::wide_at))]
+#[tactic(auto, unfolding(crate::specs::ForProofs::Instructions::wide_at))]
 fn wide_at(bytes: &[u8]) -> Result<(Instruction<'_>, &[u8]), Stop>
     ensures { Gives (λ x. (x.0, x.1.now)) result (wide_at bytes.now) }
 {
@@ -113,7 +113,7 @@ fn wide_at(bytes: &[u8]) -> Result<(Instruction<'_>, &[u8]), Stop>
 }
 
 /// The padding of a switch up to a multiple of 4 from the code's start, its default, and low or the number of pairs, and what comes after them.
-#[tactic(auto, unfolding(crate::specs::Means::Instructions::head_at, crate::specs::Means::Instructions::padding_at))]
+#[tactic(auto, unfolding(crate::specs::ForProofs::Instructions::head_at, crate::specs::ForProofs::Instructions::padding_at))]
 fn head_at(pc: u16, bytes: &[u8]) -> Option<((Text<'_>, u32, u32), &[u8])>
     ensures { Finds (λ x. (x.0, x.1.now)) result (head_at pc bytes.now) }
 {
@@ -135,7 +135,7 @@ fn from_least(bits: u32) -> u32
 }
 
 /// A tableswitch behind its opcode, and what comes after it.
-#[tactic(auto, unfolding(crate::specs::Means::Instructions::table_switch_at))]
+#[tactic(auto, unfolding(crate::specs::ForProofs::Instructions::table_switch_at))]
 fn table_switch_at(pc: u16, bytes: &[u8]) -> Result<(Instruction<'_>, &[u8]), Stop>
     ensures { Gives (λ x. (x.0, x.1.now)) result (table_switch_at pc bytes.now) }
 {
@@ -159,7 +159,7 @@ fn table_switch_at(pc: u16, bytes: &[u8]) -> Result<(Instruction<'_>, &[u8]), St
 }
 
 /// A lookupswitch behind its opcode, and what comes after it.
-#[tactic(auto, unfolding(crate::specs::Means::Instructions::lookup_switch_at))]
+#[tactic(auto, unfolding(crate::specs::ForProofs::Instructions::lookup_switch_at))]
 fn lookup_switch_at(pc: u16, bytes: &[u8]) -> Result<(Instruction<'_>, &[u8]), Stop>
     ensures { Gives (λ x. (x.0, x.1.now)) result (lookup_switch_at pc bytes.now) }
 {
@@ -178,7 +178,7 @@ fn lookup_switch_at(pc: u16, bytes: &[u8]) -> Result<(Instruction<'_>, &[u8]), S
 }
 
 /// The instruction at the front, at a place of its code, and what comes after it.
-#[tactic(auto, unfolding(crate::specs::Means::Instructions::instruction_at))]
+#[tactic(auto, unfolding(crate::specs::ForProofs::Instructions::instruction_at))]
 pub fn instruction_at(pc: u16, bytes: &[u8]) -> Result<(Instruction<'_>, &[u8]), Stop>
     ensures { Gives (λ x. (x.0, x.1.now)) result (instruction_at pc bytes.now) }
 {

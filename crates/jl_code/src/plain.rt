@@ -1,7 +1,7 @@
 //! Plain instructions: of a fixed length, and no invocations.
 
 ghost use Rattle.std.specs.Prelude.{◌≡◌, ◌+◌, ◌<◌, length, IfSome};
-ghost use Rattle.jl_code.specs.Means.Plain.{plain_length, IsBehindPlain};
+ghost use Rattle.jl_code.specs.ForProofs.Plain.{plain_length, IsBehindPlain};
 
 /// How many bytes a plain instruction takes, by its opcode (JVMS SE 17 §6.5), and 0 where none has it.
 static LENGTHS: [u8; 256] = [

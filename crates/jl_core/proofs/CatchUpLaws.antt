@@ -6,13 +6,13 @@ use Rattle.std.proofs.Common.{refl, ap, sym, subst, ◌∙◌, arith}
 use Rattle.std.proofs.lemmas.List.{map-append}
 use Rattle.std.proofs.lemmas.Option.{same_Some}
 use Rattle.jl_types.specs.declared.link.Link.{Link}
-use Rattle.jl_types.specs.Happenings.Event.{Event}
+use Rattle.jl_types.specs.Events.Event.{Event}
 use Rattle.jl_types.specs.declared.event.Reply.{Reply}
 use Rattle.jl_types.specs.Values.World.{Class, World}
 use Rattle.jl_types.specs.Linkage.Links.{scratch}
-use Rattle.jl_types.specs.Happenings.Events.{verdict, step}
-use Rattle.jl_types.specs.Happenings.History.{world_after, installed, installs, kept, dropped}
-use Rattle.jl_types.specs.Happenings.History as history
+use Rattle.jl_types.specs.Events.Verdict.{verdict, step}
+use Rattle.jl_types.specs.Events.History.{world_after, installed, installs, kept, dropped}
+use Rattle.jl_types.specs.Events.History as history
 use Rattle.jl_types.proofs.OneMore.{installed_step}
 use Rattle.jl_types.proofs.Places.{accepted_of, world_more}
 use Rattle.jl_types.specs.declared.key.Key.{Key}
@@ -23,8 +23,8 @@ use Rattle.jl_events.specs.Accepted.{event_of}
 use Rattle.jl_events.specs.Changes.{IsNext}
 use Rattle.jl_core.specs.State.{State, events, world_of, AreAnswered}
 use Rattle.jl_core.specs.Logs.{Entry, told, are_told, shown, IsLogged}
-use Rattle.jl_core.specs.Means.Replays.{AreDropped, IsBehind, IsFurther}
-use Rattle.jl_core.specs.Means.Touched.{has}
+use Rattle.jl_core.specs.ForProofs.Replays.{AreDropped, IsBehind, IsFurther}
+use Rattle.jl_core.specs.ForProofs.Touched.{has}
 use Rattle.jl_core.proofs.LogLaws.{length_told}
 use Rattle.jl_core.proofs.ToldLaws.{installs_so}
 use Rattle.jl_core.proofs.SlotLaws.{left_after}

@@ -5,13 +5,13 @@ use Rattle.std.proofs.lemmas.Bool.{cases_lt}
 use Rattle.std.proofs.lemmas.List.{map-append, take-append-le, length-map}
 use Rattle.std.proofs.lemmas.Option.{same_Some, slice_get_within}
 use Rattle.std.proofs.Math.Seq.{take-length}
-use Rattle.jl_types.specs.Happenings.Event.{Event}
+use Rattle.jl_types.specs.Events.Event.{Event}
 use Rattle.jl_types.specs.declared.event.Reply.{Reply}
 use Rattle.jl_types.specs.declared.link.Link.{Link}
 use Rattle.jl_types.specs.declared.refusal.Refusal.{Refusal}
 use Rattle.jl_types.specs.Linkage.Links.{scratch}
-use Rattle.jl_types.specs.Happenings.History as history
-use Rattle.jl_types.specs.Happenings.History.{Settled}
+use Rattle.jl_types.specs.Events.History as history
+use Rattle.jl_types.specs.Events.History.{Settled}
 use Rattle.jl_types.proofs.Installed.{installed_to, installed_from, settled_now}
 use Rattle.jl_types.proofs.InstalledLinks.{links_are, installed_requested}
 use Rattle.jl_types.proofs.Lists.{before_end, at_end}

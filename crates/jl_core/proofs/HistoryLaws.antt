@@ -5,25 +5,25 @@ use Rattle.std.proofs.Common.{ap, sym, subst, ◌∙◌}
 use Rattle.std.proofs.lemmas.List.{map-append}
 use Rattle.std.proofs.lemmas.List.Sums.{fold-append}
 use Rattle.jl_types.specs.declared.link.Link.{Link}
-use Rattle.jl_types.specs.Happenings.Event.{Event}
+use Rattle.jl_types.specs.Events.Event.{Event}
 use Rattle.jl_types.specs.declared.event.Reply.{Reply}
 use Rattle.jl_types.specs.Values.World.{Class, World, nothing_yet}
 use Rattle.jl_types.specs.Linkage.Links.{scratch}
-use Rattle.jl_types.specs.Happenings.Events.{verdict, step}
-use Rattle.jl_types.specs.Happenings.History.{world_after, installed, installs, kept, dropped, replied}
-use Rattle.jl_types.specs.Happenings.History as history
+use Rattle.jl_types.specs.Events.Verdict.{verdict, step}
+use Rattle.jl_types.specs.Events.History.{world_after, installed, installs, kept, dropped, replied}
+use Rattle.jl_types.specs.Events.History as history
 use Rattle.jl_types.proofs.Installed.{installed_to, settled_now}
 use Rattle.jl_types.proofs.OneMore.{installed_step}
 use Rattle.jl_types.proofs.Places.{limit_step}
 use Rattle.jl_select.specs.Constancy.{IsConstant}
 use Rattle.jl_types.specs.declared.key.Key.{Key}
-use Rattle.jl_types.specs.Happenings.Footprints.{footprint}
+use Rattle.jl_types.specs.Events.Footprints.{footprint}
 use Rattle.jl_cache.specs.Links.{link_at}
 use Rattle.jl_deps.specs.Indexes.{footprint_at, IsIndex}
 use Rattle.jl_events.proofs.AcceptedLaws.{rows_stay}
 use Rattle.jl_core.specs.State.{State, events, world_of, AreAnswered, IsAccepted}
 use Rattle.jl_core.specs.Logs.{Entry, are_told, shown, IsLogged}
-use Rattle.jl_core.specs.Means.Changes.{AreScratch, IsDone}
+use Rattle.jl_core.specs.ForProofs.Changes.{AreScratch, IsDone}
 use Rattle.jl_core.proofs.LogLaws.{all_still, told_more, shown_more}
 use Rattle.jl_core.proofs.HeadlineLaws.{answered_more}
 

@@ -8,14 +8,14 @@ use Rattle.jl_types.specs.declared.link.Link.{Link}
 use Rattle.jl_types.specs.Values.World.{World}
 use Rattle.jl_types.specs.Linkage.Resolution.{first_of}
 use Rattle.jl_types.specs.Linkage.Links.{scratch}
-use Rattle.jl_types.specs.Happenings.Events.{row_fault, install_fault}
-use Rattle.jl_types.specs.Happenings.History.{kept}
+use Rattle.jl_types.specs.Events.Verdict.{row_fault, install_fault}
+use Rattle.jl_types.specs.Events.History.{kept}
 use Rattle.jl_types.proofs.Firsts.{first_none}
 use Rattle.jl_types.proofs.Accepting.{linked, good_link}
 use Rattle.jl_cache.specs.Links.{link_at, link_with}
 use Rattle.jl_events.specs.Judging.{row_faults}
 use Rattle.jl_events.proofs.InstallLaws.{each_good}
-use Rattle.jl_core.specs.Means.Changes.{AreScratch}
+use Rattle.jl_core.specs.ForProofs.Changes.{AreScratch}
 use Rattle.jl_core.proofs.KeptLaws.{kept_same, kept_once}
 
 module _ (w : World) (s : ℕ) where

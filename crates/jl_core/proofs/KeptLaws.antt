@@ -4,8 +4,8 @@ use Rattle.std.proofs.Common.{refl, ap, sym, ◌∙◌}
 use Rattle.jl_types.specs.declared.link.Link.{Link}
 use Rattle.jl_types.specs.declared.answer.Unlinked.{Unlinked}
 use Rattle.jl_types.specs.Linkage.Links.{same_link}
-use Rattle.jl_types.specs.Means.SameLink.{link_decides}
-use Rattle.jl_types.specs.Happenings.History.{kept}
+use Rattle.jl_types.specs.ForProofs.SameLink.{link_decides}
+use Rattle.jl_types.specs.Events.History.{kept}
 use Rattle.jl_types.proofs.Installed.{kept_none, kept_link}
 
 -- where the link is still the one from scratch, it stays

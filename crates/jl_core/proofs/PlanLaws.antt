@@ -5,20 +5,20 @@ use Rattle.std.proofs.Common.{refl, ap, sym, ◌∙◌, arith}
 use Rattle.std.proofs.lemmas.List.{map-append}
 use Rattle.std.proofs.lemmas.Option.{same_Some, slice_get_within}
 use Rattle.jl_types.specs.declared.link.Link.{Link}
-use Rattle.jl_types.specs.Happenings.Event.{Event}
+use Rattle.jl_types.specs.Events.Event.{Event}
 use Rattle.jl_types.specs.declared.event.EventOf.TheVariants as event
 use Rattle.jl_types.specs.declared.event.Reply.{Reply}
 use Rattle.jl_types.specs.Values.World.{Class}
-use Rattle.jl_types.specs.Happenings.Events.{verdict}
-use Rattle.jl_types.specs.Happenings.History.{installed, installs, dropped}
-use Rattle.jl_types.specs.Happenings.Entries.{slots_changed}
+use Rattle.jl_types.specs.Events.Verdict.{verdict}
+use Rattle.jl_types.specs.Events.History.{installed, installs, dropped}
+use Rattle.jl_types.specs.Events.Entries.{slots_changed}
 use Rattle.jl_types.proofs.Lists.{at_end}
 use Rattle.jl_types.proofs.Places.{accepted_of}
 use Rattle.jl_cache.specs.Links.{link_at}
 use Rattle.jl_events.specs.Accepted.{Accepted, event_of}
 use Rattle.jl_core.specs.State.{State, events, world_of, IsAccepted}
 use Rattle.jl_core.specs.Logs.{Entry, are_told, shown}
-use Rattle.jl_core.specs.Means.Touched.{has, touched_by, AreTouched, slot_at}
+use Rattle.jl_core.specs.ForProofs.Touched.{has, touched_by, AreTouched, slot_at}
 use Rattle.jl_core.proofs.LogLaws.{length_told}
 use Rattle.jl_core.proofs.CatchUpLaws.{told_at, event_told, no_more}
 use Rattle.jl_core.proofs.SlotLaws.{slots_are}

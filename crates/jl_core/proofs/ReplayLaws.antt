@@ -4,24 +4,24 @@ use Rattle.std.proofs.Common.{refl, ap, sym, subst, ◌∙◌}
 use Rattle.std.proofs.lemmas.Option.{same_Some}
 use Rattle.jl_class.specs.Class.{ClassFile}
 use Rattle.jl_types.specs.declared.link.Link.{Link}
-use Rattle.jl_types.specs.Happenings.Event.{Event}
+use Rattle.jl_types.specs.Events.Event.{Event}
 use Rattle.jl_types.specs.declared.event.EventOf.TheVariants as event
 use Rattle.jl_types.specs.Values.World.{Class, World}
 use Rattle.jl_types.specs.Linkage.Links.{scratch}
-use Rattle.jl_types.specs.Happenings.Events.{step}
-use Rattle.jl_types.specs.Happenings.History.{installs, kept}
+use Rattle.jl_types.specs.Events.Verdict.{step}
+use Rattle.jl_types.specs.Events.History.{installs, kept}
 use Rattle.jl_relink.specs.Laws.{IsInOrder}
 use Rattle.jl_types.specs.declared.key.Key.{Key}
-use Rattle.jl_types.specs.Happenings.Footprints.{footprint, keys, retires}
+use Rattle.jl_types.specs.Events.Footprints.{footprint, keys, retires}
 use Rattle.jl_cache.specs.Links.{link_at}
 use Rattle.jl_deps.specs.Indexes.{footprint_at, touched_by, AreRising, IsIndex}
 use Rattle.jl_settle.specs.Settling.{HasChanged, defined_by}
 use Rattle.jl_settle.proofs.SettleLaws.{other, rests}
 use Rattle.jl_events.specs.Changes.{IsAcceptable}
 use Rattle.jl_events.specs.Accepted.{Accepted, event_of}
-use Rattle.jl_core.specs.Means.Changes.{AreScratch, retires_at}
-use Rattle.jl_core.specs.Means.Replays.{IsFurther, IsUntouched}
-use Rattle.jl_core.specs.Means.Touched.{has}
+use Rattle.jl_core.specs.ForProofs.Changes.{AreScratch, retires_at}
+use Rattle.jl_core.specs.ForProofs.Replays.{IsFurther, IsUntouched}
+use Rattle.jl_core.specs.ForProofs.Touched.{has}
 use Rattle.jl_core.proofs.RetireLaws.{retires_so, links_left, index_left, kept_left}
 use Rattle.jl_core.proofs.StepLaws.{none_touched}
 use Rattle.jl_core.proofs.PlanLaws.{installs_has}

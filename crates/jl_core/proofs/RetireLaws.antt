@@ -9,24 +9,24 @@ use Rattle.std.proofs.lemmas.Option.{same_Some}
 use Rattle.jl_types.specs.declared.answer.Unlinked.{Unlinked}
 use Rattle.jl_types.specs.declared.answer.Unlinked.TheVariants.{Gone}
 use Rattle.jl_types.specs.declared.link.Link.{Link}
-use Rattle.jl_types.specs.Happenings.Event.{Event}
+use Rattle.jl_types.specs.Events.Event.{Event}
 use Rattle.jl_types.specs.declared.event.EventOf.TheVariants as event
 use Rattle.jl_types.specs.Values.World.{Class, World}
 use Rattle.jl_types.specs.Linkage.Links.{scratch}
-use Rattle.jl_types.specs.Happenings.Events.{step}
-use Rattle.jl_types.specs.Happenings.History.{installs, kept}
+use Rattle.jl_types.specs.Events.Verdict.{step}
+use Rattle.jl_types.specs.Events.History.{installs, kept}
 use Rattle.jl_types.specs.declared.key.Key.{Key}
-use Rattle.jl_types.specs.Happenings.Footprints.{footprint, meets, retires}
+use Rattle.jl_types.specs.Events.Footprints.{footprint, meets, retires}
 use Rattle.jl_types.proofs.BySite.{rises_of}
 use Rattle.jl_types.proofs.Retiring.{gone_after}
-use Rattle.jl_hierarchy.specs.Means.Kept.{Rises}
+use Rattle.jl_hierarchy.specs.ForProofs.Kept.{Rises}
 use Rattle.jl_hierarchy.proofs.Rising.{has, one_rising}
 use Rattle.jl_resolve.proofs.Unchanged.{all_filter}
 use Rattle.jl_cache.specs.Links.{link_at}
 use Rattle.jl_deps.specs.Indexes.{footprint_at, touched_by, AreRising, IsIndex}
 use Rattle.jl_deps.proofs.TouchLaws.{passing, sites_rise}
 use Rattle.jl_events.specs.Accepted.{Accepted, event_of}
-use Rattle.jl_core.specs.Means.Changes.{retires_at}
+use Rattle.jl_core.specs.ForProofs.Changes.{retires_at}
 
 -- ---- what is retired
 

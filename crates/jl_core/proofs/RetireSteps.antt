@@ -4,23 +4,23 @@ use Rattle.std.specs.Prelude.{Some, None, is_some, is_none, if◌then◌else◌}
 use Rattle.std.proofs.Common.{refl, ap, sym, subst, ◌∙◌, arith}
 use Rattle.std.proofs.lemmas.Option.{same_Some}
 use Rattle.jl_types.specs.declared.link.Link.{Link}
-use Rattle.jl_types.specs.Happenings.Event.{Event}
+use Rattle.jl_types.specs.Events.Event.{Event}
 use Rattle.jl_types.specs.declared.event.EventOf.TheVariants as event
 use Rattle.jl_types.specs.Values.World.{World}
 use Rattle.jl_types.specs.Linkage.Links.{scratch}
-use Rattle.jl_types.specs.Happenings.Retirement.{retires_site}
-use Rattle.jl_types.specs.Happenings.Events.{step}
-use Rattle.jl_types.specs.Happenings.History.{installs, kept}
+use Rattle.jl_types.specs.Events.Retirement.{retires_site}
+use Rattle.jl_types.specs.Events.Verdict.{step}
+use Rattle.jl_types.specs.Events.History.{installs, kept}
 use Rattle.jl_types.specs.declared.key.Key.{Key}
-use Rattle.jl_types.specs.Happenings.Footprints.{footprint, keys, most_for, retires}
+use Rattle.jl_types.specs.Events.Footprints.{footprint, keys, most_for, retires}
 use Rattle.jl_cache.specs.Links.{link_at}
 use Rattle.jl_deps.specs.Indexes.{footprint_at, touched_by, AreRising}
 use Rattle.jl_settle.specs.Settling.{HasChanged, kept_at, goes, most_asked}
 use Rattle.jl_events.specs.Accepted.{Accepted, event_of}
 use Rattle.jl_events.proofs.InstallCounts.{no_more, few_by}
-use Rattle.jl_core.specs.Means.Changes.{AreScratch, retires_at}
-use Rattle.jl_core.specs.Means.Steps.{AreGone, AreRetired, HasStepped, most_told}
-use Rattle.jl_core.specs.Means.Touched.{has}
+use Rattle.jl_core.specs.ForProofs.Changes.{AreScratch, retires_at}
+use Rattle.jl_core.specs.ForProofs.Steps.{AreGone, AreRetired, HasStepped, most_told}
+use Rattle.jl_core.specs.ForProofs.Touched.{has}
 use Rattle.jl_core.proofs.RetireLaws.{retires_so, retired_then, dropped_all, taken_all, lost_all, links_left, index_left}
 use Rattle.jl_core.proofs.RetireLaws.{kept_left, touched_left, few_in_sum, lost_or_gone}
 use Rattle.jl_core.proofs.StepLaws.{defined_so, few_touched}

@@ -3,11 +3,11 @@ use Rattle.std.specs.Prelude.{◌≡◌, true, false, [], ◌∷◌, Ok, Err}
 use Rattle.std.proofs.Common.{refl, inl}
 use Rattle.jl_types.specs.declared.event.EventOf.TheVariants as event
 use Rattle.jl_types.specs.declared.event.Made.TheVariants as made
-use Rattle.jl_types.specs.Happenings.Event.{Event}
+use Rattle.jl_types.specs.Events.Event.{Event}
 use Rattle.jl_types.specs.declared.event.Reply.{Reply}
 use Rattle.jl_types.specs.declared.refusal.Refusal.TheVariants.{CallSite}
 use Rattle.jl_types.specs.declared.refusal.CallSiteFault.TheVariants.{UnknownSwitch}
-use Rattle.jl_types.specs.Happenings.Footprints.{bound}
+use Rattle.jl_types.specs.Events.Footprints.{bound}
 use Rattle.jl_types.specs.Values.World.{Class, nothing_yet}
 use Rattle.jl_select.proofs.Constancy.{constant_itself}
 use Rattle.jl_relink.proofs.Loaders.{loader_constant}

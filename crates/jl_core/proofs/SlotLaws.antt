@@ -9,19 +9,19 @@ use Rattle.std.proofs.lemmas.List.{take_more}
 use Rattle.std.proofs.lemmas.List.Elements.{filter_map-append}
 use Rattle.jl_types.specs.declared.link.Link.{Link}
 use Rattle.jl_types.specs.declared.answer.Unlinked.{Unlinked}
-use Rattle.jl_types.specs.Happenings.Event.{Event}
-use Rattle.jl_types.specs.Means.SameLink.{link_decides}
+use Rattle.jl_types.specs.Events.Event.{Event}
+use Rattle.jl_types.specs.ForProofs.SameLink.{link_decides}
 use Rattle.jl_types.specs.Linkage.Links.{scratch}
-use Rattle.jl_types.specs.Happenings.History.{world_after, installed, installs, kept, dropped, site_numbers}
-use Rattle.jl_types.specs.Happenings.Entries.{change, slots_changed}
+use Rattle.jl_types.specs.Events.History.{world_after, installed, installs, kept, dropped, site_numbers}
+use Rattle.jl_types.specs.Events.Entries.{change, slots_changed}
 use Rattle.jl_types.proofs.Bools.{Passing, any-filter, any-filter-at, any-range-from}
 use Rattle.jl_types.proofs.InstalledLinks.{installed_requested}
 use Rattle.jl_types.proofs.OneMore.{installed_step}
 use Rattle.jl_types.proofs.Written.{unrequested}
 use Rattle.jl_types.proofs.Places.{places_grow}
-use Rattle.jl_hierarchy.specs.Means.Kept.{Rises}
+use Rattle.jl_hierarchy.specs.ForProofs.Kept.{Rises}
 use Rattle.jl_hierarchy.proofs.Rising.{none_up_to, other_number}
-use Rattle.jl_core.specs.Means.Touched.{has, AreTouched}
+use Rattle.jl_core.specs.ForProofs.Touched.{has, AreTouched}
 use Rattle.jl_types.proofs.Installed.{kept_none}
 use Rattle.jl_core.proofs.KeptLaws.{kept_if}
 

@@ -4,19 +4,19 @@ use Rattle.std.specs.Prelude.{filter, sum_by, slice_get, Option, Some, None, opt
 use Rattle.std.specs.List.{list_any, range_with_len}
 use Rattle.std.proofs.Common.{refl, ap, sym, subst, ◌∙◌, arith}
 use Rattle.std.proofs.lemmas.Option.{same_Some}
-use Rattle.jl_types.specs.Happenings.Event.{Event}
+use Rattle.jl_types.specs.Events.Event.{Event}
 use Rattle.jl_types.specs.declared.link.Link.{Link}
 use Rattle.jl_types.specs.Values.World.{Class, World}
 use Rattle.jl_types.specs.Linkage.Links.{scratch}
-use Rattle.jl_types.specs.Happenings.History.{kept}
-use Rattle.jl_types.specs.Happenings.Events as events
-use Rattle.jl_types.specs.Happenings.Events.{install_fault}
+use Rattle.jl_types.specs.Events.History.{kept}
+use Rattle.jl_types.specs.Events.Verdict as events
+use Rattle.jl_types.specs.Events.Verdict.{install_fault}
 use Rattle.jl_types.specs.declared.event.EventOf.TheVariants as event
 use Rattle.jl_types.proofs.InstalledLinks.{requested}
 use Rattle.jl_hierarchy.proofs.Rising.{one_rising, filter_rises}
 use Rattle.jl_types.specs.declared.key.Key.{Key}
-use Rattle.jl_types.specs.Happenings.Retirement.{retires_site}
-use Rattle.jl_types.specs.Happenings.Footprints.{keys, meets, most_for, touches}
+use Rattle.jl_types.specs.Events.Retirement.{retires_site}
+use Rattle.jl_types.specs.Events.Footprints.{keys, meets, most_for, touches}
 use Rattle.jl_cache.specs.Links.{link_at, link_with}
 use Rattle.jl_deps.specs.Indexes.{IsIndex, touched_by}
 use Rattle.jl_types.proofs.BySite.{rises_of}
@@ -30,9 +30,9 @@ use Rattle.jl_events.specs.Changes.{IsAcceptable, class_of}
 use Rattle.jl_events.specs.Changes as changes
 use Rattle.jl_events.proofs.ChangeLaws.{rows_free}
 use Rattle.jl_events.proofs.InstallCounts.{few_of_range}
-use Rattle.jl_core.specs.Means.Changes.{installs_at, retires_at, lost}
-use Rattle.jl_core.specs.Means.Steps.{IsSound, HasStepped, most_to_settle, most_told}
-use Rattle.jl_core.specs.Means.Touched.{has, AreTouched}
+use Rattle.jl_core.specs.ForProofs.Changes.{installs_at, retires_at, lost}
+use Rattle.jl_core.specs.ForProofs.Steps.{IsSound, HasStepped, most_to_settle, most_told}
+use Rattle.jl_core.specs.ForProofs.Touched.{has, AreTouched}
 use Rattle.jl_core.proofs.KeptLaws.{kept_once}
 use Rattle.jl_core.proofs.InstallLaws.{install_keeps}
 use Rattle.jl_core.proofs.RetireLaws.{retires_so}

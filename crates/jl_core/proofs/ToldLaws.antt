@@ -2,12 +2,12 @@
 use Rattle.std.specs.Prelude.{◌≡◌, ℕ, Bool, false, List, Option, Some, None, option_map, slice_get}
 use Rattle.std.proofs.Common.{refl, ap, sym, ◌∙◌}
 use Rattle.std.proofs.lemmas.Option.{same_Some}
-use Rattle.jl_types.specs.Happenings.Event.{Event}
+use Rattle.jl_types.specs.Events.Event.{Event}
 use Rattle.jl_types.specs.declared.event.EventOf.TheVariants as event
 use Rattle.jl_types.specs.Values.World.{Class}
-use Rattle.jl_types.specs.Happenings.History.{installs}
+use Rattle.jl_types.specs.Events.History.{installs}
 use Rattle.jl_events.specs.Accepted.{Accepted, event_of}
-use Rattle.jl_core.specs.Means.Changes.{installs_at}
+use Rattle.jl_core.specs.ForProofs.Changes.{installs_at}
 
 -- which sites it installs
 module _ (rows : List Class) (e : Event) (s : ℕ) where

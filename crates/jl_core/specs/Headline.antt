@@ -1,6 +1,6 @@
 -- A core after any events.
 use Rattle.std.specs.Prelude.{◌≡◌, List, [], ◌∷◌, Result}
-use Rattle.jl_types.specs.Happenings.Event.{Event}
+use Rattle.jl_types.specs.Events.Event.{Event}
 use Rattle.jl_types.specs.declared.event.Reply.{Reply}
 use Rattle.jl_types.specs.declared.refusal.Refusal.{Refusal}
 use Rattle.jl_core.specs.State.{State, IsApplied}

@@ -4,4 +4,4 @@ pub mod Logs
 pub mod Plans
 pub mod Headline
 pub mod WorkBounds
-pub mod Means
+pub mod ForProofs

@@ -1,7 +1,7 @@
 -- What the entries of a log tell.
 use Rattle.std.specs.Prelude.{◌≡◌, Bool, List, [], ◌∷◌, ◌++◌, filter_map, Option, Some, option_map, is_some}
 use Rattle.std.specs.List.{list_all}
-use Rattle.jl_types.specs.Happenings.Event.{Event}
+use Rattle.jl_types.specs.Events.Event.{Event}
 use Rattle.jl_types.specs.declared.event.Reply.{Reply}
 use Rattle.jl_types.specs.Values.World.{Class}
 use Rattle.jl_events.specs.Accepted.{Accepted, event_of}

@@ -1,9 +1,9 @@
 -- Planned events. A plan makes all that is to be refused and all room, so that what is left of the event can't fail.
 use Rattle.std.specs.Prelude.{ℕ, List, Option}
 use Rattle.jl_types.specs.declared.link.Link.{Link}
-use Rattle.jl_types.specs.Happenings.Event.{Event}
+use Rattle.jl_types.specs.Events.Event.{Event}
 use Rattle.jl_types.specs.declared.event.Reply.{Reply}
-use Rattle.jl_types.specs.Happenings.Entries.{IsEntry}
+use Rattle.jl_types.specs.Events.Entries.{IsEntry}
 use Rattle.jl_core.specs.State.{State, events, IsAccepted}
 
 -- A planned event: the core that it leads to, what it is answered, and each site that it changes with its new link or none.

@@ -1,7 +1,7 @@
 -- How many evaluations the last of a list of events may take.
 use Rattle.std.specs.Prelude.{ℕ, List, [], ◌∷◌, ◌++◌}
-use Rattle.jl_types.specs.Happenings.Event.{Event}
-use Rattle.jl_types.specs.Happenings.Footprints.{bound}
+use Rattle.jl_types.specs.Events.Event.{Event}
+use Rattle.jl_types.specs.Events.Footprints.{bound}
 
 -- of these events, which came after those before them
 abbrev pub most_after : List Event → List Event → ℕ

@@ -2,15 +2,15 @@
 //! looked up: what the event changed is taken over from the instance ahead.
 
 ghost use Rattle.std.specs.Prelude.{◌≡◌, ◌<◌, ◌^◌, ◌++◌, ◌∷◌, [], ℕ, false, Some, None, length, IfOk, OnOk, if◌then◌else◌};
-ghost use Rattle.jl_types.specs.Happenings.Event.{Event};
-ghost use Rattle.jl_types.specs.Happenings.Footprints as footprints;
+ghost use Rattle.jl_types.specs.Events.Event.{Event};
+ghost use Rattle.jl_types.specs.Events.Footprints as footprints;
 ghost use Rattle.jl_cache.specs.Links.{link_at};
 ghost use Rattle.jl_deps.specs.Indexes.{footprint_at, IsIndex};
 ghost use Rattle.jl_events.specs.Accepted.{event_of};
 ghost use Rattle.jl_events.specs.Changes.{IsNext};
-ghost use Rattle.jl_core.specs.Means.Changes.{AreScratch, retires_at};
-ghost use Rattle.jl_core.specs.Means.Replays.{AreDropped, IsFurther, IsUntouched};
-ghost use Rattle.jl_core.specs.Means.Touched.{has};
+ghost use Rattle.jl_core.specs.ForProofs.Changes.{AreScratch, retires_at};
+ghost use Rattle.jl_core.specs.ForProofs.Replays.{AreDropped, IsFurther, IsUntouched};
+ghost use Rattle.jl_core.specs.ForProofs.Touched.{has};
 
 use crate::log::Entry;
 use crate::slots::with_sites;

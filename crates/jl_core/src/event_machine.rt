@@ -1,7 +1,7 @@
 //! What takes events one after another.
 
 ghost use Rattle.std.specs.Prelude.{◌≡◌, IfOk, IfErr, OnErr};
-ghost use Rattle.jl_types.specs.Happenings.Events.{verdict};
+ghost use Rattle.jl_types.specs.Events.Verdict.{verdict};
 ghost use Rattle.jl_core.specs.State.{State, world_of, IsAccepted, IsRefused};
 
 use crate::machine::Core;

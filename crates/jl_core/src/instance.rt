@@ -1,15 +1,15 @@
 //! One instance of all that a core keeps.
 
 ghost use Rattle.std.specs.Prelude.{◌≡◌, ◌≤◌, ℕ, true, length, option_copied, slice_get, IsOk, IfOk, OnOk};
-ghost use Rattle.jl_types.specs.Happenings.Events.{verdict};
-ghost use Rattle.jl_types.specs.Happenings.History.{installed};
-ghost use Rattle.jl_types.specs.Happenings.Footprints.{bound};
+ghost use Rattle.jl_types.specs.Events.Verdict.{verdict};
+ghost use Rattle.jl_types.specs.Events.History.{installed};
+ghost use Rattle.jl_types.specs.Events.Footprints.{bound};
 ghost use Rattle.jl_relink.specs.Laws.{IsInOrder};
 ghost use Rattle.jl_cache.specs.Links.{link_at};
 ghost use Rattle.jl_events.specs.Judging.{IsJudged, most_to_judge};
 ghost use Rattle.jl_core.specs.State.{empty_core, events, world_of, AreAnswered, IsAccepted};
 ghost use Rattle.jl_core.specs.Logs.{shown, are_told};
-ghost use Rattle.jl_core.specs.Means.Replays.{IsBehind};
+ghost use Rattle.jl_core.specs.ForProofs.Replays.{IsBehind};
 
 use crate::catch_up::catch_up;
 use crate::log::{Entry, share_log};
@@ -49,8 +49,8 @@ impl Drop for Instance {
 impl Model for Instance {
     ghost use Rattle.std.specs.Prelude.{◌≡◌, ◌<◌, ◌≤◌, ◌^◌, ℕ, true, length};
     ghost use Rattle.std.specs.Coded.{codes};
-    ghost use Rattle.jl_types.specs.Means.TargetCode.{target_code};
-    ghost use Rattle.jl_types.specs.Happenings.History.{installed};
+    ghost use Rattle.jl_types.specs.ForProofs.TargetCode.{target_code};
+    ghost use Rattle.jl_types.specs.Events.History.{installed};
     ghost use Rattle.jl_cache.specs.Links.{link_at};
     ghost use Rattle.jl_deps.specs.Indexes.{IsIndex};
     ghost use Rattle.jl_core.specs.State.{State, events, world_of, AreAnswered};

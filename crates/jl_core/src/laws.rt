@@ -1,12 +1,12 @@
 //! The laws of a core: each is the contract of a function that does nothing.
 
 ghost use Rattle.std.specs.Prelude.{◌≡◌, ◌↔◌, ◌<◌, ℕ, List, Some, Ok, length, slice_get, take, Contains};
-ghost use Rattle.jl_types.specs.Happenings.Event.{Event};
+ghost use Rattle.jl_types.specs.Events.Event.{Event};
 ghost use Rattle.jl_types.specs.declared.event.Reply.{Reply};
 ghost use Rattle.jl_types.specs.declared.link.Link.{Link};
 ghost use Rattle.jl_types.specs.Linkage.Links.{scratch};
-ghost use Rattle.jl_types.specs.Happenings.History as history;
-ghost use Rattle.jl_types.specs.Happenings.History.{Settled};
+ghost use Rattle.jl_types.specs.Events.History as history;
+ghost use Rattle.jl_types.specs.Events.History.{Settled};
 ghost use Rattle.jl_core.specs.State.{State, empty_core, events, world_of, links_of};
 ghost use Rattle.jl_core.specs.Headline.{AreApplied};
 

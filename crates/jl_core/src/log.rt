@@ -50,7 +50,7 @@ impl fmt::Debug for Entry {
 
 impl Model for Entry {
     ghost use Rattle.std.specs.Coded.{codes};
-    ghost use Rattle.jl_types.specs.Means.TargetCode.{target_code};
+    ghost use Rattle.jl_types.specs.ForProofs.TargetCode.{target_code};
     ghost use Rattle.jl_core.specs.Logs as logs;
 
     ghost Value = { logs.Entry };

@@ -4,10 +4,10 @@ ghost use Rattle.std.specs.Prelude.{◌≡◌, ◌≤◌, ◌⊎◌, ℕ, true, 
 ghost use Rattle.jl_types.specs.declared.event.Reply.{Reply};
 ghost use Rattle.jl_types.specs.declared.refusal.Refusal.TheVariants.{Memory};
 ghost use Rattle.jl_types.specs.Linkage.Calls as calls;
-ghost use Rattle.jl_types.specs.Happenings.Event.{Event};
-ghost use Rattle.jl_types.specs.Happenings.Events.{verdict};
-ghost use Rattle.jl_types.specs.Happenings.History.{installed};
-ghost use Rattle.jl_types.specs.Happenings.Footprints.{bound};
+ghost use Rattle.jl_types.specs.Events.Event.{Event};
+ghost use Rattle.jl_types.specs.Events.Verdict.{verdict};
+ghost use Rattle.jl_types.specs.Events.History.{installed};
+ghost use Rattle.jl_types.specs.Events.Footprints.{bound};
 ghost use Rattle.jl_relink.specs.Preparations.{IsPreparation};
 ghost use Rattle.jl_cache.specs.Links.{link_at};
 ghost use Rattle.jl_events.specs.Judging.{most_to_judge};
@@ -53,9 +53,9 @@ impl Drop for Core {
 impl Model for Core {
     ghost use Rattle.std.specs.Prelude.{◌≤◌, IfSome};
     ghost use Rattle.std.specs.Coded.{codes};
-    ghost use Rattle.jl_types.specs.Means.TargetCode.{target_code};
+    ghost use Rattle.jl_types.specs.ForProofs.TargetCode.{target_code};
     ghost use Rattle.jl_core.specs.State.{State, events};
-    ghost use Rattle.jl_core.specs.Means.Replays.{IsBehind};
+    ghost use Rattle.jl_core.specs.ForProofs.Replays.{IsBehind};
     ghost use Rattle.jl_core.specs.WorkBounds.{most_of_last};
 
     ghost Value = { State };

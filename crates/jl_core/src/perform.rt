@@ -5,13 +5,13 @@ ghost use Rattle.std.specs.List.{list_any};
 ghost use Rattle.jl_types.specs.declared.event.EventOf.TheVariants as events;
 ghost use Rattle.jl_types.specs.declared.key.Key as keys;
 ghost use Rattle.jl_types.specs.Linkage.Links.{scratch};
-ghost use Rattle.jl_types.specs.Happenings.History.{kept};
+ghost use Rattle.jl_types.specs.Events.History.{kept};
 ghost use Rattle.jl_cache.specs.Links.{link_at};
 ghost use Rattle.jl_deps.specs.Indexes.{IsIndex};
 ghost use Rattle.jl_events.specs.Changes.{IsAcceptable};
-ghost use Rattle.jl_core.specs.Means.Changes.{installs_at};
-ghost use Rattle.jl_core.specs.Means.Steps.{AreGone, AreRetired, IsSound, HasStepped, IsStep, most_told};
-ghost use Rattle.jl_core.specs.Means.Touched.{AreTouched};
+ghost use Rattle.jl_core.specs.ForProofs.Changes.{installs_at};
+ghost use Rattle.jl_core.specs.ForProofs.Steps.{AreGone, AreRetired, IsSound, HasStepped, IsStep, most_told};
+ghost use Rattle.jl_core.specs.ForProofs.Touched.{AreTouched};
 
 use crate::log::Entry;
 use jl_cache::{Cache, KeptLink};

@@ -1,7 +1,7 @@
 //! A planned event, and the sites that it changes.
 
 ghost use Rattle.std.specs.Prelude.{◌≡◌, ◌≤◌, length, IfOk};
-ghost use Rattle.jl_types.specs.Happenings.Event.{Event};
+ghost use Rattle.jl_types.specs.Events.Event.{Event};
 ghost use Rattle.jl_core.specs.State.{events, world_of, IsAccepted};
 ghost use Rattle.jl_core.specs.WorkBounds.{most_of_last};
 ghost use Rattle.jl_core.specs.Plans.{IsPlanned};
@@ -35,7 +35,7 @@ impl Drop for Planned {
 
 impl Model for Planned {
     ghost use Rattle.std.specs.Coded.{codes};
-    ghost use Rattle.jl_types.specs.Means.TargetCode.{target_code};
+    ghost use Rattle.jl_types.specs.ForProofs.TargetCode.{target_code};
     ghost use Rattle.jl_core.specs.Plans.{Plan};
 
     ghost Value = { Plan };

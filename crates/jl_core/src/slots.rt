@@ -2,11 +2,11 @@
 
 ghost use Rattle.std.specs.Prelude.{◌≡◌, ◌++◌, ◌∷◌, [], map, filter_map, option_map, IfOk, OnOk};
 ghost use Rattle.std.specs.List.{cons_option};
-ghost use Rattle.jl_types.specs.Happenings.Event.{Event};
+ghost use Rattle.jl_types.specs.Events.Event.{Event};
 ghost use Rattle.jl_types.specs.declared.event.Reply.{Reply};
-ghost use Rattle.jl_types.specs.Happenings.Entries.{change, same_slot, slots_changed};
+ghost use Rattle.jl_types.specs.Events.Entries.{change, same_slot, slots_changed};
 ghost use Rattle.jl_core.specs.State.{events, IsAccepted};
-ghost use Rattle.jl_core.specs.Means.Touched.{touched_by, AreTouched, slot_at};
+ghost use Rattle.jl_core.specs.ForProofs.Touched.{touched_by, AreTouched, slot_at};
 
 use crate::instance::{Instance, entry_at};
 use crate::log::Entry;

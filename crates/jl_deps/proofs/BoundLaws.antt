@@ -1,13 +1,13 @@
 -- The sites that the index gives for an event's keys are those that the bound counts.
 use Rattle.std.specs.Prelude.{◌≡◌, ℕ, ◌<◌, ◌&&◌, true, List, length, Option, Some, None, is_some}
 use Rattle.std.proofs.Common.{refl, sym, ◌∙◌}
-use Rattle.jl_types.specs.Happenings.Event.{Event}
+use Rattle.jl_types.specs.Events.Event.{Event}
 use Rattle.jl_types.specs.declared.link.Link.{Link}
-use Rattle.jl_types.specs.Happenings.History.{world_after, installed}
+use Rattle.jl_types.specs.Events.History.{world_after, installed}
 use Rattle.jl_types.proofs.InstalledLinks.{installed_requested}
 use Rattle.jl_hierarchy.proofs.Rising.{one_rising, filter_rises}
 use Rattle.jl_types.specs.declared.key.Key.{Key}
-use Rattle.jl_types.specs.Happenings.Footprints.{meets, keys, touches, touched}
+use Rattle.jl_types.specs.Events.Footprints.{meets, keys, touches, touched}
 use Rattle.jl_deps.specs.Indexes.{AreRising, IsIndex, touched_by}
 use Rattle.jl_types.proofs.BySite.{rises_of}
 use Rattle.jl_deps.proofs.IndexLaws.{touched_of}

@@ -2,15 +2,15 @@
 use Rattle.std.specs.Prelude.{◌≡◌, ℕ, ◌&&◌, false, List, Option, Some, None, option_map, Ok, IsOk, is_some}
 use Rattle.std.specs.Option.{option_map_or}
 use Rattle.std.proofs.Common.{refl, ap, sym, ◌∙◌}
-use Rattle.jl_types.specs.Happenings.Event.{Event}
+use Rattle.jl_types.specs.Events.Event.{Event}
 use Rattle.jl_types.specs.declared.link.Link.{Link}
 use Rattle.jl_types.specs.Values.World.{World}
 use Rattle.jl_types.specs.Linkage.Links.{scratch}
-use Rattle.jl_types.specs.Happenings.Events.{verdict, step}
-use Rattle.jl_types.specs.Happenings.History.{kept}
+use Rattle.jl_types.specs.Events.Verdict.{verdict, step}
+use Rattle.jl_types.specs.Events.History.{kept}
 use Rattle.jl_hierarchy.proofs.Rising.{has}
 use Rattle.jl_types.specs.declared.key.Key.{Key}
-use Rattle.jl_types.specs.Happenings.Footprints.{meets, footprint, keys, retires, touches}
+use Rattle.jl_types.specs.Events.Footprints.{meets, footprint, keys, retires, touches}
 use Rattle.jl_relink.specs.Laws.{IsInOrder}
 use Rattle.jl_relink.proofs.KeyLaws.{untouched_stays}
 use Rattle.jl_deps.specs.Indexes.{AreRising, IsIndex, StaysIndexed, touched_by}

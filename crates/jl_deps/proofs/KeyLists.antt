@@ -7,9 +7,9 @@ use Rattle.indexmap.specs.IndexMap.{IndexMap, get}
 use Rattle.indexmap.specs.IndexSet.{IndexSet}
 use Rattle.jl_types.specs.declared.key.Key.{Key}
 use Rattle.jl_types.specs.declared.key.Key.TheVariants as key
-use Rattle.jl_types.specs.Happenings.Footprints.{same_key, has_key}
+use Rattle.jl_types.specs.Events.Footprints.{same_key, has_key}
 use Rattle.jl_relink.proofs.Untouched.{same_key_is}
-use Rattle.jl_deps.specs.Means.Lists.{key_eq, listed, AreListed}
+use Rattle.jl_deps.specs.ForProofs.Lists.{key_eq, listed, AreListed}
 
 pub key_same : (k j : Key) → key_eq k j ≡ same_key k j
 key_same (key.Receivers c) (key.Receivers d) = refl

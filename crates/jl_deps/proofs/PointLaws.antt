@@ -10,9 +10,9 @@ use Rattle.std.proofs.lemmas.List.Folds.{list_any-append}
 use Rattle.jl_types.specs.Values.World.{Sites}
 use Rattle.jl_types.specs.Linkage.Targets.{is_valid}
 use Rattle.jl_types.proofs.Bools.{Passing, any-filter, any-filter-at, any-range-from}
-use Rattle.jl_hierarchy.specs.Means.Kept.{Rises}
+use Rattle.jl_hierarchy.specs.ForProofs.Kept.{Rises}
 use Rattle.jl_hierarchy.proofs.Rising.{has, filter_rises}
-use Rattle.jl_types.specs.Happenings.Footprints.{still_valid}
+use Rattle.jl_types.specs.Events.Footprints.{still_valid}
 
 -- two filters are one
 twice : (p q : ℕ → Bool) (xs : List ℕ) → filter p (filter q xs) ≡ filter (λ n. q n && p n) xs

@@ -10,8 +10,8 @@ use Rattle.jl_types.specs.declared.link.Link.TheVariants.{Plain}
 use Rattle.jl_types.specs.declared.target.CallSiteKind.TheVariants.{Mutable}
 use Rattle.jl_types.specs.Values.Target as target
 use Rattle.jl_types.specs.Values.World.{World}
-use Rattle.jl_types.specs.Happenings.History.{world_after}
-use Rattle.jl_types.specs.Happenings.Footprints.{footprint}
+use Rattle.jl_types.specs.Events.History.{world_after}
+use Rattle.jl_types.specs.Events.Footprints.{footprint}
 use Rattle.jl_types.proofs.BySite.{sites_rise}
 use Rattle.jl_types.proofs.Rows.CallSites.{begun, m, n}
 use Rattle.jl_deps.specs.Indexes.{footprint_at, AreRising, touched_by, IsIndex, StaysIndexed}

@@ -11,7 +11,7 @@ use Rattle.jl_types.specs.Values.Members.{is_static}
 use Rattle.jl_types.specs.Linkage.Selection.{is_init}
 use Rattle.jl_types.specs.Linkage.Resolution.{Resolved}
 use Rattle.jl_types.specs.Linkage.Stages.{Stage, Fails, Calls, Selects, Selector, BySpecial, ResolvedCall, selecting, by_resolution}
-use Rattle.jl_types.specs.Happenings.Footprints.{of_stage}
+use Rattle.jl_types.specs.Events.Footprints.{of_stage}
 
 none_by : (cs : Classes) (b : Bool) (x y : Stage) → of_stage cs x ≡ [] → of_stage cs y ≡ [] → of_stage cs (if b then x else y) ≡ []
 none_by cs true x y first second = first

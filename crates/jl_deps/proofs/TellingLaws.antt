@@ -20,8 +20,8 @@ use Rattle.jl_types.specs.Linkage.Resolution.{naming, named_class, resolved, res
 use Rattle.jl_types.specs.Linkage.Selection.{chosen_of, ending, virtual_outcome}
 use Rattle.jl_types.specs.Linkage.Stages.{Fails, Selects, Selector, ByVirtual, ByInterface, ResolvedCall, by_resolution}
 use Rattle.jl_types.specs.Linkage.Links.{link_of, table_rows, virtual_link}
-use Rattle.jl_types.specs.Happenings.Footprints.{of_stage}
-use Rattle.jl_deps.specs.Means.Telling.{tells_receivers}
+use Rattle.jl_types.specs.Events.Footprints.{of_stage}
+use Rattle.jl_deps.specs.ForProofs.Telling.{tells_receivers}
 
 module _ (cs : Classes) (d : ℕ) (ref : Reference (List ℕ)) (l : Link) (tells : tells_receivers cs l ≡ true) where
   abbrev call : Selector → ℕ → MethodId → ResolvedCall

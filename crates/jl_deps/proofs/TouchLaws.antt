@@ -6,14 +6,14 @@ use Rattle.std.specs.Map.{lookup}
 use Rattle.std.proofs.Common.{refl, ap, sym, ◌∙◌, arith}
 use Rattle.std.proofs.lemmas.Bool.Decides.{Decides-eqb}
 use Rattle.std.proofs.lemmas.Cmp.{nat_eq_equiv}
-use Rattle.jl_hierarchy.specs.Means.Kept as kept
+use Rattle.jl_hierarchy.specs.ForProofs.Kept as kept
 use Rattle.jl_hierarchy.proofs.Rising.{has, none_up_to}
 use Rattle.jl_types.specs.declared.key.Key.{Key}
 use Rattle.jl_types.specs.declared.key.Key.TheVariants as key
-use Rattle.jl_types.specs.Happenings.Footprints.{same_key, has_key, meets}
+use Rattle.jl_types.specs.Events.Footprints.{same_key, has_key, meets}
 use Rattle.jl_deps.specs.Indexes.{touched_by}
-use Rattle.jl_types.specs.Means.BySite.{by_site}
-use Rattle.jl_types.specs.Means.BySite.{value_at}
+use Rattle.jl_types.specs.ForProofs.BySite.{by_site}
+use Rattle.jl_types.specs.ForProofs.BySite.{value_at}
 use Rattle.jl_types.proofs.BySite.{Rises, rises, found_by_site}
 
 -- ---- keys

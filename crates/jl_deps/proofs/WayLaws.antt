@@ -6,7 +6,7 @@ use Rattle.jl_types.specs.Values.Target.{Target, Invoker}
 use Rattle.jl_types.specs.Values.World.{Sites, CallSite}
 use Rattle.jl_types.specs.declared.key.Key.{Key}
 use Rattle.jl_types.specs.declared.key.Key.TheVariants as key
-use Rattle.jl_types.specs.Happenings.Footprints.{call_site_in, point_in}
+use Rattle.jl_types.specs.Events.Footprints.{call_site_in, point_in}
 use Rattle.jl_callsites.proofs.Walks.{invoked_way, later_way}
 use Rattle.jl_deps.specs.Ways.{way}
 

@@ -1,4 +1,4 @@
 -- `Indexes` is what contracts cite; `Lists` and `Ways` are means of proof.
 pub mod Indexes
 pub mod Ways
-pub mod Means
+pub mod ForProofs

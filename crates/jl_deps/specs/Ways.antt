@@ -4,7 +4,7 @@ use Rattle.std.specs.List.{list_any}
 use Rattle.jl_types.specs.Values.Target.{Target}
 use Rattle.jl_types.specs.Values.World.{Sites}
 use Rattle.jl_types.specs.declared.key.Key.{Key}
-use Rattle.jl_types.specs.Happenings.Footprints.{way_by, way_below}
+use Rattle.jl_types.specs.Events.Footprints.{way_by, way_below}
 
 abbrev pub has : ℕ → List ℕ → Bool
 has n xs = list_any (λ x. x == n) xs

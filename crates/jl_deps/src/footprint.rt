@@ -2,14 +2,14 @@
 
 ghost use Rattle.std.specs.Prelude.{◌≡◌, ◌⊎◌, ◌++◌, [], ℕ, map, filter_map, Ok, IfOk, IfSome, OnOk, option_to_list};
 ghost use Rattle.std.specs.Option.{option_copied};
-ghost use Rattle.jl_hierarchy.specs.Means.Kept.{Rises};
+ghost use Rattle.jl_hierarchy.specs.ForProofs.Kept.{Rises};
 ghost use Rattle.jl_types.specs.Linkage.Resolution as resolution;
 ghost use Rattle.jl_types.specs.Linkage.Stages as stages;
 ghost use Rattle.jl_types.specs.Linkage.Links.{link_of, scratch};
 ghost use Rattle.jl_types.specs.declared.key.Key.TheVariants as key;
-ghost use Rattle.jl_types.specs.Happenings.Footprints as footprints;
-ghost use Rattle.jl_types.specs.Happenings.Footprints.{of_stage, of_operand, call_site_in, point_in, path};
-ghost use Rattle.jl_deps.specs.Means.Telling.{tells_receivers};
+ghost use Rattle.jl_types.specs.Events.Footprints as footprints;
+ghost use Rattle.jl_types.specs.Events.Footprints.{of_stage, of_operand, call_site_in, point_in, path};
+ghost use Rattle.jl_deps.specs.ForProofs.Telling.{tells_receivers};
 ghost use Rattle.jl_deps.specs.Ways.{has, way};
 ghost use Rattle.jl_class.specs.declared.site.Kind.TheVariants.{Virtual, Interface};
 

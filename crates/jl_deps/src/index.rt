@@ -6,8 +6,8 @@ ghost use Rattle.std.specs.Option.{option_copied};
 ghost use Rattle.indexmap.specs.IndexMap.{get};
 ghost use Rattle.jl_deps.specs.Indexes.{AreRising, footprint_at, touched_by};
 ghost use Rattle.jl_types.specs.declared.key.Key.{Key};
-ghost use Rattle.jl_types.specs.Happenings.Footprints.{has_key};
-ghost use Rattle.jl_deps.specs.Means.Lists.{AreListed, listed, rests};
+ghost use Rattle.jl_types.specs.Events.Footprints.{has_key};
+ghost use Rattle.jl_deps.specs.ForProofs.Lists.{AreListed, listed, rests};
 
 use crate::kept::Footprint;
 use crate::lists::{Lists, relist, unlist_others};
@@ -40,8 +40,8 @@ impl Drop for Index {
 impl Model for Index {
     ghost use Rattle.std.specs.Prelude.{List, ℕ};
     ghost use Rattle.jl_types.specs.declared.key.Key.{Key};
-    ghost use Rattle.jl_types.specs.Means.BySite.{by_site};
-    ghost use Rattle.jl_deps.specs.Means.Lists.{AreListed};
+    ghost use Rattle.jl_types.specs.ForProofs.BySite.{by_site};
+    ghost use Rattle.jl_deps.specs.ForProofs.Lists.{AreListed};
 
     ghost Value = { List (ℕ × List Key) };
 

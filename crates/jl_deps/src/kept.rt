@@ -36,7 +36,7 @@ impl Drop for Footprint {
 impl Model for Footprint {
     ghost use Rattle.std.specs.Prelude.{List};
     ghost use Rattle.jl_types.specs.declared.key.Key.{Key};
-    ghost use Rattle.jl_deps.specs.Means.Kept.{keys_of};
+    ghost use Rattle.jl_deps.specs.ForProofs.Kept.{keys_of};
 
     ghost Value = { List Key };
 

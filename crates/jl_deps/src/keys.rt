@@ -2,11 +2,11 @@
 
 ghost use Rattle.std.specs.Prelude.{◌≡◌, ◌==◌, ◌||◌, ◌&&◌, ◌++◌, ◌∷◌, ℕ, [], map, length, IfOk, OnOk};
 ghost use Rattle.std.specs.List.{list_any};
-ghost use Rattle.jl_types.specs.Happenings.Definitions as definitions;
-ghost use Rattle.jl_types.specs.Happenings.Retirement.{losing_receivers};
+ghost use Rattle.jl_types.specs.Events.Definitions as definitions;
+ghost use Rattle.jl_types.specs.Events.Retirement.{losing_receivers};
 ghost use Rattle.jl_types.specs.Linkage.Targets as targets;
 ghost use Rattle.jl_types.specs.declared.key.Key.TheVariants as key;
-ghost use Rattle.jl_types.specs.Happenings.Footprints as footprints;
+ghost use Rattle.jl_types.specs.Events.Footprints as footprints;
 
 use crate::footprint::push_points;
 use jl_callsites::Sites;

@@ -2,15 +2,15 @@
 
 ghost use Rattle.std.specs.Prelude.{◌≡◌, ◌==◌, ◌&&◌, ℕ, List, Option, Some, Ok, IsOk, false, is_some};
 ghost use Rattle.std.specs.List.{list_any};
-ghost use Rattle.jl_types.specs.Happenings.Event.{Event};
+ghost use Rattle.jl_types.specs.Events.Event.{Event};
 ghost use Rattle.jl_types.specs.declared.link.Link.{Link};
 ghost use Rattle.jl_types.specs.Values.World.{World};
 ghost use Rattle.jl_types.specs.Linkage.Links.{scratch};
-ghost use Rattle.jl_types.specs.Happenings.History.{world_after, installed};
+ghost use Rattle.jl_types.specs.Events.History.{world_after, installed};
 ghost use Rattle.jl_types.specs.declared.key.Key.{Key};
-ghost use Rattle.jl_types.specs.Happenings.Footprints as footprints;
-ghost use Rattle.jl_types.specs.Happenings.Events.{verdict};
-ghost use Rattle.jl_types.specs.Happenings.Footprints.{touches, keys, retires};
+ghost use Rattle.jl_types.specs.Events.Footprints as footprints;
+ghost use Rattle.jl_types.specs.Events.Verdict.{verdict};
+ghost use Rattle.jl_types.specs.Events.Footprints.{touches, keys, retires};
 ghost use Rattle.jl_relink.specs.Laws.{IsInOrder};
 ghost use Rattle.jl_deps.specs.Indexes.{AreRising, IsIndex, StaysIndexed, touched_by};
 

@@ -2,7 +2,7 @@
 //! Chambers, Dean and Grove 1995).
 //!
 //! What a link rests on and what an event changes is defined in jl_types (`Footprints`). `specs/Indexes` says what an index
-//! has; `specs/Means` is a means of proof.
+//! has; `specs/ForProofs` is a means of proof.
 #![tactic(auto)]
 
 mod footprint;

@@ -3,8 +3,8 @@
 ghost use Rattle.std.specs.Prelude.{◌≡◌, ◌==◌, ◌&&◌, ◌||◌, not, ℕ, nat_eq, true, false, OnOk, OnErr, if◌then◌else◌};
 ghost use Rattle.indexmap.specs.IndexSet.{contains};
 ghost use Rattle.jl_types.specs.declared.key.Key.{Key};
-ghost use Rattle.jl_types.specs.Happenings.Footprints.{has_key};
-ghost use Rattle.jl_deps.specs.Means.Lists.{key_eq, listed};
+ghost use Rattle.jl_types.specs.Events.Footprints.{has_key};
+ghost use Rattle.jl_deps.specs.ForProofs.Lists.{key_eq, listed};
 
 use indexmap::{IndexMap, IndexSet};
 use jl_types::{Key, SiteNo};

@@ -5,7 +5,7 @@ use Rattle.jl_class.specs.declared.site.Operand.{Operand}
 use Rattle.jl_class.specs.declared.site.Operand.TheVariants as operand
 use Rattle.jl_class.specs.Site.{Site}
 use Rattle.jl_types.specs.declared.ids.Place.{Place}
-use Rattle.jl_types.specs.Happenings.Event.{Event}
+use Rattle.jl_types.specs.Events.Event.{Event}
 use Rattle.jl_types.specs.declared.event.EventOf.TheVariants as event
 use Rattle.jl_types.specs.declared.event.Made.{Made}
 use Rattle.jl_types.specs.declared.event.Made.TheVariants as made
@@ -17,7 +17,7 @@ use Rattle.jl_types.specs.Values.Target.{Target}
 use Rattle.jl_types.specs.Values.World.{World}
 use Rattle.jl_types.specs.Values.Members.{is_present}
 use Rattle.jl_types.specs.Linkage.Stages.{bound_to, invocation_at}
-use Rattle.jl_types.specs.Happenings.Events.{unless, verdict, operand_fault, bind_at, bind_fault}
+use Rattle.jl_types.specs.Events.Verdict.{unless, verdict, operand_fault, bind_at, bind_fault}
 use Rattle.jl_types.proofs.Firsts.{first_none}
 use Rattle.jl_callsites.specs.Faults.{new_site_fault, set_target_fault}
 use Rattle.jl_callsites.proofs.Worlds.{new_site_comes_to, set_target_comes_to}

@@ -15,9 +15,9 @@ use Rattle.jl_types.specs.declared.refusal.Refusal.{Refusal}
 use Rattle.jl_types.specs.declared.refusal.Refusal.TheVariants as refusal
 use Rattle.jl_types.specs.Values.Target.{Target}
 use Rattle.jl_types.specs.Values.World.{World}
-use Rattle.jl_types.specs.Happenings.Definitions.{define_fault, delegate_fault}
-use Rattle.jl_types.specs.Happenings.Retirement.{retire_fault}
-use Rattle.jl_types.specs.Happenings.Events.{unless, most_of_a_kind, new_call_site_fault, set_target_fault, invalidate_fault, bind_fault, install_fault}
+use Rattle.jl_types.specs.Events.Definitions.{define_fault, delegate_fault}
+use Rattle.jl_types.specs.Events.Retirement.{retire_fault}
+use Rattle.jl_types.specs.Events.Verdict.{unless, most_of_a_kind, new_call_site_fault, set_target_fault, invalidate_fault, bind_fault, install_fault}
 use Rattle.jl_types.proofs.Firsts.{test_none}
 use Rattle.jl_callsites.specs.Known.{is_known}
 use Rattle.jl_callsites.proofs.Accepted as free

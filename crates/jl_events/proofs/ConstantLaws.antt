@@ -4,8 +4,8 @@ use Rattle.std.proofs.Common.{sym, subst}
 use Rattle.jl_class.specs.Class.{ClassFile}
 use Rattle.jl_types.specs.Values.World.{Classes}
 use Rattle.jl_types.specs.Values.Ancestry.{AreOrdered}
-use Rattle.jl_types.specs.Happenings.Definitions.{defined, delegate_fault, delegated}
-use Rattle.jl_types.specs.Happenings.Retirement.{classes_fault, retired}
+use Rattle.jl_types.specs.Events.Definitions.{defined, delegate_fault, delegated}
+use Rattle.jl_types.specs.Events.Retirement.{classes_fault, retired}
 use Rattle.jl_types.proofs.Orders.{IsGood, defined_good}
 use Rattle.jl_hierarchy.specs.Constancy.{AreInOrder, IsClosed, Stays}
 use Rattle.jl_hierarchy.proofs.Constancy.{stays_retired}

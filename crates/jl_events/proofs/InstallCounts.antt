@@ -9,10 +9,10 @@ use Rattle.jl_types.specs.declared.link.Link.{Link}
 use Rattle.jl_types.specs.Values.World.{Classes, World}
 use Rattle.jl_types.specs.Values.Members.{is_concrete}
 use Rattle.jl_types.specs.Values.Ancestry.{is_ancestor}
-use Rattle.jl_types.specs.Happenings.Batches.{is_bad_size}
+use Rattle.jl_types.specs.Events.Batches.{is_bad_size}
 use Rattle.jl_types.specs.declared.key.Key.{Key}
 use Rattle.jl_types.specs.declared.key.Key.TheVariants as key
-use Rattle.jl_types.specs.Happenings.Footprints.{footprint, most_by, most_for}
+use Rattle.jl_types.specs.Events.Footprints.{footprint, most_by, most_for}
 use Rattle.jl_events.specs.Judging.{most_of_rows}
 
 pub no_more : {A : Type 0} (p : A → Bool) (xs : List A) → length (filter p xs) ≤ length xs

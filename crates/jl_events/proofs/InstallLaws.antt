@@ -9,8 +9,8 @@ use Rattle.jl_types.specs.declared.refusal.Refusal.TheVariants as refusal
 use Rattle.jl_types.specs.Values.World.{World}
 use Rattle.jl_types.specs.Linkage.Resolution.{first_of}
 use Rattle.jl_types.specs.Linkage.Links.{scratch}
-use Rattle.jl_types.specs.Happenings.Batches.{is_bad_size, sites_fault}
-use Rattle.jl_types.specs.Happenings.Events.{of_sites, row_fault, install_fault}
+use Rattle.jl_types.specs.Events.Batches.{is_bad_size, sites_fault}
+use Rattle.jl_types.specs.Events.Verdict.{of_sites, row_fault, install_fault}
 use Rattle.jl_types.proofs.Firsts.{first_none}
 use Rattle.jl_events.specs.Judging.{row_faults}
 

@@ -2,13 +2,13 @@
 use Rattle.std.specs.Prelude.{◌≡◌, ℕ, slice_get, Option, Some, None, option_map, IsOk}
 use Rattle.std.proofs.Common.{ap, sym, subst, ◌∙◌}
 use Rattle.std.proofs.lemmas.Option.{same_Some}
-use Rattle.jl_types.specs.Happenings.Event.{Event}
+use Rattle.jl_types.specs.Events.Event.{Event}
 use Rattle.jl_types.specs.declared.event.EventOf.TheVariants as event
 use Rattle.jl_types.specs.declared.event.Made.TheVariants as made
 use Rattle.jl_types.specs.declared.refusal.Refusal.TheVariants.{Define}
 use Rattle.jl_types.specs.Values.World.{Class, World}
-use Rattle.jl_types.specs.Happenings.Definitions.{define_fault}
-use Rattle.jl_types.specs.Happenings.Events.{verdict, step}
+use Rattle.jl_types.specs.Events.Definitions.{define_fault}
+use Rattle.jl_types.specs.Events.Verdict.{verdict, step}
 use Rattle.jl_hierarchy.specs.Constancy as constancy
 use Rattle.jl_events.specs.Accepted.{Accepted, event_of}
 use Rattle.jl_events.specs.Changes.{IsAcceptable, IsNext}

@@ -8,7 +8,7 @@ use Rattle.jl_types.specs.declared.refusal.Refusal.{Refusal}
 use Rattle.jl_types.specs.declared.refusal.Refusal.TheVariants.{UnknownClass}
 use Rattle.jl_types.specs.declared.event.EventOf.TheVariants as event
 use Rattle.jl_types.specs.Values.Members.{is_present}
-use Rattle.jl_types.specs.Happenings.Events.{same_place, new_place_fault, request_place, if_invoked, unless, verdict}
+use Rattle.jl_types.specs.Events.Verdict.{same_place, new_place_fault, request_place, if_invoked, unless, verdict}
 use Rattle.jl_types.specs.Values.World.{World}
 use Rattle.jl_types.specs.Linkage.Stages.{invocation_at}
 

@@ -1,6 +1,6 @@
 -- What is kept of an accepted event.
 use Rattle.std.specs.Prelude.{ℕ, List, slice_get, Option, Some, option_map}
-use Rattle.jl_types.specs.Happenings.Event.{Event}
+use Rattle.jl_types.specs.Events.Event.{Event}
 use Rattle.jl_types.specs.declared.event.EventOf.{EventOf}
 use Rattle.jl_types.specs.declared.event.EventOf.TheVariants as event
 use Rattle.jl_types.specs.declared.link.Link.{Link}

@@ -1,11 +1,11 @@
 -- What one accepted event does to the world.
 use Rattle.std.specs.Prelude.{◌≡◌, ℕ, length, Option, Some, None, Ok, IsOk}
-use Rattle.jl_types.specs.Happenings.Event.{Event}
+use Rattle.jl_types.specs.Events.Event.{Event}
 use Rattle.jl_types.specs.declared.event.EventOf.TheVariants as variant
 use Rattle.jl_types.specs.declared.event.Made.{Made}
 use Rattle.jl_types.specs.Values.World.{World}
-use Rattle.jl_types.specs.Happenings.Events as events
-use Rattle.jl_types.specs.Happenings.Events.{verdict, step}
+use Rattle.jl_types.specs.Events.Verdict as events
+use Rattle.jl_types.specs.Events.Verdict.{verdict, step}
 use Rattle.jl_select.specs.Constancy.{IsConstant}
 use Rattle.jl_events.specs.Accepted.{Accepted, event_of}
 

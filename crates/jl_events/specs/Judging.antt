@@ -1,14 +1,14 @@
 -- Whether an event is accepted, and how many evaluations it takes to tell.
 use Rattle.std.specs.Prelude.{◌≡◌, ℕ, List, Option, Result, Ok, Err, IsOk, map, sum_by}
-use Rattle.jl_types.specs.Happenings.Event.{Event}
+use Rattle.jl_types.specs.Events.Event.{Event}
 use Rattle.jl_types.specs.declared.event.EventOf.TheVariants as event
 use Rattle.jl_types.specs.declared.event.Made.{Made}
 use Rattle.jl_types.specs.declared.link.Link.{Link}
 use Rattle.jl_types.specs.declared.refusal.Refusal.{Refusal}
 use Rattle.jl_types.specs.Values.World.{World}
 use Rattle.jl_types.specs.Linkage.Links.{scratch}
-use Rattle.jl_types.specs.Happenings.Events.{row_fault}
-use Rattle.jl_types.specs.Happenings.Footprints.{most_for}
+use Rattle.jl_types.specs.Events.Verdict.{row_fault}
+use Rattle.jl_types.specs.Events.Footprints.{most_for}
 
 -- by the verdict: the event once more, or its refusal
 abbrev pub IsJudged : Result Made Refusal → Event → Result Event Refusal → Type 0

@@ -2,7 +2,7 @@
 
 ghost use Rattle.std.specs.Prelude.{◌≡◌, slice_get};
 ghost use Rattle.jl_class.specs.declared.site.Operand.TheVariants as operand;
-ghost use Rattle.jl_types.specs.Happenings.Events as events;
+ghost use Rattle.jl_types.specs.Events.Verdict as events;
 
 use jl_class::Operand;
 use jl_names::LentName;

@@ -2,7 +2,7 @@
 
 ghost use Rattle.std.specs.Prelude.{◌≡◌, ◌+◌, ◌^◌, ◌<◌, ◌≤◌};
 ghost use Rattle.jl_types.specs.Linkage.Resolution.{first_of};
-ghost use Rattle.jl_types.specs.Happenings.Events as events;
+ghost use Rattle.jl_types.specs.Events.Verdict as events;
 ghost use Rattle.jl_events.specs.Judging.{row_faults, most_of_rows};
 
 use jl_relink::{World, is_bad_size, link_counted, sites_fault};

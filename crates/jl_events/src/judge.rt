@@ -5,10 +5,10 @@ ghost use Rattle.std.specs.Bool.{then_some};
 ghost use Rattle.jl_types.specs.declared.event.EventOf.TheVariants as event;
 ghost use Rattle.jl_types.specs.declared.event.Made.{Made};
 ghost use Rattle.jl_types.specs.declared.refusal.Refusal.TheVariants as refusal;
-ghost use Rattle.jl_types.specs.Happenings.Definitions.{delegate_fault};
-ghost use Rattle.jl_types.specs.Happenings.Retirement.{retire_fault};
-ghost use Rattle.jl_types.specs.Happenings.Events as events;
-ghost use Rattle.jl_types.specs.Happenings.Events.{verdict};
+ghost use Rattle.jl_types.specs.Events.Definitions.{delegate_fault};
+ghost use Rattle.jl_types.specs.Events.Retirement.{retire_fault};
+ghost use Rattle.jl_types.specs.Events.Verdict as events;
+ghost use Rattle.jl_types.specs.Events.Verdict.{verdict};
 ghost use Rattle.jl_events.specs.Judging.{IsJudged, most_to_judge};
 
 use crate::binding::bind_refusal;

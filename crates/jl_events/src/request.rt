@@ -4,8 +4,8 @@ ghost use Rattle.std.specs.Prelude.{◌≡◌, true, Some, Ok, Err, IfOk, IfErr}
 ghost use Rattle.jl_class.specs.Site as site;
 ghost use Rattle.jl_types.specs.Values.Members.{is_present};
 ghost use Rattle.jl_types.specs.Linkage.Stages.{invocation_at};
-ghost use Rattle.jl_types.specs.Happenings.Events as events;
-ghost use Rattle.jl_types.specs.Happenings.Events.{verdict};
+ghost use Rattle.jl_types.specs.Events.Verdict as events;
+ghost use Rattle.jl_types.specs.Events.Verdict.{verdict};
 ghost use Rattle.jl_types.specs.declared.event.EventOf.TheVariants as event;
 ghost use Rattle.jl_events.specs.Judging.{IsJudged};
 

@@ -13,13 +13,13 @@ use Rattle.jl_types.specs.declared.refusal.Refusal.TheVariants as refusal
 use Rattle.jl_types.specs.declared.refusal.PrepareFault.{PrepareFault}
 use Rattle.jl_types.specs.declared.refusal.SitesFault.{SitesFault}
 use Rattle.jl_types.specs.declared.refusal.SitesFault.TheVariants.{Unknown, Repeated}
-use Rattle.jl_types.specs.Means.SameLink.{link_decides}
+use Rattle.jl_types.specs.ForProofs.SameLink.{link_decides}
 use Rattle.jl_types.specs.Values.World.{World}
 use Rattle.jl_types.specs.Linkage.Resolution.{first_of}
 use Rattle.jl_types.specs.Linkage.Links.{scratch}
-use Rattle.jl_types.specs.Happenings.Batches.{is_bad_size, sites_fault}
-use Rattle.jl_types.specs.Happenings.Preparation.{link_fault, ArePrepared}
-use Rattle.jl_types.specs.Happenings.Events.{row_fault}
+use Rattle.jl_types.specs.Events.Batches.{is_bad_size, sites_fault}
+use Rattle.jl_types.specs.Events.Preparation.{link_fault, ArePrepared}
+use Rattle.jl_types.specs.Events.Verdict.{row_fault}
 use Rattle.jl_farm.specs.Reports.{has_twice, IsNoBatch}
 
 any_here : {X : Type 0} (P : X → Type 0) (x : X) (xs : List X) → P x → Any P (x ∷ xs)

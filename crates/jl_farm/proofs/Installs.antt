@@ -7,9 +7,9 @@ use Rattle.std.proofs.lemmas.List.Sums.{sum_by-append}
 use Rattle.std.proofs.lemmas.List.Sorted.{All-permutation, sum_by-IsPermutation}
 use mathlib.Core.List.{IsPrefix}
 use Rattle.jl_types.specs.declared.link.Link.{Link}
-use Rattle.jl_types.specs.Happenings.Event.{Event}
+use Rattle.jl_types.specs.Events.Event.{Event}
 use Rattle.jl_types.specs.declared.event.EventOf.TheVariants.{Install}
-use Rattle.jl_types.specs.Happenings.Entries.{Entry}
+use Rattle.jl_types.specs.Events.Entries.{Entry}
 use Rattle.jl_server.proofs.Beginnings.{prefix_trans, prefix_shorter, prefix_whole}
 use Rattle.jl_server.specs.declared.book.Receipt.{Receipt}
 use Rattle.jl_server.specs.History.{entry_after}
@@ -18,7 +18,7 @@ use Rattle.jl_farm.specs.declared.report.JobOutcome.{JobOutcome}
 use Rattle.jl_farm.specs.declared.report.JobOutcome.TheVariants.{Installed, Stale, NotReady, Bad, Memory}
 use Rattle.jl_farm.specs.declared.worker.Worker.{Worker}
 use Rattle.jl_farm.specs.Reports.{lists_of, names_install, installs_of, IsInstalled, IsShown, IsReport, AreOfOneHistory, AreOfSameSites}
-use Rattle.jl_farm.specs.Means.Work.{between, HasSeen, HasOne, HasTaken, Works}
+use Rattle.jl_farm.specs.ForProofs.Work.{between, HasSeen, HasOne, HasTaken, Works}
 
 -- ---- numbers between two numbers
 

@@ -20,12 +20,12 @@ use Rattle.jl_types.specs.Linkage.Links.{same_link}
 use Rattle.jl_types.specs.Values.World.{World}
 use Rattle.jl_types.specs.Linkage.Resolution.{first_of}
 use Rattle.jl_types.specs.Linkage.Links.{scratch}
-use Rattle.jl_types.specs.Happenings.Batches.{is_bad_size, sites_fault}
-use Rattle.jl_types.specs.Happenings.Preparation.{link_fault, prepare_fault, ready_fault, ArePrepared}
-use Rattle.jl_types.specs.Happenings.Preparation as preparation
-use Rattle.jl_types.specs.Happenings.Events.{row_fault, install_fault, unless, verdict}
-use Rattle.jl_types.specs.Happenings.Events as events
-use Rattle.jl_types.specs.Happenings.Entries.{Entry, IsLegal}
+use Rattle.jl_types.specs.Events.Batches.{is_bad_size, sites_fault}
+use Rattle.jl_types.specs.Events.Preparation.{link_fault, prepare_fault, ready_fault, ArePrepared}
+use Rattle.jl_types.specs.Events.Preparation as preparation
+use Rattle.jl_types.specs.Events.Verdict.{row_fault, install_fault, unless, verdict}
+use Rattle.jl_types.specs.Events.Verdict as events
+use Rattle.jl_types.specs.Events.Entries.{Entry, IsLegal}
 use Rattle.jl_relink.specs.Preparations.{Snapshot, IsPreparation}
 use Rattle.jl_core.specs.State.{IsRefused}
 use Rattle.jl_server.proofs.Beginnings.{prefix_self, prefix_trans, prefix_length}
@@ -34,7 +34,7 @@ use Rattle.jl_server.specs.History.{EndsWith}
 use Rattle.jl_farm.specs.declared.report.JobOutcome.{JobOutcome}
 use Rattle.jl_farm.specs.declared.report.JobOutcome.TheVariants as outcome
 use Rattle.jl_farm.specs.Reports.{world_of, ComesAfter, IsNoBatch, IsShown, IsStale, IsRefusedBatch, IsInstalled}
-use Rattle.jl_farm.specs.Means.Work.{refused_as, unprepared_as, HasSeen}
+use Rattle.jl_farm.specs.ForProofs.Work.{refused_as, unprepared_as, HasSeen}
 use Rattle.jl_farm.proofs.Causes.{batch_cause, no_batch_cause, no_row_fault, no_batch_by_size, no_batch_by_sites, unready_by_fault, stale_by_fault}
 use Rattle.jl_farm.proofs.Causes.{prepared_sites}
 

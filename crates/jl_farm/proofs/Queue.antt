@@ -7,7 +7,7 @@ use lib.ListN.{get_elem?}
 use Rattle.crossbeam_queue.specs.Fifo.{Pushes, Pops, Forks, Merges, Learns}
 use Rattle.crossbeam_queue.proofs.Lists.{at_set, at_snoc}
 use Rattle.jl_farm.specs.declared.job_queue.PassView.{PassView}
-use Rattle.jl_farm.specs.Means.Queued.{pass_view, IdleIsEmpty, AreQueued, KnowsAll}
+use Rattle.jl_farm.specs.ForProofs.Queued.{pass_view, IdleIsEmpty, AreQueued, KnowsAll}
 
 -- ---- totals
 

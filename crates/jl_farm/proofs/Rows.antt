@@ -4,18 +4,18 @@ use Rattle.std.proofs.Common.{sym, arith}
 use Rattle.std.proofs.lemmas.Bool.Decides.{nat_tests}
 use mathlib.Core.List.{IsPrefix}
 use Rattle.jl_types.specs.declared.link.Link.{Link}
-use Rattle.jl_types.specs.Happenings.Event.{Event}
+use Rattle.jl_types.specs.Events.Event.{Event}
 use Rattle.jl_types.specs.declared.event.EventOf.TheVariants.{Install, NewLoader, NewSwitch}
 use Rattle.jl_types.specs.declared.event.Made.TheVariants.{Nothing}
 use Rattle.jl_types.specs.declared.event.Reply.{Reply}
-use Rattle.jl_types.specs.Happenings.Entries.{Entry}
+use Rattle.jl_types.specs.Events.Entries.{Entry}
 use Rattle.jl_server.specs.declared.book.Receipt.{Receipt}
 use Rattle.jl_server.specs.History.{entry_after}
 use Rattle.jl_farm.specs.declared.report.Report.{Report}
 use Rattle.jl_farm.specs.declared.report.JobOutcome.{JobOutcome}
 use Rattle.jl_farm.specs.declared.report.JobOutcome.TheVariants.{Installed, Stale, NotReady, Bad, Memory}
 use Rattle.jl_farm.specs.Reports.{has_twice, sites_of, world_of, lists_of, names_install, installs_of, IsInstalled, IsShown, AreOfOneHistory, AreOfSameSites}
-use Rattle.jl_farm.specs.Means.Work.{HasSeen}
+use Rattle.jl_farm.specs.ForProofs.Work.{HasSeen}
 use Rattle.jl_farm.proofs.Installs.{last_same, rows_of, same_serial}
 
 -- no site, one, two equal ones and two different ones

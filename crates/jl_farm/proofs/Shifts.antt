@@ -7,14 +7,14 @@ use Rattle.std.proofs.lemmas.List.Sorted.{IsPermutation-map, sum_by-IsPermutatio
 use Rattle.std.proofs.lemmas.List.Elements.{All-append}
 use mathlib.Core.List.{IsPrefix}
 use Rattle.crossbeam_queue.specs.Passes.{view}
-use Rattle.jl_types.specs.Happenings.Entries.{Entry}
+use Rattle.jl_types.specs.Events.Entries.{Entry}
 use Rattle.jl_server.proofs.Beginnings.{prefix_self, prefix_trans, prefix_length}
 use Rattle.jl_farm.specs.declared.job_queue.PassView.{PassView}
 use Rattle.jl_farm.specs.declared.report.Report.{Report}
 use Rattle.jl_farm.specs.declared.worker.Worker.{Worker}
-use Rattle.jl_farm.specs.Means.Queued.{pass_view, KnowsAll}
+use Rattle.jl_farm.specs.ForProofs.Queued.{pass_view, KnowsAll}
 use Rattle.jl_farm.specs.Reports.{IsShown, sites_of, IsReport, jobs_of, installs_of}
-use Rattle.jl_farm.specs.Means.Work.{Works, HasSeen, IsHired, HasReported, HasOne}
+use Rattle.jl_farm.specs.ForProofs.Work.{Works, HasSeen, IsHired, HasReported, HasOne}
 use Rattle.jl_farm.proofs.Outcomes.{shown_before}
 use Rattle.jl_farm.proofs.EachOnce.{each_once}
 use Rattle.jl_farm.proofs.Installs.{between_both, between_least, installs_both, once_each}

@@ -7,8 +7,8 @@ use Rattle.jl_types.specs.declared.link.Link.{Link}
 use Rattle.jl_types.specs.declared.event.EventOf.TheVariants.{Install}
 use Rattle.jl_types.specs.Values.World.{World}
 use Rattle.jl_types.specs.Linkage.Links.{scratch}
-use Rattle.jl_types.specs.Happenings.History.{world_after}
-use Rattle.jl_types.specs.Happenings.Entries.{Entry, IsLegal, events_of}
+use Rattle.jl_types.specs.Events.History.{world_after}
+use Rattle.jl_types.specs.Events.Entries.{Entry, IsLegal, events_of}
 use Rattle.jl_server.specs.declared.book.Receipt.{Receipt}
 use Rattle.jl_server.specs.History.{EndsWith}
 use Rattle.jl_farm.specs.declared.report.Report.{Report}

@@ -2,8 +2,8 @@
 
 ghost use Rattle.std.specs.Prelude.{◌≡◌, ◌<◌, ◌≤◌, ◌+◌, ◌-◌, ℕ, length, slice_index_or, All, IfOk, OnOk, vec_len};
 ghost use Rattle.crossbeam_queue.specs.Passes.{view, IsPassOf};
-ghost use Rattle.jl_farm.specs.Means.Queued.{pass_view};
-ghost use Rattle.jl_farm.specs.Means.Work.{IsHired, HasReported, HasOne, HasTaken};
+ghost use Rattle.jl_farm.specs.ForProofs.Queued.{pass_view};
+ghost use Rattle.jl_farm.specs.ForProofs.Work.{IsHired, HasReported, HasOne, HasTaken};
 
 use crate::job_queue::{JobPass, JobQueue, one_more, take_over};
 use crate::worker::Worker;

@@ -6,8 +6,8 @@ ghost use Rattle.std.specs.List.Sorted.{IsPermutation, IsNonDecreasingBy};
 ghost use mathlib.Core.List.{IsPrefix};
 ghost use Rattle.crossbeam_queue.specs.Passes.{view, IsPassOf};
 ghost use Rattle.jl_farm.specs.Reports.{IsReport, jobs_of, lists_of, installs_of, AreOfOneHistory, AreOfSameSites};
-ghost use Rattle.jl_farm.specs.Means.Queued.{pass_view};
-ghost use Rattle.jl_farm.specs.Means.Work.{Works, HasReported, HasOne, HasPart};
+ghost use Rattle.jl_farm.specs.ForProofs.Queued.{pass_view};
+ghost use Rattle.jl_farm.specs.ForProofs.Work.{Works, HasReported, HasOne, HasPart};
 
 use crate::crew::{at_once, gather, hire};
 use crate::fault::FarmFault;

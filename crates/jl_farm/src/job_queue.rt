@@ -3,7 +3,7 @@
 ghost use Rattle.std.specs.Prelude.{◌≡◌, ◌<◌, ◌≤◌, ◌++◌, ◌∷◌, [], ◌-◌, ◌+◌, IfOk, MatchOption};
 ghost use Rattle.std.specs.List.{range_with_len};
 ghost use Rattle.crossbeam_queue.specs.Passes.{view, IsPassOf, ruled_capacity};
-ghost use Rattle.jl_farm.specs.Means.Queued.{pass_view, AreQueued, KnowsAll};
+ghost use Rattle.jl_farm.specs.ForProofs.Queued.{pass_view, AreQueued, KnowsAll};
 
 use crossbeam_queue::protocol::{Join, Lesson, Outcome, Protocol, Split};
 use crossbeam_queue::{Pass, RuledArrayQueue};
@@ -23,7 +23,7 @@ pub struct EachJobOnce;
 
 impl Protocol<usize, PassView> for EachJobOnce {
     ghost use Rattle.std.specs.Prelude.{[]};
-    ghost use Rattle.jl_farm.specs.Means.Queued.{pass_view, AreQueued};
+    ghost use Rattle.jl_farm.specs.ForProofs.Queued.{pass_view, AreQueued};
 
     ghost holds = { AreQueued };
 
@@ -55,7 +55,7 @@ struct Cut;
 
 impl Split<PassView> for Cut {
     ghost use Rattle.std.specs.Prelude.{[], ◌-◌};
-    ghost use Rattle.jl_farm.specs.Means.Queued.{pass_view};
+    ghost use Rattle.jl_farm.specs.ForProofs.Queued.{pass_view};
 
     ghost left = { λ v. pass_view (v.parts - 1) v.put v.taken };
 
@@ -64,7 +64,7 @@ impl Split<PassView> for Cut {
 
 impl Join<PassView> for Cut {
     ghost use Rattle.std.specs.Prelude.{[], ◌+◌, ◌++◌};
-    ghost use Rattle.jl_farm.specs.Means.Queued.{pass_view};
+    ghost use Rattle.jl_farm.specs.ForProofs.Queued.{pass_view};
 
     ghost both = { λ v w. pass_view (v.parts + w.parts) (v.put ++ w.put) (v.taken ++ w.taken) };
 

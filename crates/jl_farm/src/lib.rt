@@ -2,7 +2,7 @@
 //! server, and installed as one batch.
 //!
 //! The contract is that of [`run`]: there is one report for each job, and what a report says of its job is shown by the lists of accepted
-//! events that it names (`specs/Reports`). `specs/Means` has the rule of the queue, a means of proof.
+//! events that it names (`specs/Reports`). `specs/ForProofs` has the rule of the queue, a means of proof.
 #![tactic(auto)]
 
 mod crew;

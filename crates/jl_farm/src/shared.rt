@@ -3,11 +3,11 @@
 ghost use Rattle.std.specs.Prelude.{◌≡◌, ◌<◌, false, [], None, IfOk, OnOk};
 ghost use mathlib.Core.List.{IsPrefix};
 ghost use Rattle.crossbeam_queue.specs.Passes.{view, IsPassOf};
-ghost use Rattle.jl_types.specs.Happenings.Entries.{IsLegal};
-ghost use Rattle.jl_types.specs.Happenings.Preparation.{prepare_fault, ArePrepared};
-ghost use Rattle.jl_farm.specs.Means.Queued.{KnowsAll};
+ghost use Rattle.jl_types.specs.Events.Entries.{IsLegal};
+ghost use Rattle.jl_types.specs.Events.Preparation.{prepare_fault, ArePrepared};
+ghost use Rattle.jl_farm.specs.ForProofs.Queued.{KnowsAll};
 ghost use Rattle.jl_farm.specs.Reports.{IsShown, sites_of, world_of};
-ghost use Rattle.jl_farm.specs.Means.Work.{Works, HasPart, HasSeen, refused_as, unprepared_as};
+ghost use Rattle.jl_farm.specs.ForProofs.Work.{Works, HasPart, HasSeen, refused_as, unprepared_as};
 
 use crate::crew::Task;
 use crate::gate::Gate;

@@ -8,7 +8,7 @@ use Rattle.std.proofs.lemmas.List.Sorted.{searched}
 use Rattle.jl_types.specs.Values.World.{Classes}
 use Rattle.jl_types.specs.Values.Ancestry.{AreOrdered, ancestors, is_ancestor, is_ancestor_within}
 use Rattle.jl_types.proofs.Grown.{among_ancestors}
-use Rattle.jl_hierarchy.specs.Means.Kept.{Rises}
+use Rattle.jl_hierarchy.specs.ForProofs.Kept.{Rises}
 use Rattle.jl_hierarchy.proofs.Rising.{has, filter_rises, rising_at, has_at, split_none}
 
 -- a search in a rising list finds the numbers that are there

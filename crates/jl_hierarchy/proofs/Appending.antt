@@ -14,7 +14,7 @@ use Rattle.std.proofs.lemmas.Cmp.{nat_eq_equiv}
 use Rattle.jl_types.proofs.Bools.{or_none}
 use Rattle.jl_hierarchy.proofs.Rising.{other_number, above_at}
 use Rattle.jl_hierarchy.proofs.KeptLaws.{get_or-lists}
-use Rattle.jl_hierarchy.specs.Means.Kept.{HasRoom, HasRoomForOne, Rises, AreChanged, lists}
+use Rattle.jl_hierarchy.specs.ForProofs.Kept.{HasRoom, HasRoomForOne, Rises, AreChanged, lists}
 
 -- ---- one list is changed
 

@@ -16,8 +16,8 @@ use Rattle.jl_types.specs.declared.refusal.DefineFault.TheVariants.{UnknownLoade
 use Rattle.jl_types.specs.Values.World.{Class, Classes}
 use Rattle.jl_types.specs.Values.Members.{is_retired, is_present, recorded, lookup}
 use Rattle.jl_types.specs.Values.Ancestry.{AreOrdered, IsAncestor, itself, over, is_ancestor, is_parent, parents, ancestors}
-use Rattle.jl_types.specs.Happenings.Definitions.{class_made, defined, with_record, define_fault, is_unknown}
-use Rattle.jl_types.specs.Happenings.Retirement.{is_of, inherits_from, records_from, classes_fault, retired}
+use Rattle.jl_types.specs.Events.Definitions.{class_made, defined, with_record, define_fault, is_unknown}
+use Rattle.jl_types.specs.Events.Retirement.{is_of, inherits_from, records_from, classes_fault, retired}
 use Rattle.jl_types.proofs.Ancestors.{ancestor_decides}
 use Rattle.jl_types.proofs.Firsts.{first_none, test_none}
 use Rattle.jl_types.proofs.Grown.{among_ancestors, old_within}

@@ -12,11 +12,11 @@ use Rattle.jl_types.specs.Values.World.{Class, Classes}
 use Rattle.jl_types.specs.Values.Members.{is_retired, is_present, recorded, lookup, share_package, is_concrete}
 use Rattle.jl_types.specs.Values.Ancestry.{AreOrdered, is_ancestor, receivers}
 use Rattle.jl_types.specs.Linkage.Access.{nest_host, host_by, host_if_recorded, host_if_listed}
-use Rattle.jl_types.specs.Happenings.Definitions.{class_made, with_record, defined}
+use Rattle.jl_types.specs.Events.Definitions.{class_made, with_record, defined}
 use Rattle.jl_types.proofs.Grown.{old_ancestors, receivers_after}
 use Rattle.jl_types.proofs.Lists.{before_end}
 use Rattle.jl_types.proofs.Orders.{IsGood, looked_up}
-use Rattle.jl_types.specs.Happenings.Retirement.{retired}
+use Rattle.jl_types.specs.Events.Retirement.{retired}
 use Rattle.jl_types.proofs.Retiring.{retired_after, found_after}
 use Rattle.jl_hierarchy.specs.Constancy.{AreInOrder, Stays, AddsReceiver}
 

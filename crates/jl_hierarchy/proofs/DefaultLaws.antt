@@ -8,7 +8,7 @@ use Rattle.jl_types.specs.Values.World.{Classes}
 use Rattle.jl_types.specs.Values.Members.{declared, is_abstract, is_called, methods_of}
 use Rattle.jl_types.specs.Values.Ancestry.{ancestors, is_proper_ancestor}
 use Rattle.jl_types.specs.Linkage.Resolution.{candidates, defaults}
-use Rattle.jl_hierarchy.specs.Means.Defaults.{if_passes, is_inherited, is_other_interface, candidate_at, is_redeclared, redeclares, is_default, default_at}
+use Rattle.jl_hierarchy.specs.ForProofs.Defaults.{if_passes, is_inherited, is_other_interface, candidate_at, is_redeclared, redeclares, is_default, default_at}
 
 -- ---- filters, joined
 

@@ -19,10 +19,10 @@ use Rattle.jl_types.specs.declared.refusal.DefineFault.TheVariants.{NotAnInterfa
 use Rattle.jl_types.specs.Values.World.{Classes}
 use Rattle.jl_types.specs.Values.Members.{lookup, is_interface}
 use Rattle.jl_types.specs.Linkage.Resolution.{first_of}
-use Rattle.jl_types.specs.Happenings.Definitions.{is_unknown, parent_names, named_test, is_open_parent, define_fault}
+use Rattle.jl_types.specs.Events.Definitions.{is_unknown, parent_names, named_test, is_open_parent, define_fault}
 use Rattle.jl_hierarchy.specs.declared.faults.FaultAt.{FaultAt}
 use Rattle.jl_hierarchy.specs.declared.faults.FaultAt.TheVariants as found
-use Rattle.jl_hierarchy.specs.Means.Faults.{first_faults, superclass_faults, first_place, fault_of, IsThere}
+use Rattle.jl_hierarchy.specs.ForProofs.Faults.{first_faults, superclass_faults, first_place, fault_of, IsThere}
 use Rattle.jl_hierarchy.proofs.PrintLaws.{none_yet}
 
 first_here : {A : Type 0} (p : A → Bool) (x : A) (xs : List A) → p x ≡ true → position p (x ∷ xs) ≡ Some 0

@@ -20,7 +20,7 @@ use Rattle.jl_types.specs.Values.World.{Class, Classes}
 use Rattle.jl_types.specs.Values.Members.{lookup, is_interface}
 use Rattle.jl_types.specs.Values.Ancestry.{parents, is_parent}
 use Rattle.jl_types.specs.Linkage.Resolution.{first_of}
-use Rattle.jl_types.specs.Happenings.Definitions.{FINAL, is_final, named_test, parent_names, is_unknown, class_made, define_fault, defined}
+use Rattle.jl_types.specs.Events.Definitions.{FINAL, is_final, named_test, parent_names, is_unknown, class_made, define_fault, defined}
 use Rattle.jl_types.proofs.Firsts.{first_none, test_none}
 use Rattle.jl_types.proofs.Lists.{before_end, at_end}
 use Rattle.jl_types.proofs.Orders.{IsGood, defined_good, none_behind}

@@ -8,12 +8,12 @@ use Rattle.jl_class.specs.Flags.{extends_object}
 use Rattle.jl_types.specs.Values.World.{Class, Classes}
 use Rattle.jl_types.specs.Values.Members.{lookup, recorded, is_concrete_row}
 use Rattle.jl_types.specs.Values.Ancestry.{AreOrdered, ancestors}
-use Rattle.jl_types.specs.Happenings.Definitions.{class_made, defined, with_record, define_fault}
+use Rattle.jl_types.specs.Events.Definitions.{class_made, defined, with_record, define_fault}
 use Rattle.jl_types.proofs.Orders.{defined_good}
-use Rattle.jl_hierarchy.specs.declared.define.Growth.{Growth}
+use Rattle.jl_hierarchy.specs.declared.define.NewClass.{NewClass}
 use Rattle.jl_hierarchy.specs.declared.marks.Mark.{Mark}
-use Rattle.jl_hierarchy.specs.Means.Kept.{IsKept, IsAppended, lists}
-use Rattle.jl_hierarchy.specs.Means.Growing.{IsGrowth, gaining, IsReceived, AreKept, AreAdded}
+use Rattle.jl_hierarchy.specs.ForProofs.Kept.{IsKept, IsAppended, lists}
+use Rattle.jl_hierarchy.specs.ForProofs.Growing.{IsNewClass, gaining, IsReceived, AreKept, AreAdded}
 use Rattle.jl_hierarchy.specs.Redeclared.{Marked, IsIndexed, is_marked, is_listed, is_on, has_method, sees_print, line_above, IsTold}
 use Rattle.jl_hierarchy.proofs.FaultLaws.{is_new}
 use Rattle.jl_hierarchy.proofs.KeptLaws.{good}
@@ -36,26 +36,26 @@ still_kept {loaders} {loaders'} {rows} {rows'} {retired} {over} {over'} {under} 
 
 -- the classes inside are those that a clause sees, and a class is added, as its loader makes it of its file
 module _ {inside cs : Classes} (same : inside ≡ cs) {row : Class} (none : define_fault cs row.loader row.file ≡ None)
-    {growth : Growth} (grown : IsGrowth cs row growth) where
+    {new_class : NewClass} (grown : IsNewClass cs row new_class) where
   abbrev n : ℕ
   n = length cs.rows
 
-  pub there_inside : All (λ a. a < length inside.rows) (gaining growth)
-  there_inside = subst (λ (k : Classes). All (λ a. a < length k.rows) (gaining growth)) (sym same) grown.there
+  pub there_inside : All (λ a. a < length inside.rows) (gaining new_class)
+  there_inside = subst (λ (k : Classes). All (λ a. a < length k.rows) (gaining new_class)) (sym same) grown.there
 
-  pub fresh_inside : option_and_then (recorded growth.row.file.name) (slice_get inside.loaders growth.row.loader) ≡ None
+  pub fresh_inside : option_and_then (recorded new_class.row.file.name) (slice_get inside.loaders new_class.row.loader) ≡ None
   fresh_inside = (λ i. lookup (same i) (grown.row_is i).loader (grown.row_is i).file.name) ∙ is_new cs row.loader row.file none
 
   -- what is told of the class: by the marks that were found, or by those of every print at each ancestor
-  told_by : (new : Marked) → AreAdded growth new → (s p : ℕ) → has_method p row.file.methods ≡ true
+  told_by : (new : Marked) → AreAdded new_class new → (s p : ℕ) → has_method p row.file.methods ≡ true
       → is_on s (line_above cs row) ≡ true → sees_print cs p s ≡ true → IsTold cs p (is_marked new) s
-  told_by new added s p h on seen = by_marks growth.marks grown.marks added.each added.every
+  told_by new added s p h on seen = by_marks new_class.marks grown.marks added.each added.every
     where
       by_marks : (found : Option (Vec Mark Global))
           → IfSome found (λ marks. (s p : ℕ) → has_method p row.file.methods ≡ true → is_on s (line_above cs row) ≡ true → sees_print cs p s ≡ true
           → IsTold cs p (is_listed marks.items) s)
           → IfSome found (λ marks. (s p : ℕ) → is_listed marks.items s p ≡ true → is_marked new s p ≡ true)
-          → (found ≡ None → (s p : ℕ) → is_on s growth.ancestors.items ≡ true → is_marked new s p ≡ true)
+          → (found ≡ None → (s p : ℕ) → is_on s new_class.ancestors.items ≡ true → is_marked new s p ≡ true)
           → IsTold cs p (is_marked new) s
       by_marks None told each every = inl (every refl s p (grown.above s on))
       by_marks (Some marks) told each every = elim (told s p h on seen) [
@@ -67,9 +67,9 @@ module _ {inside cs : Classes} (same : inside ≡ cs) {row : Class} (none : defi
       {over under : List (List ℕ)} {marks : Marked} {are_superclass_chains : Bool}
       (old : IsKept inside over under × IsIndexed inside.rows marks are_superclass_chains)
       {loaders' : List (List (List ℕ × ℕ))} {rows' : List Class} {over' under' : List (List ℕ)} {marks' : Marked}
-      (loaders_are : loaders' ≡ with_record inside.loaders growth.row.loader growth.row.file.name growth.class)
-      (rows_are : rows' ≡ inside.rows ++ growth.row ∷ []) (over_are : over' ≡ over ++ growth.with_itself ∷ []) (received : IsReceived growth under under')
-      (marked : AreKept marks marks') (added : AreAdded growth marks') where
+      (loaders_are : loaders' ≡ with_record inside.loaders new_class.row.loader new_class.row.file.name new_class.class)
+      (rows_are : rows' ≡ inside.rows ++ new_class.row ∷ []) (over_are : over' ≡ over ++ new_class.with_itself ∷ []) (received : IsReceived new_class under under')
+      (marked : AreKept marks marks') (added : AreAdded new_class marks') where
     kept : IsKept cs over under
     kept = subst (λ (k : Classes). IsKept k over under) same old.0
 
@@ -83,21 +83,21 @@ module _ {inside cs : Classes} (same : inside ≡ cs) {row : Class} (none : defi
       retired = (same i).retired;
     }
 
-    own_is : growth.own.items ≡ (if is_concrete_row (class_made cs row.loader row.file) then n ∷ [] else [])
+    own_is : new_class.own.items ≡ (if is_concrete_row (class_made cs row.loader row.file) then n ∷ [] else [])
     own_is = grown.own ∙ (λ i. if is_concrete_row (made i) then n ∷ [] else [])
 
-    appended : IsAppended (if is_concrete_row (class_made cs row.loader row.file) then growth.ancestors.items else []) n under received.0
+    appended : IsAppended (if is_concrete_row (class_made cs row.loader row.file) then new_class.ancestors.items else []) n under received.0
     appended =
-        subst (λ (k : Bool). IsAppended (if k then growth.ancestors.items else []) n under received.0) (grown.concrete ∙ ap is_concrete_row made)
-        (subst (λ (k : ℕ). IsAppended (gaining growth) k under received.0) grown.number received.1)
+        subst (λ (k : Bool). IsAppended (if k then new_class.ancestors.items else []) n under received.0) (grown.concrete ∙ ap is_concrete_row made)
+        (subst (λ (k : ℕ). IsAppended (gaining new_class) k under received.0) grown.number received.1)
 
     kept_grown : IsKept (record { loaders = loaders'; rows = rows'; retired = inside.retired }) over' under'
     kept_grown =
         kept_as (record { loaders = loaders'; rows = rows'; retired = inside.retired }) (defined cs row.loader row.file)
-        over' (over ++ (growth.ancestors.items ++ n ∷ []) ∷ []) under'
+        over' (over ++ (new_class.ancestors.items ++ n ∷ []) ∷ []) under'
         (received.0 ++ (if is_concrete_row (class_made cs row.loader row.file) then n ∷ [] else []) ∷ [])
         classes_are (over_are ∙ (λ i. over ++ grown.with_itself i ∷ [])) (received.2 ∙ (λ i. received.0 ++ own_is i ∷ []))
-        (kept_now cs over under kept row.loader row.file none growth.ancestors.items
+        (kept_now cs over under kept row.loader row.file none new_class.ancestors.items
         (grown.all ∙ (λ i. ancestors (cs.rows ++ made i ∷ []) n)) received.0 appended
         (first_defined cs kept.object row.loader row.file none extends))
 
@@ -106,16 +106,16 @@ module _ {inside cs : Classes} (same : inside ≡ cs) {row : Class} (none : defi
         subst (λ (r : Class). AreOrdered (cs.rows ++ r ∷ [])) (sym made)
         ((defined_good cs (good inside over under old.0 cs same) row.loader row.file).ordered)
 
-    indexed_grown : IsIndexed rows' marks' (are_superclass_chains && growth.is_line)
+    indexed_grown : IsIndexed rows' marks' (are_superclass_chains && new_class.is_line)
     indexed_grown =
-        subst (λ (rows : List Class). IsIndexed rows marks' (are_superclass_chains && growth.is_line)) (sym rows_now)
-        (indexed_now cs.rows row ordered marks marks' are_superclass_chains (are_superclass_chains && growth.is_line)
+        subst (λ (rows : List Class). IsIndexed rows marks' (are_superclass_chains && new_class.is_line)) (sym rows_now)
+        (indexed_now cs.rows row ordered marks marks' are_superclass_chains (are_superclass_chains && new_class.is_line)
         (subst (λ (k : Classes). IsIndexed k.rows marks are_superclass_chains) same old.1) marked (told_by marks' added)
-        growth.ancestors.items grown.all (λ known. (and_parts are_superclass_chains growth.is_line known).0)
-        (λ known. grown.line (and_parts are_superclass_chains growth.is_line known).1))
+        new_class.ancestors.items grown.all (λ known. (and_parts are_superclass_chains new_class.is_line known).0)
+        (λ known. grown.line (and_parts are_superclass_chains new_class.is_line known).1))
 
     pub all_grown : IsKept (record { loaders = loaders'; rows = rows'; retired = inside.retired }) over' under'
-        × IsIndexed rows' marks' (are_superclass_chains && growth.is_line)
+        × IsIndexed rows' marks' (are_superclass_chains && new_class.is_line)
     all_grown = (kept_grown, indexed_grown)
 
 -- those that are there have lists of receivers

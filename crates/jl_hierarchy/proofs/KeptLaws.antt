@@ -10,8 +10,8 @@ use Rattle.jl_types.specs.Values.Members.{lookup}
 use Rattle.jl_types.specs.Values.Ancestry.{ancestors, receivers}
 use Rattle.jl_types.proofs.Orders.{IsGood, looked_up}
 use Rattle.jl_hierarchy.specs.Constancy.{AreInOrder}
-use Rattle.jl_hierarchy.specs.Means.Kept.{IsKept, AreRecorded, lists}
-use Rattle.jl_hierarchy.specs.Means.Growing.{AreEven}
+use Rattle.jl_hierarchy.specs.ForProofs.Kept.{IsKept, AreRecorded, lists}
+use Rattle.jl_hierarchy.specs.ForProofs.Growing.{AreEven}
 
 found_there : (cs : Classes) → IsGood cs → (loader : ℕ) (name : List ℕ) (o : Option ℕ) → lookup cs loader name ≡ o → IfSome o (λ c. c < length cs.rows)
 found_there cs good loader name None e = tt

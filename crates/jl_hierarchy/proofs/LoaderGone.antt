@@ -12,13 +12,13 @@ use Rattle.jl_class.specs.Flags.{object}
 use Rattle.jl_types.specs.Values.World.{Classes}
 use Rattle.jl_types.specs.Values.Members.{is_retired, numbers, lookup}
 use Rattle.jl_types.specs.Values.Ancestry.{receivers}
-use Rattle.jl_types.specs.Happenings.Retirement.{is_of, classes_fault, losing_receivers, retired}
+use Rattle.jl_types.specs.Events.Retirement.{is_of, classes_fault, losing_receivers, retired}
 use Rattle.jl_types.proofs.Bools.{any-range-from}
 use Rattle.jl_types.proofs.Lists.{all_set}
 use Rattle.jl_types.proofs.Orders.{AreBelow}
 use Rattle.jl_types.proofs.Retiring.{is_free, receivers_left, found_before, found_after}
 use Rattle.jl_hierarchy.specs.Constancy.{has_object, ObjectComesFirst}
-use Rattle.jl_hierarchy.specs.Means.Kept.{IsKept, AreChanged}
+use Rattle.jl_hierarchy.specs.ForProofs.Kept.{IsKept, AreChanged}
 use Rattle.jl_hierarchy.specs.Retiring.{without}
 use Rattle.jl_hierarchy.proofs.Closed.{closed_retired}
 use Rattle.jl_hierarchy.proofs.Objects.{is_there}

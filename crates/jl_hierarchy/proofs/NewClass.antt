@@ -13,13 +13,13 @@ use Rattle.jl_class.specs.Class.{ClassFile}
 use Rattle.jl_types.specs.Values.World.{Class, Classes}
 use Rattle.jl_types.specs.Values.Members.{numbers, is_retired, is_concrete, is_concrete_row}
 use Rattle.jl_types.specs.Values.Ancestry.{is_ancestor, ancestors, receivers}
-use Rattle.jl_types.specs.Happenings.Definitions.{class_made, defined, with_record, define_fault}
+use Rattle.jl_types.specs.Events.Definitions.{class_made, defined, with_record, define_fault}
 use Rattle.jl_types.proofs.Ancestors.{ancestor_decides}
 use Rattle.jl_types.proofs.Grown.{above, among_ancestors, old_ancestors, receivers_after}
 use Rattle.jl_types.proofs.Lists.{at_end}
 use Rattle.jl_types.proofs.Orders.{IsGood, defined_good}
 use Rattle.jl_hierarchy.specs.Constancy.{ObjectComesFirst}
-use Rattle.jl_hierarchy.specs.Means.Kept.{IsKept, IsAppended}
+use Rattle.jl_hierarchy.specs.ForProofs.Kept.{IsKept, IsAppended}
 use Rattle.jl_hierarchy.proofs.FaultLaws.{has_room}
 use Rattle.jl_hierarchy.proofs.Closed.{closed_defined, live_loader}
 use Rattle.jl_hierarchy.proofs.OwnRecords.{own_defined}

@@ -3,9 +3,9 @@ use Rattle.std.specs.Prelude.{◌≡◌, ℕ, ◌<◌, List, [], ◌∷◌, ◌+
 use Rattle.std.proofs.Common.{arith, length-append}
 use Rattle.jl_types.specs.Values.World.{Classes}
 use Rattle.jl_types.specs.Values.Members.{is_retired, lookup}
-use Rattle.jl_types.specs.Happenings.Definitions.{with_record}
+use Rattle.jl_types.specs.Events.Definitions.{with_record}
 use Rattle.jl_types.proofs.Orders.{IsGood, looked_up, recorded_below, with_loader}
-use Rattle.jl_hierarchy.specs.Means.Kept.{IsKept}
+use Rattle.jl_hierarchy.specs.ForProofs.Kept.{IsKept}
 use Rattle.jl_hierarchy.proofs.NewClass.{as_many_loaders}
 use Rattle.jl_hierarchy.proofs.Objects.{first_with_loader, first_with_record}
 use Rattle.jl_hierarchy.proofs.Closed.{closed_with_loader, closed_with_record}

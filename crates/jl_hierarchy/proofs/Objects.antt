@@ -14,7 +14,7 @@ use Rattle.jl_class.specs.Class.{ClassFile}
 use Rattle.jl_class.specs.Flags.{has_flag, object, extends_object, INTERFACE}
 use Rattle.jl_types.specs.Values.World.{Class, Classes}
 use Rattle.jl_types.specs.Values.Members.{is_retired, recorded, lookup, is_interface}
-use Rattle.jl_types.specs.Happenings.Definitions.{is_unknown, class_made, parent_names, with_record, defined, define_fault}
+use Rattle.jl_types.specs.Events.Definitions.{is_unknown, class_made, parent_names, with_record, defined, define_fault}
 use Rattle.jl_types.specs.Linkage.Resolution.{first_of}
 use Rattle.jl_types.specs.declared.refusal.DefineFault.TheVariants.{UnknownLoader, SecondObject, MissingParent}
 use Rattle.jl_types.proofs.Firsts.{test_none}

@@ -18,8 +18,8 @@ use Rattle.jl_types.specs.declared.refusal.DefineFault.TheVariants.{UnknownLoade
 use Rattle.jl_types.specs.Values.World.{Class, Classes}
 use Rattle.jl_types.specs.Values.Members.{is_retired, is_present, is_concrete, recorded, lookup, numbers}
 use Rattle.jl_types.specs.Values.Ancestry.{AreOrdered, is_ancestor, receivers}
-use Rattle.jl_types.specs.Happenings.Definitions.{class_made, with_record, defined, define_fault, is_unknown}
-use Rattle.jl_types.specs.Happenings.Retirement.{is_of, losing_receivers, retired}
+use Rattle.jl_types.specs.Events.Definitions.{class_made, with_record, defined, define_fault, is_unknown}
+use Rattle.jl_types.specs.Events.Retirement.{is_of, losing_receivers, retired}
 use Rattle.jl_types.proofs.Ancestors.{ancestor_decides}
 use Rattle.jl_types.proofs.Bools.{any-filter, any-filter-at, any-map, any-range-from, first_test, second_test}
 use Rattle.jl_types.proofs.Firsts.{first_none, test_none}
@@ -27,7 +27,7 @@ use Rattle.jl_types.proofs.Grown.{above}
 use Rattle.jl_types.proofs.Lists.{at_end, before_end, passes_within}
 use Rattle.jl_types.proofs.Orders.{IsGood}
 use Rattle.jl_types.proofs.Retiring.{retired_after}
-use Rattle.jl_hierarchy.specs.Means.Kept.{AreRecorded, Rises}
+use Rattle.jl_hierarchy.specs.ForProofs.Kept.{AreRecorded, Rises}
 use Rattle.jl_hierarchy.specs.Retiring.{own_recorded}
 use Rattle.jl_hierarchy.proofs.Closed.{any_recorded, any_at}
 use Rattle.jl_hierarchy.proofs.Constancy.{stays_defined, stays_with_record, stays_with_loader, stays_retired}

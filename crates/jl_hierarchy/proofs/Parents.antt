@@ -20,7 +20,7 @@ use Rattle.jl_types.specs.Values.Ancestry.{parents, AreOrdered, is_ancestor, is_
 use Rattle.jl_types.proofs.Ancestors.{ancestor_decides, above_is}
 use Rattle.jl_types.proofs.Grown.{among_ancestors, above, old_within}
 use Rattle.jl_types.proofs.Lists.{at_end, before_end}
-use Rattle.jl_hierarchy.specs.Means.Kept.{Rises}
+use Rattle.jl_hierarchy.specs.ForProofs.Kept.{Rises}
 use Rattle.jl_hierarchy.proofs.Rising.{has, one_rising, rising_of, filter_rises}
 
 -- ---- sorted, each once

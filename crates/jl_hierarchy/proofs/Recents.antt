@@ -9,7 +9,7 @@ use Rattle.std.proofs.Common.{refl, ap, sym, ◌∙◌, subst, append_assoc}
 use Rattle.std.proofs.lemmas.List.{append-nil}
 use Rattle.std.proofs.lemmas.List.Folds.{find-append}
 use Rattle.jl_types.specs.Values.Members.{recorded}
-use Rattle.jl_hierarchy.specs.Means.Kept.{named, are_new}
+use Rattle.jl_hierarchy.specs.ForProofs.Kept.{named, are_new}
 use Rattle.jl_hierarchy.proofs.Records.{new_entry}
 
 -- what is recorded under the name is what the older ones have, or else what the recent ones have

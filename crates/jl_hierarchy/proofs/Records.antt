@@ -14,8 +14,8 @@ use Rattle.std.proofs.lemmas.Slice.Eq.{bytes_eq-Decides}
 use Rattle.std.specs.Option.{option_map_or}
 use Rattle.std.proofs.lemmas.Option.{slice_get-get_or}
 use Rattle.jl_types.specs.Values.Members.{recorded}
-use Rattle.jl_types.specs.Happenings.Definitions.{with_record}
-use Rattle.jl_hierarchy.specs.Means.Kept.{named}
+use Rattle.jl_types.specs.Events.Definitions.{with_record}
+use Rattle.jl_hierarchy.specs.ForProofs.Kept.{named}
 
 same_turned : (a b : List ℕ) → bytes_eq a b ≡ bytes_eq b a
 same_turned a b = one_answer (bytes_eq a b) (bytes_eq b a) (bytes_eq-Decides a b) (Decides-like (bytes_eq b a) sym sym (bytes_eq-Decides b a))

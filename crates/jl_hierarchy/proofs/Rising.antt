@@ -7,7 +7,7 @@ use Rattle.std.specs.Cmp.{nat_cmp_is}
 use Rattle.std.specs.declared.cmp.Ordering.TheVariants.{Less, Equal, Greater}
 use Rattle.std.proofs.Common.{refl, ap, sym, subst, ◌∙◌, arith, inl, inr}
 use Rattle.std.proofs.lemmas.Bool.Decides.{Decides-eqb}
-use Rattle.jl_hierarchy.specs.Means.Kept.{Rises}
+use Rattle.jl_hierarchy.specs.ForProofs.Kept.{Rises}
 use Rattle.std.proofs.lemmas.Bool.{or_right, both_ways}
 use Rattle.std.proofs.lemmas.Cmp.{nat_eq_equiv}
 

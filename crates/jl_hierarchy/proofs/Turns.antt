@@ -8,7 +8,7 @@ use Rattle.std.proofs.lemmas.List.{take_more}
 use Rattle.std.proofs.lemmas.List.Elements.{filter-append}
 use Rattle.jl_types.specs.Values.World.{Class}
 use Rattle.jl_types.proofs.Lists.{left_at}
-use Rattle.jl_hierarchy.specs.Means.Kept.{named}
+use Rattle.jl_hierarchy.specs.ForProofs.Kept.{named}
 use Rattle.jl_hierarchy.specs.Retiring.{is_row_of, own_recorded}
 
 grouped : {A : Type 0} (xs ys zs : List A) → (xs ++ ys) ++ zs ≡ xs ++ (ys ++ zs)

@@ -8,7 +8,7 @@ use Rattle.jl_types.specs.Values.Members.{lookup, is_retired, is_present, is_con
 use Rattle.jl_types.specs.Values.Ancestry.{is_parent, is_ancestor, AreOrdered}
 use Rattle.jl_types.specs.Values.Ancestry as ancestry
 use Rattle.jl_types.specs.Linkage.Access.{nest_host}
-use Rattle.jl_types.specs.Happenings.Definitions.{is_final, define_fault, defined}
+use Rattle.jl_types.specs.Events.Definitions.{is_final, define_fault, defined}
 
 -- the loader has recorded java/lang/Object
 abbrev pub has_object : Classes → ℕ → Bool

@@ -3,4 +3,4 @@ pub mod Constancy
 pub mod Prints
 pub mod Redeclared
 pub mod Retiring
-pub mod Means
+pub mod ForProofs

@@ -1,7 +1,7 @@
 -- The prints of names and descriptors. `Called` is what contracts say; the rest is a means of proof.
 use Rattle.std.specs.Prelude.{◌≡◌, ℕ, ◌+◌, Bool, ◌==◌, List, [], ◌∷◌, filter}
 use Rattle.std.specs.List.Sorted.{IsNonDecreasingBy}
-use Rattle.jl_names.specs.Means.Prints.{print_from}
+use Rattle.jl_names.specs.ForProofs.Prints.{print_from}
 use Rattle.jl_class.specs.Class.{Method}
 use Rattle.jl_hierarchy.specs.declared.row.Printed.{Printed}
 

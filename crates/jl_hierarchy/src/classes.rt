@@ -55,7 +55,7 @@ impl Drop for Classes {
 
 impl Model for Classes {
     ghost use Rattle.jl_types.specs.Values.World.{Classes};
-    ghost use Rattle.jl_hierarchy.specs.Means.Kept.{IsKept, lists};
+    ghost use Rattle.jl_hierarchy.specs.ForProofs.Kept.{IsKept, lists};
     ghost use Rattle.jl_hierarchy.specs.Redeclared.{IsIndexed};
 
     ghost Value = { Classes };

@@ -1,7 +1,7 @@
 //! A copy of the classes.
 
 ghost use Rattle.std.specs.Prelude.{◌≡◌, IfOk};
-ghost use Rattle.jl_hierarchy.specs.Means.Kept.{lists};
+ghost use Rattle.jl_hierarchy.specs.ForProofs.Kept.{lists};
 
 use crate::ancestor_list::AncestorList;
 use crate::classes::Classes;

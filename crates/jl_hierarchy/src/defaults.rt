@@ -2,7 +2,7 @@
 
 ghost use Rattle.std.specs.Prelude.{◌≡◌, ◌<◌, length};
 ghost use Rattle.jl_types.specs.Linkage.Resolution.{candidates, defaults, first_element, pick};
-ghost use Rattle.jl_hierarchy.specs.Means.Defaults as by_ancestor;
+ghost use Rattle.jl_hierarchy.specs.ForProofs.Defaults as by_ancestor;
 
 use crate::classes::Classes;
 use crate::name_and_type::NameAndType;

@@ -5,12 +5,12 @@ ghost use Rattle.std.specs.Vec.{vec_len, vec_capacity};
 ghost use Rattle.jl_types.specs.declared.refusal.DefineFault.{DefineFault};
 ghost use Rattle.jl_types.specs.declared.refusal.OrMemory.TheVariants as or_memory;
 ghost use Rattle.jl_types.specs.Values.Members.{recorded};
-ghost use Rattle.jl_types.specs.Happenings.Definitions as definitions;
-ghost use Rattle.jl_types.specs.Happenings.Definitions.{with_record};
+ghost use Rattle.jl_types.specs.Events.Definitions as definitions;
+ghost use Rattle.jl_types.specs.Events.Definitions.{with_record};
 ghost use Rattle.jl_class.specs.Flags.{extends_object};
 ghost use Rattle.jl_hierarchy.specs.Constancy.{AreInOrder, Stays, AddsReceiver};
-ghost use Rattle.jl_hierarchy.specs.Means.Kept.{HasRoom, Rises, lists};
-ghost use Rattle.jl_hierarchy.specs.Means.Growing.{AreEven, IsGrowth, gaining, IsReceived, AreKept, AreAdded};
+ghost use Rattle.jl_hierarchy.specs.ForProofs.Kept.{HasRoom, Rises, lists};
+ghost use Rattle.jl_hierarchy.specs.ForProofs.Growing.{AreEven, IsNewClass, gaining, IsReceived, AreKept, AreAdded};
 
 use crate::ancestor_list::AncestorList;
 use crate::classes::Classes;
@@ -28,7 +28,7 @@ use std::sync::Arc;
 
 /// What the definition of a class adds.
 #[derive(Drop)]
-pub(crate) struct Growth {
+pub(crate) struct NewClass {
     row: Row,
     /// The number that the class gets.
     class: ClassId,
@@ -115,9 +115,9 @@ impl Classes {
         ensures ok { OnOk result (self.new ≡ definitions.defined self.old row.loader row.file) }
         ensures err { OnErr result (self.new ≡ self.old) }
     {
-        let growth = self.growth(alloc, row)?;
-        let class = growth.class;
-        let is_line = growth.is_line;
+        let new_class = self.new_class(alloc, row)?;
+        let class = new_class.class;
+        let is_line = new_class.is_line;
         add_all(
             alloc,
             &mut self.loaders,
@@ -125,16 +125,16 @@ impl Classes {
             &mut self.above,
             &mut self.below,
             &mut self.marks,
-            growth,
+            new_class,
         )?;
         self.are_superclass_chains &= is_line;
         Ok(class)
     }
 
     /// What a class adds, which its loader makes of its file. Want of memory is an error.
-    fn growth(&self, alloc: Global, row: Row) -> Result<Growth, AllocError>
+    fn new_class(&self, alloc: Global, row: Row) -> Result<NewClass, AllocError>
         requires { row ≡ definitions.class_made self.now row.loader row.file }
-        ensures { IfOk result (IsGrowth self.now row) }
+        ensures { IfOk result (IsNewClass self.now row) }
     {
         let class = ClassId::new(self.rows.len() as u32);
         let is_concrete = is_concrete(row.class().file());
@@ -143,7 +143,7 @@ impl Classes {
         let own = own_receivers(alloc, is_concrete, class)?;
         let marks = self.marks_of(alloc, row.class())?;
         let is_line = self.is_line(row.class());
-        Ok(Growth {
+        Ok(NewClass {
             row,
             class,
             is_concrete,
@@ -168,25 +168,25 @@ fn add_all(
     above: &mut Paged<AncestorList>,
     below: &mut Vec<Receivers>,
     marks: &mut Arc<Redeclared>,
-    growth: Growth,
+    new_class: NewClass,
 ) -> Result<(), AllocError>
     requires even { AreEven rows.old.items above.old.items (lists below.old.items) }
-    requires there { All (λ c. c < length rows.old.items) (gaining growth) }
-    requires rising { Rises (gaining growth) }
-    requires loader { growth.row.loader < length loaders.old.items }
-    requires fresh { option_and_then (recorded growth.row.file.name) (slice_get loaders.old.items growth.row.loader) ≡ None }
+    requires there { All (λ c. c < length rows.old.items) (gaining new_class) }
+    requires rising { Rises (gaining new_class) }
+    requires loader { new_class.row.loader < length loaders.old.items }
+    requires fresh { option_and_then (recorded new_class.row.file.name) (slice_get loaders.old.items new_class.row.loader) ≡ None }
     ensures loaders { OnOk result (loaders.new.items
-        ≡ with_record loaders.old.items growth.row.loader growth.row.file.name growth.class) }
-    ensures rows { OnOk result (rows.new.items ≡ rows.old.items ++ growth.row ∷ []) }
-    ensures above { OnOk result (above.new.items ≡ above.old.items ++ growth.with_itself ∷ []) }
-    ensures below { OnOk result (IsReceived growth (lists below.old.items) (lists below.new.items)) }
-    ensures marks { OnOk result (AreAdded growth marks.new.value) }
+        ≡ with_record loaders.old.items new_class.row.loader new_class.row.file.name new_class.class) }
+    ensures rows { OnOk result (rows.new.items ≡ rows.old.items ++ new_class.row ∷ []) }
+    ensures above { OnOk result (above.new.items ≡ above.old.items ++ new_class.with_itself ∷ []) }
+    ensures below { OnOk result (IsReceived new_class (lists below.old.items) (lists below.new.items)) }
+    ensures marks { OnOk result (AreAdded new_class marks.new.value) }
     ensures kept { AreKept marks.old.value marks.new.value }
     ensures err { OnErr result ((loaders.new.items ≡ loaders.old.items) × (rows.new.items ≡ rows.old.items)
         × (above.new.items ≡ above.old.items) × (lists below.new.items ≡ lists below.old.items)) }
 {
-    make_ready(alloc, loaders, rows, above, below, marks, &growth)?;
-    push_all(rows, above, below, growth);
+    make_ready(alloc, loaders, rows, above, below, marks, &new_class)?;
+    push_all(rows, above, below, new_class);
     Ok(())
 }
 
@@ -202,25 +202,25 @@ fn make_ready(
     above: &mut Paged<AncestorList>,
     below: &mut Vec<Receivers>,
     marks: &mut Arc<Redeclared>,
-    growth: &Growth,
+    new_class: &NewClass,
 ) -> Result<(), AllocError>
-    requires there { All (λ c. c < length below.old.items) (gaining growth.now) }
-    requires loader { growth.now.row.loader < length loaders.old.items }
-    requires fresh { option_and_then (recorded growth.now.row.file.name) (slice_get loaders.old.items growth.now.row.loader) ≡ None }
+    requires there { All (λ c. c < length below.old.items) (gaining new_class.now) }
+    requires loader { new_class.now.row.loader < length loaders.old.items }
+    requires fresh { option_and_then (recorded new_class.now.row.file.name) (slice_get loaders.old.items new_class.now.row.loader) ≡ None }
     ensures loaders { OnOk result (loaders.new.items
-        ≡ with_record loaders.old.items growth.now.row.loader growth.now.row.file.name growth.now.class) }
+        ≡ with_record loaders.old.items new_class.now.row.loader new_class.now.row.file.name new_class.now.class) }
     ensures rows { rows.new.items ≡ rows.old.items }
     ensures above { above.new.items ≡ above.old.items }
     ensures below { lists below.new.items ≡ lists below.old.items }
     ensures row_room { OnOk result (rows.new.room ≡ true) }
     ensures above_room { OnOk result (above.new.room ≡ true) }
     ensures below_room { OnOk result (vec_len below.new < vec_capacity below.new) }
-    ensures room { OnOk result (All (HasRoom below.new.items) (gaining growth.now)) }
-    ensures marks { OnOk result (AreAdded growth.now marks.new.value) }
+    ensures room { OnOk result (All (HasRoom below.new.items) (gaining new_class.now)) }
+    ensures marks { OnOk result (AreAdded new_class.now marks.new.value) }
     ensures kept { AreKept marks.old.value marks.new.value }
     ensures err { OnErr result (loaders.new.items ≡ loaders.old.items) }
 {
-    let row = growth.row.class();
+    let row = new_class.row.class();
     let name = row.file().name().as_slice().to_vec(alloc)?;
     let loader = row.loader();
     reserve_all(
@@ -228,10 +228,10 @@ fn make_ready(
         rows,
         above,
         below,
-        receiving(growth.is_concrete, &growth.ancestors),
+        receiving(new_class.is_concrete, &new_class.ancestors),
     )?;
-    add_marks(marks, &growth.marks, &growth.ancestors)?;
-    record_in(loaders, loader, name, growth.class)
+    add_marks(marks, &new_class.marks, &new_class.ancestors)?;
+    record_in(loaders, loader, name, new_class.class)
 }
 
 /// Makes room for one class more: for its row, its ancestors and its receivers, and in the list of each of these. Want of
@@ -264,20 +264,20 @@ fn push_all(
     rows: &mut Paged<Row>,
     above: &mut Paged<AncestorList>,
     below: &mut Vec<Receivers>,
-    growth: Growth,
+    new_class: NewClass,
 )
     requires row_room { rows.old.room ≡ true }
     requires above_room { above.old.room ≡ true }
     requires few { (length rows.old.items < 2 ^ 32) × (length above.old.items < 2 ^ 32) }
     requires below_room { vec_len below.old < vec_capacity below.old }
-    requires there { All (λ c. c < length below.old.items) (gaining growth) }
-    requires rising { Rises (gaining growth) }
-    requires room { All (HasRoom below.old.items) (gaining growth) }
-    ensures rows { rows.new.items ≡ rows.old.items ++ growth.row ∷ [] }
-    ensures above { above.new.items ≡ above.old.items ++ growth.with_itself ∷ [] }
-    ensures below { IsReceived growth (lists below.old.items) (lists below.new.items) }
+    requires there { All (λ c. c < length below.old.items) (gaining new_class) }
+    requires rising { Rises (gaining new_class) }
+    requires room { All (HasRoom below.old.items) (gaining new_class) }
+    ensures rows { rows.new.items ≡ rows.old.items ++ new_class.row ∷ [] }
+    ensures above { above.new.items ≡ above.old.items ++ new_class.with_itself ∷ [] }
+    ensures below { IsReceived new_class (lists below.old.items) (lists below.new.items) }
 {
-    let Growth {
+    let NewClass {
         row,
         class,
         is_concrete,
@@ -286,7 +286,7 @@ fn push_all(
         own,
         marks: _marks,
         is_line: _is_line,
-    } = growth;
+    } = new_class;
     append_to_each(
         below.as_mut_slice(),
         receiving(is_concrete, &ancestors),

@@ -3,7 +3,7 @@
 ghost use Rattle.std.specs.Prelude.{false, ◌≡◌, ◌↔◌, nat_le, ℕ, ◌<◌, ◌≤◌, ◌++◌, ◌∷◌, [], Some, None, Err, length, IfOk, IfErr, OnOk, OnErr};
 ghost use Rattle.jl_types.specs.declared.refusal.DelegateFault.{DelegateFault};
 ghost use Rattle.jl_types.specs.declared.refusal.OrMemory.TheVariants as or_memory;
-ghost use Rattle.jl_types.specs.Happenings.Definitions as definitions;
+ghost use Rattle.jl_types.specs.Events.Definitions as definitions;
 ghost use Rattle.jl_types.specs.Values.Members as members;
 ghost use Rattle.jl_hierarchy.specs.Constancy.{AreInOrder, Stays};
 ghost use Rattle.jl_hierarchy.specs.declared.delegate.LoaderFault.TheVariants as loader_fault;

@@ -4,9 +4,9 @@ ghost use Rattle.std.specs.Prelude.{◌≡◌, not, is_none, option_map, Some, N
 ghost use Rattle.std.specs.Prelude.{IfErr, IfSome, OnOk, option_and_then, ◌+◌, ◌<◌, ◌^◌};
 ghost use Rattle.std.specs.Option.{option_copied};
 ghost use Rattle.jl_types.specs.Values.Members as members;
-ghost use Rattle.jl_types.specs.Happenings.Definitions as definitions;
+ghost use Rattle.jl_types.specs.Events.Definitions as definitions;
 ghost use Rattle.jl_types.specs.Linkage.Resolution.{first_of};
-ghost use Rattle.jl_hierarchy.specs.Means.Faults.{first_faults, superclass_faults, named_class, first_place, fault_of, IsThere};
+ghost use Rattle.jl_hierarchy.specs.ForProofs.Faults.{first_faults, superclass_faults, named_class, first_place, fault_of, IsThere};
 
 use crate::classes::Classes;
 use crate::nests::is_among;

@@ -3,7 +3,7 @@
 //!
 //! The contract of each question is its definition in jl_types (`Members`, `Ancestry`, `Access` and `Resolution`), and
 //! that of a definition or a delegation is its fault and its step there (`Definitions`). What a class and those above and
-//! below it declare is said in `specs/Redeclared`. `specs/Prints`, `Retiring` and `Means` are means of proof.
+//! below it declare is said in `specs/Redeclared`. `specs/Prints`, `Retiring` and `ForProofs` are means of proof.
 #![tactic(auto)]
 
 mod ancestor_list;
@@ -15,12 +15,12 @@ mod defaults;
 mod define;
 mod delegate;
 mod faults;
-mod growth;
 mod loader;
 mod marks;
 mod members;
 mod name_and_type;
 mod nests;
+mod new_class;
 mod object;
 mod receiving;
 mod redeclared;

@@ -3,8 +3,8 @@
 ghost use Rattle.std.specs.Prelude.{◌≡◌, ◌<◌, ◌++◌, ◌∷◌, [], true, None, length, slice_get, option_and_then, IfOk, OnOk, OnErr};
 ghost use Rattle.std.specs.List.{list_any};
 ghost use Rattle.jl_types.specs.Values.Members.{recorded};
-ghost use Rattle.jl_types.specs.Happenings.Definitions.{with_record};
-ghost use Rattle.jl_hierarchy.specs.Means.Kept.{are_new};
+ghost use Rattle.jl_types.specs.Events.Definitions.{with_record};
+ghost use Rattle.jl_hierarchy.specs.ForProofs.Kept.{are_new};
 ghost use Rattle.jl_hierarchy.specs.Retiring.{is_row_of, own_recorded};
 
 use crate::retire::{is_row_of, push_if};
@@ -42,7 +42,7 @@ impl Drop for Loader {
 
 impl Model for Loader {
     ghost use Rattle.std.specs.Prelude.{◌≡◌, List, ℕ, true, ◌++◌};
-    ghost use Rattle.jl_hierarchy.specs.Means.Kept.{are_new};
+    ghost use Rattle.jl_hierarchy.specs.ForProofs.Kept.{are_new};
 
     ghost Value = { List (List ℕ × ℕ) };
 
@@ -186,7 +186,7 @@ impl Drop for Records {
 
 impl Model for Records {
     ghost use Rattle.std.specs.Prelude.{List, ℕ};
-    ghost use Rattle.jl_hierarchy.specs.Means.Kept.{named};
+    ghost use Rattle.jl_hierarchy.specs.ForProofs.Kept.{named};
 
     ghost Value = { List (List ℕ × ℕ) };
 

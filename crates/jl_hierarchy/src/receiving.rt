@@ -2,7 +2,7 @@
 
 ghost use Rattle.std.specs.Prelude.{◌≡◌, ◌<◌, ◌&&◌, not, length, if◌then◌else◌, [], ◌∷◌, All, OnOk, IfOk};
 ghost use Rattle.jl_class.specs.Flags.{has_flag, INTERFACE, ABSTRACT};
-ghost use Rattle.jl_hierarchy.specs.Means.Kept.{HasRoom, Rises, IsAppended, lists};
+ghost use Rattle.jl_hierarchy.specs.ForProofs.Kept.{HasRoom, Rises, IsAppended, lists};
 
 use jl_class::{ABSTRACT, ClassFile, INTERFACE, has_flag};
 use jl_types::ClassId;

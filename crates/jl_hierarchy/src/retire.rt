@@ -5,10 +5,10 @@ ghost use Rattle.std.specs.Prelude.{OnErr, IfOk, false, if◌then◌else◌};
 ghost use Rattle.std.specs.Option.{option_map_or};
 ghost use Rattle.std.specs.List.{list_any, range_with_len};
 ghost use Rattle.jl_types.specs.Values.Members as members;
-ghost use Rattle.jl_types.specs.Happenings.Definitions as definitions;
-ghost use Rattle.jl_types.specs.Happenings.Retirement as retirement;
+ghost use Rattle.jl_types.specs.Events.Definitions as definitions;
+ghost use Rattle.jl_types.specs.Events.Retirement as retirement;
 ghost use Rattle.jl_hierarchy.specs.Constancy.{AreInOrder};
-ghost use Rattle.jl_hierarchy.specs.Means.Kept.{AreChanged, Rises, lists};
+ghost use Rattle.jl_hierarchy.specs.ForProofs.Kept.{AreChanged, Rises, lists};
 ghost use Rattle.jl_hierarchy.specs.Retiring.{is_row_of, own_classes, own_recorded, without};
 
 use crate::classes::Classes;

@@ -7,10 +7,10 @@ use Rattle.std.proofs.lemmas.Bool.Decides.{Decides-eqb}
 use Rattle.std.proofs.lemmas.List.{get_or-set_same, get_or-set_other}
 use Rattle.std.proofs.lemmas.List.Folds.{list_any_more}
 use Rattle.jl_types.specs.declared.link.Link.{Link}
-use Rattle.jl_types.specs.Happenings.History.{installed}
+use Rattle.jl_types.specs.Events.History.{installed}
 use Rattle.jl_core.specs.State.{State, events}
 use Rattle.jl_host.specs.Seats.{room_for}
-use Rattle.jl_host.specs.Means.Behind.{IsNow}
+use Rattle.jl_host.specs.ForProofs.Behind.{IsNow}
 
 module _ (core : State) (links : List (Option Link)) (n : ℕ) (x : Option Link) (few : n < length links) (is : x ≡ installed (events core) n) where
   pub is_set : IsNow core (slice_set links n x) n

@@ -11,25 +11,25 @@ use Rattle.std.proofs.lemmas.List.FromFn.{get_or-map-range_with_len, length-map-
 use Rattle.std.proofs.lemmas.Option.{same_Some}
 use Rattle.jl_types.specs.declared.answer.Unlinked.{Unlinked}
 use Rattle.jl_types.specs.declared.link.Link.{Link}
-use Rattle.jl_types.specs.Happenings.Event.{Event}
+use Rattle.jl_types.specs.Events.Event.{Event}
 use Rattle.jl_types.specs.declared.event.EventOf.TheVariants as event
 use Rattle.jl_types.specs.declared.event.Reply.{Reply}
 use Rattle.jl_types.specs.declared.refusal.Refusal.{Refusal}
 use Rattle.jl_types.specs.Values.World.{Class}
-use Rattle.jl_types.specs.Happenings.Events.{verdict}
-use Rattle.jl_types.specs.Happenings.History.{world_after, installed, installs, dropped, installed_at, installed_of, settled_since, scratch_after, is_link}
-use Rattle.jl_types.specs.Happenings.History.{all_below, any_below}
+use Rattle.jl_types.specs.Events.Verdict.{verdict}
+use Rattle.jl_types.specs.Events.History.{world_after, installed, installs, dropped, installed_at, installed_of, settled_since, scratch_after, is_link}
+use Rattle.jl_types.specs.Events.History.{all_below, any_below}
 use Rattle.jl_types.specs.Linkage.Links.{scratch}
 use Rattle.jl_types.proofs.Places.{accepted_of}
 use Rattle.jl_events.specs.Accepted.{Accepted, event_of}
 use Rattle.jl_core.specs.State.{State, events, world_of, IsAccepted, IsApplied}
 use Rattle.jl_core.specs.Logs.{Entry, told, are_told, shown}
-use Rattle.jl_core.specs.Means.Touched.{has}
+use Rattle.jl_core.specs.ForProofs.Touched.{has}
 use Rattle.jl_core.proofs.SlotLaws.{untouched}
 use Rattle.jl_core.proofs.LogLaws.{length_told}
 use Rattle.jl_host.specs.Linkers.{last_dropped}
 use Rattle.jl_host.specs.Seats.{room_for}
-use Rattle.jl_host.specs.Means.Behind.{touches, installs_at, touched_by, IsNow, IsBehind}
+use Rattle.jl_host.specs.ForProofs.Behind.{touches, installs_at, touched_by, IsNow, IsBehind}
 
 both_false : (a b : Bool) → (a || b) ≡ false → (a ≡ false) × (b ≡ false)
 both_false false b e = (refl, e)

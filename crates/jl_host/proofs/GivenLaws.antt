@@ -16,13 +16,13 @@ use Rattle.jl_types.specs.declared.refusal.SitesFault.{SitesFault}
 use Rattle.jl_types.specs.Values.World.{World}
 use Rattle.jl_types.specs.Linkage.Links.{scratch}
 use Rattle.jl_types.specs.Linkage.Resolution.{first_of}
-use Rattle.jl_types.specs.Means.SameLink.{link_decides}
-use Rattle.jl_types.specs.Happenings.Batches.{is_bad_size, sites_fault}
-use Rattle.jl_types.specs.Happenings.Events.{row_fault, install_fault, Accepts, unless}
-use Rattle.jl_types.specs.Happenings.Events as events
-use Rattle.jl_types.specs.Happenings.History.{replied}
-use Rattle.jl_types.specs.Happenings.Preparation.{prepare_fault, ArePrepared}
-use Rattle.jl_types.specs.Happenings.Preparation as preparation
+use Rattle.jl_types.specs.ForProofs.SameLink.{link_decides}
+use Rattle.jl_types.specs.Events.Batches.{is_bad_size, sites_fault}
+use Rattle.jl_types.specs.Events.Verdict.{row_fault, install_fault, Accepts, unless}
+use Rattle.jl_types.specs.Events.Verdict as events
+use Rattle.jl_types.specs.Events.History.{replied}
+use Rattle.jl_types.specs.Events.Preparation.{prepare_fault, ArePrepared}
+use Rattle.jl_types.specs.Events.Preparation as preparation
 use Rattle.jl_types.proofs.Accepting.{accepted_installs}
 use Rattle.jl_types.proofs.Firsts.{first_none, test_none}
 use Rattle.jl_relink.specs.declared.preparation.Prepared.{Prepared}

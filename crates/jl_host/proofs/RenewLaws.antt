@@ -12,7 +12,7 @@ use Rattle.jl_renewal.specs.Staying.{numbers_of, staying_loaders, staying_classe
 use Rattle.jl_renewal.proofs.StayLaws.{call_sites_length, switches_length}
 use Rattle.jl_host.specs.declared.renew.Counts.{Counts}
 use Rattle.jl_host.specs.Renewals.{counts_of, number_shown}
-use Rattle.jl_host.specs.Means.Kinds.{HasCounts}
+use Rattle.jl_host.specs.ForProofs.Kinds.{HasCounts}
 use Rattle.jl_host.proofs.ReadingLaws.{one_at_front}
 
 -- the new number of what there is

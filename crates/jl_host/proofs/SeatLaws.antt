@@ -5,7 +5,7 @@ use Rattle.std.proofs.lemmas.Option.{unwrap_or-slice_get}
 use Rattle.jl_types.specs.declared.link.Link.{Link}
 use Rattle.jl_types.specs.declared.answer.Recv.{Recv}
 use Rattle.jl_types.specs.declared.answer.Fast.TheVariants.{Miss}
-use Rattle.jl_types.specs.Happenings.Fast.{fast_answer}
+use Rattle.jl_types.specs.Events.Fast.{fast_answer}
 use Rattle.jl_memo.specs.declared.set.Set.{Set}
 use Rattle.jl_memo.specs.Answers.{answer_with}
 use Rattle.jl_host.specs.Numbers.{memory}

@@ -13,4 +13,4 @@ pub mod Views
 pub mod Awaiting
 pub mod Asking
 pub mod Renewals
-pub mod Means
+pub mod ForProofs

@@ -7,7 +7,7 @@ use Rattle.jl_classfile.specs.Parts.{Parts}
 use Rattle.jl_classfile.specs.ClassFiles.{IsClass}
 use Rattle.jl_classfile.specs.Shown.{shown}
 use Rattle.jl_classfile.specs.Faults.{IsFault}
-use Rattle.jl_types.specs.Happenings.Event.{Event}
+use Rattle.jl_types.specs.Events.Event.{Event}
 use Rattle.jl_types.specs.declared.event.EventOf.TheVariants as event
 use Rattle.jl_types.specs.declared.event.Reply.{Reply}
 use Rattle.jl_types.specs.declared.refusal.PrepareFault.{PrepareFault}
@@ -16,7 +16,7 @@ use Rattle.jl_types.specs.declared.target.CallSiteKind.{CallSiteKind}
 use Rattle.jl_types.specs.declared.target.CallSiteKind.TheVariants.{Constant, Mutable, Volatile}
 use Rattle.jl_types.specs.Values.Target.{Target}
 use Rattle.jl_types.specs.Linkage.Calls.{dispatch}
-use Rattle.jl_types.specs.Happenings.History.{installed}
+use Rattle.jl_types.specs.Events.History.{installed}
 use Rattle.jl_relink.specs.declared.preparation.Prepared.{Prepared}
 use Rattle.jl_relink.specs.Preparations.{IsPreparation}
 use Rattle.jl_core.specs.State.{State, empty_core, events, world_of, IsApplied}

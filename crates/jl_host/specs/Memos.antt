@@ -1,7 +1,7 @@
 -- What a memo remembers, and what its calls leave.
 use Rattle.std.specs.Prelude.{◌≡◌, ◌⊎◌, ℕ, List, get_or, replicate, Option, Some, None}
 use Rattle.jl_types.specs.Linkage.Calls.{dispatch}
-use Rattle.jl_types.specs.Happenings.History.{installed}
+use Rattle.jl_types.specs.Events.History.{installed}
 use Rattle.jl_core.specs.State.{events, world_of}
 use Rattle.jl_memo.specs.declared.set.Set.{Set}
 use Rattle.jl_memo.specs.Memos.{no_rows}

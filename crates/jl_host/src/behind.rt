@@ -2,11 +2,11 @@
 
 ghost use Rattle.std.specs.Prelude.{◌≡◌, ◌<◌, ◌≤◌, ◌==◌, nat_lt, ℕ, true, length, drop, replicate, slice_set, None, IfOk, OnOk, OnErr};
 ghost use Rattle.std.specs.List.{list_any};
-ghost use Rattle.jl_types.specs.Happenings.History.{installed};
+ghost use Rattle.jl_types.specs.Events.History.{installed};
 ghost use Rattle.jl_core.specs.State.{events};
-ghost use Rattle.jl_core.specs.Means.Touched.{has};
+ghost use Rattle.jl_core.specs.ForProofs.Touched.{has};
 ghost use Rattle.jl_host.specs.Seats.{room_for};
-ghost use Rattle.jl_host.specs.Means.Behind.{IsNow, IsBehind, installs_at, touched_by};
+ghost use Rattle.jl_host.specs.ForProofs.Behind.{IsNow, IsBehind, installs_at, touched_by};
 
 use jl_cache::{KeptLink, KeptSlot};
 use jl_core::{Accepted, Core, Entry};

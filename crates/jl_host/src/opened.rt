@@ -2,7 +2,7 @@
 
 ghost use Rattle.std.specs.Prelude.{◌≡◌, ◌≤◌, ◌⊎◌, option_copied, IfOk, IfErr};
 ghost use Rattle.jl_types.specs.Linkage.Calls.{dispatch};
-ghost use Rattle.jl_types.specs.Happenings.History.{installed};
+ghost use Rattle.jl_types.specs.Events.History.{installed};
 ghost use Rattle.jl_core.specs.State.{State, events, world_of};
 ghost use Rattle.jl_renewal.specs.Renewal.{IsRenewal, IsRefusedRenewal};
 ghost use Rattle.jl_host.specs.Numbers.{memory};
@@ -56,9 +56,9 @@ impl Drop for Opened {
 
 impl Model for Opened {
     ghost use Rattle.std.specs.Coded.{codes};
-    ghost use Rattle.jl_types.specs.Means.TargetCode.{target_code};
+    ghost use Rattle.jl_types.specs.ForProofs.TargetCode.{target_code};
     ghost use Rattle.jl_host.specs.Linkers.{Opened};
-    ghost use Rattle.jl_host.specs.Means.Behind.{IsBehind};
+    ghost use Rattle.jl_host.specs.ForProofs.Behind.{IsBehind};
 
     ghost Value = { Opened };
 

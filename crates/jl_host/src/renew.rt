@@ -5,7 +5,7 @@ ghost use Rattle.jl_core.specs.State.{world_of};
 ghost use Rattle.jl_renewal.specs.Numbers as renewed;
 ghost use Rattle.jl_host.specs.Renewals as renewals;
 ghost use Rattle.jl_host.specs.Renewals.{counts_of, no_counts, arrays_of, at_front, with_numbers};
-ghost use Rattle.jl_host.specs.Means.Kinds.{of_kind, HasCounts};
+ghost use Rattle.jl_host.specs.ForProofs.Kinds.{of_kind, HasCounts};
 
 use crate::arrays::{call_sites_of, switches_of};
 use jl_core::Core;

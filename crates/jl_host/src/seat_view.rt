@@ -2,7 +2,7 @@
 
 ghost use Rattle.std.specs.Prelude.{◌≡◌, None, get_or, slice_get};
 ghost use Rattle.std.specs.Option.{option_copied};
-ghost use Rattle.jl_types.specs.Happenings.Fast as fast_of;
+ghost use Rattle.jl_types.specs.Events.Fast as fast_of;
 ghost use Rattle.jl_memo.specs.Answers as by_memo;
 
 use crate::behind::Links;

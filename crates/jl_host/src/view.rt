@@ -27,7 +27,7 @@ impl Drop for View {
 impl Model for View {
     ghost use Rattle.std.specs.Prelude.{Option};
     ghost use Rattle.std.specs.Coded.{codes};
-    ghost use Rattle.jl_types.specs.Means.TargetCode.{target_code};
+    ghost use Rattle.jl_types.specs.ForProofs.TargetCode.{target_code};
     ghost use Rattle.jl_relink.specs.Preparations.{Snapshot};
 
     ghost Value = { Option Snapshot };

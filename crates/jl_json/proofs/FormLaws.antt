@@ -18,7 +18,7 @@ use Rattle.jl_types.specs.declared.target.CallSiteKind.{CallSiteKind}
 use Rattle.jl_types.specs.declared.target.CallSiteKind.TheVariants.{Constant, Mutable, Volatile}
 use Rattle.jl_types.specs.Values.Target.{Target, Method, Guard, Invoker}
 use Rattle.jl_names.specs.MethodTypes.{IsMethodDescriptor}
-use Rattle.jl_pool.specs.Means.Forms.{method_slots}
+use Rattle.jl_pool.specs.ForProofs.Forms.{method_slots}
 use Rattle.jl_pool.proofs.FormLaws.{SlotsAre, method_slots-is}
 use Rattle.jl_json.specs.declared.command.Command.{Command}
 use Rattle.jl_json.specs.declared.command.Command.TheVariants.{Apply, Prepare, Call, Links}

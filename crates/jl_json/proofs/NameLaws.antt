@@ -17,7 +17,7 @@ use Rattle.jl_names.specs.declared.fault.NameFault.TheVariants.{Memory}
 use Rattle.jl_names.proofs.UnitLaws.{IsMutf8-no_fault}
 use Rattle.jl_pool.proofs.FormLaws.{and_true}
 use Rattle.jl_json.specs.Names.{units_text, SpellsNames}
-use Rattle.jl_json.specs.Means.NameReading.{units_of, is_plain, name_text}
+use Rattle.jl_json.specs.ForProofs.NameReading.{units_of, is_plain, name_text}
 
 unit_read : (u : ℕ) (rest : List ℕ) → u < 2 ^ 16 → units_of (unit_bytes u ++ rest) ≡ u ∷ units_of rest
 unit_read u [] lt = grind (arith, nat_tests)

@@ -7,9 +7,9 @@ use Rattle.std.proofs.lemmas.Bool.Decides.{nat_tests}
 use Rattle.std.proofs.lemmas.List.{take_all, length-drop}
 use Rattle.std.proofs.lemmas.Simd.{length-chunk}
 use lib.Lanes.{chunk, mask_l, zip2, top}
-use Rattle.jl_pool.specs.Means.Marks.{is_odd}
+use Rattle.jl_pool.specs.ForProofs.Marks.{is_odd}
 use Rattle.jl_pool.proofs.LaneLaws.{lane, equals, is_some_set, odd_lanes, some_set, covered, longer}
-use Rattle.jl_json.specs.Means.NameReading.{is_plain}
+use Rattle.jl_json.specs.ForProofs.NameReading.{is_plain}
 
 plain_or_odd : (byte : ℕ) → not (is_odd byte) ≡ (not (eqb byte 0) && nat_lt byte 128)
 plain_or_odd byte = grind (arith, nat_tests)

@@ -28,7 +28,7 @@ use Rattle.jl_json.specs.ClassAnswers.{class_data}
 use Rattle.jl_json.specs.EventRefusals.{define_refusal_data, event_refusal_data}
 use Rattle.jl_json.specs.LinkAnswers.{table_row_data, link_data, site_link_data, site_links_data}
 use Rattle.jl_json.specs.LinkAnswers.{prepared_data}
-use Rattle.jl_json.specs.Means.NameReading.{name_text}
+use Rattle.jl_json.specs.ForProofs.NameReading.{name_text}
 use Rattle.jl_json.specs.Refusals.{refusal_of, refusal_data}
 use Rattle.jl_json.specs.Replies.{reply_data}
 use Rattle.jl_json.specs.SketchForms.{sketch_data}

@@ -6,7 +6,7 @@ use Rattle.std.specs.Str.{bytes_eq}
 use Rattle.serde_json.specs.Data.{Data}
 use Rattle.serde_json.specs.Find.{get, as_object}
 use Rattle.jl_names.specs.MethodTypes.{IsMethodDescriptor}
-use Rattle.jl_pool.specs.Means.Forms.{method_slots}
+use Rattle.jl_pool.specs.ForProofs.Forms.{method_slots}
 use Rattle.jl_pool.proofs.FormLaws.{SlotsAre, method_slots-is}
 use Rattle.jl_types.specs.declared.event.EventOf.TheVariants.{NewCallSite, Install, Invalidate, Retire}
 use Rattle.jl_types.specs.declared.target.CallSiteKind.{CallSiteKind}

@@ -14,7 +14,7 @@ use Rattle.serde_json.specs.Data.{Items, no_items, item, Members, no_members, me
 use Rattle.serde_json.specs.Written.{outline, items_outline, members_outline, compact_text}
 use Rattle.serde_json.specs.View.{items_of}
 use Rattle.serde_json.proofs.Texts.{print-outline}
-use Rattle.jl_json.specs.Means.Written.{Puts, PutsValue, PutsItems, PutsMembers}
+use Rattle.jl_json.specs.ForProofs.Written.{Puts, PutsValue, PutsItems, PutsMembers}
 
 -- tokens behind a first one
 then_tokens : (old first new : List Token) (t : Token) (ts : List Token) → Puts old first t → new ≡ first ++ ts → new ≡ old ++ t ∷ ts

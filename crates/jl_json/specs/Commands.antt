@@ -14,7 +14,7 @@ use Rattle.jl_types.specs.declared.event.EventOf.TheVariants.{NewLoader, Define,
 use Rattle.jl_types.specs.declared.event.EventOf.TheVariants.{NewCallSite, SetTarget, NewSwitch, Invalidate, Bind}
 use Rattle.jl_types.specs.declared.target.CallSiteKind.{CallSiteKind}
 use Rattle.jl_types.specs.declared.target.CallSiteKind.TheVariants.{Constant, Mutable, Volatile}
-use Rattle.jl_pool.specs.Means.Forms.{method_slots}
+use Rattle.jl_pool.specs.ForProofs.Forms.{method_slots}
 use Rattle.jl_json.specs.declared.command.Command.{Command}
 use Rattle.jl_json.specs.declared.command.Command.TheVariants.{Apply, Prepare, Call, Links}
 use Rattle.jl_json.specs.declared.command.ClassSource.{ClassSource}

@@ -11,4 +11,4 @@ pub mod SketchForms
 pub mod Targets
 pub mod Commands
 pub mod CommandForms
-pub mod Means
+pub mod ForProofs

@@ -3,11 +3,11 @@
 ghost use Rattle.std.specs.Prelude.{◌≡◌, ◌++◌, List, ℕ, map, OnOk, OnErr};
 ghost use Rattle.serde_json.specs.Data.{array};
 ghost use Rattle.serde_json.specs.View.{items_of};
-ghost use Rattle.jl_json.specs.Means.NameReading.{name_text};
+ghost use Rattle.jl_json.specs.ForProofs.NameReading.{name_text};
 ghost use Rattle.jl_json.specs.ClassAnswers.{instruction_name, call_data, call_site_data};
 ghost use Rattle.jl_json.specs.ClassAnswers.{name_data, number_data, site_data, method_data, class_data};
 ghost use Rattle.jl_json.specs.ClassAnswers.{IsClassText};
-ghost use Rattle.jl_json.specs.Means.Written.{PutsValue};
+ghost use Rattle.jl_json.specs.ForProofs.Written.{PutsValue};
 
 use crate::text::{plain_text, text_of};
 use jl_class::{ClassFile, Kind, Method, Methods, Operand, Site, Sites};

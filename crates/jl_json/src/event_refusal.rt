@@ -3,7 +3,7 @@
 ghost use Rattle.std.specs.Prelude.{◌≡◌, codes, IfOk};
 ghost use Rattle.serde_json.specs.Data.{member, no_members, object, string, put as with_member};
 ghost use Rattle.serde_json.specs.View.{view, members_view};
-ghost use Rattle.jl_json.specs.Means.NameReading.{name_text};
+ghost use Rattle.jl_json.specs.ForProofs.NameReading.{name_text};
 ghost use Rattle.jl_json.specs.EventRefusals.{refused, refused_at, refused_bound, refused_for, refused_name, delegate_name, call_site_refusal_data};
 ghost use Rattle.jl_json.specs.EventRefusals.{not_linkable_name, define_refusal_data, retire_refusal_data};
 ghost use Rattle.jl_json.specs.EventRefusals.{event_refusal_data, IsRefusalData};

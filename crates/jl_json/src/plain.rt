@@ -1,7 +1,7 @@
 //! Which names have one byte a unit.
 
 ghost use Rattle.std.specs.Prelude.{◌≡◌, ◌+◌, ◌≤◌, length, take, drop};
-ghost use Rattle.jl_json.specs.Means.NameReading.{is_plain};
+ghost use Rattle.jl_json.specs.ForProofs.NameReading.{is_plain};
 
 use std::simd::prelude::*;
 

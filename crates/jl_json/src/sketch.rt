@@ -14,7 +14,7 @@ ghost use Rattle.jl_json.specs.Members.{has_only, keys_of, AreAmong};
 ghost use Rattle.jl_json.specs.Sketches.{text_units, text_name, name_in, name_at, name_if_any};
 ghost use Rattle.jl_json.specs.Sketches.{method_name_in, plain_call, marked_call};
 ghost use Rattle.jl_json.specs.Sketches.{dynamic_call, call_in, method_in, sketch_keys, sketch_of};
-ghost use Rattle.jl_json.specs.Means.SketchParts.{with_lists};
+ghost use Rattle.jl_json.specs.ForProofs.SketchParts.{with_lists};
 ghost use Rattle.jl_json.specs.SketchForms.{sketch_data, HasForm};
 
 use crate::command::{index_at, text_at};

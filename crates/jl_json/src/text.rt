@@ -1,7 +1,7 @@
 //! Names as text.
 
 ghost use Rattle.std.specs.Prelude.{◌≡◌, string_bytes, IfOk, IfSome};
-ghost use Rattle.jl_json.specs.Means.NameReading.{name_text};
+ghost use Rattle.jl_json.specs.ForProofs.NameReading.{name_text};
 
 use crate::plain::is_plain;
 use jl_names::{NameFault, decode_mutf8};

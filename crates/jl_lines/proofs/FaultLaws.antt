@@ -12,7 +12,7 @@ use Rattle.jl_lines.specs.declared.line_fault.LineFault.TheVariants.{TooLong, De
 use Rattle.jl_lines.specs.Devices.{one_more, HasRisen}
 use Rattle.jl_lines.specs.Lines.{newline, most_in_line, lines_of, NoNewline, ended}
 use Rattle.jl_lines.specs.Answers.{AreAnswers, LacksFirst, AnswersAll, AnswersFirst, AnswersRead, AnswersEarlier, LongIf, LeftBy}
-use Rattle.jl_lines.specs.Means.Progress.{IsLine, Answered, Writes, Runs, LacksNext, StopsBy, Leaves}
+use Rattle.jl_lines.specs.ForProofs.Progress.{IsLine, Answered, Writes, Runs, LacksNext, StopsBy, Leaves}
 use Rattle.jl_lines.proofs.LineLaws.{all_append, line_first, answers_append, read_lines, short_each, over_first, runs_first, runs_read, runs_write, runs_all}
 
 pub risen : (old new : ℕ) → new ≡ one_more old → HasRisen old new

@@ -11,7 +11,7 @@ use Rattle.std.specs.List.{flat_map, AllByRecursion}
 use Rattle.jl_lines.specs.declared.line_fault.LineFault.{LineFault}
 use Rattle.jl_lines.specs.Lines.{newline, most_in_line, onto_first, lines_of, NoNewline, ended}
 use Rattle.jl_lines.specs.Answers.{AreAnswers, AreShort, AnswersAll, AnswersFirst, FirstIsLong, Lacks, LacksFirst, LongIf, LeftBy}
-use Rattle.jl_lines.specs.Means.Progress.{IsLine, Answered, Gathers, Writes, Runs, IsOver, LacksNext}
+use Rattle.jl_lines.specs.ForProofs.Progress.{IsLine, Answered, Gathers, Writes, Runs, IsOver, LacksNext}
 
 pub match_err : {X E : Type 0} (P : X → Type 0) (R : E → Type 0) {Q : Type 0} (r : Result X E) → IsErrAnd r R → Q
     → MatchResult r P (λ _. Q)

@@ -7,7 +7,7 @@ use Rattle.std.proofs.lemmas.List.{take_rest}
 use Rattle.std.proofs.lemmas.Bool.{eqb-true}
 use Rattle.memchr.specs.Find.{Nowhere, NoneBefore, Passes, is_byte}
 use Rattle.jl_lines.specs.Lines.{newline, NoNewline}
-use Rattle.jl_lines.specs.Means.Progress.{IsFirstNewline}
+use Rattle.jl_lines.specs.ForProofs.Progress.{IsFirstNewline}
 use Rattle.jl_lines.proofs.LineLaws.{all_append}
 
 not_true : (b : Bool) → ¬ (b ≡ true) → b ≡ false

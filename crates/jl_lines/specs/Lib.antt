@@ -3,4 +3,4 @@ pub mod Counted
 pub mod FailAt
 pub mod Lines
 pub mod Answers
-pub mod Means
+pub mod ForProofs

@@ -6,7 +6,7 @@ ghost use Rattle.std.specs.Io.KnownBytes.{Appends};
 ghost use Rattle.jl_lines.specs.Devices.{CountsFailure};
 ghost use Rattle.jl_lines.specs.Answers.{Lacks};
 ghost use Rattle.jl_lines.specs.Lines.{newline, NoNewline, ended};
-ghost use Rattle.jl_lines.specs.Means.Progress.{IsFirstNewline, Gathers, LacksNext};
+ghost use Rattle.jl_lines.specs.ForProofs.Progress.{IsFirstNewline, Gathers, LacksNext};
 
 use crate::answer::Answer;
 use crate::failed::Failed;

@@ -8,7 +8,7 @@ ghost use Rattle.jl_lines.specs.Devices.{one_more, HasRisen};
 ghost use Rattle.jl_lines.specs.Lines.{lines_of, NoNewline};
 ghost use Rattle.jl_lines.specs.Answers.{AreAnswers, LacksFirst, AnswersAll, AnswersFirst, AnswersRead, AnswersEarlier};
 ghost use Rattle.jl_lines.specs.Answers.{LongIf, LeftBy};
-ghost use Rattle.jl_lines.specs.Means.Progress.{Writes, StopsBy, Leaves};
+ghost use Rattle.jl_lines.specs.ForProofs.Progress.{Writes, StopsBy, Leaves};
 
 use crate::answer::Answer;
 use crate::answers::Answers;

@@ -10,12 +10,12 @@ use Rattle.jl_types.specs.declared.refusal.Refusal.{Refusal}
 use Rattle.jl_types.specs.declared.refusal.Refusal.TheVariants.{Delegate, Retire}
 use Rattle.jl_types.specs.Values.World.{World, Classes, nothing_yet}
 use Rattle.jl_types.specs.Values.Members.{is_retired, is_present, lookup}
-use Rattle.jl_types.specs.Happenings.Definitions.{is_unknown, with_record, delegate_fault, delegated}
-use Rattle.jl_types.specs.Happenings.Retirement.{retire_fault}
-use Rattle.jl_types.specs.Happenings.Event.{Event}
-use Rattle.jl_types.specs.Happenings.Events.{verdict, step}
-use Rattle.jl_types.specs.Happenings.History.{world_after, dropped}
-use Rattle.jl_types.specs.Happenings.Entries.{Entry, IsEntry, IsLegal, events_of}
+use Rattle.jl_types.specs.Events.Definitions.{is_unknown, with_record, delegate_fault, delegated}
+use Rattle.jl_types.specs.Events.Retirement.{retire_fault}
+use Rattle.jl_types.specs.Events.Event.{Event}
+use Rattle.jl_types.specs.Events.Verdict.{verdict, step}
+use Rattle.jl_types.specs.Events.History.{world_after, dropped}
+use Rattle.jl_types.specs.Events.Entries.{Entry, IsEntry, IsLegal, events_of}
 use Rattle.jl_types.proofs.Firsts.{first_none, test_none}
 use Rattle.jl_types.proofs.Legal.{events_more, by_entries}
 use Rattle.jl_types.proofs.Orders.{IsGood, world_good}

@@ -17,13 +17,13 @@ use Rattle.jl_types.specs.declared.answer.Recv.TheVariants.{Null, Of}
 use Rattle.jl_types.specs.declared.answer.Fast.TheVariants.{Now}
 use Rattle.jl_types.specs.declared.link.Link.{Link}
 use Rattle.jl_types.specs.declared.link.Link.TheVariants.{Fault, Plain, Direct, Table, Mega}
-use Rattle.jl_types.specs.Happenings.Event.{Event}
+use Rattle.jl_types.specs.Events.Event.{Event}
 use Rattle.jl_types.specs.Values.World.{World, Class, Classes}
 use Rattle.jl_types.specs.Values.Members.{class_test, has_class, is_retired, is_present, is_concrete, is_concrete_row}
 use Rattle.jl_types.specs.Linkage.Stages.{Stage, Waits, Fails, Calls, Selects, stage, stage_at, stage_of, invocation_at}
 use Rattle.jl_types.specs.Linkage.Links.{outcome, link_of}
 use Rattle.jl_types.specs.Linkage.Calls.{answered, fits_named, answer_of, dispatch}
-use Rattle.jl_types.specs.Happenings.History.{world_after, installed}
+use Rattle.jl_types.specs.Events.History.{world_after, installed}
 use Rattle.jl_types.proofs.Agreement.{null_is_thrown}
 use Rattle.jl_types.proofs.Installed.{installed_to, settled_now}
 use Rattle.jl_types.proofs.Lists.{element_at}

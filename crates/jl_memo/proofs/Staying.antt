@@ -24,10 +24,10 @@ use Rattle.jl_types.specs.Linkage.Access.{nest_host, host_by}
 use Rattle.jl_types.specs.Linkage.Stages.{Selector, ByVirtual, ByInterface, BySpecial, ResolvedCall, Stage, Waits, Fails, Calls, Selects}
 use Rattle.jl_types.specs.Linkage.Stages.{stage, stage_at, stage_of, by_operand, by_method, bound_to, bound_method, invocation_at}
 use Rattle.jl_types.specs.Linkage.Calls.{answered, fits_named, answer_of, dispatch}
-use Rattle.jl_types.specs.Happenings.Event.{Event}
-use Rattle.jl_types.specs.Happenings.Events.{step}
-use Rattle.jl_types.specs.Happenings.History.{world_after}
-use Rattle.jl_types.specs.Happenings.Footprints.{has_key, of_selector, of_stage, of_operand, of_invocation, of_place, footprint}
+use Rattle.jl_types.specs.Events.Event.{Event}
+use Rattle.jl_types.specs.Events.Verdict.{step}
+use Rattle.jl_types.specs.Events.History.{world_after}
+use Rattle.jl_types.specs.Events.Footprints.{has_key, of_selector, of_stage, of_operand, of_invocation, of_place, footprint}
 use Rattle.jl_types.proofs.Lists.{element_at}
 use Rattle.jl_types.proofs.Orders.{IsGood, world_good}
 use Rattle.jl_types.proofs.Places.{world_more}

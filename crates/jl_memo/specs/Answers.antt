@@ -15,7 +15,7 @@ use Rattle.jl_types.specs.Values.World.{World, Classes}
 use Rattle.jl_types.specs.Values.Members.{has_class, is_present, is_concrete}
 use Rattle.jl_types.specs.Linkage.Stages.{Stage, Waits, Fails, Calls, Selects, stage}
 use Rattle.jl_types.specs.Linkage.Calls.{answered, dispatch}
-use Rattle.jl_types.specs.Happenings.Fast.{fast_answer}
+use Rattle.jl_types.specs.Events.Fast.{fast_answer}
 use Rattle.jl_hierarchy.specs.Constancy.{AreInOrder}
 pub use Rattle.jl_cache.specs.Links.{is_mega}
 use Rattle.jl_memo.specs.declared.set.Set.{Set}

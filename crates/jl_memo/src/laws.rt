@@ -3,9 +3,9 @@
 ghost use Rattle.std.specs.Prelude.{◌≡◌, ◌⊎◌, ◌++◌, ◌≤◌, ℕ, true, List, Some, length};
 ghost use Rattle.jl_types.specs.declared.answer.Outcome.{Outcome};
 ghost use Rattle.jl_types.specs.declared.answer.Recv.TheVariants.{Of};
-ghost use Rattle.jl_types.specs.Happenings.Event.{Event};
+ghost use Rattle.jl_types.specs.Events.Event.{Event};
 ghost use Rattle.jl_types.specs.Linkage.Calls.{answered, dispatch};
-ghost use Rattle.jl_types.specs.Happenings.History.{world_after};
+ghost use Rattle.jl_types.specs.Events.History.{world_after};
 ghost use Rattle.jl_types.specs.Values.Members.{is_concrete};
 ghost use Rattle.jl_hierarchy.specs.Constancy.{AreInOrder, IsClosed};
 ghost use Rattle.jl_memo.specs.declared.set.Row.{Row};

@@ -1,7 +1,7 @@
 -- The bytes that the grammar names, and steps that may fail.
 use Rattle.std.proofs.Common.{◌≡◌, ℕ, Bool, true, false, cond, Result, Ok, Err, refl, inl, inr, ◌⊎◌}
 use Rattle.std.specs.Str.{byte}
-use Rattle.jl_names.specs.Means.Steps.{◌>>=◌}
+use Rattle.jl_names.specs.ForProofs.Steps.{◌>>=◌}
 
 abbrev pub opening : ℕ
 opening = byte "("

@@ -8,8 +8,8 @@ use Rattle.std.proofs.lemmas.List.Sums.{suffix_len_is}
 use Rattle.std.proofs.lemmas.Bool.{eqb-true, ne_eqb}
 use Rattle.std.proofs.lemmas.Bool.Decides.{nat_tests}
 use Rattle.jl_names.specs.ClassNames.{is_class_name, is_reserved, is_unqualified, package_of}
-use Rattle.jl_names.specs.Means.Descriptors.{is_stop, is_end, longer, class_at}
-use Rattle.jl_names.specs.Means.Steps.{◌>>=◌}
+use Rattle.jl_names.specs.ForProofs.Descriptors.{is_stop, is_end, longer, class_at}
+use Rattle.jl_names.specs.ForProofs.Steps.{◌>>=◌}
 use Rattle.jl_names.proofs.Bytes.{slash, semicolon, letter_a, chosen, bind_ok, ok_is, err_is}
 
 -- with a name's beginning in front

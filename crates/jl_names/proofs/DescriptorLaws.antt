@@ -10,10 +10,10 @@ use Rattle.jl_names.specs.declared.descriptor.Element.{Element}
 use Rattle.jl_names.specs.declared.descriptor.Element.TheVariants.{Byte, Char, Double, Float, Int, Long, Short, Boolean, Class}
 use Rattle.jl_names.specs.declared.descriptor.FieldType.{FieldType}
 use Rattle.jl_names.specs.Descriptors.{element_text, field_text, IsElement, IsFieldType, IsFieldDescriptor, CanGoOn, StopsAt}
-use Rattle.jl_names.specs.Means.Steps.{◌>>=◌}
+use Rattle.jl_names.specs.ForProofs.Steps.{◌>>=◌}
 use Rattle.jl_names.proofs.ClassNameLaws.{class_again, class_takes, class_stops, is_name-parts}
 use Rattle.jl_names.proofs.Bytes.{semicolon, bracket, letter_l, letter_a, chosen, bind_ok, bind_err, ok_is, err_is}
-use Rattle.jl_names.specs.Means.Descriptors.{class_at, letter, element_behind, element_at, brackets_within, brackets, as_array, field_at}
+use Rattle.jl_names.specs.ForProofs.Descriptors.{class_at, letter, element_behind, element_at, brackets_within, brackets, as_array, field_at}
 
 -- ---- brackets
 

@@ -10,9 +10,9 @@ use Rattle.std.proofs.lemmas.Bool.{eqb-true}
 use Rattle.jl_names.specs.declared.descriptor.FieldType.{FieldType}
 use Rattle.jl_names.specs.Descriptors.{element_text, field_text, IsFieldType, StopsAt}
 use Rattle.jl_names.specs.MethodTypes.{Signature, return_text, method_text, IsSignature, IsMethodText, IsMethodDescriptor, IsMethodFault, slots}
-use Rattle.jl_names.specs.Means.Steps.{◌>>=◌}
-use Rattle.jl_names.specs.Means.Descriptors.{field_at, element_at}
-use Rattle.jl_names.specs.Means.MethodTypes.{behind, Stand, StopsBehind, return_at, MethodStands, IsBroken, IsStopped}
+use Rattle.jl_names.specs.ForProofs.Steps.{◌>>=◌}
+use Rattle.jl_names.specs.ForProofs.Descriptors.{field_at, element_at}
+use Rattle.jl_names.specs.ForProofs.MethodTypes.{behind, Stand, StopsBehind, return_at, MethodStands, IsBroken, IsStopped}
 use Rattle.jl_names.specs.declared.method_type.Broken.{Broken}
 use Rattle.jl_names.specs.declared.method_type.Broken.TheVariants as broken
 use Rattle.jl_names.specs.declared.fault.NameFault.{NameFault}

@@ -4,7 +4,7 @@ use Rattle.std.specs.Prelude.{nat_lt}
 use Rattle.std.proofs.lemmas.Bool.Decides.{nat_tests}
 use Rattle.std.proofs.lemmas.List.{length-drop}
 use Rattle.byteorder.specs.Endian.{big_number}
-use Rattle.jl_names.specs.Means.Prints.{print_step, last_word, print_words}
+use Rattle.jl_names.specs.ForProofs.Prints.{print_step, last_word, print_words}
 
 -- some turns that are enough make the print that all of them make
 abbrev pub Comes : ℕ → List ℕ → ℕ → Type 0

@@ -9,7 +9,7 @@ use Rattle.std.specs.Cmp.Lexicographic.{pointwise, bytes_decides}
 use Rattle.std.specs.List.{slice_get}
 use Rattle.std.specs.Option.{option_and_then, option_map, unwrap_or}
 use Rattle.jl_names.specs.Repeats.{text_at, NameOneText, IsRepeat, NoRepeat, IsFirstRepeat}
-use Rattle.jl_names.specs.Means.Repeats.{number_at, Numbers, numbers_of, numbers_at, IsAgain, NoneAgain, IsFirstAgain}
+use Rattle.jl_names.specs.ForProofs.Repeats.{number_at, Numbers, numbers_of, numbers_at, IsAgain, NoneAgain, IsFirstAgain}
 
 abbrev Texts : Type 0
 Texts = List (Option (Bor (List ℕ)))

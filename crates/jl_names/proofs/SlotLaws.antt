@@ -6,8 +6,8 @@ use Rattle.jl_names.proofs.Bytes.{opening, closing}
 use Rattle.jl_names.specs.declared.descriptor.FieldType.{FieldType}
 use Rattle.jl_names.specs.Descriptors.{field_text, IsFieldType}
 use Rattle.jl_names.specs.MethodTypes.{Signature, return_text, slots_of, IsMethodText, IsMethodDescriptor, TakesSlots}
-use Rattle.jl_names.specs.Means.Descriptors.{field_at}
-use Rattle.jl_names.specs.Means.MethodTypes.{behind, return_at, Stand, SlotsStand, FewSlots, MethodStands}
+use Rattle.jl_names.specs.ForProofs.Descriptors.{field_at}
+use Rattle.jl_names.specs.ForProofs.MethodTypes.{behind, return_at, Stand, SlotsStand, FewSlots, MethodStands}
 use Rattle.jl_names.proofs.MethodLaws.{Stand-more, Stand-closed, types_front, no_close, no_err, no_types, behind_is, open_stops, result_stops}
 use Rattle.jl_names.proofs.MethodLaws.{method_stands, method_trailing, method_whole}
 

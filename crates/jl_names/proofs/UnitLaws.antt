@@ -9,7 +9,7 @@ use Rattle.jl_names.specs.declared.mutf8.Broken.TheVariants.{Cut, Bad}
 use Rattle.jl_names.specs.Mutf8.{unit_bytes, AreUnits, mutf8, IsMutf8, IsText, Begins, IsCutUnit, IsBadUnit, IsMutf8Fault}
 use Rattle.jl_names.specs.declared.fault.NameFault.{NameFault}
 use Rattle.jl_names.specs.declared.fault.NameFault.TheVariants.{BadByte, Truncated, BadDescriptor, TooManySlots, Memory}
-use Rattle.jl_names.specs.Means.Units.{unit_at, two_at, three_at}
+use Rattle.jl_names.specs.ForProofs.Units.{unit_at, two_at, three_at}
 
 pub unit_again : (u : ℕ) (rest : List ℕ) → u < 2 ^ 16 → unit_at (unit_bytes u ++ rest) ≡ Ok (u, rest)
 unfolding unit_at two_at three_at

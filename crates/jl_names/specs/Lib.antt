@@ -4,4 +4,4 @@ pub mod ClassNames
 pub mod Descriptors
 pub mod MethodTypes
 pub mod Repeats
-pub mod Means
+pub mod ForProofs

@@ -5,8 +5,8 @@ ghost use Rattle.jl_names.specs.declared.descriptor.FieldType.{FieldType};
 ghost use Rattle.jl_names.specs.declared.fault.NameFault.{NameFault};
 ghost use Rattle.jl_names.specs.Descriptors.{field_text, IsFieldType, IsFieldDescriptor};
 ghost use Rattle.jl_names.specs.Descriptors.{IsFieldFault};
-ghost use Rattle.jl_names.specs.Means.Descriptors.{Stops, weight, is_stop, is_end, class_at};
-ghost use Rattle.jl_names.specs.Means.Descriptors.{element_at, brackets, field_at};
+ghost use Rattle.jl_names.specs.ForProofs.Descriptors.{Stops, weight, is_stop, is_end, class_at};
+ghost use Rattle.jl_names.specs.ForProofs.Descriptors.{element_at, brackets, field_at};
 
 use crate::fault::NameFault;
 use crate::text::Text;
@@ -121,7 +121,7 @@ fn class_at(text: &[u8]) -> Result<(&[u8], &[u8]), &[u8]>
 }
 
 /// A type that is no array at the front, and what comes after it.
-#[tactic(auto, unfolding(crate::specs::Means::Descriptors::element_at))]
+#[tactic(auto, unfolding(crate::specs::ForProofs::Descriptors::element_at))]
 fn element_at(text: &[u8]) -> Result<(Element<'_>, &[u8]), &[u8]>
     ensures { Stops (λ x. (x.0, x.1.now)) result (element_at text.now) }
 {
@@ -154,7 +154,7 @@ fn brackets(text: &[u8]) -> usize
 
 /// A field's type at the front, and what comes after it.
 #[inline(always)]
-#[tactic(auto, unfolding(crate::specs::Means::Descriptors::field_at))]
+#[tactic(auto, unfolding(crate::specs::ForProofs::Descriptors::field_at))]
 pub(crate) fn field_at(text: &[u8]) -> Result<(FieldType<'_>, &[u8]), &[u8]>
     ensures { Stops (λ x. (x.0, x.1.now)) result (field_at text.now) }
 {

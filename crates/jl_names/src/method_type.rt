@@ -8,9 +8,9 @@ ghost use Rattle.jl_names.specs.declared.fault.NameFault.{NameFault};
 ghost use Rattle.jl_names.specs.declared.fault.NameFault.TheVariants.{Memory};
 ghost use Rattle.jl_names.specs.MethodTypes.{Signature, method_text, slots_of, IsSignature};
 ghost use Rattle.jl_names.specs.MethodTypes.{IsMethodDescriptor, TakesSlots, IsMethodFault};
-ghost use Rattle.jl_names.specs.Means.Descriptors.{Stops};
-ghost use Rattle.jl_names.specs.Means.MethodTypes.{behind, return_at, Stand, MethodStands};
-ghost use Rattle.jl_names.specs.Means.MethodTypes.{IsBroken, IsStopped, SlotsStand, FewSlots};
+ghost use Rattle.jl_names.specs.ForProofs.Descriptors.{Stops};
+ghost use Rattle.jl_names.specs.ForProofs.MethodTypes.{behind, return_at, Stand, MethodStands};
+ghost use Rattle.jl_names.specs.ForProofs.MethodTypes.{IsBroken, IsStopped, SlotsStand, FewSlots};
 
 use crate::descriptor::{Element, FieldType, field_at};
 use crate::fault::NameFault;
@@ -124,7 +124,7 @@ impl<'a, T: Drop> From<AllocFailed<T>> for Broken<'a> {
 }
 
 /// What comes behind this byte, if it stands at the front.
-#[tactic(auto, unfolding(crate::specs::Means::MethodTypes::behind))]
+#[tactic(auto, unfolding(crate::specs::ForProofs::MethodTypes::behind))]
 fn behind(text: &[u8], byte: u8) -> Option<&[u8]>
     ensures { option_map (λ rest. rest.now) result ≡ behind byte text.now }
 {
@@ -181,7 +181,7 @@ fn method_at<'a>(
 }
 
 /// A result's type at the front, and what comes after it.
-#[tactic(auto, unfolding(crate::specs::Means::MethodTypes::return_at))]
+#[tactic(auto, unfolding(crate::specs::ForProofs::MethodTypes::return_at))]
 fn return_at(text: &[u8]) -> Result<(Option<FieldType<'_>>, &[u8]), &[u8]>
     ensures { Stops (λ x. (x.0, x.1.now)) result (return_at text.now) }
 {

@@ -5,7 +5,7 @@ ghost use Rattle.std.specs.Prelude.{IfOk, IfErr, OnOk, IsOkUnless, MatchBool};
 ghost use Rattle.jl_names.specs.declared.fault.NameFault.{NameFault};
 ghost use Rattle.jl_names.specs.declared.fault.NameFault.TheVariants.{Memory};
 ghost use Rattle.jl_names.specs.Mutf8.{unit_bytes, mutf8, IsMutf8, IsText, IsMutf8Fault};
-ghost use Rattle.jl_names.specs.Means.Units.{Gives, unit_at, two_at, three_at};
+ghost use Rattle.jl_names.specs.ForProofs.Units.{Gives, unit_at, two_at, three_at};
 
 use crate::fault::NameFault;
 use std::alloc::{AllocError, Global};
@@ -71,7 +71,7 @@ enum Broken {
 }
 
 /// The unit at the front, and the bytes after it.
-#[tactic(auto, unfolding(crate::specs::Means::Units::unit_at))]
+#[tactic(auto, unfolding(crate::specs::ForProofs::Units::unit_at))]
 fn unit_at(text: &[u8]) -> Result<(u16, &[u8]), Broken>
     ensures { Gives result (unit_at text.now) }
 {
@@ -85,7 +85,7 @@ fn unit_at(text: &[u8]) -> Result<(u16, &[u8]), Broken>
 }
 
 /// A unit of two bytes, behind its first one.
-#[tactic(auto, unfolding(crate::specs::Means::Units::two_at))]
+#[tactic(auto, unfolding(crate::specs::ForProofs::Units::two_at))]
 fn two_at(first: u8, rest: &[u8]) -> Result<(u16, &[u8]), Broken>
     requires lead { 0xc0 ≤ first }
     requires below { first ≤ 0xdf }
@@ -106,7 +106,7 @@ fn two_at(first: u8, rest: &[u8]) -> Result<(u16, &[u8]), Broken>
 }
 
 /// A unit of three bytes, behind its first one.
-#[tactic(auto, unfolding(crate::specs::Means::Units::three_at))]
+#[tactic(auto, unfolding(crate::specs::ForProofs::Units::three_at))]
 fn three_at(first: u8, rest: &[u8]) -> Result<(u16, &[u8]), Broken>
     requires lead { 0xe0 ≤ first }
     requires below { first ≤ 0xef }

@@ -1,7 +1,7 @@
 //! Prints of texts.
 
 ghost use Rattle.std.specs.Prelude.{◌≡◌};
-ghost use Rattle.jl_names.specs.Means.Prints.{print_step, last_word, print_from};
+ghost use Rattle.jl_names.specs.ForProofs.Prints.{print_step, last_word, print_from};
 
 use byteorder::{BigEndian, ByteOrder};
 
@@ -31,7 +31,7 @@ fn last_word(bytes: &[u8]) -> u64
 ///
 /// Equal texts make equal prints of one print. Others seldom do, so a few texts of which no two have one print are known to
 /// be different by their prints alone. It takes eight bytes at a time.
-#[tactic(auto, unfolding(crate::specs::Means::Prints::print_from))]
+#[tactic(auto, unfolding(crate::specs::ForProofs::Prints::print_from))]
 pub fn print_from(before: u64, text: &[u8]) -> u64
     ensures { result ≡ print_from before text.now }
 {

@@ -5,7 +5,7 @@ ghost use Rattle.std.specs.HashMap.{get_by};
 ghost use Rattle.std.specs.Str.{bytes_eq};
 ghost use Rattle.std.specs.Option.{unwrap_or};
 ghost use Rattle.jl_names.specs.Repeats.{IsFirstRepeat, NoRepeat};
-ghost use Rattle.jl_names.specs.Means.Repeats.{Numbers, numbers_of, IsFirstAgain, NoneAgain};
+ghost use Rattle.jl_names.specs.ForProofs.Repeats.{Numbers, numbers_of, IsFirstAgain, NoneAgain};
 
 use std::alloc::{AllocError, Global};
 use std::collections::{HashMap, HashSet};

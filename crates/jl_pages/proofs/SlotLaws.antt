@@ -5,7 +5,7 @@ use Rattle.std.proofs.Common.{refl, ap, sym, ◌∙◌, arith, length-append}
 use Rattle.std.proofs.lemmas.List.{replicate-append-replicate, set-append_left, set-append_right, length-replicate}
 use Rattle.std.proofs.lemmas.Option.{same_Some}
 use Rattle.std.proofs.Math.Nat.{div-add-mod}
-use Rattle.jl_pages.specs.Means.Pages.{elements, AreWhole}
+use Rattle.jl_pages.specs.ForProofs.Pages.{elements, AreWhole}
 
 module _ {T : Type 0} where
   in_front : (xs ys : List T) (i : ℕ) → i < length xs → slice_get (xs ++ ys) i ≡ slice_get xs i

@@ -1,3 +1,3 @@
 -- `Listing` is what contracts cite; `Pages` is a means of proof.
 pub mod Listing
-pub mod Means
+pub mod ForProofs

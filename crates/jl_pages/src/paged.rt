@@ -31,7 +31,7 @@ impl<T: Drop> Drop for Paged<T> {
 impl<T> Model for Paged<T> {
     ghost use Rattle.std.specs.Prelude.{◌≡◌, ◌++◌, length};
     ghost use Rattle.jl_pages.specs.Listing.{Listed, listed_code, has_room};
-    ghost use Rattle.jl_pages.specs.Means.Pages.{elements, AreFull};
+    ghost use Rattle.jl_pages.specs.ForProofs.Pages.{elements, AreFull};
 
     ghost Value = { Listed T };
 

@@ -1,7 +1,7 @@
 //! The pages of a list.
 
 ghost use Rattle.std.specs.Prelude.{◌≡◌, ◌++◌, length, IfOk};
-ghost use Rattle.jl_pages.specs.Means.Pages.{elements, AreFull};
+ghost use Rattle.jl_pages.specs.ForProofs.Pages.{elements, AreFull};
 
 use crate::again::Again;
 use std::alloc::{AllocError, Global};

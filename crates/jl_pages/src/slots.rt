@@ -2,7 +2,7 @@
 
 ghost use Rattle.std.specs.Prelude.{◌≡◌, ◌<◌, ◌≤◌, ◌*◌, length, replicate, slice_get, slice_set, IfOk, OnOk, OnErr};
 ghost use Rattle.std.specs.Option.{option_copied};
-ghost use Rattle.jl_pages.specs.Means.Pages.{elements, AreWhole};
+ghost use Rattle.jl_pages.specs.ForProofs.Pages.{elements, AreWhole};
 
 use crate::again::Again;
 use crate::fixed_page::{FixedPage, PAGE};
@@ -27,7 +27,7 @@ impl<T: Drop> Drop for Slots<T> {
 
 impl<T> Model for Slots<T> {
     ghost use Rattle.std.specs.Prelude.{List};
-    ghost use Rattle.jl_pages.specs.Means.Pages.{elements, AreWhole};
+    ghost use Rattle.jl_pages.specs.ForProofs.Pages.{elements, AreWhole};
 
     ghost Value = { List T };
 

@@ -14,8 +14,8 @@ use Rattle.jl_pool.specs.declared.pool.Stop.TheVariants.{Tag}
 use Rattle.jl_pool.specs.Numbers.{u1, u2, u4, u8}
 use Rattle.jl_pool.specs.Constants.{tag, payload, constant_text, IsSized}
 use Rattle.jl_pool.specs.Known.{known_tags}
-use Rattle.jl_pool.specs.Means.Fields.{number_at, pair_at, handle_at, text_at}
-use Rattle.jl_pool.specs.Means.Constants.{is_known, is_wide, is_bad_tag, within, of_bits, of_wide_bits, of_number, of_pair, payload_at, or_cut, constant_at}
+use Rattle.jl_pool.specs.ForProofs.Fields.{number_at, pair_at, handle_at, text_at}
+use Rattle.jl_pool.specs.ForProofs.Constants.{is_known, is_wide, is_bad_tag, within, of_bits, of_wide_bits, of_number, of_pair, payload_at, or_cut, constant_at}
 use Rattle.jl_pool.proofs.Fields.{IsBytes, IsBytes-rest, Takes, bind_some, some_is, u2_takes, u2_again, u4_takes, u4_again, u8_takes, u8_again}
 use Rattle.jl_pool.proofs.Fields.{pair_takes, pair_again}
 use Rattle.jl_pool.proofs.Fields.{handle_takes, handle_again, text_takes, text_again}

@@ -11,10 +11,10 @@ use Rattle.jl_pool.specs.declared.constant.Constant.TheVariants.{MethodHandle, M
 use Rattle.jl_pool.specs.declared.kept_constant.KeptConstant.TheVariants as kept
 use Rattle.jl_pool.specs.Constants.{is_double, constant_text, IsSized}
 use Rattle.jl_pool.specs.Pools.{HasText, places_of, text_of}
-use Rattle.jl_pool.specs.Means.Forms.{form_of}
-use Rattle.jl_pool.specs.Means.Marks.{is_odd}
-use Rattle.jl_pool.specs.Means.Table.{form_in, entry_of, entries_of, takes_two, with_second, has_odd}
-use Rattle.jl_pool.specs.Means.Entries.{BeginsText}
+use Rattle.jl_pool.specs.ForProofs.Forms.{form_of}
+use Rattle.jl_pool.specs.ForProofs.Marks.{is_odd}
+use Rattle.jl_pool.specs.ForProofs.Table.{form_in, entry_of, entries_of, takes_two, with_second, has_odd}
+use Rattle.jl_pool.specs.ForProofs.Entries.{BeginsText}
 use Rattle.jl_names.proofs.Tests.{by_test}
 use Rattle.jl_pool.proofs.Fields.{text_again}
 use Rattle.jl_pool.proofs.MarkLaws.{neither}

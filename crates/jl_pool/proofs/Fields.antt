@@ -6,7 +6,7 @@ use Rattle.std.proofs.lemmas.List.{take_at, drop_at, take-append-drop, length-ta
 use Rattle.byteorder.specs.Endian.{big_number}
 use Rattle.byteorder.specs.Numbers.{big_number-reads_back, big_from-lt}
 use Rattle.jl_pool.specs.Numbers.{u1, u2, u4, u8}
-use Rattle.jl_pool.specs.Means.Fields.{◌>>=◌, number_at, bytes_at, pair_at, handle_at, text_at}
+use Rattle.jl_pool.specs.ForProofs.Fields.{◌>>=◌, number_at, bytes_at, pair_at, handle_at, text_at}
 
 abbrev pub IsBytes : List ℕ → Type 0
 IsBytes bytes = (i : ℕ) → get_or bytes i 0 < 256

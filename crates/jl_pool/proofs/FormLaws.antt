@@ -14,14 +14,14 @@ use Rattle.std.proofs.lemmas.Bool.Decides.{nat_tests}
 use Rattle.jl_names.specs.declared.descriptor.FieldType.{FieldType}
 use Rattle.jl_names.specs.Descriptors.{field_text, IsFieldType, IsFieldDescriptor, IsFieldFault}
 use Rattle.jl_names.specs.MethodTypes.{IsMethodDescriptor, TakesSlots, slots_of}
-use Rattle.jl_names.specs.Means.Descriptors.{field_at}
-use Rattle.jl_names.specs.Means.MethodTypes.{behind, return_at, SlotsStand, FewSlots}
+use Rattle.jl_names.specs.ForProofs.Descriptors.{field_at}
+use Rattle.jl_names.specs.ForProofs.MethodTypes.{behind, return_at, SlotsStand, FewSlots}
 use Rattle.jl_names.proofs.Tests.{told-decides}
 use Rattle.jl_names.proofs.DescriptorLaws.{field_whole, field_fault, field_trailing, field_less}
 use Rattle.jl_names.proofs.MethodLaws.{method_one}
 use Rattle.jl_names.proofs.SlotLaws.{SlotsStand-more, SlotsStand-closed, stopped_none, over_none, unopened_none, many_none, result_none}
 use Rattle.jl_names.proofs.SlotLaws.{trailing_none, whole_slots}
-use Rattle.jl_pool.specs.Means.Forms.{is_whole, is_field, at_close, at_type, slots_from, if_whole, slots_behind, method_slots}
+use Rattle.jl_pool.specs.ForProofs.Forms.{is_whole, is_field, at_close, at_type, slots_from, if_whole, slots_behind, method_slots}
 
 -- ---- field descriptors
 

@@ -7,7 +7,7 @@ use Rattle.std.proofs.lemmas.List.{take_all, length-drop, length-map}
 use Rattle.std.proofs.lemmas.Simd.{length-chunk, mask_l-mod}
 use lib.Lanes.{chunk, mask_l, zip2, top}
 use Rattle.jl_pool.specs.declared.form.Marks.{Marks}
-use Rattle.jl_pool.specs.Means.Marks.{is_barred, is_slash, is_angle, is_odd, marks_of, either}
+use Rattle.jl_pool.specs.ForProofs.Marks.{is_barred, is_slash, is_angle, is_odd, marks_of, either}
 
 -- ---- one vector
 

@@ -4,7 +4,7 @@ use Rattle.std.specs.Prelude.{option_map, MatchOption, IfSome}
 use Rattle.std.specs.Option.{option_and_then, IsSomeAnd}
 use Rattle.jl_names.specs.MethodTypes.{IsMethodDescriptor, TakesSlots}
 use Rattle.jl_pool.specs.declared.form.Form.{Form}
-use Rattle.jl_pool.specs.Means.Forms.{form_of, method_slots}
+use Rattle.jl_pool.specs.ForProofs.Forms.{form_of, method_slots}
 use Rattle.jl_pool.proofs.FormLaws.{SlotsAre, method_slots-is, counted}
 
 -- what the slots are to a descriptor that may be there

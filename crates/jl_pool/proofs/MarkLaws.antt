@@ -14,8 +14,8 @@ use Rattle.jl_names.specs.Descriptors.{element_text}
 use Rattle.jl_pool.specs.declared.form.Form.{Form}
 use Rattle.jl_pool.specs.declared.form.Marks.{Marks}
 use Rattle.jl_pool.specs.Pools.{has_angle}
-use Rattle.jl_pool.specs.Means.Forms.{is_field, method_slots, form_of}
-use Rattle.jl_pool.specs.Means.Marks.{is_barred, is_slash, marks_of}
+use Rattle.jl_pool.specs.ForProofs.Forms.{is_field, method_slots, form_of}
+use Rattle.jl_pool.specs.ForProofs.Marks.{is_barred, is_slash, marks_of}
 use Rattle.jl_pool.proofs.FormLaws.{is_field-is, class_name_of, and_true}
 
 pub neither : (x y : Bool) → (x || y) ≡ false → (x ≡ false) × (y ≡ false)

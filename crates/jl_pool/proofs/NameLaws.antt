@@ -7,7 +7,7 @@ use Rattle.std.proofs.lemmas.Bool.{cases_lt}
 use Rattle.jl_pool.specs.declared.constant.Constant.{Constant}
 use Rattle.jl_pool.specs.Pools.{Pool, constant_at, IsTyped}
 use Rattle.jl_pool.specs.Faults.{AllAt, IsFirstNot}
-use Rattle.jl_pool.specs.Means.Forms.{is_typed}
+use Rattle.jl_pool.specs.ForProofs.Forms.{is_typed}
 use Rattle.jl_pool.proofs.TypedLaws.{is_typed-is}
 
 -- each constant below a number is so

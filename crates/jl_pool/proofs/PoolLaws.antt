@@ -19,13 +19,13 @@ use Rattle.jl_pool.specs.Numbers.{u2, u4}
 use Rattle.jl_pool.specs.Constants.{tag, constant_text, IsSized}
 use Rattle.jl_pool.specs.Pools.{places, places_of, HasText, HaveTexts, is_linked, IsTyped, IsSoundPool}
 use Rattle.jl_pool.specs.Faults.{Opens, IsBadTag, TagFault, PoolStands, IsPoolFault, AllAt}
-use Rattle.jl_pool.specs.Means.Entries.{IsCheckFault, BeginsText}
-use Rattle.jl_pool.specs.Means.Table.{IsTable, entries_of, has_odd, with_second, kept_of, keep_read}
+use Rattle.jl_pool.specs.ForProofs.Entries.{IsCheckFault, BeginsText}
+use Rattle.jl_pool.specs.ForProofs.Table.{IsTable, entries_of, has_odd, with_second, kept_of, keep_read}
 use Rattle.jl_pool.specs.declared.kept_constant.KeptConstant.{KeptConstant}
 use Rattle.jl_pool.specs.declared.kept_constant.KeptConstant.TheVariants as kept
 use Rattle.jl_pool.specs.declared.kept_constant.Kept.{Kept}
-use Rattle.jl_pool.specs.Means.Fields.{number_at}
-use Rattle.jl_pool.specs.Means.Constants.{is_known, is_wide, is_bad_tag, constant_at}
+use Rattle.jl_pool.specs.ForProofs.Fields.{number_at}
+use Rattle.jl_pool.specs.ForProofs.Constants.{is_known, is_wide, is_bad_tag, constant_at}
 use Rattle.jl_pool.proofs.Fields.{IsBytes, u2_again, u2_takes, u4_again, some_is}
 use Rattle.jl_pool.proofs.EntryLaws.{text_kept, entries_kept, numbers_kept}
 use Rattle.jl_pool.proofs.MarkLaws.{neither}

@@ -21,8 +21,8 @@ use Rattle.jl_pool.specs.declared.form.Form.{Form}
 use Rattle.jl_pool.specs.Numbers.{u2, u8}
 use Rattle.jl_pool.specs.Constants.{constant_text, IsSized, is_double}
 use Rattle.jl_pool.specs.Pools.{places, places_of, constant_at, text_of, text_at}
-use Rattle.jl_pool.specs.Means.Forms.{form_of, forms_of}
-use Rattle.jl_pool.specs.Means.Table.{shown, pool_of, is_within, form_in, IsTable, Shows, entry_at, entry_of, entries_of}
+use Rattle.jl_pool.specs.ForProofs.Forms.{form_of, forms_of}
+use Rattle.jl_pool.specs.ForProofs.Table.{shown, pool_of, is_within, form_in, IsTable, Shows, entry_at, entry_of, entries_of}
 use Rattle.jl_pool.proofs.Fields.{guard_some, u8_again}
 use Rattle.jl_pool.proofs.EntryLaws.{form_kept}
 use Rattle.jl_pool.proofs.FormLaws.{and_true}

@@ -12,7 +12,7 @@ use Rattle.jl_pool.specs.declared.constant.Constant.TheVariants.{Utf8, Integer, 
 use Rattle.jl_pool.specs.declared.constant.Constant.TheVariants.{InterfaceMethodref, NameAndType}
 use Rattle.jl_pool.specs.declared.constant.Constant.TheVariants.{MethodHandle, MethodType, Dynamic, InvokeDynamic, Module, Package}
 use Rattle.jl_pool.specs.Pools.{Pool, text_at, descriptor_at, begins_array, IsClassText, IsTyped}
-use Rattle.jl_pool.specs.Means.Forms.{is_field, method_slots, form_of, is_class_text, takes_slots, is_typed}
+use Rattle.jl_pool.specs.ForProofs.Forms.{is_field, method_slots, form_of, is_class_text, takes_slots, is_typed}
 use Rattle.jl_pool.proofs.FormLaws.{is_field-is, IsSlots, method_slots-is}
 
 is_method-is : (text : List ℕ) → Decides (is_some (method_slots text)) (IsMethodDescriptor text)

@@ -3,4 +3,4 @@ pub mod Constants
 pub mod Known
 pub mod Pools
 pub mod Faults
-pub mod Means
+pub mod ForProofs

@@ -1,7 +1,7 @@
 //! Numbers and texts at the front of bytes. None where the bytes end before.
 
 ghost use Rattle.std.specs.Prelude.{◌≡◌, ◌<◌, ◌^◌, length, Option, IfSome};
-ghost use Rattle.jl_pool.specs.Means.Fields.{Finds, number_at, bytes_at, text_at, pair_at, handle_at};
+ghost use Rattle.jl_pool.specs.ForProofs.Fields.{Finds, number_at, bytes_at, text_at, pair_at, handle_at};
 
 use byteorder::{BigEndian, ByteOrder};
 
@@ -33,7 +33,7 @@ pub(crate) fn u8_at(bytes: &[u8]) -> Option<(u64, &[u8])>
 }
 
 /// Two numbers.
-#[tactic(auto, unfolding(crate::specs::Means::Fields::pair_at))]
+#[tactic(auto, unfolding(crate::specs::ForProofs::Fields::pair_at))]
 pub(crate) fn pair_at(bytes: &[u8]) -> Option<((u16, u16), &[u8])>
     ensures { Finds (λ x. (x.0, x.1.now)) result (pair_at bytes.now) }
 {
@@ -43,7 +43,7 @@ pub(crate) fn pair_at(bytes: &[u8]) -> Option<((u16, u16), &[u8])>
 }
 
 /// A kind of one byte, and a number.
-#[tactic(auto, unfolding(crate::specs::Means::Fields::handle_at))]
+#[tactic(auto, unfolding(crate::specs::ForProofs::Fields::handle_at))]
 pub(crate) fn handle_at(bytes: &[u8]) -> Option<((u8, u16), &[u8])>
     ensures { Finds (λ x. (x.0, x.1.now)) result (handle_at bytes.now) }
 {
@@ -57,7 +57,7 @@ pub(crate) fn handle_at(bytes: &[u8]) -> Option<((u8, u16), &[u8])>
 }
 
 /// Bytes behind their count.
-#[tactic(auto, unfolding(crate::specs::Means::Fields::text_at))]
+#[tactic(auto, unfolding(crate::specs::ForProofs::Fields::text_at))]
 pub(crate) fn text_at(bytes: &[u8]) -> Option<(&[u8], &[u8])>
     ensures found { Finds (λ x. (x.0.now, x.1.now)) result (text_at bytes.now) }
     ensures short { IfSome result (λ x. length x.0.now < 2 ^ 16) }

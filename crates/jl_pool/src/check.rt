@@ -6,8 +6,8 @@ ghost use Rattle.jl_pool.specs.Constants.{handle_tags};
 ghost use Rattle.jl_pool.specs.declared.pool_fault.PoolFault.{PoolFault};
 ghost use Rattle.jl_pool.specs.Faults.{AllAt};
 ghost use Rattle.jl_pool.specs.Pools.{constant_at, text_at, begins_array, has_tag, is_linked, HasText, IsTyped};
-ghost use Rattle.jl_pool.specs.Means.Entries.{IsTextFault, IsNameFault, IsCheckFault};
-ghost use Rattle.jl_pool.specs.Means.Forms.{form_of, takes_slots, is_class_text, is_typed};
+ghost use Rattle.jl_pool.specs.ForProofs.Entries.{IsTextFault, IsNameFault, IsCheckFault};
+ghost use Rattle.jl_pool.specs.ForProofs.Forms.{form_of, takes_slots, is_class_text, is_typed};
 
 use crate::constant::Constant;
 use crate::form::Form;
@@ -164,7 +164,7 @@ impl Pool {
     }
 
     /// Whether the text at a number is a class name or the descriptor of an array.
-    #[tactic(auto, unfolding(crate::specs::Means::Forms::form_of))]
+    #[tactic(auto, unfolding(crate::specs::ForProofs::Forms::form_of))]
     fn is_class_text(&self, number: u16) -> bool
         ensures { result ≡ option_map_or is_class_text (text_at self.now number) false }
     {

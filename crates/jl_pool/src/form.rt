@@ -2,8 +2,8 @@
 
 ghost use Rattle.std.specs.Prelude.{◌≡◌, ◌+◌, ◌*◌, ◌≤◌, ◌&&◌, ◌||◌, length, take, drop};
 ghost use Rattle.jl_names.specs.ClassNames.{is_class_name, is_unqualified};
-ghost use Rattle.jl_pool.specs.Means.Forms.{form_of, is_field};
-ghost use Rattle.jl_pool.specs.Means.Marks.{marks_of, either};
+ghost use Rattle.jl_pool.specs.ForProofs.Forms.{form_of, is_field};
+ghost use Rattle.jl_pool.specs.ForProofs.Marks.{marks_of, either};
 
 use jl_names::{FieldType, is_class_name, method_slots};
 use std::simd::prelude::*;

@@ -4,7 +4,7 @@ ghost use Rattle.std.specs.Prelude.{◌≡◌, ◌+◌, ◌<◌, ◌≤◌, ◌^
 ghost use Rattle.std.specs.Option.{option_and_then};
 ghost use Rattle.byteorder.specs.Endian.{big_number};
 ghost use Rattle.jl_pool.specs.Pools.{text_of};
-ghost use Rattle.jl_pool.specs.Means.Table.{shown, takes_two, kept_text, entry_at, form_in, is_within};
+ghost use Rattle.jl_pool.specs.ForProofs.Table.{shown, takes_two, kept_text, entry_at, form_in, is_within};
 
 use crate::constant::Constant;
 use crate::form::{Form, marks_of};

@@ -10,11 +10,11 @@ ghost use Rattle.jl_pool.specs.Constants.{constant_text};
 ghost use Rattle.jl_pool.specs.declared.pool_fault.PoolFault.{PoolFault};
 ghost use Rattle.jl_pool.specs.declared.pool_fault.PoolFault.TheVariants.{Memory};
 ghost use Rattle.jl_pool.specs.Faults.{PoolStands, IsPoolFault};
-ghost use Rattle.jl_pool.specs.Means.Constants.{Gives, is_known, is_wide, of_bits, of_number, of_pair, payload_at, constant_at};
-ghost use Rattle.jl_pool.specs.Means.Entries.{BeginsText};
-ghost use Rattle.jl_pool.specs.Means.Fields.{Finds};
-ghost use Rattle.jl_pool.specs.Means.Forms.{form_of};
-ghost use Rattle.jl_pool.specs.Means.Table.{with_second, IsTable, Shows, entry_of, wide_entry, keep, keep_read};
+ghost use Rattle.jl_pool.specs.ForProofs.Constants.{Gives, is_known, is_wide, of_bits, of_number, of_pair, payload_at, constant_at};
+ghost use Rattle.jl_pool.specs.ForProofs.Entries.{BeginsText};
+ghost use Rattle.jl_pool.specs.ForProofs.Fields.{Finds};
+ghost use Rattle.jl_pool.specs.ForProofs.Forms.{form_of};
+ghost use Rattle.jl_pool.specs.ForProofs.Table.{with_second, IsTable, Shows, entry_of, wide_entry, keep, keep_read};
 
 use crate::bytes::{handle_at, pair_at, text_at, u2_at, u4_at, u8_at};
 use crate::constant::Constant;
@@ -57,7 +57,7 @@ impl Drop for Pool {
 impl Model for Pool {
     ghost use Rattle.std.specs.Prelude.{List, Option};
     ghost use Rattle.jl_pool.specs.declared.constant.Constant.{Constant};
-    ghost use Rattle.jl_pool.specs.Means.Table.{pool_of, IsKept};
+    ghost use Rattle.jl_pool.specs.ForProofs.Table.{pool_of, IsKept};
 
     ghost Value = { List (Option Constant) };
 
@@ -72,7 +72,7 @@ impl Pool {
     ghost use Rattle.jl_names.specs.MethodTypes.{IsMethodDescriptor, TakesSlots};
     ghost use Rattle.jl_pool.specs.Pools.{places, pool_text, IsSoundPool, constant_at as standing_at, named_descriptor, class_text_at, class_at};
     ghost use Rattle.jl_pool.specs.Pools.{both, signed_at, reference, reference_at, call_site_at};
-    ghost use Rattle.jl_pool.specs.Means.Forms.{signed_names};
+    ghost use Rattle.jl_pool.specs.ForProofs.Forms.{signed_names};
     ghost use Rattle.jl_pool.specs.Faults.{PoolStands, IsPoolFault};
 
     /// The pool at the front, from its count on, and how many bytes it takes. More bytes may follow.
@@ -170,7 +170,7 @@ impl Pool {
     }
 
     /// The name of the Class at a number, where it is no array's.
-    #[tactic(auto, unfolding(crate::specs::Means::Forms::form_of))]
+    #[tactic(auto, unfolding(crate::specs::ForProofs::Forms::form_of))]
     pub fn class_name(&self, number: u16) -> Option<LentName<'_>>
         ensures { result ≡ class_at self.now number }
     {
@@ -341,7 +341,7 @@ fn is_wide(tag: u8) -> bool
 
 /// What is kept of the constant of this tag, which begins at this place of the block: what stands behind the tag is at the
 /// front. And what comes after it.
-#[tactic(auto, unfolding(crate::specs::Means::Constants::payload_at))]
+#[tactic(auto, unfolding(crate::specs::ForProofs::Constants::payload_at))]
 fn payload_at(tag: u8, start: u32, bytes: &[u8]) -> Option<(Kept, &[u8])>
     requires { start + 3 < 2 ^ 32 }
     ensures { Finds (λ x. (x.0, x.1.now)) result (option_map (keep start) (payload_at tag bytes.now)) }
@@ -427,7 +427,7 @@ fn of_pair(tag: u8, first: u16, second: u16) -> KeptConstant
 
 /// What is kept of the constant at the front, which begins at this place of the block, and what comes after it. Where it has
 /// the last number, it may take no second one.
-#[tactic(auto, unfolding(crate::specs::Means::Constants::constant_at))]
+#[tactic(auto, unfolding(crate::specs::ForProofs::Constants::constant_at))]
 fn kept_at(last: bool, start: u32, bytes: &[u8]) -> Result<(Kept, &[u8]), Stop>
     requires { start + 3 < 2 ^ 32 }
     ensures { Gives (λ x. (x.0, x.1.now)) result (keep_read start (constant_at last bytes.now)) }

@@ -12,8 +12,8 @@ use Rattle.jl_types.specs.declared.refusal.SitesFault.{SitesFault}
 use Rattle.jl_types.specs.declared.refusal.SitesFault.TheVariants.{Repeated}
 use Rattle.jl_types.specs.declared.refusal.PrepareFault.{PrepareFault}
 use Rattle.jl_types.specs.declared.refusal.PrepareFault.TheVariants as fault
-use Rattle.jl_types.specs.Happenings.Batches.{is_bad_size, sites_fault}
-use Rattle.jl_types.specs.Happenings.Preparation.{of_sites, link_fault, ready_fault, prepare_fault, ArePrepared}
+use Rattle.jl_types.specs.Events.Batches.{is_bad_size, sites_fault}
+use Rattle.jl_types.specs.Events.Preparation.{of_sites, link_fault, ready_fault, prepare_fault, ArePrepared}
 use Rattle.jl_types.specs.Values.World.{World}
 use Rattle.jl_types.specs.Linkage.Links.{scratch}
 use Rattle.jl_types.specs.Linkage.Resolution.{first_of}

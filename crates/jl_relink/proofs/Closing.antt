@@ -7,7 +7,7 @@ use Rattle.std.specs.Bool.{then_some}
 use Rattle.std.proofs.Common.{refl, ap, sym, ◌∙◌, arith}
 use Rattle.std.proofs.lemmas.Bool.{both_ways, and_parts}
 use Rattle.std.proofs.lemmas.Cmp.{nat_eq_equiv}
-use Rattle.jl_types.specs.Happenings.Event.{Event}
+use Rattle.jl_types.specs.Events.Event.{Event}
 use Rattle.jl_types.specs.declared.event.EventOf.TheVariants as event
 use Rattle.jl_types.specs.declared.event.Made.{Made}
 use Rattle.jl_types.specs.declared.ids.Place.{Place}
@@ -18,11 +18,11 @@ use Rattle.jl_types.specs.declared.refusal.RetireFault.TheVariants.{Targeted}
 use Rattle.jl_types.specs.Values.World.{World, Classes}
 use Rattle.jl_types.specs.Values.Members.{is_retired, is_present, is_concrete, lookup, numbers}
 use Rattle.jl_types.specs.Values.Ancestry.{AreOrdered, is_ancestor, receivers}
-use Rattle.jl_types.specs.Happenings.Definitions.{is_unknown, with_record, delegate_fault, delegated}
-use Rattle.jl_types.specs.Happenings.Retirement.{is_of, classes_fault, targeted, retire_fault, retired, losing_receivers}
-use Rattle.jl_types.specs.Happenings.Events.{unless, verdict, step}
+use Rattle.jl_types.specs.Events.Definitions.{is_unknown, with_record, delegate_fault, delegated}
+use Rattle.jl_types.specs.Events.Retirement.{is_of, classes_fault, targeted, retire_fault, retired, losing_receivers}
+use Rattle.jl_types.specs.Events.Verdict.{unless, verdict, step}
 use Rattle.jl_types.specs.declared.key.Key.TheVariants as key
-use Rattle.jl_types.specs.Happenings.Footprints.{same_key, has_key, retires}
+use Rattle.jl_types.specs.Events.Footprints.{same_key, has_key, retires}
 use Rattle.jl_types.proofs.Ancestors.{ancestor_decides}
 use Rattle.jl_types.proofs.Bools.{any-filter, any-filter-at, any-map, any-range-from}
 use Rattle.jl_types.proofs.Firsts.{first_none, test_none}

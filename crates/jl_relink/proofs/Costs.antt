@@ -8,17 +8,17 @@ use Rattle.jl_class.specs.declared.site.Operand.{Operand}
 use Rattle.jl_class.specs.declared.site.Operand.TheVariants as operand
 use Rattle.jl_class.specs.Site.{Site}
 use Rattle.jl_types.specs.declared.ids.Place.{Place}
-use Rattle.jl_types.specs.Happenings.Event.{Event}
+use Rattle.jl_types.specs.Events.Event.{Event}
 use Rattle.jl_types.specs.declared.event.EventOf.TheVariants as event
 use Rattle.jl_types.specs.Values.World.{Sites, World}
 use Rattle.jl_types.specs.Values.Members.{is_present, is_private}
 use Rattle.jl_types.specs.Linkage.Stages.{Selector, ByVirtual, ByInterface, BySpecial, ResolvedCall, Stage, Waits, Fails, Calls, Selects}
 use Rattle.jl_types.specs.Linkage.Stages.{invocation_at, bound_to, by_operand}
-use Rattle.jl_types.specs.Happenings.Events.{step}
+use Rattle.jl_types.specs.Events.Verdict.{step}
 use Rattle.jl_types.specs.declared.key.Key.{Key}
 use Rattle.jl_types.specs.declared.key.Key.TheVariants as key
-use Rattle.jl_types.specs.Happenings.Footprints.{same_key, has_key, meets, of_selector, of_stage, of_operand, of_invocation, of_place, footprint}
-use Rattle.jl_types.specs.Happenings.Footprints.{still_valid, touches, most_by, most_for}
+use Rattle.jl_types.specs.Events.Footprints.{same_key, has_key, meets, of_selector, of_stage, of_operand, of_invocation, of_place, footprint}
+use Rattle.jl_types.specs.Events.Footprints.{still_valid, touches, most_by, most_for}
 use Rattle.jl_relink.proofs.WayKeys.{binding_takes_one}
 use Rattle.jl_relink.specs.Laws.{changes_receivers}
 use Rattle.jl_relink.proofs.Untouched.{same_key_is}

@@ -12,7 +12,7 @@ use Rattle.jl_types.specs.Values.Members.{is_concrete, numbers}
 use Rattle.jl_types.specs.Values.Ancestry.{is_ancestor, receivers}
 use Rattle.jl_types.specs.declared.key.Key.{Key}
 use Rattle.jl_types.specs.declared.key.Key.TheVariants as key
-use Rattle.jl_types.specs.Happenings.Footprints.{footprint, most_by, most_for}
+use Rattle.jl_types.specs.Events.Footprints.{footprint, most_by, most_for}
 
 length_map : {A B : Type 0} (f : A → B) (xs : List A) → length (map f xs) ≡ length xs
 length_map f [] = refl

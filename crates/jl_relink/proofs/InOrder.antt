@@ -5,15 +5,15 @@ use Rattle.std.specs.Option.{option_map_or}
 use Rattle.std.proofs.Common.{refl, ap, sym, subst, ◌∙◌}
 use Rattle.jl_class.specs.Class.{ClassFile}
 use Rattle.jl_class.specs.Flags.{extends_object}
-use Rattle.jl_types.specs.Happenings.Event.{Event}
+use Rattle.jl_types.specs.Events.Event.{Event}
 use Rattle.jl_types.specs.declared.event.EventOf.TheVariants as event
 use Rattle.jl_types.specs.declared.refusal.Refusal.TheVariants.{Define, CallSite, Retire}
 use Rattle.jl_types.specs.Values.World.{World, nothing_yet}
 use Rattle.jl_types.specs.Values.Members.{is_present, lookup}
-use Rattle.jl_types.specs.Happenings.Definitions.{define_fault, with_record, delegated}
-use Rattle.jl_types.specs.Happenings.Retirement.{retire_fault}
-use Rattle.jl_types.specs.Happenings.Events.{new_call_site_fault, set_target_fault, verdict, step}
-use Rattle.jl_types.specs.Happenings.History.{world_after}
+use Rattle.jl_types.specs.Events.Definitions.{define_fault, with_record, delegated}
+use Rattle.jl_types.specs.Events.Retirement.{retire_fault}
+use Rattle.jl_types.specs.Events.Verdict.{new_call_site_fault, set_target_fault, verdict, step}
+use Rattle.jl_types.specs.Events.History.{world_after}
 use Rattle.jl_types.proofs.Bools.{first_test, second_test}
 use Rattle.jl_types.proofs.Places.{world_more}
 use Rattle.jl_types.proofs.Lists.{all_set}
@@ -26,9 +26,9 @@ use Rattle.jl_callsites.specs.Known.{all_known}
 use Rattle.jl_callsites.proofs.Accepted.{site_points, target_points}
 use Rattle.jl_callsites.proofs.Known.{one_more_known, retargeted_known, one_switch_more}
 use Rattle.jl_types.specs.declared.link.Link.{Link}
-use Rattle.jl_types.specs.Happenings.History.{Settled}
+use Rattle.jl_types.specs.Events.History.{Settled}
 use Rattle.jl_types.proofs.Installed.{settled_now}
-use Rattle.jl_types.specs.Happenings.Footprints.{retires, touches}
+use Rattle.jl_types.specs.Events.Footprints.{retires, touches}
 use Rattle.jl_relink.specs.Laws.{IsInOrder, has_read_file, AreAccepted, SiteStays}
 use Rattle.jl_relink.proofs.Closing.{no_fault, free_classes, closed_after}
 use Rattle.jl_relink.proofs.KeyLaws.{untouched_stays}

@@ -8,16 +8,16 @@ use Rattle.std.proofs.lemmas.Option.{slice_get_within}
 use Rattle.jl_class.specs.Class.{ClassFile}
 use Rattle.jl_class.specs.Flags.{object}
 use Rattle.jl_types.specs.declared.ids.MethodId.{MethodId}
-use Rattle.jl_types.specs.Happenings.Event.{Event}
+use Rattle.jl_types.specs.Events.Event.{Event}
 use Rattle.jl_types.specs.declared.event.EventOf.TheVariants as event
 use Rattle.jl_types.specs.declared.link.Link.{Link}
 use Rattle.jl_types.specs.Values.World.{Classes, CallSite, Sites, World}
 use Rattle.jl_types.specs.Values.Members.{lookup, is_concrete}
 use Rattle.jl_types.specs.Values.Ancestry.{ancestors, is_ancestor, receivers}
-use Rattle.jl_types.specs.Happenings.Definitions.{defined}
+use Rattle.jl_types.specs.Events.Definitions.{defined}
 use Rattle.jl_types.specs.Linkage.Targets.{evaluated, method_of}
 use Rattle.jl_types.specs.Linkage.Links.{scratch}
-use Rattle.jl_types.specs.Happenings.Events.{verdict, step}
+use Rattle.jl_types.specs.Events.Verdict.{verdict, step}
 use Rattle.jl_types.proofs.Bools.{any-map}
 use Rattle.jl_types.proofs.Grown.{among_ancestors, receivers_after}
 use Rattle.jl_types.proofs.Orders.{IsGood, defined_good}
@@ -29,7 +29,7 @@ use Rattle.jl_select.specs.Constancy.{IsConstant}
 use Rattle.jl_select.proofs.Constancy.{selected_stays, outcomes_stay}
 use Rattle.jl_types.specs.declared.key.Key.{Key}
 use Rattle.jl_types.specs.declared.key.Key.TheVariants as key
-use Rattle.jl_types.specs.Happenings.Footprints.{same_key, has_key, path, of_call_site, of_class, footprint, keys, touches, retires}
+use Rattle.jl_types.specs.Events.Footprints.{same_key, has_key, path, of_call_site, of_class, footprint, keys, touches, retires}
 use Rattle.jl_hierarchy.specs.Constancy.{IsClosed}
 use Rattle.jl_relink.specs.Laws.{IsInOrder, SiteStays}
 use Rattle.jl_relink.proofs.Closing.{ordered_after, closed_after, still_present, receivers_stay as receivers_left_stay}

@@ -12,7 +12,7 @@ use Rattle.jl_types.specs.Values.Members.{numbers, is_concrete}
 use Rattle.jl_types.specs.Values.Ancestry.{receivers, is_ancestor}
 use Rattle.jl_types.specs.Linkage.Links.{runs}
 use Rattle.jl_relink.specs.declared.selection.Selection.{Selection}
-use Rattle.jl_relink.specs.Means.Rows.{run_on, joined, rows_of, outcome_of}
+use Rattle.jl_relink.specs.ForProofs.Rows.{run_on, joined, rows_of, outcome_of}
 
 all_pass : (P : ℕ → Type 0) (test : ℕ → Bool) → ((x : ℕ) → test x ≡ true → P x) → (xs : List ℕ) → AllByRecursion P (filter test xs)
 all_pass P test h [] = tt

@@ -15,12 +15,12 @@ use Rattle.jl_types.specs.declared.link.Link.TheVariants.{Fault, Plain, Direct, 
 use Rattle.jl_types.specs.declared.link.TableKind.{TableKind}
 use Rattle.jl_types.specs.declared.link.TableKind.TheVariants as table
 use Rattle.jl_types.specs.Linkage.Links.{same_link}
-use Rattle.jl_types.specs.Means.SameLink.{link_decides}
+use Rattle.jl_types.specs.ForProofs.SameLink.{link_decides}
 use Rattle.jl_types.specs.Values.World.{World}
 use Rattle.jl_types.specs.Values.Members.{is_concrete, is_private}
 use Rattle.jl_types.specs.Values.Ancestry.{ancestors, is_ancestor, receivers}
-use Rattle.jl_types.specs.Happenings.Events.{step}
-use Rattle.jl_types.specs.Happenings.History.{is_link}
+use Rattle.jl_types.specs.Events.Verdict.{step}
+use Rattle.jl_types.specs.Events.History.{is_link}
 use Rattle.jl_types.specs.Linkage.Selection.{virtual_outcome}
 use Rattle.jl_types.specs.Linkage.Stages.{Selector, ByVirtual, ByInterface, BySpecial, ResolvedCall, Stage, Waits, Fails, Calls, Selects, stage}
 use Rattle.jl_types.specs.Linkage.Links.{runs, outcome, outcome_by, table_rows, table_or_mega, virtual_link, link_by, link_of, scratch}
@@ -30,7 +30,7 @@ use Rattle.jl_types.proofs.Orders.{defined_good}
 use Rattle.jl_resolve.proofs.Unchanged.{IsThere, private_stays}
 use Rattle.jl_types.specs.declared.key.Key.{Key}
 use Rattle.jl_types.specs.declared.key.Key.TheVariants as key
-use Rattle.jl_types.specs.Happenings.Footprints.{same_key, has_key, meets, of_selector, of_stage, of_class, footprint, touches, stays_with}
+use Rattle.jl_types.specs.Events.Footprints.{same_key, has_key, meets, of_selector, of_stage, of_class, footprint, touches, stays_with}
 use Rattle.jl_relink.specs.Laws.{IsInOrder, OneMore}
 use Rattle.jl_relink.proofs.Untouched.{same_key_is, IsLater, AreThere, SiteKeeps, map_same, site_stays, outcome_same, receivers_there}
 use Rattle.jl_resolve.proofs.Later.{step_stays}

@@ -13,7 +13,7 @@ use Rattle.jl_types.specs.declared.target.CallSiteKind.{CallSiteKind}
 use Rattle.jl_types.specs.Values.Target.{Target}
 use Rattle.jl_types.specs.Values.World.{Sites}
 use Rattle.jl_types.specs.Linkage.Targets.{is_valid, method_of}
-use Rattle.jl_types.specs.Happenings.Events.{invalidated}
+use Rattle.jl_types.specs.Events.Verdict.{invalidated}
 use Rattle.jl_types.proofs.Bools.{any-filter-at, any-range-from}
 use Rattle.jl_types.proofs.Lists.{range_end}
 use Rattle.jl_callsites.specs.Faults.{with_site, with_target, with_switch, with_invalid}
@@ -22,7 +22,7 @@ use Rattle.jl_callsites.proofs.Known.{known_at, site_more_walks, other_walks, sw
 use Rattle.jl_callsites.proofs.Walks.{on_path, known_invalid, site_walks, kept_on}
 use Rattle.jl_types.specs.declared.key.Key.{Key}
 use Rattle.jl_types.specs.declared.key.Key.TheVariants as key
-use Rattle.jl_types.specs.Happenings.Footprints.{has_key, call_site_in, point_in, among, path, of_call_site, still_valid}
+use Rattle.jl_types.specs.Events.Footprints.{has_key, call_site_in, point_in, among, path, of_call_site, still_valid}
 use Rattle.jl_relink.proofs.WayKeys.{has, points_valid, rests_on_point}
 
 -- the call site runs what it ran, and rests on what it rested on

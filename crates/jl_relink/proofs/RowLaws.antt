@@ -12,7 +12,7 @@ use Rattle.jl_types.specs.Values.World.{Classes}
 use Rattle.jl_types.specs.Values.Members.{is_concrete}
 use Rattle.jl_types.specs.Values.Ancestry.{receivers, is_ancestor}
 use Rattle.jl_types.specs.Linkage.Links.{runs, virtual_link, table_or_mega}
-use Rattle.jl_relink.specs.Means.Rows.{run_on}
+use Rattle.jl_relink.specs.ForProofs.Rows.{run_on}
 
 below : (a n m : ℕ) → a + n ≤ m → AllByRecursion (λ x. x < m) (range_with_len a n)
 below a zero m h = tt

@@ -12,14 +12,14 @@ use Rattle.jl_types.specs.declared.link.Link.TheVariants.{Plain, Direct, Mega}
 use Rattle.jl_types.specs.declared.target.CallSiteKind.TheVariants.{Mutable}
 use Rattle.jl_types.specs.Values.Target as target
 use Rattle.jl_types.specs.Values.Target.{Target}
-use Rattle.jl_types.specs.Happenings.Event.{Event}
+use Rattle.jl_types.specs.Events.Event.{Event}
 use Rattle.jl_types.specs.declared.event.EventOf.TheVariants.{NewLoader, Define, Request, NewCallSite, SetTarget, NewSwitch, Invalidate, Bind}
 use Rattle.jl_types.specs.Values.World.{World, nothing_yet}
 use Rattle.jl_types.specs.Linkage.Stages.{Stage, ResolvedCall, Selector, ByVirtual, Waits, Fails, Calls, Selects}
 use Rattle.jl_types.specs.Linkage.Links.{outcome, runs}
-use Rattle.jl_types.specs.Happenings.Events.{verdict, step}
-use Rattle.jl_types.specs.Happenings.History.{world_after}
-use Rattle.jl_types.specs.Happenings.Footprints.{stays_with}
+use Rattle.jl_types.specs.Events.Verdict.{verdict, step}
+use Rattle.jl_types.specs.Events.History.{world_after}
+use Rattle.jl_types.specs.Events.Footprints.{stays_with}
 use Rattle.jl_types.proofs.Rows.Sketch.{method, calling, class_ref, first, file}
 use Rattle.jl_types.proofs.Rows.CallSites.{begun, m, n}
 use Rattle.jl_relink.specs.Laws.{LinksStay, IsInOrder, SiteStays, OneMore, AreAccepted}

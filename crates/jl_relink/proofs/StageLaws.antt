@@ -19,7 +19,7 @@ use Rattle.jl_types.specs.Linkage.Stages.{Stage, BySpecial, Selects, ResolvedCal
 use Rattle.jl_types.specs.Linkage.Calls.{answered, answer_of, selected}
 use Rattle.jl_types.specs.Linkage.Links.{outcome, link_of, link_by}
 use Rattle.jl_relink.specs.declared.selection.Selection.{Selection}
-use Rattle.jl_relink.specs.Means.Rows.{outcome_of, selected_link, special_answer}
+use Rattle.jl_relink.specs.ForProofs.Rows.{outcome_of, selected_link, special_answer}
 use Rattle.jl_relink.specs.Receivers.{IsSelection}
 use Rattle.jl_relink.specs.Stages.{selector_of, IsKept, IsSearch}
 

@@ -35,7 +35,7 @@ use Rattle.jl_types.specs.Linkage.Stages.{Selector, ByVirtual, ByInterface, BySp
 use Rattle.jl_types.specs.Linkage.Stages.{selecting, by_kind, by_resolution, by_method, bound_to, bound_method, invocation_at, by_operand, stage_of, stage_at}
 use Rattle.jl_types.specs.Linkage.Targets.{evaluated, method_of}
 use Rattle.jl_types.specs.Linkage.Links.{outcome_by, table_rows, table_or_mega, virtual_link, link_by, link_of, scratch}
-use Rattle.jl_types.specs.Happenings.Events.{same_place, requested, step}
+use Rattle.jl_types.specs.Events.Verdict.{same_place, requested, step}
 use Rattle.jl_types.proofs.Accepting.{linked}
 use Rattle.jl_types.proofs.Lists.{before_end, passes_within}
 use Rattle.jl_resolve.specs.Constancy.{is_settled}

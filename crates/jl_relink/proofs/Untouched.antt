@@ -48,8 +48,8 @@ use Rattle.jl_select.specs.Constancy.{IsConstant}
 use Rattle.jl_types.specs.Linkage.Targets.{method_of}
 use Rattle.jl_types.specs.declared.key.Key.{Key}
 use Rattle.jl_types.specs.declared.key.Key.TheVariants as key
-use Rattle.jl_types.specs.Happenings.Footprints.{same_key, has_key, meets, of_selector, of_stage, of_call_site, of_binding, of_operand, of_invocation}
-use Rattle.jl_types.specs.Happenings.Footprints.{of_place, footprint}
+use Rattle.jl_types.specs.Events.Footprints.{same_key, has_key, meets, of_selector, of_stage, of_call_site, of_binding, of_operand, of_invocation}
+use Rattle.jl_types.specs.Events.Footprints.{of_place, footprint}
 use Rattle.jl_relink.proofs.WayKeys.{no_receivers_of}
 use Rattle.jl_relink.proofs.Staying.{present_there, accessible_there, named_there}
 

@@ -17,7 +17,7 @@ use Rattle.jl_types.specs.Linkage.Stages.{bound_to}
 use Rattle.jl_types.specs.Linkage.Targets.{is_valid}
 use Rattle.jl_types.specs.declared.key.Key.{Key}
 use Rattle.jl_types.specs.declared.key.Key.TheVariants as key
-use Rattle.jl_types.specs.Happenings.Footprints.{has_key, call_site_in, point_in, among, path, of_call_site, of_binding, of_operand, most_by}
+use Rattle.jl_types.specs.Events.Footprints.{has_key, call_site_in, point_in, among, path, of_call_site, of_binding, of_operand, most_by}
 use Rattle.jl_types.proofs.Bools.{any-filter, any-filter-at, any-range-from}
 use Rattle.jl_callsites.proofs.Walks.{IsOn, on_path}
 

@@ -16,15 +16,15 @@ use Rattle.jl_types.specs.Values.Members.{is_private}
 use Rattle.jl_types.specs.Values.Ancestry.{receivers}
 use Rattle.jl_types.specs.Linkage.Links.{virtual_link, link_of}
 use Rattle.jl_types.specs.Linkage.Stages.{Stage}
-use Rattle.jl_types.specs.Happenings.Preparation.{ArePrepared}
+use Rattle.jl_types.specs.Events.Preparation.{ArePrepared}
 use Rattle.jl_types.proofs.Lists.{rest_at}
 use Rattle.jl_relink.specs.declared.selection.Selection.{Selection}
 use Rattle.jl_relink.specs.declared.outline.Pair.{Pair}
 use Rattle.jl_relink.specs.declared.outline.Outline.{Outline}
 use Rattle.jl_relink.specs.declared.outline.Outline.TheVariants.{Known, Depends}
 use Rattle.jl_relink.specs.Receivers.{IsSelection}
-use Rattle.jl_relink.specs.Means.Rows.{outcome_of, rows_of, link_by_rows, selected_link}
-use Rattle.jl_relink.specs.Means.Wide.{depends, link_with, link_of_plan, row_of_plan, IsThere, ArePlanned, pairs_with, pairs_in, pairs_of, looked_up}
+use Rattle.jl_relink.specs.ForProofs.Rows.{outcome_of, rows_of, link_by_rows, selected_link}
+use Rattle.jl_relink.specs.ForProofs.Wide.{depends, link_with, link_of_plan, row_of_plan, IsThere, ArePlanned, pairs_with, pairs_in, pairs_of, looked_up}
 use Rattle.jl_relink.proofs.StageLaws.{selects_link}
 
 -- ---- what the receivers decide

@@ -2,21 +2,21 @@
 use Rattle.std.specs.Prelude.{◌≡◌, ◌≢◌, ℕ, length, Bool, true, false, List, take, slice_get, Some, Ok, IsOk}
 use Rattle.std.specs.List.{list_all}
 use Rattle.jl_class.specs.Flags.{extends_object}
-use Rattle.jl_types.specs.Happenings.Event.{Event}
+use Rattle.jl_types.specs.Events.Event.{Event}
 use Rattle.jl_types.specs.declared.event.EventOf.TheVariants as event
 use Rattle.jl_types.specs.declared.ids.MethodId.{MethodId}
 use Rattle.jl_types.specs.declared.answer.Outcome.TheVariants.{Run}
 use Rattle.jl_types.specs.declared.link.Link.{Link}
 use Rattle.jl_types.specs.declared.link.Link.TheVariants.{Direct}
 use Rattle.jl_types.specs.Values.World.{World}
-use Rattle.jl_types.specs.Happenings.Events.{verdict, step}
+use Rattle.jl_types.specs.Events.Verdict.{verdict, step}
 use Rattle.jl_types.specs.Linkage.Links.{outcome, scratch}
 use Rattle.jl_types.specs.Linkage.Stages.{ResolvedCall, BySpecial, Selects, stage}
 use Rattle.jl_class.specs.Class.{ClassFile}
-use Rattle.jl_types.specs.Happenings.History.{world_after, is_link}
+use Rattle.jl_types.specs.Events.History.{world_after, is_link}
 use Rattle.jl_hierarchy.specs.Constancy.{AreInOrder}
 use Rattle.jl_callsites.specs.Known.{are_known}
-use Rattle.jl_types.specs.Happenings.Footprints.{footprint, stays_with}
+use Rattle.jl_types.specs.Events.Footprints.{footprint, stays_with}
 use Rattle.jl_relink.specs.Receivers.{inherits}
 
 -- each site that has a link from scratch has the same one after the event

@@ -3,4 +3,4 @@ pub mod Preparations
 pub mod Laws
 pub mod Stages
 pub mod Receivers
-pub mod Means
+pub mod ForProofs

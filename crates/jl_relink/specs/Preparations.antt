@@ -2,7 +2,7 @@
 use Rattle.std.specs.Prelude.{◌≡◌, ◌⊎◌, ℕ, List, Some, None, Result, Ok, Err}
 use Rattle.jl_types.specs.declared.refusal.PrepareFault.{PrepareFault}
 use Rattle.jl_types.specs.declared.refusal.PrepareFault.TheVariants.{Memory}
-use Rattle.jl_types.specs.Happenings.Preparation.{prepare_fault, ArePrepared}
+use Rattle.jl_types.specs.Events.Preparation.{prepare_fault, ArePrepared}
 use Rattle.jl_types.specs.Values.World.{World}
 use Rattle.jl_relink.specs.declared.preparation.Prepared.{Prepared}
 

@@ -9,7 +9,7 @@ use Rattle.jl_types.specs.Values.Members.{is_interface, method_test}
 use Rattle.jl_types.specs.Linkage.Resolution.{declared_upward}
 use Rattle.jl_types.specs.Linkage.Stages.{Stage, ResolvedCall, BySpecial, Selects, stage}
 use Rattle.jl_types.specs.Linkage.Links.{outcome, runs}
-use Rattle.jl_types.specs.Happenings.Footprints.{stays_with}
+use Rattle.jl_types.specs.Events.Footprints.{stays_with}
 use Rattle.jl_relink.specs.declared.selection.Selection.{Selection}
 use Rattle.jl_relink.specs.Stages.{IsKept}
 

@@ -4,7 +4,7 @@ ghost use Rattle.std.specs.Prelude.{◌≡◌};
 ghost use Rattle.jl_types.specs.Linkage.Resolution as resolution;
 ghost use Rattle.jl_types.specs.Linkage.Stages as stages;
 ghost use Rattle.jl_types.specs.Linkage.Calls as calls;
-ghost use Rattle.jl_relink.specs.Means.Rows.{selected_answer, special_answer, fits};
+ghost use Rattle.jl_relink.specs.ForProofs.Rows.{selected_answer, special_answer, fits};
 
 use crate::located::locate;
 use crate::selection::{Selection, outcome};

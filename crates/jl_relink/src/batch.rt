@@ -2,7 +2,7 @@
 
 ghost use Rattle.std.specs.Prelude.{◌≡◌, ◌==◌, [], map};
 ghost use Rattle.std.specs.List.{list_any};
-ghost use Rattle.jl_types.specs.Happenings.Batches as batches;
+ghost use Rattle.jl_types.specs.Events.Batches as batches;
 
 use crate::world::World;
 use jl_types::{Link, SiteNo, SitesFault};

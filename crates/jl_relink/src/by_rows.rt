@@ -2,7 +2,7 @@
 
 ghost use Rattle.std.specs.Prelude.{◌≡◌, ◌≤◌, length};
 ghost use Rattle.jl_types.specs.Linkage.Links.{virtual_link, table_or_mega};
-ghost use Rattle.jl_relink.specs.Means.Rows.{link_by_rows};
+ghost use Rattle.jl_relink.specs.ForProofs.Rows.{link_by_rows};
 
 use crate::receivers::common_of;
 use jl_types::{ClassId, Link, Outcome, Table, TableKind};

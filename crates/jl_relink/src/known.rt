@@ -5,7 +5,7 @@ ghost use Rattle.jl_types.specs.declared.answer.Outcome.TheVariants.{Run};
 ghost use Rattle.jl_types.specs.declared.link.Link.TheVariants.{Direct};
 ghost use Rattle.jl_types.specs.declared.link.TableKind.TheVariants.{Virtual};
 ghost use Rattle.jl_types.specs.Values.Ancestry as ancestry;
-ghost use Rattle.jl_relink.specs.Means.Rows.{rows_of, outcome_of, link_by_rows};
+ghost use Rattle.jl_relink.specs.ForProofs.Rows.{rows_of, outcome_of, link_by_rows};
 
 use crate::selection::Selection;
 use jl_hierarchy::Classes;

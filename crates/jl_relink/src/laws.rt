@@ -1,20 +1,20 @@
 //! The laws of links: each is the contract of a function that does nothing.
 
 ghost use Rattle.std.specs.Prelude.{◌≡◌, ℕ, ◌++◌, ◌∷◌, [], List, Ok, IsOk, true, false};
-ghost use Rattle.jl_types.specs.Happenings.Event.{Event};
+ghost use Rattle.jl_types.specs.Events.Event.{Event};
 ghost use Rattle.jl_types.specs.declared.event.EventOf.TheVariants as event;
 ghost use Rattle.jl_types.specs.declared.ids.Place.{Place};
 ghost use Rattle.jl_types.specs.declared.link.Link.{Link};
 ghost use Rattle.jl_types.specs.declared.target.CallSiteKind.{CallSiteKind};
-ghost use Rattle.jl_types.specs.Happenings.Events.{verdict, step};
-ghost use Rattle.jl_types.specs.Happenings.History.{world_after, Settled};
+ghost use Rattle.jl_types.specs.Events.Verdict.{verdict, step};
+ghost use Rattle.jl_types.specs.Events.History.{world_after, Settled};
 ghost use Rattle.jl_types.specs.Linkage.Links.{scratch};
 ghost use Rattle.jl_class.specs.Class.{ClassFile};
 ghost use Rattle.jl_types.specs.Values.Target.{Target};
 ghost use Rattle.jl_types.specs.Values.World.{World};
 ghost use Rattle.jl_callsites.specs.Known.{RunAsBefore};
 ghost use Rattle.jl_select.specs.Constancy.{IsConstant};
-ghost use Rattle.jl_types.specs.Happenings.Footprints.{retires, touches, most_for};
+ghost use Rattle.jl_types.specs.Events.Footprints.{retires, touches, most_for};
 ghost use Rattle.jl_relink.specs.Laws.{LinksStay, IsInOrder, SiteStays, OneMore, AreAccepted, changes_receivers};
 
 /// The events that change no link: a site that has a link has the same one afterwards. Of a delegation that is so where what

@@ -4,8 +4,8 @@ ghost use Rattle.std.specs.Prelude.{◌≡◌, ◌+◌, ◌^◌, ◌<◌, ◌≤
 ghost use Rattle.jl_types.specs.Values.Ancestry as ancestry;
 ghost use Rattle.jl_types.specs.Linkage.Links.{table_or_mega, virtual_link};
 ghost use Rattle.jl_types.specs.declared.link.TableKind.TheVariants.{Interface};
-ghost use Rattle.jl_relink.specs.Means.Counts.{most_of};
-ghost use Rattle.jl_relink.specs.Means.Rows.{rows_of, selected_link};
+ghost use Rattle.jl_relink.specs.ForProofs.Counts.{most_of};
+ghost use Rattle.jl_relink.specs.ForProofs.Rows.{rows_of, selected_link};
 
 use crate::by_rows::{MOST_RECEIVERS, virtual_by_rows};
 use crate::known::all_run;

@@ -2,7 +2,7 @@
 
 ghost use Rattle.std.specs.Prelude.{◌≡◌, IfOk, IfErr};
 ghost use Rattle.jl_types.specs.Linkage.Stages as stages;
-ghost use Rattle.jl_types.specs.Happenings.Footprints.{footprint, of_operand};
+ghost use Rattle.jl_types.specs.Events.Footprints.{footprint, of_operand};
 
 use crate::world::World;
 use jl_class::Site;

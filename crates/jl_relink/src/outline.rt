@@ -2,9 +2,9 @@
 
 ghost use Rattle.std.specs.Prelude.{◌≡◌, ◌<◌, None, Some, length, IfOk, IfErr, IfSome};
 ghost use Rattle.jl_types.specs.Linkage.Links.{scratch};
-ghost use Rattle.jl_types.specs.Happenings.Preparation.{link_fault, prepare_fault};
+ghost use Rattle.jl_types.specs.Events.Preparation.{link_fault, prepare_fault};
 ghost use Rattle.jl_relink.specs.Preparations.{IsFault};
-ghost use Rattle.jl_relink.specs.Means.Wide as plans;
+ghost use Rattle.jl_relink.specs.ForProofs.Wide as plans;
 
 use crate::by_rows::MOST_RECEIVERS;
 use crate::fill::fill;

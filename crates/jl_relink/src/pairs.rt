@@ -1,7 +1,7 @@
 //! The pairs of a batch's rows with their receivers.
 
 ghost use Rattle.std.specs.Prelude.{◌≡◌, ◌<◌, ◌++◌, length, All, IfOk, OnOk};
-ghost use Rattle.jl_relink.specs.Means.Wide as plans;
+ghost use Rattle.jl_relink.specs.ForProofs.Wide as plans;
 
 use crate::link::receivers_of;
 use crate::outline::{Outline, Pair};

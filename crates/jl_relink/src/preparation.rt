@@ -2,8 +2,8 @@
 
 ghost use Rattle.std.specs.Prelude.{◌≡◌, ◌+◌, ◌≤◌, ◌⊎◌, [], None, Some, Ok, length, IfOk, IfErr, OnOk};
 ghost use Rattle.std.specs.Vec.{vec_len, vec_capacity};
-ghost use Rattle.jl_types.specs.Happenings.Preparation as prepared;
-ghost use Rattle.jl_types.specs.Happenings.Preparation.{link_fault};
+ghost use Rattle.jl_types.specs.Events.Preparation as prepared;
+ghost use Rattle.jl_types.specs.Events.Preparation.{link_fault};
 ghost use Rattle.jl_relink.specs.Preparations.{IsPreparation, IsFault};
 ghost use Rattle.jl_types.specs.Linkage.Links.{scratch};
 

@@ -6,7 +6,7 @@ ghost use Rattle.jl_types.specs.Linkage.Stages as stages;
 ghost use Rattle.jl_types.specs.Linkage.Links as links;
 ghost use Rattle.jl_types.specs.Linkage.Stages.{stage};
 ghost use Rattle.jl_relink.specs.Receivers.{TellsStay, TellsRun, IsSelection};
-ghost use Rattle.jl_relink.specs.Means.Rows.{outcome_of};
+ghost use Rattle.jl_relink.specs.ForProofs.Rows.{outcome_of};
 
 use crate::known::each_runs;
 use crate::located::locate;

@@ -1,7 +1,7 @@
 //! What the receivers of an invocation come to, one after another.
 
 ghost use Rattle.std.specs.Prelude.{◌≡◌, ◌+◌, ◌^◌, ◌<◌, ◌≤◌, None, length, All};
-ghost use Rattle.jl_relink.specs.Means.Rows.{run_on, joined, rows_of};
+ghost use Rattle.jl_relink.specs.ForProofs.Rows.{run_on, joined, rows_of};
 
 use crate::selection::{Selection, outcome_counted};
 use jl_hierarchy::Classes;

@@ -4,8 +4,8 @@ ghost use Rattle.std.specs.Prelude.{◌≡◌, ◌+◌, ◌^◌, ◌<◌, ◌≤
 ghost use Rattle.jl_types.specs.Linkage.Resolution as resolution;
 ghost use Rattle.jl_types.specs.Linkage.Stages as stages;
 ghost use Rattle.jl_types.specs.Linkage.Links as links;
-ghost use Rattle.jl_types.specs.Happenings.Footprints.{of_stage, of_operand, most_by, most_for};
-ghost use Rattle.jl_relink.specs.Means.Counts.{method_at};
+ghost use Rattle.jl_types.specs.Events.Footprints.{of_stage, of_operand, most_by, most_for};
+ghost use Rattle.jl_relink.specs.ForProofs.Counts.{method_at};
 
 use crate::link::selected_link;
 use crate::located::{Located, locate};

@@ -1,7 +1,7 @@
 //! What an invocation that selects by its receiver comes to.
 
 ghost use Rattle.std.specs.Prelude.{◌≡◌, ◌+◌, ◌^◌, ◌<◌, ◌≤◌, length};
-ghost use Rattle.jl_relink.specs.Means.Rows.{outcome_of};
+ghost use Rattle.jl_relink.specs.ForProofs.Rows.{outcome_of};
 
 use jl_hierarchy::Classes;
 use jl_select::{select, select_counted, select_interface, select_interface_counted};

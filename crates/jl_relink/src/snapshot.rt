@@ -1,7 +1,7 @@
 //! A world as it was.
 
 ghost use Rattle.std.specs.Prelude.{◌≡◌};
-ghost use Rattle.jl_relink.specs.Means.Holding.{held_world};
+ghost use Rattle.jl_relink.specs.ForProofs.Holding.{held_world};
 
 use crate::world::World;
 use std::marker::Model;
@@ -41,14 +41,14 @@ impl Drop for Snapshot {
 
 impl Model for Snapshot {
     ghost use Rattle.std.specs.Coded.{codes};
-    ghost use Rattle.jl_types.specs.Means.TargetCode.{target_code};
+    ghost use Rattle.jl_types.specs.ForProofs.TargetCode.{target_code};
     ghost use Rattle.jl_relink.specs.Preparations.{Snapshot};
 
     ghost Value = { Snapshot };
 
     ghost coded = { Prim.hlevel (codes, target_code) };
 
-    ghost use Rattle.jl_relink.specs.Means.Holding.{held_world};
+    ghost use Rattle.jl_relink.specs.ForProofs.Holding.{held_world};
 
     ghost view = { λ s. record { world = held_world s.held; serial = s.serial } };
 }

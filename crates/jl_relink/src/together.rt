@@ -1,7 +1,7 @@
 //! A batch's rows, put together from what their receivers came to.
 
 ghost use Rattle.std.specs.Prelude.{◌≡◌, map, All, IfOk};
-ghost use Rattle.jl_relink.specs.Means.Wide as plans;
+ghost use Rattle.jl_relink.specs.ForProofs.Wide as plans;
 
 use crate::by_rows::link_by_rows;
 use crate::outline::Outline;

@@ -2,7 +2,7 @@
 
 ghost use Rattle.std.specs.Prelude.{◌≡◌, ◌<◌, map, length, All, IfOk};
 ghost use Rattle.jl_relink.specs.Preparations.{IsPreparation};
-ghost use Rattle.jl_relink.specs.Means.Wide as plans;
+ghost use Rattle.jl_relink.specs.ForProofs.Wide as plans;
 
 use crate::outline::{Outline, Pair, plan_of_batch};
 use crate::pairs::pairs_of;

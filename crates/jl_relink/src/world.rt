@@ -35,7 +35,7 @@ impl Drop for World {
 impl Model for World {
     ghost use Rattle.jl_types.specs.Values.World.{World};
     ghost use Rattle.std.specs.Coded.{codes};
-    ghost use Rattle.jl_types.specs.Means.TargetCode.{target_code};
+    ghost use Rattle.jl_types.specs.ForProofs.TargetCode.{target_code};
 
     ghost Value = { World };
 

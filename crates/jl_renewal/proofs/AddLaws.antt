@@ -4,7 +4,7 @@ use Rattle.std.specs.List.{cons_option, range_with_len}
 use Rattle.std.proofs.Common.{refl, sym, ap, subst, ◌∙◌, append_assoc}
 use Rattle.std.proofs.lemmas.List.{take_more, append-nil}
 use Rattle.std.proofs.lemmas.List.Elements.{filter_map-append}
-use Rattle.jl_types.specs.Happenings.Event.{Event}
+use Rattle.jl_types.specs.Events.Event.{Event}
 use Rattle.jl_core.specs.State.{State, events}
 use Rattle.jl_renewal.specs.Adds.{Adds}
 use Rattle.jl_renewal.proofs.ListLaws.{one_given_more}

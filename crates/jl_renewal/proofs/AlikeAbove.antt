@@ -18,7 +18,7 @@ use Rattle.jl_types.proofs.Ancestors.{ancestor_decides, above_is, superclasses_i
 use Rattle.jl_types.proofs.Bools.{any-filter, any-filter-at, any-map, any-range-from}
 use Rattle.jl_types.proofs.Grown.{above}
 use Rattle.jl_types.proofs.Lists.{element_at}
-use Rattle.jl_hierarchy.specs.Means.Kept.{Rises}
+use Rattle.jl_hierarchy.specs.ForProofs.Kept.{Rises}
 use Rattle.jl_hierarchy.proofs.Rising.{has, one_rising, filter_rises}
 use Rattle.jl_renewal.specs.Numbers.{Numbers, renumbered}
 use Rattle.jl_renewal.specs.Renewed.{renumbered_class}

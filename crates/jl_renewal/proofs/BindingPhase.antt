@@ -13,8 +13,8 @@ use Rattle.jl_types.specs.declared.refusal.Refusal.TheVariants.{UnknownSite, Alr
 use Rattle.jl_types.specs.Values.World.{World}
 use Rattle.jl_types.specs.Values.Members.{is_present}
 use Rattle.jl_types.specs.Linkage.Resolution.{first_of}
-use Rattle.jl_types.specs.Happenings.Event.{Event}
-use Rattle.jl_types.specs.Happenings.Events.{unless, type_fault, operand_fault, bind_at, bind_fault}
+use Rattle.jl_types.specs.Events.Event.{Event}
+use Rattle.jl_types.specs.Events.Verdict.{unless, type_fault, operand_fault, bind_at, bind_fault}
 use Rattle.jl_renewal.specs.declared.released.Released.{Released}
 use Rattle.jl_renewal.specs.Numbers.{Numbers, new_number, renumbered}
 use Rattle.jl_renewal.specs.Staying.{numbers_of, staying_sites, staying_call_sites, is_in_staying_class}

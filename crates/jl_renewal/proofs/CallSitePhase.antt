@@ -13,8 +13,8 @@ use Rattle.jl_types.specs.declared.refusal.CallSiteFault.TheVariants as fault
 use Rattle.jl_types.specs.declared.refusal.Refusal.TheVariants.{CallSite}
 use Rattle.jl_types.specs.Values.World.{World, CallSite as CallSiteRow}
 use Rattle.jl_types.specs.Linkage.Resolution.{first_of}
-use Rattle.jl_types.specs.Happenings.Event.{Event}
-use Rattle.jl_types.specs.Happenings.Events.{unless, new_call_site_fault}
+use Rattle.jl_types.specs.Events.Event.{Event}
+use Rattle.jl_types.specs.Events.Verdict.{unless, new_call_site_fault}
 use Rattle.jl_types.proofs.Lists.{element_at}
 use Rattle.jl_renewal.specs.declared.released.Released.{Released}
 use Rattle.jl_renewal.specs.Numbers.{Numbers, renumbered_target, staying}

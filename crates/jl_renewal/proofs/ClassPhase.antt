@@ -20,11 +20,11 @@ use Rattle.jl_types.specs.declared.refusal.DelegateFault.TheVariants as delegate
 use Rattle.jl_types.specs.Values.World.{World, Class, Classes, nothing_yet}
 use Rattle.jl_types.specs.Values.Members.{lookup, recorded, is_present, is_retired}
 use Rattle.jl_types.specs.Linkage.Resolution.{first_of}
-use Rattle.jl_types.specs.Happenings.Event.{Event}
-use Rattle.jl_types.specs.Happenings.Events.{verdict, step, unless}
-use Rattle.jl_types.specs.Happenings.History.{world_after}
-use Rattle.jl_types.specs.Happenings.Definitions.{define_fault, class_made, delegate_fault, delegated, is_unknown, with_record}
-use Rattle.jl_types.specs.Happenings.Retirement.{retire_fault, retired}
+use Rattle.jl_types.specs.Events.Event.{Event}
+use Rattle.jl_types.specs.Events.Verdict.{verdict, step, unless}
+use Rattle.jl_types.specs.Events.History.{world_after}
+use Rattle.jl_types.specs.Events.Definitions.{define_fault, class_made, delegate_fault, delegated, is_unknown, with_record}
+use Rattle.jl_types.specs.Events.Retirement.{retire_fault, retired}
 use Rattle.jl_types.proofs.Firsts.{first_none, test_none}
 use Rattle.jl_types.proofs.Lists.{at_end, element_at}
 use Rattle.jl_types.proofs.Orders.{world_good, looked_up}

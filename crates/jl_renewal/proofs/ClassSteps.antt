@@ -17,7 +17,7 @@ use Rattle.jl_types.specs.declared.refusal.DefineFault.TheVariants as define
 use Rattle.jl_types.specs.Values.World.{World, Class, Classes}
 use Rattle.jl_types.specs.Values.Members.{lookup, class_test, is_present, is_retired, is_interface, share_package}
 use Rattle.jl_types.specs.Linkage.Resolution.{first_of}
-use Rattle.jl_types.specs.Happenings.Definitions.{define_fault, parent_names, class_made, is_unknown, named_test, is_final, is_open_parent, FINAL}
+use Rattle.jl_types.specs.Events.Definitions.{define_fault, parent_names, class_made, is_unknown, named_test, is_final, is_open_parent, FINAL}
 use Rattle.jl_types.proofs.Firsts.{first_none, test_none}
 use Rattle.jl_types.proofs.Lists.{element_at}
 use Rattle.jl_renewal.specs.declared.released.Released.{Released}

@@ -9,8 +9,8 @@ use Rattle.std.proofs.lemmas.Option.{slice_get-map, slice_get_within}
 use Rattle.jl_class.specs.Class.{ClassFile}
 use Rattle.jl_types.specs.Values.World.{World, Class, Classes}
 use Rattle.jl_types.specs.Values.Members.{lookup, is_retired}
-use Rattle.jl_types.specs.Happenings.Definitions.{class_made, with_record, defined, delegated}
-use Rattle.jl_types.specs.Happenings.Retirement.{retired}
+use Rattle.jl_types.specs.Events.Definitions.{class_made, with_record, defined, delegated}
+use Rattle.jl_types.specs.Events.Retirement.{retired}
 use Rattle.jl_types.proofs.Lists.{element_at}
 use Rattle.jl_renewal.specs.declared.released.Released.{Released}
 use Rattle.jl_renewal.specs.Numbers.{Numbers, staying, renumbered}

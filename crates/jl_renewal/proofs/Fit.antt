@@ -9,9 +9,9 @@ use Rattle.jl_types.specs.Values.World.{World, Class, CallSite}
 use Rattle.jl_types.specs.Values.Members.{lookup, is_retired}
 use Rattle.jl_types.specs.Linkage.Stages.{invocation_at}
 use Rattle.jl_types.specs.Linkage.Targets.{target_fault}
-use Rattle.jl_types.specs.Happenings.Event.{Event}
-use Rattle.jl_types.specs.Happenings.Events.{verdict, names_array, is_polymorphic, same_place}
-use Rattle.jl_types.specs.Happenings.History.{world_after}
+use Rattle.jl_types.specs.Events.Event.{Event}
+use Rattle.jl_types.specs.Events.Verdict.{verdict, names_array, is_polymorphic, same_place}
+use Rattle.jl_types.specs.Events.History.{world_after}
 
 -- each event was accepted after those before it
 abbrev pub AllAccepted : ℕ → List Event → Type 0

@@ -10,8 +10,8 @@ use Rattle.std.proofs.lemmas.Slice.Eq.{bytes_eq-Decides}
 use Rattle.jl_class.specs.Class.{ClassFile}
 use Rattle.jl_types.specs.Values.World.{Class, Classes}
 use Rattle.jl_types.specs.Values.Members.{is_retired, recorded, lookup}
-use Rattle.jl_types.specs.Happenings.Definitions.{class_made, define_fault, with_record, defined, delegated}
-use Rattle.jl_types.specs.Happenings.Retirement.{retired}
+use Rattle.jl_types.specs.Events.Definitions.{class_made, define_fault, with_record, defined, delegated}
+use Rattle.jl_types.specs.Events.Retirement.{retired}
 use Rattle.jl_types.proofs.Lists.{before_end, at_end}
 use Rattle.jl_types.proofs.Orders.{IsGood, looked_up}
 use Rattle.jl_types.proofs.Retiring.{found_before}

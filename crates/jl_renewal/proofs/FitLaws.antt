@@ -13,11 +13,11 @@ use Rattle.jl_types.specs.declared.refusal.Refusal.TheVariants.{Define, CallSite
 use Rattle.jl_types.specs.declared.refusal.RetireFault.TheVariants.{Targeted}
 use Rattle.jl_types.specs.Values.Target.{Target, Method, Guard, Invoker}
 use Rattle.jl_types.specs.Values.World.{World, CallSite as CallSiteRow, nothing_yet}
-use Rattle.jl_types.specs.Happenings.Definitions.{define_fault}
-use Rattle.jl_types.specs.Happenings.Retirement.{names_from, classes_fault, targeted, retire_fault}
-use Rattle.jl_types.specs.Happenings.Event.{Event}
-use Rattle.jl_types.specs.Happenings.Events.{most_of_a_kind, new_call_site_fault, set_target_fault, invalidated, bind_fault, verdict, step}
-use Rattle.jl_types.specs.Happenings.History.{world_after}
+use Rattle.jl_types.specs.Events.Definitions.{define_fault}
+use Rattle.jl_types.specs.Events.Retirement.{names_from, classes_fault, targeted, retire_fault}
+use Rattle.jl_types.specs.Events.Event.{Event}
+use Rattle.jl_types.specs.Events.Verdict.{most_of_a_kind, new_call_site_fault, set_target_fault, invalidated, bind_fault, verdict, step}
+use Rattle.jl_types.specs.Events.History.{world_after}
 use Rattle.jl_types.proofs.Firsts.{first_none, first_alone, test_none}
 use Rattle.jl_types.proofs.Lists.{element_at}
 use Rattle.jl_types.proofs.Orders.{IsGood, world_good}

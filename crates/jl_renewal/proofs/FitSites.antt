@@ -29,9 +29,9 @@ use Rattle.jl_types.specs.Values.World.{World, Class, Classes, CallSite, Sites}
 use Rattle.jl_types.specs.Values.Members.{is_present}
 use Rattle.jl_types.specs.Linkage.Stages.{invocation_at, bound_to}
 use Rattle.jl_types.specs.Linkage.Targets.{target_fault}
-use Rattle.jl_types.specs.Happenings.Events.{same_place, names_array, is_polymorphic, new_place_fault, request_place, if_invoked, request_at, requested}
-use Rattle.jl_types.specs.Happenings.Events.{most_of_a_kind, is_constant, new_call_site_fault, set_target_fault, retargeted, type_fault, operand_fault, bind_at}
-use Rattle.jl_types.specs.Happenings.Events.{bind_fault, with_classes, with_call_sites, with_switches}
+use Rattle.jl_types.specs.Events.Verdict.{same_place, names_array, is_polymorphic, new_place_fault, request_place, if_invoked, request_at, requested}
+use Rattle.jl_types.specs.Events.Verdict.{most_of_a_kind, is_constant, new_call_site_fault, set_target_fault, retargeted, type_fault, operand_fault, bind_at}
+use Rattle.jl_types.specs.Events.Verdict.{bind_fault, with_classes, with_call_sites, with_switches}
 use Rattle.jl_types.proofs.Firsts.{first_none, test_none}
 use Rattle.jl_types.proofs.Lists.{before_end}
 use Rattle.jl_callsites.proofs.Accepted.{site_room}

@@ -14,8 +14,8 @@ use Rattle.jl_types.specs.declared.refusal.Refusal.{Refusal}
 use Rattle.jl_types.specs.declared.refusal.Refusal.TheVariants.{Memory}
 use Rattle.jl_types.specs.Values.World.{World}
 use Rattle.jl_types.specs.Linkage.Links.{scratch}
-use Rattle.jl_types.specs.Happenings.Event.{Event}
-use Rattle.jl_types.specs.Happenings.Events.{verdict}
+use Rattle.jl_types.specs.Events.Event.{Event}
+use Rattle.jl_types.specs.Events.Verdict.{verdict}
 use Rattle.jl_types.proofs.Accepting.{accepted_installs}
 use Rattle.jl_types.proofs.InstalledLinks.{requested}
 use Rattle.jl_core.specs.State.{State, events, world_of, IsAccepted, IsRefused}

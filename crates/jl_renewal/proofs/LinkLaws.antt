@@ -14,10 +14,10 @@ use Rattle.jl_types.specs.declared.answer.Unlinked.{Unlinked}
 use Rattle.jl_types.specs.declared.event.EventOf.TheVariants as event
 use Rattle.jl_types.specs.Values.World.{World, nothing_yet}
 use Rattle.jl_types.specs.Linkage.Links.{scratch}
-use Rattle.jl_types.specs.Means.SameLink.{link_decides}
-use Rattle.jl_types.specs.Happenings.Event.{Event}
-use Rattle.jl_types.specs.Happenings.Events.{step}
-use Rattle.jl_types.specs.Happenings.History.{world_after, installed, has_link, kept}
+use Rattle.jl_types.specs.ForProofs.SameLink.{link_decides}
+use Rattle.jl_types.specs.Events.Event.{Event}
+use Rattle.jl_types.specs.Events.Verdict.{step}
+use Rattle.jl_types.specs.Events.History.{world_after, installed, has_link, kept}
 use Rattle.jl_types.proofs.Installed.{installed_to, settled_now, kept_none, kept_link}
 use Rattle.jl_types.proofs.InstalledLinks.{links_are}
 use Rattle.jl_types.proofs.OneMore.{installed_step}

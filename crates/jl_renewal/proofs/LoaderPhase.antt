@@ -12,7 +12,7 @@ use Rattle.jl_types.specs.declared.event.Made.{Made}
 use Rattle.jl_types.specs.declared.refusal.Refusal.{Refusal}
 use Rattle.jl_types.specs.Values.World.{World, nothing_yet}
 use Rattle.jl_types.specs.Values.Members.{is_retired}
-use Rattle.jl_types.specs.Happenings.Events.{unless}
+use Rattle.jl_types.specs.Events.Verdict.{unless}
 use Rattle.jl_renewal.specs.declared.released.Released.{Released}
 use Rattle.jl_renewal.specs.Numbers.{numbered, numbered_from, staying}
 use Rattle.jl_renewal.specs.Staying.{numbers_of, staying_loaders, staying_classes}

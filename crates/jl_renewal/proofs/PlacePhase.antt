@@ -17,8 +17,8 @@ use Rattle.jl_types.specs.declared.refusal.NotLinkable.TheVariants.{ArrayReceive
 use Rattle.jl_types.specs.Values.World.{World, Classes, Sites}
 use Rattle.jl_types.specs.Values.Members.{is_present}
 use Rattle.jl_types.specs.Linkage.Resolution.{first_of}
-use Rattle.jl_types.specs.Happenings.Event.{Event}
-use Rattle.jl_types.specs.Happenings.Events.{verdict, unless, same_place, new_place_fault, request_place, if_invoked}
+use Rattle.jl_types.specs.Events.Event.{Event}
+use Rattle.jl_types.specs.Events.Verdict.{verdict, unless, same_place, new_place_fault, request_place, if_invoked}
 use Rattle.jl_types.proofs.Bools.{first_test, second_test}
 use Rattle.jl_renewal.specs.declared.released.Released.{Released}
 use Rattle.jl_renewal.specs.Numbers.{Numbers, renumbered, staying}

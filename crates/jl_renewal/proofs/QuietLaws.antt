@@ -8,8 +8,8 @@ use Rattle.std.proofs.Common.{refl}
 use Rattle.jl_types.specs.declared.link.Link.{Link}
 use Rattle.jl_types.specs.declared.ids.Place.{Place}
 use Rattle.jl_types.specs.declared.event.EventOf.TheVariants as event
-use Rattle.jl_types.specs.Happenings.Event.{Event}
-use Rattle.jl_types.specs.Happenings.History.{installs, installed, installed_at}
+use Rattle.jl_types.specs.Events.Event.{Event}
+use Rattle.jl_types.specs.Events.History.{installs, installed, installed_at}
 use Rattle.jl_types.specs.Values.World.{World, Sites, CallSite}
 use Rattle.jl_types.proofs.Installed.{installed_to}
 use Rattle.jl_core.specs.State.{State, events, world_of}

@@ -9,9 +9,9 @@ use Rattle.jl_types.specs.declared.refusal.Refusal.{Refusal}
 use Rattle.jl_types.specs.declared.ids.Place.{Place}
 use Rattle.jl_types.specs.Values.World.{World, nothing_yet}
 use Rattle.jl_types.specs.Values.Members.{is_present}
-use Rattle.jl_types.specs.Happenings.Event.{Event}
-use Rattle.jl_types.specs.Happenings.Events.{verdict}
-use Rattle.jl_types.specs.Happenings.History.{world_after, dropped}
+use Rattle.jl_types.specs.Events.Event.{Event}
+use Rattle.jl_types.specs.Events.Verdict.{verdict}
+use Rattle.jl_types.specs.Events.History.{world_after, dropped}
 use Rattle.jl_types.proofs.Places.{accepted_of}
 use Rattle.jl_hierarchy.specs.Constancy.{IsClosed}
 use Rattle.jl_core.specs.State.{State, events, world_of, AreAnswered}

@@ -12,7 +12,7 @@ use Rattle.jl_types.specs.declared.event.EventOf.TheVariants as event
 use Rattle.jl_types.specs.declared.event.Made.TheVariants as made
 use Rattle.jl_types.specs.declared.refusal.Refusal.TheVariants.{CallSite}
 use Rattle.jl_types.specs.Values.World.{World, Classes, Sites}
-use Rattle.jl_types.specs.Happenings.Events.{unless, invalidated}
+use Rattle.jl_types.specs.Events.Verdict.{unless, invalidated}
 use Rattle.jl_renewal.specs.Numbers.{Numbers, numbered_from, numbered, staying}
 use Rattle.jl_renewal.specs.Renewal.{new_switches, invalid_point, invalid_points, invalidation}
 use Rattle.jl_renewal.proofs.Phases.{Leads, OneStep, leads_through, leads_nowhere, leads_on}

@@ -3,8 +3,8 @@ use Rattle.std.specs.Prelude.{◌≡◌, ◌<◌, Some, Contains, ℕ, List, [],
 use Rattle.jl_types.specs.declared.link.Link.{Link}
 use Rattle.jl_types.specs.declared.event.EventOf.TheVariants as event
 use Rattle.jl_types.specs.declared.refusal.Refusal.{Refusal}
-use Rattle.jl_types.specs.Happenings.Event.{Event}
-use Rattle.jl_types.specs.Happenings.Events.{verdict, step}
+use Rattle.jl_types.specs.Events.Event.{Event}
+use Rattle.jl_types.specs.Events.Verdict.{verdict, step}
 use Rattle.jl_types.specs.Values.World.{World}
 use Rattle.jl_types.specs.Linkage.Links.{scratch}
 use Rattle.jl_core.specs.State.{State, events, world_of, links_of}

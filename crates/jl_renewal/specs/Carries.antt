@@ -6,12 +6,12 @@ use Rattle.jl_types.specs.declared.event.Made.{Made}
 use Rattle.jl_types.specs.declared.event.Made.TheVariants as made
 use Rattle.jl_types.specs.declared.event.Reply.{Reply}
 use Rattle.jl_types.specs.Values.Target.{Target, Method, Guard, Invoker}
-use Rattle.jl_types.specs.Happenings.Event.{Event}
+use Rattle.jl_types.specs.Events.Event.{Event}
 use Rattle.jl_types.specs.Values.World.{World}
 use Rattle.jl_events.specs.Accepted.{Accepted, event_of}
 use Rattle.jl_types.specs.declared.refusal.Refusal.{Refusal}
 use Rattle.jl_types.specs.declared.refusal.Refusal.TheVariants.{Memory}
-use Rattle.jl_types.specs.Happenings.Events.{verdict}
+use Rattle.jl_types.specs.Events.Verdict.{verdict}
 use Rattle.jl_core.specs.State.{State, world_of, IsAccepted}
 use Rattle.jl_core.specs.Logs.{Entry}
 use Rattle.jl_renewal.specs.declared.entries.CarryFault.{CarryFault}

@@ -14,8 +14,8 @@ use Rattle.jl_types.specs.Values.World.{World, Classes, Sites}
 use Rattle.jl_types.specs.Values.Members.{lookup}
 use Rattle.jl_types.specs.Linkage.Targets.{is_valid}
 use Rattle.jl_types.specs.Linkage.Links.{scratch}
-use Rattle.jl_types.specs.Happenings.Event.{Event}
-use Rattle.jl_types.specs.Happenings.History.{world_after}
+use Rattle.jl_types.specs.Events.Event.{Event}
+use Rattle.jl_types.specs.Events.History.{world_after}
 use Rattle.jl_core.specs.State.{State, events, world_of, links_of, AreAnswered}
 use Rattle.jl_core.specs.Logs.{Entry, shown}
 use Rattle.jl_renewal.specs.declared.released.Released.{Released}

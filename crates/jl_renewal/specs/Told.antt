@@ -1,7 +1,7 @@
 -- What entries of an old log are told the fresh core. A means of proof.
 use Rattle.std.specs.Prelude.{List, filter_map, Option, option_and_then}
 use Rattle.jl_types.specs.Values.World.{World}
-use Rattle.jl_types.specs.Happenings.Event.{Event}
+use Rattle.jl_types.specs.Events.Event.{Event}
 use Rattle.jl_events.specs.Accepted.{Accepted, event_of}
 use Rattle.jl_core.specs.Logs.{Entry}
 use Rattle.jl_renewal.specs.Numbers.{Numbers}

@@ -5,7 +5,7 @@ ghost use Rattle.jl_types.specs.declared.answer.Recv.{Recv};
 ghost use Rattle.jl_types.specs.declared.link.Link.{Link};
 ghost use Rattle.jl_types.specs.Linkage.Links.{scratch};
 ghost use Rattle.jl_types.specs.Linkage.Calls.{dispatch};
-ghost use Rattle.jl_types.specs.Happenings.History.{world_after};
+ghost use Rattle.jl_types.specs.Events.History.{world_after};
 ghost use Rattle.jl_relink.specs.Laws.{AreAccepted};
 ghost use Rattle.jl_core.specs.State.{State, events, world_of, links_of};
 ghost use Rattle.jl_renewal.specs.declared.released.Released.{Released};

@@ -13,7 +13,7 @@ use Rattle.jl_types.specs.Linkage.Stages.{Stage, Waits, bound_to, by_method, by_
 use Rattle.jl_types.specs.declared.answer.Unlinked.TheVariants.{Gone}
 use Rattle.jl_types.specs.Linkage.Links.{scratch, link_of}
 use Rattle.jl_types.specs.declared.key.Key.{Key}
-use Rattle.jl_types.specs.Happenings.Footprints.{footprint, of_place, of_operand, of_binding, of_invocation}
+use Rattle.jl_types.specs.Events.Footprints.{footprint, of_place, of_operand, of_binding, of_invocation}
 use Rattle.jl_report.specs.Reports.{asking}
 
 same_operand : (w : World) (s : ℕ) (place : Place) (kind : Kind) (named : Operand (List ℕ)) → bound_to w s ≡ None

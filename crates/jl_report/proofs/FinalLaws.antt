@@ -13,8 +13,8 @@ use Rattle.jl_types.specs.declared.key.Key.TheVariants as key
 use Rattle.jl_types.specs.Values.World.{Class, Classes}
 use Rattle.jl_types.specs.Values.Members.{is_concrete}
 use Rattle.jl_types.specs.Values.Ancestry.{IsAncestor, itself, over, is_ancestor, ancestors}
-use Rattle.jl_types.specs.Happenings.Definitions.{FINAL, define_fault, defined}
-use Rattle.jl_types.specs.Happenings.Footprints.{same_key, has_key, meets, of_class}
+use Rattle.jl_types.specs.Events.Definitions.{FINAL, define_fault, defined}
+use Rattle.jl_types.specs.Events.Footprints.{same_key, has_key, meets, of_class}
 use Rattle.jl_types.proofs.Ancestors.{ancestor_decides}
 use Rattle.jl_types.proofs.Bools.{any-map}
 use Rattle.jl_types.proofs.Grown.{among_ancestors}

@@ -9,11 +9,11 @@ use Rattle.jl_names.proofs.Tests.{All-front, All-back, All-both}
 use Rattle.jl_types.proofs.Lists.{range_end}
 use Rattle.jl_class.specs.Class.{ClassFile}
 use Rattle.jl_types.specs.Values.World.{Classes}
-use Rattle.jl_types.specs.Happenings.Definitions.{define_fault, defined}
+use Rattle.jl_types.specs.Events.Definitions.{define_fault, defined}
 use Rattle.jl_report.specs.declared.defining.Refused.{Refused}
 use Rattle.jl_report.specs.declared.defining.Waiting.{Waiting}
 use Rattle.jl_report.specs.Gathering.{Gathers, ends, defines, numbers, IsRefused}
-use Rattle.jl_report.specs.Means.Waiting.{AreOf, AreStuck, places}
+use Rattle.jl_report.specs.ForProofs.Waiting.{AreOf, AreStuck, places}
 
 -- what leads from these waiting files in the end leads there from those at the beginning
 abbrev pub Leads : List ClassFile → Classes → List ℕ → Classes → List ℕ → Type 0

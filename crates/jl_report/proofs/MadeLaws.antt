@@ -14,7 +14,7 @@ use Rattle.jl_names.specs.declared.descriptor.Element.TheVariants as element
 use Rattle.jl_names.specs.declared.descriptor.FieldType.{FieldType}
 use Rattle.jl_names.specs.Descriptors.{element_text, field_text, IsElement, IsFieldType}
 use Rattle.jl_names.specs.MethodTypes.{Signature, return_text, method_text, IsSignature}
-use Rattle.jl_names.specs.Means.Descriptors.{is_stop}
+use Rattle.jl_names.specs.ForProofs.Descriptors.{is_stop}
 use Rattle.jl_names.proofs.ClassNameLaws.{is_name, is_name-parts}
 use Rattle.jl_types.specs.declared.key.Key.{Key}
 use Rattle.jl_types.specs.declared.key.Key.TheVariants as key
@@ -23,10 +23,10 @@ use Rattle.jl_types.specs.Values.Members.{is_interface}
 use Rattle.jl_types.specs.Values.Ancestry.{AreOrdered, ancestors, is_ancestor}
 use Rattle.jl_types.proofs.Grown.{among_ancestors}
 use Rattle.jl_report.specs.Made.{class_of_element, class_of, made, is_above}
-use Rattle.jl_report.specs.Means.Results.{closes, still_in_name, behind_parameters, class_named, result_class}
+use Rattle.jl_report.specs.ForProofs.Results.{closes, still_in_name, behind_parameters, class_named, result_class}
 use Rattle.jl_report.specs.Made.{may_be_made, made_receivers, marks_of, is_marked, marked_receivers}
 use Rattle.jl_report.proofs.MethodLaws.{take_front, any_none, no_ancestor}
-use Rattle.jl_report.specs.Means.Marking.{AreMarked}
+use Rattle.jl_report.specs.ForProofs.Marking.{AreMarked}
 
 -- ---- behind the parameters
 

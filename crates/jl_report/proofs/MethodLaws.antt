@@ -14,7 +14,7 @@ use Rattle.jl_types.specs.Values.World.{Class, Classes}
 use Rattle.jl_types.specs.Values.Members.{has_class, is_concrete, numbers}
 use Rattle.jl_types.specs.Values.Ancestry.{parents, is_ancestor_within, is_ancestor, receivers}
 use Rattle.jl_report.specs.Methods.{is_same, distinct}
-use Rattle.jl_report.specs.Means.Found.{is_among, with_run}
+use Rattle.jl_report.specs.ForProofs.Found.{is_among, with_run}
 
 -- ---- filters
 

@@ -20,8 +20,8 @@ use Rattle.jl_types.specs.declared.link.TableKind.TheVariants as table
 use Rattle.jl_types.specs.declared.refusal.DefineFault.TheVariants.{FinalSuper}
 use Rattle.jl_types.specs.declared.refusal.NotLinkable.TheVariants.{ArrayReceiver, PolymorphicSignature}
 use Rattle.jl_types.specs.Values.World.{Class, Classes}
-use Rattle.jl_types.specs.Happenings.Definitions.{define_fault, defined}
-use Rattle.jl_types.specs.Happenings.Footprints.{footprint}
+use Rattle.jl_types.specs.Events.Definitions.{define_fault, defined}
+use Rattle.jl_types.specs.Events.Footprints.{footprint}
 use Rattle.jl_types.proofs.Rows.Sketch.{object, class, classes, file, method, first, calling, class_ref, itf_ref}
 use Rattle.jl_report.specs.declared.invocation.Invocation.{Invocation}
 use Rattle.jl_report.specs.declared.row.Finding.TheVariants as finding

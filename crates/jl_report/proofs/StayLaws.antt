@@ -15,10 +15,10 @@ use Rattle.jl_types.specs.declared.event.EventOf.TheVariants as event
 use Rattle.jl_types.specs.declared.event.Made.TheVariants as made
 use Rattle.jl_types.specs.Values.World.{World, Classes}
 use Rattle.jl_types.specs.Linkage.Links.{scratch}
-use Rattle.jl_types.specs.Happenings.Definitions.{define_fault, defined}
-use Rattle.jl_types.specs.Happenings.Events.{verdict, unless}
-use Rattle.jl_types.specs.Happenings.Footprints.{footprint, meets}
-use Rattle.jl_types.specs.Happenings.History.{is_link}
+use Rattle.jl_types.specs.Events.Definitions.{define_fault, defined}
+use Rattle.jl_types.specs.Events.Verdict.{verdict, unless}
+use Rattle.jl_types.specs.Events.Footprints.{footprint, meets}
+use Rattle.jl_types.specs.Events.History.{is_link}
 use Rattle.jl_types.proofs.Installed.{is_link_decides}
 use Rattle.jl_hierarchy.specs.Constancy.{AreInOrder}
 use Rattle.jl_relink.specs.Laws.{IsInOrder, SiteStays}

@@ -9,9 +9,9 @@ use Rattle.jl_types.specs.declared.link.Link.{Link}
 use Rattle.jl_types.specs.declared.link.Link.TheVariants.{Fault, Plain, Direct, Table, Mega}
 use Rattle.jl_types.specs.Values.World.{Class, Classes}
 use Rattle.jl_types.specs.Linkage.Links.{scratch}
-use Rattle.jl_types.specs.Happenings.Definitions.{define_fault, defined}
-use Rattle.jl_types.specs.Happenings.Footprints.{of_class, meets}
-use Rattle.jl_types.specs.Happenings.History.{is_link}
+use Rattle.jl_types.specs.Events.Definitions.{define_fault, defined}
+use Rattle.jl_types.specs.Events.Footprints.{of_class, meets}
+use Rattle.jl_types.specs.Events.History.{is_link}
 use Rattle.jl_hierarchy.specs.Constancy.{may_be_extended}
 use Rattle.jl_report.specs.declared.row.Row.{Row}
 use Rattle.jl_report.specs.declared.row.Finding.{Finding}

@@ -2,7 +2,7 @@
 use Rattle.std.specs.Prelude.{◌≡◌, ℕ, List, ◌∷◌, ◌++◌, map, slice_get, Some, None}
 use Rattle.jl_class.specs.Class.{ClassFile}
 use Rattle.jl_types.specs.Values.World.{Classes}
-use Rattle.jl_types.specs.Happenings.Definitions.{define_fault, defined}
+use Rattle.jl_types.specs.Events.Definitions.{define_fault, defined}
 use Rattle.jl_report.specs.declared.defining.Refused.{Refused}
 
 abbrev pub numbers : List Refused → List ℕ

@@ -1,5 +1,5 @@
--- What contracts cite, in reading order. `Means` has means of proof.
-pub mod Means
+-- What contracts cite, in reading order. `ForProofs` has means of proof.
+pub mod ForProofs
 pub mod Gathering
 pub mod Order
 pub mod Reports

@@ -16,7 +16,7 @@ use Rattle.jl_types.specs.Values.World.{Class, Classes}
 use Rattle.jl_types.specs.Values.Members.{lookup, is_interface, numbers}
 use Rattle.jl_types.specs.Values.Ancestry.{is_ancestor}
 use Rattle.jl_report.specs.declared.row.Row.{Row}
-use Rattle.jl_report.specs.Means.Results.{result_class}
+use Rattle.jl_report.specs.ForProofs.Results.{result_class}
 
 -- ---- what is made
 

@@ -15,8 +15,8 @@ use Rattle.jl_types.specs.Values.World.{World, Classes, nothing_yet}
 use Rattle.jl_types.specs.Values.Members.{methods_of}
 use Rattle.jl_types.specs.Linkage.Resolution.{first_of}
 use Rattle.jl_types.specs.Linkage.Links.{scratch}
-use Rattle.jl_types.specs.Happenings.Events.{names_array, is_polymorphic}
-use Rattle.jl_types.specs.Happenings.Footprints.{footprint}
+use Rattle.jl_types.specs.Events.Verdict.{names_array, is_polymorphic}
+use Rattle.jl_types.specs.Events.Footprints.{footprint}
 use Rattle.jl_report.specs.declared.row.Row.{Row}
 use Rattle.jl_report.specs.declared.row.Finding.{Finding}
 use Rattle.jl_report.specs.declared.row.Finding.TheVariants as finding

@@ -2,9 +2,9 @@
 
 ghost use Rattle.std.specs.Prelude.{◌≡◌, ◌++◌, filter, IfOk, OnOk};
 ghost use Rattle.std.specs.List.{list_any};
-ghost use Rattle.jl_types.specs.Happenings.Definitions as definitions;
-ghost use Rattle.jl_types.specs.Happenings.Footprints as footprints;
-ghost use Rattle.jl_types.specs.Happenings.History.{is_link};
+ghost use Rattle.jl_types.specs.Events.Definitions as definitions;
+ghost use Rattle.jl_types.specs.Events.Footprints as footprints;
+ghost use Rattle.jl_types.specs.Events.History.{is_link};
 ghost use Rattle.jl_report.specs.declared.row.Finding.TheVariants as finding;
 ghost use Rattle.jl_report.specs.Reports as reports;
 ghost use Rattle.jl_report.specs.Drops as drops;

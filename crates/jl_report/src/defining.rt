@@ -4,9 +4,9 @@ ghost use Rattle.std.specs.Prelude.{◌≡◌, ◌≤◌, ℕ, List, length, rev
 ghost use Rattle.std.specs.List.{range_with_len};
 ghost use Rattle.jl_class.specs.Class.{ClassFile};
 ghost use Rattle.jl_types.specs.Values.World as world;
-ghost use Rattle.jl_types.specs.Happenings.Definitions.{define_fault, defined};
+ghost use Rattle.jl_types.specs.Events.Definitions.{define_fault, defined};
 ghost use Rattle.jl_report.specs.Gathering.{Gathers, IsRefused, numbers};
-ghost use Rattle.jl_report.specs.Means.Waiting.{AreOf, AreStuck, IsTried, places};
+ghost use Rattle.jl_report.specs.ForProofs.Waiting.{AreOf, AreStuck, IsTried, places};
 
 use jl_class::ClassFile;
 use jl_hierarchy::Classes;

@@ -4,8 +4,8 @@ ghost use Rattle.std.specs.Prelude.{◌≡◌, ◌==◌, ◌<◌, ◌^◌, lengt
 ghost use Rattle.std.specs.Prelude.{option_map, option_to_list, filter_map, IfOk, IfSome};
 ghost use Rattle.std.specs.List.{flat_map, list_any};
 ghost use Rattle.jl_report.specs.Made as made;
-ghost use Rattle.jl_report.specs.Means.Results as results;
-ghost use Rattle.jl_report.specs.Means.Marking.{AreMarked};
+ghost use Rattle.jl_report.specs.ForProofs.Results as results;
+ghost use Rattle.jl_report.specs.ForProofs.Marking.{AreMarked};
 
 use crate::row::Row;
 use jl_class::{Kind, Methods, Operand, Site, Sites};

@@ -4,7 +4,7 @@ ghost use Rattle.std.specs.Prelude.{◌≡◌, take, filter_map, option_to_list,
 ghost use Rattle.jl_types.specs.Values.Ancestry as ancestry;
 ghost use Rattle.jl_report.specs.Reports as reports;
 ghost use Rattle.jl_report.specs.Methods as methods;
-ghost use Rattle.jl_report.specs.Means.Found.{is_among, with_run};
+ghost use Rattle.jl_report.specs.ForProofs.Found.{is_among, with_run};
 
 use crate::report::{Report, request_alone};
 use crate::row::{Finding, Row};

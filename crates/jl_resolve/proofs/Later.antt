@@ -2,13 +2,13 @@
 use Rattle.std.specs.Prelude.{ℕ, List, [], ◌∷◌, ◌++◌, Option, Some, None}
 use Rattle.std.specs.Option.{option_map_or}
 use Rattle.std.proofs.Common.{refl, sym, subst}
-use Rattle.jl_types.specs.Happenings.Event.{Event}
+use Rattle.jl_types.specs.Events.Event.{Event}
 use Rattle.jl_types.specs.declared.event.EventOf.TheVariants as event
 use Rattle.jl_types.specs.Values.World.{Classes, World}
 use Rattle.jl_types.specs.Values.Members.{lookup}
-use Rattle.jl_types.specs.Happenings.Definitions.{with_record, delegated}
-use Rattle.jl_types.specs.Happenings.Events.{step}
-use Rattle.jl_types.specs.Happenings.History.{world_after}
+use Rattle.jl_types.specs.Events.Definitions.{with_record, delegated}
+use Rattle.jl_types.specs.Events.Verdict.{step}
+use Rattle.jl_types.specs.Events.History.{world_after}
 use Rattle.jl_types.proofs.Places.{world_more}
 use Rattle.jl_types.proofs.Orders.{IsGood, world_good}
 use Rattle.jl_hierarchy.specs.Constancy.{Stays}

@@ -19,7 +19,7 @@ use Rattle.jl_types.specs.Linkage.Resolution.{found_in_class, found_in_interface
 use Rattle.jl_types.proofs.Ancestors.{ancestor_decides, superclass_below}
 use Rattle.jl_types.proofs.Lists.{element_at}
 use Rattle.jl_hierarchy.specs.Constancy.{IsClosed}
-use Rattle.jl_hierarchy.specs.Means.Defaults.{is_inherited, is_other_interface, is_redeclared}
+use Rattle.jl_hierarchy.specs.ForProofs.Defaults.{is_inherited, is_other_interface, is_redeclared}
 use Rattle.jl_resolve.proofs.Unchanged.{all_filter, all_found, all_option, first_there, first_of_there}
 
 all_pass : (P : ℕ → Type 0) (p : ℕ → Bool) → ((x : ℕ) → p x ≡ true → P x) → (xs : List ℕ) → AllByRecursion P (filter p xs)

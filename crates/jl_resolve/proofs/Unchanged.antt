@@ -20,7 +20,7 @@ use Rattle.jl_types.proofs.Ancestors.{any_alike, superclass_below}
 use Rattle.jl_types.proofs.Lists.{element_at}
 use Rattle.jl_types.proofs.Orders.{IsGood, looked_up}
 use Rattle.jl_hierarchy.specs.Constancy.{Stays}
-use Rattle.jl_hierarchy.specs.Means.Defaults.{is_inherited, is_other_interface, is_redeclared}
+use Rattle.jl_hierarchy.specs.ForProofs.Defaults.{is_inherited, is_other_interface, is_redeclared}
 
 -- ---- lists
 

@@ -1,8 +1,8 @@
 //! The law of what is resolved: the contract of a function that does nothing.
 
 ghost use Rattle.std.specs.Prelude.{◌++◌, ◌∷◌, [], List};
-ghost use Rattle.jl_types.specs.Happenings.Event.{Event};
-ghost use Rattle.jl_types.specs.Happenings.History.{world_after};
+ghost use Rattle.jl_types.specs.Events.Event.{Event};
+ghost use Rattle.jl_types.specs.Events.History.{world_after};
 ghost use Rattle.jl_hierarchy.specs.Constancy.{IsClosed};
 ghost use Rattle.jl_resolve.specs.Constancy.{RecordsObject, SettledStays};
 

@@ -15,7 +15,7 @@ use Rattle.jl_types.proofs.Lists.{left_at, none_left}
 use Rattle.jl_types.proofs.Ancestors.{subclass_above, superclasses_is}
 use Rattle.jl_types.proofs.Walks.{proper_onward}
 use Rattle.jl_hierarchy.proofs.Chains.{next_below, chain_above, chain_there, is_itself}
-use Rattle.jl_select.specs.Means.Walks.{above, bridged_before}
+use Rattle.jl_select.specs.ForProofs.Walks.{above, bridged_before}
 
 differ : (a b : ℕ) → b < a → not (a == b) ≡ true
 differ a b lt = by_test (a == b) refl

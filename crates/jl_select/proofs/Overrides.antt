@@ -16,7 +16,7 @@ use Rattle.jl_types.specs.Values.Ancestry.{AreOrdered}
 use Rattle.jl_types.specs.Linkage.Overriding.{are_alike, is_visible, can_override, IsBridged}
 use Rattle.jl_types.proofs.Overrides.{can_override_decides}
 use Rattle.jl_types.proofs.Walks.{by_one_walk, proper_onward}
-use Rattle.jl_select.specs.Means.Walks.{are_alike_methods, is_bridge, has_bridge, above, bridged_before}
+use Rattle.jl_select.specs.ForProofs.Walks.{are_alike_methods, is_bridge, has_bridge, above, bridged_before}
 use Rattle.jl_select.proofs.Bridges.{IsBetween, walk_finds, walk_ends}
 
 pub alike_is : (cs : Classes) (c a : MethodId) (m n : Method) → method_at cs c ≡ Some m → method_at cs a ≡ Some n → are_alike cs c a ≡ are_alike_methods m n

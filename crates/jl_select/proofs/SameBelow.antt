@@ -14,7 +14,7 @@ use Rattle.jl_types.specs.Linkage.Selection.{ending, virtual_outcome}
 use Rattle.jl_hierarchy.specs.Redeclared.{IsNotRedeclared, sees}
 use Rattle.jl_select.specs.RunsBelow.{MayRun}
 use Rattle.jl_hierarchy.proofs.Lines.{down_line}
-use Rattle.jl_select.specs.Means.Walks.{first_passing}
+use Rattle.jl_select.specs.ForProofs.Walks.{first_passing}
 use Rattle.jl_select.proofs.Choices.{chosen_found}
 use Rattle.jl_select.proofs.Upward.{upward}
 

@@ -6,7 +6,7 @@ use Rattle.jl_types.specs.Values.World.{Classes}
 use Rattle.jl_types.specs.Values.Members.{declared}
 use Rattle.jl_types.specs.Values.Ancestry.{superclasses, superclass_of, AreOrdered}
 use Rattle.jl_hierarchy.proofs.Chains.{chain_above}
-use Rattle.jl_select.specs.Means.Walks.{own_passing, first_passing}
+use Rattle.jl_select.specs.ForProofs.Walks.{own_passing, first_passing}
 
 module _ (test : MethodId → Bool) (cs : Classes) (name ty : List ℕ) (c : ℕ) where
   passed : (d : Option MethodId) → declared cs name ty c ≡ d → option_and_then (λ m. if test m then Some m else None) d ≡ None

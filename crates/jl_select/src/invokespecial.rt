@@ -4,7 +4,7 @@ ghost use Rattle.std.specs.Prelude.{◌≡◌, ◌+◌, ◌^◌, ◌<◌, not, l
 ghost use Rattle.jl_types.specs.Values.Members as members;
 ghost use Rattle.jl_types.specs.Linkage.Resolution as resolution;
 ghost use Rattle.jl_types.specs.Linkage.Selection as selection;
-ghost use Rattle.jl_select.specs.Means.Walks.{own_passing};
+ghost use Rattle.jl_select.specs.ForProofs.Walks.{own_passing};
 
 use crate::selection::ending;
 use jl_hierarchy::{Classes, NameAndType};

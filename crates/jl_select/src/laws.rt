@@ -1,8 +1,8 @@
 //! The laws of what is selected: each is the contract of a function that does nothing.
 
 ghost use Rattle.std.specs.Prelude.{◌++◌, ◌∷◌, [], List};
-ghost use Rattle.jl_types.specs.Happenings.Event.{Event};
-ghost use Rattle.jl_types.specs.Happenings.History.{world_after};
+ghost use Rattle.jl_types.specs.Events.Event.{Event};
+ghost use Rattle.jl_types.specs.Events.History.{world_after};
 ghost use Rattle.jl_hierarchy.specs.Constancy.{IsClosed};
 ghost use Rattle.jl_resolve.specs.Constancy.{RecordsObject};
 ghost use Rattle.jl_select.specs.Constancy.{ChosenStays, OutcomesStay};

@@ -1,7 +1,7 @@
 //! Overriding and selection (JVMS SE 17 §5.4.5, §5.4.6), and what the instructions make of them (§6.5).
 //!
 //! The contract of each is its definition in jl_types (`Overriding` and `Selection`), or the law of `specs/RunsBelow` over
-//! these. `specs/Means` is a means of proof.
+//! these. `specs/ForProofs` is a means of proof.
 #![tactic(auto)]
 
 mod below;

@@ -6,7 +6,7 @@ ghost use Rattle.jl_types.specs.Values.Ancestry.{AreOrdered};
 ghost use Rattle.jl_types.specs.Values.Members as members;
 ghost use Rattle.jl_types.specs.Linkage.Overriding as overriding;
 ghost use Rattle.jl_types.specs.Linkage.Overriding.{CanOverride};
-ghost use Rattle.jl_select.specs.Means.Walks.{are_alike_methods, is_bridge, has_bridge, bridged_before, above};
+ghost use Rattle.jl_select.specs.ForProofs.Walks.{are_alike_methods, is_bridge, has_bridge, bridged_before, above};
 
 use jl_class::{Method, Methods, PRIVATE, PROTECTED, PUBLIC, STATIC, has_flag};
 use jl_hierarchy::Classes;

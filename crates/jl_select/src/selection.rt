@@ -4,7 +4,7 @@ ghost use Rattle.std.specs.Prelude.{◌≡◌, ◌+◌, ◌^◌, ◌<◌, ◌≤
 ghost use Rattle.jl_types.specs.Values.Ancestry.{superclasses};
 ghost use Rattle.jl_types.specs.Linkage.Overriding as overriding;
 ghost use Rattle.jl_types.specs.Linkage.Selection as selection;
-ghost use Rattle.jl_select.specs.Means.Walks.{own_passing, first_passing};
+ghost use Rattle.jl_select.specs.ForProofs.Walks.{own_passing, first_passing};
 
 use crate::overriding::can_override;
 use jl_hierarchy::{Classes, NameAndType};

@@ -2,9 +2,9 @@
 use Rattle.std.specs.Prelude.{◌≡◌, ℕ, ◌<◌, List, [], ◌∷◌, ◌++◌, length}
 use Rattle.std.proofs.Common.{ap, sym, ◌∙◌, subst, arith, length-append}
 use mathlib.Core.List.{IsPrefix}
-use Rattle.jl_types.specs.Happenings.Event.{Event}
+use Rattle.jl_types.specs.Events.Event.{Event}
 use Rattle.jl_types.specs.declared.event.Reply.{Reply}
-use Rattle.jl_types.specs.Happenings.Entries.{Entry, IsLegal}
+use Rattle.jl_types.specs.Events.Entries.{Entry, IsLegal}
 use Rattle.jl_server.specs.History.{EndsWith, entry_after}
 use Rattle.jl_server.proofs.Beginnings.{prefix_length, prefix_trans}
 

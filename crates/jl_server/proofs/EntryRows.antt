@@ -4,14 +4,14 @@ use Rattle.std.proofs.Common.{refl}
 use Rattle.jl_class.specs.declared.site.Kind.TheVariants.{Virtual}
 use Rattle.jl_types.specs.declared.answer.Outcome.TheVariants.{Run}
 use Rattle.jl_types.specs.declared.link.Link.TheVariants.{Direct}
-use Rattle.jl_types.specs.Happenings.Event.{Event}
+use Rattle.jl_types.specs.Events.Event.{Event}
 use Rattle.jl_types.specs.declared.event.EventOf.TheVariants.{NewLoader, Define, Delegate, NewSwitch, Request, Install, Retire}
 use Rattle.jl_types.specs.declared.event.Made.TheVariants.{Switch, Nothing}
 use Rattle.jl_types.specs.declared.event.Reply.{Reply}
 use Rattle.jl_types.specs.declared.answer.Recv.TheVariants.{Of}
 use Rattle.jl_types.specs.declared.answer.Fast.TheVariants.{Miss}
-use Rattle.jl_types.specs.Happenings.Entries.{Entry}
-use Rattle.jl_types.specs.Happenings.Fast.{fast_answer}
+use Rattle.jl_types.specs.Events.Entries.{Entry}
+use Rattle.jl_types.specs.Events.Fast.{fast_answer}
 use Rattle.jl_types.proofs.Rows.Sketch.{method, first, calling, class_ref}
 use Rattle.jl_types.proofs.Rows.Histories.{object, below}
 use Rattle.jl_server.specs.History.{core_of, entry_after, EndsWith}

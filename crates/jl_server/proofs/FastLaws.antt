@@ -14,14 +14,14 @@ use Rattle.jl_types.specs.declared.answer.Fast.TheVariants.{Now, Miss}
 use Rattle.jl_types.specs.declared.link.Link.{Link}
 use Rattle.jl_types.specs.declared.link.Link.TheVariants.{Fault, Plain, Direct, Table, Mega}
 use Rattle.jl_types.specs.declared.link.TableKind.{TableKind}
-use Rattle.jl_types.specs.Happenings.Event.{Event}
+use Rattle.jl_types.specs.Events.Event.{Event}
 use Rattle.jl_types.specs.Values.World.{World, Classes}
 use Rattle.jl_types.specs.Values.Members.{is_concrete}
 use Rattle.jl_types.specs.Linkage.Stages.{ResolvedCall, Stage, Waits, Fails, Calls, Selects, stage}
 use Rattle.jl_types.specs.Linkage.Links.{link_of, scratch}
 use Rattle.jl_types.specs.Linkage.Calls.{answered, fits_named, dispatch}
-use Rattle.jl_types.specs.Happenings.Fast.{entry_answer, fast_answer}
-use Rattle.jl_types.specs.Happenings.History.{world_after, installed}
+use Rattle.jl_types.specs.Events.Fast.{entry_answer, fast_answer}
+use Rattle.jl_types.specs.Events.History.{world_after, installed}
 use Rattle.jl_types.proofs.Agreement.{fault_is_thrown, plain_is_run, null_is_thrown, direct_answers, table_answers}
 use Rattle.jl_types.proofs.Installed.{installed_to, settled_now}
 use Rattle.jl_server.specs.Receivers.{FitsLink, FitsInstalled}

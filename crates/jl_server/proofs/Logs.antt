@@ -3,17 +3,17 @@ use Rattle.std.specs.Prelude.{◌≡◌, ℕ, suc, List, [], ◌∷◌, ◌++◌
 use Rattle.std.proofs.Common.{refl, ap, sym, ◌∙◌, subst, inr}
 use Rattle.std.proofs.lemmas.List.{map-append}
 use Rattle.std.proofs.lemmas.List.Sums.{fold-append}
-use Rattle.jl_types.specs.Happenings.Event.{Event}
+use Rattle.jl_types.specs.Events.Event.{Event}
 use Rattle.jl_types.specs.declared.event.EventOf.TheVariants as event
 use Rattle.jl_types.specs.declared.event.Reply.{Reply}
-use Rattle.jl_types.specs.Happenings.Entries.{Entry, IsEntry, events_of, classes_of}
+use Rattle.jl_types.specs.Events.Entries.{Entry, IsEntry, events_of, classes_of}
 use Rattle.jl_types.specs.declared.event.Made.{Made}
 use Rattle.jl_types.specs.declared.link.Link.{Link}
 use Rattle.jl_types.specs.declared.refusal.Refusal.{Refusal}
 use Rattle.jl_types.specs.declared.refusal.Refusal.TheVariants.{Memory}
 use Rattle.jl_types.specs.Values.World.{World}
-use Rattle.jl_types.specs.Happenings.Events.{verdict}
-use Rattle.jl_types.specs.Happenings.History.{world_after, dropped}
+use Rattle.jl_types.specs.Events.Verdict.{verdict}
+use Rattle.jl_types.specs.Events.History.{world_after, dropped}
 use Rattle.jl_types.proofs.Places.{accepted_of}
 use Rattle.jl_core.specs.State.{State, events, world_of, IsAccepted, IsRefused}
 use Rattle.jl_core.specs.Plans.{Plan, IsPlanned}

@@ -12,10 +12,10 @@ use Rattle.jl_types.specs.declared.answer.Fast.TheVariants.{Now}
 use Rattle.jl_types.specs.declared.link.Link.{Link}
 use Rattle.jl_types.specs.Values.Members.{is_concrete}
 use Rattle.jl_types.specs.Linkage.Calls.{answered, dispatch}
-use Rattle.jl_types.specs.Happenings.Event.{Event}
-use Rattle.jl_types.specs.Happenings.Fast.{fast_answer}
-use Rattle.jl_types.specs.Happenings.History.{world_after, installed}
-use Rattle.jl_types.specs.Happenings.Entries.{Entry, IsLegal, events_of, classes_of}
+use Rattle.jl_types.specs.Events.Event.{Event}
+use Rattle.jl_types.specs.Events.Fast.{fast_answer}
+use Rattle.jl_types.specs.Events.History.{world_after, installed}
+use Rattle.jl_types.specs.Events.Entries.{Entry, IsLegal, events_of, classes_of}
 use Rattle.jl_types.proofs.Written.{legal_shows}
 use Rattle.jl_hierarchy.specs.Constancy.{AreInOrder, IsClosed}
 use Rattle.jl_memo.specs.declared.set.Set.{Set}
@@ -26,7 +26,7 @@ use Rattle.jl_memo.proofs.Right.{mega_is, mega_selects, row_answers, remembered_
 use Rattle.jl_server.specs.declared.table.Table.{Table}
 use Rattle.jl_server.specs.Receivers.{FitsMemo}
 use Rattle.jl_server.specs.Remembering.{Remembering, HoldsFrom}
-use Rattle.jl_server.specs.Means.Shown.{content, IsShown}
+use Rattle.jl_server.specs.ForProofs.Shown.{content, IsShown}
 use Rattle.jl_server.proofs.FastLaws.{now_is_dispatch}
 
 module _ (before after : List Entry) (p : IsPrefix before after) where

@@ -3,19 +3,19 @@ use Rattle.std.proofs.Common.{◌≡◌, ℕ, List, [], ◌∷◌, ◌++◌, len
 use Rattle.std.proofs.lemmas.List.Sums.{fold-append}
 use Rattle.logbook.specs.Pages.{Book}
 use Rattle.jl_types.specs.declared.link.Link.{Link}
-use Rattle.jl_types.specs.Happenings.Entries.{Entry}
-use Rattle.jl_types.specs.Happenings.History.{installed}
-use Rattle.jl_types.specs.Happenings.Entries.{IsLegal, written, table_of, classes_of, events_of}
+use Rattle.jl_types.specs.Events.Entries.{Entry}
+use Rattle.jl_types.specs.Events.History.{installed}
+use Rattle.jl_types.specs.Events.Entries.{IsLegal, written, table_of, classes_of, events_of}
 use Rattle.jl_types.proofs.Written.{legal_shows, length_written}
 use Rattle.jl_server.specs.declared.mark.Tag.{Tag}
 use Rattle.std.specs.Option.{unwrap_or}
-use Rattle.jl_types.specs.Happenings.Fast.{fast_answer}
+use Rattle.jl_types.specs.Events.Fast.{fast_answer}
 use Rattle.jl_types.specs.declared.answer.Fast.{Fast}
 use Rattle.jl_types.specs.declared.answer.Recv.{Recv}
 use Rattle.jl_server.specs.declared.table.Table.{Table}
 use Rattle.jl_server.specs.declared.table.Change.{Change}
 use Rattle.jl_server.specs.declared.table.Content.{Content}
-use Rattle.jl_server.specs.Means.Shown.{content, changed, IsShown, Knows, server_of}
+use Rattle.jl_server.specs.ForProofs.Shown.{content, changed, IsShown, Knows, server_of}
 use Rattle.jl_server.specs.Calls.{answers_at}
 
 module _ (n : ℕ) (t : Content) (c : Change) (xs : List Entry) (e : Entry) (wide : length t.links ≡ n) (before : t.list.reached.log ≡ xs)

@@ -4,13 +4,13 @@ use mathlib.Core.Option.{some}
 use lib.ListN.{get_elem?}
 use Rattle.logbook.specs.Pages.{Book}
 use Rattle.jl_types.specs.declared.link.Link.{Link}
-use Rattle.jl_types.specs.Happenings.Entries.{Entry}
-use Rattle.jl_types.specs.Happenings.Entries.{IsLegal, table_of, classes_of, written}
+use Rattle.jl_types.specs.Events.Entries.{Entry}
+use Rattle.jl_types.specs.Events.Entries.{IsLegal, table_of, classes_of, written}
 use Rattle.jl_server.specs.declared.mark.Tag.{Tag}
 use Rattle.jl_server.specs.declared.table.Table.{Table}
 use Rattle.jl_server.specs.declared.table.Change.{Change}
 use Rattle.jl_server.specs.declared.table.Content.{Content}
-use Rattle.jl_server.specs.Means.Shown.{content, changed, tag_of, server_of, IsShown, Knows, Ruled}
+use Rattle.jl_server.specs.ForProofs.Shown.{content, changed, tag_of, server_of, IsShown, Knows, Ruled}
 use Rattle.jl_types.proofs.Legal.{legal_none}
 
 pub length_fresh : (n : ℕ) → length (replicate {A = Option Link} n None) ≡ n

@@ -2,12 +2,12 @@
 use Rattle.std.specs.Prelude.{◌≡◌, ℕ, zero, suc, ◌&&◌, true, List, [], ◌∷◌, drop, Option, Some, None, is_some}
 use Rattle.std.specs.List.{cons_option}
 use Rattle.std.proofs.Common.{refl, ap, sym, ◌∙◌}
-use Rattle.jl_types.specs.Happenings.Event.{Event}
+use Rattle.jl_types.specs.Events.Event.{Event}
 use Rattle.jl_types.specs.declared.event.Reply.{Reply}
 use Rattle.jl_types.specs.Values.World.{Class, World}
-use Rattle.jl_types.specs.Happenings.History.{world_after}
-use Rattle.jl_types.specs.Happenings.Entries as plain
-use Rattle.jl_types.specs.Happenings.Entries.{events_of}
+use Rattle.jl_types.specs.Events.History.{world_after}
+use Rattle.jl_types.specs.Events.Entries as plain
+use Rattle.jl_types.specs.Events.Entries.{events_of}
 use Rattle.jl_core.specs.State.{State, world_of}
 use Rattle.jl_core.specs.Logs.{Entry, told, are_told, shown}
 use Rattle.jl_server.specs.History.{core_of, logged_of}

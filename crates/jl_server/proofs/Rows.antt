@@ -14,13 +14,13 @@ use Rattle.jl_types.specs.declared.answer.Fast.TheVariants.{Now}
 use Rattle.jl_types.specs.declared.link.Link.{Link}
 use Rattle.jl_types.specs.declared.link.Link.TheVariants.{Fault, Plain, Direct, Table, Mega}
 use Rattle.jl_types.specs.declared.link.TableKind.TheVariants as kind
-use Rattle.jl_types.specs.Happenings.Event.{Event}
+use Rattle.jl_types.specs.Events.Event.{Event}
 use Rattle.jl_types.specs.declared.event.EventOf.TheVariants.{Request, Install}
 use Rattle.jl_types.specs.Values.World.{World}
 use Rattle.jl_types.specs.Linkage.Stages.{ResolvedCall, ByVirtual, Selects}
 use Rattle.jl_types.specs.Linkage.Calls.{dispatch, fits_named}
-use Rattle.jl_types.specs.Happenings.Fast.{fast_answer}
-use Rattle.jl_types.specs.Happenings.History.{world_after, installed}
+use Rattle.jl_types.specs.Events.Fast.{fast_answer}
+use Rattle.jl_types.specs.Events.History.{world_after, installed}
 use Rattle.jl_types.proofs.Rows.Sketch.{method, first, calling, class_ref, itf_ref}
 use Rattle.jl_types.proofs.Rows.Histories.{object, below}
 use Rattle.jl_server.specs.Receivers.{FitsLink, FitsInstalled}

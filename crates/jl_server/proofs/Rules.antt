@@ -9,7 +9,7 @@ use Rattle.jl_server.specs.declared.mark.Tag.{Tag}
 use Rattle.jl_server.specs.declared.table.Table.{Table}
 use Rattle.jl_server.specs.declared.table.Change.{Change}
 use Rattle.jl_server.specs.declared.table.Content.{Content}
-use Rattle.jl_server.specs.Means.Shown.{content, changed, tag_of, IsShown, Knows, Ruled, Publishes, Enters}
+use Rattle.jl_server.specs.ForProofs.Shown.{content, changed, tag_of, IsShown, Knows, Ruled, Publishes, Enters}
 
 pub admits : Admits Ruled None
 admits x views h = (

@@ -10,7 +10,7 @@ use Rattle.jl_types.specs.declared.link.Link.TheVariants as link
 use Rattle.jl_types.specs.declared.link.TableKind.{TableKind}
 use Rattle.jl_server.specs.declared.links.Slot.{Slot}
 use Rattle.jl_server.specs.declared.links.Slot.TheVariants.{Empty, Fault, Plain, Direct, Table, Mega}
-use Rattle.jl_server.specs.Means.Slots.{Rows, link_of, has_table, has_place, place_of, ArePlaces, AreSlots, IsPut}
+use Rattle.jl_server.specs.ForProofs.Slots.{Rows, link_of, has_table, has_place, place_of, ArePlaces, AreSlots, IsPut}
 
 -- ---- places
 

@@ -4,11 +4,11 @@ use Rattle.jl_types.specs.declared.answer.Recv.{Recv}
 use Rattle.jl_types.specs.declared.answer.Answer.{Answer}
 use Rattle.jl_types.specs.declared.answer.Fast.{Fast}
 use Rattle.jl_types.specs.declared.answer.Fast.TheVariants.{Now, Closed}
-use Rattle.jl_types.specs.Happenings.Event.{Event}
+use Rattle.jl_types.specs.Events.Event.{Event}
 use Rattle.jl_types.specs.Linkage.Calls.{dispatch}
-use Rattle.jl_types.specs.Happenings.Fast.{fast_answer}
-use Rattle.jl_types.specs.Happenings.History.{world_after, installed}
-use Rattle.jl_types.specs.Happenings.Entries.{Entry, events_of, classes_of}
+use Rattle.jl_types.specs.Events.Fast.{fast_answer}
+use Rattle.jl_types.specs.Events.History.{world_after, installed}
+use Rattle.jl_types.specs.Events.Entries.{Entry, events_of, classes_of}
 use Rattle.jl_server.specs.Receivers.{FitsInstalled}
 
 -- what each call, a site and a receiver, is answered at once after the list

@@ -2,10 +2,10 @@
 use Rattle.std.specs.Prelude.{ℕ, ◌≡◌, ◌==◌, Bool, true, false, List, [], ◌∷◌, ◌++◌, length, map, fold, drop}
 use Rattle.std.specs.List.{list_all}
 use Rattle.logbook.specs.Pages.{Cell, Step, View, Book, Named}
-use Rattle.jl_types.specs.Happenings.Event.{Event}
+use Rattle.jl_types.specs.Events.Event.{Event}
 use Rattle.jl_types.specs.declared.event.EventOf.TheVariants as event
 use Rattle.jl_types.specs.declared.event.Reply.{Reply}
-use Rattle.jl_types.specs.Happenings.Entries.{Entry, events_of, slots_changed}
+use Rattle.jl_types.specs.Events.Entries.{Entry, events_of, slots_changed}
 use Rattle.jl_core.specs.State.{State}
 use Rattle.jl_core.specs.Plans.{Plan}
 

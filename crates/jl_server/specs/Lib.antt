@@ -4,4 +4,4 @@ pub mod History
 pub mod Receivers
 pub mod Calls
 pub mod Remembering
-pub mod Means
+pub mod ForProofs

@@ -4,12 +4,12 @@ use Rattle.jl_types.specs.declared.link.Link.{Link}
 use Rattle.jl_types.specs.declared.link.Link.TheVariants.{Fault, Plain, Direct, Table, Mega}
 use Rattle.jl_types.specs.declared.answer.Recv.{Recv}
 use Rattle.jl_types.specs.declared.answer.Recv.TheVariants.{Null, Of}
-use Rattle.jl_types.specs.Happenings.Event.{Event}
+use Rattle.jl_types.specs.Events.Event.{Event}
 use Rattle.jl_types.specs.Values.World.{World}
 use Rattle.jl_types.specs.Values.Members.{is_concrete}
 use Rattle.jl_types.specs.Linkage.Stages.{ResolvedCall, Selects, stage}
 use Rattle.jl_types.specs.Linkage.Calls.{fits_named}
-use Rattle.jl_types.specs.Happenings.History.{world_after, installed}
+use Rattle.jl_types.specs.Events.History.{world_after, installed}
 use Rattle.jl_memo.specs.Answers.{IsObject}
 
 -- an object is of a concrete class, which at a direct link of invokevirtual has the named class among its ancestors

@@ -5,8 +5,8 @@ use Rattle.jl_types.specs.declared.answer.Outcome.{Outcome}
 use Rattle.jl_types.specs.declared.answer.Recv.TheVariants.{Of}
 use Rattle.jl_types.specs.Values.Members.{is_concrete}
 use Rattle.jl_types.specs.Linkage.Calls.{answered, dispatch}
-use Rattle.jl_types.specs.Happenings.History.{world_after}
-use Rattle.jl_types.specs.Happenings.Entries.{Entry, IsLegal, events_of}
+use Rattle.jl_types.specs.Events.History.{world_after}
+use Rattle.jl_types.specs.Events.Entries.{Entry, IsLegal, events_of}
 use Rattle.jl_memo.specs.declared.set.Set.{Set}
 use Rattle.jl_memo.specs.Answers.{is_site_present}
 

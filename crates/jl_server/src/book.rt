@@ -2,16 +2,16 @@
 
 ghost use Rattle.std.specs.Prelude.{◌≡◌, ◌≤◌, [], ◌∷◌, ◌++◌, true, length, drop, None, IsOk, IfOk, IfErr, IfSome, IfNone, OnErr, if◌then◌else◌};
 ghost use Rattle.jl_types.specs.declared.refusal.Refusal.TheVariants.{Memory};
-ghost use Rattle.jl_types.specs.Happenings.Events.{verdict};
+ghost use Rattle.jl_types.specs.Events.Verdict.{verdict};
 ghost use Rattle.jl_types.specs.Linkage.Calls.{dispatch};
-ghost use Rattle.jl_types.specs.Happenings.History.{world_after, installed, installed_links};
-ghost use Rattle.jl_types.specs.Happenings.Entries.{IsLegal, events_of};
+ghost use Rattle.jl_types.specs.Events.History.{world_after, installed, installed_links};
+ghost use Rattle.jl_types.specs.Events.Entries.{IsLegal, events_of};
 ghost use Rattle.jl_hierarchy.specs.Constancy.{AreInOrder};
 ghost use Rattle.jl_core.specs.State.{AreAnswered, IsAccepted, IsRefused, empty_core};
 ghost use Rattle.jl_core.specs.Logs.{are_told, shown};
 ghost use Rattle.jl_core.specs.Plans.{IsPlanned, IsAsPlanned};
 ghost use Rattle.jl_server.specs.History.{core_of, logged_of, entry_after, installs_alone, is_install, planned_entry};
-ghost use Rattle.jl_server.specs.Means.Shown.{content, changed, IsShown, IsChangeOf};
+ghost use Rattle.jl_server.specs.ForProofs.Shown.{content, changed, IsShown, IsChangeOf};
 
 use crate::history::{Head, Name};
 use crate::past::{Past, share_from};
@@ -62,8 +62,8 @@ pub struct Book<K: Name, R: Wait + Drop> {
 impl<K: Name, R: Wait + Drop> Model for Book<K, R> {
     ghost use Rattle.std.specs.Prelude.{◌≡◌, true, List, [], length, drop};
     ghost use Rattle.std.specs.Coded.{codes};
-    ghost use Rattle.jl_types.specs.Means.TargetCode.{target_code};
-    ghost use Rattle.jl_types.specs.Happenings.Entries as plain;
+    ghost use Rattle.jl_types.specs.ForProofs.TargetCode.{target_code};
+    ghost use Rattle.jl_types.specs.Events.Entries as plain;
     ghost use Rattle.jl_server.specs.History.{core_of, installs_alone};
 
     ghost Value = { List plain.Entry };

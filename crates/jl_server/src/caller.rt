@@ -7,13 +7,13 @@ ghost use Rattle.left_right.specs.Sides.{view as seat_view};
 ghost use Rattle.jl_types.specs.declared.answer.Answer.{Answer};
 ghost use Rattle.jl_types.specs.declared.answer.Fast.TheVariants.{Now, Closed};
 ghost use Rattle.jl_types.specs.Linkage.Calls.{dispatch};
-ghost use Rattle.jl_types.specs.Happenings.Fast.{fast_answer};
-ghost use Rattle.jl_types.specs.Happenings.History.{world_after, installed};
-ghost use Rattle.jl_types.specs.Happenings.Entries.{IsLegal, events_of, classes_of};
+ghost use Rattle.jl_types.specs.Events.Fast.{fast_answer};
+ghost use Rattle.jl_types.specs.Events.History.{world_after, installed};
+ghost use Rattle.jl_types.specs.Events.Entries.{IsLegal, events_of, classes_of};
 ghost use Rattle.jl_memo.specs.Answers.{answer_with};
 ghost use Rattle.jl_server.specs.Receivers.{FitsInstalled, FitsMemo};
 ghost use Rattle.jl_server.specs.Calls.{answers_at, all_closed, AnswersCall};
-ghost use Rattle.jl_server.specs.Means.Shown.{server_of, content, IsShown};
+ghost use Rattle.jl_server.specs.ForProofs.Shown.{server_of, content, IsShown};
 
 use crate::history::Name;
 use crate::memo::Memo;
@@ -49,8 +49,8 @@ impl<K: Name> Model for Caller<K> {
     ghost use Rattle.std.specs.Prelude.{List};
     ghost use Rattle.std.specs.Coded.{codes};
     ghost use Rattle.crossbeam_utils.specs.Padded.{padded_value};
-    ghost use Rattle.jl_types.specs.Means.TargetCode.{target_code};
-    ghost use Rattle.jl_types.specs.Happenings.Entries as plain;
+    ghost use Rattle.jl_types.specs.ForProofs.TargetCode.{target_code};
+    ghost use Rattle.jl_types.specs.Events.Entries as plain;
 
     ghost Value = { List plain.Entry };
 

@@ -14,8 +14,8 @@ pub struct Entry {
 
 impl Model for Entry {
     ghost use Rattle.std.specs.Coded.{codes};
-    ghost use Rattle.jl_types.specs.Means.TargetCode.{target_code};
-    ghost use Rattle.jl_types.specs.Happenings.Entries as plain;
+    ghost use Rattle.jl_types.specs.ForProofs.TargetCode.{target_code};
+    ghost use Rattle.jl_types.specs.Events.Entries as plain;
 
     ghost Value = { plain.Entry };
 

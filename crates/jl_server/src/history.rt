@@ -151,8 +151,8 @@ impl<K: Name> Drop for Head<K> {
 impl<K: Name> Model for Head<K> {
     ghost use Rattle.std.specs.Prelude.{◌≡◌, List};
     ghost use Rattle.std.specs.Coded.{codes};
-    ghost use Rattle.jl_types.specs.Means.TargetCode.{target_code};
-    ghost use Rattle.jl_types.specs.Happenings.Entries as plain;
+    ghost use Rattle.jl_types.specs.ForProofs.TargetCode.{target_code};
+    ghost use Rattle.jl_types.specs.Events.Entries as plain;
     ghost use Rattle.jl_server.specs.History.{head_of};
 
     ghost Value = { List plain.Entry };

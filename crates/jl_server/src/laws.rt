@@ -5,10 +5,10 @@ ghost use Rattle.jl_types.specs.declared.answer.Recv.{Recv};
 ghost use Rattle.jl_types.specs.declared.answer.Answer.{Answer};
 ghost use Rattle.jl_types.specs.declared.answer.Fast.TheVariants.{Now};
 ghost use Rattle.jl_types.specs.declared.link.Link.{Link};
-ghost use Rattle.jl_types.specs.Happenings.Event.{Event};
+ghost use Rattle.jl_types.specs.Events.Event.{Event};
 ghost use Rattle.jl_types.specs.Linkage.Calls.{dispatch};
-ghost use Rattle.jl_types.specs.Happenings.Fast.{fast_answer};
-ghost use Rattle.jl_types.specs.Happenings.History.{world_after, installed};
+ghost use Rattle.jl_types.specs.Events.Fast.{fast_answer};
+ghost use Rattle.jl_types.specs.Events.History.{world_after, installed};
 ghost use Rattle.jl_server.specs.Receivers.{FitsLink};
 
 /// An answer at once is the call's answer in the world after the events, where the link looks at no receiver, or the

@@ -3,7 +3,7 @@
 //! A server's history is the list of its accepted events, each with its reply and with the sites that it changes. What a caller
 //! has seen is a beginning of it; every clause here is about such lists. Legal lists and the tables that they make are defined in
 //! jl_types (`Entries`). `specs/History` says which core a list is the log of, and `specs/Receivers` for which receivers an answer
-//! at once is the call's; `specs/Means` is a means of proof.
+//! at once is the call's; `specs/ForProofs` is a means of proof.
 #![tactic(auto)]
 
 mod book;

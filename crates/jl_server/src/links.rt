@@ -3,11 +3,11 @@
 ghost use Rattle.std.specs.Prelude.{◌≡◌, ◌<◌, ◌≤◌, [], false, Some, None, IfOk, length, replicate, get_or, slice_set};
 ghost use Rattle.std.specs.Vec.{vec_capacity};
 ghost use Rattle.jl_types.specs.declared.link.Link.TheVariants as variant;
-ghost use Rattle.jl_types.specs.Happenings.Fast as fast;
-ghost use Rattle.jl_types.specs.Happenings.Entries.{written};
+ghost use Rattle.jl_types.specs.Events.Fast as fast;
+ghost use Rattle.jl_types.specs.Events.Entries.{written};
 ghost use Rattle.jl_memo.specs.Answers.{answer_with};
-ghost use Rattle.jl_server.specs.Means.Slots as slots;
-ghost use Rattle.jl_server.specs.Means.Slots.{link_of, has_table, ArePlaces, IsPut};
+ghost use Rattle.jl_server.specs.ForProofs.Slots as slots;
+ghost use Rattle.jl_server.specs.ForProofs.Slots.{link_of, has_table, ArePlaces, IsPut};
 
 use jl_cache::{direct_answer, table_answer};
 use jl_memo::{Memo, remembered_answer};
@@ -58,7 +58,7 @@ impl Model for PublishedLinks {
     ghost use Rattle.std.specs.Prelude.{List, Option, map, length, ◌≤◌};
     ghost use Rattle.std.specs.Vec.{vec_capacity};
     ghost use Rattle.jl_types.specs.declared.link.Link.{Link};
-    ghost use Rattle.jl_server.specs.Means.Slots.{link_of, AreSlots};
+    ghost use Rattle.jl_server.specs.ForProofs.Slots.{link_of, AreSlots};
 
     ghost Value = { List (Option Link) };
 

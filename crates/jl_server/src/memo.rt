@@ -3,8 +3,8 @@
 ghost use Rattle.std.specs.Prelude.{◌≡◌, replicate, IfOk, IfSome};
 ghost use mathlib.Core.List.{IsPrefix};
 ghost use Rattle.jl_types.specs.Linkage.Calls.{dispatch};
-ghost use Rattle.jl_types.specs.Happenings.History.{world_after, installed};
-ghost use Rattle.jl_types.specs.Happenings.Entries.{events_of};
+ghost use Rattle.jl_types.specs.Events.History.{world_after, installed};
+ghost use Rattle.jl_types.specs.Events.Entries.{events_of};
 ghost use Rattle.jl_hierarchy.specs.Constancy.{AreInOrder};
 ghost use Rattle.jl_memo.specs.Memos.{no_rows, remembered};
 ghost use Rattle.jl_memo.specs.Answers.{AreRight, told};
@@ -35,9 +35,9 @@ impl<K: Name> Drop for Memo<K> {
 
 impl<K: Name> Model for Memo<K> {
     ghost use Rattle.std.specs.Coded.{codes};
-    ghost use Rattle.jl_types.specs.Means.TargetCode.{target_code};
-    ghost use Rattle.jl_types.specs.Happenings.History.{world_after};
-    ghost use Rattle.jl_types.specs.Happenings.Entries.{events_of};
+    ghost use Rattle.jl_types.specs.ForProofs.TargetCode.{target_code};
+    ghost use Rattle.jl_types.specs.Events.History.{world_after};
+    ghost use Rattle.jl_types.specs.Events.Entries.{events_of};
     ghost use Rattle.jl_memo.specs.Answers.{AreRight};
     ghost use Rattle.jl_server.specs.Remembering.{Remembering};
 

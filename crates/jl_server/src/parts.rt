@@ -3,7 +3,7 @@
 ghost use Rattle.std.specs.Prelude.{◌≡◌, ◌≤◌, [], Some, length, drop, replicate, None, IfOk, IfSome};
 ghost use Rattle.left_right.specs.Sides.{view as seat_view};
 ghost use Rattle.jl_core.specs.State.{empty_core};
-ghost use Rattle.jl_server.specs.Means.Shown.{server_of};
+ghost use Rattle.jl_server.specs.ForProofs.Shown.{server_of};
 
 use crate::book::Book;
 use crate::caller::Caller;

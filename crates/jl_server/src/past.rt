@@ -2,8 +2,8 @@
 
 ghost use Rattle.std.specs.Prelude.{◌≡◌, true, length, drop, IfOk, OnOk, OnErr};
 ghost use mathlib.Core.List.{IsPrefix};
-ghost use Rattle.jl_types.specs.Happenings.History.{world_after};
-ghost use Rattle.jl_types.specs.Happenings.Entries.{IsLegal, events_of};
+ghost use Rattle.jl_types.specs.Events.History.{world_after};
+ghost use Rattle.jl_types.specs.Events.Entries.{IsLegal, events_of};
 ghost use Rattle.jl_core.specs.State.{AreAnswered};
 ghost use Rattle.jl_core.specs.Logs.{are_told, shown};
 ghost use Rattle.jl_server.specs.History.{core_of, logged_of};

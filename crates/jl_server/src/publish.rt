@@ -2,7 +2,7 @@
 
 ghost use Rattle.std.specs.Prelude.{◌≡◌, [], ◌∷◌, Some, drop, length, IfOk, IfErr, IfSome};
 ghost use Rattle.left_right.specs.Sides.{view};
-ghost use Rattle.jl_server.specs.Means.Shown.{content, changed, tag_of, IsShown, Knows};
+ghost use Rattle.jl_server.specs.ForProofs.Shown.{content, changed, tag_of, IsShown, Knows};
 
 use crate::mark::Tag;
 use crate::table::{Change, Table};
@@ -19,7 +19,7 @@ pub struct Rule;
 
 impl Protocol<Table, Option<Tag>> for Rule {
     ghost use Rattle.std.specs.Prelude.{None};
-    ghost use Rattle.jl_server.specs.Means.Shown.{Ruled};
+    ghost use Rattle.jl_server.specs.ForProofs.Shown.{Ruled};
 
     ghost holds = { Ruled };
 
@@ -30,7 +30,7 @@ impl Protocol<Table, Option<Tag>> for Rule {
 pub struct Publishing;
 
 impl Outcome<Table, Option<Tag>> for Publishing {
-    ghost use Rattle.jl_server.specs.Means.Shown.{Publishes};
+    ghost use Rattle.jl_server.specs.ForProofs.Shown.{Publishes};
 
     ghost then = { Publishes };
 }
@@ -39,7 +39,7 @@ impl Outcome<Table, Option<Tag>> for Publishing {
 pub struct Entering;
 
 impl Outcome<Table, Option<Tag>> for Entering {
-    ghost use Rattle.jl_server.specs.Means.Shown.{Enters};
+    ghost use Rattle.jl_server.specs.ForProofs.Shown.{Enters};
 
     ghost then = { Enters };
 }
@@ -55,7 +55,7 @@ impl Split<Option<Tag>> for Tell {
 
 impl Join<Option<Tag>> for Tell {
     ghost use Rattle.std.specs.Prelude.{None};
-    ghost use Rattle.jl_server.specs.Means.Shown.{told};
+    ghost use Rattle.jl_server.specs.ForProofs.Shown.{told};
 
     ghost both = { told };
 

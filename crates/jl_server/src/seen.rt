@@ -2,7 +2,7 @@
 
 ghost use Rattle.std.specs.Prelude.{◌≡◌, ◌≤◌, ◌++◌, ◌∷◌, ◌⊎◌, [], length, MatchBool};
 ghost use mathlib.Core.List.{IsPrefix};
-ghost use Rattle.jl_types.specs.Happenings.Entries.{IsEntry, IsLegal, events_of};
+ghost use Rattle.jl_types.specs.Events.Entries.{IsEntry, IsLegal, events_of};
 ghost use Rattle.jl_server.specs.History.{planned_entry};
 
 use crate::entry::Entry;
@@ -34,9 +34,9 @@ impl<K: Name> Drop for Seen<K> {
 impl<K: Name> Model for Seen<K> {
     ghost use Rattle.std.specs.Prelude.{◌≡◌, List, length};
     ghost use Rattle.std.specs.Coded.{codes};
-    ghost use Rattle.jl_types.specs.Means.TargetCode.{target_code};
-    ghost use Rattle.jl_types.specs.Happenings.Entries as plain;
-    ghost use Rattle.jl_types.specs.Happenings.Entries.{IsLegal};
+    ghost use Rattle.jl_types.specs.ForProofs.TargetCode.{target_code};
+    ghost use Rattle.jl_types.specs.Events.Entries as plain;
+    ghost use Rattle.jl_types.specs.Events.Entries.{IsLegal};
 
     ghost Value = { List plain.Entry };
 

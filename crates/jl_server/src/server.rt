@@ -3,10 +3,10 @@
 ghost use Rattle.std.specs.Prelude.{◌≡◌, ◌<◌, ◌≤◌, length, IsOk, IfOk, IfErr, IfSome, OnErr};
 ghost use Rattle.std.specs.Sync.Mutex.{mutex_guard_value};
 ghost use mathlib.Core.List.{IsPrefix};
-ghost use Rattle.jl_types.specs.Happenings.Events.{verdict};
+ghost use Rattle.jl_types.specs.Events.Verdict.{verdict};
 ghost use Rattle.jl_types.specs.Linkage.Calls.{dispatch};
-ghost use Rattle.jl_types.specs.Happenings.History.{world_after, installed, installed_links};
-ghost use Rattle.jl_types.specs.Happenings.Entries.{IsLegal, events_of};
+ghost use Rattle.jl_types.specs.Events.History.{world_after, installed, installed_links};
+ghost use Rattle.jl_types.specs.Events.Entries.{IsLegal, events_of};
 ghost use Rattle.jl_hierarchy.specs.Constancy.{AreInOrder};
 ghost use Rattle.jl_core.specs.State.{IsRefused};
 ghost use Rattle.jl_memo.specs.Answers.{told};

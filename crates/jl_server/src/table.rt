@@ -1,7 +1,7 @@
 //! The table that callers read without waiting, and the change that makes it the table of one entry more.
 
 ghost use Rattle.std.specs.Prelude.{◌≡◌, None, IfOk, length, map, replicate, get_or};
-ghost use Rattle.jl_types.specs.Happenings.Fast as fast_of;
+ghost use Rattle.jl_types.specs.Events.Fast as fast_of;
 ghost use Rattle.jl_memo.specs.Answers.{answer_with};
 
 use crate::links::PublishedLinks;
@@ -55,7 +55,7 @@ pub struct Content {
 }
 
 impl Absorb<Change> for Table {
-    ghost use Rattle.jl_server.specs.Means.Shown.{content, changed};
+    ghost use Rattle.jl_server.specs.ForProofs.Shown.{content, changed};
 
     type State = Content;
 

@@ -6,7 +6,7 @@ use Rattle.serde_json.specs.Written.{has_float}
 use Rattle.jl_sketch.specs.declared.fault.SketchFault.{SketchFault}
 use Rattle.jl_sketch.specs.declared.fault.SketchFault.TheVariants as sketch
 use Rattle.jl_types.specs.declared.link.Link.{Link}
-use Rattle.jl_types.specs.Happenings.Event.{Event}
+use Rattle.jl_types.specs.Events.Event.{Event}
 use Rattle.jl_types.specs.declared.event.EventOf.TheVariants as event
 use Rattle.jl_types.specs.declared.event.Reply.{Reply}
 use Rattle.jl_types.specs.declared.refusal.Refusal.{Refusal}

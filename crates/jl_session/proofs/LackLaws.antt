@@ -3,13 +3,13 @@ use Rattle.std.proofs.Common.{◌≡◌, refl, inl, inr, ℕ, List, Result, Ok, 
 use Rattle.serde_json.specs.Data.{Data}
 use Rattle.jl_sketch.specs.Faults.{IsWritten}
 use Rattle.jl_sketch.specs.declared.sketch.Sketch.{Sketch}
-use Rattle.jl_types.specs.Happenings.Event.{Event}
+use Rattle.jl_types.specs.Events.Event.{Event}
 use Rattle.jl_types.specs.declared.event.Reply.{Reply}
 use Rattle.jl_types.specs.declared.refusal.Refusal.{Refusal}
-use Rattle.jl_types.specs.Happenings.Events.{verdict}
+use Rattle.jl_types.specs.Events.Verdict.{verdict}
 use Rattle.jl_core.specs.State.{State, world_of, IsAccepted, IsApplied, IsRefused}
 use Rattle.jl_json.specs.declared.command.ClassSource.TheVariants as source
-use Rattle.jl_json.specs.Means.NameReading.{name_text}
+use Rattle.jl_json.specs.ForProofs.NameReading.{name_text}
 use Rattle.jl_json.proofs.NameLaws.{spells}
 use Rattle.jl_json.specs.Replies.{reply_data}
 use Rattle.jl_json.specs.EventRefusals.{event_refusal_data}

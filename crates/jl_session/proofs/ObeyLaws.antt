@@ -3,7 +3,7 @@ use Rattle.std.proofs.Common.{◌≡◌, sym, subst, ℕ, List, Option, Some, No
 use Rattle.serde_json.specs.Data.{Data}
 use Rattle.jl_classfile.specs.Shown.{shown}
 use Rattle.jl_sketch.specs.declared.sketch.Sketch.{Sketch}
-use Rattle.jl_types.specs.Happenings.Event.{Event}
+use Rattle.jl_types.specs.Events.Event.{Event}
 use Rattle.jl_types.specs.declared.event.EventOf.TheVariants as event
 use Rattle.jl_json.specs.Commands.{AskedEvent}
 use Rattle.jl_json.specs.declared.command.Command.{Command}

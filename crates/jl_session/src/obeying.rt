@@ -3,7 +3,7 @@
 ghost use Rattle.std.specs.Prelude.{IfOk, OnErr, ℕ};
 ghost use Rattle.serde_json.specs.Data.{Data};
 ghost use Rattle.serde_json.specs.View.{view};
-ghost use Rattle.jl_types.specs.Happenings.Event.{Event};
+ghost use Rattle.jl_types.specs.Events.Event.{Event};
 ghost use Rattle.jl_json.specs.declared.command.ClassSource.TheVariants as source;
 ghost use Rattle.jl_session.specs.Obeying.{IsObeyed, IsDefined, IsFileDefined, LacksAnswer};
 

@@ -43,7 +43,7 @@ impl Drop for Session {
 
 impl Model for Session {
     ghost use Rattle.std.specs.Coded.{codes};
-    ghost use Rattle.jl_types.specs.Means.TargetCode.{target_code};
+    ghost use Rattle.jl_types.specs.ForProofs.TargetCode.{target_code};
     ghost use Rattle.jl_session.specs.Sessions.{Session};
 
     ghost Value = { Session };

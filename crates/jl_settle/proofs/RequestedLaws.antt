@@ -22,11 +22,11 @@ use Rattle.jl_types.specs.declared.answer.Unlinked.TheVariants.{Gone}
 use Rattle.jl_types.specs.Values.Members.{is_present, methods_of, method_at}
 use Rattle.jl_types.specs.Linkage.Stages.{Waits, invocation_at, stage_at, stage_of}
 use Rattle.jl_types.specs.Linkage.Links.{scratch, link_of}
-use Rattle.jl_types.specs.Happenings.Events.{same_place}
-use Rattle.jl_types.specs.Happenings.Retirement.{is_of, retires_site}
+use Rattle.jl_types.specs.Events.Verdict.{same_place}
+use Rattle.jl_types.specs.Events.Retirement.{is_of, retires_site}
 use Rattle.jl_types.proofs.Bools.{first_test, second_test}
 use Rattle.jl_hierarchy.proofs.Rising.{has}
-use Rattle.jl_settle.specs.Means.Requested.{is_invoked, is_among, is_in_method, requested_where}
+use Rattle.jl_settle.specs.ForProofs.Requested.{is_invoked, is_among, is_in_method, requested_where}
 
 -- ---- one place
 

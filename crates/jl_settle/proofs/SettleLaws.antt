@@ -18,17 +18,17 @@ use Rattle.jl_types.specs.declared.answer.Outcome.TheVariants.{Run, Throws}
 use Rattle.jl_types.specs.declared.link.Link.{Link}
 use Rattle.jl_types.specs.declared.link.Link.TheVariants.{Fault, Plain, Direct, Table, Mega}
 use Rattle.jl_types.specs.Linkage.Links.{same_link}
-use Rattle.jl_types.specs.Means.SameLink.{link_decides}
+use Rattle.jl_types.specs.ForProofs.SameLink.{link_decides}
 use Rattle.jl_types.specs.Values.World.{World, Classes}
-use Rattle.jl_types.specs.Happenings.Definitions.{class_made}
-use Rattle.jl_types.specs.Happenings.Event.{Event}
+use Rattle.jl_types.specs.Events.Definitions.{class_made}
+use Rattle.jl_types.specs.Events.Event.{Event}
 use Rattle.jl_types.specs.declared.event.EventOf.TheVariants as event
 use Rattle.jl_types.specs.declared.key.Key.{Key}
 use Rattle.jl_types.specs.Linkage.Links.{outcome, scratch}
 use Rattle.jl_types.specs.Linkage.Stages.{stage}
-use Rattle.jl_types.specs.Happenings.Events.{step}
-use Rattle.jl_types.specs.Happenings.History.{has_link, is_link, kept}
-use Rattle.jl_types.specs.Happenings.Footprints.{footprint, most_for, stays_with, touches}
+use Rattle.jl_types.specs.Events.Verdict.{step}
+use Rattle.jl_types.specs.Events.History.{has_link, is_link, kept}
+use Rattle.jl_types.specs.Events.Footprints.{footprint, most_for, stays_with, touches}
 use Rattle.jl_hierarchy.proofs.Rising.{has}
 use Rattle.jl_relink.specs.Laws.{OneMore, changes_receivers}
 use Rattle.jl_relink.specs.Receivers.{TellsStay, inherits}

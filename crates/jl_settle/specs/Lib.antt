@@ -1,3 +1,3 @@
--- `Settling` is what contracts cite; `Means` has means of proof.
+-- `Settling` is what contracts cite; `ForProofs` has means of proof.
 pub mod Settling
-pub mod Means
+pub mod ForProofs

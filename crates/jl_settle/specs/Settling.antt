@@ -1,17 +1,17 @@
 -- What is left of the links and the index once an event has changed the world.
 use Rattle.std.specs.Prelude.{◌≡◌, ℕ, Bool, true, false, length, ◌&&◌, List, Option, Some, None, Ok, IsOk, is_some, is_none, ⊤}
-use Rattle.jl_types.specs.Happenings.Event.{Event}
+use Rattle.jl_types.specs.Events.Event.{Event}
 use Rattle.jl_types.specs.declared.event.EventOf.TheVariants as event
 use Rattle.jl_types.specs.declared.answer.Outcome.TheVariants.{Run, Throws}
 use Rattle.jl_types.specs.declared.link.Link.{Link}
 use Rattle.jl_types.specs.declared.link.Link.TheVariants.{Fault, Plain, Direct, Table, Mega}
 use Rattle.jl_types.specs.Values.World.{World, Classes}
 use Rattle.jl_types.specs.Linkage.Links.{scratch}
-use Rattle.jl_types.specs.Happenings.Events.{verdict, step}
-use Rattle.jl_types.specs.Happenings.History.{kept}
+use Rattle.jl_types.specs.Events.Verdict.{verdict, step}
+use Rattle.jl_types.specs.Events.History.{kept}
 use Rattle.jl_types.specs.declared.key.Key.{Key}
-use Rattle.jl_types.specs.Happenings.Footprints as footprints
-use Rattle.jl_types.specs.Happenings.Footprints.{most_for}
+use Rattle.jl_types.specs.Events.Footprints as footprints
+use Rattle.jl_types.specs.Events.Footprints.{most_for}
 use Rattle.jl_relink.specs.Laws.{IsInOrder}
 use Rattle.jl_relink.specs.Receivers.{TellsStay, inherits}
 use Rattle.jl_deps.specs.Indexes.{IsIndex}

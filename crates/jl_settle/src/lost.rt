@@ -3,8 +3,8 @@
 ghost use Rattle.std.specs.Prelude.{◌≡◌, ◌==◌, ◌&&◌, ◌||◌, ◌+◌, ◌^◌, ◌<◌, ◌≤◌, ℕ, length, sum_by, false, Some, is_some, IfOk, IfSome, OnOk};
 ghost use Rattle.std.specs.List.{AllByRecursion, list_any};
 ghost use Rattle.jl_types.specs.Linkage.Links.{scratch};
-ghost use Rattle.jl_types.specs.Happenings.History.{kept};
-ghost use Rattle.jl_types.specs.Happenings.Footprints.{most_for};
+ghost use Rattle.jl_types.specs.Events.History.{kept};
+ghost use Rattle.jl_types.specs.Events.Footprints.{most_for};
 ghost use Rattle.jl_relink.specs.Receivers.{TellsStay};
 ghost use Rattle.jl_cache.specs.Links.{link_at};
 ghost use Rattle.jl_settle.specs.Settling.{goes, MayBeAsked, inherits_run, most_asked};

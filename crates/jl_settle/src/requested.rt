@@ -3,10 +3,10 @@
 ghost use Rattle.std.specs.Prelude.{◌≡◌, ◌<◌, ◌^◌, ◌==◌, ◌||◌, ℕ, true, Ok, length, IfOk, OnOk};
 ghost use Rattle.std.specs.List.{list_any};
 ghost use Rattle.jl_types.specs.Linkage.Links.{scratch};
-ghost use Rattle.jl_types.specs.Happenings.Events.{same_place};
-ghost use Rattle.jl_types.specs.Happenings.Retirement.{retires_site};
+ghost use Rattle.jl_types.specs.Events.Verdict.{same_place};
+ghost use Rattle.jl_types.specs.Events.Retirement.{retires_site};
 ghost use Rattle.jl_types.specs.declared.link.Link.{Link};
-ghost use Rattle.jl_settle.specs.Means.Requested.{is_invoked, is_among, is_in_method, requested_where};
+ghost use Rattle.jl_settle.specs.ForProofs.Requested.{is_invoked, is_among, is_in_method, requested_where};
 
 use indexmap::IndexSet;
 use jl_class::Method;

@@ -4,7 +4,7 @@ ghost use Rattle.std.specs.Prelude.{◌≡◌, ◌==◌, ◌+◌, ◌^◌, ◌<�
 ghost use Rattle.std.specs.List.{list_any};
 ghost use Rattle.jl_types.specs.declared.link.Link.{Link};
 ghost use Rattle.jl_types.specs.Linkage.Links.{scratch};
-ghost use Rattle.jl_types.specs.Happenings.Footprints.{footprint};
+ghost use Rattle.jl_types.specs.Events.Footprints.{footprint};
 ghost use Rattle.jl_cache.specs.Links.{link_at};
 ghost use Rattle.jl_deps.specs.Indexes.{footprint_at, IsIndex, touched_by};
 ghost use Rattle.jl_settle.specs.Settling.{kept_at, goes, HasChanged, most_asked};

@@ -15,7 +15,7 @@ use Rattle.jl_sketch.specs.declared.constants.NewConstant.{NewConstant}
 use Rattle.jl_sketch.specs.declared.constants.NewConstant.TheVariants.{Utf8, Class, NameAndType, Methodref, InterfaceMethodref, InvokeDynamic}
 use Rattle.jl_sketch.specs.declared.sketch.SketchMethod.{SketchMethod}
 use Rattle.jl_sketch.specs.Constants.{has_code, with_text, with_class, with_members, text_number, class_number}
-use Rattle.jl_sketch.specs.Means.Entries.{constant_of}
+use Rattle.jl_sketch.specs.ForProofs.Entries.{constant_of}
 use Rattle.jl_sketch.specs.Layouts.{member_attributes, code_attribute, method_attributes}
 
 pub with_some_members : (cs : List Constant) (members : List (List ℕ)) → (length members == 0) ≡ false

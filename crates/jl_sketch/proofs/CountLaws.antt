@@ -3,7 +3,7 @@ use Rattle.std.proofs.Common.{◌≡◌, ℕ, ◌+◌, ◌<◌, ◌≤◌, ◌%�
 use Rattle.std.specs.Prelude.{MatchOption}
 use Rattle.std.specs.Option.{option_map_or}
 use Rattle.jl_names.specs.MethodTypes.{IsMethodDescriptor, TakesSlots}
-use Rattle.jl_pool.specs.Means.Forms.{method_slots}
+use Rattle.jl_pool.specs.ForProofs.Forms.{method_slots}
 use Rattle.jl_pool.proofs.FormLaws.{SlotsAre, method_slots-is, one_slots, counted}
 use Rattle.jl_sketch.specs.Counts.{count_byte}
 

@@ -7,7 +7,7 @@ use Rattle.jl_sketch.specs.declared.constants.NewConstant.{NewConstant}
 use Rattle.jl_sketch.specs.declared.constants.NewConstant.TheVariants.{Utf8, Class, NameAndType, Methodref, InterfaceMethodref, InvokeDynamic}
 use Rattle.jl_sketch.specs.contracts.constants.NewConstantPartialEq.TheImpl.{eq-value}
 use Rattle.jl_sketch.specs.Constants.{same_constant, enter, number}
-use Rattle.jl_sketch.specs.Means.Entries.{constant_of}
+use Rattle.jl_sketch.specs.ForProofs.Entries.{constant_of}
 use Rattle.jl_sketch.proofs.Positions.{any_by, position_by, map_unless}
 
 abbrev same_entry : NewConstant → NewConstant → Bool

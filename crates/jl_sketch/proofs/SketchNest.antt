@@ -9,13 +9,13 @@ use Rattle.std.proofs.lemmas.List.Elements.{filter-append}
 use Rattle.jl_pool.specs.declared.constant.Constant.{Constant}
 use Rattle.jl_pool.specs.Numbers.{u2, counted}
 use Rattle.jl_pool.specs.Pools.{Pool, places, class_at}
-use Rattle.jl_pool.specs.Means.Fields.{number_at}
+use Rattle.jl_pool.specs.ForProofs.Fields.{number_at}
 use Rattle.jl_pool.proofs.Fields.{some_is, u2_again}
 use Rattle.jl_pool.proofs.PoolLaws.{u2_one}
 use Rattle.jl_classfile.specs.declared.body.Attribute.{Attribute}
 use Rattle.jl_classfile.specs.Conditions.{is_text, attributes_of, IsClassNumber, HoldsHost, HoldsMembers}
 use Rattle.jl_classfile.specs.Shown.{name_or_nothing}
-use Rattle.jl_classfile.specs.Means.Bodies.{counted_at}
+use Rattle.jl_classfile.specs.ForProofs.Bodies.{counted_at}
 use Rattle.jl_classfile.proofs.ListLaws.{counted-again}
 use Rattle.jl_sketch.specs.Constants.{text_number, class_constant, class_number}
 use Rattle.jl_sketch.specs.Layouts.{host_attributes, member_attributes}

@@ -3,4 +3,4 @@ pub mod Constants
 pub mod Layouts
 pub mod Names
 pub mod Faults
-pub mod Means
+pub mod ForProofs

@@ -2,7 +2,7 @@
 
 ghost use Rattle.std.specs.Prelude.{◌≡◌, [], length, map, OnOk};
 ghost use Rattle.jl_sketch.specs.Constants.{enter, number, class_constant, signed_constant, method_constant, call_site_constant, call_constant};
-ghost use Rattle.jl_sketch.specs.Means.Entries.{constant_of};
+ghost use Rattle.jl_sketch.specs.ForProofs.Entries.{constant_of};
 
 use crate::sketch::{Call, MethodName};
 use indexmap::IndexSet;
@@ -37,7 +37,7 @@ impl<'a> Drop for Constants<'a> {
 impl<'a> Model for Constants<'a> {
     ghost use Rattle.std.specs.Prelude.{List, map};
     ghost use Rattle.jl_pool.specs.declared.constant.Constant.{Constant};
-    ghost use Rattle.jl_sketch.specs.Means.Entries.{constant_of};
+    ghost use Rattle.jl_sketch.specs.ForProofs.Entries.{constant_of};
 
     ghost Value = { List Constant };
 

@@ -14,7 +14,7 @@ ghost use Rattle.jl_classfile.specs.ClassFiles.{IsClass};
 ghost use Rattle.jl_classfile.specs.Shown.{shown};
 ghost use Rattle.jl_sketch.specs.Counts.{count_byte};
 ghost use Rattle.jl_sketch.specs.Constants.{class_number};
-ghost use Rattle.jl_sketch.specs.Means.Entries.{constant_of, fault_of_class};
+ghost use Rattle.jl_sketch.specs.ForProofs.Entries.{constant_of, fault_of_class};
 ghost use Rattle.jl_sketch.specs.Layouts.{call_opcode, call_tail, call_instruction, instructions, code_info, code_attribute, method_attributes};
 ghost use Rattle.jl_sketch.specs.Layouts.{method_of, host_attributes, member_attributes, body_of, layout_over};
 ghost use Rattle.jl_sketch.specs.Faults.{IsSketchFault, IsSpelled, IsWritten};

@@ -17,12 +17,12 @@ use Rattle.jl_types.specs.declared.refusal.Refusal.TheVariants as refusal
 use Rattle.jl_types.specs.declared.refusal.SitesFault.{SitesFault}
 use Rattle.jl_types.specs.declared.refusal.SitesFault.TheVariants as sites
 use Rattle.jl_types.specs.Linkage.Links.{same_link}
-use Rattle.jl_types.specs.Means.SameLink.{link_decides}
+use Rattle.jl_types.specs.ForProofs.SameLink.{link_decides}
 use Rattle.jl_types.specs.Values.World.{World}
 use Rattle.jl_types.specs.Linkage.Resolution.{first_of}
 use Rattle.jl_types.specs.Linkage.Links.{scratch}
-use Rattle.jl_types.specs.Happenings.Batches.{is_bad_size, sites_fault}
-use Rattle.jl_types.specs.Happenings.Events.{of_sites, row_fault, install_fault, Accepts, unless, verdict}
+use Rattle.jl_types.specs.Events.Batches.{is_bad_size, sites_fault}
+use Rattle.jl_types.specs.Events.Verdict.{of_sites, row_fault, install_fault, Accepts, unless, verdict}
 use Rattle.jl_types.proofs.Firsts.{first_none, test_none}
 
 -- ---- the size

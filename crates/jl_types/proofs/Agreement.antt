@@ -29,7 +29,7 @@ use Rattle.jl_types.specs.Linkage.Selection.{virtual_outcome, interface_outcome,
 use Rattle.jl_types.specs.Linkage.Stages.{Selector, ByVirtual, ByInterface, BySpecial, ResolvedCall, Stage, Waits, Fails, Calls, Selects, stage}
 use Rattle.jl_types.specs.Linkage.Links.{outcome, table_rows, table_or_mega, virtual_link, runs, link_by, link_of, scratch}
 use Rattle.jl_types.specs.Linkage.Calls.{answered, is_receiver, selected, answer_of, dispatch}
-use Rattle.jl_types.specs.Happenings.Fast.{no_entry, entry_answer}
+use Rattle.jl_types.specs.Events.Fast.{no_entry, entry_answer}
 use Rattle.jl_types.proofs.Bools.{any-range-from, any-filter-at}
 use Rattle.jl_types.proofs.Lists.{passes_within}
 

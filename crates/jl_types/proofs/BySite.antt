@@ -12,7 +12,7 @@ use Rattle.std.proofs.lemmas.List.Elements.{All-from_recursion}
 use Rattle.std.proofs.lemmas.List.Kept.{AllPairs-cons}
 use Rattle.std.proofs.lemmas.Map.Keys.{IsDistinct-head, IsDistinct-tail}
 use Rattle.std.proofs.Math.Arith.{lt_of_le-ne}
-use Rattle.jl_types.specs.Means.BySite.{value_at, put, by_site}
+use Rattle.jl_types.specs.ForProofs.BySite.{value_at, put, by_site}
 
 -- ---- what is found
 

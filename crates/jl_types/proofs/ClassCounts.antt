@@ -1,13 +1,13 @@
 -- How many classes a list of events makes.
 use Rattle.std.specs.Prelude.{◌≡◌, ℕ, ◌+◌, Bool, cond, true, false, List, [], ◌∷◌, filter, length, fold}
 use Rattle.std.proofs.Common.{arith, length-append}
-use Rattle.jl_types.specs.Happenings.Event.{Event}
+use Rattle.jl_types.specs.Events.Event.{Event}
 use Rattle.jl_types.specs.declared.event.EventOf.TheVariants as event
 use Rattle.jl_types.specs.Values.World.{World, nothing_yet}
-use Rattle.jl_types.specs.Happenings.Definitions.{class_made}
-use Rattle.jl_types.specs.Happenings.Events.{step}
-use Rattle.jl_types.specs.Happenings.History.{world_after}
-use Rattle.jl_types.specs.Happenings.Entries.{defines}
+use Rattle.jl_types.specs.Events.Definitions.{class_made}
+use Rattle.jl_types.specs.Events.Verdict.{step}
+use Rattle.jl_types.specs.Events.History.{world_after}
+use Rattle.jl_types.specs.Events.Entries.{defines}
 
 abbrev as_count : Bool → ℕ
 as_count b = cond b 1 0

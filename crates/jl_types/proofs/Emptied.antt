@@ -4,10 +4,10 @@ use Rattle.std.specs.Prelude.{option_map, is_some, is_none, if◌then◌else◌}
 use Rattle.std.specs.List.{range_with_len, cons_option}
 use Rattle.std.proofs.Common.{refl, ap, sym, ◌∙◌, arith}
 use Rattle.jl_types.specs.declared.link.Link.{Link}
-use Rattle.jl_types.specs.Happenings.Event.{Event}
-use Rattle.jl_types.specs.Happenings.Events.{verdict}
-use Rattle.jl_types.specs.Happenings.History.{world_after, installed, has_link, dropped}
-use Rattle.jl_types.specs.Happenings.Entries.{Entry, IsEntry, change, emptied}
+use Rattle.jl_types.specs.Events.Event.{Event}
+use Rattle.jl_types.specs.Events.Verdict.{verdict}
+use Rattle.jl_types.specs.Events.History.{world_after, installed, has_link, dropped}
+use Rattle.jl_types.specs.Events.Entries.{Entry, IsEntry, change, emptied}
 use Rattle.jl_types.proofs.Written.{rows, unrequested}
 use Rattle.jl_types.proofs.Places.{accepted_of, places_grow}
 

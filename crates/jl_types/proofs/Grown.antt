@@ -13,7 +13,7 @@ use Rattle.jl_class.specs.Class.{ClassFile}
 use Rattle.jl_types.specs.Values.World.{Class, Classes}
 use Rattle.jl_types.specs.Values.Members.{is_retired, is_concrete, is_concrete_row}
 use Rattle.jl_types.specs.Values.Ancestry.{parents, AreOrdered, IsAncestor, itself, over, is_ancestor_within, is_ancestor, ancestors, receivers}
-use Rattle.jl_types.specs.Happenings.Definitions.{class_made, defined}
+use Rattle.jl_types.specs.Events.Definitions.{class_made, defined}
 use Rattle.jl_types.proofs.Bools.{any-filter, any-filter-at, any-range-from}
 use Rattle.jl_types.proofs.Lists.{before_end, range_end}
 use Rattle.jl_types.proofs.Ancestors.{any_alike, ancestor_decides}

@@ -7,12 +7,12 @@ use Rattle.std.proofs.lemmas.Bool.{cases_lt}
 use Rattle.std.proofs.lemmas.Option.{cond_some}
 use Rattle.jl_types.specs.declared.link.Link.{Link}
 use Rattle.jl_types.specs.declared.answer.Unlinked.{Unlinked}
-use Rattle.jl_types.specs.Happenings.Event.{Event}
+use Rattle.jl_types.specs.Events.Event.{Event}
 use Rattle.jl_types.specs.Linkage.Links.{same_link}
-use Rattle.jl_types.specs.Means.SameLink.{link_decides}
+use Rattle.jl_types.specs.ForProofs.SameLink.{link_decides}
 use Rattle.jl_types.specs.Linkage.Links.{scratch}
-use Rattle.jl_types.specs.Happenings.History.{Settled, installed_at, scratch_after, world_after, is_link, kept, all_below, any_below, settled_since}
-use Rattle.jl_types.specs.Happenings.History.{settled, installed, installed_of}
+use Rattle.jl_types.specs.Events.History.{Settled, installed_at, scratch_after, world_after, is_link, kept, all_below, any_below, settled_since}
+use Rattle.jl_types.specs.Events.History.{settled, installed, installed_of}
 use Rattle.jl_types.proofs.Settling.{within}
 
 le_decides : (n m : ℕ) → Decides (nat_le n m) (n ≤ m)

@@ -8,11 +8,11 @@ use Rattle.std.proofs.lemmas.List.Kept.{AllPairs-cons}
 use Rattle.std.proofs.lemmas.Option.{same_Some, slice_get_within}
 use Rattle.jl_types.specs.declared.ids.Place.{Place}
 use Rattle.jl_types.specs.declared.link.Link.{Link}
-use Rattle.jl_types.specs.Happenings.Event.{Event}
+use Rattle.jl_types.specs.Events.Event.{Event}
 use Rattle.jl_types.specs.Values.World.{World}
 use Rattle.jl_types.specs.Linkage.Stages.{stage_at}
 use Rattle.jl_types.specs.Linkage.Links.{scratch, link_of}
-use Rattle.jl_types.specs.Happenings.History.{world_after, installed, installed_links}
+use Rattle.jl_types.specs.Events.History.{world_after, installed, installed_links}
 use Rattle.jl_types.proofs.Installed.{installed_to, settled_now}
 
 pub requested : (w : World) (s : ℕ) (l : Link) → scratch w s ≡ Ok l → s < length w.places

@@ -4,8 +4,8 @@ use Rattle.std.proofs.Common.{refl, ap, sym, subst, arith, inl, inr, append_asso
 use Rattle.std.proofs.lemmas.List.{take-append-le, append-nil}
 use Rattle.std.proofs.lemmas.Option.{slice_get_within}
 use Rattle.std.proofs.Math.Seq.{take-append_seam}
-use Rattle.jl_types.specs.Happenings.Event.{Event}
-use Rattle.jl_types.specs.Happenings.Entries.{Entry, IsEntry, IsLegal, events_of}
+use Rattle.jl_types.specs.Events.Event.{Event}
+use Rattle.jl_types.specs.Events.Entries.{Entry, IsEntry, IsLegal, events_of}
 
 pub legal_none : (max_sites : ℕ) → IsLegal max_sites []
 legal_none max_sites = record { each = λ n entry at. absurd (cc at) }

@@ -5,11 +5,11 @@ use Rattle.std.proofs.Common.{refl, ap, inl, inr, Decides}
 use Rattle.std.proofs.lemmas.Bool.Decides.{Decides-or, Decides-like}
 use Rattle.jl_types.specs.declared.link.Link.{Link}
 use Rattle.jl_types.specs.declared.answer.Unlinked.{Unlinked}
-use Rattle.jl_types.specs.Happenings.Event.{Event}
+use Rattle.jl_types.specs.Events.Event.{Event}
 use Rattle.jl_types.specs.Linkage.Links.{same_link}
-use Rattle.jl_types.specs.Means.SameLink.{link_decides}
+use Rattle.jl_types.specs.ForProofs.SameLink.{link_decides}
 use Rattle.jl_types.specs.Linkage.Links.{scratch}
-use Rattle.jl_types.specs.Happenings.History.{installs, world_after, settled, installed, installed_of, has_link, kept}
+use Rattle.jl_types.specs.Events.History.{installs, world_after, settled, installed, installed_of, has_link, kept}
 use Rattle.jl_types.proofs.Settling.{settles, stays, only_so}
 use Rattle.jl_types.proofs.Installed.{settled_decides, installed_from, installed_to}
 

@@ -8,14 +8,14 @@ use Rattle.std.proofs.lemmas.List.Elements.{All-from_recursion, recursion_from_A
 use Rattle.std.proofs.lemmas.Option.{same_Some}
 use Rattle.std.specs.Str.{bytes_eq}
 use Rattle.jl_class.specs.Class.{ClassFile}
-use Rattle.jl_types.specs.Happenings.Event.{Event}
+use Rattle.jl_types.specs.Events.Event.{Event}
 use Rattle.jl_types.specs.declared.event.EventOf.TheVariants as event
 use Rattle.jl_types.specs.Values.World.{Class, Classes, World, nothing_yet}
 use Rattle.jl_types.specs.Values.Members.{recorded, lookup}
 use Rattle.jl_types.specs.Values.Ancestry.{parents, AreOrdered}
-use Rattle.jl_types.specs.Happenings.Definitions.{class_made, with_record, defined, delegated}
-use Rattle.jl_types.specs.Happenings.Events.{step}
-use Rattle.jl_types.specs.Happenings.History.{world_after}
+use Rattle.jl_types.specs.Events.Definitions.{class_made, with_record, defined, delegated}
+use Rattle.jl_types.specs.Events.Verdict.{step}
+use Rattle.jl_types.specs.Events.History.{world_after}
 use Rattle.jl_types.proofs.Lists.{before_end, at_end, all_at, all_set}
 
 -- the records name classes that are there

@@ -11,7 +11,7 @@ use Rattle.std.proofs.lemmas.Option.{slice_get-get_or}
 use Rattle.std.proofs.lemmas.Map.Keys.{any_passes_from_place}
 use Rattle.jl_class.specs.Site.{Site}
 use Rattle.jl_types.specs.declared.ids.Place.{Place}
-use Rattle.jl_types.specs.Happenings.Event.{Event}
+use Rattle.jl_types.specs.Events.Event.{Event}
 use Rattle.jl_types.specs.declared.event.EventOf.TheVariants as event
 use Rattle.jl_types.specs.declared.event.Made.{Made}
 use Rattle.jl_types.specs.declared.event.Reply.{Reply}
@@ -19,11 +19,11 @@ use Rattle.jl_types.specs.declared.event.Made.TheVariants as made
 use Rattle.jl_types.specs.declared.refusal.Refusal.{Refusal}
 use Rattle.jl_types.specs.declared.refusal.Refusal.TheVariants as refusal
 use Rattle.jl_types.specs.Values.World.{World, nothing_yet}
-use Rattle.jl_types.specs.Happenings.Events.{verdict, step, unless, same_place, request_place, if_invoked, new_place_fault, names_array, is_polymorphic}
+use Rattle.jl_types.specs.Events.Verdict.{verdict, step, unless, same_place, request_place, if_invoked, new_place_fault, names_array, is_polymorphic}
 use Rattle.jl_types.specs.Values.Members.{is_present}
 use Rattle.jl_types.specs.Linkage.Stages.{invocation_at}
-use Rattle.jl_types.specs.Happenings.History.{world_after, replied, dropped}
-use Rattle.jl_types.specs.Happenings.Entries.{Entry, IsEntry, IsLegal, events_of}
+use Rattle.jl_types.specs.Events.History.{world_after, replied, dropped}
+use Rattle.jl_types.specs.Events.Entries.{Entry, IsEntry, IsLegal, events_of}
 use Rattle.jl_types.proofs.Firsts.{first_none, test_none}
 use Rattle.jl_types.proofs.Legal.{by_entries, events_more}
 

@@ -18,11 +18,11 @@ use Rattle.jl_types.specs.declared.refusal.RetireFault.TheVariants as fault
 use Rattle.jl_types.specs.Values.World.{Class, Classes, World}
 use Rattle.jl_types.specs.Values.Members.{class_test, is_retired, is_present, is_concrete, is_concrete_row, recorded, lookup, numbers}
 use Rattle.jl_types.specs.Values.Ancestry.{is_ancestor, receivers}
-use Rattle.jl_types.specs.Happenings.Definitions.{is_unknown}
-use Rattle.jl_types.specs.Happenings.Retirement.{is_of, inherits_from, records_from, classes_fault, retired, retires_site}
+use Rattle.jl_types.specs.Events.Definitions.{is_unknown}
+use Rattle.jl_types.specs.Events.Retirement.{is_of, inherits_from, records_from, classes_fault, retired, retires_site}
 use Rattle.jl_types.specs.Linkage.Stages.{Waits, stage_of, stage_at, invocation_at}
 use Rattle.jl_types.specs.Linkage.Links.{link_of, scratch}
-use Rattle.jl_types.specs.Happenings.Events.{step}
+use Rattle.jl_types.specs.Events.Verdict.{step}
 use Rattle.jl_types.proofs.Bools.{any-range-from}
 use Rattle.jl_types.proofs.Firsts.{first_none, test_none}
 

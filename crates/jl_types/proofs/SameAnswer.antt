@@ -13,7 +13,7 @@ use Rattle.jl_types.specs.contracts.answer.Missing.{the_type}
 use Rattle.jl_types.specs.contracts.answer.MissingPartialEq.TheImpl as missing
 use Rattle.jl_types.specs.contracts.answer.UnlinkedPartialEq.TheImpl as unlinked
 use Rattle.jl_types.specs.contracts.answer.AnswerPartialEq.TheImpl as same
-use Rattle.jl_types.specs.Means.Same.{throwable_decides, method_decides, decided}
+use Rattle.jl_types.specs.ForProofs.Same.{throwable_decides, method_decides, decided}
 
 missing_same : (x : Missing) → (missing.ghosts).eq x x ≡ true
 missing_same Named = refl

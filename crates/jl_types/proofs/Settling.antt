@@ -6,10 +6,10 @@ use Rattle.std.proofs.lemmas.Bool.{cases_lt}
 use Rattle.std.proofs.lemmas.List.{take-append-le}
 use Rattle.std.proofs.Math.Seq.{take-append-add}
 use Rattle.jl_types.specs.declared.link.Link.{Link}
-use Rattle.jl_types.specs.Happenings.Event.{Event}
+use Rattle.jl_types.specs.Events.Event.{Event}
 use Rattle.jl_types.specs.Linkage.Links.{scratch}
 use Rattle.jl_types.proofs.Lists.{before_end, at_end}
-use Rattle.jl_types.specs.Happenings.History.{Settled, installs, installed_at, scratch_after, world_after}
+use Rattle.jl_types.specs.Events.History.{Settled, installs, installed_at, scratch_after, world_after}
 
 -- where an event installs, there is one
 pub within : (h : List Event) (s k : ℕ) → installed_at h k s ≡ true → k < length h

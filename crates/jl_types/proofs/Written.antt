@@ -10,10 +10,10 @@ use Rattle.std.proofs.lemmas.List.Sums.{fold-append}
 use Rattle.std.proofs.lemmas.Grind.{get_or-set_at}
 use Rattle.std.proofs.lemmas.Option.{slice_get-get_or}
 use Rattle.jl_types.specs.declared.link.Link.{Link}
-use Rattle.jl_types.specs.Happenings.Event.{Event}
-use Rattle.jl_types.specs.Means.SameLink.{link_decides}
-use Rattle.jl_types.specs.Happenings.History.{world_after, installed}
-use Rattle.jl_types.specs.Happenings.Entries.{Entry, IsEntry, IsLegal, events_of, same_slot, change, slots_changed, written, table_of}
+use Rattle.jl_types.specs.Events.Event.{Event}
+use Rattle.jl_types.specs.ForProofs.SameLink.{link_decides}
+use Rattle.jl_types.specs.Events.History.{world_after, installed}
+use Rattle.jl_types.specs.Events.Entries.{Entry, IsEntry, IsLegal, events_of, same_slot, change, slots_changed, written, table_of}
 use Rattle.jl_types.proofs.InstalledLinks.{installed_requested}
 use Rattle.jl_types.proofs.Legal.{by_entries, events_more}
 use Rattle.jl_types.proofs.Places.{places_grow, legal_limit}

@@ -1,5 +1,5 @@
--- What a link is and what a call comes to, in reading order. `Means` has means of proof.
-pub mod Means
+-- What a link is and what a call comes to, in reading order. `ForProofs` has means of proof.
+pub mod ForProofs
 pub mod Values
 pub mod Linkage
-pub mod Happenings
+pub mod Events

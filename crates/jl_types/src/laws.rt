@@ -15,24 +15,24 @@ ghost use Rattle.jl_types.specs.declared.answer.Answer.TheVariants as answer;
 ghost use Rattle.jl_types.specs.declared.link.Link.{Link};
 ghost use Rattle.jl_types.specs.declared.link.Link.TheVariants as link;
 ghost use Rattle.jl_types.specs.declared.link.TableKind.{TableKind};
-ghost use Rattle.jl_types.specs.Happenings.Event.{Event};
+ghost use Rattle.jl_types.specs.Events.Event.{Event};
 ghost use Rattle.jl_types.specs.declared.event.EventOf.TheVariants as event;
 ghost use Rattle.jl_types.specs.declared.event.Made.TheVariants as made;
 ghost use Rattle.jl_types.specs.declared.answer.Unlinked.TheVariants.{Gone};
-ghost use Rattle.jl_types.specs.Happenings.Events.{Accepts, verdict, step};
+ghost use Rattle.jl_types.specs.Events.Verdict.{Accepts, verdict, step};
 ghost use Rattle.jl_types.specs.Values.World.{Class, Classes, World};
 ghost use Rattle.jl_types.specs.Values.Members.{is_concrete, is_package_private, is_present, lookup};
 ghost use Rattle.jl_class.specs.Class.{ClassFile};
-ghost use Rattle.jl_types.specs.Happenings.Definitions.{defined};
-ghost use Rattle.jl_types.specs.Happenings.Retirement.{is_of, retired, retires_site};
+ghost use Rattle.jl_types.specs.Events.Definitions.{defined};
+ghost use Rattle.jl_types.specs.Events.Retirement.{is_of, retired, retires_site};
 ghost use Rattle.jl_types.specs.Values.Ancestry.{AreOrdered, IsAncestor, is_ancestor, ancestors, receivers, superclasses};
 ghost use Rattle.jl_types.specs.Linkage.Overriding.{CanOverride, are_alike, can_override, is_visible, IsBridged};
 ghost use Rattle.jl_types.specs.Linkage.Stages.{ResolvedCall, Selects, stage};
 ghost use Rattle.jl_types.specs.Linkage.Links.{scratch};
 ghost use Rattle.jl_types.specs.Linkage.Calls.{answered, is_receiver, dispatch};
-ghost use Rattle.jl_types.specs.Happenings.Fast.{entry_answer};
-ghost use Rattle.jl_types.specs.Happenings.History.{world_after, scratch_after, installs, installed_at, Settled, installed, installed_links, kept};
-ghost use Rattle.jl_types.specs.Happenings.Entries.{Entry, IsEntry, IsLegal, events_of, table_of, emptied, defines, classes_of};
+ghost use Rattle.jl_types.specs.Events.Fast.{entry_answer};
+ghost use Rattle.jl_types.specs.Events.History.{world_after, scratch_after, installs, installed_at, Settled, installed, installed_links, kept};
+ghost use Rattle.jl_types.specs.Events.Entries.{Entry, IsEntry, IsLegal, events_of, table_of, emptied, defines, classes_of};
 
 /// After any events, the parents of a class were defined before it.
 pub fn parents_come_first()

@@ -2,7 +2,7 @@
 //!
 //! What a link is, and what a call comes to, stands in `specs/`, in reading order: in `Values` what a world has (`Target`, `World`,
 //! `Members`, `Ancestry`); in `Linkage` what a site comes to there (`Access`, `Resolution`, `Overriding`, `Selection`, `Targets`,
-//! `Stages`, `Links`, `Calls`); in `Happenings` what changes it (`Definitions`, `Retirement`, `Batches`, `Event`, `Events`,
+//! `Stages`, `Links`, `Calls`); in `Events` what changes it (`Definitions`, `Retirement`, `Batches`, `Event`, `Verdict`,
 //! `Preparation`, `History`, `Entries`, `Footprints`, `Fast`). The laws about them are the contracts of the functions of `laws`.
 #![tactic(auto)]
 

@@ -1,7 +1,7 @@
 //! Which invocations are never linked.
 
 ghost use Rattle.std.specs.Prelude.{◌≡◌};
-ghost use Rattle.jl_types.specs.Happenings.Events as events;
+ghost use Rattle.jl_types.specs.Events.Verdict as events;
 
 use jl_class::Operand;
 use jl_names::LentName;

@@ -229,7 +229,7 @@ pub enum PrepareFault {
 }
 
 impl From<SitesFault> for Refusal {
-    ghost use Rattle.jl_types.specs.Happenings.Events.{of_sites};
+    ghost use Rattle.jl_types.specs.Events.Verdict.{of_sites};
 
     ghost from_gives = { λ fault r. r ≡ of_sites fault };
 
@@ -242,7 +242,7 @@ impl From<SitesFault> for Refusal {
 }
 
 impl From<SitesFault> for PrepareFault {
-    ghost use Rattle.jl_types.specs.Happenings.Preparation.{of_sites};
+    ghost use Rattle.jl_types.specs.Events.Preparation.{of_sites};
 
     ghost from_gives = { λ fault f. f ≡ of_sites fault };
 

@@ -20,7 +20,7 @@ impl Model for Table {
     ghost use Rattle.std.specs.Prelude.{◌≡◌, ◌≤◌, List, ℕ, length, take};
     ghost use Rattle.std.proofs.Common.{length-take-le};
     ghost use Rattle.jl_types.specs.declared.answer.Outcome.{Outcome};
-    ghost use Rattle.jl_types.specs.Means.Padded.{padded, long_enough};
+    ghost use Rattle.jl_types.specs.ForProofs.Padded.{padded, long_enough};
 
     ghost Value = { List (ℕ × Outcome) };
 
@@ -74,7 +74,7 @@ impl Table {
 
 impl PartialEq for Table {
     ghost use Rattle.std.specs.Cmp.Lexicographic.{pointwise};
-    ghost use Rattle.jl_types.specs.Means.Same.{same_row, tables_per};
+    ghost use Rattle.jl_types.specs.ForProofs.Same.{same_row, tables_per};
 
     ghost eq = { pointwise same_row };
 

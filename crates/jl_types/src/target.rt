@@ -38,19 +38,19 @@ pub enum Part {
 
 impl Model for Target {
     ghost use Rattle.jl_types.specs.Values.Target.{Target, depth};
-    ghost use Rattle.jl_types.specs.Means.TargetCode.{target_code};
+    ghost use Rattle.jl_types.specs.ForProofs.TargetCode.{target_code};
 
     ghost Value = { Target };
 
     ghost coded = { target_code };
 
-    ghost use Rattle.jl_types.specs.Means.Whole.{whole};
+    ghost use Rattle.jl_types.specs.ForProofs.Whole.{whole};
 
     ghost view = { λ t. whole t.part };
 
     ghost size = { depth };
 
-    ghost use Rattle.jl_types.specs.Means.WholeFalls.{part_le_depth};
+    ghost use Rattle.jl_types.specs.ForProofs.WholeFalls.{part_le_depth};
 
     ghost size_decreases = { λ t h. part_le_depth t.part };
 }

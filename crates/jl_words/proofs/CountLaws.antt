@@ -26,7 +26,7 @@ use Rattle.clap.proofs.ValueTestLemmas.{accepts-Accepts, Accepts-accepts}
 use Rattle.clap.proofs.WalkLemmas.{both, one_text-rows}
 use Rattle.jl_names.proofs.Tests.{by_test}
 use Rattle.jl_words.specs.declared.words.Words.TheVariants.{Farm}
-use Rattle.jl_words.specs.Means.CommandLine.{asked_by, count_of}
+use Rattle.jl_words.specs.ForProofs.CommandLine.{asked_by, count_of}
 
 -- the value passes
 abbrev pub IsPassed : Text → Type 0

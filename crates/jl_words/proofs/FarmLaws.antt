@@ -22,7 +22,7 @@ use Rattle.clap.specs.declared.builder.value_parser.Reading.TheVariants.{Without
 use Rattle.clap.specs.declared.builder.value_parser.ValueParser.TheVariants.{Signed}
 use Rattle.clap.specs.declared.parser.matches.ValueSource.TheVariants.{CommandLine}
 use Rattle.jl_words.specs.Words.{IsEnd}
-use Rattle.jl_words.specs.Means.CommandLine.{farm, workers}
+use Rattle.jl_words.specs.ForProofs.CommandLine.{farm, workers}
 use Rattle.jl_names.proofs.Tests.{by_test}
 use Rattle.jl_words.proofs.CountLaws.{IsPassed, read_number}
 

@@ -28,7 +28,7 @@ use Rattle.jl_words.specs.declared.words.Words.TheVariants.{Lines, Farm}
 use Rattle.jl_words.specs.declared.words.Mode.{Mode}
 use Rattle.jl_words.specs.declared.words.Mode.TheVariants.{Scan, Sketch, Run}
 use Rattle.jl_words.specs.Words.{IsEnd, AskFor, AskForNothing, word_of}
-use Rattle.jl_words.specs.Means.CommandLine.{asked_by, bare_command, linkd}
+use Rattle.jl_words.specs.ForProofs.CommandLine.{asked_by, bare_command, linkd}
 use Rattle.jl_names.proofs.Tests.{by_test}
 use Rattle.jl_words.proofs.CountLaws.{IsCount, IsPassed, count_passes, count_read, number}
 use Rattle.jl_words.proofs.CountLaws.{passed_count}

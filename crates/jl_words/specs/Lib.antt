@@ -1,3 +1,3 @@
 pub mod Help
 pub mod Words
-pub mod Means
+pub mod ForProofs

@@ -6,8 +6,8 @@ ghost use Rattle.clap.specs.Words.{app_of, found_of, kind_of, one_text, rule_of,
 ghost use Rattle.clap.specs.declared.error.kind.ErrorKind.TheVariants.{OutOfMemory};
 ghost use Rattle.jl_words.specs.declared.words.WordsFault.TheVariants.{BadWords, Memory};
 ghost use Rattle.jl_words.specs.Words.{AskFor, AskForNothing, word_of};
-ghost use Rattle.jl_words.specs.Means.CommandLine.{bare_command, with_scan, with_sketch, with_run, linkd, workers, farm};
-ghost use Rattle.jl_words.specs.Means.CommandLine.{mode_of, count_of, asked_by};
+ghost use Rattle.jl_words.specs.ForProofs.CommandLine.{bare_command, with_scan, with_sketch, with_run, linkd, workers, farm};
+ghost use Rattle.jl_words.specs.ForProofs.CommandLine.{mode_of, count_of, asked_by};
 
 use crate::texts;
 use clap::error::ErrorKind;

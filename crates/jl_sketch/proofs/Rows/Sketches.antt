@@ -1,9 +1,9 @@
 -- Sketches and their class files.
 use Rattle.std.proofs.Common.{◌≡◌, ℕ, List, [], ◌∷◌, ◌++◌, true, false, Some, None, refl}
 use Rattle.std.specs.Prelude.{codes}
-use Rattle.jl_names.specs.Means.Descriptors.{field_at, element_at, class_at}
-use Rattle.jl_names.specs.Means.MethodTypes.{behind, return_at}
-use Rattle.jl_pool.specs.Means.Forms.{method_slots, slots_from}
+use Rattle.jl_names.specs.ForProofs.Descriptors.{field_at, element_at, class_at}
+use Rattle.jl_names.specs.ForProofs.MethodTypes.{behind, return_at}
+use Rattle.jl_pool.specs.ForProofs.Forms.{method_slots, slots_from}
 use Rattle.jl_pool.specs.declared.constant.Constant.TheVariants.{Utf8, Class, NameAndType, Methodref, InterfaceMethodref, InvokeDynamic}
 use Rattle.jl_code.specs.declared.instruction.Instruction.TheVariants.{Plain, Invoke}
 use Rattle.jl_classfile.specs.declared.body.Body.{Body}

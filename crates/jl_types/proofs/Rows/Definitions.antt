@@ -1,6 +1,6 @@
 -- What a loader refuses to define (JVMS 5.3.5), each fault once, and each pair of neighbours in their order.
 use Rattle.std.specs.Prelude.{◌≡◌, ℕ, List, [], ◌∷◌, ◌++◌, Some, None, Ok, Err, Result, length, codes, refl}
-use Rattle.jl_types.specs.Happenings.Event.{Event}
+use Rattle.jl_types.specs.Events.Event.{Event}
 use Rattle.jl_types.specs.declared.event.EventOf.TheVariants.{NewLoader, Define, Delegate}
 use Rattle.jl_types.specs.declared.event.Made.{Made}
 use Rattle.jl_types.specs.declared.event.Made.TheVariants as made
@@ -9,8 +9,8 @@ use Rattle.jl_types.specs.declared.refusal.Refusal.TheVariants as refusal
 use Rattle.jl_types.specs.declared.refusal.DefineFault.TheVariants.{UnknownLoader, AlreadyRecorded, NamesItself, MissingParent, SuperIsInterface, FinalSuper}
 use Rattle.jl_types.specs.declared.refusal.DefineFault.TheVariants.{NotAnInterface, InaccessibleParent, SecondObject, Full}
 use Rattle.jl_types.specs.Values.World.{Class, World}
-use Rattle.jl_types.specs.Happenings.Events.{verdict}
-use Rattle.jl_types.specs.Happenings.History.{world_after}
+use Rattle.jl_types.specs.Events.Verdict.{verdict}
+use Rattle.jl_types.specs.Events.History.{world_after}
 
 abbrev object : List ℕ
 object = codes "java/lang/Object"

@@ -7,14 +7,14 @@ use Rattle.jl_types.specs.declared.answer.Outcome.TheVariants.{Run}
 use Rattle.jl_types.specs.declared.link.Link.{Link}
 use Rattle.jl_types.specs.declared.link.Link.TheVariants.{Direct, Table}
 use Rattle.jl_types.specs.declared.link.TableKind.TheVariants as kind
-use Rattle.jl_types.specs.Happenings.Event.{Event}
+use Rattle.jl_types.specs.Events.Event.{Event}
 use Rattle.jl_types.specs.declared.event.EventOf.TheVariants.{NewLoader, Request, NewSwitch, Install}
 use Rattle.jl_types.specs.declared.event.Made.{Made}
 use Rattle.jl_types.specs.declared.event.Made.TheVariants.{Nothing, Loader, Class, Site, Switch}
 use Rattle.jl_types.specs.declared.event.Reply.{Reply}
 use Rattle.jl_types.specs.declared.refusal.Refusal.{Refusal}
-use Rattle.jl_types.specs.Happenings.History.{reply}
-use Rattle.jl_types.specs.Happenings.Entries.{Entry, IsLegal, change, written, table_of, emptied, classes_of, defines, events_of}
+use Rattle.jl_types.specs.Events.History.{reply}
+use Rattle.jl_types.specs.Events.Entries.{Entry, IsLegal, change, written, table_of, emptied, classes_of, defines, events_of}
 use Rattle.jl_types.proofs.Legal.{legal_none, legal_more}
 use Rattle.jl_types.proofs.Rows.Sketch.{method, first, calling, class_ref}
 use Rattle.jl_types.proofs.Rows.Histories.{object, below}

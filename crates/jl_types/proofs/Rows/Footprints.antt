@@ -13,11 +13,11 @@ use Rattle.jl_types.specs.declared.link.TableKind.TheVariants as kind
 use Rattle.jl_types.specs.declared.target.CallSiteKind.TheVariants.{Mutable}
 use Rattle.jl_types.specs.Values.Target as target
 use Rattle.jl_types.specs.Values.Target.{Target}
-use Rattle.jl_types.specs.Happenings.Event.{Event}
+use Rattle.jl_types.specs.Events.Event.{Event}
 use Rattle.jl_types.specs.declared.event.EventOf.TheVariants.{NewLoader, Define, Delegate, Request, NewCallSite, SetTarget, NewSwitch, Invalidate}
 use Rattle.jl_types.specs.declared.event.EventOf.TheVariants.{Bind, Install}
 use Rattle.jl_types.specs.Values.World.{World}
-use Rattle.jl_types.specs.Happenings.History.{world_after, dropped}
+use Rattle.jl_types.specs.Events.History.{world_after, dropped}
 use Rattle.jl_types.proofs.Rows.Sketch.{method, file, class, first, world, calling, class_ref, itf_ref}
 use Rattle.jl_types.proofs.Rows.Sketch as sketch
 use Rattle.jl_types.proofs.Rows.Statics.{called}
@@ -25,10 +25,10 @@ use Rattle.jl_types.proofs.Rows.Histories.{below, object}
 use Rattle.jl_types.proofs.Rows.CallSites.{bootstrapping}
 use Rattle.jl_types.proofs.Rows.Loaders.{same_names, with_parents}
 use Rattle.jl_types.proofs.Rows.Entries as entries
-use Rattle.jl_types.specs.Happenings.Entries.{events_of}
+use Rattle.jl_types.specs.Events.Entries.{events_of}
 use Rattle.jl_types.specs.declared.key.Key.{Key}
 use Rattle.jl_types.specs.declared.key.Key.TheVariants.{Receivers, Target as Retarget, Valid}
-use Rattle.jl_types.specs.Happenings.Footprints.{same_key, has_key, meets, footprint, keys, most_by, most_for, touched, bound, stays_with}
+use Rattle.jl_types.specs.Events.Footprints.{same_key, has_key, meets, footprint, keys, most_by, most_for, touched, bound, stays_with}
 
 -- Object 0, A 1 with f, B 2 below A, M 3 that calls A.f twice, and the request of one of these calls, then of the other
 abbrev pub calls : Method

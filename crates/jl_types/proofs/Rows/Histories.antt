@@ -11,17 +11,17 @@ use Rattle.jl_types.specs.declared.answer.Fast.TheVariants.{Now, Miss}
 use Rattle.jl_types.specs.declared.link.Link.{Link}
 use Rattle.jl_types.specs.declared.link.Link.TheVariants.{Direct, Table, Mega}
 use Rattle.jl_types.specs.declared.link.TableKind.TheVariants as kind
-use Rattle.jl_types.specs.Happenings.Event.{Event}
+use Rattle.jl_types.specs.Events.Event.{Event}
 use Rattle.jl_types.specs.declared.event.EventOf.TheVariants.{Define, Request, Install}
 use Rattle.jl_types.specs.declared.event.Made.TheVariants as made
 use Rattle.jl_types.specs.declared.refusal.Refusal.TheVariants as refusal
 use Rattle.jl_types.specs.declared.refusal.DefineFault.TheVariants.{MissingParent, AlreadyRecorded}
 use Rattle.jl_types.specs.Linkage.Links.{scratch}
 use Rattle.jl_types.specs.Linkage.Calls.{dispatch}
-use Rattle.jl_types.specs.Happenings.Events.{verdict}
+use Rattle.jl_types.specs.Events.Verdict.{verdict}
 use Rattle.jl_types.specs.Values.World.{nothing_yet}
-use Rattle.jl_types.specs.Happenings.History.{world_after, installed, dropped, kept}
-use Rattle.jl_types.specs.Happenings.Fast.{fast_answer}
+use Rattle.jl_types.specs.Events.History.{world_after, installed, dropped, kept}
+use Rattle.jl_types.specs.Events.Fast.{fast_answer}
 use Rattle.jl_types.proofs.Rows.Sketch.{method, first, calling, class_ref}
 
 abbrev pub below : List ℕ → List ℕ → ℕ → List Method → Event

@@ -4,15 +4,15 @@ use Rattle.jl_class.specs.declared.site.Kind.TheVariants.{Static}
 use Rattle.jl_types.specs.declared.answer.Unlinked.TheVariants.{Unbound}
 use Rattle.jl_types.specs.declared.link.Link.{Link}
 use Rattle.jl_types.specs.declared.link.Link.TheVariants.{Plain, Mega}
-use Rattle.jl_types.specs.Happenings.Event.{Event}
+use Rattle.jl_types.specs.Events.Event.{Event}
 use Rattle.jl_types.specs.declared.event.EventOf.TheVariants.{Define, Request, Install}
 use Rattle.jl_types.specs.declared.event.Made.{Made}
 use Rattle.jl_types.specs.declared.event.Made.TheVariants.{Nothing}
 use Rattle.jl_types.specs.declared.refusal.Refusal.{Refusal}
 use Rattle.jl_types.specs.declared.refusal.Refusal.TheVariants.{BatchSize, UnknownSite, Repeated, NotReady, Stale}
 use Rattle.jl_types.specs.Linkage.Links.{scratch}
-use Rattle.jl_types.specs.Happenings.Events.{verdict}
-use Rattle.jl_types.specs.Happenings.History.{world_after}
+use Rattle.jl_types.specs.Events.Verdict.{verdict}
+use Rattle.jl_types.specs.Events.History.{world_after}
 use Rattle.jl_types.proofs.Rows.Sketch.{method, first, calling, class_ref, file}
 use Rattle.jl_types.proofs.Rows.CallSites.{bootstrapping}
 

@@ -6,7 +6,7 @@ use Rattle.jl_types.specs.declared.link.Link.TheVariants.{Plain}
 use Rattle.jl_types.specs.declared.target.CallSiteKind.{CallSiteKind}
 use Rattle.jl_types.specs.declared.target.CallSiteKind.TheVariants.{Constant, Mutable}
 use Rattle.jl_types.specs.Values.Target.{Target, Method as Of, Guard, Invoker}
-use Rattle.jl_types.specs.Happenings.Event.{Event}
+use Rattle.jl_types.specs.Events.Event.{Event}
 use Rattle.jl_types.specs.declared.event.EventOf.TheVariants.{NewCallSite, SetTarget, NewSwitch, Invalidate, Bind, Install}
 use Rattle.jl_types.specs.declared.event.Made.{Made}
 use Rattle.jl_types.specs.declared.event.Made.TheVariants as made
@@ -18,9 +18,9 @@ use Rattle.jl_types.specs.Values.World.{World, Sites}
 use Rattle.jl_types.specs.Linkage.Targets.{method_of}
 use Rattle.jl_types.specs.Linkage.Links.{scratch}
 use Rattle.jl_types.specs.Linkage.Calls.{dispatch}
-use Rattle.jl_types.specs.Happenings.Events.{verdict}
-use Rattle.jl_types.specs.Happenings.History.{world_after, installed_links, dropped}
-use Rattle.jl_types.specs.Happenings.Footprints.{path, footprint, touched, bound}
+use Rattle.jl_types.specs.Events.Verdict.{verdict}
+use Rattle.jl_types.specs.Events.History.{world_after, installed_links, dropped}
+use Rattle.jl_types.specs.Events.Footprints.{path, footprint, touched, bound}
 use Rattle.jl_types.proofs.Rows.CallSites.{begun, m, n}
 
 abbrev site : CallSiteKind → Target → Event

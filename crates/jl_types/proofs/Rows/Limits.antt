@@ -11,9 +11,9 @@ use Rattle.jl_types.specs.declared.refusal.PrepareFault.TheVariants as prepare
 use Rattle.jl_types.specs.declared.target.CallSiteKind.TheVariants.{Mutable}
 use Rattle.jl_types.specs.Values.Target.{Target, Method}
 use Rattle.jl_types.specs.Values.World.{World, CallSite}
-use Rattle.jl_types.specs.Happenings.Events.{verdict}
-use Rattle.jl_types.specs.Happenings.History.{world_after}
-use Rattle.jl_types.specs.Happenings.Preparation.{prepare_fault}
+use Rattle.jl_types.specs.Events.Verdict.{verdict}
+use Rattle.jl_types.specs.Events.History.{world_after}
+use Rattle.jl_types.specs.Events.Preparation.{prepare_fault}
 use Rattle.jl_types.proofs.Rows.Sketch.{object, class, world, calling, class_ref}
 use Rattle.jl_types.proofs.Rows.Statics.{called}
 use Rattle.jl_types.proofs.Rows.CallSites.{begun, m}

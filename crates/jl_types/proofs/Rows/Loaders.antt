@@ -1,15 +1,15 @@
 -- Loaders: what they refuse to define and to delegate.
 use Rattle.std.specs.Prelude.{◌≡◌, ℕ, List, [], ◌∷◌, ◌++◌, Option, Some, None, Ok, Err, codes, refl}
-use Rattle.jl_types.specs.Happenings.Event.{Event}
+use Rattle.jl_types.specs.Events.Event.{Event}
 use Rattle.jl_types.specs.declared.event.EventOf.TheVariants.{NewLoader, Define, Delegate}
 use Rattle.jl_types.specs.declared.event.Made.TheVariants as made
 use Rattle.jl_types.specs.declared.refusal.Refusal.TheVariants as refusal
 use Rattle.jl_types.specs.declared.refusal.DefineFault.TheVariants.{MissingParent, SecondObject, InaccessibleParent, NamesItself, SuperIsInterface}
 use Rattle.jl_types.specs.declared.refusal.DelegateFault.TheVariants as delegate
-use Rattle.jl_types.specs.Happenings.Events.{verdict}
+use Rattle.jl_types.specs.Events.Verdict.{verdict}
 use Rattle.jl_types.specs.Values.Members.{lookup}
 use Rattle.jl_types.specs.Values.Ancestry.{superclass_of, ancestors}
-use Rattle.jl_types.specs.Happenings.History.{world_after}
+use Rattle.jl_types.specs.Events.History.{world_after}
 
 abbrev defines : ℕ → List ℕ → ℕ → Option (List ℕ) → Event
 defines loader name flags parent =

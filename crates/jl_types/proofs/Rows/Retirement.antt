@@ -11,7 +11,7 @@ use Rattle.jl_types.specs.declared.link.Link.TheVariants.{Direct, Plain, Table}
 use Rattle.jl_types.specs.declared.link.TableKind.TheVariants as kind
 use Rattle.jl_types.specs.declared.target.CallSiteKind.TheVariants.{Mutable}
 use Rattle.jl_types.specs.Values.Target as target
-use Rattle.jl_types.specs.Happenings.Event.{Event}
+use Rattle.jl_types.specs.Events.Event.{Event}
 use Rattle.jl_types.specs.declared.event.EventOf.TheVariants.{NewLoader, Define, Delegate, Request, NewCallSite, NewSwitch, Bind, Install, Retire}
 use Rattle.jl_types.specs.declared.event.Made.TheVariants as made
 use Rattle.jl_types.specs.declared.refusal.Refusal.TheVariants as refusal
@@ -23,10 +23,10 @@ use Rattle.jl_types.specs.Values.Members.{lookup, has_class, is_present}
 use Rattle.jl_types.specs.Values.Ancestry.{receivers}
 use Rattle.jl_types.specs.Linkage.Links.{scratch}
 use Rattle.jl_types.specs.Linkage.Calls.{dispatch}
-use Rattle.jl_types.specs.Happenings.Events.{verdict}
-use Rattle.jl_types.specs.Happenings.History.{world_after, installed, dropped}
+use Rattle.jl_types.specs.Events.Verdict.{verdict}
+use Rattle.jl_types.specs.Events.History.{world_after, installed, dropped}
 use Rattle.jl_types.specs.declared.key.Key.TheVariants.{Receivers}
-use Rattle.jl_types.specs.Happenings.Footprints.{footprint, keys, touched, left_touched, bound}
+use Rattle.jl_types.specs.Events.Footprints.{footprint, keys, touched, left_touched, bound}
 use Rattle.jl_types.proofs.Rows.Sketch.{method, calling, class_ref, itf_ref, first}
 use Rattle.jl_types.proofs.Rows.CallSites.{bootstrapping}
 use Rattle.jl_types.proofs.Rows.Histories.{linked}

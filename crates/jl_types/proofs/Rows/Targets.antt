@@ -6,15 +6,15 @@ use Rattle.jl_class.specs.declared.site.Operand.TheVariants as operand
 use Rattle.jl_types.specs.declared.target.CallSiteKind.TheVariants.{Constant, Mutable}
 use Rattle.jl_types.specs.Values.Target as target
 use Rattle.jl_types.specs.Values.Target.{Target}
-use Rattle.jl_types.specs.Happenings.Event.{Event}
+use Rattle.jl_types.specs.Events.Event.{Event}
 use Rattle.jl_types.specs.declared.event.EventOf.TheVariants.{Define, Request, NewCallSite, SetTarget, NewSwitch, Bind}
 use Rattle.jl_types.specs.declared.event.Made.{Made}
 use Rattle.jl_types.specs.declared.event.Made.TheVariants as made
 use Rattle.jl_types.specs.declared.refusal.Refusal.{Refusal}
 use Rattle.jl_types.specs.declared.refusal.Refusal.TheVariants as refusal
 use Rattle.jl_types.specs.declared.refusal.CallSiteFault.TheVariants as fault
-use Rattle.jl_types.specs.Happenings.Events.{verdict}
-use Rattle.jl_types.specs.Happenings.History.{world_after}
+use Rattle.jl_types.specs.Events.Verdict.{verdict}
+use Rattle.jl_types.specs.Events.History.{world_after}
 use Rattle.jl_types.proofs.Rows.Sketch.{method, file, calling, class_ref}
 
 abbrev typed : ℕ → List ℕ → List ℕ → Method

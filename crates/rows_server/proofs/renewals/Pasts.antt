@@ -1,10 +1,10 @@
 -- What stands in a server is what its entries come to.
 use Rattle.std.specs.Prelude.{◌≡◌, ℕ, List}
 use Rattle.std.proofs.Common.{ap, sym, ◌∙◌, subst}
-use Rattle.jl_types.specs.Happenings.Event.{Event}
+use Rattle.jl_types.specs.Events.Event.{Event}
 use Rattle.jl_types.specs.declared.event.Reply.{Reply}
-use Rattle.jl_types.specs.Happenings.Entries.{Entry, events_of}
-use Rattle.jl_types.specs.Happenings.History.{world_after}
+use Rattle.jl_types.specs.Events.Entries.{Entry, events_of}
+use Rattle.jl_types.specs.Events.History.{world_after}
 use Rattle.jl_types.specs.Values.World.{World}
 use Rattle.jl_core.specs.Logs as core
 use Rattle.jl_core.specs.State.{State, AreAnswered}

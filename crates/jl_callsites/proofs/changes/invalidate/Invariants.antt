@@ -1,6 +1,6 @@
 use Rattle.std.proofs.Common.{◌≡◌, false, drop, length, nat_le}
 use Rattle.std.specs.List.{list_any}
-use Rattle.jl_types.specs.Happenings.Events as events
+use Rattle.jl_types.specs.Events.Verdict as events
 use Rattle.jl_callsites.proofs.changes.invalidate.Given as goal
 
 -- what is left of the points makes of these what all make of the first ones

@@ -1,4 +1,4 @@
-use Rattle.jl_callsites.specs.Means.{turns_left}
+use Rattle.jl_callsites.specs.ForProofs.{turns_left}
 use Rattle.jl_callsites.proofs.discard.discard_target.Given as goal
 
 abbrev pub decreases-loop-point : goal.decreases-loop-point

@@ -1,6 +1,6 @@
 use Rattle.std.proofs.Common.{◌≡◌, ◌-◌}
 use Rattle.std.specs.Prelude.{option_map}
-use Rattle.jl_classfile.specs.Means.Bodies.{items_at, attribute_at}
+use Rattle.jl_classfile.specs.ForProofs.Bodies.{items_at, attribute_at}
 use Rattle.jl_classfile.proofs.body.behind_so_many.Given as goal
 
 abbrev pub invariant-attributes : goal.invariant-attributes

@@ -4,7 +4,7 @@ use Rattle.std.specs.Borrow.{Bor}
 use Rattle.jl_classfile.specs.declared.body.Body.{Body}
 use Rattle.jl_classfile.specs.declared.body.Broken.{Broken}
 use Rattle.jl_classfile.specs.Layouts.{body_text, BodySized}
-use Rattle.jl_classfile.specs.Means.Bodies.{Reads, body_at}
+use Rattle.jl_classfile.specs.ForProofs.Bodies.{Reads, body_at}
 use Rattle.jl_pool.proofs.Fields.{IsBytes}
 use Rattle.jl_classfile.proofs.BodyLaws.{body-takes}
 use Rattle.jl_classfile.proofs.body.body_at.Goals as goal

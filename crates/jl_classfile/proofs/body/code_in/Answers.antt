@@ -3,7 +3,7 @@ use Rattle.std.specs.Prelude.{option_map, MatchOption}
 use Rattle.std.specs.Borrow.{Bor}
 use Rattle.jl_classfile.specs.CodeAttributes.{HoldsCode}
 use Rattle.jl_pool.proofs.Fields.{IsBytes}
-use Rattle.jl_classfile.specs.Means.Bodies.{code_in}
+use Rattle.jl_classfile.specs.ForProofs.Bodies.{code_in}
 use Rattle.jl_classfile.proofs.CodeAttributeLaws.{held_decides}
 use Rattle.jl_classfile.proofs.body.code_in.Goals as goal
 

@@ -1,4 +1,4 @@
-use Rattle.jl_classfile.specs.Means.Bodies.{items_at}
+use Rattle.jl_classfile.specs.ForProofs.Bodies.{items_at}
 use Rattle.jl_classfile.proofs.ItemLaws.{items-more, items-stop, items-end}
 use Rattle.jl_classfile.proofs.body.items_at.Goals as goal
 

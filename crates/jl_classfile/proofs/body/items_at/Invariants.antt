@@ -1,5 +1,5 @@
 use Rattle.std.proofs.Common.{◌≡◌, ◌-◌}
-use Rattle.jl_classfile.specs.Means.Bodies.{with_front, items_at}
+use Rattle.jl_classfile.specs.ForProofs.Bodies.{with_front, items_at}
 use Rattle.jl_classfile.proofs.body.items_at.Given as goal
 
 abbrev pub invariant-items : goal.invariant-items

@@ -1,7 +1,7 @@
 use Rattle.std.proofs.Common.{◌∙◌, refl, sym, subst}
 use Rattle.std.proofs.lemmas.Result.{err_from_is_err_and}
 use Rattle.jl_classfile.specs.declared.fault.ClassFault.{ClassFault}
-use Rattle.jl_classfile.specs.Means.Members.{IsFieldFault}
+use Rattle.jl_classfile.specs.ForProofs.Members.{IsFieldFault}
 use Rattle.jl_classfile.proofs.MemberTests.{field_fits-is, yes_when, not_when}
 use Rattle.jl_classfile.proofs.MemberNumbers.{member_links, at_attribute}
 use Rattle.jl_classfile.proofs.member.check_field.Goals as goal

@@ -1,6 +1,6 @@
 use Rattle.std.proofs.Common.{◌∙◌, sym}
 use Rattle.std.proofs.lemmas.List.Elements.{AllWithin-more}
-use Rattle.jl_classfile.specs.Means.Members.{MethodTested}
+use Rattle.jl_classfile.specs.ForProofs.Members.{MethodTested}
 use Rattle.jl_classfile.proofs.TwinLaws.{past}
 use Rattle.jl_classfile.proofs.MemberLaws.{whichever}
 use Rattle.jl_classfile.proofs.member.check_methods.Goals as goal

@@ -1,7 +1,7 @@
 use Rattle.std.proofs.Common.{◌≤◌}
 use Rattle.std.specs.Prelude.{IfSome}
 use Rattle.std.specs.List.{AllWithin}
-use Rattle.jl_classfile.specs.Means.Members.{MethodTested}
+use Rattle.jl_classfile.specs.ForProofs.Members.{MethodTested}
 use Rattle.jl_classfile.proofs.member.check_methods.Given as goal
 
 abbrev pub invariant-loop-i : goal.invariant-loop-i

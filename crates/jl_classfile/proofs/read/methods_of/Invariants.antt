@@ -1,5 +1,5 @@
 use Rattle.std.proofs.Common.{take}
-use Rattle.jl_classfile.specs.Means.Passes.{MethodsKept}
+use Rattle.jl_classfile.specs.ForProofs.Passes.{MethodsKept}
 use Rattle.jl_classfile.proofs.read.methods_of.Given as goal
 
 abbrev pub invariant-loop-i : goal.invariant-loop-i

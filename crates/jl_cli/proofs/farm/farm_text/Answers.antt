@@ -1,6 +1,6 @@
 use Rattle.std.proofs.Common.{◌∙◌, ap, subst, List, All}
 use mathlib.Core.List.{IsPrefix}
-use Rattle.jl_types.specs.Happenings.Entries.{Entry}
+use Rattle.jl_types.specs.Events.Entries.{Entry}
 use Rattle.serde_json.specs.Written.{compact_text}
 use Rattle.jl_cli.specs.Farms.{last_data}
 use Rattle.jl_cli.proofs.FarmEnds.{all_back, last_line}

@@ -1,5 +1,5 @@
 use Rattle.std.proofs.Common.{sym, ◌∙◌, ap, refl, List, ℕ}
-use Rattle.jl_code.specs.Means.Sites.{is_invoked}
+use Rattle.jl_code.specs.ForProofs.Sites.{is_invoked}
 use Rattle.jl_code.proofs.SiteLaws.{invoked-true, invoked-false}
 use Rattle.jl_code.proofs.KeptLaws.{kept_one}
 use Rattle.jl_code.proofs.code.site_of.Goals as goal

@@ -1,5 +1,5 @@
 use Rattle.std.proofs.Common.{length}
-use Rattle.jl_code.specs.Means.Plain.{IsBehindPlain}
+use Rattle.jl_code.specs.ForProofs.Plain.{IsBehindPlain}
 use Rattle.jl_code.proofs.plain.behind_plain.Given as goal
 
 abbrev pub invariant-loop-behind : goal.invariant-loop-behind

@@ -2,7 +2,7 @@ use Rattle.std.proofs.Common.{sym, subst}
 use Rattle.jl_types.specs.Values.World.{World}
 use Rattle.jl_events.specs.Accepted.{Accepted}
 use Rattle.jl_events.specs.Changes.{IsNext}
-use Rattle.jl_core.specs.Means.Replays.{IsFurther}
+use Rattle.jl_core.specs.ForProofs.Replays.{IsFurther}
 use Rattle.jl_core.proofs.catch_up.catch_up.Goals as goal
 
 pub catch_up_links-requires-clause-further : goal.catch_up_links-requires-clause-further

@@ -2,7 +2,7 @@ use Rattle.std.specs.Prelude.{ℕ, List, if◌then◌else◌}
 use Rattle.std.proofs.Common.{ap, ◌∙◌}
 use Rattle.jl_cache.specs.Links.{link_at}
 use Rattle.jl_deps.specs.Indexes.{footprint_at}
-use Rattle.jl_core.specs.Means.Touched.{has}
+use Rattle.jl_core.specs.ForProofs.Touched.{has}
 use Rattle.jl_core.proofs.ReplayLaws.{links_followed, index_followed}
 use Rattle.jl_core.proofs.catch_up.catch_up_touched.Goals as goal
 

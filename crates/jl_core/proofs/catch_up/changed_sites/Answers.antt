@@ -1,7 +1,7 @@
 use Rattle.std.specs.Prelude.{◌++◌, ℕ, map}
 use Rattle.std.proofs.Common.{sym, ap, ◌∙◌}
 use Rattle.jl_types.specs.declared.link.Link.{Link}
-use Rattle.jl_core.specs.Means.Touched.{has}
+use Rattle.jl_core.specs.ForProofs.Touched.{has}
 use Rattle.jl_core.proofs.ReplayLaws.{install_untouched}
 use Rattle.jl_core.proofs.catch_up.changed_sites.Goals as goal
 

@@ -1,11 +1,11 @@
 use Rattle.std.specs.Prelude.{ℕ, List, None, if◌then◌else◌}
 use Rattle.std.proofs.Common.{sym, ap, ◌∙◌}
-use Rattle.jl_types.specs.Happenings.Retirement.{retires_site}
+use Rattle.jl_types.specs.Events.Retirement.{retires_site}
 use Rattle.jl_cache.specs.Links.{link_at}
 use Rattle.jl_deps.specs.Indexes.{footprint_at}
 use Rattle.jl_events.specs.Accepted.{Accepted}
-use Rattle.jl_core.specs.Means.Changes.{retires_at}
-use Rattle.jl_core.specs.Means.Touched.{has}
+use Rattle.jl_core.specs.ForProofs.Changes.{retires_at}
+use Rattle.jl_core.specs.ForProofs.Touched.{has}
 use Rattle.jl_core.proofs.RetireLaws.{dropped_all, taken_all}
 use Rattle.jl_core.proofs.catch_up.forget_retired.Goals as goal
 

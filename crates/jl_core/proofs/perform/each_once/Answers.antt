@@ -1,8 +1,8 @@
 use Rattle.std.proofs.Common.{eqb, ap, sym, subst, ◌∙◌}
 use Rattle.std.proofs.lemmas.List.Filters.{dedup_is}
-use Rattle.jl_hierarchy.specs.Means.Kept.{Rises}
+use Rattle.jl_hierarchy.specs.ForProofs.Kept.{Rises}
 use Rattle.jl_hierarchy.proofs.Parents.{still_has, each_once_rises}
-use Rattle.jl_core.specs.Means.Touched.{has}
+use Rattle.jl_core.specs.ForProofs.Touched.{has}
 use Rattle.jl_core.proofs.perform.each_once.Goals as goal
 
 pub returns : goal.returns

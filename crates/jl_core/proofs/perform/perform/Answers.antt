@@ -3,12 +3,12 @@ use Rattle.std.proofs.Common.{rules, ap, sym, subst, ◌∙◌}
 use Rattle.jl_types.specs.declared.event.Made.{Made}
 use Rattle.jl_types.specs.Values.World.{World}
 use Rattle.jl_types.specs.Linkage.Links.{scratch}
-use Rattle.jl_types.specs.Happenings.History.{kept}
-use Rattle.jl_types.specs.Happenings.Footprints.{keys}
+use Rattle.jl_types.specs.Events.History.{kept}
+use Rattle.jl_types.specs.Events.Footprints.{keys}
 use Rattle.jl_cache.specs.Links.{link_at}
 use Rattle.jl_deps.specs.Indexes.{IsIndex}
 use Rattle.jl_events.specs.Changes.{IsMoved}
-use Rattle.jl_core.specs.Means.Steps.{AreGone, AreRetired, most_told}
+use Rattle.jl_core.specs.ForProofs.Steps.{AreGone, AreRetired, most_told}
 use Rattle.jl_core.proofs.StepLaws.{lost_are, most_by_told}
 use Rattle.jl_core.proofs.RetireSteps.{are_gone}
 use Rattle.jl_core.proofs.ToldLaws.{installs_so}

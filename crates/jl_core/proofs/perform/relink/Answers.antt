@@ -2,11 +2,11 @@ use Rattle.std.specs.Prelude.{◌+◌, ◌≤◌, Bool}
 use Rattle.std.proofs.Common.{ap, sym, subst, ◌∙◌}
 use Rattle.jl_types.specs.declared.event.EventOf.TheVariants as events
 use Rattle.jl_types.specs.Linkage.Links.{scratch}
-use Rattle.jl_types.specs.Happenings.History.{kept}
+use Rattle.jl_types.specs.Events.History.{kept}
 use Rattle.jl_cache.specs.Links.{link_at}
 use Rattle.jl_events.specs.Accepted.{Accepted}
-use Rattle.jl_core.specs.Means.Changes.{installs_at}
-use Rattle.jl_core.specs.Means.Steps.{HasStepped, most_told}
+use Rattle.jl_core.specs.ForProofs.Changes.{installs_at}
+use Rattle.jl_core.specs.ForProofs.Steps.{HasStepped, most_told}
 use Rattle.jl_core.proofs.StepLaws.{has_changed, fits_so, ticks_so, links_kept, links_lost}
 use Rattle.jl_core.proofs.perform.relink.Goals as goal
 

@@ -1,7 +1,7 @@
 use Rattle.std.specs.Prelude.{filter_map, Result, Ok, Err, IfOk}
 use Rattle.std.proofs.Common.{sym, ap, ◌∙◌}
 use Rattle.jl_core.specs.State.{world_of}
-use Rattle.jl_core.specs.Means.Touched.{slot_at}
+use Rattle.jl_core.specs.ForProofs.Touched.{slot_at}
 use Rattle.jl_core.proofs.PlanLaws.{has_last, slots_led}
 use Rattle.jl_core.proofs.slots.changed.Goals as goal
 

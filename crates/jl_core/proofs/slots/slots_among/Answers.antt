@@ -1,8 +1,8 @@
 use Rattle.std.specs.Prelude.{◌++◌, [], option_map}
 use Rattle.std.specs.List.{cons_option}
 use Rattle.std.proofs.Common.{sym, ◌∙◌}
-use Rattle.jl_types.specs.Happenings.Entries.{change}
-use Rattle.jl_core.specs.Means.Touched.{slot_at}
+use Rattle.jl_types.specs.Events.Entries.{change}
+use Rattle.jl_core.specs.ForProofs.Touched.{slot_at}
 use Rattle.jl_core.proofs.SlotLaws.{one_more}
 use Rattle.jl_core.proofs.slots.slots_among.Goals as goal
 

@@ -1,6 +1,6 @@
 use Rattle.std.proofs.Common.{◌≡◌, take}
 use Rattle.std.specs.Prelude.{filter_map}
-use Rattle.jl_core.specs.Means.Touched.{slot_at}
+use Rattle.jl_core.specs.ForProofs.Touched.{slot_at}
 use Rattle.jl_core.proofs.slots.slots_among.Given as goal
 
 -- the slots of the sites so far are made

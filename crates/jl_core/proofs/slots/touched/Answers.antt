@@ -1,5 +1,5 @@
 use Rattle.std.proofs.Common.{ap, ◌∙◌}
-use Rattle.jl_core.specs.Means.Touched.{has}
+use Rattle.jl_core.specs.ForProofs.Touched.{has}
 use Rattle.jl_core.proofs.slots.touched.Goals as goal
 
 pub returns : goal.returns

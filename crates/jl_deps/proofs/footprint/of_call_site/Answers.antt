@@ -4,7 +4,7 @@ use Rattle.std.proofs.Common.{ap, sym, ◌∙◌}
 use Rattle.jl_hierarchy.proofs.Rising.{has, one_rising, filter_rises}
 use Rattle.jl_types.specs.declared.key.Key.{Key}
 use Rattle.jl_types.specs.declared.key.Key.TheVariants as key
-use Rattle.jl_types.specs.Happenings.Footprints.{call_site_in, point_in, among, path}
+use Rattle.jl_types.specs.Events.Footprints.{call_site_in, point_in, among, path}
 use Rattle.jl_relink.proofs.WayKeys.{among_call_sites, among_points}
 use Rattle.jl_deps.proofs.footprint.of_call_site.Goals as goal
 

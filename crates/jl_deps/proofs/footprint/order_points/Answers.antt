@@ -1,6 +1,6 @@
 use Rattle.std.proofs.Common.{eqb, ap, sym, subst, ◌∙◌}
 use Rattle.std.proofs.lemmas.List.Filters.{dedup_is}
-use Rattle.jl_hierarchy.specs.Means.Kept.{Rises}
+use Rattle.jl_hierarchy.specs.ForProofs.Kept.{Rises}
 use Rattle.jl_hierarchy.proofs.Parents.{still_has, each_once_rises}
 use Rattle.jl_hierarchy.proofs.Rising.{has}
 use Rattle.jl_deps.proofs.footprint.order_points.Goals as goal

@@ -1,6 +1,6 @@
 use Rattle.std.proofs.Common.{rules, ◌≡◌, ◌≤◌, ◌<◌, ◌∙◌, ap, sym, Some, None, slice_get}
-use Rattle.jl_types.specs.Means.Whole.{whole}
-use Rattle.jl_types.specs.Happenings.Footprints.{call_site_in, point_in}
+use Rattle.jl_types.specs.ForProofs.Whole.{whole}
+use Rattle.jl_types.specs.Events.Footprints.{call_site_in, point_in}
 use Rattle.jl_callsites.proofs.Turns.{fewer_turns}
 use Rattle.jl_deps.proofs.WayLaws.{none_later, absent_call_site, absent_point, goes_by, goes_on, passes}
 use Rattle.jl_deps.proofs.footprint.push_way.Goals as goal

@@ -1,5 +1,5 @@
 use Rattle.std.proofs.Common.{◌≡◌, ◌++◌, filter_map}
-use Rattle.jl_types.specs.Happenings.Footprints.{call_site_in, point_in}
+use Rattle.jl_types.specs.Events.Footprints.{call_site_in, point_in}
 use Rattle.jl_callsites.proofs.Turns.{turns_at}
 use Rattle.jl_deps.specs.Ways.{way}
 use Rattle.jl_deps.proofs.footprint.push_way.Given as goal

@@ -2,8 +2,8 @@ use Rattle.std.specs.Prelude.{◌==◌, nat_eq, ℕ, List, Some, if◌then◌els
 use Rattle.std.specs.Map.{lookup}
 use Rattle.std.proofs.Common.{ap, ◌∙◌}
 use Rattle.jl_types.specs.declared.key.Key.{Key}
-use Rattle.jl_types.specs.Happenings.Footprints.{has_key}
-use Rattle.jl_deps.specs.Means.Lists.{listed}
+use Rattle.jl_types.specs.Events.Footprints.{has_key}
+use Rattle.jl_deps.specs.ForProofs.Lists.{listed}
 use Rattle.jl_deps.proofs.KeyLists.{put_listed}
 use Rattle.jl_types.proofs.BySite.{where_ok}
 use Rattle.jl_deps.proofs.index.put.Goals as goal

@@ -1,6 +1,6 @@
 use Rattle.std.proofs.Common.{◌≡◌, ◌==◌, ℕ, take}
 use Rattle.std.specs.List.{list_any}
-use Rattle.jl_deps.specs.Means.Lists.{listed}
+use Rattle.jl_deps.specs.ForProofs.Lists.{listed}
 use Rattle.jl_deps.proofs.index.touched.Given as goal
 
 -- those of the keys so far are added

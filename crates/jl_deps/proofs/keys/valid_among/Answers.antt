@@ -2,10 +2,10 @@ use Rattle.std.specs.Prelude.{◌&&◌, ◌||◌, ℕ, List}
 use Rattle.std.proofs.Common.{eqb, ap, sym, subst, ◌∙◌}
 use Rattle.std.proofs.lemmas.List.Filters.{dedup_is}
 use Rattle.jl_types.specs.Linkage.Targets.{is_valid}
-use Rattle.jl_hierarchy.specs.Means.Kept.{Rises}
+use Rattle.jl_hierarchy.specs.ForProofs.Kept.{Rises}
 use Rattle.jl_hierarchy.proofs.Parents.{still_has, each_once_rises}
 use Rattle.jl_hierarchy.proofs.Rising.{has, one_rising}
-use Rattle.jl_types.specs.Happenings.Footprints.{still_valid}
+use Rattle.jl_types.specs.Events.Footprints.{still_valid}
 use Rattle.jl_deps.proofs.PointLaws.{valid_rise, valid_has}
 use Rattle.jl_deps.proofs.keys.valid_among.Goals as goal
 

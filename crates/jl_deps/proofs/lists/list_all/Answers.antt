@@ -1,6 +1,6 @@
 use Rattle.std.specs.Prelude.{◌==◌}
 use Rattle.std.proofs.Common.{◌∙◌}
-use Rattle.jl_deps.specs.Means.Lists.{listed}
+use Rattle.jl_deps.specs.ForProofs.Lists.{listed}
 use Rattle.jl_deps.proofs.KeyLists.{others_listed}
 use Rattle.jl_deps.proofs.lists.list_all.Goals as goal
 

@@ -1,7 +1,7 @@
 use Rattle.std.proofs.Common.{◌≡◌, ◌==◌, ◌&&◌, ◌||◌, ℕ, take}
 use Rattle.jl_types.specs.declared.key.Key.{Key}
-use Rattle.jl_types.specs.Happenings.Footprints.{has_key}
-use Rattle.jl_deps.specs.Means.Lists.{listed}
+use Rattle.jl_types.specs.Events.Footprints.{has_key}
+use Rattle.jl_deps.specs.ForProofs.Lists.{listed}
 use Rattle.jl_deps.proofs.lists.list_all.Given as goal
 
 -- the site is listed under the keys so far, too

@@ -1,8 +1,8 @@
 use Rattle.std.proofs.Common.{◌≡◌, ◌==◌, ◌&&◌, ℕ, take}
 use Rattle.std.specs.Prelude.{not}
 use Rattle.jl_types.specs.declared.key.Key.{Key}
-use Rattle.jl_types.specs.Happenings.Footprints.{has_key}
-use Rattle.jl_deps.specs.Means.Lists.{listed}
+use Rattle.jl_types.specs.Events.Footprints.{has_key}
+use Rattle.jl_deps.specs.ForProofs.Lists.{listed}
 use Rattle.jl_deps.proofs.lists.unlist_others.Given as goal
 
 -- the site isn't listed any more under the keys so far that aren't to stay

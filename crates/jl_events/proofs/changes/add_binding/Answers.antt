@@ -4,7 +4,7 @@ use Rattle.std.proofs.Common.{refl, ap, sym, subst, ◌∙◌}
 use Rattle.indexmap.proofs.CallerLemmas.{insert_entry-new}
 use Rattle.jl_types.specs.Values.World.{World}
 use Rattle.jl_types.specs.Linkage.Stages.{bound_to}
-use Rattle.jl_types.specs.Happenings.Events.{bind_fault}
+use Rattle.jl_types.specs.Events.Verdict.{bind_fault}
 use Rattle.jl_types.specs.declared.event.Made.TheVariants as made
 use Rattle.jl_relink.proofs.Bindings.{found_in_map}
 use Rattle.jl_select.specs.Constancy.{IsConstant}

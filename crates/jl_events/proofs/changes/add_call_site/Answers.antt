@@ -2,7 +2,7 @@ use Rattle.std.specs.Prelude.{◌≡◌, ◌<◌, true, length, option_map}
 use Rattle.std.proofs.Common.{rules, sym, ap, subst}
 use Rattle.jl_types.specs.Values.Target.{Target}
 use Rattle.jl_types.specs.Values.World.{World}
-use Rattle.jl_types.specs.Happenings.Events.{new_call_site_fault}
+use Rattle.jl_types.specs.Events.Verdict.{new_call_site_fault}
 use Rattle.jl_types.specs.declared.event.Made.TheVariants as made
 use Rattle.jl_types.specs.declared.refusal.Refusal.TheVariants.{CallSite}
 use Rattle.jl_callsites.specs.Known.{is_known}

@@ -1,7 +1,7 @@
 use Rattle.std.specs.Prelude.{◌≡◌, None, length, option_map}
 use Rattle.std.proofs.Common.{rules, sym, ap, subst}
 use Rattle.jl_types.specs.Values.World.{World}
-use Rattle.jl_types.specs.Happenings.Definitions.{define_fault}
+use Rattle.jl_types.specs.Events.Definitions.{define_fault}
 use Rattle.jl_types.specs.declared.event.Made.TheVariants as made
 use Rattle.jl_types.specs.declared.refusal.Refusal.TheVariants.{Define}
 use Rattle.jl_select.specs.Constancy.{IsConstant}

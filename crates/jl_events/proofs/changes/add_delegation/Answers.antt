@@ -1,7 +1,7 @@
 use Rattle.std.specs.Prelude.{◌≡◌, List, ℕ, None, option_map}
 use Rattle.std.proofs.Common.{rules, refl, sym, subst}
 use Rattle.jl_types.specs.Values.World.{World}
-use Rattle.jl_types.specs.Happenings.Definitions.{delegate_fault}
+use Rattle.jl_types.specs.Events.Definitions.{delegate_fault}
 use Rattle.jl_types.specs.declared.event.Made.TheVariants as made
 use Rattle.jl_types.specs.declared.refusal.Refusal.TheVariants.{Delegate}
 use Rattle.jl_select.specs.Constancy.{IsConstant}

@@ -2,7 +2,7 @@ use Rattle.std.specs.Prelude.{◌≡◌, ◌<◌, length, nat_le}
 use Rattle.std.specs.Bool.{then_some}
 use Rattle.std.proofs.Common.{rules, sym, ap, subst}
 use Rattle.jl_types.specs.Values.World.{World}
-use Rattle.jl_types.specs.Happenings.Events.{most_of_a_kind}
+use Rattle.jl_types.specs.Events.Verdict.{most_of_a_kind}
 use Rattle.jl_types.specs.declared.event.Made.TheVariants as made
 use Rattle.jl_types.specs.declared.refusal.CallSiteFault.TheVariants.{Full}
 use Rattle.jl_types.specs.declared.refusal.Refusal.TheVariants.{CallSite}

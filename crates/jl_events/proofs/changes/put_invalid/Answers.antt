@@ -2,7 +2,7 @@ use Rattle.std.specs.Prelude.{◌≡◌, false, nat_le, length, option_map}
 use Rattle.std.specs.List.{list_any}
 use Rattle.std.proofs.Common.{rules, refl, sym, subst}
 use Rattle.jl_types.specs.Values.World.{World}
-use Rattle.jl_types.specs.Happenings.Events.{invalidate_fault}
+use Rattle.jl_types.specs.Events.Verdict.{invalidate_fault}
 use Rattle.jl_types.specs.declared.event.Made.TheVariants as made
 use Rattle.jl_types.specs.declared.refusal.Refusal.TheVariants.{CallSite}
 use Rattle.jl_select.specs.Constancy.{IsConstant}

@@ -2,7 +2,7 @@ use Rattle.std.specs.Prelude.{◌≡◌, ◌<◌, true, length, slice_get, optio
 use Rattle.std.proofs.Common.{rules, refl, sym, subst}
 use Rattle.jl_types.specs.Values.Target.{Target}
 use Rattle.jl_types.specs.Values.World.{World}
-use Rattle.jl_types.specs.Happenings.Events.{set_target_fault}
+use Rattle.jl_types.specs.Events.Verdict.{set_target_fault}
 use Rattle.jl_types.specs.declared.event.Made.TheVariants as made
 use Rattle.jl_types.specs.declared.refusal.Refusal.TheVariants.{CallSite}
 use Rattle.jl_callsites.specs.Known.{is_known}

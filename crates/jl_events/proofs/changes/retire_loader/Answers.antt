@@ -1,7 +1,7 @@
 use Rattle.std.specs.Prelude.{◌≡◌, None, option_map}
 use Rattle.std.proofs.Common.{rules, refl, sym, subst}
 use Rattle.jl_types.specs.Values.World.{World}
-use Rattle.jl_types.specs.Happenings.Retirement.{classes_fault, retire_fault}
+use Rattle.jl_types.specs.Events.Retirement.{classes_fault, retire_fault}
 use Rattle.jl_types.specs.declared.event.Made.TheVariants as made
 use Rattle.jl_types.specs.declared.refusal.Refusal.TheVariants.{Retire}
 use Rattle.jl_select.specs.Constancy.{IsConstant}

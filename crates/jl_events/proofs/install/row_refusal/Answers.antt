@@ -4,7 +4,7 @@ use Rattle.std.proofs.lemmas.Bool.{not-true, not-false}
 use Rattle.jl_types.specs.declared.link.Link.{Link}
 use Rattle.jl_types.specs.Linkage.Resolution.{first_of}
 use Rattle.jl_types.specs.Linkage.Links.{same_link}
-use Rattle.jl_types.specs.Happenings.Footprints as footprints
+use Rattle.jl_types.specs.Events.Footprints as footprints
 use Rattle.std.proofs.lemmas.List.Sums.{sum_by-cons}
 use Rattle.jl_types.proofs.Lists.{rest_at}
 use Rattle.jl_events.specs.Judging.{row_faults, most_of_rows}

@@ -1,7 +1,7 @@
 use Rattle.std.specs.Prelude.{None, position}
 use Rattle.std.proofs.Common.{refl, sym, ap, ◌∙◌}
 use Rattle.jl_types.specs.Values.World.{World}
-use Rattle.jl_types.specs.Happenings.Events.{same_place}
+use Rattle.jl_types.specs.Events.Verdict.{same_place}
 use Rattle.jl_events.proofs.PlaceLaws.{not_some, refused_new, accepted_so, some_not_none}
 use Rattle.jl_events.proofs.request.judged_request.Goals as goal
 

@@ -1,6 +1,6 @@
 use Rattle.std.proofs.Common.{◌≡◌, ◌+◌, ℕ, All, vec_len}
 use Rattle.crossbeam_queue.specs.Passes.{view, IsPassOf}
-use Rattle.jl_farm.specs.Means.Work.{HasReported, HasOne, HasTaken}
+use Rattle.jl_farm.specs.ForProofs.Work.{HasReported, HasOne, HasTaken}
 use Rattle.jl_farm.proofs.crew.gather.Given as goal
 
 -- the workers so far were taken in

@@ -3,7 +3,7 @@ use Rattle.std.proofs.lemmas.List.Elements.{Contains-get_or}
 use Rattle.crossbeam_queue.specs.Passes.{IsPassOf}
 use Rattle.jl_farm.specs.declared.job_queue.PassView.{PassView}
 use Rattle.jl_farm.specs.declared.worker.Worker.{Worker}
-use Rattle.jl_farm.specs.Means.Work.{IsHired}
+use Rattle.jl_farm.specs.ForProofs.Work.{IsHired}
 use Rattle.jl_farm.proofs.Shifts.{all_popped, all_pushed}
 use Rattle.jl_farm.proofs.crew.hire.Goals as goal
 

@@ -1,6 +1,6 @@
 use Rattle.std.proofs.Common.{◌≡◌, ◌+◌, All, Contains, vec_len}
 use Rattle.crossbeam_queue.specs.Passes.{view, IsPassOf}
-use Rattle.jl_farm.specs.Means.Work.{IsHired}
+use Rattle.jl_farm.specs.ForProofs.Work.{IsHired}
 use Rattle.jl_farm.proofs.crew.hire.Given as goal
 
 -- each worker so far has one of the callers, and a part of the turn

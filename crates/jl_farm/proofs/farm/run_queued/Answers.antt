@@ -2,11 +2,11 @@ use Rattle.std.proofs.Common.{◌≡◌, ◌∙◌, List, All, ap, sym, subst, a
 use Rattle.std.proofs.lemmas.List.Elements.{length_all_zip}
 use Rattle.std.proofs.lemmas.List.Sorted.{All-permutation}
 use Rattle.crossbeam_queue.specs.Passes.{IsPassOf}
-use Rattle.jl_types.specs.Happenings.Entries.{Entry}
+use Rattle.jl_types.specs.Events.Entries.{Entry}
 use Rattle.jl_farm.specs.declared.job_queue.PassView.{PassView}
 use Rattle.jl_farm.specs.declared.worker.Worker.{Worker}
 use Rattle.jl_farm.specs.Reports.{IsReport}
-use Rattle.jl_farm.specs.Means.Work.{IsHired, Works}
+use Rattle.jl_farm.specs.ForProofs.Work.{IsHired, Works}
 use Rattle.jl_farm.proofs.Installs.{history_in_order, installs_in_order, same_sites}
 use Rattle.jl_farm.proofs.Shifts.{crew_reported, in_order}
 use Rattle.jl_farm.proofs.farm.run_queued.Goals as goal

@@ -3,7 +3,7 @@ use mir.Syntax.{named}
 use denote.Param.{param}
 use Rattle.crossbeam_queue.specs.Passes.{IsPassOf}
 use Rattle.jl_farm.specs.declared.worker.Worker.{Worker}
-use Rattle.jl_farm.specs.Means.Work.{Works}
+use Rattle.jl_farm.specs.ForProofs.Work.{Works}
 use Rattle.jl_farm.proofs.Crossing.{floor_sync}
 use Rattle.jl_farm.proofs.Shifts.{zip_served}
 use Rattle.jl_farm.proofs.farm.serve_all.Goals as goal

@@ -3,7 +3,7 @@ use Rattle.std.specs.List.{range_with_len}
 use Rattle.std.proofs.lemmas.List.FromFn.{length-range_with_len}
 use Rattle.crossbeam_queue.specs.Passes.{view}
 use Rattle.jl_farm.specs.declared.job_queue.PassView.{PassView}
-use Rattle.jl_farm.specs.Means.Queued.{pass_view}
+use Rattle.jl_farm.specs.ForProofs.Queued.{pass_view}
 use Rattle.jl_types.proofs.Lists.{range_end}
 use Rattle.jl_farm.proofs.Queue.{puts, learns, waiting}
 use Rattle.jl_farm.proofs.job_queue.put_all.Goals as goal

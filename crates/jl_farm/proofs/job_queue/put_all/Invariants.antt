@@ -1,7 +1,7 @@
 use Rattle.std.proofs.Common.{◌≡◌, []}
 use Rattle.std.specs.List.{range_with_len}
 use Rattle.crossbeam_queue.specs.Passes.{view, IsPassOf}
-use Rattle.jl_farm.specs.Means.Queued.{pass_view}
+use Rattle.jl_farm.specs.ForProofs.Queued.{pass_view}
 use Rattle.jl_farm.proofs.job_queue.put_all.Given as goal
 
 -- the jobs so far were put

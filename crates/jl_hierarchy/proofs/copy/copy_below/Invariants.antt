@@ -1,5 +1,5 @@
 use Rattle.std.proofs.Common.{◌≡◌, take}
-use Rattle.jl_hierarchy.specs.Means.Kept.{lists}
+use Rattle.jl_hierarchy.specs.ForProofs.Kept.{lists}
 use Rattle.jl_hierarchy.proofs.copy.copy_below.Given as goal
 
 -- those so far are made

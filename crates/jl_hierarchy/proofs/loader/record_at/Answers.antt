@@ -2,7 +2,7 @@ use Rattle.std.specs.Prelude.{get_or, slice_get, slice_set, option_and_then, OnE
 use Rattle.std.proofs.Common.{refl, ap, ◌∙◌, arith}
 use Rattle.std.proofs.lemmas.List.{set-get_or}
 use Rattle.jl_types.specs.Values.Members.{recorded}
-use Rattle.jl_types.specs.Happenings.Definitions.{with_record}
+use Rattle.jl_types.specs.Events.Definitions.{with_record}
 use Rattle.jl_hierarchy.proofs.Records.{with_one_more, none_there}
 use Rattle.jl_hierarchy.proofs.loader.record_at.Goals as goal
 

@@ -1,7 +1,7 @@
 use Rattle.std.specs.Prelude.{◌≡◌, ℕ, ◌+◌, ◌<◌, ◌≤◌, ◌==◌, ◌++◌, ◌∷◌, [], true, length, get_or, slice_set, take}
 use Rattle.std.proofs.Common.{ap, sym, subst, ◌∙◌, arith}
 use Rattle.std.proofs.lemmas.Bool.Decides.{Decides-eqb}
-use Rattle.jl_hierarchy.specs.Means.Kept.{HasRoomForOne, IsAppended, lists}
+use Rattle.jl_hierarchy.specs.ForProofs.Kept.{HasRoomForOne, IsAppended, lists}
 use Rattle.jl_hierarchy.proofs.Appending.{changed_more, room_set, rises_at}
 use Rattle.jl_hierarchy.proofs.receiving.append_to_each.Goals as goal
 

@@ -1,5 +1,5 @@
 use Rattle.std.specs.Prelude.{ℕ, ◌≤◌, ◌<◌, get_or, length, take}
-use Rattle.jl_hierarchy.specs.Means.Kept.{HasRoom, IsAppended, lists}
+use Rattle.jl_hierarchy.specs.ForProofs.Kept.{HasRoom, IsAppended, lists}
 use Rattle.jl_hierarchy.proofs.receiving.append_to_each.Given as goal
 
 abbrev pub invariant-loop-to : goal.invariant-loop-to

@@ -1,5 +1,5 @@
 use Rattle.std.specs.Prelude.{◌≡◌, ℕ, ◌<◌, get_or}
-use Rattle.jl_hierarchy.specs.Means.Kept.{HasRoom, lists}
+use Rattle.jl_hierarchy.specs.ForProofs.Kept.{HasRoom, lists}
 use Rattle.jl_hierarchy.proofs.receiving.reserve_each.Given as goal
 
 abbrev pub invariant-loop-class : goal.invariant-loop-class

@@ -1,6 +1,6 @@
 use Rattle.std.specs.Prelude.{◌+◌, get_or, slice_set, take}
 use Rattle.std.proofs.Common.{ap, sym, subst, ◌∙◌, arith}
-use Rattle.jl_hierarchy.specs.Means.Kept.{AreChanged, lists}
+use Rattle.jl_hierarchy.specs.ForProofs.Kept.{AreChanged, lists}
 use Rattle.jl_hierarchy.specs.Retiring.{without}
 use Rattle.jl_hierarchy.proofs.Appending.{changed_more}
 use Rattle.jl_hierarchy.proofs.retire.drop_receivers.Goals as goal

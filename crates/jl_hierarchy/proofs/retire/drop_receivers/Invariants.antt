@@ -1,5 +1,5 @@
 use Rattle.std.specs.Prelude.{take}
-use Rattle.jl_hierarchy.specs.Means.Kept.{AreChanged, lists}
+use Rattle.jl_hierarchy.specs.ForProofs.Kept.{AreChanged, lists}
 use Rattle.jl_hierarchy.specs.Retiring.{without}
 use Rattle.jl_hierarchy.proofs.retire.drop_receivers.Given as goal
 

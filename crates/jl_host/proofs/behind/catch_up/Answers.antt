@@ -1,7 +1,7 @@
 use Rattle.std.proofs.Common.{◌∙◌, ap, arith}
 use Rattle.std.specs.List.{list_any}
 use Rattle.jl_core.specs.State.{world_of}
-use Rattle.jl_host.specs.Means.Behind.{touched_by}
+use Rattle.jl_host.specs.ForProofs.Behind.{touched_by}
 use Rattle.jl_host.proofs.CaughtUp.{caught_up, same_length}
 use Rattle.jl_host.proofs.behind.catch_up.Goals as goal
 

@@ -1,5 +1,5 @@
 use Rattle.std.proofs.Common.{take}
-use Rattle.jl_host.specs.Means.Behind.{touched_by}
+use Rattle.jl_host.specs.ForProofs.Behind.{touched_by}
 use Rattle.jl_host.proofs.BehindLaws.{IsWritten}
 use Rattle.jl_host.proofs.behind.write_entries.Given as goal
 

@@ -1,7 +1,7 @@
 use Rattle.std.proofs.Common.{◌==◌, ◌∙◌, ap, sym}
 use Rattle.std.specs.List.{list_any}
 use Rattle.std.proofs.lemmas.Result.{on_ok_weaker}
-use Rattle.jl_host.specs.Means.Behind.{installs_at}
+use Rattle.jl_host.specs.ForProofs.Behind.{installs_at}
 use Rattle.jl_host.proofs.behind.write_installed.Goals as goal
 
 pub returns-in-Install-clause-written : goal.returns-in-Install-clause-written

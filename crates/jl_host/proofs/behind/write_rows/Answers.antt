@@ -1,5 +1,5 @@
 use Rattle.std.proofs.Common.{◌==◌}
-use Rattle.jl_host.specs.Means.Behind.{IsNow}
+use Rattle.jl_host.specs.ForProofs.Behind.{IsNow}
 use Rattle.jl_host.specs.Seats.{room_for}
 use Rattle.jl_host.proofs.BehindLaws.{one_written, at_site}
 use Rattle.jl_host.proofs.behind.write_rows.Goals as goal

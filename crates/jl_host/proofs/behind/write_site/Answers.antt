@@ -1,7 +1,7 @@
 use Rattle.std.proofs.Common.{◌<◌, ◌∙◌, ap, sym, length, nat_lt, arith}
 use Rattle.std.proofs.lemmas.Bool.{both_ways}
 use Rattle.std.proofs.lemmas.Bool.Decides.{Decides-ltb}
-use Rattle.jl_types.specs.Happenings.History.{installed}
+use Rattle.jl_types.specs.Events.History.{installed}
 use Rattle.jl_core.specs.State.{events}
 use Rattle.jl_host.proofs.BehindLaws.{kept_by}
 use Rattle.jl_host.proofs.behind.write_site.Goals as goal

@@ -1,6 +1,6 @@
 use Rattle.std.proofs.Common.{◌∙◌, ap, arith, slice_set}
 use Rattle.jl_host.specs.Renewals.{number_shown}
-use Rattle.jl_host.specs.Means.Kinds.{of_kind}
+use Rattle.jl_host.specs.ForProofs.Kinds.{of_kind}
 use Rattle.jl_host.proofs.RenewLaws.{one_shown}
 use Rattle.jl_host.proofs.renew.write_kind.Goals as goal
 

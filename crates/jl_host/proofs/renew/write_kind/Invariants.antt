@@ -1,6 +1,6 @@
 use Rattle.std.proofs.Common.{◌≡◌, ◌++◌, map, take, drop}
 use Rattle.jl_host.specs.Renewals.{number_shown}
-use Rattle.jl_host.specs.Means.Kinds.{of_kind}
+use Rattle.jl_host.specs.ForProofs.Kinds.{of_kind}
 use Rattle.jl_host.proofs.renew.write_kind.Given as goal
 
 -- the first ones stand at the front

@@ -1,5 +1,5 @@
 use Rattle.std.proofs.Common.{rules, ◌∙◌, refl}
-use Rattle.jl_json.specs.Means.NameReading.{name_text}
+use Rattle.jl_json.specs.ForProofs.NameReading.{name_text}
 use Rattle.jl_json.specs.ClassAnswers.{class_data}
 use Rattle.jl_json.proofs.NameLaws.{spells}
 use Rattle.jl_json.proofs.WrittenLaws.{text_behind}

@@ -1,9 +1,9 @@
 use Rattle.std.proofs.Common.{◌≡◌, List, map, drop, length, ◌-◌}
 use Rattle.json.specs.Token.{Token}
 use Rattle.serde_json.specs.View.{items_of}
-use Rattle.jl_json.specs.Means.NameReading.{name_text}
+use Rattle.jl_json.specs.ForProofs.NameReading.{name_text}
 use Rattle.jl_json.specs.ClassAnswers.{method_data}
-use Rattle.jl_json.specs.Means.Written.{PutsItems}
+use Rattle.jl_json.specs.ForProofs.Written.{PutsItems}
 use Rattle.jl_json.proofs.class_answer.write_methods.Given as goal
 
 -- whatever ends it well from here ends it well from the start

@@ -1,6 +1,6 @@
 use Rattle.std.proofs.Common.{◌∙◌, sym, arith}
 use Rattle.std.proofs.lemmas.Option.{slice_get_within}
-use Rattle.jl_json.specs.Means.NameReading.{name_text}
+use Rattle.jl_json.specs.ForProofs.NameReading.{name_text}
 use Rattle.jl_json.specs.ClassAnswers.{site_data}
 use Rattle.jl_json.proofs.WrittenLaws.{no_more, one_written, written_list}
 use Rattle.jl_json.proofs.class_answer.write_sites.Goals as goal

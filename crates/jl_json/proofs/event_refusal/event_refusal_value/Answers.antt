@@ -1,5 +1,5 @@
 use Rattle.std.proofs.lemmas.Result.{IfOk-weaker}
-use Rattle.jl_json.specs.Means.NameReading.{name_text}
+use Rattle.jl_json.specs.ForProofs.NameReading.{name_text}
 use Rattle.jl_json.proofs.NameLaws.{spells}
 use Rattle.jl_json.proofs.event_refusal.event_refusal_value.Goals as goal
 

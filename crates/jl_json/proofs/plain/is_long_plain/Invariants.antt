@@ -1,5 +1,5 @@
 use Rattle.std.proofs.Common.{◌≡◌, ◌≤◌, ◌-◌, length, take}
-use Rattle.jl_json.specs.Means.NameReading.{is_plain}
+use Rattle.jl_json.specs.ForProofs.NameReading.{is_plain}
 use Rattle.jl_json.proofs.plain.is_long_plain.Given as goal
 
 abbrev pub invariant-loop-at : goal.invariant-loop-at

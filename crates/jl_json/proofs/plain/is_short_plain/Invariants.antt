@@ -1,6 +1,6 @@
 use Rattle.std.proofs.Common.{◌≡◌, ◌&&◌, drop}
 use Rattle.std.specs.Prelude.{nat_lt}
-use Rattle.jl_json.specs.Means.NameReading.{is_plain}
+use Rattle.jl_json.specs.ForProofs.NameReading.{is_plain}
 use Rattle.jl_json.proofs.plain.is_short_plain.Given as goal
 
 abbrev pub invariant-loop-byte : goal.invariant-loop-byte

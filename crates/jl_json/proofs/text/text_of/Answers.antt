@@ -1,7 +1,7 @@
 use Rattle.std.proofs.Common.{◌≡◌, ◌∙◌, sym, ap, List, ℕ, Result, Ok, Err, IfOk, String, Global, string_bytes}
 use Rattle.jl_names.specs.Mutf8.{IsMutf8}
 use Rattle.jl_json.specs.Names.{units_text}
-use Rattle.jl_json.specs.Means.NameReading.{name_text}
+use Rattle.jl_json.specs.ForProofs.NameReading.{name_text}
 use Rattle.jl_json.proofs.NameLaws.{of_units, of_none}
 use Rattle.jl_json.proofs.text.text_of.Goals as goal
 

@@ -1,7 +1,7 @@
 use Rattle.std.proofs.Common.{sym, subst, ℕ, List, drop, Option, Some, None, MatchOption}
 use Rattle.memchr.specs.Find.{is_byte, IsFirstByte}
 use Rattle.jl_lines.specs.Lines.{NoNewline}
-use Rattle.jl_lines.specs.Means.Progress.{IsFirstNewline}
+use Rattle.jl_lines.specs.ForProofs.Progress.{IsFirstNewline}
 use Rattle.jl_lines.proofs.NewlineLaws.{none_behind, found_behind, to_end}
 use Rattle.jl_lines.proofs.answers.newline_from.Goals as goal
 

@@ -1,6 +1,6 @@
 use Rattle.std.proofs.Common.{◌≡◌, ◌<◌, ◌≤◌, [], length}
 use Rattle.jl_lines.specs.Lines.{NoNewline}
-use Rattle.jl_lines.specs.Means.Progress.{Runs}
+use Rattle.jl_lines.specs.ForProofs.Progress.{Runs}
 use Rattle.jl_lines.proofs.lines.answer_all.Given as goal
 
 abbrev pub invariant-loop : goal.invariant-loop

@@ -1,7 +1,7 @@
 use Rattle.std.proofs.Common.{◌≡◌, ◌≢◌, [], ◌∙◌, sym, ap, subst, length, length-append, arith}
 use Rattle.jl_lines.specs.declared.line_fault.LineFault.TheVariants.{Device, Memory}
 use Rattle.jl_lines.specs.Lines.{NoNewline}
-use Rattle.jl_lines.specs.Means.Progress.{Writes, StopsBy}
+use Rattle.jl_lines.specs.ForProofs.Progress.{Writes, StopsBy}
 use Rattle.jl_lines.proofs.LineLaws.{writes, left_behind, lacks_at}
 use Rattle.jl_lines.proofs.FaultLaws.{exactly}
 use Rattle.jl_lines.proofs.lines.answer_piece.Goals as goal

@@ -1,6 +1,6 @@
 use Rattle.std.proofs.Common.{arith, true, sym, ap, ◌∙◌, Err, List, ℕ, length}
 use Rattle.std.proofs.lemmas.List.{take_rest, drop_all}
-use Rattle.jl_names.specs.Means.Descriptors.{class_at}
+use Rattle.jl_names.specs.ForProofs.Descriptors.{class_at}
 use Rattle.jl_names.proofs.ClassNameLaws.{class_goes, class_stuck, class_found, class_ends}
 use Rattle.jl_names.proofs.descriptor.class_at.Goals as goal
 

@@ -1,5 +1,5 @@
 use Rattle.std.proofs.Common.{◌≡◌, true, take, drop}
-use Rattle.jl_names.specs.Means.Descriptors.{class_at}
+use Rattle.jl_names.specs.ForProofs.Descriptors.{class_at}
 use Rattle.jl_names.proofs.ClassNameLaws.{prefixed}
 use Rattle.jl_names.proofs.descriptor.class_at.Given as goal
 

@@ -1,5 +1,5 @@
 use Rattle.std.proofs.Common.{length}
-use Rattle.jl_names.specs.Means.MethodTypes.{SlotsStand}
+use Rattle.jl_names.specs.ForProofs.MethodTypes.{SlotsStand}
 use Rattle.jl_names.proofs.method_type.slots_at.Given as goal
 
 abbrev pub invariant-loop-after : goal.invariant-loop-after

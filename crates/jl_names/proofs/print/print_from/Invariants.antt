@@ -1,5 +1,5 @@
 use Rattle.std.proofs.Common.{length}
-use Rattle.jl_names.specs.Means.Prints.{print_from}
+use Rattle.jl_names.specs.ForProofs.Prints.{print_from}
 use Rattle.jl_names.proofs.PrintLaws.{Comes}
 use Rattle.jl_names.proofs.print.print_from.Given as goal
 

@@ -1,4 +1,4 @@
-use Rattle.jl_names.specs.Means.Repeats.{Numbers}
+use Rattle.jl_names.specs.ForProofs.Repeats.{Numbers}
 use Rattle.jl_names.proofs.RepeatLaws.{found_of}
 use Rattle.jl_names.proofs.repeat.first_repeat.Goals as goal
 

@@ -1,7 +1,7 @@
 use Rattle.std.proofs.Common.{◌/◌, ◌%◌, ◌∙◌, ap, sym, arith, slice_set}
 use Rattle.std.proofs.lemmas.Result.{on_ok_weaker}
 use Rattle.std.proofs.Math.Nat.{div-add-mod}
-use Rattle.jl_pages.specs.Means.Pages.{elements}
+use Rattle.jl_pages.specs.ForProofs.Pages.{elements}
 use Rattle.jl_pages.proofs.SlotLaws.{within, whole_at, set_at}
 use Rattle.jl_pages.proofs.slots.set_in.Goals as goal
 

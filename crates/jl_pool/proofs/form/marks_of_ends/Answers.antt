@@ -1,5 +1,5 @@
 use Rattle.std.proofs.Common.{arith, ap₂, ◌∙◌}
-use Rattle.jl_pool.specs.Means.Marks.{either}
+use Rattle.jl_pool.specs.ForProofs.Marks.{either}
 use Rattle.jl_pool.proofs.LaneLaws.{last_window}
 use Rattle.jl_pool.proofs.form.marks_of_ends.Goals as goal
 

@@ -1,5 +1,5 @@
 use Rattle.std.proofs.Common.{◌≡◌, ◌≤◌, ◌-◌, length, take}
-use Rattle.jl_pool.specs.Means.Marks.{marks_of}
+use Rattle.jl_pool.specs.ForProofs.Marks.{marks_of}
 use Rattle.jl_pool.proofs.form.marks_of_long.Given as goal
 
 abbrev pub invariant-loop-at : goal.invariant-loop-at

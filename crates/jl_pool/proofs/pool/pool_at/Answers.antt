@@ -5,7 +5,7 @@ use Rattle.std.specs.List.{flat_map}
 use Rattle.jl_pool.specs.Constants.{constant_text}
 use Rattle.jl_pool.specs.Faults.{IsPoolFault}
 use Rattle.jl_pool.specs.Pools.{places}
-use Rattle.jl_pool.specs.Means.Table.{pool_of}
+use Rattle.jl_pool.specs.ForProofs.Table.{pool_of}
 use Rattle.jl_pool.proofs.PoolLaws.{counted_front, stands_at, cut_block}
 use Rattle.jl_pool.proofs.pool.pool_at.Goals as goal
 

@@ -1,6 +1,6 @@
 use Rattle.std.specs.Prelude.{map}
 use Rattle.std.proofs.Common.{◌≡◌, drop, take, []}
-use Rattle.jl_types.specs.Happenings.Batches.{sites_fault}
+use Rattle.jl_types.specs.Events.Batches.{sites_fault}
 use Rattle.jl_relink.proofs.BatchLaws.{sites_of}
 use Rattle.jl_relink.proofs.batch.sites_fault.Given as goal
 

@@ -3,7 +3,7 @@ use Rattle.std.proofs.Common.{rules, refl, ap, sym, ◌∙◌}
 use Rattle.std.proofs.lemmas.Bool.{not-true}
 use Rattle.jl_types.specs.declared.link.TableKind.{TableKind}
 use Rattle.jl_types.specs.Values.Ancestry.{receivers}
-use Rattle.jl_relink.specs.Means.Rows.{rows_of, link_by_rows}
+use Rattle.jl_relink.specs.ForProofs.Rows.{rows_of, link_by_rows}
 use Rattle.jl_relink.proofs.OneForAll.{one_for_all}
 use Rattle.jl_relink.proofs.RowLaws.{one_run}
 use Rattle.jl_relink.proofs.known.all_run.Goals as goal

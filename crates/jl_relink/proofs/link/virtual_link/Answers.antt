@@ -1,7 +1,7 @@
 use Rattle.std.proofs.Common.{sym, ap, ◌∙◌, arith}
 use Rattle.jl_types.specs.declared.link.TableKind.TheVariants.{Virtual}
 use Rattle.jl_types.specs.Linkage.Links.{virtual_link}
-use Rattle.jl_relink.specs.Means.Rows.{rows_of, outcome_of}
+use Rattle.jl_relink.specs.ForProofs.Rows.{rows_of, outcome_of}
 use Rattle.jl_relink.proofs.RowLaws.{one_run, no_run}
 use Rattle.jl_relink.proofs.CountLaws.{of_many}
 use Rattle.jl_relink.proofs.link.virtual_link.Goals as goal

@@ -2,9 +2,9 @@ use Rattle.std.specs.Prelude.{◌≡◌, ℕ, take, map, Some}
 use Rattle.std.proofs.Common.{rules, of_calls, ◌∙◌, inl}
 use Rattle.std.proofs.lemmas.Result.{err_from_is_err_and}
 use Rattle.jl_types.specs.Linkage.Links.{scratch}
-use Rattle.jl_types.specs.Happenings.Preparation.{link_fault}
+use Rattle.jl_types.specs.Events.Preparation.{link_fault}
 use Rattle.jl_relink.specs.declared.outline.Outline.{Outline}
-use Rattle.jl_relink.specs.Means.Wide.{row_of_plan, IsPlanned, ArePlanned}
+use Rattle.jl_relink.specs.ForProofs.Wide.{row_of_plan, IsPlanned, ArePlanned}
 use Rattle.jl_relink.proofs.BatchLaws.{all_ready, first_unready, zip_each}
 use Rattle.jl_relink.proofs.WideLaws.{plan_prepared}
 use Rattle.jl_relink.proofs.outline.plan_of_batch.Goals as goal

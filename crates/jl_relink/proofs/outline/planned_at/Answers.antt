@@ -2,7 +2,7 @@ use Rattle.std.proofs.Common.{◌≡◌, sym, ap, subst, ◌∙◌}
 use Rattle.std.specs.Prelude.{Ok}
 use Rattle.jl_types.specs.Values.World.{World}
 use Rattle.jl_types.specs.Linkage.Stages.{stage}
-use Rattle.jl_relink.specs.Means.Wide.{depends, depends_on, link_of_plan, IsThere}
+use Rattle.jl_relink.specs.ForProofs.Wide.{depends, depends_on, link_of_plan, IsThere}
 use Rattle.jl_relink.proofs.WideLaws.{depends_link}
 use Rattle.jl_relink.proofs.outline.planned_at.Goals as goal
 

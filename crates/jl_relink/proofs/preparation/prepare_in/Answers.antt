@@ -3,7 +3,7 @@ use Rattle.std.proofs.Common.{rules, of_calls, refl, sym, subst, ◌∙◌, inl}
 use Rattle.std.proofs.lemmas.Result.{err_from_is_err_and}
 use Rattle.jl_types.specs.declared.link.Link.{Link}
 use Rattle.jl_types.specs.Linkage.Links.{scratch}
-use Rattle.jl_types.specs.Happenings.Preparation.{link_fault, ArePrepared}
+use Rattle.jl_types.specs.Events.Preparation.{link_fault, ArePrepared}
 use Rattle.jl_relink.proofs.BatchLaws.{all_ready, first_unready, zip_each}
 use Rattle.jl_relink.proofs.preparation.prepare_in.Goals.{After-of}
 use Rattle.jl_relink.proofs.preparation.prepare_in.Goals as goal

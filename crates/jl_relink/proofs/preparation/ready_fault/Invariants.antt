@@ -1,5 +1,5 @@
 use Rattle.std.proofs.Common.{◌≡◌, drop}
-use Rattle.jl_types.specs.Happenings.Preparation.{ready_fault}
+use Rattle.jl_types.specs.Events.Preparation.{ready_fault}
 use Rattle.jl_relink.proofs.preparation.ready_fault.Given as goal
 
 -- the sites so far have links

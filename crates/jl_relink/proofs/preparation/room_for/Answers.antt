@@ -1,7 +1,7 @@
 use Rattle.std.specs.Prelude.{[]}
 use Rattle.std.proofs.Common.{sym, ap, ◌∙◌}
 use Rattle.std.proofs.lemmas.List.{map-id}
-use Rattle.jl_types.specs.Happenings.Batches.{sites_fault}
+use Rattle.jl_types.specs.Events.Batches.{sites_fault}
 use Rattle.jl_relink.proofs.BatchLaws.{size_and_sites}
 use Rattle.jl_relink.proofs.preparation.room_for.Goals as goal
 

@@ -2,7 +2,7 @@ use Rattle.std.proofs.Common.{ap, sym, ◌∙◌}
 use Rattle.jl_types.specs.Values.World.{World}
 use Rattle.jl_types.specs.Linkage.Stages.{stage}
 use Rattle.jl_types.specs.Linkage.Links.{runs}
-use Rattle.jl_relink.specs.Means.Rows.{outcome_of}
+use Rattle.jl_relink.specs.ForProofs.Rows.{outcome_of}
 use Rattle.jl_relink.proofs.StageLaws.{selects_outcome}
 use Rattle.jl_relink.proofs.receiver.runs_at.Goals as goal
 

@@ -1,5 +1,5 @@
 use Rattle.std.proofs.Common.{◌≡◌, None, drop}
-use Rattle.jl_relink.specs.Means.Rows.{run_on}
+use Rattle.jl_relink.specs.ForProofs.Rows.{run_on}
 use Rattle.jl_relink.proofs.receivers.common_of.Given as goal
 
 -- what the rows so far and the others run is what all of them run

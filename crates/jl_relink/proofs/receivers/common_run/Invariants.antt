@@ -1,5 +1,5 @@
 use Rattle.std.proofs.Common.{◌≡◌, ◌+◌, ◌≤◌, None, drop}
-use Rattle.jl_relink.specs.Means.Rows.{run_on, rows_of}
+use Rattle.jl_relink.specs.ForProofs.Rows.{run_on, rows_of}
 use Rattle.jl_relink.proofs.receivers.common_run.Given as goal
 
 -- what the receivers so far and the others run is what all of them run, with one tick at most for each so far

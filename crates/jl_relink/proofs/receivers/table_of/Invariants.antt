@@ -1,5 +1,5 @@
 use Rattle.std.proofs.Common.{◌≡◌, ◌+◌, ◌≤◌, ◌++◌, length, drop}
-use Rattle.jl_relink.specs.Means.Rows.{rows_of}
+use Rattle.jl_relink.specs.ForProofs.Rows.{rows_of}
 use Rattle.jl_relink.proofs.receivers.table_of.Given as goal
 
 -- the table has the receivers so far, with one tick at most for each

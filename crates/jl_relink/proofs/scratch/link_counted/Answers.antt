@@ -1,7 +1,7 @@
 use Rattle.std.specs.Prelude.{◌+◌, ◌^◌, ◌<◌, ◌≤◌, List}
 use Rattle.std.proofs.Common.{sym, subst}
 use Rattle.jl_types.specs.declared.key.Key.{Key}
-use Rattle.jl_types.specs.Happenings.Footprints.{most_by}
+use Rattle.jl_types.specs.Events.Footprints.{most_by}
 use Rattle.jl_relink.proofs.scratch.link_counted.Goals as goal
 
 pub invocation_link-requires : goal.invocation_link-requires

@@ -4,7 +4,7 @@ use Rattle.std.specs.Borrow.{Bor}
 use Rattle.rayon.proofs.ListFacts.{IfOk-then, AllZip-weaken}
 use Rattle.rayon.proofs.ToStd.{slice-map}
 use Rattle.jl_relink.specs.declared.outline.Pair.{Pair}
-use Rattle.jl_relink.specs.Means.Wide.{looked_up}
+use Rattle.jl_relink.specs.ForProofs.Wide.{looked_up}
 use Rattle.jl_relink.proofs.WideLaws.{without_places}
 use Rattle.jl_relink.proofs.wide.look_up.Goals as goal
 

@@ -2,9 +2,9 @@ use Rattle.std.specs.Prelude.{◌≡◌, ℕ, List, map, All}
 use Rattle.std.proofs.Common.{refl, sym, ap, subst, ◌∙◌, inr}
 use Rattle.jl_types.specs.Values.World.{World}
 use Rattle.jl_types.specs.declared.link.Link.{Link}
-use Rattle.jl_types.specs.Happenings.Preparation.{ArePrepared}
+use Rattle.jl_types.specs.Events.Preparation.{ArePrepared}
 use Rattle.jl_relink.specs.declared.outline.Outline.{Outline}
-use Rattle.jl_relink.specs.Means.Wide.{row_of_plan, IsThere}
+use Rattle.jl_relink.specs.ForProofs.Wide.{row_of_plan, IsThere}
 use Rattle.jl_relink.proofs.WideLaws.{plan_prepared, plan_there}
 use Rattle.jl_relink.proofs.wide.wide_in.Goals as goal
 

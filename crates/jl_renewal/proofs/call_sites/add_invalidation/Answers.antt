@@ -1,6 +1,6 @@
 use Rattle.std.specs.Prelude.{List}
 use Rattle.std.proofs.Common.{ap, sym, subst, ◌∙◌}
-use Rattle.jl_types.specs.Happenings.Event.{Event}
+use Rattle.jl_types.specs.Events.Event.{Event}
 use Rattle.jl_renewal.specs.Renewal.{invalidation}
 use Rattle.jl_renewal.specs.Adds.{MayAdd}
 use Rattle.jl_renewal.proofs.call_sites.add_invalidation.Goals as goal

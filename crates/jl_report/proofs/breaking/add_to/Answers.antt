@@ -1,6 +1,6 @@
 use Rattle.std.proofs.Common.{◌≡◌, ◌∙◌, sym, ap, subst, rules, ◌++◌, None}
 use Rattle.jl_types.specs.Values.World.{World}
-use Rattle.jl_types.specs.Happenings.Definitions.{define_fault}
+use Rattle.jl_types.specs.Events.Definitions.{define_fault}
 use Rattle.jl_report.specs.Drops.{IsAdded, keys_of, left_among, dropped_among}
 use Rattle.jl_report.proofs.GatherLaws.{not_some}
 use Rattle.jl_report.proofs.breaking.add_to.Goals as goal

@@ -1,7 +1,7 @@
 use Rattle.std.proofs.Common.{◌∙◌, sym, ap}
-use Rattle.jl_types.specs.Means.SameLink.{link_decides}
+use Rattle.jl_types.specs.ForProofs.SameLink.{link_decides}
 use Rattle.jl_types.specs.Linkage.Links.{same_link}
-use Rattle.jl_types.specs.Happenings.History.{is_link}
+use Rattle.jl_types.specs.Events.History.{is_link}
 use Rattle.jl_report.proofs.DropLaws.{by_equality}
 use Rattle.jl_report.proofs.breaking.is_link.Goals as goal
 

@@ -1,6 +1,6 @@
 use Rattle.std.proofs.Common.{length, reverse}
 use Rattle.std.specs.List.{range_with_len}
-use Rattle.jl_report.specs.Means.Waiting.{AreOf, places}
+use Rattle.jl_report.specs.ForProofs.Waiting.{AreOf, places}
 use Rattle.jl_report.proofs.GatherLaws.{Leads}
 use Rattle.jl_report.proofs.defining.define_all.Given as goal
 

@@ -1,6 +1,6 @@
 use Rattle.std.proofs.Common.{◌≡◌, ◌∙◌, sym, ap, subst, rules, List, [], ◌∷◌, ◌++◌, reverse, None}
 use Rattle.jl_report.specs.declared.defining.Waiting.{Waiting}
-use Rattle.jl_report.specs.Means.Waiting.{AreOf, IsTried}
+use Rattle.jl_report.specs.ForProofs.Waiting.{AreOf, IsTried}
 use Rattle.jl_report.proofs.GatherLaws.{SoFar, one_left, one_defined}
 use Rattle.jl_report.proofs.defining.define_some.Goals as goal
 

@@ -1,6 +1,6 @@
 use Rattle.std.proofs.Common.{◌≡◌, subst}
 use Rattle.std.specs.Prelude.{is_none}
-use Rattle.jl_types.specs.Happenings.Definitions.{define_fault}
+use Rattle.jl_types.specs.Events.Definitions.{define_fault}
 use Rattle.jl_report.proofs.GatherLaws.{is_refused}
 use Rattle.jl_report.proofs.defining.is_barred.Goals as goal
 

@@ -1,5 +1,5 @@
 use Rattle.std.proofs.Common.{sym, subst}
-use Rattle.jl_report.specs.Means.Waiting.{AreStuck}
+use Rattle.jl_report.specs.ForProofs.Waiting.{AreStuck}
 use Rattle.jl_report.proofs.GatherLaws.{AreToldOf, is_stuck, one_told}
 use Rattle.jl_report.proofs.defining.refusals.Goals as goal
 

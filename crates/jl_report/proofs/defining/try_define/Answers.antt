@@ -1,5 +1,5 @@
 use Rattle.std.proofs.Common.{◌∙◌, sym}
-use Rattle.jl_types.specs.Happenings.Definitions.{define_fault}
+use Rattle.jl_types.specs.Events.Definitions.{define_fault}
 use Rattle.jl_report.proofs.GatherLaws.{not_some}
 use Rattle.jl_report.proofs.defining.try_define.Goals as goal
 

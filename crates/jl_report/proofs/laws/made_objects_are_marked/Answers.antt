@@ -2,7 +2,7 @@ use Rattle.std.proofs.Common.{◌∙◌, ap}
 use Rattle.std.specs.Prelude.{Bool, ◌&&◌, option_and_then}
 use Rattle.jl_types.specs.Values.Members.{lookup}
 use Rattle.jl_report.specs.Made.{named_result, names_interface}
-use Rattle.jl_report.specs.Means.Results.{result_class}
+use Rattle.jl_report.specs.ForProofs.Results.{result_class}
 use Rattle.jl_report.proofs.MadeLaws.{result_is, marks_tell}
 use Rattle.jl_report.proofs.laws.made_objects_are_marked.Goals as goal
 

@@ -2,7 +2,7 @@ use Rattle.std.proofs.Common.{◌∙◌, ◌+◌, ap, drop, get_or, sym}
 use Rattle.std.proofs.lemmas.List.{take_rest}
 use Rattle.std.proofs.lemmas.Option.{slice_get-get_or, slice_get_past}
 use Rattle.jl_types.proofs.Lists.{left_at, none_left}
-use Rattle.jl_report.specs.Means.Results.{behind_parameters}
+use Rattle.jl_report.specs.ForProofs.Results.{behind_parameters}
 use Rattle.jl_report.proofs.MadeLaws.{one_on, one_closes}
 use Rattle.jl_report.proofs.made.behind_parameters.Goals as goal
 

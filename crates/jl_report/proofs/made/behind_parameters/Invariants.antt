@@ -1,6 +1,6 @@
 use Rattle.std.proofs.Common.{◌≡◌, drop}
 use Rattle.std.specs.Prelude.{false}
-use Rattle.jl_report.specs.Means.Results.{behind_parameters}
+use Rattle.jl_report.specs.ForProofs.Results.{behind_parameters}
 use Rattle.jl_report.proofs.made.behind_parameters.Given as goal
 
 -- what stands behind the parameters from here on is what stands behind all

@@ -1,5 +1,5 @@
 use Rattle.std.proofs.Common.{◌==◌, take}
-use Rattle.jl_report.specs.Means.Marking.{AreMarked}
+use Rattle.jl_report.specs.ForProofs.Marking.{AreMarked}
 use Rattle.jl_report.proofs.made.mark_all.Given as goal
 
 abbrev pub invariant-loop-class : goal.invariant-loop-class

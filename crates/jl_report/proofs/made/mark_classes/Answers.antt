@@ -4,7 +4,7 @@ use Rattle.std.specs.List.{flat_map}
 use Rattle.jl_class.specs.Class.{ClassFile}
 use Rattle.jl_types.proofs.Lists.{left_at, none_left}
 use Rattle.jl_report.specs.Made.{is_above, made_in_method, made_in_class, made}
-use Rattle.jl_report.specs.Means.Marking.{AreMarked}
+use Rattle.jl_report.specs.ForProofs.Marking.{AreMarked}
 use Rattle.jl_report.proofs.MadeLaws.{Leads, led_one, led_all}
 use Rattle.jl_report.proofs.made.mark_classes.Goals as goal
 

@@ -3,7 +3,7 @@ use Rattle.std.specs.Prelude.{filter_map}
 use Rattle.std.specs.List.{flat_map}
 use Rattle.jl_types.proofs.Lists.{left_at, none_left}
 use Rattle.jl_report.specs.Made.{is_above, made_by, made_in_method}
-use Rattle.jl_report.specs.Means.Marking.{AreMarked}
+use Rattle.jl_report.specs.ForProofs.Marking.{AreMarked}
 use Rattle.jl_report.proofs.MadeLaws.{Leads, led_one, led_all}
 use Rattle.jl_report.proofs.made.mark_methods.Goals as goal
 

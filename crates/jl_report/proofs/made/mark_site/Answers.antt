@@ -1,7 +1,7 @@
 use Rattle.std.proofs.Common.{◌==◌, ◌∙◌, ap, subst, sym}
 use Rattle.std.specs.Prelude.{option_to_list}
 use Rattle.jl_report.specs.Made.{is_above}
-use Rattle.jl_report.specs.Means.Marking.{AreMarked}
+use Rattle.jl_report.specs.ForProofs.Marking.{AreMarked}
 use Rattle.jl_report.proofs.MadeLaws.{marked_above}
 use Rattle.jl_report.proofs.made.mark_site.Goals as goal
 

@@ -2,7 +2,7 @@ use Rattle.std.proofs.Common.{◌≡◌, ◌∙◌, ◌+◌, ap, arith, rules, s
 use Rattle.std.proofs.lemmas.Option.{slice_get_past}
 use Rattle.jl_types.proofs.Lists.{rest_at, none_left}
 use Rattle.jl_report.specs.Methods.{run_on}
-use Rattle.jl_report.specs.Means.Found.{with_run}
+use Rattle.jl_report.specs.ForProofs.Found.{with_run}
 use Rattle.jl_report.proofs.MethodLaws.{Found, begun, one_more, enough, ended}
 use Rattle.jl_report.proofs.methods.methods_on.Goals as goal
 

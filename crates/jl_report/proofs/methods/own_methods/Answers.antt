@@ -1,6 +1,6 @@
 use Rattle.std.proofs.Common.{◌∙◌, ap, take}
 use Rattle.jl_report.specs.Methods.{run_by}
-use Rattle.jl_report.specs.Means.Found.{with_run}
+use Rattle.jl_report.specs.ForProofs.Found.{with_run}
 use Rattle.jl_report.proofs.MethodLaws.{one_alone}
 use Rattle.jl_report.proofs.methods.own_methods.Goals as goal
 

@@ -1,5 +1,5 @@
 use Rattle.std.proofs.Common.{sym, ◌∙◌}
-use Rattle.jl_select.specs.Means.Walks.{is_bridge}
+use Rattle.jl_select.specs.ForProofs.Walks.{is_bridge}
 use Rattle.jl_select.proofs.Bridges.{passes_here, not_here, passes_nowhere}
 use Rattle.jl_select.proofs.overriding.declares_bridge.Goals as goal
 

@@ -1,6 +1,6 @@
 use Rattle.std.specs.Prelude.{◌≡◌, ◌-◌, drop, length}
 use Rattle.std.specs.List.{list_any}
-use Rattle.jl_select.specs.Means.Walks.{is_bridge}
+use Rattle.jl_select.specs.ForProofs.Walks.{is_bridge}
 use Rattle.jl_select.proofs.overriding.declares_bridge.Given as goal
 
 -- what is told from here on is what is told of all

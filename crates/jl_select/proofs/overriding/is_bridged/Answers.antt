@@ -1,7 +1,7 @@
 use Rattle.std.specs.Prelude.{Bool, ◌||◌}
 use Rattle.std.proofs.Common.{sym, ap, ◌∙◌}
 use Rattle.jl_hierarchy.proofs.Chains.{next_below}
-use Rattle.jl_select.specs.Means.Walks.{has_bridge, bridged_before, above}
+use Rattle.jl_select.specs.ForProofs.Walks.{has_bridge, bridged_before, above}
 use Rattle.jl_select.proofs.Bridges.{walk_stops, walk_goes_on}
 use Rattle.jl_select.proofs.overriding.is_bridged.Goals as goal
 

@@ -1,5 +1,5 @@
 use Rattle.std.proofs.Common.{◌≡◌, false}
-use Rattle.jl_select.specs.Means.Walks.{has_bridge, bridged_before, above}
+use Rattle.jl_select.specs.ForProofs.Walks.{has_bridge, bridged_before, above}
 use Rattle.jl_select.proofs.overriding.is_bridged.Given as goal
 
 -- what is found from here is what is found from the lower class

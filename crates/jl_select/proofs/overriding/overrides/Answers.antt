@@ -1,6 +1,6 @@
 use Rattle.std.specs.Prelude.{Bool, ◌&&◌, false}
 use Rattle.std.proofs.Common.{sym, ap, ◌∙◌}
-use Rattle.jl_select.specs.Means.Walks.{has_bridge, bridged_before, above}
+use Rattle.jl_select.specs.ForProofs.Walks.{has_bridge, bridged_before, above}
 use Rattle.jl_select.proofs.Overrides.{alike_is, hidden_is}
 use Rattle.jl_select.proofs.overriding.overrides.Goals as goal
 

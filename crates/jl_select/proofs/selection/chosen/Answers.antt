@@ -2,7 +2,7 @@ use Rattle.std.specs.Prelude.{ℕ, List}
 use Rattle.std.proofs.Common.{◌≡◌, ap, sym, ◌∙◌}
 use Rattle.jl_types.specs.Values.Ancestry.{superclasses}
 use Rattle.jl_types.specs.Linkage.Overriding.{can_override}
-use Rattle.jl_select.specs.Means.Walks.{first_passing}
+use Rattle.jl_select.specs.ForProofs.Walks.{first_passing}
 use Rattle.jl_select.proofs.Choices.{chosen_found}
 use Rattle.jl_select.proofs.selection.chosen.Goals as goal
 

@@ -1,7 +1,7 @@
 use Rattle.std.proofs.Common.{◌≡◌}
 use Rattle.jl_types.specs.Values.Ancestry.{superclasses}
 use Rattle.jl_types.specs.Linkage.Overriding.{can_override}
-use Rattle.jl_select.specs.Means.Walks.{first_passing}
+use Rattle.jl_select.specs.ForProofs.Walks.{first_passing}
 use Rattle.jl_select.proofs.selection.overriding.Given as goal
 
 -- what is found from here is what is found from the receiver's class

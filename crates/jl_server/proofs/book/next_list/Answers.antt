@@ -1,5 +1,5 @@
 use Rattle.std.proofs.Common.{List, subst, sym}
-use Rattle.jl_types.specs.Happenings.Entries.{Entry, IsEntry, events_of}
+use Rattle.jl_types.specs.Events.Entries.{Entry, IsEntry, events_of}
 use Rattle.jl_server.specs.History.{planned_entry}
 use Rattle.jl_server.proofs.Logs.{entry_next}
 use Rattle.jl_server.proofs.book.next_list.Goals as goal

@@ -1,5 +1,5 @@
-use Rattle.jl_types.specs.Happenings.Entries.{events_of}
-use Rattle.jl_types.specs.Happenings.History.{world_after}
+use Rattle.jl_types.specs.Events.Entries.{events_of}
+use Rattle.jl_types.specs.Events.History.{world_after}
 use Rattle.jl_server.proofs.Logs.{accepted_logged}
 use Rattle.jl_server.proofs.book.plan_judged.Goals as goal
 

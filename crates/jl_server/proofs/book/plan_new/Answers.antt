@@ -1,6 +1,6 @@
 use Rattle.std.specs.Prelude.{Result, Ok, Err, IfOk, IfErr}
 use Rattle.std.proofs.Common.{subst}
-use Rattle.jl_types.specs.Happenings.Events.{verdict}
+use Rattle.jl_types.specs.Events.Verdict.{verdict}
 use Rattle.jl_core.specs.State.{State, world_of, IsRefused}
 use Rattle.jl_core.specs.Plans.{IsPlanned}
 use Rattle.jl_server.proofs.Logs.{refused_logged}

@@ -1,8 +1,8 @@
 use Rattle.std.proofs.Common.{List, [], ◌∷◌, ◌++◌, length, ap, subst, sym, ◌∙◌}
-use Rattle.jl_types.specs.Happenings.Entries.{Entry, IsLegal}
+use Rattle.jl_types.specs.Events.Entries.{Entry, IsLegal}
 use Rattle.jl_types.proofs.Written.{length_written}
 use Rattle.jl_server.specs.History.{core_of, planned_entry}
-use Rattle.jl_server.specs.Means.Shown.{content}
+use Rattle.jl_server.specs.ForProofs.Shown.{content}
 use Rattle.jl_server.proofs.Logs.{core_next, classes_logged}
 use Rattle.jl_server.proofs.Alone.{alone_next}
 use Rattle.jl_server.proofs.Next.{shown_next}

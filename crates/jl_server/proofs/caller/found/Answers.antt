@@ -1,5 +1,5 @@
 use Rattle.std.proofs.Common.{sym, subst}
-use Rattle.jl_types.specs.Happenings.Entries.{IsLegal}
+use Rattle.jl_types.specs.Events.Entries.{IsLegal}
 use Rattle.jl_server.specs.declared.table.Table.{Table}
 use Rattle.jl_server.proofs.caller.found.Goals as goal
 

@@ -1,6 +1,6 @@
 use Rattle.std.specs.Prelude.{get_or, None}
 use Rattle.std.proofs.Common.{ap, ◌∙◌, inl}
-use Rattle.jl_types.specs.Happenings.Fast.{fast_answer}
+use Rattle.jl_types.specs.Events.Fast.{fast_answer}
 use Rattle.jl_server.specs.declared.table.Table.{Table}
 use Rattle.jl_server.proofs.Next.{answer_shown}
 use Rattle.jl_server.proofs.caller.look.Goals as goal

@@ -1,6 +1,6 @@
 use Rattle.std.specs.Prelude.{map, get_or, None}
 use Rattle.std.proofs.Common.{ap, ◌∙◌, inl}
-use Rattle.jl_types.specs.Happenings.Fast.{fast_answer}
+use Rattle.jl_types.specs.Events.Fast.{fast_answer}
 use Rattle.jl_server.specs.declared.table.Table.{Table}
 use Rattle.jl_server.proofs.Next.{answers_shown}
 use Rattle.jl_server.proofs.caller.look_all.Goals as goal

@@ -1,6 +1,6 @@
 use Rattle.std.specs.Prelude.{Option, Some, None, IfSome}
 use Rattle.std.proofs.Common.{ap, ◌∙◌}
-use Rattle.jl_server.specs.Means.Shown.{content}
+use Rattle.jl_server.specs.ForProofs.Shown.{content}
 use Rattle.jl_server.proofs.Opens.{blank, blank_links, known_server}
 use Rattle.jl_server.proofs.parts.publish_blank.Goals as goal
 

@@ -4,7 +4,7 @@ use Rattle.jl_types.specs.declared.answer.Outcome.{Outcome}
 use Rattle.jl_types.specs.declared.link.Link.{Link}
 use Rattle.jl_types.specs.declared.link.Link.TheVariants.{Fault, Plain, Direct, Table, Mega}
 use Rattle.jl_types.specs.Linkage.Links.{outcome}
-use Rattle.jl_types.specs.Happenings.Footprints.{stays_with}
+use Rattle.jl_types.specs.Events.Footprints.{stays_with}
 use Rattle.jl_cache.specs.Links.{is_mega}
 use Rattle.jl_settle.proofs.lost.stays.Goals as goal
 

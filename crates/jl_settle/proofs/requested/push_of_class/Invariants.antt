@@ -1,6 +1,6 @@
 use Rattle.std.proofs.Common.{◌≡◌, ◌||◌, ℕ, ◌-◌, length}
 use Rattle.jl_hierarchy.proofs.Rising.{has}
-use Rattle.jl_settle.specs.Means.Requested.{requested_where}
+use Rattle.jl_settle.specs.ForProofs.Requested.{requested_where}
 use Rattle.jl_settle.proofs.RequestedLaws.{is_before}
 use Rattle.jl_settle.proofs.requested.push_of_class.Given as goal
 

@@ -1,9 +1,9 @@
 use Rattle.std.specs.Prelude.{◌||◌, ℕ, List}
 use Rattle.std.proofs.Common.{sym, ap, ◌∙◌}
 use Rattle.jl_class.specs.Site.{Site}
-use Rattle.jl_types.specs.Happenings.Events.{same_place}
+use Rattle.jl_types.specs.Events.Verdict.{same_place}
 use Rattle.jl_hierarchy.proofs.Rising.{has}
-use Rattle.jl_settle.specs.Means.Requested.{is_in_method, requested_where}
+use Rattle.jl_settle.specs.ForProofs.Requested.{is_in_method, requested_where}
 use Rattle.jl_settle.proofs.RequestedLaws.{no_invocation, invocation_listed, all_invocations}
 use Rattle.jl_settle.proofs.requested.push_of_method.Goals as goal
 

@@ -1,6 +1,6 @@
 use Rattle.std.proofs.Common.{◌≡◌, ◌||◌, ℕ, ◌-◌, length, take}
 use Rattle.jl_hierarchy.proofs.Rising.{has}
-use Rattle.jl_settle.specs.Means.Requested.{is_in_method, requested_where}
+use Rattle.jl_settle.specs.ForProofs.Requested.{is_in_method, requested_where}
 use Rattle.jl_settle.proofs.requested.push_of_method.Given as goal
 
 -- the sites of the invocations so far are there

@@ -3,7 +3,7 @@ use Rattle.std.proofs.Common.{sym, ap, ◌∙◌}
 use Rattle.std.proofs.lemmas.Option.{slice_get-get_or}
 use Rattle.jl_types.specs.Values.World.{World}
 use Rattle.jl_hierarchy.proofs.Rising.{has}
-use Rattle.jl_settle.specs.Means.Requested.{is_invoked, requested_where}
+use Rattle.jl_settle.specs.ForProofs.Requested.{is_invoked, requested_where}
 use Rattle.jl_settle.proofs.RequestedLaws.{no_class, class_listed}
 use Rattle.jl_settle.proofs.requested.sites_in.Goals as goal
 

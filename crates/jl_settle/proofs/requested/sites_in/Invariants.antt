@@ -1,6 +1,6 @@
 use Rattle.std.proofs.Common.{◌≡◌, ℕ, take}
 use Rattle.jl_hierarchy.proofs.Rising.{has}
-use Rattle.jl_settle.specs.Means.Requested.{is_among, requested_where}
+use Rattle.jl_settle.specs.ForProofs.Requested.{is_among, requested_where}
 use Rattle.jl_settle.proofs.requested.sites_in.Given as goal
 
 -- the sites in the classes so far are there

@@ -2,8 +2,8 @@ use Rattle.std.specs.Prelude.{◌&&◌, ℕ, List}
 use Rattle.std.proofs.Common.{sym, ap, ◌∙◌}
 use Rattle.jl_types.specs.Values.World.{World}
 use Rattle.jl_types.specs.Values.Members.{is_present}
-use Rattle.jl_types.specs.Happenings.Retirement.{is_of}
-use Rattle.jl_settle.specs.Means.Requested.{is_among, requested_where}
+use Rattle.jl_types.specs.Events.Retirement.{is_of}
+use Rattle.jl_settle.specs.ForProofs.Requested.{is_among, requested_where}
 use Rattle.jl_settle.proofs.RequestedLaws.{only_retired, linked_listed}
 use Rattle.jl_settle.proofs.requested.sites_of.Goals as goal
 

@@ -2,7 +2,7 @@ use Rattle.std.specs.Prelude.{◌≡◌, ℕ, List, ◌++◌, ◌∷◌, [], ◌
 use Rattle.std.proofs.Common.{sym, ap, ◌∙◌}
 use Rattle.std.proofs.lemmas.List.{take_more}
 use Rattle.jl_hierarchy.proofs.Rising.{has}
-use Rattle.jl_types.specs.Happenings.Footprints.{footprint}
+use Rattle.jl_types.specs.Events.Footprints.{footprint}
 use Rattle.jl_cache.specs.Links.{link_at}
 use Rattle.jl_deps.specs.Indexes.{footprint_at}
 use Rattle.jl_settle.proofs.SettleLaws.{one_more_at}

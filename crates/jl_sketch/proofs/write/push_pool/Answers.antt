@@ -4,7 +4,7 @@ use Rattle.std.specs.List.{flat_map}
 use Rattle.std.proofs.lemmas.List.{take_all}
 use Rattle.jl_pool.specs.Constants.{constant_text}
 use Rattle.jl_sketch.specs.declared.constants.NewConstant.{NewConstant}
-use Rattle.jl_sketch.specs.Means.Entries.{constant_of}
+use Rattle.jl_sketch.specs.ForProofs.Entries.{constant_of}
 use Rattle.jl_sketch.proofs.Cases.{pool_is}
 use Rattle.jl_sketch.proofs.write.push_pool.Goals as goal
 

@@ -2,7 +2,7 @@ use Rattle.std.proofs.Common.{◌≡◌, ◌++◌, take}
 use Rattle.std.specs.Prelude.{map}
 use Rattle.std.specs.List.{flat_map}
 use Rattle.jl_pool.specs.Constants.{constant_text}
-use Rattle.jl_sketch.specs.Means.Entries.{constant_of}
+use Rattle.jl_sketch.specs.ForProofs.Entries.{constant_of}
 use Rattle.jl_sketch.proofs.write.push_pool.Given as goal
 
 abbrev pub invariant-loop-entry : goal.invariant-loop-entry

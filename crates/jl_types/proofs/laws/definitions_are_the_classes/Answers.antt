@@ -1,4 +1,4 @@
-use Rattle.jl_types.specs.Happenings.Entries.{events_of}
+use Rattle.jl_types.specs.Events.Entries.{events_of}
 use Rattle.jl_types.proofs.ClassCounts.{classes_defined}
 use Rattle.jl_types.proofs.laws.definitions_are_the_classes.Goals as goal
 

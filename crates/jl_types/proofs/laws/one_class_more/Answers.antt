@@ -1,4 +1,4 @@
-use Rattle.jl_types.specs.Happenings.Definitions.{class_made}
+use Rattle.jl_types.specs.Events.Definitions.{class_made}
 use Rattle.jl_types.proofs.Grown.{old_ancestors, receivers_after}
 use Rattle.jl_types.proofs.laws.one_class_more.Goals as goal
 

@@ -1,4 +1,4 @@
-use Rattle.jl_types.specs.Means.SameLink.{link_decides}
+use Rattle.jl_types.specs.ForProofs.SameLink.{link_decides}
 use Rattle.jl_types.specs.Linkage.Links as links
 use Rattle.jl_types.proofs.SameAnswer.{by_decision}
 use Rattle.jl_types.proofs.link.same_link.Goals as goal

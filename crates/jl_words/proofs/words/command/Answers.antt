@@ -1,5 +1,5 @@
 use Rattle.std.proofs.Common.{refl}
-use Rattle.jl_words.specs.Means.CommandLine.{farm, with_run}
+use Rattle.jl_words.specs.ForProofs.CommandLine.{farm, with_run}
 use Rattle.jl_words.proofs.BuilderLaws.{read_with}
 use Rattle.jl_words.proofs.words.command.Goals as goal
 

@@ -1,7 +1,7 @@
 use Rattle.std.proofs.Common.{refl}
 use Rattle.jl_words.specs.declared.words.Mode.TheVariants.{Run}
 use Rattle.jl_words.specs.Words.{word_of}
-use Rattle.jl_words.specs.Means.CommandLine.{bare_command, with_sketch}
+use Rattle.jl_words.specs.ForProofs.CommandLine.{bare_command, with_sketch}
 use Rattle.jl_words.proofs.BuilderLaws.{read_with}
 use Rattle.jl_words.proofs.words.with_run.Goals as goal
 

@@ -2,7 +2,7 @@ use Rattle.std.proofs.Common.{◌≡◌, rules, refl}
 use Rattle.clap.specs.Words.{app_of}
 use Rattle.jl_words.specs.declared.words.Mode.TheVariants.{Scan}
 use Rattle.jl_words.specs.Words.{word_of}
-use Rattle.jl_words.specs.Means.CommandLine.{bare_command, without_subcommands}
+use Rattle.jl_words.specs.ForProofs.CommandLine.{bare_command, without_subcommands}
 use Rattle.jl_words.proofs.BuilderLaws.{read_with}
 use Rattle.jl_words.proofs.words.with_scan.Goals as goal
 

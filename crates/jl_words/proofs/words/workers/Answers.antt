@@ -1,6 +1,6 @@
 use Rattle.std.proofs.Common.{◌≡◌, ◌∙◌, ap, rules}
 use Rattle.clap.specs.Words.{Rule, rule_of}
-use Rattle.jl_words.specs.Means.CommandLine.{workers}
+use Rattle.jl_words.specs.ForProofs.CommandLine.{workers}
 use Rattle.jl_words.proofs.words.workers.Goals as goal
 
 -- what the usage says of the value is no part of what is read, but that it has one name

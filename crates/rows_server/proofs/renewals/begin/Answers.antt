@@ -1,7 +1,7 @@
 use Rattle.std.specs.Prelude.{◌≡◌, length, Result, Ok, IfOk, OnOk}
 use Rattle.std.proofs.Common.{ap, subst}
-use Rattle.jl_types.specs.Happenings.Entries.{events_of}
-use Rattle.jl_types.specs.Happenings.History.{world_after}
+use Rattle.jl_types.specs.Events.Entries.{events_of}
+use Rattle.jl_types.specs.Events.History.{world_after}
 use Rattle.jl_core.specs.Logs.{shown}
 use Rattle.jl_core.specs.State.{AreAnswered}
 use Rattle.jl_server.specs.History.{core_of, logged_of}

@@ -1,5 +1,5 @@
 use Rattle.std.proofs.Common.{ap, ◌∙◌}
-use Rattle.jl_types.specs.Means.BySite.{by_site}
+use Rattle.jl_types.specs.ForProofs.BySite.{by_site}
 use Rattle.jl_cache.proofs.SortedLaws.{entries_same}
 use Rattle.jl_cache.proofs.cache.Cache.copy.Goals as goal
 

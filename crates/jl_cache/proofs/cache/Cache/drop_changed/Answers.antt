@@ -4,7 +4,7 @@ use Rattle.std.proofs.Common.{sym, ap, subst, ◌∙◌}
 use Rattle.std.proofs.lemmas.List.{take_more}
 use Rattle.jl_types.specs.declared.link.Link.{Link}
 use Rattle.jl_cache.specs.Links.{link_at}
-use Rattle.jl_types.specs.Means.BySite.{by_site}
+use Rattle.jl_types.specs.ForProofs.BySite.{by_site}
 use Rattle.jl_types.proofs.BySite.{Rises, rises, found_by_site}
 use Rattle.jl_cache.proofs.LinkLaws.{gone_more}
 use Rattle.jl_cache.proofs.ListLaws.{no_longer}

@@ -1,7 +1,7 @@
 use Rattle.std.proofs.Common.{◌≡◌, ◌==◌, ℕ, None, take, if◌then◌else◌}
 use Rattle.std.specs.List.{list_any}
 use Rattle.jl_cache.specs.Links.{link_at}
-use Rattle.jl_types.specs.Means.BySite.{by_site}
+use Rattle.jl_types.specs.ForProofs.BySite.{by_site}
 use Rattle.jl_cache.proofs.cache.Cache.drop_changed.Given as goal
 
 -- the links of the sites so far are gone, and no others

@@ -2,7 +2,7 @@ use Rattle.std.specs.Prelude.{ℕ, List, nat_eq, Option}
 use Rattle.std.proofs.Common.{sym, ap, ◌∙◌}
 use Rattle.indexmap.specs.IndexMap.{get}
 use Rattle.jl_types.specs.declared.link.Link.{Link}
-use Rattle.jl_types.specs.Means.BySite.{by_site}
+use Rattle.jl_types.specs.ForProofs.BySite.{by_site}
 use Rattle.jl_types.proofs.BySite.{found_by_site}
 use Rattle.jl_cache.specs.Links.{link_at, link_with}
 use Rattle.jl_cache.proofs.cache.Cache.install.Goals as goal

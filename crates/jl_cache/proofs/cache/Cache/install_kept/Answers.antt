@@ -2,7 +2,7 @@ use Rattle.std.specs.Prelude.{ℕ, List, Option}
 use Rattle.std.proofs.Common.{sym, ap, ◌∙◌}
 use Rattle.std.proofs.lemmas.Result.{on_ok_weaker}
 use Rattle.jl_types.specs.declared.link.Link.{Link}
-use Rattle.jl_types.specs.Means.BySite.{by_site}
+use Rattle.jl_types.specs.ForProofs.BySite.{by_site}
 use Rattle.jl_types.proofs.BySite.{found_by_site}
 use Rattle.jl_cache.specs.Links.{link_at, link_with}
 use Rattle.jl_cache.proofs.cache.Cache.install_kept.Goals as goal

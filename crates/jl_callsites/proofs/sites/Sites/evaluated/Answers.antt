@@ -1,7 +1,7 @@
 use Rattle.std.proofs.Common.{rules, ◌≡◌, ◌∙◌, ap, sym, Some, None}
 use Rattle.jl_types.specs.Values.Target.{Invoker}
 use Rattle.jl_types.specs.Linkage.Targets.{evaluated}
-use Rattle.jl_types.specs.Means.Whole.{whole}
+use Rattle.jl_types.specs.ForProofs.Whole.{whole}
 use Rattle.jl_callsites.specs.Earlier.{earlier_target}
 use Rattle.jl_callsites.proofs.Invoked.{earlier_runs, earlier_turns, none_earlier}
 use Rattle.jl_callsites.proofs.sites.Sites.evaluated.Goals as goal

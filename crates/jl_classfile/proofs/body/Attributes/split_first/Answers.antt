@@ -1,5 +1,5 @@
 use Rattle.std.proofs.Common.{◌∙◌, sym, ap, arith}
-use Rattle.jl_classfile.specs.Means.Bodies.{attribute_at, attributes_in, items_at}
+use Rattle.jl_classfile.specs.ForProofs.Bodies.{attribute_at, attributes_in, items_at}
 use Rattle.jl_classfile.proofs.ItemLaws.{one-more, one-less}
 use Rattle.jl_classfile.proofs.body.Attributes.split_first.Goals as goal
 

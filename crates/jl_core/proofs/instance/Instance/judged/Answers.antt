@@ -1,5 +1,5 @@
 use Rattle.std.proofs.Common.{ap, subst, ◌∙◌}
-use Rattle.jl_types.specs.Happenings.Events.{verdict}
+use Rattle.jl_types.specs.Events.Verdict.{verdict}
 use Rattle.jl_types.specs.Values.World.{World}
 use Rattle.jl_events.specs.Judging.{IsJudged}
 use Rattle.jl_core.specs.State.{State, world_of}

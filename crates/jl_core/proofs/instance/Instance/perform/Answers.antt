@@ -1,6 +1,6 @@
 use Rattle.std.specs.Prelude.{◌≤◌}
 use Rattle.std.proofs.Common.{ap, sym, subst, ◌∙◌, arith}
-use Rattle.jl_types.specs.Happenings.Footprints.{bound}
+use Rattle.jl_types.specs.Events.Footprints.{bound}
 use Rattle.jl_types.specs.Values.World.{World}
 use Rattle.jl_relink.specs.Laws.{IsInOrder}
 use Rattle.jl_cache.specs.Links.{link_at}

@@ -1,6 +1,6 @@
 use Rattle.std.specs.Prelude.{length, Result, Ok, Err, IfOk}
 use Rattle.std.proofs.Common.{sym, ◌∙◌}
-use Rattle.jl_types.specs.Happenings.History.{world_after, installed}
+use Rattle.jl_types.specs.Events.History.{world_after, installed}
 use Rattle.jl_types.proofs.InstalledLinks.{installed_requested}
 use Rattle.jl_cache.proofs.ListLaws.{rows_found}
 use Rattle.jl_core.specs.State.{events}

@@ -1,6 +1,6 @@
 use Rattle.std.specs.Prelude.{◌≤◌, Result, Ok, Err, IfErr}
 use Rattle.std.proofs.Common.{subst, arith, inr}
-use Rattle.jl_types.specs.Happenings.Event.{Event}
+use Rattle.jl_types.specs.Events.Event.{Event}
 use Rattle.jl_events.specs.Judging.{most_to_judge}
 use Rattle.jl_core.specs.State.{State, events, world_of}
 use Rattle.jl_core.specs.Plans.{IsPlanned}

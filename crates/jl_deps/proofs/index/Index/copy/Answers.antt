@@ -1,5 +1,5 @@
 use Rattle.std.proofs.Common.{sym, ◌∙◌}
-use Rattle.jl_types.specs.Means.BySite.{by_site}
+use Rattle.jl_types.specs.ForProofs.BySite.{by_site}
 use Rattle.jl_types.proofs.BySite.{rises, found_by_site}
 use Rattle.jl_types.proofs.BySite.{rises_of}
 use Rattle.jl_types.proofs.BySite.{same_values}

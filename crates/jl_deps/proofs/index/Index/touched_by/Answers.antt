@@ -2,13 +2,13 @@ use Rattle.std.specs.Prelude.{ℕ, List}
 use Rattle.std.specs.List.{list_any}
 use Rattle.std.proofs.Common.{eqb, ap, sym, subst, ◌∙◌}
 use Rattle.std.proofs.lemmas.List.Filters.{dedup_is}
-use Rattle.jl_hierarchy.specs.Means.Kept.{Rises}
+use Rattle.jl_hierarchy.specs.ForProofs.Kept.{Rises}
 use Rattle.jl_hierarchy.proofs.Parents.{still_has, each_once_rises}
 use Rattle.jl_hierarchy.proofs.Rising.{has, one_rising}
 use Rattle.jl_types.specs.declared.key.Key.{Key}
 use Rattle.jl_deps.specs.Indexes.{AreRising, touched_by}
 use Rattle.jl_types.proofs.BySite.{sites_rise}
-use Rattle.jl_types.specs.Means.BySite.{by_site}
+use Rattle.jl_types.specs.ForProofs.BySite.{by_site}
 use Rattle.jl_deps.proofs.TouchLaws.{touched_rise, touched_are}
 use Rattle.jl_deps.proofs.index.Index.touched_by.Goals as goal
 

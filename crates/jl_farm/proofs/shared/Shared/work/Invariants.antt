@@ -1,6 +1,6 @@
 use Rattle.std.proofs.Common.{◌<◌}
 use Rattle.crossbeam_queue.specs.Passes.{view, IsPassOf}
-use Rattle.jl_farm.specs.Means.Work.{Works}
+use Rattle.jl_farm.specs.ForProofs.Work.{Works}
 use Rattle.jl_farm.proofs.shared.Shared.work.Given as goal
 
 -- the jobs so far were reported

@@ -2,7 +2,7 @@ use Rattle.std.specs.Prelude.{ℕ, ◌<◌, List, [], ◌∷◌, ◌++◌, lengt
 use Rattle.std.proofs.Common.{refl, ap, sym, subst, ◌∙◌}
 use Rattle.jl_types.specs.Values.World.{Classes}
 use Rattle.jl_hierarchy.specs.Constancy.{Stays}
-use Rattle.jl_hierarchy.specs.Means.Kept.{IsKept, lists}
+use Rattle.jl_hierarchy.specs.ForProofs.Kept.{IsKept, lists}
 use Rattle.jl_hierarchy.proofs.NewRecords.{kept_with_loader}
 use Rattle.jl_hierarchy.proofs.KeptLaws.{good, in_order}
 use Rattle.jl_hierarchy.proofs.Constancy.{stays_with_loader}

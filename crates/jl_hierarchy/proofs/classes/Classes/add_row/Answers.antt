@@ -6,10 +6,10 @@ pub add_all-requires-clause-even : goal.add_all-requires-clause-even
 add_all-requires-clause-even c = even c.self.invariant.0
 
 pub add_all-requires-clause-there : goal.add_all-requires-clause-there
-add_all-requires-clause-there c = there_inside c.self.view_is c.requires.accepted c.in_ok-growth.ensures
+add_all-requires-clause-there c = there_inside c.self.view_is c.requires.accepted c.in_ok-new_class.ensures
 
 pub add_all-requires-clause-fresh : goal.add_all-requires-clause-fresh
-add_all-requires-clause-fresh c = fresh_inside c.self.view_is c.requires.accepted c.in_ok-growth.ensures
+add_all-requires-clause-fresh c = fresh_inside c.self.view_is c.requires.accepted c.in_ok-new_class.ensures
 
 pub invariant_of-self : goal.invariant_of-self
 invariant_of-self c = still_kept c.in_err-add_all.ensures.err c.in_err-add_all.ensures.kept c.self.invariant
@@ -17,5 +17,5 @@ invariant_of-self c = still_kept c.in_err-add_all.ensures.err c.in_err-add_all.e
 pub invariant_of-self-2 : goal.invariant_of-self-2
 invariant_of-self-2 c =
     let added = c.in_ok-add_all.ensures in
-    all_grown c.self.view_is c.requires.accepted c.in_ok-growth.ensures c.requires.made c.requires.interface c.self.invariant
+    all_grown c.self.view_is c.requires.accepted c.in_ok-new_class.ensures c.requires.made c.requires.interface c.self.invariant
     added.loaders added.rows added.above added.below added.kept added.marks

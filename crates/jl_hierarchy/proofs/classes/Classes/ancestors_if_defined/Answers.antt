@@ -3,7 +3,7 @@ use Rattle.std.specs.List.{list_any}
 use Rattle.std.proofs.Common.{ap, sym, subst, ◌∙◌, rules}
 use Rattle.std.proofs.lemmas.List.Elements.{All-from_recursion}
 use Rattle.jl_types.specs.Values.Ancestry.{parents, is_ancestor}
-use Rattle.jl_types.specs.Happenings.Definitions.{class_made}
+use Rattle.jl_types.specs.Events.Definitions.{class_made}
 use Rattle.jl_types.proofs.Orders.{defined_good}
 use Rattle.jl_hierarchy.proofs.KeptLaws.{good}
 use Rattle.jl_hierarchy.proofs.Parents.{listed_next, low, ordered}

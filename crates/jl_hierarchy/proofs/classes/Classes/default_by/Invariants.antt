@@ -1,7 +1,7 @@
 use Rattle.std.specs.Prelude.{◌≡◌, ◌++◌, drop, filter_map, option_to_list}
 use Rattle.jl_types.specs.Values.Ancestry as ancestry
 use Rattle.jl_types.specs.Linkage.Resolution.{defaults}
-use Rattle.jl_hierarchy.specs.Means.Defaults.{default_at}
+use Rattle.jl_hierarchy.specs.ForProofs.Defaults.{default_at}
 use Rattle.jl_hierarchy.proofs.classes.Classes.default_by.Given as goal
 
 -- what was found and what the ancestors from here on have are the defaults

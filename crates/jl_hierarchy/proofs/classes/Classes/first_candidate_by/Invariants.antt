@@ -1,7 +1,7 @@
 use Rattle.std.specs.Prelude.{◌≡◌, drop, filter_map}
 use Rattle.jl_types.specs.Values.Ancestry as ancestry
 use Rattle.jl_types.specs.Linkage.Resolution.{first_element, candidates}
-use Rattle.jl_hierarchy.specs.Means.Defaults.{candidate_at}
+use Rattle.jl_hierarchy.specs.ForProofs.Defaults.{candidate_at}
 use Rattle.jl_hierarchy.proofs.classes.Classes.first_candidate_by.Given as goal
 
 -- what the ancestors from here on have first is what all of them have

@@ -3,7 +3,7 @@ use Rattle.std.proofs.Common.{sym, ◌∙◌, rules, arith}
 use Rattle.std.proofs.lemmas.Iterator.{YieldsList-from_range}
 use Rattle.std.proofs.lemmas.Iterator.Adapters.{option_map_id}
 use Rattle.std.proofs.lemmas.Iterator.Search.{find_from_yields_List}
-use Rattle.jl_types.specs.Happenings.Retirement.{inherits_from}
+use Rattle.jl_types.specs.Events.Retirement.{inherits_from}
 use Rattle.jl_hierarchy.proofs.classes.Classes.first_heir.Goals as goal
 
 pub returns : goal.returns

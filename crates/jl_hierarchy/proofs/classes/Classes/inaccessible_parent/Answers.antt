@@ -1,7 +1,7 @@
 use Rattle.std.specs.Prelude.{not}
 use Rattle.std.proofs.Common.{sym, ◌∙◌}
-use Rattle.jl_types.specs.Happenings.Definitions as definitions
-use Rattle.jl_hierarchy.specs.Means.Faults.{first_place}
+use Rattle.jl_types.specs.Events.Definitions as definitions
+use Rattle.jl_hierarchy.specs.ForProofs.Faults.{first_place}
 use Rattle.jl_hierarchy.proofs.FaultLaws.{place_is}
 use Rattle.jl_hierarchy.proofs.classes.Classes.inaccessible_parent.Goals as goal
 

@@ -3,7 +3,7 @@ use Rattle.std.specs.List.{list_any}
 use Rattle.std.proofs.Common.{sym, ap, ◌∙◌, rules}
 use Rattle.std.proofs.lemmas.Iterator.{YieldsList-from_slice}
 use Rattle.std.proofs.lemmas.Iterator.Search.{any_from_yields_List}
-use Rattle.jl_hierarchy.specs.Means.Defaults.{redeclares}
+use Rattle.jl_hierarchy.specs.ForProofs.Defaults.{redeclares}
 use Rattle.jl_hierarchy.proofs.DefaultLaws.{redeclared_is}
 use Rattle.jl_hierarchy.proofs.classes.Classes.is_redeclared.Goals as goal
 

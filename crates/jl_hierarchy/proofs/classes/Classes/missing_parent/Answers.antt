@@ -1,7 +1,7 @@
 use Rattle.std.specs.Prelude.{is_none}
 use Rattle.std.proofs.Common.{sym, ◌∙◌}
 use Rattle.jl_types.specs.Values.Members as members
-use Rattle.jl_hierarchy.specs.Means.Faults.{first_place}
+use Rattle.jl_hierarchy.specs.ForProofs.Faults.{first_place}
 use Rattle.jl_hierarchy.proofs.FaultLaws.{place_is}
 use Rattle.jl_hierarchy.proofs.classes.Classes.missing_parent.Goals as goal
 

@@ -1,7 +1,7 @@
 use Rattle.std.specs.Prelude.{ℕ, Vec}
 use Rattle.std.specs.declared.alloc.Global.{Global}
 use Rattle.std.proofs.Common.{ap, ◌∙◌}
-use Rattle.jl_hierarchy.specs.Means.Kept.{lists}
+use Rattle.jl_hierarchy.specs.ForProofs.Kept.{lists}
 use Rattle.jl_hierarchy.proofs.KeptLaws.{receivers_here, below_here}
 use Rattle.jl_hierarchy.proofs.classes.Classes.receivers.Goals as goal
 

@@ -3,7 +3,7 @@ use Rattle.std.proofs.Common.{refl, sym, subst, rules}
 use Rattle.jl_types.specs.Values.World.{Classes}
 use Rattle.jl_hierarchy.specs.Constancy.{Stays}
 use Rattle.jl_types.specs.Values.Members.{is_retired, lookup}
-use Rattle.jl_hierarchy.specs.Means.Kept.{IsKept, lists}
+use Rattle.jl_hierarchy.specs.ForProofs.Kept.{IsKept, lists}
 use Rattle.jl_hierarchy.proofs.NewRecords.{kept_with_record}
 use Rattle.jl_hierarchy.proofs.KeptLaws.{good, in_order}
 use Rattle.jl_hierarchy.proofs.Constancy.{stays_with_record}

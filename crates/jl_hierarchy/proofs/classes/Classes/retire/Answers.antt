@@ -2,8 +2,8 @@ use Rattle.std.specs.Prelude.{◌≡◌, ◌==◌, ◌<◌, length, false, None,
 use Rattle.std.specs.List.{list_any}
 use Rattle.std.proofs.Common.{refl, ap, sym, subst, ◌∙◌}
 use Rattle.jl_types.specs.Values.World.{Classes}
-use Rattle.jl_types.specs.Happenings.Retirement.{classes_fault, losing_receivers, retired}
-use Rattle.jl_hierarchy.specs.Means.Kept.{lists}
+use Rattle.jl_types.specs.Events.Retirement.{classes_fault, losing_receivers, retired}
+use Rattle.jl_hierarchy.specs.ForProofs.Kept.{lists}
 use Rattle.jl_hierarchy.proofs.KeptLaws.{in_order, many_below}
 use Rattle.jl_hierarchy.proofs.NewClass.{kept_as}
 use Rattle.jl_hierarchy.proofs.LoaderGone.{kept_retired, is_live, is_made}

@@ -1,7 +1,7 @@
 use Rattle.std.specs.Prelude.{ℕ, ◌+◌, ◌++◌, ◌∷◌, [], List, drop, if◌then◌else◌}
 use Rattle.std.proofs.Common.{ap, sym, ◌∙◌, arith}
 use Rattle.std.proofs.lemmas.Option.{slice_get_within}
-use Rattle.jl_hierarchy.specs.Means.Kept.{named}
+use Rattle.jl_hierarchy.specs.ForProofs.Kept.{named}
 use Rattle.jl_hierarchy.specs.Retiring.{own_recorded}
 use Rattle.jl_hierarchy.proofs.Turns.{own_next}
 use Rattle.jl_hierarchy.proofs.loader.Records.add_own.Goals as goal

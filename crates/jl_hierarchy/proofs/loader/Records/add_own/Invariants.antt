@@ -1,5 +1,5 @@
 use Rattle.std.proofs.Common.{◌-◌, ◌≡◌, ◌≤◌, ◌++◌, drop, length}
-use Rattle.jl_hierarchy.specs.Means.Kept.{named}
+use Rattle.jl_hierarchy.specs.ForProofs.Kept.{named}
 use Rattle.jl_hierarchy.specs.Retiring.{own_recorded}
 use Rattle.jl_hierarchy.proofs.loader.Records.add_own.Given as goal
 

@@ -1,7 +1,7 @@
 use Rattle.std.specs.Prelude.{true, ◌≡◌, ◌++◌}
 use Rattle.std.proofs.Common.{ap, ◌∙◌}
 use Rattle.std.proofs.lemmas.Result.{on_ok_weaker}
-use Rattle.jl_hierarchy.specs.Means.Kept.{named, are_new}
+use Rattle.jl_hierarchy.specs.ForProofs.Kept.{named, are_new}
 use Rattle.jl_hierarchy.proofs.Recents.{named_behind}
 use Rattle.jl_hierarchy.proofs.loader.Records.append.Goals as goal
 

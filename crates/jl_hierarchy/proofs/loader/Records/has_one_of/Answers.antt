@@ -2,7 +2,7 @@ use Rattle.std.specs.Prelude.{ℕ, ◌+◌, ◌||◌, List, drop, Bool}
 use Rattle.std.specs.List.{list_any}
 use Rattle.std.proofs.Common.{ap, sym, ◌∙◌, arith}
 use Rattle.std.proofs.lemmas.Option.{slice_get_within}
-use Rattle.jl_hierarchy.specs.Means.Kept.{named}
+use Rattle.jl_hierarchy.specs.ForProofs.Kept.{named}
 use Rattle.jl_hierarchy.specs.Retiring.{is_row_of}
 use Rattle.jl_hierarchy.proofs.Turns.{any_next}
 use Rattle.jl_hierarchy.proofs.loader.Records.has_one_of.Goals as goal

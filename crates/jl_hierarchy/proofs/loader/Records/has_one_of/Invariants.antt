@@ -1,6 +1,6 @@
 use Rattle.std.proofs.Common.{◌-◌, ◌≡◌, ◌≤◌, drop, length}
 use Rattle.std.specs.List.{list_any}
-use Rattle.jl_hierarchy.specs.Means.Kept.{named}
+use Rattle.jl_hierarchy.specs.ForProofs.Kept.{named}
 use Rattle.jl_hierarchy.specs.Retiring.{is_row_of}
 use Rattle.jl_hierarchy.proofs.loader.Records.has_one_of.Given as goal
 

@@ -1,7 +1,7 @@
 use Rattle.std.specs.Prelude.{List, ℕ, ◌∷◌, [], ◌++◌}
 use Rattle.std.proofs.Common.{ap, ◌∙◌}
 use Rattle.jl_types.specs.Values.Members.{recorded}
-use Rattle.jl_hierarchy.specs.Means.Kept.{named}
+use Rattle.jl_hierarchy.specs.ForProofs.Kept.{named}
 use Rattle.jl_hierarchy.proofs.Records.{new_entry}
 use Rattle.jl_hierarchy.proofs.loader.Records.record.Goals as goal
 

@@ -1,6 +1,6 @@
 use Rattle.std.proofs.Common.{◌∙◌, ap, length, map}
 use Rattle.std.specs.List.{range_with_len}
-use Rattle.jl_types.specs.Happenings.History.{installed}
+use Rattle.jl_types.specs.Events.History.{installed}
 use Rattle.jl_core.specs.State.{events, world_of}
 use Rattle.jl_host.specs.Linkers.{Opened}
 use Rattle.jl_host.specs.Seats.{room_for}

@@ -1,6 +1,6 @@
 use Rattle.std.proofs.Common.{◌≡◌, ◌≤◌, length, take}
 use Rattle.jl_lines.specs.Lines.{NoNewline}
-use Rattle.jl_lines.specs.Means.Progress.{Gathers}
+use Rattle.jl_lines.specs.ForProofs.Progress.{Gathers}
 use Rattle.jl_lines.proofs.answers.Answers.answer_lines.Given as goal
 
 abbrev pub invariant-loop-line : goal.invariant-loop-line

@@ -1,7 +1,7 @@
 use Rattle.std.specs.Prelude.{option_copied}
 use Rattle.std.proofs.Common.{◌-◌, ◌/◌, ◌%◌, length, slice_get, arith, sym, ap, ◌∙◌, length-append}
 use Rattle.std.proofs.Math.Nat.{div-add-mod}
-use Rattle.jl_pages.specs.Means.Pages.{elements}
+use Rattle.jl_pages.specs.ForProofs.Pages.{elements}
 use Rattle.jl_pages.specs.Listing.{Listed}
 use Rattle.jl_pages.proofs.PageLaws.{at_page, behind, before}
 use Rattle.jl_pages.proofs.paged.Paged.get.Goals as goal

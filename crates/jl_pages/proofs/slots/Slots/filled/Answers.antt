@@ -1,5 +1,5 @@
 use Rattle.std.proofs.Common.{ap, ◌∙◌, replicate}
-use Rattle.jl_pages.specs.Means.Pages.{elements}
+use Rattle.jl_pages.specs.ForProofs.Pages.{elements}
 use Rattle.jl_pages.proofs.SlotLaws.{all_alike}
 use Rattle.jl_pages.proofs.slots.Slots.filled.Goals as goal
 

@@ -3,7 +3,7 @@ use Rattle.std.specs.Prelude.{Option}
 use Rattle.jl_pool.specs.declared.constant.Constant.{Constant}
 use Rattle.jl_pool.specs.declared.kept_constant.KeptConstant.{KeptConstant}
 use Rattle.jl_pool.specs.Pools.{constant_at}
-use Rattle.jl_pool.specs.Means.Table.{shown, entry_at}
+use Rattle.jl_pool.specs.ForProofs.Table.{shown, entry_at}
 use Rattle.jl_pool.proofs.TableLaws.{within_at, shown_at}
 use Rattle.jl_pool.proofs.pool.Pool.constant.Goals as goal
 

@@ -3,8 +3,8 @@ use Rattle.std.specs.Prelude.{Option, option_map}
 use Rattle.jl_pool.specs.declared.constant.Constant.{Constant}
 use Rattle.jl_pool.specs.declared.kept_constant.KeptConstant.{KeptConstant}
 use Rattle.jl_pool.specs.Pools.{text_at}
-use Rattle.jl_pool.specs.Means.Forms.{form_of}
-use Rattle.jl_pool.specs.Means.Table.{form_in, entry_at}
+use Rattle.jl_pool.specs.ForProofs.Forms.{form_of}
+use Rattle.jl_pool.specs.ForProofs.Table.{form_in, entry_at}
 use Rattle.jl_pool.proofs.TableLaws.{formed_at}
 use Rattle.jl_pool.proofs.pool.Pool.form.Goals as goal
 

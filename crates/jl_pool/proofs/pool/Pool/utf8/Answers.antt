@@ -4,7 +4,7 @@ use Rattle.std.specs.Option.{option_and_then}
 use Rattle.jl_pool.specs.declared.constant.Constant.{Constant}
 use Rattle.jl_pool.specs.declared.kept_constant.KeptConstant.{KeptConstant}
 use Rattle.jl_pool.specs.Pools.{text_of, text_at}
-use Rattle.jl_pool.specs.Means.Table.{shown, entry_at}
+use Rattle.jl_pool.specs.ForProofs.Table.{shown, entry_at}
 use Rattle.jl_pool.proofs.TableLaws.{within_at, shown_at}
 use Rattle.jl_pool.proofs.pool.Pool.utf8.Goals as goal
 

@@ -1,7 +1,7 @@
 use Rattle.std.proofs.Common.{◌≡◌, ◌∙◌, arith, drop, length, replicate, rules, subst}
 use Rattle.std.specs.Prelude.{false}
 use Rattle.jl_report.specs.Made.{is_above, made}
-use Rattle.jl_report.specs.Means.Marking.{AreMarked}
+use Rattle.jl_report.specs.ForProofs.Marking.{AreMarked}
 use Rattle.jl_report.proofs.MethodLaws.{take_front}
 use Rattle.jl_report.proofs.MadeLaws.{all_marked}
 use Rattle.jl_report.proofs.made.Made.of.Goals as goal

@@ -1,5 +1,5 @@
 use Rattle.std.proofs.Common.{◌∙◌, ap}
-use Rattle.jl_types.specs.Happenings.History.{installed_links}
+use Rattle.jl_types.specs.Events.History.{installed_links}
 use Rattle.jl_core.specs.State.{events}
 use Rattle.jl_server.specs.History.{core_of}
 use Rattle.jl_server.proofs.Logs.{events_logged}

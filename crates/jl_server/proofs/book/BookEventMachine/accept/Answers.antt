@@ -1,9 +1,9 @@
 use Rattle.std.specs.Prelude.{IfErr}
 use Rattle.std.proofs.Common.{List, sym, subst}
-use Rattle.jl_types.specs.Happenings.Event.{Event}
-use Rattle.jl_types.specs.Happenings.Entries.{Entry, events_of}
-use Rattle.jl_types.specs.Happenings.Events.{verdict}
-use Rattle.jl_types.specs.Happenings.History.{world_after}
+use Rattle.jl_types.specs.Events.Event.{Event}
+use Rattle.jl_types.specs.Events.Entries.{Entry, events_of}
+use Rattle.jl_types.specs.Events.Verdict.{verdict}
+use Rattle.jl_types.specs.Events.History.{world_after}
 use Rattle.jl_core.specs.State.{IsRefused}
 use Rattle.jl_server.proofs.Logs.{events_logged}
 use Rattle.jl_server.proofs.book.BookEventMachine.accept.Goals as goal

@@ -1,5 +1,5 @@
 use Rattle.std.proofs.Common.{inl, inr}
-use Rattle.jl_types.specs.Happenings.Entries.{events_of, classes_of}
+use Rattle.jl_types.specs.Events.Entries.{events_of, classes_of}
 use Rattle.jl_server.proofs.FastLaws.{now_is_dispatch}
 use Rattle.jl_server.proofs.caller.Caller.call.Goals as goal
 

@@ -1,7 +1,7 @@
 use Rattle.std.proofs.Common.{List, sym, subst, inl, inr}
 use Rattle.std.specs.List.{AllZip}
 use Rattle.jl_types.specs.declared.answer.Fast.{Fast}
-use Rattle.jl_types.specs.Happenings.Entries.{events_of, classes_of}
+use Rattle.jl_types.specs.Events.Entries.{events_of, classes_of}
 use Rattle.jl_server.specs.Calls.{AnswersCall}
 use Rattle.jl_server.proofs.FastLaws.{each_answered, each_closed}
 use Rattle.jl_server.proofs.caller.Caller.call_all.Goals as goal

@@ -1,5 +1,5 @@
 use Rattle.std.proofs.Common.{inl, inr}
-use Rattle.jl_types.specs.Happenings.Entries.{classes_of}
+use Rattle.jl_types.specs.Events.Entries.{classes_of}
 use Rattle.jl_server.proofs.MemoLaws.{with_is_dispatch}
 use Rattle.jl_server.proofs.caller.Caller.call_with.Goals as goal
 

@@ -1,7 +1,7 @@
 use Rattle.std.specs.Prelude.{List, [], Option, slice_set}
 use Rattle.std.proofs.Common.{ap, ◌∙◌, arith}
 use Rattle.jl_types.specs.declared.link.Link.{Link}
-use Rattle.jl_server.specs.Means.Slots.{link_of}
+use Rattle.jl_server.specs.ForProofs.Slots.{link_of}
 use Rattle.jl_server.proofs.SlotLaws.{slot_set, slot_seen}
 use Rattle.jl_server.proofs.links.PublishedLinks.set_slot.Goals as goal
 

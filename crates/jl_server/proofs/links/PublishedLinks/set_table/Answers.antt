@@ -2,7 +2,7 @@ use Rattle.std.specs.Prelude.{List, Option, Some, slice_set}
 use Rattle.std.proofs.Common.{ap, sym, subst, ◌∙◌, arith}
 use Rattle.jl_types.specs.declared.link.Link.{Link}
 use Rattle.jl_types.specs.declared.link.Link.TheVariants.{Table}
-use Rattle.jl_server.specs.Means.Slots.{AreSlots}
+use Rattle.jl_server.specs.ForProofs.Slots.{AreSlots}
 use Rattle.jl_server.proofs.SlotLaws.{table_set, table_seen}
 use Rattle.jl_server.proofs.links.PublishedLinks.set_table.Goals as goal
 

@@ -1,6 +1,6 @@
 use Rattle.std.proofs.Common.{subst}
-use Rattle.jl_types.specs.Happenings.History.{world_after}
-use Rattle.jl_types.specs.Happenings.Entries.{events_of}
+use Rattle.jl_types.specs.Events.History.{world_after}
+use Rattle.jl_types.specs.Events.Entries.{events_of}
 use Rattle.jl_memo.specs.Answers.{AreRight}
 use Rattle.jl_server.specs.Remembering.{Remembering}
 use Rattle.jl_server.proofs.memo.Memo.rows.Goals as goal

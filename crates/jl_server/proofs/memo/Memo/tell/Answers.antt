@@ -1,7 +1,7 @@
 use Rattle.std.specs.Prelude.{List}
 use Rattle.std.proofs.Common.{ap, sym, subst, ◌∙◌}
-use Rattle.jl_types.specs.Happenings.History.{world_after}
-use Rattle.jl_types.specs.Happenings.Entries.{Entry, events_of}
+use Rattle.jl_types.specs.Events.History.{world_after}
+use Rattle.jl_types.specs.Events.Entries.{Entry, events_of}
 use Rattle.jl_memo.specs.declared.set.Set.{Set}
 use Rattle.jl_memo.specs.Answers.{AreRight, told}
 use Rattle.jl_server.specs.Remembering.{Remembering}

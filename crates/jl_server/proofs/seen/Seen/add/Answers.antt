@@ -1,7 +1,7 @@
 use Rattle.std.proofs.Common.{◌≡◌, ◌==◌, true, List, sym, ◌∙◌, ap, subst, arith, length, length-append, ◌++◌, ◌∷◌, []}
 use Rattle.std.proofs.lemmas.Bool.Decides.{nat_tests}
-use Rattle.jl_types.specs.Happenings.Entries.{Entry}
-use Rattle.jl_types.specs.Happenings.Entries.{IsEntry, IsLegal, events_of}
+use Rattle.jl_types.specs.Events.Entries.{Entry}
+use Rattle.jl_types.specs.Events.Entries.{IsEntry, IsLegal, events_of}
 use Rattle.jl_server.specs.History.{planned_entry}
 use Rattle.jl_server.proofs.Adding.{adds_moves}
 use Rattle.jl_types.proofs.Legal.{legal_more}

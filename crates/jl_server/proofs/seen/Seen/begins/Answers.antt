@@ -1,6 +1,6 @@
 use Rattle.std.proofs.Common.{ap, subst, List}
 use mathlib.Core.List.{IsPrefix}
-use Rattle.jl_types.specs.Happenings.Entries.{Entry}
+use Rattle.jl_types.specs.Events.Entries.{Entry}
 use Rattle.jl_server.proofs.Beginnings.{prefix_shorter}
 use Rattle.jl_server.proofs.seen.Seen.begins.Goals as goal
 

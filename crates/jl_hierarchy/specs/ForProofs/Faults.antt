@@ -1,0 +1,55 @@
+-- The faults of a definition as they are tested: before the parents are looked up, and those of the superclass alone. A means
+-- of proof.
+use Rattle.std.specs.Prelude.{ℕ, ◌+◌, ◌<◌, Bool, true, false, not, ◌&&◌, ◌==◌, List, [], ◌∷◌, slice_get, Option, Some, None, option_map}
+use Rattle.std.specs.Prelude.{option_and_then, option_to_list, is_some, length, ⊤}
+use Rattle.std.specs.List.{list_any}
+use Rattle.std.specs.Bool.{then_some}
+use Rattle.std.specs.Str.{bytes_eq}
+use Rattle.jl_class.specs.Class.{ClassFile}
+use Rattle.jl_class.specs.Flags.{object}
+use Rattle.jl_types.specs.declared.refusal.DefineFault.{DefineFault}
+use Rattle.jl_types.specs.declared.refusal.DefineFault.TheVariants.{UnknownLoader, SecondObject, AlreadyRecorded, NamesItself, SuperIsInterface, FinalSuper}
+use Rattle.jl_types.specs.declared.refusal.DefineFault.TheVariants.{MissingParent, NotAnInterface, InaccessibleParent}
+use Rattle.jl_hierarchy.specs.declared.faults.FaultAt.{FaultAt}
+use Rattle.jl_hierarchy.specs.declared.faults.FaultAt.TheVariants as at
+use Rattle.jl_types.specs.Values.World.{Class, Classes}
+use Rattle.jl_types.specs.Values.Members.{lookup, is_interface}
+use Rattle.jl_types.specs.Events.Definitions.{is_unknown, parent_names, named_test, is_final}
+
+abbrev pub first_faults : Classes → ℕ → ClassFile → List (Option DefineFault)
+first_faults cs loader file =
+    then_some (is_unknown cs loader) UnknownLoader
+    ∷ then_some (bytes_eq file.name object && not (loader == 0)) SecondObject
+    ∷ then_some (is_some (lookup cs loader file.name)) AlreadyRecorded
+    ∷ then_some (list_any (bytes_eq file.name) (parent_names file)) NamesItself
+    ∷ []
+
+abbrev pub superclass_faults : Classes → ℕ → ClassFile → List (Option DefineFault)
+superclass_faults cs loader file =
+    then_some (list_any (named_test (is_interface cs) cs loader) (option_to_list file.superclass)) SuperIsInterface
+    ∷ then_some (list_any (named_test (is_final cs) cs loader) (option_to_list file.superclass)) FinalSuper
+    ∷ []
+
+-- the class that the loader has recorded under the name
+abbrev pub named_class : Classes → ℕ → List ℕ → Option Class
+named_class cs loader name = option_and_then (slice_get cs.rows) (lookup cs loader name)
+
+-- the first place among the parents, from whether the superclass is such and from the first such place among the superinterfaces
+abbrev pub first_place : Option Bool → Option ℕ → Option ℕ
+first_place None interface = interface
+first_place (Some true) interface = Some 0
+first_place (Some false) interface = option_map (λ n. n + 1) interface
+
+-- what a fault is that tells a parent by its place
+abbrev pub fault_of : ClassFile → FaultAt → Option DefineFault
+fault_of file (at.Plain fault) = Some fault
+fault_of file (at.Missing i) = option_map MissingParent (slice_get (parent_names file) i)
+fault_of file (at.NoInterface i) = option_map NotAnInterface (slice_get file.interfaces i)
+fault_of file (at.Closed i) = option_map InaccessibleParent (slice_get (parent_names file) i)
+
+-- there is a parent at that place
+abbrev pub IsThere : ClassFile → FaultAt → Type 0
+IsThere file (at.Plain fault) = ⊤
+IsThere file (at.Missing i) = i < length (parent_names file)
+IsThere file (at.NoInterface i) = i < length file.interfaces
+IsThere file (at.Closed i) = i < length (parent_names file)
